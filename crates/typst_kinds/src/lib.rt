@@ -5,10 +5,12 @@ mod error;
 mod kind;
 mod mode;
 mod operator;
+pub mod set;
 mod span;
 
 pub use error::SourceError;
 pub use kind::SyntaxKind;
 pub use mode::SyntaxMode;
 pub use operator::{Assoc, BinOp, UnOp};
+pub use set::SyntaxSet;
 pub use span::{FileId, Span, SpanNumber, SubRange};
