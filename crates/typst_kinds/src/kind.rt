@@ -519,11 +519,7 @@ impl SyntaxKind {
     pub fn is_block(self) -> bool
         ensures { result ≡ is_block self }
     {
-        match self {
-            SyntaxKind::CodeBlock => true,
-            SyntaxKind::ContentBlock => true,
-            _ => false,
-        }
+        matches!(self, SyntaxKind::CodeBlock | SyntaxKind::ContentBlock)
     }
 
     /// Whether an expression of this kind may follow a hash in markup and math.

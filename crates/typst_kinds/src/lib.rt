@@ -14,3 +14,6 @@ pub use mode::SyntaxMode;
 pub use operator::{Assoc, BinOp, UnOp};
 pub use set::SyntaxSet;
 pub use span::{FileId, Span, SpanNumber, SubRange};
+
+#[cfg(test)]
+mod tests;

@@ -7,7 +7,7 @@ use std::marker::Model;
 /// The number of a file, from 1 to 65535.
 #[derive(Debug, Clone, Copy, PartialEq, Eq)]
 pub struct FileId {
-    value: u16,
+    id: u16,
 }
 
 impl Model for FileId {
@@ -16,23 +16,19 @@ impl Model for FileId {
 
     ghost Value = { ℕ };
 
-    ghost view = { λ file. file.value };
+    ghost view = { λ file. file.id };
 
-    ghost invariant = { λ file. IsFile file.value };
+    ghost invariant = { λ file. IsFile file.id };
 
-    ghost inverse = { λ n. record { value = n } };
+    ghost inverse = { λ n. record { id = n } };
 }
 
 impl FileId {
     /// The file with this number, or `None` for 0.
-    pub fn new(value: u16) -> Option<FileId>
-        ensures { SomeIff result (IsFile value) value }
+    pub fn new(id: u16) -> Option<FileId>
+        ensures { SomeIff result (IsFile id) id }
     {
-        if value == 0 {
-            None
-        } else {
-            Some(FileId { value })
-        }
+        if id == 0 { None } else { Some(FileId { id }) }
     }
 
     /// The file's number.
@@ -40,7 +36,7 @@ impl FileId {
         ensures number { result ≡ self }
         ensures within { IsFile result }
     {
-        self.value
+        self.id
     }
 }
 
@@ -157,7 +153,7 @@ impl Span {
             return None;
         }
         let file = FileId {
-            value: (self.bits >> Span::NUMBER_BITS) as u16,
+            id: (self.bits >> Span::NUMBER_BITS) as u16,
         };
         let number = SpanNumber {
             value: self.bits % (1 << Span::NUMBER_BITS),
@@ -169,8 +165,8 @@ impl Span {
 /// A range of bytes within a node, whose start doesn't pass its end.
 #[derive(Debug, Clone, Copy, PartialEq, Eq)]
 pub struct SubRange {
-    start: usize,
-    end: usize,
+    from: usize,
+    to: usize,
 }
 
 impl Model for SubRange {
@@ -179,11 +175,11 @@ impl Model for SubRange {
 
     ghost Value = { Bytes };
 
-    ghost view = { λ range. record { start = range.start; end = range.end } };
+    ghost view = { λ range. record { start = range.from; end = range.to } };
 
-    ghost invariant = { λ range. range.start ≤ range.end };
+    ghost invariant = { λ range. range.from ≤ range.to };
 
-    ghost inverse = { λ bytes. record { start = bytes.start; end = bytes.end } };
+    ghost inverse = { λ bytes. record { from = bytes.start; to = bytes.end } };
 }
 
 impl SubRange {
@@ -192,7 +188,10 @@ impl SubRange {
         ensures { SomeIff result (start ≤ end) (record { start = start; end = end }) }
     {
         if start <= end {
-            Some(SubRange { start, end })
+            Some(SubRange {
+                from: start,
+                to: end,
+            })
         } else {
             None
         }
@@ -202,13 +201,13 @@ impl SubRange {
     pub fn start(self) -> usize
         ensures { result ≡ self.start }
     {
-        self.start
+        self.from
     }
 
     /// Where the range ends.
     pub fn end(self) -> usize
         ensures { result ≡ self.end }
     {
-        self.end
+        self.to
     }
 }
