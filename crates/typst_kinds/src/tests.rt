@@ -6,7 +6,7 @@ use crate::{Assoc, BinOp, FileId, Span, SpanNumber, SubRange, SyntaxKind, Syntax
 use std::test::Fail;
 
 /// Every kind with its name in messages.
-const NAMES: [(SyntaxKind, &str); 137] = [
+static NAMES: [(SyntaxKind, &str); 137] = [
     (SyntaxKind::End, "end of tokens"),
     (SyntaxKind::Error, "syntax error"),
     (SyntaxKind::Shebang, "shebang"),
@@ -151,8 +151,8 @@ const NAMES: [(SyntaxKind, &str); 137] = [
 
 #[test]
 fn names(rt: HostRuntime) {
-    for (kind, name) in NAMES {
-        assert_eq!(rt; kind.name(), name);
+    for (kind, name) in &NAMES {
+        assert_eq!(rt; kind.name(), *name);
     }
 }
 
