@@ -59,9 +59,8 @@ impl SyntaxNode {
             len = len.saturating_add(kid.len());
             descendants = descendants.saturating_add(kid.descendants());
         }
-        let alloc = *kids.allocator();
         SyntaxNode {
-            own: Own::inner(alloc, kind, len, descendants),
+            own: Own::inner(kind, len, descendants),
             kids,
         }
     }
@@ -345,12 +344,13 @@ impl SyntaxNode {
         ensures err { OnErr result (self.new ≡ self.old) }
     {
         let alloc = *self.kids.allocator();
-        self.own.push_diagnostic(Diagnostic {
+        let warning = Diagnostic {
             severity: Severity::Warning,
             sub_range,
             message,
             hints: Items::new(alloc),
-        })?;
+        };
+        self.own.push_diagnostic(alloc, warning)?;
         Ok(())
     }
 

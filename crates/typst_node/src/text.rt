@@ -1,7 +1,8 @@
-ghost use Rattle.std.specs.Prelude.{◌≡◌, [], ◌++◌, ◌↔◌, IfOk, OnOk, OnErr, IsTrue, length, string_bytes};
+ghost use Rattle.std.specs.Prelude.{◌≡◌, ◌<◌, [], ◌++◌, ◌↔◌, IfOk, OnOk, OnErr, IsTrue, MatchOption, length, string_bytes};
 
 use std::alloc::{AllocError, Global};
 use std::marker::Model;
+use std::str;
 
 /// A text that contracts see as its bytes.
 #[derive(Drop)]
@@ -78,5 +79,68 @@ impl Text {
         ensures { result ≡ length self.now }
     {
         self.text.len()
+    }
+}
+
+/// A text of at most 29 bytes, which takes no memory of its own.
+#[derive(Drop)]
+pub(crate) struct ShortText {
+    len: u8,
+    bytes: [u8; 29],
+}
+
+impl Model for ShortText {
+    ghost use Rattle.std.specs.Prelude.{List, ℕ, ◌≤◌, take};
+    ghost use Rattle.std.specs.Str.{IsUtf8};
+
+    ghost Value = { List ℕ };
+
+    ghost view = { λ t. take t.len t.bytes };
+
+    ghost invariant = { λ t. (t.len ≤ 29) × IsUtf8 (take t.len t.bytes) };
+}
+
+impl ShortText {
+    /// A copy of `text`, or `None` where it is longer.
+    pub(crate) fn new(text: &str) -> Option<ShortText>
+        ensures { MatchOption result (29 < length text.now) (λ t. t ≡ text.now) }
+    {
+        let from = text.as_bytes();
+        let len = from.len();
+        if len > 29 {
+            return None;
+        }
+        let mut bytes = [0u8; 29];
+        let part = &mut bytes[..len];
+        part.copy_from_slice(from);
+        Some(ShortText {
+            len: len as u8,
+            bytes,
+        })
+    }
+
+    /// The same text again.
+    pub(crate) fn copy(&self) -> ShortText
+        ensures { result ≡ self.now }
+    {
+        ShortText {
+            len: self.len,
+            bytes: self.bytes,
+        }
+    }
+
+    /// The text.
+    pub(crate) fn as_str(&self) -> &str
+        ensures { result.now ≡ self.now }
+    {
+        let bytes = &self.bytes[..self.len as usize];
+        unsafe { str::from_utf8_unchecked(bytes) }
+    }
+
+    /// The length in bytes.
+    pub(crate) fn len(&self) -> usize
+        ensures { result ≡ length self.now }
+    {
+        self.len as usize
     }
 }

@@ -1,9 +1,0 @@
-use Rattle.std.proofs.Common.{arith, refl}
-use Rattle.typst_node.specs.Head.{hinted}
-use Rattle.typst_node.proofs.Lasts.{at_last-set}
-use Rattle.typst_node.proofs.own.Own.push_hint.Goals as goal
-
-pub returns-clause-ok : goal.returns-clause-ok
-returns-clause-ok c =
-    rw (c.in_ok-push_hint.ensures.ok, at_last-set (hinted c.args.hint) c.self.inside.diagnostics.items _ c.index_mut-last.result.now (omega (arith, c.len-count.ensures, c.self.inside.diagnostics.ok.0)) c.index_mut-last.ensures.value, ← c.self.view_is)
-    refl
