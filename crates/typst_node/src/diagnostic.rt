@@ -18,8 +18,8 @@ pub enum Severity {
 /// A remark that says how to mend what a diagnostic is about.
 #[derive(Drop)]
 pub struct Hint {
-    sub_range: Option<SubRange>,
-    message: Text,
+    about: Option<SubRange>,
+    said: Text,
 }
 
 impl Model for Hint {
@@ -29,7 +29,7 @@ impl Model for Hint {
 
     ghost coded = { hint_code };
 
-    ghost view = { λ h. record { sub_range = h.sub_range; message = h.message } };
+    ghost view = { λ h. record { sub_range = h.about; message = h.said } };
 }
 
 /// An error or a warning about a node, with its hints.
@@ -56,39 +56,42 @@ impl Hint {
     pub(crate) fn new(sub_range: Option<SubRange>, message: Text) -> Hint
         ensures { result ≡ hint_with sub_range message }
     {
-        Hint { sub_range, message }
+        Hint {
+            about: sub_range,
+            said: message,
+        }
     }
 
     /// The bytes of the node that the hint is about, or `None` where it is about all of it.
     pub fn sub_range(&self) -> Option<SubRange>
         ensures { result ≡ self.now.sub_range }
     {
-        self.sub_range
+        self.about
     }
 
     /// What the hint says.
     pub fn message(&self) -> &str
         ensures { result.now ≡ self.now.message }
     {
-        self.message.as_str()
+        self.said.as_str()
     }
 
     pub(crate) fn try_clone(&self, alloc: Global) -> Result<Hint, AllocError>
         ensures { IfOk result (λ h. h ≡ self.now) }
     {
         Ok(Hint {
-            sub_range: self.sub_range,
-            message: self.message.try_clone(alloc)?,
+            about: self.about,
+            said: self.said.try_clone(alloc)?,
         })
     }
 
     fn same(&self, other: &Hint) -> bool
         ensures { IsTrue result ↔ (self.now ≡ other.now) }
     {
-        if self.sub_range != other.sub_range {
+        if self.about != other.about {
             return false;
         }
-        self.message.same(&other.message)
+        self.said.same(&other.said)
     }
 }
 

@@ -69,9 +69,9 @@ impl SyntaxNode {
     pub fn error(alloc: Global, message: &str, text: &str) -> Result<SyntaxNode, AllocError>
         ensures { IfOk result (λ t. t ≡ error_of message.now text.now) }
     {
-        let message = Text::new(alloc, message)?;
+        let said = Text::new(alloc, message)?;
         let text = Text::new(alloc, text)?;
-        SyntaxNode::error_from(alloc, message, text)
+        SyntaxNode::error_from(alloc, said, text)
     }
 
     /// An error leaf of a message and a text, which are moved.
@@ -132,7 +132,7 @@ impl SyntaxNode {
     pub fn is_empty(&self) -> bool
         ensures { IsTrue result ↔ (text_of self.now ≡ []) }
     {
-        self.own.len() == 0
+        self.len() == 0
     }
 
     /// Whether it is an inner node.
@@ -205,10 +205,9 @@ impl SyntaxNode {
         requires { is_error kind ≡ false }
         ensures { self.new ≡ with_kind kind self.old }
     {
-        if self.kind().is_error() {
-            return;
+        if !self.kind().is_error() {
+            self.own.set_kind(kind);
         }
-        self.own.set_kind(kind);
     }
 
     /// Changes the kind of child `i` alone, where there is one. An error stays as it is.
@@ -227,7 +226,7 @@ impl SyntaxNode {
     fn write_text(&self, out: &mut Text) -> Result<(), AllocError>
         ensures { OnOk result (out.new ≡ out.old ++ text_of self.now) }
     {
-        out.push(self.own.text())?;
+        out.push(self.leaf_text())?;
         for kid in &self.kids {
             kid.write_text(out)?;
         }
@@ -251,8 +250,17 @@ impl SyntaxNode {
         if self.kind().is_error() {
             return Ok(());
         }
+        let said = Text::new(*self.kids.allocator(), message)?;
+        self.become_error(said)?;
+        Ok(())
+    }
+
+    /// Makes the node a detached error leaf of its text, with a message that is moved.
+    fn become_error(&mut self, message: Text) -> Result<(), AllocError>
+        ensures ok { OnOk result (self.new ≡ error_of message (text_of self.old)) }
+        ensures err { OnErr result (self.new ≡ self.old) }
+    {
         let alloc = *self.kids.allocator();
-        let message = Text::new(alloc, message)?;
         let text = self.full_text()?;
         *self = SyntaxNode::error_from(alloc, message, text)?;
         Ok(())
@@ -269,11 +277,11 @@ impl SyntaxNode {
         }
         let alloc = *self.kids.allocator();
         let message = expected_message(alloc, thing, kind.name())?;
-        let text = self.full_text()?;
         if !is_lost_name(kind, thing) {
-            *self = SyntaxNode::error_from(alloc, message, text)?;
+            self.become_error(message)?;
             return Ok(());
         }
+        let text = self.full_text()?;
         let hint = keyword_hint(alloc, text.as_str())?;
         let mut error = SyntaxNode::error_from(alloc, message, text)?;
         error.advise(None, hint)?;
@@ -290,10 +298,8 @@ impl SyntaxNode {
         if kind.is_error() {
             return Ok(());
         }
-        let alloc = *self.kids.allocator();
-        let message = unexpected_message(alloc, kind.name())?;
-        let text = self.full_text()?;
-        *self = SyntaxNode::error_from(alloc, message, text)?;
+        let message = unexpected_message(*self.kids.allocator(), kind.name())?;
+        self.become_error(message)?;
         Ok(())
     }
 
