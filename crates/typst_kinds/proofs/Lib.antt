@@ -1,0 +1,3 @@
+mod Bits
+pub mod Membership
+pub mod NamedSets

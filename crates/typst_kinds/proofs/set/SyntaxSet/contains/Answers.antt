@@ -1,0 +1,8 @@
+use Rattle.std.proofs.Common.{◌==◌, ap}
+use Rattle.std.proofs.lemmas.Nat.Bits.{shr_and_one}
+use Rattle.typst_kinds.specs.Members.{has}
+use Rattle.typst_kinds.proofs.set.SyntaxSet.contains.Goals as goal
+
+pub returns : goal.returns
+unfolding has
+returns c = rw c.place-place.ensures.place (ap (λ n. n == 1) (shr_and_one _ _))

@@ -1,0 +1,14 @@
+use Rattle.std.proofs.Common.{rules, ◌≡◌, ◌/◌, ◌<◌, length, arith}
+use Rattle.typst_kinds.specs.Members.{place_of}
+use Rattle.typst_kinds.proofs.Membership.{removed, removed_other}
+use Rattle.typst_kinds.proofs.set.SyntaxSet.remove.Goals as goal
+
+within : (c : goal.After-words-1) → place_of c.args.kind / 64 < length c.args.self.words
+within c =
+    let long : length c.args.self.words ≡ 3 = search rules in omega (arith, long, c.place-place.ensures.place, c.place-place.ensures.small)
+
+pub returns-clause-removed : goal.returns-clause-removed
+returns-clause-removed c = rw c.place-place.ensures.place (removed c.args.self.words c.args.kind (within c))
+
+pub returns-clause-others : goal.returns-clause-others
+returns-clause-others c = rw c.place-place.ensures.place (removed_other c.args.self.words c.args.kind (within c))

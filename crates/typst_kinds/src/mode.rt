@@ -1,0 +1,10 @@
+/// The language in which a token is read.
+#[derive(Debug, Clone, Copy, PartialEq, Eq)]
+pub enum SyntaxMode {
+    /// Text with markup, the language of a file's top level and of `[..]`.
+    Markup,
+    /// Formulas, the language between `$` and `$`.
+    Math,
+    /// Code, the language behind `#` and of `{ .. }`.
+    Code,
+}
