@@ -13,7 +13,7 @@ pub struct UnicodeClasses;
 
 impl Classes for UnicodeClasses {
     ghost use Rattle.typst_lexer.specs.UnicodeTables.{unicode_classes};
-    ghost use Rattle.typst_lexer.specs.ClassLaws.{IsLawful-unicode_classes};
+    ghost use Rattle.typst_lexer.specs.UnicodeLaws.{IsLawful-unicode_classes};
 
     ghost classes = { λ _. unicode_classes };
 
