@@ -58,7 +58,7 @@ newline-white c e = grind (arith, nat_tests)
 in_line-continue : (k : CharClasses) → IsLawful k → (c : ℕ) → IsScalar c → k.xid_continue c ≡ true → in_line c ≡ true
 in_line-continue k law c scalar goes_on =
     let by_test : (b : Bool) → is_newline c ≡ b → not b ≡ true =
-        elim [ true ↦ λ e. absurd (let white = law.white c scalar (newline-white c e) in let never : k.xid_continue c ≡ false = white.xid_continue in cc) | false ↦ λ _. refl ]
+    elim [ true ↦ λ e. absurd (let white = law.white c scalar (newline-white c e) in let never : k.xid_continue c ≡ false = white.xid_continue in cc) | false ↦ λ _. refl ]
     in
     by_test (is_newline c) refl
 
