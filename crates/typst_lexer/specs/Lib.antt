@@ -1,0 +1,4 @@
+pub mod ClassLaws
+pub mod Classes
+pub mod Identifiers
+pub mod UnicodeTables
