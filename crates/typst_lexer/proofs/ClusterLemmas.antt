@@ -1,17 +1,13 @@
--- The first cluster in bytes and in characters.
-use Rattle.std.proofs.Common.{◌≡◌, ◌<◌, ℕ, Bool, true, false, ◌&&◌, List, [], ◌∷◌, map, take, length, refl, sym, ap, subst, ◌∙◌, arith, take_at, ltb-true, length-take-le, suc}
+-- The first cluster of a line in bytes and in characters.
+use Rattle.std.proofs.Common.{◌≡◌, ◌<◌, ℕ, Bool, true, false, ◌&&◌, if◌then◌else◌, List, [], ◌∷◌, map, take, length, refl, sym, ap, subst, ◌∙◌, arith, take_at, ltb-true, length-take-le, suc, append-nil}
 use Rattle.std.proofs.lemmas.Bool.Decides.{nat_tests}
-use Rattle.std.proofs.lemmas.Str.{encodes-IsAscii, encodes-chars, chars-IsAscii, IsAscii-take}
+use Rattle.std.proofs.lemmas.Str.{length-encode, encodes-IsAscii, encodes-chars, chars-IsAscii, IsAscii-take}
 use Rattle.std.proofs.lemmas.Str.Ascii.{IsAscii-nil, IsAscii-cons}
-use Rattle.std.specs.Char.{is_ascii}
-use Rattle.std.specs.List.{list_all, concat}
-use Rattle.std.specs.Prelude.{encode_utf8_all, slice_index}
+use Rattle.std.specs.Char.{is_ascii, len_utf8}
+use Rattle.std.specs.List.{list_all}
+use Rattle.std.specs.Prelude.{encode_utf8, encode_utf8_all, slice_index}
 use Rattle.std.specs.Str.{chars, IsUtf8, IsAscii, IsNotAscii}
-use Rattle.unicode_segmentation.specs.Grapheme.{is_grapheme_break}
-use Rattle.unicode_segmentation.specs.Segments.{cut}
-use Rattle.typst_lexer.specs.ClassLaws.{AreCut, cut-front}
 use Rattle.typst_lexer.specs.Classes.{kept_cluster}
-use Rattle.typst_lexer.specs.UnicodeTables.{first_len, unicode_cluster}
 
 and-first : (a b : Bool) → (a && b) ≡ true → a ≡ true
 and-first true b e = refl
@@ -37,33 +33,26 @@ some_chars : (cs bs : List ℕ) → encode_utf8_all cs ≡ bs → 0 < length bs 
 some_chars [] bs e some = absurd (let none : length bs ≡ 0 = ap length (sym e) in omega arith)
 some_chars (c ∷ cs) bs e some = omega arith
 
-first_piece : (cs : List ℕ) (pieces : List (List ℕ)) (piece : List ℕ) (rest : List (List ℕ)) → concat pieces ≡ cs → map encode_utf8_all pieces ≡ piece ∷ rest
-    → length piece ≡ length (encode_utf8_all (take (first_len pieces) cs))
-first_piece cs [] piece rest e m = absurd (cc)
-first_piece cs (p ∷ ps) piece rest e m =
-    let same : encode_utf8_all p ≡ piece = cc in
-    ap length (sym same ∙ ap encode_utf8_all (sym (take_at p (concat ps) (length p) refl) ∙ ap (take (length p)) e))
-
-no_piece : (cs : List ℕ) (pieces : List (List ℕ)) → concat pieces ≡ cs → 0 < length cs → map encode_utf8_all pieces ≡ [] → ⊥
-no_piece cs [] e some m = let none : 0 ≡ length cs = ap length e in omega arith
-no_piece cs (p ∷ ps) e some m = cc
-
 take_whole : (cs : List ℕ) → take (length cs) cs ≡ cs
 take_whole [] = refl
 take_whole (c ∷ cs) = ap (λ t. c ∷ t) (take_whole cs)
+
+first_width : (c : ℕ) (cs : List ℕ) → len_utf8 c ≡ length (encode_utf8_all (take 1 (c ∷ cs)))
+first_width c cs = sym (length-encode c) ∙ ap length (sym (append-nil (encode_utf8 c)))
+
+one_or_one : (b : Bool) → let n : ℕ = if b then 1 else 1 in n ≡ 1
+one_or_one true = refl
+one_or_one false = refl
 
 module _ (line : List ℕ) (u : IsUtf8 line) (some : 0 < length line) where
   pub ascii_cluster : (beyond : List ℕ → ℕ) → IsAscii line → 1 ≡ length (encode_utf8_all (take (kept_cluster beyond (chars line)) (chars line)))
   ascii_cluster beyond a =
       rw (chars-IsAscii line a, all_ascii line a, encodes-IsAscii (take 1 line) (IsAscii-take line 1 a)) (sym (length-take-le 1 line some))
 
-  more : 0 < length (chars line)
+  pub more : 0 < length (chars line)
   more = some_chars (chars line) line (encodes-chars line u) some
 
-  cut_line : AreCut (chars line) (cut (is_grapheme_break true) [] (chars line) [])
-  cut_line = cut-front (is_grapheme_break true) [] (chars line) [] more
-
-  not_ascii : IsNotAscii line → list_all is_ascii (chars line) ≡ false
+  pub not_ascii : IsNotAscii line → list_all is_ascii (chars line) ≡ false
   not_ascii n =
       never _ (λ all.
       let a = IsAscii-chars (chars line) all in
@@ -74,10 +63,5 @@ module _ (line : List ℕ) (u : IsUtf8 line) (some : 0 < length line) where
   pub whole_line : IsNotAscii line → length line ≡ length (encode_utf8_all (take (kept_cluster length (chars line)) (chars line)))
   whole_line n = rw (not_ascii n, take_whole (chars line), encodes-chars line u) refl
 
-  pub first_cluster : (piece : List ℕ) (rest : List (List ℕ)) → IsNotAscii line → map encode_utf8_all (cut (is_grapheme_break true) [] (chars line) []) ≡ piece ∷ rest
-      → length piece ≡ length (encode_utf8_all (take (kept_cluster unicode_cluster (chars line)) (chars line)))
-  unfolding unicode_cluster
-  first_cluster piece rest n e = rw (not_ascii n) (first_piece (chars line) _ piece rest cut_line.joins e)
-
-  pub no_cluster : map encode_utf8_all (cut (is_grapheme_break true) [] (chars line) []) ≡ [] → ⊥
-  no_cluster e = no_piece (chars line) _ cut_line.joins more e
+  pub first_character : (c : ℕ) (cs : List ℕ) → chars line ≡ c ∷ cs → len_utf8 c ≡ length (encode_utf8_all (take (kept_cluster (λ _. 1) (chars line)) (chars line)))
+  first_character c cs e = rw (one_or_one (list_all is_ascii (chars line)), e) (first_width c cs)

@@ -1,3 +1,4 @@
+pub mod CharsLemmas
 pub mod ClusterLemmas
 pub mod Frame
 pub mod LineCluster
@@ -5,4 +6,5 @@ pub mod Moves
 pub mod NumberLemmas
 pub mod TextLemmas
 pub mod TokenLemmas
+pub mod UnicodeCluster
 pub mod WordLemmas

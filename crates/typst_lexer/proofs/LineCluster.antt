@@ -1,13 +1,19 @@
 -- A cluster of the rest of a line, as a step over the characters ahead.
-use Rattle.std.proofs.Common.{◌≡◌, ◌≤◌, ◌<◌, ◌+◌, ℕ, zero, suc, Bool, true, false, if◌then◌else◌, List, [], ◌∷◌, take, length, refl, ap, ◌∙◌, arith, one-add}
+use Rattle.std.proofs.Common.{◌≡◌, ◌≤◌, ◌<◌, ◌+◌, ℕ, zero, suc, Bool, true, false, not, ◌&&◌, if◌then◌else◌, List, [], ◌∷◌, take, length, refl, ap, ◌∙◌, arith, one-add}
 use Rattle.std.proofs.lemmas.List.{length-take}
 use Rattle.std.proofs.lemmas.Str.{chars-nil, scalars-chars}
 use Rattle.std.specs.List.{prefix_len, list_all}
 use Rattle.std.specs.Prelude.{encode_utf8_all}
-use Rattle.std.specs.Str.{chars}
-use Rattle.std.specs.Str.{IsUtf8}
+use Rattle.std.specs.Str.{chars, all_scalars, IsUtf8}
+use Rattle.std.proofs.lemmas.Bool.Decides.{nat_tests}
+use Rattle.std.specs.Char.{IsScalar, is_whitespace}
+use Rattle.typst_lines.specs.Newline.{is_newline}
 use Rattle.typst_lines.specs.Place.{Place, run, bytes_ahead}
 use Rattle.typst_lexer.specs.Classes.{CharClasses, IsLine, IsLawful, in_line}
+
+and-both : (a b : Bool) → (a && b) ≡ true → (a ≡ true) × (b ≡ true)
+and-both true b e = (refl, e)
+and-both false b e = absurd (cc)
 
 pub line-some : (bs : List ℕ) → 0 < length (chars bs) → 0 < length bs
 line-some [] some = let none : length (chars []) ≡ 0 = ap length chars-nil in absurd (omega arith)
@@ -44,3 +50,22 @@ cluster-bytes k law p line u e some =
     let same : k.cluster (chars line) ≡ n = ap k.cluster e in
     let le : n ≤ m = omega (arith, within.1, length-take m p.ahead, ap length e) in
     ap (λ cs. length (encode_utf8_all (take (k.cluster cs) cs))) e ∙ ap (λ cs. length (encode_utf8_all cs)) (take-inner n m p.ahead le)
+
+-- a newline character is white space
+newline-white : (c : ℕ) → is_newline c ≡ true → is_whitespace c ≡ true
+newline-white c e = grind (arith, nat_tests)
+
+in_line-continue : (k : CharClasses) → IsLawful k → (c : ℕ) → IsScalar c → k.xid_continue c ≡ true → in_line c ≡ true
+in_line-continue k law c scalar goes_on =
+    let by_test : (b : Bool) → is_newline c ≡ b → not b ≡ true =
+    elim [ true ↦ λ e. absurd (let white = law.white c scalar (newline-white c e) in let never : k.xid_continue c ≡ false = white.xid_continue in cc) | false ↦ λ _. refl ]
+    in
+    by_test (is_newline c) refl
+
+-- the characters that continue an identifier stand within a line
+pub in_line-identifier : (k : CharClasses) → IsLawful k → (cs : List ℕ) → all_scalars cs ≡ true → list_all k.xid_continue cs ≡ true → list_all in_line cs ≡ true
+in_line-identifier k law [] scalars goes_on = refl
+in_line-identifier k law (c ∷ cs) scalars goes_on =
+    let s = and-both _ (all_scalars cs) scalars in
+    let g = and-both (k.xid_continue c) (list_all k.xid_continue cs) goes_on in
+    rw (in_line-continue k law c s.0 g.0) (in_line-identifier k law cs s.1 g.1)

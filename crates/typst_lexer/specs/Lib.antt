@@ -9,4 +9,5 @@ pub mod Reads
 pub mod Text
 pub mod Token
 pub mod Tokens
+pub mod UnicodeLaws
 pub mod UnicodeTables

@@ -4,7 +4,9 @@ ghost use Rattle.typst_lexer.specs.UnicodeTables.{unicode_numeric, unicode_alpha
 ghost use Rattle.unicode.specs.Script.{script};
 
 use crate::classes::{Classes, MathClass, ascii_math_class};
-use unicode::properties::{self, GeneralCategory, Script};
+use unicode::properties;
+use unicode::properties::GeneralCategory::{self, DecimalNumber, LetterNumber, OtherNumber};
+use unicode::properties::Script::{self, Han, Hangul, Hiragana, Katakana};
 use unicode_segmentation::UnicodeSegmentation;
 
 /// The classes by Unicode.
@@ -13,7 +15,7 @@ pub struct UnicodeClasses;
 
 impl Classes for UnicodeClasses {
     ghost use Rattle.typst_lexer.specs.UnicodeTables.{unicode_classes};
-    ghost use Rattle.typst_lexer.specs.ClassLaws.{IsLawful-unicode_classes};
+    ghost use Rattle.typst_lexer.specs.UnicodeLaws.{IsLawful-unicode_classes};
 
     ghost classes = { λ _. unicode_classes };
 
@@ -23,10 +25,8 @@ impl Classes for UnicodeClasses {
     fn is_xid_start(&self, c: char) -> bool {
         if c.is_ascii() {
             c.is_ascii_alphabetic()
-        } else if c.is_whitespace() {
-            false
         } else {
-            unicode_ident::is_xid_start(c)
+            !c.is_whitespace() && unicode_ident::is_xid_start(c)
         }
     }
 
@@ -34,10 +34,8 @@ impl Classes for UnicodeClasses {
     fn is_xid_continue(&self, c: char) -> bool {
         if c.is_ascii() {
             c.is_ascii_alphanumeric() || c == '_'
-        } else if c.is_whitespace() {
-            false
         } else {
-            unicode_ident::is_xid_continue(c)
+            !c.is_whitespace() && unicode_ident::is_xid_continue(c)
         }
     }
 
@@ -45,10 +43,8 @@ impl Classes for UnicodeClasses {
     fn is_alphabetic(&self, c: char) -> bool {
         if c.is_ascii() {
             c.is_ascii_alphabetic()
-        } else if c.is_whitespace() {
-            false
         } else {
-            properties::is_alphabetic(c)
+            !c.is_whitespace() && properties::is_alphabetic(c)
         }
     }
 
@@ -56,10 +52,8 @@ impl Classes for UnicodeClasses {
     fn is_alphanumeric(&self, c: char) -> bool {
         if c.is_ascii() {
             c.is_ascii_alphanumeric()
-        } else if c.is_whitespace() {
-            false
         } else {
-            alphanumeric(c)
+            !c.is_whitespace() && alphanumeric(c)
         }
     }
 
@@ -67,10 +61,8 @@ impl Classes for UnicodeClasses {
     fn is_numeric(&self, c: char) -> bool {
         if c.is_ascii() {
             c.is_ascii_digit()
-        } else if c.is_whitespace() {
-            false
         } else {
-            numeric(c)
+            !c.is_whitespace() && numeric(c)
         }
     }
 
@@ -78,10 +70,8 @@ impl Classes for UnicodeClasses {
     fn is_word(&self, c: char) -> bool {
         if c.is_ascii() {
             c.is_ascii_alphanumeric()
-        } else if c.is_whitespace() {
-            false
         } else {
-            alphanumeric(c) && !unspaced(c)
+            !c.is_whitespace() && alphanumeric(c) && !unspaced(c)
         }
     }
 
@@ -116,9 +106,7 @@ fn numeric(c: char) -> bool
 {
     matches!(
         GeneralCategory::for_char(c),
-        GeneralCategory::DecimalNumber
-            | GeneralCategory::LetterNumber
-            | GeneralCategory::OtherNumber
+        DecimalNumber | LetterNumber | OtherNumber
     )
 }
 
@@ -132,8 +120,5 @@ fn alphanumeric(c: char) -> bool
 fn unspaced(c: char) -> bool
     ensures { result ≡ is_unspaced (script c) }
 {
-    matches!(
-        Script::for_char(c),
-        Script::Han | Script::Hiragana | Script::Katakana | Script::Hangul
-    )
+    matches!(Script::for_char(c), Han | Hiragana | Katakana | Hangul)
 }

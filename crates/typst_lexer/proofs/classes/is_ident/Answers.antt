@@ -1,17 +1,12 @@
 use Rattle.std.proofs.Common.{◌≡◌, ℕ, true, Option, Some, List, [], ◌∷◌, refl, sym, ap, ◌∙◌, rules, tests}
-use Rattle.std.proofs.lemmas.Iterator.{YieldsList, YieldsList-from_chars}
+use Rattle.std.proofs.lemmas.Iterator.{YieldsList-from_chars}
 use Rattle.std.proofs.lemmas.Iterator.Search.{all_from_yields_List}
 use Rattle.std.specs.List.{list_all}
 use Rattle.std.specs.Str.{chars}
 use Rattle.typst_lexer.specs.Classes.{CharClasses}
 use Rattle.typst_lexer.specs.Identifiers.{is_ident, is_id_start, is_id_continue}
+use Rattle.typst_lexer.proofs.CharsLemmas.{after_first}
 use Rattle.typst_lexer.proofs.classes.is_ident.Goals as goal
-
--- an iterator that gives a list and gave an item: the item heads the list, and the rest is left
-after_first : {S : Type 0} {steps : S → Option ℕ → S → Type 0} {s : S} (all : List ℕ) (t : S) (c : ℕ) → YieldsList steps (λ x. x) s all → steps s (Some c) t
-    → (rest : List ℕ) × (all ≡ c ∷ rest) × YieldsList steps (λ x. x) t rest
-after_first [] t c e n = absurd (e.runs c t n)
-after_first (y ∷ ys) t c e n = let h = e.runs.1 c t n in (ys, ap (λ v. v ∷ ys) (sym h.0), record { runs = h.1 })
 
 starts : (k : CharClasses) (cs : List ℕ) (c : ℕ) (rest : List ℕ) → cs ≡ c ∷ rest → is_id_start k c ≡ true → list_all (is_id_continue k) rest ≡ is_ident k cs
 starts k cs c rest e start = rw (e, start) refl

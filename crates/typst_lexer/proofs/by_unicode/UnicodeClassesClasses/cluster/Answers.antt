@@ -1,7 +1,8 @@
 use Rattle.std.proofs.Common.{sym, ◌∙◌}
 use Rattle.unicode_segmentation.specs.Segments.{segments}
 use Rattle.typst_lexer.specs.UnicodeTables.{unicode_cluster}
-use Rattle.typst_lexer.proofs.ClusterLemmas.{ascii_cluster, first_cluster, no_cluster}
+use Rattle.typst_lexer.proofs.ClusterLemmas.{ascii_cluster}
+use Rattle.typst_lexer.proofs.UnicodeCluster.{first_cluster, no_cluster}
 use Rattle.typst_lexer.proofs.by_unicode.UnicodeClassesClasses.cluster.Goals as goal
 
 pub returns-then-is_ascii : goal.returns-then-is_ascii
