@@ -1,12 +1,11 @@
 -- Facts on texts, and on machines that take a run of characters.
-use Rattle.std.proofs.Common.{◌≡◌, ◌≤◌, ℕ, zero, suc, ◌+◌, Bool, true, false, not, ◌&&◌, ◌==◌, if◌then◌else◌, List, [], ◌∷◌, length, refl, sym, ap, subst, ◌∙◌, arith, slice_get, Option, Some, None, eqb→eq}
+use Rattle.std.proofs.Common.{◌≡◌, ℕ, suc, ◌+◌, Bool, true, false, not, ◌==◌, if◌then◌else◌, List, [], ◌∷◌, length, refl, sym, ap, subst, ◌∙◌, arith, slice_get, Some, None}
 use Rattle.std.proofs.lemmas.Bool.Decides.{nat_tests}
 use Rattle.std.specs.List.{prefix_len}
 use Rattle.typst_kinds.specs.declared.kind.SyntaxKind.TheVariants as kind
-use Rattle.typst_lines.specs.Place.{Place, moved, moved_from, scout, past, passes, word_at}
-use Rattle.typst_lines.proofs.PlaceLemmas.{head-splits}
+use Rattle.typst_lines.specs.Place.{Place, moved, moved_from, scout, past, word_at}
 use Rattle.typst_lexer.specs.Classes.{CharClasses}
-use Rattle.typst_lexer.specs.Reader.{place, Reader, exec, Machine, Memory, Turn, ask, Step, spanned, eat_span, see_word}
+use Rattle.typst_lexer.specs.Reader.{place, Reader, exec, Machine, Memory, Turn, ask, eat_span}
 use Rattle.typst_lexer.specs.Reader.Memory.{blank}
 use Rattle.typst_lexer.specs.Reader.Reader.{answer}
 use Rattle.typst_lexer.specs.Reader.Turn.{leave, go}
