@@ -166,7 +166,7 @@ run-turn : (test : ℕ → Bool) (l : Look) (c : ℕ) (pb pa qb qa : List ℕ) (
     → (Agree (run_look (prefix_len test pa) l) (place (c ∷ pb) pa) (place (c ∷ qb) qa) → SameRun test l (c ∷ pb) pa (c ∷ qb) qa)
     → Agree (run_look (turns test pa t) l) (place pb (c ∷ pa)) (place qb (c ∷ qa))
     → (turns test pa t ≡ turns test qa t) × (take (turns test pa t) (c ∷ pa) ≡ take (turns test qa t) (c ∷ qa))
-        × Agree l (moved_from (turns test pa t) pb (c ∷ pa)) (moved_from (turns test qa t) qb (c ∷ qa))
+    × Agree l (moved_from (turns test pa t) pb (c ∷ pa)) (moved_from (turns test qa t) qb (c ∷ qa))
 run-turn test l c pb pa qb qa false more g = (refl, refl, agree-narrow l (run_look 0 l) _ _ (omega arith) (omega arith) g)
 run-turn test l c pb pa qb qa true more g =
     let n = prefix_len test pa in

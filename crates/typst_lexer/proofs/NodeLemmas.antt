@@ -24,5 +24,5 @@ pub is-read : (r : Reader Token) (p q : Place) (t : Token) (node : Tree) (taken 
 is-read r p q t node taken e made same = record {
   kind_is = sym (ap (λ x. x.0.kind) e);
   node_is = made ∙ ap (token_node t) same ∙ sym (ap (λ x. token_node x.0 (take (eaten r p) p.ahead)) e);
-  place_is = sym (ap (λ x. x.1) e)
+  place_is = sym (ap (λ x. x.1) e);
 }

@@ -6,35 +6,29 @@ ghost use Rattle.typst_lexer.specs.Laws as law;
 /// class value, mode and place.
 pub fn token_frame_law()
     ensures { law.TokenFrame }
-{
-}
+{}
 
 /// The frame law of columns.
 pub fn column_frame_law()
     ensures { law.ColumnFrame }
-{
-}
+{}
 
 /// How far some tokens and a column are looked for.
 pub fn looks_of_tokens()
     ensures { (beyond : CharClasses) → law.Looks beyond }
-{
-}
+{}
 
 /// The look of a star can't be shorter.
 pub fn look_of_a_star()
     ensures { (beyond : CharClasses) → law.StarLook beyond }
-{
-}
+{}
 
 /// The look of a text at `h` can't be shorter.
 pub fn look_of_a_text()
     ensures { (k : CharClasses) → law.TextLook k }
-{
-}
+{}
 
 /// The look of a block comment can't be shorter.
 pub fn look_of_a_comment()
     ensures { (k : CharClasses) → law.CommentLook k }
-{
-}
+{}

@@ -95,9 +95,7 @@ fn comment_end_node(alloc: Global, text: &str) -> Result<SyntaxNode, AllocError>
     ensures { IfOk result (λ node. node ≡ spec.fault_node Fault.CommentEnd (chars text.now)) }
 {
     let mut node = SyntaxNode::error(alloc, "unexpected end of block comment", text)?;
-    node.hint(
-        "consider escaping the `*` with a backslash or opening the block comment with `/*`",
-    )?;
+    node.hint("consider escaping the `*` with a backslash or opening the block comment with `/*`")?;
     Ok(node)
 }
 

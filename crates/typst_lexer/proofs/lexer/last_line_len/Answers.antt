@@ -12,7 +12,7 @@ loop-c-init c =
     let all : (place c.jump.new.self).behind ≡ reverse (chars text) = rw (c.jump.ensures.moved, c.new-s.ensures.text) (behind-end text) in
     record {
       counts = omega (arith, ap (prefix_len in_line) all);
-      within = omega (arith, ap length all, behind-fits text c.utf8.text)
+      within = omega (arith, ap length all, behind-fits text c.utf8.text);
     }
 
 pub overflow_add-len : goal.overflow_add-len
@@ -23,7 +23,7 @@ loop-c-preserved c =
     let p = place c.loop-c.s in
     record {
       counts = omega (arith, c.loop-c.invariant.counts, line-step p c.in-Some.c c.in-Some.ensures.last c.if-is_newline.ensures, ap (λ q. prefix_len in_line q.behind) c.in-Some.ensures.moved);
-      within = omega (arith, c.loop-c.invariant.within, length-back p c.in-Some.c c.in-Some.ensures.last, ap (λ q. length q.behind) c.in-Some.ensures.moved)
+      within = omega (arith, c.loop-c.invariant.within, length-back p c.in-Some.c c.in-Some.ensures.last, ap (λ q. length q.behind) c.in-Some.ensures.moved);
     }
 
 pub loop-c-smaller : goal.loop-c-smaller
