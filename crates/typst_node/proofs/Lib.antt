@@ -1,3 +1,7 @@
 pub mod Bares
+pub mod Growth
 pub mod Lasts
+pub mod Numbering
+pub mod Paths
+pub mod Sames
 pub mod Trees
