@@ -4,4 +4,5 @@ pub mod Lasts
 pub mod Numbering
 pub mod Paths
 pub mod Sames
+pub mod Stretches
 pub mod Trees

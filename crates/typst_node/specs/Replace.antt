@@ -1,8 +1,8 @@
 -- Children replaced along a path.
-use Rattle.std.specs.Prelude.{◌≡◌, ℕ, zero, suc, ◌+◌, ◌-◌, ◌*◌, ◌≤◌, ◌<◌, Bool, true, false, nat_le, ◌==◌, ◌&&◌, min, max, IsTrue, List, [], ◌∷◌, ◌++◌, length, take, drop, reverse, Option, Some, None, option_map, option_and_then, slice_get, slice_set, slice_range, if◌then◌else◌}
+use Rattle.std.specs.Prelude.{◌^◌, ℕ, zero, suc, ◌+◌, ◌-◌, ◌*◌, ◌≤◌, ◌<◌, Bool, nat_le, ◌==◌, ◌&&◌, min, max, IsTrue, List, [], ◌∷◌, ◌++◌, length, take, drop, reverse, Option, Some, None, option_map, option_and_then, slice_get, slice_set, slice_range, if◌then◌else◌}
 use Rattle.typst_node.specs.declared.replace.Stretch.{Stretch}
 use Rattle.typst_node.specs.Head.{Head, Place, number_of}
-use Rattle.typst_node.specs.Tree.{Forest, none, more, Tree, forest, trees, count, nodes}
+use Rattle.typst_node.specs.Tree.{Tree, forest, trees, count}
 use Rattle.typst_node.specs.Numbers.{numbered_list, stride}
 use Rattle.typst_node.specs.Same.{front}
 
@@ -73,6 +73,15 @@ stretch h xs from to n k = record {
 
 abbrev pub fit : Head → List Tree → ℕ → ℕ → ℕ → Option Stretch
 fit h xs from to n = option_map (stretch h xs from to n) (growth h xs from to n (length xs + 1) 0)
+
+-- the stretch is around from..to, and has room for the numbers of its nodes
+pub record IsFit (xs : List Tree) (from to n : ℕ) (w : Stretch) : Type 0 where
+  pub before : w.left ≤ from
+  pub behind : to ≤ w.right
+  pub within : w.right ≤ length xs
+  pub low : 2 ≤ w.start
+  pub step : 0 < w.stride
+  pub fits : w.start + (n + count (forest (slice_range xs w.left from)) + count (forest (slice_range xs to w.right))) * w.stride ≤ 2 ^ 47
 
 -- the children xs with ns in place of from..to, where those of the stretch are numbered anew
 abbrev pub renumbered : ℕ → List Tree → ℕ → ℕ → List Tree → Stretch → List Tree

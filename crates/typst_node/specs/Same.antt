@@ -1,5 +1,5 @@
 -- Whether two trees are the same, spans aside, as a test.
-use Rattle.std.specs.Prelude.{◌≡◌, ℕ, zero, suc, ◌+◌, ◌==◌, Bool, true, false, ◌&&◌, List, [], ◌∷◌, reverse, length, drop, if◌then◌else◌}
+use Rattle.std.specs.Prelude.{ℕ, ◌+◌, ◌==◌, Bool, true, false, ◌&&◌, List, [], ◌∷◌, if◌then◌else◌}
 use base.Stored.{Gv, gnil, gnum, gcons}
 use Rattle.typst_node.specs.Tree.{Tree, tree_code, bare}
 

@@ -72,6 +72,19 @@ pub(crate) fn splice<T: Drop>(
     Ok(())
 }
 
+/// Leaves out the elements `from..to`.
+pub(crate) fn remove<T: Drop>(all: &mut Vec<T>, from: usize, to: usize)
+    requires order { from ≤ to }
+    requires within { to ≤ vec_len all.old }
+    ensures { all.new.items ≡ take from all.old.items ++ drop to all.old.items }
+{
+    let kept = all.len() - (to - from);
+    let items = all.as_mut_slice();
+    let tail = &mut items[from..];
+    tail.rotate_left(to - from);
+    all.truncate(kept);
+}
+
 /// Leaves out the first `front` and the last `back`.
 pub(crate) fn keep_middle<T: Drop>(all: &mut Vec<T>, front: usize, back: usize)
     requires { front + back ≤ vec_len all.old }

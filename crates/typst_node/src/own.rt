@@ -1,4 +1,4 @@
-ghost use Rattle.std.specs.Prelude.{◌≡◌, ◌≤◌, ◌<◌, ◌^◌, ◌↔◌, IfOk, OnOk, OnErr, IsTrue};
+ghost use Rattle.std.specs.Prelude.{◌≡◌, ◌≤◌, ◌<◌, ◌^◌, ◌↔◌, IfOk, OnOk, OnErr, IsTrue, false};
 ghost use Rattle.typst_node.specs.Head.{bare_head, located, spanned, leaf_head, inner_head, error_head, leaf_own, with_head, diagnosed, helped, number_of};
 ghost use Rattle.typst_node.specs.Diagnostic.{at_last, hinted};
 
@@ -311,6 +311,25 @@ impl Own {
             } else {
                 0
             },
+        }
+    }
+
+    /// Gives an inner node the length of its text and the count of its nodes.
+    pub(crate) fn set_counts(&mut self, len: usize, descendants: usize)
+        requires { self.old.head.is_inner ≡ false → 1 < self.old.descendants }
+        ensures { self.new ≡ record { head = self.old.head; len = len; descendants = descendants } }
+    {
+        match &mut self.repr {
+            Repr::ShortLeaf(_, _) => {}
+            Repr::LongLeaf(_, _) => {}
+            Repr::Inner(_, extent) => {
+                extent.len = len;
+                extent.descendants = descendants;
+            }
+            Repr::Diagnosed(_, parts) => {
+                parts.extent.len = len;
+                parts.extent.descendants = descendants;
+            }
         }
     }
 

@@ -1,7 +1,6 @@
-use Rattle.std.proofs.Common.{◌≡◌, ℕ, length, ◌+◌, ◌*◌, ◌<◌, ◌≤◌, ◌++◌, ◌^◌, take, drop, get_or, arith, rules, refl, ap, sym, ◌∙◌}
+use Rattle.std.proofs.Common.{◌≡◌, ℕ, ◌+◌, ◌≤◌, ◌^◌, get_or, arith, rules}
 use Rattle.std.proofs.Math.ListN.{set}
-use Rattle.typst_node.specs.Tree.{Tree, nodes, forest, count, saturated}
-use Rattle.typst_node.specs.Numbers.{numbered, numbered_list}
+use Rattle.typst_node.specs.Tree.{Tree}
 use Rattle.typst_node.proofs.Numbering.{Next, next_fits, numbered_more}
 use Rattle.typst_node.proofs.numbers.number_all.Goals as goal
 

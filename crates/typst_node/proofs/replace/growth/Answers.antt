@@ -1,5 +1,4 @@
-use Rattle.std.proofs.Common.{arith, sym, ◌∙◌, ◌≡◌, ◌<◌, length, max, ◌*◌, refl}
-use Rattle.std.proofs.lemmas.Bool.Decides.{nat_tests}
+use Rattle.std.proofs.Common.{arith, sym, ◌∙◌, ◌≡◌, max, ◌*◌, refl}
 use Rattle.typst_node.specs.Tree.{forest, count}
 use Rattle.typst_node.proofs.Growth.{growth_found, growth_ends, growth_goes, below_length}
 use Rattle.typst_node.proofs.replace.growth.Goals as goal

@@ -1,5 +1,4 @@
-use Rattle.std.proofs.Common.{arith, refl, length, min, ◌≤◌}
-use Rattle.std.proofs.lemmas.List.{drop_all}
+use Rattle.std.proofs.Common.{arith, refl}
 use Rattle.typst_node.proofs.Sames.{front_more, front_none, front_end, not_same, same_from_bare}
 use Rattle.typst_node.proofs.replace.shared_front.Goals as goal
 

@@ -1,7 +1,6 @@
-use Rattle.std.proofs.Common.{◌≡◌, ℕ, length, ◌+◌, ◌*◌, ◌<◌, ◌≤◌, ◌++◌, ◌^◌, take, drop, get_or, arith, rules, refl, ap, sym, ◌∙◌}
-use Rattle.std.proofs.Math.ListN.{set, length-set}
-use Rattle.typst_node.specs.Tree.{Tree, nodes, forest, count, saturated}
-use Rattle.typst_node.specs.Numbers.{numbered, numbered_list, stride}
+use Rattle.std.proofs.Common.{◌≡◌, ◌+◌, ◌*◌, ◌≤◌, get_or, arith, refl, ap, ◌∙◌}
+use Rattle.std.proofs.Math.ListN.{length-set}
+use Rattle.typst_node.specs.Tree.{Tree, nodes, forest, count}
 use Rattle.typst_node.proofs.Numbering.{Next, next_fits, numbered_more, numbered_vec, forest_numbered, nodes_numbered, text_numbered, later}
 use Rattle.typst_node.proofs.node.SyntaxNode.+number.Goals as goal
 use Rattle.typst_node.proofs.node.SyntaxNode.+number.Goals.{After-descendants-in-loop-kid}
