@@ -1,13 +1,13 @@
 -- A stretch of a tree's nodes, said in two ways.
-use Rattle.std.proofs.Common.{◌≡◌, ℕ, zero, suc, ◌+◌, ◌-◌, ◌<◌, ◌≤◌, List, [], ◌∷◌, ◌++◌, length, take, drop, Option, Some, None, refl, ap, sym, subst, ◌∙◌, arith, length-append, Bool}
+use Rattle.std.proofs.Common.{◌≡◌, ℕ, zero, suc, ◌+◌, ◌-◌, ◌<◌, ◌≤◌, ◌^◌, List, [], ◌∷◌, ◌++◌, length, take, drop, Option, Some, None, refl, ap, sym, subst, ◌∙◌, arith, length-append, Bool}
 use Rattle.std.specs.Prelude.{slice_get, unwrap_or, map}
 use Rattle.std.specs.Option.{option_map}
 use Rattle.std.proofs.lemmas.List.{take-append-drop, length-take-le}
 use Rattle.std.proofs.Math.Seq.{take-length, take-append_seam, drop-append_seam}
-use Rattle.typst_node.specs.Tree.{Tree, nodes, count, places, saturated, text_of}
+use Rattle.typst_node.specs.Tree.{Tree, forest, nodes, count, places, preorder, saturated, text_of}
 use Rattle.typst_tree.specs.Walks.{texts, first_at, Within, Stands}
 use Rattle.typst_tree.specs.Steps.{At, at, node_of, start_of, first_below}
-use Rattle.typst_tree.proofs.Walking.{first_same, within_in}
+use Rattle.typst_tree.proofs.Walking.{first_same, within_in, within_first, within_rest, length_preorder}
 
 pub standing : (xs : List Tree) (k b : ℕ) (ys : List Tree) → Stands xs k b ys → Within 0 0 xs k b ys
 standing xs k b ys s =
@@ -55,3 +55,21 @@ stands_whole root = record { within = omega arith; here = take-length (places ro
 -- the row of nodes behind a first tree and those below it
 pub stands_row : (xs : List Tree) (k b m c : ℕ) (ys zs : List Tree) → Stands xs k b ys → Within k b ys m c zs → Stands xs m c zs
 stands_row xs k b m c ys zs s w = stands xs m c zs (within_in 0 0 xs k b ys m c zs (standing xs k b ys s) w)
+
+pub stands_same : (xs : List Tree) (k b : ℕ) (ts us : List Tree) → ts ≡ us → Stands xs k b (preorder (forest ts)) → Stands xs k b (preorder (forest us))
+stands_same xs k b ts us e s = subst (λ ys. Stands xs k b (preorder (forest ys))) e s
+
+-- a row of trees, the first of which is t
+pub record Row (xs : List Tree) (k b : ℕ) (t : Tree) (ts : List Tree) (n c d : ℕ) : Type 0 where
+  pub exact : n ≡ nodes t
+  pub first : Stands xs k b (places t)
+  pub others : Stands xs (k + n) d (preorder (forest ts))
+
+pub row : (xs : List Tree) (k b : ℕ) (t : Tree) (ts : List Tree) (n c d : ℕ) → length xs < 2 ^ 64 - 1 → Stands xs k b (preorder (forest (t ∷ ts))) → n ≡ saturated (nodes t) → c ≡ saturated (length (text_of t)) → d ≡ saturated (b + c) → Row xs k b t ts n c d
+row xs k b t ts n c d h s e f g =
+    let exact : n ≡ nodes t = omega (arith, h, e, s.within, length_preorder (forest (t ∷ ts))) in
+    record {
+      exact = exact;
+      first = stands_row xs k b k b (preorder (forest (t ∷ ts))) (places t) s (within_first k b t ts (omega (arith, s.begins)));
+      others = stands_row xs k b (k + n) d (preorder (forest (t ∷ ts))) (preorder (forest ts)) s (within_rest k b (k + n) d t ts (omega (arith, exact)) (omega (arith, f, g)));
+    }

@@ -188,6 +188,29 @@ impl<'a> LinkedNode<'a> {
             offset: self.offset.saturating_add(self.node.leaf_text().len()),
         }
     }
+
+    /// The next sibling that is no trivia.
+    pub fn next_sibling(self) -> Option<LinkedNode<'a>>
+        ensures { option_map linked result ≡ next_sibling (linked self.entry) }
+    {
+        let parent = self.parent()?;
+        for child in parent.children() {
+            if child.number > self.number && !child.kind().is_trivia() {
+                return Some(child);
+            }
+        }
+        None
+    }
+
+    /// The kind of the next sibling that is no trivia.
+    pub fn next_sibling_kind(self) -> Option<SyntaxKind>
+        ensures { result ≡ option_map kind_of (next_sibling (linked self.entry)) }
+    {
+        match self.next_sibling() {
+            None => None,
+            Some(sibling) => Some(sibling.kind()),
+        }
+    }
 }
 
 impl<'a> Iterator for LinkedChildren<'a> {
