@@ -1,0 +1,5 @@
+pub mod LastLeaves
+pub mod Passing
+pub mod Places
+pub mod Standing
+pub mod Walking

@@ -1,0 +1,35 @@
+-- Equations of single nodes: children, and spans.
+use Rattle.std.proofs.Common.{◌≡◌, ℕ, suc, ◌==◌, Bool, true, false, ◌&&◌, List, [], ◌∷◌, length, Option, None, Some, refl, ap, sym, ◌∙◌, subst, arith, IsTrue, ◌↔◌, eq-eqb, eqb→eq}
+use Rattle.std.proofs.lemmas.Bool.Decides.{nat_tests}
+use Rattle.typst_node.specs.Tree.{Tree, forest}
+use Rattle.typst_tree.specs.Walks.{is_childless, same_place}
+
+pub childless_forest : (ts : List Tree) → is_childless (forest ts) ≡ (length ts == 0)
+childless_forest [] = refl
+childless_forest (t ∷ ts) = let fails : (suc (length ts) == 0) ≡ false = grind (arith, nat_tests) in sym fails
+
+same_bool : (b d : Bool) → (IsTrue b → IsTrue d) → (IsTrue d → IsTrue b) → b ≡ d
+same_bool true true f g = refl
+same_bool true false f g = sym (f refl)
+same_bool false true f g = g refl
+same_bool false false f g = refl
+
+place_self : (p : Option (ℕ × ℕ)) → IsTrue (same_place p p)
+place_self None = refl
+place_self (Some p) = rw (eq-eqb p.0 p.0 refl, eq-eqb p.1 p.1 refl) refl
+
+place_pair : (p q : ℕ × ℕ) → IsTrue ((p.0 == q.0) && (p.1 == q.1)) → p ≡ q
+place_pair p q h =
+    let file : p.0 ≡ q.0 = grind (arith, nat_tests, h) in
+    let number : p.1 ≡ q.1 = grind (arith, nat_tests, h) in
+    λ i. (file i, number i)
+
+place_same : (p q : Option (ℕ × ℕ)) → IsTrue (same_place p q) → p ≡ q
+place_same None None h = refl
+place_same None (Some q) h = cc
+place_same (Some p) None h = cc
+place_same (Some p) (Some q) h = ap (λ r. Some r) (place_pair p q h)
+
+-- the test of two spans is `==`
+pub same_span : (b : Bool) (p q : Option (ℕ × ℕ)) → IsTrue b ↔ (p ≡ q) → b ≡ same_place p q
+same_span b p q h = same_bool b (same_place p q) (λ e. subst (λ r. IsTrue (same_place p r)) (h.0 e) (place_self p)) (λ e. h.1 (place_same p q e))

@@ -1,0 +1,27 @@
+use Rattle.std.proofs.Common.{◌≡◌, ap, sym, ◌∙◌, arith}
+use Rattle.std.specs.Option.{option_map}
+use Rattle.typst_node.specs.Tree.{places}
+use Rattle.typst_tree.specs.Steps.{at}
+use Rattle.typst_tree.specs.Wanted.{wanted}
+use Rattle.typst_tree.proofs.Standing.{first_here, stands_row}
+use Rattle.typst_tree.proofs.Walking.{length_places}
+use Rattle.typst_tree.proofs.linked.LinkedNode.first.Goals as goal
+
+pub first_in-requires : goal.first_in-requires
+first_in-requires c =
+    omega (arith, c.args.self.stands.within, length_places c.args.self.node.now, length_places c.args.self.root.now, c.args.self.counted)
+
+pub invariant_of-result : goal.invariant_of-result
+invariant_of-result c =
+    record {
+      counted = c.args.self.counted;
+      stands = stands_row (places c.args.self.root.now) c.args.self.number c.args.self.offset _ _ (places c.args.self.node.now) _ c.args.self.stands c.in-Some.ensures.spot;
+    }
+
+pub returns-in-None : goal.returns-in-None
+returns-in-None c =
+    ap (option_map (at c.args.self.root.now)) c.in-None.ensures.first ∙ first_here (wanted c.args.search.now) c.args.self.root.now c.args.self.number c.args.self.offset c.args.self.node.now c.args.self.stands
+
+pub returns-in-Some : goal.returns-in-Some
+returns-in-Some c =
+    ap (option_map (at c.args.self.root.now)) c.in-Some.ensures.first ∙ first_here (wanted c.args.search.now) c.args.self.root.now c.args.self.number c.args.self.offset c.args.self.node.now c.args.self.stands

@@ -1,0 +1,4 @@
+pub mod Linked
+pub mod Steps
+pub mod Walks
+pub mod Wanted

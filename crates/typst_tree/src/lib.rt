@@ -1,0 +1,11 @@
+//! Typst's syntax tree: kinds, nodes, and nodes with what stands round them.
+#![tactic(auto)]
+
+mod linked;
+mod search;
+
+pub use typst_kinds::{
+    Assoc, BinOp, FileId, SourceError, Span, SpanNumber, SubRange, SyntaxKind, SyntaxMode,
+    SyntaxSet, UnOp, set,
+};
+pub use typst_node::{Diagnostic, Hint, Severity, SyntaxNode};

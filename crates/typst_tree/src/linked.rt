@@ -1,0 +1,242 @@
+//! Nodes with what stands round them.
+
+ghost use Rattle.std.specs.Prelude.{◌≡◌, ◌^◌, ◌<◌, ◌-◌};
+ghost use Rattle.typst_node.specs.Tree.{nodes, forest, places, preorder};
+ghost use Rattle.typst_tree.specs.Walks.{Stands};
+
+use crate::search::{Search, first_in, last_leaf_in};
+use std::ops::Range;
+use typst_kinds::{Span, SpanNumber, SyntaxKind};
+use typst_node::SyntaxNode;
+
+/// A node of a tree, with the way to its parent, its siblings and the leaves next to it.
+///
+/// It holds the tree's root, the node, the node's number in the root's preorder and its offset,
+/// is `Copy` and takes no memory. A step upwards or sideways walks down from the root, over the
+/// children before the nodes on the way; a step downwards walks down from the node.
+#[derive(Clone, Copy)]
+pub struct LinkedNode<'a> {
+    root: &'a SyntaxNode,
+    node: &'a SyntaxNode,
+    number: usize,
+    offset: usize,
+    ghost counted: { nodes root.now < 2 ^ 64 - 1 },
+    ghost stands: { Stands (places root.now) number offset (places node.now) },
+}
+
+/// The children of a node that are still to come, each as a linked node.
+#[derive(Drop)]
+pub struct LinkedChildren<'a> {
+    root: &'a SyntaxNode,
+    rest: &'a [SyntaxNode],
+    number: usize,
+    offset: usize,
+    ghost counted: { nodes root.now < 2 ^ 64 - 1 },
+    ghost stands: { Stands (places root.now) number offset (preorder (forest rest.now)) },
+}
+
+impl<'a> LinkedNode<'a> {
+    ghost use Rattle.std.specs.Prelude.{◌≡◌, ◌^◌, ◌<◌, ◌-◌};
+    ghost use Rattle.std.specs.Option.{option_map};
+    ghost use Rattle.typst_node.specs.Tree.{nodes};
+    ghost use Rattle.typst_kinds.specs.Kinds.{is_hash_expr};
+    ghost use Rattle.typst_tree.specs.Wanted.{wanted};
+    ghost use Rattle.typst_tree.specs.Steps.{at, node_of, kind_of, offset_of, end_of, first_below, parent, children, next_sibling, prev_leaf, next_leaf, leftmost_leaf, leaf_at, find_span, find_number};
+    ghost use Rattle.typst_tree.specs.Linked.{linked, left};
+
+    /// The root of a tree, with number and offset 0.
+    pub fn new(root: &'a SyntaxNode) -> LinkedNode<'a>
+        requires { nodes root.now < 2 ^ 64 - 1 }
+        ensures { linked result ≡ at root.now 0 }
+    {
+        LinkedNode {
+            root,
+            node: root,
+            number: 0,
+            offset: 0,
+        }
+    }
+
+    /// The node itself.
+    pub fn get(self) -> &'a SyntaxNode
+        ensures { result.now ≡ node_of (linked self.entry) }
+    {
+        self.node
+    }
+
+    /// The node's kind.
+    pub fn kind(self) -> SyntaxKind
+        ensures { result ≡ kind_of (linked self.entry) }
+    {
+        self.get().kind()
+    }
+
+    /// The text of a leaf, empty for an inner node.
+    pub fn leaf_text(self) -> &'a str
+        ensures { result.now ≡ (node_of (linked self.entry)).head.text }
+    {
+        self.get().leaf_text()
+    }
+
+    /// Where the node begins in the tree's text, in bytes.
+    pub fn offset(self) -> usize
+        ensures { result ≡ offset_of (linked self.entry) }
+    {
+        self.offset
+    }
+
+    /// Where the node begins and ends in the tree's text, in bytes.
+    pub fn range(self) -> Range<usize>
+        ensures start { result.start ≡ offset_of (linked self.entry) }
+        ensures end { result.end ≡ end_of (linked self.entry) }
+    {
+        self.offset..self.offset.saturating_add(self.node.len())
+    }
+
+    /// Whether an expression of the node's kind may follow a hash.
+    pub fn hash_expr(self) -> bool
+        ensures { result ≡ is_hash_expr (kind_of (linked self.entry)) }
+    {
+        self.kind().is_hash_expr()
+    }
+
+    /// The first node that is looked for, among this one and those below it.
+    fn first(self, search: &Search) -> Option<LinkedNode<'a>>
+        ensures { option_map linked result ≡ first_below (wanted search.now) (linked self.entry) }
+    {
+        match first_in(self.node, self.number, self.offset, search) {
+            None => None,
+            Some(spot) => Some(LinkedNode {
+                root: self.root,
+                node: spot.node,
+                number: spot.number,
+                offset: spot.offset,
+            }),
+        }
+    }
+
+    /// The parent, or `None` at the root.
+    pub fn parent(self) -> Option<LinkedNode<'a>>
+        ensures { option_map linked result ≡ parent (linked self.entry) }
+    {
+        LinkedNode::new(self.root).first(&Search::ParentOf(self.number))
+    }
+
+    /// The parent's kind, or `None` at the root.
+    pub fn parent_kind(self) -> Option<SyntaxKind>
+        ensures { result ≡ option_map kind_of (parent (linked self.entry)) }
+    {
+        match self.parent() {
+            None => None,
+            Some(parent) => Some(parent.kind()),
+        }
+    }
+
+    /// The first leaf that is neither trivia nor an error behind this node and all below it.
+    pub fn next_leaf(self) -> Option<LinkedNode<'a>>
+        ensures { option_map linked result ≡ next_leaf (linked self.entry) }
+    {
+        let end = self.number + self.node.descendants();
+        LinkedNode::new(self.root).first(&Search::LeafFrom(end))
+    }
+
+    /// The last leaf that is neither trivia nor an error before this node.
+    pub fn prev_leaf(self) -> Option<LinkedNode<'a>>
+        ensures { option_map linked result ≡ prev_leaf (linked self.entry) }
+    {
+        let number = last_leaf_in(self.root, 0, self.number)?;
+        LinkedNode::new(self.root).first(&Search::Place(number))
+    }
+
+    /// The first leaf that is neither trivia nor an error, among this node and those below it.
+    pub fn leftmost_leaf(self) -> Option<LinkedNode<'a>>
+        ensures { option_map linked result ≡ leftmost_leaf (linked self.entry) }
+    {
+        self.first(&Search::LeafFrom(0))
+    }
+
+    /// The leaf whose range holds this byte of the tree's text, among this node and those below
+    /// it.
+    pub fn leaf_at(self, byte: usize) -> Option<LinkedNode<'a>>
+        ensures { option_map linked result ≡ leaf_at byte (linked self.entry) }
+    {
+        self.first(&Search::Byte(byte))
+    }
+
+    /// The first node with this span, among this node and those below it.
+    pub fn find(self, span: Span) -> Option<LinkedNode<'a>>
+        ensures { option_map linked result ≡ find_span span (linked self.entry) }
+    {
+        self.first(&Search::Spanned(span))
+    }
+
+    /// The first node whose span has this number, among this node and those below it.
+    pub fn find_number(self, number: SpanNumber) -> Option<LinkedNode<'a>>
+        ensures { option_map linked result ≡ find_number number (linked self.entry) }
+    {
+        self.first(&Search::Numbered(number))
+    }
+
+    /// The children, in order. To go through them takes a step for each.
+    pub fn children(self) -> LinkedChildren<'a>
+        ensures { left result ≡ children (linked self.entry) }
+    {
+        LinkedChildren {
+            root: self.root,
+            rest: self.node.children(),
+            number: self.number + 1,
+            offset: self.offset.saturating_add(self.node.leaf_text().len()),
+        }
+    }
+
+    /// The next sibling that is no trivia.
+    pub fn next_sibling(self) -> Option<LinkedNode<'a>>
+        ensures { option_map linked result ≡ next_sibling (linked self.entry) }
+    {
+        let parent = self.parent()?;
+        for child in parent.children() {
+            if child.number > self.number && !child.kind().is_trivia() {
+                return Some(child);
+            }
+        }
+        None
+    }
+
+    /// The kind of the next sibling that is no trivia.
+    pub fn next_sibling_kind(self) -> Option<SyntaxKind>
+        ensures { result ≡ option_map kind_of (next_sibling (linked self.entry)) }
+    {
+        match self.next_sibling() {
+            None => None,
+            Some(sibling) => Some(sibling.kind()),
+        }
+    }
+}
+
+impl<'a> Iterator for LinkedChildren<'a> {
+    ghost use Rattle.std.specs.Iterator.{YieldsFirstBy, item_count};
+    ghost use Rattle.typst_tree.specs.Linked.{linked, left};
+
+    type Item = LinkedNode<'a>;
+
+    ghost next_gives = { YieldsFirstBy linked left };
+
+    ghost remaining = { item_count left };
+
+    fn next(&mut self) -> Option<LinkedNode<'a>> {
+        let (node, rest) = self.rest.split_first()?;
+        let child = LinkedNode {
+            root: self.root,
+            node,
+            number: self.number,
+            offset: self.offset,
+        };
+        *self = LinkedChildren {
+            root: self.root,
+            rest,
+            number: self.number + node.descendants(),
+            offset: self.offset.saturating_add(node.len()),
+        };
+        Some(child)
+    }
+}

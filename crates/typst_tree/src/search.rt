@@ -1,0 +1,175 @@
+//! The walk through a tree in preorder that all steps share.
+
+ghost use Rattle.std.specs.Prelude.{◌≡◌, ◌+◌, ◌^◌, ◌<◌, ◌-◌, true, None, IfSome, IsTrue, ◌↔◌};
+ghost use Rattle.std.specs.Option.{option_map};
+ghost use Rattle.typst_node.specs.Tree.{nodes, places};
+ghost use Rattle.typst_tree.specs.Walks.{first_at, last_leaf, is_childless, is_leaf, has_child, holds_byte, Within};
+ghost use Rattle.typst_tree.specs.Wanted.{wanted};
+
+use typst_kinds::{Span, SpanNumber};
+use typst_node::SyntaxNode;
+
+/// What a walk looks for, by numbers in preorder.
+#[derive(Clone, Copy)]
+pub enum Search {
+    /// The node with this number.
+    Place(usize),
+    /// The node with a child of this number.
+    ParentOf(usize),
+    /// A leaf that is neither trivia nor an error, from this number on.
+    LeafFrom(usize),
+    /// A leaf whose range holds this byte.
+    Byte(usize),
+    /// A node with this span.
+    Spanned(Span),
+    /// A node whose span has this number.
+    Numbered(SpanNumber),
+}
+
+/// A node with its number in preorder and its offset in bytes.
+#[derive(Clone, Copy)]
+pub struct Spot<'a> {
+    pub node: &'a SyntaxNode,
+    pub number: usize,
+    pub offset: usize,
+}
+
+/// Whether the node has no children.
+fn is_childless(node: &SyntaxNode) -> bool
+    ensures { result ≡ is_childless node.now.kids }
+{
+    node.children().is_empty()
+}
+
+/// Whether the node is a leaf that is neither trivia nor an error.
+pub fn is_leaf(node: &SyntaxNode) -> bool
+    ensures { result ≡ is_leaf node.now }
+{
+    let kind = node.kind();
+    is_childless(node) && !kind.is_trivia() && !kind.is_error()
+}
+
+/// Whether a child of the node has the number `wanted`, where the node itself has `number`.
+fn has_child(node: &SyntaxNode, number: usize, wanted: usize) -> bool
+    requires { number + nodes node.now < 2 ^ 64 - 1 }
+    ensures { result ≡ has_child wanted number 0 node.now }
+{
+    let mut at = number + 1;
+    for kid in node.children() {
+        if at == wanted {
+            return true;
+        }
+        at += kid.descendants();
+    }
+    false
+}
+
+impl Search {
+    /// Whether the node with this number and offset is one that is looked for.
+    fn wants(&self, number: usize, offset: usize, node: &SyntaxNode) -> bool
+        requires { number + nodes node.now < 2 ^ 64 - 1 }
+        ensures { result ≡ wanted self.now number offset node.now }
+    {
+        match self {
+            Search::Place(place) => number == *place,
+            Search::ParentOf(child) => has_child(node, number, *child),
+            Search::LeafFrom(least) => *least <= number && is_leaf(node),
+            Search::Byte(byte) => holds_byte(*byte, offset, node),
+            Search::Spanned(span) => same_span(node.span(), *span),
+            Search::Numbered(wanted) => match node.span().number() {
+                None => false,
+                Some(number) => number == *wanted,
+            },
+        }
+    }
+
+    /// Whether it is known that neither the node nor one below it is looked for.
+    fn passes_over(&self, number: usize, offset: usize, node: &SyntaxNode) -> bool
+        requires { number + nodes node.now < 2 ^ 64 - 1 }
+        ensures { result ≡ true → first_at (wanted self.now) number offset (places node.now) ≡ None }
+    {
+        let end = number + node.descendants();
+        match self {
+            Search::Place(place) => *place < number || end <= *place,
+            Search::ParentOf(child) => *child <= number || end <= *child,
+            Search::LeafFrom(least) => end <= *least,
+            Search::Byte(byte) => *byte < offset || offset.saturating_add(node.len()) <= *byte,
+            Search::Spanned(_) => false,
+            Search::Numbered(_) => false,
+        }
+    }
+}
+
+/// Whether two spans are the same.
+fn same_span(a: Span, b: Span) -> bool
+    ensures { IsTrue result ↔ (a ≡ b) }
+{
+    a == b
+}
+
+/// Whether the node is a leaf whose range holds the byte.
+fn holds_byte(byte: usize, offset: usize, node: &SyntaxNode) -> bool
+    ensures { result ≡ holds_byte byte 0 offset node.now }
+{
+    is_childless(node) && offset <= byte && byte < offset.saturating_add(node.len())
+}
+
+/// The first node in preorder that is looked for, among a node, which has this number and
+/// offset, and those below it.
+pub fn first_in<'a>(
+    node: &'a SyntaxNode,
+    number: usize,
+    offset: usize,
+    search: &Search,
+) -> Option<Spot<'a>>
+    requires { number + nodes node.now < 2 ^ 64 - 1 }
+    ensures first { option_map (λ spot. spot.number) result ≡ first_at (wanted search.now) number offset (places node.now) }
+    ensures spot { IfSome result (λ spot. Within number offset (places node.now) spot.number spot.offset (places spot.node.now)) }
+{
+    if search.passes_over(number, offset, node) {
+        return None;
+    }
+    if search.wants(number, offset, node) {
+        return Some(Spot {
+            node,
+            number,
+            offset,
+        });
+    }
+    let mut at = number + 1;
+    let mut begin = offset.saturating_add(node.leaf_text().len());
+    for kid in node.children() {
+        match first_in(kid, at, begin, search) {
+            Some(found) => return Some(found),
+            None => {
+                at += kid.descendants();
+                begin = begin.saturating_add(kid.len());
+            }
+        }
+    }
+    None
+}
+
+/// The number of the last leaf with a number below `before` that is neither trivia nor an error,
+/// among a node, which has this number, and those below it.
+pub fn last_leaf_in(node: &SyntaxNode, number: usize, before: usize) -> Option<usize>
+    requires { number + nodes node.now < 2 ^ 64 - 1 }
+    ensures { result ≡ last_leaf before number (places node.now) }
+{
+    if before <= number {
+        return None;
+    }
+    let kids = node.children();
+    let mut end = number + node.descendants();
+    let mut i = kids.len();
+    while i > 0 {
+        i -= 1;
+        let kid = &kids[i];
+        end -= kid.descendants();
+        match last_leaf_in(kid, end, before) {
+            Some(found) => return Some(found),
+            None => {}
+        }
+    }
+    if is_leaf(node) { Some(number) } else { None }
+}
