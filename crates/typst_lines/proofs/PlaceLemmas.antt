@@ -3,7 +3,7 @@ use Rattle.std.proofs.Common.{◌≡◌, ℕ, zero, suc, Bool, true, false, ◌&
 use Rattle.std.proofs.Math.Seq.{drop-cons}
 use Rattle.std.proofs.lemmas.List.{reverse-append, reverse-reverse, take_min, take-append-drop}
 use Rattle.std.proofs.lemmas.List.Folds.{drop_split}
-use Rattle.std.proofs.lemmas.Str.{chars-nil, chars-append, scalars-chars, chars-encodes, encodes-chars, encodes-append, chars_past_char, IsUtf8-append, IsUtf8-between, IsUtf8-take, IsUtf8-drop, IsUtf8-past_char, IsCharBoundary-at_seam, IsCharBoundary-from_drop, IsCharBoundary-from_take, length-encode, len_utf8_bounds}
+use Rattle.std.proofs.lemmas.Str.{chars-nil, chars-append, scalars-chars, chars-encodes, encodes-chars, encodes-append, chars_past_char, IsUtf8-append, IsUtf8-between, IsUtf8-take, IsUtf8-drop, IsUtf8-past_char, IsCharBoundary-at_seam, IsCharBoundary-from_drop, IsCharBoundary-from_take, length-encode, len_utf8_bounds, encode_ascii}
 use Rattle.std.specs.Prelude.{encode_utf8, encode_utf8_all}
 use Rattle.std.specs.Str.{all_scalars}
 use lib.Utf8.{scalar}
@@ -76,6 +76,14 @@ module _ (s : List ℕ) (u : IsUtf8 s) (i c j : ℕ) (start : IsCharBoundary s i
 
   pub IsStep-from_bytes : IsStep s i c j
   IsStep-from_bytes = record { grows = char_end-grows; width = wide; boundary = char_end-boundary; scalar = is_scalar; next = next; moves = moves }
+
+-- an ASCII byte is a character
+pub IsStep-from_ascii : (s : List ℕ) → IsUtf8 s → (i b : ℕ) → IsCharBoundary s i → i < length s → b ≡ get_or s i 0 → b < 128 → IsStep s i b (i + 1)
+IsStep-from_ascii s u i b start lt is small =
+    let more : i + 1 ≡ suc i = omega arith in
+    let e : drop i s ≡ encode_utf8 b ++ drop (i + 1) s =
+    drop-cons s i 0 lt ∙ ap (λ c. c ∷ drop (suc i) s) (sym is) ∙ ap (λ n. b ∷ drop n s) (sym more) ∙ ap (λ t. t ++ drop (i + 1) s) (sym (encode_ascii b small)) in
+    IsStep-from_bytes s u i b (i + 1) start (drop (i + 1) s) e (omega (arith, length-drop (i + 1) s))
 
 pub IsLast-from_bytes : (s : List ℕ) (i : ℕ) → drop i s ≡ [] → IsLast s i
 unfolding place_at
@@ -212,7 +220,7 @@ and-second : (a b : Bool) → (a && b) ≡ true → b ≡ true
 and-second true b e = e
 and-second false b e = absurd (cc)
 
-scalars-both : (n : ℕ) (cs : List ℕ) → all_scalars cs ≡ true → (all_scalars (take n cs) ≡ true) × (all_scalars (drop n cs) ≡ true)
+pub scalars-both : (n : ℕ) (cs : List ℕ) → all_scalars cs ≡ true → (all_scalars (take n cs) ≡ true) × (all_scalars (drop n cs) ≡ true)
 scalars-both zero cs e = (refl, e)
 scalars-both (suc n) [] e = (refl, refl)
 scalars-both (suc n) (c ∷ cs) e =

@@ -1,10 +1,10 @@
 //! A cursor over a text, and the lines of a text.
 #![tactic(auto)]
 
+pub mod lines;
 pub mod newline;
 pub mod scanner;
-pub mod table;
 
-pub use newline::is_newline;
+pub use lines::{Line, Lines, LinesFrom, Text};
+pub use newline::{is_newline, split_newlines};
 pub use scanner::{CharSet, Scanner, ScannerExt};
-pub use table::Line;

@@ -131,6 +131,17 @@ impl<'a> Scanner<'a> {
         }
     }
 
+    /// Whether a character stands directly behind.
+    #[inline]
+    pub fn is_after(&self, wanted: char) -> bool
+        ensures { result ≡ passes (λ c. c == wanted) (slice_get (place self.now).behind 0) }
+    {
+        match char_behind(self.text, self.cursor) {
+            Some((c, _)) => c == wanted,
+            None => false,
+        }
+    }
+
     /// Whether a word of ASCII bytes comes next.
     pub fn at_word(&self, word: &[u8]) -> bool
         ensures { result ≡ word_at 0 word.now (place self.now) }
@@ -403,7 +414,7 @@ impl<S: CharSet> CharSet for Outside<'_, S> {
 
 /// The character at the offset, and the offset after it.
 #[inline(always)]
-fn next_char(text: &str, at: usize) -> Option<(char, usize)>
+pub(crate) fn next_char(text: &str, at: usize) -> Option<(char, usize)>
     requires { IsCharBoundary text.now at }
     ensures { MatchOption result (IsLast text.now at) (λ r. IsStep text.now at r.0 r.1) }
 {

@@ -1,0 +1,355 @@
+-- Facts on what two texts have in common, and on the stretches between line ends.
+use Rattle.std.proofs.Common.{◌≡◌, ◌≤◌, ◌<◌, zero, suc, Bool, length, ℕ, ◌+◌, ◌-◌, ◌&&◌, ◌==◌, not, if◌then◌else◌, cond, List, [], ◌∷◌, ◌++◌, slice_get, Option, Some, None, refl, sym, ap, subst, ◌∙◌, true, false, arith, take, drop, reverse, append_assoc, append-nil, take_at, drop_at, length-append, nat_eq, map, Bor}
+use Rattle.std.proofs.lemmas.Bool.Decides.{nat_tests}
+use Rattle.std.proofs.lemmas.List.{take-append-drop}
+use Rattle.std.proofs.lemmas.Str.{IsCharBoundary-end, chars-nil}
+use mathlib.Core.List.{reverse_aux}
+use Rattle.std.specs.Cmp.Lexicographic.{pointwise}
+use Rattle.std.specs.Str.{chars, IsUtf8, IsCharBoundary}
+use Rattle.typst_lines.proofs.LineLemmas.{bytes-append, bytes-text, bytes-front, chars-split, ahead-text, place-end}
+use Rattle.typst_lines.proofs.PlaceLemmas.{head-splits, moved-step}
+use Rattle.typst_lines.proofs.PositionLemmas.{bytes-behind}
+use Rattle.typst_lines.specs.Lines.{bytes, common_front, common_ends, IsCommonFront}
+use Rattle.typst_lines.specs.Newline.{is_newline, ends_line, line_end_len, stretches, line_ends, onto_first, woven, lacks_newlines, all_lack_newlines}
+use Rattle.typst_lines.specs.Place.{Place, place_at, moved, moved_back, moved_from, scout, char_width, passes}
+
+-- two lists that begin alike and then differ, or end
+pub record Shares (cs ds us vs : List ℕ) : Type 0 where
+  pub front : List ℕ
+  pub first : cs ≡ front ++ us
+  pub second : ds ≡ front ++ vs
+
+pub shares-none : (cs ds us vs : List ℕ) → us ≡ cs → vs ≡ ds → Shares cs ds us vs
+shares-none cs ds us vs e f = record { front = []; first = sym e; second = sym f }
+
+pub shares-more : (cs ds us vs rest left : List ℕ) (c : ℕ) → Shares cs ds us vs → us ≡ c ∷ rest → vs ≡ c ∷ left → Shares cs ds rest left
+shares-more cs ds us vs rest left c h e f =
+    record {
+      front = h.front ++ c ∷ [];
+      first = h.first ∙ ap (λ t. h.front ++ t) e ∙ sym (append_assoc h.front (c ∷ []) rest);
+      second = h.second ∙ ap (λ t. h.front ++ t) f ∙ sym (append_assoc h.front (c ∷ []) left);
+    }
+
+same-test : (c : ℕ) → (c == c) ≡ true
+same-test c = grind (arith, nat_tests)
+
+front-append : (xs us vs : List ℕ) → common_front (xs ++ us) (xs ++ vs) ≡ xs ++ common_front us vs
+front-append [] us vs = refl
+front-append (c ∷ xs) us vs = rw (same-test c) (ap (λ t. c ∷ t) (front-append xs us vs))
+
+-- the heads of two lists differ
+abbrev pub Differ : List ℕ → List ℕ → Type 0
+Differ us vs = common_front us vs ≡ []
+
+other-test : (c d : ℕ) → (c ≡ d → ⊥) → (c == d) ≡ false
+other-test c d n = grind (arith, nat_tests)
+
+pub differ-heads : (us vs : List ℕ) (c : ℕ) → slice_get us 0 ≡ Some c → (slice_get vs 0 ≡ Some c → ⊥) → Differ us vs
+differ-heads [] vs c e n = refl
+differ-heads (a ∷ us) [] c e n = refl
+differ-heads (a ∷ us) (b ∷ vs) c e n =
+    let here : a ≡ c = cc in
+    rw (other-test a b (λ f. n (ap Some (sym f ∙ here)))) refl
+
+pub differ-end : (us vs : List ℕ) → us ≡ [] → Differ us vs
+differ-end us vs e = rw e refl
+
+pub shares-is : (cs ds us vs : List ℕ) (h : Shares cs ds us vs) → Differ us vs → common_front cs ds ≡ h.front
+shares-is cs ds us vs h d = ap (λ t. common_front t ds) h.first ∙ ap (common_front (h.front ++ us)) h.second ∙ front-append h.front us vs ∙ ap (λ t. h.front ++ t) d ∙ append-nil h.front
+
+rest-is : (cs front us : List ℕ) → cs ≡ front ++ us → us ≡ drop (length front) cs
+rest-is cs front us e = sym (ap (drop (length front)) e ∙ drop_at front us (length front) refl)
+
+ahead-is : (s : List ℕ) (i : ℕ) → (place_at s i).ahead ≡ chars (drop i s)
+unfolding place_at
+ahead-is s i = refl
+
+drop-all : (s : List ℕ) → drop (length s) s ≡ []
+drop-all s = ap (drop (length s)) (sym (append-nil s)) ∙ drop_at s [] (length s) refl
+
+pub take-all : (s : List ℕ) → take (length s) s ≡ s
+take-all s = sym (append-nil (take (length s) s)) ∙ ap (λ t. take (length s) s ++ t) (sym (drop-all s)) ∙ take-append-drop (length s) s
+
+behind-end : (s : List ℕ) → (place_at s (length s)).behind ≡ reverse (chars s)
+unfolding place_at
+behind-end s = ap (λ t. reverse (chars t)) (take-all s)
+
+-- the bytes of what was passed going back
+pub passed-back : (s : List ℕ) → IsUtf8 s → (i : ℕ) → IsCharBoundary s i → (xs : List ℕ) → reverse (chars s) ≡ xs ++ (place_at s i).behind → length s - i ≡ bytes xs
+passed-back s u i at xs e =
+    omega (arith, ap bytes (behind-end s), ap bytes e, bytes-append xs (place_at s i).behind, bytes-behind s u i at, bytes-behind s u (length s) (IsCharBoundary-end s), at.0)
+
+bytes-ahead : (s : List ℕ) → IsUtf8 s → (i : ℕ) → IsCharBoundary s i → i + bytes (place_at s i).ahead ≡ length s
+bytes-ahead s u i at =
+    omega (arith, ap bytes (ahead-is s i), bytes-text s u, ap bytes (chars-split s u i at), bytes-append (chars (take i s)) (chars (drop i s)), bytes-front s u i at)
+
+common-at : (old new : List ℕ) → IsUtf8 old → IsUtf8 new → (i j : ℕ) → IsCharBoundary old i → IsCharBoundary new j
+    → Shares (chars old) (chars new) (place_at old i).ahead (place_at new j).ahead → Differ (place_at old i).ahead (place_at new j).ahead
+    → IsCommonFront old new i
+common-at old new u v i j at there h d =
+    let front = shares-is (chars old) (chars new) (place_at old i).ahead (place_at new j).ahead h d in
+    let size : i ≡ bytes h.front = omega (arith, bytes-ahead old u i at, bytes-text old u, ap bytes h.first, bytes-append h.front (place_at old i).ahead) in
+    let same : j ≡ i = omega (arith, size, bytes-ahead new v j there, bytes-text new v, ap bytes h.second, bytes-append h.front (place_at new j).ahead) in
+    record {
+      size = size ∙ ap bytes (sym front);
+      old_boundary = at;
+      new_boundary = subst (IsCharBoundary new) same there;
+      old_rest = sym (ahead-is old i) ∙ rest-is (chars old) h.front (place_at old i).ahead h.first ∙ ap (λ t. drop (length t) (chars old)) (sym front);
+      new_rest = ap (λ n. chars (drop n new)) (sym same) ∙ sym (ahead-is new j) ∙ rest-is (chars new) h.front (place_at new j).ahead h.second ∙ ap (λ t. drop (length t) (chars new)) (sym front);
+    }
+
+-- two cursors that have passed the same characters, before ones that differ
+pub IsCommonFront-at : (old new t w : List ℕ) → IsUtf8 old → IsUtf8 new → t ≡ old → w ≡ new → (i j : ℕ) → IsCharBoundary t i → IsCharBoundary w j
+    → Shares (chars old) (chars new) (place_at t i).ahead (place_at w j).ahead → Differ (place_at t i).ahead (place_at w j).ahead
+    → IsCommonFront old new i
+IsCommonFront-at old new t w u v e f i j =
+    subst (λ x. IsCharBoundary x i → IsCharBoundary w j → Shares (chars old) (chars new) (place_at x i).ahead (place_at w j).ahead → Differ (place_at x i).ahead (place_at w j).ahead → IsCommonFront old new i) (sym e)
+    (subst (λ y. IsCharBoundary old i → IsCharBoundary y j → Shares (chars old) (chars new) (place_at old i).ahead (place_at y j).ahead → Differ (place_at old i).ahead (place_at y j).ahead → IsCommonFront old new i) (sym f)
+    (common-at old new u v i j))
+
+-- the characters passed going back
+pub common-back : (old new t : List ℕ) → IsUtf8 old → t ≡ old → (i : ℕ) (us vs : List ℕ) → IsCharBoundary t i → us ≡ (place_at t i).behind
+    → Shares (reverse (chars old)) (reverse (chars new)) us vs → Differ us vs → length old - i ≡ bytes (common_front (reverse (chars old)) (reverse (chars new)))
+common-back old new t u e i us vs at is h d =
+    passed-back old u i (subst (λ x. IsCharBoundary x i) e at) h.front (h.first ∙ ap (λ x. h.front ++ x) (is ∙ ap (λ x. (place_at x i).behind) e)) ∙ ap bytes (sym (shares-is (reverse (chars old)) (reverse (chars new)) us vs h d))
+
+-- the next character isn't the one that is asked for
+pub not-next : (c : ℕ) (o : Option ℕ) → passes (λ d. d == c) o ≡ false → o ≡ Some c → ⊥
+not-next c None e f = cc
+not-next c (Some d) e f = let same : d ≡ c = cc in absurd (grind (arith, nat_tests))
+
+pub is-next : (c : ℕ) (o : Option ℕ) → passes (λ d. d == c) o ≡ true → Some c ≡ o
+is-next c None e = absurd (cc)
+is-next c (Some d) e = let same : c ≡ d = grind (arith, nat_tests) in ap Some same
+
+pub ahead-step : (p : Place) (c : ℕ) → Some c ≡ scout 0 p → p.ahead ≡ c ∷ (moved 1 p).ahead
+ahead-step p c e = let t = head-splits p.ahead c (sym e) in rw t.1 refl
+
+pub behind-step : (p : Place) (c : ℕ) → Some c ≡ slice_get p.behind 0 → p.behind ≡ c ∷ (moved_back p).behind
+behind-step p c e = let t = head-splits p.behind c (sym e) in rw t.1 refl
+
+none-behind : (cs : List ℕ) → slice_get cs 0 ≡ None → cs ≡ []
+none-behind [] e = refl
+none-behind (c ∷ cs) e = absurd (cc)
+
+pub behind-none : (p : Place) → None ≡ slice_get p.behind 0 → p.behind ≡ []
+behind-none p e = none-behind p.behind (sym e)
+
+pub behind-all : (s : List ℕ) → (place_at s (length s)).behind ≡ reverse (chars s)
+behind-all s = behind-end s
+
+-- ---- the stretches between line ends
+
+-- characters put before the first of some texts
+abbrev pub glued : List ℕ → List (List ℕ) → List (List ℕ)
+glued xs [] = []
+glued xs (text ∷ texts) = (xs ++ text) ∷ texts
+
+glued-onto : (xs : List ℕ) (c : ℕ) (texts : List (List ℕ)) → glued xs (onto_first c texts) ≡ glued (xs ++ c ∷ []) texts
+glued-onto xs c [] = refl
+glued-onto xs c (text ∷ texts) = ap (λ t. t ∷ texts) (sym (append_assoc xs (c ∷ []) text))
+
+pub glued-none : (texts : List (List ℕ)) → glued [] texts ≡ texts
+glued-none [] = refl
+glued-none (text ∷ texts) = refl
+
+-- the characters passed since a place
+pub record Since (p q : Place) : Type 0 where
+  pub passed : List ℕ
+  pub ahead : p.ahead ≡ passed ++ q.ahead
+  pub moves : q ≡ moved (length passed) p
+
+abbrev pub since-none : (p : Place) → Since p p
+since-none p = record { passed = []; ahead = refl; moves = refl }
+
+abbrev pub since-more : (p q r : Place) (c : ℕ) → Since p q → Some c ≡ scout 0 q → r ≡ moved 1 q → Since p r
+since-more p q r c h e m =
+    let more : length h.passed + 1 ≡ length (h.passed ++ c ∷ []) = omega (arith, length-append h.passed (c ∷ [])) in
+    record {
+      passed = h.passed ++ c ∷ [];
+      ahead = h.ahead ∙ ap (λ t. h.passed ++ t) (ahead-step q c e ∙ ap (λ x. c ∷ x.ahead) (sym m)) ∙ sym (append_assoc h.passed (c ∷ []) r.ahead);
+      moves = moved-step (length h.passed) p q r h.moves m ∙ ap (λ n. moved n p) more;
+    }
+
+pub since-text : (p q : Place) (h : Since p q) → take (length h.passed) p.ahead ≡ h.passed
+since-text p q h = ap (take (length h.passed)) h.ahead ∙ take_at h.passed q.ahead (length h.passed) refl
+
+no-end : (c : ℕ) (next : Option ℕ) → is_newline c ≡ false → ends_line c next ≡ false
+no-end c next e = rw e refl
+
+plain-stretch : (c : ℕ) (cs : List ℕ) → is_newline c ≡ false → stretches (c ∷ cs) ≡ onto_first c (stretches cs)
+plain-stretch c cs e = rw (no-end c (slice_get cs 0) e, e) refl
+
+pub glued-plain : (xs : List ℕ) (q r : Place) (c : ℕ) → Some c ≡ scout 0 q → r ≡ moved 1 q → is_newline c ≡ false → glued xs (stretches q.ahead) ≡ glued (xs ++ c ∷ []) (stretches r.ahead)
+glued-plain xs q r c e m plain =
+    ap (λ t. glued xs (stretches t)) (ahead-step q c e ∙ ap (λ x. c ∷ x.ahead) (sym m)) ∙ ap (glued xs) (plain-stretch c r.ahead plain) ∙ glued-onto xs c (stretches r.ahead)
+
+-- a carriage return that a line feed follows
+abbrev crlf : ℕ → List ℕ → Bool
+crlf c rest = c == 13 && passes (λ d. d == 10) (slice_get rest 0)
+
+and-second : (a b : Bool) → (a && b) ≡ true → b ≡ true
+and-second true b e = e
+and-second false b e = absurd (cc)
+
+ten : (d : ℕ) → (d == 10) ≡ true → d ≡ 10
+ten d t = grind (arith, nat_tests)
+
+lf-next : (c : ℕ) (rest : List ℕ) → crlf c rest ≡ true → (left : List ℕ) × (rest ≡ 10 ∷ left)
+lf-next c [] e = let bad : false ≡ true = and-second (c == 13) false e in absurd (cc)
+lf-next c (d ∷ rest) e = (rest, ap (λ x. x ∷ rest) (ten d (and-second (c == 13) (d == 10) e)))
+
+both-stretch : (c : ℕ) (left : List ℕ) → is_newline c ≡ true → crlf c (10 ∷ left) ≡ true → stretches (c ∷ 10 ∷ left) ≡ [] ∷ stretches left
+both-stretch c left n e = rw (n, e) refl
+
+lone-stretch : (c : ℕ) (rest : List ℕ) → is_newline c ≡ true → crlf c rest ≡ false → stretches (c ∷ rest) ≡ [] ∷ stretches rest
+lone-stretch c rest n e = rw (n, e) refl
+
+-- behind a line end
+abbrev behind_end : Bool → List ℕ → List ℕ → List ℕ
+behind_end b behind ahead = (moved_from (if b then 2 else 1) behind ahead).ahead
+
+end-cases : (c : ℕ) (rest behind : List ℕ) (b : Bool) → crlf c rest ≡ b → is_newline c ≡ true → stretches (c ∷ rest) ≡ [] ∷ stretches (behind_end b behind (c ∷ rest))
+end-cases c rest behind true e n =
+    let left = lf-next c rest e in
+    ap (λ t. stretches (c ∷ t)) left.1 ∙ both-stretch c left.0 n (rw left.1 at e) ∙ ap (λ t. [] ∷ stretches (behind_end true behind (c ∷ t))) (sym left.1)
+end-cases c rest behind false e n = lone-stretch c rest n e
+
+line-end-is : (q : Place) (c : ℕ) (rest : List ℕ) → q.ahead ≡ c ∷ rest → is_newline c ≡ true → line_end_len q ≡ (if crlf c rest then 2 else 1)
+line-end-is q c rest e n = rw (e, n) refl
+
+-- over a line end
+pub glued-end : (xs : List ℕ) (q r : Place) (c : ℕ) → Some c ≡ scout 0 q → is_newline c ≡ true → r ≡ moved (line_end_len q) q → glued xs (stretches q.ahead) ≡ xs ∷ stretches r.ahead
+glued-end xs q r c e n m =
+    let rest = (moved 1 q).ahead in
+    let at = ahead-step q c e in
+    let there : r.ahead ≡ behind_end (crlf c rest) q.behind (c ∷ rest) =
+    ap (λ p. p.ahead) m ∙ ap (λ k. (moved k q).ahead) (line-end-is q c rest at n) ∙ ap (λ t. (moved_from (if crlf c rest then 2 else 1) q.behind t).ahead) at in
+    ap (λ t. glued xs (stretches t)) at ∙ ap (glued xs) (end-cases c rest q.behind (crlf c rest) refl n)
+    ∙ ap (λ t. t ∷ stretches (behind_end (crlf c rest) q.behind (c ∷ rest))) (append-nil xs) ∙ ap (λ t. xs ∷ stretches t) (sym there)
+
+pub glued-last : (xs : List ℕ) (q : Place) → q.ahead ≡ [] → glued xs (stretches q.ahead) ≡ xs ∷ []
+glued-last xs q e = ap (λ t. glued xs (stretches t)) e ∙ ap (λ t. t ∷ []) (append-nil xs)
+
+-- ---- the stretches with the line ends put back
+
+record IsSome_first (texts : List (List ℕ)) : Type 0 where
+  pub first : List ℕ
+  pub rest : List (List ℕ)
+  pub is : texts ≡ first ∷ rest
+
+onto-some : (c : ℕ) (texts : List (List ℕ)) → IsSome_first texts → IsSome_first (onto_first c texts)
+onto-some c texts h = record { first = c ∷ h.first; rest = h.rest; is = ap (onto_first c) h.is }
+
+stretches-some : (cs : List ℕ) → IsSome_first (stretches cs)
+stretches-some [] = record { first = []; rest = []; is = refl }
+stretches-some (c ∷ cs) = pick-some (ends_line c (slice_get cs 0)) (is_newline c) (stretches cs) (stretches-some cs) c
+  where
+    pick-some : (t n : Bool) (texts : List (List ℕ)) → IsSome_first texts → (c : ℕ) → IsSome_first (if t then [] ∷ texts else (if n then texts else onto_first c texts))
+    pick-some true n texts h c = record { first = []; rest = texts; is = refl }
+    pick-some false true texts h c = h
+    pick-some false false texts h c = onto-some c texts h
+
+woven-onto : (c : ℕ) (texts ends : List (List ℕ)) → IsSome_first texts → woven (onto_first c texts) ends ≡ c ∷ woven texts ends
+woven-onto c texts ends h = rw h.is (cases c h.first h.rest ends)
+  where
+    cases : (c : ℕ) (text : List ℕ) (texts ends : List (List ℕ)) → woven ((c ∷ text) ∷ texts) ends ≡ c ∷ woven (text ∷ texts) ends
+    cases c text texts [] = refl
+    cases c text texts (end ∷ ends) = refl
+
+plain-ends : (c : ℕ) (cs : List ℕ) → is_newline c ≡ false → line_ends (c ∷ cs) ≡ line_ends cs
+plain-ends c cs e = rw (no-end c (slice_get cs 0) e, e) refl
+
+both-ends : (c : ℕ) (left : List ℕ) → is_newline c ≡ true → crlf c (10 ∷ left) ≡ true → line_ends (c ∷ 10 ∷ left) ≡ (c ∷ 10 ∷ []) ∷ line_ends left
+both-ends c left n e = rw (n, e) refl
+
+lone-ends : (c : ℕ) (rest : List ℕ) → is_newline c ≡ true → crlf c rest ≡ false → line_ends (c ∷ rest) ≡ (c ∷ []) ∷ line_ends rest
+lone-ends c rest n e = rw (n, e) refl
+
+abbrev PutBack : List ℕ → Type 0
+PutBack cs = woven (stretches cs) (line_ends cs) ≡ cs
+
+both-back : (c : ℕ) (left : List ℕ) → is_newline c ≡ true → crlf c (10 ∷ left) ≡ true → PutBack left → PutBack (c ∷ 10 ∷ left)
+both-back c left n e h = ap (λ s. woven s (line_ends (c ∷ 10 ∷ left))) (both-stretch c left n e) ∙ ap (woven ([] ∷ stretches left)) (both-ends c left n e) ∙ ap (λ t. c ∷ 10 ∷ t) h
+
+lone-back : (c : ℕ) (rest : List ℕ) → is_newline c ≡ true → crlf c rest ≡ false → PutBack rest → PutBack (c ∷ rest)
+lone-back c rest n e h = ap (λ s. woven s (line_ends (c ∷ rest))) (lone-stretch c rest n e) ∙ ap (woven ([] ∷ stretches rest)) (lone-ends c rest n e) ∙ ap (λ t. c ∷ t) h
+
+plain-back : (c : ℕ) (rest : List ℕ) → is_newline c ≡ false → PutBack rest → PutBack (c ∷ rest)
+plain-back c rest n h = ap (λ s. woven s (line_ends (c ∷ rest))) (plain-stretch c rest n) ∙ ap (woven (onto_first c (stretches rest))) (plain-ends c rest n) ∙ woven-onto c (stretches rest) (line_ends rest) (stretches-some rest) ∙ ap (λ t. c ∷ t) h
+
+-- ---- two texts
+
+pub common_ends-at : (old new t a b : List ℕ) (n m : ℕ) → t ≡ old → IsCommonFront t new n → a ≡ drop n t → b ≡ drop n new → m ≡ bytes (common_front (reverse (chars a)) (reverse (chars b))) → (n, m) ≡ common_ends old new
+unfolding common_ends
+common_ends-at old new t a b n m same front e f is =
+    ap (λ k. (k, m)) front.size
+    ∙ ap (λ k. (bytes (common_front (chars t) (chars new)), k)) (is ∙ ap (λ x. bytes (common_front (reverse x) (reverse (chars b)))) (ap chars e ∙ front.old_rest) ∙ ap (λ x. bytes (common_front (reverse (drop (length (common_front (chars t) (chars new))) (chars t))) (reverse x))) (ap chars f ∙ front.new_rest))
+    ∙ ap (λ x. common_ends x new) same
+
+pub pointwise-same : (xs : List ℕ) → pointwise nat_eq xs xs ≡ true
+pointwise-same [] = refl
+pointwise-same (x ∷ xs) = rw (same-test x) (pointwise-same xs)
+
+-- ---- the split law
+
+back-cases : (c d : ℕ) (cs : List ℕ) (n b : Bool) → is_newline c ≡ n → crlf c (d ∷ cs) ≡ b → PutBack (d ∷ cs) → PutBack cs → PutBack (c ∷ d ∷ cs)
+back-cases c d cs true true n b h k =
+    let is : d ≡ 10 = ten d (and-second (c == 13) (d == 10) b) in
+    subst (λ x. PutBack (c ∷ x ∷ cs)) (sym is) (both-back c cs n (ap (λ x. crlf c (x ∷ cs)) (sym is) ∙ b) k)
+back-cases c d cs true false n b h k = lone-back c (d ∷ cs) n b h
+back-cases c d cs false b n e h k = plain-back c (d ∷ cs) n h
+
+and-none : (b : Bool) → (b && false) ≡ false
+and-none true = refl
+and-none false = refl
+
+last-back : (c : ℕ) (n : Bool) → is_newline c ≡ n → PutBack (c ∷ [])
+last-back c true n = lone-back c [] n (and-none (c == 13)) refl
+last-back c false n = plain-back c [] n refl
+
+-- the stretches with the line ends put back are the text
+pub put-back : (cs : List ℕ) → PutBack cs
+put-back [] = refl
+put-back (c ∷ []) = last-back c (is_newline c) refl
+put-back (c ∷ d ∷ cs) = back-cases c d cs (is_newline c) (crlf c (d ∷ cs)) refl refl (put-back (d ∷ cs)) (put-back cs)
+
+lack-onto : (c : ℕ) (texts : List (List ℕ)) → is_newline c ≡ false → all_lack_newlines (onto_first c texts) ≡ all_lack_newlines texts
+lack-onto c [] n = refl
+lack-onto c (text ∷ texts) n = rw n refl
+
+lack-cases : (c : ℕ) (texts : List (List ℕ)) (t n : Bool) → is_newline c ≡ n → all_lack_newlines texts ≡ true → all_lack_newlines (if t then [] ∷ texts else (if n then texts else onto_first c texts)) ≡ true
+lack-cases c texts true n e h = h
+lack-cases c texts false true e h = h
+lack-cases c texts false false e h = lack-onto c texts e ∙ h
+
+-- no stretch holds a newline character
+pub none-inside : (cs : List ℕ) → all_lack_newlines (stretches cs) ≡ true
+none-inside [] = refl
+none-inside (c ∷ cs) = lack-cases c (stretches cs) (ends_line c (slice_get cs 0)) (is_newline c) refl (none-inside cs)
+
+abbrev pub texts_of : List (Bor (List ℕ)) → List (List ℕ)
+texts_of items = map (λ item. chars item.now) items
+
+pub texts-push : (items : List (Bor (List ℕ))) (item : Bor (List ℕ)) → texts_of (items ++ item ∷ []) ≡ texts_of items ++ chars item.now ∷ []
+texts-push [] item = refl
+texts-push (x ∷ items) item = ap (λ t. chars x.now ∷ t) (texts-push items item)
+
+-- the items and one more, at a line end
+pub stretches-more : (items pushed : List (Bor (List ℕ))) (item : Bor (List ℕ)) (p q r : Place) (c : ℕ) (all : List (List ℕ)) (h : Since p q)
+    → texts_of items ++ glued h.passed (stretches q.ahead) ≡ all → Some c ≡ scout 0 q → is_newline c ≡ true → r ≡ moved (line_end_len q) q
+    → chars item.now ≡ take (length h.passed) p.ahead → pushed ≡ items ++ item ∷ [] → texts_of pushed ++ glued [] (stretches r.ahead) ≡ all
+stretches-more items pushed item p q r c all h so e n m is push =
+    ap (λ t. texts_of t ++ glued [] (stretches r.ahead)) push ∙ ap (λ t. t ++ glued [] (stretches r.ahead)) (texts-push items item)
+    ∙ append_assoc (texts_of items) (chars item.now ∷ []) (glued [] (stretches r.ahead))
+    ∙ ap (λ t. texts_of items ++ chars item.now ∷ t) (glued-none (stretches r.ahead))
+    ∙ ap (λ t. texts_of items ++ t ∷ stretches r.ahead) (is ∙ since-text p q h)
+    ∙ ap (λ t. texts_of items ++ t) (sym (glued-end h.passed q r c e n m)) ∙ so
+
+-- the items and the last
+pub stretches-all : (items pushed : List (Bor (List ℕ))) (item : Bor (List ℕ)) (p q : Place) (all : List (List ℕ)) (h : Since p q)
+    → texts_of items ++ glued h.passed (stretches q.ahead) ≡ all → None ≡ scout 0 q
+    → chars item.now ≡ take (length h.passed) p.ahead → pushed ≡ items ++ item ∷ [] → texts_of pushed ≡ all
+stretches-all items pushed item p q all h so e is push =
+    ap texts_of push ∙ texts-push items item ∙ ap (λ t. texts_of items ++ t ∷ []) (is ∙ since-text p q h)
+    ∙ ap (λ t. texts_of items ++ t) (sym (glued-last h.passed q (place-end q e))) ∙ so

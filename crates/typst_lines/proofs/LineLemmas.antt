@@ -1,0 +1,159 @@
+-- Facts on the table of lines and on positions.
+use Rattle.std.proofs.Common.{◌≡◌, ◌≢◌, ◌≤◌, ◌<◌, zero, suc, Bool, length, ℕ, ◌+◌, ◌-◌, if◌then◌else◌, cond, List, [], ◌∷◌, ◌++◌, slice_get, get_or, Option, Some, None, refl, sym, ap, subst, ◌∙◌, append_assoc, append-nil, true, false, arith, map, filter, take, drop, reverse, slice_range, nat_lt, nat_le, take-add, take_at, drop_at, ltb, length-append, length-take-le, length-drop, drop-drop}
+use Rattle.std.proofs.lemmas.Bool.Decides.{nat_tests}
+use Rattle.std.proofs.lemmas.List.{take-append-drop}
+use Rattle.std.proofs.lemmas.Str.{chars-nil, chars-append, scalars-chars, chars-encodes, encodes-chars, encodes-append, IsUtf8-between, IsUtf8-take, IsUtf8-drop, IsCharBoundary-from_drop, length-encode, len_utf8_bounds}
+use Rattle.std.specs.Prelude.{encode_utf8, encode_utf8_all, option_and_then}
+use Rattle.std.specs.Str.{chars, IsUtf8, IsCharBoundary}
+use Rattle.std.specs.List.Sorted.{IsNonDecreasingBy}
+use Rattle.typst_lines.proofs.PlaceLemmas.{scalars-both, head-splits}
+use Rattle.typst_lines.specs.Newline.{ends_line}
+use Rattle.typst_lines.specs.Place.{char_width, Place, place_at, moved, scout}
+use Rattle.typst_lines.specs.Lines.{utf16_len, units, bytes, between, places_from, places, starts_line, measured, line_table, lines_after, utf16_before}
+use Rattle.typst_lines.specs.declared.lines.Line.{Line}
+
+-- ---- characters, bytes and units
+
+pub width-positive : (c : ℕ) → 0 < char_width c
+unfolding char_width
+width-positive c = omega (arith, (len_utf8_bounds c).0)
+
+pub utf16_len-le : (c : ℕ) → utf16_len c ≤ char_width c
+unfolding char_width
+utf16_len-le c = grind (arith, nat_tests)
+
+pub utf16_len-positive : (c : ℕ) → 0 < utf16_len c
+utf16_len-positive c = grind (arith, nat_tests)
+
+pub units-le : (cs : List ℕ) → units cs ≤ bytes cs
+units-le [] = omega arith
+units-le (c ∷ cs) = omega (arith, units-le cs, utf16_len-le c)
+
+pub units-append : (xs ys : List ℕ) → units (xs ++ ys) ≡ units xs + units ys
+units-append [] ys = omega arith
+units-append (c ∷ xs) ys = omega (arith, units-append xs ys)
+
+pub bytes-append : (xs ys : List ℕ) → bytes (xs ++ ys) ≡ bytes xs + bytes ys
+bytes-append [] ys = omega arith
+bytes-append (c ∷ xs) ys = omega (arith, bytes-append xs ys)
+
+width-is : (c : ℕ) → char_width c ≡ length (encode_utf8 c)
+unfolding char_width
+width-is c = sym (length-encode c)
+
+pub bytes-length : (cs : List ℕ) → bytes cs ≡ length (encode_utf8_all cs)
+bytes-length [] = refl
+bytes-length (c ∷ cs) = omega (arith, bytes-length cs, width-is c, length-append (encode_utf8 c) (encode_utf8_all cs))
+
+pub bytes-text : (s : List ℕ) → IsUtf8 s → bytes (chars s) ≡ length s
+bytes-text s u = bytes-length (chars s) ∙ ap length (encodes-chars s u)
+
+module _ (s : List ℕ) (u : IsUtf8 s) (b : ℕ) (at : IsCharBoundary s b) where
+  pub chars-split : chars s ≡ chars (take b s) ++ chars (drop b s)
+  chars-split = ap chars (sym (take-append-drop b s)) ∙ chars-append (take b s) (drop b s) (IsUtf8-take s b u at)
+
+  pub bytes-front : bytes (chars (take b s)) ≡ b
+  bytes-front = bytes-text (take b s) (IsUtf8-take s b u at) ∙ omega (arith, length-take-le b s at.0)
+
+  pub units-front : utf16_before s b ≤ b
+  units-front = omega (arith, units-le (chars (take b s)), bytes-front)
+
+-- the characters up to j are those up to i and those between
+pub chars-range : (s : List ℕ) → IsUtf8 s → (i j : ℕ) → i ≤ j → IsCharBoundary s i → IsCharBoundary s j → chars (take j s) ≡ chars (take i s) ++ chars (slice_range s i j)
+chars-range s u i j le at end =
+    let more : j ≡ i + (j - i) = omega arith in
+    ap (λ n. chars (take n s)) more ∙ ap chars (take-add i (j - i) s) ∙ chars-append (take i s) (slice_range s i j) (IsUtf8-take s i u at)
+
+-- a front of the characters ends at a boundary
+module _ (s : List ℕ) (u : IsUtf8 s) (n k : ℕ) (size : k ≡ bytes (take n (chars s))) where
+  abbrev front : List ℕ
+  front = encode_utf8_all (take n (chars s))
+
+  abbrev rest : List ℕ
+  rest = encode_utf8_all (drop n (chars s))
+
+  whole : s ≡ front ++ rest
+  whole = sym (encodes-chars s u) ∙ ap encode_utf8_all (sym (take-append-drop n (chars s))) ∙ encodes-append (take n (chars s)) (drop n (chars s))
+
+  long : k ≡ length front
+  long = size ∙ bytes-length (take n (chars s))
+
+  front-take : take k s ≡ front
+  front-take = ap (take k) whole ∙ take_at front rest k (sym long)
+
+  front-drop : drop k s ≡ rest
+  front-drop = ap (drop k) whole ∙ drop_at front rest k (sym long)
+
+  pub front-boundary : IsCharBoundary s k
+  front-boundary =
+      let le : k ≤ length s = omega (arith, long, ap length whole, length-append front rest) in
+      IsCharBoundary-from_drop s k le (drop n (chars s), ((scalars-both n (chars s) (scalars-chars s u)).1, sym front-drop))
+
+  pub front-chars : chars (take k s) ≡ take n (chars s)
+  front-chars = ap chars front-take ∙ chars-encodes (take n (chars s)) (scalars-both n (chars s) (scalars-chars s u)).0
+
+-- ---- the table
+
+abbrev pub line_at : ℕ → ℕ → Line
+line_at b u = record { byte_idx = b; utf16_idx = u }
+
+-- a list with one more in front, or not
+abbrev pub onto_if : Bool → Line → List Line → List Line
+onto_if true x xs = x ∷ xs
+onto_if false x xs = xs
+
+-- the lines that start among or after these characters, of which the first stands at b bytes and u units
+abbrev pub starts_from : ℕ → ℕ → List ℕ → List Line
+starts_from b u [] = []
+starts_from b u (c ∷ cs) =
+    onto_if (ends_line c (slice_get cs 0)) (line_at (char_width c + b) (utf16_len c + u)) (starts_from (char_width c + b) (utf16_len c + u) cs)
+
+abbrev later : List ℕ → List ℕ → List Place
+later behind [] = []
+later behind (c ∷ cs) = places_from (c ∷ behind) cs
+
+places-split : (behind cs : List ℕ) → places_from behind cs ≡ between behind cs ∷ later behind cs
+places-split behind [] = refl
+places-split behind (c ∷ cs) = refl
+
+kept-place : (t : Bool) (p : Place) (ps : List Place) (ls : List Line) → map measured ps ≡ ls → map measured (cond t (p ∷ ps) ps) ≡ onto_if t (measured p) ls
+kept-place true p ps ls e = ap (λ xs. measured p ∷ xs) e
+kept-place false p ps ls e = e
+
+table-later : (behind cs : List ℕ) → map measured (filter starts_line (later behind cs)) ≡ starts_from (bytes behind) (units behind) cs
+table-later behind [] = refl
+table-later behind (c ∷ cs) =
+    ap (λ ps. map measured (filter starts_line ps)) (places-split (c ∷ behind) cs)
+    ∙ kept-place (ends_line c (slice_get cs 0)) (between (c ∷ behind) cs) (filter starts_line (later (c ∷ behind) cs)) _ (table-later (c ∷ behind) cs)
+
+pub line_table-starts : (s : List ℕ) → line_table s ≡ line_at 0 0 ∷ starts_from 0 0 (chars s)
+unfolding line_table
+line_table-starts s =
+    ap (λ ps. map measured (filter starts_line ps)) (places-split [] (chars s)) ∙ ap (λ xs. line_at 0 0 ∷ xs) (table-later [] (chars s))
+
+-- the steps of a loop over the places after a line start
+module _ (s : List ℕ) (u : IsUtf8 s) (i : ℕ) (at : IsCharBoundary s i) where
+  ahead-is : (place_at s i).ahead ≡ chars (drop i s)
+  unfolding place_at
+  ahead-is = refl
+
+  pub behind-is : (place_at s i).behind ≡ reverse (chars (take i s))
+  unfolding place_at
+  behind-is = refl
+
+pub ahead-text : (s : List ℕ) → (place_at s 0).ahead ≡ chars s
+unfolding place_at
+ahead-text s = refl
+
+pub units-step : (p : Place) (c : ℕ) → Some c ≡ scout 0 p → units p.ahead ≡ utf16_len c + units (moved 1 p).ahead
+units-step p c e = let t = head-splits p.ahead c (sym e) in rw t.1 refl
+
+pub bytes-step : (p : Place) (c : ℕ) → Some c ≡ scout 0 p → bytes p.ahead ≡ char_width c + bytes (moved 1 p).ahead
+bytes-step p c e = let t = head-splits p.ahead c (sym e) in rw t.1 refl
+
+none-ahead : (cs : List ℕ) → slice_get cs 0 ≡ None → cs ≡ []
+none-ahead [] e = refl
+none-ahead (c ∷ cs) e = absurd (cc)
+
+pub place-end : (p : Place) → None ≡ scout 0 p → p.ahead ≡ []
+place-end p e = none-ahead p.ahead (sym e)

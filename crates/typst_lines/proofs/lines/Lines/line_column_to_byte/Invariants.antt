@@ -1,0 +1,12 @@
+use Rattle.std.proofs.Common.{◌≡◌}
+use Rattle.std.specs.Str.{chars}
+use Rattle.typst_lines.proofs.PositionLemmas.{HasPassed}
+use Rattle.typst_lines.specs.Scanner.{place}
+use Rattle.typst_lines.proofs.lines.Lines.line_column_to_byte.Given as goal
+
+abbrev pub invariant-loop-i : goal.invariant-loop-i
+invariant-loop-i g l =
+    record {
+      passed : HasPassed (chars l.initial.scanner.text.now) l.i l.scanner.cursor (place l.scanner);
+      same_text : l.scanner.text.now ≡ l.initial.scanner.text.now;
+    }

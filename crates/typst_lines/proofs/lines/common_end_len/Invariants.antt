@@ -1,0 +1,15 @@
+use Rattle.std.proofs.Common.{◌≡◌, ◌-◌, length, reverse}
+use Rattle.std.specs.Str.{chars}
+use Rattle.typst_lines.proofs.CommonLemmas.{Shares}
+use Rattle.typst_lines.specs.Scanner.{place}
+use Rattle.typst_lines.proofs.lines.common_end_len.Given as goal
+
+abbrev pub invariant-loop-c : goal.invariant-loop-c
+invariant-loop-c l =
+    record {
+      shared : Shares (reverse (chars l.old)) (reverse (chars l.new)) (place l.first).behind (place l.second).behind;
+      old_text : l.first.text.now ≡ l.old;
+    }
+
+abbrev pub decreases-loop-c : goal.decreases-loop-c
+decreases-loop-c l = length (place l.first).behind

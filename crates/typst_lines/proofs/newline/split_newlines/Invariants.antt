@@ -1,0 +1,13 @@
+use Rattle.std.proofs.Common.{◌≡◌, ◌-◌, ◌++◌, length, map}
+use Rattle.std.specs.Str.{chars}
+use Rattle.typst_lines.proofs.CommonLemmas.{Since, glued}
+use Rattle.typst_lines.specs.Newline.{stretches}
+use Rattle.typst_lines.specs.Scanner.{place}
+use Rattle.typst_lines.proofs.newline.split_newlines.Given as goal
+
+abbrev pub invariant-loop-c : goal.invariant-loop-c
+invariant-loop-c l =
+    (h : Since (place l.start) (place l.scanner)) × (map (λ item. chars item.now) l.stretches.items ++ glued h.passed (stretches (place l.scanner).ahead) ≡ stretches (chars l.text)) × (l.scanner.text.now ≡ l.text) × (l.start.text.now ≡ l.text)
+
+abbrev pub decreases-loop-c : goal.decreases-loop-c
+decreases-loop-c l = length (place l.scanner).ahead

@@ -1,0 +1,537 @@
+//! The lines of a text, and positions in bytes, lines, columns and UTF-16 units.
+ghost use Rattle.std.specs.Prelude.{◌≡◌, ◌≢◌, ℕ, ◌+◌, ◌-◌, ◌≤◌, ◌<◌, ◌^◌, ◌++◌, List, length, Some, false, IsTrue, ◌↔◌, IfOk, IfSome, MatchOption, OnErr, not, take, drop, reverse, slice_get, nat_eq};
+ghost use Rattle.std.specs.Option.{SomeIff};
+ghost use Rattle.std.specs.Str.{IsCharBoundary, IsUtf8, chars};
+ghost use Rattle.std.specs.String.{string_bytes};
+ghost use Rattle.std.specs.Cmp.{partial_equiv_from_equiv};
+ghost use Rattle.std.specs.Cmp.Lexicographic.{pointwise, nat_list_eq_equiv};
+ghost use Rattle.std.specs.Cmp.Rules.{hashing};
+ghost use Rattle.std.specs.Hash as fed;
+ghost use Rattle.std.proofs.Common.{rules};
+ghost use Rattle.typst_lines.specs.Newline.{is_newline, ends_line};
+ghost use Rattle.typst_lines.specs.Place.{char_width, place_at, scout};
+ghost use Rattle.typst_lines.specs.Lines.{IsLineOf, IsLineUpTo, IsPlainRun, utf16_len, units, line_table, lines_after, utf16_before, line_of, line_start, column_of, line_range, byte_at, byte_at_utf16, bytes, common_ends, common_front, IsCommonFront};
+
+use crate::newline::is_newline;
+use crate::scanner::{Scanner, next_char};
+use std::alloc::{AllocError, Global};
+use std::hash::{Hash, Hasher};
+use std::marker::Model;
+use std::ops::Range;
+
+/// What holds a text, and gives the same one each time.
+pub trait Text: Drop {
+    ghost bytes: { Self → List ℕ };
+
+    /// The text.
+    fn as_text(&self) -> &str
+        ensures { result.now ≡ bytes self.now };
+}
+
+impl Text for &str {
+    ghost bytes = { λ s. s.now };
+
+    fn as_text(&self) -> &str {
+        self
+    }
+}
+
+impl Text for String {
+    ghost bytes = { string_bytes };
+
+    fn as_text(&self) -> &str {
+        self.as_str()
+    }
+}
+
+/// Where a line starts.
+#[derive(Debug, Clone, Copy, PartialEq, Eq)]
+pub struct Line {
+    byte_idx: usize,
+    utf16_idx: usize,
+}
+
+impl Line {
+    /// The start in bytes.
+    #[inline]
+    pub fn byte_idx(&self) -> usize
+        ensures { result ≡ self.now.byte_idx }
+    {
+        self.byte_idx
+    }
+
+    /// The start in UTF-16 units.
+    #[inline]
+    pub fn utf16_idx(&self) -> usize
+        ensures { result ≡ self.now.utf16_idx }
+    {
+        self.utf16_idx
+    }
+}
+
+/// The lines of a text that start after a place of it.
+#[derive(Clone, Copy)]
+pub struct LinesFrom<'a> {
+    text: &'a str,
+    byte_idx: usize,
+    utf16_idx: usize,
+    ghost utf8: { ∥ IsUtf8 text.now ∥₁ },
+    ghost short: { length text.now < 2 ^ 64 },
+    ghost boundary: { IsCharBoundary text.now byte_idx },
+    ghost counted: { utf16_idx ≡ utf16_before text.now byte_idx },
+}
+
+impl<'a> LinesFrom<'a> {
+    ghost use Rattle.typst_lines.specs.LinesLeft.{lines_left};
+
+    /// The lines after a byte offset, which is on a character boundary and has so many UTF-16 units
+    /// before it.
+    pub fn new(text: &'a str, byte_offset: usize, utf16_offset: usize) -> LinesFrom<'a>
+        requires boundary { IsCharBoundary text.now byte_offset }
+        requires units { utf16_offset ≡ utf16_before text.now byte_offset }
+        ensures { lines_left result ≡ lines_after text.now byte_offset }
+    {
+        LinesFrom {
+            text,
+            byte_idx: byte_offset,
+            utf16_idx: utf16_offset,
+        }
+    }
+}
+
+impl Iterator for LinesFrom<'_> {
+    ghost use Rattle.std.specs.Iterator.{YieldsFirst, item_count};
+    ghost use Rattle.typst_lines.specs.LinesLeft.{lines_left};
+
+    type Item = Line;
+
+    ghost next_gives = { YieldsFirst lines_left };
+
+    ghost remaining = { item_count lines_left };
+
+    fn next(&mut self) -> Option<Line> {
+        let text = self.text;
+        let mut byte_idx = plain_end(text, self.byte_idx);
+        let mut utf16_idx = self.utf16_idx + (byte_idx - self.byte_idx);
+        while let Some((c, end)) = next_char(text, byte_idx) {
+            utf16_idx += utf16_len(c);
+            if ends_line(text, c, end) {
+                let byte_idx = end;
+                *self = LinesFrom {
+                    text,
+                    byte_idx,
+                    utf16_idx,
+                };
+                return Some(Line {
+                    byte_idx,
+                    utf16_idx,
+                });
+            }
+            byte_idx = plain_end(text, end);
+            utf16_idx += byte_idx - end;
+        }
+        *self = LinesFrom {
+            text,
+            byte_idx,
+            utf16_idx,
+        };
+        None
+    }
+}
+
+/// Whether a line ends after a character, which ends at a byte offset of a text.
+#[inline]
+fn ends_line(text: &str, c: char, end: usize) -> bool
+    requires { IsCharBoundary text.now end }
+    ensures { result ≡ ends_line c (scout 0 (place_at text.now end)) }
+{
+    if c != '\r' {
+        return is_newline(c);
+    }
+    match next_char(text, end) {
+        Some((next, _)) => next != '\n',
+        None => true,
+    }
+}
+
+/// Where the run of ASCII characters that aren't newline characters ends.
+#[inline]
+fn plain_end(text: &str, start: usize) -> usize
+    requires { IsCharBoundary text.now start }
+    ensures { IsPlainRun text.now start result }
+{
+    let bytes = text.as_bytes();
+    let mut at = start;
+    while at < bytes.len() && is_plain(bytes[at]) {
+        at += 1;
+    }
+    at
+}
+
+/// Whether a byte is an ASCII character that isn't a newline character.
+#[inline]
+fn is_plain(byte: u8) -> bool
+    ensures { IsTrue result ↔ ((byte < 128) × (is_newline byte ≡ false)) }
+{
+    byte < 0x80 && !(b'\n'..=b'\r').contains(&byte)
+}
+
+/// The UTF-16 units of a character.
+#[inline]
+fn utf16_len(c: char) -> usize
+    ensures { result ≡ utf16_len c }
+{
+    c.len_utf16()
+}
+
+/// A text and where its lines start. Contracts see its text alone.
+#[derive(Drop)]
+pub struct Lines<S: Text> {
+    text: S,
+    lines: Vec<Line>,
+}
+
+impl<S: Text> Model for Lines<S> {
+    ghost Value = { List ℕ };
+
+    ghost view = { λ a. S.bytes a.text };
+
+    ghost invariant = { λ a. a.lines.items ≡ line_table (S.bytes a.text) };
+}
+
+impl<S: Text> Lines<S> {
+    /// The lines of a text.
+    pub fn new(alloc: Global, text: S) -> Result<Lines<S>, AllocError>
+        ensures { IfOk result (λ lines. lines ≡ S.bytes text) }
+    {
+        let lines = line_table(alloc, text.as_text())?;
+        Ok(Lines { text, lines })
+    }
+
+    /// The text.
+    #[inline]
+    pub fn text(&self) -> &str
+        ensures { result.now ≡ self.now }
+    {
+        self.text.as_text()
+    }
+
+    /// The text's length in bytes.
+    pub fn len_bytes(&self) -> usize
+        ensures { result ≡ length self.now }
+    {
+        self.text().len()
+    }
+
+    /// The text's length in UTF-16 units.
+    pub fn len_utf16(&self) -> usize
+        ensures { result ≡ units (chars self.now) }
+    {
+        self.byte_to_utf16(self.len_bytes()).unwrap_or(0)
+    }
+
+    /// How many lines there are, which is at least one.
+    pub fn len_lines(&self) -> usize
+        ensures { result ≡ length (line_table self.now) }
+    {
+        self.lines.len()
+    }
+
+    /// Where the line of a number starts.
+    pub fn line(&self, line_idx: usize) -> Option<Line>
+        ensures value { result ≡ slice_get (line_table self.now) line_idx }
+        ensures fits { IfSome result (λ _. line_idx < usize.MAX) }
+    {
+        let _count = self.lines.len();
+        self.lines.get(line_idx).copied()
+    }
+
+    /// The UTF-16 units before a byte offset; none past the text or inside a character.
+    pub fn byte_to_utf16(&self, byte_idx: usize) -> Option<usize>
+        ensures value { SomeIff result (IsCharBoundary self.now byte_idx) (utf16_before self.now byte_idx) }
+        ensures back { IfSome result (λ utf16. byte_at_utf16 self.now utf16 ≡ Some byte_idx) }
+    {
+        let text = self.text();
+        if !text.is_char_boundary(byte_idx) {
+            return None;
+        }
+        let line = self.line_before(byte_idx);
+        Some(line.utf16_idx + len_utf16(&text[line.byte_idx..byte_idx]))
+    }
+
+    /// The number of the line that holds a byte offset; none past the text.
+    pub fn byte_to_line(&self, byte_idx: usize) -> Option<usize>
+        ensures { SomeIff result (byte_idx ≤ length self.now) (line_of self.now byte_idx) }
+    {
+        if byte_idx > self.len_bytes() {
+            return None;
+        }
+        Some(self.line_holding(byte_idx))
+    }
+
+    /// How many characters stand between the start of its line and a byte offset; none past the text
+    /// or inside a character.
+    pub fn byte_to_column(&self, byte_idx: usize) -> Option<usize>
+        ensures { SomeIff result (IsCharBoundary self.now byte_idx) (column_of self.now byte_idx) }
+    {
+        let (_, column) = self.byte_to_line_column(byte_idx)?;
+        Some(column)
+    }
+
+    /// The line and the column of a byte offset; none past the text or inside a character.
+    pub fn byte_to_line_column(&self, byte_idx: usize) -> Option<(usize, usize)>
+        ensures value { SomeIff result (IsCharBoundary self.now byte_idx) (line_of self.now byte_idx, column_of self.now byte_idx) }
+        ensures back { IfSome result (λ position. byte_at self.now position.0 position.1 ≡ Some byte_idx) }
+    {
+        let text = self.text();
+        if !text.is_char_boundary(byte_idx) {
+            return None;
+        }
+        let line = self.line_before(byte_idx);
+        let column = count_chars(&text[line.byte_idx..byte_idx]);
+        Some((self.line_holding(byte_idx), column))
+    }
+
+    /// The byte offset with so many UTF-16 units before it; inside a pair the offset after the
+    /// character, but none where that is the text's end.
+    pub fn utf16_to_byte(&self, utf16_idx: usize) -> Option<usize>
+        ensures { result ≡ byte_at_utf16 self.now utf16_idx }
+    {
+        let line = self.line_before_utf16(utf16_idx);
+        let mut scanner = Scanner::new(self.text());
+        scanner.jump(line.byte_idx);
+        let mut left = utf16_idx - line.utf16_idx;
+        while left > 0 {
+            let units = utf16_len(scanner.eat()?);
+            if units > left && scanner.done() {
+                return None;
+            }
+            left = left.saturating_sub(units);
+        }
+        Some(scanner.cursor())
+    }
+
+    /// The byte at which a line starts.
+    #[tactic(auto, unfolding(crate::specs::Lines::line_start))]
+    pub fn line_to_byte(&self, line_idx: usize) -> Option<usize>
+        ensures { result ≡ line_start self.now line_idx }
+    {
+        Some(self.line(line_idx)?.byte_idx)
+    }
+
+    /// The bytes of a line with its line end.
+    #[tactic(auto, unfolding(crate::specs::Lines::line_start, crate::specs::Lines::line_range))]
+    pub fn line_to_range(&self, line_idx: usize) -> Option<Range<usize>>
+        ensures { result ≡ line_range self.now line_idx }
+    {
+        let start = self.line(line_idx)?;
+        let end = match self.line(line_idx + 1) {
+            Some(next) => next.byte_idx,
+            None => self.len_bytes(),
+        };
+        Some(start.byte_idx..end)
+    }
+
+    /// The byte offset so many characters into a line; none where the line and its end hold fewer.
+    pub fn line_column_to_byte(&self, line_idx: usize, column_idx: usize) -> Option<usize>
+        ensures { result ≡ byte_at self.now line_idx column_idx }
+    {
+        let range = self.line_to_range(line_idx)?;
+        let start = range.start;
+        let mut scanner = Scanner::new(&self.text()[range]);
+        for i in 0..column_idx {
+            scanner.eat()?;
+        }
+        Some(start + scanner.cursor())
+    }
+
+    /// The number of the line that holds a byte, and that of the last line past the text's end.
+    fn line_holding(&self, byte_idx: usize) -> usize
+        ensures value { result ≡ line_of self.now byte_idx }
+        ensures within { result < length (line_table self.now) }
+    {
+        self.lines
+            .as_slice()
+            .partition_point(|line| line.byte_idx <= byte_idx)
+            .saturating_sub(1)
+    }
+
+    /// The last line that starts at or before a byte offset.
+    fn line_before(&self, byte_idx: usize) -> Line
+        ensures { IsLineOf self.now byte_idx result }
+    {
+        self.lines[self.line_holding(byte_idx)]
+    }
+
+    /// The last line that starts at or before a UTF-16 offset.
+    fn line_before_utf16(&self, utf16_idx: usize) -> Line
+        ensures { IsLineUpTo self.now utf16_idx result }
+    {
+        let lines = self.lines.as_slice();
+        let after = lines.partition_point(|line| line.utf16_idx <= utf16_idx);
+        lines[after.saturating_sub(1)]
+    }
+}
+
+impl Lines<String> {
+    /// A copy.
+    pub fn try_clone(&self) -> Result<Lines<String>, AllocError>
+        ensures { IfOk result (λ lines. lines ≡ self.now) }
+    {
+        let text = self.text.clone()?;
+        let lines = Vec::from_slice(*self.text.allocator(), self.lines.as_slice())?;
+        Ok(Lines { text, lines })
+    }
+
+    /// Makes another text the text, and says whether it differs. After an error nothing has changed.
+    pub fn replace(&mut self, new: &str) -> Result<bool, AllocError>
+        ensures text { IfOk result (λ _. self.new ≡ new.now) }
+        ensures changed { IfOk result (λ changed. changed ≡ not (pointwise nat_eq self.old new.now)) }
+        ensures err { OnErr result (self.new ≡ self.old) }
+    {
+        if self.text() == new {
+            return Ok(false);
+        }
+        let alloc = *self.text.allocator();
+        let text = String::from_str(alloc, new)?;
+        let lines = line_table(alloc, text.as_str())?;
+        self.text = text;
+        self.lines = lines;
+        Ok(true)
+    }
+
+    /// The bytes of the longest common front of the text and another, in whole characters, and of
+    /// the longest common end of what is left of both; none where the texts are equal.
+    #[tactic(auto, unfolding(crate::specs::Lines::common_ends))]
+    pub fn replacement_range(&self, new: &str) -> Option<(usize, usize)>
+        ensures { MatchOption result (self.now ≡ new.now) (λ ends. (self.now ≢ new.now) × (ends ≡ common_ends self.now new.now)) }
+    {
+        let old = self.text();
+        if old == new {
+            return None;
+        }
+        let front = common_front_len(old, new);
+        Some((front, common_end_len(&old[front..], &new[front..])))
+    }
+
+    /// Puts a text in the place of a range of bytes, whose ends are on character boundaries. After an
+    /// error nothing has changed.
+    pub fn edit(&mut self, replace: Range<usize>, with: &str) -> Result<(), AllocError>
+        requires start { IsCharBoundary self.old replace.start }
+        requires end { IsCharBoundary self.old replace.end }
+        requires ordered { replace.start ≤ replace.end }
+        ensures ok { IfOk result (λ _. self.new ≡ take replace.start self.old ++ with.now ++ drop replace.end self.old) }
+        ensures err { OnErr result (self.new ≡ self.old) }
+    {
+        let alloc = *self.text.allocator();
+        let mut text = String::new(alloc);
+        text.push_str(&self.text.as_str()[..replace.start])?;
+        text.push_str(with)?;
+        text.push_str(&self.text.as_str()[replace.end..])?;
+        let lines = line_table(alloc, text.as_str())?;
+        self.text = text;
+        self.lines = lines;
+        Ok(())
+    }
+}
+
+impl<S: Text> PartialEq for Lines<S> {
+    ghost eq = { pointwise nat_eq };
+
+    ghost laws = { partial_equiv_from_equiv nat_list_eq_equiv };
+
+    fn eq(&self, other: &Self) -> bool {
+        self.text() == other.text()
+    }
+}
+
+impl<S: Text> Eq for Lines<S> {
+    ghost laws = { nat_list_eq_equiv };
+}
+
+impl<S: Text> Hash for Lines<S> {
+    ghost hash_input = { fed.str };
+
+    ghost respects_eq = { Prim.search (hashing, rules) };
+
+    fn hash<H: Hasher>(&self, state: &mut H) {
+        self.text().hash(state);
+    }
+}
+
+/// The table of the lines of a text.
+fn line_table(alloc: Global, text: &str) -> Result<Vec<Line>, AllocError>
+    ensures { IfOk result (λ lines. lines.items ≡ line_table text.now) }
+{
+    let mut lines = Vec::new(alloc);
+    lines.push(Line {
+        byte_idx: 0,
+        utf16_idx: 0,
+    })?;
+    for line in LinesFrom::new(text, 0, 0) {
+        lines.push(line)?;
+    }
+    Ok(lines)
+}
+
+/// The UTF-16 units of a text.
+fn len_utf16(text: &str) -> usize
+    ensures { result ≡ units (chars text.now) }
+{
+    let mut sum = text.len();
+    let mut scanner = Scanner::new(text);
+    while let Some(c) = scanner.eat() {
+        sum -= spare_bytes(c);
+    }
+    sum
+}
+
+/// How many characters a text has.
+fn count_chars(text: &str) -> usize
+    ensures { result ≡ length (chars text.now) }
+{
+    text.chars().count()
+}
+
+/// How many more bytes a character takes than UTF-16 units.
+#[inline]
+#[tactic(auto, unfolding(crate::specs::Place::char_width))]
+fn spare_bytes(c: char) -> usize
+    ensures { result + utf16_len c ≡ char_width c }
+{
+    c.len_utf8() - c.len_utf16()
+}
+
+/// The bytes of the longest front that two texts have in common, in whole characters.
+fn common_front_len(old: &str, new: &str) -> usize
+    ensures { IsCommonFront old.now new.now result }
+{
+    let mut first = Scanner::new(old);
+    let mut second = Scanner::new(new);
+    while let Some(c) = first.peek() {
+        if !second.at(c) {
+            return first.cursor();
+        }
+        first.eat();
+        second.eat();
+    }
+    first.cursor()
+}
+
+/// The bytes of the longest end that two texts have in common, in whole characters.
+fn common_end_len(old: &str, new: &str) -> usize
+    ensures { result ≡ bytes (common_front (reverse (chars old.now)) (reverse (chars new.now))) }
+{
+    let mut first = Scanner::new(old);
+    first.jump(old.len());
+    let mut second = Scanner::new(new);
+    second.jump(new.len());
+    while let Some(c) = first.last() {
+        if !second.is_after(c) {
+            return old.len() - first.cursor();
+        }
+        first.uneat();
+        second.uneat();
+    }
+    old.len() - first.cursor()
+}
