@@ -1,0 +1,49 @@
+//! The kinds of work.
+
+use std::alloc::{AllocError, Global};
+use typst_lines::Lines;
+
+/// A kind of work on a text.
+#[derive(Debug, Clone, Copy, PartialEq, Eq)]
+pub enum Work {
+    /// Finds where the lines start.
+    Lines,
+}
+
+impl Work {
+    /// The work of that name.
+    pub fn from_word(word: &str) -> Option<Work> {
+        match word {
+            "lines" => Some(Work::Lines),
+            _ => None,
+        }
+    }
+
+    /// Its name.
+    pub fn word(self) -> &'static str {
+        match self {
+            Work::Lines => "lines",
+        }
+    }
+
+    /// Does the work once, and sums up what came out.
+    pub fn round(self, alloc: Global, text: &str) -> Result<u64, AllocError> {
+        match self {
+            Work::Lines => lines(alloc, text),
+        }
+    }
+}
+
+/// The starts of all lines of the text, in bytes and UTF-16 units, added up.
+fn lines(alloc: Global, text: &str) -> Result<u64, AllocError> {
+    let lines = Lines::new(alloc, text)?;
+    let mut sum = lines.len_utf16() as u64;
+    for i in 0..lines.len_lines() {
+        if let Some(line) = lines.line(i) {
+            sum = sum
+                .wrapping_add(line.byte_idx() as u64)
+                .wrapping_add(line.utf16_idx() as u64);
+        }
+    }
+    Ok(sum)
+}
