@@ -32,6 +32,9 @@ replaced_on path rest i a b ns t k k' h xs e p n q r =
     let got : slice_get xs i ≡ Some k = slice_get_is xs i k n ∙ ap Some (sym q) in
     rw (p, ← e, trees_forest, got, r) refl
 
+pub reached_by : (path rest : List ℕ) (i a b : ℕ) (t : Tree) (h : Head) (xs : List Tree) (k : Tree) → over h xs ≡ t → path ≡ i ∷ rest → slice_get xs i ≡ Some k → Reaches rest a b k → Reaches path a b t
+reached_by path rest i a b t h xs k e p got r = rw (p, ← e, trees_forest, got) r
+
 -- a node in a file swaps its children
 pub in_file_some : (sp : Place) (file : ℕ) (h : Head) (xs : List Tree) (from to : ℕ) (ms : List Tree) → option_map (λ p. p.0) sp ≡ Some file → in_file sp h xs from to ms ≡ swapped file h xs from to (slice_range xs from to) ms
 in_file_some None file h xs from to ms e = absurd (cc)

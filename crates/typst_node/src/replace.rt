@@ -1,4 +1,4 @@
-ghost use Rattle.std.specs.Prelude.{◌≡◌, ℕ, ◌+◌, ◌-◌, ◌*◌, ◌^◌, ◌<◌, ◌≤◌, ◌++◌, length, slice_range, Some, None, IfSome, OnErr, OnOk, IfErr, IsTrue, false, reverse, vec_len};
+ghost use Rattle.std.specs.Prelude.{◌≡◌, ℕ, ◌+◌, ◌-◌, ◌*◌, ◌^◌, ◌<◌, ◌≤◌, ◌++◌, length, slice_range, Some, None, IfSome, OnErr, OnOk, IfErr, IsTrue, false, [], reverse, vec_len};
 ghost use Rattle.typst_node.specs.Tree.{forest, joined, count, saturated};
 ghost use Rattle.typst_node.specs.Same.{front};
 ghost use Rattle.typst_node.specs.Replace.{Reaches, replaced, replaced_at, kids_of, start_of, end_of, upper_of, left_of, right_of, wanted, room, has_room, growth, is_all, fit, IsFit, exchanged, swapped};
@@ -311,6 +311,28 @@ impl SyntaxNode {
         }
         renew(&mut self.own, self.kids.as_slice());
         Ok(())
+    }
+
+    /// Whether `path` leads to an inner node that has children `from..to`.
+    pub fn reaches(&self, path: &[usize], from: usize, to: usize) -> bool
+        ensures { IsTrue result → Reaches path.now from to self.now }
+    {
+        let Some((first, rest)) = path.split_first() else {
+            return self.has_children(from, to);
+        };
+        match self.kids.get(*first) {
+            None => false,
+            Some(kid) => kid.reaches(rest, from, to),
+        }
+    }
+
+    fn has_children(&self, from: usize, to: usize) -> bool
+        ensures { IsTrue result → Reaches [] from to self.now }
+    {
+        if !self.is_inner() || to < from {
+            return false;
+        }
+        to <= self.kids.len()
     }
 
     /// Replaces the children in `range` of the inner node that `path` leads to, child by child,

@@ -3,3 +3,5 @@
 
 #[cfg(test)]
 mod nodes;
+#[cfg(test)]
+mod numbers;
