@@ -1,5 +1,5 @@
 -- What contracts see of diagnostics.
-use Rattle.std.specs.Prelude.{◌≡◌, ℕ, List, [], ◌∷◌, ◌++◌, Option, None, refl}
+use Rattle.std.specs.Prelude.{ℕ, List, [], ◌∷◌, ◌++◌, Option, None, refl}
 use Rattle.std.specs.Coded.{Coded, code_by, coded×, coded_ℕ, coded_list, coded_option}
 use Rattle.typst_kinds.specs.Span.{Bytes}
 use Rattle.typst_node.specs.declared.diagnostic.Severity.{Severity}

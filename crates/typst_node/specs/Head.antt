@@ -48,9 +48,13 @@ number_of (Some p) = p.1
 abbrev pub bare_head : Head → Head
 bare_head h = record h { span = None; upper = 0 }
 
--- the head with a span, and its number as upper end where the node is an inner one
+-- the head with a span, and with an upper end where the node is an inner one
+abbrev pub located : Place → ℕ → Head → Head
+located sp e h = record h { span = sp; upper = if h.is_inner then e else 0 }
+
+-- the head with a span, whose number is the upper end
 abbrev pub spanned : Place → Head → Head
-spanned sp h = record h { span = sp; upper = if h.is_inner then number_of sp else 0 }
+spanned sp h = located sp (number_of sp) h
 
 -- the head of a leaf that was just made
 abbrev pub leaf_head : SyntaxKind → List ℕ → Head

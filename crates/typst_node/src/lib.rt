@@ -8,7 +8,9 @@ mod diagnostic;
 mod items;
 mod messages;
 mod node;
+mod numbers;
 mod own;
+mod replace;
 mod text;
 
 pub use diagnostic::{Diagnostic, Hint, Severity};

@@ -1,7 +1,8 @@
-ghost use Rattle.std.specs.Prelude.{◌≡◌, ◌↔◌, IsTrue, [], length, ◌++◌, IfOk, OnOk, OnErr, None, Some, false};
+ghost use Rattle.std.specs.Prelude.{◌≡◌, ◌↔◌, IsTrue, [], ◌≤◌, ◌^◌, length, ◌++◌, IfOk, OnOk, OnErr, None, Some, false};
 ghost use Rattle.typst_kinds.specs.Kinds.{is_error};
 ghost use Rattle.typst_node.specs.Diagnostic.{warning_with, hint_with};
 ghost use Rattle.typst_node.specs.Tree.{forest, text_of, nodes, saturated, bare, leaf_of, inner_of, error_of, synthesized, with_kind, at_child, made_error, remarked, advised};
+ghost use Rattle.typst_node.specs.Replace.{upper_of};
 ghost use Rattle.typst_node.specs.Messages.{made_expected, made_unexpected};
 
 use crate::messages::{expected_message, is_lost_name, keyword_hint, unexpected_message};
@@ -154,6 +155,18 @@ impl SyntaxNode {
         ensures { result ≡ self.now.head.span }
     {
         self.own.span()
+    }
+
+    /// The first number past those of the tree.
+    pub(crate) fn upper(&self) -> u64
+        ensures value { result ≡ upper_of self.now }
+        ensures small { result ≤ 2 ^ 47 }
+    {
+        if self.is_inner() {
+            self.own.upper()
+        } else {
+            self.own.number() + 1
+        }
     }
 
     /// The errors and warnings about this node itself, in the order in which they were given.

@@ -1,5 +1,5 @@
-ghost use Rattle.std.specs.Prelude.{◌≡◌, ◌≤◌, ◌^◌, ◌↔◌, IfOk, OnOk, OnErr, IsTrue};
-ghost use Rattle.typst_node.specs.Head.{bare_head, spanned, leaf_head, inner_head, error_head, leaf_own, with_head, diagnosed, helped, number_of};
+ghost use Rattle.std.specs.Prelude.{◌≡◌, ◌≤◌, ◌<◌, ◌^◌, ◌↔◌, IfOk, OnOk, OnErr, IsTrue, false};
+ghost use Rattle.typst_node.specs.Head.{bare_head, located, spanned, leaf_head, inner_head, error_head, leaf_own, with_head, diagnosed, helped, number_of};
 ghost use Rattle.typst_node.specs.Diagnostic.{at_last, hinted};
 
 use crate::diagnostic::{clone_diagnostics, same_diagnostics};
@@ -59,7 +59,7 @@ impl Model for Own {
 /// The number of a span, or 0 where it is detached.
 fn number_of(span: Span) -> u64
     ensures value { result ≡ number_of span }
-    ensures small { result ≤ 2 ^ 47 }
+    ensures small { result < 2 ^ 47 }
 {
     match span.number() {
         None => 0,
@@ -212,6 +212,14 @@ impl Own {
         self.span
     }
 
+    /// The node's number, or 0 where it is detached.
+    pub(crate) fn number(&self) -> u64
+        ensures value { result ≡ number_of self.now.head.span }
+        ensures small { result < 2 ^ 47 }
+    {
+        number_of(self.span)
+    }
+
     pub(crate) fn diagnostics(&self) -> &[Diagnostic]
         ensures { result.now ≡ self.now.head.diagnostics }
     {
@@ -288,22 +296,48 @@ impl Own {
         }
     }
 
-    /// Gives the node a span.
-    pub(crate) fn set_span(&mut self, span: Span)
-        ensures { self.new ≡ with_head self.old (spanned span self.old.head) }
+    /// Gives the node a span, and the upper end where it is an inner node.
+    pub(crate) fn locate(&mut self, span: Span, upper: u64)
+        requires { upper ≤ 2 ^ 47 }
+        ensures { self.new ≡ with_head self.old (located span upper self.old.head) }
     {
         self.span = span;
-        let number = number_of(span);
         match &mut self.repr {
             Repr::ShortLeaf(_, _) => {}
             Repr::LongLeaf(_, _) => {}
-            Repr::Inner(_, extent) => extent.upper = number,
+            Repr::Inner(_, extent) => extent.upper = upper,
             Repr::Diagnosed(_, parts) => parts.extent.upper = if parts.is_inner {
-                number
+                upper
             } else {
                 0
             },
         }
+    }
+
+    /// Gives an inner node the length of its text and the count of its nodes.
+    pub(crate) fn set_counts(&mut self, len: usize, descendants: usize)
+        requires { self.old.head.is_inner ≡ false → 1 < self.old.descendants }
+        ensures { self.new ≡ record { head = self.old.head; len = len; descendants = descendants } }
+    {
+        match &mut self.repr {
+            Repr::ShortLeaf(_, _) => {}
+            Repr::LongLeaf(_, _) => {}
+            Repr::Inner(_, extent) => {
+                extent.len = len;
+                extent.descendants = descendants;
+            }
+            Repr::Diagnosed(_, parts) => {
+                parts.extent.len = len;
+                parts.extent.descendants = descendants;
+            }
+        }
+    }
+
+    /// Gives the node a span, whose number is its upper end.
+    pub(crate) fn set_span(&mut self, span: Span)
+        ensures { self.new ≡ with_head self.old (spanned span self.old.head) }
+    {
+        self.locate(span, number_of(span));
     }
 
     /// Adds a diagnostic behind the others.

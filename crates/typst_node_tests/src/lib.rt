@@ -1,0 +1,5 @@
+//! Tests of `typst_node` through its public calls.
+#![tactic(auto)]
+
+#[cfg(test)]
+mod nodes;
