@@ -1,3 +1,4 @@
+pub mod Finding
 pub mod LastLeaves
 pub mod Passing
 pub mod Places
