@@ -1,5 +1,7 @@
+pub mod Finding
 pub mod LastLeaves
 pub mod Passing
 pub mod Places
+pub mod Siblings
 pub mod Standing
 pub mod Walking

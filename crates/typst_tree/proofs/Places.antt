@@ -14,7 +14,7 @@ same_bool true false f g = sym (f refl)
 same_bool false true f g = g refl
 same_bool false false f g = refl
 
-place_self : (p : Option (ℕ × ℕ)) → IsTrue (same_place p p)
+pub place_self : (p : Option (ℕ × ℕ)) → IsTrue (same_place p p)
 place_self None = refl
 place_self (Some p) = rw (eq-eqb p.0 p.0 refl, eq-eqb p.1 p.1 refl) refl
 
@@ -24,7 +24,7 @@ place_pair p q h =
     let number : p.1 ≡ q.1 = grind (arith, nat_tests, h) in
     λ i. (file i, number i)
 
-place_same : (p q : Option (ℕ × ℕ)) → IsTrue (same_place p q) → p ≡ q
+pub place_same : (p q : Option (ℕ × ℕ)) → IsTrue (same_place p q) → p ≡ q
 place_same None None h = refl
 place_same None (Some q) h = cc
 place_same (Some p) None h = cc

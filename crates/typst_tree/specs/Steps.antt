@@ -1,5 +1,5 @@
 -- The steps from one node of a tree to another.
-use Rattle.std.specs.Prelude.{ℕ, ◌+◌, nat_lt, Bool, ◌&&◌, not, List, map, length, take, find, Option, None, Some, slice_get, unwrap_or, option_and_then}
+use Rattle.std.specs.Prelude.{◌≡◌, ℕ, ◌+◌, nat_lt, Bool, ◌&&◌, not, List, map, length, take, find, Option, None, Some, slice_get, unwrap_or, option_and_then}
 use Rattle.std.specs.Option.{option_map}
 use Rattle.typst_kinds.specs.Kinds.{is_trivia}
 use Rattle.typst_kinds.specs.declared.kind.SyntaxKind.{SyntaxKind}
@@ -77,3 +77,13 @@ find_span span a = first_below (has_span span) a
 -- the first node within the node whose span has this number
 abbrev pub find_number : ℕ → At → Option At
 find_number m a = first_below (has_number m) a
+
+-- no two of the nodes have the same span
+abbrev pub SpansDiffer : List Tree → Type 0
+SpansDiffer ts =
+    (i j : ℕ) (t u : Tree) → slice_get ts i ≡ Some t → slice_get ts j ≡ Some u → t.head.span ≡ u.head.span → i ≡ j
+
+-- a node within another is the one that its own span finds there, where spans differ
+abbrev pub FindsOwn : Option (ℕ × ℕ) → At → Option At → Type 0
+FindsOwn span a found =
+    (i : ℕ) (t : Tree) → SpansDiffer (places (node_of a)) → slice_get (places (node_of a)) i ≡ Some t → t.head.span ≡ span → found ≡ Some (at a.root (a.number + i))

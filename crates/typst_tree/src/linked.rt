@@ -41,7 +41,7 @@ impl<'a> LinkedNode<'a> {
     ghost use Rattle.typst_node.specs.Tree.{nodes};
     ghost use Rattle.typst_kinds.specs.Kinds.{is_hash_expr};
     ghost use Rattle.typst_tree.specs.Wanted.{wanted};
-    ghost use Rattle.typst_tree.specs.Steps.{at, node_of, kind_of, offset_of, end_of, first_below, parent, children, next_sibling, prev_leaf, next_leaf, leftmost_leaf, leaf_at, find_span, find_number};
+    ghost use Rattle.typst_tree.specs.Steps.{at, node_of, kind_of, offset_of, end_of, first_below, parent, children, is_sibling_after, next_sibling, prev_leaf, next_leaf, leftmost_leaf, leaf_at, find_span, find_number, FindsOwn};
     ghost use Rattle.typst_tree.specs.Linked.{linked, left};
 
     /// The root of a tree, with number and offset 0.
@@ -165,7 +165,8 @@ impl<'a> LinkedNode<'a> {
 
     /// The first node with this span, among this node and those below it.
     pub fn find(self, span: Span) -> Option<LinkedNode<'a>>
-        ensures { option_map linked result ≡ find_span span (linked self.entry) }
+        ensures first { option_map linked result ≡ find_span span (linked self.entry) }
+        ensures own { FindsOwn span (linked self.entry) (option_map linked result) }
     {
         self.first(&Search::Spanned(span))
     }
@@ -189,13 +190,20 @@ impl<'a> LinkedNode<'a> {
         }
     }
 
+    /// Whether a child of the same parent comes after this one and is no trivia.
+    fn is_before(self, child: LinkedNode<'a>) -> bool
+        ensures { result ≡ is_sibling_after (linked self.entry) (linked child.entry) }
+    {
+        self.number < child.number && !child.kind().is_trivia()
+    }
+
     /// The next sibling that is no trivia.
     pub fn next_sibling(self) -> Option<LinkedNode<'a>>
         ensures { option_map linked result ≡ next_sibling (linked self.entry) }
     {
         let parent = self.parent()?;
         for child in parent.children() {
-            if child.number > self.number && !child.kind().is_trivia() {
+            if self.is_before(child) {
                 return Some(child);
             }
         }

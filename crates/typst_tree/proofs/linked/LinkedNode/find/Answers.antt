@@ -1,0 +1,7 @@
+use Rattle.std.proofs.Common.{◌∙◌}
+use Rattle.typst_tree.specs.Linked.{linked}
+use Rattle.typst_tree.proofs.Finding.{finds_own}
+use Rattle.typst_tree.proofs.linked.LinkedNode.find.Goals as goal
+
+pub returns-clause-own : goal.returns-clause-own
+returns-clause-own c = λ i t d g e. c.first.ensures ∙ finds_own c.args.span (linked c.args.self) i t d g e
