@@ -4,9 +4,11 @@
 mod error;
 mod kind;
 mod mode;
+mod operator;
 mod span;
 
 pub use error::SourceError;
 pub use kind::SyntaxKind;
 pub use mode::SyntaxMode;
+pub use operator::{Assoc, BinOp, UnOp};
 pub use span::{FileId, Span, SpanNumber, SubRange};
