@@ -1,0 +1,6 @@
+//! The grammar.
+#![tactic(auto)]
+
+mod laws;
+
+pub use laws::examples;

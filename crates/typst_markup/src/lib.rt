@@ -1,0 +1,6 @@
+//! The productions of markup.
+#![tactic(auto)]
+
+mod head;
+
+pub use head::MarkupHead;

@@ -1,0 +1,8 @@
+pub mod Ask
+pub mod Hand
+pub mod Shape
+pub mod Syntax
+pub mod Meaning
+pub mod Steps
+pub mod Depth
+pub mod View
