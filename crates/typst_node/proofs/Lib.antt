@@ -1,0 +1,3 @@
+pub mod Bares
+pub mod Lasts
+pub mod Trees

@@ -1,0 +1,19 @@
+use Rattle.std.proofs.Common.{arith, refl}
+use Rattle.typst_node.specs.Tree.{with_kind}
+use Rattle.typst_node.proofs.Trees.{forest_set, at_tree_past, joined_kind, count_kind}
+use Rattle.typst_node.proofs.node.SyntaxNode.convert_child_to_kind.Goals as goal
+
+pub invariant_of-self : goal.invariant_of-self
+invariant_of-self c =
+    rw (c.convert_to_kind.ensures, forest_set (with_kind c.args.kind) c.self.inside.kids.items c.args.i c.index_mut-kid.result.now (omega (arith, c.self.inside.kids.ok.0)) c.index_mut-kid.ensures.value, joined_kind, count_kind)
+    c.self.invariant
+
+pub returns : goal.returns
+returns c =
+    rw (← c.self.view_is, c.convert_to_kind.ensures, forest_set (with_kind c.args.kind) c.self.inside.kids.items c.args.i c.index_mut-kid.result.now (omega (arith, c.self.inside.kids.ok.0)) c.index_mut-kid.ensures.value)
+    refl
+
+pub returns-then-i-len : goal.returns-then-i-len
+returns-then-i-len c =
+    rw (← c.self.view_is, at_tree_past (with_kind c.args.kind) c.args.i c.self.inside.kids.items (omega (arith, c.self.inside.kids.ok.0)))
+    refl

@@ -1,0 +1,4 @@
+pub mod Head
+pub mod Tree
+pub mod Messages
+pub mod Repr

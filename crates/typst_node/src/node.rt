@@ -1,0 +1,365 @@
+ghost use Rattle.std.specs.Prelude.{◌≡◌, ◌↔◌, IsTrue, [], length, ◌++◌, IfOk, OnOk, OnErr, None, Some, false};
+ghost use Rattle.typst_kinds.specs.Kinds.{is_error};
+ghost use Rattle.typst_node.specs.Head.{warning_with, hint_with};
+ghost use Rattle.typst_node.specs.Tree.{forest, text_of, nodes, saturated, bare, leaf_of, inner_of, error_of, synthesized, with_kind, at_child, made_error, remarked, advised};
+ghost use Rattle.typst_node.specs.Messages.{made_expected, made_unexpected};
+
+use crate::messages::{expected_message, is_lost_name, keyword_hint, unexpected_message};
+use crate::own::Own;
+use crate::{Diagnostic, Hint, Items, Severity, Text};
+use std::alloc::{AllocError, Global};
+use std::marker::Model;
+use typst_kinds::{Span, SubRange, SyntaxKind};
+
+/// A node of a syntax tree: a leaf with a text, or an inner node with children.
+#[derive(Drop)]
+pub struct SyntaxNode {
+    pub(crate) own: Own,
+    pub(crate) kids: Vec<SyntaxNode>,
+}
+
+impl Model for SyntaxNode {
+    ghost use Rattle.std.specs.Prelude.{◌≡◌, length};
+    ghost use Rattle.typst_node.specs.Tree.{Tree, tree_code, forest, nodes, text_of, saturated, most_le-count};
+    ghost use Rattle.std.proofs.Common.{arith};
+
+    ghost Value = { Tree };
+
+    ghost coded = { tree_code };
+
+    ghost view = { λ a. record { head = a.own.head; kids = forest a.kids.items } };
+
+    ghost invariant = { λ a. (a.own.len ≡ saturated (length (text_of (record { head = a.own.head; kids = forest a.kids.items })))) × (a.own.descendants ≡ saturated (nodes (record { head = a.own.head; kids = forest a.kids.items }))) };
+
+    ghost size = { nodes };
+
+    ghost size_decreases = { λ a h. omega (arith, most_le-count a.kids.items) };
+}
+
+impl SyntaxNode {
+    /// A leaf of that kind, with a copy of the text.
+    pub fn leaf(alloc: Global, kind: SyntaxKind, text: &str) -> Result<SyntaxNode, AllocError>
+        requires { is_error kind ≡ false }
+        ensures { IfOk result (λ t. t ≡ leaf_of kind text.now) }
+    {
+        Ok(SyntaxNode {
+            own: Own::leaf(alloc, kind, text)?,
+            kids: Vec::new(alloc),
+        })
+    }
+
+    /// A node over `kids`, without a number.
+    pub fn inner(kind: SyntaxKind, kids: Vec<SyntaxNode>) -> SyntaxNode
+        requires { is_error kind ≡ false }
+        ensures { result ≡ inner_of kind (forest kids.items) }
+    {
+        let mut len: usize = 0;
+        let mut descendants: usize = 1;
+        for kid in &kids {
+            len = len.saturating_add(kid.len());
+            descendants = descendants.saturating_add(kid.descendants());
+        }
+        SyntaxNode {
+            own: Own::inner(kind, len, descendants),
+            kids,
+        }
+    }
+
+    /// An error leaf with copies of the message and the text.
+    pub fn error(alloc: Global, message: &str, text: &str) -> Result<SyntaxNode, AllocError>
+        ensures { IfOk result (λ t. t ≡ error_of message.now text.now) }
+    {
+        let message = Text::new(alloc, message)?;
+        let text = Text::new(alloc, text)?;
+        SyntaxNode::error_from(alloc, message, text)
+    }
+
+    /// An error leaf of a message and a text, which are moved.
+    fn error_from(alloc: Global, message: Text, text: Text) -> Result<SyntaxNode, AllocError>
+        ensures { IfOk result (λ t. t ≡ error_of message text) }
+    {
+        Ok(SyntaxNode {
+            own: Own::error(alloc, message, text)?,
+            kids: Vec::new(alloc),
+        })
+    }
+
+    /// The same node again, with its spans.
+    pub fn try_clone(&self) -> Result<SyntaxNode, AllocError>
+        ensures { IfOk result (λ t. t ≡ self.now) }
+    {
+        let alloc = *self.kids.allocator();
+        let mut kids = Vec::new(alloc);
+        for kid in &self.kids {
+            let kid = kid.try_clone()?;
+            kids.push(kid)?;
+        }
+        Ok(SyntaxNode {
+            own: self.own.try_clone(alloc)?,
+            kids,
+        })
+    }
+
+    /// The length of the node's text in bytes, or the largest `usize` where it is longer.
+    pub fn len(&self) -> usize
+        ensures { result ≡ saturated (length (text_of self.now)) }
+    {
+        self.own.len()
+    }
+
+    /// How many nodes the tree has, this one counted, or the largest `usize` where they are more.
+    pub fn descendants(&self) -> usize
+        ensures { result ≡ saturated (nodes self.now) }
+    {
+        self.own.descendants()
+    }
+
+    /// The node's kind.
+    pub fn kind(&self) -> SyntaxKind
+        ensures { result ≡ self.now.head.kind }
+    {
+        self.own.kind()
+    }
+
+    /// The children, none for a leaf.
+    pub fn children(&self) -> &[SyntaxNode]
+        ensures { forest result.now ≡ self.now.kids }
+    {
+        self.kids.as_slice()
+    }
+
+    /// Whether the node's text is empty.
+    pub fn is_empty(&self) -> bool
+        ensures { IsTrue result ↔ (text_of self.now ≡ []) }
+    {
+        self.own.len() == 0
+    }
+
+    /// Whether it is an inner node.
+    pub fn is_inner(&self) -> bool
+        ensures { result ≡ self.now.head.is_inner }
+    {
+        self.own.is_inner()
+    }
+
+    /// The text of a leaf, empty for an inner node.
+    pub fn leaf_text(&self) -> &str
+        ensures { result.now ≡ self.now.head.text }
+    {
+        self.own.text()
+    }
+
+    /// The node's file and number, or the detached span.
+    pub fn span(&self) -> Span
+        ensures { result ≡ self.now.head.span }
+    {
+        self.own.span()
+    }
+
+    /// The errors and warnings about this node itself, in the order in which they were given.
+    pub fn diagnostics(&self) -> &[Diagnostic]
+        ensures { result.now ≡ self.now.head.diagnostics }
+    {
+        self.own.diagnostics()
+    }
+
+    /// Whether kinds, texts, children and diagnostics are the same, whatever the spans.
+    pub fn spanless_eq(&self, other: &SyntaxNode) -> bool
+        ensures { IsTrue result ↔ (bare self.now ≡ bare other.now) }
+    {
+        if !self.own.same_bare(&other.own) {
+            return false;
+        }
+        if self.kids.len() != other.kids.len() {
+            return false;
+        }
+        for i in 0..self.kids.len() {
+            if !self.kids[i].spanless_eq(&other.kids[i]) {
+                return false;
+            }
+        }
+        true
+    }
+}
+
+// What changes a node.
+impl SyntaxNode {
+    /// Gives every node of the tree this span.
+    pub fn synthesize(&mut self, span: Span)
+        ensures { self.new ≡ synthesized span self.old }
+    {
+        self.synthesize_as(&span);
+    }
+
+    fn synthesize_as(&mut self, span: &Span)
+        ensures { self.new ≡ synthesized span.now self.old }
+    {
+        self.own.set_span(*span);
+        for kid in self.kids.iter_mut() {
+            kid.synthesize_as(span);
+        }
+    }
+
+    /// Changes the kind alone. An error stays as it is.
+    pub fn convert_to_kind(&mut self, kind: SyntaxKind)
+        requires { is_error kind ≡ false }
+        ensures { self.new ≡ with_kind kind self.old }
+    {
+        if self.kind().is_error() {
+            return;
+        }
+        self.own.set_kind(kind);
+    }
+
+    /// Changes the kind of child `i` alone, where there is one. An error stays as it is.
+    pub fn convert_child_to_kind(&mut self, i: usize, kind: SyntaxKind)
+        requires { is_error kind ≡ false }
+        ensures { self.new ≡ at_child (with_kind kind) i self.old }
+    {
+        if i >= self.kids.len() {
+            return;
+        }
+        let kid = &mut self.kids[i];
+        kid.convert_to_kind(kind);
+    }
+
+    /// Adds the texts of the leaves to `out`.
+    fn write_text(&self, out: &mut Text) -> Result<(), AllocError>
+        ensures { OnOk result (out.new ≡ out.old ++ text_of self.now) }
+    {
+        out.push(self.own.text())?;
+        for kid in &self.kids {
+            kid.write_text(out)?;
+        }
+        Ok(())
+    }
+
+    /// The texts of the leaves, joined.
+    fn full_text(&self) -> Result<Text, AllocError>
+        ensures { IfOk result (λ text. text ≡ text_of self.now) }
+    {
+        let mut text = Text::empty(*self.kids.allocator());
+        self.write_text(&mut text)?;
+        Ok(text)
+    }
+
+    /// Makes the node a detached error leaf of its text. An error stays as it is.
+    pub fn convert_to_error(&mut self, message: &str) -> Result<(), AllocError>
+        ensures ok { OnOk result (self.new ≡ made_error message.now self.old) }
+        ensures err { OnErr result (self.new ≡ self.old) }
+    {
+        if self.kind().is_error() {
+            return Ok(());
+        }
+        let alloc = *self.kids.allocator();
+        let message = Text::new(alloc, message)?;
+        let text = self.full_text()?;
+        *self = SyntaxNode::error_from(alloc, message, text)?;
+        Ok(())
+    }
+
+    /// Makes the node an error that says that `thing` was expected. An error stays as it is.
+    pub fn expected(&mut self, thing: &str) -> Result<(), AllocError>
+        ensures ok { OnOk result (self.new ≡ made_expected thing.now self.old) }
+        ensures err { OnErr result (self.new ≡ self.old) }
+    {
+        let kind = self.kind();
+        if kind.is_error() {
+            return Ok(());
+        }
+        let alloc = *self.kids.allocator();
+        let message = expected_message(alloc, thing, kind.name())?;
+        let text = self.full_text()?;
+        if !is_lost_name(kind, thing) {
+            *self = SyntaxNode::error_from(alloc, message, text)?;
+            return Ok(());
+        }
+        let hint = keyword_hint(alloc, text.as_str())?;
+        let mut error = SyntaxNode::error_from(alloc, message, text)?;
+        error.advise(None, hint)?;
+        *self = error;
+        Ok(())
+    }
+
+    /// Makes the node an error that says that its kind was unexpected. An error stays as it is.
+    pub fn unexpected(&mut self) -> Result<(), AllocError>
+        ensures ok { OnOk result (self.new ≡ made_unexpected self.old) }
+        ensures err { OnErr result (self.new ≡ self.old) }
+    {
+        let kind = self.kind();
+        if kind.is_error() {
+            return Ok(());
+        }
+        let alloc = *self.kids.allocator();
+        let message = unexpected_message(alloc, kind.name())?;
+        let text = self.full_text()?;
+        *self = SyntaxNode::error_from(alloc, message, text)?;
+        Ok(())
+    }
+
+    /// Adds a warning about the node.
+    pub fn warn(&mut self, message: &str) -> Result<(), AllocError>
+        ensures ok { OnOk result (self.new ≡ remarked (warning_with None message.now) self.old) }
+        ensures err { OnErr result (self.new ≡ self.old) }
+    {
+        let message = Text::new(*self.kids.allocator(), message)?;
+        self.add_warning(None, message)?;
+        Ok(())
+    }
+
+    /// Adds a warning about some of the node's bytes.
+    pub fn warn_at(&mut self, sub_range: SubRange, message: &str) -> Result<(), AllocError>
+        ensures ok { OnOk result (self.new ≡ remarked (warning_with (Some sub_range) message.now) self.old) }
+        ensures err { OnErr result (self.new ≡ self.old) }
+    {
+        let message = Text::new(*self.kids.allocator(), message)?;
+        self.add_warning(Some(sub_range), message)?;
+        Ok(())
+    }
+
+    /// Adds a hint to the node's last error or warning. Without one nothing happens.
+    pub fn hint(&mut self, message: &str) -> Result<(), AllocError>
+        ensures ok { OnOk result (self.new ≡ advised (hint_with None message.now) self.old) }
+        ensures err { OnErr result (self.new ≡ self.old) }
+    {
+        let message = Text::new(*self.kids.allocator(), message)?;
+        self.advise(None, message)?;
+        Ok(())
+    }
+
+    /// Adds a hint about some of the node's bytes to its last error or warning. Without one
+    /// nothing happens.
+    pub fn hint_at(&mut self, sub_range: SubRange, message: &str) -> Result<(), AllocError>
+        ensures ok { OnOk result (self.new ≡ advised (hint_with (Some sub_range) message.now) self.old) }
+        ensures err { OnErr result (self.new ≡ self.old) }
+    {
+        let message = Text::new(*self.kids.allocator(), message)?;
+        self.advise(Some(sub_range), message)?;
+        Ok(())
+    }
+
+    /// Adds a warning, whose message is moved.
+    fn add_warning(&mut self, sub_range: Option<SubRange>, message: Text) -> Result<(), AllocError>
+        ensures ok { OnOk result (self.new ≡ remarked (warning_with sub_range message) self.old) }
+        ensures err { OnErr result (self.new ≡ self.old) }
+    {
+        let alloc = *self.kids.allocator();
+        let warning = Diagnostic {
+            severity: Severity::Warning,
+            sub_range,
+            message,
+            hints: Items::new(alloc),
+        };
+        self.own.push_diagnostic(alloc, warning)?;
+        Ok(())
+    }
+
+    /// Adds a hint, whose message is moved.
+    fn advise(&mut self, sub_range: Option<SubRange>, message: Text) -> Result<(), AllocError>
+        ensures ok { OnOk result (self.new ≡ advised (hint_with sub_range message) self.old) }
+        ensures err { OnErr result (self.new ≡ self.old) }
+    {
+        self.own.push_hint(Hint { sub_range, message })?;
+        Ok(())
+    }
+}
