@@ -1,9 +1,9 @@
 //! Laws of the grammar.
 
-ghost use Rattle.typst_grammar.specs.Examples.{EmptyText, Heading};
+ghost use Rattle.typst_grammar.specs.Laws.{CallDepthLaw, MarkupDepthLaw};
 
-/// Trees of short texts.
-pub fn examples()
-    ensures empty { EmptyText }
-    ensures heading { Heading }
+/// Two depths at which no limit is met give the same, for one expression and for a whole sequence.
+pub fn depth_law()
+    ensures call { CallDepthLaw }
+    ensures markup { MarkupDepthLaw }
 {}
