@@ -1,0 +1,10 @@
+pub mod Places
+pub mod Bytes
+pub mod Columns
+pub mod Within
+pub mod Backs
+pub mod Levels
+pub mod Trivia
+pub mod Runs
+pub mod Steps
+pub mod Ready
