@@ -3,12 +3,8 @@ use Rattle.std.specs.Prelude.{ℕ, Bool, true, false, List, [], ◌∷◌, ◌++
 use Rattle.std.specs.Coded.{Coded, code_by, coded×, coded_ℕ, coded_bool, coded_list, coded_option}
 use Rattle.typst_kinds.specs.declared.kind.SyntaxKind.{SyntaxKind}
 use Rattle.typst_kinds.specs.declared.kind.SyntaxKind.TheVariants.{Error}
-use Rattle.typst_kinds.specs.Span.{Bytes}
 use Rattle.typst_kinds.specs.contracts.kind.SyntaxKind.{the_row as kind_row}
-use Rattle.typst_node.specs.declared.diagnostic.Diagnostic.{Diagnostic}
-use Rattle.typst_node.specs.declared.diagnostic.Hint.{Hint}
-use Rattle.typst_node.specs.contracts.diagnostic.Diagnostic.{the_row as diagnostic_row}
-use Rattle.typst_node.specs.declared.diagnostic.Severity.TheVariants as severity
+use Rattle.typst_node.specs.Diagnostic.{Diagnostic, Hint, diagnostic_code, error_with, at_last, hinted}
 
 -- a file and a number in it, or neither
 abbrev pub Place : Type 0
@@ -26,7 +22,7 @@ pub record Head : Type 0 where
 abbrev pub head_code : Coded Head
 head_code =
     code_by (SyntaxKind × (Bool × (List ℕ × (Place × (ℕ × List Diagnostic)))))
-    (coded× kind_row.coded (coded× coded_bool (coded× (coded_list coded_ℕ) (coded× (coded_option (coded× coded_ℕ coded_ℕ)) (coded× coded_ℕ (coded_list diagnostic_row.coded))))))
+    (coded× kind_row.coded (coded× coded_bool (coded× (coded_list coded_ℕ) (coded× (coded_option (coded× coded_ℕ coded_ℕ)) (coded× coded_ℕ (coded_list diagnostic_code))))))
     (λ h. (h.kind, (h.is_inner, (h.text, (h.span, (h.upper, h.diagnostics))))))
     (λ p. record { kind = p.0; is_inner = p.1.0; text = p.1.1.0; span = p.1.1.1.0; upper = p.1.1.1.1.0; diagnostics = p.1.1.1.1.1 })
     (λ _. refl)
@@ -64,10 +60,6 @@ leaf_head k s = record { kind = k; is_inner = false; text = s; span = None; uppe
 abbrev pub inner_head : SyntaxKind → Head
 inner_head k = record { kind = k; is_inner = true; text = []; span = None; upper = 0; diagnostics = [] }
 
--- an error without hints, about all of its node
-abbrev pub error_with : List ℕ → Diagnostic
-error_with message = record { severity = severity.Error; sub_range = None; message = message; hints = [] }
-
 -- the head of an error leaf that was just made
 abbrev pub error_head : List ℕ → List ℕ → Head
 error_head message s = record { kind = Error; is_inner = false; text = s; span = None; upper = 0; diagnostics = error_with message ∷ [] }
@@ -79,24 +71,6 @@ leaf_own h = record { head = h; len = length h.text; descendants = 1 }
 -- the same with another head
 abbrev pub with_head : Own → Head → Own
 with_head o h = record o { head = h }
-
--- the list with its last element changed, where it has one
-abbrev pub at_last : {X : Type 0} → (X → X) → List X → List X
-at_last f [] = []
-at_last f (x ∷ []) = f x ∷ []
-at_last f (x ∷ (y ∷ ys)) = x ∷ at_last f (y ∷ ys)
-
--- the diagnostic with one more hint
-abbrev pub hinted : Hint → Diagnostic → Diagnostic
-hinted h d = record d { hints = d.hints ++ h ∷ [] }
-
--- a warning without hints
-abbrev pub warning_with : Option Bytes → List ℕ → Diagnostic
-warning_with range message = record { severity = severity.Warning; sub_range = range; message = message; hints = [] }
-
--- a hint
-abbrev pub hint_with : Option Bytes → List ℕ → Hint
-hint_with range message = record { sub_range = range; message = message }
 
 -- the head with one more diagnostic
 abbrev pub diagnosed : Diagnostic → Head → Head

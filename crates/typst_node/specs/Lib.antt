@@ -1,3 +1,4 @@
+pub mod Diagnostic
 pub mod Head
 pub mod Tree
 pub mod Messages

@@ -4,7 +4,7 @@ use Rattle.std.specs.Str.{bytes_eq}
 use Rattle.typst_kinds.specs.Kinds.{is_error, is_keyword}
 use Rattle.typst_kinds.specs.declared.kind.SyntaxKind.{SyntaxKind}
 use Rattle.typst_kinds.specs.Names.{name_of}
-use Rattle.typst_node.specs.Head.{hint_with}
+use Rattle.typst_node.specs.Diagnostic.{hint_with}
 use Rattle.typst_node.specs.Tree.{Tree, text_of, error_of, made_error, advised}
 
 -- THING stands for what was expected, and NAME for the kind that was found

@@ -1,8 +1,9 @@
 ghost use Rattle.std.specs.Prelude.{◌≡◌, ◌↔◌, IfOk, OnOk, OnErr, IsTrue};
-ghost use Rattle.typst_node.specs.Head.{hinted};
+ghost use Rattle.typst_node.specs.Diagnostic.{hinted, error_with, warning_with, hint_with};
 
 use crate::{Items, Text};
 use std::alloc::{AllocError, Global};
+use std::marker::Model;
 use typst_kinds::SubRange;
 
 /// How grave a diagnostic is.
@@ -17,20 +18,47 @@ pub enum Severity {
 /// A remark that says how to mend what a diagnostic is about.
 #[derive(Drop)]
 pub struct Hint {
-    pub(crate) sub_range: Option<SubRange>,
-    pub(crate) message: Text,
+    sub_range: Option<SubRange>,
+    message: Text,
+}
+
+impl Model for Hint {
+    ghost use Rattle.typst_node.specs.Diagnostic.{Hint, hint_code};
+
+    ghost Value = { Hint };
+
+    ghost coded = { hint_code };
+
+    ghost view = { λ h. record { sub_range = h.sub_range; message = h.message } };
 }
 
 /// An error or a warning about a node, with its hints.
 #[derive(Drop)]
 pub struct Diagnostic {
-    pub(crate) severity: Severity,
-    pub(crate) sub_range: Option<SubRange>,
-    pub(crate) message: Text,
-    pub(crate) hints: Items<Hint>,
+    severity: Severity,
+    sub_range: Option<SubRange>,
+    message: Text,
+    hints: Items<Hint>,
+}
+
+impl Model for Diagnostic {
+    ghost use Rattle.typst_node.specs.Diagnostic.{Diagnostic, diagnostic_code};
+
+    ghost Value = { Diagnostic };
+
+    ghost coded = { diagnostic_code };
+
+    ghost view = { λ d. record { severity = d.severity; sub_range = d.sub_range; message = d.message; hints = d.hints } };
 }
 
 impl Hint {
+    /// A hint about all of a node, or about some of its bytes.
+    pub(crate) fn new(sub_range: Option<SubRange>, message: Text) -> Hint
+        ensures { result ≡ hint_with sub_range message }
+    {
+        Hint { sub_range, message }
+    }
+
     /// The bytes of the node that the hint is about, or `None` where it is about all of it.
     pub fn sub_range(&self) -> Option<SubRange>
         ensures { result ≡ self.now.sub_range }
@@ -57,11 +85,38 @@ impl Hint {
     fn same(&self, other: &Hint) -> bool
         ensures { IsTrue result ↔ (self.now ≡ other.now) }
     {
-        self.sub_range == other.sub_range && self.message.same(&other.message)
+        if self.sub_range != other.sub_range {
+            return false;
+        }
+        self.message.same(&other.message)
     }
 }
 
 impl Diagnostic {
+    /// An error about all of a node.
+    pub(crate) fn error(alloc: Global, message: Text) -> Diagnostic
+        ensures { result ≡ error_with message }
+    {
+        Diagnostic {
+            severity: Severity::Error,
+            sub_range: None,
+            message,
+            hints: Items::new(alloc),
+        }
+    }
+
+    /// A warning about all of a node, or about some of its bytes.
+    pub(crate) fn warning(alloc: Global, sub_range: Option<SubRange>, message: Text) -> Diagnostic
+        ensures { result ≡ warning_with sub_range message }
+    {
+        Diagnostic {
+            severity: Severity::Warning,
+            sub_range,
+            message,
+            hints: Items::new(alloc),
+        }
+    }
+
     /// Whether it is an error or a warning.
     pub fn severity(&self) -> Severity
         ensures { result ≡ self.now.severity }
@@ -114,10 +169,16 @@ impl Diagnostic {
     fn same(&self, other: &Diagnostic) -> bool
         ensures { IsTrue result ↔ (self.now ≡ other.now) }
     {
-        self.severity == other.severity
-            && self.sub_range == other.sub_range
-            && self.message.same(&other.message)
-            && same_hints(self.hints.as_slice(), other.hints.as_slice())
+        if self.severity != other.severity {
+            return false;
+        }
+        if self.sub_range != other.sub_range {
+            return false;
+        }
+        if !self.message.same(&other.message) {
+            return false;
+        }
+        same_hints(self.hints.as_slice(), other.hints.as_slice())
     }
 }
 

@@ -1,12 +1,12 @@
 ghost use Rattle.std.specs.Prelude.{◌≡◌, ◌↔◌, IsTrue, [], length, ◌++◌, IfOk, OnOk, OnErr, None, Some, false};
 ghost use Rattle.typst_kinds.specs.Kinds.{is_error};
-ghost use Rattle.typst_node.specs.Head.{warning_with, hint_with};
+ghost use Rattle.typst_node.specs.Diagnostic.{warning_with, hint_with};
 ghost use Rattle.typst_node.specs.Tree.{forest, text_of, nodes, saturated, bare, leaf_of, inner_of, error_of, synthesized, with_kind, at_child, made_error, remarked, advised};
 ghost use Rattle.typst_node.specs.Messages.{made_expected, made_unexpected};
 
 use crate::messages::{expected_message, is_lost_name, keyword_hint, unexpected_message};
 use crate::own::Own;
-use crate::{Diagnostic, Hint, Items, Severity, Text};
+use crate::{Diagnostic, Hint, Text};
 use std::alloc::{AllocError, Global};
 use std::marker::Model;
 use typst_kinds::{Span, SubRange, SyntaxKind};
@@ -344,12 +344,7 @@ impl SyntaxNode {
         ensures err { OnErr result (self.new ≡ self.old) }
     {
         let alloc = *self.kids.allocator();
-        let warning = Diagnostic {
-            severity: Severity::Warning,
-            sub_range,
-            message,
-            hints: Items::new(alloc),
-        };
+        let warning = Diagnostic::warning(alloc, sub_range, message);
         self.own.push_diagnostic(alloc, warning)?;
         Ok(())
     }
@@ -359,7 +354,7 @@ impl SyntaxNode {
         ensures ok { OnOk result (self.new ≡ advised (hint_with sub_range message) self.old) }
         ensures err { OnErr result (self.new ≡ self.old) }
     {
-        self.own.push_hint(Hint { sub_range, message })?;
+        self.own.push_hint(Hint::new(sub_range, message))?;
         Ok(())
     }
 }

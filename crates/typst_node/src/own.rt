@@ -1,9 +1,10 @@
 ghost use Rattle.std.specs.Prelude.{◌≡◌, ◌≤◌, ◌^◌, ◌↔◌, IfOk, OnOk, OnErr, IsTrue};
-ghost use Rattle.typst_node.specs.Head.{bare_head, spanned, leaf_head, inner_head, error_head, leaf_own, with_head, diagnosed, helped, at_last, hinted, number_of};
+ghost use Rattle.typst_node.specs.Head.{bare_head, spanned, leaf_head, inner_head, error_head, leaf_own, with_head, diagnosed, helped, number_of};
+ghost use Rattle.typst_node.specs.Diagnostic.{at_last, hinted};
 
 use crate::diagnostic::{clone_diagnostics, same_diagnostics};
 use crate::text::ShortText;
-use crate::{Diagnostic, Hint, Items, Severity, Text};
+use crate::{Diagnostic, Hint, Text};
 use std::alloc::{AllocError, Global};
 use std::marker::Model;
 use typst_kinds::{Span, SyntaxKind};
@@ -105,12 +106,7 @@ impl Own {
         ensures { IfOk result (λ o. o ≡ leaf_own (error_head message text)) }
     {
         let mut diagnostics = Vec::with_capacity(alloc, 1)?;
-        diagnostics.push(Diagnostic {
-            severity: Severity::Error,
-            sub_range: None,
-            message,
-            hints: Items::new(alloc),
-        })?;
+        diagnostics.push(Diagnostic::error(alloc, message))?;
         let extent = Extent {
             upper: 0,
             len: text.len(),

@@ -1,0 +1,5 @@
+pub mod Places
+pub mod Within
+pub mod Backs
+pub mod Runs
+pub mod Steps

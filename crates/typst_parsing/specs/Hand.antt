@@ -1,5 +1,5 @@
 -- The token at hand: the trivia ahead, and the token after it.
-use Rattle.std.specs.Prelude.{ℕ, zero, suc, ◌+◌, Bool, true, false, not, ◌||◌, ◌&&◌, if◌then◌else◌, nat_lt, nat_le, List, [], ◌∷◌, ◌++◌, length, take, map, encode_utf8_all}
+use Rattle.std.specs.Prelude.{ℕ, zero, suc, ◌+◌, min, Bool, true, false, not, ◌||◌, ◌&&◌, if◌then◌else◌, nat_lt, nat_le, List, [], ◌∷◌, ◌++◌, length, take, map, encode_utf8_all}
 use Rattle.std.specs.List.{prefix_len}
 use Rattle.typst_kinds.specs.declared.kind.SyntaxKind.{SyntaxKind}
 use Rattle.typst_kinds.specs.declared.kind.SyntaxKind.TheVariants as kind
@@ -41,7 +41,7 @@ abbrev pub token_at : CharClasses → SyntaxMode → Place → Token
 token_at k m z = (exec (token k m) z).0
 
 abbrev pub len_at : CharClasses → SyntaxMode → Place → ℕ
-len_at k m z = eaten (token k m) z
+len_at k m z = min (eaten (token k m) z) (length z.ahead)
 
 -- trivia, as nodes and as characters, with the newlines in it, and the token after it
 pub record Ahead : Type 0 where

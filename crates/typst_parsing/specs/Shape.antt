@@ -1,10 +1,9 @@
 -- What a token or several nodes become, and what is seen of a node from above.
 use Rattle.std.specs.Prelude.{ℕ, Bool, true, false, if◌then◌else◌, List, [], ◌∷◌, ◌++◌, None}
 use Rattle.typst_kinds.specs.declared.kind.SyntaxKind.{SyntaxKind}
-use Rattle.typst_kinds.specs.Names.{name_of}
 use Rattle.std.specs.Prelude.{codes}
-use Rattle.typst_kinds.specs.Kinds.{is_error}
 use Rattle.typst_node.specs.Head.{hint_with, warning_with}
+use Rattle.typst_node.specs.Messages.{made_unexpected, made_expected}
 use Rattle.typst_node.specs.Tree.{Tree, forest, joined, text_of, inner_of, error_of, with_kind, made_error, advised, remarked}
 use Rattle.typst_parsing.specs.declared.reading.State.{State}
 
@@ -17,20 +16,19 @@ pub data Making : Type 0 where
   of_kind : SyntaxKind → Making
   -- an error that it was not expected, with hints
   surprise : List (List ℕ) → Making
+  -- an error that this was expected in its place
+  wanted : List ℕ → Making
 
 -- the node with these hints on its last diagnostic
 abbrev pub all_advised : List (List ℕ) → Tree → Tree
 all_advised [] t = t
 all_advised (hint ∷ hints) t = all_advised hints (advised (hint_with None hint) t)
 
--- the error that a node of this kind was not expected
-abbrev pub unexpected : Tree → Tree
-unexpected t = made_error (codes "unexpected " ++ name_of t.head.kind) t
-
 abbrev pub made : Making → Tree → Tree
 made itself t = t
 made (of_kind kind) t = with_kind kind t
-made (surprise hints) t = all_advised hints (unexpected t)
+made (surprise hints) t = all_advised hints (made_unexpected t)
+made (wanted thing) t = made_expected thing t
 
 -- ---- what several nodes become
 

@@ -55,9 +55,13 @@ at l p v = run l p v.place v.state
 abbrev pub Fits : Level → View → Type 0
 Fits l v = v.hand ≡ hand_of l v.place v.state
 
+-- the code did what the parser does
+pub record Ran {A : Type 0} (l : Level) (p : Parser A) (a : A) (old new : View) : Type 0 where
+  pub runs : Runs (at l p old) a old new
+
 -- the code did what the parser does, and its token at hand is again the right one
 pub record Does {A : Type 0} (l : Level) (p : Parser A) (a : A) (old new : View) : Type 0 where
-  pub ran : Fits l old → Runs (at l p old) a old new
+  pub ran : Fits l old → Ran l p a old new
   pub ready : Fits l old → Fits l new
 
 -- the same of what is read a level deeper

@@ -1,5 +1,5 @@
 use Rattle.std.proofs.Common.{arith}
-use Rattle.typst_node.specs.Head.{hinted}
+use Rattle.typst_node.specs.Diagnostic.{hinted}
 use Rattle.typst_node.proofs.Lasts.{at_last-set}
 use Rattle.typst_node.proofs.own.push_last.Goals as goal
 

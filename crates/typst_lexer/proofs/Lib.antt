@@ -1,0 +1,10 @@
+pub mod CharsLemmas
+pub mod ClusterLemmas
+pub mod Frame
+pub mod LineCluster
+pub mod Moves
+pub mod NumberLemmas
+pub mod TextLemmas
+pub mod TokenLemmas
+pub mod UnicodeCluster
+pub mod WordLemmas

@@ -1,0 +1,13 @@
+pub mod Characters
+pub mod ClassLaws
+pub mod Classes
+pub mod Common
+pub mod Identifiers
+pub mod Markup
+pub mod Reader
+pub mod Reads
+pub mod Text
+pub mod Token
+pub mod Tokens
+pub mod UnicodeLaws
+pub mod UnicodeTables

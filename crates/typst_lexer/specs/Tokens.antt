@@ -1,0 +1,48 @@
+-- The definition of a token.
+use Rattle.std.specs.Prelude.{◌≡◌, ℕ, Bool, true, false, if◌then◌else◌, ◌==◌, is_none, List, [], ◌∷◌, Option, Some, None}
+use Rattle.typst_kinds.specs.declared.kind.SyntaxKind.TheVariants as kind
+use Rattle.typst_kinds.specs.declared.mode.SyntaxMode.{SyntaxMode}
+use Rattle.typst_kinds.specs.declared.mode.SyntaxMode.TheVariants.{Markup, Math, Code}
+use Rattle.typst_lines.specs.Place.{passes}
+use Rattle.typst_lexer.specs.Characters.{is_space}
+use Rattle.typst_lexer.specs.Classes.{CharClasses}
+use Rattle.typst_lexer.specs.Common.{whitespace, shebang, line_comment, block_comment, comment_end}
+use Rattle.typst_lexer.specs.Markup.{markup, text_from}
+use Rattle.typst_lexer.specs.Reader.{Reader}
+use Rattle.typst_lexer.specs.Reader.Reader.{answer, peek, glance}
+use Rattle.typst_lexer.specs.Token.{plain}
+use Rattle.typst_lexer.specs.declared.token.Token.{Token}
+
+-- A token that only one mode has, at the character that comes next.
+unfoldable pub of_mode : CharClasses → SyntaxMode → ℕ → Reader Token
+of_mode k Markup c = markup k c
+-- LATER, formulas and code: until then any character begins a text
+of_mode k Math c = text_from k
+of_mode k Code c = text_from k
+
+-- A hash comes next: at the text's start `#!` begins a shebang.
+unfoldable pub hash : CharClasses → SyntaxMode → Reader Token
+hash k mode = glance (λ before.
+    if is_none before then peek 1 (λ d. if passes (λ d. d == 33) d then shebang else of_mode k mode 35)
+    else of_mode k mode 35)
+
+-- A slash comes next.
+unfoldable pub slash : CharClasses → SyntaxMode → Reader Token
+slash k mode = peek 1 (λ d.
+    if passes (λ d. d == 47) d then line_comment
+    else (if passes (λ d. d == 42) d then block_comment else of_mode k mode 47))
+
+-- A star comes next.
+unfoldable pub star : CharClasses → SyntaxMode → Reader Token
+star k mode = peek 1 (λ d. if passes (λ d. d == 47) d then comment_end else of_mode k mode 42)
+
+-- The token of the mode that comes next: the end, whitespace, a shebang, a comment, or one that
+-- only the mode has.
+unfoldable pub token : CharClasses → SyntaxMode → Reader Token
+token k mode = peek 0 (λ c. elim c [ None ↦ answer (plain kind.End) | Some c ↦
+    if is_space mode c then whitespace mode
+    else (if c == 35 then hash k mode
+    else (if c == 47 then slash k mode
+    else (if c == 42 then star k mode
+    -- LATER, raw text in markup and code: a backtick
+    else of_mode k mode c))) ])

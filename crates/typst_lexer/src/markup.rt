@@ -1,0 +1,204 @@
+//! The tokens of markup.
+ghost use Rattle.std.specs.Prelude.{◌≡◌, ◌&&◌, IsSome, Some, Bool};
+ghost use Rattle.std.specs.Str.{chars};
+ghost use Rattle.typst_kinds.specs.declared.kind.SyntaxKind.{SyntaxKind};
+ghost use Rattle.typst_lexer.specs.Markup as spec;
+ghost use Rattle.typst_lexer.specs.Reader.{exec, Reader};
+ghost use Rattle.typst_lexer.specs.Reads.{Reads};
+ghost use Rattle.typst_lexer.specs.declared.token.Token.{Token};
+ghost use Rattle.typst_lines.specs.Place.{passes, scout};
+ghost use Rattle.typst_lines.specs.Scanner.{place};
+
+use crate::classes::Classes;
+use crate::sets::{AsciiAlphanumeric, AsciiDigits, is_code_point, is_u64};
+use crate::text::{second, text};
+use crate::token::{Fault, Token};
+use typst_kinds::SyntaxKind;
+use typst_lines::Scanner;
+
+/// A token that begins with the character, which comes next.
+#[tactic(auto, unfolding(crate::specs::Markup::markup))]
+pub(crate) fn markup<C: Classes>(s: &mut Scanner<'_>, c: char, classes: &C) -> Token
+    ensures { Reads (spec.markup (C.classes classes.now) c) s.old result s.new }
+{
+    match c {
+        '\\' => backslash(s),
+        '.' => dot(s, classes),
+        '-' => minus(s, classes),
+        '*' => emphasis(s, SyntaxKind::Star, classes),
+        '_' => emphasis(s, SyntaxKind::Underscore, classes),
+        '[' => sign(s, SyntaxKind::LeftBracket),
+        ']' => sign(s, SyntaxKind::RightBracket),
+        '\'' | '"' => sign(s, SyntaxKind::SmartQuote),
+        '~' => sign(s, SyntaxKind::Shorthand),
+        ':' => sign(s, SyntaxKind::Colon),
+        '=' => heading(s, classes),
+        '+' => marker(s, SyntaxKind::EnumMarker, classes),
+        '/' => marker(s, SyntaxKind::TermMarker, classes),
+        '0'..='9' => numbering(s, classes),
+        _ => text_from(s, classes),
+    }
+}
+
+/// A token of one character.
+#[tactic(auto, unfolding(crate::specs::Markup::sign))]
+fn sign(s: &mut Scanner<'_>, kind: SyntaxKind) -> Token
+    ensures { Reads (spec.sign kind) s.old result s.new }
+{
+    s.eat();
+    Token::plain(kind)
+}
+
+/// A text that the next character begins.
+#[tactic(auto, unfolding(crate::specs::Markup::text_from))]
+pub(crate) fn text_from<C: Classes>(s: &mut Scanner<'_>, classes: &C) -> Token
+    ensures { Reads (spec.text_from (C.classes classes.now)) s.old result s.new }
+{
+    s.eat();
+    text(s, classes)
+}
+
+#[tactic(auto, unfolding(crate::specs::Markup::backslash))]
+fn backslash(s: &mut Scanner<'_>) -> Token
+    ensures { Reads spec.backslash s.old result s.new }
+{
+    s.eat();
+    if s.eat_word(b"u{") {
+        let digits = s.eat_while(&AsciiAlphanumeric);
+        return code_point(s, digits);
+    }
+    match s.peek() {
+        Some(c) if !c.is_whitespace() => {
+            s.eat();
+            Token::plain(SyntaxKind::Escape)
+        }
+        _ => Token::plain(SyntaxKind::Linebreak),
+    }
+}
+
+/// The end of an escape by a code point.
+#[tactic(auto, unfolding(crate::specs::Markup::code_point))]
+fn code_point(s: &mut Scanner<'_>, digits: &str) -> Token
+    ensures { Reads (spec.code_point (chars digits.now)) s.old result s.new }
+{
+    if !s.eat_if('}') {
+        return Token::faulty(Fault::UnclosedEscape);
+    }
+    if is_code_point(digits) {
+        Token::plain(SyntaxKind::Escape)
+    } else {
+        Token::faulty(Fault::InvalidEscape)
+    }
+}
+
+#[tactic(auto, unfolding(crate::specs::Markup::dot))]
+fn dot<C: Classes>(s: &mut Scanner<'_>, classes: &C) -> Token
+    ensures { Reads (spec.dot (C.classes classes.now)) s.old result s.new }
+{
+    s.eat();
+    if s.eat_word(b"..") {
+        Token::plain(SyntaxKind::Shorthand)
+    } else {
+        text(s, classes)
+    }
+}
+
+#[tactic(auto, unfolding(crate::specs::Markup::minus))]
+fn minus<C: Classes>(s: &mut Scanner<'_>, classes: &C) -> Token
+    ensures { Reads (spec.minus (C.classes classes.now)) s.old result s.new }
+{
+    s.eat();
+    hyphen(s, classes)
+}
+
+/// What a hyphen begins, after it.
+#[tactic(auto, unfolding(crate::specs::Markup::hyphen))]
+fn hyphen<C: Classes>(s: &mut Scanner<'_>, classes: &C) -> Token
+    ensures { Reads (spec.hyphen (C.classes classes.now)) s.old result s.new }
+{
+    if s.eat_if('-') {
+        s.eat_if('-');
+        return Token::plain(SyntaxKind::Shorthand);
+    }
+    if s.eat_if('?') {
+        return Token::plain(SyntaxKind::Shorthand);
+    }
+    match s.peek() {
+        Some(c) if classes.is_numeric(c) => Token::plain(SyntaxKind::Shorthand),
+        _ => marker_or_text(s, SyntaxKind::ListMarker, classes),
+    }
+}
+
+/// A star or an underscore.
+#[tactic(auto, unfolding(crate::specs::Markup::emphasis))]
+fn emphasis<C: Classes>(s: &mut Scanner<'_>, kind: SyntaxKind, classes: &C) -> Token
+    ensures { Reads (spec.emphasis (C.classes classes.now) kind) s.old result s.new }
+{
+    if is_word(s.last(), classes) && is_word(second(s), classes) {
+        return text_from(s, classes);
+    }
+    sign(s, kind)
+}
+
+fn is_word<C: Classes>(c: Option<char>, classes: &C) -> bool
+    ensures { result ≡ passes (C.classes classes.now).word c }
+{
+    match c {
+        Some(c) => classes.is_word(c),
+        None => false,
+    }
+}
+
+#[tactic(auto, unfolding(crate::specs::Markup::heading))]
+fn heading<C: Classes>(s: &mut Scanner<'_>, classes: &C) -> Token
+    ensures { Reads (spec.heading (C.classes classes.now)) s.old result s.new }
+{
+    s.eat_while(&'=');
+    marker_or_text(s, SyntaxKind::HeadingMarker, classes)
+}
+
+#[tactic(auto, unfolding(crate::specs::Markup::numbering))]
+fn numbering<C: Classes>(s: &mut Scanner<'_>, classes: &C) -> Token
+    ensures { Reads (spec.numbering (C.classes classes.now)) s.old result s.new }
+{
+    let digits = s.eat_while(&AsciiDigits);
+    if !s.eat_if('.') {
+        return text(s, classes);
+    }
+    if is_u64(digits) {
+        return marker_or_text(s, SyntaxKind::EnumMarker, classes);
+    }
+    text(s, classes)
+}
+
+/// A marker of one character, or a text that it begins.
+#[tactic(auto, unfolding(crate::specs::Markup::marker))]
+fn marker<C: Classes>(s: &mut Scanner<'_>, kind: SyntaxKind, classes: &C) -> Token
+    ensures { Reads (spec.marker (C.classes classes.now) kind) s.old result s.new }
+{
+    s.eat();
+    marker_or_text(s, kind, classes)
+}
+
+/// A marker that was eaten where it may end here, else what is left of a text.
+#[tactic(auto, unfolding(crate::specs::Markup::marker_or_text))]
+fn marker_or_text<C: Classes>(s: &mut Scanner<'_>, kind: SyntaxKind, classes: &C) -> Token
+    ensures { Reads (spec.marker_or_text (C.classes classes.now) kind) s.old result s.new }
+{
+    if space_or_end(s) {
+        Token::plain(kind)
+    } else {
+        text(s, classes)
+    }
+}
+
+/// Whether a marker may end here: at the end, at whitespace or at a comment.
+fn space_or_end(s: &Scanner<'_>) -> bool
+    ensures { (go_on : Bool → Reader Token) → exec (spec.marker_end go_on) (place s.now) ≡ exec (go_on result) (place s.now) }
+{
+    match s.peek() {
+        None => true,
+        Some('/') => matches!(second(s), Some('/' | '*')),
+        Some(c) => c.is_whitespace(),
+    }
+}
