@@ -1,5 +1,5 @@
 -- The law of the frame, for whatever the language can say.
-use Rattle.std.proofs.Common.{◌≡◌, ℕ, zero, suc, ◌+◌, ◌-◌, ◌<◌, ◌≤◌, min, max, Bool, true, false, ◌&&◌, ◌||◌, if◌then◌else◌, not, nat_lt, nat_le, List, [], ◌∷◌, ◌++◌, length, map, take, drop, encode_utf8_all, refl, ap, sym, ◌∙◌, subst, arith}
+use Rattle.std.proofs.Common.{◌≡◌, ℕ, zero, suc, ◌+◌, ◌<◌, ◌≤◌, max, Bool, true, false, ◌&&◌, if◌then◌else◌, not, nat_lt, nat_le, List, [], ◌∷◌, ◌++◌, length, take, encode_utf8_all, refl, ap, sym, ◌∙◌, subst, arith}
 use borrow.Author.Tests.{ltb-true}
 use Rattle.typst_kinds.specs.declared.kind.SyntaxKind.{SyntaxKind}
 use Rattle.typst_kinds.specs.declared.kind.SyntaxKind.TheVariants as kind
@@ -8,9 +8,8 @@ use Rattle.typst_lines.specs.Place.{Place, moved}
 use Rattle.typst_lexer.specs.Classes.{CharClasses}
 use Rattle.typst_lexer.specs.Nodes.{token_node}
 use Rattle.typst_lexer.specs.declared.token.Token.{Token}
-use Rattle.typst_lexer.specs.Reader.{Agree, Look, look}
+use Rattle.typst_lexer.specs.Reader.{Look, look}
 use Rattle.typst_lexer.specs.Tokens.{token}
-use Rattle.typst_parsing.specs.declared.reading.AtNewline.{AtNewline}
 use Rattle.typst_parsing.specs.declared.reading.AtNewline.TheVariants.{Continue, Stop, ContextualContinue, StopParBreak, RequireColumn}
 use Rattle.typst_parsing.specs.declared.reading.Block.{Block}
 use Rattle.typst_parsing.specs.declared.reading.Call.{Call}
@@ -18,7 +17,7 @@ use Rattle.typst_parsing.specs.declared.reading.Newlines.{Newlines}
 use Rattle.typst_parsing.specs.declared.reading.Reading.{Reading}
 use Rattle.typst_parsing.specs.declared.reading.State.{State}
 use Rattle.typst_parsing.specs.Ask.{Ask, SameIn, shift}
-use Rattle.typst_parsing.specs.Ask.Ask.{looked, marked}
+use Rattle.typst_parsing.specs.Ask.Ask.{looked}
 use Rattle.typst_parsing.specs.Hand.{text_ahead, token_at, len_at, is_trivia, at_trivia, Hand, goes_on, Ahead, direct, after_trivia, both_newlines, ahead_by, ahead, asks_by, ahead_asks, column_at, column_look, is_markup, stops, asks_column, hand_by, hand_at, column_asks, hand_asks}
 use Rattle.typst_parsing.specs.Syntax.{Op, Parser}
 use Rattle.typst_parsing.specs.Syntax.Op.{hand, column, erred, takes, flushes, complains, marks, is_deepest}
@@ -26,11 +25,11 @@ use Rattle.typst_parsing.specs.Syntax.Parser.{gives, does, next, pick, repeat, w
 use Rattle.typst_kinds.specs.Kinds.{is_error}
 use Rattle.typst_node.specs.Tree.{text_of}
 use Rattle.typst_parsing.specs.Shape.{Making, made, after_node}
-use Rattle.typst_parsing.specs.Meaning.{Outcome, Meaning, Level, joined, followed, turns, as_last, repeated, wrapped, with_seen, noted, deeper_by_one, given_up, chosen, entered, left_to, plain, hand_of, hand_asks_of, taken_node, renewed, flushed_state, passed, done, run}
+use Rattle.typst_parsing.specs.Meaning.{Outcome, Meaning, Level, joined, followed, turns, repeated, wrapped, with_seen, noted, deeper_by_one, given_up, chosen, entered, left_to, plain, hand_of, hand_asks_of, renewed, flushed_state, passed, done, run}
 use Rattle.typst_parsing.specs.View.{Within}
-use Rattle.typst_parsing.proofs.Places.{moved-ahead, ahead-left}
+use Rattle.typst_parsing.proofs.Places.{ahead-left}
 use Rattle.typst_parsing.proofs.Within.{turns-enough, within-run}
-use Rattle.typst_parsing.proofs.Looks.{take-fewer, take-unmarked, run-same, same_in-shift, same_in-first, same_in-second, same_in-only, same_in-sunk, SameToken, token-same, passed-same, column-same}
+use Rattle.typst_parsing.proofs.Looks.{same_in-shift, same_in-first, same_in-second, same_in-only, same_in-sunk, token-same, passed-same, column-same}
 
 -- ---- the token at hand
 

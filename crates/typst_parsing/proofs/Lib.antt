@@ -1,3 +1,6 @@
+pub mod Looks
+pub mod Frame
+pub mod Depth
 pub mod Places
 pub mod Within
 pub mod Backs

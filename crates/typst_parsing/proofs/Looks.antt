@@ -1,12 +1,12 @@
 -- What shows the same where it was looked at.
-use Rattle.std.proofs.Common.{◌≡◌, ℕ, zero, suc, ◌+◌, ◌-◌, ◌<◌, ◌≤◌, min, max, Bool, true, false, ◌&&◌, if◌then◌else◌, not, nat_lt, List, [], ◌∷◌, ◌++◌, length, take, drop, slice_get, Option, Some, None, inl, inr, refl, ap, sym, ◌∙◌, subst, arith}
+use Rattle.std.proofs.Common.{◌≡◌, ℕ, zero, suc, ◌+◌, ◌-◌, ◌<◌, ◌≤◌, min, Bool, true, false, if◌then◌else◌, not, List, [], ◌∷◌, ◌++◌, length, take, drop, slice_get, inl, inr, refl, ap, sym, ◌∙◌, subst, arith}
 use Rattle.std.proofs.lemmas.Bool.{cases_lt}
 use Rattle.std.specs.List.{prefix_len}
 use Rattle.typst_kinds.specs.declared.mode.SyntaxMode.{SyntaxMode}
 use Rattle.typst_lines.specs.Newline.{is_newline}
-use Rattle.typst_lines.specs.Place.{Place, moved, moved_from, scout, run, past}
+use Rattle.typst_lines.specs.Place.{Place, moved, scout, run, past}
 use Rattle.typst_lexer.specs.Classes.{CharClasses}
-use Rattle.typst_lexer.specs.Reader.{Reader, exec, eaten, Look, look, marked, Agree, SameReading, spanned, from_before, skip_look}
+use Rattle.typst_lexer.specs.Reader.{Reader, eaten, Look, look, marked, Agree, spanned, from_before, skip_look}
 use Rattle.typst_lexer.specs.Reader.Reader.{answer, peek, glance, span, eat, see_run, skip, eat_run}
 use Rattle.typst_lexer.specs.Tokens.{token}
 use Rattle.typst_lexer.proofs.Frame.{frame}
