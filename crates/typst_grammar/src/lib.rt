@@ -3,4 +3,4 @@
 
 mod laws;
 
-pub use laws::examples;
+pub use laws::{depth_law, examples, frame_law};
