@@ -6,3 +6,5 @@ pub mod Within
 pub mod Backs
 pub mod Runs
 pub mod Steps
+pub mod Tokens
+pub mod Leaves
