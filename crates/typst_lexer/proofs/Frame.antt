@@ -1,5 +1,5 @@
 -- What was not looked at doesn't matter.
-use Rattle.std.proofs.Common.{◌≡◌, ◌≤◌, ◌<◌, ℕ, zero, suc, ◌+◌, ◌-◌, max, min, Bool, true, false, List, [], ◌∷◌, take, drop, length, slice_get, if◌then◌else◌, refl, sym, ap, subst, ◌∙◌, arith, Option, Some, None}
+use Rattle.std.proofs.Common.{◌≡◌, ◌≤◌, ℕ, zero, suc, ◌+◌, ◌-◌, max, min, Bool, true, false, List, [], ◌∷◌, take, length, slice_get, if◌then◌else◌, refl, sym, ap, subst, ◌∙◌, arith, Some}
 use Rattle.std.specs.List.{prefix_len}
 use Rattle.typst_lines.specs.Place.{Place, moved, moved_from, scout, run, past}
 use Rattle.typst_lexer.specs.Reader.{place, both, no_look, Step, ask, glimpse, Machine, Memory, Turn, spanned, span_look, Reader, exec, eaten, Look, look, marked, Agree, SameReading, widened, from_before, from_far, skip_look}
@@ -148,16 +148,16 @@ span-agree m state pb (c ∷ pa) qb (d ∷ qa) g =
 
 -- ---- readers
 
-agree-narrow : (l m : Look) (p q : Place) → l.back ≤ m.back → l.front ≤ m.front → Agree m p q → Agree l p q
+pub agree-narrow : (l m : Look) (p q : Place) → l.back ≤ m.back → l.front ≤ m.front → Agree m p q → Agree l p q
 agree-narrow l m p q b f g = record { behind = take-shorter l.back m.back _ _ b g.behind; ahead = take-shorter l.front m.front _ _ f g.ahead }
 
-abbrev run_look : ℕ → Look → Look
+abbrev pub run_look : ℕ → Look → Look
 run_look n l = widened 0 (suc n) (from_far n l)
 
-record SameRun (test : ℕ → Bool) (l : Look) (pb pa qb qa : List ℕ) : Type 0 where
-  long : prefix_len test pa ≡ prefix_len test qa
-  taken : take (prefix_len test pa) pa ≡ take (prefix_len test qa) qa
-  rest : Agree l (moved_from (prefix_len test pa) pb pa) (moved_from (prefix_len test qa) qb qa)
+pub record SameRun (test : ℕ → Bool) (l : Look) (pb pa qb qa : List ℕ) : Type 0 where
+  pub long : prefix_len test pa ≡ prefix_len test qa
+  pub taken : take (prefix_len test pa) pa ≡ take (prefix_len test qa) qa
+  pub rest : Agree l (moved_from (prefix_len test pa) pb pa) (moved_from (prefix_len test qa) qb qa)
 
 abbrev turns : (ℕ → Bool) → List ℕ → Bool → ℕ
 turns test a t = if t then 1 + prefix_len test a else 0
@@ -166,7 +166,7 @@ run-turn : (test : ℕ → Bool) (l : Look) (c : ℕ) (pb pa qb qa : List ℕ) (
     → (Agree (run_look (prefix_len test pa) l) (place (c ∷ pb) pa) (place (c ∷ qb) qa) → SameRun test l (c ∷ pb) pa (c ∷ qb) qa)
     → Agree (run_look (turns test pa t) l) (place pb (c ∷ pa)) (place qb (c ∷ qa))
     → (turns test pa t ≡ turns test qa t) × (take (turns test pa t) (c ∷ pa) ≡ take (turns test qa t) (c ∷ qa))
-        × Agree l (moved_from (turns test pa t) pb (c ∷ pa)) (moved_from (turns test qa t) qb (c ∷ qa))
+    × Agree l (moved_from (turns test pa t) pb (c ∷ pa)) (moved_from (turns test qa t) qb (c ∷ qa))
 run-turn test l c pb pa qb qa false more g = (refl, refl, agree-narrow l (run_look 0 l) _ _ (omega arith) (omega arith) g)
 run-turn test l c pb pa qb qa true more g =
     let n = prefix_len test pa in
@@ -177,7 +177,7 @@ run-turn test l c pb pa qb qa true more g =
     let s = more near in
     (ap (λ k. 1 + k) s.long, rw (up, up') (ap (λ t. c ∷ t) s.taken), rw (up, up') s.rest)
 
-run-agree : (test : ℕ → Bool) (l : Look) (pb pa qb qa : List ℕ) → Agree (run_look (prefix_len test pa) l) (place pb pa) (place qb qa) → SameRun test l pb pa qb qa
+pub run-agree : (test : ℕ → Bool) (l : Look) (pb pa qb qa : List ℕ) → Agree (run_look (prefix_len test pa) l) (place pb pa) (place qb qa) → SameRun test l pb pa qb qa
 run-agree test l pb [] qb [] g = record { long = refl; taken = refl; rest = agree-narrow l (run_look 0 l) _ _ (omega arith) (omega arith) g }
 run-agree test l pb [] qb (d ∷ qa) g = let first = first-agree (run_look 0 l).front [] (d ∷ qa) (omega arith) g.ahead in absurd (cc)
 run-agree test l pb (c ∷ pa) qb [] g =

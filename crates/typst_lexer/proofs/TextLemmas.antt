@@ -1,12 +1,11 @@
 -- Facts on texts, and on machines that take a run of characters.
-use Rattle.std.proofs.Common.{◌≡◌, ◌≤◌, ℕ, zero, suc, ◌+◌, Bool, true, false, not, ◌&&◌, ◌==◌, if◌then◌else◌, List, [], ◌∷◌, length, refl, sym, ap, subst, ◌∙◌, arith, slice_get, Option, Some, None, eqb→eq}
+use Rattle.std.proofs.Common.{◌≡◌, ℕ, suc, ◌+◌, Bool, true, false, not, ◌==◌, if◌then◌else◌, List, [], ◌∷◌, length, refl, sym, ap, subst, ◌∙◌, arith, slice_get, Some, None}
 use Rattle.std.proofs.lemmas.Bool.Decides.{nat_tests}
 use Rattle.std.specs.List.{prefix_len}
 use Rattle.typst_kinds.specs.declared.kind.SyntaxKind.TheVariants as kind
-use Rattle.typst_lines.specs.Place.{Place, moved, moved_from, scout, past, passes, word_at}
-use Rattle.typst_lines.proofs.PlaceLemmas.{head-splits}
+use Rattle.typst_lines.specs.Place.{Place, moved, moved_from, scout, past, word_at}
 use Rattle.typst_lexer.specs.Classes.{CharClasses}
-use Rattle.typst_lexer.specs.Reader.{place, Reader, exec, Machine, Memory, Turn, ask, Step, spanned, eat_span, see_word}
+use Rattle.typst_lexer.specs.Reader.{place, Reader, exec, Machine, Memory, Turn, ask, eat_span}
 use Rattle.typst_lexer.specs.Reader.Memory.{blank}
 use Rattle.typst_lexer.specs.Reader.Reader.{answer}
 use Rattle.typst_lexer.specs.Reader.Turn.{leave, go}
@@ -38,7 +37,6 @@ exec-turn m memory k behind c ahead t h = ap (taking m memory k behind c ahead) 
 -- what a machine takes, it takes at once
 module _ {A : Type 0} (m : Machine) (memory : Memory) (test : ℕ → Bool) (k : Memory → Reader A)
     (goes : (c : ℕ) (behind ahead : List ℕ) → test c ≡ true → ask (m memory) (place behind (c ∷ ahead)) ≡ go memory) where
-
   run-turn : (behind : List ℕ) (c : ℕ) (ahead : List ℕ) (t : Bool) → test c ≡ t
       → exec (eat_span m memory k) (place (c ∷ behind) ahead) ≡ exec (eat_span m memory k) (past test (place (c ∷ behind) ahead))
       → exec (eat_span m memory k) (place behind (c ∷ ahead)) ≡ exec (eat_span m memory k) (moved (if t then 1 + prefix_len test ahead else 0) (place behind (c ∷ ahead)))
@@ -58,9 +56,10 @@ rest k = eat_span (in_text k) blank (λ _. answer (plain kind.Text))
 
 other : (c d : ℕ) → may_stop d ≡ true → not (may_stop c) ≡ true → (c == d) ≡ false
 other c d stops goes =
-    elim (c == d) as (λ t. (c == d) ≡ t → t ≡ false)
-    [ true ↦ λ e. absurd (let same : c ≡ d = grind (arith, nat_tests) in let also : may_stop c ≡ true = ap may_stop same ∙ stops in let none : false ≡ true = ap not (sym also) ∙ goes in cc)
-    | false ↦ λ _. refl ] refl
+    elim (c == d) as (λ t. (c == d) ≡ t → t ≡ false) [
+      | true ↦ λ e. absurd (let same : c ≡ d = grind (arith, nat_tests) in let also : may_stop c ≡ true = ap may_stop same ∙ stops in let none : false ≡ true = ap not (sym also) ∙ goes in cc)
+      | false ↦ λ _. refl
+    ] refl
 
 last-of : {A : Type 0} (b₁ b₂ b₃ b₄ b₅ b₆ : Bool) (x₁ x₂ x₃ x₄ x₅ x₆ y : A) → b₁ ≡ false → b₂ ≡ false → b₃ ≡ false → b₄ ≡ false → b₅ ≡ false → b₆ ≡ false
     → (if b₁ then x₁ else (if b₂ then x₂ else (if b₃ then x₃ else (if b₄ then x₄ else (if b₅ then x₅ else (if b₆ then x₆ else y)))))) ≡ y
@@ -69,7 +68,7 @@ last-of b₁ b₂ b₃ b₄ b₅ b₆ x₁ x₂ x₃ x₄ x₅ x₆ y h₁ h₂ 
 pub plain-step : (k : CharClasses) (c : ℕ) (p : Place) → not (may_stop c) ≡ true → ask (text_step k c) p ≡ go blank
 plain-step k c p h =
     ap (λ s. ask s p) (last-of (c == 32) (c == 47) (c == 45) (c == 46) (c == 104) (c == 64) _ _ _ _ _ _ (on (not (may_stop c)))
-      (other c 32 refl h) (other c 47 refl h) (other c 45 refl h) (other c 46 refl h) (other c 104 refl h) (other c 64 refl h))
+    (other c 32 refl h) (other c 47 refl h) (other c 45 refl h) (other c 46 refl h) (other c 104 refl h) (other c 64 refl h))
     ∙ ap (λ t. ask (on t) p) h
 
 pub rest-past : (k : CharClasses) (p : Place) → exec (rest k) p ≡ exec (rest k) (past (λ c. not (may_stop c)) p)

@@ -1,5 +1,5 @@
 -- The tokens that all modes share.
-use Rattle.std.specs.Prelude.{◌≡◌, ℕ, suc, ◌+◌, ◌-◌, Bool, true, false, not, ◌&&◌, ◌||◌, if◌then◌else◌, ◌==◌, nat_lt, List, [], ◌∷◌, Option, Some, None}
+use Rattle.std.specs.Prelude.{ℕ, suc, ◌+◌, ◌-◌, Bool, false, not, ◌&&◌, if◌then◌else◌, ◌==◌, nat_lt, List, [], ◌∷◌, Some, None}
 use Rattle.typst_kinds.specs.declared.kind.SyntaxKind.TheVariants as kind
 use Rattle.typst_kinds.specs.declared.mode.SyntaxMode.{SyntaxMode}
 use Rattle.typst_kinds.specs.declared.mode.SyntaxMode.TheVariants.{Markup, Math, Code}
@@ -7,7 +7,7 @@ use Rattle.typst_lines.specs.Newline.{is_newline}
 use Rattle.typst_lexer.specs.Characters.{is_space}
 use Rattle.typst_lexer.specs.Classes.{in_line}
 use Rattle.typst_lexer.specs.Reader.{Reader, Machine, Memory, Turn, eat_span}
-use Rattle.typst_lexer.specs.Reader.Reader.{answer, eat, skip, eat_run}
+use Rattle.typst_lexer.specs.Reader.Reader.{answer, skip, eat_run}
 use Rattle.typst_lexer.specs.Reader.Step.{turn, see}
 use Rattle.typst_lexer.specs.Reader.Turn.{leave, last, go}
 use Rattle.typst_lexer.specs.Reader.Memory.{blank, comment}

@@ -1,9 +1,13 @@
 pub mod Characters
 pub mod ClassLaws
 pub mod Classes
+pub mod Column
 pub mod Common
 pub mod Identifiers
+pub mod Laws
+pub mod Lexer
 pub mod Markup
+pub mod Nodes
 pub mod Reader
 pub mod Reads
 pub mod Text

@@ -1,5 +1,5 @@
 -- The tokens of markup.
-use Rattle.std.specs.Prelude.{◌≡◌, ℕ, Bool, true, false, not, ◌&&◌, ◌||◌, if◌then◌else◌, ◌==◌, List, [], ◌∷◌, Option, Some, None, codes}
+use Rattle.std.specs.Prelude.{ℕ, Bool, true, not, ◌||◌, if◌then◌else◌, ◌==◌, List, Some, None, codes}
 use Rattle.std.specs.Char.{is_ascii_alphanumeric, is_ascii_digit, is_whitespace}
 use Rattle.typst_kinds.specs.declared.kind.SyntaxKind.{SyntaxKind}
 use Rattle.typst_kinds.specs.declared.kind.SyntaxKind.TheVariants as kind
@@ -38,8 +38,11 @@ dot k = eat (at_word 0 (codes "..") (skip 2 (answer (plain kind.Shorthand))) (te
 
 -- Whether a marker may end there: at the end, at whitespace or at a comment.
 abbrev pub marker_end : {A : Type 0} → (Bool → Reader A) → Reader A
-marker_end go_on = peek 0 (λ c. elim c [ None ↦ go_on true | Some c ↦
-    if c == 47 then peek 1 (λ d. go_on (passes (among (codes "/*")) d)) else go_on (is_whitespace c) ])
+marker_end go_on = peek 0 (λ c. elim c [
+  | None ↦ go_on true
+  | Some c ↦
+      if c == 47 then peek 1 (λ d. go_on (passes (among (codes "/*")) d)) else go_on (is_whitespace c)
+])
 
 -- A marker where it may end here, else what is left of a text.
 unfoldable pub marker_or_text : CharClasses → SyntaxKind → Reader Token

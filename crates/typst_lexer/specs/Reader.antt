@@ -1,6 +1,6 @@
 -- Readers: what is read at a place is a tree of questions about the characters around it. From the
 -- questions follow what is answered, how many characters are taken and which places were looked at.
-use Rattle.std.specs.Prelude.{◌≡◌, ℕ, zero, suc, ◌+◌, ◌-◌, max, min, Bool, true, false, if◌then◌else◌, List, [], ◌∷◌, length, take, slice_get, Option, Some, None, ◌==◌}
+use Rattle.std.specs.Prelude.{◌≡◌, ℕ, zero, suc, ◌+◌, ◌-◌, max, min, Bool, if◌then◌else◌, List, [], ◌∷◌, length, take, slice_get, Option, Some, None, ◌==◌}
 use Rattle.typst_lines.specs.Place.{Place, moved, scout, passes, run, past}
 use Rattle.std.specs.List.{prefix_len}
 

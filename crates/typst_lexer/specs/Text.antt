@@ -1,11 +1,11 @@
 -- Plain text of markup.
-use Rattle.std.specs.Prelude.{◌≡◌, ℕ, Bool, true, false, not, ◌&&◌, ◌||◌, if◌then◌else◌, ◌==◌, List, [], ◌∷◌, Option, Some, None, codes}
+use Rattle.std.specs.Prelude.{ℕ, Bool, true, false, not, ◌||◌, if◌then◌else◌, ◌==◌, Some, None, codes}
 use Rattle.std.specs.Char.{is_whitespace}
 use Rattle.typst_kinds.specs.declared.kind.SyntaxKind.TheVariants as kind
 use Rattle.typst_lines.specs.Place.{passes}
 use Rattle.typst_lexer.specs.Characters.{among, is_name}
 use Rattle.typst_lexer.specs.Classes.{CharClasses}
-use Rattle.typst_lexer.specs.Reader.{Reader, Machine, Memory, Step, Turn, eat_span, see_word}
+use Rattle.typst_lexer.specs.Reader.{Reader, Machine, Step, Turn, eat_span, see_word}
 use Rattle.typst_lexer.specs.Reader.Reader.{answer}
 use Rattle.typst_lexer.specs.Reader.Step.{turn, see}
 use Rattle.typst_lexer.specs.Reader.Turn.{leave, go}

@@ -1,5 +1,5 @@
 -- The definition of a token.
-use Rattle.std.specs.Prelude.{◌≡◌, ℕ, Bool, true, false, if◌then◌else◌, ◌==◌, is_none, List, [], ◌∷◌, Option, Some, None}
+use Rattle.std.specs.Prelude.{ℕ, if◌then◌else◌, ◌==◌, is_none, Some, None}
 use Rattle.typst_kinds.specs.declared.kind.SyntaxKind.TheVariants as kind
 use Rattle.typst_kinds.specs.declared.mode.SyntaxMode.{SyntaxMode}
 use Rattle.typst_kinds.specs.declared.mode.SyntaxMode.TheVariants.{Markup, Math, Code}
@@ -39,10 +39,13 @@ star k mode = peek 1 (λ d. if passes (λ d. d == 47) d then comment_end else of
 -- The token of the mode that comes next: the end, whitespace, a shebang, a comment, or one that
 -- only the mode has.
 unfoldable pub token : CharClasses → SyntaxMode → Reader Token
-token k mode = peek 0 (λ c. elim c [ None ↦ answer (plain kind.End) | Some c ↦
-    if is_space mode c then whitespace mode
-    else (if c == 35 then hash k mode
-    else (if c == 47 then slash k mode
-    else (if c == 42 then star k mode
-    -- LATER, raw text in markup and code: a backtick
-    else of_mode k mode c))) ])
+token k mode = peek 0 (λ c. elim c [
+  | None ↦ answer (plain kind.End)
+  | Some c ↦
+      if is_space mode c then whitespace mode
+      else (if c == 35 then hash k mode
+      else (if c == 47 then slash k mode
+      else (if c == 42 then star k mode
+      -- LATER, raw text in markup and code: a backtick
+      else of_mode k mode c)))
+])

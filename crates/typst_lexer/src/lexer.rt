@@ -1,20 +1,173 @@
-//! The lexer.
-ghost use Rattle.std.specs.Prelude.{◌≡◌};
+//! The lexer: what comes next in a text, token by token.
+ghost use Rattle.std.specs.Prelude.{◌≡◌, ◌≤◌, IfOk, OnOk, OnErr, IsSome, false, reverse, take};
+ghost use Rattle.std.specs.List.{prefix_len};
+ghost use Rattle.std.specs.Str.{chars, IsCharBoundary};
+ghost use Rattle.typst_lexer.specs.Classes.{in_line};
+ghost use Rattle.typst_lexer.specs.Column.{column};
+ghost use Rattle.typst_lexer.specs.Nodes.{IsRead};
+ghost use Rattle.typst_lexer.specs.Reader.{exec, eaten};
 ghost use Rattle.typst_lexer.specs.Reads.{Reads};
 ghost use Rattle.typst_lexer.specs.Tokens as spec;
+ghost use Rattle.typst_lines.specs.Place.{place_at, scout};
+ghost use Rattle.typst_lines.specs.Scanner as scanner;
 
 use crate::classes::Classes;
 use crate::common::{block_comment, comment_end, line_comment, shebang, whitespace};
 use crate::markup::{markup, text_from};
 use crate::sets::is_space;
 use crate::text::second;
-use crate::token::Token;
+use crate::token::{Token, make_node};
+use std::alloc::{AllocError, Global};
 use typst_kinds::{SyntaxKind, SyntaxMode};
-use typst_lines::Scanner;
+use typst_lines::{Scanner, is_newline};
+use typst_node::SyntaxNode;
+
+/// Reads a text token by token, in one mode or another.
+#[derive(Drop)]
+pub struct Lexer<'a, C: Classes> {
+    s: Scanner<'a>,
+    mode: SyntaxMode,
+    newline: bool,
+    classes: &'a C,
+}
+
+impl<'a, C: Classes> Lexer<'a, C> {
+    ghost use Rattle.typst_lexer.specs.Lexer.{text_of, place, cursor_of, mode_of, newline_of};
+
+    /// A lexer at the text's start.
+    pub fn new(text: &'a str, mode: SyntaxMode, classes: &'a C) -> Self
+        ensures place { place result ≡ place_at text.now 0 }
+        ensures text { text_of result ≡ text.now }
+        ensures mode { mode_of result ≡ mode }
+        ensures newline { newline_of result ≡ false }
+        ensures classes { result.classes.now ≡ classes.now }
+    {
+        Lexer {
+            s: Scanner::new(text),
+            mode,
+            newline: false,
+            classes,
+        }
+    }
+
+    /// The mode in which it reads.
+    pub fn mode(&self) -> SyntaxMode
+        ensures { result ≡ mode_of self.now }
+    {
+        self.mode
+    }
+
+    /// Reads on in the mode.
+    pub fn set_mode(&mut self, mode: SyntaxMode)
+        ensures mode { mode_of self.new ≡ mode }
+        ensures place { place self.new ≡ place self.old }
+        ensures text { text_of self.new ≡ text_of self.old }
+        ensures newline { newline_of self.new ≡ newline_of self.old }
+        ensures classes { self.new.classes.now ≡ self.old.classes.now }
+    {
+        self.mode = mode;
+    }
+
+    /// The cursor, in bytes from the text's start.
+    pub fn cursor(&self) -> usize
+        ensures cursor { result ≡ cursor_of self.now }
+        ensures boundary { IsCharBoundary (text_of self.now) result }
+        ensures place { place self.now ≡ place_at (text_of self.now) result }
+    {
+        self.s.cursor()
+    }
+
+    /// Goes to a byte offset of the text, on a character boundary.
+    pub fn jump(&mut self, index: usize)
+        requires { IsCharBoundary (text_of self.old) index }
+        ensures place { place self.new ≡ place_at (text_of self.old) index }
+        ensures cursor { cursor_of self.new ≡ index }
+        ensures mode { mode_of self.new ≡ mode_of self.old }
+        ensures text { text_of self.new ≡ text_of self.old }
+        ensures newline { newline_of self.new ≡ newline_of self.old }
+        ensures classes { self.new.classes.now ≡ self.old.classes.now }
+    {
+        self.s.jump(index);
+    }
+
+    /// Whether a line ended in the token that was read last.
+    pub fn newline(&self) -> bool
+        ensures { result ≡ newline_of self.now }
+    {
+        self.newline
+    }
+
+    /// How many characters stand between the last newline character before an index, or the
+    /// text's start, and the index, which is a byte offset on a character boundary.
+    pub fn column(&self, index: usize) -> usize
+        requires { IsCharBoundary (text_of self.now) index }
+        ensures { result ≡ column (place_at (text_of self.now) index) }
+    {
+        let mut s = self.s;
+        s.jump(index);
+        column(&s)
+    }
+
+    /// Reads a token, and gives it with its text. This takes no memory.
+    pub fn scan(&mut self) -> (Token, &'a str)
+        ensures reads { exec (spec.token (C.classes self.old.classes.now) (mode_of self.old)) (place self.old) ≡ (result.0, place self.new) }
+        ensures characters { chars result.1.now ≡ take (eaten (spec.token (C.classes self.old.classes.now) (mode_of self.old)) (place self.old)) (place self.old).ahead }
+        ensures goes_on { IsSome (scout 0 (place self.old)) → 1 ≤ eaten (spec.token (C.classes self.old.classes.now) (mode_of self.old)) (place self.old) }
+        ensures newline { newline_of self.new ≡ result.0.newline }
+        ensures mode { mode_of self.new ≡ mode_of self.old }
+        ensures text { text_of self.new ≡ text_of self.old }
+        ensures classes { self.new.classes.now ≡ self.old.classes.now }
+    {
+        let start = self.s;
+        let token = token(&mut self.s, self.mode, self.classes);
+        self.newline = token.newline;
+        (token, self.s.since(&start))
+    }
+
+    /// Reads a token, and makes its node. Where memory is refused nothing changes.
+    pub fn next(&mut self, alloc: Global) -> Result<(SyntaxKind, SyntaxNode), AllocError>
+        ensures read { IfOk result (λ r. IsRead (spec.token (C.classes self.old.classes.now) (mode_of self.old)) (place self.old) (place self.new) r.0 r.1) }
+        ensures newline { OnOk result (newline_of self.new ≡ (exec (spec.token (C.classes self.old.classes.now) (mode_of self.old)) (place self.old)).0.newline) }
+        ensures mode { mode_of self.new ≡ mode_of self.old }
+        ensures text { text_of self.new ≡ text_of self.old }
+        ensures classes { self.new.classes.now ≡ self.old.classes.now }
+        ensures refused { OnErr result (self.new ≡ self.old) }
+    {
+        let mut s = self.s;
+        let token = token(&mut s, self.mode, self.classes);
+        let node = make_node(alloc, token, s.since(&self.s))?;
+        self.s = s;
+        self.newline = token.newline;
+        Ok((token.kind, node))
+    }
+}
+
+/// How many characters stand behind, up to a newline character or the text's start.
+fn column(s: &Scanner<'_>) -> usize
+    ensures { result ≡ column (scanner.place s.now) }
+{
+    last_line_len(s.before())
+}
+
+/// How many characters stand at the text's end without a newline character.
+fn last_line_len(text: &str) -> usize
+    ensures { result ≡ prefix_len in_line (reverse (chars text.now)) }
+{
+    let mut s = Scanner::new(text);
+    s.jump(text.len());
+    let mut len = 0usize;
+    while let Some(c) = s.uneat() {
+        if is_newline(c) {
+            return len;
+        }
+        len += 1;
+    }
+    len
+}
 
 /// The token of the mode that comes next.
 #[tactic(auto, unfolding(crate::specs::Tokens::token))]
-fn token<C: Classes>(s: &mut Scanner<'_>, mode: SyntaxMode, classes: &C) -> Token
+pub fn token<C: Classes>(s: &mut Scanner<'_>, mode: SyntaxMode, classes: &C) -> Token
     ensures { Reads (spec.token (C.classes classes.now) mode) s.old result s.new }
 {
     match s.peek() {

@@ -4,6 +4,7 @@
 pub mod by_unicode;
 pub mod classes;
 mod common;
+pub mod laws;
 pub mod lexer;
 mod markup;
 mod sets;
@@ -12,4 +13,5 @@ pub mod token;
 
 pub use by_unicode::UnicodeClasses;
 pub use classes::{Classes, MathClass, is_id_continue, is_id_start, is_ident};
+pub use lexer::Lexer;
 pub use token::{Fault, Token};

@@ -1,7 +1,13 @@
 //! Tokens: what is read in one piece.
-ghost use Rattle.std.specs.Prelude.{◌≡◌};
+ghost use Rattle.std.specs.Prelude.{◌≡◌, IfOk, string_bytes};
+ghost use Rattle.std.specs.Str.{chars};
+ghost use Rattle.typst_lexer.specs.Nodes as spec;
 
+use crate::sets::AsciiAlphanumeric;
+use std::alloc::{AllocError, Global};
 use typst_kinds::SyntaxKind;
+use typst_lines::Scanner;
+use typst_node::SyntaxNode;
 
 /// What is wrong with an error token.
 #[derive(Debug, Clone, Copy, PartialEq, Eq)]
@@ -51,4 +57,63 @@ impl Token {
             fault: Some(fault),
         }
     }
+}
+
+/// The node of a token that took the text: a leaf of its kind, or an error leaf.
+pub fn make_node(alloc: Global, token: Token, text: &str) -> Result<SyntaxNode, AllocError>
+    ensures { IfOk result (λ node. node ≡ spec.token_node token (chars text.now)) }
+{
+    match token.fault {
+        Some(fault) => fault_node(alloc, fault, text),
+        None => plain_node(alloc, token, text),
+    }
+}
+
+fn plain_node(alloc: Global, token: Token, text: &str) -> Result<SyntaxNode, AllocError>
+    ensures { IfOk result (λ node. node ≡ spec.plain_node token (chars text.now)) }
+{
+    if token.kind.is_error() {
+        return SyntaxNode::error(alloc, "", text);
+    }
+    SyntaxNode::leaf(alloc, token.kind, text)
+}
+
+fn fault_node(alloc: Global, fault: Fault, text: &str) -> Result<SyntaxNode, AllocError>
+    ensures { IfOk result (λ node. node ≡ spec.fault_node fault (chars text.now)) }
+{
+    match fault {
+        Fault::CommentEnd => comment_end_node(alloc, text),
+        Fault::UnclosedEscape => SyntaxNode::error(alloc, "unclosed Unicode escape sequence", text),
+        Fault::InvalidEscape => {
+            let message = code_point_message(alloc, text)?;
+            SyntaxNode::error(alloc, message.as_str(), text)
+        }
+    }
+}
+
+fn comment_end_node(alloc: Global, text: &str) -> Result<SyntaxNode, AllocError>
+    ensures { IfOk result (λ node. node ≡ spec.fault_node Fault.CommentEnd (chars text.now)) }
+{
+    let mut node = SyntaxNode::error(alloc, "unexpected end of block comment", text)?;
+    node.hint("consider escaping the `*` with a backslash or opening the block comment with `/*`")?;
+    Ok(node)
+}
+
+/// What is said of an escape that names no character.
+fn code_point_message(alloc: Global, text: &str) -> Result<String, AllocError>
+    ensures { IfOk result (λ message. string_bytes message ≡ spec.message Fault.InvalidEscape (chars text.now)) }
+{
+    let digits = escaped(text);
+    format!(in alloc; "invalid Unicode codepoint: {digits}")
+}
+
+/// The letters and digits of an escape by a code point.
+fn escaped(text: &str) -> &str
+    ensures { chars result.now ≡ spec.escaped (chars text.now) }
+{
+    let mut s = Scanner::new(text);
+    s.eat();
+    s.eat();
+    s.eat();
+    s.eat_while(&AsciiAlphanumeric)
 }

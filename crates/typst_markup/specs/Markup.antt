@@ -15,7 +15,7 @@ use Rattle.typst_parsing.specs.Syntax.{Parser, ◌>>=◌, ◌>>◌}
 use Rattle.typst_parsing.specs.Syntax.Op.{column, marks, is_deepest}
 use Rattle.typst_parsing.specs.Syntax.Parser.{gives, does, pick, repeat, calls}
 use Rattle.typst_parsing.specs.Steps.{peek, eat, convert_and_eat, eat_if, unexpected, expect, within, node, node_with_trivia}
-use Rattle.typst_parsing.specs.Depth.{one_more, too_deep, deeper, stops_at, is_end}
+use Rattle.typst_parsing.specs.Depth.{one_more, too_deep, deeper, stops_at, is_colon, is_star, is_underscore}
 use Rattle.typst_parsing.specs.Steps.{note}
 use Rattle.typst_parsing.specs.declared.stop.Stop.{Stop}
 use Rattle.typst_parsing.specs.declared.stop.Stop.TheVariants as stop
@@ -26,23 +26,11 @@ abbrev pub is_right_bracket : SyntaxKind → Bool
 is_right_bracket kind.RightBracket = true
 is_right_bracket _ = false
 
-abbrev pub is_star : SyntaxKind → Bool
-is_star kind.Star = true
-is_star _ = false
-
-abbrev pub is_underscore : SyntaxKind → Bool
-is_underscore kind.Underscore = true
-is_underscore _ = false
-
-abbrev pub is_colon : SyntaxKind → Bool
-is_colon kind.Colon = true
-is_colon _ = false
-
 -- ---- sequences
 
 -- a sequence ends at a stop, but not at a bracket that closes one of its own
 abbrev pub ends : Stop → ℕ → SyntaxKind → Bool
-ends at nesting kind = if is_right_bracket kind then stops_at at kind && nesting == 0 else stops_at at kind
+ends at nesting k = if is_right_bracket k then stops_at at k && nesting == 0 else stops_at at k
 
 -- the expressions of the root and of a content block are noted
 abbrev pub is_run : Stop → Bool
@@ -76,9 +64,11 @@ markup_exprs at_start at = do
 unfoldable pub markup : Bool → Stop → Parser (Unit {0})
 markup at_start at = node (λ _. becomes kind.Markup) (markup_exprs at_start at)
 
--- a sequence as one node with the trivia at both ends
-unfoldable pub markup_with_trivia : Bool → Stop → Parser (List Seen)
-markup_with_trivia at_start at = node_with_trivia kind.Markup (markup_exprs at_start at)
+-- a sequence as one node with the trivia at both ends; answers whether nothing stands there
+unfoldable pub markup_is_empty : Bool → Stop → Parser Bool
+markup_is_empty at_start at = do
+  inside ← node_with_trivia kind.Markup (markup_exprs at_start at)
+  gives (is_nil inside)
 
 -- ---- expressions
 
@@ -86,18 +76,17 @@ abbrev pub at_newline : AtNewline → Reading → Reading
 at_newline rule r = record r { at_newline = rule }
 
 -- what stands between two delimiters: where the second is missing the first is an error, and where nothing stands between them there is a warning
-abbrev pub emphasized : SyntaxKind → List ℕ → List ℕ → Bool × List Seen → Shape
-emphasized kind warning hint x =
-    if x.0 then (if is_nil x.1 then warns kind warning hint else becomes kind) else unclosed kind
+abbrev pub emphasized : SyntaxKind → List ℕ → List ℕ → Bool × Bool → Shape
+emphasized k warning hint x = if x.0 then (if x.1 then warns k warning hint else becomes k) else unclosed k
 
 -- `*..*`, which doesn't go past a parbreak
 unfoldable pub strong : Parser (Unit {0})
 strong = within (at_newline newline.StopParBreak) (do
   x ← node (emphasized kind.Strong (codes "no text within stars") (codes "using multiple consecutive stars (e.g. **) has no additional effect")) (do
     star ← eat
-    inside ← markup_with_trivia false stop.Strong
+    is_empty ← markup_is_empty false stop.Strong
     closed ← eat_if is_star
-    gives (closed, inside))
+    gives (closed, is_empty))
   gives tt)
 
 -- `_.._`, which doesn't go past a parbreak
@@ -105,9 +94,9 @@ unfoldable pub emph : Parser (Unit {0})
 emph = within (at_newline newline.StopParBreak) (do
   x ← node (emphasized kind.Emph (codes "no text within underscores") (codes "using multiple consecutive underscores (e.g. __) has no additional effect")) (do
     underscore ← eat
-    inside ← markup_with_trivia false stop.Emph
+    is_empty ← markup_is_empty false stop.Emph
     closed ← eat_if is_underscore
-    gives (closed, inside))
+    gives (closed, is_empty))
   gives tt)
 
 -- a marker and the rest of its line, up to a label
@@ -115,10 +104,18 @@ unfoldable pub heading : Parser (Unit {0})
 heading = within (at_newline newline.Stop) (node (λ _. becomes kind.Heading) (eat >> markup false stop.Heading))
 
 -- a marker, and what stands in a greater column than it
-unfoldable pub item : SyntaxKind → Parser (Unit {0})
-item kind = do
+abbrev pub item : SyntaxKind → Parser (Unit {0})
+item k = do
   here ← does column
-  within (at_newline (newline.RequireColumn here)) (node (λ _. becomes kind) (eat >> markup true stop.Item))
+  within (at_newline (newline.RequireColumn here)) (node (λ _. becomes k) (eat >> markup true stop.Item))
+
+-- `- ..`
+unfoldable pub list_item : Parser (Unit {0})
+list_item = item kind.ListItem
+
+-- `+ ..` and `1. ..`
+unfoldable pub enum_item : Parser (Unit {0})
+enum_item = item kind.EnumItem
 
 -- a marker with the rest of its line up to a colon, and behind the colon what stands in a greater column than the marker
 unfoldable pub term_item : Parser (Unit {0})
@@ -160,8 +157,8 @@ markup_by nesting head.Stray = unexpected (codes "try using a backslash escape: 
 markup_by nesting head.Strong = strong >> gives nesting
 markup_by nesting head.Emph = emph >> gives nesting
 markup_by nesting head.Heading = heading >> gives nesting
-markup_by nesting head.ListItem = item kind.ListItem >> gives nesting
-markup_by nesting head.EnumItem = item kind.EnumItem >> gives nesting
+markup_by nesting head.ListItem = list_item >> gives nesting
+markup_by nesting head.EnumItem = enum_item >> gives nesting
 markup_by nesting head.TermItem = term_item >> gives nesting
 markup_by nesting head.Plain = convert_and_eat kind.Text >> gives nesting
 markup_by nesting head.Unexpected = unexpected [] >> gives nesting

@@ -1,5 +1,5 @@
 -- The law of the frame, for whatever the language can say.
-use Rattle.std.proofs.Common.{◌≡◌, ℕ, zero, suc, ◌+◌, ◌<◌, ◌≤◌, max, Bool, true, false, ◌&&◌, if◌then◌else◌, not, nat_lt, nat_le, List, [], ◌∷◌, ◌++◌, length, take, encode_utf8_all, refl, ap, sym, ◌∙◌, subst, arith}
+use Rattle.std.proofs.Common.{◌≡◌, ℕ, zero, suc, ◌+◌, ◌<◌, ◌≤◌, max, Bool, true, false, ◌&&◌, if◌then◌else◌, not, nat_lt, nat_le, List, [], ◌∷◌, ◌++◌, length, take, refl, ap, sym, ◌∙◌, subst, arith}
 use borrow.Author.Tests.{ltb-true}
 use Rattle.typst_kinds.specs.declared.kind.SyntaxKind.{SyntaxKind}
 use Rattle.typst_kinds.specs.declared.kind.SyntaxKind.TheVariants as kind
@@ -18,7 +18,7 @@ use Rattle.typst_parsing.specs.declared.reading.Reading.{Reading}
 use Rattle.typst_parsing.specs.declared.reading.State.{State}
 use Rattle.typst_parsing.specs.Ask.{Ask, SameIn, shift}
 use Rattle.typst_parsing.specs.Ask.Ask.{looked}
-use Rattle.typst_parsing.specs.Hand.{text_ahead, token_at, len_at, is_trivia, at_trivia, Hand, goes_on, Ahead, direct, after_trivia, both_newlines, ahead_by, ahead, asks_by, ahead_asks, column_at, column_look, is_markup, stops, asks_column, hand_by, hand_at, column_asks, hand_asks}
+use Rattle.typst_parsing.specs.Hand.{token_at, len_at, is_trivia, at_trivia, Hand, goes_on, Ahead, direct, after_trivia, both_newlines, ahead_by, ahead, asks_by, ahead_asks, column_at, column_look, is_markup, stops, asks_column, hand_by, hand_at, column_asks, hand_asks}
 use Rattle.typst_parsing.specs.Syntax.{Op, Parser}
 use Rattle.typst_parsing.specs.Syntax.Op.{hand, column, erred, takes, flushes, complains, marks, is_deepest}
 use Rattle.typst_parsing.specs.Syntax.Parser.{gives, does, next, pick, repeat, wraps, scoped, sees, either, calls, block}
@@ -70,13 +70,13 @@ trivia-enough k m (suc i) (suc j) z a b =
     let rest : at_trivia k m z ≡ true → Trivia k m i j (moved l z) (moved l z) = λ h.
         (let some : 0 < l = ltb-true 0 l (and-second (is_trivia (token_at k m z).kind) (nat_lt 0 l) h) in trivia-enough k m i j (moved l z) (omega arith) (omega arith)) in
     record {
-      nodes = if-same (at_trivia k m z) _ _ _ (λ h. ap (after_trivia (token_at k m z) l (token_node (token_at k m z) (text_ahead l z))) (rest h).nodes);
+      nodes = if-same (at_trivia k m z) _ _ _ (λ h. ap (after_trivia (token_at k m z) l (token_node (token_at k m z) (take l z.ahead))) (rest h).nodes);
       asks = ap (λ ls. looked 0 (look (token k m) z) ∷ ls) (if-same (at_trivia k m z) _ _ _ (λ h. ap (shift l) (rest h).asks));
     }
 
 -- one token, which may be trivia, and what is read behind it
 abbrev step : Token → ℕ → List ℕ → Ahead → Ahead
-step t n text rest = if is_trivia t.kind && nat_lt 0 n then after_trivia t n (token_node t (encode_utf8_all text)) rest else direct t n
+step t n text rest = if is_trivia t.kind && nat_lt 0 n then after_trivia t n (token_node t text) rest else direct t n
 
 abbrev step_asks : Token → ℕ → Look → List Ask → List Ask
 step_asks t n l rest = looked 0 l ∷ (if is_trivia t.kind && nat_lt 0 n then shift n rest else [])
@@ -99,7 +99,7 @@ trivia-frame k m (suc n) z w h =
       nodes = ap (λ x. step x (len_at k m w) (take (len_at k m w) w.ahead) (ahead_by k m n (moved (len_at k m w) w))) t.read
           ∙ ap (λ l. step tok l (take l w.ahead) (ahead_by k m n (moved l w))) t.len
           ∙ ap (λ x. step tok len x (ahead_by k m n (moved len w))) t.text
-          ∙ if-same (at_trivia k m z) _ _ _ (λ b. ap (after_trivia tok len (token_node tok (text_ahead len z))) (rest b).nodes);
+          ∙ if-same (at_trivia k m z) _ _ _ (λ b. ap (after_trivia tok len (token_node tok (take len z.ahead))) (rest b).nodes);
       asks = ap (λ x. step_asks x (len_at k m w) (look (token k m) w) (asks_by k m n (moved (len_at k m w) w))) t.read
           ∙ ap (λ l. step_asks tok l (look (token k m) w) (asks_by k m n (moved l w))) t.len
           ∙ ap (λ x. step_asks tok len x (asks_by k m n (moved len w))) t.seen
@@ -222,7 +222,7 @@ framed-chosen is_wrong p q f g z w s h =
 -- what takes and flushes give, by the token at hand, its text, and what was asked for it
 abbrev took : Bool → Making → State → List Ask → Hand → List ℕ → Outcome (Unit {0})
 took trims making s asks h text =
-    let node = made making (token_node h.token (encode_utf8_all text)) in
+    let node = made making (token_node h.token text) in
     record (plain tt (renewed (after_node (is_error node.head.kind) (text_of node) s))) {
       taken = h.gap + h.len;
       back = if trims then s.empties else 0;

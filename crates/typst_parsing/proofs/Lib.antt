@@ -1,10 +1,15 @@
 pub mod Looks
 pub mod Frame
 pub mod Depth
+pub mod Tokens
+pub mod Ends
+pub mod Leaves
 pub mod Places
+pub mod Bytes
+pub mod Columns
 pub mod Within
 pub mod Backs
+pub mod Trivia
 pub mod Runs
 pub mod Steps
-pub mod Tokens
-pub mod Leaves
+pub mod Ready

@@ -8,14 +8,15 @@ use Rattle.typst_parsing.specs.declared.reading.Call.{Call}
 use Rattle.typst_parsing.specs.declared.reading.Mark.{Mark}
 use Rattle.typst_parsing.specs.declared.reading.Reading.{Reading}
 use Rattle.typst_parsing.specs.declared.reading.State.{State}
-use Rattle.typst_parsing.specs.Hand.{Hand, hand_at, column_at}
+use Rattle.typst_parsing.specs.Hand.{Hand, hand_at, column_at, bytes_left}
 use Rattle.typst_parsing.specs.Shape.{Making, Shape, shaped, after_node, after_shape, Seen, seen}
 use Rattle.typst_parsing.specs.Syntax.{Parser}
 use Rattle.typst_parsing.specs.Syntax.Op.{hand, column, erred, takes, flushes, complains, marks, is_deepest}
 use Rattle.typst_parsing.specs.Syntax.Parser.{gives, does, next, pick, repeat, wraps, scoped, calls}
 use Rattle.typst_parsing.specs.Meaning.{Outcome, Meaning, Level, plain, less, followed, turns, repeated, entered, left, renewed, flushed_state, taken_node, hand_of, run}
-use Rattle.typst_parsing.specs.View.{View, Runs, Ran, Sound, at, Fits, Rewrapped}
+use Rattle.typst_parsing.specs.View.{View, Runs, Ran, Sound, at, Fits, Left, Rewrapped}
 use Rattle.typst_parsing.proofs.Places.{moved-sum, ahead-left, take-both, drop-both, take-all, drop-all, less-append, less-twice, less-none, length-less, no-end}
+use Rattle.typst_parsing.proofs.Bytes.{some-bytes, none-bytes}
 use Rattle.typst_parsing.proofs.Within.{turns-enough, within-run}
 use Rattle.typst_parsing.proofs.Backs.{backs-run}
 
@@ -129,13 +130,6 @@ ran-complains m v = record { runs = record { value = refl; place = refl; state =
 
 -- ---- what is read in another way
 
--- the reading is the outer one again
-pub record Left (l : Level) (outer : Reading) (v w : View) : Type 0 where
-  pub nodes : w.nodes ≡ v.nodes
-  pub place : w.place ≡ v.place
-  pub state : w.state ≡ left outer v.state
-  pub fits : Fits l v → Fits l w
-
 pub ran-scoped : {A : Type 0} {l : Level} (f : Reading → Reading) {p : Parser A} {a : A} {old mid new : View}
     → Ran l p a (record old { state = entered (f old.state.reading) old.state }) mid → Left l old.state.reading mid new → Ran l (scoped f p) a old new
 unfolding run
@@ -175,18 +169,27 @@ ran-wraps {l = d} {f = f} {n = n} {p = p} {a = a} {old = old} {mid = mid} {new =
 taken-left : {A : Type 0} (o : Outcome A) (a : A) (v w : View) → Runs o a v w → length w.place.ahead ≡ length v.place.ahead - o.taken
 taken-left o a v w h = ap (λ (z : Place). length z.ahead) h.place ∙ ahead-left o.taken v.place
 
+-- who has fewer bytes left took some, and who has no fewer took none
+taken-some : {A : Type 0} (o : Outcome A) (a : A) (v w : View) → Runs o a v w → bytes_left w.place < bytes_left v.place → 0 < o.taken
+taken-some o a v w h less_bytes = some-bytes o.taken v.place (let e = ap bytes_left h.place in omega arith)
+
+taken-none : {A : Type 0} (o : Outcome A) (a : A) (v w : View) → Runs o a v w → o.taken ≤ length v.place.ahead → bytes_left v.place ≤ bytes_left w.place → o.taken ≡ 0
+taken-none o a v w h most stuck = none-bytes o.taken v.place most (let e = ap bytes_left h.place in omega arith)
+
 abbrev turn : {A : Type 0} (l : Level) (p : A → Parser (Bool × A)) → A → Meaning (Bool × A)
 turn d p x = run d (p x)
 
 pub ran-turn : {A : Type 0} {l : Level} {p : A → Parser (Bool × A)} {x y a : A} {v w new : View}
-    → Sound l → Ran l (p x) (true, y) v w → length w.place.ahead < length v.place.ahead → Ran l (repeat p y) a w new → Ran l (repeat p x) a v new
+    → Sound l → Ran l (p x) (true, y) v w → bytes_left w.place < bytes_left v.place → Ran l (repeat p y) a w new → Ran l (repeat p x) a v new
 unfolding run repeated
-ran-turn {l = d} {p = p} {x = x} {y = y} {a = a} {v = v} {w = w} {new = new} sound did less_left rest =
+ran-turn {l = d} {p = p} {x = x} {y = y} {a = a} {v = v} {w = w} {new = new} sound did less_bytes rest =
     let h = did.runs in
     let m = turn d p in
     let o = at d (p x) v in
     let left = taken-left o (true, y) v w h in
-    let some : 0 < o.taken = omega arith in
+    let some = taken-some o (true, y) v w h less_bytes in
+    let most = within-run d sound.within sound.within_block (p x) v.place v.state in
+    let less_left : length w.place.ahead < length v.place.ahead = omega arith in
     let goes_on : (o.value.0 && nat_lt 0 o.taken) ≡ true = rw (h.value, lt-ltb 0 o.taken some) refl in
     let same = turns-enough m (λ z. within-run d sound.within sound.within_block (p z)) (suc (length w.place.ahead)) (length v.place.ahead) y w.place w.state (omega arith) less_left in
     record { runs = rw goes_on (runs-followed o (λ u. turns m (length v.place.ahead) u.1) (true, y) a v w new h (subst (λ u. Runs u a w new) same rest.runs)) }
@@ -196,12 +199,11 @@ no_turn true n h = rw (h refl) refl
 no_turn false n h = refl
 
 pub ran-last : {A : Type 0} {l : Level} {p : A → Parser (Bool × A)} {b : Bool} {x y : A} {v w : View}
-    → Sound l → Ran l (p x) (b, y) v w → (b ≡ true → length v.place.ahead ≤ length w.place.ahead) → Ran l (repeat p x) y v w
+    → Sound l → Ran l (p x) (b, y) v w → (b ≡ true → bytes_left v.place ≤ bytes_left w.place) → Ran l (repeat p x) y v w
 unfolding run repeated
 ran-last {l = d} {p = p} {b = b} {x = x} {y = y} {v = v} {w = w} sound did stuck =
     let h = did.runs in
     let o = at d (p x) v in
-    let left = taken-left o (b, y) v w h in
     let most = within-run d sound.within sound.within_block (p x) v.place v.state in
-    let stops : (o.value.0 && nat_lt 0 o.taken) ≡ false = rw h.value (no_turn b o.taken (λ e. let l = stuck e in omega arith)) in
+    let stops : (o.value.0 && nat_lt 0 o.taken) ≡ false = rw h.value (no_turn b o.taken (λ e. taken-none o (b, y) v w h most (stuck e))) in
     record { runs = rw stops (record { value = ap (λ u. u.1) h.value; place = h.place; state = h.state; nodes = h.nodes }) }

@@ -7,16 +7,16 @@ use Rattle.typst_parsing.specs.declared.reading.Call.{Call}
 use Rattle.typst_parsing.specs.declared.reading.Mark.{Mark}
 use Rattle.typst_parsing.specs.declared.reading.Reading.{Reading}
 use Rattle.typst_parsing.specs.declared.reading.State.{State}
-use Rattle.typst_parsing.specs.Hand.{Hand, column_at}
-use Rattle.typst_parsing.specs.Shape.{Making, Shape, shaped, after_shape, Seen, seen}
+use Rattle.typst_parsing.specs.Hand.{Hand, column_at, bytes_left}
+use Rattle.typst_parsing.specs.Shape.{Making, Shape, shaped, after_shape, is_nil, Seen, seen}
 use Rattle.typst_parsing.specs.Shape.Shape.{becomes, unclosed, warns, fails}
 use Rattle.typst_parsing.specs.Syntax.{Parser, ◌>>◌}
 use Rattle.typst_parsing.specs.Syntax.Op.{column, erred, complains, marks, is_deepest}
 use Rattle.typst_parsing.specs.Syntax.Parser.{gives, does, next, pick, repeat, wraps, scoped, calls}
 use Rattle.typst_parsing.specs.Steps.{peek, eat_making, flush_trivia, within, node, node_with_trivia, note}
 use Rattle.typst_parsing.specs.Meaning.{Level, hand_of, entered}
-use Rattle.typst_parsing.specs.View.{View, Sound, Does, Makes, Rewrapped, Fits}
-use Rattle.typst_parsing.proofs.Runs.{ran-next, ran-gives, ran-calls, ran-pick, ran-other, ran-hand, ran-column, ran-erred, ran-deepest, ran-marks, Eaten, ran-takes, Flushed, ran-flushes, ran-complains, Left, ran-scoped, ran-wraps, ran-turn, ran-last}
+use Rattle.typst_parsing.specs.View.{View, Sound, Does, Makes, Left, Rewrapped, Fits}
+use Rattle.typst_parsing.proofs.Runs.{ran-next, ran-gives, ran-calls, ran-pick, ran-other, ran-hand, ran-column, ran-erred, ran-deepest, ran-marks, Eaten, ran-takes, Flushed, ran-flushes, ran-complains, ran-scoped, ran-wraps, ran-turn, ran-last}
 
 pub does-next : {A B : Type 0} {l : Level} {p : Parser B} {f : B → Parser A} {b : B} {a : A} {old mid new : View}
     → Does l p b old mid → Does l (f b) a mid new → Does l (next p f) a old new
@@ -33,6 +33,14 @@ does-pick e d = record { ran = λ c. ran-pick e (d.ran c); ready = d.ready }
 
 pub does-other : {A : Type 0} {l : Level} {b : Bool} {p q : Parser A} {a : A} {old new : View} → b ≡ false → Does l q a old new → Does l (pick b p q) a old new
 does-other e d = record { ran = λ c. ran-other e (d.ran c); ready = d.ready }
+
+pub does-both : {A : Type 0} {l : Level} {b : Bool} {p q : Parser A} {a : A} {old new : View} → Does l p a old new → Does l q a old new → Does l (pick b p q) a old new
+does-both {b = true} h k = does-pick refl h
+does-both {b = false} h k = does-other refl k
+
+pub nil-seen : (ts : List Tree) → is_nil (map seen ts) ≡ is_nil ts
+nil-seen [] = refl
+nil-seen (t ∷ ts) = refl
 
 pub does-peek : {l : Level} (v : View) → Does l peek v.hand v v
 does-peek v = record { ran = λ c. ran-hand v c; ready = λ c. c }
@@ -60,9 +68,9 @@ pub does-eat : {l : Level} {trims : Bool} {making : Making} {v w : View} → Eat
 unfolding eat_making
 does-eat {w = w} h = record { ran = λ c. ran-next (ran-takes h c) (ran-next (ran-hand w h.fits) ran-gives); ready = λ c. h.fits }
 
-pub does-flush : {l : Level} {v w : View} → Flushed v w → (Fits l v → Fits l w) → Does l flush_trivia tt v w
+pub does-flush : {l : Level} {v w : View} → (Fits l v → Flushed v w) → (Fits l v → Fits l w) → Does l flush_trivia tt v w
 unfolding flush_trivia
-does-flush {w = w} h f = record { ran = λ c. ran-next (ran-flushes h c) (ran-next (ran-hand w (f c)) ran-gives); ready = f }
+does-flush {w = w} h f = record { ran = λ c. ran-next (ran-flushes (h c) c) (ran-next (ran-hand w (f c)) ran-gives); ready = f }
 
 -- the tokens to come are read in another way, and then as before
 pub does-within : {A : Type 0} {l : Level} (f : Reading → Reading) {p : Parser A} {a : A} {old mid new : View}
@@ -118,13 +126,13 @@ pub turning-init : {A : Type 0} {l : Level} {p : A → Parser (Bool × A)} {x : 
 turning-init = record { rest = λ a new d. d }
 
 pub does-turn : {A : Type 0} {l : Level} {p : A → Parser (Bool × A)} {x y a : A} {v w new : View}
-    → Sound l → Does l (p x) (true, y) v w → length w.place.ahead < length v.place.ahead → Does l (repeat p y) a w new → Does l (repeat p x) a v new
+    → Sound l → Does l (p x) (true, y) v w → bytes_left w.place < bytes_left v.place → Does l (repeat p y) a w new → Does l (repeat p x) a v new
 does-turn sound did less_left rest = record { ran = λ c. ran-turn sound (did.ran c) less_left (rest.ran (did.ready c)); ready = λ c. rest.ready (did.ready c) }
 
 pub does-last : {A : Type 0} {l : Level} {p : A → Parser (Bool × A)} {b : Bool} {x y : A} {v w : View}
-    → Sound l → Does l (p x) (b, y) v w → (b ≡ true → length v.place.ahead ≤ length w.place.ahead) → Does l (repeat p x) y v w
+    → Sound l → Does l (p x) (b, y) v w → (b ≡ true → bytes_left v.place ≤ bytes_left w.place) → Does l (repeat p x) y v w
 does-last sound did stuck = record { ran = λ c. ran-last sound (did.ran c) stuck; ready = did.ready }
 
 pub turning-next : {A : Type 0} {l : Level} {p : A → Parser (Bool × A)} {start x y : A} {old v w : View}
-    → Sound l → Turning l p start old x v → Does l (p x) (true, y) v w → length w.place.ahead < length v.place.ahead → Turning l p start old y w
+    → Sound l → Turning l p start old x v → Does l (p x) (true, y) v w → bytes_left w.place < bytes_left v.place → Turning l p start old y w
 turning-next sound t did less_left = record { rest = λ a new d. t.rest a new (does-turn sound did less_left d) }

@@ -51,11 +51,11 @@ within-turns m h zero x z s = omega arith
 within-turns m h (suc n) x z s = on_both (λ o. o.taken ≤ length z.ahead) ((m x z s).value.0 && nat_lt 0 (m x z s).taken) (followed (m x z s) (λ v. turns m n v.1) z) (as_last (m x z s))
     (within-followed (m x) (λ v. turns m n v.1) (h x) (λ v. within-turns m h n v.1) z s) (h x z s)
 
-if-same : {A : Type 0} (b : Bool) (x y u : A) → (b ≡ true → x ≡ y) → (if b then x else u) ≡ (if b then y else u)
+pub if-same : {A : Type 0} (b : Bool) (x y u : A) → (b ≡ true → x ≡ y) → (if b then x else u) ≡ (if b then y else u)
 if-same true x y u h = h refl
 if-same false x y u h = refl
 
-and-second : (a b : Bool) → (a && b) ≡ true → b ≡ true
+pub and-second : (a b : Bool) → (a && b) ≡ true → b ≡ true
 and-second true b h = h
 and-second false b h = cc
 

@@ -20,24 +20,39 @@ ends_block kind.RightBracket = true
 ends_block kind.End = true
 ends_block _ = false
 
+abbrev pub is_end : SyntaxKind → Bool
+is_end kind.End = true
+is_end _ = false
+
+abbrev pub is_colon : SyntaxKind → Bool
+is_colon kind.Colon = true
+is_colon _ = false
+
+abbrev pub is_label : SyntaxKind → Bool
+is_label kind.Label = true
+is_label _ = false
+
+abbrev pub is_star : SyntaxKind → Bool
+is_star kind.Star = true
+is_star _ = false
+
+abbrev pub is_underscore : SyntaxKind → Bool
+is_underscore kind.Underscore = true
+is_underscore _ = false
+
 abbrev pub stops_at : Stop → SyntaxKind → Bool
-stops_at stop.End kind.End = true
-stops_at stop.End _ = false
-stops_at stop.Content kind = ends_block kind
-stops_at stop.Item kind = ends_block kind
-stops_at stop.Term kind.Colon = true
-stops_at stop.Term kind = ends_block kind
-stops_at stop.Heading kind.Label = true
-stops_at stop.Heading kind = ends_block kind
-stops_at stop.Strong kind.Star = true
-stops_at stop.Strong kind = ends_block kind
-stops_at stop.Emph kind.Underscore = true
-stops_at stop.Emph kind = ends_block kind
+stops_at stop.End k = is_end k
+stops_at stop.Content k = ends_block k
+stops_at stop.Item k = ends_block k
+stops_at stop.Term k = is_colon k || ends_block k
+stops_at stop.Heading k = is_label k || ends_block k
+stops_at stop.Strong k = is_star k || ends_block k
+stops_at stop.Emph k = is_underscore k || ends_block k
 
 -- in front of one expression every token stops
 abbrev pub stops_or : Option Stop → SyntaxKind → Bool
-stops_or None kind = true
-stops_or (Some at) kind = stops_at at kind
+stops_or None k = true
+stops_or (Some at) k = stops_at at k
 
 -- ---- what lies too deep
 
@@ -55,13 +70,9 @@ balance kind.RightBrace n = n - 1
 balance kind.RightParen n = n - 1
 balance _ n = n
 
-abbrev pub is_end : SyntaxKind → Bool
-is_end kind.End = true
-is_end _ = false
-
 -- more is skipped while delimiters are open or no stop comes, up to the end
 abbrev pub skips : Option Stop → ℕ → SyntaxKind → Bool
-skips stop open_ones kind = not ((open_ones == 0 && stops_or stop kind) || is_end kind)
+skips stop open_ones k = not ((open_ones == 0 && stops_or stop k) || is_end k)
 
 -- one token is skipped, with how many delimiters are open
 unfoldable pub skip_one : Option Stop → ℕ → Parser (Bool × ℕ)

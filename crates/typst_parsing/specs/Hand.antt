@@ -24,6 +24,10 @@ use Rattle.typst_parsing.specs.Ask.Ask.{looked}
 abbrev pub text_ahead : ℕ → Place → List ℕ
 text_ahead n z = encode_utf8_all (take n z.ahead)
 
+-- how many bytes the characters ahead take
+abbrev pub bytes_left : Place → ℕ
+bytes_left z = length (encode_utf8_all z.ahead)
+
 -- whitespace and comments are trivia
 abbrev pub is_trivia : SyntaxKind → Bool
 is_trivia kind.Space = true
@@ -118,13 +122,17 @@ is_markup _ = false
 
 -- whether the rule stops at a token of this kind and column, with these newlines before it. Only in markup is a column known
 abbrev pub stops : Reading → Newlines → SyntaxKind → ℕ → Bool
-stops reading newlines kind column = newlines.any && (elim reading.at_newline [
+stops reading newlines k column = newlines.any && (elim reading.at_newline [
   | Continue ↦ false
   | Stop ↦ true
-  | ContextualContinue ↦ not (goes_on kind)
+  | ContextualContinue ↦ not (goes_on k)
   | StopParBreak ↦ newlines.parbreak
   | RequireColumn least ↦ is_markup reading.mode && nat_le column least
 ])
+
+-- a token's kind, or End where the rule stops
+abbrev pub judged : Reading → Newlines → SyntaxKind → ℕ → SyntaxKind
+judged reading newlines k column = if stops reading newlines k column then kind.End else k
 
 -- whether the rule asks for the column
 abbrev pub asks_column : Reading → Newlines → Bool
@@ -145,7 +153,7 @@ pub record Hand : Type 0 where
 
 abbrev pub hand_by : Reading → Newlines → ℕ → Ahead → Hand
 hand_by held flushed column a = record {
-  kind = if stops held (both_newlines flushed a.newlines) a.token.kind column then kind.End else a.token.kind;
+  kind = judged held (both_newlines flushed a.newlines) a.token.kind column;
   trivia = a.trivia;
   gap = a.gap;
   len = a.len;

@@ -6,3 +6,5 @@ pub mod Meaning
 pub mod Steps
 pub mod Depth
 pub mod View
+pub mod Codes
+pub mod Cursor

@@ -7,11 +7,12 @@ use Rattle.typst_node.specs.Tree.{Tree}
 use Rattle.typst_lexer.specs.Classes.{CharClasses}
 use Rattle.typst_parsing.specs.declared.reading.Block.{Block}
 use Rattle.typst_parsing.specs.declared.reading.Call.{Call}
+use Rattle.typst_parsing.specs.declared.reading.Reading.{Reading}
 use Rattle.typst_parsing.specs.declared.reading.State.{State}
 use Rattle.typst_parsing.specs.Hand.{Hand}
 use Rattle.typst_parsing.specs.Shape.{Shape, shaped, after_shape, Seen, seen}
 use Rattle.typst_parsing.specs.Syntax.{Parser}
-use Rattle.typst_parsing.specs.Meaning.{Outcome, Meaning, Level, hand_of, less, run}
+use Rattle.typst_parsing.specs.Meaning.{Outcome, Meaning, Level, hand_of, left, less, run}
 
 pub record View : Type 0 where
   -- the nodes before the pending trivia
@@ -77,6 +78,13 @@ Reads l p old (Err e) new = Unit {0}
 abbrev pub Calls : Level → Call → View → Result ℕ AllocError → View → Type 0
 Calls l call old (Ok a) new = Makes l call a old new
 Calls l call old (Err e) new = Unit {0}
+
+-- the reading is the outer one again
+pub record Left (l : Level) (outer : Reading) (v w : View) : Type 0 where
+  pub nodes : w.nodes ≡ v.nodes
+  pub place : w.place ≡ v.place
+  pub state : w.state ≡ left outer v.state
+  pub fits : Fits l v → Fits l w
 
 -- the nodes from a number on became one
 pub record Rewrapped (from : ℕ) (shape : Shape) (mid new : View) : Type 0 where

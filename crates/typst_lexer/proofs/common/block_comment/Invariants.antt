@@ -13,7 +13,7 @@ invariant-loop-c l =
     record {
       reads : exec (eat_span in_comment (comment l.before l.depth) (λ _. answer (plain kind.BlockComment))) (place l.s) ≡ exec block_comment (place l.fn.s);
       same_text : l.s.text.now ≡ l.fn.s.text.now;
-      deep : l.depth ≤ l.s.cursor
+      deep : l.depth ≤ l.s.cursor;
     }
 
 abbrev pub decreases-loop-c : goal.decreases-loop-c

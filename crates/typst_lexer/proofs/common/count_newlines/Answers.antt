@@ -1,12 +1,8 @@
-use Rattle.std.proofs.Common.{◌≡◌, ◌≤◌, ◌∙◌, ap, sym, refl, false, arith, length, ◌==◌}
+use Rattle.std.proofs.Common.{◌∙◌, ap, false, arith, ◌==◌}
 use Rattle.typst_lines.specs.Scanner.{place}
-use Rattle.std.proofs.lemmas.Str.{length-le-encodes, encodes-chars}
 use Rattle.std.proofs.lemmas.Grind.{common_steps}
-use Rattle.std.specs.Str.{chars}
-use Rattle.typst_lines.specs.Place.{place_at}
-use Rattle.typst_lines.proofs.PlaceLemmas.{head-splits}
 use Rattle.typst_lexer.specs.Common.{line_ends}
-use Rattle.typst_lexer.proofs.TokenLemmas.{line_ends-cons, line_ends-le, line_ends-start, line_ends-step, line_ends-stop, line_ends-fit}
+use Rattle.typst_lexer.proofs.TokenLemmas.{line_ends-start, line_ends-step, line_ends-stop, line_ends-fit}
 use Rattle.typst_lexer.proofs.common.count_newlines.Goals as goal
 
 pub loop-c-init : goal.loop-c-init

@@ -6,16 +6,16 @@ use Rattle.typst_lexer.proofs.sets.number.Goals as goal
 pub loop-c-init : goal.loop-c-init
 loop-c-init c = record {
   reads = ap (λ p. number_from c.args.base 0 p.ahead) c.new-s.ensures.place ∙ number_from-start c.args.base c.args.digits.now;
-  fits = omega arith
+  fits = omega arith;
 }
 
 pub loop-c-preserved : goal.loop-c-preserved
 loop-c-preserved c = record {
   reads =
-    ap (λ p. number_from c.args.base c.in-Some-with_digit.longer p.ahead) c.in-Some.ensures.moved
-    ∙ sym (number_from-more c.args.base c.loop-c.value _ c.in-Some.c (place c.loop-c.s) (omega arith) c.in-Some.ensures.next c.in-Some-with_digit.ensures)
-    ∙ c.loop-c.invariant.reads;
-  fits = with_digit-fits c.args.base c.loop-c.value _ c.in-Some.c c.in-Some-with_digit.ensures
+      ap (λ p. number_from c.args.base c.in-Some-with_digit.longer p.ahead) c.in-Some.ensures.moved
+      ∙ sym (number_from-more c.args.base c.loop-c.value _ c.in-Some.c (place c.loop-c.s) (omega arith) c.in-Some.ensures.next c.in-Some-with_digit.ensures)
+      ∙ c.loop-c.invariant.reads;
+  fits = with_digit-fits c.args.base c.loop-c.value _ c.in-Some.c c.in-Some-with_digit.ensures;
 }
 
 pub returns-in-None : goal.returns-in-None

@@ -8,7 +8,7 @@ use Rattle.typst_lexer.proofs.sets.number.Given as goal
 abbrev pub invariant-loop-c : goal.invariant-loop-c
 invariant-loop-c l = record {
   reads : number_from l.base l.value (place l.s).ahead ≡ number l.base (chars l.digits);
-  fits : l.value < 2 ^ 64
+  fits : l.value < 2 ^ 64;
 }
 
 abbrev pub decreases-loop-c : goal.decreases-loop-c

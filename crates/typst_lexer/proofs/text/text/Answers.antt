@@ -9,7 +9,7 @@ loop-c-init g c =
     let k = g.C.Classes.classes c.args.classes.now in
     record {
       reads = ap (exec (rest k)) c.eat_while.ensures.moved ∙ sym (rest-past k (place c.args.s.now)) ∙ rest-text k (place c.args.s.now);
-      same_text = c.eat_while.ensures.same_text
+      same_text = c.eat_while.ensures.same_text;
     }
 
 pub returns-then-not-goes_on : goal.returns-then-not-goes_on
@@ -24,7 +24,7 @@ loop-c-preserved g c =
     let on = rest-on k c.in-Some.c (place c.loop-c.s) c.in-Some.ensures c.if-not-goes_on.ensures in
     record {
       reads = ap (exec (rest k)) c.eat_while-in-Some.ensures.moved ∙ sym (rest-past k (place c.eat.new.self)) ∙ ap (exec (rest k)) c.eat.ensures.moved ∙ sym on ∙ c.loop-c.invariant.reads;
-      same_text = c.eat_while-in-Some.ensures.same_text ∙ c.eat.ensures.same_text ∙ c.loop-c.invariant.same_text
+      same_text = c.eat_while-in-Some.ensures.same_text ∙ c.eat.ensures.same_text ∙ c.loop-c.invariant.same_text;
     }
 
 pub returns : goal.returns

@@ -10,7 +10,7 @@ invariant-loop-c g l =
     let k = g.C.Classes.classes l.classes in
     record {
       reads : exec (rest k) (place l.s) ≡ exec (text k) (place l.fn.s);
-      same_text : l.s.text.now ≡ l.fn.s.text.now
+      same_text : l.s.text.now ≡ l.fn.s.text.now;
     }
 
 abbrev pub decreases-loop-c : goal.decreases-loop-c

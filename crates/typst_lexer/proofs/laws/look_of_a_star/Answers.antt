@@ -1,0 +1,10 @@
+use Rattle.std.proofs.Common.{refl}
+use Rattle.typst_lexer.specs.Common.{whitespace, line_comment, block_comment, line_ends}
+use Rattle.typst_lexer.specs.Markup.{markup, sign, text_from, minus, hyphen, emphasis, marker_or_text}
+use Rattle.typst_lexer.specs.Text.{text}
+use Rattle.typst_lexer.specs.Tokens.{token, of_mode, hash, slash, star}
+use Rattle.typst_lexer.proofs.laws.look_of_a_star.Goals as goal
+
+pub returns : goal.returns
+unfolding token of_mode hash slash star markup whitespace line_comment block_comment line_ends text sign text_from minus hyphen emphasis marker_or_text
+returns c = λ beyond. record { before_space = refl; shorter_ahead = record { agree = record { behind = refl; ahead = refl }; first = refl; second = refl; first_taken = refl; second_taken = refl }; at_start = refl; shorter_behind = record { agree = record { behind = refl; ahead = refl }; first = refl; second = refl; first_taken = refl; second_taken = refl } }

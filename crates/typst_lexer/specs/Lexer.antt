@@ -1,0 +1,26 @@
+-- What a lexer shows.
+use Rattle.std.specs.Prelude.{ℕ, Bool, List}
+use Rattle.typst_kinds.specs.declared.mode.SyntaxMode.{SyntaxMode}
+use Rattle.typst_lines.specs.Place.{Place}
+use Rattle.typst_lines.specs.Scanner as scanner
+use Rattle.typst_lexer.specs.declared.lexer.Lexer.{Lexer}
+
+-- The text that it reads.
+abbrev pub text_of : {C : Type 0} → Lexer C → List ℕ
+text_of l = l.s.text.now
+
+-- Its place in the text.
+abbrev pub place : {C : Type 0} → Lexer C → Place
+place l = scanner.place l.s
+
+-- The byte offset of its place.
+abbrev pub cursor_of : {C : Type 0} → Lexer C → ℕ
+cursor_of l = l.s.cursor
+
+-- The mode in which it reads.
+abbrev pub mode_of : {C : Type 0} → Lexer C → SyntaxMode
+mode_of l = l.mode
+
+-- Whether a line ended in the token that it read last.
+abbrev pub newline_of : {C : Type 0} → Lexer C → Bool
+newline_of l = l.newline
