@@ -1,5 +1,5 @@
 -- Where a token is the end, and how many characters another takes.
-use Rattle.std.proofs.Common.{◌≡◌, ◌≤◌, ◌<◌, ℕ, zero, suc, min, Bool, true, false, not, ◌||◌, ◌==◌, if◌then◌else◌, List, [], ◌∷◌, length, slice_get, Option, Some, None, refl, ap, sym, ◌∙◌, subst, arith}
+use Rattle.std.proofs.Common.{◌≡◌, ◌≤◌, ◌<◌, ℕ, zero, suc, min, Bool, true, false, not, ◌||◌, ◌&&◌, ◌==◌, if◌then◌else◌, List, [], ◌∷◌, length, take, slice_get, Option, Some, None, refl, ap, sym, ◌∙◌, subst, arith}
 use Rattle.std.specs.Char.{is_ascii_digit, is_whitespace}
 use Rattle.std.specs.Prelude.{is_none, codes}
 use Rattle.typst_kinds.specs.declared.kind.SyntaxKind.{SyntaxKind}
@@ -19,7 +19,12 @@ use Rattle.typst_lexer.specs.Tokens.{of_mode, hash, slash, star, token}
 use Rattle.typst_lexer.specs.declared.token.Token.{Token}
 use Rattle.typst_lexer.proofs.TokenEats.{token-eats}
 use Rattle.typst_parsing.specs.Depth.{is_end}
-use Rattle.typst_parsing.specs.Hand.{token_at, len_at}
+use Rattle.typst_lexer.specs.Nodes.{token_node}
+use Rattle.typst_parsing.specs.declared.reading.AtNewline.TheVariants.{Continue}
+use Rattle.typst_parsing.specs.declared.reading.Newlines.{Newlines}
+use Rattle.typst_parsing.specs.declared.reading.Reading.{Reading}
+use Rattle.typst_parsing.specs.Hand.{token_at, len_at, at_trivia, Ahead, after_trivia, direct, both_newlines, ahead_by, ahead, column_at, stops, hand_at}
+use Rattle.typst_parsing.proofs.Places.{moved-sum}
 
 -- what is read there isn't the end
 abbrev Goes : Reader Token → Place → Type 0
@@ -168,3 +173,51 @@ takes-at k m b [] h = let e = none-left k m b in absurd (cc)
 -- another token takes a character
 pub token-takes : (k : CharClasses) (m : SyntaxMode) (z : Place) → is_end (token_at k m z).kind ≡ false → 0 < len_at k m z
 token-takes k m z h = takes-at k m z.behind z.ahead h
+
+-- ---- the token at hand
+
+abbrev Read : CharClasses → SyntaxMode → Place → Ahead → Type 0
+Read k m z a = (a.token ≡ token_at k m (moved a.gap z)) × (a.len ≡ len_at k m (moved a.gap z))
+
+on : {A : Type 0} (P : A → Type 0) (b : Bool) (x y : A) → P x → P y → P (if b then x else y)
+on P true x y p q = p
+on P false x y p q = q
+
+-- the token after the trivia is the one that stands there
+ahead-read : (k : CharClasses) (m : SyntaxMode) (n : ℕ) (z : Place) → Read k m z (ahead_by k m n z)
+ahead-read k m zero z = (refl, refl)
+ahead-read k m (suc n) z =
+    let t = token_at k m z in
+    let l = len_at k m z in
+    let rest = ahead_by k m n (moved l z) in
+    let r = ahead-read k m n (moved l z) in
+    let e = sym (moved-sum l rest.gap z) in
+    on (Read k m z) (at_trivia k m z) (after_trivia t l (token_node t (take l z.ahead)) rest) (direct t l)
+    (r.0 ∙ ap (token_at k m) e, r.1 ∙ ap (len_at k m) e) (refl, refl)
+
+end-judged : (b : Bool) (t : SyntaxKind) → is_end (if b then kind.End else t) ≡ false → is_end t ≡ false
+end-judged true t h = cc
+end-judged false t h = h
+
+end-continues : (any : Bool) (t : SyntaxKind) → is_end (if any && false then kind.End else t) ≡ true → is_end t ≡ true
+end-continues true t h = h
+end-continues false t h = h
+
+-- a token at hand that isn't the end takes a character
+pub hand-takes : (k : CharClasses) (held : Reading) (flushed : Newlines) (z : Place) → is_end (hand_at k held flushed z).kind ≡ false → 0 < (hand_at k held flushed z).len
+unfolding hand_at ahead
+hand-takes k held flushed z h =
+    let a = ahead_by k held.mode (length z.ahead) z in
+    let r = ahead-read k held.mode (length z.ahead) z in
+    let g = end-judged (stops held (both_newlines flushed a.newlines) a.token.kind (column_at (moved a.gap z))) a.token.kind h in
+    let some = token-takes k held.mode (moved a.gap z) (ap (λ (t : Token). is_end t.kind) (sym r.0) ∙ g) in
+    omega (arith, r.1)
+
+-- where newlines don't matter, nothing is behind the end
+pub hand-ends : (k : CharClasses) (m : SyntaxMode) (flushed : Newlines) (z : Place)
+    → is_end (hand_at k (record { mode = m; at_newline = Continue }) flushed z).kind ≡ true → (moved (hand_at k (record { mode = m; at_newline = Continue }) flushed z).gap z).ahead ≡ []
+unfolding hand_at ahead
+hand-ends k m flushed z h =
+    let a = ahead_by k m (length z.ahead) z in
+    let r = ahead-read k m (length z.ahead) z in
+    token-ends k m (moved a.gap z) (ap (λ (t : Token). is_end t.kind) (sym r.0) ∙ end-continues (both_newlines flushed a.newlines).any a.token.kind h)

@@ -4,6 +4,7 @@ pub mod Depth
 pub mod Tokens
 pub mod Ends
 pub mod Leaves
+pub mod Rests
 pub mod Places
 pub mod Bytes
 pub mod Columns
