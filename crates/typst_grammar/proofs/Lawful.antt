@@ -1,5 +1,5 @@
 -- The laws of the language, for the grammar.
-use Rattle.std.proofs.Common.{◌≡◌, ℕ, zero, suc, Bool, true, false, ◌≤◌, length, refl, arith}
+use Rattle.std.proofs.Common.{◌≡◌, ℕ, zero, suc, Bool, true, false, ◌≤◌, length, inl, refl, arith}
 use Rattle.typst_lines.specs.Place.{Place}
 use Rattle.typst_lexer.specs.Classes.{CharClasses}
 use Rattle.typst_parsing.specs.declared.reading.Block.{Block}
@@ -7,7 +7,10 @@ use Rattle.typst_parsing.specs.declared.reading.Call.{Call}
 use Rattle.typst_parsing.specs.declared.reading.State.{State}
 use Rattle.typst_parsing.specs.Syntax.{Parser}
 use Rattle.typst_parsing.specs.Meaning.{Meaning, run}
-use Rattle.typst_parsing.specs.View.{Within}
+use Rattle.typst_parsing.specs.View.{Within, Backs}
+use Rattle.typst_parsing.proofs.Backs.{backs-run}
+use Rattle.typst_parsing.proofs.Leaves.{Keeps, blank-nil, kept-run}
+use Rattle.typst_parsing.proofs.Rests.{Restful, rests-run}
 use Rattle.typst_parsing.proofs.Within.{within-run}
 use Rattle.typst_parsing.proofs.Frame.{Framed, framed-run}
 use Rattle.typst_parsing.proofs.Depth.{Alike, alike-run}
@@ -48,3 +51,41 @@ alike-meaning k (suc i) (suc j) call z s h g = alike-run k i j (meaning k i) (me
 -- the depth law of every parser
 pub alike-at : {A : Type 0} (k : CharClasses) (i j : ℕ) (p : Parser A) → Alike (run (level_at k i) p) (run (level_at k j) p)
 alike-at k i j p = alike-run k i j (meaning k i) (meaning k j) has blocks blocks (alike-meaning k i j) alike-blocks p
+
+-- ---- the leaves
+
+backs-blocks : (b : Block) → Backs (blocks b)
+backs-blocks b z s = record { back = omega arith; left = omega arith }
+
+pub backs-meaning : (k : CharClasses) (level : ℕ) (call : Call) → Backs (meaning k level call)
+unfolding meaning
+backs-meaning k zero call = λ z s. record { back = omega arith; left = omega arith }
+backs-meaning k (suc level) call = backs-run (level_at k level) (backs-meaning k level) backs-blocks (production call)
+
+kept-blocks : (b : Block) → Keeps (blocks b)
+kept-blocks b z s = record { text = refl; blank = blank-nil s.empties }
+
+pub kept-meaning : (k : CharClasses) (level : ℕ) (call : Call) → Keeps (meaning k level call)
+unfolding meaning
+kept-meaning k zero call = λ z s. record { text = refl; blank = blank-nil s.empties }
+kept-meaning k (suc level) call = kept-run (level_at k level) (backs-meaning k level) backs-blocks (kept-meaning k level) kept-blocks (production call)
+
+-- the leaves law of every parser at every level
+pub kept-at : {A : Type 0} (k : CharClasses) (level : ℕ) (p : Parser A) → Keeps (run (level_at k level) p)
+kept-at k level p = kept-run (level_at k level) (backs-meaning k level) backs-blocks (kept-meaning k level) kept-blocks p
+
+-- ---- readings
+
+rests-blocks : (b : Block) → Restful (blocks b)
+rests-blocks b z s = record { reading = refl; mode = inl refl; rule = inl refl }
+
+pub rests-meaning : (k : CharClasses) (level : ℕ) (call : Call) → Restful (meaning k level call)
+unfolding meaning
+rests-meaning k zero call = λ z s. record { reading = refl; mode = inl refl; rule = inl refl }
+rests-meaning k (suc level) call = rests-run (level_at k level) (rests-meaning k level) rests-blocks (production call)
+
+pub rests-at : {A : Type 0} (k : CharClasses) (level : ℕ) (p : Parser A) → Restful (run (level_at k level) p)
+rests-at k level p = rests-run (level_at k level) (rests-meaning k level) rests-blocks p
+
+pub within-at : {A : Type 0} (k : CharClasses) (level : ℕ) (p : Parser A) → Within (run (level_at k level) p)
+within-at k level p = within-run (level_at k level) (within-meaning k level) within-blocks p

@@ -1,13 +1,14 @@
 -- Laws of the grammar.
 use Rattle.std.specs.Prelude.{◌≡◌, ℕ, Bool, false, List, encode_utf8_all}
 use Rattle.typst_lines.specs.Place.{Place}
-use Rattle.typst_node.specs.Tree.{text_of}
+use Rattle.typst_node.specs.Tree.{forest, joined, text_of}
 use Rattle.typst_lexer.specs.Classes.{CharClasses}
 use Rattle.typst_parsing.specs.declared.reading.Call.{Call}
 use Rattle.typst_parsing.specs.declared.reading.State.{State}
 use Rattle.typst_parsing.specs.declared.stop.Stop.{Stop}
 use Rattle.typst_parsing.specs.Ask.{SameIn}
-use Rattle.typst_parsing.specs.Meaning.{Outcome, Meaning, run}
+use Rattle.typst_parsing.specs.Hand.{text_ahead}
+use Rattle.typst_parsing.specs.Meaning.{Meaning, run}
 use Rattle.typst_markup.specs.Markup.{markup_turn, markup_exprs}
 use Rattle.typst_grammar.specs.Grammar.{level_at, meaning, tree}
 
@@ -50,3 +51,23 @@ MarkupDepthLaw = (k : CharClasses) (i j : ℕ) (at_start : Bool) (stop : Stop) �
 -- The depth law of what is read one level deeper.
 abbrev pub CallDepthLaw : Type 0
 CallDepthLaw = (k : CharClasses) (i j : ℕ) (call : Call) → Alike (meaning k i call) (meaning k j call)
+
+-- The texts of the nodes given, joined, are the characters taken, as bytes.
+abbrev pub KeepsText : {A : Type 0} → Meaning A → Type 0
+KeepsText m = (z : Place) (s : State) → joined (forest (m z s).nodes) ≡ text_ahead (m z s).taken z
+
+-- The leaves law: the leaves of the tree of a text, joined, are the text.
+abbrev pub LeavesLaw : Type 0
+LeavesLaw = (k : CharClasses) (text : List ℕ) → text_of (tree k text) ≡ encode_utf8_all text
+
+-- The leaves law of pieces: at every level, in every sequence.
+abbrev pub PieceLeavesLaw : Type 0
+PieceLeavesLaw = (k : CharClasses) (level : ℕ) (stop : Stop) (at_start : Bool) (nesting : ℕ) → KeepsText (piece k level stop at_start nesting)
+
+-- The leaves law of the expressions of a sequence.
+abbrev pub MarkupLeavesLaw : Type 0
+MarkupLeavesLaw = (k : CharClasses) (level : ℕ) (at_start : Bool) (stop : Stop) → KeepsText (sequence k level at_start stop)
+
+-- The leaves law of what is read one level deeper.
+abbrev pub CallLeavesLaw : Type 0
+CallLeavesLaw = (k : CharClasses) (level : ℕ) (call : Call) → KeepsText (meaning k level call)

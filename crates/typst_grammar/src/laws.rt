@@ -1,7 +1,7 @@
 //! Laws of the grammar.
 
 ghost use Rattle.typst_grammar.specs.Examples.{EmptyText, Heading};
-ghost use Rattle.typst_grammar.specs.Laws.{CallDepthLaw, CallFrameLaw, MarkupDepthLaw, MarkupFrameLaw, PieceDepthLaw, PieceFrameLaw};
+ghost use Rattle.typst_grammar.specs.Laws.{CallDepthLaw, CallFrameLaw, CallLeavesLaw, LeavesLaw, MarkupDepthLaw, MarkupFrameLaw, MarkupLeavesLaw, PieceDepthLaw, PieceFrameLaw, PieceLeavesLaw};
 
 /// Trees of short texts.
 pub fn examples()
@@ -23,4 +23,13 @@ pub fn depth_law()
     ensures piece { PieceDepthLaw }
     ensures markup { MarkupDepthLaw }
     ensures call { CallDepthLaw }
+{}
+
+/// The leaves of the tree of a text, joined, are the text; and the nodes that a part of the grammar
+/// gives hold the characters that it takes.
+pub fn leaves_law()
+    ensures tree { LeavesLaw }
+    ensures piece { PieceLeavesLaw }
+    ensures markup { MarkupLeavesLaw }
+    ensures call { CallLeavesLaw }
 {}

@@ -3,4 +3,4 @@
 
 mod laws;
 
-pub use laws::{depth_law, examples, frame_law};
+pub use laws::{depth_law, examples, frame_law, leaves_law};

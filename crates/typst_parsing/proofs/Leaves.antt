@@ -116,7 +116,7 @@ less-nil : (k : ℕ) → less {A = Tree} k [] ≡ []
 unfolding less
 less-nil k = let z : 0 - k ≡ 0 = omega arith in ap (λ n. take n []) z
 
-blank-nil : (n : ℕ) → Blank n []
+pub blank-nil : (n : ℕ) → Blank n []
 blank-nil n k h = ap texts (less-nil k)
 
 -- one empty error alone

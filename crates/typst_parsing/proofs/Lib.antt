@@ -3,6 +3,7 @@ pub mod Frame
 pub mod Depth
 pub mod Tokens
 pub mod Ends
+pub mod Eats
 pub mod Leaves
 pub mod Rests
 pub mod Places
