@@ -11,15 +11,8 @@ use Rattle.typst_parsing.specs.Cursor.{IsStart}
 use Rattle.typst_parsing.specs.Hand.{hand_at}
 use Rattle.typst_parsing.specs.Meaning.{Level, less, run}
 use Rattle.typst_parsing.specs.View.{View, Runs, Within, Backs, Sound, Does, Makes, Fits, at}
-use Rattle.typst_parsing.proofs.Within.{within-run}
-use Rattle.typst_parsing.proofs.Backs.{backs-run}
-use Rattle.typst_parsing.proofs.Levels.{Alike, alike-run}
-use Rattle.typst_markup.specs.Markup.{markup_exprs}
-use Rattle.typst_grammar.specs.Grammar.{production, has, blocks, meaning, level_at, markup_reading, whole, parsed}
-use Rattle.typst_grammar.specs.Laws.{CallDepthLaw, MarkupDepthLaw}
-
-true-false : true ≡ false → ⊥
-true-false h = cc
+use Rattle.typst_grammar.specs.Grammar.{production, blocks, meaning, level_at, markup_reading, whole, parsed}
+use Rattle.typst_grammar.proofs.Lawful.{within-meaning, backs-meaning}
 
 within-blocks : (b : Block) → Within (blocks b)
 within-blocks b z s = omega arith
@@ -27,37 +20,12 @@ within-blocks b z s = omega arith
 backs-blocks : (b : Block) → Backs (blocks b)
 backs-blocks b z s = record { back = omega arith; left = omega arith }
 
-pub within-meaning : (k : CharClasses) (level : ℕ) (call : Call) → Within (meaning k level call)
-unfolding meaning
-within-meaning k zero call z s = omega arith
-within-meaning k (suc level) call z s = within-run (level_at k level) (within-meaning k level) within-blocks (production call) z s
-
-pub backs-meaning : (k : CharClasses) (level : ℕ) (call : Call) → Backs (meaning k level call)
-unfolding meaning
-backs-meaning k zero call z s = record { back = omega arith; left = omega arith }
-backs-meaning k (suc level) call z s = backs-run (level_at k level) (backs-meaning k level) backs-blocks (production call) z s
-
 pub sound-level : (k : CharClasses) (level : ℕ) → Sound (level_at k level)
 sound-level k level = record { within = within-meaning k level; backs = backs-meaning k level; within_block = within-blocks; backs_block = backs-blocks }
 
 pub makes-production : (k : CharClasses) (level : ℕ) {a : ℕ} {call : Call} {old new : View} → Does (level_at k level) (production call) a old new → Makes (level_at k (suc level)) call a old new
 unfolding meaning
 makes-production k level h = record { ran = λ c. (h.ran c).runs; ready = h.ready }
-
-alike-blocks : (b : Block) → Alike (blocks b) (blocks b)
-alike-blocks b z s h k = refl
-
-pub alike-meaning : (k : CharClasses) (level other : ℕ) (call : Call) → Alike (meaning k level call) (meaning k other call)
-unfolding meaning
-alike-meaning k zero other call z s h i = absurd (true-false h)
-alike-meaning k (suc level) zero call z s h i = absurd (true-false i)
-alike-meaning k (suc level) (suc other) call z s h i = alike-run k has level other (meaning k level) (meaning k other) blocks blocks (alike-meaning k level other) alike-blocks (production call) z s h i
-
-pub deepens : CallDepthLaw
-deepens k level other call z s h i = alike-meaning k level other call z s h i
-
-pub deepens_markup : MarkupDepthLaw
-deepens_markup k level other at_start stop z s h i = alike-run k has level other (meaning k level) (meaning k other) blocks blocks (alike-meaning k level other) alike-blocks (markup_exprs at_start stop) z s h i
 
 less-nil : {A : Type 0} (n : ℕ) → less {A = A} n [] ≡ []
 unfolding less

@@ -1,2 +1,3 @@
+pub mod Laws
 pub mod Grammar
 pub mod Laws

@@ -2,6 +2,7 @@
 
 ghost use Rattle.std.specs.Prelude.{◌≡◌, ◌<◌, IfOk};
 ghost use Rattle.std.specs.Str.{chars};
+ghost use Rattle.typst_node.specs.Tree.{text_of};
 ghost use Rattle.typst_parsing.specs.Meaning.{Level};
 ghost use Rattle.typst_parsing.specs.View.{Calls, MayNest, Nests, Reads};
 ghost use Rattle.typst_grammar.specs.Grammar as spec;
@@ -58,7 +59,8 @@ pub fn parse<C: Classes>(
     text: &str,
     classes: &C,
 ) -> Result<SyntaxNode, AllocError>
-    ensures { IfOk result (λ t. t ≡ spec.tree (C.classes classes.now) (chars text.now)) }
+    ensures tree { IfOk result (λ t. t ≡ spec.tree (C.classes classes.now) (chars text.now)) }
+    ensures leaves { IfOk result (λ t. text_of t ≡ text.now) }
 {
     let reading = Reading {
         mode: SyntaxMode::Markup,
