@@ -1,6 +1,6 @@
 pub mod Looks
 pub mod Frame
-pub mod Depth
+pub mod Depths
 pub mod Tokens
 pub mod Ends
 pub mod Eats
