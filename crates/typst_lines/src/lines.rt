@@ -242,7 +242,7 @@ impl<S: Text> Lines<S> {
         ensures value { result ≡ slice_get (line_table self.now) line_idx }
         ensures fits { IfSome result (λ _. line_idx < usize.MAX) }
     {
-        let _count = self.lines.len();
+        let _lines = self.lines.as_slice();
         self.lines.get(line_idx).copied()
     }
 
@@ -428,9 +428,9 @@ impl Lines<String> {
         text.push_str(&self.text.as_str()[..replace.start])?;
         text.push_str(with)?;
         text.push_str(&self.text.as_str()[replace.end..])?;
-        let lines = line_table(alloc, text.as_str())?;
+        let starts = line_table(alloc, text.as_str())?;
         self.text = text;
-        self.lines = lines;
+        self.lines = starts;
         Ok(())
     }
 }
