@@ -90,7 +90,8 @@ impl<'a> LinkedNode<'a> {
         ensures start { result.start ≡ offset_of (linked self.entry) }
         ensures end { result.end ≡ end_of (linked self.entry) }
     {
-        self.offset..self.offset.saturating_add(self.node.len())
+        let start = self.offset();
+        start..start.saturating_add(self.node.len())
     }
 
     /// Whether an expression of the node's kind may follow a hash.
@@ -248,3 +249,6 @@ impl<'a> Iterator for LinkedChildren<'a> {
         Some(child)
     }
 }
+
+#[cfg(test)]
+mod tests;
