@@ -2,6 +2,7 @@ pub mod Bares
 pub mod Growth
 pub mod Lasts
 pub mod Numbering
+pub mod Orders
 pub mod Paths
 pub mod Sames
 pub mod Stretches

@@ -6,3 +6,4 @@ pub mod Repr
 pub mod Numbers
 pub mod Same
 pub mod Replace
+pub mod Order

@@ -1,7 +1,8 @@
-ghost use Rattle.std.specs.Prelude.{◌≡◌, ◌+◌, ◌-◌, ◌*◌, ◌^◌, ◌<◌, ◌≤◌, ◌++◌, None, Some, MatchResult, take, drop, slice_range, vec_len};
+ghost use Rattle.std.specs.Prelude.{◌≡◌, ◌+◌, ◌-◌, ◌*◌, ◌^◌, ◌<◌, ◌≤◌, ◌++◌, None, Some, MatchResult, OnOk, take, drop, slice_range, vec_len};
 ghost use Rattle.typst_kinds.specs.Span.{IsSpanNumber};
 ghost use Rattle.typst_node.specs.Head.{with_head};
 ghost use Rattle.typst_node.specs.Tree.{nodes, forest, count};
+ghost use Rattle.typst_node.specs.Order.{IsWhole, IsNumbered, AreInOrder, numbers_of};
 ghost use Rattle.typst_node.specs.Numbers.{IsStretch, placed, numbered, numbered_list, numberized, stride};
 
 use crate::SyntaxNode;
@@ -110,8 +111,9 @@ impl SyntaxNode {
     /// A node's number is the place that its error messages and later edits go by.
     pub fn numberize(&mut self, id: FileId, within: Range<u64>) -> Result<(), SourceError>
         requires { IsStretch within.start within.end }
-        ensures { MatchResult result (λ _. numberized id within.start within.end self.old ≡ Some self.new)
+        ensures numbers { MatchResult result (λ _. numberized id within.start within.end self.old ≡ Some self.new)
             (λ e. (e ≡ SourceError.SpanNumbers) × (numberized id within.start within.end self.old ≡ None) × (self.new ≡ self.old)) }
+        ensures ordered { OnOk result (IsWhole self.old → IsNumbered self.new × AreInOrder (numbers_of self.new)) }
     {
         let count = self.descendants() as u64;
         let room = within.end.saturating_sub(within.start);
