@@ -1,6 +1,8 @@
 //! The grammar.
 #![tactic(auto)]
 
+mod grammar;
 mod laws;
 
-pub use laws::{depth_law, examples, frame_law, leaves_law};
+pub use grammar::{make_call, parse, production};
+pub use laws::{depth_law, frame_law, leaves_law};

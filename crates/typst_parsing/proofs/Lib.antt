@@ -11,6 +11,7 @@ pub mod Bytes
 pub mod Columns
 pub mod Within
 pub mod Backs
+pub mod Levels
 pub mod Trivia
 pub mod Runs
 pub mod Steps

@@ -29,9 +29,6 @@ use Rattle.typst_parsing.specs.declared.reading.State.{State}
 use Rattle.typst_parsing.specs.Shape.{is_nil, after_node}
 use Rattle.typst_parsing.specs.Meaning.{flushed_state}
 
-pub text-of : (text : List ℕ) → IsUtf8 text → (n : ℕ) (z : Place) → chars text ≡ take n z.ahead → text ≡ text_ahead n z
-text-of text u n z e = sym (encodes-chars text u) ∙ ap encode_utf8_all e
-
 and-none : (b : Bool) (n : ℕ) → n ≡ 0 → (b && nat_lt 0 n) ≡ false
 and-none true n e = rw e refl
 and-none false n e = refl

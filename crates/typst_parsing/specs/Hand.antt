@@ -20,9 +20,9 @@ use Rattle.typst_parsing.specs.declared.reading.Reading.{Reading}
 use Rattle.typst_parsing.specs.Ask.{Ask, shift}
 use Rattle.typst_parsing.specs.Ask.Ask.{looked}
 
--- the first characters ahead, as bytes
+-- the first characters ahead
 abbrev pub text_ahead : ℕ → Place → List ℕ
-text_ahead n z = encode_utf8_all (take n z.ahead)
+text_ahead n z = take n z.ahead
 
 -- how many bytes the characters ahead take
 abbrev pub bytes_left : Place → ℕ

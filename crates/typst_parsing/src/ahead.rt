@@ -11,7 +11,8 @@ use crate::reading::{AtNewline, Newlines, Reading};
 use std::alloc::{AllocError, Global};
 use typst_kinds::{SyntaxKind, SyntaxMode};
 use typst_lexer::lexer::token;
-use typst_lexer::{Classes, Token, token_node};
+use typst_lexer::token::make_node;
+use typst_lexer::{Classes, Token};
 use typst_lines::{Scanner, is_newline};
 use typst_node::SyntaxNode;
 
@@ -60,7 +61,7 @@ pub(crate) fn read_ahead<'s, C: Classes>(
                 kind: judged(held, newlines, token.kind, &start),
             });
         }
-        let node = token_node(alloc, token, after.since(&start))?;
+        let node = make_node(alloc, token, after.since(&start))?;
         trivia.push(node)?;
         newlines = with_token(newlines, token);
         start = after;

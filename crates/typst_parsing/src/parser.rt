@@ -19,7 +19,8 @@ use crate::reading::{AtNewline, Newlines, Reading, State};
 use std::alloc::{AllocError, Global};
 use std::marker::Model;
 use typst_kinds::{SyntaxKind, SyntaxMode};
-use typst_lexer::{Classes, token_node};
+use typst_lexer::Classes;
+use typst_lexer::token::make_node;
 use typst_lines::Scanner;
 use typst_node::SyntaxNode;
 
@@ -184,7 +185,7 @@ impl<'s> Parser<'s> {
     fn node(&self) -> Result<SyntaxNode, AllocError>
         ensures { IfOk result (λ t. t ≡ token_node self.now.hand.token (text_ahead self.now.hand.len (moved self.now.hand.gap self.now.place))) }
     {
-        token_node(
+        make_node(
             self.alloc,
             self.ahead.token,
             self.ahead.after.since(&self.ahead.start),

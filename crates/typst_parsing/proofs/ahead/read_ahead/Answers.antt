@@ -5,7 +5,7 @@ use Rattle.typst_lexer.specs.Nodes.{token_node}
 use Rattle.typst_parsing.specs.Hand.{bytes_left, at_trivia, len_at, newlines_of, both_newlines, text_ahead, token_at}
 use Rattle.typst_parsing.proofs.Bytes.{some-bytes}
 use Rattle.typst_parsing.proofs.Places.{ahead-left}
-use Rattle.typst_parsing.proofs.Trivia.{text-of, read-place, len-most, no-trivia, no-more, some-trivia, along-next, is-ahead}
+use Rattle.typst_parsing.proofs.Trivia.{read-place, len-most, no-trivia, no-more, some-trivia, along-next, is-ahead}
 use Rattle.typst_parsing.proofs.ahead.read_ahead.Goals.{then-not-is_trivia-via-then-not-is_trivia, then-not-is_trivia-via-else-not-is_trivia+then-left}
 use Rattle.typst_parsing.proofs.ahead.read_ahead.Goals as goal
 
@@ -46,7 +46,7 @@ trivia-preserved g c =
     let p = read-place k m z _ _ e in
     let t = ap (λ q. q.0) e in
     let at = some-trivia k m z _ _ e (sym c.is_trivia.ensures ∙ c.if-not-is_trivia.false) (omega (arith, c.left.ensures, c.left-else-not-is_trivia.ensures, c.if-left.false)) in
-    let text = text-of c.since.result.now c.since.utf8 l z (c.since.ensures l p) in
+    let text = c.since.ensures l p in
     let node = c.in_ok-node.ensures ∙ ap (token_node c.token-token.result) text ∙ ap (λ u. token_node u (text_ahead l z)) (sym t) in
     record {
       along = rw (c.in_ok-push.ensures.items, c.with_token-newlines.ensures, sym t) (along-next k m c.args.flushed c.trivia.newlines c.trivia.trivia.items (place c.args.before) z _ c.in_ok-node.node c.trivia.invariant.along at p node);

@@ -10,4 +10,4 @@ returns-then-g-eq0 g c l k h = does-next (does-deepest _) (does-pick (ap (λ n. 
 
 pub returns : goal.returns
 unfolding deeper
-returns g c l k h = does-next (does-deepest _) (does-other (ap (λ n. n == 0) h.level ∙ ne_eqb _ 0 c.if-g-eq0.false) (does-calls (h.reads _ _ _ _ c.call.post)))
+returns g c l k h = does-next (does-deepest _) (does-other (ap (λ n. n == 0) h.level ∙ ne_eqb _ 0 c.if-g-eq0.false) (does-calls (h.reads _ _ _ _ c.in_ok-call.ensures)))
