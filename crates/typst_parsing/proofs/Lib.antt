@@ -1,6 +1,6 @@
 pub mod Looks
 pub mod Frame
-pub mod Depth
+pub mod Alike
 pub mod Tokens
 pub mod Ends
 pub mod Eats
