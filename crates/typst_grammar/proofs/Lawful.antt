@@ -13,7 +13,7 @@ use Rattle.typst_parsing.proofs.Leaves.{Keeps, blank-nil, kept-run}
 use Rattle.typst_parsing.proofs.Rests.{Restful, rests-run}
 use Rattle.typst_parsing.proofs.Within.{within-run}
 use Rattle.typst_parsing.proofs.Frame.{Framed, framed-run}
-use Rattle.typst_parsing.proofs.Depths.{Alike, alike-run}
+use Rattle.typst_parsing.proofs.Alike.{Alike, alike-run}
 use Rattle.typst_grammar.specs.Grammar.{production, has, blocks, meaning, level_at}
 
 within-blocks : (b : Block) → Within (blocks b)

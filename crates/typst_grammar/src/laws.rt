@@ -2,12 +2,6 @@
 
 ghost use Rattle.typst_grammar.specs.Laws.{CallDepthLaw, CallFrameLaw, CallLeavesLaw, LeavesLaw, MarkupDepthLaw, MarkupFrameLaw, MarkupLeavesLaw, PieceDepthLaw, PieceFrameLaw, PieceLeavesLaw};
 
-/// Trees of short texts.
-pub fn examples()
-    ensures empty { EmptyText }
-    ensures heading { Heading }
-{}
-
 /// Where all that was asked shows the same at two places, the same is read there: the value, the
 /// characters taken, the state, the nodes, what was asked and noted, and whether the limit of depth
 /// was met.

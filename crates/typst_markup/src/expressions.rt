@@ -1,8 +1,9 @@
 //! The expressions of markup.
 
-ghost use Rattle.std.specs.Prelude.{◌≡◌, ◌<◌};
+ghost use Rattle.std.specs.Prelude.{◌≡◌, ◌<◌, OnOk, false};
+ghost use Rattle.typst_kinds.specs.Kinds.{is_error};
 ghost use Rattle.typst_parsing.specs.Meaning.{Level};
-ghost use Rattle.typst_parsing.specs.View.{MayNest, Nests, Reads};
+ghost use Rattle.typst_parsing.specs.View.{MayNest, Nests, Reads, Rewrapped};
 ghost use Rattle.typst_markup.specs.Markup as spec;
 
 use crate::head::{MarkupHead, markup_head};
@@ -25,18 +26,15 @@ pub fn strong<C: Classes, F: Fn(&C, &mut Parser<'_>, usize, Call) -> Result<usiz
     p.eat(g.classes)?;
     let is_empty = markup_with_trivia(g, p, false, Stop::Strong)?;
     let closed = p.eat_if(is_star(p.current()), g.classes)?;
-    if !closed {
-        p.wrap_unclosed(from, SyntaxKind::Strong)?;
-    } else if is_empty {
-        p.wrap_with_warning(
-            from,
-            SyntaxKind::Strong,
-            "no text within stars",
-            "using multiple consecutive stars (e.g. **) has no additional effect",
-        )?;
-    } else {
-        p.wrap(from, SyntaxKind::Strong)?;
-    }
+    wrap_emphasized(
+        p,
+        from,
+        SyntaxKind::Strong,
+        closed,
+        is_empty,
+        "no text within stars",
+        "using multiple consecutive stars (e.g. **) has no additional effect",
+    )?;
     p.leave(outer, g.classes)?;
     Ok(())
 }
@@ -54,19 +52,41 @@ pub fn emph<C: Classes, F: Fn(&C, &mut Parser<'_>, usize, Call) -> Result<usize,
     p.eat(g.classes)?;
     let is_empty = markup_with_trivia(g, p, false, Stop::Emph)?;
     let closed = p.eat_if(is_underscore(p.current()), g.classes)?;
-    if !closed {
-        p.wrap_unclosed(from, SyntaxKind::Emph)?;
-    } else if is_empty {
-        p.wrap_with_warning(
-            from,
-            SyntaxKind::Emph,
-            "no text within underscores",
-            "using multiple consecutive underscores (e.g. __) has no additional effect",
-        )?;
-    } else {
-        p.wrap(from, SyntaxKind::Emph)?;
-    }
+    wrap_emphasized(
+        p,
+        from,
+        SyntaxKind::Emph,
+        closed,
+        is_empty,
+        "no text within underscores",
+        "using multiple consecutive underscores (e.g. __) has no additional effect",
+    )?;
     p.leave(outer, g.classes)?;
+    Ok(())
+}
+
+/// Makes one node of what stands between two delimiters, where the second may be missing.
+fn wrap_emphasized(
+    p: &mut Parser<'_>,
+    from: usize,
+    kind: SyntaxKind,
+    closed: bool,
+    is_empty: bool,
+    warning: &str,
+    hint: &str,
+) -> Result<(), AllocError>
+    requires { is_error kind ≡ false }
+    ensures { OnOk result (Rewrapped from (spec.emphasized kind warning.now hint.now (closed, is_empty)) p.old p.new) }
+{
+    if !closed {
+        p.wrap_unclosed(from, kind)?;
+        return Ok(());
+    }
+    if is_empty {
+        p.wrap_with_warning(from, kind, warning, hint)?;
+        return Ok(());
+    }
+    p.wrap(from, kind)?;
     Ok(())
 }
 

@@ -1,6 +1,6 @@
 pub mod Looks
 pub mod Frame
-pub mod Depths
+pub mod Alike
 pub mod Tokens
 pub mod Ends
 pub mod Eats
@@ -11,6 +11,7 @@ pub mod Bytes
 pub mod Columns
 pub mod Within
 pub mod Backs
+pub mod Levels
 pub mod Trivia
 pub mod Runs
 pub mod Steps

@@ -5,7 +5,7 @@ use Rattle.typst_grammar.proofs.Levels.{sound-level, makes-production}
 use Rattle.typst_grammar.proofs.grammar.+make_call.Goals as goal
 
 pub returns : goal.returns
-returns t g c =
+returns g t c =
     let k = g.C.Classes.classes c.args.classes.now in
     let n = c.args.depth - 1 in
     let e : suc n ≡ c.args.depth = omega arith in

@@ -12,6 +12,5 @@ unfolding whole tree
 returns g c =
     let k = g.C.Classes.classes c.args.classes.now in
     let l = level_at k max_depth in
-    let n = record { sound = sound-level k max_depth; level = refl; reads = λ old new call r h. h.1 } in
-    let d = does-next (does-marks _ _ _) (does-next (c.in_ok-markup_exprs.ensures l refl n) (c.in_ok-flush_trivia.ensures l)) in
+    let d = does-next (does-marks _ _ _) (does-next (c.in_ok-markup_exprs.ensures l refl (record { sound = sound-level k max_depth; level = refl; reads = λ old new call r h. h.1 })) (c.in_ok-flush_trivia.ensures l)) in
     c.inner.ensures ∙ ap (λ ts. inner_of kind.Markup (forest ts)) (c.finish.ensures ∙ parsed-is k max_depth _ _ _ c.in_ok-p.ensures d)

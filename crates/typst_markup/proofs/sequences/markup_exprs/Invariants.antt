@@ -1,7 +1,8 @@
 use Rattle.std.proofs.Common.{◌≡◌, ◌||◌}
 use Rattle.typst_parsing.specs.Hand.{bytes_left}
 use Rattle.typst_parsing.specs.Meaning.{Level}
-use Rattle.typst_parsing.specs.View.{Nests, spread}
+use Rattle.typst_parsing.specs.View.{Nests}
+use Rattle.typst_markup.proofs.Heads.{spread}
 use Rattle.typst_parsing.proofs.Steps.{Turning}
 use Rattle.typst_markup.specs.Markup.{markup_turn}
 use Rattle.typst_markup.proofs.sequences.markup_exprs.Given as goal
