@@ -11,7 +11,6 @@ pub mod Bytes
 pub mod Columns
 pub mod Within
 pub mod Backs
-pub mod Levels
 pub mod Trivia
 pub mod Runs
 pub mod Steps
