@@ -17,10 +17,7 @@ use typst_parsing::{AtNewline, Call, Grammar, Parser, Reading, Stop};
 const MAX_DEPTH: usize = 256;
 
 /// Reads what a call asks for.
-pub fn production<
-    C: Classes,
-    F: Fn(&C, &mut Parser<'_>, usize, Call) -> Result<usize, AllocError>,
->(
+pub fn production<C: Classes, F: Fn(&C, &mut Parser<'_>, usize, Call) -> Result<usize, AllocError>>(
     g: &Grammar<'_, C, F>,
     p: &mut Parser<'_>,
     call: Call,
@@ -53,11 +50,7 @@ pub fn make_call<C: Classes>(
 
 /// The syntax tree of a text of markup, with detached spans. Any text has one; its leaves joined are
 /// the text. It refuses only for want of memory.
-pub fn parse<C: Classes>(
-    alloc: Global,
-    text: &str,
-    classes: &C,
-) -> Result<SyntaxNode, AllocError>
+pub fn parse<C: Classes>(alloc: Global, text: &str, classes: &C) -> Result<SyntaxNode, AllocError>
     ensures { IfOk result (λ t. t ≡ spec.tree (C.classes classes.now) (chars text.now)) }
 {
     let reading = Reading {
