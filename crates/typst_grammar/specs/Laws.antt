@@ -7,7 +7,7 @@ use Rattle.typst_parsing.specs.declared.reading.Call.{Call}
 use Rattle.typst_parsing.specs.declared.reading.State.{State}
 use Rattle.typst_parsing.specs.declared.stop.Stop.{Stop}
 use Rattle.typst_parsing.specs.Ask.{SameIn}
-use Rattle.typst_parsing.specs.Hand.{text_ahead}
+use Rattle.typst_parsing.specs.Hand.{utf8_ahead}
 use Rattle.typst_parsing.specs.Meaning.{Meaning, run}
 use Rattle.typst_markup.specs.Markup.{markup_turn, markup_exprs}
 use Rattle.typst_grammar.specs.Grammar.{level_at, meaning, tree}
@@ -54,7 +54,7 @@ CallDepthLaw = (k : CharClasses) (i j : ℕ) (call : Call) → Alike (meaning k 
 
 -- The texts of the nodes given, joined, are the characters taken, as bytes.
 abbrev pub KeepsText : {A : Type 0} → Meaning A → Type 0
-KeepsText m = (z : Place) (s : State) → joined (forest (m z s).nodes) ≡ text_ahead (m z s).taken z
+KeepsText m = (z : Place) (s : State) → joined (forest (m z s).nodes) ≡ utf8_ahead (m z s).taken z
 
 -- The leaves law: the leaves of the tree of a text, joined, are the text.
 abbrev pub LeavesLaw : Type 0

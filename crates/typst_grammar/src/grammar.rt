@@ -18,10 +18,7 @@ use typst_parsing::{AtNewline, Call, Grammar, Parser, Reading, Stop};
 const MAX_DEPTH: usize = 256;
 
 /// Reads what a call asks for.
-pub fn production<
-    C: Classes,
-    F: Fn(&C, &mut Parser<'_>, usize, Call) -> Result<usize, AllocError>,
->(
+pub fn production<C: Classes, F: Fn(&C, &mut Parser<'_>, usize, Call) -> Result<usize, AllocError>>(
     g: &Grammar<'_, C, F>,
     p: &mut Parser<'_>,
     call: Call,
@@ -54,11 +51,7 @@ pub fn make_call<C: Classes>(
 
 /// The syntax tree of a text of markup, with detached spans. Any text has one; its leaves joined are
 /// the text. It refuses only for want of memory.
-pub fn parse<C: Classes>(
-    alloc: Global,
-    text: &str,
-    classes: &C,
-) -> Result<SyntaxNode, AllocError>
+pub fn parse<C: Classes>(alloc: Global, text: &str, classes: &C) -> Result<SyntaxNode, AllocError>
     ensures tree { IfOk result (λ t. t ≡ spec.tree (C.classes classes.now) (chars text.now)) }
     ensures leaves { IfOk result (λ t. text_of t ≡ text.now) }
 {

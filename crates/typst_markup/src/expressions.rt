@@ -167,7 +167,10 @@ pub fn term_item<C: Classes, F: Fn(&C, &mut Parser<'_>, usize, Call) -> Result<u
 
 /// One expression of markup, whether at the start of a line, and in how many brackets; answers in how
 /// many brackets what comes next stands.
-pub fn markup_expr<C: Classes, F: Fn(&C, &mut Parser<'_>, usize, Call) -> Result<usize, AllocError>>(
+pub fn markup_expr<
+    C: Classes,
+    F: Fn(&C, &mut Parser<'_>, usize, Call) -> Result<usize, AllocError>,
+>(
     g: &Grammar<'_, C, F>,
     p: &mut Parser<'_>,
     at_start: bool,
@@ -200,4 +203,3 @@ pub fn markup_expr<C: Classes, F: Fn(&C, &mut Parser<'_>, usize, Call) -> Result
     }
     Ok(nesting)
 }
-

@@ -11,12 +11,10 @@ use typst_lexer::Classes;
 use typst_parsing::{Call, Grammar, Parser, Stop, deeper, too_deep};
 
 /// Reads expressions up to a stop.
-pub fn markup_exprs<C: Classes, F: Fn(&C, &mut Parser<'_>, usize, Call) -> Result<usize, AllocError>>(
-    g: &Grammar<'_, C, F>,
-    p: &mut Parser<'_>,
-    at_start: bool,
-    stop: Stop,
-) -> Result<(), AllocError>
+pub fn markup_exprs<
+    C: Classes,
+    F: Fn(&C, &mut Parser<'_>, usize, Call) -> Result<usize, AllocError>,
+>(g: &Grammar<'_, C, F>, p: &mut Parser<'_>, at_start: bool, stop: Stop) -> Result<(), AllocError>
     requires { MayNest g.now.depth (F.pre g.now.call g.now.classes) }
     ensures { (l : Level) → l.classes ≡ C.classes g.now.classes.now → Nests l g.now.depth (F.post g.now.call g.now.classes) → Reads l (spec.markup_exprs at_start stop) p.old result p.new }
 {
@@ -39,7 +37,10 @@ pub fn markup_exprs<C: Classes, F: Fn(&C, &mut Parser<'_>, usize, Call) -> Resul
 
 /// Reads one expression, unless a stop comes; answers whether it did, whether a newline was passed
 /// behind it, and in how many brackets what comes next stands.
-pub fn markup_turn<C: Classes, F: Fn(&C, &mut Parser<'_>, usize, Call) -> Result<usize, AllocError>>(
+pub fn markup_turn<
+    C: Classes,
+    F: Fn(&C, &mut Parser<'_>, usize, Call) -> Result<usize, AllocError>,
+>(
     g: &Grammar<'_, C, F>,
     p: &mut Parser<'_>,
     stop: Stop,
@@ -73,12 +74,10 @@ pub fn markup<C: Classes, F: Fn(&C, &mut Parser<'_>, usize, Call) -> Result<usiz
 }
 
 /// Reads a sequence as one node with the trivia at both ends; answers whether nothing stood there.
-pub fn markup_with_trivia<C: Classes, F: Fn(&C, &mut Parser<'_>, usize, Call) -> Result<usize, AllocError>>(
-    g: &Grammar<'_, C, F>,
-    p: &mut Parser<'_>,
-    at_start: bool,
-    stop: Stop,
-) -> Result<bool, AllocError>
+pub fn markup_with_trivia<
+    C: Classes,
+    F: Fn(&C, &mut Parser<'_>, usize, Call) -> Result<usize, AllocError>,
+>(g: &Grammar<'_, C, F>, p: &mut Parser<'_>, at_start: bool, stop: Stop) -> Result<bool, AllocError>
     requires { MayNest g.now.depth (F.pre g.now.call g.now.classes) }
     ensures { (l : Level) → l.classes ≡ C.classes g.now.classes.now → Nests l g.now.depth (F.post g.now.call g.now.classes) → Reads l (spec.markup_is_empty at_start stop) p.old result p.new }
 {

@@ -22,7 +22,7 @@ use Rattle.typst_parsing.specs.declared.reading.Reading.{Reading}
 use Rattle.typst_lexer.specs.Classes.{CharClasses}
 use Rattle.typst_lexer.specs.Nodes.{token_node}
 use Rattle.typst_lexer.specs.declared.token.Token.{Token}
-use Rattle.typst_parsing.specs.Hand.{text_ahead, token_at, len_at, at_trivia, Ahead, after_trivia, direct, ahead_by, ahead, column_at, hand_at, Hand}
+use Rattle.typst_parsing.specs.Hand.{utf8_ahead, token_at, len_at, at_trivia, Ahead, after_trivia, direct, ahead_by, ahead, column_at, hand_at, Hand}
 use Rattle.typst_parsing.specs.Syntax.{Op, Parser}
 use Rattle.typst_parsing.specs.Syntax.Op.{hand, column, erred, takes, flushes, complains, marks, is_deepest}
 use Rattle.typst_parsing.specs.Syntax.Parser.{gives, does, next, pick, repeat, wraps, scoped, sees, either, calls, block}
@@ -130,23 +130,23 @@ blank-error n message (suc k) h = let z : 1 - suc k ≡ 0 = omega arith in ap (�
 pub encode-add : (a b : ℕ) (xs : List ℕ) → encode_utf8_all (take a xs) ++ encode_utf8_all (take b (drop a xs)) ≡ encode_utf8_all (take (a + b) xs)
 encode-add a b xs = sym (encodes-append (take a xs) (take b (drop a xs))) ∙ ap encode_utf8_all (sym (take-add a b xs))
 
-pub text-add : (a b : ℕ) (z : Place) → text_ahead a z ++ text_ahead b (moved a z) ≡ text_ahead (a + b) z
-text-add a b z = ap (λ xs. text_ahead a z ++ encode_utf8_all (take b xs)) (moved-ahead a z) ∙ encode-add a b z.ahead
+pub text-add : (a b : ℕ) (z : Place) → utf8_ahead a z ++ utf8_ahead b (moved a z) ≡ utf8_ahead (a + b) z
+text-add a b z = ap (λ xs. utf8_ahead a z ++ encode_utf8_all (take b xs)) (moved-ahead a z) ∙ encode-add a b z.ahead
 
-ahead-texts : (k : CharClasses) (m : SyntaxMode) (n : ℕ) (z : Place) → texts (ahead_by k m n z).trivia ≡ text_ahead (ahead_by k m n z).gap z
+ahead-texts : (k : CharClasses) (m : SyntaxMode) (n : ℕ) (z : Place) → texts (ahead_by k m n z).trivia ≡ utf8_ahead (ahead_by k m n z).gap z
 ahead-texts k m zero z = refl
 ahead-texts k m (suc n) z =
     let t = token_at k m z in
     let l = len_at k m z in
     let node = token_node t (take l z.ahead) in
     let rest = ahead_by k m n (moved l z) in
-    on (λ (a : Ahead). texts a.trivia ≡ text_ahead a.gap z) (at_trivia k m z) (after_trivia t l node rest) (direct t l)
+    on (λ (a : Ahead). texts a.trivia ≡ utf8_ahead a.gap z) (at_trivia k m z) (after_trivia t l node rest) (direct t l)
     (texts-first node rest.trivia ∙ ap (λ x. x ++ texts rest.trivia) (text-token t (take l z.ahead))
-      ∙ ap (λ x. text_ahead l z ++ x) (ahead-texts k m n (moved l z)) ∙ text-add l rest.gap z)
+      ∙ ap (λ x. utf8_ahead l z ++ x) (ahead-texts k m n (moved l z)) ∙ text-add l rest.gap z)
     refl
 
 -- the trivia at hand hold the characters before the token
-pub hand-texts : (l : Level) (z : Place) (s : State) → texts (hand_of l z s).trivia ≡ text_ahead (hand_of l z s).gap z
+pub hand-texts : (l : Level) (z : Place) (s : State) → texts (hand_of l z s).trivia ≡ utf8_ahead (hand_of l z s).gap z
 unfolding hand_at ahead
 hand-texts l z s = ahead-texts l.classes s.held.mode (length z.ahead) z
 
@@ -154,7 +154,7 @@ hand-texts l z s = ahead-texts l.classes s.held.mode (length z.ahead) z
 
 -- the nodes hold the characters taken, and those that may be taken back hold none
 pub record Kept {A : Type 0} (z : Place) (o : Outcome A) : Type 0 where
-  pub text : texts o.nodes ≡ text_ahead o.taken z
+  pub text : texts o.nodes ≡ utf8_ahead o.taken z
   pub blank : Blank o.state.empties o.nodes
 
 abbrev pub Keeps : {A : Type 0} → Meaning A → Type 0
@@ -165,7 +165,7 @@ kept-joined z o p h k t =
     let b = t.back in
     let c = t.left in
     record {
-      text = texts-append (less p.back o.nodes) p.nodes ∙ ap (λ x. x ++ texts p.nodes) (h.blank p.back b ∙ h.text) ∙ ap (λ x. text_ahead o.taken z ++ x) k.text ∙ text-add o.taken p.taken z;
+      text = texts-append (less p.back o.nodes) p.nodes ∙ ap (λ x. x ++ texts p.nodes) (h.blank p.back b ∙ h.text) ∙ ap (λ x. utf8_ahead o.taken z ++ x) k.text ∙ text-add o.taken p.taken z;
       blank = λ n le.
           let m = p.back + (n - length p.nodes) in
           let few : m ≤ o.state.empties = omega arith in
@@ -255,7 +255,7 @@ module _ (l : Level) where
       let e = empties-node (is_error node.head.kind) (text_of node) s in
       record {
         text = texts-append h.trivia (node ∷ []) ∙ ap (λ x. x ++ texts (node ∷ [])) (hand-texts l z s)
-            ∙ ap (λ x. text_ahead h.gap z ++ x) (texts-one node ∙ text-made making (token_node h.token taken) ∙ text-token h.token taken) ∙ text-add h.gap h.len z;
+            ∙ ap (λ x. utf8_ahead h.gap z ++ x) (texts-one node ∙ text-made making (token_node h.token taken) ∙ text-token h.token taken) ∙ text-add h.gap h.len z;
         blank = blank-last (after_node (is_error node.head.kind) (text_of node) s).empties h.trivia node e.few e.none;
       }
   kept-done flushes z s = record { text = hand-texts l z s; blank = blank-flushed (hand_of l z s).newlines s (hand_of l z s).trivia }

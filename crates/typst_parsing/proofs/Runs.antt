@@ -99,12 +99,14 @@ pub ran-takes : {l : Level} {trims : Bool} {making : Making} {v w : View} → Ea
 unfolding run
 ran-takes {l = l} {trims = trims} {making = making} {v = v} {w = w} h c =
     let g = hand_of l v.place v.state in
-    record { runs = record {
-      value = refl;
-      place = h.place ∙ ap (λ (x : Hand). moved (x.gap + x.len) v.place) c;
-      state = h.state ∙ ap (λ (x : Hand). renewed (after_node (is_error (taken_node making x v.place).head.kind) (text_of (taken_node making x v.place)) v.state)) c;
-      nodes = h.nodes ∙ ap (λ (x : Hand). less (if trims then v.state.empties else 0) v.nodes ++ (x.trivia ++ taken_node making x v.place ∷ [])) c;
-    } }
+    record {
+      runs = record {
+        value = refl;
+        place = h.place ∙ ap (λ (x : Hand). moved (x.gap + x.len) v.place) c;
+        state = h.state ∙ ap (λ (x : Hand). renewed (after_node (is_error (taken_node making x v.place).head.kind) (text_of (taken_node making x v.place)) v.state)) c;
+        nodes = h.nodes ∙ ap (λ (x : Hand). less (if trims then v.state.empties else 0) v.nodes ++ (x.trivia ++ taken_node making x v.place ∷ [])) c;
+      };
+    }
 
 -- the trivia at hand became nodes
 pub record Flushed (v w : View) : Type 0 where
@@ -116,12 +118,14 @@ pub record Flushed (v w : View) : Type 0 where
 pub ran-flushes : {l : Level} {v w : View} → Flushed v w → Fits l v → Ran l (does flushes) tt v w
 unfolding run
 ran-flushes {l = l} {v = v} {w = w} h c =
-    record { runs = record {
-      value = refl;
-      place = h.place ∙ ap (λ (x : Hand). moved x.gap v.place) c;
-      state = h.state ∙ ap (λ (x : Hand). flushed_state x v.state) c;
-      nodes = h.nodes ∙ ap (λ (x : Hand). v.nodes ++ x.trivia) c ∙ ap (λ ns. ns ++ (hand_of l v.place v.state).trivia) (sym (less-none v.nodes));
-    } }
+    record {
+      runs = record {
+        value = refl;
+        place = h.place ∙ ap (λ (x : Hand). moved x.gap v.place) c;
+        state = h.state ∙ ap (λ (x : Hand). flushed_state x v.state) c;
+        nodes = h.nodes ∙ ap (λ (x : Hand). v.nodes ++ x.trivia) c ∙ ap (λ ns. ns ++ (hand_of l v.place v.state).trivia) (sym (less-none v.nodes));
+      };
+    }
 
 pub ran-complains : {l : Level} (m : List ℕ) (v : View)
     → Ran l (does (complains m)) tt v (record v { nodes = v.nodes ++ error_of m [] ∷ []; state = record v.state { empties = v.state.empties + 1; is_after_error = true } })
@@ -155,14 +159,16 @@ ran-wraps {l = d} {f = f} {n = n} {p = p} {a = a} {old = old} {mid = mid} {new =
     let front = ap (take k) h.nodes ∙ take-both k base o.nodes ∙ ap (λ ns. ns ++ take (k - length base) o.nodes) (take-all k base short) ∙ ap (λ j. base ++ take j o.nodes) none in
     let end = ap (drop k) h.nodes ∙ drop-both k base o.nodes ∙ ap (λ ns. ns ++ drop (k - length base) o.nodes) (drop-all k base short) ∙ ap (λ j. drop j o.nodes) none in
     let inside = drop (n + o.back) o.nodes in
-    record { runs = record {
-      value = rw (end, h.value) refl;
-      place = w.place ∙ h.place;
-      state = w.state ∙ ap (λ ns. after_shape (f a) ns mid.state) end ∙ ap (λ s. after_shape (f a) inside s) h.state ∙ ap (λ v. after_shape (f v) inside o.state) (sym h.value);
-      nodes = w.nodes ∙ ap (λ ns. ns ++ shaped (f a) (drop k mid.nodes) ∷ []) front ∙ ap (λ ns. (base ++ take (n + o.back) o.nodes) ++ shaped (f a) ns ∷ []) end
-          ∙ append_assoc base (take (n + o.back) o.nodes) (shaped (f a) inside ∷ [])
-          ∙ ap (λ v. base ++ (take (n + o.back) o.nodes ++ shaped (f v) inside ∷ [])) (sym h.value);
-    } }
+    record {
+      runs = record {
+        value = rw (end, h.value) refl;
+        place = w.place ∙ h.place;
+        state = w.state ∙ ap (λ ns. after_shape (f a) ns mid.state) end ∙ ap (λ s. after_shape (f a) inside s) h.state ∙ ap (λ v. after_shape (f v) inside o.state) (sym h.value);
+        nodes = w.nodes ∙ ap (λ ns. ns ++ shaped (f a) (drop k mid.nodes) ∷ []) front ∙ ap (λ ns. (base ++ take (n + o.back) o.nodes) ++ shaped (f a) ns ∷ []) end
+            ∙ append_assoc base (take (n + o.back) o.nodes) (shaped (f a) inside ∷ [])
+            ∙ ap (λ v. base ++ (take (n + o.back) o.nodes ++ shaped (f v) inside ∷ [])) (sym h.value);
+      };
+    }
 
 -- ---- a loop: what is left to do, done, is the whole
 

@@ -24,6 +24,10 @@ use Rattle.typst_parsing.specs.Ask.Ask.{looked}
 abbrev pub text_ahead : ℕ → Place → List ℕ
 text_ahead n z = take n z.ahead
 
+-- the same as bytes
+abbrev pub utf8_ahead : ℕ → Place → List ℕ
+utf8_ahead n z = encode_utf8_all (take n z.ahead)
+
 -- how many bytes the characters ahead take
 abbrev pub bytes_left : Place → ℕ
 bytes_left z = length (encode_utf8_all z.ahead)

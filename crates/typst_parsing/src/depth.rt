@@ -22,10 +22,7 @@ pub struct Grammar<'g, C, F> {
 }
 
 /// Reads one level deeper. What lies too deep is skipped, and the answer is the one handed in.
-pub fn deeper<
-    C: Classes,
-    F: Fn(&C, &mut Parser<'_>, usize, Call) -> Result<usize, AllocError>,
->(
+pub fn deeper<C: Classes, F: Fn(&C, &mut Parser<'_>, usize, Call) -> Result<usize, AllocError>>(
     g: &Grammar<'_, C, F>,
     p: &mut Parser<'_>,
     call: Call,
