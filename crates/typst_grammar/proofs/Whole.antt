@@ -164,12 +164,12 @@ module _ (k : CharClasses) where
 
   settled-then : (s t : State) → Settled s → Rests s.reading s.held t → Settled t
   settled-then s t a b = record {
-      reading = b.reading ∙ a.reading;
-      held =
+    reading = b.reading ∙ a.reading;
+    held =
         let m : t.held.mode ≡ markup_reading.mode = (elim b.mode [ inl e ↦ e ∙ ap (λ (r : Reading). r.mode) a.held | inr e ↦ e ∙ ap (λ (r : Reading). r.mode) a.reading ]) in
         let n : t.held.at_newline ≡ markup_reading.at_newline = (elim b.rule [ inl e ↦ e ∙ ap (λ (r : Reading). r.at_newline) a.held | inr e ↦ e ∙ ap (λ (r : Reading). r.at_newline) a.reading ]) in
         λ i. record { mode = m i; at_newline = n i };
-    }
+  }
 
   abbrev Ended : Place → Outcome (Bool × ℕ) → Type 0
   Ended z o = is_end (kind_at (moved o.taken z) o.state) ≡ true
@@ -184,16 +184,16 @@ module _ (k : CharClasses) where
       let p = turns turn n o.value.1 (moved o.taken z) o.state in
       by_cases (is_end (kind_at z s))
       (λ e.
-        let t = turn-stops x z s e in
-        on_false (Ended z) (o.value.0 && nat_lt 0 o.taken) (joined o p) (as_last o) (ap (λ b. b && nat_lt 0 o.taken) t.says)
-        (ap (λ m. is_end (kind_at (moved m z) o.state)) t.taken ∙ ap (λ u. is_end (kind_at z u)) t.state ∙ e))
+      let t = turn-stops x z s e in
+      on_false (Ended z) (o.value.0 && nat_lt 0 o.taken) (joined o p) (as_last o) (ap (λ b. b && nat_lt 0 o.taken) t.says)
+      (ap (λ m. is_end (kind_at (moved m z) o.state)) t.taken ∙ ap (λ u. is_end (kind_at z u)) t.state ∙ e))
       (λ e.
-        let t = turn-goes x z s e in
-        let some = t.taken in
-        let most = within-at k max_depth (markup_turn End x) z s in
-        let fewer : length (moved o.taken z).ahead < n = omega (arith, ahead-left o.taken z) in
-        on_true (Ended z) (o.value.0 && nat_lt 0 o.taken) (joined o p) (as_last o) (ap (λ b. b && nat_lt 0 o.taken) t.says ∙ is-less o.taken some)
-        (ap (λ w. is_end (kind_at w p.state)) (moved-sum o.taken p.taken z) ∙ loop n o.value.1 (moved o.taken z) o.state fewer))
+      let t = turn-goes x z s e in
+      let some = t.taken in
+      let most = within-at k max_depth (markup_turn End x) z s in
+      let fewer : length (moved o.taken z).ahead < n = omega (arith, ahead-left o.taken z) in
+      on_true (Ended z) (o.value.0 && nat_lt 0 o.taken) (joined o p) (as_last o) (ap (λ b. b && nat_lt 0 o.taken) t.says ∙ is-less o.taken some)
+      (ap (λ w. is_end (kind_at w p.state)) (moved-sum o.taken p.taken z) ∙ loop n o.value.1 (moved o.taken z) o.state fewer))
 
   exprs-end : (z : Place) (s : State) → is_end (kind_at (moved (run top (markup_exprs true End) z s).taken z) (run top (markup_exprs true End) z s).state) ≡ true
   unfolding run markup_exprs repeated

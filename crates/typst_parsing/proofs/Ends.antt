@@ -57,10 +57,12 @@ unfolding marker_or_text
 marker-goes k s p h =
     elim (scout 0 p) as (λ o. Goes (elim o as (λ _. Reader Token) [
       | None ↦ ends k s true
-      | Some c ↦ if c == 47 then peek 1 (λ d. ends k s (passes (among (codes "/*")) d)) else ends k s (is_whitespace c) ]) p) [
-    | None ↦ h
-    | Some c ↦ goes-if (c == 47) (peek 1 (λ d. ends k s (passes (among (codes "/*")) d))) (ends k s (is_whitespace c)) p
-        (ends-goes k s p h (passes (among (codes "/*")) (scout 1 p))) (ends-goes k s p h (is_whitespace c)) ]
+      | Some c ↦ if c == 47 then peek 1 (λ d. ends k s (passes (among (codes "/*")) d)) else ends k s (is_whitespace c)
+    ]) p) [
+      | None ↦ h
+      | Some c ↦ goes-if (c == 47) (peek 1 (λ d. ends k s (passes (among (codes "/*")) d))) (ends k s (is_whitespace c)) p
+          (ends-goes k s p h (passes (among (codes "/*")) (scout 1 p))) (ends-goes k s p h (is_whitespace c))
+    ]
 
 point-goes : (digits : List ℕ) (p : Place) → Goes (code_point digits) p
 unfolding code_point

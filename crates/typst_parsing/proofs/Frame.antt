@@ -57,18 +57,18 @@ if-not false x u h = refl
 trivia-enough : (k : CharClasses) (m : SyntaxMode) (i j : ℕ) (z : Place) → length z.ahead ≤ i → length z.ahead ≤ j → Trivia k m i j z z
 trivia-enough k m zero zero z a b = record { nodes = refl; asks = refl }
 trivia-enough k m zero (suc j) z a b = record {
-    nodes = if-not (at_trivia k m z) _ _ (no-trivia k m z (omega arith));
-    asks = ap (λ l. looked 0 (look (token k m) z) ∷ l) (if-not (at_trivia k m z) _ _ (no-trivia k m z (omega arith)));
-  }
+  nodes = if-not (at_trivia k m z) _ _ (no-trivia k m z (omega arith));
+  asks = ap (λ l. looked 0 (look (token k m) z) ∷ l) (if-not (at_trivia k m z) _ _ (no-trivia k m z (omega arith)));
+}
 trivia-enough k m (suc i) zero z a b = record {
-    nodes = sym (if-not (at_trivia k m z) _ _ (no-trivia k m z (omega arith)));
-    asks = ap (λ l. looked 0 (look (token k m) z) ∷ l) (sym (if-not (at_trivia k m z) _ _ (no-trivia k m z (omega arith))));
-  }
+  nodes = sym (if-not (at_trivia k m z) _ _ (no-trivia k m z (omega arith)));
+  asks = ap (λ l. looked 0 (look (token k m) z) ∷ l) (sym (if-not (at_trivia k m z) _ _ (no-trivia k m z (omega arith))));
+}
 trivia-enough k m (suc i) (suc j) z a b =
     let l = len_at k m z in
     let left = ahead-left l z in
     let rest : at_trivia k m z ≡ true → Trivia k m i j (moved l z) (moved l z) = λ h.
-        (let some : 0 < l = ltb-true 0 l (and-second (is_trivia (token_at k m z).kind) (nat_lt 0 l) h) in trivia-enough k m i j (moved l z) (omega arith) (omega arith)) in
+    (let some : 0 < l = ltb-true 0 l (and-second (is_trivia (token_at k m z).kind) (nat_lt 0 l) h) in trivia-enough k m i j (moved l z) (omega arith) (omega arith)) in
     record {
       nodes = if-same (at_trivia k m z) _ _ _ (λ h. ap (after_trivia (token_at k m z) l (token_node (token_at k m z) (take l z.ahead))) (rest h).nodes);
       asks = ap (λ ls. looked 0 (look (token k m) z) ∷ ls) (if-same (at_trivia k m z) _ _ _ (λ h. ap (shift l) (rest h).asks));
@@ -94,7 +94,7 @@ trivia-frame k m (suc n) z w h =
     let tok = token_at k m z in
     let len = len_at k m z in
     let rest : at_trivia k m z ≡ true → Trivia k m n n (moved len z) (moved len w) = λ b.
-        trivia-frame k m n (moved len z) (moved len w) (same_in-shift len _ z w (held (at_trivia k m z) _ z w h.1 b)) in
+    trivia-frame k m n (moved len z) (moved len w) (same_in-shift len _ z w (held (at_trivia k m z) _ z w h.1 b)) in
     record {
       nodes = ap (λ x. step x (len_at k m w) (take (len_at k m w) w.ahead) (ahead_by k m n (moved (len_at k m w) w))) t.read
           ∙ ap (λ l. step tok l (take l w.ahead) (ahead_by k m n (moved l w))) t.len
@@ -126,13 +126,14 @@ and-third false b c d h = refl
 stops-same : (reading : Reading) (newlines : Newlines) (kind : SyntaxKind) (c d : ℕ) → (asks_column reading newlines ≡ true → c ≡ d) → stops reading newlines kind c ≡ stops reading newlines kind d
 stops-same reading newlines kind c d = elim reading.at_newline as (λ rule.
     ((newlines.any && (elim rule [ RequireColumn least ↦ is_markup reading.mode | _ ↦ false ])) ≡ true → c ≡ d)
-      → (newlines.any && (elim rule [ | Continue ↦ false | Stop ↦ true | ContextualContinue ↦ not (goes_on kind) | StopParBreak ↦ newlines.parbreak | RequireColumn least ↦ is_markup reading.mode && nat_le c least ]))
-      ≡ (newlines.any && (elim rule [ | Continue ↦ false | Stop ↦ true | ContextualContinue ↦ not (goes_on kind) | StopParBreak ↦ newlines.parbreak | RequireColumn least ↦ is_markup reading.mode && nat_le d least ]))) [
-    | Continue ↦ λ h. refl
-    | Stop ↦ λ h. refl
-    | ContextualContinue ↦ λ h. refl
-    | StopParBreak ↦ λ h. refl
-    | RequireColumn least ↦ λ h. and-third newlines.any (is_markup reading.mode) (nat_le c least) (nat_le d least) (λ e. ap (λ x. nat_le x least) (h e)) ]
+    → (newlines.any && (elim rule [ Continue ↦ false | Stop ↦ true | ContextualContinue ↦ not (goes_on kind) | StopParBreak ↦ newlines.parbreak | RequireColumn least ↦ is_markup reading.mode && nat_le c least ]))
+    ≡ (newlines.any && (elim rule [ Continue ↦ false | Stop ↦ true | ContextualContinue ↦ not (goes_on kind) | StopParBreak ↦ newlines.parbreak | RequireColumn least ↦ is_markup reading.mode && nat_le d least ]))) [
+      | Continue ↦ λ h. refl
+      | Stop ↦ λ h. refl
+      | ContextualContinue ↦ λ h. refl
+      | StopParBreak ↦ λ h. refl
+      | RequireColumn least ↦ λ h. and-third newlines.any (is_markup reading.mode) (nat_le c least) (nat_le d least) (λ e. ap (λ x. nat_le x least) (h e))
+    ]
 
 abbrev with_stop : Newlines → Ahead → Bool → Hand
 with_stop newlines a stop = record { kind = if stop then kind.End else a.token.kind; trivia = a.trivia; gap = a.gap; len = a.len; newlines = newlines; token = a.token }
@@ -153,11 +154,12 @@ hand-frame k held flushed z w h =
     let a = ahead k held.mode z in
     let newlines = both_newlines flushed a.newlines in
     let first = ahead-frame k held.mode z w (same_in-first (ahead_asks k held.mode z) _ z w h) in
-    let column = column-frame a.gap (asks_column held newlines) z w (same_in-second (ahead_asks k held.mode z) _ z w h) in
-    (ap (λ (b : Ahead). hand_by held flushed (column_at (moved b.gap w)) b) first.0 ∙ hand-same held flushed _ _ a column,
+    let column = column-frame a.gap (asks_column held newlines) z w (same_in-second (ahead_asks k held.mode z) _ z w h) in (
+      ap (λ (b : Ahead). hand_by held flushed (column_at (moved b.gap w)) b) first.0 ∙ hand-same held flushed _ _ a column,
       ap (λ (b : Ahead). ahead_asks k held.mode w ++ column_asks held (both_newlines flushed b.newlines) b.gap w) first.0
-        ∙ ap (λ ls. ls ++ column_asks held newlines a.gap w) first.1
-        ∙ ap (λ ls. ahead_asks k held.mode z ++ ls) (if-same (asks_column held newlines) _ _ _ (λ e. ap (λ c. looked a.gap (record { back = suc c; front = 0 }) ∷ []) (column e))))
+          ∙ ap (λ ls. ls ++ column_asks held newlines a.gap w) first.1
+          ∙ ap (λ ls. ahead_asks k held.mode z ++ ls) (if-same (asks_column held newlines) _ _ _ (λ e. ap (λ c. looked a.gap (record { back = suc c; front = 0 }) ∷ []) (column e))),
+    )
 
 -- ---- the frame
 
@@ -252,14 +254,14 @@ module _ (l : Level) where
       let gap = (hand_of l z s).gap in
       let c = column-same (moved gap z) (moved gap w) (same_in-second (hand_asks_of l z s) _ z w h).0 in
       ap (λ (x : Hand). columned s (hand_asks_of l w s) x.gap (column_at (moved x.gap w))) e.0
-        ∙ ap (λ ls. columned s ls gap (column_at (moved gap w))) e.1 ∙ ap (columned s (hand_asks_of l z s) gap) c
+      ∙ ap (λ ls. columned s ls gap (column_at (moved gap w))) e.1 ∙ ap (columned s (hand_asks_of l z s) gap) c
   framed-done erred z w s h = refl
   framed-done (takes trims making) z w s h =
       let x = hand_of l z s in
       let e = at_hand z w s (same_in-first (hand_asks_of l z s) _ z w h) in
       let text = passed-same x.gap x.len z w (same_in-second (hand_asks_of l z s) _ z w h).0 in
       ap (λ (y : Hand). took trims making s (hand_asks_of l w s) y (take y.len (moved y.gap w).ahead)) e.0
-        ∙ ap (λ ls. took trims making s ls x (take x.len (moved x.gap w).ahead)) e.1 ∙ ap (took trims making s (hand_asks_of l z s) x) text
+      ∙ ap (λ ls. took trims making s ls x (take x.len (moved x.gap w).ahead)) e.1 ∙ ap (took trims making s (hand_asks_of l z s) x) text
   framed-done flushes z w s h =
       let e = at_hand z w s (same_in-first (hand_asks_of l z s) _ z w h) in
       ap (flushed s (hand_asks_of l w s)) e.0 ∙ ap (λ ls. flushed s ls (hand_of l z s)) e.1

@@ -67,8 +67,8 @@ text-wanted : (thing : List ℕ) (t : Tree) → text_of (made_expected thing t) 
 text-wanted thing t =
     on (λ (u : Tree). text_of u ≡ text_of t) (is_error t.head.kind) t (expected_error thing t) refl
     (on (λ (u : Tree). text_of u ≡ text_of t) (is_lost_name t.head.kind thing)
-      (advised (hint_with None (keyword_hint (text_of t))) (error_of (expected_message thing (name_of t.head.kind)) (text_of t)))
-      (error_of (expected_message thing (name_of t.head.kind)) (text_of t)) (append-nil (text_of t)) (append-nil (text_of t)))
+    (advised (hint_with None (keyword_hint (text_of t))) (error_of (expected_message thing (name_of t.head.kind)) (text_of t)))
+    (error_of (expected_message thing (name_of t.head.kind)) (text_of t)) (append-nil (text_of t)) (append-nil (text_of t)))
 
 text-advised : (hints : List (List ℕ)) (t : Tree) → text_of (all_advised hints t) ≡ text_of t
 text-advised [] t = refl
@@ -142,7 +142,7 @@ ahead-texts k m (suc n) z =
     let rest = ahead_by k m n (moved l z) in
     on (λ (a : Ahead). texts a.trivia ≡ utf8_ahead a.gap z) (at_trivia k m z) (after_trivia t l node rest) (direct t l)
     (texts-first node rest.trivia ∙ ap (λ x. x ++ texts rest.trivia) (text-token t (take l z.ahead))
-      ∙ ap (λ x. utf8_ahead l z ++ x) (ahead-texts k m n (moved l z)) ∙ text-add l rest.gap z)
+    ∙ ap (λ x. utf8_ahead l z ++ x) (ahead-texts k m n (moved l z)) ∙ text-add l rest.gap z)
     refl
 
 -- the trivia at hand hold the characters before the token

@@ -145,7 +145,7 @@ token-same k m z w g =
     let f = (look (token k m) z).front in
     let at_w : min (eaten (token k m) z) (suc (length w.ahead)) ≤ f = omega (arith, front-covers (token k m) w, ap (λ l. l.front) s.looks, s.lengths) in
     let both = lengths-same (eaten (token k m) z) (length z.ahead) (length w.ahead) f
-        (λ l. marked-length f z.ahead w.ahead l g.ahead) (λ l. marked-length f w.ahead z.ahead l (sym g.ahead)) (front-covers (token k m) z) at_w in
+    (λ l. marked-length f z.ahead w.ahead l g.ahead) (λ l. marked-length f w.ahead z.ahead l (sym g.ahead)) (front-covers (token k m) z) at_w in
     record {
       read = sym s.answers;
       len = omega (arith, both, s.lengths);

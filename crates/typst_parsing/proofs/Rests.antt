@@ -38,10 +38,10 @@ through x y q h r a e b = elim b [ inl f ↦ (elim a [ inl g ↦ inl (f ∙ g) |
 
 rests-then : (r h : Reading) (s t : State) → Rests r h s → Rests s.reading s.held t → Rests r h t
 rests-then r h s t a b = record {
-    reading = b.reading ∙ a.reading;
-    mode = through t.held.mode s.held.mode s.reading.mode h.mode r.mode a.mode (ap (λ (x : Reading). x.mode) a.reading) b.mode;
-    rule = through t.held.at_newline s.held.at_newline s.reading.at_newline h.at_newline r.at_newline a.rule (ap (λ (x : Reading). x.at_newline) a.reading) b.rule;
-  }
+  reading = b.reading ∙ a.reading;
+  mode = through t.held.mode s.held.mode s.reading.mode h.mode r.mode a.mode (ap (λ (x : Reading). x.mode) a.reading) b.mode;
+  rule = through t.held.at_newline s.held.at_newline s.reading.at_newline h.at_newline r.at_newline a.rule (ap (λ (x : Reading). x.at_newline) a.reading) b.rule;
+}
 
 -- two states that are read alike
 record Alike (s t : State) : Type 0 where

@@ -27,4 +27,5 @@ text-fault f taken = text-hints (hints f) (error_of (message f taken) (encode_ut
 pub text-token : (t : Token) (taken : List ℕ) → text_of (token_node t taken) ≡ encode_utf8_all taken
 text-token t taken = elim t.fault as (λ o. text_of (elim o as (λ _. Tree) [ None ↦ plain_node t taken | Some f ↦ fault_node f taken ]) ≡ encode_utf8_all taken) [
   | None ↦ text-plain t taken
-  | Some f ↦ text-fault f taken ]
+  | Some f ↦ text-fault f taken
+]
