@@ -52,15 +52,21 @@ fn tree(
     }
 }
 
-/// Adds the numbers of the nodes to `all`, each before its children's, 0 for a detached one.
-fn numbers(node: &SyntaxNode, all: &mut Vec<u64>) -> Result<(), AllocError> {
-    let number = match node.span().number() {
-        None => 0,
-        Some(number) => number.get(),
-    };
-    all.push(number)?;
-    for kid in node.children() {
-        numbers(kid, all)?;
+/// Adds the numbers of the first thousand nodes to `all`, each before its children's, 0 for a
+/// detached one.
+fn numbers(alloc: Global, root: &SyntaxNode, all: &mut Vec<u64>) -> Result<(), AllocError> {
+    let mut left = Vec::new(alloc);
+    left.push(root)?;
+    for _ in 0..1000 {
+        let Some(node) = left.pop() else { break };
+        let number = match node.span().number() {
+            None => 0,
+            Some(number) => number.get(),
+        };
+        all.push(number)?;
+        for kid in node.children().iter().rev() {
+            left.push(kid)?;
+        }
     }
     Ok(())
 }
@@ -72,7 +78,7 @@ fn has_numbers(
     want: &[u64],
 ) -> Result<(), AllocError> {
     let mut all = Vec::new(alloc);
-    numbers(node, &mut all)?;
+    numbers(alloc, node, &mut all)?;
     assert_eq!(rt; all.as_slice(), want);
     Ok(())
 }
@@ -175,14 +181,14 @@ fn what_stays_keeps_its_number(rt: HostRuntime) -> Result<(), Fail> {
     let mut node = SyntaxNode::inner(SyntaxKind::Markup, kids);
     assert_eq!(rt; number(&mut node, 2, END), Ok(()));
     let mut old = Vec::new(alloc);
-    numbers(&node, &mut old)?;
+    numbers(alloc, &node, &mut old)?;
     let mut new = Vec::new(alloc);
     for text in ["b", "x", "d"] {
         new.push(leaf(alloc, SyntaxKind::Text, text)?)?;
     }
     assert_eq!(rt; replace(&mut node, &[], 1, 4, new), Ok(()));
     let mut now = Vec::new(alloc);
-    numbers(&node, &mut now)?;
+    numbers(alloc, &node, &mut now)?;
     assert_eq!(rt; now.len(), old.len());
     for (i, (a, b)) in old.iter().zip(now.iter()).enumerate() {
         assert_eq!(rt; i == 3 || a == b, true, "child {i}");
@@ -207,7 +213,7 @@ fn two_hundred_replacements(rt: HostRuntime) -> Result<(), Fail> {
         one.push(leaf(alloc, SyntaxKind::Shorthand, "~")?)?;
         assert_eq!(rt; replace(&mut node, &[], at, at, one), Ok(()));
         let mut all = Vec::new(alloc);
-        numbers(&node, &mut all)?;
+        numbers(alloc, &node, &mut all)?;
         assert_eq!(rt; all.len(), turn + 5);
         assert!(rt;
             all.windows(2).all(|pair| pair.first() < pair.last()),
@@ -221,7 +227,7 @@ fn two_hundred_replacements(rt: HostRuntime) -> Result<(), Fail> {
 /// Whether both are the same, spans too.
 fn same(rt: &impl Abort, alloc: Global, a: &SyntaxNode, b: &SyntaxNode) -> bool {
     let (mut one, mut other) = (Vec::new(alloc), Vec::new(alloc));
-    if numbers(a, &mut one).is_err() || numbers(b, &mut other).is_err() {
+    if numbers(alloc, a, &mut one).is_err() || numbers(alloc, b, &mut other).is_err() {
         return true;
     }
     assert_eq!(rt; one.as_slice(), other.as_slice());
