@@ -1,5 +1,5 @@
 //! Worked values: the table, positions, edits, line ends.
-use crate::{Lines, LinesFrom, Scanner, ScannerExt, Text, is_newline, split_newlines};
+use crate::{Lines, Scanner, ScannerExt, Text, is_newline, split_newlines};
 use std::alloc::{AllocError, Global};
 use std::collections::HashSet;
 use std::process::Abort;
@@ -114,31 +114,30 @@ fn inside_a_pair(rt: HostRuntime) -> Result<(), Fail> {
 #[test]
 fn edits(rt: HostRuntime) -> Result<(), Fail> {
     let table = [
-        (TEXT, 0, 21, ""),
-        ("a\rb\nc", 2, 3, ""),
-        ("a\r\nb", 2, 2, "x"),
-        ("abc\n", 0, 0, "hi\n"),
-        ("\nabc", 0, 0, "hi\r"),
-        (TEXT, 4, 16, "❌"),
-        ("abc\ndef", 7, 7, "hi"),
-        ("abc\ndef\n", 8, 8, "hi"),
-        ("abc\ndef\r", 8, 8, "\nghi"),
-        ("a\r\nb", 1, 2, ""),
-        ("a\n", 1, 1, "\r"),
+        (TEXT, 0, 21, "", ""),
+        ("a\rb\nc", 2, 3, "", "a\r\nc"),
+        ("a\r\nb", 2, 2, "x", "a\rx\nb"),
+        ("abc\n", 0, 0, "hi\n", "hi\nabc\n"),
+        ("\nabc", 0, 0, "hi\r", "hi\r\nabc"),
+        (TEXT, 4, 16, "❌", "ä\tc❌i\rjkl"),
+        ("abc\ndef", 7, 7, "hi", "abc\ndefhi"),
+        ("abc\ndef\n", 8, 8, "hi", "abc\ndef\nhi"),
+        ("abc\ndef\r", 8, 8, "\nghi", "abc\ndef\r\nghi"),
+        ("a\r\nb", 1, 2, "", "a\nb"),
+        ("a\n", 1, 1, "\r", "a\r\n"),
     ];
-    for (text, start, end, with) in table {
+    for (text, start, end, with, wanted) in table {
         let mut edited = lines_of(rt.alloc(), text)?;
-        assert!(rt; start <= end && text.is_char_boundary(start) && text.is_char_boundary(end));
+        assert!(rt; start <= end);
+        assert!(rt; edited.text().is_char_boundary(start));
+        assert!(rt; edited.text().is_char_boundary(end));
         edited.edit(start..end, with)?;
-        let mut wanted = String::from_str(rt.alloc(), &text[..start])?;
-        wanted.push_str(with)?;
-        wanted.push_str(&text[end..])?;
         let mut replaced = lines_of(rt.alloc(), text)?;
-        let changed = replaced.replace(wanted.as_str())?;
-        assert_eq!(rt; changed, text != wanted.as_str());
-        let anew = Lines::new(rt.alloc(), wanted)?;
-        assert_eq!(rt; edited.text(), anew.text());
-        assert_eq!(rt; replaced.text(), anew.text());
+        let changed = replaced.replace(wanted)?;
+        assert!(rt; changed);
+        let anew = lines_of(rt.alloc(), wanted)?;
+        assert_eq!(rt; edited.text(), wanted);
+        assert_eq!(rt; replaced.text(), wanted);
         assert_eq!(rt; edited.len_lines(), anew.len_lines());
         for i in 0..anew.len_lines() {
             assert_eq!(rt; edited.line(i), anew.line(i));
@@ -202,17 +201,6 @@ fn line_ends(rt: HostRuntime) -> Result<(), Fail> {
     let stretches = split_newlines(rt.alloc(), "")?;
     assert_eq!(rt; stretches.as_slice(), [""].as_slice());
     Ok(())
-}
-
-#[test]
-fn lines_after_a_place(rt: HostRuntime) {
-    let text = "a\nb\nc\n";
-    assert!(rt; text.is_char_boundary(0));
-    let mut seen = 0;
-    for line in LinesFrom::new(text, 0, 0) {
-        seen += line.byte_idx();
-    }
-    assert_eq!(rt; seen, 2 + 4 + 6);
 }
 
 #[test]

@@ -9,7 +9,7 @@ use std::cell::Cell;
 use std::process::Abort;
 use typst_lexer::MathClass::{self, Alphabetic, Closing, Opening};
 use typst_lexer::{Classes, UnicodeClasses, is_id_continue, is_id_start, is_ident};
-use typst_lines::table::is_newline;
+use typst_lines::is_newline;
 
 /// Starts an identifier, continues one, is alphabetic, alphanumeric, numeric, of a word; and what
 /// it does in a formula.
