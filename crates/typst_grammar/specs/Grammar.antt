@@ -1,0 +1,70 @@
+-- The whole grammar: what is read one level deeper, and the tree of a text.
+use Rattle.std.specs.Prelude.{ℕ, zero, suc, Bool, true, false, ◌||◌, List, []}
+use Rattle.typst_kinds.specs.declared.kind.SyntaxKind.TheVariants as kind
+use Rattle.typst_kinds.specs.declared.mode.SyntaxMode.TheVariants as mode
+use Rattle.typst_lines.specs.Place.{Place}
+use Rattle.typst_node.specs.Tree.{Tree, forest, inner_of}
+use Rattle.typst_lexer.specs.Classes.{CharClasses}
+use Rattle.typst_parsing.specs.declared.reading.AtNewline.TheVariants.{Continue}
+use Rattle.typst_parsing.specs.declared.reading.Block.{Block}
+use Rattle.typst_parsing.specs.declared.reading.Call.{Call}
+use Rattle.typst_parsing.specs.declared.reading.Call.TheVariants.{MarkupExpr}
+use Rattle.typst_parsing.specs.declared.reading.Mark.TheVariants.{Piece}
+use Rattle.typst_parsing.specs.declared.reading.Reading.{Reading}
+use Rattle.typst_parsing.specs.declared.reading.State.{State}
+use Rattle.typst_parsing.specs.declared.stop.Stop.TheVariants.{End}
+use Rattle.typst_parsing.specs.Hand.{no_newlines}
+use Rattle.typst_parsing.specs.Syntax.{Parser, ◌>>=◌, ◌>>◌}
+use Rattle.typst_parsing.specs.Syntax.Op.{marks}
+use Rattle.typst_parsing.specs.Syntax.Parser.{gives, does}
+use Rattle.typst_parsing.specs.Steps.{flush_trivia}
+use Rattle.typst_parsing.specs.Meaning.{Outcome, Meaning, Level, plain, run}
+use Rattle.typst_markup.specs.Markup.{markup_expr, markup_exprs}
+
+-- what a call reads
+abbrev pub production : Call → Parser ℕ
+production (MarkupExpr at_start nesting) = markup_expr at_start nesting
+
+-- blocks come with code
+abbrev pub has : Block → Bool
+has b = false
+
+abbrev pub blocks : Block → Meaning (Unit {0})
+blocks b z s = plain tt s
+
+-- what a call gives below so many levels; at the limit none is made
+unfoldable pub meaning : CharClasses → ℕ → Call → Meaning ℕ
+meaning k zero call = λ z s. record (plain 0 s) { met = true }
+meaning k (suc level) call = run (record { classes = k; level = level; deeper = meaning k level; has = has; blocks = blocks }) (production call)
+
+-- where so many levels are left
+abbrev pub level_at : CharClasses → ℕ → Level
+level_at k level = record { classes = k; level = level; deeper = meaning k level; has = has; blocks = blocks }
+
+-- how deep calls may nest
+abbrev pub max_depth : ℕ
+max_depth = 256
+
+abbrev pub markup_reading : Reading
+markup_reading = record { mode = mode.Markup; at_newline = Continue }
+
+abbrev pub start_state : Reading → State
+start_state r = record { reading = r; held = r; flushed = no_newlines; empties = 0; is_after_error = false }
+
+abbrev pub start_of : List ℕ → Place
+start_of text = record { behind = []; ahead = text }
+
+-- the expressions of a whole text, with all trivia
+unfoldable pub whole : Parser (Unit {0})
+whole = do
+  noted ← does (marks 0 (Piece true 0))
+  read ← markup_exprs true End
+  flush_trivia
+
+-- what is read of the characters of a text, where so many levels are left
+abbrev pub parsed : CharClasses → ℕ → List ℕ → Outcome (Unit {0})
+parsed k level text = run (level_at k level) whole (start_of text) (start_state markup_reading)
+
+-- the tree of the characters of a text
+unfoldable pub tree : CharClasses → List ℕ → Tree
+tree k text = inner_of kind.Markup (forest (parsed k max_depth text).nodes)

@@ -1,0 +1,71 @@
+//! The knot: what is read one level deeper, and whole texts.
+
+ghost use Rattle.std.specs.Prelude.{◌≡◌, ◌<◌, IfOk};
+ghost use Rattle.std.specs.Str.{chars};
+ghost use Rattle.typst_node.specs.Tree.{text_of};
+ghost use Rattle.typst_parsing.specs.Meaning.{Level};
+ghost use Rattle.typst_parsing.specs.View.{Calls, MayNest, Nests, Reads};
+ghost use Rattle.typst_grammar.specs.Grammar as spec;
+
+use std::alloc::{AllocError, Global};
+use typst_kinds::{SyntaxKind, SyntaxMode};
+use typst_lexer::Classes;
+use typst_markup::{markup_expr, markup_exprs};
+use typst_node::SyntaxNode;
+use typst_parsing::{AtNewline, Call, Grammar, Parser, Reading, Stop};
+
+/// How deep calls may nest.
+const MAX_DEPTH: usize = 256;
+
+/// Reads what a call asks for.
+pub fn production<C: Classes, F: Fn(&C, &mut Parser<'_>, usize, Call) -> Result<usize, AllocError>>(
+    g: &Grammar<'_, C, F>,
+    p: &mut Parser<'_>,
+    call: Call,
+) -> Result<usize, AllocError>
+    requires { MayNest g.now.depth (F.pre g.now.call g.now.classes) }
+    ensures { (l : Level) → l.classes ≡ C.classes g.now.classes.now → Nests l g.now.depth (F.post g.now.call g.now.classes) → Reads l (spec.production call) p.old result p.new }
+{
+    match call {
+        Call::MarkupExpr(at_start, nesting) => Ok(markup_expr(g, p, at_start, nesting)?),
+    }
+}
+
+/// Makes a call where so many levels are left.
+pub fn make_call<C: Classes>(
+    classes: &C,
+    p: &mut Parser<'_>,
+    depth: usize,
+    call: Call,
+) -> Result<usize, AllocError>
+    requires { 0 < depth }
+    ensures { Calls (spec.level_at (C.classes classes.now) depth) call p.old result p.new }
+{
+    let below = Grammar {
+        classes,
+        depth: depth - 1,
+        call: make_call::<C>,
+    };
+    Ok(production(&below, p, call)?)
+}
+
+/// The syntax tree of a text of markup, with detached spans. Any text has one; its leaves joined are
+/// the text. It refuses only for want of memory.
+pub fn parse<C: Classes>(alloc: Global, text: &str, classes: &C) -> Result<SyntaxNode, AllocError>
+    ensures tree { IfOk result (λ t. t ≡ spec.tree (C.classes classes.now) (chars text.now)) }
+    ensures leaves { IfOk result (λ t. text_of t ≡ text.now) }
+{
+    let reading = Reading {
+        mode: SyntaxMode::Markup,
+        at_newline: AtNewline::Continue,
+    };
+    let mut p = Parser::new(alloc, text, reading, classes)?;
+    let g = Grammar {
+        classes,
+        depth: MAX_DEPTH,
+        call: make_call::<C>,
+    };
+    markup_exprs(&g, &mut p, true, Stop::End)?;
+    p.flush_trivia()?;
+    Ok(SyntaxNode::inner(SyntaxKind::Markup, p.finish()))
+}

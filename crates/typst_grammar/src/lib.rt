@@ -1,0 +1,8 @@
+//! The grammar: the syntax tree of a text, and the laws of the definition.
+#![tactic(auto)]
+
+mod grammar;
+mod laws;
+
+pub use grammar::{make_call, parse, production};
+pub use laws::{depth_law, frame_law, leaves_law};

@@ -1,0 +1,31 @@
+-- How the code of markup composes.
+use Rattle.std.proofs.Common.{◌≡◌, ℕ, Bool, List, ap, sym, subst, ◌∙◌}
+use denote.Ref.{MutBor}
+use Rattle.std.specs.Prelude.{Result}
+use Rattle.std.specs.declared.alloc.AllocError.{AllocError}
+use Rattle.typst_parsing.specs.declared.reading.Call.{Call}
+use Rattle.typst_parsing.specs.declared.reading.Reading.{Reading}
+use Rattle.typst_parsing.specs.Meaning.{Level, entered}
+use Rattle.typst_parsing.specs.Syntax.{Parser}
+use Rattle.typst_parsing.specs.Steps.{within}
+use Rattle.typst_parsing.specs.View.{View, Does, Left}
+use Rattle.typst_parsing.proofs.Steps.{does-within}
+use Rattle.typst_markup.specs.declared.head.MarkupHead.{MarkupHead}
+use Rattle.typst_markup.specs.Markup.{markup_by}
+
+pub at-head : {l : Level} (n : ℕ) (h i : MarkupHead) {a : ℕ} {old new : View} → h ≡ i → Does l (markup_by n i) a old new → Does l (markup_by n h) a old new
+at-head {l = l} n h i {a = a} {old = old} {new = new} e d = subst (λ (x : MarkupHead). Does l (markup_by n x) a old new) (sym e) d
+
+pub does-value : {A : Type 0} {l : Level} {p : Parser A} {a b : A} {old new : View} → b ≡ a → Does l p a old new → Does l p b old new
+does-value {A = A} {l = l} {p = p} {old = old} {new = new} e d = subst (λ (x : A). Does l p x old new) (sym e) d
+
+-- the code entered a reading, and left it
+pub does-entered : {A : Type 0} {l : Level} (f : Reading → Reading) {p : Parser A} {a : A} {outer : Reading} {old inner mid new : View}
+    → inner ≡ record old { state = entered (f old.state.reading) old.state } → Does l p a inner mid → outer ≡ old.state.reading → Left l outer mid new → Does l (within f p) a old new
+does-entered {l = l} f {p = p} {a = a} {old = old} {mid = mid} {new = new} e d o t =
+    does-within f (subst (λ (v : View). Does l p a v mid) e d) (subst (λ (r : Reading). Left l r mid new) o t)
+
+-- a bound's post, as invariants name it
+abbrev pub spread : {R : Type 0} → (R × (MutBor View × (ℕ × (Call × Unit {0}))) → Result ℕ AllocError × (MutBor View × Unit {0}) → Type 0)
+    → R → MutBor View → ℕ → Call → Result ℕ AllocError → MutBor View → Type 0
+spread post classes old depth call r new = post (classes, (old, (depth, (call, tt)))) (r, (new, tt))

@@ -1,0 +1,170 @@
+-- The productions of markup.
+use Rattle.std.specs.Prelude.{ℕ, suc, ◌+◌, ◌-◌, ◌^◌, min, Bool, true, false, not, ◌||◌, ◌&&◌, if◌then◌else◌, ◌==◌, nat_lt, List, [], ◌∷◌, codes, Option, Some, None}
+use Rattle.typst_kinds.specs.declared.kind.SyntaxKind.{SyntaxKind}
+use Rattle.typst_kinds.specs.declared.kind.SyntaxKind.TheVariants as kind
+use Rattle.typst_parsing.specs.declared.reading.AtNewline.{AtNewline}
+use Rattle.typst_parsing.specs.declared.reading.AtNewline.TheVariants as newline
+use Rattle.typst_parsing.specs.declared.reading.Call.{Call}
+use Rattle.typst_parsing.specs.declared.reading.Call.TheVariants.{MarkupExpr}
+use Rattle.typst_parsing.specs.declared.reading.Mark.TheVariants as mark
+use Rattle.typst_parsing.specs.declared.reading.Reading.{Reading}
+use Rattle.typst_parsing.specs.Hand.{Hand}
+use Rattle.typst_parsing.specs.Shape.{Shape, Seen, is_nil}
+use Rattle.typst_parsing.specs.Shape.Shape.{becomes, unclosed, warns, fails}
+use Rattle.typst_parsing.specs.Syntax.{Parser, ◌>>=◌, ◌>>◌}
+use Rattle.typst_parsing.specs.Syntax.Op.{column, marks, is_deepest}
+use Rattle.typst_parsing.specs.Syntax.Parser.{gives, does, pick, repeat, calls}
+use Rattle.typst_parsing.specs.Steps.{peek, eat, convert_and_eat, eat_if, unexpected, expect, within, node, node_with_trivia}
+use Rattle.typst_parsing.specs.Depth.{one_more, too_deep, deeper, stops_at, is_colon, is_star, is_underscore}
+use Rattle.typst_parsing.specs.Steps.{note}
+use Rattle.typst_parsing.specs.declared.stop.Stop.{Stop}
+use Rattle.typst_parsing.specs.declared.stop.Stop.TheVariants as stop
+use Rattle.typst_markup.specs.declared.head.MarkupHead.{MarkupHead}
+use Rattle.typst_markup.specs.declared.head.MarkupHead.TheVariants as head
+
+abbrev pub is_right_bracket : SyntaxKind → Bool
+is_right_bracket kind.RightBracket = true
+is_right_bracket _ = false
+
+-- ---- sequences
+
+-- a sequence ends at a stop, but not at a bracket that closes one of its own
+abbrev pub ends : Stop → ℕ → SyntaxKind → Bool
+ends at nesting k = if is_right_bracket k then stops_at at k && nesting == 0 else stops_at at k
+
+-- the expressions of the root and of a content block are noted
+abbrev pub is_run : Stop → Bool
+is_run stop.End = true
+is_run stop.Content = true
+is_run _ = false
+
+unfoldable pub note_piece : Stop → Bool → ℕ → Parser (Unit {0})
+note_piece at at_start nesting = pick (is_run at) (note (mark.Piece at_start nesting)) (gives tt)
+
+-- one expression, with whether a newline was passed behind it, and the brackets that are open then
+unfoldable pub markup_turn : Stop → Bool × ℕ → Parser (Bool × (Bool × ℕ))
+markup_turn at x = do
+  ahead ← peek
+  pick (ends at x.1 ahead.kind) (gives (false, x)) (do
+    nesting ← deeper (MarkupExpr x.0 x.1) x.1
+    after ← peek
+    noted ← note_piece at after.newlines.any nesting
+    gives (true, (after.newlines.any, nesting)))
+
+-- expressions, up to a stop
+unfoldable pub markup_exprs : Bool → Stop → Parser (Unit {0})
+markup_exprs at_start at = do
+  is_deep ← does is_deepest
+  pick is_deep (too_deep (Some at)) (do
+    ahead ← peek
+    x ← repeat (markup_turn at) (at_start || ahead.newlines.any, 0)
+    gives tt)
+
+-- a sequence as one node, which begins at its first token
+unfoldable pub markup : Bool → Stop → Parser (Unit {0})
+markup at_start at = node (λ _. becomes kind.Markup) (markup_exprs at_start at)
+
+-- a sequence as one node with the trivia at both ends; answers whether nothing stands there
+unfoldable pub markup_is_empty : Bool → Stop → Parser Bool
+markup_is_empty at_start at = do
+  inside ← node_with_trivia kind.Markup (markup_exprs at_start at)
+  gives (is_nil inside)
+
+-- ---- expressions
+
+abbrev pub at_newline : AtNewline → Reading → Reading
+at_newline rule r = record r { at_newline = rule }
+
+-- what stands between two delimiters: where the second is missing the first is an error, and where nothing stands between them there is a warning
+abbrev pub emphasized : SyntaxKind → List ℕ → List ℕ → Bool × Bool → Shape
+emphasized k warning hint x = if x.0 then (if x.1 then warns k warning hint else becomes k) else unclosed k
+
+-- `*..*`, which doesn't go past a parbreak
+unfoldable pub strong : Parser (Unit {0})
+strong = within (at_newline newline.StopParBreak) (do
+  x ← node (emphasized kind.Strong (codes "no text within stars") (codes "using multiple consecutive stars (e.g. **) has no additional effect")) (do
+    star ← eat
+    is_empty ← markup_is_empty false stop.Strong
+    closed ← eat_if is_star
+    gives (closed, is_empty))
+  gives tt)
+
+-- `_.._`, which doesn't go past a parbreak
+unfoldable pub emph : Parser (Unit {0})
+emph = within (at_newline newline.StopParBreak) (do
+  x ← node (emphasized kind.Emph (codes "no text within underscores") (codes "using multiple consecutive underscores (e.g. __) has no additional effect")) (do
+    underscore ← eat
+    is_empty ← markup_is_empty false stop.Emph
+    closed ← eat_if is_underscore
+    gives (closed, is_empty))
+  gives tt)
+
+-- a marker and the rest of its line, up to a label
+unfoldable pub heading : Parser (Unit {0})
+heading = within (at_newline newline.Stop) (node (λ _. becomes kind.Heading) (eat >> markup false stop.Heading))
+
+-- a marker, and what stands in a greater column than it
+abbrev pub item : SyntaxKind → Parser (Unit {0})
+item k = do
+  here ← does column
+  within (at_newline (newline.RequireColumn here)) (node (λ _. becomes k) (eat >> markup true stop.Item))
+
+-- `- ..`
+unfoldable pub list_item : Parser (Unit {0})
+list_item = item kind.ListItem
+
+-- `+ ..` and `1. ..`
+unfoldable pub enum_item : Parser (Unit {0})
+enum_item = item kind.EnumItem
+
+-- a marker with the rest of its line up to a colon, and behind the colon what stands in a greater column than the marker
+unfoldable pub term_item : Parser (Unit {0})
+term_item = do
+  here ← does column
+  within (at_newline (newline.RequireColumn here)) (node (λ _. becomes kind.TermItem) (do
+    term ← within (at_newline newline.Stop) (eat >> markup false stop.Term)
+    colon ← expect is_colon (codes "colon")
+    markup true stop.Item))
+
+-- what the token at hand begins; markers are text where no line begins
+abbrev pub markup_head : Bool → ℕ → SyntaxKind → MarkupHead
+markup_head at_start nesting kind.LeftBracket = head.Opening
+markup_head at_start nesting kind.RightBracket = if nesting == 0 then head.Stray else head.Closing
+markup_head at_start nesting kind.Shebang = head.Itself
+markup_head at_start nesting kind.Text = head.Itself
+markup_head at_start nesting kind.Linebreak = head.Itself
+markup_head at_start nesting kind.Escape = head.Itself
+markup_head at_start nesting kind.Shorthand = head.Itself
+markup_head at_start nesting kind.SmartQuote = head.Itself
+markup_head at_start nesting kind.Link = head.Itself
+markup_head at_start nesting kind.Label = head.Itself
+markup_head at_start nesting kind.Raw = head.Itself
+markup_head at_start nesting kind.Star = head.Strong
+markup_head at_start nesting kind.Underscore = head.Emph
+markup_head at_start nesting kind.HeadingMarker = if at_start then head.Heading else head.Plain
+markup_head at_start nesting kind.ListMarker = if at_start then head.ListItem else head.Plain
+markup_head at_start nesting kind.EnumMarker = if at_start then head.EnumItem else head.Plain
+markup_head at_start nesting kind.TermMarker = if at_start then head.TermItem else head.Plain
+markup_head at_start nesting kind.Colon = head.Plain
+markup_head at_start nesting _ = head.Unexpected
+
+-- what is read there, with the brackets that are open behind it
+abbrev pub markup_by : ℕ → MarkupHead → Parser ℕ
+markup_by nesting head.Itself = eat >> gives nesting
+markup_by nesting head.Opening = convert_and_eat kind.Text >> gives (one_more nesting)
+markup_by nesting head.Closing = convert_and_eat kind.Text >> gives (nesting - 1)
+markup_by nesting head.Stray = unexpected (codes "try using a backslash escape: \\]" ∷ []) >> gives nesting
+markup_by nesting head.Strong = strong >> gives nesting
+markup_by nesting head.Emph = emph >> gives nesting
+markup_by nesting head.Heading = heading >> gives nesting
+markup_by nesting head.ListItem = list_item >> gives nesting
+markup_by nesting head.EnumItem = enum_item >> gives nesting
+markup_by nesting head.TermItem = term_item >> gives nesting
+markup_by nesting head.Plain = convert_and_eat kind.Text >> gives nesting
+markup_by nesting head.Unexpected = unexpected [] >> gives nesting
+
+-- one expression of markup
+unfoldable pub markup_expr : Bool → ℕ → Parser ℕ
+markup_expr at_start nesting = do
+  ahead ← peek
+  markup_by nesting (markup_head at_start nesting ahead.kind)

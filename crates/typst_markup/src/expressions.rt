@@ -1,0 +1,205 @@
+//! The expressions of markup.
+
+ghost use Rattle.std.specs.Prelude.{◌≡◌, ◌<◌, OnOk, false};
+ghost use Rattle.typst_kinds.specs.Kinds.{is_error};
+ghost use Rattle.typst_parsing.specs.Meaning.{Level};
+ghost use Rattle.typst_parsing.specs.View.{MayNest, Nests, Reads, Rewrapped};
+ghost use Rattle.typst_markup.specs.Markup as spec;
+
+use crate::head::{MarkupHead, markup_head};
+use crate::sequences::{markup, markup_with_trivia};
+use std::alloc::AllocError;
+use typst_kinds::SyntaxKind;
+use typst_lexer::Classes;
+use typst_parsing::{AtNewline, Call, Grammar, Parser, Stop, is_colon, is_star, is_underscore};
+
+/// `*..*`
+pub fn strong<C: Classes, F: Fn(&C, &mut Parser<'_>, usize, Call) -> Result<usize, AllocError>>(
+    g: &Grammar<'_, C, F>,
+    p: &mut Parser<'_>,
+) -> Result<(), AllocError>
+    requires { MayNest g.now.depth (F.pre g.now.call g.now.classes) }
+    ensures { (l : Level) → l.classes ≡ C.classes g.now.classes.now → Nests l g.now.depth (F.post g.now.call g.now.classes) → Reads l (spec.strong) p.old result p.new }
+{
+    let outer = p.enter_rule(AtNewline::StopParBreak);
+    let from = p.marker();
+    p.eat(g.classes)?;
+    let is_empty = markup_with_trivia(g, p, false, Stop::Strong)?;
+    let closed = p.eat_if(is_star(p.current()), g.classes)?;
+    wrap_emphasized(
+        p,
+        from,
+        SyntaxKind::Strong,
+        closed,
+        is_empty,
+        "no text within stars",
+        "using multiple consecutive stars (e.g. **) has no additional effect",
+    )?;
+    p.leave(outer, g.classes)?;
+    Ok(())
+}
+
+/// `_.._`
+pub fn emph<C: Classes, F: Fn(&C, &mut Parser<'_>, usize, Call) -> Result<usize, AllocError>>(
+    g: &Grammar<'_, C, F>,
+    p: &mut Parser<'_>,
+) -> Result<(), AllocError>
+    requires { MayNest g.now.depth (F.pre g.now.call g.now.classes) }
+    ensures { (l : Level) → l.classes ≡ C.classes g.now.classes.now → Nests l g.now.depth (F.post g.now.call g.now.classes) → Reads l (spec.emph) p.old result p.new }
+{
+    let outer = p.enter_rule(AtNewline::StopParBreak);
+    let from = p.marker();
+    p.eat(g.classes)?;
+    let is_empty = markup_with_trivia(g, p, false, Stop::Emph)?;
+    let closed = p.eat_if(is_underscore(p.current()), g.classes)?;
+    wrap_emphasized(
+        p,
+        from,
+        SyntaxKind::Emph,
+        closed,
+        is_empty,
+        "no text within underscores",
+        "using multiple consecutive underscores (e.g. __) has no additional effect",
+    )?;
+    p.leave(outer, g.classes)?;
+    Ok(())
+}
+
+/// Makes one node of what stands between two delimiters, where the second may be missing.
+fn wrap_emphasized(
+    p: &mut Parser<'_>,
+    from: usize,
+    kind: SyntaxKind,
+    closed: bool,
+    is_empty: bool,
+    warning: &str,
+    hint: &str,
+) -> Result<(), AllocError>
+    requires { is_error kind ≡ false }
+    ensures { OnOk result (Rewrapped from (spec.emphasized kind warning.now hint.now (closed, is_empty)) p.old p.new) }
+{
+    if !closed {
+        p.wrap_unclosed(from, kind)?;
+        return Ok(());
+    }
+    if is_empty {
+        p.wrap_with_warning(from, kind, warning, hint)?;
+        return Ok(());
+    }
+    p.wrap(from, kind)?;
+    Ok(())
+}
+
+/// `= ..`
+pub fn heading<C: Classes, F: Fn(&C, &mut Parser<'_>, usize, Call) -> Result<usize, AllocError>>(
+    g: &Grammar<'_, C, F>,
+    p: &mut Parser<'_>,
+) -> Result<(), AllocError>
+    requires { MayNest g.now.depth (F.pre g.now.call g.now.classes) }
+    ensures { (l : Level) → l.classes ≡ C.classes g.now.classes.now → Nests l g.now.depth (F.post g.now.call g.now.classes) → Reads l (spec.heading) p.old result p.new }
+{
+    let outer = p.enter_rule(AtNewline::Stop);
+    let from = p.marker();
+    p.eat(g.classes)?;
+    markup(g, p, false, Stop::Heading)?;
+    p.wrap(from, SyntaxKind::Heading)?;
+    p.leave(outer, g.classes)?;
+    Ok(())
+}
+
+/// `- ..`
+pub fn list_item<C: Classes, F: Fn(&C, &mut Parser<'_>, usize, Call) -> Result<usize, AllocError>>(
+    g: &Grammar<'_, C, F>,
+    p: &mut Parser<'_>,
+) -> Result<(), AllocError>
+    requires { MayNest g.now.depth (F.pre g.now.call g.now.classes) }
+    ensures { (l : Level) → l.classes ≡ C.classes g.now.classes.now → Nests l g.now.depth (F.post g.now.call g.now.classes) → Reads l (spec.list_item) p.old result p.new }
+{
+    let column = p.current_column();
+    let outer = p.enter_rule(AtNewline::RequireColumn(column));
+    let from = p.marker();
+    p.eat(g.classes)?;
+    markup(g, p, true, Stop::Item)?;
+    p.wrap(from, SyntaxKind::ListItem)?;
+    p.leave(outer, g.classes)?;
+    Ok(())
+}
+
+/// `+ ..` or `1. ..`
+pub fn enum_item<C: Classes, F: Fn(&C, &mut Parser<'_>, usize, Call) -> Result<usize, AllocError>>(
+    g: &Grammar<'_, C, F>,
+    p: &mut Parser<'_>,
+) -> Result<(), AllocError>
+    requires { MayNest g.now.depth (F.pre g.now.call g.now.classes) }
+    ensures { (l : Level) → l.classes ≡ C.classes g.now.classes.now → Nests l g.now.depth (F.post g.now.call g.now.classes) → Reads l (spec.enum_item) p.old result p.new }
+{
+    let column = p.current_column();
+    let outer = p.enter_rule(AtNewline::RequireColumn(column));
+    let from = p.marker();
+    p.eat(g.classes)?;
+    markup(g, p, true, Stop::Item)?;
+    p.wrap(from, SyntaxKind::EnumItem)?;
+    p.leave(outer, g.classes)?;
+    Ok(())
+}
+
+/// `/ Term: ..`
+pub fn term_item<C: Classes, F: Fn(&C, &mut Parser<'_>, usize, Call) -> Result<usize, AllocError>>(
+    g: &Grammar<'_, C, F>,
+    p: &mut Parser<'_>,
+) -> Result<(), AllocError>
+    requires { MayNest g.now.depth (F.pre g.now.call g.now.classes) }
+    ensures { (l : Level) → l.classes ≡ C.classes g.now.classes.now → Nests l g.now.depth (F.post g.now.call g.now.classes) → Reads l (spec.term_item) p.old result p.new }
+{
+    let column = p.current_column();
+    let outer = p.enter_rule(AtNewline::RequireColumn(column));
+    let from = p.marker();
+    let item = p.enter_rule(AtNewline::Stop);
+    p.eat(g.classes)?;
+    markup(g, p, false, Stop::Term)?;
+    p.leave(item, g.classes)?;
+    p.expect(is_colon(p.current()), "colon", g.classes)?;
+    markup(g, p, true, Stop::Item)?;
+    p.wrap(from, SyntaxKind::TermItem)?;
+    p.leave(outer, g.classes)?;
+    Ok(())
+}
+
+/// One expression of markup, whether at the start of a line, and in how many brackets; answers in how
+/// many brackets what comes next stands.
+pub fn markup_expr<
+    C: Classes,
+    F: Fn(&C, &mut Parser<'_>, usize, Call) -> Result<usize, AllocError>,
+>(
+    g: &Grammar<'_, C, F>,
+    p: &mut Parser<'_>,
+    at_start: bool,
+    nesting: usize,
+) -> Result<usize, AllocError>
+    requires { MayNest g.now.depth (F.pre g.now.call g.now.classes) }
+    ensures { (l : Level) → l.classes ≡ C.classes g.now.classes.now → Nests l g.now.depth (F.post g.now.call g.now.classes) → Reads l (spec.markup_expr at_start nesting) p.old result p.new }
+{
+    match markup_head(at_start, nesting, p.current()) {
+        MarkupHead::Itself => p.eat(g.classes)?,
+        MarkupHead::Opening => {
+            p.convert_and_eat(SyntaxKind::Text, g.classes)?;
+            return Ok(nesting.saturating_add(1));
+        }
+        MarkupHead::Closing => {
+            p.convert_and_eat(SyntaxKind::Text, g.classes)?;
+            return Ok(nesting.saturating_sub(1));
+        }
+        MarkupHead::Stray => {
+            p.unexpected_with_hint("try using a backslash escape: \\]", g.classes)?;
+        }
+        MarkupHead::Strong => strong(g, p)?,
+        MarkupHead::Emph => emph(g, p)?,
+        MarkupHead::Heading => heading(g, p)?,
+        MarkupHead::ListItem => list_item(g, p)?,
+        MarkupHead::EnumItem => enum_item(g, p)?,
+        MarkupHead::TermItem => term_item(g, p)?,
+        MarkupHead::Plain => p.convert_and_eat(SyntaxKind::Text, g.classes)?,
+        MarkupHead::Unexpected => p.unexpected(g.classes)?,
+    }
+    Ok(nesting)
+}

@@ -1,0 +1,105 @@
+//! Sequences of markup.
+
+ghost use Rattle.std.specs.Prelude.{◌≡◌, ◌<◌, IfOk, Ok};
+ghost use Rattle.typst_parsing.specs.Meaning.{Level};
+ghost use Rattle.typst_parsing.specs.View.{MayNest, Nests, Reads};
+ghost use Rattle.typst_markup.specs.Markup as spec;
+
+use std::alloc::AllocError;
+use typst_kinds::SyntaxKind;
+use typst_lexer::Classes;
+use typst_parsing::{Call, Grammar, Parser, Stop, deeper, too_deep};
+
+/// Reads expressions up to a stop.
+pub fn markup_exprs<
+    C: Classes,
+    F: Fn(&C, &mut Parser<'_>, usize, Call) -> Result<usize, AllocError>,
+>(g: &Grammar<'_, C, F>, p: &mut Parser<'_>, at_start: bool, stop: Stop) -> Result<(), AllocError>
+    requires { MayNest g.now.depth (F.pre g.now.call g.now.classes) }
+    ensures { (l : Level) → l.classes ≡ C.classes g.now.classes.now → Nests l g.now.depth (F.post g.now.call g.now.classes) → Reads l (spec.markup_exprs at_start stop) p.old result p.new }
+{
+    if g.depth == 0 {
+        too_deep(p, Some(stop), g.classes)?;
+        return Ok(());
+    }
+    let mut at_start = at_start | p.had_newline();
+    let mut nesting = 0usize;
+    'turns: loop {
+        let before = p.left();
+        let (more, next) = markup_turn(g, p, stop, at_start, nesting)?;
+        at_start = next.0;
+        nesting = next.1;
+        if !more || p.left() >= before {
+            return Ok(());
+        }
+    }
+}
+
+/// Reads one expression, unless a stop comes; answers whether it did, whether a newline was passed
+/// behind it, and in how many brackets what comes next stands.
+pub fn markup_turn<
+    C: Classes,
+    F: Fn(&C, &mut Parser<'_>, usize, Call) -> Result<usize, AllocError>,
+>(
+    g: &Grammar<'_, C, F>,
+    p: &mut Parser<'_>,
+    stop: Stop,
+    at_start: bool,
+    nesting: usize,
+) -> Result<(bool, (bool, usize)), AllocError>
+    requires { MayNest g.now.depth (F.pre g.now.call g.now.classes) }
+    ensures { (l : Level) → l.classes ≡ C.classes g.now.classes.now → Nests l g.now.depth (F.post g.now.call g.now.classes) → Reads l (spec.markup_turn stop (at_start, nesting)) p.old result p.new }
+{
+    if ends(stop, nesting, p.current()) {
+        return Ok((false, (at_start, nesting)));
+    }
+    let nesting = deeper(g, p, Call::MarkupExpr(at_start, nesting), nesting)?;
+    Ok((true, (p.had_newline(), nesting)))
+}
+
+/// Reads a sequence as one node, which begins at its first token.
+pub fn markup<C: Classes, F: Fn(&C, &mut Parser<'_>, usize, Call) -> Result<usize, AllocError>>(
+    g: &Grammar<'_, C, F>,
+    p: &mut Parser<'_>,
+    at_start: bool,
+    stop: Stop,
+) -> Result<(), AllocError>
+    requires { MayNest g.now.depth (F.pre g.now.call g.now.classes) }
+    ensures { (l : Level) → l.classes ≡ C.classes g.now.classes.now → Nests l g.now.depth (F.post g.now.call g.now.classes) → Reads l (spec.markup at_start stop) p.old result p.new }
+{
+    let from = p.marker();
+    markup_exprs(g, p, at_start, stop)?;
+    p.wrap(from, SyntaxKind::Markup)?;
+    Ok(())
+}
+
+/// Reads a sequence as one node with the trivia at both ends; answers whether nothing stood there.
+pub fn markup_with_trivia<
+    C: Classes,
+    F: Fn(&C, &mut Parser<'_>, usize, Call) -> Result<usize, AllocError>,
+>(g: &Grammar<'_, C, F>, p: &mut Parser<'_>, at_start: bool, stop: Stop) -> Result<bool, AllocError>
+    requires { MayNest g.now.depth (F.pre g.now.call g.now.classes) }
+    ensures { (l : Level) → l.classes ≡ C.classes g.now.classes.now → Nests l g.now.depth (F.post g.now.call g.now.classes) → Reads l (spec.markup_is_empty at_start stop) p.old result p.new }
+{
+    let from = p.before_trivia();
+    markup_exprs(g, p, at_start, stop)?;
+    p.flush_trivia()?;
+    Ok(p.wrap(from, SyntaxKind::Markup)?)
+}
+
+/// Whether a sequence ends at this token. It goes on past a bracket that closes one of its own.
+fn ends(stop: Stop, nesting: usize, kind: SyntaxKind) -> bool
+    ensures { result ≡ spec.ends stop nesting kind }
+{
+    if is_right_bracket(kind) {
+        stop.has(kind) && nesting == 0
+    } else {
+        stop.has(kind)
+    }
+}
+
+fn is_right_bracket(kind: SyntaxKind) -> bool
+    ensures { result ≡ spec.is_right_bracket kind }
+{
+    matches!(kind, SyntaxKind::RightBracket)
+}

@@ -1,0 +1,17 @@
+pub mod Looks
+pub mod Frame
+pub mod Alike
+pub mod Tokens
+pub mod Ends
+pub mod Eats
+pub mod Leaves
+pub mod Rests
+pub mod Places
+pub mod Bytes
+pub mod Columns
+pub mod Within
+pub mod Backs
+pub mod Trivia
+pub mod Runs
+pub mod Steps
+pub mod Ready

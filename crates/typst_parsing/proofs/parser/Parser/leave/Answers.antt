@@ -1,0 +1,14 @@
+use Rattle.std.proofs.Common.{◌∙◌, refl, sym, ap}
+use Rattle.typst_lines.specs.Place.{Place}
+use Rattle.typst_parsing.specs.Hand.{judged, column_at}
+use Rattle.typst_parsing.proofs.Ready.{left-judged}
+use Rattle.typst_parsing.proofs.Trivia.{same-hand}
+use Rattle.typst_parsing.proofs.parser.Parser.leave.Goals as goal
+
+pub returns : goal.returns
+returns g c l k =
+    let i = c.self.inside in
+    rw (sym c.self.view_is) (left-judged l c.args.outer _ _ (sym c.same_mode.ensures ∙ c.if-not-same_mode.false) (sym c.same_rule.ensures ∙ c.if-same_rule.false) refl refl refl
+    (same-hand _ _ _ _ _ _ _ _ _ _ _ _
+    (c.judged-self-inside.ensures ∙ ap (λ (z : Place). judged (record i.state.held { at_newline = c.args.outer.at_newline }) i.ahead.newlines i.ahead.token.kind (column_at z)) c.self.invariant.stands.start)
+    refl refl refl refl refl))

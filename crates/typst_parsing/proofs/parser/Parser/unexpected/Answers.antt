@@ -1,0 +1,11 @@
+use Rattle.std.proofs.Common.{[], ◌∷◌, None, ap, ◌∙◌}
+use Rattle.typst_node.specs.Diagnostic.{hint_with}
+use Rattle.typst_node.specs.Messages.{made_unexpected}
+use Rattle.typst_node.specs.Tree.{with_kind, advised}
+use Rattle.typst_parsing.specs.Shape.Making.{itself, of_kind, surprise}
+use Rattle.typst_parsing.specs.Steps.{unexpected}
+use Rattle.typst_parsing.proofs.parser.Parser.unexpected.Goals as goal
+
+pub returns : goal.returns
+unfolding unexpected
+returns g c l e = c.in_ok-take.ensures l (surprise []) e (c.in_ok-unexpected.ensures.ok ∙ ap made_unexpected c.in_ok-node.ensures)

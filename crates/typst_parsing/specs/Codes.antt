@@ -1,0 +1,34 @@
+-- How a view is stored.
+use Rattle.std.specs.Prelude.{ℕ, List, refl}
+use Rattle.std.specs.Coded.{Coded, code_by, coded×, coded_ℕ, coded_list}
+use Rattle.typst_kinds.specs.declared.kind.SyntaxKind.{SyntaxKind}
+use Rattle.typst_kinds.specs.contracts.kind.SyntaxKind.{the_row as kind_row}
+use Rattle.typst_lines.specs.Place.{Place}
+use Rattle.typst_node.specs.Tree.{Tree, tree_code}
+use Rattle.typst_lexer.specs.declared.token.Token.{Token}
+use Rattle.typst_lexer.specs.contracts.token.Token.{the_row as token_row}
+use Rattle.typst_parsing.specs.declared.reading.Newlines.{Newlines}
+use Rattle.typst_parsing.specs.contracts.reading.Newlines.{the_row as newlines_row}
+use Rattle.typst_parsing.specs.declared.reading.State.{State}
+use Rattle.typst_parsing.specs.contracts.reading.State.{the_row as state_row}
+use Rattle.typst_parsing.specs.Hand.{Hand}
+use Rattle.typst_parsing.specs.View.{View}
+
+abbrev pub place_code : Coded Place
+place_code = code_by (List ℕ × List ℕ) (coded× (coded_list coded_ℕ) (coded_list coded_ℕ)) (λ z. (z.behind, z.ahead)) (λ p. record { behind = p.0; ahead = p.1 }) (λ _. refl)
+
+abbrev pub hand_code : Coded Hand
+hand_code =
+    code_by (SyntaxKind × (List Tree × (ℕ × (ℕ × (Newlines × Token)))))
+    (coded× kind_row.coded (coded× (coded_list tree_code) (coded× coded_ℕ (coded× coded_ℕ (coded× newlines_row.coded token_row.coded)))))
+    (λ h. (h.kind, (h.trivia, (h.gap, (h.len, (h.newlines, h.token))))))
+    (λ p. record { kind = p.0; trivia = p.1.0; gap = p.1.1.0; len = p.1.1.1.0; newlines = p.1.1.1.1.0; token = p.1.1.1.1.1 })
+    (λ _. refl)
+
+abbrev pub view_code : Coded View
+view_code =
+    code_by (List Tree × (Place × (State × Hand)))
+    (coded× (coded_list tree_code) (coded× place_code (coded× state_row.coded hand_code)))
+    (λ v. (v.nodes, (v.place, (v.state, v.hand))))
+    (λ p. record { nodes = p.0; place = p.1.0; state = p.1.1.0; hand = p.1.1.1 })
+    (λ _. refl)

@@ -1,0 +1,60 @@
+-- What the parser of the code keeps ready.
+use Rattle.std.specs.Prelude.{◌≡◌, ◌≤◌, ◌-◌, ℕ, false, List, [], length}
+use Rattle.std.specs.Str.{chars}
+use Rattle.typst_kinds.specs.declared.kind.SyntaxKind.{SyntaxKind}
+use Rattle.typst_lines.specs.Place.{Place, moved}
+use Rattle.typst_lines.specs.Scanner.{place}
+use Rattle.typst_lines.specs.declared.scanner.Scanner.{Scanner}
+use Rattle.typst_lexer.specs.Classes.{CharClasses}
+use Rattle.typst_parsing.specs.declared.ahead.Ahead.{Ahead}
+use Rattle.typst_parsing.specs.declared.parser.Parser.TheInside.{Inside}
+use Rattle.typst_parsing.specs.declared.reading.Newlines.{Newlines}
+use Rattle.typst_parsing.specs.declared.reading.Reading.{Reading}
+use Rattle.typst_parsing.specs.declared.reading.State.{State}
+use Rattle.typst_parsing.specs.Hand.{Hand, hand_at, no_newlines}
+use Rattle.typst_parsing.specs.View.{View}
+
+-- how many characters stand between two scanners
+abbrev pub distance : Scanner → Scanner → ℕ
+distance from to = length (place to).behind - length (place from).behind
+
+-- the token that was read ahead
+abbrev pub hand_of_ahead : Ahead → Hand
+hand_of_ahead a = record {
+  kind = a.kind;
+  trivia = a.trivia.items;
+  gap = distance a.before a.start;
+  len = distance a.start a.after;
+  newlines = a.newlines;
+  token = a.token;
+}
+
+-- the token stands in the text behind its trivia
+pub record Stands (a : Ahead) : Type 0 where
+  pub start : place a.start ≡ moved (distance a.before a.start) (place a.before)
+  pub after : place a.after ≡ moved (distance a.start a.after) (place a.start)
+  pub start_text : a.start.text.now ≡ a.before.text.now
+  pub after_text : a.after.text.now ≡ a.start.text.now
+
+-- trivia and token are those at a place
+pub record IsAhead (k : CharClasses) (held : Reading) (flushed : Newlines) (from : Scanner) (a : Ahead) : Type 0 where
+  pub before : a.before ≡ from
+  pub stands : Stands a
+  pub hand : hand_of_ahead a ≡ hand_at k held flushed (place from)
+
+abbrev pub view_of : Inside → View
+view_of i = record { nodes = i.nodes.items; place = place i.ahead.before; state = i.state; hand = hand_of_ahead i.ahead }
+
+pub record IsReady (i : Inside) : Type 0 where
+  pub stands : Stands i.ahead
+  pub few : i.state.empties ≤ length i.nodes.items
+
+abbrev pub start_state : Reading → State
+start_state r = record { reading = r; held = r; flushed = no_newlines; empties = 0; is_after_error = false }
+
+-- at a text's start, with the first token at hand
+pub record IsStart (k : CharClasses) (text : List ℕ) (reading : Reading) (v : View) : Type 0 where
+  pub nodes : v.nodes ≡ []
+  pub place : v.place ≡ record { behind = []; ahead = chars text }
+  pub state : v.state ≡ start_state reading
+  pub hand : v.hand ≡ hand_at k reading no_newlines v.place

@@ -1,0 +1,10 @@
+pub mod Ask
+pub mod Hand
+pub mod Shape
+pub mod Syntax
+pub mod Meaning
+pub mod Steps
+pub mod Depth
+pub mod View
+pub mod Codes
+pub mod Cursor

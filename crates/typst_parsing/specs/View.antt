@@ -1,0 +1,111 @@
+-- What a parser of the code shows, and what it ensures.
+use Rattle.std.specs.Prelude.{◌≡◌, ℕ, zero, ◌+◌, ◌<◌, ◌≤◌, ◌==◌, Bool, List, ◌∷◌, ◌++◌, [], length, map, take, drop, Result, Ok, Err}
+use Rattle.std.specs.declared.alloc.AllocError.{AllocError}
+use denote.Ref.{MutBor}
+use Rattle.typst_lines.specs.Place.{Place, moved}
+use Rattle.typst_node.specs.Tree.{Tree}
+use Rattle.typst_lexer.specs.Classes.{CharClasses}
+use Rattle.typst_parsing.specs.declared.reading.Block.{Block}
+use Rattle.typst_parsing.specs.declared.reading.Call.{Call}
+use Rattle.typst_parsing.specs.declared.reading.Reading.{Reading}
+use Rattle.typst_parsing.specs.declared.reading.State.{State}
+use Rattle.typst_parsing.specs.Hand.{Hand}
+use Rattle.typst_parsing.specs.Shape.{Shape, shaped, after_shape, Seen, seen}
+use Rattle.typst_parsing.specs.Syntax.{Parser}
+use Rattle.typst_parsing.specs.Meaning.{Outcome, Meaning, Level, hand_of, left, less, run}
+
+pub record View : Type 0 where
+  -- the nodes before the pending trivia
+  pub nodes : List Tree
+  -- where the pending trivia begin
+  pub place : Place
+  pub state : State
+  -- the token that was read ahead
+  pub hand : Hand
+
+-- the code went from one view to another as an outcome says
+pub record Runs {A : Type 0} (o : Outcome A) (a : A) (old new : View) : Type 0 where
+  pub value : o.value ≡ a
+  pub place : new.place ≡ moved o.taken old.place
+  pub state : new.state ≡ o.state
+  pub nodes : new.nodes ≡ less o.back old.nodes ++ o.nodes
+
+-- no more is taken than there is
+abbrev pub Within : {A : Type 0} → Meaning A → Type 0
+Within m = (z : Place) (s : State) → (m z s).taken ≤ length z.ahead
+
+-- no more nodes are taken back than empty errors stand there
+pub record Tidy {A : Type 0} (s : State) (o : Outcome A) : Type 0 where
+  pub back : o.back ≤ s.empties
+  pub left : o.state.empties + o.back ≤ s.empties + length o.nodes
+
+abbrev pub Backs : {A : Type 0} → Meaning A → Type 0
+Backs m = (z : Place) (s : State) → Tidy s (m z s)
+
+-- what is read a level deeper, and each block, keeps to what is there
+pub record Sound (l : Level) : Type 0 where
+  pub within : (call : Call) → Within (l.deeper call)
+  pub backs : (call : Call) → Backs (l.deeper call)
+  pub within_block : (b : Block) → Within (l.blocks b)
+  pub backs_block : (b : Block) → Backs (l.blocks b)
+
+abbrev pub at : {A : Type 0} → Level → Parser A → View → Outcome A
+at l p v = run l p v.place v.state
+
+-- the token that was read ahead is the one that would be asked for
+abbrev pub Fits : Level → View → Type 0
+Fits l v = v.hand ≡ hand_of l v.place v.state
+
+-- the code did what the parser does
+pub record Ran {A : Type 0} (l : Level) (p : Parser A) (a : A) (old new : View) : Type 0 where
+  pub runs : Runs (at l p old) a old new
+
+-- the code did what the parser does, and its token at hand is again the right one
+pub record Does {A : Type 0} (l : Level) (p : Parser A) (a : A) (old new : View) : Type 0 where
+  pub ran : Fits l old → Ran l p a old new
+  pub ready : Fits l old → Fits l new
+
+-- the same of what is read a level deeper
+pub record Makes (l : Level) (call : Call) (a : ℕ) (old new : View) : Type 0 where
+  pub ran : Fits l old → Runs (l.deeper call old.place old.state) a old new
+  pub ready : Fits l old → Fits l new
+
+-- unless memory is refused
+abbrev pub Reads : {A : Type 0} → Level → Parser A → View → Result A AllocError → View → Type 0
+Reads l p old (Ok a) new = Does l p a old new
+Reads l p old (Err e) new = Unit {0}
+
+abbrev pub Calls : Level → Call → View → Result ℕ AllocError → View → Type 0
+Calls l call old (Ok a) new = Makes l call a old new
+Calls l call old (Err e) new = Unit {0}
+
+-- the reading is the outer one again
+pub record Left (l : Level) (outer : Reading) (v w : View) : Type 0 where
+  pub nodes : w.nodes ≡ v.nodes
+  pub place : w.place ≡ v.place
+  pub state : w.state ≡ left outer v.state
+  pub fits : Fits l v → Fits l w
+
+-- the nodes from a number on became one
+pub record Rewrapped (from : ℕ) (shape : Shape) (mid new : View) : Type 0 where
+  pub place : new.place ≡ mid.place
+  pub state : new.state ≡ after_shape shape (drop from mid.nodes) mid.state
+  pub nodes : new.nodes ≡ take from mid.nodes ++ shaped shape (drop from mid.nodes) ∷ []
+  pub hand : new.hand ≡ mid.hand
+
+-- ---- a function that makes calls at a depth
+
+-- it may be called above the limit
+abbrev pub MayNest : ℕ → (MutBor View → ℕ → Call → Type 0) → Type 0
+MayNest depth pre = (old : MutBor View) (call : Call) → 0 < depth → pre old depth call
+
+-- what it gives is what the level says
+pub record Nests (l : Level) (depth : ℕ) (post : MutBor View → ℕ → Call → Result ℕ AllocError → MutBor View → Type 0) : Type 0 where
+  pub sound : Sound l
+  pub level : l.level ≡ depth
+  pub reads : (old new : MutBor View) (call : Call) (r : Result ℕ AllocError) → post old depth call r new → Calls l call old.now r new.now
+
+-- a bound's post, as invariants name it
+abbrev pub spread : (MutBor View × (ℕ × (Call × Unit {0})) → Result ℕ AllocError × (MutBor View × Unit {0}) → Type 0)
+    → MutBor View → ℕ → Call → Result ℕ AllocError → MutBor View → Type 0
+spread post old depth call r new = post (old, (depth, (call, tt))) (r, (new, tt))
