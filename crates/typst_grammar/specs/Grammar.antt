@@ -4,7 +4,7 @@ use Rattle.typst_kinds.specs.declared.kind.SyntaxKind.TheVariants as kind
 use Rattle.typst_kinds.specs.declared.mode.SyntaxMode.TheVariants as mode
 use Rattle.typst_lines.specs.Place.{Place}
 use Rattle.typst_node.specs.Tree.{Tree, forest, inner_of}
-use Rattle.typst_lexer.specs.Classes.{CharClasses}
+use Rattle.typst_classes.specs.Classes.{CharClasses}
 use Rattle.typst_parsing.specs.declared.reading.AtNewline.TheVariants.{Continue}
 use Rattle.typst_parsing.specs.declared.reading.Block.{Block}
 use Rattle.typst_parsing.specs.declared.reading.Call.{Call}

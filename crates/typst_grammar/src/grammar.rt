@@ -8,8 +8,8 @@ ghost use Rattle.typst_parsing.specs.View.{Calls, MayNest, Nests, Reads};
 ghost use Rattle.typst_grammar.specs.Grammar as spec;
 
 use std::alloc::{AllocError, Global};
+use typst_classes::Classes;
 use typst_kinds::{SyntaxKind, SyntaxMode};
-use typst_lexer::Classes;
 use typst_markup::{markup_expr, markup_exprs};
 use typst_node::SyntaxNode;
 use typst_parsing::{AtNewline, Call, Grammar, Parser, Reading, Stop};

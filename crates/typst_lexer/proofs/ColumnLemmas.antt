@@ -8,7 +8,7 @@ use Rattle.std.specs.List.{prefix_len}
 use Rattle.typst_lines.specs.Newline.{is_newline}
 use Rattle.typst_lines.specs.Place.{Place, place_at, moved_back, back_from}
 use Rattle.typst_lexer.proofs.Frame.{run-agree, run_look, agree-narrow}
-use Rattle.typst_lexer.specs.Classes.{in_line}
+use Rattle.typst_classes.specs.Classes.{in_line}
 use Rattle.typst_lexer.specs.Column.{column, column_look}
 use Rattle.typst_lexer.specs.Reader.{place, no_look, Agree}
 

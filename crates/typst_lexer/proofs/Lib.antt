@@ -1,13 +1,9 @@
-pub mod CharsLemmas
-pub mod ClusterLemmas
 pub mod ColumnLemmas
 pub mod Frame
-pub mod LineCluster
 pub mod Moves
 pub mod NodeLemmas
 pub mod NumberLemmas
 pub mod TextLemmas
 pub mod TokenEats
 pub mod TokenLemmas
-pub mod UnicodeCluster
 pub mod WordLemmas

@@ -4,7 +4,7 @@ use Rattle.std.proofs.lemmas.Bool.Decides.{nat_tests}
 use Rattle.std.specs.List.{prefix_len}
 use Rattle.typst_kinds.specs.declared.kind.SyntaxKind.TheVariants as kind
 use Rattle.typst_lines.specs.Place.{Place, moved, moved_from, scout, past, word_at}
-use Rattle.typst_lexer.specs.Classes.{CharClasses}
+use Rattle.typst_classes.specs.Classes.{CharClasses}
 use Rattle.typst_lexer.specs.Reader.{place, Reader, exec, Machine, Memory, Turn, ask, eat_span}
 use Rattle.typst_lexer.specs.Reader.Memory.{blank}
 use Rattle.typst_lexer.specs.Reader.Reader.{answer}

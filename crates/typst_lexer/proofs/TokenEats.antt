@@ -10,7 +10,7 @@ use Rattle.typst_kinds.specs.declared.mode.SyntaxMode.{SyntaxMode}
 use Rattle.typst_kinds.specs.declared.mode.SyntaxMode.TheVariants.{Markup, Math, Code}
 use Rattle.typst_lines.specs.Place.{Place, scout, passes}
 use Rattle.typst_lexer.specs.Characters.{is_space}
-use Rattle.typst_lexer.specs.Classes.{CharClasses, in_line}
+use Rattle.typst_classes.specs.Classes.{CharClasses, in_line}
 use Rattle.typst_lexer.specs.Common.{whitespace, shebang, line_comment, block_comment, comment_end}
 use Rattle.typst_lexer.specs.Markup.{sign, text_from, backslash, dot, minus, emphasis, heading, marker, numbering, markup}
 use Rattle.typst_lexer.specs.Reader.{Reader, eaten}

@@ -6,8 +6,8 @@ use Rattle.typst_kinds.specs.declared.mode.SyntaxMode.{SyntaxMode}
 use Rattle.typst_kinds.specs.declared.mode.SyntaxMode.TheVariants.{Markup, Math, Code}
 use Rattle.typst_lines.specs.Newline.{is_newline}
 use Rattle.typst_lines.specs.Place.{passes}
-use Rattle.typst_lexer.specs.Classes.{CharClasses}
-use Rattle.typst_lexer.specs.Identifiers.{is_id_continue}
+use Rattle.typst_classes.specs.Classes.{CharClasses}
+use Rattle.typst_classes.specs.Identifiers.{is_id_continue}
 
 -- A character is one of the signs.
 abbrev pub among : List ℕ → ℕ → Bool

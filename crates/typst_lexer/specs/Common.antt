@@ -5,7 +5,7 @@ use Rattle.typst_kinds.specs.declared.mode.SyntaxMode.{SyntaxMode}
 use Rattle.typst_kinds.specs.declared.mode.SyntaxMode.TheVariants.{Markup, Math, Code}
 use Rattle.typst_lines.specs.Newline.{is_newline}
 use Rattle.typst_lexer.specs.Characters.{is_space}
-use Rattle.typst_lexer.specs.Classes.{in_line}
+use Rattle.typst_classes.specs.Classes.{in_line}
 use Rattle.typst_lexer.specs.Reader.{Reader, Machine, Memory, Turn, eat_span}
 use Rattle.typst_lexer.specs.Reader.Reader.{answer, skip, eat_run}
 use Rattle.typst_lexer.specs.Reader.Step.{turn, see}

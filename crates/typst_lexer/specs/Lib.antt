@@ -1,9 +1,6 @@
 pub mod Characters
-pub mod ClassLaws
-pub mod Classes
 pub mod Column
 pub mod Common
-pub mod Identifiers
 pub mod Laws
 pub mod Lexer
 pub mod Markup
@@ -13,5 +10,3 @@ pub mod Reads
 pub mod Text
 pub mod Token
 pub mod Tokens
-pub mod UnicodeLaws
-pub mod UnicodeTables

@@ -5,7 +5,7 @@ use Rattle.typst_kinds.specs.declared.kind.SyntaxKind.{SyntaxKind}
 use Rattle.typst_kinds.specs.declared.kind.SyntaxKind.TheVariants as kind
 use Rattle.typst_lines.specs.Place.{passes}
 use Rattle.typst_lexer.specs.Characters.{among, is_code_point, is_u64}
-use Rattle.typst_lexer.specs.Classes.{CharClasses}
+use Rattle.typst_classes.specs.Classes.{CharClasses}
 use Rattle.typst_lexer.specs.Reader.{Reader, if_next, at_word}
 use Rattle.typst_lexer.specs.Reader.Reader.{answer, peek, glance, eat, skip, eat_run}
 use Rattle.typst_lexer.specs.Text.{text}

@@ -4,7 +4,7 @@ use Rattle.std.specs.Char.{is_whitespace}
 use Rattle.typst_kinds.specs.declared.kind.SyntaxKind.TheVariants as kind
 use Rattle.typst_lines.specs.Place.{passes}
 use Rattle.typst_lexer.specs.Characters.{among, is_name}
-use Rattle.typst_lexer.specs.Classes.{CharClasses}
+use Rattle.typst_classes.specs.Classes.{CharClasses}
 use Rattle.typst_lexer.specs.Reader.{Reader, Machine, Step, Turn, eat_span, see_word}
 use Rattle.typst_lexer.specs.Reader.Reader.{answer}
 use Rattle.typst_lexer.specs.Reader.Step.{turn, see}

@@ -1,5 +1,5 @@
 //! Laws of the definitions, each the contract of a function that does nothing.
-ghost use Rattle.typst_lexer.specs.Classes.{CharClasses};
+ghost use Rattle.typst_classes.specs.Classes.{CharClasses};
 ghost use Rattle.typst_lexer.specs.Laws as law;
 
 /// The frame law of tokens: a token, its length and its look depend on the look alone, for every

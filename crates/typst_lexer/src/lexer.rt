@@ -2,7 +2,7 @@
 ghost use Rattle.std.specs.Prelude.{◌≡◌, ◌≤◌, IfOk, OnOk, OnErr, IsSome, false, reverse, take};
 ghost use Rattle.std.specs.List.{prefix_len};
 ghost use Rattle.std.specs.Str.{chars, IsCharBoundary};
-ghost use Rattle.typst_lexer.specs.Classes.{in_line};
+ghost use Rattle.typst_classes.specs.Classes.{in_line};
 ghost use Rattle.typst_lexer.specs.Column.{column};
 ghost use Rattle.typst_lexer.specs.Nodes.{IsRead};
 ghost use Rattle.typst_lexer.specs.Reader.{exec, eaten};
@@ -11,13 +11,13 @@ ghost use Rattle.typst_lexer.specs.Tokens as spec;
 ghost use Rattle.typst_lines.specs.Place.{place_at, scout};
 ghost use Rattle.typst_lines.specs.Scanner as scanner;
 
-use crate::classes::Classes;
 use crate::common::{block_comment, comment_end, line_comment, shebang, whitespace};
 use crate::markup::{markup, text_from};
 use crate::sets::is_space;
 use crate::text::second;
 use crate::token::{Token, make_node};
 use std::alloc::{AllocError, Global};
+use typst_classes::classes::Classes;
 use typst_kinds::{SyntaxKind, SyntaxMode};
 use typst_lines::{Scanner, is_newline};
 use typst_node::SyntaxNode;

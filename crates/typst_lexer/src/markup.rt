@@ -9,10 +9,10 @@ ghost use Rattle.typst_lexer.specs.declared.token.Token.{Token};
 ghost use Rattle.typst_lines.specs.Place.{passes, scout};
 ghost use Rattle.typst_lines.specs.Scanner.{place};
 
-use crate::classes::Classes;
 use crate::sets::{AsciiAlphanumeric, AsciiDigits, is_code_point, is_u64};
 use crate::text::{second, text};
 use crate::token::{Fault, Token};
+use typst_classes::classes::Classes;
 use typst_kinds::SyntaxKind;
 use typst_lines::Scanner;
 

@@ -2,11 +2,11 @@
 ghost use Rattle.std.specs.Prelude.{◌≡◌, ◌≤◌, ◌==◌, not, codes};
 ghost use Rattle.std.specs.Str.{chars};
 ghost use Rattle.typst_lexer.specs.Characters as spec;
-ghost use Rattle.typst_lexer.specs.Classes.{in_line};
+ghost use Rattle.typst_classes.specs.Classes.{in_line};
 ghost use Rattle.typst_lexer.specs.Text.{may_stop};
 ghost use Rattle.typst_lines.specs.Newline.{is_newline};
 
-use crate::classes::{Classes, is_id_continue};
+use typst_classes::classes::{Classes, is_id_continue};
 use typst_kinds::SyntaxMode;
 use typst_lines::{CharSet, Scanner, is_newline};
 

@@ -9,9 +9,9 @@ ghost use Rattle.typst_lexer.specs.declared.token.Token.{Token};
 ghost use Rattle.typst_lines.specs.Place.{passes, scout, word_at};
 ghost use Rattle.typst_lines.specs.Scanner.{place};
 
-use crate::classes::Classes;
 use crate::sets::{PlainText, is_valid_in_label_literal};
 use crate::token::Token;
+use typst_classes::classes::Classes;
 use typst_kinds::SyntaxKind;
 use typst_lines::Scanner;
 

@@ -2,8 +2,9 @@
 use std::alloc::{AllocError, Global};
 use std::process::Abort;
 use std::test::Fail;
+use typst_classes::{Classes, UnicodeClasses};
 use typst_kinds::{SyntaxKind, SyntaxMode};
-use typst_lexer::{Classes, Lexer, UnicodeClasses};
+use typst_lexer::Lexer;
 use typst_test_classes::{Narrow, Wide};
 
 /// Texts of markup, and their tokens by kind and text.

@@ -9,8 +9,8 @@ ghost use Rattle.typst_markup.specs.Markup as spec;
 use crate::head::{MarkupHead, markup_head};
 use crate::sequences::{markup, markup_with_trivia};
 use std::alloc::AllocError;
+use typst_classes::Classes;
 use typst_kinds::SyntaxKind;
-use typst_lexer::Classes;
 use typst_parsing::{AtNewline, Call, Grammar, Parser, Stop, is_colon, is_star, is_underscore};
 
 /// `*..*`

@@ -6,8 +6,8 @@ ghost use Rattle.typst_parsing.specs.View.{MayNest, Nests, Reads};
 ghost use Rattle.typst_markup.specs.Markup as spec;
 
 use std::alloc::AllocError;
+use typst_classes::Classes;
 use typst_kinds::SyntaxKind;
-use typst_lexer::Classes;
 use typst_parsing::{Call, Grammar, Parser, Stop, deeper, too_deep};
 
 /// Reads expressions up to a stop.

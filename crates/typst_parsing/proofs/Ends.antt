@@ -8,7 +8,7 @@ use Rattle.typst_kinds.specs.declared.mode.SyntaxMode.{SyntaxMode}
 use Rattle.typst_kinds.specs.declared.mode.SyntaxMode.TheVariants.{Markup, Math, Code}
 use Rattle.typst_lines.specs.Place.{Place, scout, passes, moved, run, past}
 use Rattle.typst_lexer.specs.Characters.{among, is_code_point, is_space, is_u64}
-use Rattle.typst_lexer.specs.Classes.{CharClasses}
+use Rattle.typst_classes.specs.Classes.{CharClasses}
 use Rattle.typst_lexer.specs.Common.{line_ends, is_parbreak, space, whitespace, shebang, line_comment, block_comment, comment_end}
 use Rattle.typst_lexer.specs.Markup.{sign, text_from, code_point, backslash, dot, marker_or_text, marker, hyphen, minus, emphasis, heading, numbering, markup}
 use Rattle.typst_lexer.specs.Reader.{Reader, place, exec, eaten}

@@ -5,7 +5,7 @@ use Rattle.typst_kinds.specs.declared.kind.SyntaxKind.{SyntaxKind}
 use Rattle.typst_kinds.specs.declared.kind.SyntaxKind.TheVariants as kind
 use Rattle.typst_kinds.specs.declared.mode.SyntaxMode.{SyntaxMode}
 use Rattle.typst_lines.specs.Place.{Place, moved}
-use Rattle.typst_lexer.specs.Classes.{CharClasses}
+use Rattle.typst_classes.specs.Classes.{CharClasses}
 use Rattle.typst_lexer.specs.Nodes.{token_node}
 use Rattle.typst_lexer.specs.declared.token.Token.{Token}
 use Rattle.typst_lexer.specs.Reader.{Look, look}

@@ -19,7 +19,7 @@ use Rattle.typst_parsing.specs.Shape.Making.{itself, of_kind, surprise, wanted}
 use Rattle.typst_parsing.specs.Shape.Shape.{becomes, unclosed, warns, fails}
 use Rattle.typst_parsing.specs.declared.reading.Newlines.{Newlines}
 use Rattle.typst_parsing.specs.declared.reading.Reading.{Reading}
-use Rattle.typst_lexer.specs.Classes.{CharClasses}
+use Rattle.typst_classes.specs.Classes.{CharClasses}
 use Rattle.typst_lexer.specs.Nodes.{token_node}
 use Rattle.typst_lexer.specs.declared.token.Token.{Token}
 use Rattle.typst_parsing.specs.Hand.{utf8_ahead, token_at, len_at, at_trivia, Ahead, after_trivia, direct, ahead_by, ahead, column_at, hand_at, Hand}

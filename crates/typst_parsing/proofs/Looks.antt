@@ -5,7 +5,7 @@ use Rattle.std.specs.List.{prefix_len}
 use Rattle.typst_kinds.specs.declared.mode.SyntaxMode.{SyntaxMode}
 use Rattle.typst_lines.specs.Newline.{is_newline}
 use Rattle.typst_lines.specs.Place.{Place, moved, scout, run, past}
-use Rattle.typst_lexer.specs.Classes.{CharClasses}
+use Rattle.typst_classes.specs.Classes.{CharClasses}
 use Rattle.typst_lexer.specs.Reader.{Reader, eaten, Look, look, marked, Agree, spanned, from_before, skip_look}
 use Rattle.typst_lexer.specs.Reader.Reader.{answer, peek, glance, span, eat, see_run, skip, eat_run}
 use Rattle.typst_lexer.specs.Tokens.{token}

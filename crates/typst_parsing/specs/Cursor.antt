@@ -5,7 +5,7 @@ use Rattle.typst_kinds.specs.declared.kind.SyntaxKind.{SyntaxKind}
 use Rattle.typst_lines.specs.Place.{Place, moved}
 use Rattle.typst_lines.specs.Scanner.{place}
 use Rattle.typst_lines.specs.declared.scanner.Scanner.{Scanner}
-use Rattle.typst_lexer.specs.Classes.{CharClasses}
+use Rattle.typst_classes.specs.Classes.{CharClasses}
 use Rattle.typst_parsing.specs.declared.ahead.Ahead.{Ahead}
 use Rattle.typst_parsing.specs.declared.parser.Parser.TheInside.{Inside}
 use Rattle.typst_parsing.specs.declared.reading.Newlines.{Newlines}

@@ -4,7 +4,7 @@ use Rattle.std.specs.declared.alloc.AllocError.{AllocError}
 use denote.Ref.{MutBor}
 use Rattle.typst_lines.specs.Place.{Place, moved}
 use Rattle.typst_node.specs.Tree.{Tree}
-use Rattle.typst_lexer.specs.Classes.{CharClasses}
+use Rattle.typst_classes.specs.Classes.{CharClasses}
 use Rattle.typst_parsing.specs.declared.reading.Block.{Block}
 use Rattle.typst_parsing.specs.declared.reading.Call.{Call}
 use Rattle.typst_parsing.specs.declared.reading.Reading.{Reading}

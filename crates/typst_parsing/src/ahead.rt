@@ -9,10 +9,11 @@ ghost use Rattle.typst_parsing.specs.Cursor.{IsAhead};
 
 use crate::reading::{AtNewline, Newlines, Reading};
 use std::alloc::{AllocError, Global};
+use typst_classes::Classes;
 use typst_kinds::{SyntaxKind, SyntaxMode};
+use typst_lexer::Token;
 use typst_lexer::lexer::token;
 use typst_lexer::token::make_node;
-use typst_lexer::{Classes, Token};
 use typst_lines::{Scanner, is_newline};
 use typst_node::SyntaxNode;
 

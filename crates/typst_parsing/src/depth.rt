@@ -10,8 +10,8 @@ use crate::parser::Parser;
 use crate::reading::{AtNewline, Call};
 use crate::stop::Stop;
 use std::alloc::AllocError;
+use typst_classes::Classes;
 use typst_kinds::SyntaxKind;
-use typst_lexer::Classes;
 
 /// How calls are made: by which classes of characters, how deep they may still nest, and by which function.
 #[derive(Clone, Copy)]

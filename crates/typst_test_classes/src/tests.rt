@@ -2,13 +2,13 @@
 ghost use Rattle.std.specs.Prelude.{◌≡◌};
 ghost use Rattle.std.specs.List.{list_all};
 ghost use Rattle.std.specs.Str.{chars};
-ghost use Rattle.typst_lexer.specs.Classes.{in_line};
+ghost use Rattle.typst_classes.specs.Classes.{in_line};
 
 use crate::{Counting, Narrow, Wide};
 use std::cell::Cell;
 use std::process::Abort;
-use typst_lexer::MathClass::{self, Alphabetic, Closing, Opening};
-use typst_lexer::{Classes, UnicodeClasses, is_id_continue, is_id_start, is_ident};
+use typst_classes::MathClass::{self, Alphabetic, Closing, Opening};
+use typst_classes::{Classes, UnicodeClasses, is_id_continue, is_id_start, is_ident};
 use typst_lines::is_newline;
 
 /// Starts an identifier, continues one, is alphabetic, alphanumeric, numeric, of a word; and what

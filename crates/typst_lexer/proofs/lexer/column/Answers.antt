@@ -2,7 +2,7 @@ use Rattle.std.proofs.Common.{reverse, ap, ◌∙◌}
 use Rattle.std.proofs.lemmas.List.{reverse-reverse}
 use Rattle.std.specs.List.{prefix_len}
 use Rattle.typst_lines.specs.Scanner.{place}
-use Rattle.typst_lexer.specs.Classes.{in_line}
+use Rattle.typst_classes.specs.Classes.{in_line}
 use Rattle.typst_lexer.proofs.lexer.column.Goals as goal
 
 pub returns : goal.returns

@@ -2,7 +2,7 @@ use Rattle.std.proofs.Common.{◌≡◌, length, reverse, ap, arith}
 use Rattle.std.specs.List.{prefix_len}
 use Rattle.std.specs.Str.{chars}
 use Rattle.typst_lines.specs.Scanner.{place}
-use Rattle.typst_lexer.specs.Classes.{in_line}
+use Rattle.typst_classes.specs.Classes.{in_line}
 use Rattle.typst_lexer.proofs.ColumnLemmas.{length-back, line-step, line-stop, line-end, behind-end, behind-fits}
 use Rattle.typst_lexer.proofs.lexer.last_line_len.Goals as goal
 

@@ -2,7 +2,7 @@ use Rattle.std.proofs.Common.{◌≡◌, ◌≤◌, ◌+◌, length, reverse}
 use Rattle.std.specs.List.{prefix_len}
 use Rattle.std.specs.Str.{chars}
 use Rattle.typst_lines.specs.Scanner.{place}
-use Rattle.typst_lexer.specs.Classes.{in_line}
+use Rattle.typst_classes.specs.Classes.{in_line}
 use Rattle.typst_lexer.proofs.lexer.last_line_len.Given as goal
 
 abbrev pub invariant-loop-c : goal.invariant-loop-c

@@ -5,7 +5,7 @@ use Rattle.typst_lines.specs.Place.{Place, moved}
 use Rattle.typst_lines.specs.Scanner.{place}
 use Rattle.typst_lines.specs.declared.scanner.Scanner.{Scanner}
 use Rattle.typst_node.specs.Tree.{Tree}
-use Rattle.typst_lexer.specs.Classes.{CharClasses}
+use Rattle.typst_classes.specs.Classes.{CharClasses}
 use Rattle.typst_parsing.specs.Cursor.{distance}
 use Rattle.typst_parsing.specs.Hand.{hand_at, no_newlines}
 use Rattle.typst_parsing.specs.Meaning.{less, taken_node}

@@ -1,7 +1,7 @@
 -- Identifiers, by a class value.
 use Rattle.std.specs.Prelude.{ℕ, Bool, false, ◌||◌, ◌&&◌, ◌==◌, List, [], ◌∷◌}
 use Rattle.std.specs.List.{list_all}
-use Rattle.typst_lexer.specs.Classes.{CharClasses}
+use Rattle.typst_classes.specs.Classes.{CharClasses}
 
 -- An identifier starts with a character of the class or an underscore.
 abbrev pub is_id_start : CharClasses → ℕ → Bool

@@ -3,7 +3,7 @@ use Rattle.std.proofs.Common.{◌≡◌, ◌≤◌, ◌<◌, ℕ, true, false, i
 use Rattle.std.proofs.lemmas.Bool.Decides.{nat_tests}
 use Rattle.std.specs.Char.{is_ascii, is_ascii_alphabetic, is_ascii_alphanumeric, is_ascii_digit, is_whitespace}
 use Rattle.std.specs.List.{list_all}
-use Rattle.typst_lexer.specs.Classes.{CharClasses, IsLawful, OnAscii, InNoClass, by_law, kept, ascii_continue, ascii_math}
+use Rattle.typst_classes.specs.Classes.{CharClasses, IsLawful, OnAscii, InNoClass, by_law, kept, ascii_continue, ascii_math}
 
 kept-ascii : {A : Type 0} (none : A) (on_ascii beyond : ℕ → A) (c : ℕ) → is_ascii c ≡ true → kept none on_ascii beyond c ≡ on_ascii c
 kept-ascii none on_ascii beyond c e = rw e refl

@@ -3,10 +3,10 @@ use Rattle.std.proofs.lemmas.Iterator.{YieldsList-from_chars}
 use Rattle.std.proofs.lemmas.Iterator.Search.{all_from_yields_List}
 use Rattle.std.specs.List.{list_all}
 use Rattle.std.specs.Str.{chars}
-use Rattle.typst_lexer.specs.Classes.{CharClasses}
-use Rattle.typst_lexer.specs.Identifiers.{is_ident, is_id_start, is_id_continue}
-use Rattle.typst_lexer.proofs.CharsLemmas.{after_first}
-use Rattle.typst_lexer.proofs.classes.is_ident.Goals as goal
+use Rattle.typst_classes.specs.Classes.{CharClasses}
+use Rattle.typst_classes.specs.Identifiers.{is_ident, is_id_start, is_id_continue}
+use Rattle.typst_classes.proofs.CharsLemmas.{after_first}
+use Rattle.typst_classes.proofs.classes.is_ident.Goals as goal
 
 starts : (k : CharClasses) (cs : List ℕ) (c : ℕ) (rest : List ℕ) → cs ≡ c ∷ rest → is_id_start k c ≡ true → list_all (is_id_continue k) rest ≡ is_ident k cs
 starts k cs c rest e start = rw (e, start) refl

@@ -1,6 +1,6 @@
 //! The classes by the properties of Unicode.
 ghost use Rattle.std.specs.Prelude.{◌≡◌};
-ghost use Rattle.typst_lexer.specs.UnicodeTables.{unicode_numeric, unicode_alphanumeric, is_unspaced};
+ghost use Rattle.typst_classes.specs.UnicodeTables.{unicode_numeric, unicode_alphanumeric, is_unspaced};
 ghost use Rattle.unicode.specs.Script.{script};
 
 use crate::classes::{Classes, MathClass, ascii_math_class};
@@ -14,8 +14,8 @@ use unicode_segmentation::UnicodeSegmentation;
 pub struct UnicodeClasses;
 
 impl Classes for UnicodeClasses {
-    ghost use Rattle.typst_lexer.specs.UnicodeTables.{unicode_classes};
-    ghost use Rattle.typst_lexer.specs.UnicodeLaws.{IsLawful-unicode_classes};
+    ghost use Rattle.typst_classes.specs.UnicodeTables.{unicode_classes};
+    ghost use Rattle.typst_classes.specs.UnicodeLaws.{IsLawful-unicode_classes};
 
     ghost classes = { λ _. unicode_classes };
 

@@ -1,9 +1,9 @@
 use Rattle.std.proofs.Common.{sym, ◌∙◌}
 use Rattle.unicode_segmentation.specs.Segments.{segments}
-use Rattle.typst_lexer.specs.UnicodeTables.{unicode_cluster}
-use Rattle.typst_lexer.proofs.ClusterLemmas.{ascii_cluster}
-use Rattle.typst_lexer.proofs.UnicodeCluster.{first_cluster, no_cluster}
-use Rattle.typst_lexer.proofs.by_unicode.UnicodeClassesClasses.cluster.Goals as goal
+use Rattle.typst_classes.specs.UnicodeTables.{unicode_cluster}
+use Rattle.typst_classes.proofs.ClusterLemmas.{ascii_cluster}
+use Rattle.typst_classes.proofs.UnicodeCluster.{first_cluster, no_cluster}
+use Rattle.typst_classes.proofs.by_unicode.UnicodeClassesClasses.cluster.Goals as goal
 
 pub returns-then-is_ascii : goal.returns-then-is_ascii
 returns-then-is_ascii c = ascii_cluster c.args.line.now c.utf8.line c.requires.some unicode_cluster c.if-is_ascii.ensures.cases

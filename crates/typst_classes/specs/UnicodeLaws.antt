@@ -3,9 +3,9 @@ use Rattle.std.proofs.Common.{◌≡◌, ◌≤◌, ◌<◌, ℕ, true, false, i
 use Rattle.std.specs.List.{concat}
 use Rattle.unicode_segmentation.specs.Grapheme.{is_grapheme_break}
 use Rattle.unicode_segmentation.specs.Segments.{Rule, cut, prepend}
-use Rattle.typst_lexer.specs.ClassLaws.{IsLawful-by_law}
-use Rattle.typst_lexer.specs.Classes.{IsLawful}
-use Rattle.typst_lexer.specs.UnicodeTables.{unicode_classes, unicode_cluster, first_len}
+use Rattle.typst_classes.specs.ClassLaws.{IsLawful-by_law}
+use Rattle.typst_classes.specs.Classes.{IsLawful}
+use Rattle.typst_classes.specs.UnicodeTables.{unicode_classes, unicode_cluster, first_len}
 
 -- the pieces of a line that isn't empty: the first has a character, and they make up the line
 pub record AreCut (line : List ℕ) (pieces : List (List ℕ)) : Type 0 where

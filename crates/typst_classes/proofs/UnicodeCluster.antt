@@ -5,10 +5,10 @@ use Rattle.std.specs.Prelude.{encode_utf8_all}
 use Rattle.std.specs.Str.{chars, IsUtf8, IsNotAscii}
 use Rattle.unicode_segmentation.specs.Grapheme.{is_grapheme_break}
 use Rattle.unicode_segmentation.specs.Segments.{cut}
-use Rattle.typst_lexer.specs.Classes.{kept_cluster}
-use Rattle.typst_lexer.specs.UnicodeLaws.{AreCut, cut-front}
-use Rattle.typst_lexer.specs.UnicodeTables.{first_len, unicode_cluster}
-use Rattle.typst_lexer.proofs.ClusterLemmas.{more, not_ascii}
+use Rattle.typst_classes.specs.Classes.{kept_cluster}
+use Rattle.typst_classes.specs.UnicodeLaws.{AreCut, cut-front}
+use Rattle.typst_classes.specs.UnicodeTables.{first_len, unicode_cluster}
+use Rattle.typst_classes.proofs.ClusterLemmas.{more, not_ascii}
 
 first_piece : (cs : List ℕ) (pieces : List (List ℕ)) (piece : List ℕ) (rest : List (List ℕ)) → concat pieces ≡ cs → map encode_utf8_all pieces ≡ piece ∷ rest
     → length piece ≡ length (encode_utf8_all (take (first_len pieces) cs))

@@ -11,9 +11,9 @@ use Rattle.unicode.specs.declared.properties.Script.TheVariants.{Han, Hiragana, 
 use Rattle.unicode_ident.specs.Ident.{is_xid_start, is_xid_continue}
 use Rattle.unicode_segmentation.specs.Grapheme.{is_grapheme_break}
 use Rattle.unicode_segmentation.specs.Segments.{cut}
-use Rattle.typst_lexer.specs.Classes.{CharClasses, by_law}
-use Rattle.typst_lexer.specs.declared.classes.MathClass.{MathClass}
-use Rattle.typst_lexer.specs.declared.classes.MathClass.TheVariants.{Opening, Closing}
+use Rattle.typst_classes.specs.Classes.{CharClasses, by_law}
+use Rattle.typst_classes.specs.declared.classes.MathClass.{MathClass}
+use Rattle.typst_classes.specs.declared.classes.MathClass.TheVariants.{Opening, Closing}
 
 -- The general categories Nd, Nl and No.
 abbrev pub is_number : GeneralCategory → Bool

@@ -4,8 +4,8 @@ use Rattle.std.specs.Char.{IsScalar, is_ascii, is_ascii_alphabetic, is_ascii_alp
 use Rattle.std.specs.List.{list_all}
 use Rattle.std.specs.Str.{all_scalars}
 use Rattle.typst_lines.specs.Newline.{is_newline}
-use Rattle.typst_lexer.specs.declared.classes.MathClass.{MathClass}
-use Rattle.typst_lexer.specs.declared.classes.MathClass.TheVariants.{Opening, Closing, Alphabetic}
+use Rattle.typst_classes.specs.declared.classes.MathClass.{MathClass}
+use Rattle.typst_classes.specs.declared.classes.MathClass.TheVariants.{Opening, Closing, Alphabetic}
 
 -- What a class value answers, as functions of the characters. `cluster` counts the characters of
 -- the first cluster of a line.

@@ -9,7 +9,7 @@ use Rattle.std.proofs.lemmas.Bool.Decides.{nat_tests}
 use Rattle.std.specs.Char.{IsScalar, is_whitespace}
 use Rattle.typst_lines.specs.Newline.{is_newline}
 use Rattle.typst_lines.specs.Place.{Place, run, bytes_ahead}
-use Rattle.typst_lexer.specs.Classes.{CharClasses, IsLine, IsLawful, in_line}
+use Rattle.typst_classes.specs.Classes.{CharClasses, IsLine, IsLawful, in_line}
 
 and-both : (a b : Bool) → (a && b) ≡ true → (a ≡ true) × (b ≡ true)
 and-both true b e = (refl, e)

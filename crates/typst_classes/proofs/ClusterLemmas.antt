@@ -7,7 +7,7 @@ use Rattle.std.specs.Char.{is_ascii, len_utf8}
 use Rattle.std.specs.List.{list_all}
 use Rattle.std.specs.Prelude.{encode_utf8, encode_utf8_all, slice_index}
 use Rattle.std.specs.Str.{chars, IsUtf8, IsAscii, IsNotAscii}
-use Rattle.typst_lexer.specs.Classes.{kept_cluster}
+use Rattle.typst_classes.specs.Classes.{kept_cluster}
 
 and-first : (a b : Bool) → (a && b) ≡ true → a ≡ true
 and-first true b e = refl

@@ -2,8 +2,8 @@
 ghost use Rattle.std.specs.Prelude.{◌≡◌, ℕ, true, ◌<◌, length, take, encode_utf8_all};
 ghost use Rattle.std.specs.List.{list_all};
 ghost use Rattle.std.specs.Str.{chars};
-ghost use Rattle.typst_lexer.specs.Classes.{ascii_math, in_line};
-ghost use Rattle.typst_lexer.specs.Identifiers as spec;
+ghost use Rattle.typst_classes.specs.Classes.{ascii_math, in_line};
+ghost use Rattle.typst_classes.specs.Identifiers as spec;
 
 /// What a character does in a formula.
 #[derive(Debug, Clone, Copy, PartialEq, Eq)]
@@ -22,7 +22,7 @@ pub enum MathClass {
 /// the Unicode property White_Space is in no class, and a cluster is made of whole characters.
 /// No call takes memory.
 pub trait Classes {
-    ghost use Rattle.typst_lexer.specs.Classes.{CharClasses, IsLawful};
+    ghost use Rattle.typst_classes.specs.Classes.{CharClasses, IsLawful};
 
     // What each call answers, as functions of the characters handed in.
     ghost classes: { Self → CharClasses };

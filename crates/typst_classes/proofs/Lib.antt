@@ -1,0 +1,4 @@
+pub mod CharsLemmas
+pub mod ClusterLemmas
+pub mod LineCluster
+pub mod UnicodeCluster

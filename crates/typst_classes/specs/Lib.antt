@@ -1,0 +1,5 @@
+pub mod ClassLaws
+pub mod Classes
+pub mod Identifiers
+pub mod UnicodeLaws
+pub mod UnicodeTables
