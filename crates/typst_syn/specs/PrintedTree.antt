@@ -1,5 +1,5 @@
 -- A tree as it is printed: a line for each node, two spaces deeper than its parent's, and below it a line for each warning and each hint.
-use Rattle.std.specs.Prelude.{ℕ, ◌+◌, List, [], ◌∷◌, ◌++◌, length, map, codes, encode_utf8_all, if◌then◌else◌}
+use Rattle.std.specs.Prelude.{ℕ, ◌+◌, List, [], ◌∷◌, ◌++◌, length, codes, encode_utf8, if◌then◌else◌}
 use Rattle.std.specs.Str.{chars}
 use Rattle.std.specs.Fmt.{decimal}
 use Rattle.typst_lines.specs.Newline.{is_newline}
@@ -7,14 +7,19 @@ use Rattle.typst_node.specs.declared.diagnostic.Severity.{Severity}
 use Rattle.typst_node.specs.declared.diagnostic.Severity.TheVariants as severity
 use Rattle.typst_node.specs.Diagnostic.{Diagnostic, Hint}
 use Rattle.typst_node.specs.Head.{Head}
-use Rattle.typst_node.specs.Tree.{Forest, none, more, Tree, joined}
+use Rattle.typst_node.specs.Tree.{Forest, none, more, Tree, joined, text_of}
 use Rattle.typst_lexer.specs.UnicodeTables.{unicode_classes}
 use Rattle.typst_grammar.specs.Grammar.{tree}
 use Rattle.typst_syn.specs.Variants.{variant_name}
 
+-- characters as bytes, with a space for each newline character
+abbrev pub spaced : List ℕ → List ℕ
+spaced [] = []
+spaced (c ∷ cs) = encode_utf8 (if is_newline c then 32 else c) ++ spaced cs
+
 -- a message with a space for each newline character
 abbrev pub one_line : List ℕ → List ℕ
-one_line message = encode_utf8_all (map (λ c. if is_newline c then 32 else c) (chars message))
+one_line message = spaced (chars message)
 
 -- the message of an error behind a space, and nothing for a warning
 abbrev pub error_of : Severity → List ℕ → List ℕ
@@ -54,16 +59,20 @@ remarks indent (d ∷ ds) = warning indent d.severity d.message ++ (hints indent
 abbrev pub deeper : List ℕ → List ℕ
 deeper indent = indent ++ codes "  "
 
+-- a node's own line, and below it its warnings and hints
+abbrev pub head_lines : List ℕ → ℕ → ℕ → Head → List ℕ
+head_lines indent start end h = own_line indent start end h ++ remarks (deeper indent) h.diagnostics
+
 -- the lines of nodes that follow one another from a byte on, each with what stands below it
 abbrev pub lines : List ℕ → ℕ → Forest → List ℕ
 lines indent start none = []
 lines indent start (more h ks r) =
     let end : ℕ = start + length (h.text ++ joined ks) in
-    own_line indent start end h ++ (remarks (deeper indent) h.diagnostics ++ (lines (deeper indent) start ks ++ lines indent end r))
+    head_lines indent start end h ++ (lines (deeper indent) start ks ++ lines indent end r)
 
 -- the lines of one node from a byte on, with what stands below it
 abbrev pub node_lines : List ℕ → ℕ → Tree → List ℕ
-node_lines indent start t = lines indent start (more t.head t.kids none)
+node_lines indent start t = head_lines indent start (start + length (text_of t)) t.head ++ lines (deeper indent) start t.kids
 
 -- the tree of a text, by the classes of Unicode, as it is printed
 abbrev pub tree_printed : List ℕ → List ℕ

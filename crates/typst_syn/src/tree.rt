@@ -35,10 +35,10 @@ fn print_node(
     print_own_line(printed, node, indent, start)?;
     let deeper = format!(in alloc; "{indent}  ")?;
     print_remarks(printed, node.diagnostics(), deeper.as_str())?;
-    let mut start = start;
+    let mut kid_start = start;
     for kid in node.children() {
-        print_node(alloc, printed, kid, deeper.as_str(), start)?;
-        start += kid.len();
+        print_node(alloc, printed, kid, deeper.as_str(), kid_start)?;
+        kid_start += kid.len();
     }
     Ok(())
 }
