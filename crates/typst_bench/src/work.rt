@@ -2,12 +2,15 @@
 
 use std::alloc::{AllocError, Global};
 use typst_lines::Lines;
+use typst_parser::{UnicodeClasses, parse};
 
 /// A kind of work on a text.
 #[derive(Debug, Clone, Copy, PartialEq, Eq)]
 pub enum Work {
     /// Finds where the lines start.
     Lines,
+    /// Makes the syntax tree.
+    Parse,
 }
 
 impl Work {
@@ -15,6 +18,7 @@ impl Work {
     pub fn from_word(word: &str) -> Option<Work> {
         match word {
             "lines" => Some(Work::Lines),
+            "parse" => Some(Work::Parse),
             _ => None,
         }
     }
@@ -23,6 +27,7 @@ impl Work {
     pub fn word(self) -> &'static str {
         match self {
             Work::Lines => "lines",
+            Work::Parse => "parse",
         }
     }
 
@@ -30,6 +35,7 @@ impl Work {
     pub fn round(self, alloc: Global, text: &str) -> Result<u64, AllocError> {
         match self {
             Work::Lines => lines(alloc, text),
+            Work::Parse => tree(alloc, text),
         }
     }
 }
@@ -46,4 +52,10 @@ fn lines(alloc: Global, text: &str) -> Result<u64, AllocError> {
         }
     }
     Ok(sum)
+}
+
+/// The length of the text's tree and the number of its nodes, added up.
+fn tree(alloc: Global, text: &str) -> Result<u64, AllocError> {
+    let root = parse(alloc, text, &UnicodeClasses)?;
+    Ok((root.len() as u64).wrapping_add(root.descendants() as u64))
 }

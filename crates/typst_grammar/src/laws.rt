@@ -1,5 +1,7 @@
 //! Laws of the grammar.
 
+ghost use Rattle.typst_classes.specs.Classes.{CharClasses};
+ghost use Rattle.typst_grammar.specs.Examples.{Trees};
 ghost use Rattle.typst_grammar.specs.Laws.{CallDepthLaw, CallFrameLaw, CallLeavesLaw, LeavesLaw, MarkupDepthLaw, MarkupFrameLaw, MarkupLeavesLaw, PieceDepthLaw, PieceFrameLaw, PieceLeavesLaw};
 
 /// Where all that was asked shows the same at two places, the same is read there: the value, the
@@ -25,4 +27,9 @@ pub fn leaves_law()
     ensures piece { PieceLeavesLaw }
     ensures markup { MarkupLeavesLaw }
     ensures call { CallLeavesLaw }
+{}
+
+/// Trees of short texts, which follow from the definitions.
+pub fn trees_of_texts()
+    ensures { (beyond : CharClasses) → Trees beyond }
 {}

@@ -1,0 +1,2 @@
+pub mod PrintedTree
+pub mod Variants

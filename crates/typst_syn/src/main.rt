@@ -6,6 +6,10 @@ mod lines;
 mod program;
 #[cfg(test)]
 mod tests;
+mod tree;
+#[cfg(test)]
+mod tree_tests;
+mod variants;
 
 use failure::Failure;
 pub use program::run;

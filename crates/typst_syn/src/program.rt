@@ -1,7 +1,7 @@
 //! The program over any reader and writers.
 
 use crate::failure::Failure;
-use crate::lines;
+use crate::{lines, tree};
 use std::alloc::{AllocError, Global};
 use std::io::{ErrorKind, Read, Write};
 
@@ -10,12 +10,15 @@ use std::io::{ErrorKind, Read, Write};
 enum Command {
     /// Where the lines of the text start.
     Lines,
+    /// The syntax tree of the text.
+    Tree,
 }
 
 impl Command {
     fn from_words(words: &[&str]) -> Option<Command> {
         match words {
             ["lines"] => Some(Command::Lines),
+            ["tree"] => Some(Command::Tree),
             _ => None,
         }
     }
@@ -24,6 +27,7 @@ impl Command {
     fn answer(self, alloc: Global, text: &str) -> Result<String, Failure> {
         match self {
             Command::Lines => Ok(lines::answer(alloc, text)?),
+            Command::Tree => Ok(tree::answer(alloc, text)?),
         }
     }
 }

@@ -126,7 +126,7 @@ fn other_words(rt: HostRuntime) {
         &["line"],
         &["lines", "lines"],
         &["lines", ""],
-        &["tree"],
+        &["trees"],
         &["html"],
         &["edit", "0", "0", "x"],
     ];

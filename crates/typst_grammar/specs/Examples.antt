@@ -1,0 +1,63 @@
+-- Trees of short texts, as they follow from the definitions.
+use Rattle.std.specs.Prelude.{◌≡◌, ℕ, List, [], ◌∷◌, None, codes}
+use Rattle.typst_kinds.specs.declared.kind.SyntaxKind.{SyntaxKind}
+use Rattle.typst_kinds.specs.declared.kind.SyntaxKind.TheVariants as kind
+use Rattle.typst_node.specs.Diagnostic.{warning_with, hint_with}
+use Rattle.typst_node.specs.Tree.{Tree, forest, leaf_of, inner_of, error_of, remarked, advised}
+use Rattle.typst_classes.specs.Classes.{CharClasses, by_law}
+use Rattle.typst_grammar.specs.Grammar.{tree}
+
+-- an inner node
+abbrev pub branch : SyntaxKind → List Tree → Tree
+branch k kids = inner_of k (forest kids)
+
+-- the node with a hint on its last error or warning
+abbrev pub hinted : List ℕ → Tree → Tree
+hinted message t = advised (hint_with None message) t
+
+-- the node with a warning
+abbrev pub warned : List ℕ → Tree → Tree
+warned message t = remarked (warning_with None message) t
+
+abbrev pub text : List ℕ → Tree
+text s = leaf_of kind.Text s
+
+abbrev pub space : List ℕ → Tree
+space s = leaf_of kind.Space s
+
+abbrev pub markup : List Tree → Tree
+markup kids = branch kind.Markup kids
+
+-- a bracket that closes none
+abbrev pub stray : Tree
+stray = hinted (codes "try using a backslash escape: \\]") (error_of (codes "unexpected closing bracket") (codes "]"))
+
+-- an opener without its closer
+abbrev pub unclosed : List ℕ → Tree
+unclosed s = error_of (codes "unclosed delimiter") s
+
+-- a list item with a space behind its marker
+abbrev pub list_item : Tree → Tree
+list_item body = branch kind.ListItem (leaf_of kind.ListMarker (codes "-") ∷ space (codes " ") ∷ body ∷ [])
+
+-- Trees of short texts, for every class value that keeps the law on ASCII.
+pub record Trees (beyond : CharClasses) : Type 0 where
+  pub empty : tree (by_law beyond) [] ≡ markup []
+  pub plain : tree (by_law beyond) (codes "a b") ≡ markup (text (codes "a b") ∷ [])
+  pub paragraphs : tree (by_law beyond) (codes "a\n\nb") ≡ markup (text (codes "a") ∷ leaf_of kind.Parbreak (codes "\n\n") ∷ text (codes "b") ∷ [])
+  -- brackets are text in pairs, and a closing one more is an error
+  pub brackets : tree (by_law beyond) (codes "[]") ≡ markup (text (codes "[") ∷ text (codes "]") ∷ [])
+  pub stray_bracket : tree (by_law beyond) (codes "]") ≡ markup (stray ∷ [])
+  -- emphasized content, closed, empty and unclosed
+  pub strong : tree (by_law beyond) (codes "*a*") ≡ markup (branch kind.Strong (leaf_of kind.Star (codes "*") ∷ markup (text (codes "a") ∷ []) ∷ leaf_of kind.Star (codes "*") ∷ []) ∷ [])
+  pub no_text : tree (by_law beyond) (codes "**") ≡ markup (hinted (codes "using multiple consecutive stars (e.g. **) has no additional effect") (warned (codes "no text within stars") (branch kind.Strong (leaf_of kind.Star (codes "*") ∷ markup [] ∷ leaf_of kind.Star (codes "*") ∷ []))) ∷ [])
+  pub unclosed_strong : tree (by_law beyond) (codes "*a") ≡ markup (branch kind.Strong (unclosed (codes "*") ∷ markup (text (codes "a") ∷ []) ∷ []) ∷ [])
+  pub emph_at_parbreak : tree (by_law beyond) (codes "_\n\n") ≡ markup (branch kind.Emph (unclosed (codes "_") ∷ markup (leaf_of kind.Parbreak (codes "\n\n") ∷ []) ∷ []) ∷ [])
+  -- a heading ends with its line
+  pub heading : tree (by_law beyond) (codes "= a\nb") ≡ markup (branch kind.Heading (leaf_of kind.HeadingMarker (codes "=") ∷ space (codes " ") ∷ markup (text (codes "a") ∷ []) ∷ []) ∷ space (codes "\n") ∷ text (codes "b") ∷ [])
+  -- an item takes what stands in a greater column than its marker
+  pub nested_items : tree (by_law beyond) (codes "- a\n  - b") ≡ markup (list_item (markup (text (codes "a") ∷ space (codes "\n  ") ∷ list_item (markup (text (codes "b") ∷ [])) ∷ [])) ∷ [])
+  pub items : tree (by_law beyond) (codes "- a\n- b") ≡ markup (list_item (markup (text (codes "a") ∷ [])) ∷ space (codes "\n") ∷ list_item (markup (text (codes "b") ∷ [])) ∷ [])
+  -- a term and what it means, and a term without a colon
+  pub term : tree (by_law beyond) (codes "/ A: b") ≡ markup (branch kind.TermItem (leaf_of kind.TermMarker (codes "/") ∷ space (codes " ") ∷ markup (text (codes "A") ∷ []) ∷ leaf_of kind.Colon (codes ":") ∷ space (codes " ") ∷ markup (text (codes "b") ∷ []) ∷ []) ∷ [])
+  pub no_colon : tree (by_law beyond) (codes "/ A") ≡ markup (branch kind.TermItem (leaf_of kind.TermMarker (codes "/") ∷ space (codes " ") ∷ markup (text (codes "A") ∷ []) ∷ error_of (codes "expected colon") [] ∷ markup [] ∷ []) ∷ [])

@@ -1,0 +1,5 @@
+//! Tests of `parse` over several class values.
+#![tactic(auto)]
+
+#[cfg(test)]
+mod tests;

@@ -1,0 +1,20 @@
+//! The parser layer of Typst, as programs use it.
+//!
+//! - [`parse`] makes the syntax tree of a text of markup. Any text has one; errors, warnings and hints
+//!   stand in the tree, and its leaves joined are the text. Trees, their nodes and their kinds are those
+//!   of `typst_tree`.
+//! - What characters are letters, digits and word characters is asked of a value of [`Classes`];
+//!   [`UnicodeClasses`] answers by Unicode. [`is_id_start`], [`is_id_continue`] and [`is_ident`] tell by
+//!   such a value what an identifier is.
+//! - [`Lines`] finds lines, columns and UTF-16 positions in a text; [`is_newline`] and
+//!   [`split_newlines`] tell where lines end.
+//!
+//! Positions are in bytes where nothing else is said. What makes a value takes the allocator, and answers
+//! `AllocError` where memory is refused.
+#![tactic(auto)]
+
+pub use typst_grammar::parse;
+pub use typst_lexer::{
+    Classes, MathClass, UnicodeClasses, is_id_continue, is_id_start, is_ident,
+};
+pub use typst_lines::{Line, Lines, Text, is_newline, split_newlines};
