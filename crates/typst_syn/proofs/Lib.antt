@@ -1,0 +1,2 @@
+mod PrintedLemmas
+mod StreamLemmas
