@@ -1,8 +1,4 @@
-use crate::set::{
-    ARG, ARRAY_OR_DICT_ITEM, BINARY_OP, CODE_EXPR, DESTRUCTURING_ITEM, MATH_EXPR, PARAM, PATTERN,
-    PATTERN_LEAF, STMT, UNARY_OP,
-};
-use crate::{Assoc, BinOp, FileId, Span, SpanNumber, SubRange, SyntaxKind, SyntaxSet, UnOp};
+use crate::{Assoc, BinOp, FileId, Span, SpanNumber, SubRange, SyntaxKind, SyntaxSet, UnOp, set};
 use std::test::Fail;
 
 /// Every kind with its name in messages.
@@ -161,362 +157,142 @@ fn splits(set: SyntaxSet, inside: &[SyntaxKind], outside: &[SyntaxKind]) -> bool
     inside.iter().all(|kind| set.contains(*kind)) && !outside.iter().any(|kind| set.contains(*kind))
 }
 
-#[test]
-fn stmt_kinds(rt: HostRuntime) {
-    use SyntaxKind::*;
-    assert!(rt;
-        splits(
-            STMT,
-            &[Let, Set, Show, Import, Include, Return],
-            &[Context, End, Label]
-        )
+/// The named sets, with kinds that they hold and kinds that they don't.
+mod named {
+    use crate::SyntaxKind::*;
+    use crate::set::*;
+    use crate::{SyntaxKind, SyntaxSet};
+
+    /// The kinds that the sets of expressions and patterns have in common.
+    const LEAVES: [SyntaxKind; 26] = [
+        Ident,
+        LeftBrace,
+        LeftBracket,
+        LeftParen,
+        Dollar,
+        Let,
+        Set,
+        Show,
+        Context,
+        If,
+        While,
+        For,
+        Import,
+        Include,
+        Break,
+        Continue,
+        Return,
+        Raw,
+        None,
+        Auto,
+        Int,
+        Float,
+        Bool,
+        Numeric,
+        Str,
+        Label,
+    ];
+
+    /// Those kinds of a set that are leaves, its others, and kinds that it doesn't hold.
+    pub type Kinds = (
+        &'static [SyntaxKind],
+        &'static [SyntaxKind],
+        &'static [SyntaxKind],
     );
+
+    pub const STMT: Kinds = (
+        &[],
+        &[Let, Set, Show, Import, Include, Return],
+        &[Context, End, Label],
+    );
+
+    pub const MATH_EXPR: Kinds = (
+        &[],
+        &[
+            Hash,
+            MathIdent,
+            MathFieldAccess,
+            LeftBrace,
+            LeftParen,
+            RightBrace,
+            RightParen,
+            Dot,
+            Bang,
+            Comma,
+            Semicolon,
+            MathText,
+            Linebreak,
+            MathAlignPoint,
+            MathShorthand,
+            MathPrimes,
+            Escape,
+            Str,
+            Root,
+        ],
+        &[Text, End, RightBracket, Hat, Underscore],
+    );
+
+    pub const UNARY_OP: Kinds = (&[], &[Plus, Minus, Not], &[Star, In, End]);
+
+    pub const BINARY_OP: Kinds = (
+        &[],
+        &[
+            Plus, Minus, Star, Slash, And, Or, EqEq, ExclEq, Lt, LtEq, Gt, GtEq, Eq, In, PlusEq,
+            HyphEq, StarEq, SlashEq,
+        ],
+        &[Not, Dots, Arrow],
+    );
+
+    pub const PATTERN_LEAF: Kinds = (&LEAVES, &[], &[Underscore, Plus, Dots, Else, In, As]);
+
+    pub const CODE_EXPR: Kinds = (
+        &LEAVES,
+        &[Underscore, Plus, Minus, Not],
+        &[Dots, Star, Else, End],
+    );
+
+    pub const PATTERN: Kinds = (&LEAVES, &[Underscore], &[Dots, Plus, Not]);
+
+    pub const ARG: Kinds = (
+        &LEAVES,
+        &[Underscore, Plus, Minus, Not, Dots],
+        &[Star, Comma, End],
+    );
+
+    pub const ARRAY_OR_DICT_ITEM: Kinds = (
+        &LEAVES,
+        &[Underscore, Plus, Minus, Not, Dots],
+        &[Colon, RightParen, End],
+    );
+
+    pub const PARAM: Kinds = (&LEAVES, &[Underscore, Dots], &[Minus, Not, End]);
+
+    pub const DESTRUCTURING_ITEM: Kinds = (&LEAVES, &[Underscore, Dots], &[Plus, Comma, End]);
 }
 
 #[test]
-fn math_expr_kinds(rt: HostRuntime) {
-    use SyntaxKind::*;
-    assert!(rt;
-        splits(
-            MATH_EXPR,
-            &[
-                Hash,
-                MathIdent,
-                MathFieldAccess,
-                LeftBrace,
-                LeftParen,
-                RightBrace,
-                RightParen,
-                Dot,
-                Bang,
-                Comma,
-                Semicolon,
-                MathText,
-                Linebreak,
-                MathAlignPoint,
-                MathShorthand,
-                MathPrimes,
-                Escape,
-                Str,
-                Root
-            ],
-            &[Text, End, RightBracket, Hat, Underscore]
-        )
-    );
+fn named_sets(rt: HostRuntime) {
+    let table = [
+        (set::STMT, named::STMT),
+        (set::MATH_EXPR, named::MATH_EXPR),
+        (set::UNARY_OP, named::UNARY_OP),
+        (set::BINARY_OP, named::BINARY_OP),
+        (set::PATTERN_LEAF, named::PATTERN_LEAF),
+        (set::CODE_EXPR, named::CODE_EXPR),
+        (set::PATTERN, named::PATTERN),
+        (set::ARG, named::ARG),
+        (set::ARRAY_OR_DICT_ITEM, named::ARRAY_OR_DICT_ITEM),
+        (set::PARAM, named::PARAM),
+        (set::DESTRUCTURING_ITEM, named::DESTRUCTURING_ITEM),
+    ];
+    for (i, (set, (leaves, others, outside))) in table.into_iter().enumerate() {
+        assert!(rt;
+            splits(set, leaves, outside) && splits(set, others, outside),
+            "set {i}"
+        );
+    }
 }
 
-#[test]
-fn unary_op_kinds(rt: HostRuntime) {
-    use SyntaxKind::*;
-    assert!(rt; splits(UNARY_OP, &[Plus, Minus, Not], &[Star, In, End]));
-}
-
-#[test]
-fn binary_op_kinds(rt: HostRuntime) {
-    use SyntaxKind::*;
-    assert!(rt;
-        splits(
-            BINARY_OP,
-            &[
-                Plus, Minus, Star, Slash, And, Or, EqEq, ExclEq, Lt, LtEq, Gt, GtEq, Eq, In,
-                PlusEq, HyphEq, StarEq, SlashEq
-            ],
-            &[Not, Dots, Arrow]
-        )
-    );
-}
-
-#[test]
-fn pattern_leaf_kinds(rt: HostRuntime) {
-    use SyntaxKind::*;
-    assert!(rt;
-        splits(
-            PATTERN_LEAF,
-            &[
-                Ident,
-                LeftBrace,
-                LeftBracket,
-                LeftParen,
-                Dollar,
-                Let,
-                Set,
-                Show,
-                Context,
-                If,
-                While,
-                For,
-                Import,
-                Include,
-                Break,
-                Continue,
-                Return,
-                Raw,
-                None,
-                Auto,
-                Int,
-                Float,
-                Bool,
-                Numeric,
-                Str,
-                Label
-            ],
-            &[Underscore, Plus, Dots, Else, In, As]
-        )
-    );
-}
-
-#[test]
-fn code_expr_kinds(rt: HostRuntime) {
-    use SyntaxKind::*;
-    assert!(rt;
-        splits(
-            CODE_EXPR,
-            &[
-                Ident,
-                LeftBrace,
-                LeftBracket,
-                LeftParen,
-                Dollar,
-                Let,
-                Set,
-                Show,
-                Context,
-                If,
-                While,
-                For,
-                Import,
-                Include,
-                Break,
-                Continue,
-                Return,
-                Raw,
-                None,
-                Auto,
-                Int,
-                Float,
-                Bool,
-                Numeric,
-                Str,
-                Label,
-                Underscore,
-                Plus,
-                Minus,
-                Not
-            ],
-            &[Dots, Star, Else, End]
-        )
-    );
-}
-
-#[test]
-fn pattern_kinds(rt: HostRuntime) {
-    use SyntaxKind::*;
-    assert!(rt;
-        splits(
-            PATTERN,
-            &[
-                Ident,
-                LeftBrace,
-                LeftBracket,
-                LeftParen,
-                Dollar,
-                Let,
-                Set,
-                Show,
-                Context,
-                If,
-                While,
-                For,
-                Import,
-                Include,
-                Break,
-                Continue,
-                Return,
-                Raw,
-                None,
-                Auto,
-                Int,
-                Float,
-                Bool,
-                Numeric,
-                Str,
-                Label,
-                Underscore
-            ],
-            &[Dots, Plus, Not]
-        )
-    );
-}
-
-#[test]
-fn arg_kinds(rt: HostRuntime) {
-    use SyntaxKind::*;
-    assert!(rt;
-        splits(
-            ARG,
-            &[
-                Ident,
-                LeftBrace,
-                LeftBracket,
-                LeftParen,
-                Dollar,
-                Let,
-                Set,
-                Show,
-                Context,
-                If,
-                While,
-                For,
-                Import,
-                Include,
-                Break,
-                Continue,
-                Return,
-                Raw,
-                None,
-                Auto,
-                Int,
-                Float,
-                Bool,
-                Numeric,
-                Str,
-                Label,
-                Underscore,
-                Plus,
-                Minus,
-                Not,
-                Dots
-            ],
-            &[Star, Comma, End]
-        )
-    );
-}
-
-#[test]
-fn array_or_dict_item_kinds(rt: HostRuntime) {
-    use SyntaxKind::*;
-    assert!(rt;
-        splits(
-            ARRAY_OR_DICT_ITEM,
-            &[
-                Ident,
-                LeftBrace,
-                LeftBracket,
-                LeftParen,
-                Dollar,
-                Let,
-                Set,
-                Show,
-                Context,
-                If,
-                While,
-                For,
-                Import,
-                Include,
-                Break,
-                Continue,
-                Return,
-                Raw,
-                None,
-                Auto,
-                Int,
-                Float,
-                Bool,
-                Numeric,
-                Str,
-                Label,
-                Underscore,
-                Plus,
-                Minus,
-                Not,
-                Dots
-            ],
-            &[Colon, RightParen, End]
-        )
-    );
-}
-
-#[test]
-fn param_kinds(rt: HostRuntime) {
-    use SyntaxKind::*;
-    assert!(rt;
-        splits(
-            PARAM,
-            &[
-                Ident,
-                LeftBrace,
-                LeftBracket,
-                LeftParen,
-                Dollar,
-                Let,
-                Set,
-                Show,
-                Context,
-                If,
-                While,
-                For,
-                Import,
-                Include,
-                Break,
-                Continue,
-                Return,
-                Raw,
-                None,
-                Auto,
-                Int,
-                Float,
-                Bool,
-                Numeric,
-                Str,
-                Label,
-                Underscore,
-                Dots
-            ],
-            &[Minus, Not, End]
-        )
-    );
-}
-
-#[test]
-fn destructuring_item_kinds(rt: HostRuntime) {
-    use SyntaxKind::*;
-    assert!(rt;
-        splits(
-            DESTRUCTURING_ITEM,
-            &[
-                Ident,
-                LeftBrace,
-                LeftBracket,
-                LeftParen,
-                Dollar,
-                Let,
-                Set,
-                Show,
-                Context,
-                If,
-                While,
-                For,
-                Import,
-                Include,
-                Break,
-                Continue,
-                Return,
-                Raw,
-                None,
-                Auto,
-                Int,
-                Float,
-                Bool,
-                Numeric,
-                Str,
-                Label,
-                Underscore,
-                Dots
-            ],
-            &[Plus, Comma, End]
-        )
-    );
-}
 /// Every binary operator: its kind's answer, how tightly it binds, and on which side first.
 const BINARY: [(SyntaxKind, BinOp, u8, Assoc); 18] = [
     (SyntaxKind::Eq, BinOp::Assign, 1, Assoc::Right),

@@ -1,5 +1,5 @@
 //! Worked values: the table, positions, edits, line ends.
-use crate::{Lines, Scanner, ScannerExt, Text, is_newline, split_newlines};
+use crate::{Lines, LinesFrom, Scanner, ScannerExt, Text, is_newline, split_newlines};
 use std::alloc::{AllocError, Global};
 use std::collections::HashSet;
 use std::process::Abort;
@@ -39,6 +39,30 @@ fn table_of_lines(rt: HostRuntime) -> Result<(), Fail> {
     ];
     for (text, starts) in table {
         has_starts(&rt, &Lines::new(rt.alloc(), text)?, starts);
+    }
+    Ok(())
+}
+
+/// Whether exactly these lines start after a byte offset.
+fn has_starts_after(rt: &impl Abort, lines: &Lines<&str>, byte: usize, starts: &[(usize, usize)]) {
+    let Some(utf16) = lines.byte_to_utf16(byte) else {
+        assert!(rt; false, "no boundary at {byte}");
+        return;
+    };
+    let mut left = LinesFrom::new(lines.text(), byte, utf16);
+    for start in starts {
+        let next = left.next().map(|line| (line.byte_idx(), line.utf16_idx()));
+        assert_eq!(rt; next, Some(*start), "after {byte}");
+    }
+    assert_eq!(rt; left.next(), None, "after {byte}");
+}
+
+#[test]
+fn lines_after_a_place(rt: HostRuntime) -> Result<(), Fail> {
+    let lines = Lines::new(rt.alloc(), TEXT)?;
+    let starts = [(7, 6), (15, 12), (18, 15)];
+    for (byte, passed) in [(0, 0), (6, 0), (7, 1), (14, 1), (15, 2), (21, 3)] {
+        has_starts_after(&rt, &lines, byte, &starts[passed..]);
     }
     Ok(())
 }

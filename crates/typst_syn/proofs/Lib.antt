@@ -1,1 +1,3 @@
+mod PrintedLemmas
 mod Printing
+mod StreamLemmas

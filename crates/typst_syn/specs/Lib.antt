@@ -1,2 +1,4 @@
+pub mod Faults
+pub mod Printed
 pub mod PrintedTree
 pub mod Variants

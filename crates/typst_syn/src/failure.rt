@@ -1,5 +1,9 @@
 //! Why the program failed.
+ghost use Rattle.std.specs.Prelude.{◌≡◌};
+ghost use Rattle.typst_syn.specs.Faults.{Begins, line_of, status_of};
+ghost use Rattle.typst_syn.specs.declared.failure.Failure.TheVariants as failure;
 
+use crate::streams::write_bytes;
 use std::alloc::{AllocError, AllocFailed};
 use std::io::Write;
 
@@ -19,12 +23,16 @@ pub enum Failure {
 }
 
 impl From<AllocError> for Failure {
+    ghost from_gives = { λ _ made. made ≡ failure.OutOfMemory };
+
     fn from(_error: AllocError) -> Failure {
         Failure::OutOfMemory
     }
 }
 
 impl<T: Drop> From<AllocFailed<T>> for Failure {
+    ghost from_gives = { λ _ made. made ≡ failure.OutOfMemory };
+
     fn from(_error: AllocFailed<T>) -> Failure {
         Failure::OutOfMemory
     }
@@ -32,7 +40,9 @@ impl<T: Drop> From<AllocFailed<T>> for Failure {
 
 impl Failure {
     /// The program's exit status.
-    pub fn status(self) -> u8 {
+    pub fn status(self) -> u8
+        ensures { result ≡ status_of self }
+    {
         match self {
             Failure::Usage => 2,
             _ => 1,
@@ -40,7 +50,9 @@ impl Failure {
     }
 
     /// The line that tells of it.
-    pub fn line(self) -> &'static str {
+    pub fn line(self) -> &'static str
+        ensures { result.now ≡ line_of self }
+    {
         match self {
             Failure::Usage => "usage: typst_syn lines | tree | html | edit START END TEXT\n",
             Failure::NotRead => "read failed\n",
@@ -52,8 +64,11 @@ impl Failure {
 
     /// Tells of the failure, which takes no memory, and gives the status, also where the line can't
     /// be written.
-    pub fn report<E: Write>(self, errors: &mut E) -> u8 {
-        let _ = errors.write_all(self.line().as_bytes());
+    pub fn report<E: Write>(self, errors: &mut E) -> u8
+        ensures status { result ≡ status_of self }
+        ensures line { Begins (E.contents errors.old) (E.contents errors.new) (line_of self) }
+    {
+        let _ = write_bytes(errors, self.line().as_bytes());
         self.status()
     }
 }

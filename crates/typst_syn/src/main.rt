@@ -1,9 +1,11 @@
 //! Prints what the parser layer answers about the text on standard input.
 #![tactic(auto)]
 
+mod command;
 mod failure;
 mod lines;
 mod program;
+mod streams;
 #[cfg(test)]
 mod tests;
 mod tree;

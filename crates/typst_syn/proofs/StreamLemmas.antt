@@ -1,0 +1,10 @@
+-- Known bytes that are written piece by piece.
+use Rattle.std.proofs.Common.{◌≡◌, ◌∙◌, ℕ, ◌+◌, List, Option, take, drop, subst, sym}
+use Rattle.std.proofs.KnownBytes.{Appends-trans, Appends-kept}
+use Rattle.std.specs.Io.KnownBytes.{Appends, Keeps}
+use lib.Seq.{take-add}
+
+pub Appends-piece : (a b c : Option (List ℕ)) (bytes : List ℕ) (done n : ℕ) → Appends a b (take done bytes) → Appends b c (take n (drop done bytes))
+    → Appends a c (take (done + n) bytes)
+Appends-piece a b c bytes done n before piece =
+    subst (λ bs. Appends a c bs) (sym (take-add done n bytes)) (Appends-trans a b c (take done bytes) (take n (drop done bytes)) before piece)
