@@ -12,16 +12,16 @@ loop-turn-preserved g c =
     let old = g.W.Write.contents c.args.output.now in
     let new = g.W.Write.contents c.write.new.self in
     let before = c.loop-turn.invariant in elim c.match-write.branch [
-    in-Ok w ↦
-      record {
-        within = omega (arith, w.done-is, rw (take_rest, length-drop) at w.in-Ok.ensures.bound, before.within);
-        written =
-          subst (λ d. Appends old new (take d bytes)) (sym w.done-is)
-          (Appends-piece _ _ _ bytes c.loop-turn.done w.in-Ok.count before.written (rw take_rest at w.in-Ok.ensures.bytes));
-      }
-  | in-Err w ↦
-      record {
-        within = omega (arith, w.done-is, before.within);
-        written = subst (λ d. Appends old new (take d bytes)) (sym w.done-is) (Appends-kept _ _ _ _ before.written w.in-Err.ensures.bytes);
-      }
-  ]
+      | in-Ok w ↦
+          record {
+            within = omega (arith, w.done-is, rw (take_rest, length-drop) at w.in-Ok.ensures.bound, before.within);
+            written =
+                subst (λ d. Appends old new (take d bytes)) (sym w.done-is)
+                (Appends-piece _ _ _ bytes c.loop-turn.done w.in-Ok.count before.written (rw take_rest at w.in-Ok.ensures.bytes));
+          }
+      | in-Err w ↦
+          record {
+            within = omega (arith, w.done-is, before.within);
+            written = subst (λ d. Appends old new (take d bytes)) (sym w.done-is) (Appends-kept _ _ _ _ before.written w.in-Err.ensures.bytes);
+          }
+    ]
