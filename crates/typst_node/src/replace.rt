@@ -6,8 +6,8 @@ ghost use Rattle.typst_node.specs.Replace.{Reaches, replaced, replaced_at, kids_
 use crate::SyntaxNode;
 use crate::items::{keep_middle, remove, splice};
 use crate::numbers::{number_part, stride};
-use crate::own::Own;
 use std::ops::Range;
+use typst_heads::Own;
 use typst_kinds::{FileId, SourceError};
 
 /// The children that are numbered anew, by their places before the replacement, and where their
