@@ -34,7 +34,7 @@ front_same (x ∷ xs) [] = refl
 front_same (x ∷ xs) (y ∷ ys) = by_test (same_tree x y) refl (front_same xs ys)
   where
     by_test : (b : Bool) → same_tree x y ≡ b → map bare (take (front xs ys) xs) ≡ map bare (take (front xs ys) ys) → map bare (take (if b then front xs ys + 1 else 0) (x ∷ xs)) ≡ map bare (take (if b then front xs ys + 1 else 0) (y ∷ ys))
-    by_test true s e = rw (add-one, add-one) (λ i. same_tree_is x y s i ∷ e i)
+    by_test true s e = rw add-one (λ i. same_tree_is x y s i ∷ e i)
     by_test false s e = refl
 
 map_reverse : (ts : List Tree) → map bare (reverse ts) ≡ reverse (map bare ts)

@@ -137,8 +137,8 @@ text_put_at [] from to new t r = text_put from to new t
 text_put_at (i ∷ path) from to new t r = by_kid (slice_get (kids_of t) i) refl r (text_put_at path from to new)
   where
     by_kid : (o : Option Tree) → slice_get (kids_of t) i ≡ o → At (Reaches path from to) o →
-    ((k : Tree) → Reaches path from to k → text_of (put_at path from to new k) ≡ take (start_at path from k) (text_of k) ++ (joined (forest new) ++ drop (start_at path to k) (text_of k))) →
-    text_of (put_at (i ∷ path) from to new t) ≡ take (start_in i t + or_none (start_at path from) o) (text_of t) ++ (joined (forest new) ++ drop (start_in i t + or_none (start_at path to) o) (text_of t))
+        ((k : Tree) → Reaches path from to k → text_of (put_at path from to new k) ≡ take (start_at path from k) (text_of k) ++ (joined (forest new) ++ drop (start_at path to k) (text_of k))) →
+        text_of (put_at (i ∷ path) from to new t) ≡ take (start_in i t + or_none (start_at path from) o) (text_of t) ++ (joined (forest new) ++ drop (start_in i t + or_none (start_at path to) o) (text_of t))
     by_kid None e r f = absurd r
     by_kid (Some k) e r f =
         let long : length (t.head.text ++ joined (forest (take i (kids_of t)))) ≡ start_in i t = length-append t.head.text (joined (forest (take i (kids_of t)))) in

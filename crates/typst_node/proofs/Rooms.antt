@@ -28,7 +28,7 @@ all_room h xs from to n j k p q r s =
 
 -- one try of a growth that fails, whose next tries come to g
 fails_once : (h : Head) (xs : List Tree) (from to n k : ℕ) (g : Option ℕ) → from ≤ length xs → (if has_room h xs from to n k then Some k else (if is_all xs from to k then None else g)) ≡ None →
-(is_all xs from to k ≡ false → g ≡ None → has_room h xs from to n (length xs) ≡ false) → has_room h xs from to n (length xs) ≡ false
+    (is_all xs from to k ≡ false → g ≡ None → has_room h xs from to n (length xs) ≡ false) → has_room h xs from to n (length xs) ≡ false
 fails_once h xs from to n k g w e more = by_room (has_room h xs from to n k) refl e
   where
     by_all : (b : Bool) → is_all xs from to k ≡ b → has_room h xs from to n k ≡ false → (if b then None else g) ≡ None → has_room h xs from to n (length xs) ≡ false

@@ -1,9 +1,10 @@
 -- Leaves without children.
-use Rattle.std.proofs.Common.{◌≡◌, ℕ, zero, suc, ◌-◌, Bool, false, List, [], ◌∷◌, ◌++◌, take, drop, refl, ap, sym, ◌∙◌}
-use Rattle.std.specs.Prelude.{slice_range}
+use Rattle.std.proofs.Common.{◌≡◌, ℕ, Bool, false, List, [], ◌∷◌, ◌++◌, refl, ap, sym, ◌∙◌}
 use Rattle.typst_heads.specs.Head.{Head, bare_head}
 use Rattle.typst_node.specs.Tree.{Forest, none, more, Tree, forest, bare, bare_forest}
+use Rattle.typst_node.specs.Numbers.{numbered_list}
 use Rattle.typst_node.specs.Order.{IsWholeForest, IsWhole}
+use Rattle.typst_node.proofs.Numbering.{forest_numbered, numbered_forest_bare}
 
 none_bare : (f : Forest) → bare_forest f ≡ none → f ≡ none
 none_bare none e = refl
@@ -27,19 +28,15 @@ whole_same_tree t u e w =
     let kids : bare_forest t.kids ≡ bare_forest u.kids = ap (λ v. v.kids) e in
     (λ q. none_bare t.kids (kids ∙ ap bare_forest (w.0 (sym inner ∙ q))), whole_same t.kids u.kids kids w.1)
 
-pub whole-append : (xs ys : List Tree) → IsWholeForest (forest xs) → IsWholeForest (forest ys) → IsWholeForest (forest (xs ++ ys))
-whole-append [] ys v w = w
-whole-append (x ∷ xs) ys v w = (v.0, v.1, whole-append xs ys v.2 w)
+pub whole_left : (xs ys : List Tree) → IsWholeForest (forest (xs ++ ys)) → IsWholeForest (forest xs)
+whole_left [] ys w = tt
+whole_left (x ∷ xs) ys w = (w.0, w.1, whole_left xs ys w.2)
 
-pub whole_take : (n : ℕ) (xs : List Tree) → IsWholeForest (forest xs) → IsWholeForest (forest (take n xs))
-whole_take zero xs w = tt
-whole_take (suc n) [] w = tt
-whole_take (suc n) (x ∷ xs) w = (w.0, w.1, whole_take n xs w.2)
+pub whole_right : (xs ys : List Tree) → IsWholeForest (forest (xs ++ ys)) → IsWholeForest (forest ys)
+whole_right [] ys w = w
+whole_right (x ∷ xs) ys w = whole_right xs ys w.2
 
-pub whole_drop : (n : ℕ) (xs : List Tree) → IsWholeForest (forest xs) → IsWholeForest (forest (drop n xs))
-whole_drop zero xs w = w
-whole_drop (suc n) [] w = tt
-whole_drop (suc n) (x ∷ xs) w = whole_drop n xs w.2
-
-pub whole_range : (a b : ℕ) (xs : List Tree) → IsWholeForest (forest xs) → IsWholeForest (forest (slice_range xs a b))
-whole_range a b xs w = whole_take (b - a) (drop a xs) (whole_drop a xs w)
+-- trees are whole where they are once numbered
+pub whole_numbered : (file s a : ℕ) (ts : List Tree) → IsWholeForest (forest (numbered_list file s a ts)) → IsWholeForest (forest ts)
+whole_numbered file s a ts w =
+    whole_same (forest ts) (forest (numbered_list file s a ts)) (sym (rw forest_numbered (numbered_forest_bare file s a (forest ts)))) w

@@ -3,7 +3,7 @@ use Rattle.std.specs.Prelude.{◌≡◌, ℕ, ◌+◌, ◌-◌, ◌<◌, max, �
 use Rattle.typst_heads.specs.Head.{Head, number_of}
 use Rattle.typst_node.specs.Tree.{Tree, forest, joined, text_of, count, bare, at_child}
 use Rattle.typst_node.specs.Same.{front}
-use Rattle.typst_node.specs.Order.{IsWhole, IsWholeForest, IsNumbered, AreInOrder, numbers_of}
+use Rattle.typst_node.specs.Order.{IsWhole, IsNumbered, AreInOrder, numbers_of}
 use Rattle.typst_node.specs.Replace.{kids_of, with_kids, fit, middle, back, replaced_at, At, Reaches}
 
 -- the tree with new children in place of from..to of the node that the path leads to
@@ -66,8 +66,7 @@ KeepsOthers =
 -- numbers that were distinct and in order stay so
 abbrev pub KeepsOrder : Type 0
 KeepsOrder =
-    (path : List ℕ) (from to : ℕ) (new : List Tree) (t u : Tree) →
-    IsWhole t → IsWholeForest (forest new) → Reaches path from to t → replaced_at path from to new t ≡ Some u → IsNumbered t → IsNumbered u × AreInOrder (numbers_of u)
+    (path : List ℕ) (from to : ℕ) (new : List Tree) (t u : Tree) → IsWhole u → Reaches path from to t → replaced_at path from to new t ≡ Some u → IsNumbered t → IsNumbered u × AreInOrder (numbers_of u)
 
 -- the node has no file, or there are more nodes below it than numbers
 abbrev pub IsFull : ℕ → ℕ → List Tree → Tree → Type 0
