@@ -2,7 +2,7 @@ ghost use Rattle.std.specs.Prelude.{◌≡◌, ◌+◌, ◌-◌, ◌*◌, ◌^�
 ghost use Rattle.typst_kinds.specs.Span.{IsSpanNumber};
 ghost use Rattle.typst_heads.specs.Head.{with_head};
 ghost use Rattle.typst_node.specs.Tree.{nodes, forest, count};
-ghost use Rattle.typst_node.specs.Order.{IsWhole, IsNumbered, AreInOrder, numbers_of};
+ghost use Rattle.typst_node.specs.Order.{IsNumbered, AreInOrder, numbers_of};
 ghost use Rattle.typst_node.specs.Numbers.{IsStretch, placed, numbered, numbered_list, numberized, stride};
 
 use crate::SyntaxNode;
@@ -111,8 +111,9 @@ impl SyntaxNode {
         requires { IsStretch within.start within.end }
         ensures numbers { MatchResult result (λ _. numberized id within.start within.end self.old ≡ Some self.new)
             (λ e. (e ≡ SourceError.SpanNumbers) × (numberized id within.start within.end self.old ≡ None) × (self.new ≡ self.old)) }
-        ensures ordered { OnOk result (IsWhole self.old → IsNumbered self.new × AreInOrder (numbers_of self.new)) }
+        ensures ordered { OnOk result (IsNumbered self.new × AreInOrder (numbers_of self.new)) }
     {
+        self.leaves_are_bare();
         let count = self.descendants() as u64;
         let room = within.end.saturating_sub(within.start);
         if count > room {
