@@ -11,5 +11,6 @@ pub mod Rooms
 pub mod Sames
 pub mod Steps
 pub mod Stretches
+pub mod Sums
 pub mod Trees
 pub mod Wholes
