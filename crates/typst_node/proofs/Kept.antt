@@ -1,17 +1,16 @@
 -- Replacing keeps the children that are neither taken out nor numbered anew.
-use Rattle.std.proofs.Common.{◌≡◌, ℕ, ◌+◌, ◌-◌, ◌<◌, ◌≤◌, List, [], ◌∷◌, ◌++◌, length, take, drop, Option, Some, None, refl, ap, sym, ◌∙◌, subst, arith, append_assoc, length-append}
-use Rattle.std.specs.Prelude.{slice_range, option_map, min}
+use Rattle.std.proofs.Common.{◌≡◌, ℕ, ◌+◌, ◌-◌, ◌≤◌, List, [], ◌∷◌, ◌++◌, length, take, drop, Option, Some, None, refl, ap, sym, ◌∙◌, subst, arith, append_assoc, length-append}
+use Rattle.std.specs.Prelude.{slice_range}
 use Rattle.std.proofs.lemmas.List.{take_at, drop_at, length-take-le, length-drop}
-use Rattle.typst_node.specs.declared.replace.Stretch.{Stretch}
 use Rattle.typst_heads.specs.Head.{Head}
-use Rattle.typst_node.specs.Tree.{Tree, forest}
+use Rattle.typst_node.specs.Tree.{Tree}
 use Rattle.typst_node.specs.Numbers.{numbered_list}
 use Rattle.typst_node.specs.Same.{front}
-use Rattle.typst_node.specs.Replace.{kids_of, with_kids, middle, back, exchanged, renumbered, replaced, Reaches}
+use Rattle.typst_node.specs.Replace.{kids_of, with_kids, middle, back, exchanged, replaced, Reaches}
 use Rattle.typst_node.specs.Laws.{touched, touched_by, Keeps}
 use Rattle.typst_node.proofs.Bares.{trees_forest}
-use Rattle.typst_node.proofs.Aside.{Aside, aside}
-use Rattle.typst_node.proofs.Steps.{Inside, inside, Exchanged, exchange_some, exchange_none, Grown, grown}
+use Rattle.typst_node.proofs.Aside.{aside}
+use Rattle.typst_node.proofs.Steps.{inside, exchange_some, exchange_none, grown}
 
 -- the ends of the list xs where its middle l..r was replaced
 pub record Ends (xs ys : List Tree) (l r : ℕ) : Type 0 where

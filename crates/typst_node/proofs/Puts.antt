@@ -1,6 +1,6 @@
 -- Replacing puts the new children in place of the old ones, spans aside.
-use Rattle.std.proofs.Common.{◌≡◌, ℕ, zero, suc, ◌+◌, ◌-◌, ◌*◌, ◌<◌, ◌≤◌, List, [], ◌∷◌, ◌++◌, length, take, drop, map, get_or, Option, Some, None, refl, ap, sym, ◌∙◌, arith, append_assoc, length-append}
-use Rattle.std.specs.Prelude.{slice_get, slice_set, slice_range, min}
+use Rattle.std.proofs.Common.{◌≡◌, ℕ, suc, ◌+◌, ◌-◌, ◌*◌, ◌<◌, ◌≤◌, List, [], ◌∷◌, ◌++◌, length, take, drop, map, get_or, Option, Some, None, refl, ap, sym, ◌∙◌, arith, append_assoc, length-append}
+use Rattle.std.specs.Prelude.{slice_get, slice_range}
 use Rattle.std.proofs.Math.ListN.{set}
 use Rattle.std.proofs.Math.Seq.{take-append-add, drop-append-add}
 use Rattle.std.proofs.lemmas.List.{take-append-drop, take-append-le, drop-append-le, take_at, drop_at, map-append, map-set, set_split, set-get_or}
@@ -8,17 +8,17 @@ use Rattle.std.proofs.lemmas.List.Folds.{drop_split}
 use Rattle.std.proofs.lemmas.Option.{slice_get_within, get_or_from_slice_get}
 use Rattle.typst_node.specs.declared.replace.Stretch.{Stretch}
 use Rattle.typst_heads.specs.Head.{Head, bare_head}
-use Rattle.typst_node.specs.Tree.{Forest, none, more, Tree, forest, trees, joined, text_of, nodes, bare, bare_forest, at_tree, at_child}
+use Rattle.typst_node.specs.Tree.{Tree, forest, joined, text_of, nodes, bare, at_tree, at_child}
 use Rattle.typst_node.specs.Numbers.{numbered_list}
 use Rattle.typst_node.specs.Same.{front}
 use Rattle.typst_node.specs.Replace.{kids_of, with_kids, middle, back, swapped, exchanged, renumbered, replaced, replaced_at, At, Reaches}
 use Rattle.typst_node.specs.Laws.{put_at, start_in, or_none, start_at}
-use Rattle.typst_node.proofs.Bares.{trees_forest, forest_trees, forest_bare}
+use Rattle.typst_node.proofs.Bares.{forest_trees, forest_bare}
 use Rattle.typst_node.proofs.Trees.{forest_set}
 use Rattle.typst_node.proofs.Numbering.{numbered_bare, joined_bare}
 use Rattle.typst_node.proofs.Stretches.{take_split}
-use Rattle.typst_node.proofs.Aside.{Aside, aside}
-use Rattle.typst_node.proofs.Steps.{Inside, inside, Exchanged, exchange_some, exchange_none, Grown, grown, Below, below}
+use Rattle.typst_node.proofs.Aside.{aside}
+use Rattle.typst_node.proofs.Steps.{inside, exchange_some, exchange_none, grown, below}
 
 pub list_bare : (file s a : ℕ) (ts : List Tree) → map bare (numbered_list file s a ts) ≡ map bare ts
 list_bare file s a [] = refl

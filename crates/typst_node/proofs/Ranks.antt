@@ -1,22 +1,21 @@
 -- Replacing keeps numbers in order.
-use Rattle.std.proofs.Common.{◌≡◌, ℕ, zero, suc, ◌+◌, ◌-◌, ◌*◌, ◌/◌, ◌<◌, ◌≤◌, ◌==◌, min, max, Bool, true, false, IsTrue, List, [], ◌∷◌, ◌++◌, length, take, drop, Option, Some, None, refl, ap, sym, ◌∙◌, subst, arith, append_assoc, if◌then◌else◌}
-use Rattle.std.specs.Prelude.{slice_get, slice_set, slice_range, nat_le}
+use Rattle.std.proofs.Common.{◌≡◌, ℕ, zero, suc, ◌+◌, ◌-◌, ◌*◌, ◌<◌, ◌≤◌, ◌==◌, max, false, IsTrue, List, [], ◌∷◌, ◌++◌, length, take, drop, Some, refl, ap, sym, ◌∙◌, subst, arith, if◌then◌else◌}
+use Rattle.std.specs.Prelude.{slice_get, slice_range}
 use Rattle.std.proofs.Math.ListN.{set}
 use Rattle.std.proofs.lemmas.Bool.Decides.{nat_tests}
-use Rattle.typst_node.specs.declared.replace.Stretch.{Stretch}
 use Rattle.typst_heads.specs.Head.{Head, number_of}
-use Rattle.typst_node.specs.Tree.{Forest, none, more, Tree, forest, count}
+use Rattle.typst_node.specs.Tree.{Tree, forest, count}
 use Rattle.typst_node.specs.Numbers.{stride, numbered_list, numbered_forest}
 use Rattle.typst_node.specs.Same.{front}
 use Rattle.typst_node.specs.Order.{IsWholeForest, IsWhole, upper_at, IsOrdered, IsNumbered, numbers_of, AreInOrder}
 use Rattle.typst_node.specs.Replace.{kids_of, with_kids, upper_of, upper_or, number_or, start_of, end_of, left_of, right_of, wanted, room, stretch, middle, back, exchanged, renumbered, replaced, replaced_at, Reaches}
 use Rattle.typst_node.specs.Laws.{Along}
-use Rattle.typst_node.proofs.Bares.{trees_forest, forest_trees}
+use Rattle.typst_node.proofs.Bares.{forest_trees}
 use Rattle.typst_node.proofs.Numbering.{forest_numbered, some_nodes}
 use Rattle.typst_node.proofs.Orders.{stride_step, stride_within, ordered_le, ordered_from, ordered_to, numbered_ordered, numbers_in_order}
 use Rattle.typst_node.proofs.Stretches.{count-append, growth_has_room, le_from}
-use Rattle.typst_node.proofs.Aside.{Aside, aside}
-use Rattle.typst_node.proofs.Steps.{Inside, inside, Exchanged, exchange_some, exchange_none, Grown, grown, along}
+use Rattle.typst_node.proofs.Aside.{aside}
+use Rattle.typst_node.proofs.Steps.{inside, exchange_some, exchange_none, grown, along}
 use Rattle.typst_node.proofs.Wholes.{whole_left, whole_right, whole_numbered}
 
 -- where the numbers of the trees from l on begin

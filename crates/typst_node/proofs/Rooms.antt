@@ -1,6 +1,6 @@
 -- Where replacing is refused.
-use Rattle.std.proofs.Common.{◌≡◌, ℕ, zero, suc, ◌+◌, ◌-◌, ◌*◌, ◌<◌, ◌≤◌, ◌&&◌, ◌⊎◌, inl, inr, min, max, Bool, true, false, List, [], ◌∷◌, ◌++◌, length, take, drop, map, Option, Some, None, refl, ap, sym, ◌∙◌, subst, arith, if◌then◌else◌}
-use Rattle.std.specs.Prelude.{slice_get, slice_range, nat_le, option_map}
+use Rattle.std.proofs.Common.{◌≡◌, ℕ, zero, suc, ◌+◌, ◌-◌, ◌*◌, ◌<◌, ◌≤◌, ◌&&◌, inl, inr, max, Bool, true, false, List, [], ◌∷◌, ◌++◌, length, take, drop, map, Option, Some, None, refl, ap, sym, ◌∙◌, arith, if◌then◌else◌}
+use Rattle.std.specs.Prelude.{slice_range, nat_le, option_map}
 use Rattle.std.proofs.lemmas.Bool.Decides.{nat_tests}
 use Rattle.std.proofs.lemmas.List.{take_rest}
 use Rattle.std.proofs.lemmas.Option.{slice_get_past}
@@ -9,11 +9,11 @@ use Rattle.typst_heads.specs.Head.{Head, Place, number_of}
 use Rattle.typst_node.specs.Tree.{Tree, forest, count, bare, bare_forest}
 use Rattle.typst_node.specs.Same.{front}
 use Rattle.typst_node.specs.Replace.{kids_of, with_kids, left_of, right_of, wanted, room, has_room, is_all, growth, stretch, fit, middle, back, in_file, swapped, exchanged, renumbered, replaced, Reaches}
-use Rattle.typst_node.specs.Laws.{put_at, IsFull}
+use Rattle.typst_node.specs.Laws.{IsFull}
 use Rattle.typst_node.proofs.Bares.{forest_bare}
 use Rattle.typst_node.proofs.Numbering.{count_bare}
 use Rattle.typst_node.proofs.Stretches.{count-append}
-use Rattle.typst_node.proofs.Aside.{Aside, aside}
+use Rattle.typst_node.proofs.Aside.{aside}
 
 all_from : (from len to k : ℕ) → from ≤ k → len ≤ to + k → (nat_le from k && nat_le len (to + k)) ≡ true
 all_from from len to k p q = grind (arith, nat_tests)

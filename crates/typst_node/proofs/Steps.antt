@@ -1,5 +1,5 @@
 -- One replacement taken apart, and followed along its path.
-use Rattle.std.proofs.Common.{◌≡◌, ℕ, zero, suc, ◌+◌, ◌-◌, ◌<◌, ◌≤◌, max, List, [], ◌∷◌, ◌++◌, length, take, drop, Option, Some, None, IsTrue, true, refl, ap, sym, ◌∙◌, arith}
+use Rattle.std.proofs.Common.{◌≡◌, ℕ, ◌+◌, List, [], ◌∷◌, ◌++◌, length, take, drop, Option, Some, None, refl, sym}
 use Rattle.std.specs.Prelude.{option_map, option_and_then, slice_get, slice_set, slice_range}
 use Rattle.typst_node.specs.declared.replace.Stretch.{Stretch}
 use Rattle.typst_heads.specs.Head.{Head, Place}
