@@ -1,9 +1,16 @@
+pub mod Aside
 pub mod Bares
 pub mod Growth
-pub mod Lasts
+pub mod Kept
 pub mod Numbering
 pub mod Orders
 pub mod Paths
+pub mod Puts
+pub mod Ranks
+pub mod Rooms
 pub mod Sames
+pub mod Steps
 pub mod Stretches
+pub mod Sums
 pub mod Trees
+pub mod Wholes

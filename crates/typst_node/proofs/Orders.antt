@@ -1,12 +1,12 @@
 -- Numbers that stand in order.
-use Rattle.std.proofs.Common.{◌≡◌, ℕ, zero, suc, ◌+◌, ◌-◌, ◌*◌, ◌/◌, ◌<◌, ◌≤◌, ◌==◌, Bool, true, false, List, [], ◌∷◌, ◌++◌, Option, Some, None, refl, ap, sym, ◌∙◌, subst, arith, rules, if◌then◌else◌}
-use Rattle.std.specs.Prelude.{nat_le, All, AllPairs}
+use Rattle.std.proofs.Common.{◌≡◌, ℕ, ◌+◌, ◌-◌, ◌*◌, ◌/◌, ◌<◌, ◌≤◌, ◌==◌, Bool, true, false, List, [], ◌∷◌, ◌++◌, Some, None, refl, ap, subst, arith, rules, if◌then◌else◌}
+use Rattle.std.specs.Prelude.{nat_le, All}
 use Rattle.std.proofs.Math.Nat.{mul-le-mul_left}
 use Rattle.std.proofs.lemmas.Bool.Decides.{nat_tests}
 use Rattle.std.proofs.lemmas.List.Elements.{All-cons}
 use Rattle.std.proofs.lemmas.List.Kept.{AllPairs-cons}
-use Rattle.typst_node.specs.Head.{Head, number_of}
-use Rattle.typst_node.specs.Tree.{Forest, none, more, Tree, forest, count, nodes}
+use Rattle.typst_heads.specs.Head.{Head, number_of}
+use Rattle.typst_node.specs.Tree.{Forest, none, more, Tree, count, nodes}
 use Rattle.typst_node.specs.Numbers.{stride, placed, numbered_forest, numbered, numberized}
 use Rattle.typst_node.specs.Order.{IsWholeForest, IsWhole, numbers, numbers_of, AreInOrder, upper_at, IsOrdered, IsNumbered}
 

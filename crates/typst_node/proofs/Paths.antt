@@ -1,8 +1,8 @@
 -- One step down a path.
-use Rattle.std.proofs.Common.{◌≡◌, ℕ, zero, suc, ◌<◌, List, [], ◌∷◌, length, get_or, Some, None, refl, ap, sym, ◌∙◌, arith}
+use Rattle.std.proofs.Common.{◌≡◌, ℕ, zero, suc, ◌<◌, ◌≤◌, List, [], ◌∷◌, length, get_or, Some, None, refl, ap, sym, ◌∙◌, arith}
 use Rattle.std.specs.Prelude.{option_map, slice_get, slice_range}
 use Rattle.std.proofs.Math.ListN.{set}
-use Rattle.typst_node.specs.Head.{Head, Place}
+use Rattle.typst_heads.specs.Head.{Head, Place}
 use Rattle.typst_node.specs.Tree.{Tree, forest, trees}
 use Rattle.typst_node.specs.Replace.{At, Reaches, replaced_at, replaced, in_file, swapped}
 use Rattle.typst_node.proofs.Bares.{over, trees_forest}
@@ -55,3 +55,11 @@ pub replaced_at_not : (path rest : List ℕ) (i a b : ℕ) (ns : List Tree) (t k
 replaced_at_not path rest i a b ns t k h xs e p n q r =
     let got : slice_get xs i ≡ Some k = slice_get_is xs i k n ∙ ap Some (sym q) in
     rw (p, ← e, trees_forest, got, r) refl
+
+pub reached_kid : (path rest : List ℕ) (i a b : ℕ) (t : Tree) (h : Head) (xs : List Tree) (k : Tree) → over h xs ≡ t → path ≡ i ∷ rest → slice_get xs i ≡ Some k → Reaches path a b t → Reaches rest a b k
+reached_kid path rest i a b t h xs k e p got r =
+    let s : At (Reaches rest a b) (slice_get (trees (forest xs)) i) = rw (p, ← e) at r in rw (trees_forest, got) at s
+
+pub not_reached : (path rest : List ℕ) (i a b : ℕ) (t : Tree) (h : Head) (xs : List Tree) → over h xs ≡ t → path ≡ i ∷ rest → length xs ≤ i → Reaches path a b t → ⊥
+not_reached path rest i a b t h xs e p n r =
+    let s = reached path rest i a b t h xs e p r in absurd (omega (arith, s.within))

@@ -1,9 +1,8 @@
 pub mod Diagnostic
-pub mod Head
 pub mod Tree
 pub mod Messages
-pub mod Repr
 pub mod Numbers
 pub mod Same
 pub mod Replace
 pub mod Order
+pub mod Laws

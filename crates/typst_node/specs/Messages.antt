@@ -1,30 +1,10 @@
--- What `expected` and `unexpected` say.
-use Rattle.std.specs.Prelude.{ℕ, Bool, ◌||◌, ◌&&◌, List, ◌++◌, codes, None, if◌then◌else◌}
-use Rattle.std.specs.Str.{bytes_eq}
-use Rattle.typst_kinds.specs.Kinds.{is_error, is_keyword}
-use Rattle.typst_kinds.specs.declared.kind.SyntaxKind.{SyntaxKind}
+-- What `expected` and `unexpected` make of a tree.
+use Rattle.std.specs.Prelude.{ℕ, List, None, if◌then◌else◌}
+use Rattle.typst_kinds.specs.Kinds.{is_error}
 use Rattle.typst_kinds.specs.Names.{name_of}
-use Rattle.typst_node.specs.Diagnostic.{hint_with}
+use Rattle.typst_heads.specs.Diagnostic.{hint_with}
+pub use Rattle.typst_heads.specs.Messages.{expected_message, unexpected_message, keyword_hint, is_name_word, is_lost_name}
 use Rattle.typst_node.specs.Tree.{Tree, text_of, error_of, made_error, advised}
-
--- THING stands for what was expected, and NAME for the kind that was found
-abbrev pub expected_message : List ℕ → List ℕ → List ℕ
-expected_message thing name = codes "expected " ++ (thing ++ (codes ", found " ++ name))
-
-abbrev pub unexpected_message : List ℕ → List ℕ
-unexpected_message name = codes "unexpected " ++ name
-
--- a keyword where a name is wanted
-abbrev pub keyword_hint : List ℕ → List ℕ
-keyword_hint k = codes "keyword `" ++ (k ++ (codes "` is not allowed as an identifier; try `" ++ (k ++ codes "_` instead")))
-
--- what stands for a name
-abbrev pub is_name_word : List ℕ → Bool
-is_name_word thing = bytes_eq thing (codes "identifier") || bytes_eq thing (codes "pattern")
-
--- a keyword stands where a name is wanted
-abbrev pub is_lost_name : SyntaxKind → List ℕ → Bool
-is_lost_name k thing = is_keyword k && is_name_word thing
 
 -- an error leaf of a tree's text that says what was expected
 abbrev pub expected_error : List ℕ → Tree → Tree

@@ -1,7 +1,7 @@
 -- Numbers that stand in order.
-use Rattle.std.specs.Prelude.{◌≡◌, ℕ, ◌+◌, ◌<◌, ◌≤◌, Bool, false, List, [], ◌∷◌, ◌++◌, AllPairs, if◌then◌else◌}
-use Rattle.typst_node.specs.Head.{Head, number_of}
-use Rattle.typst_node.specs.Tree.{Forest, none, more, Tree, forest}
+use Rattle.std.specs.Prelude.{◌≡◌, ℕ, ◌+◌, ◌<◌, ◌≤◌, false, List, [], ◌∷◌, ◌++◌, AllPairs, if◌then◌else◌}
+use Rattle.typst_heads.specs.Head.{Head, number_of}
+use Rattle.typst_node.specs.Tree.{Forest, none, more, Tree}
 
 -- leaves have no children
 abbrev pub IsWholeForest : Forest → Type 0

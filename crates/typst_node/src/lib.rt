@@ -4,16 +4,11 @@
 //! diagnostics) and the children.
 #![tactic(auto)]
 
-mod diagnostic;
 mod items;
-mod messages;
+pub mod laws;
 mod node;
 mod numbers;
-mod own;
 mod replace;
-mod text;
 
-pub use diagnostic::{Diagnostic, Hint, Severity};
-pub use items::Items;
 pub use node::SyntaxNode;
-pub use text::Text;
+pub use typst_heads::{Diagnostic, Hint, Items, Severity, Text};

@@ -1,15 +1,15 @@
 ghost use Rattle.std.specs.Prelude.{◌≡◌, ◌↔◌, IsTrue, [], ◌≤◌, ◌^◌, length, ◌++◌, IfOk, OnOk, OnErr, None, Some, false};
 ghost use Rattle.typst_kinds.specs.Kinds.{is_error};
-ghost use Rattle.typst_node.specs.Diagnostic.{warning_with, hint_with};
+ghost use Rattle.typst_heads.specs.Diagnostic.{warning_with, hint_with};
 ghost use Rattle.typst_node.specs.Tree.{forest, text_of, nodes, saturated, bare, leaf_of, inner_of, error_of, synthesized, with_kind, at_child, made_error, remarked, advised};
 ghost use Rattle.typst_node.specs.Replace.{upper_of};
+ghost use Rattle.typst_node.specs.Order.{IsWhole};
 ghost use Rattle.typst_node.specs.Messages.{made_expected, made_unexpected};
 
-use crate::messages::{expected_message, is_lost_name, keyword_hint, unexpected_message};
-use crate::own::Own;
-use crate::{Diagnostic, Hint, Text};
 use std::alloc::{AllocError, Global};
 use std::marker::Model;
+use typst_heads::messages::{expected_message, is_lost_name, keyword_hint, unexpected_message};
+use typst_heads::{Diagnostic, Hint, Own, Text};
 use typst_kinds::{Span, SubRange, SyntaxKind};
 
 /// A node of a syntax tree: a leaf with a text, or an inner node with children.
@@ -22,6 +22,7 @@ pub struct SyntaxNode {
 impl Model for SyntaxNode {
     ghost use Rattle.std.specs.Prelude.{◌≡◌, length};
     ghost use Rattle.typst_node.specs.Tree.{Tree, tree_code, forest, nodes, text_of, saturated, most_le-count};
+    ghost use Rattle.typst_node.specs.Order.{IsWhole};
     ghost use Rattle.std.proofs.Common.{arith};
 
     ghost Value = { Tree };
@@ -30,7 +31,7 @@ impl Model for SyntaxNode {
 
     ghost view = { λ a. record { head = a.own.head; kids = forest a.kids.items } };
 
-    ghost invariant = { λ a. (a.own.len ≡ saturated (length (text_of (record { head = a.own.head; kids = forest a.kids.items })))) × (a.own.descendants ≡ saturated (nodes (record { head = a.own.head; kids = forest a.kids.items }))) };
+    ghost invariant = { λ a. (a.own.len ≡ saturated (length (text_of (record { head = a.own.head; kids = forest a.kids.items })))) × (a.own.descendants ≡ saturated (nodes (record { head = a.own.head; kids = forest a.kids.items }))) × IsWhole (record { head = a.own.head; kids = forest a.kids.items }) };
 
     ghost size = { nodes };
 
@@ -57,6 +58,7 @@ impl SyntaxNode {
         let mut len: usize = 0;
         let mut descendants: usize = 1;
         for kid in &kids {
+            kid.leaves_are_bare();
             len = len.saturating_add(kid.len());
             descendants = descendants.saturating_add(kid.descendants());
         }
@@ -83,6 +85,13 @@ impl SyntaxNode {
             own: Own::error(alloc, message, text)?,
             kids: Vec::new(alloc),
         })
+    }
+
+    /// Leaves have no children.
+    pub(crate) fn leaves_are_bare(&self)
+        ensures { IsWhole self.now }
+    {
+        let _ = &self.own;
     }
 
     /// The same node again, with its spans.

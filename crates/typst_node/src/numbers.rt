@@ -1,13 +1,13 @@
 ghost use Rattle.std.specs.Prelude.{◌≡◌, ◌+◌, ◌-◌, ◌*◌, ◌^◌, ◌<◌, ◌≤◌, ◌++◌, None, Some, MatchResult, OnOk, take, drop, slice_range, vec_len};
 ghost use Rattle.typst_kinds.specs.Span.{IsSpanNumber};
-ghost use Rattle.typst_node.specs.Head.{with_head};
+ghost use Rattle.typst_heads.specs.Head.{with_head};
 ghost use Rattle.typst_node.specs.Tree.{nodes, forest, count};
-ghost use Rattle.typst_node.specs.Order.{IsWhole, IsNumbered, AreInOrder, numbers_of};
+ghost use Rattle.typst_node.specs.Order.{IsNumbered, AreInOrder, numbers_of};
 ghost use Rattle.typst_node.specs.Numbers.{IsStretch, placed, numbered, numbered_list, numberized, stride};
 
 use crate::SyntaxNode;
-use crate::own::Own;
 use std::ops::Range;
+use typst_heads::Own;
 use typst_kinds::{FileId, SourceError, Span, SpanNumber};
 
 /// How many numbers each of `count` nodes gets of `room`.
@@ -33,22 +33,20 @@ fn span_at(id: FileId, number: u64) -> Span
     }
 }
 
-impl Own {
-    /// Gives a node its number in `start..end`, and its upper end.
-    fn place(&mut self, id: FileId, stride: u64, start: u64, end: u64)
-        requires low { 2 ≤ start }
-        requires step { 0 < stride }
-        requires room { start + stride ≤ end }
-        requires fits { end ≤ 2 ^ 47 }
-        ensures { self.new ≡ with_head self.old (placed id stride start end self.old.head) }
-    {
-        let number = if self.is_inner() {
-            start + stride / 2
-        } else {
-            (start + end) / 2
-        };
-        self.locate(span_at(id, number), end);
-    }
+/// Gives a node its number in `start..end`, and its upper end.
+fn place(own: &mut Own, id: FileId, stride: u64, start: u64, end: u64)
+    requires low { 2 ≤ start }
+    requires step { 0 < stride }
+    requires room { start + stride ≤ end }
+    requires fits { end ≤ 2 ^ 47 }
+    ensures { own.new ≡ with_head own.old (placed id stride start end own.old.head) }
+{
+    let number = if own.is_inner() {
+        start + stride / 2
+    } else {
+        (start + end) / 2
+    };
+    own.locate(span_at(id, number), end);
 }
 
 /// Numbers the nodes of `kids` from `start` on, one tree after another.
@@ -96,7 +94,7 @@ impl SyntaxNode {
         ensures { self.new ≡ numbered id.now start room self.old }
     {
         let step = stride(room, self.descendants() as u64);
-        self.own.place(*id, step, start, start + room);
+        place(&mut self.own, *id, step, start, start + room);
         let mut at = start + step;
         for kid in self.kids.iter_mut() {
             let share = kid.descendants() as u64 * step;
@@ -113,8 +111,9 @@ impl SyntaxNode {
         requires { IsStretch within.start within.end }
         ensures numbers { MatchResult result (λ _. numberized id within.start within.end self.old ≡ Some self.new)
             (λ e. (e ≡ SourceError.SpanNumbers) × (numberized id within.start within.end self.old ≡ None) × (self.new ≡ self.old)) }
-        ensures ordered { OnOk result (IsWhole self.old → IsNumbered self.new × AreInOrder (numbers_of self.new)) }
+        ensures ordered { OnOk result (IsNumbered self.new × AreInOrder (numbers_of self.new)) }
     {
+        self.leaves_are_bare();
         let count = self.descendants() as u64;
         let room = within.end.saturating_sub(within.start);
         if count > room {

@@ -1,13 +1,14 @@
-ghost use Rattle.std.specs.Prelude.{◌≡◌, ℕ, ◌+◌, ◌-◌, ◌*◌, ◌^◌, ◌<◌, ◌≤◌, ◌++◌, length, slice_range, Some, None, IfSome, OnErr, OnOk, IfErr, IsTrue, false, [], reverse, vec_len};
+ghost use Rattle.std.specs.Prelude.{◌≡◌, ◌↔◌, ℕ, ◌+◌, ◌-◌, ◌*◌, ◌^◌, ◌<◌, ◌≤◌, ◌++◌, length, slice_range, Some, None, IfSome, OnErr, OnOk, IfErr, IsTrue, false, [], reverse, vec_len};
 ghost use Rattle.typst_node.specs.Tree.{forest, joined, count, saturated};
+ghost use Rattle.typst_node.specs.Order.{IsWholeForest, IsNumbered, AreInOrder, numbers_of};
 ghost use Rattle.typst_node.specs.Same.{front};
 ghost use Rattle.typst_node.specs.Replace.{Reaches, replaced, replaced_at, kids_of, start_of, end_of, upper_of, left_of, right_of, wanted, room, has_room, growth, is_all, fit, IsFit, exchanged, swapped};
 
 use crate::SyntaxNode;
 use crate::items::{keep_middle, remove, splice};
 use crate::numbers::{number_part, stride};
-use crate::own::Own;
 use std::ops::Range;
+use typst_heads::Own;
 use typst_kinds::{FileId, SourceError};
 
 /// The children that are numbered anew, by their places before the replacement, and where their
@@ -24,10 +25,12 @@ struct Stretch {
 pub(crate) fn totals(kids: &[SyntaxNode]) -> (usize, usize)
     ensures len { result.0 ≡ saturated (length (joined (forest kids.now))) }
     ensures nodes { result.1 ≡ saturated (count (forest kids.now)) }
+    ensures whole { IsWholeForest (forest kids.now) }
 {
     let mut len: usize = 0;
     let mut nodes: usize = 0;
     for kid in kids {
+        kid.leaves_are_bare();
         len = len.saturating_add(kid.len());
         nodes = nodes.saturating_add(kid.descendants());
     }
@@ -261,7 +264,8 @@ fn swap_children(
 /// Counts the text and the nodes of an inner node anew, after its children changed.
 fn renew(own: &mut Own, kids: &[SyntaxNode])
     requires { own.old.head.is_inner ≡ false → 1 < own.old.descendants }
-    ensures { own.new ≡ record { head = own.old.head; len = saturated (length (own.old.head.text ++ joined (forest kids.now))); descendants = saturated (1 + count (forest kids.now)) } }
+    ensures counts { own.new ≡ record { head = own.old.head; len = saturated (length (own.old.head.text ++ joined (forest kids.now))); descendants = saturated (1 + count (forest kids.now)) } }
+    ensures whole { IsWholeForest (forest kids.now) }
 {
     let (len, below) = totals(kids);
     let text = own.text().len();
@@ -315,7 +319,7 @@ impl SyntaxNode {
 
     /// Whether `path` leads to an inner node that has children `from..to`.
     pub fn reaches(&self, path: &[usize], from: usize, to: usize) -> bool
-        ensures { IsTrue result → Reaches path.now from to self.now }
+        ensures { IsTrue result ↔ Reaches path.now from to self.now }
     {
         let Some((first, rest)) = path.split_first() else {
             return self.has_children(from, to);
@@ -327,7 +331,7 @@ impl SyntaxNode {
     }
 
     fn has_children(&self, from: usize, to: usize) -> bool
-        ensures { IsTrue result → Reaches [] from to self.now }
+        ensures { IsTrue result ↔ Reaches [] from to self.now }
     {
         if !self.is_inner() || to < from {
             return false;
@@ -349,9 +353,12 @@ impl SyntaxNode {
     ) -> Result<(), SourceError>
         requires reaches { Reaches path.now range.start range.end self.old }
         ensures ok { OnOk result (replaced_at path.now range.start range.end nodes.items self.old ≡ Some self.new) }
+        ensures ordered { OnOk result (IsNumbered self.old → IsNumbered self.new × AreInOrder (numbers_of self.new)) }
         ensures err { OnErr result (self.new ≡ self.old) }
         ensures refused { IfErr result (λ e. e ≡ SourceError.SpanNumbers → replaced_at path.now range.start range.end nodes.items self.old ≡ None) }
     {
-        self.replace_below(path, range.start, range.end, nodes)
+        self.replace_below(path, range.start, range.end, nodes)?;
+        self.leaves_are_bare();
+        Ok(())
     }
 }

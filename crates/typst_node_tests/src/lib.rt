@@ -5,3 +5,7 @@
 mod nodes;
 #[cfg(test)]
 mod numbers;
+#[cfg(test)]
+mod refusals;
+#[cfg(test)]
+mod trees;

@@ -1,26 +1,9 @@
-use std::alloc::{AllocError, Global};
+use crate::trees::sample;
 use std::mem::size_of;
 use std::process::Abort;
 use std::test::Fail;
 use typst_kinds::{Span, SubRange, SyntaxKind};
 use typst_node::{Severity, SyntaxNode};
-
-/// `[a *b*]`, with a warning and a hint at the leaf `b`.
-fn sample(alloc: Global) -> Result<SyntaxNode, AllocError> {
-    let mut kids = Vec::new(alloc);
-    kids.push(SyntaxNode::leaf(alloc, SyntaxKind::LeftBracket, "[")?)?;
-    kids.push(SyntaxNode::leaf(alloc, SyntaxKind::Text, "a ")?)?;
-    let mut leaf = SyntaxNode::leaf(alloc, SyntaxKind::Text, "b")?;
-    leaf.warn("odd")?;
-    leaf.hint("look")?;
-    let mut inside = Vec::new(alloc);
-    inside.push(SyntaxNode::leaf(alloc, SyntaxKind::Star, "*")?)?;
-    inside.push(leaf)?;
-    inside.push(SyntaxNode::leaf(alloc, SyntaxKind::Star, "*")?)?;
-    kids.push(SyntaxNode::inner(SyntaxKind::Strong, inside))?;
-    kids.push(SyntaxNode::leaf(alloc, SyntaxKind::RightBracket, "]")?)?;
-    Ok(SyntaxNode::inner(SyntaxKind::ContentBlock, kids))
-}
 
 #[test]
 fn a_node_takes_64_bytes(rt: HostRuntime) {
@@ -202,35 +185,5 @@ fn a_million_children(rt: HostRuntime) -> Result<(), Fail> {
     let same = node.try_clone()?;
     node.synthesize(Span::detached());
     assert!(rt; node.spanless_eq(&same));
-    Ok(())
-}
-
-/// Whether the node is as `same`, its spans too, where a call was refused.
-fn unchanged(outcome: &Result<(), AllocError>, node: &SyntaxNode, same: &SyntaxNode) -> bool {
-    outcome.is_ok() || node.spanless_eq(same)
-}
-
-#[test]
-fn a_refusal_changes_nothing(rt: HostRuntime) -> Result<(), Fail> {
-    let alloc = rt.alloc();
-    let Ok(same) = sample(alloc) else {
-        return Ok(());
-    };
-    let range = SubRange::new(0, 1).ok_or("range")?;
-    for call in 0..7 {
-        let Ok(mut node) = same.try_clone() else {
-            return Ok(());
-        };
-        let result = match call {
-            0 => node.convert_to_error("a long message, which takes memory of its own"),
-            1 => node.expected("identifier"),
-            2 => node.unexpected(),
-            3 => node.warn("warning"),
-            4 => node.warn_at(range, "warning"),
-            5 => node.hint("hint"),
-            _ => node.hint_at(range, "hint"),
-        };
-        assert!(rt; unchanged(&result, &node, &same), "call {call}");
-    }
     Ok(())
 }

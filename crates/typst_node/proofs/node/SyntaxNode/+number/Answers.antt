@@ -1,7 +1,9 @@
 use Rattle.std.proofs.Common.{◌≡◌, ◌+◌, ◌*◌, ◌≤◌, get_or, arith, refl, ap, ◌∙◌}
 use Rattle.std.proofs.Math.ListN.{length-set}
 use Rattle.typst_node.specs.Tree.{Tree, nodes, forest, count}
-use Rattle.typst_node.proofs.Numbering.{Next, next_fits, numbered_more, numbered_vec, forest_numbered, nodes_numbered, text_numbered, later}
+use Rattle.typst_node.proofs.Numbering.{Next, next_fits, numbered_more, numbered_vec, forest_numbered, nodes_numbered, text_numbered, numbered_bare, later}
+use Rattle.typst_node.proofs.Wholes.{whole_same_tree}
+use Rattle.typst_node.specs.Numbers.{numbered}
 use Rattle.typst_node.proofs.node.SyntaxNode.+number.Goals as goal
 use Rattle.typst_node.proofs.node.SyntaxNode.+number.Goals.{After-descendants-in-loop-kid}
 
@@ -45,7 +47,7 @@ invariant_of-self t c =
     let is = numbered_vec c.args.id.now c.stride-step.result (c.args.start + c.stride-step.result) c.self.inside.kids _ c.loop-kid.kid-items _ c.deref_mut-kid-items.ensures.value c.loop-kid.invariant.done (omega arith) in
     let one : Tree = record { head = c.self.inside.own.head; kids = forest c.self.inside.kids.items } in
     rw (is, forest_numbered, c.place.ensures, c.stride-step.ensures.value, all, text_numbered c.args.id.now c.args.start c.args.room one, nodes_numbered c.args.id.now c.args.start c.args.room one)
-    c.self.invariant
+    (c.self.invariant.0, c.self.invariant.1, whole_same_tree (numbered c.args.id.now c.args.start c.args.room one) one (numbered_bare c.args.id.now c.args.start c.args.room one) c.self.invariant.2)
 
 pub returns : goal.returns
 returns t c =

@@ -21,7 +21,7 @@ renew-requires t c = λ _.
 pub returns-clause-ok : goal.returns-clause-ok
 returns-clause-ok t c =
     let r = reached c.args.path.now c.in-Some.rest.now c.in-Some.first.now c.args.from c.args.to c.args.self.now c.self.inside.own.head c.self.inside.kids.items c.self.view_is c.in-Some.ensures.cases.0 c.requires.reaches in
-    rw c.renew.ensures
+    rw c.renew.ensures.counts
     (replaced_on c.args.path.now c.in-Some.rest.now c.in-Some.first.now c.args.from c.args.to c.args.nodes.items c.args.self.now c.index_mut-kid.result.now c.replace_below.new.self c.self.inside.own.head c.self.inside.kids.items c.self.view_is c.in-Some.ensures.cases.0 r.within c.index_mut-kid.ensures.value c.in_default-replace_below.ensures.ok)
 
 pub returns-in-Err-clause-refused : goal.returns-in-Err-clause-refused

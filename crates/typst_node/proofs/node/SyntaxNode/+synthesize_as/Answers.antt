@@ -1,6 +1,7 @@
 use Rattle.std.proofs.Common.{arith, rules, refl}
 use Rattle.std.proofs.lemmas.List.Edits.{map_over_more}
-use Rattle.typst_node.specs.Tree.{synthesized}
+use Rattle.typst_node.specs.Tree.{synthesized, forest}
+use Rattle.typst_node.proofs.Wholes.{whole_synthesized}
 use Rattle.typst_node.proofs.Trees.{mapped_vec, joined_spanned, count_with_each, forest_synthesized}
 use Rattle.typst_node.proofs.node.SyntaxNode.+synthesize_as.Goals as goal
 
@@ -13,7 +14,7 @@ loop-kid-preserved t c = record {
 pub invariant_of-self : goal.invariant_of-self
 invariant_of-self t c =
     rw (mapped_vec (synthesized c.args.span.now) c.self.inside.kids _ c.loop-kid.kid-items _ c.deref_mut-kid-items.ensures.value c.loop-kid.invariant.done (omega arith), forest_synthesized, joined_spanned, count_with_each, c.set_span.ensures)
-    c.self.invariant
+    (c.self.invariant.0, c.self.invariant.1, whole_synthesized c.args.span.now (record { head = c.self.inside.own.head; kids = forest c.self.inside.kids.items }) c.self.invariant.2)
 
 pub returns : goal.returns
 returns t c =

@@ -1,12 +1,13 @@
-use Rattle.std.proofs.Common.{arith, refl}
-use Rattle.typst_node.specs.Tree.{with_kind}
+use Rattle.std.proofs.Common.{arith, refl, ap}
+use Rattle.typst_node.specs.Tree.{with_kind, at_tree, forest}
+use Rattle.typst_node.proofs.Wholes.{whole_kind}
 use Rattle.typst_node.proofs.Trees.{forest_set, at_tree_past, joined_kind, count_kind}
 use Rattle.typst_node.proofs.node.SyntaxNode.convert_child_to_kind.Goals as goal
 
 pub invariant_of-self : goal.invariant_of-self
 invariant_of-self c =
     rw (c.convert_to_kind.ensures, forest_set (with_kind c.args.kind) c.self.inside.kids.items c.args.i c.index_mut-kid.result.now (omega (arith, c.self.inside.kids.ok.0)) c.index_mut-kid.ensures.value, joined_kind, count_kind)
-    c.self.invariant
+    (c.self.invariant.0, c.self.invariant.1, (λ q. ap (at_tree (with_kind c.args.kind) c.args.i) (c.self.invariant.2.0 q), whole_kind c.args.kind c.args.i (forest c.self.inside.kids.items) c.self.invariant.2.1))
 
 pub returns : goal.returns
 returns c =

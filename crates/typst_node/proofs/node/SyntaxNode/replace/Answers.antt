@@ -14,7 +14,7 @@ returns-in-Err-clause-refused c = λ e.
 
 pub returns-clause-ok : goal.returns-clause-ok
 returns-clause-ok c =
-    rw c.renew.ensures
+    rw c.renew.ensures.counts
     (replaced_is c.args.self.now c.self.inside.own.head c.self.inside.kids.items c.swap_children.new.kids.items c.args.nodes.items c.in-Some.id c.args.from c.args.to c.self.view_is
     (rw c.span.ensures at (sym c.id.ensures ∙ c.in-Some.is))
     c.in_default-swap_children.ensures.ok)

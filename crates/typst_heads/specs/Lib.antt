@@ -1,0 +1,4 @@
+pub mod Diagnostic
+pub mod Head
+pub mod Messages
+pub mod Repr

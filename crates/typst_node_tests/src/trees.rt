@@ -1,0 +1,133 @@
+use std::alloc::{AllocError, Global};
+use std::process::Abort;
+use typst_kinds::{FileId, SourceError, SyntaxKind};
+use typst_node::SyntaxNode;
+
+/// The first number that isn't one.
+pub const END: u64 = 1 << 47;
+
+pub fn leaf(alloc: Global, kind: SyntaxKind, text: &str) -> Result<SyntaxNode, AllocError> {
+    if kind.is_error() {
+        return SyntaxNode::error(alloc, "error", text);
+    }
+    SyntaxNode::leaf(alloc, kind, text)
+}
+
+/// A node over the last `count` of the stack, or over all.
+pub fn gather(
+    alloc: Global,
+    kind: SyntaxKind,
+    stack: &mut Vec<SyntaxNode>,
+    count: usize,
+) -> Result<SyntaxNode, AllocError> {
+    let mut kids = Vec::new(alloc);
+    for _ in 0..count {
+        let Some(kid) = stack.pop() else { break };
+        kids.push(kid)?;
+    }
+    kids.reverse();
+    if kind.is_error() {
+        return SyntaxNode::error(alloc, "error", "");
+    }
+    Ok(SyntaxNode::inner(kind, kids))
+}
+
+/// A tree from its nodes, each after its children: kind, text, and how many children.
+pub fn tree(
+    alloc: Global,
+    rows: &[(SyntaxKind, &str, Option<usize>)],
+) -> Result<SyntaxNode, AllocError> {
+    let mut stack = Vec::new(alloc);
+    for (kind, text, kids) in rows {
+        let node = match kids {
+            None => leaf(alloc, *kind, text)?,
+            Some(count) => gather(alloc, *kind, &mut stack, *count)?,
+        };
+        stack.push(node)?;
+    }
+    match stack.pop() {
+        Some(node) => Ok(node),
+        None => leaf(alloc, SyntaxKind::End, ""),
+    }
+}
+
+/// `[a *b*]`, with a warning and a hint at the leaf `b`.
+pub fn sample(alloc: Global) -> Result<SyntaxNode, AllocError> {
+    let mut kids = Vec::new(alloc);
+    kids.push(SyntaxNode::leaf(alloc, SyntaxKind::LeftBracket, "[")?)?;
+    kids.push(SyntaxNode::leaf(alloc, SyntaxKind::Text, "a ")?)?;
+    let mut leaf = SyntaxNode::leaf(alloc, SyntaxKind::Text, "b")?;
+    leaf.warn("odd")?;
+    leaf.hint("look")?;
+    let mut inside = Vec::new(alloc);
+    inside.push(SyntaxNode::leaf(alloc, SyntaxKind::Star, "*")?)?;
+    inside.push(leaf)?;
+    inside.push(SyntaxNode::leaf(alloc, SyntaxKind::Star, "*")?)?;
+    kids.push(SyntaxNode::inner(SyntaxKind::Strong, inside))?;
+    kids.push(SyntaxNode::leaf(alloc, SyntaxKind::RightBracket, "]")?)?;
+    Ok(SyntaxNode::inner(SyntaxKind::ContentBlock, kids))
+}
+
+/// Adds the numbers of the first thousand nodes to `all`, each before its children's, 0 for a
+/// detached one.
+pub fn numbers(alloc: Global, root: &SyntaxNode, all: &mut Vec<u64>) -> Result<(), AllocError> {
+    let mut left = Vec::new(alloc);
+    left.push(root)?;
+    for _ in 0..1000 {
+        let Some(node) = left.pop() else { break };
+        let number = match node.span().number() {
+            None => 0,
+            Some(number) => number.get(),
+        };
+        all.push(number)?;
+        for kid in node.children().iter().rev() {
+            left.push(kid)?;
+        }
+    }
+    Ok(())
+}
+
+pub fn has_numbers(
+    rt: &impl Abort,
+    alloc: Global,
+    node: &SyntaxNode,
+    want: &[u64],
+) -> Result<(), AllocError> {
+    let mut all = Vec::new(alloc);
+    numbers(alloc, node, &mut all)?;
+    assert_eq!(rt; all.as_slice(), want);
+    Ok(())
+}
+
+/// Numbers a tree within `start..end`, both within all numbers.
+pub fn number(node: &mut SyntaxNode, start: u64, end: u64) -> Result<(), SourceError> {
+    match FileId::new(1) {
+        Some(file) if 2 <= start && end <= END => node.numberize(file, start..end),
+        _ => Err(SourceError::OutOfMemory),
+    }
+}
+
+/// `replace_at` where the path leads to such children, or want of memory.
+pub fn replace(
+    node: &mut SyntaxNode,
+    path: &[usize],
+    from: usize,
+    to: usize,
+    nodes: Vec<SyntaxNode>,
+) -> Result<(), SourceError> {
+    if node.reaches(path, from, to) {
+        node.replace_at(path, from..to, nodes)
+    } else {
+        Err(SourceError::OutOfMemory)
+    }
+}
+
+/// Whether both are the same, spans too.
+pub fn same(rt: &impl Abort, alloc: Global, a: &SyntaxNode, b: &SyntaxNode) -> bool {
+    let (mut one, mut other) = (Vec::new(alloc), Vec::new(alloc));
+    if numbers(alloc, a, &mut one).is_err() || numbers(alloc, b, &mut other).is_err() {
+        return true;
+    }
+    assert_eq!(rt; one.as_slice(), other.as_slice());
+    a.spanless_eq(b)
+}
