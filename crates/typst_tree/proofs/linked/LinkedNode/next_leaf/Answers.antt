@@ -15,4 +15,4 @@ pub returns : goal.returns
 returns c =
     let end : c.args.self.number + c.descendants.result ≡ c.args.self.number + nodes (node_of (linked c.args.self)) =
     omega (arith, c.descendants.ensures, c.args.self.stands.within, length_places c.args.self.node.now, length_places c.args.self.root.now, c.args.self.counted, ap nodes (node_here c.args.self.root.now c.args.self.number c.args.self.offset c.args.self.node.now c.args.self.stands)) in
-    c.first.ensures ∙ (ap (first_below (is_leaf_from (c.args.self.number + c.descendants.result))) c.new.ensures ∙ ap (λ k. first_of_all (is_leaf_from k) (linked c.args.self)) end)
+    c.first.ensures ∙ (ap (first_below (is_leaf_from (c.args.self.number + c.descendants.result))) c.top.ensures ∙ ap (λ k. first_of_all (is_leaf_from k) (linked c.args.self)) end)

@@ -12,4 +12,4 @@ pub returns : goal.returns
 returns c =
     let within = last_within c.args.self.number 0 c.in_ok-number.number (places c.args.self.root.now) (sym c.in_ok-number.ensures) in
     let found = place_found c.in_ok-number.number 0 0 (places c.args.self.root.now) within.0 within.1 in
-    c.first.ensures ∙ (ap (first_below (has_place c.in_ok-number.number)) c.new.ensures ∙ (ap (option_map (at c.args.self.root.now)) (found ∙ c.in_ok-number.ensures)))
+    c.first.ensures ∙ (ap (first_below (has_place c.in_ok-number.number)) c.top.ensures ∙ (ap (option_map (at c.args.self.root.now)) (found ∙ c.in_ok-number.ensures)))
