@@ -1,3 +1,5 @@
+ghost use Rattle.std.specs.Prelude.{◌<◌};
+
 use super::LinkedNode;
 use crate::order::is_ordered;
 use std::alloc::{AllocError, Global};
@@ -330,19 +332,20 @@ fn walks(rt: HostRuntime) -> Result<(), Fail> {
 }
 
 /// A leaf with this number alone.
-fn numbered_leaf(alloc: Global, file: FileId, number: u64) -> Result<SyntaxNode, Fail> {
+fn numbered_leaf(alloc: Global, file: FileId, number: SpanNumber) -> Result<SyntaxNode, Fail> {
     let mut leaf = childless(alloc, NAME)?;
-    leaf.numberize(file, number..number.saturating_add(1))
+    let number = number.get();
+    leaf.numberize(file, number..number + 1)
         .map_err(|_| "numbers")?;
     Ok(leaf)
 }
 
-/// A detached node over leaves with the numbers 10, 3, 10 (in the second file) and none.
-fn unordered(alloc: Global, first: FileId, second: FileId) -> Result<SyntaxNode, Fail> {
+/// A detached node over leaves with these spans, and a detached one.
+fn unordered(alloc: Global, spans: &[(FileId, SpanNumber)]) -> Result<SyntaxNode, Fail> {
     let mut kids = Vec::new(alloc);
-    kids.push(numbered_leaf(alloc, first, 10)?)?;
-    kids.push(numbered_leaf(alloc, first, 3)?)?;
-    kids.push(numbered_leaf(alloc, second, 10)?)?;
+    for (file, number) in spans {
+        kids.push(numbered_leaf(alloc, *file, *number)?)?;
+    }
     kids.push(childless(alloc, NAME)?)?;
     Ok(SyntaxNode::inner(SyntaxKind::Markup, kids))
 }
@@ -354,7 +357,7 @@ fn finds_the_first_without_order(rt: HostRuntime) -> Result<(), Fail> {
         SpanNumber::new(3).ok_or("3")?,
         SpanNumber::new(10).ok_or("10")?,
     );
-    let root = unordered(rt.alloc(), first, second)?;
+    let root = unordered(rt.alloc(), &[(first, ten), (first, three), (second, ten)])?;
     if root.descendants() == usize::MAX {
         return Err(Fail::from("counts"));
     }
