@@ -1,6 +1,6 @@
 -- Numbers that rise, and searches for one of them.
-use Rattle.std.proofs.Common.{◌≡◌, ℕ, zero, suc, ◌+◌, ◌<◌, ◌≤◌, Bool, true, false, IsTrue, List, [], ◌∷◌, ◌++◌, length, get_or, map, Option, Some, None, refl, ap, sym, subst, ◌∙◌, arith, ◌↔◌, cond, length-append}
-use Rattle.std.specs.Prelude.{nat_le, nat_lt, All, AllPairs, is_some, IsSome, IfSome, option_and_then, if◌then◌else◌}
+use Rattle.std.proofs.Common.{◌≡◌, ℕ, suc, ◌+◌, ◌<◌, ◌≤◌, Bool, true, false, IsTrue, List, [], ◌∷◌, ◌++◌, length, get_or, map, Option, Some, None, refl, ap, sym, subst, ◌∙◌, arith, ◌↔◌, cond}
+use Rattle.std.specs.Prelude.{nat_le, All, AllPairs, is_some, IsSome, IfSome, option_and_then}
 use Rattle.std.proofs.lemmas.List.{map-append}
 use Rattle.std.proofs.lemmas.List.Elements.{All-cons}
 use Rattle.std.proofs.lemmas.List.Kept.{AllPairs-cons}
@@ -8,7 +8,7 @@ use Rattle.std.proofs.lemmas.Bool.Decides.{nat_tests}
 use Rattle.typst_node.specs.Head.{number_of}
 use Rattle.typst_node.specs.Tree.{Forest, none, more, Tree, forest, places, preorder, nodes, text_of, saturated}
 use Rattle.typst_node.specs.Order.{numbers, numbers_of, AreInOrder}
-use Rattle.typst_tree.specs.Walks.{first_at, if_none, Within, Stands}
+use Rattle.typst_tree.specs.Walks.{first_at, Stands}
 use Rattle.typst_tree.specs.Ordered.{climb, begins_past, IsKey}
 use Rattle.typst_tree.proofs.LastLeaves.{if_none_nothing}
 use Rattle.typst_tree.proofs.Standing.{standing}

@@ -1,5 +1,5 @@
-use Rattle.std.proofs.Common.{◌≡◌, ◌+◌, ap, sym, ◌∙◌, arith, drop}
-use Rattle.typst_node.specs.Tree.{forest, places, preorder}
+use Rattle.std.proofs.Common.{ap, sym, ◌∙◌, arith}
+use Rattle.typst_node.specs.Tree.{forest, preorder}
 use Rattle.typst_tree.specs.Ordered.{climb}
 use Rattle.typst_tree.proofs.Rising.{climb_on, climb_fails}
 use Rattle.typst_tree.proofs.Walking.{turn}

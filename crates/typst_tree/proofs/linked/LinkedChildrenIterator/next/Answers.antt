@@ -1,6 +1,5 @@
-use Rattle.std.proofs.Common.{◌≡◌, ◌+◌, ◌∷◌, ap, sym, ◌∙◌, arith, length, map, refl}
-use Rattle.typst_node.specs.Tree.{forest, places, preorder, nodes, count, saturated, text_of}
-use Rattle.typst_tree.specs.Linked.{left}
+use Rattle.std.proofs.Common.{◌≡◌, ◌+◌, ◌∷◌, ap, ◌∙◌, arith, length, map, refl}
+use Rattle.typst_node.specs.Tree.{forest, places, count}
 use Rattle.typst_tree.specs.Steps.{at}
 use Rattle.typst_tree.specs.Walks.{numbers}
 use Rattle.typst_tree.proofs.Standing.{row, stands_same}

@@ -1,5 +1,5 @@
 use Rattle.std.proofs.Common.{◌≡◌, ◌+◌, ap, sym, ◌∙◌, arith, length, map}
-use Rattle.typst_node.specs.Tree.{places, saturated, text_of}
+use Rattle.typst_node.specs.Tree.{places, saturated}
 use Rattle.typst_tree.specs.Steps.{at}
 use Rattle.typst_tree.specs.Walks.{numbers}
 use Rattle.typst_tree.proofs.Standing.{node_here, stands_row}

@@ -1,7 +1,7 @@
-use Rattle.std.proofs.Common.{◌≡◌, ◌+◌, ap, sym, ◌∙◌, arith}
-use Rattle.typst_node.specs.Tree.{nodes, places}
+use Rattle.std.proofs.Common.{◌≡◌, ◌+◌, ap, ◌∙◌, arith}
+use Rattle.typst_node.specs.Tree.{nodes}
 use Rattle.typst_tree.specs.Linked.{linked}
-use Rattle.typst_tree.specs.Steps.{at, node_of, first_below, first_of_all}
+use Rattle.typst_tree.specs.Steps.{node_of, first_below, first_of_all}
 use Rattle.typst_tree.specs.Walks.{is_leaf_from}
 use Rattle.typst_tree.proofs.Standing.{node_here}
 use Rattle.typst_tree.proofs.Walking.{length_places}

@@ -1,7 +1,6 @@
-use Rattle.std.proofs.Common.{◌≡◌, ap, sym, ◌∙◌, arith}
+use Rattle.std.proofs.Common.{ap, sym, ◌∙◌}
 use Rattle.std.specs.Option.{option_map}
 use Rattle.typst_node.specs.Tree.{places}
-use Rattle.typst_tree.specs.Linked.{linked}
 use Rattle.typst_tree.specs.Steps.{at, first_below}
 use Rattle.typst_tree.specs.Walks.{has_place}
 use Rattle.typst_tree.proofs.LastLeaves.{last_within}
