@@ -3,10 +3,10 @@ use Rattle.std.specs.Prelude.{ℕ, ◌+◌, List, [], ◌∷◌, ◌++◌, lengt
 use Rattle.std.specs.Str.{chars}
 use Rattle.std.specs.Fmt.{decimal}
 use Rattle.typst_lines.specs.Newline.{is_newline}
-use Rattle.typst_node.specs.declared.diagnostic.Severity.{Severity}
-use Rattle.typst_node.specs.declared.diagnostic.Severity.TheVariants as severity
+use Rattle.typst_heads.specs.declared.diagnostic.Severity.{Severity}
+use Rattle.typst_heads.specs.declared.diagnostic.Severity.TheVariants as severity
 use Rattle.typst_node.specs.Diagnostic.{Diagnostic, Hint}
-use Rattle.typst_node.specs.Head.{Head}
+use Rattle.typst_heads.specs.Head.{Head}
 use Rattle.typst_node.specs.Tree.{Forest, none, more, Tree, joined, text_of}
 use Rattle.typst_classes.specs.UnicodeTables.{unicode_classes}
 use Rattle.typst_grammar.specs.Grammar.{tree}

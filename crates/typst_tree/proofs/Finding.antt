@@ -1,9 +1,9 @@
 -- A span finds its own node.
-use Rattle.std.proofs.Common.{◌≡◌, ℕ, zero, suc, ◌+◌, List, [], ◌∷◌, length, Bool, true, false, Option, Some, None, refl, ap, sym, ◌∙◌, arith, ◌⊎◌, inl, inr}
+use Rattle.std.proofs.Common.{◌≡◌, ℕ, zero, suc, ◌+◌, List, [], ◌∷◌, length, Bool, true, false, Option, Some, refl, ap, sym, ◌∙◌, arith, ◌⊎◌, inl, inr}
 use Rattle.std.specs.Prelude.{slice_get}
 use Rattle.std.specs.Option.{option_map}
 use Rattle.std.proofs.lemmas.Option.{none-some, same_Some}
-use Rattle.typst_node.specs.Tree.{Tree, places, saturated}
+use Rattle.typst_node.specs.Tree.{Tree, places}
 use Rattle.typst_tree.specs.Walks.{first_at, has_span, same_place}
 use Rattle.typst_tree.specs.Steps.{At, at, node_of, start_of, find_span, SpansDiffer, FindsOwn}
 use Rattle.typst_tree.proofs.Places.{place_self, place_same}

@@ -13,7 +13,7 @@ if_none_assoc : (x y z : Option ℕ) → if_none (if_none x y) z ≡ if_none x (
 if_none_assoc None y z = refl
 if_none_assoc (Some n) y z = refl
 
-if_none_nothing : (x : Option ℕ) → if_none x None ≡ x
+pub if_none_nothing : (x : Option ℕ) → if_none x None ≡ x
 if_none_nothing None = refl
 if_none_nothing (Some n) = refl
 

@@ -1,11 +1,11 @@
 -- Where a walk finds nothing for sure.
-use Rattle.std.proofs.Common.{◌≡◌, ℕ, ◌+◌, ◌<◌, ◌≤◌, ◌==◌, ◌^◌, Bool, true, false, ◌&&◌, ◌||◌, List, [], ◌∷◌, ◌++◌, length, None, Some, refl, inl, inr, eq-eqb, ap, sym, ◌∙◌, arith, length-append}
+use Rattle.std.proofs.Common.{◌≡◌, ℕ, ◌+◌, ◌<◌, ◌≤◌, ◌==◌, Bool, true, false, ◌&&◌, List, [], ◌∷◌, ◌++◌, length, None, Some, refl, inl, inr, eq-eqb, ap, ◌∙◌, arith, length-append}
 use Rattle.std.specs.Prelude.{nat_le, nat_lt}
 use Rattle.std.specs.List.{list_any}
 use Rattle.std.proofs.lemmas.Bool.{cases_eq}
 use Rattle.std.proofs.lemmas.Bool.Decides.{nat_tests}
-use Rattle.typst_node.specs.Tree.{Forest, none, more, Tree, forest, count, nodes, joined, text_of, preorder, places, saturated}
-use Rattle.typst_tree.specs.Walks.{numbers, texts, first_at, has_place, has_child, is_leaf_from, is_leaf, holds_byte, is_childless}
+use Rattle.typst_node.specs.Tree.{Forest, none, more, Tree, count, nodes, joined, text_of, preorder, places, saturated}
+use Rattle.typst_tree.specs.Walks.{numbers, texts, first_at, has_place, has_child, is_leaf_from, holds_byte, is_childless}
 use Rattle.typst_tree.proofs.Walking.{length_preorder, length_places, texts_preorder, first_append, none_between}
 
 pub no_place_before : (k n a : ℕ) (t : Tree) → k < n → first_at (has_place k) n a (places t) ≡ None

@@ -1,12 +1,9 @@
 -- The laws of walks in preorder.
-use Rattle.std.proofs.Common.{◌≡◌, ℕ, zero, suc, ◌+◌, ◌-◌, ◌<◌, ◌≤◌, ◌^◌, ◌==◌, Bool, true, false, cond, ◌&&◌, List, [], ◌∷◌, ◌++◌, length, take, drop, Option, Some, None, refl, ap, sym, subst, ◌∙◌, arith, length-append, append_assoc, append-nil, get_or}
-use Rattle.std.specs.Prelude.{nat_le, nat_lt, slice_get, if◌then◌else◌}
-use Rattle.std.specs.List.{list_any}
+use Rattle.std.proofs.Common.{◌≡◌, ℕ, suc, ◌+◌, ◌<◌, ◌≤◌, ◌^◌, Bool, true, false, cond, List, [], ◌∷◌, ◌++◌, length, drop, Some, None, refl, ap, sym, subst, ◌∙◌, arith, length-append, append_assoc, append-nil, get_or}
 use Rattle.std.proofs.lemmas.List.{drop_more}
-use Rattle.std.proofs.lemmas.Bool.Decides.{nat_tests}
 use native.Mathlib.Numerals.{unary_clauses}
 use Rattle.typst_node.specs.Tree.{Forest, none, more, Tree, forest, count, nodes, joined, text_of, preorder, places, saturated}
-use Rattle.typst_tree.specs.Walks.{texts, numbers, first_at, if_none, has_child, holds_byte, is_childless, Within}
+use Rattle.typst_tree.specs.Walks.{texts, first_at, if_none, Within}
 
 pub length_preorder : (f : Forest) → length (preorder f) ≡ count f
 length_preorder none = refl

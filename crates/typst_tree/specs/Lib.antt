@@ -1,4 +1,5 @@
 pub mod Linked
+pub mod Ordered
 pub mod Steps
 pub mod Walks
 pub mod Wanted

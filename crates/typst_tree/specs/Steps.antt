@@ -1,5 +1,5 @@
 -- The steps from one node of a tree to another.
-use Rattle.std.specs.Prelude.{◌≡◌, ℕ, ◌+◌, nat_lt, Bool, ◌&&◌, not, List, map, length, take, find, Option, None, Some, slice_get, unwrap_or, option_and_then}
+use Rattle.std.specs.Prelude.{◌≡◌, ℕ, ◌+◌, nat_lt, Bool, ◌&&◌, not, List, map, length, take, find, Option, Some, slice_get, unwrap_or, option_and_then}
 use Rattle.std.specs.Option.{option_map}
 use Rattle.typst_kinds.specs.Kinds.{is_trivia}
 use Rattle.typst_kinds.specs.declared.kind.SyntaxKind.{SyntaxKind}

@@ -2,8 +2,11 @@
 #![tactic(auto)]
 
 mod linked;
+mod order;
 mod search;
 
+pub use linked::{LinkedChildren, LinkedNode};
+pub use order::is_ordered;
 pub use typst_kinds::{
     Assoc, BinOp, FileId, SourceError, Span, SpanNumber, SubRange, SyntaxKind, SyntaxMode,
     SyntaxSet, UnOp, set,

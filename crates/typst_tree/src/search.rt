@@ -2,9 +2,11 @@
 
 ghost use Rattle.std.specs.Prelude.{◌≡◌, ◌+◌, ◌^◌, ◌<◌, ◌-◌, true, None, IfSome, IsTrue, ◌↔◌};
 ghost use Rattle.std.specs.Option.{option_map};
+ghost use Rattle.typst_heads.specs.Head.{number_of};
 ghost use Rattle.typst_node.specs.Tree.{nodes, places};
 ghost use Rattle.typst_tree.specs.Walks.{first_at, last_leaf, is_childless, is_leaf, has_child, holds_byte, Within};
 ghost use Rattle.typst_tree.specs.Wanted.{wanted};
+ghost use Rattle.typst_tree.specs.Ordered.{IsKey};
 
 use typst_kinds::{Span, SpanNumber};
 use typst_node::SyntaxNode;
@@ -66,7 +68,7 @@ fn has_child(node: &SyntaxNode, number: usize, wanted: usize) -> bool
 
 impl Search {
     /// Whether the node with this number and offset is one that is looked for.
-    fn wants(&self, number: usize, offset: usize, node: &SyntaxNode) -> bool
+    pub fn wants(&self, number: usize, offset: usize, node: &SyntaxNode) -> bool
         requires { number + nodes node.now < 2 ^ 64 - 1 }
         ensures { result ≡ wanted self.now number offset node.now }
     {
@@ -97,6 +99,29 @@ impl Search {
             Search::Spanned(_) => false,
             Search::Numbered(_) => false,
         }
+    }
+
+    /// The span number that a node has to have, if it is looked for by that. A detached node
+    /// counts as 0.
+    pub fn key(&self) -> Option<u64>
+        ensures { IfSome result (λ m. IsKey (wanted self.now) m) }
+    {
+        match self {
+            Search::Spanned(span) => Some(span_number(*span)),
+            Search::Numbered(number) => Some(number.get()),
+            _ => None,
+        }
+    }
+}
+
+/// The number of a span, or 0 where it is detached.
+pub fn span_number(span: Span) -> u64
+    ensures value { result ≡ number_of span }
+    ensures small { result < 2 ^ 47 }
+{
+    match span.number() {
+        None => 0,
+        Some(number) => number.get(),
     }
 }
 

@@ -1,10 +1,10 @@
-ghost use Rattle.std.specs.Prelude.{◌<◌, ◌-◌, ◌^◌};
-ghost use Rattle.typst_node.specs.Tree.{nodes};
+ghost use Rattle.std.specs.Prelude.{◌<◌};
 
 use super::LinkedNode;
+use crate::order::is_ordered;
 use std::alloc::{AllocError, Global};
 use std::test::Fail;
-use typst_kinds::{FileId, SyntaxKind};
+use typst_kinds::{FileId, Span, SpanNumber, SyntaxKind};
 use typst_node::SyntaxNode;
 
 /// A node in a plain list of a tree's nodes in preorder: how many nodes are above it, and what a
@@ -14,6 +14,8 @@ struct Row {
     depth: u8,
     label: u8,
 }
+
+const NAME: u8 = 0;
 
 const SPACE: u8 = 1;
 
@@ -27,7 +29,7 @@ fn childless(alloc: Global, label: u8) -> Result<SyntaxNode, AllocError> {
         SPACE => SyntaxNode::leaf(alloc, SyntaxKind::Space, " "),
         ERROR => SyntaxNode::error(alloc, "wrong", "x"),
         EMPTY => Ok(SyntaxNode::inner(SyntaxKind::Markup, Vec::new(alloc))),
-        _ => SyntaxNode::leaf(alloc, SyntaxKind::Text, "ab"),
+        _ => SyntaxNode::leaf(alloc, SyntaxKind::Ident, "ab"),
     }
 }
 
@@ -89,17 +91,21 @@ fn kind(rows: &[Row], i: usize) -> SyntaxKind {
         SPACE => SyntaxKind::Space,
         ERROR => SyntaxKind::Error,
         EMPTY => SyntaxKind::Markup,
-        _ => SyntaxKind::Text,
+        _ => SyntaxKind::Ident,
+    }
+}
+
+fn text(rows: &[Row], i: usize) -> &'static str {
+    match label(rows, i) {
+        SPACE => " ",
+        ERROR => "x",
+        EMPTY => "",
+        _ => "ab",
     }
 }
 
 fn len(rows: &[Row], i: usize) -> usize {
-    match label(rows, i) {
-        SPACE => 1,
-        ERROR => 1,
-        EMPTY => 0,
-        _ => 2,
-    }
+    text(rows, i).len()
 }
 
 fn offset(rows: &[Row], i: usize) -> usize {
@@ -195,35 +201,50 @@ fn reads_agree(node: LinkedNode, rows: &[Row]) -> bool {
     let i = node.number;
     let range = node.range();
     node.kind() == kind(rows, i)
+        && node.get().kind() == kind(rows, i)
+        && node.hash_expr() == (label(rows, i) == NAME)
         && node.offset() == offset(rows, i)
         && range.start == offset(rows, i)
         && range.end == offset(rows, end(rows, i))
-        && node.leaf_text().len() == len(rows, i)
+        && node.leaf_text() == text(rows, i)
         && node.parent_kind() == parent(rows, i).map(|j| kind(rows, j))
         && node.next_sibling_kind() == next_sibling(rows, i).map(|j| kind(rows, j))
-        && node
-            .children()
-            .all(|child| parent(rows, child.number) == Some(i))
 }
 
-/// Whether the node's span and number find it from the root.
-fn finds_agree(node: LinkedNode, root: LinkedNode) -> bool {
-    let span = node.get().span();
-    let Some(own) = span.number() else {
-        return false;
-    };
-    number(root.find(span)) == Some(node.number)
-        && number(root.find_number(own)) == Some(node.number)
-        && number(node.find(root.get().span())).is_some() == (node.number == 0)
+/// Whether the node's children are those of the list, in order.
+fn children_agree(node: LinkedNode, rows: &[Row]) -> bool {
+    let mut children = node.children();
+    for (j, _) in rows.iter().enumerate() {
+        if parent(rows, j) == Some(node.number) && number(children.next()) != Some(j) {
+            return false;
+        }
+    }
+    children.next().is_none()
+}
+
+/// Whether each node's span and number find that node from itself and from all above it, and
+/// nothing from the others.
+fn finds_agree(nodes: &[LinkedNode], rows: &[Row]) -> bool {
+    for from in nodes {
+        for node in nodes {
+            let inside = from.number <= node.number && node.number < end(rows, from.number);
+            let wanted = if inside { Some(node.number) } else { None };
+            let span = node.get().span();
+            let Some(own) = span.number() else {
+                return false;
+            };
+            if number(from.find(span)) != wanted || number(from.find_number(own)) != wanted {
+                return false;
+            }
+        }
+    }
+    true
 }
 
 /// Whether all nodes of the tree, each reached through its parent's children, agree with the list.
-fn agrees(alloc: Global, root: &SyntaxNode, rows: &[Row]) -> Result<bool, AllocError>
-    requires { nodes root.now < 2 ^ 64 - 1 }
-{
-    let top = LinkedNode::new(root);
+fn agrees(alloc: Global, root: LinkedNode, rows: &[Row]) -> Result<bool, AllocError> {
     let mut all = Vec::new(alloc);
-    all.push(top)?;
+    all.push(root)?;
     for i in 0..rows.len() {
         let Some(node) = all.as_slice().get(i).copied() else {
             return Ok(false);
@@ -231,11 +252,11 @@ fn agrees(alloc: Global, root: &SyntaxNode, rows: &[Row]) -> Result<bool, AllocE
         for child in node.children() {
             all.push(child)?;
         }
-        if !(steps_agree(node, rows) && reads_agree(node, rows) && finds_agree(node, top)) {
+        if !(steps_agree(node, rows) && reads_agree(node, rows) && children_agree(node, rows)) {
             return Ok(false);
         }
     }
-    Ok(all.len() == rows.len())
+    Ok(all.len() == rows.len() && finds_agree(all.as_slice(), rows))
 }
 
 /// Whether the first `count` numbers are the depths of a tree's nodes in preorder, and the rest 0.
@@ -281,8 +302,14 @@ fn walk_shape(rt: &HostRuntime, depths: &[u8; 6], count: usize) -> Result<u32, F
         let rows = &all[..count];
         let mut root = build(rt.alloc(), rows)?;
         root.numberize(file, 2..1 << 47).map_err(|_| "numbers")?;
-        if root.descendants() == usize::MAX || !agrees(rt.alloc(), &root, rows)? {
+        if root.descendants() == usize::MAX || !is_ordered(&root) {
+            return Err(Fail::from("not in order"));
+        }
+        if !agrees(rt.alloc(), LinkedNode::new(&root), rows)? {
             return Err(Fail::from("a walk differs"));
+        }
+        if !agrees(rt.alloc(), LinkedNode::ordered(&root), rows)? {
+            return Err(Fail::from("a walk by numbers differs"));
         }
         walked = walked.saturating_add(1);
     }
@@ -302,4 +329,66 @@ fn walks(rt: HostRuntime) -> Result<(), Fail> {
     }
     assert_eq!(rt; walked, 65 * 16);
     Ok(())
+}
+
+/// A leaf with this number alone.
+fn numbered_leaf(alloc: Global, file: FileId, number: SpanNumber) -> Result<SyntaxNode, Fail> {
+    let mut leaf = childless(alloc, NAME)?;
+    let number = number.get();
+    leaf.numberize(file, number..number + 1)
+        .map_err(|_| "numbers")?;
+    Ok(leaf)
+}
+
+/// A detached node over leaves with these spans, and a detached one.
+fn unordered(alloc: Global, spans: &[(FileId, SpanNumber)]) -> Result<SyntaxNode, Fail> {
+    let mut kids = Vec::new(alloc);
+    for (file, number) in spans {
+        kids.push(numbered_leaf(alloc, *file, *number)?)?;
+    }
+    kids.push(childless(alloc, NAME)?)?;
+    Ok(SyntaxNode::inner(SyntaxKind::Markup, kids))
+}
+
+#[test]
+fn finds_the_first_without_order(rt: HostRuntime) -> Result<(), Fail> {
+    let (first, second) = (FileId::new(1).ok_or("1")?, FileId::new(2).ok_or("2")?);
+    let (three, ten) = (
+        SpanNumber::new(3).ok_or("3")?,
+        SpanNumber::new(10).ok_or("10")?,
+    );
+    let root = unordered(rt.alloc(), &[(first, ten), (first, three), (second, ten)])?;
+    if root.descendants() == usize::MAX {
+        return Err(Fail::from("counts"));
+    }
+    assert!(rt; !is_ordered(&root));
+    let top = LinkedNode::new(&root);
+    assert_eq!(rt; number(top.find_number(ten)), Some(1));
+    assert_eq!(rt; number(top.find_number(three)), Some(2));
+    assert_eq!(rt; number(top.find(Span::new(first, ten))), Some(1));
+    assert_eq!(rt; number(top.find(Span::new(second, ten))), Some(3));
+    assert_eq!(rt; number(top.find(Span::new(second, three))), None);
+    assert_eq!(rt; number(top.find(Span::detached())), Some(0));
+    Ok(())
+}
+
+#[test]
+fn orders(rt: HostRuntime) -> Result<(), Fail> {
+    let leaf = childless(rt.alloc(), NAME)?;
+    assert!(rt; is_ordered(&leaf));
+    let mut kids = Vec::new(rt.alloc());
+    kids.push(leaf)?;
+    let mut root = SyntaxNode::inner(SyntaxKind::Markup, kids);
+    assert!(rt; !is_ordered(&root));
+    root.numberize(FileId::new(1).ok_or("1")?, 2..4)
+        .map_err(|_| "numbers")?;
+    assert!(rt; is_ordered(&root));
+    root.synthesize(root.span());
+    assert!(rt; !is_ordered(&root));
+    Ok(())
+}
+
+#[test]
+fn is_small(rt: HostRuntime) {
+    assert!(rt; size_of::<LinkedNode>() <= 40);
 }

@@ -1,6 +1,6 @@
-use Rattle.std.proofs.Common.{◌≡◌, ℕ, ◌+◌, ◌<◌, ◌^◌, ap, sym, ◌∙◌, arith, length, drop, ◌∷◌}
+use Rattle.std.proofs.Common.{◌≡◌, ◌+◌, ◌<◌, ◌^◌, ap, sym, ◌∙◌, arith, length, drop}
 use Rattle.typst_node.specs.Tree.{forest, nodes, places, preorder, saturated, text_of, count}
-use Rattle.typst_tree.specs.Walks.{first_at, Within}
+use Rattle.typst_tree.specs.Walks.{first_at}
 use Rattle.typst_tree.specs.Wanted.{wanted}
 use Rattle.typst_tree.proofs.Walking.{within_self, within_in, within_first, within_rest, within_children, within_same, found_below, found_here, found_next, turn}
 use Rattle.typst_tree.proofs.search.+first_in.Goals as goal

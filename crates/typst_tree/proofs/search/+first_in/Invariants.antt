@@ -1,5 +1,5 @@
 use Rattle.std.proofs.Common.{◌≡◌, ◌+◌, ◌-◌, ◌^◌, ◌<◌, drop}
-use Rattle.typst_node.specs.Tree.{forest, count, nodes, places, preorder, saturated}
+use Rattle.typst_node.specs.Tree.{forest, count, nodes, places, preorder}
 use Rattle.typst_tree.specs.Walks.{first_at, Within}
 use Rattle.typst_tree.specs.Wanted.{wanted}
 use Rattle.typst_tree.proofs.search.+first_in.Given as goal

@@ -1,6 +1,5 @@
-use Rattle.std.proofs.Common.{◌≡◌, ◌+◌, ◌∷◌, ap, sym, ◌∙◌, arith, length, map, refl}
-use Rattle.typst_node.specs.Tree.{forest, places, preorder, nodes, count, saturated, text_of}
-use Rattle.typst_tree.specs.Linked.{left}
+use Rattle.std.proofs.Common.{◌≡◌, ◌+◌, ◌∷◌, ap, ◌∙◌, arith, length, map, refl}
+use Rattle.typst_node.specs.Tree.{forest, places, count}
 use Rattle.typst_tree.specs.Steps.{at}
 use Rattle.typst_tree.specs.Walks.{numbers}
 use Rattle.typst_tree.proofs.Standing.{row, stands_same}
@@ -15,12 +14,12 @@ overflow_add-self c =
 pub invariant_of-self : goal.invariant_of-self
 invariant_of-self c =
     let r = row (places c.args.self.now.root.now) c.args.self.now.number c.args.self.now.offset c.in_ok-node.node.now c.in_ok-node.rest.now c.descendants.result c.len.result c.saturating_add.result (omega (arith, length_places c.args.self.now.root.now, c.args.self.now.counted)) (stands_same _ _ _ _ _ c.in_ok-node.ensures.cases.0 c.args.self.now.stands) c.descendants.ensures c.len.ensures c.saturating_add.ensures in
-    record { counted = c.args.self.now.counted; stands = r.others }
+    record { counted = c.args.self.now.counted; stands = r.others; ordered = c.args.self.now.ordered }
 
 pub invariant_of-child : goal.invariant_of-child
 invariant_of-child c =
     let r = row (places c.args.self.now.root.now) c.args.self.now.number c.args.self.now.offset c.in_ok-node.node.now c.in_ok-node.rest.now c.descendants.result c.len.result c.saturating_add.result (omega (arith, length_places c.args.self.now.root.now, c.args.self.now.counted)) (stands_same _ _ _ _ _ c.in_ok-node.ensures.cases.0 c.args.self.now.stands) c.descendants.ensures c.len.ensures c.saturating_add.ensures in
-    record { counted = c.args.self.now.counted; stands = r.first }
+    record { counted = c.args.self.now.counted; stands = r.first; ordered = c.args.self.now.ordered }
 
 pub returns-clause-steps : goal.returns-clause-steps
 returns-clause-steps c =

@@ -1,4 +1,4 @@
-use Rattle.std.proofs.Common.{ap, sym, ◌∙◌, refl, ◌∷◌}
+use Rattle.std.proofs.Common.{ap, sym, ◌∙◌, refl}
 use Rattle.std.specs.Prelude.{find}
 use Rattle.typst_tree.specs.Linked.{linked, left}
 use Rattle.typst_tree.specs.Steps.{is_sibling_after}

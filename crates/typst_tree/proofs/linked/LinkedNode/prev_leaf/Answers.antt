@@ -1,7 +1,6 @@
-use Rattle.std.proofs.Common.{◌≡◌, ap, sym, ◌∙◌, arith}
+use Rattle.std.proofs.Common.{ap, sym, ◌∙◌}
 use Rattle.std.specs.Option.{option_map}
 use Rattle.typst_node.specs.Tree.{places}
-use Rattle.typst_tree.specs.Linked.{linked}
 use Rattle.typst_tree.specs.Steps.{at, first_below}
 use Rattle.typst_tree.specs.Walks.{has_place}
 use Rattle.typst_tree.proofs.LastLeaves.{last_within}
@@ -12,4 +11,4 @@ pub returns : goal.returns
 returns c =
     let within = last_within c.args.self.number 0 c.in_ok-number.number (places c.args.self.root.now) (sym c.in_ok-number.ensures) in
     let found = place_found c.in_ok-number.number 0 0 (places c.args.self.root.now) within.0 within.1 in
-    c.first.ensures ∙ (ap (first_below (has_place c.in_ok-number.number)) c.new.ensures ∙ (ap (option_map (at c.args.self.root.now)) (found ∙ c.in_ok-number.ensures)))
+    c.first.ensures ∙ (ap (first_below (has_place c.in_ok-number.number)) c.top.ensures ∙ (ap (option_map (at c.args.self.root.now)) (found ∙ c.in_ok-number.ensures)))

@@ -1,5 +1,4 @@
-use Rattle.std.proofs.Common.{arith, ap, length}
-use Rattle.typst_node.specs.Tree.{text_of}
+use Rattle.std.proofs.Common.{arith}
 use Rattle.typst_tree.proofs.Standing.{node_here}
 use Rattle.typst_tree.proofs.linked.LinkedNode.range.Goals as goal
 

@@ -1,0 +1,18 @@
+-- Numbers in order, and searches for a number.
+use Rattle.std.specs.Prelude.{◌≡◌, ℕ, ◌+◌, nat_le, nat_lt, Bool, true, IsTrue, List, [], ◌∷◌, Option, Some, None, if◌then◌else◌}
+use Rattle.typst_heads.specs.Head.{number_of}
+use Rattle.typst_node.specs.Tree.{Forest, none, more, Tree}
+
+-- the number behind those of some nodes, where each is above the one before it and the first at least a
+abbrev pub climb : ℕ → List Tree → Option ℕ
+climb a [] = Some a
+climb a (t ∷ ts) = if nat_le a (number_of t.head.span) then climb (number_of t.head.span + 1) ts else None
+
+-- there is no tree, or the first has a number above m
+abbrev pub begins_past : ℕ → Forest → Bool
+begins_past m none = true
+begins_past m (more h ks r) = nat_lt m (number_of h.span)
+
+-- only nodes with the number m pass the test
+abbrev pub IsKey : (ℕ → ℕ → Tree → Bool) → ℕ → Type 0
+IsKey p m = (n a : ℕ) (t : Tree) → IsTrue (p n a t) → number_of t.head.span ≡ m
