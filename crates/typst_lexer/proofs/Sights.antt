@@ -39,7 +39,6 @@ offset-is text i u b =
     let whole = ap length (encodes-chars front (IsUtf8-take text i u b)) in
     omega (arith, whole, width-encodes (chars front), width-reverse (chars front), length-take-le i text b.0)
 
-
 stretch-max : (a b : ℕ) (cs : List ℕ) → stretch (max a b) cs ≡ max (stretch a cs) (stretch b cs)
 unfolding stretch
 stretch-max zero b cs = let e : max 0 b ≡ b = omega arith in rw e (omega arith)
@@ -205,6 +204,7 @@ went-twice n r m b [] = same-sight _ _ _ _ _ _ (still n) (front n) refl
     still : (n : ℕ) → moved_from n b [] ≡ place b []
     still zero = refl
     still (suc n) = refl
+
     front : (n : ℕ) → max (max r (far 1 (place b []))) (far n (place b [])) ≡ max r (far (suc n) (place b []))
     front zero = omega (arith, far-none (place b []), far-le 1 (place b []))
     front (suc n) = omega (arith, far-end 0 b, far-end n b, far-end (suc n) b)
