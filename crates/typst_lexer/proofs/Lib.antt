@@ -1,8 +1,11 @@
 pub mod ColumnLemmas
+pub mod CommentLemmas
 pub mod Frame
 pub mod Moves
 pub mod NodeLemmas
 pub mod NumberLemmas
+pub mod Sights
+pub mod Spans
 pub mod TextLemmas
 pub mod TokenEats
 pub mod TokenLemmas

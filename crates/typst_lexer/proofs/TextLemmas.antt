@@ -1,55 +1,21 @@
--- Facts on texts, and on machines that take a run of characters.
-use Rattle.std.proofs.Common.{◌≡◌, ℕ, suc, ◌+◌, Bool, true, false, not, ◌==◌, if◌then◌else◌, List, [], ◌∷◌, length, refl, sym, ap, subst, ◌∙◌, arith, slice_get, Some, None}
+-- Facts on texts.
+use Rattle.std.proofs.Common.{◌≡◌, ◌≤◌, ◌<◌, ℕ, zero, suc, ◌+◌, length, Bool, true, false, not, ◌==◌, if◌then◌else◌, List, [], ◌∷◌, refl, sym, ap, subst, ◌∙◌, arith, slice_get, Some, None}
 use Rattle.std.proofs.lemmas.Bool.Decides.{nat_tests}
-use Rattle.std.specs.List.{prefix_len}
 use Rattle.typst_kinds.specs.declared.kind.SyntaxKind.TheVariants as kind
-use Rattle.typst_lines.specs.Place.{Place, moved, moved_from, scout, past, word_at}
+use Rattle.std.specs.List.{prefix_len}
+use Rattle.typst_lines.specs.Place.{Place, moved, moved_from, past, scout, passes, word_at}
 use Rattle.typst_classes.specs.Classes.{CharClasses}
-use Rattle.typst_lexer.specs.Reader.{place, Reader, exec, Machine, Memory, Turn, ask, eat_span}
+use Rattle.typst_lexer.specs.Reader.{place, Look, widened, Step, Reader, Turn, ask, glimpse, eat_span, see_word}
 use Rattle.typst_lexer.specs.Reader.Memory.{blank}
 use Rattle.typst_lexer.specs.Reader.Reader.{answer}
 use Rattle.typst_lexer.specs.Reader.Turn.{leave, go}
+use Rattle.typst_lexer.specs.Sight.{Sight, Covers, saw, saw_by, went, went_past, saw_word, regard, sight}
 use Rattle.typst_lexer.specs.Text.{may_stop, text_step, on, in_text, text}
-use Rattle.typst_lexer.proofs.Frame.{turned}
 use Rattle.typst_lexer.specs.Token.{plain}
 use Rattle.typst_lexer.specs.declared.token.Token.{Token}
-
-pub scout-moved : (n : ℕ) (p : Place) → scout n (moved 1 p) ≡ scout (suc n) p
-scout-moved n p = scout-from n p.behind p.ahead
-  where
-    scout-from : (n : ℕ) (behind ahead : List ℕ) → slice_get (moved_from 1 behind ahead).ahead n ≡ slice_get ahead (suc n)
-    scout-from n behind [] = refl
-    scout-from n behind (c ∷ ahead) = refl
-
--- a word after the next character
-pub word_at-moved : (n : ℕ) (word : List ℕ) (p : Place) → word_at n word (moved 1 p) ≡ word_at (suc n) word p
-word_at-moved n [] p = refl
-word_at-moved n (c ∷ word) p = rw (scout-moved n p, word_at-moved (suc n) word p) refl
-
--- what is answered after the turn at a character
-abbrev taking : {A : Type 0} → Machine → Memory → (Memory → Reader A) → List ℕ → ℕ → List ℕ → Turn → A × Place
-taking m memory k behind c ahead t = let r = turned m memory behind c ahead t in exec (k r.1) (moved (length r.0) (place behind (c ∷ ahead)))
-
-pub exec-turn : {A : Type 0} (m : Machine) (memory : Memory) (k : Memory → Reader A) (behind : List ℕ) (c : ℕ) (ahead : List ℕ) (t : Turn) → ask (m memory) (place behind (c ∷ ahead)) ≡ t
-    → exec (eat_span m memory k) (place behind (c ∷ ahead)) ≡ taking m memory k behind c ahead t
-exec-turn m memory k behind c ahead t h = ap (taking m memory k behind c ahead) h
-
--- what a machine takes, it takes at once
-module _ {A : Type 0} (m : Machine) (memory : Memory) (test : ℕ → Bool) (k : Memory → Reader A)
-    (goes : (c : ℕ) (behind ahead : List ℕ) → test c ≡ true → ask (m memory) (place behind (c ∷ ahead)) ≡ go memory) where
-  run-turn : (behind : List ℕ) (c : ℕ) (ahead : List ℕ) (t : Bool) → test c ≡ t
-      → exec (eat_span m memory k) (place (c ∷ behind) ahead) ≡ exec (eat_span m memory k) (past test (place (c ∷ behind) ahead))
-      → exec (eat_span m memory k) (place behind (c ∷ ahead)) ≡ exec (eat_span m memory k) (moved (if t then 1 + prefix_len test ahead else 0) (place behind (c ∷ ahead)))
-  run-turn behind c ahead false e rest = refl
-  run-turn behind c ahead true e rest =
-      let up : 1 + prefix_len test ahead ≡ suc (prefix_len test ahead) = omega arith in
-      exec-turn m memory k behind c ahead (go memory) (goes c behind ahead e) ∙ rest ∙ ap (λ n. exec (eat_span m memory k) (moved n (place behind (c ∷ ahead)))) (sym up)
-
-  pub exec-past : (behind ahead : List ℕ) → exec (eat_span m memory k) (place behind ahead) ≡ exec (eat_span m memory k) (past test (place behind ahead))
-  exec-past behind [] = refl
-  exec-past behind (c ∷ ahead) = run-turn behind c ahead (test c) refl (exec-past (c ∷ behind) ahead)
-
--- ---- text
+use Rattle.typst_lexer.proofs.Sights.{regard-is, covers-saw, covers-saw_by, saw-ahead, saw-both}
+use Rattle.typst_lexer.proofs.WordLemmas.{regard-see_word}
+use Rattle.typst_lexer.proofs.Spans.{saw-twice, sight-turn, sight-end, sight-past, turned_sight}
 
 abbrev pub rest : CharClasses → Reader Token
 rest k = eat_span (in_text k) blank (λ _. answer (plain kind.Text))
@@ -65,43 +31,96 @@ last-of : {A : Type 0} (b₁ b₂ b₃ b₄ b₅ b₆ : Bool) (x₁ x₂ x₃ x�
     → (if b₁ then x₁ else (if b₂ then x₂ else (if b₃ then x₃ else (if b₄ then x₄ else (if b₅ then x₅ else (if b₆ then x₆ else y)))))) ≡ y
 last-of b₁ b₂ b₃ b₄ b₅ b₆ x₁ x₂ x₃ x₄ x₅ x₆ y h₁ h₂ h₃ h₄ h₅ h₆ = rw (h₁, h₂, h₃, h₄, h₅, h₆) refl
 
-pub plain-step : (k : CharClasses) (c : ℕ) (p : Place) → not (may_stop c) ≡ true → ask (text_step k c) p ≡ go blank
-plain-step k c p h =
-    ap (λ s. ask s p) (last-of (c == 32) (c == 47) (c == 45) (c == 46) (c == 104) (c == 64) _ _ _ _ _ _ (on (not (may_stop c)))
-    (other c 32 refl h) (other c 47 refl h) (other c 45 refl h) (other c 46 refl h) (other c 104 refl h) (other c 64 refl h))
-    ∙ ap (λ t. ask (on t) p) h
+-- a character that stops no text
+plain-is : (k : CharClasses) (c : ℕ) → not (may_stop c) ≡ true → text_step k c ≡ on true
+plain-is k c h =
+    last-of (c == 32) (c == 47) (c == 45) (c == 46) (c == 104) (c == 64) _ _ _ _ _ _ (on (not (may_stop c)))
+    (other c 32 refl h) (other c 47 refl h) (other c 45 refl h) (other c 46 refl h) (other c 104 refl h) (other c 64 refl h)
+    ∙ ap on h
 
-pub rest-past : (k : CharClasses) (p : Place) → exec (rest k) p ≡ exec (rest k) (past (λ c. not (may_stop c)) p)
-rest-past k p = exec-past (in_text k) blank (λ c. not (may_stop c)) (λ _. answer (plain kind.Text)) (λ c behind ahead h. plain-step k c (place behind (c ∷ ahead)) h) p.behind p.ahead
+pub rest-past : (k : CharClasses) (v : Sight) → Covers v → sight (rest k) v ≡ sight (rest k) (went_past (λ c. not (may_stop c)) v)
+rest-past k v h =
+    sight-past (in_text k) blank (λ c. not (may_stop c)) (λ _. answer (plain kind.Text)) (λ c b a e. ap (λ s. ask s (place b (c ∷ a))) (plain-is k c e))
+    (λ c b a e. ap (λ s. widened 0 1 (glimpse s (place b (c ∷ a)))) (plain-is k c e)) v.place.behind v.place.ahead v.reach v.least h
 
-rest-step : (k : CharClasses) (c : ℕ) (behind ahead : List ℕ) → slice_get ahead 0 ≡ Some c → ask (text_step k c) (place behind ahead) ≡ go blank
-    → exec (rest k) (place behind ahead) ≡ exec (rest k) (moved_from 1 behind ahead)
-rest-step k c behind [] e h = absurd (cc)
-rest-step k c behind (d ∷ ahead) e h =
+module _ (k : CharClasses) (c : ℕ) (v w : Sight) (h : Covers v) (s : saw 1 v ≡ v) (t : Turn) (g : regard (text_step k c) v ≡ (t, w)) where
+  both-are : ◌≡◌ {A = Turn × Sight} (ask (text_step k c) v.place, saw_by (glimpse (text_step k c) v.place) v) (t, w)
+  both-are = sym (regard-is (text_step k c) v h) ∙ g
+
+  turned-is : saw_by (widened 0 1 (glimpse (text_step k c) v.place)) (saw 1 v) ≡ w
+  turned-is =
+      let l = glimpse (text_step k c) v.place in
+      saw-both (record { back = 0; front = 1 }) l (saw 1 v)
+      ∙ ap (saw_by l) (saw-ahead 1 (saw 1 v) (covers-saw 1 v h) ∙ saw-twice v ∙ s)
+      ∙ ap (λ p. p.1) both-are
+
+step-at : (k : CharClasses) (c : ℕ) (b a : List ℕ) (r l : ℕ) (w : Sight) (t : Turn)
+    → Covers (record { place = place b a; reach = r; least = l })
+    → saw 1 (record { place = place b a; reach = r; least = l }) ≡ record { place = place b a; reach = r; least = l }
+    → regard (text_step k c) (record { place = place b a; reach = r; least = l }) ≡ (t, w)
+    → Some c ≡ slice_get a 0
+    → sight (rest k) (record { place = place b a; reach = r; least = l }) ≡ turned_sight (in_text k) blank (λ _. answer (plain kind.Text)) w t
+step-at k c b [] r l w t h s g e = absurd (cc)
+step-at k c b (d ∷ a) r l w t h s g e =
+    let v : Sight = record { place = place b (d ∷ a); reach = r; least = l } in
     let same : d ≡ c = cc in
-    exec-turn (in_text k) blank (λ _. answer (plain kind.Text)) behind d ahead (go blank) (subst (λ x. ask (text_step k x) (place behind (d ∷ ahead)) ≡ go blank) (sym same) h)
-
-rest-stop : (k : CharClasses) (c : ℕ) (behind ahead : List ℕ) → slice_get ahead 0 ≡ Some c → ask (text_step k c) (place behind ahead) ≡ leave
-    → exec (rest k) (place behind ahead) ≡ (plain kind.Text, place behind ahead)
-rest-stop k c behind [] e h = absurd (cc)
-rest-stop k c behind (d ∷ ahead) e h =
-    let same : d ≡ c = cc in
-    exec-turn (in_text k) blank (λ _. answer (plain kind.Text)) behind d ahead leave (subst (λ x. ask (text_step k x) (place behind (d ∷ ahead)) ≡ leave) (sym same) h)
-
-rest-last : (k : CharClasses) (behind ahead : List ℕ) → slice_get ahead 0 ≡ None → exec (rest k) (place behind ahead) ≡ (plain kind.Text, place behind ahead)
-rest-last k behind [] e = refl
-rest-last k behind (d ∷ ahead) e = absurd (cc)
+    let g' = subst (λ x. regard (text_step k x) v ≡ (t, w)) (sym same) g in
+    sight-turn (in_text k) blank (λ _. answer (plain kind.Text)) d b a r l t (ap (λ p. p.0) (both-are k d v w h s t g')) h
+    ∙ ap (λ u. turned_sight (in_text k) blank (λ _. answer (plain kind.Text)) u t) (turned-is k d v w h s t g')
 
 -- a text goes on through a character, or leaves it
-pub rest-on : (k : CharClasses) (c : ℕ) (p : Place) → Some c ≡ scout 0 p → ask (text_step k c) p ≡ go blank → exec (rest k) p ≡ exec (rest k) (moved 1 p)
-rest-on k c p e h = rest-step k c p.behind p.ahead (sym e) h
+pub rest-on : (k : CharClasses) (c : ℕ) (v w : Sight) → Covers v → saw 1 v ≡ v → Some c ≡ scout 0 v.place → regard (text_step k c) v ≡ (go blank, w) → sight (rest k) v ≡ sight (rest k) (went 1 w)
+rest-on k c v w h s e g = step-at k c v.place.behind v.place.ahead v.reach v.least w (go blank) h s g e
 
-pub rest-off : (k : CharClasses) (c : ℕ) (p : Place) → Some c ≡ scout 0 p → ask (text_step k c) p ≡ leave → exec (rest k) p ≡ (plain kind.Text, p)
-rest-off k c p e h = rest-stop k c p.behind p.ahead (sym e) h
+pub rest-off : (k : CharClasses) (c : ℕ) (v w : Sight) → Covers v → saw 1 v ≡ v → Some c ≡ scout 0 v.place → regard (text_step k c) v ≡ (leave, w) → sight (rest k) v ≡ (plain kind.Text, w)
+rest-off k c v w h s e g = step-at k c v.place.behind v.place.ahead v.reach v.least w leave h s g e
 
-pub rest-end : (k : CharClasses) (p : Place) → None ≡ scout 0 p → exec (rest k) p ≡ (plain kind.Text, p)
-rest-end k p e = rest-last k p.behind p.ahead (sym e)
+pub rest-end : (k : CharClasses) (v : Sight) → Covers v → saw 1 v ≡ v → None ≡ scout 0 v.place → sight (rest k) v ≡ (plain kind.Text, v)
+rest-end k v h s e = at-end v.place.behind v.place.ahead v.reach v.least h s e
+  where
+    at-end : (b a : List ℕ) (r l : ℕ) → Covers (record { place = place b a; reach = r; least = l })
+        → saw 1 (record { place = place b a; reach = r; least = l }) ≡ record { place = place b a; reach = r; least = l } → None ≡ slice_get a 0
+        → sight (rest k) (record { place = place b a; reach = r; least = l }) ≡ (plain kind.Text, record { place = place b a; reach = r; least = l })
+    at-end b [] r l h s e = sight-end (in_text k) blank (λ _. answer (plain kind.Text)) b r l h ∙ ap (λ w. (plain kind.Text, w)) s
+    at-end b (d ∷ a) r l h s e = absurd (cc)
 
-pub rest-text : (k : CharClasses) (p : Place) → exec (rest k) p ≡ exec (text k) p
+pub rest-text : (k : CharClasses) (v : Sight) → sight (rest k) v ≡ sight (text k) v
 unfolding text
-rest-text k p = refl
+rest-text k v = refl
+
+-- the place stays while its surroundings are looked at
+pub rest-place : (k : CharClasses) (c : ℕ) (v w : Sight) (t : Turn) → Covers v → regard (text_step k c) v ≡ (t, w) → w.place ≡ v.place
+rest-place k c v w t h g = ap (λ (p : Turn × Sight). p.1.place) (sym g ∙ regard-is (text_step k c) v h)
+
+pub rest-covers : (k : CharClasses) (c : ℕ) (v w : Sight) (t : Turn) → Covers v → regard (text_step k c) v ≡ (t, w) → Covers w
+rest-covers k c v w t h g = subst Covers (ap (λ (p : Turn × Sight). p.1) (sym (regard-is (text_step k c) v h) ∙ g)) (covers-saw_by (glimpse (text_step k c) v.place) v h)
+
+past-shortens : (n : ℕ) (b a : List ℕ) → length (moved_from n b a).ahead ≤ length a
+past-shortens zero b a = omega arith
+past-shortens (suc n) b [] = omega arith
+past-shortens (suc n) b (d ∷ a) = omega (arith, past-shortens n (d ∷ b) a)
+
+-- behind a character and a run fewer are ahead
+pub rest-shortens : (test : ℕ → Bool) (c : ℕ) (z y : Place) → y ≡ z → Some c ≡ scout 0 z → length (past test (moved 1 y)).ahead < length z.ahead
+rest-shortens test c z y e s = rw e (shorter z.behind z.ahead s)
+  where
+    shorter : (b a : List ℕ) → Some c ≡ slice_get a 0 → length (past test (moved_from 1 b a)).ahead < length a
+    shorter b [] s = absurd (cc)
+    shorter b (d ∷ a) s = omega (arith, past-shortens (prefix_len test a) (d ∷ b) a)
+
+-- ---- words at which a text stops
+
+stopped : (b : Bool) (y : Sight) → ◌≡◌ {A = Turn × Sight} (if b then (leave, y) else (go blank, y)) (if not b then go blank else leave, y)
+stopped true y = refl
+stopped false y = refl
+
+pub two-words : (first second : List ℕ) (v u x : Sight) (b : Bool) → word_at 1 first v.place ≡ false → u ≡ saw_word 1 first v → b ≡ word_at 1 second u.place → x ≡ saw_word 1 second u
+    → regard (see_word 1 first (on false) (see_word 1 second (on false) (on true))) v ≡ (if not b then go blank else leave, x)
+two-words first second v u x b f e g h =
+    regard-see_word 1 first (on false) (see_word 1 second (on false) (on true)) v
+    ∙ ap (λ t. if t then regard (on false) (saw_word 1 first v) else regard (see_word 1 second (on false) (on true)) (saw_word 1 first v)) f
+    ∙ ap (regard (see_word 1 second (on false) (on true))) (sym e)
+    ∙ regard-see_word 1 second (on false) (on true) u
+    ∙ ap (λ t. if t then (leave, saw_word 1 second u) else (go blank, saw_word 1 second u)) (sym g)
+    ∙ ap (λ y. if b then (leave, y) else (go blank, y)) (sym h)
+    ∙ stopped b x

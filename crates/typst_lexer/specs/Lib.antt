@@ -1,12 +1,14 @@
 pub mod Characters
 pub mod Column
 pub mod Common
+pub mod Cursor
 pub mod Laws
 pub mod Lexer
 pub mod Markup
 pub mod Nodes
 pub mod Reader
 pub mod Reads
+pub mod Sight
 pub mod Text
 pub mod Token
 pub mod Tokens

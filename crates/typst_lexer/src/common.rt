@@ -5,6 +5,7 @@ ghost use Rattle.typst_lexer.specs.Common as spec;
 ghost use Rattle.typst_lexer.specs.Reads.{Reads};
 ghost use Rattle.typst_lexer.specs.declared.token.Token.{Token};
 
+use crate::cursor::Cursor;
 use crate::sets::{InLine, Whitespace};
 use crate::token::{Fault, Token};
 use typst_kinds::{SyntaxKind, SyntaxMode};
@@ -37,7 +38,7 @@ fn is_parbreak(mode: SyntaxMode, ends: usize) -> bool
 }
 
 #[tactic(auto, unfolding(crate::specs::Common::whitespace))]
-pub(crate) fn whitespace(s: &mut Scanner<'_>, mode: SyntaxMode) -> Token
+pub(crate) fn whitespace(s: &mut Cursor<'_>, mode: SyntaxMode) -> Token
     ensures { Reads (spec.whitespace mode) s.old result s.new }
 {
     let ends = count_newlines(s.eat_while(&Whitespace(mode)));
@@ -53,7 +54,7 @@ pub(crate) fn whitespace(s: &mut Scanner<'_>, mode: SyntaxMode) -> Token
 }
 
 #[tactic(auto, unfolding(crate::specs::Common::shebang))]
-pub(crate) fn shebang(s: &mut Scanner<'_>) -> Token
+pub(crate) fn shebang(s: &mut Cursor<'_>) -> Token
     ensures { Reads spec.shebang s.old result s.new }
 {
     s.eat_while(&InLine);
@@ -61,7 +62,7 @@ pub(crate) fn shebang(s: &mut Scanner<'_>) -> Token
 }
 
 #[tactic(auto, unfolding(crate::specs::Common::line_comment))]
-pub(crate) fn line_comment(s: &mut Scanner<'_>) -> Token
+pub(crate) fn line_comment(s: &mut Cursor<'_>) -> Token
     ensures { Reads spec.line_comment s.old result s.new }
 {
     s.eat_while(&InLine);
@@ -69,11 +70,10 @@ pub(crate) fn line_comment(s: &mut Scanner<'_>) -> Token
 }
 
 #[tactic(auto, unfolding(crate::specs::Common::block_comment))]
-pub(crate) fn block_comment(s: &mut Scanner<'_>) -> Token
+pub(crate) fn block_comment(s: &mut Cursor<'_>) -> Token
     ensures { Reads spec.block_comment s.old result s.new }
 {
-    s.eat();
-    s.eat();
+    s.eat_two();
     let mut before = '\0';
     let mut depth = 0usize;
     // The first `*/` without a `/*` of its own ends the comment.
@@ -95,10 +95,9 @@ pub(crate) fn block_comment(s: &mut Scanner<'_>) -> Token
 }
 
 #[tactic(auto, unfolding(crate::specs::Common::comment_end))]
-pub(crate) fn comment_end(s: &mut Scanner<'_>) -> Token
+pub(crate) fn comment_end(s: &mut Cursor<'_>) -> Token
     ensures { Reads spec.comment_end s.old result s.new }
 {
-    s.eat();
-    s.eat();
+    s.eat_two();
     Token::faulty(Fault::CommentEnd)
 }

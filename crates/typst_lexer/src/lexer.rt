@@ -6,15 +6,16 @@ ghost use Rattle.typst_classes.specs.Classes.{in_line};
 ghost use Rattle.typst_lexer.specs.Column.{column};
 ghost use Rattle.typst_lexer.specs.Nodes.{IsRead};
 ghost use Rattle.typst_lexer.specs.Reader.{exec, eaten};
-ghost use Rattle.typst_lexer.specs.Reads.{Reads};
+ghost use Rattle.typst_lexer.specs.Reads.{Reads, Scans};
 ghost use Rattle.typst_lexer.specs.Tokens as spec;
 ghost use Rattle.typst_lines.specs.Place.{place_at, scout};
 ghost use Rattle.typst_lines.specs.Scanner as scanner;
 
 use crate::common::{block_comment, comment_end, line_comment, shebang, whitespace};
+use crate::cursor::Cursor;
+use crate::hull::Hull;
 use crate::markup::{markup, text_from};
 use crate::sets::is_space;
-use crate::text::second;
 use crate::token::{Token, make_node};
 use std::alloc::{AllocError, Global};
 use typst_classes::classes::Classes;
@@ -119,7 +120,7 @@ impl<'a, C: Classes> Lexer<'a, C> {
         ensures classes { self.new.classes.now ≡ self.old.classes.now }
     {
         let start = self.s;
-        let token = token(&mut self.s, self.mode, self.classes);
+        let (token, _) = token(&mut self.s, self.mode, self.classes);
         self.newline = token.newline;
         (token, self.s.since(&start))
     }
@@ -134,7 +135,7 @@ impl<'a, C: Classes> Lexer<'a, C> {
         ensures refused { OnErr result (self.new ≡ self.old) }
     {
         let mut s = self.s;
-        let token = token(&mut s, self.mode, self.classes);
+        let (token, _) = token(&mut s, self.mode, self.classes);
         let node = make_node(alloc, token, s.since(&self.s))?;
         self.s = s;
         self.newline = token.newline;
@@ -165,9 +166,20 @@ fn last_line_len(text: &str) -> usize
     len
 }
 
+/// The token of the mode that comes next, and the bytes that were looked at for it.
+pub fn token<C: Classes>(s: &mut Scanner<'_>, mode: SyntaxMode, classes: &C) -> (Token, Hull)
+    ensures { Scans (spec.token (C.classes classes.now) mode) s.old result.0 result.1 s.new }
+{
+    let mut cursor = Cursor::new(*s);
+    let token = next_token(&mut cursor, mode, classes);
+    let (after, hull) = cursor.finish();
+    *s = after;
+    (token, hull)
+}
+
 /// The token of the mode that comes next.
 #[tactic(auto, unfolding(crate::specs::Tokens::token))]
-pub fn token<C: Classes>(s: &mut Scanner<'_>, mode: SyntaxMode, classes: &C) -> Token
+fn next_token<C: Classes>(s: &mut Cursor<'_>, mode: SyntaxMode, classes: &C) -> Token
     ensures { Reads (spec.token (C.classes classes.now) mode) s.old result s.new }
 {
     match s.peek() {
@@ -182,7 +194,7 @@ pub fn token<C: Classes>(s: &mut Scanner<'_>, mode: SyntaxMode, classes: &C) -> 
 
 /// A token that only the mode has.
 #[tactic(auto, unfolding(crate::specs::Tokens::of_mode))]
-fn of_mode<C: Classes>(s: &mut Scanner<'_>, c: char, mode: SyntaxMode, classes: &C) -> Token
+fn of_mode<C: Classes>(s: &mut Cursor<'_>, c: char, mode: SyntaxMode, classes: &C) -> Token
     ensures { Reads (spec.of_mode (C.classes classes.now) mode c) s.old result s.new }
 {
     match mode {
@@ -193,20 +205,20 @@ fn of_mode<C: Classes>(s: &mut Scanner<'_>, c: char, mode: SyntaxMode, classes: 
 }
 
 #[tactic(auto, unfolding(crate::specs::Tokens::hash))]
-fn hash<C: Classes>(s: &mut Scanner<'_>, mode: SyntaxMode, classes: &C) -> Token
+fn hash<C: Classes>(s: &mut Cursor<'_>, mode: SyntaxMode, classes: &C) -> Token
     ensures { Reads (spec.hash (C.classes classes.now) mode) s.old result s.new }
 {
-    if s.last().is_none() && second(s) == Some('!') {
+    if s.last().is_none() && s.second() == Some('!') {
         return shebang(s);
     }
     of_mode(s, '#', mode, classes)
 }
 
 #[tactic(auto, unfolding(crate::specs::Tokens::slash))]
-fn slash<C: Classes>(s: &mut Scanner<'_>, mode: SyntaxMode, classes: &C) -> Token
+fn slash<C: Classes>(s: &mut Cursor<'_>, mode: SyntaxMode, classes: &C) -> Token
     ensures { Reads (spec.slash (C.classes classes.now) mode) s.old result s.new }
 {
-    match second(s) {
+    match s.second() {
         Some('/') => line_comment(s),
         Some('*') => block_comment(s),
         _ => of_mode(s, '/', mode, classes),
@@ -214,10 +226,10 @@ fn slash<C: Classes>(s: &mut Scanner<'_>, mode: SyntaxMode, classes: &C) -> Toke
 }
 
 #[tactic(auto, unfolding(crate::specs::Tokens::star))]
-fn star<C: Classes>(s: &mut Scanner<'_>, mode: SyntaxMode, classes: &C) -> Token
+fn star<C: Classes>(s: &mut Cursor<'_>, mode: SyntaxMode, classes: &C) -> Token
     ensures { Reads (spec.star (C.classes classes.now) mode) s.old result s.new }
 {
-    if second(s) == Some('/') {
+    if s.second() == Some('/') {
         return comment_end(s);
     }
     of_mode(s, '*', mode, classes)

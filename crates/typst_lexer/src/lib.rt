@@ -2,6 +2,8 @@
 #![tactic(auto)]
 
 mod common;
+mod cursor;
+pub mod hull;
 pub mod laws;
 pub mod lexer;
 mod markup;
@@ -9,6 +11,7 @@ mod sets;
 mod text;
 pub mod token;
 
+pub use hull::Hull;
 pub use lexer::Lexer;
 pub use token::{Fault, Token};
 pub use typst_classes::{

@@ -1,24 +1,24 @@
 //! The tokens of markup.
-ghost use Rattle.std.specs.Prelude.{◌≡◌, ◌&&◌, IsSome, Some, Bool};
+ghost use Rattle.std.specs.Prelude.{◌≡◌, Bool};
 ghost use Rattle.std.specs.Str.{chars};
 ghost use Rattle.typst_kinds.specs.declared.kind.SyntaxKind.{SyntaxKind};
 ghost use Rattle.typst_lexer.specs.Markup as spec;
-ghost use Rattle.typst_lexer.specs.Reader.{exec, Reader};
+ghost use Rattle.typst_lexer.specs.Reader.{Reader};
 ghost use Rattle.typst_lexer.specs.Reads.{Reads};
+ghost use Rattle.typst_lexer.specs.Sight.{sight};
 ghost use Rattle.typst_lexer.specs.declared.token.Token.{Token};
-ghost use Rattle.typst_lines.specs.Place.{passes, scout};
-ghost use Rattle.typst_lines.specs.Scanner.{place};
+ghost use Rattle.typst_lines.specs.Place.{passes};
 
+use crate::cursor::Cursor;
 use crate::sets::{AsciiAlphanumeric, AsciiDigits, is_code_point, is_u64};
-use crate::text::{second, text};
+use crate::text::text;
 use crate::token::{Fault, Token};
 use typst_classes::classes::Classes;
 use typst_kinds::SyntaxKind;
-use typst_lines::Scanner;
 
 /// A token that begins with the character, which comes next.
 #[tactic(auto, unfolding(crate::specs::Markup::markup))]
-pub(crate) fn markup<C: Classes>(s: &mut Scanner<'_>, c: char, classes: &C) -> Token
+pub(crate) fn markup<C: Classes>(s: &mut Cursor<'_>, c: char, classes: &C) -> Token
     ensures { Reads (spec.markup (C.classes classes.now) c) s.old result s.new }
 {
     match c {
@@ -42,7 +42,7 @@ pub(crate) fn markup<C: Classes>(s: &mut Scanner<'_>, c: char, classes: &C) -> T
 
 /// A token of one character.
 #[tactic(auto, unfolding(crate::specs::Markup::sign))]
-fn sign(s: &mut Scanner<'_>, kind: SyntaxKind) -> Token
+fn sign(s: &mut Cursor<'_>, kind: SyntaxKind) -> Token
     ensures { Reads (spec.sign kind) s.old result s.new }
 {
     s.eat();
@@ -51,7 +51,7 @@ fn sign(s: &mut Scanner<'_>, kind: SyntaxKind) -> Token
 
 /// A text that the next character begins.
 #[tactic(auto, unfolding(crate::specs::Markup::text_from))]
-pub(crate) fn text_from<C: Classes>(s: &mut Scanner<'_>, classes: &C) -> Token
+pub(crate) fn text_from<C: Classes>(s: &mut Cursor<'_>, classes: &C) -> Token
     ensures { Reads (spec.text_from (C.classes classes.now)) s.old result s.new }
 {
     s.eat();
@@ -59,7 +59,7 @@ pub(crate) fn text_from<C: Classes>(s: &mut Scanner<'_>, classes: &C) -> Token
 }
 
 #[tactic(auto, unfolding(crate::specs::Markup::backslash))]
-fn backslash(s: &mut Scanner<'_>) -> Token
+fn backslash(s: &mut Cursor<'_>) -> Token
     ensures { Reads spec.backslash s.old result s.new }
 {
     s.eat();
@@ -78,7 +78,7 @@ fn backslash(s: &mut Scanner<'_>) -> Token
 
 /// The end of an escape by a code point.
 #[tactic(auto, unfolding(crate::specs::Markup::code_point))]
-fn code_point(s: &mut Scanner<'_>, digits: &str) -> Token
+fn code_point(s: &mut Cursor<'_>, digits: &str) -> Token
     ensures { Reads (spec.code_point (chars digits.now)) s.old result s.new }
 {
     if !s.eat_if('}') {
@@ -92,7 +92,7 @@ fn code_point(s: &mut Scanner<'_>, digits: &str) -> Token
 }
 
 #[tactic(auto, unfolding(crate::specs::Markup::dot))]
-fn dot<C: Classes>(s: &mut Scanner<'_>, classes: &C) -> Token
+fn dot<C: Classes>(s: &mut Cursor<'_>, classes: &C) -> Token
     ensures { Reads (spec.dot (C.classes classes.now)) s.old result s.new }
 {
     s.eat();
@@ -104,7 +104,7 @@ fn dot<C: Classes>(s: &mut Scanner<'_>, classes: &C) -> Token
 }
 
 #[tactic(auto, unfolding(crate::specs::Markup::minus))]
-fn minus<C: Classes>(s: &mut Scanner<'_>, classes: &C) -> Token
+fn minus<C: Classes>(s: &mut Cursor<'_>, classes: &C) -> Token
     ensures { Reads (spec.minus (C.classes classes.now)) s.old result s.new }
 {
     s.eat();
@@ -113,7 +113,7 @@ fn minus<C: Classes>(s: &mut Scanner<'_>, classes: &C) -> Token
 
 /// What a hyphen begins, after it.
 #[tactic(auto, unfolding(crate::specs::Markup::hyphen))]
-fn hyphen<C: Classes>(s: &mut Scanner<'_>, classes: &C) -> Token
+fn hyphen<C: Classes>(s: &mut Cursor<'_>, classes: &C) -> Token
     ensures { Reads (spec.hyphen (C.classes classes.now)) s.old result s.new }
 {
     if s.eat_if('-') {
@@ -131,10 +131,10 @@ fn hyphen<C: Classes>(s: &mut Scanner<'_>, classes: &C) -> Token
 
 /// A star or an underscore.
 #[tactic(auto, unfolding(crate::specs::Markup::emphasis))]
-fn emphasis<C: Classes>(s: &mut Scanner<'_>, kind: SyntaxKind, classes: &C) -> Token
+fn emphasis<C: Classes>(s: &mut Cursor<'_>, kind: SyntaxKind, classes: &C) -> Token
     ensures { Reads (spec.emphasis (C.classes classes.now) kind) s.old result s.new }
 {
-    if is_word(s.last(), classes) && is_word(second(s), classes) {
+    if is_word(s.last(), classes) && is_word(s.second(), classes) {
         return text_from(s, classes);
     }
     sign(s, kind)
@@ -150,7 +150,7 @@ fn is_word<C: Classes>(c: Option<char>, classes: &C) -> bool
 }
 
 #[tactic(auto, unfolding(crate::specs::Markup::heading))]
-fn heading<C: Classes>(s: &mut Scanner<'_>, classes: &C) -> Token
+fn heading<C: Classes>(s: &mut Cursor<'_>, classes: &C) -> Token
     ensures { Reads (spec.heading (C.classes classes.now)) s.old result s.new }
 {
     s.eat_while(&'=');
@@ -158,7 +158,7 @@ fn heading<C: Classes>(s: &mut Scanner<'_>, classes: &C) -> Token
 }
 
 #[tactic(auto, unfolding(crate::specs::Markup::numbering))]
-fn numbering<C: Classes>(s: &mut Scanner<'_>, classes: &C) -> Token
+fn numbering<C: Classes>(s: &mut Cursor<'_>, classes: &C) -> Token
     ensures { Reads (spec.numbering (C.classes classes.now)) s.old result s.new }
 {
     let digits = s.eat_while(&AsciiDigits);
@@ -173,7 +173,7 @@ fn numbering<C: Classes>(s: &mut Scanner<'_>, classes: &C) -> Token
 
 /// A marker of one character, or a text that it begins.
 #[tactic(auto, unfolding(crate::specs::Markup::marker))]
-fn marker<C: Classes>(s: &mut Scanner<'_>, kind: SyntaxKind, classes: &C) -> Token
+fn marker<C: Classes>(s: &mut Cursor<'_>, kind: SyntaxKind, classes: &C) -> Token
     ensures { Reads (spec.marker (C.classes classes.now) kind) s.old result s.new }
 {
     s.eat();
@@ -182,7 +182,7 @@ fn marker<C: Classes>(s: &mut Scanner<'_>, kind: SyntaxKind, classes: &C) -> Tok
 
 /// A marker that was eaten where it may end here, else what is left of a text.
 #[tactic(auto, unfolding(crate::specs::Markup::marker_or_text))]
-fn marker_or_text<C: Classes>(s: &mut Scanner<'_>, kind: SyntaxKind, classes: &C) -> Token
+fn marker_or_text<C: Classes>(s: &mut Cursor<'_>, kind: SyntaxKind, classes: &C) -> Token
     ensures { Reads (spec.marker_or_text (C.classes classes.now) kind) s.old result s.new }
 {
     if space_or_end(s) {
@@ -193,12 +193,12 @@ fn marker_or_text<C: Classes>(s: &mut Scanner<'_>, kind: SyntaxKind, classes: &C
 }
 
 /// Whether a marker may end here: at the end, at whitespace or at a comment.
-fn space_or_end(s: &Scanner<'_>) -> bool
-    ensures { (go_on : Bool → Reader Token) → exec (spec.marker_end go_on) (place s.now) ≡ exec (go_on result) (place s.now) }
+fn space_or_end(s: &mut Cursor<'_>) -> bool
+    ensures { (go_on : Bool → Reader Token) → sight (spec.marker_end go_on) s.old ≡ sight (go_on result) s.new }
 {
     match s.peek() {
         None => true,
-        Some('/') => matches!(second(s), Some('/' | '*')),
+        Some('/') => matches!(s.second(), Some('/' | '*')),
         Some(c) => c.is_whitespace(),
     }
 }

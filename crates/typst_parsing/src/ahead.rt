@@ -50,7 +50,7 @@ pub(crate) fn read_ahead<'s, C: Classes>(
     let mut start = before;
     'trivia: loop {
         let mut after = start;
-        let token = token(&mut after, held.mode, classes);
+        let (token, _) = token(&mut after, held.mode, classes);
         if !is_trivia(token.kind) || left(&after) >= left(&start) {
             return Ok(Ahead {
                 before,

@@ -1,33 +1,66 @@
-use Rattle.std.proofs.Common.{sym, ap, ◌∙◌}
-use Rattle.typst_lines.specs.Scanner.{place}
-use Rattle.typst_lexer.specs.Reader.{exec}
-use Rattle.typst_lexer.proofs.TextLemmas.{rest, rest-past, rest-on, rest-off, rest-end, rest-text}
+use Rattle.std.proofs.Common.{◌≡◌, ℕ, sym, ap, subst, ◌∙◌, not, length, Some, arith}
+use Rattle.typst_lines.specs.Place.{scout}
+use Rattle.typst_lexer.specs.Reader.Memory.{blank}
+use Rattle.typst_lexer.specs.Reader.Turn.{go}
+use Rattle.typst_lexer.specs.Sight.{Covers, Sight, saw, sight, went, went_past}
+use Rattle.typst_lexer.specs.Text.{may_stop}
+use Rattle.typst_lexer.proofs.Sights.{covers-past, covers-went}
+use Rattle.typst_lexer.proofs.Spans.{past-seen}
+use Rattle.typst_lexer.proofs.TextLemmas.{rest, rest-past, rest-on, rest-off, rest-end, rest-text, rest-place, rest-covers, rest-shortens}
 use Rattle.typst_lexer.proofs.text.text.Goals as goal
 
-pub loop-c-init : goal.loop-c-init
-loop-c-init g c =
+pub loop-next-init : goal.loop-next-init
+loop-next-init g c =
     let k = g.C.Classes.classes c.args.classes.now in
+    let v = c.args.s.now in
+    let test = λ (x : ℕ). not (may_stop x) in
+    let e = c.go_past-next.ensures.sight in
+    let h = c.go_past-next.ensures.covers in
     record {
-      reads = ap (exec (rest k)) c.eat_while.ensures.moved ∙ sym (rest-past k (place c.args.s.now)) ∙ rest-text k (place c.args.s.now);
-      same_text = c.eat_while.ensures.same_text;
+      reads = ap (sight (rest k)) e ∙ sym (rest-past k v h) ∙ rest-text k v;
+      next = c.go_past-next.ensures.next;
+      seen = subst (λ (x : Sight). saw 1 x ≡ x) (sym e) (past-seen test v);
+      covers = subst Covers (sym e) (covers-past test v h);
     }
+
+pub loop-next-smaller : goal.loop-next-smaller
+loop-next-smaller g c =
+    let k = g.C.Classes.classes c.args.classes.now in
+    let v = c.loop-next.s in
+    let i = c.loop-next.invariant in
+    let w = c.goes_on.new.s in
+    let next : Some c.in-Some.c ≡ scout 0 v.place = sym c.in-Some.is ∙ i.next in
+    let still = rest-place k c.in-Some.c v w (go blank) i.covers c.if-not-goes_on.ensures in
+    omega (arith, rest-shortens (λ (x : ℕ). not (may_stop x)) c.in-Some.c v.place w.place still next, ap (λ (x : Sight). length x.place.ahead) (c.go_past-next-in-Some.ensures.sight ∙ ap (went_past (λ (x : ℕ). not (may_stop x))) c.eat.ensures.sight))
 
 pub returns-then-not-goes_on : goal.returns-then-not-goes_on
 returns-then-not-goes_on g c =
     let k = g.C.Classes.classes c.args.classes.now in
-    let stop = rest-off k c.in-Some.c (place c.loop-c.s) c.in-Some.ensures c.if-not-goes_on.ensures in
-    (sym c.loop-c.invariant.reads ∙ stop ∙ ap (λ t. (t, place c.loop-c.s)) (sym c.plain.ensures), c.loop-c.invariant.same_text)
+    let v = c.loop-next.s in
+    let i = c.loop-next.invariant in
+    let next : Some c.in-Some.c ≡ scout 0 v.place = sym c.in-Some.is ∙ i.next in
+    sym i.reads ∙ rest-off k c.in-Some.c v c.goes_on.new.s i.covers i.seen next c.if-not-goes_on.ensures ∙ ap (λ t. (t, c.goes_on.new.s)) (sym c.plain.ensures)
 
-pub loop-c-preserved : goal.loop-c-preserved
-loop-c-preserved g c =
+pub loop-next-preserved : goal.loop-next-preserved
+loop-next-preserved g c =
     let k = g.C.Classes.classes c.args.classes.now in
-    let on = rest-on k c.in-Some.c (place c.loop-c.s) c.in-Some.ensures c.if-not-goes_on.ensures in
+    let test = λ (x : ℕ). not (may_stop x) in
+    let v = c.loop-next.s in
+    let i = c.loop-next.invariant in
+    let w = c.goes_on.new.s in
+    let next : Some c.in-Some.c ≡ scout 0 v.place = sym c.in-Some.is ∙ i.next in
+    let covers = covers-went 1 w (rest-covers k c.in-Some.c v w (go blank) i.covers c.if-not-goes_on.ensures) in
+    let e = c.go_past-next-in-Some.ensures.sight ∙ ap (went_past test) c.eat.ensures.sight in
     record {
-      reads = ap (exec (rest k)) c.eat_while-in-Some.ensures.moved ∙ sym (rest-past k (place c.eat.new.self)) ∙ ap (exec (rest k)) c.eat.ensures.moved ∙ sym on ∙ c.loop-c.invariant.reads;
-      same_text = c.eat_while-in-Some.ensures.same_text ∙ c.eat.ensures.same_text ∙ c.loop-c.invariant.same_text;
+      reads = ap (sight (rest k)) e ∙ sym (rest-past k (went 1 w) covers) ∙ sym (rest-on k c.in-Some.c v w i.covers i.seen next c.if-not-goes_on.ensures) ∙ i.reads;
+      next = c.go_past-next-in-Some.ensures.next;
+      seen = subst (λ (x : Sight). saw 1 x ≡ x) (sym e) (past-seen test (went 1 w));
+      covers = subst Covers (sym e) (covers-past test (went 1 w) covers);
     }
 
 pub returns : goal.returns
 returns g c =
     let k = g.C.Classes.classes c.args.classes.now in
-    (sym c.loop-c.invariant.reads ∙ rest-end k (place c.loop-c.s) c.in_default.ensures ∙ ap (λ t. (t, place c.loop-c.s)) (sym c.plain-2.ensures), c.loop-c.invariant.same_text)
+    let v = c.loop-next.s in
+    let i = c.loop-next.invariant in
+    sym i.reads ∙ rest-end k v i.covers i.seen (sym c.in_default.is ∙ i.next) ∙ ap (λ t. (t, v)) (sym c.plain-2.ensures)

@@ -1,17 +1,19 @@
-use Rattle.std.proofs.Common.{◌≡◌, ◌-◌, length}
-use Rattle.typst_lines.specs.Scanner.{place}
-use Rattle.typst_lexer.specs.Reader.{exec}
+use Rattle.std.proofs.Common.{◌≡◌, length}
+use Rattle.typst_lines.specs.Place.{scout}
+use Rattle.typst_lexer.specs.Sight.{Covers, saw, sight}
 use Rattle.typst_lexer.specs.Text.{text}
 use Rattle.typst_lexer.proofs.TextLemmas.{rest}
 use Rattle.typst_lexer.proofs.text.text.Given as goal
 
-abbrev pub invariant-loop-c : goal.invariant-loop-c
-invariant-loop-c g l =
+abbrev pub invariant-loop-next : goal.invariant-loop-next
+invariant-loop-next g l =
     let k = g.C.Classes.classes l.classes in
     record {
-      reads : exec (rest k) (place l.s) ≡ exec (text k) (place l.fn.s);
-      same_text : l.s.text.now ≡ l.fn.s.text.now;
+      reads : sight (rest k) l.s ≡ sight (text k) l.fn.s;
+      next : l.next ≡ scout 0 l.s.place;
+      seen : saw 1 l.s ≡ l.s;
+      covers : Covers l.s;
     }
 
-abbrev pub decreases-loop-c : goal.decreases-loop-c
-decreases-loop-c g l = length l.s.text.now - l.s.cursor
+abbrev pub decreases-loop-next : goal.decreases-loop-next
+decreases-loop-next g l = length l.s.place.ahead
