@@ -14,7 +14,5 @@
 #![tactic(auto)]
 
 pub use typst_grammar::parse;
-pub use typst_lexer::{
-    Classes, MathClass, UnicodeClasses, is_id_continue, is_id_start, is_ident,
-};
+pub use typst_lexer::{Classes, MathClass, UnicodeClasses, is_id_continue, is_id_start, is_ident};
 pub use typst_lines::{Line, Lines, Text, is_newline, split_newlines};

@@ -1,3 +1,4 @@
+use lib.Utf8.{encode}
 use Rattle.std.proofs.Common.{refl}
 use Rattle.typst_lexer.specs.Characters.{number_after}
 use Rattle.typst_lexer.specs.Common.{line_ends, whitespace, shebang, line_comment, block_comment, comment_end}
@@ -13,7 +14,7 @@ use Rattle.typst_grammar.specs.Grammar.{meaning, whole, tree}
 use Rattle.typst_grammar.proofs.laws.trees_of_texts.Goals as goal
 
 pub returns : goal.returns
-unfolding tree whole meaning note_piece markup_turn markup_exprs markup markup_is_empty strong emph heading list_item term_item markup_expr deeper eat_making eat convert_and_eat eat_if unexpected expected expect flush_trivia within node node_with_trivia note less repeated run ahead ahead_asks column_at hand_at hand_asks of_mode hash slash star token text_token markup_token heading_token sign text_from code_point backslash dot marker_or_text marker hyphen minus emphasis numbering line_ends whitespace shebang line_comment block_comment comment_end number_after
+unfolding tree whole meaning note_piece markup_turn markup_exprs markup markup_is_empty strong emph heading list_item term_item markup_expr deeper eat_making eat convert_and_eat eat_if unexpected expected expect flush_trivia within node node_with_trivia note less repeated run ahead ahead_asks column_at hand_at hand_asks of_mode hash slash star token text_token markup_token heading_token sign text_from code_point backslash dot marker_or_text marker hyphen minus emphasis numbering line_ends whitespace shebang line_comment block_comment comment_end number_after encode
 returns c = λ beyond. record {
   empty = refl;
   plain = refl;
