@@ -93,30 +93,31 @@ fn what_stays_keeps_its_number(rt: HostRuntime) -> Result<(), Fail> {
     Ok(())
 }
 
+// Few numbers are free, so that neighbours have to be numbered anew again and again.
 #[test]
 fn two_hundred_replacements(rt: HostRuntime) -> Result<(), Fail> {
     let alloc = rt.alloc();
-    let rows = [
-        (SyntaxKind::Text, "a", None),
-        (SyntaxKind::Shorthand, "~", None),
-        (SyntaxKind::Text, "b", None),
-        (SyntaxKind::Markup, "", Some(3)),
-    ];
-    let mut node = tree(alloc, &rows)?;
-    assert_eq!(rt; number(&mut node, 2, END), Ok(()));
+    let mut kids = Vec::new(alloc);
+    for _ in 0..400 {
+        kids.push(leaf(alloc, SyntaxKind::Text, "a")?)?;
+    }
+    let mut node = SyntaxNode::inner(SyntaxKind::Markup, kids);
+    assert_eq!(rt; number(&mut node, 2, 1000), Ok(()));
     for turn in 0..200 {
         let at = node.children().len() / 2;
-        let mut one = Vec::new(alloc);
-        one.push(leaf(alloc, SyntaxKind::Shorthand, "~")?)?;
-        assert_eq!(rt; replace(&mut node, &[], at, at, one), Ok(()));
+        let mut two = Vec::new(alloc);
+        two.push(leaf(alloc, SyntaxKind::Shorthand, "~")?)?;
+        two.push(leaf(alloc, SyntaxKind::Text, "b")?)?;
+        assert_eq!(rt; replace(&mut node, &[], at, at + 1, two), Ok(()));
         let mut all = Vec::new(alloc);
         numbers(alloc, &node, &mut all)?;
-        assert_eq!(rt; all.len(), turn + 5);
+        assert_eq!(rt; all.len(), turn + 402);
         assert!(rt;
             all.windows(2).all(|pair| pair.first() < pair.last()),
             "turn {turn}"
         );
+        assert!(rt; all.last() < Some(&1000), "turn {turn}");
     }
-    assert_eq!(rt; node.len(), 203);
+    assert_eq!(rt; node.len(), 600);
     Ok(())
 }
