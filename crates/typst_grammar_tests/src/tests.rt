@@ -53,27 +53,52 @@ const TREES: &[(&str, &str)] = &[
     ),
 ];
 
-/// Writes kinds, with children in brackets, and the text of an error.
-fn show(out: &mut String, node: &SyntaxNode) -> Result<(), AllocError> {
+/// Writes a node's kind and, of an error, its text, behind a space unless a bracket was opened.
+fn show_one(out: &mut String, node: &SyntaxNode) -> Result<(), AllocError> {
+    if !out.is_empty() && !out.as_str().ends_with('[') {
+        out.push_str(" ")?;
+    }
     let kind = node.kind();
     write!(out, "{kind:?}")?;
     if kind.is_error() {
         let text = node.leaf_text();
         write!(out, "\"{text}\"")?;
     }
+    Ok(())
+}
+
+/// Opens a bracket behind an inner node, and leaves its children and what closes it to be shown.
+fn open<'a>(
+    out: &mut String,
+    node: &'a SyntaxNode,
+    todo: &mut Vec<Option<&'a SyntaxNode>>,
+) -> Result<(), AllocError> {
     if node.is_inner() {
         out.push_str("[")?;
-        let mut first = true;
-        for kid in node.children() {
-            if !first {
-                out.push_str(" ")?;
-            }
-            first = false;
-            show(out, kid)?;
+        todo.push(None)?;
+        for kid in node.children().iter().rev() {
+            todo.push(Some(kid))?;
         }
-        out.push_str("]")?;
     }
     Ok(())
+}
+
+/// Shows a tree: the kinds, with children in brackets, and the texts of errors.
+fn show(alloc: Global, root: &SyntaxNode) -> Result<String, AllocError> {
+    let mut out = String::new(alloc);
+    let mut todo = Vec::new(alloc);
+    todo.push(Some(root))?;
+    for _ in 0..100_000 {
+        match todo.pop() {
+            None => return Ok(out),
+            Some(None) => out.push_str("]")?,
+            Some(Some(node)) => {
+                show_one(&mut out, node)?;
+                open(&mut out, node, &mut todo)?;
+            }
+        }
+    }
+    Ok(out)
 }
 
 /// Asserts that a text has that tree, and that its leaves hold all of it.
@@ -85,8 +110,7 @@ fn expect_tree<C: Classes>(
     classes: &C,
 ) -> Result<(), AllocError> {
     let root = parse(alloc, text, classes)?;
-    let mut got = String::new(alloc);
-    show(&mut got, &root)?;
+    let got = show(alloc, &root)?;
     assert_eq!(rt; got.as_str(), shown, "at {text:?}");
     assert_eq!(rt; root.len(), text.len());
     Ok(())
@@ -121,7 +145,7 @@ fn asks_the_classes(rt: HostRuntime) -> Result<(), Fail> {
     Ok(())
 }
 
-/// Texts, with the message and the hint of their first error or warning.
+/// Texts, with the message and the hint of their only error or warning.
 const REMARKS: [(&str, Severity, &str, &str); 6] = [
     (
         "]",
@@ -146,18 +170,22 @@ const REMARKS: [(&str, Severity, &str, &str); 6] = [
     ("/ A", Severity::Error, "expected colon", ""),
 ];
 
-/// Finds the first node in preorder that has an error or a warning.
-fn first_remarked(node: &SyntaxNode) -> Option<&SyntaxNode> {
-    if !node.diagnostics().is_empty() {
-        return Some(node);
-    }
-    for kid in node.children() {
-        let found = first_remarked(kid);
-        if found.is_some() {
-            return found;
+/// Finds a node that has an error or a warning, among the first thousand.
+fn remarked(alloc: Global, root: &SyntaxNode) -> Result<Option<&SyntaxNode>, AllocError> {
+    let mut todo = Vec::new(alloc);
+    todo.push(root)?;
+    for _ in 0..1000 {
+        let Some(node) = todo.pop() else {
+            return Ok(None);
+        };
+        if !node.diagnostics().is_empty() {
+            return Ok(Some(node));
+        }
+        for kid in node.children() {
+            todo.push(kid)?;
         }
     }
-    None
+    Ok(None)
 }
 
 /// Asserts what a remark says, and its only hint, or none where it is empty.
@@ -181,7 +209,7 @@ fn expect_remark(
 fn makes_remarks(rt: HostRuntime) -> Result<(), Fail> {
     for (text, severity, message, hint) in REMARKS {
         let root = parse(rt.alloc(), text, &UnicodeClasses)?;
-        let Some(remarked) = first_remarked(&root) else {
+        let Some(remarked) = remarked(rt.alloc(), &root)? else {
             assert!(rt; false, "no remark at {text:?}");
             return Ok(());
         };
@@ -193,16 +221,16 @@ fn makes_remarks(rt: HostRuntime) -> Result<(), Fail> {
     Ok(())
 }
 
-/// Goes down along the last child that has children, or an error leaf, and gives the number of steps
-/// and the node where it ends.
+/// Goes down along the last children, and gives the number of steps and the node where it ends.
 fn lowest(root: &SyntaxNode) -> (usize, &SyntaxNode) {
     let mut node = root;
-    let mut steps = 0usize;
-    while let Some(kid) = node.children().last() {
-        node = kid;
-        steps = steps.saturating_add(1);
+    for steps in 0..10_000 {
+        match node.children().last() {
+            None => return (steps, node),
+            Some(kid) => node = kid,
+        }
     }
-    (steps, node)
+    (10_000, node)
 }
 
 /// Asserts that the text of so many times `part` and then `rest` has the error of too great a depth
