@@ -1,4 +1,6 @@
 //! The kinds of work.
+ghost use Rattle.std.specs.Prelude.{◌≡◌};
+ghost use Rattle.typst_bench.specs.Words.{word_of, work_named};
 
 use std::alloc::{AllocError, Global};
 use typst_lines::Lines;
@@ -15,7 +17,9 @@ pub enum Work {
 
 impl Work {
     /// The work of that name.
-    pub fn from_word(word: &str) -> Option<Work> {
+    pub fn from_word(word: &str) -> Option<Work>
+        ensures { result ≡ work_named word.now }
+    {
         match word {
             "lines" => Some(Work::Lines),
             "parse" => Some(Work::Parse),
@@ -24,7 +28,9 @@ impl Work {
     }
 
     /// Its name.
-    pub fn word(self) -> &'static str {
+    pub fn word(self) -> &'static str
+        ensures { result.now ≡ word_of self }
+    {
         match self {
             Work::Lines => "lines",
             Work::Parse => "parse",
