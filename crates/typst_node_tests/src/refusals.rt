@@ -126,13 +126,19 @@ fn fresh(alloc: Global) -> Option<Vec<SyntaxNode>> {
 
 /// Replaces a leaf three levels down, with numbers below `end`. Where that is refused, the
 /// tree has to be as before.
-fn replaces_deep(rt: &impl Abort, alloc: Global, end: u64, from: usize) -> Option<SyntaxNode> {
+fn replaces_deep(
+    rt: &impl Abort,
+    alloc: Global,
+    end: u64,
+    from: usize,
+    to: usize,
+) -> Option<SyntaxNode> {
     let mut node = deep(alloc, end)?;
     let Ok(before) = node.try_clone() else {
         return None;
     };
     let nodes = fresh(alloc)?;
-    if let Err(error) = replace(&mut node, &[0, 0, 0], from, from + 1, nodes) {
+    if let Err(error) = replace(&mut node, &[0, 0, 0], from, to, nodes) {
         assert_eq!(rt; error, SourceError::OutOfMemory);
         assert!(rt; same(rt, alloc, &node, &before));
         return None;
@@ -145,8 +151,8 @@ fn a_refusal_at_depth_three_changes_nothing(rt: HostRuntime) {
     let alloc = rt.alloc();
     // among all numbers, and where the neighbour has to be numbered anew
     for end in [END, 130] {
-        for from in 0..2 {
-            if let Some(node) = replaces_deep(&rt, alloc, end, from) {
+        for (from, to) in [(0, 1), (1, 2)] {
+            if let Some(node) = replaces_deep(&rt, alloc, end, from, to) {
                 assert_eq!(rt; node.len(), 3, "child {from} below {end}");
                 assert_eq!(rt; node.descendants(), 8, "child {from} below {end}");
             }
