@@ -1,15 +1,15 @@
 -- The leaves of a raw text joined.
-use Rattle.std.proofs.Common.{◌≡◌, ◌≤◌, ℕ, zero, suc, ◌+◌, ◌-◌, Bool, true, false, not, ◌&&◌, ◌==◌, nat_lt, cond, if◌then◌else◌, List, [], ◌∷◌, ◌++◌, length, take, drop, reverse, Option, Some, None, option_map, refl, sym, ap, subst, ◌∙◌, arith, append_assoc, append-nil}
+use Rattle.std.proofs.Common.{◌≡◌, ℕ, zero, suc, ◌+◌, Bool, true, false, ◌&&◌, ◌==◌, nat_lt, if◌then◌else◌, List, [], ◌∷◌, ◌++◌, length, take, drop, reverse, Option, Some, None, option_map, refl, sym, ap, ◌∙◌, arith, append_assoc, append-nil}
 use Rattle.std.proofs.lemmas.Bool.Decides.{nat_tests}
 use Rattle.std.proofs.lemmas.List.{take-append-drop, reverse-reverse, reverse-append}
-use Rattle.std.proofs.lemmas.Str.{encodes-append, encode_ascii}
+use Rattle.std.proofs.lemmas.Str.{encodes-append}
 use Rattle.std.specs.Prelude.{encode_utf8_all, codes}
 use Rattle.std.specs.List.{prefix_len}
 use Rattle.typst_classes.specs.Classes.{CharClasses}
 use Rattle.typst_kinds.specs.declared.kind.SyntaxKind.TheVariants as kind
-use Rattle.typst_node.specs.Tree.{Tree, Forest, forest, joined, text_of, inner_of, error_of}
+use Rattle.typst_node.specs.Tree.{Tree, forest, joined, text_of, error_of}
 use Rattle.typst_raw.specs.Laws.{RawLeaves}
-use Rattle.typst_raw.specs.Lines.{Row, leaf, trimmed, is_tick, first_line, later_rows, is_blank, dedent, closing, front, line_leaves, first_leaves, block_of, block_leaves, inline_leaves}
+use Rattle.typst_raw.specs.Lines.{Row, leaf, trimmed, is_tick, first_line, later_rows, is_blank, dedent, closing, front, line_leaves, first_leaves, block_leaves, inline_leaves}
 use Rattle.typst_classes.specs.Identifiers.{is_id_start, is_id_continue}
 use Rattle.typst_raw.specs.Tag.{tag, next_tag, changes, is_whole, is_some_text, cut_tag, no_tag, only_tag, warned}
 use Rattle.typst_raw.specs.Raw.{ticks, past_ticks, before_ticks, tag_leaves, delimited, inline_node, block_node, closed_node, two_delimiters, delimited_node, raw_node}

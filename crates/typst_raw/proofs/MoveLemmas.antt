@@ -1,15 +1,15 @@
 -- Steps of a scanner over lines.
-use Rattle.std.proofs.Common.{◌≡◌, ◌≤◌, ◌<◌, ℕ, zero, suc, ◌+◌, ◌-◌, min, Bool, true, false, not, ◌&&◌, ◌==◌, cond, if◌then◌else◌, List, [], ◌∷◌, ◌++◌, length, take, drop, reverse, slice_get, Option, Some, None, is_none, refl, sym, ap, subst, ◌∙◌, arith, append_assoc, append-nil, take-add, drop-drop, length-drop}
+use Rattle.std.proofs.Common.{◌≡◌, ◌≤◌, ◌<◌, ℕ, zero, suc, ◌+◌, ◌-◌, min, Bool, true, false, ◌&&◌, ◌==◌, if◌then◌else◌, List, [], ◌∷◌, ◌++◌, length, take, drop, reverse, slice_get, is_none, refl, sym, ap, subst, ◌∙◌, arith, append_assoc, append-nil, length-drop}
 use Rattle.std.proofs.lemmas.Bool.Decides.{nat_tests}
-use Rattle.std.proofs.lemmas.List.{take_min, take-append-drop, reverse-append, reverse-reverse}
+use Rattle.std.proofs.lemmas.List.{take_min, take-append-drop, reverse-append}
 use Rattle.std.proofs.lemmas.Str.{chars-nil, encodes-chars, length-le-encodes}
 use Rattle.std.specs.List.{prefix_len, list_all}
 use Rattle.std.specs.Str.{chars, IsUtf8}
 use Rattle.typst_classes.specs.Classes.{in_line}
 use Rattle.typst_lines.specs.Newline.{is_newline, line_end_len}
-use Rattle.typst_lines.specs.Place.{Place, place_at, moved, moved_from, scout, passes, past, run, IsAfter}
-use Rattle.typst_raw.specs.Lines.{Row, first_line, later_rows, between}
-use Rattle.typst_raw.proofs.RowLemmas.{row, crlf, later-none, later-plain, later-lone, later-both}
+use Rattle.typst_lines.specs.Place.{Place, place_at, moved, moved_from, scout, passes, past}
+use Rattle.typst_raw.specs.Lines.{first_line, later_rows, between}
+use Rattle.typst_raw.proofs.RowLemmas.{row, crlf, later-plain, later-lone, later-both}
 
 abbrev pub at : List ℕ → List ℕ → Place
 at behind ahead = record { behind = behind; ahead = ahead }

@@ -1,10 +1,10 @@
 -- Facts on the lines of characters.
-use Rattle.std.proofs.Common.{◌≡◌, ◌≤◌, ◌<◌, ℕ, zero, suc, ◌+◌, ◌-◌, Bool, true, false, not, ◌&&◌, ◌==◌, cond, if◌then◌else◌, List, [], ◌∷◌, ◌++◌, length, take, drop, reverse, slice_get, Option, Some, None, refl, sym, ap, subst, ◌∙◌, arith, append_assoc, append-nil, take_at, drop_at, length-append}
+use Rattle.std.proofs.Common.{◌≡◌, ℕ, suc, ◌+◌, ◌-◌, Bool, true, false, ◌&&◌, ◌==◌, List, [], ◌∷◌, ◌++◌, length, take, drop, reverse, slice_get, refl, sym, ap, subst, ◌∙◌, arith, append_assoc, append-nil, take_at, length-append}
 use Rattle.std.proofs.lemmas.Bool.Decides.{nat_tests}
-use Rattle.std.proofs.lemmas.List.{take-append-drop, reverse-reverse, reverse-append}
+use Rattle.std.proofs.lemmas.List.{reverse-reverse, reverse-append}
 use Rattle.std.specs.List.{prefix_len}
 use Rattle.typst_classes.specs.Classes.{in_line}
-use Rattle.typst_lines.specs.Newline.{is_newline, ends_line, stretches, line_ends, onto_first}
+use Rattle.typst_lines.specs.Newline.{is_newline, stretches, line_ends, onto_first}
 use Rattle.typst_lines.specs.Place.{passes}
 use Rattle.typst_raw.specs.Lines.{Row, paired, first_line, later_rows, last_of, last_row, is_blank, has_spare_space, end_of, closing, front}
 

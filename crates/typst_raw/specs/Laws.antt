@@ -1,5 +1,5 @@
 -- The law of the node of a raw text, and what some raw texts become.
-use Rattle.std.specs.Prelude.{◌≡◌, ℕ, List, [], ◌∷◌, ◌++◌, Some, None, codes, encode_utf8_all}
+use Rattle.std.specs.Prelude.{◌≡◌, ℕ, List, [], ◌∷◌, Some, None, codes, encode_utf8_all}
 use Rattle.typst_classes.specs.Classes.{CharClasses, by_law}
 use Rattle.typst_kinds.specs.Span.{Bytes}
 use Rattle.typst_kinds.specs.declared.kind.SyntaxKind.TheVariants as kind

@@ -1,5 +1,5 @@
 -- The lines of a raw text, and what of them is text and what is trimmed.
-use Rattle.std.specs.Prelude.{ℕ, ◌+◌, ◌-◌, Bool, not, ◌==◌, ◌&&◌, if◌then◌else◌, min, List, [], ◌∷◌, ◌++◌, length, take, drop, reverse, find, slice_get, encode_utf8_all}
+use Rattle.std.specs.Prelude.{ℕ, ◌-◌, Bool, not, ◌==◌, ◌&&◌, if◌then◌else◌, min, List, [], ◌∷◌, ◌++◌, length, take, drop, reverse, find, slice_get, encode_utf8_all}
 use Rattle.std.specs.Char.{is_whitespace}
 use Rattle.std.specs.List.{list_all, prefix_len}
 use Rattle.typst_classes.specs.Classes.{in_line}

@@ -1,7 +1,7 @@
 use Rattle.std.proofs.Common.{refl, sym, ap, ◌∙◌, min}
 use Rattle.std.specs.Str.{chars}
 use Rattle.typst_lines.specs.Scanner.{place}
-use Rattle.typst_raw.specs.Lines.{least_indent, indent, later_rows}
+use Rattle.typst_raw.specs.Lines.{least_indent, later_rows}
 use Rattle.typst_raw.proofs.MoveLemmas.{later-first, past-end, line-shorter, nothing-left}
 use Rattle.typst_raw.proofs.LoopLemmas.{least-step}
 use Rattle.typst_raw.proofs.RowLemmas.{later-none}

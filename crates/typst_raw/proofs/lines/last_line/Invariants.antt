@@ -1,7 +1,5 @@
-use Rattle.std.proofs.Common.{◌≡◌, ◌++◌, length, reverse}
-use Rattle.std.specs.List.{prefix_len}
+use Rattle.std.proofs.Common.{length}
 use Rattle.std.specs.Str.{chars}
-use Rattle.typst_classes.specs.Classes.{in_line}
 use Rattle.typst_lines.specs.Scanner.{place}
 use Rattle.typst_raw.proofs.LoopLemmas.{IsAtRow}
 use denote.Shadow.{shadow}

@@ -1,7 +1,7 @@
-use Rattle.std.proofs.Common.{◌≡◌, ◌==◌, ◌++◌, ◌∷◌, [], take, drop, reverse, sym, ap, ◌∙◌, slice_get, true, if◌then◌else◌}
+use Rattle.std.proofs.Common.{◌≡◌, ◌==◌, ◌++◌, ◌∷◌, [], take, drop, reverse, sym, ap, ◌∙◌, slice_get}
 use Rattle.std.specs.Str.{chars}
 use Rattle.typst_kinds.specs.declared.kind.SyntaxKind.TheVariants as kind
-use Rattle.typst_lines.specs.Place.{moved, passes}
+use Rattle.typst_lines.specs.Place.{passes}
 use Rattle.typst_lines.specs.Scanner.{place}
 use Rattle.typst_raw.specs.Lines.{leaf}
 use Rattle.typst_raw.proofs.MoveLemmas.{start-ahead, start-behind, moved-ahead, moved-behind}

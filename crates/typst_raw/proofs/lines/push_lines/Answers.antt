@@ -1,4 +1,4 @@
-use Rattle.std.proofs.Common.{refl, sym, ap, ◌∙◌, ◌≡◌, ◌+◌, min}
+use Rattle.std.proofs.Common.{refl, sym, ap, ◌∙◌, ◌+◌, min}
 use Rattle.std.specs.List.{prefix_len}
 use Rattle.std.specs.Str.{chars}
 use Rattle.typst_classes.specs.Classes.{in_line}

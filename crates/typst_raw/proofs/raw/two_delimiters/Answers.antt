@@ -1,6 +1,6 @@
-use Rattle.std.proofs.Common.{◌≡◌, ◌++◌, ◌∷◌, [], List, ap, ◌∙◌}
+use Rattle.std.proofs.Common.{◌++◌, ◌∷◌, [], ap, ◌∙◌}
 use Rattle.typst_kinds.specs.declared.kind.SyntaxKind.TheVariants as kind
-use Rattle.typst_node.specs.Tree.{Tree, forest, inner_of}
+use Rattle.typst_node.specs.Tree.{forest, inner_of}
 use Rattle.typst_raw.specs.Lines.{leaf}
 use Rattle.typst_raw.proofs.LoopLemmas.{pushed-two}
 use Rattle.typst_raw.proofs.TagLemmas.{tick-chars}

@@ -1,4 +1,3 @@
-use Rattle.std.proofs.Common.{rules}
 use Rattle.std.proofs.lemmas.Str.{encodes-chars}
 use Rattle.typst_raw.proofs.tag.quoted.Goals as goal
 
