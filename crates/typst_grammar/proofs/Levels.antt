@@ -8,10 +8,17 @@ use Rattle.typst_parsing.specs.declared.reading.Block.{Block}
 use Rattle.typst_parsing.specs.declared.reading.Call.{Call}
 use Rattle.typst_parsing.specs.declared.reading.State.{State}
 use Rattle.typst_parsing.specs.Cursor.{IsStart}
-use Rattle.typst_parsing.specs.Hand.{hand_at}
+use Rattle.typst_parsing.specs.declared.reading.Mark.TheVariants.{Piece}
+use Rattle.typst_parsing.specs.declared.stop.Stop.TheVariants.{End}
+use Rattle.typst_parsing.specs.Hand.{hand_at, looks_at, whole as whole_hull}
+use Rattle.typst_parsing.specs.Log.{Log, no_log, with_hull, with_note, logged}
+use Rattle.typst_parsing.specs.Steps.{flush_trivia}
+use Rattle.typst_parsing.specs.Syntax.{◌>>◌}
+use Rattle.typst_parsing.proofs.Runs.{Looked, looked-fits, noted, ran-next, ran-marks, ran-look}
+use Rattle.typst_markup.specs.Markup.{markup_exprs}
 use Rattle.typst_parsing.specs.Meaning.{Level, less, run}
 use Rattle.typst_parsing.specs.View.{View, Runs, Within, Backs, Sound, Does, Makes, Fits, at}
-use Rattle.typst_grammar.specs.Grammar.{production, blocks, meaning, level_at, markup_reading, whole, parsed}
+use Rattle.typst_grammar.specs.Grammar.{production, blocks, meaning, level_at, markup_reading, start_of, whole, parsed}
 use Rattle.typst_grammar.proofs.Lawful.{within-meaning, backs-meaning}
 
 within-blocks : (b : Block) → Within (blocks b)
@@ -31,12 +38,32 @@ less-nil : {A : Type 0} (n : ℕ) → less {A = A} n [] ≡ []
 unfolding less
 less-nil n = let e : 0 - n ≡ 0 = omega arith in rw e refl
 
--- what the code read from the start is what is read of the text
-pub parsed-is : (k : CharClasses) (level : ℕ) (text : List ℕ) (v w : View) → IsStart k text markup_reading v → Does (level_at k level) whole tt v w → w.nodes ≡ (parsed k level (chars text)).nodes
+-- what the code read and noted from the start is what is read and noted of the text
+pub record IsParsed (k : CharClasses) (level : ℕ) (text : List ℕ) (w : View) : Type 0 where
+  pub nodes : w.nodes ≡ (parsed k level (chars text)).nodes
+  pub log : w.log ≡ logged level (start_of (chars text)) no_log (parsed k level (chars text)).asks
+
+pub parsed-is : (k : CharClasses) (level : ℕ) (text : List ℕ) (v w : View) → IsStart k text markup_reading level (Piece true 0) v
+    → Does (level_at k level) (markup_exprs true End >> flush_trivia) tt v w → IsParsed k level text w
+unfolding whole
 parsed-is k level text v w h d =
-    let fits : Fits (level_at k level) v = h.hand ∙ ap (λ (s : State). hand_at k s.held s.flushed v.place) (sym h.state) in
-    let r = (d.ran fits).runs in
+    let l = level_at k level in
+    let first : View = record v { log = no_log } in
+    let fits-hand = h.hand ∙ ap (λ (s : State). hand_at k s.held s.flushed v.place) (sym h.state) in
+    let fits-looks = h.looks ∙ ap (λ (s : State). looks_at k s.held s.flushed v.place) (sym h.state) in
+    let look : Looked l (noted 0 level (Piece true 0) first) v = record {
+      nodes = refl;
+      place = refl;
+      state = refl;
+      log = h.log ∙ ap (λ (s : State). with_hull (whole_hull v.looks) (with_note 0 level (Piece true 0) s v.place no_log)) (sym h.state);
+      hand = fits-hand;
+      looks = fits-looks;
+    } in
+    let r : Runs level (at l whole first) tt first w = (ran-next (ran-marks 0 (Piece true 0) first) (ran-next (ran-look look) (d.ran (looked-fits look)))).runs in
     let o = parsed k level (chars text) in
-    let same : at (level_at k level) whole v ≡ o = rw (h.place, h.state) refl in
-    let q = subst (λ u. Runs u tt v w) same r in
-    q.nodes ∙ ap (λ (ns : List Tree). less o.back ns ++ o.nodes) h.nodes ∙ ap (λ (ns : List Tree). ns ++ o.nodes) (less-nil o.back)
+    let same : at l whole first ≡ o = rw (h.place, h.state) refl in
+    let q = subst (λ u. Runs level u tt first w) same r in
+    record {
+      nodes = q.nodes ∙ ap (λ (ns : List Tree). less o.back ns ++ o.nodes) h.nodes ∙ ap (λ (ns : List Tree). ns ++ o.nodes) (less-nil o.back);
+      log = q.log ∙ ap (λ z. logged level z no_log o.asks) h.place;
+    }

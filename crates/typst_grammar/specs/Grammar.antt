@@ -17,7 +17,8 @@ use Rattle.typst_parsing.specs.Hand.{no_newlines}
 use Rattle.typst_parsing.specs.Syntax.{Parser, ◌>>=◌, ◌>>◌}
 use Rattle.typst_parsing.specs.Syntax.Op.{marks}
 use Rattle.typst_parsing.specs.Syntax.Parser.{gives, does}
-use Rattle.typst_parsing.specs.Steps.{flush_trivia}
+use Rattle.typst_parsing.specs.Steps.{peek, flush_trivia}
+use Rattle.typst_parsing.specs.Log.{Log, no_log, logged}
 use Rattle.typst_parsing.specs.Meaning.{Outcome, Meaning, Level, plain, run}
 use Rattle.typst_markup.specs.Markup.{markup_expr, markup_exprs}
 
@@ -58,12 +59,17 @@ start_of text = record { behind = []; ahead = text }
 unfoldable pub whole : Parser (Unit {0})
 whole = do
   noted ← does (marks 0 (Piece true 0))
+  ahead ← peek
   read ← markup_exprs true End
   flush_trivia
 
 -- what is read of the characters of a text, where so many levels are left
 abbrev pub parsed : CharClasses → ℕ → List ℕ → Outcome (Unit {0})
 parsed k level text = run (level_at k level) whole (start_of text) (start_state markup_reading)
+
+-- what is looked at and noted in reading the characters of a text
+unfoldable pub log : CharClasses → List ℕ → Log
+log k text = logged max_depth (start_of text) no_log (parsed k max_depth text).asks
 
 -- the tree of the characters of a text
 unfoldable pub tree : CharClasses → List ℕ → Tree

@@ -10,9 +10,10 @@ ghost use Rattle.typst_grammar.specs.Grammar as spec;
 use std::alloc::{AllocError, Global};
 use typst_classes::Classes;
 use typst_kinds::{SyntaxKind, SyntaxMode};
+use typst_lexer::Hull;
 use typst_markup::{markup_expr, markup_exprs};
 use typst_node::SyntaxNode;
-use typst_parsing::{AtNewline, Call, Grammar, Parser, Reading, Stop};
+use typst_parsing::{AtNewline, Call, Grammar, Mark, Note, Parser, Reading, Stop};
 
 /// How deep calls may nest.
 const MAX_DEPTH: usize = 256;
@@ -55,11 +56,35 @@ pub fn parse<C: Classes>(alloc: Global, text: &str, classes: &C) -> Result<Synta
     ensures tree { IfOk result (λ t. t ≡ spec.tree (C.classes classes.now) (chars text.now)) }
     ensures leaves { IfOk result (λ t. text_of t ≡ text.now) }
 {
+    let noted = parse_noted(alloc, text, classes)?;
+    Ok(noted.tree)
+}
+
+/// A syntax tree with what was looked at and noted in parsing it.
+#[derive(Drop)]
+pub struct Noted {
+    pub tree: SyntaxNode,
+    pub notes: Vec<Note>,
+    /// Where all looks end, and where those since the last note begin.
+    pub hull: Hull,
+}
+
+/// The syntax tree of a text of markup, and what was looked at and noted for it: at the text's
+/// start and behind each expression of the text's own a piece, in order.
+pub fn parse_noted<C: Classes>(
+    alloc: Global,
+    text: &str,
+    classes: &C,
+) -> Result<Noted, AllocError>
+    ensures tree { IfOk result (λ r. r.tree ≡ spec.tree (C.classes classes.now) (chars text.now)) }
+    ensures log { IfOk result (λ r. record { reach = r.hull.reach; least = r.hull.least; notes = r.notes.items } ≡ spec.log (C.classes classes.now) (chars text.now)) }
+{
     let reading = Reading {
         mode: SyntaxMode::Markup,
         at_newline: AtNewline::Continue,
     };
-    let mut p = Parser::new(alloc, text, reading, classes)?;
+    let first = Mark::Piece(true, 0);
+    let mut p = Parser::new(alloc, text, reading, MAX_DEPTH, first, classes)?;
     let g = Grammar {
         classes,
         depth: MAX_DEPTH,
@@ -67,5 +92,10 @@ pub fn parse<C: Classes>(alloc: Global, text: &str, classes: &C) -> Result<Synta
     };
     markup_exprs(&g, &mut p, true, Stop::End)?;
     p.flush_trivia()?;
-    Ok(SyntaxNode::inner(SyntaxKind::Markup, p.finish()))
+    let (nodes, notes, hull) = p.finish();
+    Ok(Noted {
+        tree: SyntaxNode::inner(SyntaxKind::Markup, nodes),
+        notes,
+        hull,
+    })
 }

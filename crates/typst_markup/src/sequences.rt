@@ -8,7 +8,7 @@ ghost use Rattle.typst_markup.specs.Markup as spec;
 use std::alloc::AllocError;
 use typst_classes::Classes;
 use typst_kinds::SyntaxKind;
-use typst_parsing::{Call, Grammar, Parser, Stop, deeper, too_deep};
+use typst_parsing::{Call, Grammar, Mark, Parser, Stop, deeper, too_deep};
 
 /// Reads expressions up to a stop.
 pub fn markup_exprs<
@@ -54,7 +54,32 @@ pub fn markup_turn<
         return Ok((false, (at_start, nesting)));
     }
     let nesting = deeper(g, p, Call::MarkupExpr(at_start, nesting), nesting)?;
-    Ok((true, (p.had_newline(), nesting)))
+    let has_newline = p.had_newline();
+    note_piece(p, stop, has_newline, nesting, g.depth)?;
+    Ok((true, (has_newline, nesting)))
+}
+
+/// Notes that an expression of a run ended, and what comes next may begin one.
+fn note_piece(
+    p: &mut Parser<'_>,
+    stop: Stop,
+    at_start: bool,
+    nesting: usize,
+    depth: usize,
+) -> Result<(), AllocError>
+    ensures { (l : Level) → l.level ≡ depth → Reads l (spec.note_piece stop at_start nesting) p.old result p.new }
+{
+    if is_run(stop) {
+        p.note(Mark::Piece(at_start, nesting), depth)?;
+    }
+    Ok(())
+}
+
+/// Whether the expressions up to this stop are noted.
+fn is_run(stop: Stop) -> bool
+    ensures { result ≡ spec.is_run stop }
+{
+    matches!(stop, Stop::End | Stop::Content)
 }
 
 /// Reads a sequence as one node, which begins at its first token.

@@ -1,11 +1,13 @@
 -- Characters back to the line's start.
-use Rattle.std.proofs.Common.{◌≡◌, ℕ, suc, ◌+◌, ◌≤◌, Bool, true, false, not, if◌then◌else◌, List, [], ◌∷◌, length, reverse, take, drop, slice_get, Some, None, length-append, length-take, encode_utf8_all, refl, ap, sym, ◌∙◌, arith}
+use Rattle.std.proofs.Common.{◌≡◌, ℕ, suc, ◌+◌, ◌<◌, ◌≤◌, Bool, true, false, not, if◌then◌else◌, List, [], ◌∷◌, length, reverse, take, drop, slice_get, Some, None, length-append, length-take, encode_utf8_all, refl, ap, sym, ◌∙◌, arith}
 use Rattle.std.specs.List.{prefix_len}
 use Rattle.std.specs.Str.{IsUtf8, IsCharBoundary, chars}
 use Rattle.std.proofs.lemmas.Str.{encodes-chars, length-le-encodes, IsUtf8-take}
 use Rattle.std.proofs.lemmas.List.{length-reverse}
 use Rattle.typst_lines.specs.Newline.{is_newline}
 use Rattle.typst_lines.specs.Place.{Place, place_at, moved_back}
+use Rattle.typst_lexer.specs.Sight.{near, position}
+use Rattle.typst_lexer.proofs.Sights.{near-on, near-none, near-start, position-step}
 use Rattle.typst_parsing.specs.Hand.{column_at}
 
 abbrev pub in_line : ℕ → Bool
@@ -48,3 +50,38 @@ back-from (x ∷ b) a c e = refl
 
 pub back-is : (z : Place) (c : ℕ) → Some c ≡ slice_get z.behind 0 → (moved_back z).behind ≡ drop 1 z.behind
 back-is z c e = back-from z.behind z.ahead c (some-behind z.behind c e)
+
+-- ---- what is looked at for a column
+
+-- one character back
+pub near-back : (n : ℕ) (z : Place) (c : ℕ) → Some c ≡ slice_get z.behind 0 → near (suc n) z ≡ near n (moved_back z)
+near-back n z c e = at z.behind z.ahead e
+  where
+    at : (b a : List ℕ) → Some c ≡ slice_get b 0 → near (suc n) (record { behind = b; ahead = a }) ≡ near n (moved_back (record { behind = b; ahead = a }))
+    at [] a e = absurd (none-some c e)
+    at (d ∷ b) a e = near-on n d b a
+
+pub column-least : (z y : Place) (c : ℕ) → near (suc (column_at z)) z ≡ near (suc (prefix_len in_line y.behind)) y → Some c ≡ slice_get y.behind 0 → is_newline c ≡ true
+    → suc (position (moved_back y)) ≡ near (suc (column_at z)) z
+column-least z y c h e t =
+    let none = line-stop y.behind (drop 1 y.behind) c (some-behind y.behind c e) t in
+    sym (h ∙ ap (λ n. near (suc n) y) none ∙ near-back 0 y c e ∙ near-none (moved_back y))
+
+pub column-start : (z y : Place) → near (suc (column_at z)) z ≡ near (suc (prefix_len in_line y.behind)) y → None ≡ slice_get y.behind 0 → 0 ≡ near (suc (column_at z)) z
+column-start z y h e =
+    let none : prefix_len in_line y.behind ≡ 0 = ap (prefix_len in_line) (none-behind y.behind e) in
+    near-start y e ∙ sym (h ∙ ap (λ n. near (suc n) y) none)
+
+pub column-back : (z y w : Place) (c : ℕ) → near (suc (column_at z)) z ≡ near (suc (prefix_len in_line y.behind)) y → Some c ≡ slice_get y.behind 0 → is_newline c ≡ false → w ≡ moved_back y
+    → near (suc (column_at z)) z ≡ near (suc (prefix_len in_line w.behind)) w
+column-back z y w c h e t m =
+    let more = line-more y.behind (drop 1 y.behind) c (some-behind y.behind c e) t in
+    let rest = ap (prefix_len in_line) (ap (λ (p : Place). p.behind) m ∙ back-is y c e) in
+    h ∙ ap (λ n. near (suc n) y) more ∙ near-back (suc (prefix_len in_line (drop 1 y.behind))) y c e ∙ ap (near (suc (prefix_len in_line (drop 1 y.behind)))) (sym m) ∙ ap (λ n. near (suc n) w) (sym rest)
+
+pub back-smaller : (z : Place) (c : ℕ) → Some c ≡ slice_get z.behind 0 → position (moved_back z) < position z
+back-smaller z c e = at z.behind z.ahead e
+  where
+    at : (b a : List ℕ) → Some c ≡ slice_get b 0 → position (moved_back (record { behind = b; ahead = a })) < position (record { behind = b; ahead = a })
+    at [] a e = absurd (none-some c e)
+    at (d ∷ b) a e = position-step d (record { behind = b; ahead = d ∷ a }) refl

@@ -4,7 +4,9 @@ pub mod Alike
 pub mod Tokens
 pub mod Ends
 pub mod Eats
+pub mod Hulls
 pub mod Leaves
+pub mod Logs
 pub mod Rests
 pub mod Places
 pub mod Bytes

@@ -16,7 +16,7 @@ use Rattle.typst_parsing.specs.Syntax.Parser.{gives, does, next, pick, repeat, w
 use Rattle.typst_parsing.specs.Steps.{peek, eat_making, flush_trivia, within, node, node_with_trivia, note}
 use Rattle.typst_parsing.specs.Meaning.{Level, hand_of, entered}
 use Rattle.typst_parsing.specs.View.{View, Sound, Does, Makes, Left, Rewrapped, Fits}
-use Rattle.typst_parsing.proofs.Runs.{ran-next, ran-gives, ran-calls, ran-pick, ran-other, ran-hand, ran-column, ran-erred, ran-deepest, ran-marks, Eaten, ran-takes, Flushed, ran-flushes, ran-complains, ran-scoped, ran-wraps, ran-turn, ran-last}
+use Rattle.typst_parsing.proofs.Runs.{ran-next, ran-gives, ran-calls, ran-pick, ran-other, ran-hand, ran-column, ran-erred, ran-deepest, ran-marks, Eaten, ran-takes, Flushed, ran-flushes, ran-complains, ran-scoped, ran-wraps, ran-turn, ran-last, Looked, looked-fits, ran-look, column_seen, fits-more, noted, eaten-looked, left-looked}
 
 pub does-next : {A B : Type 0} {l : Level} {p : Parser B} {f : B → Parser A} {b : B} {a : A} {old mid new : View}
     → Does l p b old mid → Does l (f b) a mid new → Does l (next p f) a old new
@@ -45,8 +45,8 @@ nil-seen (t ∷ ts) = refl
 pub does-peek : {l : Level} (v : View) → Does l peek v.hand v v
 does-peek v = record { ran = λ c. ran-hand v c; ready = λ c. c }
 
-pub does-column : {l : Level} (v : View) → Does l (does column) (column_at (moved v.hand.gap v.place)) v v
-does-column v = record { ran = λ c. ran-column v c; ready = λ c. c }
+pub does-column : {l : Level} (v : View) → Does l (does column) (column_at (moved v.hand.gap v.place)) v (column_seen v)
+does-column v = record { ran = λ c. ran-column v c; ready = λ c. fits-more _ c }
 
 pub does-erred : {l : Level} (v : View) → Does l (does erred) v.state.is_after_error v v
 does-erred v = record { ran = λ c. ran-erred v; ready = λ c. c }
@@ -54,29 +54,33 @@ does-erred v = record { ran = λ c. ran-erred v; ready = λ c. c }
 pub does-deepest : {l : Level} (v : View) → Does l (does is_deepest) (l.level == 0) v v
 does-deepest v = record { ran = λ c. ran-deepest v; ready = λ c. c }
 
-pub does-marks : {l : Level} (gap : ℕ) (m : Mark) (v : View) → Does l (does (marks gap m)) tt v v
-does-marks gap m v = record { ran = λ c. ran-marks gap m v; ready = λ c. c }
-
-pub does-note : {l : Level} (m : Mark) (v : View) → Does l (note m) tt v v
+-- this was noted, and the token at hand was looked at again
+pub does-note : {l : Level} (m : Mark) {v w : View} → (Fits l v → Looked l (noted v.hand.gap l.level m v) w) → Does l (note m) tt v w
 unfolding note
-does-note m v = does-next (does-peek v) (does-next (does-marks _ m v) (does-next (does-peek v) does-gives))
+does-note m {v = v} h = record { ran = λ c. ran-next (ran-hand v c) (ran-next (ran-marks v.hand.gap m v) (ran-next (ran-look (h c)) ran-gives)); ready = λ c. looked-fits (h c) }
 
 pub does-complains : {l : Level} (m : List ℕ) (v : View) → Does l (does (complains m)) tt v (record v { nodes = v.nodes ++ error_of m [] ∷ []; state = record v.state { empties = v.state.empties + 1; is_after_error = true } })
-does-complains m v = record { ran = λ c. ran-complains m v; ready = λ c. c }
+does-complains m v = record { ran = λ c. ran-complains m v; ready = λ c. record { hand = c.hand; looks = c.looks; log = c.log } }
 
 pub does-eat : {l : Level} {trims : Bool} {making : Making} {v w : View} → Eaten l trims making v w → Does l (eat_making trims making) tt v w
 unfolding eat_making
-does-eat {w = w} h = record { ran = λ c. ran-next (ran-takes h c) (ran-next (ran-hand w h.fits) ran-gives); ready = λ c. h.fits }
+does-eat h = record { ran = λ c. ran-next (ran-takes h c) (ran-next (ran-look (eaten-looked h)) ran-gives); ready = λ c. looked-fits (eaten-looked h) }
 
 pub does-flush : {l : Level} {v w : View} → (Fits l v → Flushed v w) → (Fits l v → Fits l w) → Does l flush_trivia tt v w
 unfolding flush_trivia
 does-flush {w = w} h f = record { ran = λ c. ran-next (ran-flushes (h c) c) (ran-next (ran-hand w (f c)) ran-gives); ready = f }
 
+fits-entered : {l : Level} (f : Reading → Reading) {v : View} → Fits l v → Fits l (record v { state = entered (f v.state.reading) v.state })
+fits-entered f c = record { hand = c.hand; looks = c.looks; log = c.log }
+
 -- the tokens to come are read in another way, and then as before
 pub does-within : {A : Type 0} {l : Level} (f : Reading → Reading) {p : Parser A} {a : A} {old mid new : View}
     → Does l p a (record old { state = entered (f old.state.reading) old.state }) mid → Left l old.state.reading mid new → Does l (within f p) a old new
 unfolding within
-does-within f {new = new} h e = record { ran = λ c. ran-next (ran-scoped f (h.ran c) e) (ran-next (ran-hand new (e.fits (h.ready c))) ran-gives); ready = λ c. e.fits (h.ready c) }
+does-within f h e = record {
+  ran = λ c. (let i = fits-entered f c in ran-next (ran-scoped f (h.ran i) e) (ran-next (ran-look (left-looked e (h.ready i))) ran-gives));
+  ready = λ c. e.fits (h.ready (fits-entered f c));
+}
 
 shape-held : (shape : Shape) (ts : List Tree) (s : State) → (after_shape shape ts s).held ≡ s.held
 shape-held (becomes kind) ts s = refl
@@ -93,7 +97,11 @@ shape-flushed (fails message) ts s = refl
 rewrapped-fits : (l : Level) {from : ℕ} {shape : Shape} {mid new : View} → Rewrapped from shape mid new → Fits l mid → Fits l new
 rewrapped-fits l {from = from} {shape = shape} {mid = mid} {new = new} w c =
     let ts = drop from mid.nodes in
-    rw (w.hand, w.place, w.state, shape-held shape ts mid.state, shape-flushed shape ts mid.state) c
+    record {
+      hand = rw (w.hand, w.place, w.state, shape-held shape ts mid.state, shape-flushed shape ts mid.state) c.hand;
+      looks = rw (w.looks, w.place, w.state, shape-held shape ts mid.state, shape-flushed shape ts mid.state) c.looks;
+      log = rw (w.looks, w.log) c.log;
+    }
 
 pub does-wraps : {A : Type 0} {l : Level} {f : A → Shape} {n : ℕ} {p : Parser A} {a : A} {old mid new : View}
     → Sound l → old.state.empties ≤ length old.nodes

@@ -10,10 +10,11 @@ use Rattle.typst_lines.specs.Place.{Place, moved, place_at}
 use Rattle.typst_node.specs.Tree.{Tree}
 use Rattle.typst_classes.specs.Classes.{CharClasses}
 use Rattle.typst_lexer.specs.Nodes.{token_node}
+use Rattle.typst_lexer.specs.declared.hull.Hull.{Hull}
 use Rattle.typst_lexer.specs.declared.token.Token.{Token}
 use Rattle.typst_parsing.specs.declared.reading.Newlines.{Newlines}
 use Rattle.typst_parsing.specs.declared.reading.Reading.{Reading}
-use Rattle.typst_parsing.specs.Hand.{Hand, Ahead, text_ahead, is_trivia, token_at, len_at, at_trivia, no_newlines, both_newlines, newlines_of, direct, after_trivia, ahead_by, ahead, column_at, judged, hand_by, hand_at}
+use Rattle.typst_parsing.specs.Hand.{Hand, Ahead, text_ahead, is_trivia, token_at, len_at, at_trivia, no_newlines, both_newlines, newlines_of, direct, after_trivia, ahead_by, ahead, column_at, judged, hand_by, hand_at, joined_hull, token_hull, tokens_by, tokens_at, column_hull, Looks, looks_at}
 use Rattle.typst_lexer.specs.Reader.{exec, eaten}
 use Rattle.typst_lexer.specs.Tokens.{token}
 use Rattle.typst_lexer.proofs.Moves.{exec-moved}
@@ -22,6 +23,7 @@ use Rattle.typst_parsing.specs.declared.ahead.Ahead.{Ahead as Front}
 use Rattle.typst_parsing.specs.Cursor.{IsAhead}
 use Rattle.typst_parsing.specs.Hand.{bytes_left}
 use Rattle.typst_parsing.proofs.Bytes.{some-bytes, none-bytes}
+use Rattle.typst_parsing.proofs.Hulls.{In, itself-in, second-in, first-in, same-hull}
 use Rattle.typst_parsing.proofs.Places.{moved-sum, moved-min, moved-behind, ahead-left}
 use Rattle.typst_parsing.proofs.Within.{if-same, and-second, on_both, on_if}
 use Rattle.typst_parsing.specs.declared.reading.AtNewline.{AtNewline}
@@ -150,6 +152,18 @@ again-direct : (k : CharClasses) (m : SyntaxMode) (p : ℕ) (z : Place) → at_t
 again-direct k m zero z h = refl
 again-direct k m (suc p) z h = rw h refl
 
+-- behind the trivia at a place no trivia comes
+again-stop : (k : CharClasses) (m : SyntaxMode) (n : ℕ) (z : Place) → length z.ahead ≤ n → at_trivia k m (moved (ahead_by k m n z).gap z) ≡ false
+again-stop k m zero z s = none-left k m z (omega arith)
+again-stop k m (suc n) z s = on_if (λ (a : Ahead). at_trivia k m (moved a.gap z) ≡ false) (at_trivia k m z) _ _
+    (λ t.
+    let l = len_at k m z in
+    let w = moved l z in
+    let some = some-left k m z t in
+    let left = ahead-left l z in
+    ap (at_trivia k m) (moved-sum l (ahead_by k m n w).gap z) ∙ again-stop k m n w (omega arith))
+    (λ t. t)
+
 abbrev Again : CharClasses → SyntaxMode → Place → Ahead → Type 0
 Again k m z a = (p : ℕ) → length (moved a.gap z).ahead ≤ p → ahead_by k m p (moved a.gap z) ≡ direct a.token a.len
 
@@ -219,11 +233,111 @@ some-trivia k m z w t e h b =
 pub distance-is : (from to : Place) (n : ℕ) → n ≤ length from.ahead → to ≡ moved n from → length to.behind - length from.behind ≡ n
 distance-is from to n h e = let b = ap (λ (p : Place). length p.behind) e ∙ moved-behind n from h in omega arith
 
-pub is-ahead : (k : CharClasses) (held : Reading) (flushed : Newlines) (a : Front) → Along k held.mode flushed a.newlines a.trivia.items (place a.before) (place a.start)
+-- what was looked at for the tokens that were read one after the other
+pub tokens-stop : (k : CharClasses) (m : SyntaxMode) (z : Place) → at_trivia k m z ≡ false → tokens_at k m z ≡ token_hull k m z
+unfolding tokens_at
+tokens-stop k m z h = by-count (length z.ahead)
+  where
+    by-count : (n : ℕ) → tokens_by k m n z ≡ token_hull k m z
+    by-count zero = refl
+    by-count (suc n) = rw h refl
+
+tokens-enough : (k : CharClasses) (m : SyntaxMode) (n p : ℕ) (z : Place) → length z.ahead ≤ n → length z.ahead ≤ p → tokens_by k m n z ≡ tokens_by k m p z
+tokens-enough k m zero zero z a b = refl
+tokens-enough k m zero (suc p) z a b = rw (none-left k m z (omega arith)) refl
+tokens-enough k m (suc n) zero z a b = rw (none-left k m z (omega arith)) refl
+tokens-enough k m (suc n) (suc p) z a b =
+    if-same (at_trivia k m z) _ _ _ (λ h.
+    let l = len_at k m z in
+    let some = some-left k m z h in
+    let left = ahead-left l z in
+    ap (joined_hull (token_hull k m z)) (tokens-enough k m n p (moved l z) (omega arith) (omega arith)))
+
+tokens-step : (k : CharClasses) (m : SyntaxMode) (z : Place) → at_trivia k m z ≡ true → tokens_at k m z ≡ joined_hull (token_hull k m z) (tokens_at k m (moved (len_at k m z) z))
+unfolding tokens_at
+tokens-step k m z h =
+    let l = len_at k m z in
+    let w = moved l z in
+    let left = ahead-left l z in
+    tokens-enough k m (length z.ahead) (suc (length z.ahead)) z (omega arith) (omega arith)
+    ∙ (rw h (ap (joined_hull (token_hull k m z)) (tokens-enough k m (length z.ahead) (length w.ahead) w (omega arith) (omega arith))))
+
+-- what was looked at so far, up to a token that was read
+pub record Looking (k : CharClasses) (m : SyntaxMode) (from z : Place) (tokens : Hull) : Type 0 where
+  pub all : tokens_at k m from ≡ joined_hull tokens (tokens_at k m z)
+  pub last : In (token_hull k m z) tokens
+
+pub looking-start : (k : CharClasses) (m : SyntaxMode) (z : Place) → Looking k m z z (token_hull k m z)
+unfolding tokens_at
+looking-start k m z =
+    let i = first-in k m (length z.ahead) z in
+    record { all = same-hull _ _ _ _ (omega (arith, i.reach)) (omega (arith, i.least)); last = itself-in (token_hull k m z) }
+
+tokens-first : (k : CharClasses) (m : SyntaxMode) (w : Place) → In (token_hull k m w) (tokens_at k m w)
+unfolding tokens_at
+tokens-first k m w = first-in k m (length w.ahead) w
+
+pub looking-next : (k : CharClasses) (m : SyntaxMode) (from z w : Place) (tokens : Hull) → Looking k m from z tokens → at_trivia k m z ≡ true → w ≡ moved (len_at k m z) z
+    → Looking k m from w (joined_hull tokens (token_hull k m w))
+looking-next k m from z w tokens h t e =
+    let step = tokens-step k m z t ∙ ap (λ p. joined_hull (token_hull k m z) (tokens_at k m p)) (sym e) in
+    let j = tokens-first k m w in
+    record {
+      all = h.all ∙ ap (joined_hull tokens) step ∙ same-hull _ _ _ _ (omega (arith, h.last.reach, j.reach)) (omega (arith, h.last.least, j.least));
+      last = second-in tokens (token_hull k m w);
+    }
+
+pub looking-end : (k : CharClasses) (m : SyntaxMode) (from z : Place) (tokens : Hull) → Looking k m from z tokens → at_trivia k m z ≡ false → tokens_at k m from ≡ tokens
+looking-end k m from z tokens h t = h.all ∙ ap (joined_hull tokens) (tokens-stop k m z t) ∙ same-hull _ _ _ _ (omega (arith, h.last.reach)) (omega (arith, h.last.least))
+
+pub same-looks : (t u o p h i : Hull) → t ≡ u → o ≡ p → h ≡ i → ◌≡◌ {A = Looks} (record { tokens = t; own = o; here = h }) (record { tokens = u; own = p; here = i })
+same-looks t u o p h i e f g = rw (e, f, g) refl
+
+-- behind all trivia
+looks-end : (k : CharClasses) (held : Reading) (flushed now : Newlines) (ts : List Tree) (from z : Place) (tokens own here : Hull) → Along k held.mode flushed now ts from z → at_trivia k held.mode z ≡ false
+    → Looking k held.mode from z tokens → own ≡ token_hull k held.mode z → here ≡ column_hull held now z own
+    → record { tokens = tokens; own = own; here = here } ≡ looks_at k held flushed from
+unfolding looks_at
+looks-end k held flushed now ts from z tokens own here a h l o e =
+    let m = held.mode in
+    let stop = ahead-stop k m z h in
+    let f = ahead k m from in
+    let gap-is : a.gap ≡ f.gap = let s : (ahead k m z).gap ≡ 0 = ap (λ (x : Ahead). x.gap) stop in omega (arith, a.gaps, s) in
+    let line-is : now ≡ both_newlines flushed f.newlines = sym (a.newlines ∙ ap (λ (x : Ahead). both_newlines now x.newlines) stop ∙ both-none now) in
+    let place-is : z ≡ moved f.gap from = a.place ∙ ap (λ n. moved n from) gap-is in
+    same-looks _ _ _ _ _ _ (sym (looking-end k m from z tokens l h)) (o ∙ ap (token_hull k m) place-is)
+    (e ∙ ap (column_hull held now z) o ∙ ap (λ n. column_hull held n z (token_hull k m z)) line-is ∙ ap (λ p. column_hull held (both_newlines flushed f.newlines) p (token_hull k m p)) place-is)
+
+-- behind trivia that became nodes the same was looked at
+pub looks-flushed : (k : CharClasses) (held : Reading) (flushed : Newlines) (z : Place) (h : Hand) (l : Looks) → h ≡ hand_at k held flushed z → l ≡ looks_at k held flushed z
+    → record l { tokens = l.own } ≡ looks_at k held h.newlines (moved h.gap z)
+unfolding hand_at looks_at ahead
+looks-flushed k held flushed z h l e g =
+    let m = held.mode in
+    let a = ahead k m z in
+    let w = moved a.gap z in
+    let line = both_newlines flushed a.newlines in
+    let same : ahead_by k m (length w.ahead) w ≡ direct a.token a.len = again k m (length z.ahead) z (omega arith) (length w.ahead) (omega arith) in
+    let stops : tokens_at k m w ≡ token_hull k m w = tokens-stop k m w (again-stop k m (length z.ahead) z (omega arith)) in
+    let whole : record (looks_at k held flushed z) { tokens = (looks_at k held flushed z).own } ≡ looks_at k held line w =
+    sym (ap (λ (x : Ahead). record { tokens = tokens_at k m w; own = token_hull k m (moved x.gap w); here = column_hull held (both_newlines line x.newlines) (moved x.gap w) (token_hull k m (moved x.gap w)) }) same
+    ∙ same-looks _ _ _ _ _ _ stops refl (ap (λ n. column_hull held n w (token_hull k m w)) (both-none line))) in
+    ap (λ (x : Looks). record x { tokens = x.own }) g ∙ whole ∙ sym (ap (λ (x : Hand). looks_at k held x.newlines (moved x.gap z)) e)
+
+-- the column by another rule
+pub looks-judged : (k : CharClasses) (held : Reading) (rule : AtNewline) (flushed : Newlines) (z : Place) (h : Hand) (l : Looks) → h ≡ hand_at k held flushed z → l ≡ looks_at k held flushed z
+    → record l { here = column_hull (record held { at_newline = rule }) h.newlines (moved h.gap z) l.own } ≡ looks_at k (record held { at_newline = rule }) flushed z
+unfolding hand_at looks_at
+looks-judged k held rule flushed z h l e g =
+    ap (λ (x : Hand). record l { here = column_hull (record held { at_newline = rule }) x.newlines (moved x.gap z) l.own }) e
+    ∙ ap (λ (x : Looks). record x { here = column_hull (record held { at_newline = rule }) (hand_at k held flushed z).newlines (moved (hand_at k held flushed z).gap z) x.own }) g
+
+pub is-ahead : (k : CharClasses) (held : Reading) (flushed : Newlines) (a : Front) → Looking k held.mode (place a.before) (place a.start) a.tokens
+    → a.own ≡ token_hull k held.mode (place a.start) → a.here ≡ column_hull held a.newlines (place a.start) a.own → Along k held.mode flushed a.newlines a.trivia.items (place a.before) (place a.start)
     → at_trivia k held.mode (place a.start) ≡ false → exec (token k held.mode) (place a.start) ≡ (a.token, place a.after)
     → a.kind ≡ judged held a.newlines a.token.kind (column_at (place a.start)) → a.start.text.now ≡ a.before.text.now → a.after.text.now ≡ a.start.text.now
     → IsAhead k held flushed a.before a
-is-ahead k held flushed a along stop read kind-is one two =
+is-ahead k held flushed a looks own-is here-is along stop read kind-is one two =
     let m = held.mode in
     let from = place a.before in
     let z = place a.start in
@@ -235,6 +349,7 @@ is-ahead k held flushed a along stop read kind-is one two =
       before = refl;
       stands = record { start = along.place ∙ ap (λ n. moved n from) (sym gap-is); after = after-is ∙ ap (λ n. moved n z) (sym len-is); start_text = one; after_text = two };
       hand = same-hand _ _ _ _ _ _ _ _ _ _ _ _ (kind-is ∙ ap (λ (u : Token). judged held a.newlines u.kind (column_at z)) (sym t)) refl gap-is len-is refl (sym t) ∙ along-end k held flushed a.newlines a.trivia.items from z along stop;
+      looks = looks-end k held flushed a.newlines a.trivia.items from z a.tokens a.own a.here along stop looks own-is here-is;
     }
 
 pub start-is : (text : List ℕ) → place_at text 0 ≡ record { behind = []; ahead = chars text }

@@ -8,10 +8,12 @@ use Rattle.typst_lines.specs.declared.scanner.Scanner.{Scanner}
 use Rattle.typst_classes.specs.Classes.{CharClasses}
 use Rattle.typst_parsing.specs.declared.ahead.Ahead.{Ahead}
 use Rattle.typst_parsing.specs.declared.parser.Parser.TheInside.{Inside}
+use Rattle.typst_parsing.specs.declared.reading.Mark.{Mark}
 use Rattle.typst_parsing.specs.declared.reading.Newlines.{Newlines}
 use Rattle.typst_parsing.specs.declared.reading.Reading.{Reading}
 use Rattle.typst_parsing.specs.declared.reading.State.{State}
-use Rattle.typst_parsing.specs.Hand.{Hand, hand_at, no_newlines}
+use Rattle.typst_parsing.specs.Hand.{Hand, Looks, hand_at, looks_at, no_newlines, whole}
+use Rattle.typst_parsing.specs.Log.{Log, no_log, with_hull, with_note}
 use Rattle.typst_parsing.specs.View.{View}
 
 -- how many characters stand between two scanners
@@ -29,6 +31,10 @@ hand_of_ahead a = record {
   token = a.token;
 }
 
+-- what was looked at for it
+abbrev pub looks_of_ahead : Ahead → Looks
+looks_of_ahead a = record { tokens = a.tokens; own = a.own; here = a.here }
+
 -- the token stands in the text behind its trivia
 pub record Stands (a : Ahead) : Type 0 where
   pub start : place a.start ≡ moved (distance a.before a.start) (place a.before)
@@ -41,9 +47,17 @@ pub record IsAhead (k : CharClasses) (held : Reading) (flushed : Newlines) (from
   pub before : a.before ≡ from
   pub stands : Stands a
   pub hand : hand_of_ahead a ≡ hand_at k held flushed (place from)
+  pub looks : looks_of_ahead a ≡ looks_at k held flushed (place from)
 
 abbrev pub view_of : Inside → View
-view_of i = record { nodes = i.nodes.items; place = place i.ahead.before; state = i.state; hand = hand_of_ahead i.ahead }
+view_of i = record {
+  nodes = i.nodes.items;
+  place = place i.ahead.before;
+  state = i.state;
+  hand = hand_of_ahead i.ahead;
+  looks = looks_of_ahead i.ahead;
+  log = record { reach = i.reach; least = i.least; notes = i.notes.items };
+}
 
 pub record IsReady (i : Inside) : Type 0 where
   pub stands : Stands i.ahead
@@ -52,9 +66,15 @@ pub record IsReady (i : Inside) : Type 0 where
 abbrev pub start_state : Reading → State
 start_state r = record { reading = r; held = r; flushed = no_newlines; empties = 0; is_after_error = false }
 
--- at a text's start, with the first token at hand
-pub record IsStart (k : CharClasses) (text : List ℕ) (reading : Reading) (v : View) : Type 0 where
+-- what was looked at and noted before the first look, where so many levels are left
+abbrev pub start_log : ℕ → Mark → Reading → Place → Log
+start_log depth mark reading z = with_note 0 depth mark (start_state reading) z no_log
+
+-- at a text's start, where this was noted, with the first token at hand
+pub record IsStart (k : CharClasses) (text : List ℕ) (reading : Reading) (depth : ℕ) (mark : Mark) (v : View) : Type 0 where
   pub nodes : v.nodes ≡ []
   pub place : v.place ≡ record { behind = []; ahead = chars text }
   pub state : v.state ≡ start_state reading
   pub hand : v.hand ≡ hand_at k reading no_newlines v.place
+  pub looks : v.looks ≡ looks_at k reading no_newlines v.place
+  pub log : v.log ≡ with_hull (whole v.looks) (start_log depth mark reading v.place)

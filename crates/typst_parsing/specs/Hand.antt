@@ -1,5 +1,5 @@
 -- The token at hand: the trivia ahead, and the token after it.
-use Rattle.std.specs.Prelude.{ℕ, zero, suc, ◌+◌, min, Bool, true, false, not, ◌||◌, ◌&&◌, if◌then◌else◌, nat_lt, nat_le, List, [], ◌∷◌, ◌++◌, length, take, map, encode_utf8_all}
+use Rattle.std.specs.Prelude.{ℕ, zero, suc, ◌+◌, max, min, Bool, true, false, not, ◌||◌, ◌&&◌, if◌then◌else◌, nat_lt, nat_le, List, [], ◌∷◌, ◌++◌, length, take, map, encode_utf8_all}
 use Rattle.std.specs.List.{prefix_len}
 use Rattle.typst_kinds.specs.declared.kind.SyntaxKind.{SyntaxKind}
 use Rattle.typst_kinds.specs.declared.kind.SyntaxKind.TheVariants as kind
@@ -8,9 +8,11 @@ use Rattle.typst_kinds.specs.declared.mode.SyntaxMode.TheVariants as mode
 use Rattle.typst_lines.specs.Newline.{is_newline}
 use Rattle.typst_lines.specs.Place.{Place, moved}
 use Rattle.typst_node.specs.Tree.{Tree}
+use Rattle.typst_lexer.specs.declared.hull.Hull.{Hull}
 use Rattle.typst_lexer.specs.declared.token.Token.{Token}
 use Rattle.typst_classes.specs.Classes.{CharClasses}
 use Rattle.typst_lexer.specs.Reader.{Look, exec, eaten, look}
+use Rattle.typst_lexer.specs.Sight.{hull_of}
 use Rattle.typst_lexer.specs.Tokens.{token}
 use Rattle.typst_lexer.specs.Nodes.{token_node}
 use Rattle.typst_parsing.specs.declared.reading.AtNewline.{AtNewline}
@@ -177,3 +179,42 @@ unfoldable pub hand_asks : CharClasses → Reading → Newlines → Place → Li
 hand_asks k held flushed z =
     let a = ahead k held.mode z in
     ahead_asks k held.mode z ++ column_asks held (both_newlines flushed a.newlines) a.gap z
+
+-- ---- the same in bytes
+
+-- both stretches, and what lies between them
+abbrev pub joined_hull : Hull → Hull → Hull
+joined_hull a b = record { reach = max a.reach b.reach; least = min a.least b.least }
+
+-- what was looked at for the token at a place
+abbrev pub token_hull : CharClasses → SyntaxMode → Place → Hull
+token_hull k m z = hull_of (look (token k m) z) z
+
+abbrev pub tokens_by : CharClasses → SyntaxMode → ℕ → Place → Hull
+tokens_by k m zero z = token_hull k m z
+tokens_by k m (suc n) z = if at_trivia k m z then joined_hull (token_hull k m z) (tokens_by k m n (moved (len_at k m z) z)) else token_hull k m z
+
+-- what was looked at for the trivia at a place and the token after it
+unfoldable pub tokens_at : CharClasses → SyntaxMode → Place → Hull
+tokens_at k m z = tokens_by k m (length z.ahead) z
+
+-- with what was looked at for the column, where the rule asks for it
+abbrev pub column_hull : Reading → Newlines → Place → Hull → Hull
+column_hull held newlines z h = if asks_column held newlines then joined_hull h (hull_of (column_look z) z) else h
+
+-- what was looked at for the trivia and the token, for the token alone, and for it and its column
+pub record Looks : Type 0 where
+  pub tokens : Hull
+  pub own : Hull
+  pub here : Hull
+
+-- all of it
+abbrev pub whole : Looks → Hull
+whole l = joined_hull l.tokens l.here
+
+-- what was looked at for the token at hand
+unfoldable pub looks_at : CharClasses → Reading → Newlines → Place → Looks
+looks_at k held flushed z =
+    let a = ahead k held.mode z in
+    let w = moved a.gap z in
+    record { tokens = tokens_at k held.mode z; own = token_hull k held.mode w; here = column_hull held (both_newlines flushed a.newlines) w (token_hull k held.mode w) }

@@ -1,5 +1,6 @@
 pub mod Ask
 pub mod Hand
+pub mod Log
 pub mod Shape
 pub mod Syntax
 pub mod Meaning

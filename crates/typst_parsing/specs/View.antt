@@ -1,5 +1,5 @@
 -- What a parser of the code shows, and what it ensures.
-use Rattle.std.specs.Prelude.{◌≡◌, ℕ, zero, ◌+◌, ◌<◌, ◌≤◌, ◌==◌, Bool, List, ◌∷◌, ◌++◌, [], length, map, take, drop, Result, Ok, Err}
+use Rattle.std.specs.Prelude.{◌≡◌, ℕ, zero, ◌+◌, ◌-◌, ◌<◌, ◌≤◌, ◌==◌, Bool, List, ◌∷◌, ◌++◌, [], length, map, take, drop, Result, Ok, Err}
 use Rattle.std.specs.declared.alloc.AllocError.{AllocError}
 use denote.Ref.{MutBor}
 use Rattle.typst_lines.specs.Place.{Place, moved}
@@ -9,7 +9,9 @@ use Rattle.typst_parsing.specs.declared.reading.Block.{Block}
 use Rattle.typst_parsing.specs.declared.reading.Call.{Call}
 use Rattle.typst_parsing.specs.declared.reading.Reading.{Reading}
 use Rattle.typst_parsing.specs.declared.reading.State.{State}
-use Rattle.typst_parsing.specs.Hand.{Hand}
+use Rattle.typst_parsing.specs.Ask.{Ask}
+use Rattle.typst_parsing.specs.Hand.{Hand, Looks, looks_at, whole}
+use Rattle.typst_parsing.specs.Log.{Log, logged, with_hull}
 use Rattle.typst_parsing.specs.Shape.{Shape, shaped, after_shape, Seen, seen}
 use Rattle.typst_parsing.specs.Syntax.{Parser}
 use Rattle.typst_parsing.specs.Meaning.{Outcome, Meaning, Level, hand_of, left, less, run}
@@ -22,13 +24,18 @@ pub record View : Type 0 where
   pub state : State
   -- the token that was read ahead
   pub hand : Hand
+  -- what was looked at for it
+  pub looks : Looks
+  -- what was looked at and noted up to here
+  pub log : Log
 
--- the code went from one view to another as an outcome says
-pub record Runs {A : Type 0} (o : Outcome A) (a : A) (old new : View) : Type 0 where
+-- the code went from one view to another as an outcome says, where so many levels are left
+pub record Runs {A : Type 0} (depth : ℕ) (o : Outcome A) (a : A) (old new : View) : Type 0 where
   pub value : o.value ≡ a
   pub place : new.place ≡ moved o.taken old.place
   pub state : new.state ≡ o.state
   pub nodes : new.nodes ≡ less o.back old.nodes ++ o.nodes
+  pub log : new.log ≡ logged depth old.place old.log o.asks
 
 -- no more is taken than there is
 abbrev pub Within : {A : Type 0} → Meaning A → Type 0
@@ -52,13 +59,16 @@ pub record Sound (l : Level) : Type 0 where
 abbrev pub at : {A : Type 0} → Level → Parser A → View → Outcome A
 at l p v = run l p v.place v.state
 
--- the token that was read ahead is the one that would be asked for
-abbrev pub Fits : Level → View → Type 0
-Fits l v = v.hand ≡ hand_of l v.place v.state
+-- the token that was read ahead is the one that would be asked for, and what was looked at for it
+-- is among what was looked at
+pub record Fits (l : Level) (v : View) : Type 0 where
+  pub hand : v.hand ≡ hand_of l v.place v.state
+  pub looks : v.looks ≡ looks_at l.classes v.state.held v.state.flushed v.place
+  pub log : with_hull (whole v.looks) v.log ≡ v.log
 
 -- the code did what the parser does
 pub record Ran {A : Type 0} (l : Level) (p : Parser A) (a : A) (old new : View) : Type 0 where
-  pub runs : Runs (at l p old) a old new
+  pub runs : Runs l.level (at l p old) a old new
 
 -- the code did what the parser does, and its token at hand is again the right one
 pub record Does {A : Type 0} (l : Level) (p : Parser A) (a : A) (old new : View) : Type 0 where
@@ -67,7 +77,7 @@ pub record Does {A : Type 0} (l : Level) (p : Parser A) (a : A) (old new : View)
 
 -- the same of what is read a level deeper
 pub record Makes (l : Level) (call : Call) (a : ℕ) (old new : View) : Type 0 where
-  pub ran : Fits l old → Runs (l.deeper call old.place old.state) a old new
+  pub ran : Fits l old → Runs (l.level - 1) (l.deeper call old.place old.state) a old new
   pub ready : Fits l old → Fits l new
 
 -- unless memory is refused
@@ -84,6 +94,7 @@ pub record Left (l : Level) (outer : Reading) (v w : View) : Type 0 where
   pub nodes : w.nodes ≡ v.nodes
   pub place : w.place ≡ v.place
   pub state : w.state ≡ left outer v.state
+  pub log : Fits l v → w.log ≡ with_hull (whole w.looks) v.log
   pub fits : Fits l v → Fits l w
 
 -- the nodes from a number on became one
@@ -92,6 +103,8 @@ pub record Rewrapped (from : ℕ) (shape : Shape) (mid new : View) : Type 0 wher
   pub state : new.state ≡ after_shape shape (drop from mid.nodes) mid.state
   pub nodes : new.nodes ≡ take from mid.nodes ++ shaped shape (drop from mid.nodes) ∷ []
   pub hand : new.hand ≡ mid.hand
+  pub looks : new.looks ≡ mid.looks
+  pub log : new.log ≡ mid.log
 
 -- ---- a function that makes calls at a depth
 

@@ -5,15 +5,18 @@ ghost use Rattle.typst_kinds.specs.Kinds.{is_error};
 ghost use Rattle.typst_lines.specs.Scanner.{place};
 ghost use Rattle.typst_parsing.specs.Hand as spec;
 ghost use Rattle.typst_parsing.specs.Hand.{bytes_left};
+ghost use Rattle.typst_lexer.specs.Reader.{exec};
+ghost use Rattle.typst_lexer.specs.Sight.{hull_of};
+ghost use Rattle.typst_lexer.specs.Tokens.{token};
 ghost use Rattle.typst_parsing.specs.Cursor.{IsAhead};
 
 use crate::reading::{AtNewline, Newlines, Reading};
 use std::alloc::{AllocError, Global};
 use typst_classes::Classes;
 use typst_kinds::{SyntaxKind, SyntaxMode};
-use typst_lexer::Token;
 use typst_lexer::lexer::token;
 use typst_lexer::token::make_node;
+use typst_lexer::{Hull, Token};
 use typst_lines::{Scanner, is_newline};
 use typst_node::SyntaxNode;
 
@@ -33,6 +36,31 @@ pub struct Ahead<'s> {
     pub(crate) token: Token,
     /// The token's kind, or the end where the newline rule stops.
     pub(crate) kind: SyntaxKind,
+    /// What was looked at for the trivia and the token.
+    pub(crate) tokens: Hull,
+    /// What was looked at for the token alone.
+    pub(crate) own: Hull,
+    /// The same, with its column where the newline rule asks for it.
+    pub(crate) here: Hull,
+}
+
+impl Ahead<'_> {
+    ghost use Rattle.typst_parsing.specs.Cursor.{looks_of_ahead};
+
+    /// All that was looked at for it.
+    pub(crate) fn whole(&self) -> Hull
+        ensures { result ≡ spec.whole (looks_of_ahead self.now) }
+    {
+        joined(self.tokens, self.here)
+    }
+}
+
+/// A token that was read, where it ends, and what was looked at for it.
+#[derive(Clone, Copy)]
+struct Read<'s> {
+    token: Token,
+    after: Scanner<'s>,
+    hull: Hull,
 }
 
 /// Reads trivia and a token.
@@ -48,24 +76,51 @@ pub(crate) fn read_ahead<'s, C: Classes>(
     let mut trivia = Vec::new(alloc);
     let mut newlines = flushed;
     let mut start = before;
+    let mut next = read_token(start, held.mode, classes);
+    let mut tokens = next.hull;
     'trivia: loop {
-        let mut after = start;
-        let (token, _) = token(&mut after, held.mode, classes);
-        if !is_trivia(token.kind) || left(&after) >= left(&start) {
+        if !is_trivia(next.token.kind) || left(&next.after) >= left(&start) {
+            let (kind, here) = judged(held, newlines, next.token.kind, &start, next.hull);
             return Ok(Ahead {
                 before,
                 start,
-                after,
+                after: next.after,
                 trivia,
                 newlines,
-                token,
-                kind: judged(held, newlines, token.kind, &start),
+                token: next.token,
+                kind,
+                tokens,
+                own: next.hull,
+                here,
             });
         }
-        let node = make_node(alloc, token, after.since(&start))?;
+        let node = make_node(alloc, next.token, next.after.since(&start))?;
         trivia.push(node)?;
-        newlines = with_token(newlines, token);
-        start = after;
+        newlines = with_token(newlines, next.token);
+        start = next.after;
+        next = read_token(start, held.mode, classes);
+        tokens = joined(tokens, next.hull);
+    }
+}
+
+/// Reads one token.
+fn read_token<'s, C: Classes>(start: Scanner<'s>, mode: SyntaxMode, classes: &C) -> Read<'s>
+    ensures reads { exec (token (C.classes classes.now) mode) (place start.entry) ≡ (result.token, place result.after) }
+    ensures hull { result.hull ≡ spec.token_hull (C.classes classes.now) mode (place start.entry) }
+    ensures same_text { result.after.text.now ≡ start.entry.text.now }
+{
+    let mut after = start;
+    let (token, hull) = token(&mut after, mode, classes);
+    Read { token, after, hull }
+}
+
+/// Both stretches, and what lies between them.
+fn joined(a: Hull, b: Hull) -> Hull
+    ensures { result ≡ spec.joined_hull a b }
+{
+    Hull {
+        reach: a.reach.max(b.reach),
+        least: a.least.min(b.least),
     }
 }
 
@@ -105,34 +160,51 @@ fn is_parbreak(kind: SyntaxKind) -> bool
     matches!(kind, SyntaxKind::Parbreak)
 }
 
-/// The kind of a token, or the end where the newline rule stops.
+/// The kind of a token, or the end where the newline rule stops; and what was looked at for the
+/// token, with its column where the rule asks for it.
 pub(crate) fn judged(
     held: Reading,
     newlines: Newlines,
     kind: SyntaxKind,
     start: &Scanner<'_>,
-) -> SyntaxKind
-    ensures { result ≡ spec.judged held newlines kind (spec.column_at (place start.now)) }
+    own: Hull,
+) -> (SyntaxKind, Hull)
+    ensures kind { result.0 ≡ spec.judged held newlines kind (spec.column_at (place start.now)) }
+    ensures here { result.1 ≡ spec.column_hull held newlines (place start.now) own }
 {
-    if stops(held, newlines, kind, start) {
-        SyntaxKind::End
+    let (stops, here) = stops(held, newlines, kind, start, own);
+    if stops {
+        (SyntaxKind::End, here)
     } else {
-        kind
+        (kind, here)
     }
 }
 
-fn stops(held: Reading, newlines: Newlines, kind: SyntaxKind, start: &Scanner<'_>) -> bool
-    ensures { result ≡ spec.stops held newlines kind (spec.column_at (place start.now)) }
+fn stops(
+    held: Reading,
+    newlines: Newlines,
+    kind: SyntaxKind,
+    start: &Scanner<'_>,
+    own: Hull,
+) -> (bool, Hull)
+    ensures stops { result.0 ≡ spec.stops held newlines kind (spec.column_at (place start.now)) }
+    ensures here { result.1 ≡ spec.column_hull held newlines (place start.now) own }
 {
     if !newlines.any {
-        return false;
+        return (false, own);
     }
     match held.at_newline {
-        AtNewline::Continue => false,
-        AtNewline::Stop => true,
-        AtNewline::ContextualContinue => !goes_on(kind),
-        AtNewline::StopParBreak => newlines.parbreak,
-        AtNewline::RequireColumn(least) => is_markup(held.mode) && column(start) <= least,
+        AtNewline::Continue => (false, own),
+        AtNewline::Stop => (true, own),
+        AtNewline::ContextualContinue => (!goes_on(kind), own),
+        AtNewline::StopParBreak => (newlines.parbreak, own),
+        AtNewline::RequireColumn(least) => {
+            if !is_markup(held.mode) {
+                return (false, own);
+            }
+            let (column, line) = column(start);
+            (column <= least, joined(own, line))
+        }
     }
 }
 
@@ -148,17 +220,21 @@ fn is_markup(mode: SyntaxMode) -> bool
     matches!(mode, SyntaxMode::Markup)
 }
 
-/// How many characters stand between the last newline character, or the text's start, and here.
-pub(crate) fn column(s: &Scanner<'_>) -> usize
-    ensures { result ≡ spec.column_at (place s.now) }
+/// How many characters stand between the last newline character, or the text's start, and here; and
+/// what was looked at for it.
+pub(crate) fn column(s: &Scanner<'_>) -> (usize, Hull)
+    ensures column { result.0 ≡ spec.column_at (place s.now) }
+    ensures hull { result.1 ≡ hull_of (spec.column_look (place s.now)) (place s.now) }
 {
+    let reach = s.cursor();
     let mut behind = *s;
     let mut count = 0usize;
     'back: while let Some(c) = behind.uneat() {
         if is_newline(c) {
-            return count;
+            let least = behind.cursor() + 1;
+            return (count, Hull { reach, least });
         }
         count = count.saturating_add(1);
     }
-    count
+    (count, Hull { reach, least: 0 })
 }

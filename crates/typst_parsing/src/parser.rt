@@ -12,14 +12,17 @@ ghost use Rattle.typst_parsing.specs.Shape.{Making, is_nil, count_empty, first_f
 ghost use Rattle.typst_parsing.specs.Shape.Shape.{becomes, unclosed, warns, fails};
 ghost use Rattle.typst_parsing.specs.Meaning.{Level, less, entered, taken_node, same_mode, same_rule};
 ghost use Rattle.typst_parsing.specs.Steps as spec;
+ghost use Rattle.typst_parsing.specs.Syntax.Op.{column};
+ghost use Rattle.typst_parsing.specs.Syntax.Parser.{does};
 ghost use Rattle.typst_parsing.specs.View.{Does, Reads, Left, Rewrapped};
 
 use crate::ahead::{Ahead, column, judged, left, read_ahead};
-use crate::reading::{AtNewline, Newlines, Reading, State};
+use crate::reading::{AtNewline, Mark, Newlines, Note, Reading, State};
 use std::alloc::{AllocError, Global};
 use std::marker::Model;
 use typst_classes::Classes;
 use typst_kinds::{SyntaxKind, SyntaxMode};
+use typst_lexer::Hull;
 use typst_lexer::token::make_node;
 use typst_lines::Scanner;
 use typst_node::SyntaxNode;
@@ -32,6 +35,11 @@ pub struct Parser<'s> {
     nodes: Vec<SyntaxNode>,
     ahead: Ahead<'s>,
     state: State,
+    /// Where all looks end, in bytes from the text's start.
+    reach: usize,
+    /// Where the looks since the last note begin, in bytes from the mark before the text.
+    least: usize,
+    notes: Vec<Note>,
 }
 
 impl<'s> Model for Parser<'s> {
@@ -50,39 +58,63 @@ impl<'s> Model for Parser<'s> {
 }
 
 impl<'s> Parser<'s> {
-    /// A parser at the start of a text.
+    /// A parser at the start of a text, where so many levels are left. What begins there is noted
+    /// before the first look.
     pub fn new<C: Classes>(
         alloc: Global,
         text: &'s str,
         reading: Reading,
+        depth: usize,
+        mark: Mark,
         classes: &C,
     ) -> Result<Self, AllocError>
-        ensures { IfOk result (λ p. IsStart (C.classes classes.now) text.now reading p) }
+        ensures { IfOk result (λ p. IsStart (C.classes classes.now) text.now reading depth mark p) }
     {
         let flushed = Newlines {
             any: false,
             parbreak: false,
         };
+        let state = State {
+            reading,
+            held: reading,
+            flushed,
+            empties: 0,
+            is_after_error: false,
+        };
+        let mut notes = Vec::new(alloc);
+        notes.push(Note {
+            mark,
+            before: 0,
+            start: 0,
+            depth,
+            state,
+            reach: 0,
+            least: usize::MAX,
+        })?;
         let ahead = read_ahead(alloc, Scanner::new(text), reading, flushed, classes)?;
+        let whole = ahead.whole();
         Ok(Parser {
             alloc,
             nodes: Vec::new(alloc),
             ahead,
-            state: State {
-                reading,
-                held: reading,
-                flushed,
-                empties: 0,
-                is_after_error: false,
-            },
+            state,
+            reach: whole.reach,
+            least: usize::MAX.min(whole.least),
+            notes,
         })
     }
 
-    /// The nodes that were read.
-    pub fn finish(self) -> Vec<SyntaxNode>
-        ensures { result.items ≡ self.entry.nodes }
+    /// The nodes that were read, what was noted, and what was looked at: in all, and since the last
+    /// note.
+    pub fn finish(self) -> (Vec<SyntaxNode>, Vec<Note>, Hull)
+        ensures nodes { result.0.items ≡ self.entry.nodes }
+        ensures log { record { reach = result.2.reach; least = result.2.least; notes = result.1.items } ≡ self.entry.log }
     {
-        self.nodes
+        let hull = Hull {
+            reach: self.reach,
+            least: self.least,
+        };
+        (self.nodes, self.notes, hull)
     }
 
     /// The kind of the token at hand.
@@ -107,10 +139,30 @@ impl<'s> Parser<'s> {
     }
 
     /// How many characters the token stands behind its line's start.
-    pub fn current_column(&self) -> usize
-        ensures { result ≡ column_at (moved self.now.hand.gap self.now.place) }
+    pub fn current_column(&mut self) -> usize
+        ensures { (l : Level) → Does l (does column) result self.old self.new }
     {
-        column(&self.ahead.start)
+        let (column, hull) = column(&self.ahead.start);
+        self.reach = self.reach.max(hull.reach);
+        self.least = self.least.min(hull.least);
+        column
+    }
+
+    /// Notes what begins or ends at the token at hand, where so many levels are left.
+    pub fn note(&mut self, mark: Mark, depth: usize) -> Result<(), AllocError>
+        ensures { (l : Level) → l.level ≡ depth → Reads l (spec.note mark) self.old result self.new }
+    {
+        self.notes.push(Note {
+            mark,
+            before: self.ahead.before.cursor(),
+            start: self.ahead.start.cursor(),
+            depth,
+            state: self.state,
+            reach: self.reach,
+            least: self.least,
+        })?;
+        self.least = usize::MAX.min(self.ahead.whole().least);
+        Ok(())
     }
 
     /// The number that the node of the token at hand will have.
@@ -161,6 +213,9 @@ impl<'s> Parser<'s> {
                 parbreak: false,
             };
             let ahead = read_ahead(self.alloc, self.ahead.before, outer, flushed, classes)?;
+            let whole = ahead.whole();
+            self.reach = self.reach.max(whole.reach);
+            self.least = self.least.min(whole.least);
             self.ahead = ahead;
             self.state.reading = outer;
             self.state.held = outer;
@@ -172,12 +227,18 @@ impl<'s> Parser<'s> {
             return Ok(());
         }
         self.state.held.at_newline = outer.at_newline;
-        self.ahead.kind = judged(
+        let (kind, here) = judged(
             self.state.held,
             self.ahead.newlines,
             self.ahead.token.kind,
             &self.ahead.start,
+            self.ahead.own,
         );
+        self.ahead.kind = kind;
+        self.ahead.here = here;
+        let whole = self.ahead.whole();
+        self.reach = self.reach.max(whole.reach);
+        self.least = self.least.min(whole.least);
         Ok(())
     }
 
@@ -214,6 +275,9 @@ impl<'s> Parser<'s> {
         trim(&mut self.nodes, count);
         push_all(&mut self.nodes, &mut self.ahead.trivia)?;
         self.nodes.push(node)?;
+        let whole = next.whole();
+        self.reach = self.reach.max(whole.reach);
+        self.least = self.least.min(whole.least);
         self.ahead = next;
         self.state = State {
             reading,
@@ -335,6 +399,7 @@ impl<'s> Parser<'s> {
         push_all(&mut self.nodes, &mut self.ahead.trivia)?;
         self.state.flushed = self.ahead.newlines;
         self.ahead.before = self.ahead.start;
+        self.ahead.tokens = self.ahead.own;
         Ok(())
     }
 

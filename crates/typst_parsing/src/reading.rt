@@ -75,3 +75,23 @@ pub enum Mark {
     /// A block ends.
     Closes,
 }
+
+/// What was noted where a unit begins or ends. Before the text's first and after its last character
+/// stands a mark, each as long as a byte.
+#[derive(Debug, Clone, Copy, PartialEq, Eq)]
+pub struct Note {
+    /// What begins or ends.
+    pub mark: Mark,
+    /// Where the trivia before it begin, in bytes from the text's start.
+    pub before: usize,
+    /// Where the token behind them begins, in bytes from the text's start.
+    pub start: usize,
+    /// How many levels of depth are left.
+    pub depth: usize,
+    /// What the parser goes on from.
+    pub state: State,
+    /// Where all looks before it end, in bytes from the text's start.
+    pub reach: usize,
+    /// Where all looks since the note before it begin, in bytes from the mark before the text.
+    pub least: usize,
+}

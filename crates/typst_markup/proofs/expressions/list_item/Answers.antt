@@ -3,14 +3,14 @@ use Rattle.typst_parsing.specs.Shape.Shape.{becomes}
 use Rattle.typst_parsing.specs.declared.reading.AtNewline.TheVariants as newline
 use Rattle.typst_parsing.specs.Syntax.Parser.{gives}
 use Rattle.typst_markup.specs.Markup.{list_item, at_newline}
-use Rattle.typst_parsing.proofs.Steps.{does-next, does-node, does-column}
-use Rattle.typst_markup.proofs.Heads.{does-entered, does-value}
+use Rattle.typst_parsing.proofs.Steps.{does-next, does-node}
+use Rattle.typst_markup.proofs.Heads.{does-entered}
 use Rattle.typst_markup.proofs.expressions.list_item.Goals as goal
 
 pub returns : goal.returns
 unfolding list_item
 returns g c l k h =
-    does-next (does-value c.current_column-column.ensures (does-column _))
+    does-next (c.current_column-column.ensures l)
     (does-entered (at_newline (newline.RequireColumn c.current_column-column.result)) c.enter_rule-outer.ensures.view
     (does-node (λ _. becomes kind.ListItem) h.sound c.marker-from.ensures.few c.marker-from.ensures.marker (does-next (c.in_ok-eat.ensures l k) (c.in_ok-markup.ensures l k h)) c.in_ok-wrap.ensures.wrapped)
     c.enter_rule-outer.ensures.outer (c.in_ok-leave.ensures l k))

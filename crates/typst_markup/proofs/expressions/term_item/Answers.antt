@@ -5,15 +5,15 @@ use Rattle.typst_parsing.specs.declared.reading.AtNewline.TheVariants as newline
 use Rattle.typst_parsing.specs.Syntax.Parser.{gives}
 use Rattle.typst_parsing.specs.Depth.{is_colon}
 use Rattle.typst_markup.specs.Markup.{term_item, at_newline}
-use Rattle.typst_parsing.proofs.Steps.{does-next, does-node, does-column}
-use Rattle.typst_markup.proofs.Heads.{does-entered, does-value}
+use Rattle.typst_parsing.proofs.Steps.{does-next, does-node}
+use Rattle.typst_markup.proofs.Heads.{does-entered}
 use Rattle.typst_markup.proofs.expressions.term_item.Goals as goal
 
 pub returns : goal.returns
 unfolding term_item
 returns g c l k h =
     let term = does-entered (at_newline newline.Stop) c.enter_rule-item.ensures.view (does-next (c.in_ok-eat.ensures l k) (c.in_ok-markup.ensures l k h)) c.enter_rule-item.ensures.outer (c.in_ok-leave.ensures l k) in
-    does-next (does-value c.current_column-column.ensures (does-column _))
+    does-next (c.current_column-column.ensures l)
     (does-entered (at_newline (newline.RequireColumn c.current_column-column.result)) c.enter_rule-outer.ensures.view
     (does-node (λ _. becomes kind.TermItem) h.sound c.marker-from.ensures.few c.marker-from.ensures.marker
     (does-next term (does-next (c.in_ok-expect.ensures l is_colon k (c.is_colon.ensures ∙ ap is_colon c.current.ensures)) (c.in_ok-markup-2.ensures l k h))) c.in_ok-wrap.ensures.wrapped)

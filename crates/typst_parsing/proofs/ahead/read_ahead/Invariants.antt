@@ -1,13 +1,23 @@
 use Rattle.std.proofs.Common.{◌≡◌, length}
 use Rattle.typst_lines.specs.Scanner.{place}
-use Rattle.typst_parsing.proofs.Trivia.{Along}
+use Rattle.typst_lexer.specs.Reader.{exec}
+use Rattle.typst_lexer.specs.Tokens.{token}
+use Rattle.typst_parsing.specs.Hand.{token_hull}
+use Rattle.typst_parsing.proofs.Trivia.{Along, Looking}
 use Rattle.typst_parsing.proofs.ahead.read_ahead.Given as goal
 
 abbrev pub invariant-trivia : goal.invariant-trivia
-invariant-trivia g l = record {
-  along : Along (g.C.Classes.classes l.classes) l.held.mode l.fn.flushed l.newlines l.trivia.items (place l.before) (place l.start);
-  text : l.start.text.now ≡ l.before.text.now;
-}
+invariant-trivia g l =
+    let k = g.C.Classes.classes l.classes in
+    let m = l.held.mode in
+    record {
+      along : Along k m l.fn.flushed l.newlines l.trivia.items (place l.before) (place l.start);
+      text : l.start.text.now ≡ l.before.text.now;
+      reads : exec (token k m) (place l.start) ≡ (l.next.token, place l.next.after);
+      hull : l.next.hull ≡ token_hull k m (place l.start);
+      same_text : l.next.after.text.now ≡ l.start.text.now;
+      looks : Looking k m (place l.before) (place l.start) l.tokens;
+    }
 
 abbrev pub decreases-trivia : goal.decreases-trivia
 decreases-trivia g l = length (place l.start).ahead

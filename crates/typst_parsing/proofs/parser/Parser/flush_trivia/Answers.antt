@@ -15,4 +15,4 @@ pub returns : goal.returns
 returns c l =
     let a = c.self.inside.ahead in
     rw (sym c.self.view_is) (flush-some l _ _ (ap is_nil (sym c.as_slice.ensures.value) ∙ sym c.is_none.ensures ∙ c.if-is_none.false) c.in_ok-push_all.ensures.ok c.self.invariant.stands.start refl
-    (same-hand _ _ _ _ _ _ _ _ _ _ _ _ refl c.in_ok-push_all.ensures.none (none (length (place a.start).behind)) refl refl refl))
+    (same-hand _ _ _ _ _ _ _ _ _ _ _ _ refl c.in_ok-push_all.ensures.none (none (length (place a.start).behind)) refl refl refl) refl refl)

@@ -10,5 +10,7 @@ returns g c l k =
     let i = c.self.inside in
     rw (sym c.self.view_is) (left-judged l c.args.outer _ _ (sym c.same_mode.ensures ∙ c.if-not-same_mode.false) (sym c.same_rule.ensures ∙ c.if-same_rule.false) refl refl refl
     (same-hand _ _ _ _ _ _ _ _ _ _ _ _
-    (c.judged-self-inside.ensures ∙ ap (λ (z : Place). judged (record i.state.held { at_newline = c.args.outer.at_newline }) i.ahead.newlines i.ahead.token.kind (column_at z)) c.self.invariant.stands.start)
-    refl refl refl refl refl))
+    (c.judged.ensures.kind ∙ ap (λ (z : Place). judged (record i.state.held { at_newline = c.args.outer.at_newline }) i.ahead.newlines i.ahead.token.kind (column_at z)) c.self.invariant.stands.start)
+    refl refl refl refl refl)
+    (ap (λ h. record { tokens = i.ahead.tokens; own = i.ahead.own; here = h }) (c.judged.ensures.here ∙ ap (λ (z : Place). column_hull (record i.state.held { at_newline = c.args.outer.at_newline }) i.ahead.newlines z i.ahead.own) c.self.invariant.stands.start))
+    (ap (λ u. with_hull u (record { reach = i.reach; least = i.least; notes = i.notes.items })) c.whole.ensures))

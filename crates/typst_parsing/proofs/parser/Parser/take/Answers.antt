@@ -7,7 +7,8 @@ use Rattle.typst_lines.specs.declared.scanner.Scanner.{Scanner}
 use Rattle.typst_node.specs.Tree.{Tree}
 use Rattle.typst_classes.specs.Classes.{CharClasses}
 use Rattle.typst_parsing.specs.Cursor.{distance}
-use Rattle.typst_parsing.specs.Hand.{hand_at, no_newlines}
+use Rattle.typst_parsing.specs.Hand.{hand_at, looks_at, no_newlines}
+use Rattle.typst_parsing.specs.Log.{with_hull}
 use Rattle.typst_parsing.specs.Meaning.{less, taken_node}
 use Rattle.typst_parsing.specs.View.{View}
 use Rattle.typst_parsing.proofs.Places.{moved-sum}
@@ -31,5 +32,8 @@ returns g c l making k e =
     let place-is = ap (λ (x : Scanner). place x) b.before ∙ s.after ∙ ap (moved len) s.start ∙ sym (moved-sum gap len (place a.before)) in
     let hand-is = b.hand ∙ ap (λ (x : Scanner). hand_at (g.C.Classes.classes c.args.classes.now) i.state.reading no_newlines (place x)) (sym b.before)
     ∙ ap (λ (q : CharClasses). hand_at q i.state.reading no_newlines (place c.in_ok-next.next.before)) (sym k) in
+    let looks-is = b.looks ∙ ap (λ (x : Scanner). looks_at (g.C.Classes.classes c.args.classes.now) i.state.reading no_newlines (place x)) (sym b.before)
+    ∙ ap (λ (q : CharClasses). looks_at q i.state.reading no_newlines (place c.in_ok-next.next.before)) (sym k) in
     rw (sym c.self.view_is) (eaten-is l c.args.trims making _ _ c.args.node (e ∙ ap (λ (v : View). taken_node making v.hand v.place) (sym c.self.view_is)) nodes-is place-is
-    c.empty_errors-empties.result c.is_error-is_after_error.result c.empty_errors-empties.ensures (c.is_error-is_after_error.ensures ∙ ap is_error c.kind.ensures) refl hand-is)
+    c.empty_errors-empties.result c.is_error-is_after_error.result c.empty_errors-empties.ensures (c.is_error-is_after_error.ensures ∙ ap is_error c.kind.ensures) refl hand-is looks-is
+    (ap (λ u. with_hull u (record { reach = i.reach; least = i.least; notes = i.notes.items })) c.whole.ensures))

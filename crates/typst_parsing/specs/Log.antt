@@ -1,0 +1,43 @@
+-- What was looked at and noted up to a place of a text, in bytes.
+use Rattle.std.specs.Prelude.{ℕ, ◌+◌, ◌-◌, ◌^◌, max, min, List, [], ◌∷◌, ◌++◌}
+use Rattle.typst_lines.specs.Place.{Place, moved}
+use Rattle.typst_lexer.specs.Sight.{position, hull_of}
+use Rattle.typst_lexer.specs.declared.hull.Hull.{Hull}
+use Rattle.typst_parsing.specs.declared.reading.Mark.{Mark}
+use Rattle.typst_parsing.specs.declared.reading.Note.{Note}
+use Rattle.typst_parsing.specs.declared.reading.State.{State}
+use Rattle.typst_parsing.specs.Ask.{Ask}
+use Rattle.typst_parsing.specs.Ask.Ask.{looked, marked}
+
+pub record Log : Type 0 where
+  -- where all looks end
+  pub reach : ℕ
+  -- where the looks since the last note begin
+  pub least : ℕ
+  -- what was noted, in order
+  pub notes : List Note
+
+-- nothing was looked at or noted
+abbrev pub no_log : Log
+no_log = record { reach = 0; least = 2 ^ 64 - 1; notes = [] }
+
+-- this was looked at too
+abbrev pub with_hull : Hull → Log → Log
+with_hull u h = record h { reach = max h.reach u.reach; least = min h.least u.least }
+
+-- this was noted too, behind so many characters of trivia and where so many levels are left
+abbrev pub with_note : ℕ → ℕ → Mark → State → Place → Log → Log
+with_note gap depth mark s z h = record {
+  reach = h.reach;
+  least = 2 ^ 64 - 1;
+  notes = h.notes ++ record { mark = mark; before = position z; start = position (moved gap z); depth = depth; state = s; reach = h.reach; least = h.least } ∷ [];
+}
+
+-- after what a parser asked at a place, where so many levels are left
+abbrev pub logged_one : ℕ → Place → Log → Ask → Log
+logged_one depth z h (looked at look) = with_hull (hull_of look (moved at z)) h
+logged_one depth z h (marked at gap level mark s) = with_note gap (depth - level) mark s (moved at z) h
+
+abbrev pub logged : ℕ → Place → Log → List Ask → Log
+logged depth z h [] = h
+logged depth z h (ask ∷ asks) = logged depth z (logged_one depth z h ask) asks
