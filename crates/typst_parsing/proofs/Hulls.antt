@@ -37,7 +37,7 @@ pub on_pair : {A B : Type 0} (P : A → B → Type 0) (b : Bool) (x y : A) (u v 
 on_pair P true x y u v p q = p
 on_pair P false x y u v p q = q
 
-far-more : (m n : ℕ) (z : Place) → m ≤ n → far m z ≤ far n z
+pub far-more : (m n : ℕ) (z : Place) → m ≤ n → far m z ≤ far n z
 far-more m n z h = let e : max m n ≡ n = omega arith in omega (arith, far-max m n z, ap (λ x. far x z) e)
 
 far-sum : (m n : ℕ) (b a : List ℕ) → m ≤ length a → far (m + n) (place b a) ≡ far n (moved_from m b a)

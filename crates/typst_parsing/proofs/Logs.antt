@@ -48,15 +48,15 @@ logged-append n z h (x ∷ xs) ys = logged-append n z (logged_one n z h x) xs ys
 
 pub logged-shift : (n k : ℕ) (z : Place) (h : Log) (ys : List Ask) → logged n z h (shift k ys) ≡ logged n (moved k z) h ys
 logged-shift n k z h [] = refl
-logged-shift n k z h (looked at l ∷ ys) = logged-shift n k z _ ys ∙ ap (λ p. logged n (moved k z) (with_hull (hull_of l p) h) ys) (moved-sum k at z)
-logged-shift n k z h (marked at gap level m s ∷ ys) = logged-shift n k z _ ys ∙ ap (λ p. logged n (moved k z) (with_note gap (n - level) m s p h) ys) (moved-sum k at z)
+logged-shift n k z h (looked at l ∷ ys) = logged-shift n k z (with_hull (hull_of l (moved (k + at) z)) h) ys ∙ ap (λ p. logged n (moved k z) (with_hull (hull_of l p) h) ys) (moved-sum k at z)
+logged-shift n k z h (marked at gap level m s ∷ ys) = logged-shift n k z (with_note gap (n - level) m s (moved (k + at) z) h) ys ∙ ap (λ p. logged n (moved k z) (with_note gap (n - level) m s p h) ys) (moved-sum k at z)
 
 pub logged-sunk : (n : ℕ) (z : Place) (h : Log) (ys : List Ask) → logged n z h (sunk ys) ≡ logged (n - 1) z h ys
 logged-sunk n z h [] = refl
-logged-sunk n z h (looked at l ∷ ys) = logged-sunk n z _ ys
+logged-sunk n z h (looked at l ∷ ys) = logged-sunk n z (with_hull (hull_of l (moved at z)) h) ys
 logged-sunk n z h (marked at gap level m s ∷ ys) =
     let e : n - suc level ≡ n - 1 - level = omega arith in
-    logged-sunk n z _ ys ∙ ap (λ d. logged (n - 1) z (with_note gap d m s (moved at z) h) ys) e
+    logged-sunk n z (with_note gap (n - suc level) m s (moved at z) h) ys ∙ ap (λ d. logged (n - 1) z (with_note gap d m s (moved at z) h) ys) e
 
 -- ---- the token at hand
 

@@ -1,11 +1,11 @@
-use Rattle.std.proofs.Common.{◌∙◌, refl, sym, ap}
-use Rattle.typst_lines.specs.Scanner.{place}
+use Rattle.std.proofs.Common.{◌∙◌, max, min, sym, ap}
 use Rattle.typst_lines.specs.Place.{Place}
 use Rattle.typst_lexer.specs.Sight.{hull_of}
 use Rattle.typst_lexer.specs.declared.hull.Hull.{Hull}
 use Rattle.typst_parsing.specs.Cursor.{view_of}
 use Rattle.typst_parsing.specs.Hand.{column_at, column_look}
-use Rattle.typst_parsing.specs.Log.{with_hull}
+use Rattle.typst_parsing.specs.Log.{Log}
+use Rattle.typst_parsing.proofs.Logs.{same-log}
 use Rattle.typst_parsing.proofs.Ready.{column-is}
 use Rattle.typst_parsing.proofs.parser.Parser.current_column.Goals as goal
 
@@ -13,5 +13,7 @@ pub returns : goal.returns
 returns c l =
     let i = c.self.inside in
     let s = c.self.invariant.stands.start in
+    let hull = c.column-column.ensures.hull ∙ ap (λ (z : Place). hull_of (column_look z) z) s in
     rw (sym c.self.view_is) (column-is l _ _ _ (c.column-column.ensures.column ∙ ap column_at s)
-    (ap (λ (u : Hull). record (view_of i) { log = with_hull u (view_of i).log }) (c.column-column.ensures.hull ∙ ap (λ (z : Place). hull_of (column_look z) z) s)))
+    (ap (λ (h : Log). record (view_of i) { log = h })
+    (same-log _ _ _ _ i.notes.items (c.max-self-inside.ensures ∙ ap (λ (u : Hull). max i.reach u.reach) hull) (c.min-self-inside.ensures ∙ ap (λ (u : Hull). min i.least u.least) hull))))

@@ -1,6 +1,8 @@
-use Rattle.std.proofs.Common.{◌∙◌, refl, sym, ap}
+use Rattle.std.proofs.Common.{◌∙◌, max, min, refl, sym, ap}
 use Rattle.typst_lines.specs.Place.{Place}
-use Rattle.typst_parsing.specs.Hand.{judged, column_at}
+use Rattle.typst_parsing.specs.Hand.{judged, column_at, column_hull}
+use Rattle.typst_lexer.specs.declared.hull.Hull.{Hull}
+use Rattle.typst_parsing.proofs.Logs.{same-log}
 use Rattle.typst_parsing.proofs.Ready.{left-judged}
 use Rattle.typst_parsing.proofs.Trivia.{same-hand}
 use Rattle.typst_parsing.proofs.parser.Parser.leave.Goals as goal
@@ -10,7 +12,7 @@ returns g c l k =
     let i = c.self.inside in
     rw (sym c.self.view_is) (left-judged l c.args.outer _ _ (sym c.same_mode.ensures ∙ c.if-not-same_mode.false) (sym c.same_rule.ensures ∙ c.if-same_rule.false) refl refl refl
     (same-hand _ _ _ _ _ _ _ _ _ _ _ _
-    (c.judged.ensures.kind ∙ ap (λ (z : Place). judged (record i.state.held { at_newline = c.args.outer.at_newline }) i.ahead.newlines i.ahead.token.kind (column_at z)) c.self.invariant.stands.start)
+    (c.judged-kind.ensures.kind ∙ ap (λ (z : Place). judged (record i.state.held { at_newline = c.args.outer.at_newline }) i.ahead.newlines i.ahead.token.kind (column_at z)) c.self.invariant.stands.start)
     refl refl refl refl refl)
-    (ap (λ h. record { tokens = i.ahead.tokens; own = i.ahead.own; here = h }) (c.judged.ensures.here ∙ ap (λ (z : Place). column_hull (record i.state.held { at_newline = c.args.outer.at_newline }) i.ahead.newlines z i.ahead.own) c.self.invariant.stands.start))
-    (ap (λ u. with_hull u (record { reach = i.reach; least = i.least; notes = i.notes.items })) c.whole.ensures))
+    (ap (λ h. record { tokens = i.ahead.tokens; own = i.ahead.own; here = h }) (c.judged-kind.ensures.here ∙ ap (λ (z : Place). column_hull (record i.state.held { at_newline = c.args.outer.at_newline }) i.ahead.newlines z i.ahead.own) c.self.invariant.stands.start))
+    (same-log _ _ _ _ i.notes.items (c.max-self-inside-2.ensures ∙ ap (λ (u : Hull). max i.reach u.reach) c.whole-whole-2.ensures) (c.min-self-inside-2.ensures ∙ ap (λ (u : Hull). min i.least u.least) c.whole-whole-2.ensures)))

@@ -1,4 +1,4 @@
-use Rattle.std.proofs.Common.{◌≡◌, ◌+◌, ◌∙◌, ◌++◌, ◌∷◌, [], List, if◌then◌else◌, append_assoc, refl, sym, ap}
+use Rattle.std.proofs.Common.{◌≡◌, ◌+◌, ◌∙◌, ◌++◌, ◌∷◌, [], List, if◌then◌else◌, max, min, append_assoc, refl, sym, ap}
 use Rattle.typst_kinds.specs.Kinds.{is_error}
 use Rattle.typst_kinds.specs.declared.kind.SyntaxKind.{SyntaxKind}
 use Rattle.typst_lines.specs.Place.{Place, moved}
@@ -8,9 +8,10 @@ use Rattle.typst_node.specs.Tree.{Tree}
 use Rattle.typst_classes.specs.Classes.{CharClasses}
 use Rattle.typst_parsing.specs.Cursor.{distance}
 use Rattle.typst_parsing.specs.Hand.{hand_at, looks_at, no_newlines}
-use Rattle.typst_parsing.specs.Log.{with_hull}
+use Rattle.typst_lexer.specs.declared.hull.Hull.{Hull}
 use Rattle.typst_parsing.specs.Meaning.{less, taken_node}
 use Rattle.typst_parsing.specs.View.{View}
+use Rattle.typst_parsing.proofs.Logs.{same-log}
 use Rattle.typst_parsing.proofs.Places.{moved-sum}
 use Rattle.typst_parsing.proofs.Ready.{eaten-is}
 use Rattle.typst_parsing.proofs.parser.Parser.take.Goals.{then-trims, else-trims}
@@ -36,4 +37,4 @@ returns g c l making k e =
     ∙ ap (λ (q : CharClasses). looks_at q i.state.reading no_newlines (place c.in_ok-next.next.before)) (sym k) in
     rw (sym c.self.view_is) (eaten-is l c.args.trims making _ _ c.args.node (e ∙ ap (λ (v : View). taken_node making v.hand v.place) (sym c.self.view_is)) nodes-is place-is
     c.empty_errors-empties.result c.is_error-is_after_error.result c.empty_errors-empties.ensures (c.is_error-is_after_error.ensures ∙ ap is_error c.kind.ensures) refl hand-is looks-is
-    (ap (λ u. with_hull u (record { reach = i.reach; least = i.least; notes = i.notes.items })) c.whole.ensures))
+    (same-log _ _ _ _ i.notes.items (c.max-self-inside.ensures ∙ ap (λ (u : Hull). max i.reach u.reach) c.whole-whole.ensures) (c.min-self-inside.ensures ∙ ap (λ (u : Hull). min i.least u.least) c.whole-whole.ensures)))
