@@ -4,6 +4,8 @@ use Rattle.typst_kinds.specs.declared.kind.SyntaxKind.{SyntaxKind}
 use Rattle.typst_kinds.specs.declared.kind.SyntaxKind.TheVariants as kind
 use Rattle.typst_parsing.specs.declared.reading.AtNewline.{AtNewline}
 use Rattle.typst_parsing.specs.declared.reading.AtNewline.TheVariants as newline
+use Rattle.typst_kinds.specs.declared.mode.SyntaxMode.TheVariants as mode
+use Rattle.typst_parsing.specs.declared.reading.Block.TheVariants as block
 use Rattle.typst_parsing.specs.declared.reading.Call.{Call}
 use Rattle.typst_parsing.specs.declared.reading.Call.TheVariants.{MarkupExpr}
 use Rattle.typst_parsing.specs.declared.reading.Mark.TheVariants as mark
@@ -14,7 +16,7 @@ use Rattle.typst_parsing.specs.Shape.Shape.{becomes, unclosed, warns, fails}
 use Rattle.typst_parsing.specs.Syntax.{Parser, ◌>>=◌, ◌>>◌}
 use Rattle.typst_parsing.specs.Syntax.Op.{column, marks, is_deepest}
 use Rattle.typst_parsing.specs.Syntax.Parser.{gives, does, pick, repeat, calls}
-use Rattle.typst_parsing.specs.Steps.{peek, eat, convert_and_eat, eat_if, unexpected, expect, within, node, node_with_trivia}
+use Rattle.typst_parsing.specs.Steps.{peek, eat, convert_and_eat, eat_if, unexpected, expect, within, node, node_with_trivia, read_block}
 use Rattle.typst_parsing.specs.Depth.{one_more, too_deep, deeper, stops_at, is_colon, is_star, is_underscore}
 use Rattle.typst_parsing.specs.Steps.{note}
 use Rattle.typst_parsing.specs.declared.stop.Stop.{Stop}
@@ -126,6 +128,39 @@ term_item = do
     colon ← expect is_colon (codes "colon")
     markup true stop.Item))
 
+-- `[ .. ]`, which is markup whatever stands around it: where the second bracket is missing the first is an error
+abbrev pub bracketed : Bool → Shape
+bracketed closed = if closed then becomes kind.ContentBlock else unclosed kind.ContentBlock
+
+abbrev pub markup_reading : Reading
+markup_reading = record { mode = mode.Markup; at_newline = newline.Continue }
+
+unfoldable pub content_block : Parser (Unit {0})
+content_block = within (λ _. markup_reading) (do
+  closed ← node bracketed (do
+    bracket ← eat
+    is_empty ← markup_is_empty true stop.Content
+    eat_if is_right_bracket)
+  gives tt)
+
+abbrev pub is_left_bracket : SyntaxKind → Bool
+is_left_bracket kind.LeftBracket = true
+is_left_bracket _ = false
+
+-- a content block begins directly here, without trivia before it
+abbrev pub opens_directly : Hand → Bool
+opens_directly h = is_left_bracket h.kind && is_nil h.trivia
+
+-- a content block, if one begins directly here
+unfoldable pub direct_content : Parser (Unit {0})
+direct_content = do
+  ahead ← peek
+  pick (opens_directly ahead) (read_block block.Content) (gives tt)
+
+-- a marker, and a content block directly after it
+unfoldable pub reference : Parser (Unit {0})
+reference = node (λ _. becomes kind.Ref) (eat >> direct_content)
+
 -- what the token at hand begins; markers are text where no line begins
 abbrev pub markup_head : Bool → ℕ → SyntaxKind → MarkupHead
 markup_head at_start nesting kind.LeftBracket = head.Opening
@@ -139,6 +174,7 @@ markup_head at_start nesting kind.SmartQuote = head.Itself
 markup_head at_start nesting kind.Link = head.Itself
 markup_head at_start nesting kind.Label = head.Itself
 markup_head at_start nesting kind.Raw = head.Itself
+markup_head at_start nesting kind.RefMarker = head.Reference
 markup_head at_start nesting kind.Star = head.Strong
 markup_head at_start nesting kind.Underscore = head.Emph
 markup_head at_start nesting kind.HeadingMarker = if at_start then head.Heading else head.Plain
@@ -160,6 +196,7 @@ markup_by nesting head.Heading = heading >> gives nesting
 markup_by nesting head.ListItem = list_item >> gives nesting
 markup_by nesting head.EnumItem = enum_item >> gives nesting
 markup_by nesting head.TermItem = term_item >> gives nesting
+markup_by nesting head.Reference = reference >> gives nesting
 markup_by nesting head.Plain = convert_and_eat kind.Text >> gives nesting
 markup_by nesting head.Unexpected = unexpected [] >> gives nesting
 

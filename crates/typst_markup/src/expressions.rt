@@ -3,15 +3,18 @@
 ghost use Rattle.std.specs.Prelude.{◌≡◌, ◌<◌, OnOk, false};
 ghost use Rattle.typst_kinds.specs.Kinds.{is_error};
 ghost use Rattle.typst_parsing.specs.Meaning.{Level};
-ghost use Rattle.typst_parsing.specs.View.{MayNest, Nests, Reads, Rewrapped};
+ghost use Rattle.typst_parsing.specs.View.{MayNest, Nests, Reads, ReadsBlock, Rewrapped};
 ghost use Rattle.typst_markup.specs.Markup as spec;
 
 use crate::head::{MarkupHead, markup_head};
+use crate::references::reference;
 use crate::sequences::{markup, markup_with_trivia};
 use std::alloc::AllocError;
 use typst_classes::Classes;
 use typst_kinds::SyntaxKind;
-use typst_parsing::{AtNewline, Call, Grammar, Parser, Stop, is_colon, is_star, is_underscore};
+use typst_parsing::{
+    AtNewline, Block, Call, Grammar, Parser, Stop, is_colon, is_star, is_underscore,
+};
 
 /// `*..*`
 pub fn strong<C: Classes, F: Fn(&C, &mut Parser<'_>, usize, Call) -> Result<usize, AllocError>>(
@@ -177,7 +180,7 @@ pub fn markup_expr<
     nesting: usize,
 ) -> Result<usize, AllocError>
     requires { MayNest g.now.depth (F.pre g.now.call g.now.classes) }
-    ensures { (l : Level) → l.classes ≡ C.classes g.now.classes.now → Nests l g.now.depth (F.post g.now.call g.now.classes) → Reads l (spec.markup_expr at_start nesting) p.old result p.new }
+    ensures { (l : Level) → l.classes ≡ C.classes g.now.classes.now → Nests l g.now.depth (F.post g.now.call g.now.classes) → ReadsBlock l Block.Content spec.content_block → Reads l (spec.markup_expr at_start nesting) p.old result p.new }
 {
     match markup_head(at_start, nesting, p.current()) {
         MarkupHead::Itself => p.eat(g.classes)?,
@@ -198,6 +201,7 @@ pub fn markup_expr<
         MarkupHead::ListItem => list_item(g, p)?,
         MarkupHead::EnumItem => enum_item(g, p)?,
         MarkupHead::TermItem => term_item(g, p)?,
+        MarkupHead::Reference => reference(g, p)?,
         MarkupHead::Plain => p.convert_and_eat(SyntaxKind::Text, g.classes)?,
         MarkupHead::Unexpected => p.unexpected(g.classes)?,
     }

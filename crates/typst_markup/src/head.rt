@@ -28,6 +28,8 @@ pub enum MarkupHead {
     EnumItem,
     /// `/ Term: ..`
     TermItem,
+    /// `@name`, and a content block directly after it.
+    Reference,
     /// Text, since a marker means nothing here.
     Plain,
     /// Nothing that may stand here.
@@ -51,6 +53,7 @@ pub(crate) fn markup_head(at_start: bool, nesting: usize, kind: SyntaxKind) -> M
         | SyntaxKind::Link
         | SyntaxKind::Label
         | SyntaxKind::Raw => MarkupHead::Itself,
+        SyntaxKind::RefMarker => MarkupHead::Reference,
         SyntaxKind::Star => MarkupHead::Strong,
         SyntaxKind::Underscore => MarkupHead::Emph,
         SyntaxKind::HeadingMarker if at_start => MarkupHead::Heading,

@@ -123,7 +123,7 @@ fn ends(stop: Stop, nesting: usize, kind: SyntaxKind) -> bool
     }
 }
 
-fn is_right_bracket(kind: SyntaxKind) -> bool
+pub(crate) fn is_right_bracket(kind: SyntaxKind) -> bool
     ensures { result ≡ spec.is_right_bracket kind }
 {
     matches!(kind, SyntaxKind::RightBracket)

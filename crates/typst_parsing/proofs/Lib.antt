@@ -13,6 +13,7 @@ pub mod Bytes
 pub mod Columns
 pub mod Within
 pub mod Backs
+pub mod Blocks
 pub mod Trivia
 pub mod Runs
 pub mod Steps

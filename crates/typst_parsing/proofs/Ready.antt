@@ -17,7 +17,7 @@ use Rattle.typst_parsing.specs.Syntax.Op.{column}
 use Rattle.typst_parsing.specs.Syntax.Parser.{does}
 use Rattle.typst_parsing.specs.Cursor.{start_log, start_state}
 use Rattle.typst_parsing.specs.Meaning.{Level, less, same_mode, same_rule, left, renewed, flushed_state, taken_node}
-use Rattle.typst_parsing.specs.View.{View, Does, Fits, Left}
+use Rattle.typst_parsing.specs.View.{View, Does, Fits, Left, Noted}
 use Rattle.typst_parsing.proofs.Runs.{Eaten, Flushed, column_seen}
 use Rattle.typst_parsing.proofs.Steps.{does-eat, does-flush, does-note, does-column}
 use Rattle.typst_parsing.proofs.Trivia.{hand-no-gap, hand-flushed, rejudged, flushed-some, same-hand, looks-flushed, looks-judged}
@@ -172,6 +172,24 @@ noted-is l mark depth before start v w ns m d b s n e f =
       hand = c.hand;
       looks = c.looks;
     }))
+
+-- the same before the pending trivia
+pub noted-before : (l : Level) (mark : Mark) (depth here : ℕ) (v w : View) (ns : List Note) (m : ℕ) → here ≡ position v.place
+    → ns ≡ v.log.notes ++ record { mark = mark; before = here; start = here; depth = depth; state = v.state; reach = v.log.reach; least = v.log.least } ∷ []
+    → m ≡ min (2 ^ 64 - 1) (whole v.looks).least → w ≡ record v { log = record { reach = v.log.reach; least = m; notes = ns } } → Noted l depth mark v w
+noted-before l mark depth here v w ns m b n e f =
+    rw (f, e, n, b)
+    (record {
+      nodes = refl;
+      place = refl;
+      state = refl;
+      hand = refl;
+      looks = refl;
+      log = λ c.
+          (let all = among-is (whole v.looks) v.log c.log in
+          let reach : v.log.reach ≡ max v.log.reach (whole v.looks).reach = omega (arith, all.reach) in
+          same-log _ _ _ _ _ reach refl);
+    })
 
 pub column-is : (l : Level) (v w : View) (a : ℕ) → a ≡ column_at (moved v.hand.gap v.place) → w ≡ column_seen v → Does l (does column) a v w
 column-is l v w a e f = rw (e, f) (does-column v)

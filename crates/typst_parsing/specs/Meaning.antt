@@ -152,6 +152,10 @@ pub record Level : Type 0 where
   pub has : Block → Bool
   pub blocks : Block → Meaning (Unit {0})
 
+-- the same, where no block may be read
+abbrev pub inside : Level → Level
+inside l = record l { has = λ b. false; blocks = λ b z s. plain tt s }
+
 abbrev pub hand_of : Level → Place → State → Hand
 hand_of l z s = hand_at l.classes s.held s.flushed z
 

@@ -2,6 +2,7 @@
 use Rattle.std.specs.Prelude.{ℕ, Bool, true, false, List, [], ◌∷◌, ◌++◌, length, codes}
 use Rattle.typst_kinds.specs.declared.kind.SyntaxKind.{SyntaxKind}
 use Rattle.typst_kinds.specs.Kinds.{is_error}
+use Rattle.typst_parsing.specs.declared.reading.Block.{Block}
 use Rattle.typst_parsing.specs.declared.reading.Mark.{Mark}
 use Rattle.typst_parsing.specs.declared.reading.Reading.{Reading}
 use Rattle.typst_parsing.specs.Hand.{Hand}
@@ -10,7 +11,7 @@ use Rattle.typst_parsing.specs.Shape.Making.{itself, of_kind, surprise}
 use Rattle.typst_parsing.specs.Shape.Shape.{becomes}
 use Rattle.typst_parsing.specs.Syntax.{Op, Parser, ◌>>=◌, ◌>>◌}
 use Rattle.typst_parsing.specs.Syntax.Op.{hand, column, erred, takes, flushes, complains, marks}
-use Rattle.typst_parsing.specs.Syntax.Parser.{gives, does, pick, wraps, scoped}
+use Rattle.typst_parsing.specs.Syntax.Parser.{gives, does, pick, wraps, scoped, block}
 
 -- the token at hand
 abbrev pub peek : Parser Hand
@@ -88,4 +89,11 @@ note mark = do
   ahead ← peek
   noted ← does (marks ahead.gap mark)
   again ← peek
+  gives tt
+
+-- reads a block, and looks at the token behind it
+unfoldable pub read_block : Block → Parser (Unit {0})
+read_block b = do
+  read ← block b
+  ahead ← peek
   gives tt

@@ -1,5 +1,5 @@
 -- What a parser of the code shows, and what it ensures.
-use Rattle.std.specs.Prelude.{◌≡◌, ℕ, zero, ◌+◌, ◌-◌, ◌<◌, ◌≤◌, ◌==◌, Bool, List, ◌∷◌, ◌++◌, [], length, map, take, drop, Result, Ok, Err}
+use Rattle.std.specs.Prelude.{◌≡◌, ℕ, zero, ◌+◌, ◌-◌, ◌<◌, ◌≤◌, ◌==◌, Bool, true, List, ◌∷◌, ◌++◌, [], length, map, take, drop, Result, Ok, Err}
 use Rattle.std.specs.declared.alloc.AllocError.{AllocError}
 use denote.Ref.{MutBor}
 use Rattle.typst_lines.specs.Place.{Place, moved}
@@ -7,14 +7,16 @@ use Rattle.typst_node.specs.Tree.{Tree}
 use Rattle.typst_classes.specs.Classes.{CharClasses}
 use Rattle.typst_parsing.specs.declared.reading.Block.{Block}
 use Rattle.typst_parsing.specs.declared.reading.Call.{Call}
+use Rattle.typst_parsing.specs.declared.reading.Mark.{Mark}
 use Rattle.typst_parsing.specs.declared.reading.Reading.{Reading}
 use Rattle.typst_parsing.specs.declared.reading.State.{State}
 use Rattle.typst_parsing.specs.Ask.{Ask}
 use Rattle.typst_parsing.specs.Hand.{Hand, Looks, looks_at, whole}
-use Rattle.typst_parsing.specs.Log.{Log, logged, with_hull}
+use Rattle.typst_parsing.specs.Log.{Log, logged, with_hull, with_note}
 use Rattle.typst_parsing.specs.Shape.{Shape, shaped, after_shape, Seen, seen}
-use Rattle.typst_parsing.specs.Syntax.{Parser}
-use Rattle.typst_parsing.specs.Meaning.{Outcome, Meaning, Level, hand_of, left, less, run}
+use Rattle.typst_parsing.specs.Syntax.{Parser, ◌>>◌}
+use Rattle.typst_parsing.specs.Meaning.{Outcome, Meaning, Level, inside, hand_of, left, less, run}
+use Rattle.typst_parsing.specs.Steps.{peek}
 
 pub record View : Type 0 where
   -- the nodes before the pending trivia
@@ -105,6 +107,20 @@ pub record Rewrapped (from : ℕ) (shape : Shape) (mid new : View) : Type 0 wher
   pub hand : new.hand ≡ mid.hand
   pub looks : new.looks ≡ mid.looks
   pub log : new.log ≡ mid.log
+
+-- this was noted before the pending trivia, and the token at hand was looked at again
+pub record Noted (l : Level) (depth : ℕ) (mark : Mark) (v w : View) : Type 0 where
+  pub nodes : w.nodes ≡ v.nodes
+  pub place : w.place ≡ v.place
+  pub state : w.state ≡ v.state
+  pub hand : w.hand ≡ v.hand
+  pub looks : w.looks ≡ v.looks
+  pub log : Fits l v → w.log ≡ with_hull (whole w.looks) (with_note 0 depth mark v.state v.place v.log)
+
+-- the block may be read, by this parser, which begins with the token at hand
+pub record ReadsBlock (l : Level) (b : Block) (p : Parser (Unit {0})) : Type 0 where
+  pub has : l.has b ≡ true
+  pub same : (z : Place) (s : State) → l.blocks b z s ≡ run (inside l) (peek >> p) z s
 
 -- ---- a function that makes calls at a depth
 

@@ -1,6 +1,6 @@
 //! A parser that has read one token ahead.
 
-ghost use Rattle.std.specs.Prelude.{Bool, if◌then◌else◌, ◌≡◌, ℕ, ◌+◌, ◌≤◌, ◌==◌, [], ◌∷◌, ◌++◌, List, take, drop, length, map, OnOk, OnErr, IfOk, Ok, false};
+ghost use Rattle.std.specs.Prelude.{Bool, if◌then◌else◌, ◌≡◌, ℕ, ◌+◌, ◌≤◌, ◌==◌, [], ◌∷◌, ◌++◌, List, take, drop, length, map, OnOk, OnErr, IfOk, Ok, false, not};
 ghost use Rattle.typst_kinds.specs.Kinds.{is_error};
 ghost use Rattle.typst_kinds.specs.declared.kind.SyntaxKind.{SyntaxKind as Kind};
 ghost use Rattle.typst_lines.specs.Place.{moved};
@@ -14,7 +14,7 @@ ghost use Rattle.typst_parsing.specs.Meaning.{Level, less, entered, taken_node, 
 ghost use Rattle.typst_parsing.specs.Steps as spec;
 ghost use Rattle.typst_parsing.specs.Syntax.Op.{column};
 ghost use Rattle.typst_parsing.specs.Syntax.Parser.{does};
-ghost use Rattle.typst_parsing.specs.View.{Does, Reads, Left, Rewrapped};
+ghost use Rattle.typst_parsing.specs.View.{Does, Reads, Left, Rewrapped, Noted};
 
 use crate::ahead::{Ahead, column, judged, left, read_ahead};
 use crate::reading::{AtNewline, Mark, Newlines, Note, Reading, State};
@@ -131,6 +131,13 @@ impl<'s> Parser<'s> {
         self.ahead.newlines.any
     }
 
+    /// Whether trivia were passed before it that are no nodes yet.
+    pub fn had_trivia(&self) -> bool
+        ensures { result ≡ not (is_nil self.now.hand.trivia) }
+    {
+        !is_none(self.ahead.trivia.as_slice())
+    }
+
     /// How many bytes there are from the pending trivia on.
     pub fn left(&self) -> usize
         ensures { result ≡ bytes_left self.now.place }
@@ -156,6 +163,24 @@ impl<'s> Parser<'s> {
             mark,
             before: self.ahead.before.cursor(),
             start: self.ahead.start.cursor(),
+            depth,
+            state: self.state,
+            reach: self.reach,
+            least: self.least,
+        })?;
+        self.least = usize::MAX.min(self.ahead.whole().least);
+        Ok(())
+    }
+
+    /// Notes what begins or ends before the pending trivia, where so many levels are left.
+    pub fn note_before(&mut self, mark: Mark, depth: usize) -> Result<(), AllocError>
+        ensures { (l : Level) → OnOk result (Noted l depth mark self.old self.new) }
+    {
+        let here = self.ahead.before.cursor();
+        self.notes.push(Note {
+            mark,
+            before: here,
+            start: here,
             depth,
             state: self.state,
             reach: self.reach,

@@ -1,0 +1,10 @@
+use Rattle.typst_kinds.specs.declared.kind.SyntaxKind.TheVariants as kind
+use Rattle.typst_parsing.specs.Shape.Shape.{becomes}
+use Rattle.typst_markup.specs.Markup.{reference}
+use Rattle.typst_parsing.proofs.Steps.{does-next, does-node}
+use Rattle.typst_markup.proofs.references.reference.Goals as goal
+
+pub returns : goal.returns
+unfolding reference
+returns g c l k h b =
+    does-node (λ _. becomes kind.Ref) h.sound c.marker-from.ensures.few c.marker-from.ensures.marker (does-next (c.in_ok-eat.ensures l k) (c.in_ok-direct_content.ensures l k h b)) c.in_ok-wrap.ensures.wrapped
