@@ -30,9 +30,18 @@ backs-blocks b z s = record { back = omega arith; left = omega arith }
 pub sound-level : (k : CharClasses) (level : ℕ) → Sound (level_at k level)
 sound-level k level = record { within = within-meaning k level; backs = backs-meaning k level; within_block = within-blocks; backs_block = backs-blocks }
 
+-- what is at hand doesn't depend on the level
+fits-level : (k : CharClasses) (i j : ℕ) {v : View} → Fits (level_at k i) v → Fits (level_at k j) v
+fits-level k i j c = record { hand = c.hand; looks = c.looks; log = c.log }
+
 pub makes-production : (k : CharClasses) (level : ℕ) {a : ℕ} {call : Call} {old new : View} → Does (level_at k level) (production call) a old new → Makes (level_at k (suc level)) call a old new
 unfolding meaning
-makes-production k level h = record { ran = λ c. (h.ran c).runs; ready = h.ready }
+makes-production k level {a = a} {call = call} {old = old} {new = new} h =
+    let e : level ≡ suc level - 1 = omega arith in
+    record {
+      ran = λ c. subst (λ (n : ℕ). Runs n (meaning k (suc level) call old.place old.state) a old new) e (h.ran (fits-level k (suc level) level c)).runs;
+      ready = λ c. fits-level k level (suc level) (h.ready (fits-level k (suc level) level c));
+    }
 
 less-nil : {A : Type 0} (n : ℕ) → less {A = A} n [] ≡ []
 unfolding less

@@ -71,11 +71,7 @@ pub struct Noted {
 
 /// The syntax tree of a text of markup, and what was looked at and noted for it: at the text's
 /// start and behind each expression of the text's own a piece, in order.
-pub fn parse_noted<C: Classes>(
-    alloc: Global,
-    text: &str,
-    classes: &C,
-) -> Result<Noted, AllocError>
+pub fn parse_noted<C: Classes>(alloc: Global, text: &str, classes: &C) -> Result<Noted, AllocError>
     ensures tree { IfOk result (λ r. r.tree ≡ spec.tree (C.classes classes.now) (chars text.now)) }
     ensures log { IfOk result (λ r. record { reach = r.hull.reach; least = r.hull.least; notes = r.notes.items } ≡ spec.log (C.classes classes.now) (chars text.now)) }
 {

@@ -4,5 +4,5 @@
 mod grammar;
 mod laws;
 
-pub use grammar::{make_call, parse, production};
+pub use grammar::{Noted, make_call, parse, parse_noted, production};
 pub use laws::{depth_law, frame_law, leaves_law, trees_of_texts};

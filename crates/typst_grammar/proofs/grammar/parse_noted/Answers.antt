@@ -13,7 +13,7 @@ returns-clause-tree g c =
     let k = g.C.Classes.classes c.args.classes.now in
     let l = level_at k max_depth in
     let d = does-next (c.in_ok-markup_exprs.ensures l refl (record { sound = sound-level k max_depth; level = refl; reads = λ old new call r h. h.1 })) (c.in_ok-flush_trivia.ensures l) in
-    c.inner.ensures ∙ ap (λ ts. inner_of kind.Markup (forest ts)) (c.finish.ensures.nodes ∙ (parsed-is k max_depth _ _ _ c.in_ok-p.ensures d).nodes)
+    c.inner.ensures ∙ ap (λ ts. inner_of kind.Markup (forest ts)) (c.finish-nodes.ensures.nodes ∙ (parsed-is k max_depth _ _ _ c.in_ok-p.ensures d).nodes)
 
 pub returns-clause-log : goal.returns-clause-log
 unfolding log
@@ -21,4 +21,4 @@ returns-clause-log g c =
     let k = g.C.Classes.classes c.args.classes.now in
     let l = level_at k max_depth in
     let d = does-next (c.in_ok-markup_exprs.ensures l refl (record { sound = sound-level k max_depth; level = refl; reads = λ old new call r h. h.1 })) (c.in_ok-flush_trivia.ensures l) in
-    c.finish.ensures.log ∙ (parsed-is k max_depth _ _ _ c.in_ok-p.ensures d).log
+    c.finish-nodes.ensures.log ∙ (parsed-is k max_depth _ _ _ c.in_ok-p.ensures d).log
