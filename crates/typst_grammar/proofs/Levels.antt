@@ -4,7 +4,7 @@ use Rattle.std.specs.Str.{chars}
 use Rattle.typst_lines.specs.Place.{Place}
 use Rattle.typst_node.specs.Tree.{Tree}
 use Rattle.typst_classes.specs.Classes.{CharClasses}
-use Rattle.typst_parsing.specs.declared.reading.Block.{Block}
+use Rattle.typst_parsing.specs.declared.reading.Block.TheVariants as block
 use Rattle.typst_parsing.specs.declared.reading.Call.{Call}
 use Rattle.typst_parsing.specs.declared.reading.State.{State}
 use Rattle.typst_parsing.specs.Cursor.{IsStart}
@@ -15,20 +15,18 @@ use Rattle.typst_parsing.specs.Log.{Log, no_log, with_hull, with_note, logged}
 use Rattle.typst_parsing.specs.Steps.{flush_trivia}
 use Rattle.typst_parsing.specs.Syntax.{◌>>◌}
 use Rattle.typst_parsing.proofs.Runs.{Looked, looked-fits, noted, ran-next, ran-marks, ran-look}
-use Rattle.typst_markup.specs.Markup.{markup_exprs}
+use Rattle.typst_markup.specs.Markup.{content_block, markup_exprs}
 use Rattle.typst_parsing.specs.Meaning.{Level, less, run}
-use Rattle.typst_parsing.specs.View.{View, Runs, Within, Backs, Sound, Does, Makes, Fits, at}
-use Rattle.typst_grammar.specs.Grammar.{production, blocks, meaning, level_at, markup_reading, start_of, whole, parsed}
-use Rattle.typst_grammar.proofs.Lawful.{within-meaning, backs-meaning}
-
-within-blocks : (b : Block) → Within (blocks b)
-within-blocks b z s = omega arith
-
-backs-blocks : (b : Block) → Backs (blocks b)
-backs-blocks b z s = record { back = omega arith; left = omega arith }
+use Rattle.typst_parsing.specs.View.{View, Runs, Sound, ReadsBlock, Does, Makes, Fits, at}
+use Rattle.typst_grammar.specs.Grammar.{production, meaning, level_at, markup_reading, start_of, whole, parsed}
+use Rattle.typst_grammar.proofs.Lawful.{within-meaning, backs-meaning, within-block, backs-block}
 
 pub sound-level : (k : CharClasses) (level : ℕ) → Sound (level_at k level)
-sound-level k level = record { within = within-meaning k level; backs = backs-meaning k level; within_block = within-blocks; backs_block = backs-blocks }
+sound-level k level = record { within = within-meaning k level; backs = backs-meaning k level; within_block = within-block k level; backs_block = backs-block k level }
+
+-- content blocks may be read there
+pub reads-content : (k : CharClasses) (level : ℕ) → ReadsBlock (level_at k level) block.Content content_block
+reads-content k level = record { has = refl; same = λ z s. refl }
 
 -- what is at hand doesn't depend on the level
 fits-level : (k : CharClasses) (i j : ℕ) {v : View} → Fits (level_at k i) v → Fits (level_at k j) v

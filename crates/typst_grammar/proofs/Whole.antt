@@ -24,7 +24,7 @@ use Rattle.typst_parsing.proofs.Eats.{Eats, eats-next, eats-peek, eats-column, e
 use Rattle.typst_parsing.proofs.Rests.{Rests}
 use Rattle.typst_markup.specs.declared.head.MarkupHead.{MarkupHead}
 use Rattle.typst_markup.specs.declared.head.MarkupHead.TheVariants as head
-use Rattle.typst_markup.specs.Markup.{ends, note_piece, markup_turn, markup_exprs, strong, emph, heading, list_item, enum_item, term_item, markup_head, markup_by, markup_expr}
+use Rattle.typst_markup.specs.Markup.{ends, note_piece, markup_turn, markup_exprs, strong, emph, heading, list_item, enum_item, term_item, reference, markup_head, markup_by, markup_expr}
 use Rattle.typst_grammar.specs.Grammar.{meaning, level_at, max_depth, markup_reading, start_state, start_of, whole, parsed, tree}
 use Rattle.typst_grammar.proofs.Lawful.{kept-at, rests-at, within-at}
 
@@ -67,6 +67,10 @@ module _ (l : Level) where
   unfolding term_item
   eats-term = eats-column l _ (λ here. eats-within l _ _ (eats-node l _ _ (eats-next l _ _ (eats-within l _ _ (eats-next l eat _ eats-eat)))))
 
+  eats-reference : Eats l reference
+  unfolding reference
+  eats-reference = eats-node l _ _ (eats-next l eat _ eats-eat)
+
   eats-by : (nesting : ℕ) (h : MarkupHead) → Eats l (markup_by nesting h)
   eats-by nesting head.Itself = eats-next l eat _ eats-eat
   eats-by nesting head.Opening = eats-next l (convert_and_eat kind.Text) _ eats-text
@@ -78,6 +82,7 @@ module _ (l : Level) where
   eats-by nesting head.ListItem = eats-next l list_item _ eats-list
   eats-by nesting head.EnumItem = eats-next l enum_item _ eats-enum
   eats-by nesting head.TermItem = eats-next l term_item _ eats-term
+  eats-by nesting head.Reference = eats-next l reference _ eats-reference
   eats-by nesting head.Plain = eats-next l (convert_and_eat kind.Text) _ eats-text
   eats-by nesting head.Unexpected = eats-next l (unexpected _) _ (eats-unexpected _)
 
@@ -98,6 +103,9 @@ on_false P false x y e p = p
 on_true : {A : Type 0} (P : A → Type 0) (b : Bool) (x y : A) → b ≡ true → P x → P (if b then x else y)
 on_true P true x y e p = p
 on_true P false x y e p = absurd (cc)
+
+some-more : (n : ℕ) → 0 < n → 0 < 0 + n
+some-more n h = omega arith
 
 by_cases : {P : Type 0} (b : Bool) → (b ≡ true → P) → (b ≡ false → P) → P
 by_cases true f g = f refl
@@ -129,7 +137,7 @@ module _ (k : CharClasses) where
   unfolding run deeper meaning
   eats-deeper x z s h =
       let inside : 0 < (run (level_at k 255) (markup_expr x.0 x.1) (moved 0 z) s).taken = eats-expr (level_at k 255) x.0 x.1 z s h in
-      omega arith
+      some-more _ inside
 
   -- the token at hand, and then one or the other
   abbrev shown : Place → State → Outcome Turn → Outcome Turn

@@ -7,6 +7,7 @@ use Rattle.typst_node.specs.Tree.{Tree, forest, inner_of}
 use Rattle.typst_classes.specs.Classes.{CharClasses}
 use Rattle.typst_parsing.specs.declared.reading.AtNewline.TheVariants.{Continue}
 use Rattle.typst_parsing.specs.declared.reading.Block.{Block}
+use Rattle.typst_parsing.specs.declared.reading.Block.TheVariants as block
 use Rattle.typst_parsing.specs.declared.reading.Call.{Call}
 use Rattle.typst_parsing.specs.declared.reading.Call.TheVariants.{MarkupExpr}
 use Rattle.typst_parsing.specs.declared.reading.Mark.TheVariants.{Piece}
@@ -20,27 +21,38 @@ use Rattle.typst_parsing.specs.Syntax.Parser.{gives, does}
 use Rattle.typst_parsing.specs.Steps.{peek, flush_trivia}
 use Rattle.typst_parsing.specs.Log.{Log, no_log, logged}
 use Rattle.typst_parsing.specs.Meaning.{Outcome, Meaning, Level, plain, run}
-use Rattle.typst_markup.specs.Markup.{markup_expr, markup_exprs}
+use Rattle.typst_markup.specs.Markup.{content_block, markup_expr, markup_exprs}
 
 -- what a call reads
 abbrev pub production : Call → Parser ℕ
 production (MarkupExpr at_start nesting) = markup_expr at_start nesting
 
--- blocks come with code
+-- content blocks may be read; LATER, code blocks
 abbrev pub has : Block → Bool
-has b = false
+has block.Content = true
+has block.Code = false
 
-abbrev pub blocks : Block → Meaning (Unit {0})
-blocks b z s = plain tt s
+-- what a block reads, from the token at hand on
+abbrev pub block_production : Block → Parser (Unit {0})
+block_production block.Content = content_block
+block_production block.Code = gives tt
+
+-- where so many levels are left, and no block may be read but within what is read deeper
+abbrev pub blockless : CharClasses → ℕ → (Call → Meaning ℕ) → Level
+blockless k level deeper = record { classes = k; level = level; deeper = deeper; has = λ b. false; blocks = λ b z s. plain tt s }
+
+-- what blocks are there
+abbrev pub blocks : CharClasses → ℕ → (Call → Meaning ℕ) → Block → Meaning (Unit {0})
+blocks k level deeper b = run (blockless k level deeper) (peek >> block_production b)
 
 -- what a call gives below so many levels; at the limit none is made
 unfoldable pub meaning : CharClasses → ℕ → Call → Meaning ℕ
 meaning k zero call = λ z s. record (plain 0 s) { met = true }
-meaning k (suc level) call = run (record { classes = k; level = level; deeper = meaning k level; has = has; blocks = blocks }) (production call)
+meaning k (suc level) call = run (record { classes = k; level = level; deeper = meaning k level; has = has; blocks = blocks k level (meaning k level) }) (production call)
 
 -- where so many levels are left
 abbrev pub level_at : CharClasses → ℕ → Level
-level_at k level = record { classes = k; level = level; deeper = meaning k level; has = has; blocks = blocks }
+level_at k level = record { classes = k; level = level; deeper = meaning k level; has = has; blocks = blocks k level (meaning k level) }
 
 -- how deep calls may nest
 abbrev pub max_depth : ℕ

@@ -4,7 +4,8 @@ ghost use Rattle.std.specs.Prelude.{◌≡◌, ◌<◌, IfOk};
 ghost use Rattle.std.specs.Str.{chars};
 ghost use Rattle.typst_node.specs.Tree.{text_of};
 ghost use Rattle.typst_parsing.specs.Meaning.{Level};
-ghost use Rattle.typst_parsing.specs.View.{Calls, MayNest, Nests, Reads};
+ghost use Rattle.typst_parsing.specs.View.{Calls, MayNest, Nests, Reads, ReadsBlock};
+ghost use Rattle.typst_markup.specs.Markup.{content_block};
 ghost use Rattle.typst_grammar.specs.Grammar as spec;
 
 use std::alloc::{AllocError, Global};
@@ -13,7 +14,7 @@ use typst_kinds::{SyntaxKind, SyntaxMode};
 use typst_lexer::Hull;
 use typst_markup::{markup_expr, markup_exprs};
 use typst_node::SyntaxNode;
-use typst_parsing::{AtNewline, Call, Grammar, Mark, Note, Parser, Reading, Stop};
+use typst_parsing::{AtNewline, Block, Call, Grammar, Mark, Note, Parser, Reading, Stop};
 
 /// How deep calls may nest.
 const MAX_DEPTH: usize = 256;
@@ -25,7 +26,7 @@ pub fn production<C: Classes, F: Fn(&C, &mut Parser<'_>, usize, Call) -> Result<
     call: Call,
 ) -> Result<usize, AllocError>
     requires { MayNest g.now.depth (F.pre g.now.call g.now.classes) }
-    ensures { (l : Level) → l.classes ≡ C.classes g.now.classes.now → Nests l g.now.depth (F.post g.now.call g.now.classes) → Reads l (spec.production call) p.old result p.new }
+    ensures { (l : Level) → l.classes ≡ C.classes g.now.classes.now → Nests l g.now.depth (F.post g.now.call g.now.classes) → ReadsBlock l Block.Content content_block → Reads l (spec.production call) p.old result p.new }
 {
     match call {
         Call::MarkupExpr(at_start, nesting) => Ok(markup_expr(g, p, at_start, nesting)?),
