@@ -2,9 +2,9 @@
 use Rattle.std.proofs.Common.{◌≡◌, ℕ, List, [], take, refl, ap, sym, ◌∙◌}
 use Rattle.std.specs.Str.{chars}
 use Rattle.typst_lines.specs.Place.{Place, place_at, moved}
-use Rattle.typst_lexer.proofs.Moves.{moved-more}
+use Rattle.typst_readers.proofs.Moves.{moved-more}
 use Rattle.typst_lexer.specs.Nodes.{IsRead, token_node}
-use Rattle.typst_lexer.specs.Reader.{Reader, exec, eaten, place}
+use Rattle.typst_readers.specs.Reader.{Reader, exec, eaten, place}
 use Rattle.typst_lexer.specs.declared.token.Token.{Token}
 use Rattle.typst_node.specs.Tree.{Tree}
 

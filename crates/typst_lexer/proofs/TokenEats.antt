@@ -13,8 +13,8 @@ use Rattle.typst_lexer.specs.Characters.{is_space}
 use Rattle.typst_classes.specs.Classes.{CharClasses, in_line}
 use Rattle.typst_lexer.specs.Common.{whitespace, shebang, line_comment, block_comment, comment_end}
 use Rattle.typst_lexer.specs.Markup.{sign, text_from, backslash, dot, minus, emphasis, heading, marker, numbering, markup}
-use Rattle.typst_lexer.specs.Reader.{Reader, eaten}
-use Rattle.typst_lexer.specs.Reader.Reader.{answer}
+use Rattle.typst_readers.specs.Reader.{Reader, eaten}
+use Rattle.typst_readers.specs.Reader.Reader.{answer}
 use Rattle.typst_lexer.specs.Token.{plain}
 use Rattle.typst_lexer.specs.Tokens.{of_mode, hash, slash, star, token}
 use Rattle.typst_lexer.specs.declared.token.Token.{Token}

@@ -5,8 +5,8 @@ use Rattle.typst_kinds.specs.declared.mode.SyntaxMode.{SyntaxMode}
 use Rattle.typst_kinds.specs.declared.mode.SyntaxMode.TheVariants.{Markup}
 use Rattle.typst_lines.specs.Place.{Place}
 use Rattle.typst_classes.specs.Classes.{CharClasses, by_law}
-use Rattle.typst_lexer.specs.Column.{column, column_look}
-use Rattle.typst_lexer.specs.Reader.{Look, look, eaten, exec, Agree, SameReading, place}
+use Rattle.typst_readers.specs.Column.{column, column_look}
+use Rattle.typst_readers.specs.Reader.{Look, look, eaten, exec, Agree, SameReading, place}
 use Rattle.typst_lexer.specs.Token.{plain}
 use Rattle.typst_lexer.specs.Tokens.{token}
 use Rattle.typst_lexer.specs.declared.token.Token.{Token}

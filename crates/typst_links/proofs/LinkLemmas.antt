@@ -95,39 +95,6 @@ pub link-is : (cs link : List ℕ) (b : Bool) → link ≡ without_last_signs (f
 unfolding link_prefix
 link-is cs link b e f = ap (λ x. (x, b)) e ∙ ap (λ x. (without_last_signs (front [] cs).0, x)) f
 
--- ---- signs at the end
-
-abbrev pub stripped : List ℕ → List ℕ
-stripped back = drop (prefix_len (among last_signs) back) back
-
-pub strip-step : (p q : Place) (c : ℕ) → Some c ≡ slice_get p.behind 0 → among last_signs c ≡ true → q ≡ moved_back p → stripped q.behind ≡ stripped p.behind
-strip-step p q c s e m = ap (λ x. stripped x.behind) m ∙ from p.behind p.ahead s
-  where
-    from : (xs ys : List ℕ) → Some c ≡ slice_get xs 0 → stripped (moved_back (at xs ys)).behind ≡ stripped xs
-    from [] ys g = absurd (cc)
-    from (d ∷ xs) ys g =
-        let is : d ≡ c = cc in
-        let more : 1 + prefix_len (among last_signs) xs ≡ suc (prefix_len (among last_signs) xs) = omega arith in
-        let passes : among last_signs d ≡ true = ap (among last_signs) is ∙ e in
-        rw (passes, more) refl
-
-pub strip-stop : (p : Place) (c : ℕ) → Some c ≡ slice_get p.behind 0 → among last_signs c ≡ false → stripped p.behind ≡ p.behind
-strip-stop p c s e = from p.behind s
-  where
-    from : (xs : List ℕ) → Some c ≡ slice_get xs 0 → stripped xs ≡ xs
-    from [] g = absurd (cc)
-    from (d ∷ xs) g =
-        let is : d ≡ c = cc in
-        let stops : among last_signs d ≡ false = ap (among last_signs) is ∙ e in
-        rw stops refl
-
-pub strip-end : (p : Place) → None ≡ slice_get p.behind 0 → stripped p.behind ≡ p.behind
-strip-end p s = from p.behind s
-  where
-    from : (xs : List ℕ) → None ≡ slice_get xs 0 → stripped xs ≡ xs
-    from [] g = refl
-    from (d ∷ xs) g = absurd (cc)
-
 -- ---- names
 
 pub none-is : (text : List ℕ) → IsUtf8 text → (length (chars text) == 0) ≡ (length text == 0)

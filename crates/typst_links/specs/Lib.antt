@@ -1,3 +1,4 @@
-pub mod Links
+pub mod Ends
 pub mod Labels
 pub mod Laws
+pub mod Links

@@ -1,7 +1,7 @@
 -- How far a link goes.
-use Rattle.std.specs.Prelude.{ℕ, Bool, false, ◌||◌, ◌==◌, if◌then◌else◌, List, [], ◌∷◌, length, drop, reverse, Option, Some, None}
+use Rattle.std.specs.Prelude.{ℕ, Bool, false, ◌||◌, ◌==◌, if◌then◌else◌, List, [], ◌∷◌, length, Option, Some, None}
 use Rattle.std.specs.Char.{is_ascii_alphanumeric}
-use Rattle.std.specs.List.{prefix_len}
+use Rattle.typst_links.specs.Ends.{without_last}
 
 -- A character is one of the signs.
 abbrev pub among : List ℕ → ℕ → Bool
@@ -40,7 +40,7 @@ front awaited (c ∷ cs) = elim (after awaited c) [ None ↦ ([], awaited) | Som
 
 -- Characters without the signs at their end that a link doesn't end in.
 abbrev pub without_last_signs : List ℕ → List ℕ
-without_last_signs cs = let back = reverse cs in reverse (drop (prefix_len (among last_signs) back) back)
+without_last_signs cs = without_last (among last_signs) cs
 
 -- The link that characters begin with, and whether each of its brackets is closed.
 unfoldable pub link_prefix : List ℕ → List ℕ × Bool

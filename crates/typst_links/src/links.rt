@@ -6,9 +6,10 @@ ghost use Rattle.std.specs.Str.{chars};
 ghost use Rattle.typst_lines.specs.Scanner.{place};
 ghost use Rattle.typst_links.specs.Links as spec;
 
+use crate::ends::without_last;
 use std::alloc::{AllocError, Global};
 use std::marker::Model;
-use typst_lines::Scanner;
+use typst_lines::{CharSet, Scanner};
 
 /// The closing brackets that are still to come in a link.
 #[derive(Drop)]
@@ -90,7 +91,8 @@ pub fn link_prefix(alloc: Global, text: &str) -> Result<(&str, bool), AllocError
 }
 
 /// Eats the longest front of a link, and says whether each bracket is closed.
-fn eat_front(alloc: Global, s: &mut Scanner<'_>) -> Result<bool, AllocError>
+pub fn eat_front(alloc: Global, s: &mut Scanner<'_>) -> Result<bool, AllocError>
+    ensures same_text { OnOk result (s.new.text.now ≡ s.old.text.now) }
     ensures front { OnOk result (place s.new ≡ moved (length (spec.front [] (place s.old).ahead).0) (place s.old)) }
     ensures balanced { IfOk result (λ b. b ≡ (length (spec.front [] (place s.old).ahead).1 == 0)) }
 {
@@ -105,18 +107,10 @@ fn eat_front(alloc: Global, s: &mut Scanner<'_>) -> Result<bool, AllocError>
 }
 
 /// The text without the marks of a sentence at its end.
-fn without_last_signs(text: &str) -> &str
+pub fn without_last_signs(text: &str) -> &str
     ensures { chars result.now ≡ spec.without_last_signs (chars text.now) }
 {
-    let mut s = Scanner::new(text);
-    s.jump(text.len());
-    while let Some(c) = s.last() {
-        if !is_last_sign(c) {
-            return s.before();
-        }
-        s.uneat();
-    }
-    s.before()
+    without_last(text, &LastSigns)
 }
 
 /// Whether links can have the character, which is no bracket.
@@ -147,9 +141,15 @@ fn is_plain(c: char) -> bool
         )
 }
 
-/// Whether the character is a mark of a sentence that no link ends in.
-fn is_last_sign(c: char) -> bool
-    ensures { result ≡ spec.among spec.last_signs c }
-{
-    matches!(c, '!' | ',' | '.' | ':' | ';' | '?' | '\'')
+/// The marks of a sentence that no link ends in.
+#[derive(Clone, Copy)]
+struct LastSigns;
+
+impl CharSet for LastSigns {
+    ghost members = { λ _. spec.among spec.last_signs };
+
+    #[inline]
+    fn has(&self, c: char) -> bool {
+        matches!(c, '!' | ',' | '.' | ':' | ';' | '?' | '\'')
+    }
 }

@@ -11,8 +11,8 @@ use Rattle.typst_lexer.specs.Characters.{among, is_code_point, is_space, is_u64}
 use Rattle.typst_classes.specs.Classes.{CharClasses}
 use Rattle.typst_lexer.specs.Common.{line_ends, is_parbreak, space, whitespace, shebang, line_comment, block_comment, comment_end}
 use Rattle.typst_lexer.specs.Markup.{sign, text_from, code_point, backslash, dot, marker_or_text, marker, hyphen, minus, emphasis, heading, numbering, markup}
-use Rattle.typst_lexer.specs.Reader.{Reader, place, exec, eaten}
-use Rattle.typst_lexer.specs.Reader.Reader.{answer, peek}
+use Rattle.typst_readers.specs.Reader.{Reader, place, exec, eaten}
+use Rattle.typst_readers.specs.Reader.Reader.{answer, peek}
 use Rattle.typst_lexer.specs.Text.{text}
 use Rattle.typst_lexer.specs.Token.{plain}
 use Rattle.typst_lexer.specs.Tokens.{of_mode, hash, slash, star, token}

@@ -8,7 +8,7 @@ use Rattle.typst_lines.specs.Place.{Place, moved}
 use Rattle.typst_classes.specs.Classes.{CharClasses}
 use Rattle.typst_lexer.specs.Nodes.{token_node}
 use Rattle.typst_lexer.specs.declared.token.Token.{Token}
-use Rattle.typst_lexer.specs.Reader.{Look, look}
+use Rattle.typst_readers.specs.Reader.{Look, look}
 use Rattle.typst_lexer.specs.Tokens.{token}
 use Rattle.typst_parsing.specs.declared.reading.AtNewline.TheVariants.{Continue, Stop, ContextualContinue, StopParBreak, RequireColumn}
 use Rattle.typst_parsing.specs.declared.reading.Block.{Block}

@@ -14,9 +14,9 @@ use Rattle.typst_lexer.specs.declared.token.Token.{Token}
 use Rattle.typst_parsing.specs.declared.reading.Newlines.{Newlines}
 use Rattle.typst_parsing.specs.declared.reading.Reading.{Reading}
 use Rattle.typst_parsing.specs.Hand.{Hand, Ahead, text_ahead, is_trivia, token_at, len_at, at_trivia, no_newlines, both_newlines, newlines_of, direct, after_trivia, ahead_by, ahead, column_at, judged, hand_by, hand_at}
-use Rattle.typst_lexer.specs.Reader.{exec, eaten}
+use Rattle.typst_readers.specs.Reader.{exec, eaten}
 use Rattle.typst_lexer.specs.Tokens.{token}
-use Rattle.typst_lexer.proofs.Moves.{exec-moved}
+use Rattle.typst_readers.proofs.Moves.{exec-moved}
 use Rattle.typst_lines.specs.Scanner.{place}
 use Rattle.typst_parsing.specs.declared.ahead.Ahead.{Ahead as Front}
 use Rattle.typst_parsing.specs.Cursor.{IsAhead}

@@ -10,7 +10,7 @@ use Rattle.typst_lines.specs.Place.{Place, moved}
 use Rattle.typst_node.specs.Tree.{Tree}
 use Rattle.typst_lexer.specs.declared.token.Token.{Token}
 use Rattle.typst_classes.specs.Classes.{CharClasses}
-use Rattle.typst_lexer.specs.Reader.{Look, exec, eaten, look}
+use Rattle.typst_readers.specs.Reader.{Look, exec, eaten, look}
 use Rattle.typst_lexer.specs.Tokens.{token}
 use Rattle.typst_lexer.specs.Nodes.{token_node}
 use Rattle.typst_parsing.specs.declared.reading.AtNewline.{AtNewline}
