@@ -1,6 +1,9 @@
 pub mod CommentLemmas
+pub mod LinkLemmas
+pub mod NameLemmas
 pub mod NodeLemmas
 pub mod NumberLemmas
+pub mod RawLemmas
 pub mod TextLemmas
 pub mod TokenEats
 pub mod TokenLemmas

@@ -1,11 +1,11 @@
 -- Facts on texts.
-use Rattle.std.proofs.Common.{◌≡◌, ◌≤◌, ◌<◌, ℕ, zero, suc, ◌+◌, length, Bool, true, false, not, ◌==◌, if◌then◌else◌, List, [], ◌∷◌, refl, sym, ap, subst, ◌∙◌, arith, slice_get, Some, None}
+use Rattle.std.proofs.Common.{◌≡◌, ◌≤◌, ◌<◌, ℕ, zero, suc, length, Bool, true, false, not, ◌==◌, if◌then◌else◌, List, [], ◌∷◌, refl, sym, ap, subst, ◌∙◌, arith, slice_get, Some, None}
 use Rattle.std.proofs.lemmas.Bool.Decides.{nat_tests}
 use Rattle.typst_kinds.specs.declared.kind.SyntaxKind.TheVariants as kind
 use Rattle.std.specs.List.{prefix_len}
-use Rattle.typst_lines.specs.Place.{Place, moved, moved_from, past, scout, passes, word_at}
+use Rattle.typst_lines.specs.Place.{Place, moved, moved_from, past, scout, word_at}
 use Rattle.typst_classes.specs.Classes.{CharClasses}
-use Rattle.typst_readers.specs.Reader.{place, Look, widened, Step, Reader, Turn, ask, glimpse, eat_span, see_word}
+use Rattle.typst_readers.specs.Reader.{place, widened, Reader, Turn, ask, glimpse, eat_span, see_word}
 use Rattle.typst_readers.specs.Reader.Memory.{blank}
 use Rattle.typst_readers.specs.Reader.Reader.{answer}
 use Rattle.typst_readers.specs.Reader.Turn.{leave, go}

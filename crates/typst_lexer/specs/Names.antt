@@ -1,5 +1,5 @@
 -- Labels and references.
-use Rattle.std.specs.Prelude.{ℕ, if◌then◌else◌, ◌==◌, length}
+use Rattle.std.specs.Prelude.{if◌then◌else◌, ◌==◌, length}
 use Rattle.typst_classes.specs.Classes.{CharClasses}
 use Rattle.typst_classes.specs.Identifiers.{is_id_continue}
 use Rattle.typst_kinds.specs.declared.kind.SyntaxKind.TheVariants as kind

@@ -27,10 +27,9 @@ abbrev pub raw_end : Memory → Token
 raw_end blank = plain kind.Raw
 raw_end _ = faulty fault.UnclosedRaw
 
--- What is left of a raw text behind so many backticks: all up to as many in a row, or to the end.
-unfoldable pub raw_rest : ℕ → Reader Token
-raw_rest wanted = eat_span in_raw (fence wanted 0) (λ memory. answer (raw_end memory))
-
--- A backtick comes next: exactly two in a row are a raw text, and others begin one.
+-- A backtick comes next: exactly two in a row are a raw text, and others begin one, which goes on to
+-- as many in a row, or to the end.
 unfoldable pub raw : Reader Token
-raw = eat_run (λ c. c == 96) (λ ticks. if length ticks == 2 then answer (plain kind.Raw) else raw_rest (length ticks))
+raw = eat_run (λ c. c == 96) (λ ticks.
+    if length ticks == 2 then answer (plain kind.Raw)
+    else eat_span in_raw (fence (length ticks) 0) (λ memory. answer (raw_end memory)))

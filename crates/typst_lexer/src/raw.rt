@@ -7,8 +7,7 @@ use crate::token::{Fault, Token};
 use typst_kinds::SyntaxKind;
 use typst_readers::Cursor;
 
-/// A raw text, with all its backticks.
-#[tactic(auto, unfolding(crate::specs::Raw::raw))]
+/// A raw text: two backticks, or all from some backticks to as many in a row.
 pub(crate) fn raw(s: &mut Cursor<'_>) -> Token
     ensures { Reads spec.raw s.old result s.new }
 {
@@ -16,13 +15,6 @@ pub(crate) fn raw(s: &mut Cursor<'_>) -> Token
     if backticks == 2 {
         return Token::plain(SyntaxKind::Raw);
     }
-    raw_rest(s, backticks)
-}
-
-/// What is left of a raw text, behind so many backticks.
-fn raw_rest(s: &mut Cursor<'_>, backticks: usize) -> Token
-    ensures { Reads (spec.raw_rest backticks) s.old result s.new }
-{
     let mut found = 0usize;
     while let Some(c) = s.eat() {
         if c != '`' {

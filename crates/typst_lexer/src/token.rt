@@ -9,7 +9,7 @@ use typst_classes::classes::Classes;
 use typst_kinds::SyntaxKind;
 use typst_lines::Scanner;
 use typst_node::SyntaxNode;
-use typst_raw::raw::raw_node;
+use typst_raw::raw_node;
 
 /// What is wrong with an error token.
 #[derive(Debug, Clone, Copy, PartialEq, Eq)]

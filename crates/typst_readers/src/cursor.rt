@@ -209,6 +209,7 @@ impl<'a> Cursor<'a> {
     pub fn eat_while<S: CharSet>(&mut self, set: &S) -> &'a str
         ensures taken { chars result.now ≡ run (S.members set.now) self.old.place }
         ensures sight { self.new ≡ spec.went_past (S.members set.now) self.old }
+        ensures covers { spec.Covers self.new }
     {
         let taken = self.s.eat_while(set);
         let mut ahead = self.s;

@@ -10,3 +10,6 @@ invariant_of-self g c = let i = c.self.inside in subst Covers (sym (ran (g.S.Cha
 
 pub returns-clause-sight : goal.returns-clause-sight
 returns-clause-sight g c = let i = c.self.inside in ran (g.S.CharSet.members c.args.set.now) (place i.s) (place c.eat_while-taken.new.self) (place c.eat-c.new.self) c.eat-c.result i.reach i.least c.max-self-inside.result c.end_of.result c.max-self-inside.ensures c.end_of.ensures c.eat-c.ensures.moved c.eat-c.ensures.next c.eat_while-taken.ensures.moved ∙ ap (went_past (g.S.CharSet.members c.args.set.now)) c.self.view_is
+
+pub returns-clause-covers : goal.returns-clause-covers
+returns-clause-covers g c = invariant_of-self g c
