@@ -9,8 +9,8 @@ use Rattle.typst_lexer.specs.declared.token.Fault.TheVariants as fault
 use Rattle.typst_lines.specs.Place.{Place, moved}
 use Rattle.typst_links.proofs.EndLemmas.{last-taken}
 use Rattle.typst_links.proofs.LinkLemmas.{front-taken}
-use Rattle.typst_links.specs.Links.{among, last_signs, after, front, without_last_signs}
-use Rattle.typst_readers.specs.Reader.{Look, Memory, Turn, both, no_look, widened, from_before, spanned, span_look}
+use Rattle.typst_links.specs.Links.{among, last_signs, after, front, without_last_signs, link_prefix}
+use Rattle.typst_readers.specs.Reader.{Look, Memory, Turn, both, no_look, widened, from_before, spanned, span_look, exec}
 use Rattle.typst_readers.specs.Reader.Memory.{brackets}
 use Rattle.typst_readers.specs.Reader.Turn.{leave, last, go}
 use Rattle.typst_readers.specs.Sight.{Sight, Covers, saw, saw_by, went, sight}
@@ -85,3 +85,11 @@ link-is v u w start end s t b h p m q look cut f g =
 -- what is gone past stands ahead
 pub link-ahead : (n : ℕ) (xs s t : List ℕ) → s ≡ take n xs → t ≡ without_last_signs s → take (length t) xs ≡ t
 link-ahead n xs s t e f = subst (λ x. take (length x) xs ≡ x) (sym (f ∙ ap without_last_signs e)) (last-taken (among last_signs) n xs)
+
+-- a link is the one that the characters ahead begin with
+pub link-prefix-is : (p : Place) → exec link p ≡ (ended (link_prefix p.ahead).1, moved (length (link_prefix p.ahead).0) p)
+unfolding link link_prefix
+link-prefix-is p =
+    let f = front [] p.ahead in
+    ap (λ (r : List ℕ × Memory). (link_end r.1, moved (length (without_last_signs r.0)) p)) (link-front [] p.behind p.ahead)
+    ∙ ap (λ t. (t, moved (length (without_last_signs f.0)) p)) (sym (ended-is f.1 (length f.1 == 0) refl))

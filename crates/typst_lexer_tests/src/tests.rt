@@ -444,7 +444,7 @@ fn expect_count(
 }
 
 /// A character, and how many tokens 100,000 of it are.
-const RUNS: [(char, usize); 16] = [
+const RUNS: [(char, usize); 15] = [
     ('a', 1),
     (' ', 1),
     ('/', 1),
@@ -460,7 +460,6 @@ const RUNS: [(char, usize); 16] = [
     ('.', 33_334),
     ('`', 1),
     ('@', 1),
-    ('<', 100_000),
 ];
 
 #[test]
