@@ -399,7 +399,7 @@ fn counts_columns(rt: HostRuntime) -> Result<(), Fail> {
 #[test]
 fn stays_where_memory_is_refused(rt: HostRuntime) -> Result<(), Fail> {
     let mut lexer = Lexer::new(
-        "a text that is long */\\u{xyz}\n\n",
+        "a text that is long */\\u{xyz}\n\nhttp://[a]",
         SyntaxMode::Markup,
         &UnicodeClasses,
     );
@@ -420,7 +420,7 @@ fn stays_where_memory_is_refused(rt: HostRuntime) -> Result<(), Fail> {
             }
         }
     }
-    assert_eq!(rt; ends, 31);
+    assert_eq!(rt; ends, 41);
     Ok(())
 }
 
