@@ -1,12 +1,9 @@
-pub mod ColumnLemmas
 pub mod CommentLemmas
-pub mod Frame
-pub mod Moves
+pub mod LinkLemmas
+pub mod NameLemmas
 pub mod NodeLemmas
 pub mod NumberLemmas
-pub mod Sights
-pub mod Spans
+pub mod RawLemmas
 pub mod TextLemmas
 pub mod TokenEats
 pub mod TokenLemmas
-pub mod WordLemmas

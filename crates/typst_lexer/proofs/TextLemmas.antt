@@ -1,21 +1,21 @@
 -- Facts on texts.
-use Rattle.std.proofs.Common.{◌≡◌, ◌≤◌, ◌<◌, ℕ, zero, suc, ◌+◌, length, Bool, true, false, not, ◌==◌, if◌then◌else◌, List, [], ◌∷◌, refl, sym, ap, subst, ◌∙◌, arith, slice_get, Some, None}
+use Rattle.std.proofs.Common.{◌≡◌, ◌≤◌, ◌<◌, ℕ, zero, suc, length, Bool, true, false, not, ◌==◌, if◌then◌else◌, List, [], ◌∷◌, refl, sym, ap, subst, ◌∙◌, arith, slice_get, Some, None}
 use Rattle.std.proofs.lemmas.Bool.Decides.{nat_tests}
 use Rattle.typst_kinds.specs.declared.kind.SyntaxKind.TheVariants as kind
 use Rattle.std.specs.List.{prefix_len}
-use Rattle.typst_lines.specs.Place.{Place, moved, moved_from, past, scout, passes, word_at}
+use Rattle.typst_lines.specs.Place.{Place, moved, moved_from, past, scout, word_at}
 use Rattle.typst_classes.specs.Classes.{CharClasses}
-use Rattle.typst_lexer.specs.Reader.{place, Look, widened, Step, Reader, Turn, ask, glimpse, eat_span, see_word}
-use Rattle.typst_lexer.specs.Reader.Memory.{blank}
-use Rattle.typst_lexer.specs.Reader.Reader.{answer}
-use Rattle.typst_lexer.specs.Reader.Turn.{leave, go}
-use Rattle.typst_lexer.specs.Sight.{Sight, Covers, saw, saw_by, went, went_past, saw_word, regard, sight}
+use Rattle.typst_readers.specs.Reader.{place, widened, Reader, Turn, ask, glimpse, eat_span, see_word}
+use Rattle.typst_readers.specs.Reader.Memory.{blank}
+use Rattle.typst_readers.specs.Reader.Reader.{answer}
+use Rattle.typst_readers.specs.Reader.Turn.{leave, go}
+use Rattle.typst_readers.specs.Sight.{Sight, Covers, saw, saw_by, went, went_past, saw_word, regard, sight}
 use Rattle.typst_lexer.specs.Text.{may_stop, text_step, on, in_text, text}
 use Rattle.typst_lexer.specs.Token.{plain}
 use Rattle.typst_lexer.specs.declared.token.Token.{Token}
-use Rattle.typst_lexer.proofs.Sights.{regard-is, covers-saw, covers-saw_by, saw-ahead, saw-both}
-use Rattle.typst_lexer.proofs.WordLemmas.{regard-see_word}
-use Rattle.typst_lexer.proofs.Spans.{saw-twice, sight-turn, sight-end, sight-past, turned_sight}
+use Rattle.typst_readers.proofs.Sights.{regard-is, covers-saw, covers-saw_by, saw-ahead, saw-both}
+use Rattle.typst_readers.proofs.WordLemmas.{regard-see_word}
+use Rattle.typst_readers.proofs.Spans.{saw-twice, sight-turn, sight-end, sight-past, turned_sight}
 
 abbrev pub rest : CharClasses → Reader Token
 rest k = eat_span (in_text k) blank (λ _. answer (plain kind.Text))

@@ -11,12 +11,17 @@ use Rattle.typst_kinds.specs.declared.mode.SyntaxMode.TheVariants.{Markup, Math,
 use Rattle.typst_lines.specs.Place.{Place, scout, passes}
 use Rattle.typst_lexer.specs.Characters.{is_space}
 use Rattle.typst_classes.specs.Classes.{CharClasses, in_line}
+use Rattle.typst_classes.specs.Identifiers.{is_id_continue}
 use Rattle.typst_lexer.specs.Common.{whitespace, shebang, line_comment, block_comment, comment_end}
-use Rattle.typst_lexer.specs.Markup.{sign, text_from, backslash, dot, minus, emphasis, heading, marker, numbering, markup}
-use Rattle.typst_lexer.specs.Reader.{Reader, eaten}
-use Rattle.typst_lexer.specs.Reader.Reader.{answer}
+use Rattle.typst_lexer.specs.Markup.{sign, backslash, dot, minus, emphasis, heading, marker, numbering, markup}
+use Rattle.typst_readers.specs.Reader.{Reader, eaten}
+use Rattle.typst_readers.specs.Reader.Reader.{answer}
+use Rattle.typst_lexer.specs.Link.{link_or_text}
+use Rattle.typst_lexer.specs.Names.{label, label_or_text, ref_marker, ref_or_text}
+use Rattle.typst_lexer.specs.Raw.{raw}
+use Rattle.typst_lexer.specs.Text.{text_from}
 use Rattle.typst_lexer.specs.Token.{plain}
-use Rattle.typst_lexer.specs.Tokens.{of_mode, hash, slash, star, token}
+use Rattle.typst_lexer.specs.Tokens.{of_mode, hash, slash, star, backtick, token}
 use Rattle.typst_lexer.specs.declared.token.Token.{Token}
 
 either : {A : Type 0} (b : Bool) (x y : Reader A) (p : Place) → (b ≡ true → 1 ≤ eaten x p) → 1 ≤ eaten y p → 1 ≤ eaten (if b then x else y) p
@@ -41,9 +46,12 @@ emphasis-eats k s p =
 
 module _ (c : ℕ) (p : Place) (e : scout 0 p ≡ Some c) where
   markup-eats : (k : CharClasses) → 1 ≤ eaten (markup k c) p
-  unfolding markup backslash dot minus emphasis sign heading marker numbering text_from
+  unfolding markup link_or_text label label_or_text ref_marker ref_or_text backslash dot minus emphasis sign heading marker numbering text_from
   markup-eats k =
       either (c == 92) _ _ p (λ _. omega arith)
+      (either (c == 104) _ _ p (λ _. omega arith)
+      (either (c == 60) _ _ p (λ _. either (passes (is_id_continue k) (scout 1 p)) _ _ p (λ _. omega arith) (omega arith))
+      (either (c == 64) _ _ p (λ _. either (passes (is_id_continue k) (scout 1 p)) _ _ p (λ _. omega arith) (omega arith))
       (either (c == 46) _ _ p (λ _. omega arith)
       (either (c == 45) _ _ p (λ _. omega arith)
       (either (c == 42) _ _ p (λ _. emphasis-eats k kind.Star p)
@@ -57,7 +65,7 @@ module _ (c : ℕ) (p : Place) (e : scout 0 p ≡ Some c) where
       (either (c == 43) _ _ p (λ _. omega arith)
       (either (c == 47) _ _ p (λ _. omega arith)
       (either (is_ascii_digit c) _ _ p (λ t. omega (arith, run-ahead is_ascii_digit c p.ahead e t))
-      (omega arith))))))))))))))
+      (omega arith)))))))))))))))))
 
   mode-eats : (k : CharClasses) (mode : SyntaxMode) → 1 ≤ eaten (of_mode k mode c) p
   unfolding of_mode text_from
@@ -90,13 +98,20 @@ unfolding star comment_end
 star-eats k mode c p e t =
     either (passes (λ d. d == 47) (scout 1 p)) _ _ p (λ _. omega (arith, some-ahead c p.ahead e)) (own-eats k mode c 42 p e t)
 
+tick-eats : (k : CharClasses) (mode : SyntaxMode) (c : ℕ) (p : Place) → scout 0 p ≡ Some c → (c == 96) ≡ true → 1 ≤ eaten (backtick k mode) p
+unfolding backtick raw
+tick-eats k Markup c p e t = omega (arith, line-eats (λ d. d == 96) c 96 p e t refl)
+tick-eats k Math c p e t = own-eats k Math c 96 p e t
+tick-eats k Code c p e t = omega (arith, line-eats (λ d. d == 96) c 96 p e t refl)
+
 abbrev token_from : CharClasses → SyntaxMode → ℕ → Reader Token
 token_from k mode c =
     if is_space mode c then whitespace mode
     else (if c == 35 then hash k mode
     else (if c == 47 then slash k mode
     else (if c == 42 then star k mode
-    else of_mode k mode c)))
+    else (if c == 96 then backtick k mode
+    else of_mode k mode c))))
 
 from-eats : (k : CharClasses) (mode : SyntaxMode) (c : ℕ) (p : Place) → scout 0 p ≡ Some c → 1 ≤ eaten (token_from k mode c) p
 unfolding whitespace
@@ -105,7 +120,8 @@ from-eats k mode c p e =
     (either (c == 35) _ _ p (hash-eats k mode c p e)
     (either (c == 47) _ _ p (slash-eats k mode c p e)
     (either (c == 42) _ _ p (star-eats k mode c p e)
-    (mode-eats c p e k mode))))
+    (either (c == 96) _ _ p (tick-eats k mode c p e)
+    (mode-eats c p e k mode)))))
 
 pub token-eats : (k : CharClasses) (mode : SyntaxMode) (p : Place) → IsSome (scout 0 p) → 1 ≤ eaten (token k mode) p
 unfolding token

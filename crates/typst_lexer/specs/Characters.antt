@@ -6,8 +6,6 @@ use Rattle.typst_kinds.specs.declared.mode.SyntaxMode.{SyntaxMode}
 use Rattle.typst_kinds.specs.declared.mode.SyntaxMode.TheVariants.{Markup, Math, Code}
 use Rattle.typst_lines.specs.Newline.{is_newline}
 use Rattle.typst_lines.specs.Place.{passes}
-use Rattle.typst_classes.specs.Classes.{CharClasses}
-use Rattle.typst_classes.specs.Identifiers.{is_id_continue}
 
 -- A character is one of the signs.
 abbrev pub among : List ℕ → ℕ → Bool
@@ -20,10 +18,6 @@ abbrev pub is_space : SyntaxMode → ℕ → Bool
 is_space Markup c = c == 32 || c == 9 || is_newline c
 is_space Math c = is_whitespace c
 is_space Code c = is_whitespace c
-
--- Names of labels and references are made of these.
-abbrev pub is_name : CharClasses → ℕ → Bool
-is_name k c = is_id_continue k c || c == 58 || c == 46
 
 -- The number that digits write in a base, after those that write n.
 unfoldable pub number_after : ℕ → ℕ → List ℕ → ℕ

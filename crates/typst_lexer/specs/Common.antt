@@ -1,16 +1,15 @@
 -- The tokens that all modes share.
-use Rattle.std.specs.Prelude.{ℕ, suc, ◌+◌, ◌-◌, Bool, false, not, ◌&&◌, if◌then◌else◌, ◌==◌, nat_lt, List, [], ◌∷◌, Some, None}
+use Rattle.std.specs.Prelude.{ℕ, suc, ◌+◌, ◌-◌, Bool, false, not, ◌&&◌, if◌then◌else◌, ◌==◌, nat_lt, List, [], ◌∷◌, None}
 use Rattle.typst_kinds.specs.declared.kind.SyntaxKind.TheVariants as kind
 use Rattle.typst_kinds.specs.declared.mode.SyntaxMode.{SyntaxMode}
 use Rattle.typst_kinds.specs.declared.mode.SyntaxMode.TheVariants.{Markup, Math, Code}
 use Rattle.typst_lines.specs.Newline.{is_newline}
 use Rattle.typst_lexer.specs.Characters.{is_space}
 use Rattle.typst_classes.specs.Classes.{in_line}
-use Rattle.typst_lexer.specs.Reader.{Reader, Machine, Memory, Turn, eat_span}
-use Rattle.typst_lexer.specs.Reader.Reader.{answer, skip, eat_run}
-use Rattle.typst_lexer.specs.Reader.Step.{turn, see}
-use Rattle.typst_lexer.specs.Reader.Turn.{leave, last, go}
-use Rattle.typst_lexer.specs.Reader.Memory.{blank, comment}
+use Rattle.typst_readers.specs.Reader.{Reader, Machine, Memory, Turn, by_character, eat_span}
+use Rattle.typst_readers.specs.Reader.Reader.{answer, skip, eat_run}
+use Rattle.typst_readers.specs.Reader.Turn.{leave, last, go}
+use Rattle.typst_readers.specs.Reader.Memory.{blank, comment}
 use Rattle.typst_lexer.specs.Token.{plain, faulty}
 use Rattle.typst_lexer.specs.declared.token.Token.{Token}
 use Rattle.typst_lexer.specs.declared.token.Fault.TheVariants as fault
@@ -49,11 +48,11 @@ comment_turn before depth c =
     else (if before == 47 && c == 42 then go (comment 0 (depth + 1)) else go (comment c depth))
 
 abbrev pub comment_step : Memory → ℕ → Turn
-comment_step blank c = leave
 comment_step (comment before depth) c = comment_turn before depth c
+comment_step _ c = leave
 
 abbrev pub in_comment : Machine
-in_comment memory = see 0 (λ c. turn (elim c [ None ↦ leave | Some c ↦ comment_step memory c ]))
+in_comment = by_character comment_step
 
 -- `/*` comes next, and all up to its `*/`, or to the end.
 unfoldable pub block_comment : Reader Token

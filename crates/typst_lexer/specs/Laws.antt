@@ -1,15 +1,18 @@
 -- What the looks of tokens and columns are good for, and that none of them is too far.
-use Rattle.std.specs.Prelude.{◌≡◌, ℕ, List, [], ◌∷◌, codes}
+use Rattle.std.specs.Prelude.{◌≡◌, ℕ, [], codes, length, if◌then◌else◌}
 use Rattle.typst_kinds.specs.declared.kind.SyntaxKind.TheVariants as kind
 use Rattle.typst_kinds.specs.declared.mode.SyntaxMode.{SyntaxMode}
 use Rattle.typst_kinds.specs.declared.mode.SyntaxMode.TheVariants.{Markup}
-use Rattle.typst_lines.specs.Place.{Place}
+use Rattle.typst_lines.specs.Place.{Place, moved}
 use Rattle.typst_classes.specs.Classes.{CharClasses, by_law}
-use Rattle.typst_lexer.specs.Column.{column, column_look}
-use Rattle.typst_lexer.specs.Reader.{Look, look, eaten, exec, Agree, SameReading, place}
-use Rattle.typst_lexer.specs.Token.{plain}
+use Rattle.typst_readers.specs.Column.{column, column_look}
+use Rattle.typst_readers.specs.Reader.{Look, look, eaten, exec, Agree, SameReading, place}
+use Rattle.typst_lexer.specs.Link.{link}
+use Rattle.typst_lexer.specs.Token.{plain, faulty}
 use Rattle.typst_lexer.specs.Tokens.{token}
 use Rattle.typst_lexer.specs.declared.token.Token.{Token}
+use Rattle.typst_lexer.specs.declared.token.Fault.TheVariants as fault
+use Rattle.typst_links.specs.Links.{link_prefix}
 
 -- Where another place shows the same characters and marks in the look of a token, the token there
 -- is the same, as long, and with the same look.
@@ -64,3 +67,29 @@ pub record TextLook (k : CharClasses) : Type 0 where
 pub record CommentLook (k : CharClasses) : Type 0 where
   pub look : look (token k Markup) (place [] (codes "/*a*/b")) ≡ reach 0 5
   pub shorter : Differ k (reach 0 4) (place [] (codes "/*a*/b")) (place [] (codes "/*a*bc")) (plain kind.BlockComment) (plain kind.BlockComment) 5 6
+
+-- A raw text is looked at to its last backtick, and an unclosed one to the mark.
+pub record RawLook (k : CharClasses) : Type 0 where
+  pub closed : look (token k Markup) (place [] (codes "`a`b")) ≡ reach 0 3
+  pub unclosed : look (token k Markup) (place [] (codes "`a")) ≡ reach 0 3
+  -- two backticks end at what is none
+  pub two : look (token k Markup) (place [] (codes "``a")) ≡ reach 0 3
+  pub shorter : Differ k (reach 0 2) (place [] (codes "`a`b")) (place [] (codes "`ab`")) (plain kind.Raw) (plain kind.Raw) 3 4
+
+-- A link is looked at to what ends its front, though the front's last signs aren't taken.
+pub record LinkLook (k : CharClasses) : Type 0 where
+  pub look : look (token k Markup) (place [] (codes "http://a. ")) ≡ reach 0 10
+  pub shorter : Differ k (reach 0 9) (place [] (codes "http://a. ")) (place [] (codes "http://a.b")) (plain kind.Link) (plain kind.Link) 8 10
+
+-- So are the name of a reference and that of a label.
+pub record NameLook (beyond : CharClasses) : Type 0 where
+  pub reference : look (token (by_law beyond) Markup) (place [] (codes "@a. ")) ≡ reach 0 4
+  pub shorter_reference : Differ (by_law beyond) (reach 0 3) (place [] (codes "@a. ")) (place [] (codes "@a.b")) (plain kind.RefMarker) (plain kind.RefMarker) 2 4
+  pub label : look (token (by_law beyond) Markup) (place [] (codes "<a>")) ≡ reach 0 3
+  pub shorter_label : Differ (by_law beyond) (reach 0 2) (place [] (codes "<a>")) (place [] (codes "<ab>")) (plain kind.Label) (plain kind.Label) 3 4
+  -- a colon begins no label
+  pub colon : look (token (by_law beyond) Markup) (place [] (codes "<:a>")) ≡ reach 0 2
+
+-- What stands behind the scheme of a link is the link that the characters ahead begin with.
+abbrev pub LinkIsPrefix : Type 0
+LinkIsPrefix = (p : Place) → exec link p ≡ (let r = link_prefix p.ahead in (if r.1 then plain kind.Link else faulty fault.UnbalancedLink, moved (length r.0) p))

@@ -1,14 +1,12 @@
 pub mod Characters
-pub mod Column
 pub mod Common
-pub mod Cursor
 pub mod Laws
 pub mod Lexer
+pub mod Link
 pub mod Markup
+pub mod Names
 pub mod Nodes
-pub mod Reader
-pub mod Reads
-pub mod Sight
+pub mod Raw
 pub mod Text
 pub mod Token
 pub mod Tokens

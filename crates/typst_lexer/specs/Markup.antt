@@ -6,9 +6,11 @@ use Rattle.typst_kinds.specs.declared.kind.SyntaxKind.TheVariants as kind
 use Rattle.typst_lines.specs.Place.{passes}
 use Rattle.typst_lexer.specs.Characters.{among, is_code_point, is_u64}
 use Rattle.typst_classes.specs.Classes.{CharClasses}
-use Rattle.typst_lexer.specs.Reader.{Reader, if_next, at_word}
-use Rattle.typst_lexer.specs.Reader.Reader.{answer, peek, glance, eat, skip, eat_run}
-use Rattle.typst_lexer.specs.Text.{text}
+use Rattle.typst_readers.specs.Reader.{Reader, if_next, at_word}
+use Rattle.typst_readers.specs.Reader.Reader.{answer, peek, glance, eat, skip, eat_run}
+use Rattle.typst_lexer.specs.Link.{link_or_text}
+use Rattle.typst_lexer.specs.Names.{label_or_text, ref_or_text}
+use Rattle.typst_lexer.specs.Text.{text, text_from}
 use Rattle.typst_lexer.specs.Token.{plain, faulty}
 use Rattle.typst_lexer.specs.declared.token.Token.{Token}
 use Rattle.typst_lexer.specs.declared.token.Fault.TheVariants as fault
@@ -16,10 +18,6 @@ use Rattle.typst_lexer.specs.declared.token.Fault.TheVariants as fault
 -- A token of one character.
 unfoldable pub sign : SyntaxKind → Reader Token
 sign k = eat (answer (plain k))
-
--- The character that comes next begins a text, whatever it is.
-unfoldable pub text_from : CharClasses → Reader Token
-text_from k = eat (text k)
 
 -- After `\u{` and its letters and digits: `}` ends an escape, which names a character.
 unfoldable pub code_point : List ℕ → Reader Token
@@ -85,9 +83,9 @@ numbering k = eat_run is_ascii_digit (λ digits. if_next (λ c. c == 46)
 unfoldable pub markup : CharClasses → ℕ → Reader Token
 markup k c =
     if c == 92 then backslash
-    -- LATER, links: `h` before `ttp://` or `ttps://`
-    -- LATER, labels: `<` before a character of an identifier
-    -- LATER, references: `@` before a character of an identifier
+    else (if c == 104 then link_or_text k
+    else (if c == 60 then label_or_text k
+    else (if c == 64 then ref_or_text k
     else (if c == 46 then dot k
     else (if c == 45 then minus k
     else (if c == 42 then emphasis k kind.Star
@@ -103,4 +101,4 @@ markup k c =
     else (if c == 43 then marker k kind.EnumMarker
     else (if c == 47 then marker k kind.TermMarker
     else (if is_ascii_digit c then numbering k
-    else text_from k)))))))))))))
+    else text_from k))))))))))))))))

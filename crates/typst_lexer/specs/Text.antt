@@ -3,13 +3,14 @@ use Rattle.std.specs.Prelude.{ℕ, Bool, true, false, not, ◌||◌, if◌then�
 use Rattle.std.specs.Char.{is_whitespace}
 use Rattle.typst_kinds.specs.declared.kind.SyntaxKind.TheVariants as kind
 use Rattle.typst_lines.specs.Place.{passes}
-use Rattle.typst_lexer.specs.Characters.{among, is_name}
+use Rattle.typst_lexer.specs.Characters.{among}
 use Rattle.typst_classes.specs.Classes.{CharClasses}
-use Rattle.typst_lexer.specs.Reader.{Reader, Machine, Step, Turn, eat_span, see_word}
-use Rattle.typst_lexer.specs.Reader.Reader.{answer}
-use Rattle.typst_lexer.specs.Reader.Step.{turn, see}
-use Rattle.typst_lexer.specs.Reader.Turn.{leave, go}
-use Rattle.typst_lexer.specs.Reader.Memory.{blank}
+use Rattle.typst_links.specs.Labels.{is_name}
+use Rattle.typst_readers.specs.Reader.{Reader, Machine, Step, Turn, eat_span, see_word}
+use Rattle.typst_readers.specs.Reader.Reader.{answer, eat}
+use Rattle.typst_readers.specs.Reader.Step.{turn, see}
+use Rattle.typst_readers.specs.Reader.Turn.{leave, go}
+use Rattle.typst_readers.specs.Reader.Memory.{blank}
 use Rattle.typst_lexer.specs.Token.{plain}
 use Rattle.typst_lexer.specs.declared.token.Token.{Token}
 
@@ -39,3 +40,7 @@ in_text k memory = see 0 (λ c. elim c [ None ↦ turn leave | Some c ↦ text_s
 -- What is left of a text.
 unfoldable pub text : CharClasses → Reader Token
 text k = eat_span (in_text k) blank (λ _. answer (plain kind.Text))
+
+-- The character that comes next begins a text, whatever it is.
+unfoldable pub text_from : CharClasses → Reader Token
+text_from k = eat (text k)

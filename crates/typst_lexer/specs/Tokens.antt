@@ -7,9 +7,11 @@ use Rattle.typst_lines.specs.Place.{passes}
 use Rattle.typst_lexer.specs.Characters.{is_space}
 use Rattle.typst_classes.specs.Classes.{CharClasses}
 use Rattle.typst_lexer.specs.Common.{whitespace, shebang, line_comment, block_comment, comment_end}
-use Rattle.typst_lexer.specs.Markup.{markup, text_from}
-use Rattle.typst_lexer.specs.Reader.{Reader}
-use Rattle.typst_lexer.specs.Reader.Reader.{answer, peek, glance}
+use Rattle.typst_lexer.specs.Markup.{markup}
+use Rattle.typst_lexer.specs.Raw.{raw}
+use Rattle.typst_lexer.specs.Text.{text_from}
+use Rattle.typst_readers.specs.Reader.{Reader}
+use Rattle.typst_readers.specs.Reader.Reader.{answer, peek, glance}
 use Rattle.typst_lexer.specs.Token.{plain}
 use Rattle.typst_lexer.specs.declared.token.Token.{Token}
 
@@ -36,8 +38,14 @@ slash k mode = peek 1 (λ d.
 unfoldable pub star : CharClasses → SyntaxMode → Reader Token
 star k mode = peek 1 (λ d. if passes (λ d. d == 47) d then comment_end else of_mode k mode 42)
 
--- The token of the mode that comes next: the end, whitespace, a shebang, a comment, or one that
--- only the mode has.
+-- A backtick comes next: in markup and in code it begins a raw text.
+unfoldable pub backtick : CharClasses → SyntaxMode → Reader Token
+backtick k Markup = raw
+backtick k Math = of_mode k Math 96
+backtick k Code = raw
+
+-- The token of the mode that comes next: the end, whitespace, a shebang, a comment, a raw text, or
+-- one that only the mode has.
 unfoldable pub token : CharClasses → SyntaxMode → Reader Token
 token k mode = peek 0 (λ c. elim c [
   | None ↦ answer (plain kind.End)
@@ -46,6 +54,6 @@ token k mode = peek 0 (λ c. elim c [
       else (if c == 35 then hash k mode
       else (if c == 47 then slash k mode
       else (if c == 42 then star k mode
-      -- LATER, raw text in markup and code: a backtick
-      else of_mode k mode c)))
+      else (if c == 96 then backtick k mode
+      else of_mode k mode c))))
 ])

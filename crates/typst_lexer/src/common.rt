@@ -2,14 +2,14 @@
 ghost use Rattle.std.specs.Prelude.{◌≡◌, false};
 ghost use Rattle.std.specs.Str.{chars};
 ghost use Rattle.typst_lexer.specs.Common as spec;
-ghost use Rattle.typst_lexer.specs.Reads.{Reads};
+ghost use Rattle.typst_readers.specs.Reads.{Reads};
 ghost use Rattle.typst_lexer.specs.declared.token.Token.{Token};
 
-use crate::cursor::Cursor;
 use crate::sets::{InLine, Whitespace};
 use crate::token::{Fault, Token};
 use typst_kinds::{SyntaxKind, SyntaxMode};
 use typst_lines::{Scanner, is_newline};
+use typst_readers::Cursor;
 
 /// How many lines end in the text.
 fn count_newlines(text: &str) -> usize

@@ -32,3 +32,23 @@ pub fn look_of_a_text()
 pub fn look_of_a_comment()
     ensures { (k : CharClasses) → law.CommentLook k }
 {}
+
+/// The look of a raw text can't be shorter.
+pub fn look_of_a_raw_text()
+    ensures { (k : CharClasses) → law.RawLook k }
+{}
+
+/// The look of a link can't be shorter.
+pub fn look_of_a_link()
+    ensures { (k : CharClasses) → law.LinkLook k }
+{}
+
+/// The looks of a reference and of a label can't be shorter.
+pub fn looks_of_names()
+    ensures { (beyond : CharClasses) → law.NameLook beyond }
+{}
+
+/// How far a link goes is what `link_prefix` says.
+pub fn links_are_prefixes()
+    ensures { law.LinkIsPrefix }
+{}

@@ -1,27 +1,26 @@
 //! The lexer: what comes next in a text, token by token.
-ghost use Rattle.std.specs.Prelude.{◌≡◌, ◌≤◌, IfOk, OnOk, OnErr, IsSome, false, reverse, take};
-ghost use Rattle.std.specs.List.{prefix_len};
+ghost use Rattle.std.specs.Prelude.{◌≡◌, ◌≤◌, IfOk, OnOk, OnErr, IsSome, false, take};
 ghost use Rattle.std.specs.Str.{chars, IsCharBoundary};
-ghost use Rattle.typst_classes.specs.Classes.{in_line};
-ghost use Rattle.typst_lexer.specs.Column.{column};
+ghost use Rattle.typst_readers.specs.Column.{column};
 ghost use Rattle.typst_lexer.specs.Nodes.{IsRead};
-ghost use Rattle.typst_lexer.specs.Reader.{exec, eaten};
-ghost use Rattle.typst_lexer.specs.Reads.{Reads, Scans};
+ghost use Rattle.typst_readers.specs.Reader.{exec, eaten};
+ghost use Rattle.typst_readers.specs.Reads.{Reads, Scans};
 ghost use Rattle.typst_lexer.specs.Tokens as spec;
 ghost use Rattle.typst_lines.specs.Place.{place_at, scout};
-ghost use Rattle.typst_lines.specs.Scanner as scanner;
 
 use crate::common::{block_comment, comment_end, line_comment, shebang, whitespace};
-use crate::cursor::Cursor;
-use crate::hull::Hull;
-use crate::markup::{markup, text_from};
+use crate::markup::markup;
+use crate::raw::raw;
 use crate::sets::is_space;
+use crate::text::text_from;
 use crate::token::{Token, make_node};
 use std::alloc::{AllocError, Global};
 use typst_classes::classes::Classes;
 use typst_kinds::{SyntaxKind, SyntaxMode};
-use typst_lines::{Scanner, is_newline};
+use typst_lines::Scanner;
 use typst_node::SyntaxNode;
+use typst_readers::column::column;
+use typst_readers::{Cursor, Hull};
 
 /// Reads a text token by token, in one mode or another.
 #[derive(Drop)]
@@ -109,25 +108,29 @@ impl<'a, C: Classes> Lexer<'a, C> {
         column(&s)
     }
 
-    /// Reads a token, and gives it with its text. This takes no memory.
-    pub fn scan(&mut self) -> (Token, &'a str)
-        ensures reads { exec (spec.token (C.classes self.old.classes.now) (mode_of self.old)) (place self.old) ≡ (result.0, place self.new) }
-        ensures characters { chars result.1.now ≡ take (eaten (spec.token (C.classes self.old.classes.now) (mode_of self.old)) (place self.old)) (place self.old).ahead }
+    /// Reads a token, and gives it with its text. This takes no memory but for the brackets of a
+    /// link. Where memory is refused nothing changes.
+    pub fn scan(&mut self, alloc: Global) -> Result<(Token, &'a str), AllocError>
+        ensures reads { IfOk result (λ r. exec (spec.token (C.classes self.old.classes.now) (mode_of self.old)) (place self.old) ≡ (r.0, place self.new)) }
+        ensures characters { IfOk result (λ r. chars r.1.now ≡ take (eaten (spec.token (C.classes self.old.classes.now) (mode_of self.old)) (place self.old)) (place self.old).ahead) }
         ensures goes_on { IsSome (scout 0 (place self.old)) → 1 ≤ eaten (spec.token (C.classes self.old.classes.now) (mode_of self.old)) (place self.old) }
-        ensures newline { newline_of self.new ≡ result.0.newline }
+        ensures newline { IfOk result (λ r. newline_of self.new ≡ r.0.newline) }
         ensures mode { mode_of self.new ≡ mode_of self.old }
         ensures text { text_of self.new ≡ text_of self.old }
         ensures classes { self.new.classes.now ≡ self.old.classes.now }
+        ensures refused { OnErr result (self.new ≡ self.old) }
     {
-        let start = self.s;
-        let (token, _) = token(&mut self.s, self.mode, self.classes);
+        let mut s = self.s;
+        let (token, _) = token(alloc, &mut s, self.mode, self.classes)?;
+        let text = s.since(&self.s);
+        self.s = s;
         self.newline = token.newline;
-        (token, self.s.since(&start))
+        Ok((token, text))
     }
 
     /// Reads a token, and makes its node. Where memory is refused nothing changes.
     pub fn next(&mut self, alloc: Global) -> Result<(SyntaxKind, SyntaxNode), AllocError>
-        ensures read { IfOk result (λ r. IsRead (spec.token (C.classes self.old.classes.now) (mode_of self.old)) (place self.old) (place self.new) r.0 r.1) }
+        ensures read { IfOk result (λ r. IsRead (C.classes self.old.classes.now) (spec.token (C.classes self.old.classes.now) (mode_of self.old)) (place self.old) (place self.new) r.0 r.1) }
         ensures newline { OnOk result (newline_of self.new ≡ (exec (spec.token (C.classes self.old.classes.now) (mode_of self.old)) (place self.old)).0.newline) }
         ensures mode { mode_of self.new ≡ mode_of self.old }
         ensures text { text_of self.new ≡ text_of self.old }
@@ -135,102 +138,129 @@ impl<'a, C: Classes> Lexer<'a, C> {
         ensures refused { OnErr result (self.new ≡ self.old) }
     {
         let mut s = self.s;
-        let (token, _) = token(&mut s, self.mode, self.classes);
-        let node = make_node(alloc, token, s.since(&self.s))?;
+        let (token, _) = token(alloc, &mut s, self.mode, self.classes)?;
+        let node = make_node(alloc, token, s.since(&self.s), self.classes)?;
         self.s = s;
         self.newline = token.newline;
         Ok((token.kind, node))
     }
 }
 
-/// How many characters stand behind, up to a newline character or the text's start.
-fn column(s: &Scanner<'_>) -> usize
-    ensures { result ≡ column (scanner.place s.now) }
-{
-    last_line_len(s.before())
-}
-
-/// How many characters stand at the text's end without a newline character.
-fn last_line_len(text: &str) -> usize
-    ensures { result ≡ prefix_len in_line (reverse (chars text.now)) }
-{
-    let mut s = Scanner::new(text);
-    s.jump(text.len());
-    let mut len = 0usize;
-    while let Some(c) = s.uneat() {
-        if is_newline(c) {
-            return len;
-        }
-        len += 1;
-    }
-    len
-}
-
-/// The token of the mode that comes next, and the bytes that were looked at for it.
-pub fn token<C: Classes>(s: &mut Scanner<'_>, mode: SyntaxMode, classes: &C) -> (Token, Hull)
-    ensures { Scans (spec.token (C.classes classes.now) mode) s.old result.0 result.1 s.new }
+/// The token of the mode that comes next, and the bytes that were looked at for it. This takes no
+/// memory but for the brackets of a link. Where memory is refused the scanner stays.
+pub fn token<C: Classes>(
+    alloc: Global,
+    s: &mut Scanner<'_>,
+    mode: SyntaxMode,
+    classes: &C,
+) -> Result<(Token, Hull), AllocError>
+    ensures scans { IfOk result (λ r. Scans (spec.token (C.classes classes.now) mode) s.old r.0 r.1 s.new) }
+    ensures refused { OnErr result (s.new ≡ s.old) }
 {
     let mut cursor = Cursor::new(*s);
-    let token = next_token(&mut cursor, mode, classes);
+    let token = next_token(alloc, &mut cursor, mode, classes)?;
     let (after, hull) = cursor.finish();
     *s = after;
-    (token, hull)
+    Ok((token, hull))
 }
 
 /// The token of the mode that comes next.
 #[tactic(auto, unfolding(crate::specs::Tokens::token))]
-fn next_token<C: Classes>(s: &mut Cursor<'_>, mode: SyntaxMode, classes: &C) -> Token
-    ensures { Reads (spec.token (C.classes classes.now) mode) s.old result s.new }
+fn next_token<C: Classes>(
+    alloc: Global,
+    s: &mut Cursor<'_>,
+    mode: SyntaxMode,
+    classes: &C,
+) -> Result<Token, AllocError>
+    ensures { IfOk result (λ token. Reads (spec.token (C.classes classes.now) mode) s.old token s.new) }
 {
     match s.peek() {
-        None => Token::plain(SyntaxKind::End),
-        Some(c) if is_space(c, mode) => whitespace(s, mode),
-        Some('#') => hash(s, mode, classes),
-        Some('/') => slash(s, mode, classes),
-        Some('*') => star(s, mode, classes),
-        Some(c) => of_mode(s, c, mode, classes),
+        None => Ok(Token::plain(SyntaxKind::End)),
+        Some(c) if is_space(c, mode) => Ok(whitespace(s, mode)),
+        Some('#') => Ok(hash(alloc, s, mode, classes)?),
+        Some('/') => Ok(slash(alloc, s, mode, classes)?),
+        Some('*') => Ok(star(alloc, s, mode, classes)?),
+        Some('`') => Ok(backtick(alloc, s, mode, classes)?),
+        Some(c) => Ok(of_mode(alloc, s, c, mode, classes)?),
     }
 }
 
 /// A token that only the mode has.
 #[tactic(auto, unfolding(crate::specs::Tokens::of_mode))]
-fn of_mode<C: Classes>(s: &mut Cursor<'_>, c: char, mode: SyntaxMode, classes: &C) -> Token
-    ensures { Reads (spec.of_mode (C.classes classes.now) mode c) s.old result s.new }
+fn of_mode<C: Classes>(
+    alloc: Global,
+    s: &mut Cursor<'_>,
+    c: char,
+    mode: SyntaxMode,
+    classes: &C,
+) -> Result<Token, AllocError>
+    ensures { IfOk result (λ token. Reads (spec.of_mode (C.classes classes.now) mode c) s.old token s.new) }
 {
     match mode {
-        SyntaxMode::Markup => markup(s, c, classes),
-        SyntaxMode::Math => text_from(s, classes),
-        SyntaxMode::Code => text_from(s, classes),
+        SyntaxMode::Markup => Ok(markup(alloc, s, c, classes)?),
+        SyntaxMode::Math => Ok(text_from(s, classes)),
+        SyntaxMode::Code => Ok(text_from(s, classes)),
     }
 }
 
 #[tactic(auto, unfolding(crate::specs::Tokens::hash))]
-fn hash<C: Classes>(s: &mut Cursor<'_>, mode: SyntaxMode, classes: &C) -> Token
-    ensures { Reads (spec.hash (C.classes classes.now) mode) s.old result s.new }
+fn hash<C: Classes>(
+    alloc: Global,
+    s: &mut Cursor<'_>,
+    mode: SyntaxMode,
+    classes: &C,
+) -> Result<Token, AllocError>
+    ensures { IfOk result (λ token. Reads (spec.hash (C.classes classes.now) mode) s.old token s.new) }
 {
     if s.last().is_none() && s.second() == Some('!') {
-        return shebang(s);
+        return Ok(shebang(s));
     }
-    of_mode(s, '#', mode, classes)
+    Ok(of_mode(alloc, s, '#', mode, classes)?)
 }
 
 #[tactic(auto, unfolding(crate::specs::Tokens::slash))]
-fn slash<C: Classes>(s: &mut Cursor<'_>, mode: SyntaxMode, classes: &C) -> Token
-    ensures { Reads (spec.slash (C.classes classes.now) mode) s.old result s.new }
+fn slash<C: Classes>(
+    alloc: Global,
+    s: &mut Cursor<'_>,
+    mode: SyntaxMode,
+    classes: &C,
+) -> Result<Token, AllocError>
+    ensures { IfOk result (λ token. Reads (spec.slash (C.classes classes.now) mode) s.old token s.new) }
 {
     match s.second() {
-        Some('/') => line_comment(s),
-        Some('*') => block_comment(s),
-        _ => of_mode(s, '/', mode, classes),
+        Some('/') => Ok(line_comment(s)),
+        Some('*') => Ok(block_comment(s)),
+        _ => Ok(of_mode(alloc, s, '/', mode, classes)?),
     }
 }
 
 #[tactic(auto, unfolding(crate::specs::Tokens::star))]
-fn star<C: Classes>(s: &mut Cursor<'_>, mode: SyntaxMode, classes: &C) -> Token
-    ensures { Reads (spec.star (C.classes classes.now) mode) s.old result s.new }
+fn star<C: Classes>(
+    alloc: Global,
+    s: &mut Cursor<'_>,
+    mode: SyntaxMode,
+    classes: &C,
+) -> Result<Token, AllocError>
+    ensures { IfOk result (λ token. Reads (spec.star (C.classes classes.now) mode) s.old token s.new) }
 {
     if s.second() == Some('/') {
-        return comment_end(s);
+        return Ok(comment_end(s));
     }
-    of_mode(s, '*', mode, classes)
+    Ok(of_mode(alloc, s, '*', mode, classes)?)
+}
+
+#[tactic(auto, unfolding(crate::specs::Tokens::backtick))]
+fn backtick<C: Classes>(
+    alloc: Global,
+    s: &mut Cursor<'_>,
+    mode: SyntaxMode,
+    classes: &C,
+) -> Result<Token, AllocError>
+    ensures { IfOk result (λ token. Reads (spec.backtick (C.classes classes.now) mode) s.old token s.new) }
+{
+    match mode {
+        SyntaxMode::Markup => Ok(raw(s)),
+        SyntaxMode::Math => Ok(of_mode(alloc, s, '`', mode, classes)?),
+        SyntaxMode::Code => Ok(raw(s)),
+    }
 }

@@ -1,42 +1,53 @@
 //! The tokens of markup.
-ghost use Rattle.std.specs.Prelude.{◌≡◌, Bool};
+ghost use Rattle.std.specs.Prelude.{◌≡◌, Bool, IfOk};
 ghost use Rattle.std.specs.Str.{chars};
 ghost use Rattle.typst_kinds.specs.declared.kind.SyntaxKind.{SyntaxKind};
 ghost use Rattle.typst_lexer.specs.Markup as spec;
-ghost use Rattle.typst_lexer.specs.Reader.{Reader};
-ghost use Rattle.typst_lexer.specs.Reads.{Reads};
-ghost use Rattle.typst_lexer.specs.Sight.{sight};
+ghost use Rattle.typst_readers.specs.Reader.{Reader};
+ghost use Rattle.typst_readers.specs.Reads.{Reads};
+ghost use Rattle.typst_readers.specs.Sight.{sight};
 ghost use Rattle.typst_lexer.specs.declared.token.Token.{Token};
 ghost use Rattle.typst_lines.specs.Place.{passes};
 
-use crate::cursor::Cursor;
+use crate::link::link_or_text;
+use crate::names::{label_or_text, ref_or_text};
 use crate::sets::{AsciiAlphanumeric, AsciiDigits, is_code_point, is_u64};
-use crate::text::text;
+use crate::text::{text, text_from};
 use crate::token::{Fault, Token};
+use std::alloc::{AllocError, Global};
 use typst_classes::classes::Classes;
 use typst_kinds::SyntaxKind;
+use typst_readers::Cursor;
 
 /// A token that begins with the character, which comes next.
 #[tactic(auto, unfolding(crate::specs::Markup::markup))]
-pub(crate) fn markup<C: Classes>(s: &mut Cursor<'_>, c: char, classes: &C) -> Token
-    ensures { Reads (spec.markup (C.classes classes.now) c) s.old result s.new }
+pub(crate) fn markup<C: Classes>(
+    alloc: Global,
+    s: &mut Cursor<'_>,
+    c: char,
+    classes: &C,
+) -> Result<Token, AllocError>
+    ensures { IfOk result (λ token. Reads (spec.markup (C.classes classes.now) c) s.old token s.new) }
 {
     match c {
-        '\\' => backslash(s),
-        '.' => dot(s, classes),
-        '-' => minus(s, classes),
-        '*' => emphasis(s, SyntaxKind::Star, classes),
-        '_' => emphasis(s, SyntaxKind::Underscore, classes),
-        '[' => sign(s, SyntaxKind::LeftBracket),
-        ']' => sign(s, SyntaxKind::RightBracket),
-        '\'' | '"' => sign(s, SyntaxKind::SmartQuote),
-        '~' => sign(s, SyntaxKind::Shorthand),
-        ':' => sign(s, SyntaxKind::Colon),
-        '=' => heading(s, classes),
-        '+' => marker(s, SyntaxKind::EnumMarker, classes),
-        '/' => marker(s, SyntaxKind::TermMarker, classes),
-        '0'..='9' => numbering(s, classes),
-        _ => text_from(s, classes),
+        '\\' => Ok(backslash(s)),
+        'h' => Ok(link_or_text(alloc, s, classes)?),
+        '<' => Ok(label_or_text(s, classes)),
+        '@' => Ok(ref_or_text(s, classes)),
+        '.' => Ok(dot(s, classes)),
+        '-' => Ok(minus(s, classes)),
+        '*' => Ok(emphasis(s, SyntaxKind::Star, classes)),
+        '_' => Ok(emphasis(s, SyntaxKind::Underscore, classes)),
+        '[' => Ok(sign(s, SyntaxKind::LeftBracket)),
+        ']' => Ok(sign(s, SyntaxKind::RightBracket)),
+        '\'' | '"' => Ok(sign(s, SyntaxKind::SmartQuote)),
+        '~' => Ok(sign(s, SyntaxKind::Shorthand)),
+        ':' => Ok(sign(s, SyntaxKind::Colon)),
+        '=' => Ok(heading(s, classes)),
+        '+' => Ok(marker(s, SyntaxKind::EnumMarker, classes)),
+        '/' => Ok(marker(s, SyntaxKind::TermMarker, classes)),
+        '0'..='9' => Ok(numbering(s, classes)),
+        _ => Ok(text_from(s, classes)),
     }
 }
 
@@ -47,15 +58,6 @@ fn sign(s: &mut Cursor<'_>, kind: SyntaxKind) -> Token
 {
     s.eat();
     Token::plain(kind)
-}
-
-/// A text that the next character begins.
-#[tactic(auto, unfolding(crate::specs::Markup::text_from))]
-pub(crate) fn text_from<C: Classes>(s: &mut Cursor<'_>, classes: &C) -> Token
-    ensures { Reads (spec.text_from (C.classes classes.now)) s.old result s.new }
-{
-    s.eat();
-    text(s, classes)
 }
 
 #[tactic(auto, unfolding(crate::specs::Markup::backslash))]

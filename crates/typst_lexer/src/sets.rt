@@ -6,7 +6,6 @@ ghost use Rattle.typst_classes.specs.Classes.{in_line};
 ghost use Rattle.typst_lexer.specs.Text.{may_stop};
 ghost use Rattle.typst_lines.specs.Newline.{is_newline};
 
-use typst_classes::classes::{Classes, is_id_continue};
 use typst_kinds::SyntaxMode;
 use typst_lines::{CharSet, Scanner, is_newline};
 
@@ -118,14 +117,6 @@ fn is_sign(c: char) -> bool
     ensures { result ≡ spec.among (codes "*_h$@#") c }
 {
     (c == '*') | (c == '_') | (c == 'h') | (c == '$') | (c == '@') | (c == '#')
-}
-
-/// Whether the character may stand in the name of a label or a reference.
-#[inline]
-pub(crate) fn is_valid_in_label_literal<C: Classes>(c: char, classes: &C) -> bool
-    ensures { result ≡ spec.is_name (C.classes classes.now) c }
-{
-    is_id_continue(c, classes) | (c == ':') | (c == '.')
 }
 
 /// The number that digits of the base write, if it fits.

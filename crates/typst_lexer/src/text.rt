@@ -1,16 +1,17 @@
 //! Plain text of markup.
 ghost use Rattle.std.specs.Prelude.{◌≡◌, if◌then◌else◌};
-ghost use Rattle.typst_lexer.specs.Reader.Memory.{blank};
-ghost use Rattle.typst_lexer.specs.Reader.Turn.{leave, go};
-ghost use Rattle.typst_lexer.specs.Reads.{Reads};
-ghost use Rattle.typst_lexer.specs.Sight.{regard};
+ghost use Rattle.typst_readers.specs.Reader.Memory.{blank};
+ghost use Rattle.typst_readers.specs.Reader.Turn.{leave, go};
+ghost use Rattle.typst_readers.specs.Reads.{Reads};
+ghost use Rattle.typst_readers.specs.Sight.{regard};
 ghost use Rattle.typst_lexer.specs.Text as spec;
 
-use crate::cursor::Cursor;
-use crate::sets::{PlainText, is_valid_in_label_literal};
+use crate::sets::PlainText;
 use crate::token::Token;
 use typst_classes::classes::Classes;
 use typst_kinds::SyntaxKind;
+use typst_links::labels::is_valid_in_label_literal;
+use typst_readers::Cursor;
 
 /// What is left of a text.
 #[tactic(auto, unfolding(crate::specs::Text::text))]
@@ -26,6 +27,15 @@ pub(crate) fn text<C: Classes>(s: &mut Cursor<'_>, classes: &C) -> Token
         next = s.go_past(&PlainText);
     }
     Token::plain(SyntaxKind::Text)
+}
+
+/// A text that the next character begins.
+#[tactic(auto, unfolding(crate::specs::Text::text_from))]
+pub(crate) fn text_from<C: Classes>(s: &mut Cursor<'_>, classes: &C) -> Token
+    ensures { Reads (spec.text_from (C.classes classes.now)) s.old result s.new }
+{
+    s.eat();
+    text(s, classes)
 }
 
 /// Whether a text goes on through the character, which comes next.

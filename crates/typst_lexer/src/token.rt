@@ -5,19 +5,27 @@ ghost use Rattle.typst_lexer.specs.Nodes as spec;
 
 use crate::sets::AsciiAlphanumeric;
 use std::alloc::{AllocError, Global};
+use typst_classes::classes::Classes;
 use typst_kinds::SyntaxKind;
 use typst_lines::Scanner;
 use typst_node::SyntaxNode;
+use typst_raw::raw_node;
 
 /// What is wrong with an error token.
 #[derive(Debug, Clone, Copy, PartialEq, Eq)]
 pub enum Fault {
     /// `*/` without a comment that is open.
     CommentEnd,
+    /// A raw text without its closing backticks.
+    UnclosedRaw,
     /// `\u{..` without a closing brace.
     UnclosedEscape,
     /// `\u{..}` around something that names no character.
     InvalidEscape,
+    /// A link with a bracket that isn't closed.
+    UnbalancedLink,
+    /// A label without `>`.
+    UnclosedLabel,
 }
 
 /// A token, aside from its text.
@@ -59,23 +67,47 @@ impl Token {
     }
 }
 
-/// The node of a token that took the text: a leaf of its kind, or an error leaf.
-pub fn make_node(alloc: Global, token: Token, text: &str) -> Result<SyntaxNode, AllocError>
-    ensures { IfOk result (λ node. node ≡ spec.token_node token (chars text.now)) }
+/// The node of a token that took the text: a leaf of its kind, the node of a raw text, or an error
+/// leaf.
+pub fn make_node<C: Classes>(
+    alloc: Global,
+    token: Token,
+    text: &str,
+    classes: &C,
+) -> Result<SyntaxNode, AllocError>
+    ensures { IfOk result (λ node. node ≡ spec.token_node (C.classes classes.now) token (chars text.now)) }
 {
     match token.fault {
         Some(fault) => fault_node(alloc, fault, text),
-        None => plain_node(alloc, token, text),
+        None => plain_node(alloc, token, text, classes),
     }
 }
 
-fn plain_node(alloc: Global, token: Token, text: &str) -> Result<SyntaxNode, AllocError>
-    ensures { IfOk result (λ node. node ≡ spec.plain_node token (chars text.now)) }
+fn plain_node<C: Classes>(
+    alloc: Global,
+    token: Token,
+    text: &str,
+    classes: &C,
+) -> Result<SyntaxNode, AllocError>
+    ensures { IfOk result (λ node. node ≡ spec.plain_node (C.classes classes.now) token (chars text.now)) }
 {
     if token.kind.is_error() {
         return SyntaxNode::error(alloc, "", text);
     }
+    if is_raw(token.kind) {
+        return raw_node(alloc, text, classes);
+    }
     SyntaxNode::leaf(alloc, token.kind, text)
+}
+
+/// Whether the kind is that of raw texts, which alone are more than leaves.
+fn is_raw(kind: SyntaxKind) -> bool
+    ensures { result ≡ spec.is_raw kind }
+{
+    match kind {
+        SyntaxKind::Raw => true,
+        _ => false,
+    }
 }
 
 fn fault_node(alloc: Global, fault: Fault, text: &str) -> Result<SyntaxNode, AllocError>
@@ -83,11 +115,18 @@ fn fault_node(alloc: Global, fault: Fault, text: &str) -> Result<SyntaxNode, All
 {
     match fault {
         Fault::CommentEnd => comment_end_node(alloc, text),
+        Fault::UnclosedRaw => SyntaxNode::error(alloc, "unclosed raw text", text),
         Fault::UnclosedEscape => SyntaxNode::error(alloc, "unclosed Unicode escape sequence", text),
         Fault::InvalidEscape => {
             let message = code_point_message(alloc, text)?;
             SyntaxNode::error(alloc, message.as_str(), text)
         }
+        Fault::UnbalancedLink => SyntaxNode::error(
+            alloc,
+            "automatic links cannot contain unbalanced brackets, use the `link` function instead",
+            text,
+        ),
+        Fault::UnclosedLabel => SyntaxNode::error(alloc, "unclosed label", text),
     }
 }
 

@@ -176,18 +176,59 @@ const TOKENS: &[(&str, &str)] = &[
         "[a](b)]",
         "opening bracket[[]text[a]closing bracket[]]text[(b)]closing bracket[]]",
     ),
-    ("http://a", "text[http]colon[:]line comment[//a]"),
-    ("a http://a", "text[a ]text[http]colon[:]line comment[//a]"),
-    (
-        "a https://a",
-        "text[a ]text[https]colon[:]line comment[//a]",
-    ),
+    ("http://a", "link[http://a]"),
+    ("a http://a", "text[a ]link[http://a]"),
+    ("a https://a", "text[a ]link[https://a]"),
     ("a#!b", "text[a]text[#!b]"),
-    ("a@b", "text[a]text[@b]"),
+    ("a@b", "text[a]reference marker[@b]"),
     ("a@:b", "text[a]text[@]colon[:]text[b]"),
     ("a@.b", "text[a]text[@.b]"),
-    ("a$b`c", "text[a]text[$b]text[`c]"),
-    ("<a>", "text[<a]text[>]"),
+    ("a$b`c", "text[a]text[$b]syntax error[`c]"),
+    ("<a>", "label[<a>]"),
+    ("@a...", "reference marker[@a]shorthand[...]"),
+    ("@a:b: c", "reference marker[@a:b]colon[:]space[ ]text[c]"),
+    ("@a.b.:", "reference marker[@a.b]text[.]colon[:]"),
+    ("@a>", "reference marker[@a]text[>]"),
+    ("@é", "reference marker[@é]"),
+    ("<:a>", "text[<]colon[:]text[a]text[>]"),
+    ("<.a>", "text[<.a]text[>]"),
+    ("<a:b.c>d", "label[<a:b.c>]text[d]"),
+    ("<a b>", "syntax error[<a]space[ ]text[b]text[>]"),
+    ("<a", "syntax error[<a]"),
+    ("x<1>y", "text[x]label[<1>]text[y]"),
+    ("https://a.b.", "link[https://a.b]text[.]"),
+    ("http://a!?'", "link[http://a]text[!?]smart quote[']"),
+    ("http://", "link[http://]"),
+    ("http:/a", "text[http]colon[:]text[/a]"),
+    ("http://...", "link[http://]shorthand[...]"),
+    ("http://a b", "link[http://a]space[ ]text[b]"),
+    ("http://a(b)[c].d.", "link[http://a(b)[c].d]text[.]"),
+    ("http://a]b", "link[http://a]closing bracket[]]text[b]"),
+    ("http://a)b", "link[http://a]text[)b]"),
+    ("http://(a", "syntax error[http://(a]"),
+    (
+        "http://(].",
+        "syntax error[http://(]closing bracket[]]text[.]",
+    ),
+    ("http://(a.)..", "link[http://(a.)]text[..]"),
+    ("http://(a..", "syntax error[http://(a]text[..]"),
+    ("1http://x", "text[1]link[http://x]"),
+    ("ahttp://é", "text[a]link[http://]text[é]"),
+    ("``", "raw block[``]"),
+    ("``a", "raw block[``]text[a]"),
+    ("`a`", "raw block[`a`]"),
+    ("`a\nb` c", "raw block[`a\nb`]space[ ]text[c]"),
+    ("`a", "syntax error[`a]"),
+    ("`", "syntax error[`]"),
+    ("```", "syntax error[```]"),
+    ("```a``", "syntax error[```a``]"),
+    ("```a```", "raw block[```a```]"),
+    ("```a`````", "raw block[```a```]raw block[``]"),
+    ("```a``b```c", "raw block[```a``b```]text[c]"),
+    ("````a```b````", "raw block[````a```b````]"),
+    ("`````a`````", "raw block[`````a`````]"),
+    ("`a``b`", "raw block[`a`]raw block[`b`]"),
+    ("a`b`c", "text[a]raw block[`b`]text[c]"),
     (
         "a * b _ c",
         "text[a]space[ ]star[*]space[ ]text[b]space[ ]underscore[_]space[ ]text[c]",
@@ -211,6 +252,9 @@ const NARROW: &[(&str, &str)] = &[
     ("-٣", "text[-٣]"),
     ("-3", "shorthand[-]text[3]"),
     ("a@é", "text[a@é]"),
+    ("@é", "text[@é]"),
+    ("<é>", "text[<é]text[>]"),
+    ("@aé", "reference marker[@a]text[é]"),
 ];
 
 /// Texts whose tokens past ASCII are letters.
@@ -220,7 +264,8 @@ const WIDE: &[(&str, &str)] = &[
     ("日*a", "text[日]text[*a]"),
     ("-٣", "text[-٣]"),
     ("a\u{3000}b €", "text[a]text[\u{3000}b €]"),
-    ("a@€", "text[a]text[@€]"),
+    ("a@€", "text[a]reference marker[@€]"),
+    ("<€>", "label[<€>]"),
 ];
 
 /// The tokens of a text, by kind and text.
@@ -228,7 +273,7 @@ fn tokens<C: Classes>(alloc: Global, text: &str, classes: &C) -> Result<String, 
     let mut lexer = Lexer::new(text, SyntaxMode::Markup, classes);
     let mut out = String::new(alloc);
     for _ in text.as_bytes() {
-        let (token, taken) = lexer.scan();
+        let (token, taken) = lexer.scan(alloc)?;
         if token.kind.same(SyntaxKind::End) {
             return Ok(out);
         }
@@ -264,7 +309,7 @@ fn reads_tokens(rt: HostRuntime) -> Result<(), Fail> {
 }
 
 /// Error tokens, with message and hint.
-const FAULTS: [(&str, &str, &str); 5] = [
+const FAULTS: [(&str, &str, &str); 9] = [
     (
         "*/",
         "unexpected end of block comment",
@@ -274,6 +319,14 @@ const FAULTS: [(&str, &str, &str); 5] = [
     ("\\u{110000}", "invalid Unicode codepoint: 110000", ""),
     ("\\u{}", "invalid Unicode codepoint: ", ""),
     ("\\u{xyz}", "invalid Unicode codepoint: xyz", ""),
+    ("`a", "unclosed raw text", ""),
+    ("```a``", "unclosed raw text", ""),
+    (
+        "https://(a",
+        "automatic links cannot contain unbalanced brackets, use the `link` function instead",
+        "",
+    ),
+    ("<a", "unclosed label", ""),
 ];
 
 #[test]
@@ -314,7 +367,7 @@ const SPACES: [(SyntaxMode, &str, &str, bool); 7] = [
 fn knows_newlines(rt: HostRuntime) -> Result<(), Fail> {
     for (mode, text, kind, newline) in SPACES {
         let mut lexer = Lexer::new(text, mode, &UnicodeClasses);
-        let (token, taken) = lexer.scan();
+        let (token, taken) = lexer.scan(rt.alloc())?;
         assert_eq!(rt; token.kind.name(), kind, "at {text:?}");
         assert_eq!(rt; taken.len(), text.len());
         assert_eq!(rt; lexer.newline(), newline, "at {text:?}");
@@ -333,7 +386,7 @@ fn counts_columns(rt: HostRuntime) -> Result<(), Fail> {
     for _ in 0..6 {
         let index = lexer.cursor();
         columns.push((index, lexer.column(index)))?;
-        lexer.scan();
+        lexer.scan(rt.alloc())?;
     }
     assert_eq!(rt;
         columns.as_slice(),
@@ -346,7 +399,7 @@ fn counts_columns(rt: HostRuntime) -> Result<(), Fail> {
 #[test]
 fn stays_where_memory_is_refused(rt: HostRuntime) -> Result<(), Fail> {
     let mut lexer = Lexer::new(
-        "a text that is long */\\u{xyz}\n\n",
+        "a text that is long */\\u{xyz}\n\nhttp://[a]",
         SyntaxMode::Markup,
         &UnicodeClasses,
     );
@@ -367,25 +420,31 @@ fn stays_where_memory_is_refused(rt: HostRuntime) -> Result<(), Fail> {
             }
         }
     }
-    assert_eq!(rt; ends, 31);
+    assert_eq!(rt; ends, 41);
     Ok(())
 }
 
 /// Asserts that a text of many times one character has so many tokens.
-fn expect_count(rt: &impl Abort, text: &str, count: usize) {
+fn expect_count(
+    rt: &impl Abort,
+    alloc: Global,
+    text: &str,
+    count: usize,
+) -> Result<(), AllocError> {
     let mut lexer = Lexer::new(text, SyntaxMode::Markup, &UnicodeClasses);
     for n in 0..100_001 {
-        let (token, _) = lexer.scan();
+        let (token, _) = lexer.scan(alloc)?;
         if token.kind.same(SyntaxKind::End) {
             assert_eq!(rt; n, count);
-            return;
+            return Ok(());
         }
     }
     assert!(rt; false, "the end is read");
+    Ok(())
 }
 
 /// A character, and how many tokens 100,000 of it are.
-const RUNS: [(char, usize); 13] = [
+const RUNS: [(char, usize); 15] = [
     ('a', 1),
     (' ', 1),
     ('/', 1),
@@ -399,6 +458,8 @@ const RUNS: [(char, usize); 13] = [
     ('0', 1),
     ('h', 1),
     ('.', 33_334),
+    ('`', 1),
+    ('@', 1),
 ];
 
 #[test]
@@ -408,7 +469,7 @@ fn reads_long_runs(rt: HostRuntime) -> Result<(), Fail> {
         for _ in 0..100_000 {
             text.push(one)?;
         }
-        expect_count(&rt, text.as_str(), count);
+        expect_count(&rt, rt.alloc(), text.as_str(), count)?;
     }
     Ok(())
 }

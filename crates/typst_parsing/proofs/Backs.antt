@@ -69,7 +69,7 @@ module _ (l : Level) where
   backs-done erred z s = record { back = omega arith; left = omega arith }
   backs-done (takes trims making) z s =
       let h = hand_of l z s in
-      let node = taken_node making h z in
+      let node = taken_node l.classes making h z in
       let b = if-le trims s.empties in
       let one = length-one h.trivia node in
       let n = after_node-le (is_error node.head.kind) (text_of node) s in

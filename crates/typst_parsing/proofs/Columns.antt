@@ -6,8 +6,8 @@ use Rattle.std.proofs.lemmas.Str.{encodes-chars, length-le-encodes, IsUtf8-take}
 use Rattle.std.proofs.lemmas.List.{length-reverse}
 use Rattle.typst_lines.specs.Newline.{is_newline}
 use Rattle.typst_lines.specs.Place.{Place, place_at, moved_back}
-use Rattle.typst_lexer.specs.Sight.{near, position}
-use Rattle.typst_lexer.proofs.Sights.{near-on, near-none, near-start, position-step}
+use Rattle.typst_readers.specs.Sight.{near, position}
+use Rattle.typst_readers.proofs.Sights.{near-on, near-none, near-start, position-step}
 use Rattle.typst_parsing.specs.Hand.{column_at}
 
 abbrev pub in_line : ℕ → Bool

@@ -10,12 +10,18 @@ use Rattle.typst_lines.specs.Place.{Place, scout, passes, moved, run, past}
 use Rattle.typst_lexer.specs.Characters.{among, is_code_point, is_space, is_u64}
 use Rattle.typst_classes.specs.Classes.{CharClasses}
 use Rattle.typst_lexer.specs.Common.{line_ends, is_parbreak, space, whitespace, shebang, line_comment, block_comment, comment_end}
-use Rattle.typst_lexer.specs.Markup.{sign, text_from, code_point, backslash, dot, marker_or_text, marker, hyphen, minus, emphasis, heading, numbering, markup}
-use Rattle.typst_lexer.specs.Reader.{Reader, place, exec, eaten}
-use Rattle.typst_lexer.specs.Reader.Reader.{answer, peek}
-use Rattle.typst_lexer.specs.Text.{text}
+use Rattle.typst_lexer.specs.Markup.{sign, code_point, backslash, dot, marker_or_text, marker, hyphen, minus, emphasis, heading, numbering, markup}
+use Rattle.typst_readers.specs.Reader.{Reader, Memory, place, spanned, at_word, exec, eaten}
+use Rattle.typst_readers.specs.Reader.Memory.{blank, comment, fence, brackets}
+use Rattle.typst_readers.specs.Reader.Reader.{answer, peek, skip}
+use Rattle.typst_lexer.specs.Text.{text, text_from}
+use Rattle.typst_lexer.specs.Link.{in_link, link_end, link, link_or_text}
+use Rattle.typst_lexer.specs.Names.{label, label_or_text, ref_marker, ref_or_text}
+use Rattle.typst_lexer.specs.Raw.{in_raw, raw_end, raw}
+use Rattle.typst_classes.specs.Identifiers.{is_id_continue}
+use Rattle.typst_links.specs.Labels.{is_name}
 use Rattle.typst_lexer.specs.Token.{plain}
-use Rattle.typst_lexer.specs.Tokens.{of_mode, hash, slash, star, token}
+use Rattle.typst_lexer.specs.Tokens.{of_mode, hash, slash, star, backtick, token}
 use Rattle.typst_lexer.specs.declared.token.Token.{Token}
 use Rattle.typst_lexer.proofs.TokenEats.{token-eats}
 use Rattle.typst_parsing.specs.Depth.{is_end}
@@ -106,10 +112,58 @@ numbering-goes k p =
     goes-if (passes (λ c. c == 46) (scout 0 q)) _ _ q
     (goes-if (is_u64 (run is_ascii_digit p)) _ _ (moved 1 q) (marker-goes k kind.EnumMarker (moved 1 q) refl) (text-goes k (moved 1 q))) (text-goes k q)
 
+word-goes : (n : ℕ) (word : List ℕ) (x y : Reader Token) (p : Place) → Goes x p → Goes y p → Goes (at_word n word x y) p
+word-goes n [] x y p h i = h
+word-goes n (c ∷ word) x y p h i = goes-if (passes (λ d. d == c) (scout n p)) (at_word (suc n) word x y) y p (word-goes (suc n) word x y p h i) i
+
+link-end-goes : (m : Memory) → is_end (link_end m).kind ≡ false
+link-end-goes blank = refl
+link-end-goes (comment a b) = refl
+link-end-goes (fence a b) = refl
+link-end-goes (brackets []) = refl
+link-end-goes (brackets (c ∷ cs)) = refl
+
+link-goes : (p : Place) → Goes link p
+unfolding link
+link-goes p = link-end-goes (spanned in_link (brackets []) p.behind p.ahead).1
+
+link-or-text-goes : (k : CharClasses) (p : Place) → Goes (link_or_text k) p
+unfolding link_or_text
+link-or-text-goes k p =
+    let q = moved 1 p in
+    word-goes 0 (codes "ttp://") (skip 6 link) (at_word 0 (codes "ttps://") (skip 7 link) (text k)) q (link-goes (moved 6 q))
+    (word-goes 0 (codes "ttps://") (skip 7 link) (text k) q (link-goes (moved 7 q)) (text-goes k q))
+
+label-goes : (k : CharClasses) (p : Place) → Goes (label_or_text k) p
+unfolding label_or_text label text_from
+label-goes k p =
+    let q = past (is_name k) (moved 1 p) in
+    goes-if (passes (is_id_continue k) (scout 1 p)) _ _ p (goes-if (passes (λ c. c == 62) (scout 0 q)) _ _ q refl refl) (text-goes k (moved 1 p))
+
+ref-goes : (k : CharClasses) (p : Place) → Goes (ref_or_text k) p
+unfolding ref_or_text ref_marker text_from
+ref-goes k p = goes-if (passes (is_id_continue k) (scout 1 p)) _ _ p refl (text-goes k (moved 1 p))
+
+raw-end-goes : (m : Memory) → is_end (raw_end m).kind ≡ false
+raw-end-goes blank = refl
+raw-end-goes (comment a b) = refl
+raw-end-goes (fence a b) = refl
+raw-end-goes (brackets cs) = refl
+
+raw-goes : (p : Place) → Goes raw p
+unfolding raw
+raw-goes p =
+    let ticks = run (λ c. c == 96) p in
+    let q = past (λ c. c == 96) p in
+    goes-if (length ticks == 2) _ _ q refl (raw-end-goes (spanned in_raw (fence (length ticks) 0) q.behind q.ahead).1)
+
 markup-goes : (k : CharClasses) (c : ℕ) (p : Place) → Goes (markup k c) p
 unfolding markup sign marker text_from
 markup-goes k c p =
     goes-if (c == 92) _ _ p (backslash-goes p)
+    (goes-if (c == 104) _ _ p (link-or-text-goes k p)
+    (goes-if (c == 60) _ _ p (label-goes k p)
+    (goes-if (c == 64) _ _ p (ref-goes k p)
     (goes-if (c == 46) _ _ p (dot-goes k p)
     (goes-if (c == 45) _ _ p (minus-goes k p)
     (goes-if (c == 42) _ _ p (emphasis-goes k kind.Star p refl)
@@ -123,7 +177,7 @@ markup-goes k c p =
     (goes-if (c == 43) _ _ p (marker-goes k kind.EnumMarker (moved 1 p) refl)
     (goes-if (c == 47) _ _ p (marker-goes k kind.TermMarker (moved 1 p) refl)
     (goes-if (is_ascii_digit c) _ _ p (numbering-goes k p)
-    (text-goes k (moved 1 p)))))))))))))))
+    (text-goes k (moved 1 p))))))))))))))))))
 
 mode-goes : (k : CharClasses) (m : SyntaxMode) (c : ℕ) (p : Place) → Goes (of_mode k m c) p
 unfolding of_mode text_from
@@ -145,6 +199,12 @@ star-goes : (k : CharClasses) (m : SyntaxMode) (p : Place) → Goes (star k m) p
 unfolding star comment_end
 star-goes k m p = goes-if (passes (λ d. d == 47) (scout 1 p)) _ _ p refl (mode-goes k m 42 p)
 
+tick-goes : (k : CharClasses) (m : SyntaxMode) (p : Place) → Goes (backtick k m) p
+unfolding backtick
+tick-goes k Markup p = raw-goes p
+tick-goes k Math p = mode-goes k Math 96 p
+tick-goes k Code p = raw-goes p
+
 space-goes : (m : SyntaxMode) (p : Place) → Goes (whitespace m) p
 unfolding whitespace
 space-goes m p = kind-if (is_parbreak m (line_ends false (run (is_space m) p))) kind.Parbreak kind.Space refl refl
@@ -154,7 +214,7 @@ token-goes : (k : CharClasses) (m : SyntaxMode) (b : List ℕ) (c : ℕ) (a : Li
 unfolding token
 token-goes k m b c a =
     let p = place b (c ∷ a) in
-    goes-if (is_space m c) _ _ p (space-goes m p) (goes-if (c == 35) _ _ p (hash-goes k m p) (goes-if (c == 47) _ _ p (slash-goes k m p) (goes-if (c == 42) _ _ p (star-goes k m p) (mode-goes k m c p))))
+    goes-if (is_space m c) _ _ p (space-goes m p) (goes-if (c == 35) _ _ p (hash-goes k m p) (goes-if (c == 47) _ _ p (slash-goes k m p) (goes-if (c == 42) _ _ p (star-goes k m p) (goes-if (c == 96) _ _ p (tick-goes k m p) (mode-goes k m c p)))))
 
 ends-at : (k : CharClasses) (m : SyntaxMode) (b a : List ℕ) → is_end (token_at k m (place b a)).kind ≡ true → a ≡ []
 ends-at k m b [] h = refl
@@ -194,7 +254,7 @@ ahead-read k m (suc n) z =
     let rest = ahead_by k m n (moved l z) in
     let r = ahead-read k m n (moved l z) in
     let e = sym (moved-sum l rest.gap z) in
-    on (Read k m z) (at_trivia k m z) (after_trivia t l (token_node t (take l z.ahead)) rest) (direct t l)
+    on (Read k m z) (at_trivia k m z) (after_trivia t l (token_node k t (take l z.ahead)) rest) (direct t l)
     (r.0 ∙ ap (token_at k m) e, r.1 ∙ ap (len_at k m) e) (refl, refl)
 
 end-judged : (b : Bool) (t : SyntaxKind) → is_end (if b then kind.End else t) ≡ false → is_end t ≡ false

@@ -8,7 +8,7 @@ use Rattle.typst_lines.specs.Place.{Place, moved}
 use Rattle.typst_classes.specs.Classes.{CharClasses}
 use Rattle.typst_lexer.specs.Nodes.{token_node}
 use Rattle.typst_lexer.specs.declared.token.Token.{Token}
-use Rattle.typst_lexer.specs.Reader.{Look, look}
+use Rattle.typst_readers.specs.Reader.{Look, look}
 use Rattle.typst_lexer.specs.Tokens.{token}
 use Rattle.typst_parsing.specs.declared.reading.AtNewline.TheVariants.{Continue, Stop, ContextualContinue, StopParBreak, RequireColumn}
 use Rattle.typst_parsing.specs.declared.reading.Block.{Block}
@@ -70,13 +70,13 @@ trivia-enough k m (suc i) (suc j) z a b =
     let rest : at_trivia k m z ≡ true → Trivia k m i j (moved l z) (moved l z) = λ h.
     (let some : 0 < l = ltb-true 0 l (and-second (is_trivia (token_at k m z).kind) (nat_lt 0 l) h) in trivia-enough k m i j (moved l z) (omega arith) (omega arith)) in
     record {
-      nodes = if-same (at_trivia k m z) _ _ _ (λ h. ap (after_trivia (token_at k m z) l (token_node (token_at k m z) (take l z.ahead))) (rest h).nodes);
+      nodes = if-same (at_trivia k m z) _ _ _ (λ h. ap (after_trivia (token_at k m z) l (token_node k (token_at k m z) (take l z.ahead))) (rest h).nodes);
       asks = ap (λ ls. looked 0 (look (token k m) z) ∷ ls) (if-same (at_trivia k m z) _ _ _ (λ h. ap (shift l) (rest h).asks));
     }
 
 -- one token, which may be trivia, and what is read behind it
-abbrev step : Token → ℕ → List ℕ → Ahead → Ahead
-step t n text rest = if is_trivia t.kind && nat_lt 0 n then after_trivia t n (token_node t text) rest else direct t n
+abbrev step : CharClasses → Token → ℕ → List ℕ → Ahead → Ahead
+step k t n text rest = if is_trivia t.kind && nat_lt 0 n then after_trivia t n (token_node k t text) rest else direct t n
 
 abbrev step_asks : Token → ℕ → Look → List Ask → List Ask
 step_asks t n l rest = looked 0 l ∷ (if is_trivia t.kind && nat_lt 0 n then shift n rest else [])
@@ -96,10 +96,10 @@ trivia-frame k m (suc n) z w h =
     let rest : at_trivia k m z ≡ true → Trivia k m n n (moved len z) (moved len w) = λ b.
     trivia-frame k m n (moved len z) (moved len w) (same_in-shift len _ z w (held (at_trivia k m z) _ z w h.1 b)) in
     record {
-      nodes = ap (λ x. step x (len_at k m w) (take (len_at k m w) w.ahead) (ahead_by k m n (moved (len_at k m w) w))) t.read
-          ∙ ap (λ l. step tok l (take l w.ahead) (ahead_by k m n (moved l w))) t.len
-          ∙ ap (λ x. step tok len x (ahead_by k m n (moved len w))) t.text
-          ∙ if-same (at_trivia k m z) _ _ _ (λ b. ap (after_trivia tok len (token_node tok (take len z.ahead))) (rest b).nodes);
+      nodes = ap (λ x. step k x (len_at k m w) (take (len_at k m w) w.ahead) (ahead_by k m n (moved (len_at k m w) w))) t.read
+          ∙ ap (λ l. step k tok l (take l w.ahead) (ahead_by k m n (moved l w))) t.len
+          ∙ ap (λ x. step k tok len x (ahead_by k m n (moved len w))) t.text
+          ∙ if-same (at_trivia k m z) _ _ _ (λ b. ap (after_trivia tok len (token_node k tok (take len z.ahead))) (rest b).nodes);
       asks = ap (λ x. step_asks x (len_at k m w) (look (token k m) w) (asks_by k m n (moved (len_at k m w) w))) t.read
           ∙ ap (λ l. step_asks tok l (look (token k m) w) (asks_by k m n (moved l w))) t.len
           ∙ ap (λ x. step_asks tok len x (asks_by k m n (moved len w))) t.seen
@@ -222,9 +222,9 @@ framed-chosen is_wrong p q f g z w s h =
     rw e (chosen-same (is_wrong o.value) o (q z s) (q w s) z w h (λ l. g z w s (same_in-second o.asks _ z w (same_in-only (o.asks ++ (q z s).asks) z w l))))
 
 -- what takes and flushes give, by the token at hand, its text, and what was asked for it
-abbrev took : Bool → Making → State → List Ask → Hand → List ℕ → Outcome (Unit {0})
-took trims making s asks h text =
-    let node = made making (token_node h.token text) in
+abbrev took : CharClasses → Bool → Making → State → List Ask → Hand → List ℕ → Outcome (Unit {0})
+took k trims making s asks h text =
+    let node = made making (token_node k h.token text) in
     record (plain tt (renewed (after_node (is_error node.head.kind) (text_of node) s))) {
       taken = h.gap + h.len;
       back = if trims then s.empties else 0;
@@ -260,8 +260,8 @@ module _ (l : Level) where
       let x = hand_of l z s in
       let e = at_hand z w s (same_in-first (hand_asks_of l z s) _ z w h) in
       let text = passed-same x.gap x.len z w (same_in-second (hand_asks_of l z s) _ z w h).0 in
-      ap (λ (y : Hand). took trims making s (hand_asks_of l w s) y (take y.len (moved y.gap w).ahead)) e.0
-      ∙ ap (λ ls. took trims making s ls x (take x.len (moved x.gap w).ahead)) e.1 ∙ ap (took trims making s (hand_asks_of l z s) x) text
+      ap (λ (y : Hand). took l.classes trims making s (hand_asks_of l w s) y (take y.len (moved y.gap w).ahead)) e.0
+      ∙ ap (λ ls. took l.classes trims making s ls x (take x.len (moved x.gap w).ahead)) e.1 ∙ ap (took l.classes trims making s (hand_asks_of l z s) x) text
   framed-done flushes z w s h =
       let e = at_hand z w s (same_in-first (hand_asks_of l z s) _ z w h) in
       ap (flushed s (hand_asks_of l w s)) e.0 ∙ ap (λ ls. flushed s ls (hand_of l z s)) e.1

@@ -3,11 +3,11 @@ use Rattle.std.proofs.Common.{◌≡◌, ℕ, zero, suc, ◌+◌, ◌<◌, ◌�
 use Rattle.typst_kinds.specs.declared.mode.SyntaxMode.{SyntaxMode}
 use Rattle.typst_lines.specs.Place.{Place, moved, moved_from}
 use Rattle.typst_classes.specs.Classes.{CharClasses}
-use Rattle.typst_lexer.specs.Reader.{look, place}
-use Rattle.typst_lexer.specs.Sight.{far}
+use Rattle.typst_readers.specs.Reader.{look, place}
+use Rattle.typst_readers.specs.Sight.{far}
 use Rattle.typst_lexer.specs.Tokens.{token}
-use Rattle.typst_lexer.specs.declared.hull.Hull.{Hull}
-use Rattle.typst_lexer.proofs.Sights.{far-on, far-max}
+use Rattle.typst_readers.specs.declared.hull.Hull.{Hull}
+use Rattle.typst_readers.proofs.Sights.{far-on, far-max}
 use Rattle.typst_parsing.specs.Hand.{Ahead, ahead_by, len_at, at_trivia, joined_hull, token_hull, tokens_by}
 use Rattle.typst_parsing.proofs.Looks.{len-covers}
 use Rattle.typst_parsing.proofs.Places.{moved-sum}

@@ -138,10 +138,10 @@ ahead-texts k m zero z = refl
 ahead-texts k m (suc n) z =
     let t = token_at k m z in
     let l = len_at k m z in
-    let node = token_node t (take l z.ahead) in
+    let node = token_node k t (take l z.ahead) in
     let rest = ahead_by k m n (moved l z) in
     on (λ (a : Ahead). texts a.trivia ≡ utf8_ahead a.gap z) (at_trivia k m z) (after_trivia t l node rest) (direct t l)
-    (texts-first node rest.trivia ∙ ap (λ x. x ++ texts rest.trivia) (text-token t (take l z.ahead))
+    (texts-first node rest.trivia ∙ ap (λ x. x ++ texts rest.trivia) (text-token k t (take l z.ahead))
     ∙ ap (λ x. utf8_ahead l z ++ x) (ahead-texts k m n (moved l z)) ∙ text-add l rest.gap z)
     refl
 
@@ -251,11 +251,11 @@ module _ (l : Level) where
   kept-done (takes trims making) z s =
       let h = hand_of l z s in
       let taken = take h.len (moved h.gap z).ahead in
-      let node = taken_node making h z in
+      let node = taken_node l.classes making h z in
       let e = empties-node (is_error node.head.kind) (text_of node) s in
       record {
         text = texts-append h.trivia (node ∷ []) ∙ ap (λ x. x ++ texts (node ∷ [])) (hand-texts l z s)
-            ∙ ap (λ x. utf8_ahead h.gap z ++ x) (texts-one node ∙ text-made making (token_node h.token taken) ∙ text-token h.token taken) ∙ text-add h.gap h.len z;
+            ∙ ap (λ x. utf8_ahead h.gap z ++ x) (texts-one node ∙ text-made making (token_node l.classes h.token taken) ∙ text-token l.classes h.token taken) ∙ text-add h.gap h.len z;
         blank = blank-last (after_node (is_error node.head.kind) (text_of node) s).empties h.trivia node e.few e.none;
       }
   kept-done flushes z s = record { text = hand-texts l z s; blank = blank-flushed (hand_of l z s).newlines s (hand_of l z s).trivia }

@@ -3,11 +3,11 @@ use Rattle.std.proofs.Common.{◌≡◌, ℕ, zero, suc, ◌+◌, ◌-◌, ◌<�
 use Rattle.typst_kinds.specs.declared.mode.SyntaxMode.{SyntaxMode}
 use Rattle.typst_lines.specs.Place.{Place, moved}
 use Rattle.typst_classes.specs.Classes.{CharClasses}
-use Rattle.typst_lexer.specs.Reader.{Look, look}
-use Rattle.typst_lexer.specs.Sight.{position, far, near, hull_of}
+use Rattle.typst_readers.specs.Reader.{Look, look}
+use Rattle.typst_readers.specs.Sight.{position, far, near, hull_of}
 use Rattle.typst_lexer.specs.Tokens.{token}
-use Rattle.typst_lexer.specs.declared.hull.Hull.{Hull}
-use Rattle.typst_lexer.proofs.Sights.{near-none, near-le}
+use Rattle.typst_readers.specs.declared.hull.Hull.{Hull}
+use Rattle.typst_readers.proofs.Sights.{near-none, near-le}
 use Rattle.typst_parsing.specs.declared.reading.Mark.{Mark}
 use Rattle.typst_parsing.specs.declared.reading.Newlines.{Newlines}
 use Rattle.typst_parsing.specs.declared.reading.Note.{Note}

@@ -6,10 +6,10 @@ use Rattle.typst_kinds.specs.declared.mode.SyntaxMode.{SyntaxMode}
 use Rattle.typst_lines.specs.Newline.{is_newline}
 use Rattle.typst_lines.specs.Place.{Place, moved, scout, run, past}
 use Rattle.typst_classes.specs.Classes.{CharClasses}
-use Rattle.typst_lexer.specs.Reader.{Reader, eaten, Look, look, marked, Agree, spanned, from_before, skip_look}
-use Rattle.typst_lexer.specs.Reader.Reader.{answer, peek, glance, span, eat, see_run, skip, eat_run}
+use Rattle.typst_readers.specs.Reader.{Reader, eaten, Look, look, marked, Agree, spanned, from_before, skip_look}
+use Rattle.typst_readers.specs.Reader.Reader.{answer, peek, glance, span, eat, see_run, skip, eat_run}
 use Rattle.typst_lexer.specs.Tokens.{token}
-use Rattle.typst_lexer.proofs.Frame.{frame}
+use Rattle.typst_readers.proofs.Frame.{frame}
 use Rattle.typst_parsing.specs.Ask.{Ask, SameOne, SameIn, shift, shift_one, sunk, only_looks}
 use Rattle.typst_parsing.specs.Ask.Ask.{looked, marked as unit}
 use Rattle.typst_parsing.specs.Hand.{token_at, len_at, column_at}

@@ -3,8 +3,8 @@ use Rattle.std.proofs.Common.{◌≡◌, ℕ, ◌+◌, ◌-◌, ◌^◌, max, mi
 use Rattle.typst_kinds.specs.Kinds.{is_error}
 use Rattle.typst_lines.specs.Place.{Place, moved}
 use Rattle.typst_node.specs.Tree.{Tree, text_of}
-use Rattle.typst_lexer.specs.Sight.{position}
-use Rattle.typst_lexer.specs.declared.hull.Hull.{Hull}
+use Rattle.typst_readers.specs.Sight.{position}
+use Rattle.typst_readers.specs.declared.hull.Hull.{Hull}
 use Rattle.typst_parsing.specs.declared.reading.Mark.{Mark}
 use Rattle.typst_parsing.specs.declared.reading.Note.{Note}
 use Rattle.typst_parsing.specs.declared.reading.Reading.{Reading}
@@ -37,7 +37,7 @@ node-state true text r s e = rw e refl
 node-state false text r s e = rw e refl
 
 -- the token at hand became a node, and the next one was read
-pub eaten-is : (l : Level) (trims : Bool) (making : Making) (v w : View) (node : Tree) → node ≡ taken_node making v.hand v.place
+pub eaten-is : (l : Level) (trims : Bool) (making : Making) (v w : View) (node : Tree) → node ≡ taken_node l.classes making v.hand v.place
     → w.nodes ≡ less (if trims then v.state.empties else 0) v.nodes ++ (v.hand.trivia ++ node ∷ [])
     → w.place ≡ moved (v.hand.gap + v.hand.len) v.place
     → (n : ℕ) (i : Bool) → n ≡ (if is_error node.head.kind then count_empty (text_of node) else 0) → i ≡ is_error node.head.kind

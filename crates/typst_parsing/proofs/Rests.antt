@@ -121,7 +121,7 @@ module _ (l : Level) where
   rests-done column z s = rests-same s
   rests-done erred z s = rests-same s
   rests-done (takes trims making) z s =
-      let node = taken_node making (hand_of l z s) z in
+      let node = taken_node l.classes making (hand_of l z s) z in
       let a = like-node (is_error node.head.kind) (text_of node) s in
       record { reading = a.reading; mode = inr (ap (λ (x : Reading). x.mode) a.reading); rule = inr (ap (λ (x : Reading). x.at_newline) a.reading) }
   rests-done flushes z s = rests-like s.reading s.held s (flushed_state (hand_of l z s) s) (rests-same s) (like-flushed (hand_of l z s).newlines s (hand_of l z s).trivia)

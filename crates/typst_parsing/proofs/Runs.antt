@@ -8,8 +8,8 @@ use Rattle.typst_parsing.specs.declared.reading.Call.{Call}
 use Rattle.typst_parsing.specs.declared.reading.Mark.{Mark}
 use Rattle.typst_parsing.specs.declared.reading.Reading.{Reading}
 use Rattle.typst_parsing.specs.declared.reading.State.{State}
-use Rattle.typst_lexer.specs.Sight.{hull_of}
-use Rattle.typst_lexer.specs.declared.hull.Hull.{Hull}
+use Rattle.typst_readers.specs.Sight.{hull_of}
+use Rattle.typst_readers.specs.declared.hull.Hull.{Hull}
 use Rattle.typst_parsing.specs.Ask.{Ask, shift}
 use Rattle.typst_parsing.specs.Hand.{Hand, Looks, hand_at, column_at, column_look, bytes_left, looks_at, whole}
 use Rattle.typst_parsing.specs.Log.{Log, logged, with_hull, with_note}
@@ -169,9 +169,9 @@ ran-marks {l = l} gap m v =
 
 -- the token at hand was taken so, and the next one is at hand
 pub record Eaten (l : Level) (trims : Bool) (making : Making) (v w : View) : Type 0 where
-  pub nodes : w.nodes ≡ less (if trims then v.state.empties else 0) v.nodes ++ (v.hand.trivia ++ taken_node making v.hand v.place ∷ [])
+  pub nodes : w.nodes ≡ less (if trims then v.state.empties else 0) v.nodes ++ (v.hand.trivia ++ taken_node l.classes making v.hand v.place ∷ [])
   pub place : w.place ≡ moved (v.hand.gap + v.hand.len) v.place
-  pub state : w.state ≡ renewed (after_node (is_error (taken_node making v.hand v.place).head.kind) (text_of (taken_node making v.hand v.place)) v.state)
+  pub state : w.state ≡ renewed (after_node (is_error (taken_node l.classes making v.hand v.place).head.kind) (text_of (taken_node l.classes making v.hand v.place)) v.state)
   pub log : w.log ≡ with_hull (whole w.looks) v.log
   pub hand : w.hand ≡ hand_of l w.place w.state
   pub looks : w.looks ≡ looks_at l.classes w.state.held w.state.flushed w.place
@@ -191,8 +191,8 @@ ran-takes {l = l} {trims = trims} {making = making} {v = v} {w = w} h c =
       runs = record {
         value = refl;
         place = h.place ∙ ap (λ (x : Hand). moved (x.gap + x.len) v.place) c.hand;
-        state = h.state ∙ ap (λ (x : Hand). renewed (after_node (is_error (taken_node making x v.place).head.kind) (text_of (taken_node making x v.place)) v.state)) c.hand;
-        nodes = h.nodes ∙ ap (λ (x : Hand). less (if trims then v.state.empties else 0) v.nodes ++ (x.trivia ++ taken_node making x v.place ∷ [])) c.hand;
+        state = h.state ∙ ap (λ (x : Hand). renewed (after_node (is_error (taken_node l.classes making x v.place).head.kind) (text_of (taken_node l.classes making x v.place)) v.state)) c.hand;
+        nodes = h.nodes ∙ ap (λ (x : Hand). less (if trims then v.state.empties else 0) v.nodes ++ (x.trivia ++ taken_node l.classes making x v.place ∷ [])) c.hand;
         log = passed-known l v (g.gap + g.len) c (let e = ap (λ (x : Hand). x.gap + x.len) c.hand in omega arith);
       };
     }

@@ -10,14 +10,14 @@ use Rattle.typst_lines.specs.Place.{Place, moved, place_at}
 use Rattle.typst_node.specs.Tree.{Tree}
 use Rattle.typst_classes.specs.Classes.{CharClasses}
 use Rattle.typst_lexer.specs.Nodes.{token_node}
-use Rattle.typst_lexer.specs.declared.hull.Hull.{Hull}
+use Rattle.typst_readers.specs.declared.hull.Hull.{Hull}
 use Rattle.typst_lexer.specs.declared.token.Token.{Token}
 use Rattle.typst_parsing.specs.declared.reading.Newlines.{Newlines}
 use Rattle.typst_parsing.specs.declared.reading.Reading.{Reading}
 use Rattle.typst_parsing.specs.Hand.{Hand, Ahead, text_ahead, is_trivia, token_at, len_at, at_trivia, no_newlines, both_newlines, newlines_of, direct, after_trivia, ahead_by, ahead, column_at, judged, hand_by, hand_at, joined_hull, token_hull, tokens_by, tokens_at, column_hull, Looks, looks_at}
-use Rattle.typst_lexer.specs.Reader.{exec, eaten}
+use Rattle.typst_readers.specs.Reader.{exec, eaten}
 use Rattle.typst_lexer.specs.Tokens.{token}
-use Rattle.typst_lexer.proofs.Moves.{exec-moved}
+use Rattle.typst_readers.proofs.Moves.{exec-moved}
 use Rattle.typst_lines.specs.Scanner.{place}
 use Rattle.typst_parsing.specs.declared.ahead.Ahead.{Ahead as Front}
 use Rattle.typst_parsing.specs.Cursor.{IsAhead}
@@ -64,17 +64,17 @@ module _ (k : CharClasses) (m : SyntaxMode) where
       let l = len_at k m z in
       let some = some-left z h in
       let left = ahead-left l z in
-      ap (after_trivia (token_at k m z) l (token_node (token_at k m z) (text_ahead l z))) (enough n p (moved l z) (omega arith) (omega arith)))
+      ap (after_trivia (token_at k m z) l (token_node k (token_at k m z) (text_ahead l z))) (enough n p (moved l z) (omega arith) (omega arith)))
 
   pub ahead-step : (z : Place) → at_trivia k m z ≡ true
-      → ahead k m z ≡ after_trivia (token_at k m z) (len_at k m z) (token_node (token_at k m z) (text_ahead (len_at k m z) z)) (ahead k m (moved (len_at k m z) z))
+      → ahead k m z ≡ after_trivia (token_at k m z) (len_at k m z) (token_node k (token_at k m z) (text_ahead (len_at k m z) z)) (ahead k m (moved (len_at k m z) z))
   unfolding ahead
   ahead-step z h =
       let l = len_at k m z in
       let left = ahead-left l z in
       let w = moved l z in
       enough (length z.ahead) (suc (length z.ahead)) z (omega arith) (omega arith)
-      ∙ (rw h (ap (after_trivia (token_at k m z) l (token_node (token_at k m z) (text_ahead l z))) (enough (length z.ahead) (length w.ahead) w (omega arith) (omega arith))))
+      ∙ (rw h (ap (after_trivia (token_at k m z) l (token_node k (token_at k m z) (text_ahead l z))) (enough (length z.ahead) (length w.ahead) w (omega arith) (omega arith))))
 
   pub ahead-stop : (z : Place) → at_trivia k m z ≡ false → ahead k m z ≡ direct (token_at k m z) (len_at k m z)
   unfolding ahead
@@ -95,7 +95,7 @@ module _ (k : CharClasses) (m : SyntaxMode) where
   along-start flushed z = record { gap = 0; fits = omega arith; place = refl; trivia = refl; gaps = omega arith; newlines = refl; token = refl; len = refl }
 
   pub along-next : (flushed now : Newlines) (ts : List Tree) (from z w : Place) (node : Tree) → Along flushed now ts from z → at_trivia k m z ≡ true
-      → w ≡ moved (len_at k m z) z → node ≡ token_node (token_at k m z) (text_ahead (len_at k m z) z)
+      → w ≡ moved (len_at k m z) z → node ≡ token_node k (token_at k m z) (text_ahead (len_at k m z) z)
       → Along flushed (both_newlines now (newlines_of (token_at k m z))) (ts ++ node ∷ []) from w
   along-next flushed now ts from z w node a h e f =
       let l = len_at k m z in

@@ -1,7 +1,7 @@
 -- What a parser asked of the text, in the order of asking.
 use Rattle.std.specs.Prelude.{ℕ, suc, ◌+◌, List, [], ◌∷◌, map}
 use Rattle.typst_lines.specs.Place.{Place, moved}
-use Rattle.typst_lexer.specs.Reader.{Look, Agree}
+use Rattle.typst_readers.specs.Reader.{Look, Agree}
 use Rattle.typst_parsing.specs.declared.reading.State.{State}
 use Rattle.typst_parsing.specs.declared.reading.Mark.{Mark}
 

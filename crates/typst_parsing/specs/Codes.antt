@@ -5,8 +5,8 @@ use Rattle.typst_kinds.specs.declared.kind.SyntaxKind.{SyntaxKind}
 use Rattle.typst_kinds.specs.contracts.kind.SyntaxKind.{the_row as kind_row}
 use Rattle.typst_lines.specs.Place.{Place}
 use Rattle.typst_node.specs.Tree.{Tree, tree_code}
-use Rattle.typst_lexer.specs.declared.hull.Hull.{Hull}
-use Rattle.typst_lexer.specs.contracts.hull.Hull.{the_row as hull_row}
+use Rattle.typst_readers.specs.declared.hull.Hull.{Hull}
+use Rattle.typst_readers.specs.contracts.hull.Hull.{the_row as hull_row}
 use Rattle.typst_lexer.specs.declared.token.Token.{Token}
 use Rattle.typst_lexer.specs.contracts.token.Token.{the_row as token_row}
 use Rattle.typst_parsing.specs.declared.reading.Newlines.{Newlines}

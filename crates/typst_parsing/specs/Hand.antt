@@ -8,11 +8,11 @@ use Rattle.typst_kinds.specs.declared.mode.SyntaxMode.TheVariants as mode
 use Rattle.typst_lines.specs.Newline.{is_newline}
 use Rattle.typst_lines.specs.Place.{Place, moved}
 use Rattle.typst_node.specs.Tree.{Tree}
-use Rattle.typst_lexer.specs.declared.hull.Hull.{Hull}
+use Rattle.typst_readers.specs.declared.hull.Hull.{Hull}
 use Rattle.typst_lexer.specs.declared.token.Token.{Token}
 use Rattle.typst_classes.specs.Classes.{CharClasses}
-use Rattle.typst_lexer.specs.Reader.{Look, exec, eaten, look}
-use Rattle.typst_lexer.specs.Sight.{hull_of}
+use Rattle.typst_readers.specs.Reader.{Look, exec, eaten, look}
+use Rattle.typst_readers.specs.Sight.{hull_of}
 use Rattle.typst_lexer.specs.Tokens.{token}
 use Rattle.typst_lexer.specs.Nodes.{token_node}
 use Rattle.typst_parsing.specs.declared.reading.AtNewline.{AtNewline}
@@ -92,7 +92,7 @@ abbrev pub ahead_by : CharClasses → SyntaxMode → ℕ → Place → Ahead
 ahead_by k m zero z = direct (token_at k m z) (len_at k m z)
 ahead_by k m (suc n) z =
     if at_trivia k m z
-    then after_trivia (token_at k m z) (len_at k m z) (token_node (token_at k m z) (text_ahead (len_at k m z) z)) (ahead_by k m n (moved (len_at k m z) z))
+    then after_trivia (token_at k m z) (len_at k m z) (token_node k (token_at k m z) (text_ahead (len_at k m z) z)) (ahead_by k m n (moved (len_at k m z) z))
     else direct (token_at k m z) (len_at k m z)
 
 -- the trivia at a place and the token after it

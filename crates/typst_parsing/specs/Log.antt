@@ -1,8 +1,8 @@
 -- What was looked at and noted up to a place of a text, in bytes.
 use Rattle.std.specs.Prelude.{ℕ, ◌+◌, ◌-◌, ◌^◌, max, min, List, [], ◌∷◌, ◌++◌}
 use Rattle.typst_lines.specs.Place.{Place, moved}
-use Rattle.typst_lexer.specs.Sight.{position, hull_of}
-use Rattle.typst_lexer.specs.declared.hull.Hull.{Hull}
+use Rattle.typst_readers.specs.Sight.{position, hull_of}
+use Rattle.typst_readers.specs.declared.hull.Hull.{Hull}
 use Rattle.typst_parsing.specs.declared.reading.Mark.{Mark}
 use Rattle.typst_parsing.specs.declared.reading.Note.{Note}
 use Rattle.typst_parsing.specs.declared.reading.State.{State}

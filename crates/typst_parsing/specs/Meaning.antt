@@ -163,8 +163,8 @@ abbrev pub hand_asks_of : Level → Place → State → List Ask
 hand_asks_of l z s = hand_asks l.classes s.held s.flushed z
 
 -- what a token at hand becomes
-abbrev pub taken_node : Making → Hand → Place → Tree
-taken_node making h z = made making (token_node h.token (text_ahead h.len (moved h.gap z)))
+abbrev pub taken_node : CharClasses → Making → Hand → Place → Tree
+taken_node k making h z = made making (token_node k h.token (text_ahead h.len (moved h.gap z)))
 
 -- the token to come is at hand
 abbrev pub renewed : State → State
@@ -187,7 +187,7 @@ module _ (l : Level) where
   done erred z s = plain s.is_after_error s
   done (takes trims making) z s =
       let h = hand_of l z s in
-      let node = taken_node making h z in
+      let node = taken_node l.classes making h z in
       record (plain tt (renewed (after_node (is_error node.head.kind) (text_of node) s))) {
         taken = h.gap + h.len;
         back = if trims then s.empties else 0;

@@ -5,8 +5,8 @@ ghost use Rattle.typst_kinds.specs.Kinds.{is_error};
 ghost use Rattle.typst_lines.specs.Scanner.{place};
 ghost use Rattle.typst_parsing.specs.Hand as spec;
 ghost use Rattle.typst_parsing.specs.Hand.{bytes_left};
-ghost use Rattle.typst_lexer.specs.Reader.{exec};
-ghost use Rattle.typst_lexer.specs.Sight.{hull_of};
+ghost use Rattle.typst_readers.specs.Reader.{exec};
+ghost use Rattle.typst_readers.specs.Sight.{hull_of};
 ghost use Rattle.typst_lexer.specs.Tokens.{token};
 ghost use Rattle.typst_parsing.specs.Cursor.{IsAhead};
 
@@ -76,7 +76,7 @@ pub(crate) fn read_ahead<'s, C: Classes>(
     let mut trivia = Vec::new(alloc);
     let mut newlines = flushed;
     let mut start = before;
-    let mut next = read_token(start, held.mode, classes);
+    let mut next = read_token(alloc, start, held.mode, classes)?;
     let mut tokens = next.hull;
     'trivia: loop {
         if !is_trivia(next.token.kind) || left(&next.after) >= left(&start) {
@@ -94,24 +94,29 @@ pub(crate) fn read_ahead<'s, C: Classes>(
                 here,
             });
         }
-        let node = make_node(alloc, next.token, next.after.since(&start))?;
+        let node = make_node(alloc, next.token, next.after.since(&start), classes)?;
         trivia.push(node)?;
         newlines = with_token(newlines, next.token);
         start = next.after;
-        next = read_token(start, held.mode, classes);
+        next = read_token(alloc, start, held.mode, classes)?;
         tokens = joined(tokens, next.hull);
     }
 }
 
 /// Reads one token.
-fn read_token<'s, C: Classes>(start: Scanner<'s>, mode: SyntaxMode, classes: &C) -> Read<'s>
-    ensures reads { exec (token (C.classes classes.now) mode) (place start.entry) ≡ (result.token, place result.after) }
-    ensures hull { result.hull ≡ spec.token_hull (C.classes classes.now) mode (place start.entry) }
-    ensures same_text { result.after.text.now ≡ start.entry.text.now }
+fn read_token<'s, C: Classes>(
+    alloc: Global,
+    start: Scanner<'s>,
+    mode: SyntaxMode,
+    classes: &C,
+) -> Result<Read<'s>, AllocError>
+    ensures reads { IfOk result (λ r. exec (token (C.classes classes.now) mode) (place start.entry) ≡ (r.token, place r.after)) }
+    ensures hull { IfOk result (λ r. r.hull ≡ spec.token_hull (C.classes classes.now) mode (place start.entry)) }
+    ensures same_text { IfOk result (λ r. r.after.text.now ≡ start.entry.text.now) }
 {
     let mut after = start;
-    let (token, hull) = token(&mut after, mode, classes);
-    Read { token, after, hull }
+    let (token, hull) = token(alloc, &mut after, mode, classes)?;
+    Ok(Read { token, after, hull })
 }
 
 /// Both stretches, and what lies between them.

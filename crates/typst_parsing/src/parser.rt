@@ -268,13 +268,14 @@ impl<'s> Parser<'s> {
     }
 
     /// The node of the token at hand.
-    fn node(&self) -> Result<SyntaxNode, AllocError>
-        ensures { IfOk result (λ t. t ≡ token_node self.now.hand.token (text_ahead self.now.hand.len (moved self.now.hand.gap self.now.place))) }
+    fn node<C: Classes>(&self, classes: &C) -> Result<SyntaxNode, AllocError>
+        ensures { IfOk result (λ t. t ≡ token_node (C.classes classes.now) self.now.hand.token (text_ahead self.now.hand.len (moved self.now.hand.gap self.now.place))) }
     {
         make_node(
             self.alloc,
             self.ahead.token,
             self.ahead.after.since(&self.ahead.start),
+            classes,
         )
     }
 
@@ -285,7 +286,7 @@ impl<'s> Parser<'s> {
         node: SyntaxNode,
         classes: &C,
     ) -> Result<(), AllocError>
-        ensures { (l : Level) (making : Making) → l.classes ≡ C.classes classes.now → node ≡ taken_node making self.old.hand self.old.place → Reads l (spec.eat_making trims making) self.old result self.new }
+        ensures { (l : Level) (making : Making) → l.classes ≡ C.classes classes.now → node ≡ taken_node (C.classes classes.now) making self.old.hand self.old.place → Reads l (spec.eat_making trims making) self.old result self.new }
     {
         let flushed = Newlines {
             any: false,
@@ -318,7 +319,7 @@ impl<'s> Parser<'s> {
     pub fn eat<C: Classes>(&mut self, classes: &C) -> Result<(), AllocError>
         ensures { (l : Level) → l.classes ≡ C.classes classes.now → Reads l spec.eat self.old result self.new }
     {
-        let node = self.node()?;
+        let node = self.node(classes)?;
         self.take(false, node, classes)?;
         Ok(())
     }
@@ -332,7 +333,7 @@ impl<'s> Parser<'s> {
         requires { is_error kind ≡ false }
         ensures { (l : Level) → l.classes ≡ C.classes classes.now → Reads l (spec.convert_and_eat kind) self.old result self.new }
     {
-        let mut node = self.node()?;
+        let mut node = self.node(classes)?;
         node.convert_to_kind(kind);
         self.take(false, node, classes)?;
         Ok(())
@@ -352,7 +353,7 @@ impl<'s> Parser<'s> {
     pub fn unexpected<C: Classes>(&mut self, classes: &C) -> Result<(), AllocError>
         ensures { (l : Level) → l.classes ≡ C.classes classes.now → Reads l (spec.unexpected []) self.old result self.new }
     {
-        let mut node = self.node()?;
+        let mut node = self.node(classes)?;
         node.unexpected()?;
         self.take(true, node, classes)?;
         Ok(())
@@ -366,7 +367,7 @@ impl<'s> Parser<'s> {
     ) -> Result<(), AllocError>
         ensures { (l : Level) → l.classes ≡ C.classes classes.now → Reads l (spec.unexpected (hint.now ∷ [])) self.old result self.new }
     {
-        let mut node = self.node()?;
+        let mut node = self.node(classes)?;
         node.unexpected()?;
         node.hint(hint)?;
         self.take(true, node, classes)?;
@@ -379,7 +380,7 @@ impl<'s> Parser<'s> {
         ensures { (l : Level) → l.classes ≡ C.classes classes.now → Reads l (spec.expected thing.now) self.old result self.new }
     {
         if self.ahead.kind.is_error() {
-            let node = self.node()?;
+            let node = self.node(classes)?;
             self.take(true, node, classes)?;
             return Ok(());
         }

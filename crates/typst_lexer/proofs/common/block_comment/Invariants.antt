@@ -1,6 +1,6 @@
 use Rattle.std.proofs.Common.{◌≡◌, ◌≤◌, length}
 use Rattle.typst_lexer.specs.Common.{block_comment}
-use Rattle.typst_lexer.specs.Sight.{Covers, position, sight}
+use Rattle.typst_readers.specs.Sight.{Covers, position, sight}
 use Rattle.typst_lexer.proofs.CommentLemmas.{rest}
 use Rattle.typst_lexer.proofs.common.block_comment.Given as goal
 

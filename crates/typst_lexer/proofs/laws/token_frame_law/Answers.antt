@@ -1,5 +1,5 @@
 use Rattle.typst_lexer.specs.Tokens.{token}
-use Rattle.typst_lexer.proofs.Frame.{frame}
+use Rattle.typst_readers.proofs.Frame.{frame}
 use Rattle.typst_lexer.proofs.laws.token_frame_law.Goals as goal
 
 pub returns : goal.returns

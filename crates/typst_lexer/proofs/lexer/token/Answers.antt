@@ -1,21 +1,21 @@
-use Rattle.std.proofs.Common.{◌≡◌, ◌∙◌, ap, sym}
+use Rattle.std.proofs.Common.{◌∙◌, ap, sym}
 use Rattle.std.proofs.lemmas.Str.{IsUtf8-had}
 use Rattle.typst_lines.specs.Scanner.{place}
-use Rattle.typst_lexer.specs.Sight.{Sight, sight, text_of}
+use Rattle.typst_readers.specs.Sight.{sight, text_of}
 use Rattle.typst_lexer.specs.Tokens.{token}
-use Rattle.typst_lexer.proofs.Sights.{read-is, hull-is, text-is, text-read}
+use Rattle.typst_readers.proofs.Sights.{read-is, hull-is, text-is, text-read}
 use Rattle.typst_lexer.proofs.lexer.token.Goals as goal
 
-pub returns : goal.returns
-returns g c =
+pub returns-clause-scans : goal.returns-clause-scans
+returns-clause-scans g c =
     let r = token (g.C.Classes.classes c.args.classes.now) c.args.mode in
     let s = c.args.s.now in
     let z = place s in
-    let v = c.next_token-token.new.s in
-    let e = ap (sight r) (sym c.new-cursor.ensures) ∙ c.next_token-token.ensures in
-    let f = read-is r z c.next_token-token.result v e in
+    let v = c.next_token.new.s in
+    let e = ap (sight r) (sym c.new-cursor.ensures) ∙ c.in_ok-token.ensures in
+    let f = read-is r z c.in_ok-token.token v e in
     record {
-      reads = f ∙ ap (λ w. (c.next_token-token.result, w)) (sym c.finish.ensures.place);
-      hull = c.finish.ensures.hull ∙ hull-is r z c.next_token-token.result v e;
+      reads = f ∙ ap (λ w. (c.in_ok-token.token, w)) (sym c.finish.ensures.place);
+      hull = c.finish.ensures.hull ∙ hull-is r z c.in_ok-token.token v e;
       same_text = c.finish.ensures.text ∙ ap text_of (sym (ap (λ p. p.1) f)) ∙ text-read r z ∙ sym (text-is s.text.now s.cursor (IsUtf8-had _ s.utf8) s.boundary);
     }

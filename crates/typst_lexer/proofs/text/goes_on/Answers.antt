@@ -1,5 +1,5 @@
 use Rattle.std.proofs.Common.{◌∙◌, ap, sym, codes}
-use Rattle.typst_lexer.specs.Sight.{Sight, regard}
+use Rattle.typst_readers.specs.Sight.{regard}
 use Rattle.typst_lexer.specs.Text.{text_step}
 use Rattle.typst_lexer.proofs.TextLemmas.{two-words}
 use Rattle.typst_lexer.proofs.text.goes_on.Goals as goal

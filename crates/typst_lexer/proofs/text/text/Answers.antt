@@ -1,11 +1,11 @@
 use Rattle.std.proofs.Common.{◌≡◌, ℕ, sym, ap, subst, ◌∙◌, not, length, Some, arith}
 use Rattle.typst_lines.specs.Place.{scout}
-use Rattle.typst_lexer.specs.Reader.Memory.{blank}
-use Rattle.typst_lexer.specs.Reader.Turn.{go}
-use Rattle.typst_lexer.specs.Sight.{Covers, Sight, saw, sight, went, went_past}
+use Rattle.typst_readers.specs.Reader.Memory.{blank}
+use Rattle.typst_readers.specs.Reader.Turn.{go}
+use Rattle.typst_readers.specs.Sight.{Covers, Sight, saw, sight, went, went_past}
 use Rattle.typst_lexer.specs.Text.{may_stop}
-use Rattle.typst_lexer.proofs.Sights.{covers-past, covers-went}
-use Rattle.typst_lexer.proofs.Spans.{past-seen}
+use Rattle.typst_readers.proofs.Sights.{covers-past, covers-went}
+use Rattle.typst_readers.proofs.Spans.{past-seen}
 use Rattle.typst_lexer.proofs.TextLemmas.{rest, rest-past, rest-on, rest-off, rest-end, rest-text, rest-place, rest-covers, rest-shortens}
 use Rattle.typst_lexer.proofs.text.text.Goals as goal
 

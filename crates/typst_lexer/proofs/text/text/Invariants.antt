@@ -1,6 +1,6 @@
 use Rattle.std.proofs.Common.{◌≡◌, length}
 use Rattle.typst_lines.specs.Place.{scout}
-use Rattle.typst_lexer.specs.Sight.{Covers, saw, sight}
+use Rattle.typst_readers.specs.Sight.{Covers, saw, sight}
 use Rattle.typst_lexer.specs.Text.{text}
 use Rattle.typst_lexer.proofs.TextLemmas.{rest}
 use Rattle.typst_lexer.proofs.text.text.Given as goal

@@ -2,7 +2,10 @@ use Rattle.std.proofs.lemmas.Str.{encodes-chars}
 use Rattle.typst_lexer.proofs.token.plain_node.Goals as goal
 
 pub returns-then-is_error : goal.returns-then-is_error
-returns-then-is_error c = rw (← c.if-is_error.ensures, encodes-chars c.args.text.now c.utf8.text) c.error.ensures
+returns-then-is_error g c = rw (← c.if-is_error.ensures, encodes-chars c.args.text.now c.utf8.text) c.error.ensures
+
+pub returns-then-is_raw : goal.returns-then-is_raw
+returns-then-is_raw g c = rw (← c.if-is_error.ensures, ← c.if-is_raw.ensures) c.raw_node.ensures
 
 pub returns : goal.returns
-returns c = rw (← c.if-is_error.ensures, encodes-chars c.args.text.now c.utf8.text) c.leaf.ensures
+returns g c = rw (← c.if-is_error.ensures, ← c.if-is_raw.ensures, encodes-chars c.args.text.now c.utf8.text) c.leaf.ensures

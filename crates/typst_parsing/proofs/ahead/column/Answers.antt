@@ -5,8 +5,8 @@ use Rattle.typst_lines.specs.Place.{Place}
 use Rattle.typst_lines.specs.Scanner.{place}
 use Rattle.typst_parsing.specs.Hand.{column_at}
 use Rattle.typst_parsing.proofs.Columns.{in_line, behind-most, some-behind, back-is, line-more, column-back, column-least, column-start, back-smaller}
-use Rattle.typst_lexer.specs.Sight.{position}
-use Rattle.typst_lexer.proofs.Sights.{offset-is, far-none}
+use Rattle.typst_readers.specs.Sight.{position}
+use Rattle.typst_readers.proofs.Sights.{offset-is, far-none}
 use Rattle.typst_parsing.proofs.Hulls.{same-hull}
 use Rattle.typst_parsing.proofs.ahead.column.Goals as goal
 

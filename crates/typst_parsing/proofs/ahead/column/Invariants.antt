@@ -1,7 +1,7 @@
 use Rattle.std.proofs.Common.{◌≡◌, ◌+◌, ◌≤◌, suc, length}
 use Rattle.std.specs.List.{prefix_len}
 use Rattle.typst_lines.specs.Scanner.{place}
-use Rattle.typst_lexer.specs.Sight.{near, position}
+use Rattle.typst_readers.specs.Sight.{near, position}
 use Rattle.typst_parsing.specs.Hand.{column_at}
 use Rattle.typst_parsing.proofs.Columns.{in_line}
 use Rattle.typst_parsing.proofs.ahead.column.Given as goal

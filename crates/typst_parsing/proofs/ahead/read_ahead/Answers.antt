@@ -3,7 +3,7 @@ use Rattle.typst_lines.specs.Place.{Place, moved}
 use Rattle.typst_lines.specs.Scanner.{place}
 use Rattle.typst_node.specs.Tree.{Tree}
 use Rattle.typst_lexer.specs.Nodes.{token_node}
-use Rattle.typst_lexer.specs.declared.hull.Hull.{Hull}
+use Rattle.typst_readers.specs.declared.hull.Hull.{Hull}
 use Rattle.typst_parsing.specs.Hand.{bytes_left, at_trivia, len_at, newlines_of, both_newlines, text_ahead, token_at, joined_hull}
 use Rattle.typst_parsing.proofs.Bytes.{some-bytes}
 use Rattle.typst_parsing.proofs.Places.{ahead-left}
@@ -19,10 +19,10 @@ trivia-init g c =
     record {
       along = subst (λ (ts : List Tree). Along k m c.args.flushed c.args.flushed ts z z) (sym c.new-trivia.ensures.items) (along-start k m c.args.flushed z);
       text = refl;
-      reads = c.read_token-next.ensures.reads;
-      hull = c.read_token-next.ensures.hull;
-      same_text = c.read_token-next.ensures.same_text;
-      looks = subst (Looking k m z z) (sym c.read_token-next.ensures.hull) (looking-start k m z);
+      reads = c.in_ok-next.ensures.reads;
+      hull = c.in_ok-next.ensures.hull;
+      same_text = c.in_ok-next.ensures.same_text;
+      looks = subst (Looking k m z z) (sym c.in_ok-next.ensures.hull) (looking-start k m z);
     }
 
 pub returns-then-not-is_trivia : goal.returns-then-not-is_trivia
@@ -63,8 +63,8 @@ trivia-preserved g c =
     let t = ap (λ q. q.0) i.reads in
     let at = some-trivia k m z _ _ i.reads (sym c.is_trivia.ensures ∙ c.if-not-is_trivia.false) (omega (arith, c.left.ensures, c.left-else-not-is_trivia.ensures, c.if-left.false)) in
     let text = c.since.ensures l p in
-    let node = c.in_ok-node.ensures ∙ ap (token_node c.trivia.next.token) text ∙ ap (λ u. token_node u (text_ahead l z)) (sym t) in
-    let next = c.read_token-next-in-trivia in
+    let node = c.in_ok-node.ensures ∙ ap (token_node k c.trivia.next.token) text ∙ ap (λ u. token_node k u (text_ahead l z)) (sym t) in
+    let next = c.in_ok-next-2 in
     let w = place c.trivia.next.after in
     let tokens = c.joined-tokens.ensures ∙ ap (joined_hull c.trivia.tokens) next.ensures.hull in
     record {

@@ -1,6 +1,6 @@
 use Rattle.std.proofs.Common.{◌≡◌, length}
 use Rattle.typst_lines.specs.Scanner.{place}
-use Rattle.typst_lexer.specs.Reader.{exec}
+use Rattle.typst_readers.specs.Reader.{exec}
 use Rattle.typst_lexer.specs.Tokens.{token}
 use Rattle.typst_parsing.specs.Hand.{token_hull}
 use Rattle.typst_parsing.proofs.Trivia.{Along, Looking}

@@ -1,7 +1,7 @@
 use Rattle.std.proofs.Common.{◌∙◌, max, min, sym, ap}
 use Rattle.typst_lines.specs.Place.{Place}
-use Rattle.typst_lexer.specs.Sight.{hull_of}
-use Rattle.typst_lexer.specs.declared.hull.Hull.{Hull}
+use Rattle.typst_readers.specs.Sight.{hull_of}
+use Rattle.typst_readers.specs.declared.hull.Hull.{Hull}
 use Rattle.typst_parsing.specs.Cursor.{view_of}
 use Rattle.typst_parsing.specs.Hand.{column_at, column_look}
 use Rattle.typst_parsing.specs.Log.{Log}

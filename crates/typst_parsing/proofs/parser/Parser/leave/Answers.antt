@@ -1,7 +1,7 @@
 use Rattle.std.proofs.Common.{◌∙◌, max, min, refl, sym, ap}
 use Rattle.typst_lines.specs.Place.{Place}
 use Rattle.typst_parsing.specs.Hand.{judged, column_at, column_hull}
-use Rattle.typst_lexer.specs.declared.hull.Hull.{Hull}
+use Rattle.typst_readers.specs.declared.hull.Hull.{Hull}
 use Rattle.typst_parsing.proofs.Logs.{same-log}
 use Rattle.typst_parsing.proofs.Ready.{left-judged}
 use Rattle.typst_parsing.proofs.Trivia.{same-hand}

@@ -2,8 +2,8 @@ use Rattle.std.proofs.Common.{◌≡◌, ◌-◌, ◌^◌, min, ◌∙◌, ◌++
 use Rattle.typst_lines.specs.Place.{Place}
 use Rattle.typst_lines.specs.Scanner.{place}
 use Rattle.typst_lines.specs.declared.scanner.Scanner.{Scanner}
-use Rattle.typst_lexer.specs.Sight.{position, width}
-use Rattle.typst_lexer.specs.declared.hull.Hull.{Hull}
+use Rattle.typst_readers.specs.Sight.{position, width}
+use Rattle.typst_readers.specs.declared.hull.Hull.{Hull}
 use Rattle.typst_parsing.specs.declared.reading.Note.{Note}
 use Rattle.typst_parsing.specs.Cursor.{looks_of_ahead, start_state}
 use Rattle.typst_parsing.specs.Hand.{hand_at, looks_at, no_newlines, whole}

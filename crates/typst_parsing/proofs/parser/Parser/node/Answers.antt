@@ -8,10 +8,11 @@ use Rattle.typst_parsing.specs.View.{View}
 use Rattle.typst_parsing.proofs.parser.Parser.node.Goals as goal
 
 pub returns : goal.returns
-returns c =
+returns g c =
+    let k = g.C.Classes.classes c.args.classes.now in
     let a = c.self.inside.ahead in
     let s = c.self.invariant.stands in
     let n = distance a.start a.after in
     let e = c.since.ensures n s.after ∙ ap (text_ahead n) s.start in
-    subst (λ (v : View). IfOk c.make_node.result (λ t. t ≡ token_node v.hand.token (text_ahead v.hand.len (moved v.hand.gap v.place)))) c.self.view_is
-    (subst (λ (u : List ℕ). IfOk c.make_node.result (λ t. t ≡ token_node a.token u)) e c.make_node.ensures)
+    subst (λ (v : View). IfOk c.make_node.result (λ t. t ≡ token_node k v.hand.token (text_ahead v.hand.len (moved v.hand.gap v.place)))) c.self.view_is
+    (subst (λ (u : List ℕ). IfOk c.make_node.result (λ t. t ≡ token_node k a.token u)) e c.make_node.ensures)

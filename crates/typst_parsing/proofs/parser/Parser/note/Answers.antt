@@ -1,10 +1,10 @@
 use Rattle.std.proofs.Common.{◌∙◌, ◌-◌, ◌^◌, min, refl, sym, ap}
 use Rattle.std.proofs.lemmas.Str.{IsUtf8-had}
 use Rattle.typst_lines.specs.Scanner.{place}
-use Rattle.typst_lexer.specs.Sight.{position}
-use Rattle.typst_lexer.proofs.Sights.{offset-is}
+use Rattle.typst_readers.specs.Sight.{position}
+use Rattle.typst_readers.proofs.Sights.{offset-is}
 use Rattle.typst_parsing.specs.declared.reading.Note.{Note}
-use Rattle.typst_lexer.specs.declared.hull.Hull.{Hull}
+use Rattle.typst_readers.specs.declared.hull.Hull.{Hull}
 use Rattle.typst_parsing.proofs.Ready.{noted-is}
 use Rattle.typst_parsing.proofs.parser.Parser.note.Goals as goal
 

@@ -1,7 +1,7 @@
 use Rattle.std.proofs.Common.{◌∙◌, ◌-◌, ◌^◌, min, refl, sym, ap}
 use Rattle.std.proofs.lemmas.Str.{IsUtf8-had}
-use Rattle.typst_lexer.specs.declared.hull.Hull.{Hull}
-use Rattle.typst_lexer.proofs.Sights.{offset-is}
+use Rattle.typst_readers.specs.declared.hull.Hull.{Hull}
+use Rattle.typst_readers.proofs.Sights.{offset-is}
 use Rattle.typst_parsing.proofs.Ready.{noted-before}
 use Rattle.typst_parsing.proofs.parser.Parser.note_before.Goals as goal
 

@@ -6,9 +6,9 @@ use Rattle.typst_lines.specs.Scanner.{place}
 use Rattle.typst_lines.specs.declared.scanner.Scanner.{Scanner}
 use Rattle.typst_node.specs.Tree.{Tree}
 use Rattle.typst_classes.specs.Classes.{CharClasses}
-use Rattle.typst_parsing.specs.Cursor.{distance}
+use Rattle.typst_parsing.specs.Cursor.{distance, view_of}
 use Rattle.typst_parsing.specs.Hand.{hand_at, looks_at, no_newlines}
-use Rattle.typst_lexer.specs.declared.hull.Hull.{Hull}
+use Rattle.typst_readers.specs.declared.hull.Hull.{Hull}
 use Rattle.typst_parsing.specs.Meaning.{less, taken_node}
 use Rattle.typst_parsing.specs.View.{View}
 use Rattle.typst_parsing.proofs.Logs.{same-log}
@@ -35,6 +35,6 @@ returns g c l making k e =
     ∙ ap (λ (q : CharClasses). hand_at q i.state.reading no_newlines (place c.in_ok-next.next.before)) (sym k) in
     let looks-is = b.looks ∙ ap (λ (x : Scanner). looks_at (g.C.Classes.classes c.args.classes.now) i.state.reading no_newlines (place x)) (sym b.before)
     ∙ ap (λ (q : CharClasses). looks_at q i.state.reading no_newlines (place c.in_ok-next.next.before)) (sym k) in
-    rw (sym c.self.view_is) (eaten-is l c.args.trims making _ _ c.args.node (e ∙ ap (λ (v : View). taken_node making v.hand v.place) (sym c.self.view_is)) nodes-is place-is
+    rw (sym c.self.view_is) (eaten-is l c.args.trims making _ _ c.args.node (e ∙ ap (λ (v : View). taken_node (g.C.Classes.classes c.args.classes.now) making v.hand v.place) (sym c.self.view_is) ∙ ap (λ (q : CharClasses). taken_node q making (view_of i).hand (view_of i).place) (sym k)) nodes-is place-is
     c.empty_errors-empties.result c.is_error-is_after_error.result c.empty_errors-empties.ensures (c.is_error-is_after_error.ensures ∙ ap is_error c.kind.ensures) refl hand-is looks-is
     (same-log _ _ _ _ i.notes.items (c.max-self-inside.ensures ∙ ap (λ (u : Hull). max i.reach u.reach) c.whole-whole.ensures) (c.min-self-inside.ensures ∙ ap (λ (u : Hull). min i.least u.least) c.whole-whole.ensures)))

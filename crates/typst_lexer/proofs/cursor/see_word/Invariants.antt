@@ -1,6 +1,0 @@
-use Rattle.typst_lines.specs.Scanner.{place}
-use Rattle.typst_lexer.proofs.WordLemmas.{Looking}
-use Rattle.typst_lexer.proofs.cursor.see_word.Given as goal
-
-abbrev pub invariant-loop-b : goal.invariant-loop-b
-invariant-loop-b l = Looking l.word (place l.fn.s) l.fn.reach l.b-index (place l.s) l.reach

@@ -1,0 +1,10 @@
+use Rattle.std.proofs.Common.{refl}
+use Rattle.typst_lexer.specs.Markup.{markup}
+use Rattle.typst_lexer.specs.Names.{label, label_or_text, ref_marker, ref_or_text}
+use Rattle.typst_lexer.specs.Text.{text, text_from}
+use Rattle.typst_lexer.specs.Tokens.{token, of_mode}
+use Rattle.typst_lexer.proofs.laws.looks_of_names.Goals as goal
+
+pub returns : goal.returns
+unfolding token of_mode markup label_or_text label ref_or_text ref_marker text_from text
+returns c = λ k. record { reference = refl; shorter_reference = record { agree = record { behind = refl; ahead = refl }; first = refl; second = refl; first_taken = refl; second_taken = refl }; label = refl; shorter_label = record { agree = record { behind = refl; ahead = refl }; first = refl; second = refl; first_taken = refl; second_taken = refl }; colon = refl }

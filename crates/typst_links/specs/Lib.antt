@@ -1,0 +1,4 @@
+pub mod Ends
+pub mod Labels
+pub mod Laws
+pub mod Links

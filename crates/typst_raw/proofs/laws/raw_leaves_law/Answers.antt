@@ -1,0 +1,5 @@
+use Rattle.typst_raw.proofs.LeafLemmas.{raw-leaves}
+use Rattle.typst_raw.proofs.laws.raw_leaves_law.Goals as goal
+
+pub returns : goal.returns
+returns c = raw-leaves

@@ -1,0 +1,5 @@
+pub mod Lines
+pub mod LastLine
+pub mod Tag
+pub mod Raw
+pub mod Laws

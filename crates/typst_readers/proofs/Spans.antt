@@ -1,0 +1,133 @@
+-- Machines, taken one character after the other.
+use Rattle.std.proofs.Common.{◌≡◌, ℕ, zero, suc, ◌+◌, max, min, Bool, true, false, List, [], ◌∷◌, length, if◌then◌else◌, slice_get, refl, sym, ap, ◌∙◌, arith, Some, None}
+use Rattle.std.specs.List.{prefix_len}
+use Rattle.typst_lines.specs.Place.{Place, moved_from, scout, past}
+use Rattle.typst_readers.specs.Reader.{place, both, no_look, widened, from_before, Look, ask, glimpse, Machine, Memory, Turn, spanned, span_look, Reader, eat_span}
+use Rattle.typst_readers.specs.Reader.Turn.{leave, last, go}
+use Rattle.typst_readers.specs.Sight.{position, far, near, Sight, Covers, saw, saw_by, went, went_past, sight}
+use Rattle.typst_readers.proofs.Frame.{turned}
+use Rattle.typst_readers.proofs.Sights.{far-max, near-max, far-none, near-none, far-le, near-le, far-on, far-end, far-moved, same-sight, covers-saw, covers-saw_by, covers-went, saw-both, saw-nothing, saw-ahead, saw-before, went-nowhere}
+
+abbrev turn_look : Machine → List ℕ → ℕ → List ℕ → Turn → Look
+turn_look m behind c ahead t = elim t [ leave ↦ no_look | last after ↦ no_look | go after ↦ from_before (c ∷ ahead) (span_look m after (c ∷ behind) ahead) ]
+
+-- what is read behind the turn at a character
+abbrev pub turned_sight : {A : Type 0} → Machine → Memory → (Memory → Reader A) → Sight → Turn → A × Sight
+turned_sight m state k w t = elim t [ leave ↦ sight (k state) w | last after ↦ sight (k after) (went 1 w) | go after ↦ sight (eat_span m after k) (went 1 w) ]
+
+-- one place ahead is looked at in any case
+one_ahead : (r : ℕ) (z : Place) → max (max r (far 1 z)) (far 1 z) ≡ max r (far 1 z)
+one_ahead r z = omega arith
+
+pub saw-twice : (v : Sight) → saw 1 (saw 1 v) ≡ saw 1 v
+saw-twice v = same-sight _ _ _ _ _ _ refl (one_ahead v.reach v.place) refl
+
+module _ {A : Type 0} (m : Machine) (state : Memory) (k : Memory → Reader A) (c : ℕ) (b a : List ℕ) (r l : ℕ) where
+  abbrev at_c : Sight
+  at_c = record { place = place b (c ∷ a); reach = r; least = l }
+
+  abbrev looks : Look
+  looks = glimpse (m state) (place b (c ∷ a))
+
+  -- behind the looks of the turn itself
+  abbrev turning : Sight
+  turning = saw_by looks (saw 1 at_c)
+
+  abbrev through : Turn → A × Sight
+  through t = let s = turned m state b c a t in sight (k s.1) (went (length s.0) (saw_by (widened 0 1 (both looks (turn_look m b c a t))) at_c))
+
+  same-looks : (t : Turn) → Covers at_c → saw_by (widened 0 1 (both looks (turn_look m b c a t))) at_c ≡ saw_by (turn_look m b c a t) turning
+  same-looks t h =
+      saw-both (record { back = 0; front = 1 }) (both looks (turn_look m b c a t)) at_c
+      ∙ saw-both looks (turn_look m b c a t) (saw_by (record { back = 0; front = 1 }) at_c)
+      ∙ ap (λ v. saw_by (turn_look m b c a t) (saw_by looks v)) (saw-ahead 1 at_c h)
+
+  covered : Covers at_c → Covers turning
+  covered h = covers-saw_by looks (saw 1 at_c) (covers-saw 1 at_c h)
+
+  went-more : (n : ℕ) (s : Look) → Covers turning → went (suc n) (saw_by (from_before (c ∷ a) s) turning) ≡ went n (saw_by s (went 1 turning))
+  went-more n s h =
+      ap (λ e. record { place = moved_from n (c ∷ b) a; reach = max (saw_by (from_before (c ∷ a) s) turning).reach e; least = (saw_by (from_before (c ∷ a) s) turning).least }) (far-on n c b a)
+      ∙ ap (went n) (saw-before s turning.reach turning.least b (c ∷ a) h)
+
+  by-turn : (t : Turn) → Covers at_c → through t ≡ turned_sight m state k turning t
+  by-turn leave h = ap (λ v. sight (k state) (went 0 v)) (same-looks leave h ∙ saw-nothing turning (covered h)) ∙ ap (sight (k state)) (went-nowhere turning (covered h))
+  by-turn (last after) h = ap (λ v. sight (k after) (went 1 v)) (same-looks (last after) h ∙ saw-nothing turning (covered h))
+  by-turn (go after) h =
+      let s = spanned m after (c ∷ b) a in
+      ap (λ v. sight (k s.1) (went (suc (length s.0)) v)) (same-looks (go after) h)
+      ∙ ap (sight (k s.1)) (went-more (length s.0) (span_look m after (c ∷ b) a) (covered h))
+
+  pub sight-turn : (t : Turn) → ask (m state) (place b (c ∷ a)) ≡ t → Covers at_c → sight (eat_span m state k) at_c ≡ turned_sight m state k turning t
+  sight-turn t e h = ap through e ∙ by-turn t h
+
+-- at the end nothing is taken
+pub sight-end : {A : Type 0} (m : Machine) (state : Memory) (k : Memory → Reader A) (b : List ℕ) (r l : ℕ) → Covers (record { place = place b []; reach = r; least = l })
+    → sight (eat_span m state k) (record { place = place b []; reach = r; least = l }) ≡ sight (k state) (saw 1 (record { place = place b []; reach = r; least = l }))
+sight-end m state k b r l h =
+    let v : Sight = record { place = place b []; reach = r; least = l } in
+    ap (λ w. sight (k state) (went 0 w)) (saw-ahead 1 v h) ∙ ap (sight (k state)) (went-nowhere (saw 1 v) (covers-saw 1 v h))
+
+-- the first place ahead may as well be looked at before
+pub sight-first : {A : Type 0} (m : Machine) (state : Memory) (k : Memory → Reader A) (b a : List ℕ) (r l : ℕ) → Covers (record { place = place b a; reach = r; least = l })
+    → sight (eat_span m state k) (saw 1 (record { place = place b a; reach = r; least = l })) ≡ sight (eat_span m state k) (record { place = place b a; reach = r; least = l })
+sight-first m state k b [] r l h =
+    let v : Sight = record { place = place b []; reach = r; least = l } in
+    sight-end m state k b (max r (far 1 (place b []))) l (covers-saw 1 v h) ∙ ap (sight (k state)) (saw-twice v) ∙ sym (sight-end m state k b r l h)
+sight-first m state k b (c ∷ a) r l h =
+    let v : Sight = record { place = place b (c ∷ a); reach = r; least = l } in
+    let t = ask (m state) (place b (c ∷ a)) in
+    sight-turn m state k c b a (max r (far 1 (place b (c ∷ a)))) l t refl (covers-saw 1 v h)
+    ∙ ap (λ w. turned_sight m state k (saw_by (glimpse (m state) (place b (c ∷ a))) w) t) (saw-twice v)
+    ∙ sym (sight-turn m state k c b a r l t refl h)
+
+-- ---- what a machine takes, it takes at once
+
+prefix-on : (test : ℕ → Bool) (c : ℕ) (a : List ℕ) → test c ≡ true → prefix_len test (c ∷ a) ≡ suc (prefix_len test a)
+prefix-on test c a e = let one : 1 + prefix_len test a ≡ suc (prefix_len test a) = omega arith in rw (e, one) refl
+
+prefix-off : (test : ℕ → Bool) (c : ℕ) (a : List ℕ) → test c ≡ false → prefix_len test (c ∷ a) ≡ 0
+prefix-off test c a e = rw e refl
+
+went-on : (n r l c : ℕ) (b a : List ℕ)
+    → went n (saw (suc n) (went 1 (saw 1 (record { place = place b (c ∷ a); reach = r; least = l })))) ≡ went (suc n) (saw (suc (suc n)) (record { place = place b (c ∷ a); reach = r; least = l }))
+went-on n r l c b a =
+    same-sight _ _ _ _ _ _ refl (omega (arith, far-on (suc n) c b a, far-on n c b a, far-on 0 c b a, far-none (place (c ∷ b) a), far-le n (place (c ∷ b) a))) refl
+
+-- what was gone past was looked at
+pub past-seen : (test : ℕ → Bool) (v : Sight) → saw 1 (went_past test v) ≡ went_past test v
+past-seen test v =
+    let n = prefix_len test v.place.ahead in
+    let up : suc (0 + n) ≡ suc n = omega arith in
+    same-sight _ _ _ _ _ _ refl (omega (arith, far-moved 0 n v.place.behind v.place.ahead, ap (λ k. far k v.place) up)) refl
+
+module _ {A : Type 0} (m : Machine) (state : Memory) (test : ℕ → Bool) (k : Memory → Reader A)
+    (goes : (c : ℕ) (b a : List ℕ) → test c ≡ true → ask (m state) (place b (c ∷ a)) ≡ go state)
+    (looks : (c : ℕ) (b a : List ℕ) → test c ≡ true → glimpse (m state) (place b (c ∷ a)) ≡ record { back = 0; front = 1 }) where
+  abbrev ahead_of : List ℕ → List ℕ → ℕ → ℕ → Sight
+  ahead_of b a r l = record { place = place b a; reach = r; least = l }
+
+  stays : (b a : List ℕ) (r l : ℕ) → Covers (ahead_of b a r l) → prefix_len test a ≡ 0 → sight (eat_span m state k) (ahead_of b a r l) ≡ sight (eat_span m state k) (went_past test (ahead_of b a r l))
+  stays b a r l h e =
+      sym (sight-first m state k b a r l h)
+      ∙ ap (sight (eat_span m state k)) (sym (went-nowhere (saw 1 (ahead_of b a r l)) (covers-saw 1 (ahead_of b a r l) h)))
+      ∙ ap (λ n. sight (eat_span m state k) (went n (saw (suc n) (ahead_of b a r l)))) (sym e)
+
+  abbrev Past : List ℕ → List ℕ → ℕ → ℕ → Type 0
+  Past b a r l = Covers (ahead_of b a r l) → sight (eat_span m state k) (ahead_of b a r l) ≡ sight (eat_span m state k) (went_past test (ahead_of b a r l))
+
+  by-test : (b a : List ℕ) (r l c : ℕ) (t : Bool) → test c ≡ t → ((r : ℕ) → Past (c ∷ b) a r l) → Past b (c ∷ a) r l
+  by-test b a r l c false e rest h = stays b (c ∷ a) r l h (prefix-off test c a e)
+  by-test b a r l c true e rest h =
+      let v = ahead_of b (c ∷ a) r l in
+      let w = went 1 (saw 1 v) in
+      sight-turn m state k c b a r l (go state) (goes c b a e) h
+      ∙ ap (λ (x : Look). sight (eat_span m state k) (went 1 (saw_by x (saw 1 v)))) (looks c b a e)
+      ∙ ap (λ x. sight (eat_span m state k) (went 1 x)) (saw-ahead 1 (saw 1 v) (covers-saw 1 v h) ∙ saw-twice v)
+      ∙ rest w.reach (covers-went 1 (saw 1 v) (covers-saw 1 v h))
+      ∙ ap (sight (eat_span m state k)) (went-on (prefix_len test a) r l c b a)
+      ∙ ap (λ n. sight (eat_span m state k) (went n (saw (suc n) v))) (sym (prefix-on test c a e))
+
+  pub sight-past : (b a : List ℕ) (r l : ℕ) → Past b a r l
+  sight-past b [] r l h = stays b [] r l h refl
+  sight-past b (c ∷ a) r l h = by-test b a r l c (test c) refl (λ s. sight-past (c ∷ b) a s l) h

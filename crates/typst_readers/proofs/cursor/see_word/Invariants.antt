@@ -1,0 +1,6 @@
+use Rattle.typst_lines.specs.Scanner.{place}
+use Rattle.typst_readers.proofs.WordLemmas.{Looking}
+use Rattle.typst_readers.proofs.cursor.see_word.Given as goal
+
+abbrev pub invariant-loop-b : goal.invariant-loop-b
+invariant-loop-b l = Looking l.word (place l.fn.s) l.fn.reach l.b-index (place l.s) l.reach

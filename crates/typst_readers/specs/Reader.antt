@@ -1,0 +1,184 @@
+-- Readers: what is read at a place is a tree of questions about the characters around it. From the
+-- questions follow what is answered, how many characters are taken and which places were looked at.
+use Rattle.std.specs.Prelude.{◌≡◌, ℕ, zero, suc, ◌+◌, ◌-◌, max, min, Bool, if◌then◌else◌, List, [], ◌∷◌, length, take, slice_get, Option, Some, None, ◌==◌}
+use Rattle.typst_lines.specs.Place.{Place, moved, scout, passes, run, past}
+use Rattle.std.specs.List.{prefix_len}
+
+-- how many places behind and ahead were looked at, of the text with one mark before its first character and one after its last
+pub record Look : Type 0 where
+  pub back : ℕ
+  pub front : ℕ
+
+abbrev pub no_look : Look
+no_look = record { back = 0; front = 0 }
+
+abbrev pub both : Look → Look → Look
+both l m = record { back = max l.back m.back; front = max l.front m.front }
+
+abbrev pub widened : ℕ → ℕ → Look → Look
+widened back front l = both (record { back = back; front = front }) l
+
+-- the same stretch, from one character before: who eats a character looks at it
+abbrev pub from_before : List ℕ → Look → Look
+from_before [] l = record { back = l.back; front = max 1 l.front }
+from_before (c ∷ ahead) l = record { back = l.back - 1; front = suc l.front }
+
+-- the same stretch, from n characters before
+abbrev pub from_far : ℕ → Look → Look
+from_far n l = record { back = l.back - n; front = n + l.front }
+
+abbrev pub skip_look : ℕ → List ℕ → Look → Look
+skip_look zero ahead l = l
+skip_look (suc n) [] l = from_before [] l
+skip_look (suc n) (c ∷ ahead) l = from_before (c ∷ ahead) (skip_look n ahead l)
+
+abbrev pub place : List ℕ → List ℕ → Place
+place behind ahead = record { behind = behind; ahead = ahead }
+
+-- ---- questions at one place
+
+pub data Step (A : Type 0) : Type 0 where
+  -- nothing more is asked
+  turn : A → Step A
+  -- the character n places ahead
+  see : ℕ → (Option ℕ → Step A) → Step A
+  -- the character behind
+  see_behind : (Option ℕ → Step A) → Step A
+
+abbrev pub ask : {A : Type 0} → Step A → Place → A
+ask (turn a) p = a
+ask (see n k) p = ask (k (scout n p)) p
+ask (see_behind k) p = ask (k (slice_get p.behind 0)) p
+
+abbrev pub glimpse : {A : Type 0} → Step A → Place → Look
+glimpse (turn a) p = no_look
+glimpse (see n k) p = widened 0 (suc n) (glimpse (k (scout n p)) p)
+glimpse (see_behind k) p = widened 1 0 (glimpse (k (slice_get p.behind 0)) p)
+
+-- a word that stands n places ahead is looked at up to the first character that differs
+abbrev pub see_word : {A : Type 0} → ℕ → List ℕ → Step A → Step A → Step A
+see_word n [] found other = found
+see_word n (c ∷ word) found other = see n (λ d. if passes (λ d. d == c) d then see_word (suc n) word found other else other)
+
+-- ---- machines, which take one character after the other
+
+-- what a machine keeps in mind from one character to the next
+pub data Memory : Type 0 where
+  -- nothing
+  blank : Memory
+  -- within a block comment: the character behind, or 0 where it ended a delimiter, and how many
+  -- comments are open around the innermost one
+  comment : ℕ → ℕ → Memory
+  -- within a raw text: how many backticks in a row close it, and how many stand behind
+  fence : ℕ → ℕ → Memory
+  -- within a link: the closing brackets that are still to come, the innermost first
+  brackets : List ℕ → Memory
+
+-- what a machine does at a character: it leaves it, takes it as its last, or takes it and goes on
+pub data Turn : Type 0 where
+  leave : Turn
+  last : Memory → Turn
+  go : Memory → Turn
+
+abbrev pub Machine : Type 0
+Machine = Memory → Step Turn
+
+-- a machine that looks at nothing but the character
+abbrev pub by_character : (Memory → ℕ → Turn) → Machine
+by_character step memory = see 0 (λ c. turn (elim c [ None ↦ leave | Some c ↦ step memory c ]))
+
+-- the characters that a machine takes, and its memory at the end
+abbrev pub spanned : Machine → Memory → List ℕ → List ℕ → List ℕ × Memory
+spanned m state behind [] = ([], state)
+spanned m state behind (c ∷ ahead) =
+    elim (ask (m state) (place behind (c ∷ ahead)))
+    [ leave ↦ ([], state) | last after ↦ (c ∷ [], after) | go after ↦ (let r = spanned m after (c ∷ behind) ahead in (c ∷ r.0, r.1)) ]
+
+abbrev pub span_look : Machine → Memory → List ℕ → List ℕ → Look
+span_look m state behind [] = record { back = 0; front = 1 }
+span_look m state behind (c ∷ ahead) =
+    widened 0 1 (both (glimpse (m state) (place behind (c ∷ ahead)))
+    (elim (ask (m state) (place behind (c ∷ ahead))) [ leave ↦ no_look | last after ↦ no_look | go after ↦ from_before (c ∷ ahead) (span_look m after (c ∷ behind) ahead) ]))
+
+-- ---- readers
+
+pub data Reader (A : Type 0) : Type 0 where
+  -- nothing more is asked
+  answer : A → Reader A
+  -- the character n places ahead
+  peek : ℕ → (Option ℕ → Reader A) → Reader A
+  -- the character behind
+  glance : (Option ℕ → Reader A) → Reader A
+  -- the characters that a machine takes, which stay ahead, and its memory at the end
+  span : Machine → Memory → (List ℕ → Memory → Reader A) → Reader A
+  -- goes past a character
+  eat : Reader A → Reader A
+  -- the longest run of characters that pass, which stays ahead
+  see_run : (ℕ → Bool) → (List ℕ → Reader A) → Reader A
+  -- goes past n characters
+  skip : ℕ → Reader A → Reader A
+  -- goes past the longest run of characters that pass
+  eat_run : (ℕ → Bool) → (List ℕ → Reader A) → Reader A
+
+-- the answer, and the place that it was given at
+abbrev pub exec : {A : Type 0} → Reader A → Place → A × Place
+exec (answer a) p = (a, p)
+exec (peek n k) p = exec (k (scout n p)) p
+exec (glance k) p = exec (k (slice_get p.behind 0)) p
+exec (span m state k) p = let r = spanned m state p.behind p.ahead in exec (k r.0 r.1) p
+exec (eat r) p = exec r (moved 1 p)
+exec (see_run test k) p = exec (k (run test p)) p
+exec (skip n r) p = exec r (moved n p)
+exec (eat_run test k) p = exec (k (run test p)) (past test p)
+
+-- how many characters were eaten
+abbrev pub eaten : {A : Type 0} → Reader A → Place → ℕ
+eaten (answer a) p = 0
+eaten (peek n k) p = eaten (k (scout n p)) p
+eaten (glance k) p = eaten (k (slice_get p.behind 0)) p
+eaten (span m state k) p = let r = spanned m state p.behind p.ahead in eaten (k r.0 r.1) p
+eaten (eat r) p = suc (eaten r (moved 1 p))
+eaten (see_run test k) p = eaten (k (run test p)) p
+eaten (skip n r) p = min n (length p.ahead) + eaten r (moved n p)
+eaten (eat_run test k) p = prefix_len test p.ahead + eaten (k (run test p)) (past test p)
+
+abbrev pub look : {A : Type 0} → Reader A → Place → Look
+look (answer a) p = no_look
+look (peek n k) p = widened 0 (suc n) (look (k (scout n p)) p)
+look (glance k) p = widened 1 0 (look (k (slice_get p.behind 0)) p)
+look (span m state k) p = let r = spanned m state p.behind p.ahead in both (span_look m state p.behind p.ahead) (look (k r.0 r.1) p)
+look (eat r) p = from_before p.ahead (look r (moved 1 p))
+look (see_run test k) p = widened 0 (suc (prefix_len test p.ahead)) (look (k (run test p)) p)
+look (skip n r) p = skip_look n p.ahead (look r (moved n p))
+look (eat_run test k) p = let n = prefix_len test p.ahead in widened 0 (suc n) (from_far n (look (k (run test p)) (past test p)))
+
+-- ---- common readers
+
+-- goes past what a machine takes
+abbrev pub eat_span : {A : Type 0} → Machine → Memory → (Memory → Reader A) → Reader A
+eat_span m state k = span m state (λ cs after. skip (length cs) (k after))
+
+-- goes past the next character if it passes
+abbrev pub if_next : {A : Type 0} → (ℕ → Bool) → Reader A → Reader A → Reader A
+if_next test found other = peek 0 (λ c. if passes test c then eat found else other)
+
+-- whether a word stands n places ahead
+abbrev pub at_word : {A : Type 0} → ℕ → List ℕ → Reader A → Reader A → Reader A
+at_word n [] found other = found
+at_word n (c ∷ word) found other = peek n (λ d. if passes (λ d. d == c) d then at_word (suc n) word found other else other)
+
+-- the characters, and the mark at their end
+abbrev pub marked : List ℕ → List (Option ℕ)
+marked [] = None ∷ []
+marked (c ∷ cs) = Some c ∷ marked cs
+
+-- two places agree on a look
+pub record Agree (l : Look) (p q : Place) : Type 0 where
+  pub behind : take l.back (marked p.behind) ≡ take l.back (marked q.behind)
+  pub ahead : take l.front (marked p.ahead) ≡ take l.front (marked q.ahead)
+
+-- what was read is the same
+pub record SameReading {A : Type 0} (r : Reader A) (p q : Place) : Type 0 where
+  pub answers : (exec r p).0 ≡ (exec r q).0
+  pub lengths : eaten r p ≡ eaten r q
+  pub looks : look r p ≡ look r q

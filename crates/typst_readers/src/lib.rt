@@ -1,0 +1,9 @@
+//! The language in which the rules of tokens are written, and the cursor that reads by it.
+#![tactic(auto)]
+
+pub mod column;
+pub mod cursor;
+pub mod hull;
+
+pub use cursor::Cursor;
+pub use hull::Hull;
