@@ -418,6 +418,10 @@ pub(crate) fn next_char(text: &str, at: usize) -> Option<(char, usize)>
     requires { IsCharBoundary text.now at }
     ensures { MatchOption result (IsLast text.now at) (λ r. IsStep text.now at r.0 r.1) }
 {
+    let bytes = text.as_bytes();
+    if at < bytes.len() && bytes[at] < 128 {
+        return Some((bytes[at] as char, at + 1));
+    }
     let mut chars = text[at..].chars();
     match chars.next() {
         Some(c) => Some((c, text.len() - chars.as_str().len())),
