@@ -4,6 +4,7 @@ pub mod NameLemmas
 pub mod NodeLemmas
 pub mod NumberLemmas
 pub mod RawLemmas
+pub mod TableLemmas
 pub mod TextLemmas
 pub mod TokenEats
 pub mod TokenLemmas

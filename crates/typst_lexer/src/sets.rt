@@ -35,6 +35,19 @@ impl CharSet for InLine {
     }
 }
 
+/// Which ASCII characters are text in any case, by their numbers.
+const PLAIN: [bool; 128] = [
+    true, true, true, true, true, true, true, true, true, false, false, false, false, false, true,
+    true, true, true, true, true, true, true, true, true, true, true, true, true, true, true, true,
+    true, false, true, false, false, false, true, true, false, true, true, false, true, true,
+    false, false, false, true, true, true, true, true, true, true, true, true, true, false, true,
+    false, true, false, true, false, true, true, true, true, true, true, true, true, true, true,
+    true, true, true, true, true, true, true, true, true, true, true, true, true, true, true, true,
+    false, false, false, true, false, false, true, true, true, true, true, true, true, false, true,
+    true, true, true, true, true, true, true, true, true, true, true, true, true, true, true, true,
+    true, true, true, true, false, true,
+];
+
 /// What is text in any case.
 #[derive(Clone, Copy)]
 pub(crate) struct PlainText;
@@ -44,7 +57,11 @@ impl CharSet for PlainText {
 
     #[inline]
     fn has(&self, c: char) -> bool {
-        !may_stop(c)
+        if c.is_ascii() {
+            PLAIN[c as usize]
+        } else {
+            !may_stop(c)
+        }
     }
 }
 

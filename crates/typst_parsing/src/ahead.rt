@@ -1,6 +1,6 @@
 //! The token that is read ahead.
 
-ghost use Rattle.std.specs.Prelude.{◌≡◌, ◌≤◌, IfOk};
+ghost use Rattle.std.specs.Prelude.{◌≡◌, ◌≤◌, [], IfOk};
 ghost use Rattle.typst_kinds.specs.Kinds.{is_error};
 ghost use Rattle.typst_lines.specs.Scanner.{place};
 ghost use Rattle.typst_parsing.specs.Hand as spec;
@@ -63,17 +63,19 @@ struct Read<'s> {
     hull: Hull,
 }
 
-/// Reads trivia and a token.
+/// Reads trivia and a token. The nodes of the trivia go into the room that is handed in.
 pub(crate) fn read_ahead<'s, C: Classes>(
     alloc: Global,
+    room: Vec<SyntaxNode>,
     before: Scanner<'s>,
     held: Reading,
     flushed: Newlines,
     classes: &C,
 ) -> Result<Ahead<'s>, AllocError>
+    requires { room.entry.items ≡ [] }
     ensures { IfOk result (λ a. IsAhead (C.classes classes.now) held flushed before.entry a) }
 {
-    let mut trivia = Vec::new(alloc);
+    let mut trivia = room;
     let mut newlines = flushed;
     let mut start = before;
     let mut next = read_token(alloc, start, held.mode, classes)?;

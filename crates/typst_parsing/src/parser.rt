@@ -20,6 +20,7 @@ use crate::ahead::{Ahead, column, judged, left, read_ahead};
 use crate::reading::{AtNewline, Mark, Newlines, Note, Reading, State};
 use std::alloc::{AllocError, Global};
 use std::marker::Model;
+use std::mem;
 use typst_classes::Classes;
 use typst_kinds::{SyntaxKind, SyntaxMode};
 use typst_lexer::Hull;
@@ -91,7 +92,8 @@ impl<'s> Parser<'s> {
             reach: 0,
             least: usize::MAX,
         })?;
-        let ahead = read_ahead(alloc, Scanner::new(text), reading, flushed, classes)?;
+        let room = Vec::new(alloc);
+        let ahead = read_ahead(alloc, room, Scanner::new(text), reading, flushed, classes)?;
         let whole = ahead.whole();
         Ok(Parser {
             alloc,
@@ -237,7 +239,8 @@ impl<'s> Parser<'s> {
                 any: false,
                 parbreak: false,
             };
-            let ahead = read_ahead(self.alloc, self.ahead.before, outer, flushed, classes)?;
+            let room = Vec::new(self.alloc);
+            let ahead = read_ahead(self.alloc, room, self.ahead.before, outer, flushed, classes)?;
             let whole = ahead.whole();
             self.reach = self.reach.max(whole.reach);
             self.least = self.least.min(whole.least);
@@ -293,7 +296,6 @@ impl<'s> Parser<'s> {
             parbreak: false,
         };
         let reading = self.state.reading;
-        let next = read_ahead(self.alloc, self.ahead.after, reading, flushed, classes)?;
         let is_after_error = node.kind().is_error();
         let empties = empty_errors(&node);
         let count = if trims { self.state.empties } else { 0 };
@@ -301,6 +303,15 @@ impl<'s> Parser<'s> {
         trim(&mut self.nodes, count);
         push_all(&mut self.nodes, &mut self.ahead.trivia)?;
         self.nodes.push(node)?;
+        let room = mem::replace(&mut self.ahead.trivia, Vec::new(self.alloc));
+        let next = read_ahead(
+            self.alloc,
+            room,
+            self.ahead.after,
+            reading,
+            flushed,
+            classes,
+        )?;
         let whole = next.whole();
         self.reach = self.reach.max(whole.reach);
         self.least = self.least.min(whole.least);

@@ -17,7 +17,7 @@ trivia-init g c =
     let m = c.args.held.mode in
     let z = place c.args.before in
     record {
-      along = subst (λ (ts : List Tree). Along k m c.args.flushed c.args.flushed ts z z) (sym c.new-trivia.ensures.items) (along-start k m c.args.flushed z);
+      along = subst (λ (ts : List Tree). Along k m c.args.flushed c.args.flushed ts z z) (sym c.requires) (along-start k m c.args.flushed z);
       text = refl;
       reads = c.in_ok-next.ensures.reads;
       hull = c.in_ok-next.ensures.hull;
