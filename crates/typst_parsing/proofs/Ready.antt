@@ -17,7 +17,7 @@ use Rattle.typst_parsing.specs.Syntax.Op.{column}
 use Rattle.typst_parsing.specs.Syntax.Parser.{does}
 use Rattle.typst_parsing.specs.Cursor.{start_log, start_state}
 use Rattle.typst_parsing.specs.Meaning.{Level, less, same_mode, same_rule, left, renewed, flushed_state, taken_node}
-use Rattle.typst_parsing.specs.View.{View, Does, Fits, Left, Noted}
+use Rattle.typst_parsing.specs.View.{View, Does, Fits, Left, Noted, with_pushed}
 use Rattle.typst_parsing.proofs.Runs.{Eaten, Flushed, column_seen}
 use Rattle.typst_parsing.proofs.Steps.{does-eat, does-flush, does-note, does-column}
 use Rattle.typst_parsing.proofs.Trivia.{hand-no-gap, hand-flushed, rejudged, flushed-some, same-hand, looks-flushed, looks-judged}
@@ -155,12 +155,17 @@ start-log u ns z depth mark reading r l p e f g =
     let zero : max 0 u.reach ≡ u.reach = omega arith in
     rw (e, f, g, p, zero) refl
 
--- this was noted, and the token at hand was looked at again
-pub noted-is : (l : Level) (mark : Mark) (depth before start : ℕ) (v w : View) (ns : List Note) (m : ℕ) → l.level ≡ depth → before ≡ position v.place → start ≡ position (moved v.hand.gap v.place)
+-- the note that the code added
+pub pushed-is : (mark : Mark) (depth start before : ℕ) (v w : View) (ns : List Note) (m : ℕ) → before ≡ position v.place
     → ns ≡ v.log.notes ++ record { mark = mark; before = before; start = start; depth = depth; state = v.state; reach = v.log.reach; least = v.log.least } ∷ []
-    → m ≡ min (2 ^ 64 - 1) (whole v.looks).least → w ≡ record v { log = record { reach = v.log.reach; least = m; notes = ns } } → Does l (note mark) tt v w
-noted-is l mark depth before start v w ns m d b s n e f =
-    rw (f, e, n, sym d, b, s)
+    → m ≡ min (2 ^ 64 - 1) (whole v.looks).least → w ≡ record v { log = record { reach = v.log.reach; least = m; notes = ns } } → w ≡ with_pushed mark depth start v
+pushed-is mark depth start before v w ns m b n e f = rw (f, e, n, b) refl
+
+-- this was noted, and the token at hand was looked at again
+pub noted-is : (l : Level) (mark : Mark) (depth start : ℕ) (v w : View) → l.level ≡ depth → start ≡ position (moved v.hand.gap v.place)
+    → w ≡ with_pushed mark depth start v → Does l (note mark) tt v w
+noted-is l mark depth start v w d s f =
+    rw (f, sym d, s)
     (does-note mark (λ c.
     let all = among-is (whole v.looks) v.log c.log in
     let reach : v.log.reach ≡ max v.log.reach (whole v.looks).reach = omega (arith, all.reach) in
@@ -174,11 +179,9 @@ noted-is l mark depth before start v w ns m d b s n e f =
     }))
 
 -- the same before the pending trivia
-pub noted-before : (l : Level) (mark : Mark) (depth here : ℕ) (v w : View) (ns : List Note) (m : ℕ) → here ≡ position v.place
-    → ns ≡ v.log.notes ++ record { mark = mark; before = here; start = here; depth = depth; state = v.state; reach = v.log.reach; least = v.log.least } ∷ []
-    → m ≡ min (2 ^ 64 - 1) (whole v.looks).least → w ≡ record v { log = record { reach = v.log.reach; least = m; notes = ns } } → Noted l depth mark v w
-noted-before l mark depth here v w ns m b n e f =
-    rw (f, e, n, b)
+pub noted-before : (l : Level) (mark : Mark) (depth here : ℕ) (v w : View) → here ≡ position v.place → w ≡ with_pushed mark depth here v → Noted l depth mark v w
+noted-before l mark depth here v w b f =
+    rw (f, b)
     (record {
       nodes = refl;
       place = refl;

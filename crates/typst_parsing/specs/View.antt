@@ -1,5 +1,5 @@
 -- What a parser of the code shows, and what it ensures.
-use Rattle.std.specs.Prelude.{◌≡◌, ℕ, zero, ◌+◌, ◌-◌, ◌<◌, ◌≤◌, ◌==◌, Bool, true, List, ◌∷◌, ◌++◌, [], length, map, take, drop, Result, Ok, Err}
+use Rattle.std.specs.Prelude.{◌≡◌, ℕ, zero, ◌+◌, ◌-◌, ◌<◌, ◌≤◌, ◌^◌, min, ◌==◌, Bool, true, List, ◌∷◌, ◌++◌, [], length, map, take, drop, Result, Ok, Err}
 use Rattle.std.specs.declared.alloc.AllocError.{AllocError}
 use denote.Ref.{MutBor}
 use Rattle.typst_lines.specs.Place.{Place, moved}
@@ -8,6 +8,8 @@ use Rattle.typst_classes.specs.Classes.{CharClasses}
 use Rattle.typst_parsing.specs.declared.reading.Block.{Block}
 use Rattle.typst_parsing.specs.declared.reading.Call.{Call}
 use Rattle.typst_parsing.specs.declared.reading.Mark.{Mark}
+use Rattle.typst_parsing.specs.declared.reading.Note.{Note}
+use Rattle.typst_readers.specs.Sight.{position}
 use Rattle.typst_parsing.specs.declared.reading.Reading.{Reading}
 use Rattle.typst_parsing.specs.declared.reading.State.{State}
 use Rattle.typst_parsing.specs.Ask.{Ask}
@@ -107,6 +109,12 @@ pub record Rewrapped (from : ℕ) (shape : Shape) (mid new : View) : Type 0 wher
   pub hand : new.hand ≡ mid.hand
   pub looks : new.looks ≡ mid.looks
   pub log : new.log ≡ mid.log
+
+-- a note that something begins or ends at a byte offset was added, and the token at hand was looked at again
+abbrev pub with_pushed : Mark → ℕ → ℕ → View → View
+with_pushed mark depth start v =
+    let note : Note = record { mark = mark; before = position v.place; start = start; depth = depth; state = v.state; reach = v.log.reach; least = v.log.least } in
+    record v { log = record { reach = v.log.reach; least = min (2 ^ 64 - 1) (whole v.looks).least; notes = v.log.notes ++ note ∷ [] } }
 
 -- this was noted before the pending trivia, and the token at hand was looked at again
 pub record Noted (l : Level) (depth : ℕ) (mark : Mark) (v w : View) : Type 0 where

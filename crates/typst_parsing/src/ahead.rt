@@ -72,7 +72,7 @@ pub(crate) fn read_ahead<'s, C: Classes>(
     flushed: Newlines,
     classes: &C,
 ) -> Result<Ahead<'s>, AllocError>
-    requires { room.entry.items ≡ [] }
+    requires { room.items ≡ [] }
     ensures { IfOk result (λ a. IsAhead (C.classes classes.now) held flushed before.entry a) }
 {
     let mut trivia = room;

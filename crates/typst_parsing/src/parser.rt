@@ -14,7 +14,7 @@ ghost use Rattle.typst_parsing.specs.Meaning.{Level, less, entered, taken_node, 
 ghost use Rattle.typst_parsing.specs.Steps as spec;
 ghost use Rattle.typst_parsing.specs.Syntax.Op.{column};
 ghost use Rattle.typst_parsing.specs.Syntax.Parser.{does};
-ghost use Rattle.typst_parsing.specs.View.{Does, Reads, Left, Rewrapped, Noted};
+ghost use Rattle.typst_parsing.specs.View.{Does, Reads, Left, Rewrapped, Noted, with_pushed};
 
 use crate::ahead::{Ahead, column, judged, left, read_ahead};
 use crate::reading::{AtNewline, Mark, Newlines, Note, Reading, State};
@@ -161,16 +161,8 @@ impl<'s> Parser<'s> {
     pub fn note(&mut self, mark: Mark, depth: usize) -> Result<(), AllocError>
         ensures { (l : Level) → l.level ≡ depth → Reads l (spec.note mark) self.old result self.new }
     {
-        self.notes.push(Note {
-            mark,
-            before: self.ahead.before.cursor(),
-            start: self.ahead.start.cursor(),
-            depth,
-            state: self.state,
-            reach: self.reach,
-            least: self.least,
-        })?;
-        self.least = usize::MAX.min(self.ahead.whole().least);
+        let start = self.ahead.start.cursor();
+        self.push_note(mark, depth, start)?;
         Ok(())
     }
 
@@ -178,11 +170,19 @@ impl<'s> Parser<'s> {
     pub fn note_before(&mut self, mark: Mark, depth: usize) -> Result<(), AllocError>
         ensures { (l : Level) → OnOk result (Noted l depth mark self.old self.new) }
     {
-        let here = self.ahead.before.cursor();
+        let start = self.ahead.before.cursor();
+        self.push_note(mark, depth, start)?;
+        Ok(())
+    }
+
+    /// Notes what begins or ends at a place, in bytes from the text's start.
+    fn push_note(&mut self, mark: Mark, depth: usize, start: usize) -> Result<(), AllocError>
+        ensures { OnOk result (self.new ≡ with_pushed mark depth start self.old) }
+    {
         self.notes.push(Note {
             mark,
-            before: here,
-            start: here,
+            before: self.ahead.before.cursor(),
+            start,
             depth,
             state: self.state,
             reach: self.reach,
