@@ -61,3 +61,24 @@ pub record Trees (beyond : CharClasses) : Type 0 where
   -- a term and what it means, and a term without a colon
   pub term : tree (by_law beyond) (codes "/ A: b") ≡ markup (branch kind.TermItem (leaf_of kind.TermMarker (codes "/") ∷ space (codes " ") ∷ markup (text (codes "A") ∷ []) ∷ leaf_of kind.Colon (codes ":") ∷ space (codes " ") ∷ markup (text (codes "b") ∷ []) ∷ []) ∷ [])
   pub no_colon : tree (by_law beyond) (codes "/ A") ≡ markup (branch kind.TermItem (leaf_of kind.TermMarker (codes "/") ∷ space (codes " ") ∷ markup (text (codes "A") ∷ []) ∷ error_of (codes "expected colon") [] ∷ markup [] ∷ []) ∷ [])
+
+abbrev pub raw_delim : List ℕ → Tree
+raw_delim s = leaf_of kind.RawDelim s
+
+abbrev pub marker : List ℕ → Tree
+marker s = leaf_of kind.RefMarker s
+
+-- Trees of short texts with raw texts, links, labels and references.
+pub record NamedTrees (beyond : CharClasses) : Type 0 where
+  -- a content block directly after a reference belongs to it
+  pub reference : tree (by_law beyond) (codes "@a[b]") ≡ markup (branch kind.Ref (marker (codes "@a") ∷ branch kind.ContentBlock (leaf_of kind.LeftBracket (codes "[") ∷ markup (text (codes "b") ∷ []) ∷ leaf_of kind.RightBracket (codes "]") ∷ []) ∷ []) ∷ [])
+  -- and one behind a space doesn't
+  pub apart : tree (by_law beyond) (codes "@a []") ≡ markup (branch kind.Ref (marker (codes "@a") ∷ []) ∷ space (codes " ") ∷ text (codes "[") ∷ text (codes "]") ∷ [])
+  pub unclosed_block : tree (by_law beyond) (codes "@a[b") ≡ markup (branch kind.Ref (marker (codes "@a") ∷ branch kind.ContentBlock (unclosed (codes "[") ∷ markup (text (codes "b") ∷ []) ∷ []) ∷ []) ∷ [])
+  pub dots : tree (by_law beyond) (codes "@a...") ≡ markup (branch kind.Ref (marker (codes "@a") ∷ []) ∷ leaf_of kind.Shorthand (codes "...") ∷ [])
+  pub raw : tree (by_law beyond) (codes "`a\nb`") ≡ markup (branch kind.Raw (raw_delim (codes "`") ∷ text (codes "a") ∷ leaf_of kind.RawTrimmed (codes "\n") ∷ text (codes "b") ∷ raw_delim (codes "`") ∷ []) ∷ [])
+  pub unclosed_raw : tree (by_law beyond) (codes "`a") ≡ markup (error_of (codes "unclosed raw text") (codes "`a") ∷ [])
+  pub link : tree (by_law beyond) (codes "https://a.b.") ≡ markup (leaf_of kind.Link (codes "https://a.b") ∷ text (codes ".") ∷ [])
+  pub unclosed_label : tree (by_law beyond) (codes "<a") ≡ markup (error_of (codes "unclosed label") (codes "<a") ∷ [])
+  -- a label ends a heading
+  pub labelled : tree (by_law beyond) (codes "= a <b>") ≡ markup (branch kind.Heading (leaf_of kind.HeadingMarker (codes "=") ∷ space (codes " ") ∷ markup (text (codes "a") ∷ []) ∷ []) ∷ space (codes " ") ∷ leaf_of kind.Label (codes "<b>") ∷ [])

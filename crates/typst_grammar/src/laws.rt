@@ -1,7 +1,7 @@
 //! Laws of the grammar.
 
 ghost use Rattle.typst_classes.specs.Classes.{CharClasses};
-ghost use Rattle.typst_grammar.specs.Examples.{Trees};
+ghost use Rattle.typst_grammar.specs.Examples.{NamedTrees, Trees};
 ghost use Rattle.typst_grammar.specs.Laws.{CallDepthLaw, CallFrameLaw, CallLeavesLaw, LeavesLaw, MarkupDepthLaw, MarkupFrameLaw, MarkupLeavesLaw, PieceDepthLaw, PieceFrameLaw, PieceLeavesLaw};
 
 /// Where all that was asked shows the same at two places, the same is read there: the value, the
@@ -32,4 +32,9 @@ pub fn leaves_law()
 /// Trees of short texts, which follow from the definitions.
 pub fn trees_of_texts()
     ensures { (beyond : CharClasses) → Trees beyond }
+{}
+
+/// The same of texts with raw texts, links, labels and references.
+pub fn trees_of_names()
+    ensures { (beyond : CharClasses) → NamedTrees beyond }
 {}
