@@ -1,5 +1,5 @@
 -- What the looks of tokens and columns are good for, and that none of them is too far.
-use Rattle.std.specs.Prelude.{◌≡◌, ℕ, [], codes, length, if◌then◌else◌}
+use Rattle.std.specs.Prelude.{◌≡◌, ℕ, [], codes, length, if◌then◌else◌, List, encode_utf8_all}
 use Rattle.typst_kinds.specs.declared.kind.SyntaxKind.TheVariants as kind
 use Rattle.typst_kinds.specs.declared.mode.SyntaxMode.{SyntaxMode}
 use Rattle.typst_kinds.specs.declared.mode.SyntaxMode.TheVariants.{Markup}
@@ -8,11 +8,13 @@ use Rattle.typst_classes.specs.Classes.{CharClasses, by_law}
 use Rattle.typst_readers.specs.Column.{column, column_look}
 use Rattle.typst_readers.specs.Reader.{Look, look, eaten, exec, Agree, SameReading, place}
 use Rattle.typst_lexer.specs.Link.{link}
+use Rattle.typst_lexer.specs.Nodes.{token_node}
 use Rattle.typst_lexer.specs.Token.{plain, faulty}
 use Rattle.typst_lexer.specs.Tokens.{token}
 use Rattle.typst_lexer.specs.declared.token.Token.{Token}
 use Rattle.typst_lexer.specs.declared.token.Fault.TheVariants as fault
 use Rattle.typst_links.specs.Links.{link_prefix}
+use Rattle.typst_node.specs.Tree.{text_of}
 
 -- Where another place shows the same characters and marks in the look of a token, the token there
 -- is the same, as long, and with the same look.
@@ -93,3 +95,7 @@ pub record NameLook (beyond : CharClasses) : Type 0 where
 -- What stands behind the scheme of a link is the link that the characters ahead begin with.
 abbrev pub LinkIsPrefix : Type 0
 LinkIsPrefix = (p : Place) → exec link p ≡ (let r = link_prefix p.ahead in (if r.1 then plain kind.Link else faulty fault.UnbalancedLink, moved (length r.0) p))
+
+-- The leaves of a token's node joined are the characters that it took.
+abbrev pub TokenText : Type 0
+TokenText = (k : CharClasses) (t : Token) (taken : List ℕ) → text_of (token_node k t taken) ≡ encode_utf8_all taken

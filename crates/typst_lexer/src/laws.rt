@@ -52,3 +52,8 @@ pub fn looks_of_names()
 pub fn links_are_prefixes()
     ensures { law.LinkIsPrefix }
 {}
+
+/// The leaves law of tokens, for every class value, token and list of characters.
+pub fn token_text_law()
+    ensures { law.TokenText }
+{}

@@ -5,7 +5,8 @@
 //!   of `typst_tree`.
 //! - What characters are letters, digits and word characters is asked of a value of [`Classes`];
 //!   [`UnicodeClasses`] answers by Unicode. [`is_id_start`], [`is_id_continue`] and [`is_ident`] tell by
-//!   such a value what an identifier is.
+//!   such a value what an identifier is, and [`is_valid_label_literal_id`] what a label can be named.
+//! - [`link_prefix`] finds the link that a text begins with.
 //! - [`Lines`] finds lines, columns and UTF-16 positions in a text; [`is_newline`] and
 //!   [`split_newlines`] tell where lines end.
 //!
@@ -15,4 +16,5 @@
 
 pub use typst_grammar::parse;
 pub use typst_lexer::{Classes, MathClass, UnicodeClasses, is_id_continue, is_id_start, is_ident};
+pub use typst_links::{is_valid_label_literal_id, link_prefix};
 pub use typst_lines::{Line, Lines, Text, is_newline, split_newlines};
