@@ -51,6 +51,37 @@ const TREES: &[(&str, &str)] = &[
         "_a *b* c_",
         "Markup[Emph[Underscore Markup[Text Space Strong[Star Markup[Text] Star] Space Text] Underscore]]",
     ),
+    (
+        "@a[b]",
+        "Markup[Ref[RefMarker ContentBlock[LeftBracket Markup[Text] RightBracket]]]",
+    ),
+    ("@a [b]", "Markup[Ref[RefMarker] Space Text Text Text]"),
+    (
+        "@a[b",
+        "Markup[Ref[RefMarker ContentBlock[Error\"[\" Markup[Text]]]]",
+    ),
+    (
+        "@a[ - b\n[c] ] d",
+        "Markup[Ref[RefMarker ContentBlock[LeftBracket Markup[Space ListItem[ListMarker Space Markup[Text]] Space Text Text Text Space] RightBracket]] Space Text]",
+    ),
+    (
+        "= @a[b\nc] d",
+        "Markup[Heading[HeadingMarker Space Markup[Ref[RefMarker ContentBlock[LeftBracket Markup[Text Space Text] RightBracket]] Space Text]]]",
+    ),
+    ("@a...", "Markup[Ref[RefMarker] Shorthand]"),
+    (
+        "= a <b>",
+        "Markup[Heading[HeadingMarker Space Markup[Text]] Space Label]",
+    ),
+    ("<a", "Markup[Error\"<a\"]"),
+    ("https://a.b.", "Markup[Link Text]"),
+    ("https://(a", "Markup[Error\"https://(a\"]"),
+    (
+        "`a\nb`",
+        "Markup[Raw[RawDelim Text RawTrimmed Text RawDelim]]",
+    ),
+    ("`a", "Markup[Error\"`a\"]"),
+    ("```c++ x```", "Markup[Raw[RawDelim RawLang Text RawDelim]]"),
 ];
 
 /// Writes a node's kind and, of an error, its text, behind a space unless a bracket was opened.
@@ -146,7 +177,7 @@ fn asks_the_classes(rt: HostRuntime) -> Result<(), Fail> {
 }
 
 /// Texts, with the message and the hint of their only error or warning.
-const REMARKS: [(&str, Severity, &str, &str); 6] = [
+const REMARKS: [(&str, Severity, &str, &str); 10] = [
     (
         "]",
         Severity::Error,
@@ -168,6 +199,15 @@ const REMARKS: [(&str, Severity, &str, &str); 6] = [
     ("*a", Severity::Error, "unclosed delimiter", ""),
     ("_", Severity::Error, "unclosed delimiter", ""),
     ("/ A", Severity::Error, "expected colon", ""),
+    ("@a[", Severity::Error, "unclosed delimiter", ""),
+    ("<a", Severity::Error, "unclosed label", ""),
+    ("`a", Severity::Error, "unclosed raw text", ""),
+    (
+        "https://(a",
+        Severity::Error,
+        "automatic links cannot contain unbalanced brackets, use the `link` function instead",
+        "",
+    ),
 ];
 
 /// Finds a node that has an error or a warning, among the first thousand.
