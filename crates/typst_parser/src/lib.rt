@@ -16,5 +16,5 @@
 
 pub use typst_grammar::parse;
 pub use typst_lexer::{Classes, MathClass, UnicodeClasses, is_id_continue, is_id_start, is_ident};
-pub use typst_links::{is_valid_label_literal_id, link_prefix};
 pub use typst_lines::{Line, Lines, Text, is_newline, split_newlines};
+pub use typst_links::{is_valid_label_literal_id, link_prefix};

@@ -12,7 +12,6 @@ use Rattle.typst_parsing.specs.Depth.{deeper}
 use Rattle.typst_markup.specs.Markup.{note_piece, markup_turn, markup_exprs, markup, markup_is_empty, strong, emph, heading, list_item, term_item, markup_expr}
 use Rattle.typst_grammar.specs.Grammar.{meaning, whole, tree}
 use Rattle.typst_grammar.proofs.laws.trees_of_names.Goals as goal
-
 use Rattle.typst_lexer.specs.Link.{link, link_or_text}
 use Rattle.typst_lexer.specs.Names.{label, label_or_text, ref_marker, ref_or_text}
 use Rattle.typst_lexer.specs.Raw.{raw}
