@@ -1,7 +1,8 @@
 -- What holds of each level.
-use Rattle.std.proofs.Common.{◌≡◌, ℕ, zero, suc, ◌-◌, true, false, List, [], ◌++◌, length, refl, ap, ◌∙◌, subst, sym, arith}
+use Rattle.std.proofs.Common.{◌≡◌, ℕ, zero, suc, ◌-◌, Bool, true, false, Option, Some, None, List, [], ◌++◌, length, refl, ap, ◌∙◌, subst, sym, arith}
 use Rattle.std.specs.Str.{chars}
-use Rattle.typst_lines.specs.Place.{Place}
+use Rattle.typst_lines.specs.Place.{Place, moved}
+use Rattle.typst_readers.specs.Sight.{hull_of}
 use Rattle.typst_node.specs.Tree.{Tree}
 use Rattle.typst_classes.specs.Classes.{CharClasses}
 use Rattle.typst_parsing.specs.declared.reading.Block.TheVariants as block
@@ -11,14 +12,19 @@ use Rattle.typst_parsing.specs.Cursor.{IsStart}
 use Rattle.typst_parsing.specs.declared.reading.Mark.TheVariants.{Piece}
 use Rattle.typst_parsing.specs.declared.stop.Stop.TheVariants.{End}
 use Rattle.typst_parsing.specs.Hand.{hand_at, looks_at, whole as whole_hull}
-use Rattle.typst_parsing.specs.Log.{Log, no_log, with_hull, with_note, logged}
+use Rattle.typst_parsing.specs.Ask.{Ask}
+use Rattle.typst_parsing.specs.Ask.Ask.{looked, marked}
+use Rattle.typst_parsing.specs.declared.reading.Note.{Note}
+use Rattle.typst_parsing.specs.Log.{Log, no_log, blank_log, with_more, with_hull, with_note, logged}
+use Rattle.typst_grammar.specs.Read.{IsParsed}
 use Rattle.typst_parsing.specs.Steps.{flush_trivia}
 use Rattle.typst_parsing.specs.Syntax.{◌>>◌}
 use Rattle.typst_parsing.proofs.Runs.{Looked, looked-fits, noted, ran-next, ran-marks, ran-look}
 use Rattle.typst_markup.specs.Markup.{content_block, markup_exprs}
 use Rattle.typst_parsing.specs.Meaning.{Level, less, run}
 use Rattle.typst_parsing.specs.View.{View, Runs, Sound, ReadsBlock, Does, Makes, Fits, at}
-use Rattle.typst_grammar.specs.Grammar.{production, meaning, level_at, markup_reading, start_of, whole, parsed}
+use Rattle.std.specs.Prelude.{◌∷◌, IsSome, IfSome}
+use Rattle.typst_grammar.specs.Grammar.{production, meaning, level_at, max_depth, markup_reading, start_of, whole, parsed, log}
 use Rattle.typst_grammar.proofs.Lawful.{within-meaning, backs-meaning, within-block, backs-block}
 
 pub sound-level : (k : CharClasses) (level : ℕ) → Sound (level_at k level)
@@ -46,23 +52,23 @@ unfolding less
 less-nil n = let e : 0 - n ≡ 0 = omega arith in rw e refl
 
 -- what the code read and noted from the start is what is read and noted of the text
-pub record IsParsed (k : CharClasses) (level : ℕ) (text : List ℕ) (w : View) : Type 0 where
-  pub nodes : w.nodes ≡ (parsed k level (chars text)).nodes
-  pub log : w.log ≡ logged level (start_of (chars text)) no_log (parsed k level (chars text)).asks
+record IsRead (k : CharClasses) (level : ℕ) (keeps : Bool) (text : List ℕ) (w : View) : Type 0 where
+  nodes : w.nodes ≡ (parsed k level (chars text)).nodes
+  log : w.log ≡ logged level (start_of (chars text)) (blank_log keeps) (parsed k level (chars text)).asks
 
-pub parsed-is : (k : CharClasses) (level : ℕ) (text : List ℕ) (v w : View) → IsStart k text markup_reading level (Piece true 0) v
-    → Does (level_at k level) (markup_exprs true End >> flush_trivia) tt v w → IsParsed k level text w
+read-is : (k : CharClasses) (level : ℕ) (keeps : Bool) (text : List ℕ) (v w : View) → IsStart k text markup_reading level (Piece true 0) keeps v
+    → Does (level_at k level) (markup_exprs true End >> flush_trivia) tt v w → IsRead k level keeps text w
 unfolding whole
-parsed-is k level text v w h d =
+read-is k level keeps text v w h d =
     let l = level_at k level in
-    let first : View = record v { log = no_log } in
+    let first : View = record v { log = blank_log keeps } in
     let fits-hand = h.hand ∙ ap (λ (s : State). hand_at k s.held s.flushed v.place) (sym h.state) in
     let fits-looks = h.looks ∙ ap (λ (s : State). looks_at k s.held s.flushed v.place) (sym h.state) in
     let look : Looked l (noted 0 level (Piece true 0) first) v = record {
       nodes = refl;
       place = refl;
       state = refl;
-      log = h.log ∙ ap (λ (s : State). with_hull (whole_hull v.looks) (with_note 0 level (Piece true 0) s v.place no_log)) (sym h.state);
+      log = h.log ∙ ap (λ (s : State). with_hull (whole_hull v.looks) (with_note 0 level (Piece true 0) s v.place (blank_log keeps))) (sym h.state);
       hand = fits-hand;
       looks = fits-looks;
     } in
@@ -72,5 +78,30 @@ parsed-is k level text v w h d =
     let q = subst (λ u. Runs level u tt first w) same r in
     record {
       nodes = q.nodes ∙ ap (λ (ns : List Tree). less o.back ns ++ o.nodes) h.nodes ∙ ap (λ (ns : List Tree). ns ++ o.nodes) (less-nil o.back);
-      log = q.log ∙ ap (λ z. logged level z no_log o.asks) h.place;
+      log = q.log ∙ ap (λ z. logged level z (blank_log keeps) o.asks) h.place;
     }
+
+pub parsed-is : (k : CharClasses) (keeps : Bool) (text : List ℕ) (v w : View) → IsStart k text markup_reading max_depth (Piece true 0) keeps v
+    → Does (level_at k max_depth) (markup_exprs true End >> flush_trivia) tt v w → IsParsed k keeps (chars text) w
+parsed-is k keeps text v w h d = let r = read-is k max_depth keeps text v w h d in record { nodes = r.nodes; log = r.log }
+
+-- where notes are kept, they are kept on
+still-kept : (depth : ℕ) (z : Place) (h : Log) (asks : List Ask) → IsSome h.notes → IsSome (logged depth z h asks).notes
+still-kept depth z h [] k = k
+still-kept depth z h (looked at look ∷ asks) k = still-kept depth z (with_hull (hull_of look (moved at z)) h) asks k
+still-kept depth z h (marked at gap level mark s ∷ asks) k = still-kept depth z (with_note gap (depth - level) mark s (moved at z) h) asks (more-kept h.notes _ k)
+  where
+    more-kept : (ns : Option (List Note)) (note : Note) → IsSome ns → IsSome (with_more note ns)
+    more-kept None note i = i
+    more-kept (Some ns) note i = refl
+
+log-is : (r l : ℕ) (ns : List Note) (notes : Option (List Note)) → IsSome notes → IfSome notes (λ ms. ns ≡ ms) → ◌≡◌ {A = Log} (record { reach = r; least = l; notes = Some ns }) (record { reach = r; least = l; notes = notes })
+log-is r l ns None i e = absurd (cc)
+log-is r l ns (Some ms) i e = rw e refl
+
+pub noted-log : (k : CharClasses) (text : List ℕ) (w : View) (ns : List Note) → IsParsed k true text w → IfSome w.log.notes (λ ms. ns ≡ ms)
+    → ◌≡◌ {A = Log} (record { reach = w.log.reach; least = w.log.least; notes = Some ns }) (log k text)
+unfolding log
+noted-log k text w ns p e =
+    let some = still-kept max_depth (start_of text) no_log (parsed k max_depth text).asks refl in
+    log-is w.log.reach w.log.least ns w.log.notes (subst (λ (h : Log). IsSome h.notes) (sym p.log) some) e ∙ p.log

@@ -1,12 +1,13 @@
 //! The knot: what is read one level deeper, and whole texts.
 
-ghost use Rattle.std.specs.Prelude.{◌≡◌, ◌<◌, IfOk};
+ghost use Rattle.std.specs.Prelude.{◌≡◌, ◌<◌, IfOk, Some};
 ghost use Rattle.std.specs.Str.{chars};
 ghost use Rattle.typst_node.specs.Tree.{text_of};
 ghost use Rattle.typst_parsing.specs.Meaning.{Level};
 ghost use Rattle.typst_parsing.specs.View.{Calls, MayNest, Nests, Reads, ReadsBlock};
 ghost use Rattle.typst_markup.specs.Markup.{content_block};
 ghost use Rattle.typst_grammar.specs.Grammar as spec;
+ghost use Rattle.typst_grammar.specs.Read.{IsParsed};
 
 use std::alloc::{AllocError, Global};
 use typst_classes::Classes;
@@ -57,8 +58,8 @@ pub fn parse<C: Classes>(alloc: Global, text: &str, classes: &C) -> Result<Synta
     ensures tree { IfOk result (λ t. t ≡ spec.tree (C.classes classes.now) (chars text.now)) }
     ensures leaves { IfOk result (λ t. text_of t ≡ text.now) }
 {
-    let noted = parse_noted(alloc, text, classes)?;
-    Ok(noted.tree)
+    let (nodes, _notes, _hull) = read_whole(alloc, text, false, classes)?.finish();
+    Ok(SyntaxNode::inner(SyntaxKind::Markup, nodes))
 }
 
 /// A syntax tree with what was looked at and noted in parsing it.
@@ -74,14 +75,31 @@ pub struct Noted {
 /// start and behind each expression of the text's own a piece, in order.
 pub fn parse_noted<C: Classes>(alloc: Global, text: &str, classes: &C) -> Result<Noted, AllocError>
     ensures tree { IfOk result (λ r. r.tree ≡ spec.tree (C.classes classes.now) (chars text.now)) }
-    ensures log { IfOk result (λ r. record { reach = r.hull.reach; least = r.hull.least; notes = r.notes.items } ≡ spec.log (C.classes classes.now) (chars text.now)) }
+    ensures log { IfOk result (λ r. record { reach = r.hull.reach; least = r.hull.least; notes = Some r.notes.items } ≡ spec.log (C.classes classes.now) (chars text.now)) }
+{
+    let (nodes, notes, hull) = read_whole(alloc, text, true, classes)?.finish();
+    Ok(Noted {
+        tree: SyntaxNode::inner(SyntaxKind::Markup, nodes),
+        notes,
+        hull,
+    })
+}
+
+/// A parser that read a whole text.
+fn read_whole<'s, C: Classes>(
+    alloc: Global,
+    text: &'s str,
+    keeps_notes: bool,
+    classes: &C,
+) -> Result<Parser<'s>, AllocError>
+    ensures { IfOk result (λ p. IsParsed (C.classes classes.now) keeps_notes (chars text.now) p) }
 {
     let reading = Reading {
         mode: SyntaxMode::Markup,
         at_newline: AtNewline::Continue,
     };
     let first = Mark::Piece(true, 0);
-    let mut p = Parser::new(alloc, text, reading, MAX_DEPTH, first, classes)?;
+    let mut p = Parser::new(alloc, text, reading, MAX_DEPTH, first, keeps_notes, classes)?;
     let g = Grammar {
         classes,
         depth: MAX_DEPTH,
@@ -89,10 +107,5 @@ pub fn parse_noted<C: Classes>(alloc: Global, text: &str, classes: &C) -> Result
     };
     markup_exprs(&g, &mut p, true, Stop::End)?;
     p.flush_trivia()?;
-    let (nodes, notes, hull) = p.finish();
-    Ok(Noted {
-        tree: SyntaxNode::inner(SyntaxKind::Markup, nodes),
-        notes,
-        hull,
-    })
+    Ok(p)
 }

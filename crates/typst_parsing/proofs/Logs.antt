@@ -1,5 +1,5 @@
 -- What was looked at and noted.
-use Rattle.std.proofs.Common.{◌≡◌, ℕ, zero, suc, ◌+◌, ◌-◌, ◌<◌, ◌≤◌, max, min, Bool, true, false, if◌then◌else◌, List, [], ◌∷◌, ◌++◌, length, refl, ap, sym, ◌∙◌, arith}
+use Rattle.std.proofs.Common.{Option, ◌≡◌, ℕ, zero, suc, ◌+◌, ◌-◌, ◌<◌, ◌≤◌, max, min, Bool, true, false, if◌then◌else◌, List, [], ◌∷◌, ◌++◌, length, refl, ap, sym, ◌∙◌, arith}
 use Rattle.typst_kinds.specs.declared.mode.SyntaxMode.{SyntaxMode}
 use Rattle.typst_lines.specs.Place.{Place, moved}
 use Rattle.typst_classes.specs.Classes.{CharClasses}
@@ -22,7 +22,7 @@ use Rattle.typst_parsing.proofs.Places.{moved-sum}
 
 -- ---- logs
 
-pub same-log : (r s l m : ℕ) (ns : List Note) → r ≡ s → l ≡ m → ◌≡◌ {A = Log} (record { reach = r; least = l; notes = ns }) (record { reach = s; least = m; notes = ns })
+pub same-log : (r s l m : ℕ) (ns : Option (List Note)) → r ≡ s → l ≡ m → ◌≡◌ {A = Log} (record { reach = r; least = l; notes = ns }) (record { reach = s; least = m; notes = ns })
 same-log r s l m ns e f = rw (e, f) refl
 
 -- a hull lies in what was looked at

@@ -10,7 +10,7 @@ use Rattle.typst_parsing.specs.declared.reading.Note.{Note}
 use Rattle.typst_parsing.specs.declared.reading.Reading.{Reading}
 use Rattle.typst_parsing.specs.declared.reading.State.{State}
 use Rattle.typst_parsing.specs.Hand.{Hand, no_newlines, column_at, judged, hand_at, Looks, looks_at, column_hull, whole}
-use Rattle.typst_parsing.specs.Log.{Log, with_hull}
+use Rattle.typst_parsing.specs.Log.{Log, kept, added, with_more, with_hull}
 use Rattle.typst_parsing.specs.Shape.{Making, is_nil, count_empty, after_node}
 use Rattle.typst_parsing.specs.Steps.{eat_making, flush_trivia, note}
 use Rattle.typst_parsing.specs.Syntax.Op.{column}
@@ -147,19 +147,25 @@ left-judged l outer v w m r n p s h o j = record {
 pub same-note : (v : View) (h : Log) (w : View) → w ≡ record v { log = h } → w.log ≡ h
 same-note v h w e = ap (λ (x : View). x.log) e
 
+-- one note more, where notes are kept
+kept-added : (keeps : Bool) (note : Note) (ns : List Note) → kept keeps (added keeps note ns) ≡ with_more note (kept keeps ns)
+kept-added true note ns = refl
+kept-added false note ns = refl
+
 -- the first note, and the first look
-pub start-log : (u : Hull) (ns : List Note) (z : Place) (depth : ℕ) (mark : Mark) (reading : Reading) (r l : ℕ) → position z ≡ 0 → r ≡ u.reach → l ≡ min (2 ^ 64 - 1) u.least
-    → ns ≡ record { mark = mark; before = 0; start = 0; depth = depth; state = start_state reading; reach = 0; least = 2 ^ 64 - 1 } ∷ []
-    → ◌≡◌ {A = Log} (record { reach = r; least = l; notes = ns }) (with_hull u (start_log depth mark reading z))
-start-log u ns z depth mark reading r l p e f g =
+pub start-log : (u : Hull) (keeps : Bool) (ns : List Note) (z : Place) (depth : ℕ) (mark : Mark) (reading : Reading) (r l : ℕ) → position z ≡ 0 → r ≡ u.reach → l ≡ min (2 ^ 64 - 1) u.least
+    → ns ≡ added keeps (record { mark = mark; before = 0; start = 0; depth = depth; state = start_state reading; reach = 0; least = 2 ^ 64 - 1 }) []
+    → ◌≡◌ {A = Log} (record { reach = r; least = l; notes = kept keeps ns }) (with_hull u (start_log keeps depth mark reading z))
+start-log u keeps ns z depth mark reading r l p e f g =
     let zero : max 0 u.reach ≡ u.reach = omega arith in
-    rw (e, f, g, p, zero) refl
+    rw (e, f, g, p, zero, kept-added keeps (record { mark = mark; before = 0; start = 0; depth = depth; state = start_state reading; reach = 0; least = 2 ^ 64 - 1 }) []) refl
 
 -- the note that the code added
-pub pushed-is : (mark : Mark) (depth start before : ℕ) (v w : View) (ns : List Note) (m : ℕ) → before ≡ position v.place
-    → ns ≡ v.log.notes ++ record { mark = mark; before = before; start = start; depth = depth; state = v.state; reach = v.log.reach; least = v.log.least } ∷ []
-    → m ≡ min (2 ^ 64 - 1) (whole v.looks).least → w ≡ record v { log = record { reach = v.log.reach; least = m; notes = ns } } → w ≡ with_pushed mark depth start v
-pushed-is mark depth start before v w ns m b n e f = rw (f, e, n, b) refl
+pub pushed-is : (mark : Mark) (depth start before : ℕ) (v w : View) (keeps : Bool) (old ns : List Note) (m : ℕ) → before ≡ position v.place → v.log.notes ≡ kept keeps old
+    → ns ≡ added keeps (record { mark = mark; before = before; start = start; depth = depth; state = v.state; reach = v.log.reach; least = v.log.least }) old
+    → m ≡ min (2 ^ 64 - 1) (whole v.looks).least → w ≡ record v { log = record { reach = v.log.reach; least = m; notes = kept keeps ns } } → w ≡ with_pushed mark depth start v
+pushed-is mark depth start before v w keeps old ns m b o n e f =
+    rw (f, e, n, b, o, kept-added keeps (record { mark = mark; before = position v.place; start = start; depth = depth; state = v.state; reach = v.log.reach; least = v.log.least }) old) refl
 
 -- this was noted, and the token at hand was looked at again
 pub noted-is : (l : Level) (mark : Mark) (depth start : ℕ) (v w : View) → l.level ≡ depth → start ≡ position (moved v.hand.gap v.place)

@@ -1,6 +1,6 @@
 -- How a view is stored.
-use Rattle.std.specs.Prelude.{ℕ, List, refl}
-use Rattle.std.specs.Coded.{Coded, code_by, coded×, coded_ℕ, coded_list}
+use Rattle.std.specs.Prelude.{ℕ, List, Option, refl}
+use Rattle.std.specs.Coded.{Coded, code_by, coded×, coded_ℕ, coded_list, coded_option}
 use Rattle.typst_kinds.specs.declared.kind.SyntaxKind.{SyntaxKind}
 use Rattle.typst_kinds.specs.contracts.kind.SyntaxKind.{the_row as kind_row}
 use Rattle.typst_lines.specs.Place.{Place}
@@ -37,7 +37,7 @@ looks_code =
 
 abbrev pub log_code : Coded Log
 log_code =
-    code_by (ℕ × (ℕ × List Note)) (coded× coded_ℕ (coded× coded_ℕ (coded_list note_row.coded)))
+    code_by (ℕ × (ℕ × Option (List Note))) (coded× coded_ℕ (coded× coded_ℕ (coded_option (coded_list note_row.coded))))
     (λ l. (l.reach, (l.least, l.notes))) (λ p. record { reach = p.0; least = p.1.0; notes = p.1.1 }) (λ _. refl)
 
 abbrev pub view_code : Coded View

@@ -1,5 +1,5 @@
 -- What the parser of the code keeps ready.
-use Rattle.std.specs.Prelude.{◌≡◌, ◌≤◌, ◌-◌, ℕ, false, List, [], length}
+use Rattle.std.specs.Prelude.{◌≡◌, ◌≤◌, ◌-◌, ℕ, Bool, false, List, [], length}
 use Rattle.std.specs.Str.{chars}
 use Rattle.typst_kinds.specs.declared.kind.SyntaxKind.{SyntaxKind}
 use Rattle.typst_lines.specs.Place.{Place, moved}
@@ -13,7 +13,7 @@ use Rattle.typst_parsing.specs.declared.reading.Newlines.{Newlines}
 use Rattle.typst_parsing.specs.declared.reading.Reading.{Reading}
 use Rattle.typst_parsing.specs.declared.reading.State.{State}
 use Rattle.typst_parsing.specs.Hand.{Hand, Looks, hand_at, looks_at, no_newlines, whole}
-use Rattle.typst_parsing.specs.Log.{Log, no_log, with_hull, with_note}
+use Rattle.typst_parsing.specs.Log.{Log, kept, blank_log, with_hull, with_note}
 use Rattle.typst_parsing.specs.View.{View}
 
 -- how many characters stand between two scanners
@@ -56,7 +56,7 @@ view_of i = record {
   state = i.state;
   hand = hand_of_ahead i.ahead;
   looks = looks_of_ahead i.ahead;
-  log = record { reach = i.reach; least = i.least; notes = i.notes.items };
+  log = record { reach = i.reach; least = i.least; notes = kept i.keeps_notes i.notes.items };
 }
 
 pub record IsReady (i : Inside) : Type 0 where
@@ -67,14 +67,14 @@ abbrev pub start_state : Reading → State
 start_state r = record { reading = r; held = r; flushed = no_newlines; empties = 0; is_after_error = false }
 
 -- what was looked at and noted before the first look, where so many levels are left
-abbrev pub start_log : ℕ → Mark → Reading → Place → Log
-start_log depth mark reading z = with_note 0 depth mark (start_state reading) z no_log
+abbrev pub start_log : Bool → ℕ → Mark → Reading → Place → Log
+start_log keeps depth mark reading z = with_note 0 depth mark (start_state reading) z (blank_log keeps)
 
 -- at a text's start, where this was noted, with the first token at hand
-pub record IsStart (k : CharClasses) (text : List ℕ) (reading : Reading) (depth : ℕ) (mark : Mark) (v : View) : Type 0 where
+pub record IsStart (k : CharClasses) (text : List ℕ) (reading : Reading) (depth : ℕ) (mark : Mark) (keeps : Bool) (v : View) : Type 0 where
   pub nodes : v.nodes ≡ []
   pub place : v.place ≡ record { behind = []; ahead = chars text }
   pub state : v.state ≡ start_state reading
   pub hand : v.hand ≡ hand_at k reading no_newlines v.place
   pub looks : v.looks ≡ looks_at k reading no_newlines v.place
-  pub log : v.log ≡ with_hull (whole v.looks) (start_log depth mark reading v.place)
+  pub log : v.log ≡ with_hull (whole v.looks) (start_log keeps depth mark reading v.place)

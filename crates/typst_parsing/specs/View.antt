@@ -14,7 +14,7 @@ use Rattle.typst_parsing.specs.declared.reading.Reading.{Reading}
 use Rattle.typst_parsing.specs.declared.reading.State.{State}
 use Rattle.typst_parsing.specs.Ask.{Ask}
 use Rattle.typst_parsing.specs.Hand.{Hand, Looks, looks_at, whole}
-use Rattle.typst_parsing.specs.Log.{Log, logged, with_hull, with_note}
+use Rattle.typst_parsing.specs.Log.{Log, logged, with_hull, with_more, with_note}
 use Rattle.typst_parsing.specs.Shape.{Shape, shaped, after_shape, Seen, seen}
 use Rattle.typst_parsing.specs.Syntax.{Parser, ◌>>◌}
 use Rattle.typst_parsing.specs.Meaning.{Outcome, Meaning, Level, inside, hand_of, left, less, run}
@@ -114,7 +114,7 @@ pub record Rewrapped (from : ℕ) (shape : Shape) (mid new : View) : Type 0 wher
 abbrev pub with_pushed : Mark → ℕ → ℕ → View → View
 with_pushed mark depth start v =
     let note : Note = record { mark = mark; before = position v.place; start = start; depth = depth; state = v.state; reach = v.log.reach; least = v.log.least } in
-    record v { log = record { reach = v.log.reach; least = min (2 ^ 64 - 1) (whole v.looks).least; notes = v.log.notes ++ note ∷ [] } }
+    record v { log = record { reach = v.log.reach; least = min (2 ^ 64 - 1) (whole v.looks).least; notes = with_more note v.log.notes } }
 
 -- this was noted before the pending trivia, and the token at hand was looked at again
 pub record Noted (l : Level) (depth : ℕ) (mark : Mark) (v w : View) : Type 0 where

@@ -1,6 +1,7 @@
 //! A parser that has read one token ahead.
 
-ghost use Rattle.std.specs.Prelude.{Bool, if◌then◌else◌, ◌≡◌, ℕ, ◌+◌, ◌≤◌, ◌==◌, [], ◌∷◌, ◌++◌, List, take, drop, length, map, OnOk, OnErr, IfOk, Ok, false, not};
+ghost use Rattle.std.specs.Prelude.{Bool, if◌then◌else◌, ◌≡◌, ℕ, ◌+◌, ◌≤◌, ◌==◌, [], ◌∷◌, ◌++◌, List, take, drop, length, map, OnOk, OnErr, IfOk, IfSome, Ok, false, not};
+ghost use Rattle.typst_parsing.specs.Log.{added};
 ghost use Rattle.typst_kinds.specs.Kinds.{is_error};
 ghost use Rattle.typst_kinds.specs.declared.kind.SyntaxKind.{SyntaxKind as Kind};
 ghost use Rattle.typst_lines.specs.Place.{moved};
@@ -40,6 +41,8 @@ pub struct Parser<'s> {
     reach: usize,
     /// Where the looks since the last note begin, in bytes from the mark before the text.
     least: usize,
+    keeps_notes: bool,
+    /// What was noted, in order, where notes are kept.
     notes: Vec<Note>,
 }
 
@@ -60,16 +63,17 @@ impl<'s> Model for Parser<'s> {
 
 impl<'s> Parser<'s> {
     /// A parser at the start of a text, where so many levels are left. What begins there is noted
-    /// before the first look.
+    /// before the first look, as everything is only where notes are kept.
     pub fn new<C: Classes>(
         alloc: Global,
         text: &'s str,
         reading: Reading,
         depth: usize,
         mark: Mark,
+        keeps_notes: bool,
         classes: &C,
     ) -> Result<Self, AllocError>
-        ensures { IfOk result (λ p. IsStart (C.classes classes.now) text.now reading depth mark p) }
+        ensures { IfOk result (λ p. IsStart (C.classes classes.now) text.now reading depth mark keeps_notes p) }
     {
         let flushed = Newlines {
             any: false,
@@ -83,7 +87,7 @@ impl<'s> Parser<'s> {
             is_after_error: false,
         };
         let mut notes = Vec::new(alloc);
-        notes.push(Note {
+        let first = Note {
             mark,
             before: 0,
             start: 0,
@@ -91,7 +95,8 @@ impl<'s> Parser<'s> {
             state,
             reach: 0,
             least: usize::MAX,
-        })?;
+        };
+        keep(&mut notes, keeps_notes, first)?;
         let room = Vec::new(alloc);
         let ahead = read_ahead(alloc, room, Scanner::new(text), reading, flushed, classes)?;
         let whole = ahead.whole();
@@ -102,6 +107,7 @@ impl<'s> Parser<'s> {
             state,
             reach: whole.reach,
             least: usize::MAX.min(whole.least),
+            keeps_notes,
             notes,
         })
     }
@@ -110,7 +116,8 @@ impl<'s> Parser<'s> {
     /// note.
     pub fn finish(self) -> (Vec<SyntaxNode>, Vec<Note>, Hull)
         ensures nodes { result.0.items ≡ self.entry.nodes }
-        ensures log { record { reach = result.2.reach; least = result.2.least; notes = result.1.items } ≡ self.entry.log }
+        ensures notes { IfSome self.entry.log.notes (λ ns. result.1.items ≡ ns) }
+        ensures hull { result.2 ≡ record { reach = self.entry.log.reach; least = self.entry.log.least } }
     {
         let hull = Hull {
             reach: self.reach,
@@ -179,7 +186,7 @@ impl<'s> Parser<'s> {
     fn push_note(&mut self, mark: Mark, depth: usize, start: usize) -> Result<(), AllocError>
         ensures { OnOk result (self.new ≡ with_pushed mark depth start self.old) }
     {
-        self.notes.push(Note {
+        let note = Note {
             mark,
             before: self.ahead.before.cursor(),
             start,
@@ -187,7 +194,9 @@ impl<'s> Parser<'s> {
             state: self.state,
             reach: self.reach,
             least: self.least,
-        })?;
+        };
+        let keeps = self.keeps_notes;
+        keep(&mut self.notes, keeps, note)?;
         self.least = usize::MAX.min(self.ahead.whole().least);
         Ok(())
     }
@@ -534,6 +543,16 @@ fn is_none(nodes: &[SyntaxNode]) -> bool
     ensures { result ≡ is_nil nodes.now }
 {
     nodes.is_empty()
+}
+
+/// Adds a note, where notes are kept.
+fn keep(notes: &mut Vec<Note>, keeps: bool, note: Note) -> Result<(), AllocError>
+    ensures { OnOk result (notes.new.items ≡ added keeps note notes.old.items) }
+{
+    if keeps {
+        notes.push(note)?;
+    }
+    Ok(())
 }
 
 /// How many empty errors stand behind a node.

@@ -1,10 +1,18 @@
 use Rattle.std.proofs.Common.{◌∙◌, ap}
 use Rattle.std.proofs.lemmas.Str.{encodes-chars}
 use Rattle.std.specs.Str.{chars}
-use Rattle.typst_node.specs.Tree.{text_of}
+use Rattle.typst_kinds.specs.declared.kind.SyntaxKind.TheVariants as kind
+use Rattle.typst_node.specs.Tree.{forest, inner_of, text_of}
+use Rattle.typst_grammar.specs.Grammar.{tree}
 use Rattle.typst_grammar.proofs.Whole.{leaves}
 use Rattle.typst_grammar.proofs.grammar.parse.Goals as goal
 
+pub returns-clause-tree : goal.returns-clause-tree
+unfolding tree
+returns-clause-tree g c = c.inner.ensures ∙ ap (λ ts. inner_of kind.Markup (forest ts)) (c.finish-nodes.ensures.nodes ∙ c.in_ok-read_whole.ensures.nodes)
+
 pub returns-clause-leaves : goal.returns-clause-leaves
+unfolding tree
 returns-clause-leaves g c =
-    ap text_of c.in_ok-noted.ensures.tree ∙ leaves (g.C.Classes.classes c.args.classes.now) (chars c.args.text.now) ∙ encodes-chars c.args.text.now c.utf8.text
+    ap text_of (c.inner.ensures ∙ ap (λ ts. inner_of kind.Markup (forest ts)) (c.finish-nodes.ensures.nodes ∙ c.in_ok-read_whole.ensures.nodes))
+    ∙ leaves (g.C.Classes.classes c.args.classes.now) (chars c.args.text.now) ∙ encodes-chars c.args.text.now c.utf8.text

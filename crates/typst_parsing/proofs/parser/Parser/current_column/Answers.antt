@@ -5,6 +5,7 @@ use Rattle.typst_readers.specs.declared.hull.Hull.{Hull}
 use Rattle.typst_parsing.specs.Cursor.{view_of}
 use Rattle.typst_parsing.specs.Hand.{column_at, column_look}
 use Rattle.typst_parsing.specs.Log.{Log}
+use Rattle.typst_parsing.specs.Log.{kept}
 use Rattle.typst_parsing.proofs.Logs.{same-log}
 use Rattle.typst_parsing.proofs.Ready.{column-is}
 use Rattle.typst_parsing.proofs.parser.Parser.current_column.Goals as goal
@@ -16,4 +17,4 @@ returns c l =
     let hull = c.column-column.ensures.hull ∙ ap (λ (z : Place). hull_of (column_look z) z) s in
     rw (sym c.self.view_is) (column-is l _ _ _ (c.column-column.ensures.column ∙ ap column_at s)
     (ap (λ (h : Log). record (view_of i) { log = h })
-    (same-log _ _ _ _ i.notes.items (c.max-self-inside.ensures ∙ ap (λ (u : Hull). max i.reach u.reach) hull) (c.min-self-inside.ensures ∙ ap (λ (u : Hull). min i.least u.least) hull))))
+    (same-log _ _ _ _ (kept i.keeps_notes i.notes.items) (c.max-self-inside.ensures ∙ ap (λ (u : Hull). max i.reach u.reach) hull) (c.min-self-inside.ensures ∙ ap (λ (u : Hull). min i.least u.least) hull))))

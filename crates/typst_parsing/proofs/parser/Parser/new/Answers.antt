@@ -7,6 +7,7 @@ use Rattle.typst_readers.specs.declared.hull.Hull.{Hull}
 use Rattle.typst_parsing.specs.declared.reading.Note.{Note}
 use Rattle.typst_parsing.specs.Cursor.{looks_of_ahead, start_state}
 use Rattle.typst_parsing.specs.Hand.{hand_at, looks_at, no_newlines, whole}
+use Rattle.typst_parsing.specs.Log.{added}
 use Rattle.typst_parsing.proofs.Ready.{start-log}
 use Rattle.typst_parsing.proofs.Trivia.{start-is}
 use Rattle.typst_parsing.proofs.parser.Parser.new.Goals as goal
@@ -25,6 +26,6 @@ returns g c =
       state = refl;
       hand = b.hand ∙ ap (λ (s : Scanner). hand_at k c.args.reading no_newlines (place s)) (sym b.before);
       looks = b.looks ∙ ap (λ (s : Scanner). looks_at k c.args.reading no_newlines (place s)) (sym b.before);
-      log = start-log (whole (looks_of_ahead a)) _ (place a.before) c.args.depth c.args.mark c.args.reading _ _ (ap position at) (ap (λ (u : Hull). u.reach) c.whole-whole.ensures)
-          (c.min.ensures ∙ ap (λ (u : Hull). min (2 ^ 64 - 1) u.least) c.whole-whole.ensures) (c.in_ok-push.ensures.items ∙ ap (λ (ns : List Note). ns ++ first ∷ []) c.new-notes.ensures.items);
+      log = start-log (whole (looks_of_ahead a)) c.args.keeps_notes _ (place a.before) c.args.depth c.args.mark c.args.reading _ _ (ap position at) (ap (λ (u : Hull). u.reach) c.whole-whole.ensures)
+          (c.min.ensures ∙ ap (λ (u : Hull). min (2 ^ 64 - 1) u.least) c.whole-whole.ensures) (c.in_ok-keep.ensures ∙ ap (added c.args.keeps_notes first) c.new-notes.ensures.items);
     }

@@ -11,6 +11,7 @@ use Rattle.typst_parsing.specs.Hand.{hand_at, looks_at, no_newlines}
 use Rattle.typst_readers.specs.declared.hull.Hull.{Hull}
 use Rattle.typst_parsing.specs.Meaning.{less, taken_node}
 use Rattle.typst_parsing.specs.View.{View}
+use Rattle.typst_parsing.specs.Log.{kept as kept_notes}
 use Rattle.typst_parsing.proofs.Logs.{same-log}
 use Rattle.typst_parsing.proofs.Places.{moved-sum}
 use Rattle.typst_parsing.proofs.Ready.{eaten-is}
@@ -37,4 +38,4 @@ returns g c l making k e =
     ∙ ap (λ (q : CharClasses). looks_at q i.state.reading no_newlines (place c.in_ok-next.next.before)) (sym k) in
     rw (sym c.self.view_is) (eaten-is l c.args.trims making _ _ c.args.node (e ∙ ap (λ (v : View). taken_node (g.C.Classes.classes c.args.classes.now) making v.hand v.place) (sym c.self.view_is) ∙ ap (λ (q : CharClasses). taken_node q making (view_of i).hand (view_of i).place) (sym k)) nodes-is place-is
     c.empty_errors-empties.result c.is_error-is_after_error.result c.empty_errors-empties.ensures (c.is_error-is_after_error.ensures ∙ ap is_error c.kind.ensures) refl hand-is looks-is
-    (same-log _ _ _ _ i.notes.items (c.max-self-inside.ensures ∙ ap (λ (u : Hull). max i.reach u.reach) c.whole-whole.ensures) (c.min-self-inside.ensures ∙ ap (λ (u : Hull). min i.least u.least) c.whole-whole.ensures)))
+    (same-log _ _ _ _ (kept_notes i.keeps_notes i.notes.items) (c.max-self-inside.ensures ∙ ap (λ (u : Hull). max i.reach u.reach) c.whole-whole.ensures) (c.min-self-inside.ensures ∙ ap (λ (u : Hull). min i.least u.least) c.whole-whole.ensures)))
