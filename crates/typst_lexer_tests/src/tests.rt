@@ -185,6 +185,23 @@ const TOKENS: &[(&str, &str)] = &[
     ("a@.b", "text[a]text[@.b]"),
     ("a$b`c", "text[a]text[$b]syntax error[`c]"),
     ("<a>", "label[<a>]"),
+    (
+        "a * b _ c",
+        "text[a]space[ ]star[*]space[ ]text[b]space[ ]underscore[_]space[ ]text[c]",
+    ),
+    ("**__", "star[*]star[*]underscore[_]underscore[_]"),
+    (
+        "= = a",
+        "heading marker[=]space[ ]heading marker[=]space[ ]text[a]",
+    ),
+    (
+        "- + / 1. a",
+        "list marker[-]space[ ]enum marker[+]space[ ]term marker[/]space[ ]enum marker[1.]space[ ]text[a]",
+    ),
+];
+
+/// Labels and references.
+const NAMES: &[(&str, &str)] = &[
     ("@a...", "reference marker[@a]shorthand[...]"),
     ("@a:b: c", "reference marker[@a:b]colon[:]space[ ]text[c]"),
     ("@a.b.:", "reference marker[@a.b]text[.]colon[:]"),
@@ -196,6 +213,10 @@ const TOKENS: &[(&str, &str)] = &[
     ("<a b>", "syntax error[<a]space[ ]text[b]text[>]"),
     ("<a", "syntax error[<a]"),
     ("x<1>y", "text[x]label[<1>]text[y]"),
+];
+
+/// Links.
+const LINKS: &[(&str, &str)] = &[
     ("https://a.b.", "link[https://a.b]text[.]"),
     ("http://a!?'", "link[http://a]text[!?]smart quote[']"),
     ("http://", "link[http://]"),
@@ -214,6 +235,10 @@ const TOKENS: &[(&str, &str)] = &[
     ("http://(a..", "syntax error[http://(a]text[..]"),
     ("1http://x", "text[1]link[http://x]"),
     ("ahttp://é", "text[a]link[http://]text[é]"),
+];
+
+/// Raw texts.
+const RAWS: &[(&str, &str)] = &[
     ("``", "raw block[``]"),
     ("``a", "raw block[``]text[a]"),
     ("`a`", "raw block[`a`]"),
@@ -229,19 +254,6 @@ const TOKENS: &[(&str, &str)] = &[
     ("`````a`````", "raw block[`````a`````]"),
     ("`a``b`", "raw block[`a`]raw block[`b`]"),
     ("a`b`c", "text[a]raw block[`b`]text[c]"),
-    (
-        "a * b _ c",
-        "text[a]space[ ]star[*]space[ ]text[b]space[ ]underscore[_]space[ ]text[c]",
-    ),
-    ("**__", "star[*]star[*]underscore[_]underscore[_]"),
-    (
-        "= = a",
-        "heading marker[=]space[ ]heading marker[=]space[ ]text[a]",
-    ),
-    (
-        "- + / 1. a",
-        "list marker[-]space[ ]enum marker[+]space[ ]term marker[/]space[ ]enum marker[1.]space[ ]text[a]",
-    ),
 ];
 
 /// Texts whose tokens past ASCII are of no class.
@@ -303,13 +315,36 @@ fn expect_tokens<C: Classes>(
 #[test]
 fn reads_tokens(rt: HostRuntime) -> Result<(), Fail> {
     expect_tokens(&rt, rt.alloc(), TOKENS, &UnicodeClasses)?;
+    Ok(())
+}
+
+#[test]
+fn asks_the_classes(rt: HostRuntime) -> Result<(), Fail> {
     expect_tokens(&rt, rt.alloc(), NARROW, &Narrow)?;
     expect_tokens(&rt, rt.alloc(), WIDE, &Wide)?;
     Ok(())
 }
 
+#[test]
+fn reads_names(rt: HostRuntime) -> Result<(), Fail> {
+    expect_tokens(&rt, rt.alloc(), NAMES, &UnicodeClasses)?;
+    Ok(())
+}
+
+#[test]
+fn reads_links(rt: HostRuntime) -> Result<(), Fail> {
+    expect_tokens(&rt, rt.alloc(), LINKS, &UnicodeClasses)?;
+    Ok(())
+}
+
+#[test]
+fn reads_raw_texts(rt: HostRuntime) -> Result<(), Fail> {
+    expect_tokens(&rt, rt.alloc(), RAWS, &UnicodeClasses)?;
+    Ok(())
+}
+
 /// Error tokens, with message and hint.
-const FAULTS: [(&str, &str, &str); 9] = [
+const FAULTS: [(&str, &str, &str); 5] = [
     (
         "*/",
         "unexpected end of block comment",
@@ -319,14 +354,6 @@ const FAULTS: [(&str, &str, &str); 9] = [
     ("\\u{110000}", "invalid Unicode codepoint: 110000", ""),
     ("\\u{}", "invalid Unicode codepoint: ", ""),
     ("\\u{xyz}", "invalid Unicode codepoint: xyz", ""),
-    ("`a", "unclosed raw text", ""),
-    ("```a``", "unclosed raw text", ""),
-    (
-        "https://(a",
-        "automatic links cannot contain unbalanced brackets, use the `link` function instead",
-        "",
-    ),
-    ("<a", "unclosed label", ""),
 ];
 
 #[test]
