@@ -1,5 +1,5 @@
 -- What holds of each level.
-use Rattle.std.proofs.Common.{◌≡◌, ℕ, zero, suc, ◌-◌, Bool, true, false, Option, Some, None, List, [], ◌++◌, length, refl, ap, ◌∙◌, subst, sym, arith}
+use Rattle.std.proofs.Common.{◌≡◌, ℕ, suc, ◌-◌, Bool, true, Option, Some, None, List, [], ◌++◌, refl, ap, ◌∙◌, subst, sym, arith}
 use Rattle.std.specs.Str.{chars}
 use Rattle.typst_lines.specs.Place.{Place, moved}
 use Rattle.typst_readers.specs.Sight.{hull_of}
@@ -20,11 +20,11 @@ use Rattle.typst_grammar.specs.Read.{IsParsed}
 use Rattle.typst_parsing.specs.Steps.{flush_trivia}
 use Rattle.typst_parsing.specs.Syntax.{◌>>◌}
 use Rattle.typst_parsing.proofs.Runs.{Looked, looked-fits, noted, ran-next, ran-marks, ran-look}
-use Rattle.typst_markup.specs.Markup.{content_block, markup_exprs}
-use Rattle.typst_parsing.specs.Meaning.{Level, less, run}
+use Rattle.typst_markup.specs.Markup.{content_block, markup_exprs, markup_reading}
+use Rattle.typst_parsing.specs.Meaning.{less}
 use Rattle.typst_parsing.specs.View.{View, Runs, Sound, ReadsBlock, Does, Makes, Fits, at}
 use Rattle.std.specs.Prelude.{◌∷◌, IsSome, IfSome}
-use Rattle.typst_grammar.specs.Grammar.{production, meaning, level_at, max_depth, markup_reading, start_of, whole, parsed, log}
+use Rattle.typst_grammar.specs.Grammar.{production, meaning, level_at, max_depth, start_of, whole, parsed, log}
 use Rattle.typst_grammar.proofs.Lawful.{within-meaning, backs-meaning, within-block, backs-block}
 
 pub sound-level : (k : CharClasses) (level : ℕ) → Sound (level_at k level)

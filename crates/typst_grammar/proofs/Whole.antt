@@ -1,5 +1,5 @@
 -- The whole text is read.
-use Rattle.std.proofs.Common.{◌≡◌, ℕ, zero, suc, ◌+◌, ◌-◌, ◌<◌, ◌≤◌, Bool, true, false, ◌||◌, ◌&&◌, ◌==◌, if◌then◌else◌, nat_lt, List, [], ◌∷◌, length, take, encode_utf8_all, inl, inr, refl, ap, sym, ◌∙◌, arith}
+use Rattle.std.proofs.Common.{◌≡◌, ℕ, zero, suc, ◌+◌, ◌<◌, ◌≤◌, Bool, true, false, ◌||◌, ◌&&◌, if◌then◌else◌, nat_lt, List, length, encode_utf8_all, inl, inr, refl, ap, sym, ◌∙◌, arith}
 use Rattle.std.proofs.lemmas.Bool.Decides.{nat_tests}
 use Rattle.typst_kinds.specs.declared.kind.SyntaxKind.{SyntaxKind}
 use Rattle.typst_kinds.specs.declared.kind.SyntaxKind.TheVariants as kind
@@ -10,22 +10,22 @@ use Rattle.typst_parsing.specs.declared.reading.Call.TheVariants.{MarkupExpr}
 use Rattle.typst_parsing.specs.declared.reading.Reading.{Reading}
 use Rattle.typst_parsing.specs.declared.reading.State.{State}
 use Rattle.typst_parsing.specs.declared.stop.Stop.TheVariants.{End}
-use Rattle.typst_parsing.specs.Hand.{Hand, hand_at}
+use Rattle.typst_parsing.specs.Hand.{hand_at}
 use Rattle.typst_parsing.specs.Shape.Making.{itself, of_kind, surprise}
-use Rattle.typst_parsing.specs.Syntax.{Parser, ◌>>=◌, ◌>>◌}
+use Rattle.typst_parsing.specs.Syntax.{Parser, ◌>>=◌}
 use Rattle.typst_parsing.specs.Syntax.Op.{hand}
-use Rattle.typst_parsing.specs.Syntax.Parser.{gives, does, pick, next}
-use Rattle.typst_parsing.specs.Steps.{peek, eat, convert_and_eat, unexpected, within, flush_trivia}
+use Rattle.typst_parsing.specs.Syntax.Parser.{gives, does, next}
+use Rattle.typst_parsing.specs.Steps.{peek, eat, convert_and_eat, unexpected, flush_trivia}
 use Rattle.typst_parsing.specs.Depth.{is_end, deeper}
-use Rattle.typst_parsing.specs.Meaning.{Outcome, Meaning, Level, plain, joined, followed, turns, as_last, repeated, hand_of, run}
+use Rattle.typst_parsing.specs.Meaning.{Outcome, Meaning, Level, joined, turns, as_last, repeated, hand_of, start_state, run}
 use Rattle.typst_parsing.proofs.Places.{moved-sum, ahead-left, take-all}
 use Rattle.typst_parsing.proofs.Ends.{hand-takes, hand-ends}
 use Rattle.typst_parsing.proofs.Eats.{Eats, eats-next, eats-peek, eats-column, eats-making, eats-within, eats-node}
 use Rattle.typst_parsing.proofs.Rests.{Rests}
 use Rattle.typst_markup.specs.declared.head.MarkupHead.{MarkupHead}
 use Rattle.typst_markup.specs.declared.head.MarkupHead.TheVariants as head
-use Rattle.typst_markup.specs.Markup.{ends, note_piece, markup_turn, markup_exprs, strong, emph, heading, list_item, enum_item, term_item, reference, markup_head, markup_by, markup_expr}
-use Rattle.typst_grammar.specs.Grammar.{meaning, level_at, max_depth, markup_reading, start_state, start_of, whole, parsed, tree}
+use Rattle.typst_markup.specs.Markup.{ends, note_piece, markup_turn, markup_exprs, strong, emph, heading, list_item, enum_item, term_item, reference, markup_head, markup_by, markup_expr, markup_reading}
+use Rattle.typst_grammar.specs.Grammar.{meaning, level_at, max_depth, start_of, whole, parsed, tree}
 use Rattle.typst_grammar.proofs.Lawful.{kept-at, rests-at, within-at}
 
 -- ---- each expression takes something

@@ -1,27 +1,22 @@
 -- The whole grammar: what is read one level deeper, and the tree of a text.
-use Rattle.std.specs.Prelude.{ℕ, zero, suc, Bool, true, false, ◌||◌, List, []}
+use Rattle.std.specs.Prelude.{ℕ, zero, suc, Bool, true, false, List, []}
 use Rattle.typst_kinds.specs.declared.kind.SyntaxKind.TheVariants as kind
-use Rattle.typst_kinds.specs.declared.mode.SyntaxMode.TheVariants as mode
 use Rattle.typst_lines.specs.Place.{Place}
 use Rattle.typst_node.specs.Tree.{Tree, forest, inner_of}
 use Rattle.typst_classes.specs.Classes.{CharClasses}
-use Rattle.typst_parsing.specs.declared.reading.AtNewline.TheVariants.{Continue}
 use Rattle.typst_parsing.specs.declared.reading.Block.{Block}
 use Rattle.typst_parsing.specs.declared.reading.Block.TheVariants as block
 use Rattle.typst_parsing.specs.declared.reading.Call.{Call}
 use Rattle.typst_parsing.specs.declared.reading.Call.TheVariants.{MarkupExpr}
 use Rattle.typst_parsing.specs.declared.reading.Mark.TheVariants.{Piece}
-use Rattle.typst_parsing.specs.declared.reading.Reading.{Reading}
-use Rattle.typst_parsing.specs.declared.reading.State.{State}
 use Rattle.typst_parsing.specs.declared.stop.Stop.TheVariants.{End}
-use Rattle.typst_parsing.specs.Hand.{no_newlines}
 use Rattle.typst_parsing.specs.Syntax.{Parser, ◌>>=◌, ◌>>◌}
 use Rattle.typst_parsing.specs.Syntax.Op.{marks}
 use Rattle.typst_parsing.specs.Syntax.Parser.{gives, does}
 use Rattle.typst_parsing.specs.Steps.{peek, flush_trivia}
 use Rattle.typst_parsing.specs.Log.{Log, no_log, logged}
-use Rattle.typst_parsing.specs.Meaning.{Outcome, Meaning, Level, plain, run}
-use Rattle.typst_markup.specs.Markup.{content_block, markup_expr, markup_exprs}
+use Rattle.typst_parsing.specs.Meaning.{Outcome, Meaning, Level, plain, blockless, start_state, run}
+use Rattle.typst_markup.specs.Markup.{content_block, markup_expr, markup_exprs, markup_reading}
 
 -- what a call reads
 abbrev pub production : Call → Parser ℕ
@@ -36,10 +31,6 @@ has block.Code = false
 abbrev pub block_production : Block → Parser (Unit {0})
 block_production block.Content = content_block
 block_production block.Code = gives tt
-
--- where so many levels are left, and no block may be read but within what is read deeper
-abbrev pub blockless : CharClasses → ℕ → (Call → Meaning ℕ) → Level
-blockless k level deeper = record { classes = k; level = level; deeper = deeper; has = λ b. false; blocks = λ b z s. plain tt s }
 
 -- what blocks are there
 abbrev pub blocks : CharClasses → ℕ → (Call → Meaning ℕ) → Block → Meaning (Unit {0})
@@ -57,12 +48,6 @@ level_at k level = record { classes = k; level = level; deeper = meaning k level
 -- how deep calls may nest
 abbrev pub max_depth : ℕ
 max_depth = 256
-
-abbrev pub markup_reading : Reading
-markup_reading = record { mode = mode.Markup; at_newline = Continue }
-
-abbrev pub start_state : Reading → State
-start_state r = record { reading = r; held = r; flushed = no_newlines; empties = 0; is_after_error = false }
 
 abbrev pub start_of : List ℕ → Place
 start_of text = record { behind = []; ahead = text }

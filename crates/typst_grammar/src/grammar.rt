@@ -71,8 +71,9 @@ pub struct Noted {
     pub hull: Hull,
 }
 
-/// The syntax tree of a text of markup, and what was looked at and noted for it: at the text's
-/// start and behind each expression of the text's own a piece, in order.
+/// The syntax tree of a text of markup, and what was looked at and noted for it, in order: a piece
+/// at the text's start and behind each expression of the text's own, where a content block opens
+/// and closes, and between them its pieces in the same way.
 pub fn parse_noted<C: Classes>(alloc: Global, text: &str, classes: &C) -> Result<Noted, AllocError>
     ensures tree { IfOk result (λ r. r.tree ≡ spec.tree (C.classes classes.now) (chars text.now)) }
     ensures log { IfOk result (λ r. record { reach = r.hull.reach; least = r.hull.least; notes = Some r.notes.items } ≡ spec.log (C.classes classes.now) (chars text.now)) }

@@ -1,5 +1,5 @@
 -- How the code of markup composes.
-use Rattle.std.proofs.Common.{◌≡◌, ℕ, Bool, List, ap, sym, subst, ◌∙◌}
+use Rattle.std.proofs.Common.{◌≡◌, ℕ, sym, subst}
 use denote.Ref.{MutBor}
 use Rattle.std.specs.Prelude.{Result}
 use Rattle.std.specs.declared.alloc.AllocError.{AllocError}

@@ -1,21 +1,20 @@
 -- The productions of markup.
-use Rattle.std.specs.Prelude.{ℕ, suc, ◌+◌, ◌-◌, ◌^◌, min, Bool, true, false, not, ◌||◌, ◌&&◌, if◌then◌else◌, ◌==◌, nat_lt, List, [], ◌∷◌, codes, Option, Some, None}
+use Rattle.std.specs.Prelude.{ℕ, ◌-◌, Bool, true, false, ◌||◌, ◌&&◌, if◌then◌else◌, ◌==◌, List, [], ◌∷◌, codes, Some}
 use Rattle.typst_kinds.specs.declared.kind.SyntaxKind.{SyntaxKind}
 use Rattle.typst_kinds.specs.declared.kind.SyntaxKind.TheVariants as kind
 use Rattle.typst_parsing.specs.declared.reading.AtNewline.{AtNewline}
 use Rattle.typst_parsing.specs.declared.reading.AtNewline.TheVariants as newline
 use Rattle.typst_kinds.specs.declared.mode.SyntaxMode.TheVariants as mode
 use Rattle.typst_parsing.specs.declared.reading.Block.TheVariants as block
-use Rattle.typst_parsing.specs.declared.reading.Call.{Call}
 use Rattle.typst_parsing.specs.declared.reading.Call.TheVariants.{MarkupExpr}
 use Rattle.typst_parsing.specs.declared.reading.Mark.TheVariants as mark
 use Rattle.typst_parsing.specs.declared.reading.Reading.{Reading}
 use Rattle.typst_parsing.specs.Hand.{Hand}
-use Rattle.typst_parsing.specs.Shape.{Shape, Seen, is_nil}
-use Rattle.typst_parsing.specs.Shape.Shape.{becomes, unclosed, warns, fails}
+use Rattle.typst_parsing.specs.Shape.{Shape, is_nil}
+use Rattle.typst_parsing.specs.Shape.Shape.{becomes, unclosed, warns}
 use Rattle.typst_parsing.specs.Syntax.{Parser, ◌>>=◌, ◌>>◌}
-use Rattle.typst_parsing.specs.Syntax.Op.{column, marks, is_deepest}
-use Rattle.typst_parsing.specs.Syntax.Parser.{gives, does, pick, repeat, calls}
+use Rattle.typst_parsing.specs.Syntax.Op.{column, is_deepest}
+use Rattle.typst_parsing.specs.Syntax.Parser.{gives, does, pick, repeat}
 use Rattle.typst_parsing.specs.Steps.{peek, eat, convert_and_eat, eat_if, unexpected, expect, within, node, node_with_trivia, read_block}
 use Rattle.typst_parsing.specs.Depth.{one_more, too_deep, deeper, stops_at, is_colon, is_star, is_underscore}
 use Rattle.typst_parsing.specs.Steps.{note}

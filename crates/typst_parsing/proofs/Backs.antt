@@ -1,18 +1,18 @@
 -- No more nodes are taken back than empty errors stand there.
-use Rattle.std.proofs.Common.{◌≡◌, ℕ, zero, suc, ◌+◌, ◌-◌, ◌≤◌, Bool, true, false, ◌&&◌, if◌then◌else◌, nat_lt, List, [], ◌∷◌, ◌++◌, length, take, drop, length-append, length-take, arith}
-use Rattle.typst_lines.specs.Place.{Place, moved}
+use Rattle.std.proofs.Common.{◌≡◌, ℕ, zero, suc, ◌+◌, ◌≤◌, Bool, true, false, ◌&&◌, if◌then◌else◌, nat_lt, List, [], ◌∷◌, ◌++◌, length, take, drop, length-append, arith}
+use Rattle.typst_lines.specs.Place.{moved}
 use Rattle.typst_kinds.specs.Kinds.{is_error}
 use Rattle.typst_node.specs.Tree.{Tree, forest, joined as text_joined, text_of}
 use Rattle.typst_parsing.specs.declared.reading.Block.{Block}
 use Rattle.typst_parsing.specs.declared.reading.Call.{Call}
 use Rattle.typst_parsing.specs.declared.reading.State.{State}
 use Rattle.typst_parsing.specs.Hand.{Hand}
-use Rattle.typst_parsing.specs.Shape.{Shape, shaped, is_nil, count_empty, after_node, after_shape}
+use Rattle.typst_parsing.specs.Shape.{Shape, shaped, count_empty, after_node, after_shape}
 use Rattle.typst_parsing.specs.Shape.Shape.{becomes, unclosed, warns, fails}
 use Rattle.typst_parsing.specs.Syntax.{Op, Parser}
 use Rattle.typst_parsing.specs.Syntax.Op.{hand, column, erred, takes, flushes, complains, marks, is_deepest}
 use Rattle.typst_parsing.specs.Syntax.Parser.{gives, does, next, pick, repeat, wraps, scoped, sees, either, calls, block}
-use Rattle.typst_parsing.specs.Meaning.{Outcome, Meaning, Level, plain, less, joined, turns, as_last, repeated, wrapped, given_up, noted, same_mode, entered, left, flushed_state, hand_of, taken_node, done, run}
+use Rattle.typst_parsing.specs.Meaning.{Outcome, Meaning, Level, plain, less, joined, turns, as_last, repeated, given_up, noted, same_mode, entered, left, flushed_state, hand_of, taken_node, done, run}
 use Rattle.typst_parsing.specs.View.{Tidy, Backs}
 use Rattle.typst_parsing.proofs.Places.{length-less}
 use Rattle.typst_parsing.proofs.Within.{on_both}

@@ -1,5 +1,5 @@
 -- Blocks, which are noted as units.
-use Rattle.std.proofs.Common.{◌≡◌, ℕ, ◌-◌, Bool, true, List, [], ◌∷◌, ◌++◌, refl, ap, sym, ◌∙◌, arith}
+use Rattle.std.proofs.Common.{◌≡◌, ℕ, ◌-◌, [], ◌∷◌, ◌++◌, refl, ap, sym, ◌∙◌, arith}
 use denote.Ref.{MutBor}
 use Rattle.std.specs.Prelude.{Result, Ok, Err}
 use Rattle.std.specs.declared.alloc.AllocError.{AllocError}
@@ -10,13 +10,13 @@ use Rattle.typst_parsing.specs.declared.reading.Mark.{Mark}
 use Rattle.typst_parsing.specs.declared.reading.Mark.TheVariants.{Opens, Closes}
 use Rattle.typst_parsing.specs.declared.reading.State.{State}
 use Rattle.typst_parsing.specs.Ask.Ask.{marked}
-use Rattle.typst_parsing.specs.Hand.{whole, hand_at, looks_at}
+use Rattle.typst_parsing.specs.Hand.{whole}
 use Rattle.typst_parsing.specs.Log.{logged, with_hull, with_note}
 use Rattle.typst_parsing.specs.Syntax.{Parser, ◌>>◌}
 use Rattle.typst_parsing.specs.Syntax.Parser.{block}
 use Rattle.typst_parsing.specs.Steps.{peek, read_block}
 use Rattle.typst_parsing.specs.Meaning.{Outcome, Level, inside, noted as noted_block, run}
-use Rattle.typst_parsing.specs.View.{View, Runs, Ran, Sound, Does, Makes, Calls, Nests, Fits, Noted, ReadsBlock, at}
+use Rattle.typst_parsing.specs.View.{View, Runs, Ran, Sound, Does, Calls, Nests, Fits, Noted, ReadsBlock}
 use Rattle.typst_parsing.proofs.Logs.{logged-append}
 use Rattle.typst_parsing.proofs.Runs.{Looked, looked-fits, noted, ran-next, ran-gives, ran-look}
 

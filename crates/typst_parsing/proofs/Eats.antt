@@ -1,5 +1,5 @@
 -- Parsers that take the token at hand, whatever it is.
-use Rattle.std.proofs.Common.{◌≡◌, ℕ, ◌+◌, ◌<◌, Bool, arith}
+use Rattle.std.proofs.Common.{ℕ, ◌<◌, Bool, arith}
 use Rattle.typst_lines.specs.Place.{Place, moved}
 use Rattle.typst_parsing.specs.declared.reading.Reading.{Reading}
 use Rattle.typst_parsing.specs.declared.reading.State.{State}

@@ -1,5 +1,5 @@
 -- Where a token is the end, and how many characters another takes.
-use Rattle.std.proofs.Common.{◌≡◌, ◌≤◌, ◌<◌, ℕ, zero, suc, min, Bool, true, false, not, ◌||◌, ◌&&◌, ◌==◌, if◌then◌else◌, List, [], ◌∷◌, length, take, slice_get, Option, Some, None, refl, ap, sym, ◌∙◌, subst, arith}
+use Rattle.std.proofs.Common.{◌≡◌, ◌<◌, ℕ, zero, suc, Bool, true, false, not, ◌||◌, ◌&&◌, ◌==◌, if◌then◌else◌, List, [], ◌∷◌, length, take, slice_get, Some, None, refl, ap, sym, ◌∙◌, arith}
 use Rattle.std.specs.Char.{is_ascii_digit, is_whitespace}
 use Rattle.std.specs.Prelude.{is_none, codes}
 use Rattle.typst_kinds.specs.declared.kind.SyntaxKind.{SyntaxKind}
@@ -9,9 +9,9 @@ use Rattle.typst_kinds.specs.declared.mode.SyntaxMode.TheVariants.{Markup, Math,
 use Rattle.typst_lines.specs.Place.{Place, scout, passes, moved, run, past}
 use Rattle.typst_lexer.specs.Characters.{among, is_code_point, is_space, is_u64}
 use Rattle.typst_classes.specs.Classes.{CharClasses}
-use Rattle.typst_lexer.specs.Common.{line_ends, is_parbreak, space, whitespace, shebang, line_comment, block_comment, comment_end}
+use Rattle.typst_lexer.specs.Common.{line_ends, is_parbreak, whitespace, shebang, line_comment, block_comment, comment_end}
 use Rattle.typst_lexer.specs.Markup.{sign, code_point, backslash, dot, marker_or_text, marker, hyphen, minus, emphasis, heading, numbering, markup}
-use Rattle.typst_readers.specs.Reader.{Reader, Memory, place, spanned, at_word, exec, eaten}
+use Rattle.typst_readers.specs.Reader.{Reader, Memory, place, spanned, at_word, exec}
 use Rattle.typst_readers.specs.Reader.Memory.{blank, comment, fence, brackets}
 use Rattle.typst_readers.specs.Reader.Reader.{answer, peek, skip}
 use Rattle.typst_lexer.specs.Text.{text, text_from}

@@ -1,12 +1,12 @@
 -- The nodes that are given hold the characters that are taken.
-use Rattle.std.proofs.Common.{◌≡◌, ℕ, zero, suc, ◌+◌, ◌-◌, ◌<◌, ◌≤◌, min, Bool, true, false, ◌&&◌, ◌||◌, if◌then◌else◌, nat_lt, List, [], ◌∷◌, ◌++◌, length, map, take, drop, length-append, append_assoc, append-nil, take-add, take_at, encode_utf8_all, refl, ap, sym, ◌∙◌, subst, arith}
+use Rattle.std.proofs.Common.{◌≡◌, ℕ, zero, suc, ◌+◌, ◌-◌, ◌<◌, ◌≤◌, Bool, true, false, ◌&&◌, if◌then◌else◌, nat_lt, List, [], ◌∷◌, ◌++◌, length, take, drop, length-append, append_assoc, append-nil, take-add, take_at, encode_utf8_all, refl, ap, sym, ◌∙◌, subst, arith}
 use Rattle.std.proofs.lemmas.Str.{encodes-append}
 use Rattle.std.proofs.lemmas.List.{take-append-drop}
 use Rattle.typst_kinds.specs.declared.kind.SyntaxKind.{SyntaxKind}
 use Rattle.typst_kinds.specs.declared.mode.SyntaxMode.{SyntaxMode}
 use Rattle.typst_kinds.specs.Kinds.{is_error}
 use Rattle.typst_lines.specs.Place.{Place, moved}
-use Rattle.typst_node.specs.Tree.{Tree, Forest, none, more, forest, joined as text_joined, text_of, with_kind, made_error, advised, error_of, topped}
+use Rattle.typst_node.specs.Tree.{Tree, forest, joined as text_joined, text_of, with_kind, made_error, advised, error_of, topped}
 use Rattle.typst_node.specs.Messages.{made_unexpected, made_expected, expected_error, expected_message, unexpected_message, is_lost_name, keyword_hint}
 use Rattle.typst_node.specs.Diagnostic.{hint_with}
 use Rattle.typst_kinds.specs.Names.{name_of}
@@ -14,23 +14,22 @@ use Rattle.std.specs.Prelude.{codes, None}
 use Rattle.typst_parsing.specs.declared.reading.Block.{Block}
 use Rattle.typst_parsing.specs.declared.reading.Call.{Call}
 use Rattle.typst_parsing.specs.declared.reading.State.{State}
-use Rattle.typst_parsing.specs.Shape.{Making, made, all_advised, Shape, shaped, first_failed, is_nil, count_empty, after_node, after_shape}
+use Rattle.typst_parsing.specs.Shape.{Making, made, all_advised, Shape, shaped, first_failed, count_empty, after_node, after_shape}
 use Rattle.typst_parsing.specs.Shape.Making.{itself, of_kind, surprise, wanted}
 use Rattle.typst_parsing.specs.Shape.Shape.{becomes, unclosed, warns, fails}
 use Rattle.typst_parsing.specs.declared.reading.Newlines.{Newlines}
 use Rattle.typst_parsing.specs.declared.reading.Reading.{Reading}
 use Rattle.typst_classes.specs.Classes.{CharClasses}
 use Rattle.typst_lexer.specs.Nodes.{token_node}
-use Rattle.typst_lexer.specs.declared.token.Token.{Token}
-use Rattle.typst_parsing.specs.Hand.{utf8_ahead, token_at, len_at, at_trivia, Ahead, after_trivia, direct, ahead_by, ahead, column_at, hand_at, Hand}
+use Rattle.typst_parsing.specs.Hand.{utf8_ahead, token_at, len_at, at_trivia, Ahead, after_trivia, direct, ahead_by, ahead, hand_at}
 use Rattle.typst_parsing.specs.Syntax.{Op, Parser}
 use Rattle.typst_parsing.specs.Syntax.Op.{hand, column, erred, takes, flushes, complains, marks, is_deepest}
 use Rattle.typst_parsing.specs.Syntax.Parser.{gives, does, next, pick, repeat, wraps, scoped, sees, either, calls, block}
-use Rattle.typst_parsing.specs.Meaning.{Outcome, Meaning, Level, less, joined, turns, as_last, repeated, wrapped, given_up, noted, plain, same_mode, entered, left, flushed_state, taken_node, hand_of, done, run}
+use Rattle.typst_parsing.specs.Meaning.{Outcome, Meaning, Level, less, joined, turns, as_last, repeated, wrapped, given_up, noted, plain, same_mode, entered, left, taken_node, hand_of, done, run}
 use Rattle.typst_parsing.specs.View.{Tidy, Backs}
 use Rattle.typst_parsing.proofs.Backs.{backs-run}
 use Rattle.typst_parsing.proofs.Tokens.{text-token}
-use Rattle.typst_parsing.proofs.Places.{take-both, drop-both, less-append, less-twice, less-none, length-less, moved-ahead, take-all}
+use Rattle.typst_parsing.proofs.Places.{less-append, less-twice, less-none, length-less, moved-ahead}
 
 -- ---- texts of nodes
 

@@ -1,21 +1,19 @@
 -- What was looked at and noted.
-use Rattle.std.proofs.Common.{Option, ◌≡◌, ℕ, zero, suc, ◌+◌, ◌-◌, ◌<◌, ◌≤◌, max, min, Bool, true, false, if◌then◌else◌, List, [], ◌∷◌, ◌++◌, length, refl, ap, sym, ◌∙◌, arith}
+use Rattle.std.proofs.Common.{Option, ◌≡◌, ℕ, zero, suc, ◌+◌, ◌-◌, ◌≤◌, Bool, true, false, if◌then◌else◌, List, [], ◌∷◌, ◌++◌, length, refl, ap, ◌∙◌, arith}
 use Rattle.typst_kinds.specs.declared.mode.SyntaxMode.{SyntaxMode}
 use Rattle.typst_lines.specs.Place.{Place, moved}
 use Rattle.typst_classes.specs.Classes.{CharClasses}
-use Rattle.typst_readers.specs.Reader.{Look, look}
-use Rattle.typst_readers.specs.Sight.{position, far, near, hull_of}
+use Rattle.typst_readers.specs.Reader.{look}
+use Rattle.typst_readers.specs.Sight.{hull_of}
 use Rattle.typst_lexer.specs.Tokens.{token}
 use Rattle.typst_readers.specs.declared.hull.Hull.{Hull}
 use Rattle.typst_readers.proofs.Sights.{near-none, near-le}
-use Rattle.typst_parsing.specs.declared.reading.Mark.{Mark}
 use Rattle.typst_parsing.specs.declared.reading.Newlines.{Newlines}
 use Rattle.typst_parsing.specs.declared.reading.Note.{Note}
 use Rattle.typst_parsing.specs.declared.reading.Reading.{Reading}
-use Rattle.typst_parsing.specs.declared.reading.State.{State}
 use Rattle.typst_parsing.specs.Ask.{Ask, shift, sunk}
 use Rattle.typst_parsing.specs.Ask.Ask.{looked, marked}
-use Rattle.typst_parsing.specs.Hand.{ahead, ahead_by, len_at, at_trivia, asks_by, ahead_asks, column_look, column_asks, asks_column, both_newlines, hand_at, hand_asks, joined_hull, token_hull, tokens_by, tokens_at, column_hull, Looks, whole, looks_at}
+use Rattle.typst_parsing.specs.Hand.{ahead, ahead_by, len_at, at_trivia, asks_by, ahead_asks, column_look, column_asks, asks_column, both_newlines, hand_at, hand_asks, joined_hull, token_hull, tokens_by, tokens_at, whole, looks_at}
 use Rattle.typst_parsing.specs.Log.{Log, with_hull, with_note, logged_one, logged}
 use Rattle.typst_parsing.proofs.Hulls.{In, itself-in, joined-in, far-more, own-in, first-in, tokens-cover}
 use Rattle.typst_parsing.proofs.Places.{moved-sum}

@@ -1,5 +1,5 @@
 -- What the parser of the code does to the token at hand.
-use Rattle.std.proofs.Common.{◌≡◌, ℕ, ◌+◌, ◌-◌, ◌^◌, max, min, ◌==◌, Bool, true, false, if◌then◌else◌, List, [], ◌∷◌, ◌++◌, length, append-nil, refl, ap, sym, ◌∙◌, subst, arith}
+use Rattle.std.proofs.Common.{◌≡◌, ℕ, ◌+◌, ◌-◌, ◌^◌, max, min, Bool, true, false, if◌then◌else◌, List, [], ◌∷◌, ◌++◌, append-nil, refl, ap, sym, ◌∙◌, arith}
 use Rattle.typst_kinds.specs.Kinds.{is_error}
 use Rattle.typst_lines.specs.Place.{Place, moved}
 use Rattle.typst_node.specs.Tree.{Tree, text_of}
@@ -15,10 +15,10 @@ use Rattle.typst_parsing.specs.Shape.{Making, is_nil, count_empty, after_node}
 use Rattle.typst_parsing.specs.Steps.{eat_making, flush_trivia, note}
 use Rattle.typst_parsing.specs.Syntax.Op.{column}
 use Rattle.typst_parsing.specs.Syntax.Parser.{does}
-use Rattle.typst_parsing.specs.Cursor.{start_log, start_state}
-use Rattle.typst_parsing.specs.Meaning.{Level, less, same_mode, same_rule, left, renewed, flushed_state, taken_node}
+use Rattle.typst_parsing.specs.Cursor.{start_log}
+use Rattle.typst_parsing.specs.Meaning.{Level, less, start_state, same_mode, same_rule, renewed, taken_node}
 use Rattle.typst_parsing.specs.View.{View, Does, Fits, Left, Noted, with_pushed}
-use Rattle.typst_parsing.proofs.Runs.{Eaten, Flushed, column_seen}
+use Rattle.typst_parsing.proofs.Runs.{Flushed, column_seen}
 use Rattle.typst_parsing.proofs.Steps.{does-eat, does-flush, does-note, does-column}
 use Rattle.typst_parsing.proofs.Trivia.{hand-no-gap, hand-flushed, rejudged, flushed-some, same-hand, looks-flushed, looks-judged}
 use Rattle.typst_parsing.proofs.Hulls.{In}

@@ -1,5 +1,5 @@
 -- Behind a parser the reading is the one before it, and the token at hand is read in it or as before.
-use Rattle.std.proofs.Common.{◌≡◌, ◌⊎◌, inl, inr, ℕ, zero, suc, Bool, true, false, ◌&&◌, ◌==◌, if◌then◌else◌, nat_lt, List, [], ◌∷◌, length, refl, ap, sym, ◌∙◌}
+use Rattle.std.proofs.Common.{◌≡◌, ◌⊎◌, inl, inr, ℕ, zero, suc, Bool, true, false, ◌&&◌, if◌then◌else◌, nat_lt, List, [], ◌∷◌, length, refl, ap, sym, ◌∙◌}
 use Rattle.std.proofs.lemmas.Bool.Decides.{nat_tests}
 use Rattle.std.proofs.Common.{arith}
 use Rattle.typst_kinds.specs.declared.mode.SyntaxMode.{SyntaxMode}
@@ -20,7 +20,7 @@ use Rattle.typst_parsing.specs.Syntax.{Op, Parser}
 use Rattle.typst_parsing.specs.Syntax.Op.{hand, column, erred, takes, flushes, complains, marks, is_deepest}
 use Rattle.typst_parsing.specs.Syntax.Parser.{gives, does, next, pick, repeat, wraps, scoped, sees, either, calls, block}
 use Rattle.typst_parsing.specs.Hand.{no_newlines}
-use Rattle.typst_parsing.specs.Meaning.{Outcome, Meaning, Level, joined, turns, as_last, repeated, wrapped, given_up, noted, plain, same_mode, same_rule, entered, left, flushed_state, hand_of, taken_node, done, run}
+use Rattle.typst_parsing.specs.Meaning.{Meaning, Level, joined, turns, as_last, repeated, wrapped, given_up, noted, plain, same_mode, same_rule, entered, left, flushed_state, hand_of, taken_node, done, run}
 
 pub record Rests (r h : Reading) (s : State) : Type 0 where
   pub reading : s.reading ≡ r

@@ -1,9 +1,9 @@
 -- How runs of the code compose.
-use Rattle.std.proofs.Common.{◌≡◌, ℕ, zero, suc, ◌+◌, ◌-◌, ◌<◌, ◌≤◌, ◌==◌, Bool, true, false, ◌&&◌, nat_lt, if◌then◌else◌, List, [], ◌∷◌, ◌++◌, length, map, take, drop, append_assoc, refl, ap, sym, ◌∙◌, subst, arith}
+use Rattle.std.proofs.Common.{◌≡◌, ℕ, suc, ◌+◌, ◌-◌, ◌<◌, ◌≤◌, ◌==◌, Bool, true, false, ◌&&◌, nat_lt, if◌then◌else◌, List, [], ◌∷◌, ◌++◌, length, map, take, drop, append_assoc, refl, ap, sym, ◌∙◌, subst, arith}
 use borrow.Author.Tests.{lt-ltb}
 use Rattle.typst_kinds.specs.Kinds.{is_error}
 use Rattle.typst_lines.specs.Place.{Place, moved}
-use Rattle.typst_node.specs.Tree.{Tree, text_of, error_of}
+use Rattle.typst_node.specs.Tree.{text_of, error_of}
 use Rattle.typst_parsing.specs.declared.reading.Call.{Call}
 use Rattle.typst_parsing.specs.declared.reading.Mark.{Mark}
 use Rattle.typst_parsing.specs.declared.reading.Reading.{Reading}
@@ -11,9 +11,9 @@ use Rattle.typst_parsing.specs.declared.reading.State.{State}
 use Rattle.typst_readers.specs.Sight.{hull_of}
 use Rattle.typst_readers.specs.declared.hull.Hull.{Hull}
 use Rattle.typst_parsing.specs.Ask.{Ask, shift}
-use Rattle.typst_parsing.specs.Hand.{Hand, Looks, hand_at, column_at, column_look, bytes_left, looks_at, whole}
-use Rattle.typst_parsing.specs.Log.{Log, logged, with_hull, with_note}
-use Rattle.typst_parsing.specs.Shape.{Making, Shape, shaped, after_node, after_shape, Seen, seen}
+use Rattle.typst_parsing.specs.Hand.{Hand, Looks, column_at, column_look, bytes_left, looks_at, whole}
+use Rattle.typst_parsing.specs.Log.{logged, with_hull, with_note}
+use Rattle.typst_parsing.specs.Shape.{Making, Shape, shaped, after_node, after_shape, seen}
 use Rattle.typst_parsing.specs.Syntax.{Parser}
 use Rattle.typst_parsing.specs.Syntax.Op.{hand, column, erred, takes, flushes, complains, marks, is_deepest}
 use Rattle.typst_parsing.specs.Syntax.Parser.{gives, does, next, pick, repeat, wraps, scoped, calls}

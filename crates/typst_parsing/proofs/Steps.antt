@@ -1,20 +1,20 @@
 -- How steps of the code compose, each of which begins and ends with the right token at hand.
-use Rattle.std.proofs.Common.{◌≡◌, ℕ, ◌+◌, ◌<◌, ◌≤◌, ◌==◌, Bool, true, false, List, [], ◌∷◌, ◌++◌, length, map, take, drop, refl, sym, ap, ◌∙◌, subst}
+use Rattle.std.proofs.Common.{◌≡◌, ℕ, ◌+◌, ◌<◌, ◌≤◌, ◌==◌, Bool, true, false, List, [], ◌∷◌, ◌++◌, length, map, drop, refl, subst}
 use Rattle.typst_kinds.specs.declared.kind.SyntaxKind.{SyntaxKind}
-use Rattle.typst_lines.specs.Place.{Place, moved}
+use Rattle.typst_lines.specs.Place.{moved}
 use Rattle.typst_node.specs.Tree.{Tree, error_of}
 use Rattle.typst_parsing.specs.declared.reading.Call.{Call}
 use Rattle.typst_parsing.specs.declared.reading.Mark.{Mark}
 use Rattle.typst_parsing.specs.declared.reading.Reading.{Reading}
 use Rattle.typst_parsing.specs.declared.reading.State.{State}
-use Rattle.typst_parsing.specs.Hand.{Hand, column_at, bytes_left}
-use Rattle.typst_parsing.specs.Shape.{Making, Shape, shaped, after_shape, is_nil, Seen, seen}
+use Rattle.typst_parsing.specs.Hand.{column_at, bytes_left}
+use Rattle.typst_parsing.specs.Shape.{Making, Shape, after_shape, is_nil, seen}
 use Rattle.typst_parsing.specs.Shape.Shape.{becomes, unclosed, warns, fails}
-use Rattle.typst_parsing.specs.Syntax.{Parser, ◌>>◌}
-use Rattle.typst_parsing.specs.Syntax.Op.{column, erred, complains, marks, is_deepest}
-use Rattle.typst_parsing.specs.Syntax.Parser.{gives, does, next, pick, repeat, wraps, scoped, calls}
+use Rattle.typst_parsing.specs.Syntax.{Parser}
+use Rattle.typst_parsing.specs.Syntax.Op.{column, erred, complains, is_deepest}
+use Rattle.typst_parsing.specs.Syntax.Parser.{gives, does, next, pick, repeat, wraps, calls}
 use Rattle.typst_parsing.specs.Steps.{peek, eat_making, flush_trivia, within, node, node_with_trivia, note}
-use Rattle.typst_parsing.specs.Meaning.{Level, hand_of, entered}
+use Rattle.typst_parsing.specs.Meaning.{Level, entered}
 use Rattle.typst_parsing.specs.View.{View, Sound, Does, Makes, Left, Rewrapped, Fits}
 use Rattle.typst_parsing.proofs.Runs.{ran-next, ran-gives, ran-calls, ran-pick, ran-other, ran-hand, ran-column, ran-erred, ran-deepest, ran-marks, Eaten, ran-takes, Flushed, ran-flushes, ran-complains, ran-scoped, ran-wraps, ran-turn, ran-last, Looked, looked-fits, ran-look, column_seen, fits-more, noted, eaten-looked, left-looked}
 

@@ -1,5 +1,5 @@
 -- No more is taken than there is, and no more turns are made than there are characters.
-use Rattle.std.proofs.Common.{◌≡◌, ℕ, zero, suc, ◌+◌, ◌-◌, ◌<◌, ◌≤◌, min, Bool, true, false, ◌&&◌, if◌then◌else◌, nat_lt, List, [], ◌∷◌, length, refl, ap, arith}
+use Rattle.std.proofs.Common.{◌≡◌, ℕ, zero, suc, ◌+◌, ◌<◌, ◌≤◌, Bool, true, false, ◌&&◌, if◌then◌else◌, nat_lt, length, refl, ap, arith}
 use borrow.Author.Tests.{ltb-true}
 use Rattle.typst_kinds.specs.declared.mode.SyntaxMode.{SyntaxMode}
 use Rattle.typst_lines.specs.Place.{Place, moved}
@@ -13,7 +13,7 @@ use Rattle.typst_parsing.specs.Hand.{Ahead, len_at, at_trivia, ahead_by, ahead, 
 use Rattle.typst_parsing.specs.Syntax.{Op, Parser}
 use Rattle.typst_parsing.specs.Syntax.Op.{hand, column, erred, takes, flushes, complains, marks, is_deepest}
 use Rattle.typst_parsing.specs.Syntax.Parser.{gives, does, next, pick, repeat, wraps, scoped, sees, either, calls, block}
-use Rattle.typst_parsing.specs.Meaning.{Outcome, Meaning, Level, joined, followed, turns, as_last, repeated, given_up, plain, noted, entered, done, run}
+use Rattle.typst_parsing.specs.Meaning.{Meaning, Level, joined, followed, turns, as_last, repeated, given_up, plain, noted, entered, done, run}
 use Rattle.typst_parsing.specs.View.{Within}
 use Rattle.typst_parsing.proofs.Places.{ahead-left}
 

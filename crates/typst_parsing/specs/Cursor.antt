@@ -1,7 +1,6 @@
 -- What the parser of the code keeps ready.
-use Rattle.std.specs.Prelude.{◌≡◌, ◌≤◌, ◌-◌, ℕ, Bool, false, List, [], length}
+use Rattle.std.specs.Prelude.{◌≡◌, ◌≤◌, ◌-◌, ℕ, Bool, List, [], length}
 use Rattle.std.specs.Str.{chars}
-use Rattle.typst_kinds.specs.declared.kind.SyntaxKind.{SyntaxKind}
 use Rattle.typst_lines.specs.Place.{Place, moved}
 use Rattle.typst_lines.specs.Scanner.{place}
 use Rattle.typst_lines.specs.declared.scanner.Scanner.{Scanner}
@@ -11,9 +10,9 @@ use Rattle.typst_parsing.specs.declared.parser.Parser.TheInside.{Inside}
 use Rattle.typst_parsing.specs.declared.reading.Mark.{Mark}
 use Rattle.typst_parsing.specs.declared.reading.Newlines.{Newlines}
 use Rattle.typst_parsing.specs.declared.reading.Reading.{Reading}
-use Rattle.typst_parsing.specs.declared.reading.State.{State}
 use Rattle.typst_parsing.specs.Hand.{Hand, Looks, hand_at, looks_at, no_newlines, whole}
 use Rattle.typst_parsing.specs.Log.{Log, kept, blank_log, with_hull, with_note}
+use Rattle.typst_parsing.specs.Meaning.{start_state}
 use Rattle.typst_parsing.specs.View.{View}
 
 -- how many characters stand between two scanners
@@ -62,9 +61,6 @@ view_of i = record {
 pub record IsReady (i : Inside) : Type 0 where
   pub stands : Stands i.ahead
   pub few : i.state.empties ≤ length i.nodes.items
-
-abbrev pub start_state : Reading → State
-start_state r = record { reading = r; held = r; flushed = no_newlines; empties = 0; is_after_error = false }
 
 -- what was looked at and noted before the first look, where so many levels are left
 abbrev pub start_log : Bool → ℕ → Mark → Reading → Place → Log

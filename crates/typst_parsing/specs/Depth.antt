@@ -1,10 +1,9 @@
 -- The limit of depth, and what stands in place of what lies deeper.
-use Rattle.std.specs.Prelude.{ℕ, zero, ◌+◌, ◌-◌, ◌^◌, min, Bool, true, false, not, ◌||◌, ◌&&◌, ◌==◌, List, codes, Option, Some, None}
+use Rattle.std.specs.Prelude.{ℕ, ◌+◌, ◌-◌, ◌^◌, min, Bool, true, false, not, ◌||◌, ◌&&◌, ◌==◌, codes, Option, Some, None}
 use Rattle.typst_kinds.specs.declared.kind.SyntaxKind.{SyntaxKind}
 use Rattle.typst_kinds.specs.declared.kind.SyntaxKind.TheVariants as kind
 use Rattle.typst_parsing.specs.declared.reading.AtNewline.TheVariants.{Continue}
 use Rattle.typst_parsing.specs.declared.reading.Call.{Call}
-use Rattle.typst_parsing.specs.declared.reading.Reading.{Reading}
 use Rattle.typst_parsing.specs.declared.stop.Stop.{Stop}
 use Rattle.typst_parsing.specs.declared.stop.Stop.TheVariants as stop
 use Rattle.typst_parsing.specs.Shape.Shape.{fails}

@@ -1,5 +1,5 @@
 -- The token at hand: the trivia ahead, and the token after it.
-use Rattle.std.specs.Prelude.{ℕ, zero, suc, ◌+◌, max, min, Bool, true, false, not, ◌||◌, ◌&&◌, if◌then◌else◌, nat_lt, nat_le, List, [], ◌∷◌, ◌++◌, length, take, map, encode_utf8_all}
+use Rattle.std.specs.Prelude.{ℕ, zero, suc, ◌+◌, max, min, Bool, true, false, not, ◌||◌, ◌&&◌, if◌then◌else◌, nat_lt, nat_le, List, [], ◌∷◌, ◌++◌, length, take, encode_utf8_all}
 use Rattle.std.specs.List.{prefix_len}
 use Rattle.typst_kinds.specs.declared.kind.SyntaxKind.{SyntaxKind}
 use Rattle.typst_kinds.specs.declared.kind.SyntaxKind.TheVariants as kind
@@ -15,7 +15,6 @@ use Rattle.typst_readers.specs.Reader.{Look, exec, eaten, look}
 use Rattle.typst_readers.specs.Sight.{hull_of}
 use Rattle.typst_lexer.specs.Tokens.{token}
 use Rattle.typst_lexer.specs.Nodes.{token_node}
-use Rattle.typst_parsing.specs.declared.reading.AtNewline.{AtNewline}
 use Rattle.typst_parsing.specs.declared.reading.AtNewline.TheVariants.{Continue, Stop, ContextualContinue, StopParBreak, RequireColumn}
 use Rattle.typst_parsing.specs.declared.reading.Newlines.{Newlines}
 use Rattle.typst_parsing.specs.declared.reading.Reading.{Reading}

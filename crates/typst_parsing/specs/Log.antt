@@ -1,5 +1,5 @@
 -- What was looked at and noted up to a place of a text, in bytes.
-use Rattle.std.specs.Prelude.{ℕ, ◌+◌, ◌-◌, ◌^◌, max, min, Bool, true, if◌then◌else◌, List, [], ◌∷◌, ◌++◌, Option, Some, None, option_map}
+use Rattle.std.specs.Prelude.{ℕ, ◌-◌, ◌^◌, max, min, Bool, true, if◌then◌else◌, List, [], ◌∷◌, ◌++◌, Option, Some, None, option_map}
 use Rattle.typst_lines.specs.Place.{Place, moved}
 use Rattle.typst_readers.specs.Sight.{position, hull_of}
 use Rattle.typst_readers.specs.declared.hull.Hull.{Hull}

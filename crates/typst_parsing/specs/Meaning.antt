@@ -12,7 +12,6 @@ use Rattle.typst_parsing.specs.declared.reading.AtNewline.TheVariants.{Continue,
 use Rattle.typst_parsing.specs.declared.reading.Block.{Block}
 use Rattle.typst_parsing.specs.declared.reading.Call.{Call}
 use Rattle.typst_parsing.specs.declared.reading.Mark.TheVariants as mark
-use Rattle.typst_parsing.specs.declared.reading.Newlines.{Newlines}
 use Rattle.typst_parsing.specs.declared.reading.Reading.{Reading}
 use Rattle.typst_parsing.specs.declared.reading.State.{State}
 use Rattle.typst_parsing.specs.Ask.{Ask, shift, sunk, only_looks}
@@ -125,6 +124,10 @@ same_rule StopParBreak StopParBreak = true
 same_rule (RequireColumn a) (RequireColumn b) = a == b
 same_rule _ _ = false
 
+-- at the start of a text that is read so
+abbrev pub start_state : Reading → State
+start_state r = record { reading = r; held = r; flushed = no_newlines; empties = 0; is_after_error = false }
+
 -- the tokens to come are read so, and the token at hand stays
 abbrev pub entered : Reading → State → State
 entered reading s = record s { reading = reading }
@@ -152,9 +155,13 @@ pub record Level : Type 0 where
   pub has : Block → Bool
   pub blocks : Block → Meaning (Unit {0})
 
+-- where so many levels are left, and no block may be read but within what is read deeper
+abbrev pub blockless : CharClasses → ℕ → (Call → Meaning ℕ) → Level
+blockless k level deeper = record { classes = k; level = level; deeper = deeper; has = λ b. false; blocks = λ b z s. plain tt s }
+
 -- the same, where no block may be read
 abbrev pub inside : Level → Level
-inside l = record l { has = λ b. false; blocks = λ b z s. plain tt s }
+inside l = blockless l.classes l.level l.deeper
 
 abbrev pub hand_of : Level → Place → State → Hand
 hand_of l z s = hand_at l.classes s.held s.flushed z

@@ -1,10 +1,10 @@
 -- What a token or several nodes become, and what is seen of a node from above.
-use Rattle.std.specs.Prelude.{ℕ, Bool, true, false, if◌then◌else◌, List, [], ◌∷◌, ◌++◌, None}
+use Rattle.std.specs.Prelude.{ℕ, Bool, true, false, if◌then◌else◌, List, [], ◌∷◌, None}
 use Rattle.typst_kinds.specs.declared.kind.SyntaxKind.{SyntaxKind}
 use Rattle.std.specs.Prelude.{codes}
 use Rattle.typst_node.specs.Diagnostic.{hint_with, warning_with}
 use Rattle.typst_node.specs.Messages.{made_unexpected, made_expected}
-use Rattle.typst_node.specs.Tree.{Tree, forest, joined, text_of, inner_of, error_of, with_kind, made_error, advised, remarked}
+use Rattle.typst_node.specs.Tree.{Tree, forest, joined, inner_of, error_of, with_kind, made_error, advised, remarked}
 use Rattle.typst_parsing.specs.declared.reading.State.{State}
 
 -- ---- what the token at hand becomes

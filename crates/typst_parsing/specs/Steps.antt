@@ -1,5 +1,5 @@
 -- The steps that every production is made of. Each begins and ends with a token at hand that was looked at.
-use Rattle.std.specs.Prelude.{ℕ, Bool, true, false, List, [], ◌∷◌, ◌++◌, length, codes}
+use Rattle.std.specs.Prelude.{ℕ, Bool, true, false, List, ◌++◌, length, codes}
 use Rattle.typst_kinds.specs.declared.kind.SyntaxKind.{SyntaxKind}
 use Rattle.typst_kinds.specs.Kinds.{is_error}
 use Rattle.typst_parsing.specs.declared.reading.Block.{Block}
@@ -9,8 +9,8 @@ use Rattle.typst_parsing.specs.Hand.{Hand}
 use Rattle.typst_parsing.specs.Shape.{Making, Shape, Seen}
 use Rattle.typst_parsing.specs.Shape.Making.{itself, of_kind, surprise}
 use Rattle.typst_parsing.specs.Shape.Shape.{becomes}
-use Rattle.typst_parsing.specs.Syntax.{Op, Parser, ◌>>=◌, ◌>>◌}
-use Rattle.typst_parsing.specs.Syntax.Op.{hand, column, erred, takes, flushes, complains, marks}
+use Rattle.typst_parsing.specs.Syntax.{Parser, ◌>>=◌, ◌>>◌}
+use Rattle.typst_parsing.specs.Syntax.Op.{hand, erred, takes, flushes, complains, marks}
 use Rattle.typst_parsing.specs.Syntax.Parser.{gives, does, pick, wraps, scoped, block}
 
 -- the token at hand

@@ -1,10 +1,9 @@
 -- What a parser of the code shows, and what it ensures.
-use Rattle.std.specs.Prelude.{◌≡◌, ℕ, zero, ◌+◌, ◌-◌, ◌<◌, ◌≤◌, ◌^◌, min, ◌==◌, Bool, true, List, ◌∷◌, ◌++◌, [], length, map, take, drop, Result, Ok, Err}
+use Rattle.std.specs.Prelude.{◌≡◌, ℕ, ◌+◌, ◌-◌, ◌<◌, ◌≤◌, ◌^◌, min, true, List, ◌∷◌, ◌++◌, [], length, take, drop, Result, Ok, Err}
 use Rattle.std.specs.declared.alloc.AllocError.{AllocError}
 use denote.Ref.{MutBor}
 use Rattle.typst_lines.specs.Place.{Place, moved}
 use Rattle.typst_node.specs.Tree.{Tree}
-use Rattle.typst_classes.specs.Classes.{CharClasses}
 use Rattle.typst_parsing.specs.declared.reading.Block.{Block}
 use Rattle.typst_parsing.specs.declared.reading.Call.{Call}
 use Rattle.typst_parsing.specs.declared.reading.Mark.{Mark}
@@ -12,10 +11,9 @@ use Rattle.typst_parsing.specs.declared.reading.Note.{Note}
 use Rattle.typst_readers.specs.Sight.{position}
 use Rattle.typst_parsing.specs.declared.reading.Reading.{Reading}
 use Rattle.typst_parsing.specs.declared.reading.State.{State}
-use Rattle.typst_parsing.specs.Ask.{Ask}
 use Rattle.typst_parsing.specs.Hand.{Hand, Looks, looks_at, whole}
 use Rattle.typst_parsing.specs.Log.{Log, logged, with_hull, with_more, with_note}
-use Rattle.typst_parsing.specs.Shape.{Shape, shaped, after_shape, Seen, seen}
+use Rattle.typst_parsing.specs.Shape.{Shape, shaped, after_shape}
 use Rattle.typst_parsing.specs.Syntax.{Parser, ◌>>◌}
 use Rattle.typst_parsing.specs.Meaning.{Outcome, Meaning, Level, inside, hand_of, left, less, run}
 use Rattle.typst_parsing.specs.Steps.{peek}

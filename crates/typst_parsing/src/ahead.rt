@@ -1,6 +1,6 @@
 //! The token that is read ahead.
 
-ghost use Rattle.std.specs.Prelude.{◌≡◌, ◌≤◌, [], IfOk};
+ghost use Rattle.std.specs.Prelude.{◌≡◌, ◌≤◌, [], IfOk, OnOk, OnErr};
 ghost use Rattle.typst_kinds.specs.Kinds.{is_error};
 ghost use Rattle.typst_lines.specs.Scanner.{place};
 ghost use Rattle.typst_parsing.specs.Hand as spec;
@@ -8,7 +8,7 @@ ghost use Rattle.typst_parsing.specs.Hand.{bytes_left};
 ghost use Rattle.typst_readers.specs.Reader.{exec};
 ghost use Rattle.typst_readers.specs.Sight.{hull_of};
 ghost use Rattle.typst_lexer.specs.Tokens.{token};
-ghost use Rattle.typst_parsing.specs.Cursor.{IsAhead};
+ghost use Rattle.typst_parsing.specs.Cursor.{IsAhead, Stands};
 
 use crate::reading::{AtNewline, Newlines, Reading};
 use std::alloc::{AllocError, Global};
@@ -44,8 +44,73 @@ pub struct Ahead<'s> {
     pub(crate) here: Hull,
 }
 
-impl Ahead<'_> {
+impl<'s> Ahead<'s> {
     ghost use Rattle.typst_parsing.specs.Cursor.{looks_of_ahead};
+
+    /// Nothing, at a place.
+    pub(crate) fn none(alloc: Global, at: Scanner<'s>) -> Ahead<'s>
+        ensures stands { Stands result }
+        ensures trivia { result.trivia.items ≡ [] }
+    {
+        let nothing = Hull { reach: 0, least: 0 };
+        Ahead {
+            before: at,
+            start: at,
+            after: at,
+            trivia: Vec::new(alloc),
+            newlines: Newlines {
+                any: false,
+                parbreak: false,
+            },
+            token: Token {
+                kind: SyntaxKind::End,
+                newline: false,
+                fault: None,
+            },
+            kind: SyntaxKind::End,
+            tokens: nothing,
+            own: nothing,
+            here: nothing,
+        }
+    }
+
+    /// Reads trivia and a token from a place on. The trivia so far have become nodes.
+    pub(crate) fn read<C: Classes>(
+        &mut self,
+        alloc: Global,
+        before: Scanner<'s>,
+        held: Reading,
+        flushed: Newlines,
+        classes: &C,
+    ) -> Result<(), AllocError>
+        requires { self.old.trivia.items ≡ [] }
+        ensures read { OnOk result (IsAhead (C.classes classes.now) held flushed before.entry self.new) }
+        ensures refused { OnErr result (Stands self.old → Stands self.new) }
+    {
+        let mut newlines = flushed;
+        let mut start = before;
+        let mut next = read_token(alloc, start, held.mode, classes)?;
+        let mut tokens = next.hull;
+        while is_trivia(next.token.kind) && left(&next.after) < left(&start) {
+            let node = make_node(alloc, next.token, next.after.since(&start), classes)?;
+            self.trivia.push(node)?;
+            newlines = with_token(newlines, next.token);
+            start = next.after;
+            next = read_token(alloc, start, held.mode, classes)?;
+            tokens = joined(tokens, next.hull);
+        }
+        let (kind, here) = judged(held, newlines, next.token.kind, &start, next.hull);
+        self.before = before;
+        self.start = start;
+        self.after = next.after;
+        self.newlines = newlines;
+        self.token = next.token;
+        self.kind = kind;
+        self.tokens = tokens;
+        self.own = next.hull;
+        self.here = here;
+        Ok(())
+    }
 
     /// All that was looked at for it.
     pub(crate) fn whole(&self) -> Hull
@@ -61,48 +126,6 @@ struct Read<'s> {
     token: Token,
     after: Scanner<'s>,
     hull: Hull,
-}
-
-/// Reads trivia and a token. The nodes of the trivia go into the room that is handed in.
-pub(crate) fn read_ahead<'s, C: Classes>(
-    alloc: Global,
-    room: Vec<SyntaxNode>,
-    before: Scanner<'s>,
-    held: Reading,
-    flushed: Newlines,
-    classes: &C,
-) -> Result<Ahead<'s>, AllocError>
-    requires { room.items ≡ [] }
-    ensures { IfOk result (λ a. IsAhead (C.classes classes.now) held flushed before.entry a) }
-{
-    let mut trivia = room;
-    let mut newlines = flushed;
-    let mut start = before;
-    let mut next = read_token(alloc, start, held.mode, classes)?;
-    let mut tokens = next.hull;
-    'trivia: loop {
-        if !is_trivia(next.token.kind) || left(&next.after) >= left(&start) {
-            let (kind, here) = judged(held, newlines, next.token.kind, &start, next.hull);
-            return Ok(Ahead {
-                before,
-                start,
-                after: next.after,
-                trivia,
-                newlines,
-                token: next.token,
-                kind,
-                tokens,
-                own: next.hull,
-                here,
-            });
-        }
-        let node = make_node(alloc, next.token, next.after.since(&start), classes)?;
-        trivia.push(node)?;
-        newlines = with_token(newlines, next.token);
-        start = next.after;
-        next = read_token(alloc, start, held.mode, classes)?;
-        tokens = joined(tokens, next.hull);
-    }
 }
 
 /// Reads one token.

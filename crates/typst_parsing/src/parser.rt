@@ -1,6 +1,6 @@
 //! A parser that has read one token ahead.
 
-ghost use Rattle.std.specs.Prelude.{Bool, if◌then◌else◌, ◌≡◌, ℕ, ◌+◌, ◌≤◌, ◌==◌, [], ◌∷◌, ◌++◌, List, take, drop, length, map, OnOk, OnErr, IfOk, IfSome, Ok, false, not};
+ghost use Rattle.std.specs.Prelude.{Bool, if◌then◌else◌, ◌≡◌, ℕ, ◌+◌, ◌-◌, ◌^◌, ◌≤◌, ◌==◌, [], ◌∷◌, ◌++◌, List, take, drop, length, map, OnOk, OnErr, IfOk, IfSome, Ok, false, not};
 ghost use Rattle.typst_parsing.specs.Log.{added};
 ghost use Rattle.typst_kinds.specs.Kinds.{is_error};
 ghost use Rattle.typst_kinds.specs.declared.kind.SyntaxKind.{SyntaxKind as Kind};
@@ -17,11 +17,10 @@ ghost use Rattle.typst_parsing.specs.Syntax.Op.{column};
 ghost use Rattle.typst_parsing.specs.Syntax.Parser.{does};
 ghost use Rattle.typst_parsing.specs.View.{Does, Reads, Left, Rewrapped, Noted, with_pushed};
 
-use crate::ahead::{Ahead, column, judged, left, read_ahead};
+use crate::ahead::{Ahead, column, judged, left};
 use crate::reading::{AtNewline, Mark, Newlines, Note, Reading, State};
 use std::alloc::{AllocError, Global};
 use std::marker::Model;
-use std::mem;
 use typst_classes::Classes;
 use typst_kinds::{SyntaxKind, SyntaxMode};
 use typst_lexer::Hull;
@@ -62,8 +61,8 @@ impl<'s> Model for Parser<'s> {
 }
 
 impl<'s> Parser<'s> {
-    /// A parser at the start of a text, where so many levels are left. What begins there is noted
-    /// before the first look, as everything is only where notes are kept.
+    /// A parser at the start of a text, where so many levels are left. Where notes are kept, what
+    /// begins there is noted before the first look.
     pub fn new<C: Classes>(
         alloc: Global,
         text: &'s str,
@@ -87,18 +86,10 @@ impl<'s> Parser<'s> {
             is_after_error: false,
         };
         let mut notes = Vec::new(alloc);
-        let first = Note {
-            mark,
-            before: 0,
-            start: 0,
-            depth,
-            state,
-            reach: 0,
-            least: usize::MAX,
-        };
-        keep(&mut notes, keeps_notes, first)?;
-        let room = Vec::new(alloc);
-        let ahead = read_ahead(alloc, room, Scanner::new(text), reading, flushed, classes)?;
+        keep(&mut notes, keeps_notes, first_note(mark, depth, state))?;
+        let before = Scanner::new(text);
+        let mut ahead = Ahead::none(alloc, before);
+        ahead.read(alloc, before, reading, flushed, classes)?;
         let whole = ahead.whole();
         Ok(Parser {
             alloc,
@@ -248,12 +239,13 @@ impl<'s> Parser<'s> {
                 any: false,
                 parbreak: false,
             };
-            let room = Vec::new(self.alloc);
-            let ahead = read_ahead(self.alloc, room, self.ahead.before, outer, flushed, classes)?;
-            let whole = ahead.whole();
+            let before = self.ahead.before;
+            self.ahead.trivia.clear();
+            self.ahead
+                .read(self.alloc, before, outer, flushed, classes)?;
+            let whole = self.ahead.whole();
             self.reach = self.reach.max(whole.reach);
             self.least = self.least.min(whole.least);
-            self.ahead = ahead;
             self.state.reading = outer;
             self.state.held = outer;
             self.state.flushed = flushed;
@@ -312,19 +304,12 @@ impl<'s> Parser<'s> {
         trim(&mut self.nodes, count);
         push_all(&mut self.nodes, &mut self.ahead.trivia)?;
         self.nodes.push(node)?;
-        let room = mem::replace(&mut self.ahead.trivia, Vec::new(self.alloc));
-        let next = read_ahead(
-            self.alloc,
-            room,
-            self.ahead.after,
-            reading,
-            flushed,
-            classes,
-        )?;
-        let whole = next.whole();
+        let after = self.ahead.after;
+        self.ahead
+            .read(self.alloc, after, reading, flushed, classes)?;
+        let whole = self.ahead.whole();
         self.reach = self.reach.max(whole.reach);
         self.least = self.least.min(whole.least);
-        self.ahead = next;
         self.state = State {
             reading,
             held: reading,
@@ -511,6 +496,21 @@ impl<'s> Parser<'s> {
         self.state.empties = usize::from(is_empty);
         self.state.is_after_error = true;
         Ok(())
+    }
+}
+
+/// What is noted at a text's start, where so many levels are left.
+fn first_note(mark: Mark, depth: usize, state: State) -> Note
+    ensures { result ≡ record { mark = mark; before = 0; start = 0; depth = depth; state = state; reach = 0; least = 2 ^ 64 - 1 } }
+{
+    Note {
+        mark,
+        before: 0,
+        start: 0,
+        depth,
+        state,
+        reach: 0,
+        least: usize::MAX,
     }
 }
 

@@ -1,7 +1,6 @@
 use Rattle.typst_kinds.specs.declared.kind.SyntaxKind.TheVariants as kind
 use Rattle.typst_parsing.specs.Shape.Shape.{becomes}
 use Rattle.typst_parsing.specs.declared.reading.AtNewline.TheVariants as newline
-use Rattle.typst_parsing.specs.Syntax.Parser.{gives}
 use Rattle.typst_markup.specs.Markup.{enum_item, at_newline}
 use Rattle.typst_parsing.proofs.Steps.{does-next, does-node}
 use Rattle.typst_markup.proofs.Heads.{does-entered}

@@ -2,7 +2,6 @@ use Rattle.std.proofs.Common.{◌∙◌, ap}
 use Rattle.typst_kinds.specs.declared.kind.SyntaxKind.TheVariants as kind
 use Rattle.typst_parsing.specs.Shape.Shape.{becomes}
 use Rattle.typst_parsing.specs.declared.reading.AtNewline.TheVariants as newline
-use Rattle.typst_parsing.specs.Syntax.Parser.{gives}
 use Rattle.typst_parsing.specs.Depth.{is_colon}
 use Rattle.typst_markup.specs.Markup.{term_item, at_newline}
 use Rattle.typst_parsing.proofs.Steps.{does-next, does-node}

@@ -1,5 +1,4 @@
 use Rattle.std.proofs.Common.{◌∙◌, ap}
-use Rattle.typst_parsing.specs.Syntax.Parser.{gives}
 use Rattle.typst_markup.specs.Markup.{content_block, bracketed, markup_reading, is_right_bracket}
 use Rattle.typst_parsing.proofs.Steps.{does-next, does-gives, does-node}
 use Rattle.typst_markup.proofs.Heads.{does-entered}

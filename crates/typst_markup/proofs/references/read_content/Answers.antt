@@ -1,4 +1,3 @@
-use Rattle.std.proofs.Common.{◌∙◌, sym}
 use Rattle.typst_parsing.proofs.Blocks.{does-block, nests-inside}
 use Rattle.typst_markup.proofs.references.read_content.Goals as goal
 

@@ -1,4 +1,4 @@
-use Rattle.std.proofs.Common.{◌≡◌, ◌≤◌, ◌==◌, ◌∙◌, true, ap, sym, arith}
+use Rattle.std.proofs.Common.{◌≡◌, ◌≤◌, ◌==◌, ◌∙◌, true, ap, arith}
 use Rattle.std.proofs.lemmas.Bool.{ne_eqb}
 use Rattle.typst_parsing.specs.Hand.{bytes_left}
 use Rattle.typst_markup.specs.Markup.{markup_exprs}

@@ -1,5 +1,4 @@
-use Rattle.std.proofs.Common.{◌≡◌, map, drop, sym, ◌∙◌}
-use Rattle.typst_parsing.specs.Shape.{seen, is_nil}
+use Rattle.std.proofs.Common.{drop, sym, ◌∙◌}
 use Rattle.typst_markup.specs.Markup.{markup_is_empty}
 use Rattle.typst_parsing.proofs.Steps.{does-next, does-gives, does-node_with_trivia, nil-seen}
 use Rattle.typst_markup.proofs.Heads.{does-value}

@@ -1,4 +1,4 @@
-use Rattle.std.proofs.Common.{length, ◌≡◌, ℕ, suc, ◌+◌, ◌∙◌, sym, ap, zero-add, refl, arith}
+use Rattle.std.proofs.Common.{length, ◌∙◌, sym, ap, zero-add, refl, arith}
 use Rattle.std.proofs.lemmas.Str.{IsUtf8-had}
 use Rattle.std.specs.List.{prefix_len}
 use Rattle.typst_lines.specs.Place.{Place}

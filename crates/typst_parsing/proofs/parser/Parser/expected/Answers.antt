@@ -1,4 +1,4 @@
-use Rattle.std.proofs.Common.{List, ℕ, ◌++◌, codes, ap, sym, ◌∙◌}
+use Rattle.std.proofs.Common.{ap, sym, ◌∙◌}
 use Rattle.typst_kinds.specs.Kinds.{is_error}
 use Rattle.typst_parsing.specs.Shape.Making.{itself}
 use Rattle.typst_parsing.specs.View.{View}

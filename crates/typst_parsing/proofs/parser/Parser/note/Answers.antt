@@ -1,4 +1,4 @@
-use Rattle.std.proofs.Common.{◌∙◌, refl, sym, ap}
+use Rattle.std.proofs.Common.{◌∙◌, ap}
 use Rattle.std.proofs.lemmas.Str.{IsUtf8-had}
 use Rattle.typst_lines.specs.Place.{moved}
 use Rattle.typst_parsing.specs.View.{View}

@@ -1,8 +1,6 @@
-use Rattle.std.proofs.Common.{[], ◌∷◌, None, ap, ◌∙◌}
-use Rattle.typst_node.specs.Diagnostic.{hint_with}
+use Rattle.std.proofs.Common.{[], ap, ◌∙◌}
 use Rattle.typst_node.specs.Messages.{made_unexpected}
-use Rattle.typst_node.specs.Tree.{with_kind, advised}
-use Rattle.typst_parsing.specs.Shape.Making.{itself, of_kind, surprise}
+use Rattle.typst_parsing.specs.Shape.Making.{surprise}
 use Rattle.typst_parsing.specs.Steps.{unexpected}
 use Rattle.typst_parsing.proofs.parser.Parser.unexpected.Goals as goal
 
