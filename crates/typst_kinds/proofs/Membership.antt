@@ -1,12 +1,11 @@
 -- What a set contains after its bits were changed.
-use Rattle.std.proofs.Common.{rules, arith, lit<, zero, suc, max, bit_or, get_or, ◌≡◌, ◌≢◌, ℕ, ◌/◌, ◌%◌, ◌<◌, ◌==◌, ◌||◌, true, false, List, [], ◌∷◌, length, refl, ap, sym, ◌∙◌, eq-eqb}
+use Rattle.std.proofs.Common.{rules, arith, lit<, zero, suc, max, bit_or, get_or, ◌≡◌, ◌≢◌, ℕ, ◌/◌, ◌%◌, ◌<◌, ◌==◌, ◌||◌, true, false, List, [], ◌∷◌, length, refl, ap, eq-eqb}
 use Rattle.std.proofs.lemmas.Nat.Bits.{bit_at_or, bit_at-lt}
 use Rattle.std.specs.Int.{bit_at}
-use Rattle.typst_kinds.specs.Members.{bit_of, has, place_of}
+use Rattle.typst_kinds.specs.Members.{has, place_of}
 use Rattle.typst_kinds.specs.contracts.kind.SyntaxKind.{the_type}
 use Rattle.typst_kinds.specs.declared.kind.SyntaxKind.{SyntaxKind}
 use Rattle.typst_kinds.specs.declared.kind.SyntaxKind.TheVariants as kind
-use Rattle.typst_kinds.specs.declared.set.SyntaxSet.{SyntaxSet}
 use denote.Enum.Bare.{same_true}
 use Rattle.typst_kinds.proofs.Bits.{with_bit, without_bit, with_bit_same, without_bit_same, with_bit_other, without_bit_other}
 

@@ -1,5 +1,5 @@
 -- Facts on the lines that start after a place.
-use Rattle.std.proofs.Common.{◌≡◌, ◌≤◌, ◌<◌, zero, suc, Bool, length, ℕ, ◌+◌, cond, List, [], ◌∷◌, ◌++◌, slice_get, Option, Some, None, refl, sym, ap, subst, ◌∙◌, true, false, arith, take, drop, filter, nat_lt, get_or}
+use Rattle.std.proofs.Common.{◌≡◌, ◌≤◌, ◌<◌, Bool, length, ℕ, ◌+◌, List, [], ◌∷◌, ◌++◌, slice_get, Option, Some, None, refl, sym, ap, ◌∙◌, true, false, arith, take, drop, filter, nat_lt, get_or}
 use Rattle.std.proofs.lemmas.Bool.Decides.{nat_tests}
 use Rattle.std.proofs.lemmas.Str.{chars-nil, IsCharBoundary-start}
 use Rattle.std.specs.Str.{chars, IsUtf8, IsCharBoundary}

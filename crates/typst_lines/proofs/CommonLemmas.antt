@@ -1,17 +1,16 @@
 -- Facts on what two texts have in common, and on the stretches between line ends.
-use Rattle.std.proofs.Common.{◌≡◌, ◌≤◌, ◌<◌, zero, suc, Bool, length, ℕ, ◌+◌, ◌-◌, ◌&&◌, ◌==◌, not, if◌then◌else◌, cond, List, [], ◌∷◌, ◌++◌, slice_get, Option, Some, None, refl, sym, ap, subst, ◌∙◌, true, false, arith, take, drop, reverse, append_assoc, append-nil, take_at, drop_at, length-append, nat_eq, map, Bor}
+use Rattle.std.proofs.Common.{◌≡◌, Bool, length, ℕ, ◌+◌, ◌-◌, ◌&&◌, ◌==◌, if◌then◌else◌, List, [], ◌∷◌, ◌++◌, slice_get, Option, Some, None, refl, sym, ap, subst, ◌∙◌, true, false, arith, take, drop, reverse, append_assoc, append-nil, take_at, drop_at, length-append, nat_eq, map, Bor}
 use Rattle.std.proofs.lemmas.Bool.Decides.{nat_tests}
 use Rattle.std.proofs.lemmas.List.{take-append-drop}
-use Rattle.std.proofs.lemmas.Str.{IsCharBoundary-end, chars-nil}
-use mathlib.Core.List.{reverse_aux}
+use Rattle.std.proofs.lemmas.Str.{IsCharBoundary-end}
 use Rattle.std.specs.Cmp.Lexicographic.{pointwise}
 use Rattle.std.specs.Str.{chars, IsUtf8, IsCharBoundary}
-use Rattle.typst_lines.proofs.LineLemmas.{bytes-append, bytes-text, bytes-front, chars-split, ahead-text, place-end}
+use Rattle.typst_lines.proofs.LineLemmas.{bytes-append, bytes-text, bytes-front, chars-split, place-end}
 use Rattle.typst_lines.proofs.PlaceLemmas.{head-splits, moved-step}
 use Rattle.typst_lines.proofs.PositionLemmas.{bytes-behind}
 use Rattle.typst_lines.specs.Lines.{bytes, common_front, common_ends, IsCommonFront}
-use Rattle.typst_lines.specs.Newline.{is_newline, ends_line, line_end_len, stretches, line_ends, onto_first, woven, lacks_newlines, all_lack_newlines}
-use Rattle.typst_lines.specs.Place.{Place, place_at, moved, moved_back, moved_from, scout, char_width, passes}
+use Rattle.typst_lines.specs.Newline.{is_newline, ends_line, line_end_len, stretches, line_ends, onto_first, woven, all_lack_newlines}
+use Rattle.typst_lines.specs.Place.{Place, place_at, moved, moved_back, moved_from, scout, passes}
 
 -- two lists that begin alike and then differ, or end
 pub record Shares (cs ds us vs : List ℕ) : Type 0 where

@@ -1,9 +1,9 @@
 -- Steps over the characters of a text.
-use Rattle.std.proofs.Common.{◌≡◌, ℕ, zero, suc, Bool, true, false, ◌&&◌, slice_get, ◌+◌, ◌-◌, ◌<◌, ◌≤◌, List, [], ◌∷◌, ◌++◌, reverse, length, take, drop, slice_range, refl, sym, ap, subst, ◌∙◌, arith, append_assoc, append-nil, take-add, drop-drop, take_at, drop_at, length-append, length-take-le, length-drop, min, get_or, ◌==◌, Option, Some, None}
+use Rattle.std.proofs.Common.{◌≡◌, ℕ, zero, suc, Bool, true, false, ◌&&◌, slice_get, ◌+◌, ◌-◌, ◌<◌, ◌≤◌, List, [], ◌∷◌, ◌++◌, reverse, length, take, drop, slice_range, refl, sym, ap, subst, ◌∙◌, arith, append_assoc, append-nil, take-add, drop-drop, take_at, drop_at, length-append, length-take-le, length-drop, min, get_or, ◌==◌, Some, None}
 use Rattle.std.proofs.Math.Seq.{drop-cons}
 use Rattle.std.proofs.lemmas.List.{reverse-append, reverse-reverse, take_min, take-append-drop}
 use Rattle.std.proofs.lemmas.List.Folds.{drop_split}
-use Rattle.std.proofs.lemmas.Str.{chars-nil, chars-append, scalars-chars, chars-encodes, encodes-chars, encodes-append, chars_past_char, IsUtf8-append, IsUtf8-between, IsUtf8-take, IsUtf8-drop, IsUtf8-past_char, IsCharBoundary-at_seam, IsCharBoundary-from_drop, IsCharBoundary-from_take, length-encode, len_utf8_bounds, encode_ascii}
+use Rattle.std.proofs.lemmas.Str.{chars-nil, chars-append, scalars-chars, chars-encodes, encodes-chars, encodes-append, chars_past_char, IsUtf8-between, IsUtf8-take, IsUtf8-drop, IsUtf8-past_char, IsCharBoundary-from_drop, IsCharBoundary-from_take, length-encode, len_utf8_bounds, encode_ascii}
 use Rattle.std.specs.Prelude.{encode_utf8, encode_utf8_all}
 use Rattle.std.specs.Str.{all_scalars}
 use lib.Utf8.{scalar}

@@ -1,5 +1,5 @@
 -- The lines of a text, and positions in it.
-use Rattle.std.specs.Prelude.{◌≡◌, ℕ, zero, suc, ◌+◌, ◌-◌, ◌≤◌, Bool, true, false, ◌&&◌, ◌==◌, if◌then◌else◌, nat_le, nat_lt, Option, Some, None, List, [], ◌∷◌, map, filter, length, take, drop, reverse, slice_get, slice_range, count_by, unwrap_or, option_map, option_and_then}
+use Rattle.std.specs.Prelude.{◌≡◌, ℕ, ◌+◌, ◌-◌, ◌≤◌, Bool, true, ◌&&◌, ◌==◌, if◌then◌else◌, nat_le, nat_lt, Option, Some, None, List, [], ◌∷◌, map, filter, length, take, drop, reverse, slice_get, slice_range, count_by, unwrap_or, option_map, option_and_then}
 use Rattle.std.specs.Str.{chars, IsCharBoundary}
 use Rattle.std.specs.declared.ops.Range.{Range}
 use Rattle.typst_lines.specs.Place.{Place, scout, char_width}

@@ -1,5 +1,5 @@
 -- What an iterator over line starts still gives.
-use Rattle.std.specs.Prelude.{◌≡◌, ℕ, List}
+use Rattle.std.specs.Prelude.{List}
 use Rattle.typst_lines.specs.Lines.{lines_after}
 use Rattle.typst_lines.specs.declared.lines.Line.{Line}
 use Rattle.typst_lines.specs.declared.lines.LinesFrom.{LinesFrom}

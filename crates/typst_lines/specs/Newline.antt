@@ -1,5 +1,5 @@
 -- The ends of lines.
-use Rattle.std.specs.Prelude.{◌≡◌, ℕ, ◌+◌, Bool, true, false, not, ◌&&◌, ◌||◌, if◌then◌else◌, ◌==◌, nat_le, nat_lt, Option, List, [], ◌∷◌, ◌++◌, slice_get}
+use Rattle.std.specs.Prelude.{ℕ, Bool, true, not, ◌&&◌, ◌||◌, if◌then◌else◌, ◌==◌, nat_le, Option, List, [], ◌∷◌, ◌++◌, slice_get}
 use Rattle.typst_lines.specs.Place.{Place, passes, scout}
 
 -- the newline characters are LF, VT, FF, CR, U+0085, U+2028 and U+2029

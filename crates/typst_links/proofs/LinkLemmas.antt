@@ -1,15 +1,15 @@
 -- Steps over the characters of a link.
-use Rattle.std.proofs.Common.{◌≡◌, ℕ, zero, suc, ◌+◌, Bool, true, false, not, ◌&&◌, ◌==◌, List, [], ◌∷◌, ◌++◌, length, take, drop, reverse, slice_get, Option, Some, None, refl, sym, ap, ◌∙◌, arith, append_assoc, append-nil}
+use Rattle.std.proofs.Common.{◌≡◌, ℕ, zero, suc, Bool, true, false, not, ◌&&◌, ◌==◌, List, [], ◌∷◌, ◌++◌, length, take, reverse, slice_get, Option, Some, None, refl, sym, ap, ◌∙◌, arith, append_assoc, append-nil}
 use Rattle.std.proofs.lemmas.List.{reverse-append}
 use Rattle.std.proofs.lemmas.Str.{chars-nil, encodes-chars}
 use Rattle.std.proofs.lemmas.Bool.Decides.{nat_tests}
 use Rattle.std.specs.Prelude.{encode_utf8_all}
-use Rattle.std.specs.List.{prefix_len, list_all}
+use Rattle.std.specs.List.{list_all}
 use Rattle.std.specs.Str.{chars, IsUtf8}
 use Rattle.typst_classes.specs.Classes.{CharClasses}
-use Rattle.typst_lines.specs.Place.{Place, place_at, moved, moved_from, moved_back, scout}
+use Rattle.typst_lines.specs.Place.{Place, place_at, moved, moved_from, scout}
 use Rattle.typst_links.specs.Labels.{is_name, is_label_id}
-use Rattle.typst_links.specs.Links.{among, last_signs, after, front, without_last_signs, link_prefix}
+use Rattle.typst_links.specs.Links.{after, front, without_last_signs, link_prefix}
 
 abbrev at : List ℕ → List ℕ → Place
 at behind ahead = record { behind = behind; ahead = ahead }

@@ -1,12 +1,12 @@
 -- Machines, taken one character after the other.
-use Rattle.std.proofs.Common.{◌≡◌, ℕ, zero, suc, ◌+◌, max, min, Bool, true, false, List, [], ◌∷◌, length, if◌then◌else◌, slice_get, refl, sym, ap, ◌∙◌, arith, Some, None}
+use Rattle.std.proofs.Common.{◌≡◌, ℕ, suc, ◌+◌, max, Bool, true, false, List, [], ◌∷◌, length, refl, sym, ap, ◌∙◌, arith}
 use Rattle.std.specs.List.{prefix_len}
-use Rattle.typst_lines.specs.Place.{Place, moved_from, scout, past}
+use Rattle.typst_lines.specs.Place.{Place, moved_from}
 use Rattle.typst_readers.specs.Reader.{place, both, no_look, widened, from_before, Look, ask, glimpse, Machine, Memory, Turn, spanned, span_look, Reader, eat_span}
 use Rattle.typst_readers.specs.Reader.Turn.{leave, last, go}
-use Rattle.typst_readers.specs.Sight.{position, far, near, Sight, Covers, saw, saw_by, went, went_past, sight}
+use Rattle.typst_readers.specs.Sight.{far, Sight, Covers, saw, saw_by, went, went_past, sight}
 use Rattle.typst_readers.proofs.Frame.{turned}
-use Rattle.typst_readers.proofs.Sights.{far-max, near-max, far-none, near-none, far-le, near-le, far-on, far-end, far-moved, same-sight, covers-saw, covers-saw_by, covers-went, saw-both, saw-nothing, saw-ahead, saw-before, went-nowhere}
+use Rattle.typst_readers.proofs.Sights.{far-none, far-le, far-on, far-moved, same-sight, covers-saw, covers-saw_by, covers-went, saw-both, saw-nothing, saw-ahead, saw-before, went-nowhere}
 
 abbrev turn_look : Machine → List ℕ → ℕ → List ℕ → Turn → Look
 turn_look m behind c ahead t = elim t [ leave ↦ no_look | last after ↦ no_look | go after ↦ from_before (c ∷ ahead) (span_look m after (c ∷ behind) ahead) ]

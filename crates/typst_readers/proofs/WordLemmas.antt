@@ -1,8 +1,8 @@
 -- Words.
-use Rattle.std.proofs.Common.{◌≡◌, ◌≤◌, ◌<◌, ℕ, zero, suc, ◌+◌, max, Bool, true, false, ◌&&◌, ◌==◌, if◌then◌else◌, List, [], ◌∷◌, drop, length, slice_get, get_or, refl, sym, ap, ◌∙◌, arith, Option, Some, None}
+use Rattle.std.proofs.Common.{◌≡◌, ◌≤◌, ◌<◌, ℕ, zero, suc, ◌+◌, max, Bool, true, false, ◌&&◌, ◌==◌, if◌then◌else◌, List, [], ◌∷◌, drop, length, slice_get, get_or, refl, sym, ap, ◌∙◌, arith, Option}
 use Rattle.std.proofs.Math.Seq.{drop-cons}
 use Rattle.typst_lines.specs.Place.{Place, moved, moved_from, scout, passes, word_at}
-use Rattle.typst_readers.specs.Reader.{place, Step, see_word}
+use Rattle.typst_readers.specs.Reader.{Step, see_word}
 use Rattle.typst_readers.specs.Sight.{Sight, Covers, far, regard, saw_word, went, word_reach}
 use Rattle.typst_readers.proofs.Sights.{far-moved, far-none, same-sight}
 

@@ -1,10 +1,10 @@
 -- How far is looked in a text, in bytes from its start. The text has one mark before its first and
 -- one after its last character, each as long as a byte.
-use Rattle.std.specs.Prelude.{◌≡◌, ◌≤◌, ℕ, zero, suc, ◌+◌, ◌-◌, max, min, Bool, if◌then◌else◌, ◌==◌, List, [], ◌∷◌, ◌++◌, reverse, slice_get, encode_utf8_all, refl}
+use Rattle.std.specs.Prelude.{◌≤◌, ℕ, zero, suc, ◌+◌, ◌-◌, max, min, Bool, if◌then◌else◌, ◌==◌, List, [], ◌∷◌, ◌++◌, reverse, slice_get, encode_utf8_all, refl}
 use Rattle.std.specs.Coded.{Coded, code_by, coded×, coded_ℕ, coded_list}
 use Rattle.std.specs.List.{prefix_len}
 use Rattle.typst_lines.specs.Place.{Place, char_width, moved, scout, passes, run}
-use Rattle.typst_readers.specs.Reader.{Look, Step, Machine, Memory, Reader, spanned, span_look}
+use Rattle.typst_readers.specs.Reader.{Look, Step, Reader, spanned, span_look}
 use Rattle.typst_readers.specs.Reader.Step.{turn, see, see_behind}
 use Rattle.typst_readers.specs.Reader.Reader.{answer, peek, glance, span, eat, see_run, skip, eat_run}
 use Rattle.typst_readers.specs.declared.hull.Hull.{Hull}

@@ -1,6 +1,4 @@
-use Rattle.std.proofs.Common.{◌≡◌, ◌∙◌, ◌∷◌, ◌-◌, ap, sym, subst, Some, None, false, true, arith, length, slice_get, refl}
-use Rattle.std.proofs.lemmas.Str.{IsCharBoundary-end}
-use Rattle.std.specs.Str.{chars, IsCharBoundary}
+use Rattle.std.proofs.Common.{◌≡◌, ◌∙◌, ◌∷◌, ◌-◌, ap, sym, Some, length, slice_get, refl}
 use Rattle.typst_lines.proofs.CommonLemmas.{shares-none, shares-more, common-back, differ-heads, differ-end, not-next, is-next, behind-step, behind-none, behind-all}
 use Rattle.typst_lines.specs.Place.{place_at}
 use Rattle.typst_lines.specs.Scanner.{place}

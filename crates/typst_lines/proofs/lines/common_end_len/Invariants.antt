@@ -1,4 +1,4 @@
-use Rattle.std.proofs.Common.{◌≡◌, ◌-◌, length, reverse}
+use Rattle.std.proofs.Common.{◌≡◌, length, reverse}
 use Rattle.std.specs.Str.{chars}
 use Rattle.typst_lines.proofs.CommonLemmas.{Shares}
 use Rattle.typst_lines.specs.Scanner.{place}

@@ -1,5 +1,4 @@
-use Rattle.std.proofs.Common.{◌≡◌, ◌∙◌, ◌∷◌, ap, sym, subst, Some, None, false, true}
-use Rattle.std.specs.Str.{chars}
+use Rattle.std.proofs.Common.{◌≡◌, ◌∙◌, ◌∷◌, ap, sym, subst, Some}
 use Rattle.typst_lines.proofs.CommonLemmas.{shares-none, shares-more, IsCommonFront-at, differ-heads, differ-end, not-next, is-next, ahead-step}
 use Rattle.typst_lines.proofs.LineLemmas.{ahead-text, place-end}
 use Rattle.typst_lines.specs.Lines.{IsCommonFront}

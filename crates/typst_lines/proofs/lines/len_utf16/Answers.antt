@@ -1,4 +1,4 @@
-use Rattle.std.proofs.Common.{◌≡◌, arith, ap, ◌∙◌, sym}
+use Rattle.std.proofs.Common.{arith, ap, ◌∙◌}
 use Rattle.typst_lines.specs.Scanner.{place}
 use Rattle.typst_lines.specs.Lines.{units, bytes}
 use Rattle.typst_lines.proofs.LineLemmas.{units-le, ahead-text, units-step, bytes-step, place-end, bytes-text}

@@ -1,4 +1,4 @@
-use Rattle.std.proofs.Common.{◌≡◌, ◌+◌, ◌-◌, ◌≤◌, length}
+use Rattle.std.proofs.Common.{◌≡◌, ◌+◌, ◌-◌, length}
 use Rattle.std.specs.Str.{chars}
 use Rattle.typst_lines.specs.Scanner.{place}
 use Rattle.typst_lines.specs.Lines.{units, bytes}

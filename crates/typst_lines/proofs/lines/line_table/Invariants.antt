@@ -1,4 +1,4 @@
-use Rattle.std.proofs.Common.{◌≡◌, ◌++◌, length}
+use Rattle.std.proofs.Common.{◌≡◌, ◌++◌}
 use Rattle.typst_lines.specs.Lines.{line_table}
 use Rattle.typst_lines.specs.LinesLeft.{lines_left}
 use Rattle.typst_lines.proofs.lines.line_table.Given as goal

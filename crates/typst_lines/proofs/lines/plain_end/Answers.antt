@@ -1,4 +1,4 @@
-use Rattle.std.proofs.Common.{◌≡◌, ap, arith, refl, length, get_or}
+use Rattle.std.proofs.Common.{ap, arith, refl, length, get_or}
 use Rattle.typst_lines.proofs.AfterLemmas.{plain-step, plain-start}
 use Rattle.typst_lines.proofs.lines.plain_end.Goals as goal
 

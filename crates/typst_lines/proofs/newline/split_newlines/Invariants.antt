@@ -1,4 +1,4 @@
-use Rattle.std.proofs.Common.{◌≡◌, ◌-◌, ◌++◌, length, map}
+use Rattle.std.proofs.Common.{◌≡◌, ◌++◌, length, map}
 use Rattle.std.specs.Str.{chars}
 use Rattle.typst_lines.proofs.CommonLemmas.{Since, glued}
 use Rattle.typst_lines.specs.Newline.{stretches}

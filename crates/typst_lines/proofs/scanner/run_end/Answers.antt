@@ -1,5 +1,5 @@
-use Rattle.std.proofs.Common.{◌≡◌, sym, ap, ◌∙◌, true, arith}
-use Rattle.typst_lines.specs.Place.{place_at, past}
+use Rattle.std.proofs.Common.{◌≡◌, ap, ◌∙◌, true, arith}
+use Rattle.typst_lines.specs.Place.{past}
 use Rattle.typst_lines.proofs.PlaceLemmas.{past-step}
 use Rattle.typst_lines.proofs.scanner.run_end.Goals as goal
 

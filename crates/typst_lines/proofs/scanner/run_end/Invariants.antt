@@ -1,5 +1,5 @@
 use Rattle.std.proofs.Common.{◌≡◌, ◌-◌, length}
-use Rattle.typst_lines.specs.Place.{place_at, past, IsRun}
+use Rattle.typst_lines.specs.Place.{place_at, past}
 use Rattle.std.specs.Str.{IsCharBoundary}
 use Rattle.std.proofs.Common.{◌≤◌}
 use Rattle.typst_lines.proofs.scanner.run_end.Given as goal

@@ -1,4 +1,4 @@
-use Rattle.std.proofs.Common.{◌≡◌, ◌+◌, ◌∙◌, max, refl, sym, ap, subst, arith}
+use Rattle.std.proofs.Common.{◌+◌, ◌∙◌, max, refl, sym, ap, subst, arith}
 use Rattle.typst_lines.specs.Scanner.{place}
 use Rattle.typst_readers.proofs.Sights.{far-read}
 use Rattle.typst_readers.proofs.WordLemmas.{Looking, looking-on, looking-off}

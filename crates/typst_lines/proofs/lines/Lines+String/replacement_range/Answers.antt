@@ -1,4 +1,4 @@
-use Rattle.std.proofs.Common.{◌≡◌, ◌∙◌, ap, sym, true, false, nat_eq, drop}
+use Rattle.std.proofs.Common.{◌≡◌, ◌∙◌, ap, true, false, nat_eq, drop}
 use Rattle.std.specs.Cmp.Lexicographic.{pointwise}
 use Rattle.typst_lines.proofs.CommonLemmas.{common_ends-at, pointwise-same, take-all}
 use Rattle.typst_lines.proofs.lines.Lines+String.replacement_range.Goals as goal

@@ -1,4 +1,4 @@
-use Rattle.std.proofs.Common.{◌≡◌, ◌∙◌, ap, arith, refl}
+use Rattle.std.proofs.Common.{◌∙◌, ap, arith, refl}
 use Rattle.std.specs.Str.{IsCharBoundary}
 use Rattle.typst_lines.proofs.PositionLemmas.{line-boundary, units-at, units-small, boundary-at, utf16-back}
 use Rattle.typst_lines.specs.Lines.{byte_at_utf16}

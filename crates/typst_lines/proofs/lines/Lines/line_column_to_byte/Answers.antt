@@ -1,10 +1,8 @@
-use Rattle.std.proofs.Common.{◌≡◌, ◌<◌, ◌≤◌, ◌∙◌, ◌+◌, ap, sym, subst, arith, Some, None, refl, length, slice_range, length-take-le, length-drop, drop, ◌-◌, List, ℕ}
-use Rattle.std.specs.Str.{IsUtf8, IsCharBoundary, chars}
+use Rattle.std.proofs.Common.{◌≡◌, ◌∙◌, ◌+◌, ap, sym, subst, arith, Some, refl, length, slice_range, List, ℕ}
+use Rattle.std.specs.Str.{IsUtf8, chars}
 use Rattle.std.specs.declared.ops.Range.{Range}
 use Rattle.typst_lines.proofs.LineLemmas.{ahead-text}
 use Rattle.typst_lines.proofs.PositionLemmas.{IsSoundRange, line_range-sound, HasPassed, HasPassed-none, HasPassed-more, byte_at-short, byte_at-found, byte_at-none}
-use Rattle.typst_lines.specs.Lines.{byte_at, line_range}
-use Rattle.typst_lines.specs.Place.{place_at}
 use Rattle.typst_lines.specs.Scanner.{place}
 use Rattle.typst_lines.proofs.lines.Lines.line_column_to_byte.Goals as goal
 

@@ -1,10 +1,9 @@
-use Rattle.std.proofs.Common.{◌≡◌, ◌≤◌, ◌<◌, ◌-◌, ◌+◌, ◌∙◌, ap, sym, arith, subst, None, Some, Option, false, refl}
-use Rattle.std.specs.Str.{IsUtf8, IsCharBoundary}
+use Rattle.std.proofs.Common.{◌≡◌, ◌-◌, ◌∙◌, ap, sym, arith, subst, None, Some, false}
+use Rattle.std.specs.Str.{IsCharBoundary}
 use Rattle.std.proofs.lemmas.Str.{IsUtf8-had}
 use Rattle.typst_lines.proofs.PositionLemmas.{reach, overshot, upto-boundary, upto-reach, upto-units, upto-before, utf16-found, utf16-short, utf16-over, reach-on, units-moved, none-from, overshot-some, overshot-low}
-use Rattle.typst_lines.proofs.LineLemmas.{utf16_len-positive}
 use Rattle.typst_lines.specs.Lines.{units, least_place, byte_at_utf16}
-use Rattle.typst_lines.specs.Place.{Place, place_at, scout, moved}
+use Rattle.typst_lines.specs.Place.{place_at, scout}
 use Rattle.typst_lines.specs.Scanner.{place}
 use Rattle.typst_lines.proofs.lines.Lines.utf16_to_byte.Goals as goal
 use Rattle.typst_lines.proofs.lines.Lines.utf16_to_byte.Goals.{else-units-left-via-then-units-left+else-done, else-units-left-via-else-units-left}

@@ -1,10 +1,8 @@
-use Rattle.std.proofs.Common.{◌≡◌, ◌∙◌, ◌+◌, ◌-◌, [], ◌∷◌, ap, sym, arith, true, false, length}
+use Rattle.std.proofs.Common.{◌≡◌, ◌∙◌, ◌+◌, ◌∷◌, ap, sym, arith, length}
 use Rattle.std.proofs.lemmas.Str.{IsUtf8-had}
 use Rattle.typst_lines.proofs.AfterLemmas.{after-line, after-on, after-end, units-next}
-use Rattle.typst_lines.proofs.LineLemmas.{line_at, units-front, utf16_len-le}
+use Rattle.typst_lines.proofs.LineLemmas.{line_at, units-front}
 use Rattle.typst_lines.specs.Lines.{lines_after, utf16_before}
-use Rattle.typst_lines.specs.Newline.{ends_line}
-use Rattle.typst_lines.specs.Place.{scout, place_at}
 use Rattle.typst_lines.proofs.lines.LinesFromIterator.next.Goals as goal
 
 pub overflow_add-utf16_idx : goal.overflow_add-utf16_idx

@@ -1,6 +1,5 @@
-use Rattle.std.proofs.Common.{◌≡◌, sym, ap, ◌∙◌, true, Bool}
-use Rattle.std.specs.Char.{IsScalar}
-use Rattle.typst_lines.specs.Place.{place_at, past}
+use Rattle.std.proofs.Common.{◌≡◌, sym, ap, ◌∙◌, true}
+use Rattle.typst_lines.specs.Place.{past}
 use Rattle.typst_lines.proofs.PlaceLemmas.{past-step}
 use Rattle.typst_lines.proofs.scanner.Scanner.eat_while_fn.Goals as goal
 

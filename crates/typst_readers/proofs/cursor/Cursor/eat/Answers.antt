@@ -1,7 +1,7 @@
-use Rattle.std.proofs.Common.{◌≡◌, ◌∙◌, ap, sym, subst}
+use Rattle.std.proofs.Common.{◌∙◌, ap, sym, subst}
 use Rattle.typst_lines.specs.Scanner.{place}
 use Rattle.typst_readers.specs.Cursor.{sight_of}
-use Rattle.typst_readers.specs.Sight.{Sight, Covers, went}
+use Rattle.typst_readers.specs.Sight.{Covers, went}
 use Rattle.typst_readers.proofs.Sights.{ate, covers-went}
 use Rattle.typst_readers.proofs.cursor.Cursor.eat.Goals as goal
 

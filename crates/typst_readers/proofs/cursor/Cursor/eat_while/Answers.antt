@@ -1,7 +1,7 @@
-use Rattle.std.proofs.Common.{◌≡◌, ◌∙◌, ap, sym, subst}
+use Rattle.std.proofs.Common.{◌∙◌, ap, sym, subst}
 use Rattle.typst_lines.specs.Scanner.{place}
 use Rattle.typst_readers.specs.Cursor.{sight_of}
-use Rattle.typst_readers.specs.Sight.{Sight, Covers, went_past}
+use Rattle.typst_readers.specs.Sight.{Covers, went_past}
 use Rattle.typst_readers.proofs.Sights.{covers-past, ran}
 use Rattle.typst_readers.proofs.cursor.Cursor.eat_while.Goals as goal
 

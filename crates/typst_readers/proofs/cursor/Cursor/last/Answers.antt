@@ -1,6 +1,5 @@
-use Rattle.std.proofs.Common.{◌≡◌, ◌+◌, ℕ, suc, ◌∙◌, ap, sym, arith}
+use Rattle.std.proofs.Common.{◌≡◌, ◌∙◌, ap, sym, arith}
 use Rattle.std.proofs.lemmas.Str.{IsUtf8-had}
-use Rattle.typst_lines.specs.Place.{Place}
 use Rattle.typst_lines.specs.Scanner.{place}
 use Rattle.typst_readers.specs.Sight.{position, near, saw_behind}
 use Rattle.typst_readers.proofs.Sights.{glanced, near-some, near-start, offset-is}

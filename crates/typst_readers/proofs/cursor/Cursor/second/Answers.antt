@@ -1,7 +1,6 @@
-use Rattle.std.proofs.Common.{◌≡◌, ◌∙◌, ap, sym, subst}
+use Rattle.std.proofs.Common.{◌∙◌, ap}
 use Rattle.typst_lines.specs.Scanner.{place}
-use Rattle.typst_readers.specs.Cursor.{sight_of}
-use Rattle.typst_readers.specs.Sight.{Sight, Covers, saw}
+use Rattle.typst_readers.specs.Sight.{saw}
 use Rattle.typst_readers.proofs.Sights.{peeked, two-moved, two-scout}
 use Rattle.typst_readers.proofs.cursor.Cursor.second.Goals as goal
 

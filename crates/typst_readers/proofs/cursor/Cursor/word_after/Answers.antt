@@ -1,5 +1,5 @@
-use Rattle.std.proofs.Common.{◌≡◌, ◌∙◌, ap, sym, subst, refl}
-use Rattle.typst_lines.specs.Place.{Place, word_at}
+use Rattle.std.proofs.Common.{◌∙◌, ap, sym, subst, refl}
+use Rattle.typst_lines.specs.Place.{word_at}
 use Rattle.typst_lines.specs.Scanner.{place}
 use Rattle.typst_readers.specs.Cursor.{sight_of}
 use Rattle.typst_readers.specs.Sight.{Sight, Covers, saw_word, word_reach}
