@@ -1,4 +1,5 @@
-use crate::trees::sample;
+use crate::trees::{leaf, sample};
+use std::alloc::{AllocError, Global};
 use std::mem::size_of;
 use std::process::Abort;
 use std::test::Fail;
@@ -20,6 +21,13 @@ fn reads_what_was_made(rt: HostRuntime) -> Result<(), Fail> {
     assert_eq!(rt; node.leaf_text(), "");
     assert_eq!(rt; node.kind(), SyntaxKind::ContentBlock);
     assert_eq!(rt; node.span(), Span::detached());
+    Ok(())
+}
+
+#[test]
+fn reads_the_children(rt: HostRuntime) -> Result<(), Fail> {
+    let alloc = rt.alloc();
+    let node = sample(alloc)?;
     let kinds = [
         SyntaxKind::LeftBracket,
         SyntaxKind::Text,
@@ -60,76 +68,101 @@ fn says(rt: &impl Abort, node: &SyntaxNode, message: &str, hints: &[&str]) {
     }
 }
 
+/// The node says so, where that thing was expected in place of this token.
+fn expects(
+    rt: &impl Abort,
+    alloc: Global,
+    kind: SyntaxKind,
+    text: &str,
+    thing: &str,
+    message: &str,
+    hints: &[&str],
+) -> Result<(), AllocError> {
+    let mut node = leaf(alloc, kind, text)?;
+    node.expected(thing)?;
+    says(rt, &node, message, hints);
+    Ok(())
+}
+
 #[test]
-fn says_what_was_expected(rt: HostRuntime) -> Result<(), Fail> {
+fn says_what_was_expected_in_place_of_a_keyword(rt: HostRuntime) -> Result<(), Fail> {
     let alloc = rt.alloc();
     let hint = "keyword `let` is not allowed as an identifier; try `let_` instead";
-    let rows: [(SyntaxKind, &str, &str, &str, &[&str]); 5] = [
+    let rows: [(&str, &str, &[&str]); 3] = [
         (
-            SyntaxKind::Let,
-            "let",
             "identifier",
             "expected identifier, found keyword `let`",
             &[hint],
         ),
+        ("pattern", "expected pattern, found keyword `let`", &[hint]),
         (
-            SyntaxKind::Let,
-            "let",
-            "pattern",
-            "expected pattern, found keyword `let`",
-            &[hint],
-        ),
-        (
-            SyntaxKind::Let,
-            "let",
             "expression",
             "expected expression, found keyword `let`",
             &[],
         ),
-        (
-            SyntaxKind::Underscore,
-            "_",
-            "identifier",
-            "expected identifier, found underscore",
-            &[],
-        ),
-        (
-            SyntaxKind::None,
-            "none",
-            "colon",
-            "expected colon, found `none`",
-            &[],
-        ),
     ];
-    for (kind, text, thing, message, hints) in rows {
-        let mut node = SyntaxNode::leaf(alloc, kind, text)?;
-        node.expected(thing)?;
-        says(&rt, &node, message, hints);
+    for (thing, message, hints) in rows {
+        expects(&rt, alloc, SyntaxKind::Let, "let", thing, message, hints)?;
     }
     Ok(())
 }
 
 #[test]
-fn remarks_go_to_their_places(rt: HostRuntime) -> Result<(), Fail> {
+fn says_what_was_expected_in_place_of_others(rt: HostRuntime) -> Result<(), Fail> {
     let alloc = rt.alloc();
-    let mut node = SyntaxNode::leaf(alloc, SyntaxKind::Raw, "``")?;
+    let underscore = "expected identifier, found underscore";
+    expects(
+        &rt,
+        alloc,
+        SyntaxKind::Underscore,
+        "_",
+        "identifier",
+        underscore,
+        &[],
+    )?;
+    let none = "expected colon, found `none`";
+    expects(&rt, alloc, SyntaxKind::None, "none", "colon", none, &[])?;
+    Ok(())
+}
+
+#[test]
+fn a_hint_without_a_diagnostic_is_lost(rt: HostRuntime) -> Result<(), Fail> {
+    let mut node = SyntaxNode::leaf(rt.alloc(), SyntaxKind::Raw, "``")?;
     node.hint("to nobody")?;
     assert_eq!(rt; node.diagnostics().len(), 0);
+    Ok(())
+}
+
+/// The diagnostic of that number is a warning with that range, and its hints have those.
+fn warns(
+    rt: &impl Abort,
+    node: &SyntaxNode,
+    number: usize,
+    range: Option<SubRange>,
+    hints: &[Option<SubRange>],
+) {
+    let all = node.diagnostics();
+    assert!(rt; number < all.len());
+    let warning = &all[number];
+    assert_eq!(rt; warning.severity(), Severity::Warning);
+    assert_eq!(rt; warning.sub_range(), range);
+    assert_eq!(rt; warning.hints().len(), hints.len());
+    for (hint, range) in warning.hints().iter().zip(hints) {
+        assert_eq!(rt; hint.sub_range(), *range);
+    }
+}
+
+#[test]
+fn remarks_go_to_their_places(rt: HostRuntime) -> Result<(), Fail> {
     let range = SubRange::new(1, 2).ok_or("range")?;
+    let mut node = SyntaxNode::leaf(rt.alloc(), SyntaxKind::Raw, "``")?;
     node.warn("first")?;
     node.warn_at(range, "second")?;
     node.hint("one")?;
     node.hint_at(range, "two")?;
-    let all = node.diagnostics();
-    assert_eq!(rt; all.len(), 2);
-    assert_eq!(rt; all[0].hints().len(), 0);
-    assert_eq!(rt; all[0].sub_range(), None);
-    assert_eq!(rt; all[1].severity(), Severity::Warning);
-    assert_eq!(rt; all[1].sub_range(), Some(range));
-    let hints = all[1].hints();
-    assert_eq!(rt; hints.len(), 2);
-    assert_eq!(rt; hints[0].sub_range(), None);
-    assert_eq!(rt; hints[1].sub_range(), Some(range));
+    assert_eq!(rt; node.diagnostics().len(), 2);
+    warns(&rt, &node, 0, None, &[]);
+    warns(&rt, &node, 1, Some(range), &[None, Some(range)]);
     assert_eq!(rt; node.leaf_text(), "``");
     Ok(())
 }

@@ -4,9 +4,9 @@ use typst_kinds::{FileId, SourceError, SyntaxKind};
 use typst_node::SyntaxNode;
 
 /// The first number that isn't one.
-pub const END: u64 = 1 << 47;
+pub(crate) const END: u64 = 1 << 47;
 
-pub fn leaf(alloc: Global, kind: SyntaxKind, text: &str) -> Result<SyntaxNode, AllocError> {
+pub(crate) fn leaf(alloc: Global, kind: SyntaxKind, text: &str) -> Result<SyntaxNode, AllocError> {
     if kind.is_error() {
         return SyntaxNode::error(alloc, "error", text);
     }
@@ -14,7 +14,7 @@ pub fn leaf(alloc: Global, kind: SyntaxKind, text: &str) -> Result<SyntaxNode, A
 }
 
 /// A node over the last `count` of the stack, or over all.
-pub fn gather(
+pub(crate) fn gather(
     alloc: Global,
     kind: SyntaxKind,
     stack: &mut Vec<SyntaxNode>,
@@ -33,7 +33,7 @@ pub fn gather(
 }
 
 /// A tree from its nodes, each after its children: kind, text, and how many children.
-pub fn tree(
+pub(crate) fn tree(
     alloc: Global,
     rows: &[(SyntaxKind, &str, Option<usize>)],
 ) -> Result<SyntaxNode, AllocError> {
@@ -51,26 +51,36 @@ pub fn tree(
     }
 }
 
-/// `[a *b*]`, with a warning and a hint at the leaf `b`.
-pub fn sample(alloc: Global) -> Result<SyntaxNode, AllocError> {
-    let mut kids = Vec::new(alloc);
-    kids.push(SyntaxNode::leaf(alloc, SyntaxKind::LeftBracket, "[")?)?;
-    kids.push(SyntaxNode::leaf(alloc, SyntaxKind::Text, "a ")?)?;
+/// The leaf `b`, with a warning and a hint.
+fn remarked(alloc: Global) -> Result<SyntaxNode, AllocError> {
     let mut leaf = SyntaxNode::leaf(alloc, SyntaxKind::Text, "b")?;
     leaf.warn("odd")?;
     leaf.hint("look")?;
-    let mut inside = Vec::new(alloc);
-    inside.push(SyntaxNode::leaf(alloc, SyntaxKind::Star, "*")?)?;
-    inside.push(leaf)?;
-    inside.push(SyntaxNode::leaf(alloc, SyntaxKind::Star, "*")?)?;
-    kids.push(SyntaxNode::inner(SyntaxKind::Strong, inside))?;
+    Ok(leaf)
+}
+
+/// `*b*`
+fn strong(alloc: Global) -> Result<SyntaxNode, AllocError> {
+    let mut kids = Vec::new(alloc);
+    kids.push(SyntaxNode::leaf(alloc, SyntaxKind::Star, "*")?)?;
+    kids.push(remarked(alloc)?)?;
+    kids.push(SyntaxNode::leaf(alloc, SyntaxKind::Star, "*")?)?;
+    Ok(SyntaxNode::inner(SyntaxKind::Strong, kids))
+}
+
+/// `[a *b*]`, with a warning and a hint at the leaf `b`.
+pub(crate) fn sample(alloc: Global) -> Result<SyntaxNode, AllocError> {
+    let mut kids = Vec::new(alloc);
+    kids.push(SyntaxNode::leaf(alloc, SyntaxKind::LeftBracket, "[")?)?;
+    kids.push(SyntaxNode::leaf(alloc, SyntaxKind::Text, "a ")?)?;
+    kids.push(strong(alloc)?)?;
     kids.push(SyntaxNode::leaf(alloc, SyntaxKind::RightBracket, "]")?)?;
     Ok(SyntaxNode::inner(SyntaxKind::ContentBlock, kids))
 }
 
 /// Adds the numbers of the first thousand nodes to `all`, each before its children's, 0 for a
 /// detached one.
-pub fn numbers(alloc: Global, root: &SyntaxNode, all: &mut Vec<u64>) -> Result<(), AllocError> {
+pub(crate) fn numbers(alloc: Global, root: &SyntaxNode, all: &mut Vec<u64>) -> Result<(), AllocError> {
     let mut left = Vec::new(alloc);
     left.push(root)?;
     for _ in 0..1000 {
@@ -87,7 +97,7 @@ pub fn numbers(alloc: Global, root: &SyntaxNode, all: &mut Vec<u64>) -> Result<(
     Ok(())
 }
 
-pub fn has_numbers(
+pub(crate) fn has_numbers(
     rt: &impl Abort,
     alloc: Global,
     node: &SyntaxNode,
@@ -100,7 +110,7 @@ pub fn has_numbers(
 }
 
 /// Numbers a tree within `start..end`, both within all numbers.
-pub fn number(node: &mut SyntaxNode, start: u64, end: u64) -> Result<(), SourceError> {
+pub(crate) fn number(node: &mut SyntaxNode, start: u64, end: u64) -> Result<(), SourceError> {
     match FileId::new(1) {
         Some(file) if 2 <= start && end <= END => node.numberize(file, start..end),
         _ => Err(SourceError::OutOfMemory),
@@ -108,7 +118,7 @@ pub fn number(node: &mut SyntaxNode, start: u64, end: u64) -> Result<(), SourceE
 }
 
 /// `replace_at` where the path leads to such children, or want of memory.
-pub fn replace(
+pub(crate) fn replace(
     node: &mut SyntaxNode,
     path: &[usize],
     from: usize,
@@ -123,7 +133,7 @@ pub fn replace(
 }
 
 /// Whether both are the same, spans too.
-pub fn same(rt: &impl Abort, alloc: Global, a: &SyntaxNode, b: &SyntaxNode) -> bool {
+pub(crate) fn same(rt: &impl Abort, alloc: Global, a: &SyntaxNode, b: &SyntaxNode) -> bool {
     let (mut one, mut other) = (Vec::new(alloc), Vec::new(alloc));
     if numbers(alloc, a, &mut one).is_err() || numbers(alloc, b, &mut other).is_err() {
         return true;
