@@ -80,7 +80,11 @@ pub(crate) fn sample(alloc: Global) -> Result<SyntaxNode, AllocError> {
 
 /// Adds the numbers of the first thousand nodes to `all`, each before its children's, 0 for a
 /// detached one.
-pub(crate) fn numbers(alloc: Global, root: &SyntaxNode, all: &mut Vec<u64>) -> Result<(), AllocError> {
+pub(crate) fn numbers(
+    alloc: Global,
+    root: &SyntaxNode,
+    all: &mut Vec<u64>,
+) -> Result<(), AllocError> {
     let mut left = Vec::new(alloc);
     left.push(root)?;
     for _ in 0..1000 {
