@@ -1,23 +1,10 @@
 //! Prints what the parser layer answers about the text on standard input.
 #![tactic(auto)]
 
-mod command;
-mod failure;
-mod lines;
-mod program;
-mod streams;
-#[cfg(test)]
-mod tests;
-mod tree;
-#[cfg(test)]
-mod tree_tests;
-mod variants;
-
-use failure::Failure;
-pub use program::run;
 use std::alloc::Global;
 use std::env;
 use std::process::ExitCode;
+use typst_words::{Failure, run};
 
 fn main(rt: HostRuntime) -> ExitCode {
     let alloc = rt.alloc();
