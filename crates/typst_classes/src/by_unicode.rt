@@ -48,7 +48,7 @@ impl Classes for UnicodeClasses {
         }
     }
 
-    #[inline]
+    #[inline(always)]
     fn is_alphanumeric(&self, c: char) -> bool {
         if c.is_ascii() {
             c.is_ascii_alphanumeric()
@@ -110,6 +110,7 @@ fn numeric(c: char) -> bool
     )
 }
 
+#[inline(never)]
 fn alphanumeric(c: char) -> bool
     ensures { result ≡ unicode_alphanumeric c }
 {

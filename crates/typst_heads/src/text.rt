@@ -111,8 +111,11 @@ impl ShortText {
             return None;
         }
         let mut bytes = [0u8; 29];
-        let part = &mut bytes[..len];
-        part.copy_from_slice(from);
+        if len == 1 {
+            bytes[0] = from[0];
+        } else {
+            bytes[..len].copy_from_slice(from);
+        }
         Some(ShortText {
             len: len as u8,
             bytes,

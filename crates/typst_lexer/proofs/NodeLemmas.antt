@@ -1,9 +1,9 @@
 -- Facts on the texts of error tokens.
-use Rattle.std.proofs.Common.{◌≡◌, ℕ, Bool, true, false, if◌then◌else◌, List, [], ◌∷◌, append-nil, encode_utf8_all, take, refl, ap, sym, ◌∙◌, Some, None}
+use Rattle.std.proofs.Common.{◌≡◌, ℕ, Bool, true, false, not, ◌&&◌, if◌then◌else◌, List, [], ◌∷◌, append-nil, encode_utf8_all, take, refl, ap, sym, ◌∙◌, Option, Some, None}
 use Rattle.std.specs.Str.{chars}
 use Rattle.typst_lines.specs.Place.{Place, place_at, moved}
 use Rattle.typst_readers.proofs.Moves.{moved-more}
-use Rattle.typst_lexer.specs.Nodes.{IsRead, token_node, plain_node, fault_node, is_raw, with_hints, hints, message}
+use Rattle.typst_lexer.specs.Nodes.{IsRead, is_leaf, token_node, plain_node, fault_node, is_raw, with_hints, hints, message}
 use Rattle.typst_readers.specs.Reader.{Reader, exec, eaten, place}
 use Rattle.typst_lexer.specs.declared.token.Token.{Token}
 use Rattle.typst_lexer.specs.declared.token.Fault.{Fault}
@@ -59,3 +59,17 @@ text-token k t taken = elim t.fault as (λ o. text_of (elim o as (λ _. Tree) [ 
   | None ↦ text-plain k t taken
   | Some f ↦ text-fault f taken
 ]
+
+-- what is a leaf of its kind
+pub leaf-is : (k : CharClasses) (t : Token) (taken : List ℕ) → is_leaf t ≡ true → token_node k t taken ≡ leaf_of t.kind (encode_utf8_all taken)
+leaf-is k t taken h = by t.fault h
+  where
+    plain : (e r : Bool) → (not e && not r) ≡ true → (if e then error_of [] (encode_utf8_all taken) else (if r then raw_node k taken else leaf_of t.kind (encode_utf8_all taken))) ≡ leaf_of t.kind (encode_utf8_all taken)
+    plain true r h = absurd (cc)
+    plain false true h = absurd (cc)
+    plain false false h = refl
+
+    by : (f : Option Fault) → (elim f [ None ↦ not (is_error t.kind) && not (is_raw t.kind) | Some g ↦ false ]) ≡ true
+        → (elim f [ None ↦ plain_node k t taken | Some g ↦ fault_node g taken ]) ≡ leaf_of t.kind (encode_utf8_all taken)
+    by None h = plain (is_error t.kind) (is_raw t.kind) h
+    by (Some g) h = absurd (cc)

@@ -1,21 +1,23 @@
 -- Facts on texts.
-use Rattle.std.proofs.Common.{◌≡◌, ◌≤◌, ◌<◌, ℕ, zero, suc, length, Bool, true, false, not, ◌==◌, if◌then◌else◌, List, [], ◌∷◌, refl, sym, ap, subst, ◌∙◌, arith, slice_get, Some, None}
+use Rattle.std.proofs.Common.{◌≡◌, ◌≤◌, ◌<◌, ℕ, zero, suc, length, Bool, true, false, not, ◌||◌, ◌&&◌, ◌==◌, if◌then◌else◌, List, [], ◌∷◌, refl, sym, ap, subst, ◌∙◌, arith, slice_get, Option, Some, None}
 use Rattle.std.proofs.lemmas.Bool.Decides.{nat_tests}
 use Rattle.typst_kinds.specs.declared.kind.SyntaxKind.TheVariants as kind
-use Rattle.std.specs.List.{prefix_len}
-use Rattle.typst_lines.specs.Place.{Place, moved, moved_from, past, scout, word_at}
+use Rattle.typst_lines.specs.Place.{Place, moved, moved_from, passes, scout, word_at}
 use Rattle.typst_classes.specs.Classes.{CharClasses}
 use Rattle.typst_readers.specs.Reader.{place, widened, Reader, Turn, ask, glimpse, eat_span, see_word}
 use Rattle.typst_readers.specs.Reader.Memory.{blank}
 use Rattle.typst_readers.specs.Reader.Reader.{answer}
 use Rattle.typst_readers.specs.Reader.Turn.{leave, go}
-use Rattle.typst_readers.specs.Sight.{Sight, Covers, saw, saw_by, went, went_past, saw_word, regard, sight}
+use Rattle.typst_readers.specs.Sight.{Sight, Covers, saw, saw_by, went, saw_word, regard, sight}
+use Rattle.typst_readers.specs.Pairs.{either, past_pairs, pairs_len, went_past_pairs}
+use Rattle.typst_lexer.specs.Flow.{flows}
 use Rattle.typst_lexer.specs.Text.{may_stop, text_step, on, in_text, text}
 use Rattle.typst_lexer.specs.Token.{plain}
 use Rattle.typst_lexer.specs.declared.token.Token.{Token}
 use Rattle.typst_readers.proofs.Sights.{regard-is, covers-saw, covers-saw_by, saw-ahead, saw-both}
 use Rattle.typst_readers.proofs.WordLemmas.{regard-see_word}
-use Rattle.typst_readers.proofs.Spans.{saw-twice, sight-turn, sight-end, sight-past, turned_sight}
+use Rattle.typst_readers.proofs.PairLemmas.{sight-pairs}
+use Rattle.typst_readers.proofs.Spans.{saw-twice, sight-turn, sight-end, turned_sight}
 
 abbrev pub rest : CharClasses → Reader Token
 rest k = eat_span (in_text k) blank (λ _. answer (plain kind.Text))
@@ -38,10 +40,58 @@ plain-is k c h =
     (other c 32 refl h) (other c 47 refl h) (other c 45 refl h) (other c 46 refl h) (other c 104 refl h) (other c 64 refl h)
     ∙ ap on h
 
-pub rest-past : (k : CharClasses) (v : Sight) → Covers v → sight (rest k) v ≡ sight (rest k) (went_past (λ c. not (may_stop c)) v)
-rest-past k v h =
-    sight-past (in_text k) blank (λ c. not (may_stop c)) (λ _. answer (plain kind.Text)) (λ c b a e. ap (λ s. ask s (place b (c ∷ a))) (plain-is k c e))
-    (λ c b a e. ap (λ s. widened 0 1 (glimpse s (place b (c ∷ a)))) (plain-is k c e)) v.place.behind v.place.ahead v.reach v.least h
+-- ---- what flows on
+
+abbrev pub flowing : CharClasses → ℕ → Option ℕ → Bool
+flowing k = either (λ c. not (may_stop c)) (flows k)
+
+data Way (k : CharClasses) (c : ℕ) (next : Option ℕ) : Type 0 where
+  plainly : not (may_stop c) ≡ true → Way k c next
+  by_space : c ≡ 32 → passes k.alphanumeric next ≡ true → Way k c next
+  by_letter : c ≡ 104 → passes (λ d. d == 116) next ≡ false → Way k c next
+
+equal : (c d : ℕ) → (c == d) ≡ true → c ≡ d
+equal c d e = grind (arith, nat_tests)
+
+off-is : (b : Bool) → not b ≡ true → b ≡ false
+off-is true e = sym e
+off-is false e = refl
+
+way : (k : CharClasses) (c : ℕ) (next : Option ℕ) → flowing k c next ≡ true → Way k c next
+way k c next e = by (not (may_stop c)) (c == 32) (passes k.alphanumeric next) (c == 104) (not (passes (λ d. d == 116) next)) refl refl refl refl refl e
+  where
+    by : (p s q h r : Bool) → not (may_stop c) ≡ p → (c == 32) ≡ s → passes k.alphanumeric next ≡ q → (c == 104) ≡ h → not (passes (λ d. d == 116) next) ≡ r → (p || ((s && q) || (h && r))) ≡ true → Way k c next
+    by true s q h r ep es eq eh er e = plainly ep
+    by false true true h r ep es eq eh er e = by_space (equal c 32 es) eq
+    by false true false true true ep es eq eh er e = by_letter (equal c 104 eh) (off-is _ er)
+    by false true false true false ep es eq eh er e = absurd (cc)
+    by false true false false r ep es eq eh er e = absurd (cc)
+    by false false q true true ep es eq eh er e = by_letter (equal c 104 eh) (off-is _ er)
+    by false false q true false ep es eq eh er e = absurd (cc)
+    by false false q false r ep es eq eh er e = absurd (cc)
+
+letter-is : (k : CharClasses) (b a : List ℕ) → passes (λ d. d == 116) (slice_get a 0) ≡ false
+    → (ask (text_step k 104) (place b (104 ∷ a)) ≡ go blank) × (widened 0 1 (glimpse (text_step k 104) (place b (104 ∷ a))) ≡ record { back = 0; front = 2 })
+letter-is k b a e = (rw e (rw e refl), rw e (rw e refl))
+
+flow-goes : (k : CharClasses) (c : ℕ) (b a : List ℕ) → flowing k c (slice_get a 0) ≡ true → ask (text_step k c) (place b (c ∷ a)) ≡ go blank
+flow-goes k c b a e = by (way k c (slice_get a 0) e)
+  where
+    by : Way k c (slice_get a 0) → ask (text_step k c) (place b (c ∷ a)) ≡ go blank
+    by (plainly h) = ap (λ s. ask s (place b (c ∷ a))) (plain-is k c h)
+    by (by_space h g) = ap (λ x. ask (text_step k x) (place b (x ∷ a))) h ∙ ap (λ t. if t then go blank else leave) g
+    by (by_letter h g) = ap (λ x. ask (text_step k x) (place b (x ∷ a))) h ∙ (letter-is k b a g).0
+
+flow-looks : (k : CharClasses) (c : ℕ) (b a : List ℕ) → flowing k c (slice_get a 0) ≡ true → (f : ℕ) × ((widened 0 1 (glimpse (text_step k c) (place b (c ∷ a))) ≡ record { back = 0; front = f }) × (f ≤ 2))
+flow-looks k c b a e = by (way k c (slice_get a 0) e)
+  where
+    by : Way k c (slice_get a 0) → (f : ℕ) × ((widened 0 1 (glimpse (text_step k c) (place b (c ∷ a))) ≡ record { back = 0; front = f }) × (f ≤ 2))
+    by (plainly h) = (1, (ap (λ s. widened 0 1 (glimpse s (place b (c ∷ a)))) (plain-is k c h), omega arith))
+    by (by_space h g) = (2, (ap (λ x. widened 0 1 (glimpse (text_step k x) (place b (x ∷ a)))) h, omega arith))
+    by (by_letter h g) = (2, (ap (λ x. widened 0 1 (glimpse (text_step k x) (place b (x ∷ a)))) h ∙ (letter-is k b a g).1, omega arith))
+
+pub rest-past : (k : CharClasses) (v : Sight) → Covers v → sight (rest k) v ≡ sight (rest k) (went_past_pairs (flowing k) v)
+rest-past k v h = sight-pairs (in_text k) blank (flowing k) (λ _. answer (plain kind.Text)) (flow-goes k) (flow-looks k) v.place.behind v.place.ahead v.reach v.least h
 
 module _ (k : CharClasses) (c : ℕ) (v w : Sight) (h : Covers v) (s : saw 1 v ≡ v) (t : Turn) (g : regard (text_step k c) v ≡ (t, w)) where
   both-are : ◌≡◌ {A = Turn × Sight} (ask (text_step k c) v.place, saw_by (glimpse (text_step k c) v.place) v) (t, w)
@@ -101,12 +151,12 @@ past-shortens (suc n) b [] = omega arith
 past-shortens (suc n) b (d ∷ a) = omega (arith, past-shortens n (d ∷ b) a)
 
 -- behind a character and a run fewer are ahead
-pub rest-shortens : (test : ℕ → Bool) (c : ℕ) (z y : Place) → y ≡ z → Some c ≡ scout 0 z → length (past test (moved 1 y)).ahead < length z.ahead
+pub rest-shortens : (test : ℕ → Option ℕ → Bool) (c : ℕ) (z y : Place) → y ≡ z → Some c ≡ scout 0 z → length (past_pairs test (moved 1 y)).ahead < length z.ahead
 rest-shortens test c z y e s = rw e (shorter z.behind z.ahead s)
   where
-    shorter : (b a : List ℕ) → Some c ≡ slice_get a 0 → length (past test (moved_from 1 b a)).ahead < length a
+    shorter : (b a : List ℕ) → Some c ≡ slice_get a 0 → length (past_pairs test (moved_from 1 b a)).ahead < length a
     shorter b [] s = absurd (cc)
-    shorter b (d ∷ a) s = omega (arith, past-shortens (prefix_len test a) (d ∷ b) a)
+    shorter b (d ∷ a) s = omega (arith, past-shortens (pairs_len test a) (d ∷ b) a)
 
 -- ---- words at which a text stops
 

@@ -1,5 +1,6 @@
 pub mod Characters
 pub mod Common
+pub mod Flow
 pub mod Laws
 pub mod Lexer
 pub mod Link

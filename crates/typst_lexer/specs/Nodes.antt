@@ -1,5 +1,5 @@
 -- The node that a token makes of the characters that it took.
-use Rattle.std.specs.Prelude.{◌≡◌, ℕ, Bool, true, false, if◌then◌else◌, List, [], ◌∷◌, ◌++◌, take, Some, None, codes, encode_utf8_all}
+use Rattle.std.specs.Prelude.{◌≡◌, ℕ, Bool, true, false, not, ◌&&◌, if◌then◌else◌, List, [], ◌∷◌, ◌++◌, take, Some, None, codes, encode_utf8_all}
 use Rattle.std.specs.Char.{is_ascii_alphanumeric}
 use Rattle.typst_classes.specs.Classes.{CharClasses}
 use Rattle.typst_kinds.specs.Kinds.{is_error}
@@ -51,6 +51,10 @@ abbrev pub plain_node : CharClasses → Token → List ℕ → Tree
 plain_node k t taken =
     if is_error t.kind then error_of [] (encode_utf8_all taken)
     else (if is_raw t.kind then raw_node k taken else leaf_of t.kind (encode_utf8_all taken))
+
+-- Whether the node of a token is a leaf of its kind.
+abbrev pub is_leaf : Token → Bool
+is_leaf t = elim t.fault [ None ↦ not (is_error t.kind) && not (is_raw t.kind) | Some f ↦ false ]
 
 -- The node of a token: its own, or an error leaf.
 abbrev pub token_node : CharClasses → Token → List ℕ → Tree

@@ -101,7 +101,7 @@ pub(crate) fn is_space(c: char, mode: SyntaxMode) -> bool
     ensures { result ≡ spec.is_space mode c }
 {
     match mode {
-        SyntaxMode::Markup => (c == ' ') | (c == '\t') | is_newline(c),
+        SyntaxMode::Markup => c == ' ' || c == '\t' || is_newline(c),
         SyntaxMode::Math => c.is_whitespace(),
         SyntaxMode::Code => c.is_whitespace(),
     }

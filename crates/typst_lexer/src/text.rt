@@ -11,20 +11,42 @@ use crate::token::Token;
 use typst_classes::classes::Classes;
 use typst_kinds::SyntaxKind;
 use typst_links::labels::is_valid_in_label_literal;
-use typst_readers::Cursor;
+use typst_readers::{Cursor, PairSet};
+
+/// What flows on in a text, by the character that follows.
+#[derive(Clone, Copy)]
+struct Flow<'a, C: Classes> {
+    classes: &'a C,
+}
+
+impl<C: Classes> PairSet for Flow<'_, C> {
+    ghost use Rattle.typst_lexer.specs.Flow.{flows};
+
+    ghost members = { λ f c next. flows (C.classes f.classes.now) c next };
+
+    #[inline]
+    fn has(&self, c: char, next: Option<char>) -> bool {
+        match (c, next) {
+            (' ', Some(next)) => self.classes.is_alphanumeric(next),
+            ('h', next) => !matches!(next, Some('t')),
+            _ => false,
+        }
+    }
+}
 
 /// What is left of a text.
 #[tactic(auto, unfolding(crate::specs::Text::text))]
 pub(crate) fn text<C: Classes>(s: &mut Cursor<'_>, classes: &C) -> Token
     ensures { Reads (spec.text (C.classes classes.now)) s.old result s.new }
 {
-    let mut next = s.go_past(&PlainText);
+    let flow = Flow { classes };
+    let mut next = s.go_past(&PlainText, &flow);
     while let Some(c) = next {
         if !goes_on(c, s, classes) {
             return Token::plain(SyntaxKind::Text);
         }
         s.eat();
-        next = s.go_past(&PlainText);
+        next = s.go_past(&PlainText, &flow);
     }
     Token::plain(SyntaxKind::Text)
 }

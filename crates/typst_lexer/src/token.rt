@@ -1,6 +1,7 @@
 //! Tokens: what is read in one piece.
-ghost use Rattle.std.specs.Prelude.{◌≡◌, IfOk, string_bytes};
+ghost use Rattle.std.specs.Prelude.{◌≡◌, true, IfOk, string_bytes};
 ghost use Rattle.std.specs.Str.{chars};
+ghost use Rattle.typst_classes.specs.Classes.{CharClasses};
 ghost use Rattle.typst_lexer.specs.Nodes as spec;
 
 use crate::sets::AsciiAlphanumeric;
@@ -65,6 +66,26 @@ impl Token {
             fault: Some(fault),
         }
     }
+}
+
+/// Whether the node of a token is a leaf of its kind, which `leaf_node` makes.
+#[inline(always)]
+pub fn is_leaf(token: Token) -> bool
+    ensures { result ≡ spec.is_leaf token }
+{
+    match token.fault {
+        Some(_) => false,
+        None => !token.kind.is_error() && !is_raw(token.kind),
+    }
+}
+
+/// The node of such a token that took the text.
+#[inline(always)]
+pub fn leaf_node(alloc: Global, token: Token, text: &str) -> Result<SyntaxNode, AllocError>
+    requires { spec.is_leaf token ≡ true }
+    ensures { (k : CharClasses) → IfOk result (λ node. node ≡ spec.token_node k token (chars text.now)) }
+{
+    SyntaxNode::leaf(alloc, token.kind, text)
 }
 
 /// The node of a token that took the text: a leaf of its kind, the node of a raw text, or an error

@@ -273,6 +273,10 @@ looking-start k m z =
     let i = first-in k m (length z.ahead) z in
     record { all = same-hull _ _ _ _ (omega (arith, i.reach)) (omega (arith, i.least)); last = itself-in (token_hull k m z) }
 
+-- before anything was looked at
+pub looking-first : (k : CharClasses) (m : SyntaxMode) (z : Place) (most : ℕ) → (token_hull k m z).least ≤ most → Looking k m z z (joined_hull (record { reach = 0; least = most }) (token_hull k m z))
+looking-first k m z most h = subst (Looking k m z z) (same-hull _ _ _ _ (omega arith) (omega (arith, h))) (looking-start k m z)
+
 tokens-first : (k : CharClasses) (m : SyntaxMode) (w : Place) → In (token_hull k m w) (tokens_at k m w)
 unfolding tokens_at
 tokens-first k m w = first-in k m (length w.ahead) w

@@ -1,6 +1,8 @@
 //! The token that is read ahead.
 
-ghost use Rattle.std.specs.Prelude.{◌≡◌, ◌≤◌, [], IfOk, OnOk, OnErr};
+ghost use Rattle.std.specs.Prelude.{◌≡◌, ◌≤◌, ◌<◌, ◌^◌, ◌++◌, ◌∷◌, [], IfOk, OnOk, OnErr};
+ghost use Rattle.std.specs.Str.{chars};
+ghost use Rattle.typst_lexer.specs.Nodes.{token_node};
 ghost use Rattle.typst_kinds.specs.Kinds.{is_error};
 ghost use Rattle.typst_lines.specs.Scanner.{place};
 ghost use Rattle.typst_parsing.specs.Hand as spec;
@@ -15,7 +17,7 @@ use std::alloc::{AllocError, Global};
 use typst_classes::Classes;
 use typst_kinds::{SyntaxKind, SyntaxMode};
 use typst_lexer::lexer::token;
-use typst_lexer::token::make_node;
+use typst_lexer::token::{is_leaf, leaf_node, make_node};
 use typst_lexer::{Hull, Token};
 use typst_lines::{Scanner, is_newline};
 use typst_node::SyntaxNode;
@@ -89,27 +91,31 @@ impl<'s> Ahead<'s> {
     {
         let mut newlines = flushed;
         let mut start = before;
-        let mut next = read_token(alloc, start, held.mode, classes)?;
-        let mut tokens = next.hull;
-        while is_trivia(next.token.kind) && left(&next.after) < left(&start) {
-            let node = make_node(alloc, next.token, next.after.since(&start), classes)?;
-            self.trivia.push(node)?;
+        let mut tokens = Hull {
+            reach: 0,
+            least: usize::MAX,
+        };
+        'tokens: loop {
+            let next = read_token(alloc, start, held.mode, classes)?;
+            tokens = joined(tokens, next.hull);
+            if !is_trivia(next.token.kind) || left(&start) <= left(&next.after) {
+                let (kind, here) = judged(held, newlines, next.token.kind, &start, next.hull);
+                self.before = before;
+                self.start = start;
+                self.after = next.after;
+                self.newlines = newlines;
+                self.token = next.token;
+                self.kind = kind;
+                self.tokens = tokens;
+                self.own = next.hull;
+                self.here = here;
+                return Ok(());
+            }
+            let text = next.after.since(&start);
+            push_node(&mut self.trivia, alloc, next.token, text, classes)?;
             newlines = with_token(newlines, next.token);
             start = next.after;
-            next = read_token(alloc, start, held.mode, classes)?;
-            tokens = joined(tokens, next.hull);
         }
-        let (kind, here) = judged(held, newlines, next.token.kind, &start, next.hull);
-        self.before = before;
-        self.start = start;
-        self.after = next.after;
-        self.newlines = newlines;
-        self.token = next.token;
-        self.kind = kind;
-        self.tokens = tokens;
-        self.own = next.hull;
-        self.here = here;
-        Ok(())
     }
 
     /// All that was looked at for it.
@@ -118,6 +124,27 @@ impl<'s> Ahead<'s> {
     {
         joined(self.tokens, self.here)
     }
+}
+
+/// Adds the node of a token that took the text behind the others.
+#[inline(always)]
+fn push_node<C: Classes>(
+    nodes: &mut Vec<SyntaxNode>,
+    alloc: Global,
+    token: Token,
+    text: &str,
+    classes: &C,
+) -> Result<(), AllocError>
+    ensures { OnOk result (nodes.new.items ≡ nodes.old.items ++ token_node (C.classes classes.now) token (chars text.now) ∷ []) }
+{
+    if is_leaf(token) {
+        let node = leaf_node(alloc, token, text)?;
+        nodes.push(node)?;
+        return Ok(());
+    }
+    let node = make_node(alloc, token, text, classes)?;
+    nodes.push(node)?;
+    Ok(())
 }
 
 /// A token that was read, where it ends, and what was looked at for it.
@@ -129,6 +156,7 @@ struct Read<'s> {
 }
 
 /// Reads one token.
+#[inline(always)]
 fn read_token<'s, C: Classes>(
     alloc: Global,
     start: Scanner<'s>,
@@ -137,6 +165,7 @@ fn read_token<'s, C: Classes>(
 ) -> Result<Read<'s>, AllocError>
     ensures reads { IfOk result (λ r. exec (token (C.classes classes.now) mode) (place start.entry) ≡ (r.token, place r.after)) }
     ensures hull { IfOk result (λ r. r.hull ≡ spec.token_hull (C.classes classes.now) mode (place start.entry)) }
+    ensures fits { IfOk result (λ r. r.hull.least < 2 ^ 64) }
     ensures same_text { IfOk result (λ r. r.after.text.now ≡ start.entry.text.now) }
 {
     let mut after = start;
@@ -192,6 +221,7 @@ fn is_parbreak(kind: SyntaxKind) -> bool
 
 /// The kind of a token, or the end where the newline rule stops; and what was looked at for the
 /// token, with its column where the rule asks for it.
+#[inline(always)]
 pub(crate) fn judged(
     held: Reading,
     newlines: Newlines,
@@ -210,6 +240,7 @@ pub(crate) fn judged(
     }
 }
 
+#[inline(always)]
 fn stops(
     held: Reading,
     newlines: Newlines,
@@ -252,6 +283,7 @@ fn is_markup(mode: SyntaxMode) -> bool
 
 /// How many characters stand between the last newline character, or the text's start, and here; and
 /// what was looked at for it.
+#[inline(never)]
 pub(crate) fn column(s: &Scanner<'_>) -> (usize, Hull)
     ensures column { result.0 ≡ spec.column_at (place s.now) }
     ensures hull { result.1 ≡ hull_of (spec.column_look (place s.now)) (place s.now) }

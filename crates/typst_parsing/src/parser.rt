@@ -1,12 +1,13 @@
 //! A parser that has read one token ahead.
 
-ghost use Rattle.std.specs.Prelude.{Bool, if◌then◌else◌, ◌≡◌, ℕ, ◌+◌, ◌-◌, ◌^◌, ◌≤◌, ◌==◌, [], ◌∷◌, ◌++◌, List, take, drop, length, map, OnOk, OnErr, IfOk, IfSome, Ok, false, not};
+ghost use Rattle.std.specs.Prelude.{Bool, if◌then◌else◌, ◌≡◌, ℕ, ◌+◌, ◌-◌, ◌^◌, ◌≤◌, ◌==◌, [], ◌∷◌, ◌++◌, List, take, drop, length, map, OnOk, OnErr, IfOk, IfSome, Ok, true, false, not};
 ghost use Rattle.typst_parsing.specs.Log.{added};
 ghost use Rattle.typst_kinds.specs.Kinds.{is_error};
 ghost use Rattle.typst_kinds.specs.declared.kind.SyntaxKind.{SyntaxKind as Kind};
 ghost use Rattle.typst_lines.specs.Place.{moved};
 ghost use Rattle.typst_node.specs.Tree.{forest, text_of};
-ghost use Rattle.typst_lexer.specs.Nodes.{token_node};
+ghost use Rattle.typst_classes.specs.Classes.{CharClasses};
+ghost use Rattle.typst_lexer.specs.Nodes.{is_leaf, token_node};
 ghost use Rattle.typst_parsing.specs.Hand.{bytes_left, column_at, text_ahead};
 ghost use Rattle.typst_parsing.specs.Cursor.{IsStart};
 ghost use Rattle.typst_parsing.specs.Shape.{Making, is_nil, count_empty, first_failed};
@@ -24,9 +25,13 @@ use std::marker::Model;
 use typst_classes::Classes;
 use typst_kinds::{SyntaxKind, SyntaxMode};
 use typst_lexer::Hull;
-use typst_lexer::token::make_node;
+use typst_lexer::token::{is_leaf, leaf_node, make_node};
 use typst_lines::Scanner;
 use typst_node::SyntaxNode;
+
+/// Of so many bytes a node of the text's own is made at least, as a rule: so much room is taken at
+/// once.
+const BYTES_OF_A_NODE: usize = 32;
 
 /// A parser of a text: the nodes so far, the token at hand, and how to go on.
 #[derive(Drop)]
@@ -93,7 +98,7 @@ impl<'s> Parser<'s> {
         let whole = ahead.whole();
         Ok(Parser {
             alloc,
-            nodes: Vec::new(alloc),
+            nodes: Vec::with_capacity(alloc, text.len() / BYTES_OF_A_NODE)?,
             ahead,
             state,
             reach: whole.reach,
@@ -271,6 +276,27 @@ impl<'s> Parser<'s> {
         Ok(())
     }
 
+    /// Whether the node of the token at hand is a leaf of its kind.
+    #[inline(always)]
+    fn has_leaf(&self) -> bool
+        ensures { result ≡ is_leaf self.now.hand.token }
+    {
+        is_leaf(self.ahead.token)
+    }
+
+    /// That leaf.
+    #[inline(always)]
+    fn leaf(&self) -> Result<SyntaxNode, AllocError>
+        requires { is_leaf self.now.hand.token ≡ true }
+        ensures { (k : CharClasses) → IfOk result (λ t. t ≡ token_node k self.now.hand.token (text_ahead self.now.hand.len (moved self.now.hand.gap self.now.place))) }
+    {
+        leaf_node(
+            self.alloc,
+            self.ahead.token,
+            self.ahead.after.since(&self.ahead.start),
+        )
+    }
+
     /// The node of the token at hand.
     fn node<C: Classes>(&self, classes: &C) -> Result<SyntaxNode, AllocError>
         ensures { IfOk result (λ t. t ≡ token_node (C.classes classes.now) self.now.hand.token (text_ahead self.now.hand.len (moved self.now.hand.gap self.now.place))) }
@@ -284,6 +310,7 @@ impl<'s> Parser<'s> {
     }
 
     /// Takes the token at hand as this node.
+    #[inline(always)]
     fn take<C: Classes>(
         &mut self,
         trims: bool,
@@ -320,16 +347,37 @@ impl<'s> Parser<'s> {
         Ok(())
     }
 
+    /// The same, apart from the common way.
+    #[inline(never)]
+    fn take_apart<C: Classes>(
+        &mut self,
+        trims: bool,
+        node: SyntaxNode,
+        classes: &C,
+    ) -> Result<(), AllocError>
+        ensures { (l : Level) (making : Making) → l.classes ≡ C.classes classes.now → node ≡ taken_node (C.classes classes.now) making self.old.hand self.old.place → Reads l (spec.eat_making trims making) self.old result self.new }
+    {
+        self.take(trims, node, classes)?;
+        Ok(())
+    }
+
     /// Takes the token at hand.
+    #[inline(never)]
     pub fn eat<C: Classes>(&mut self, classes: &C) -> Result<(), AllocError>
         ensures { (l : Level) → l.classes ≡ C.classes classes.now → Reads l spec.eat self.old result self.new }
     {
+        if self.has_leaf() {
+            let leaf = self.leaf()?;
+            self.take(false, leaf, classes)?;
+            return Ok(());
+        }
         let node = self.node(classes)?;
-        self.take(false, node, classes)?;
+        self.take_apart(false, node, classes)?;
         Ok(())
     }
 
     /// Takes the token at hand as another kind.
+    #[inline(never)]
     pub fn convert_and_eat<C: Classes>(
         &mut self,
         kind: SyntaxKind,
@@ -338,9 +386,15 @@ impl<'s> Parser<'s> {
         requires { is_error kind ≡ false }
         ensures { (l : Level) → l.classes ≡ C.classes classes.now → Reads l (spec.convert_and_eat kind) self.old result self.new }
     {
+        if self.has_leaf() {
+            let mut leaf = self.leaf()?;
+            leaf.convert_to_kind(kind);
+            self.take(false, leaf, classes)?;
+            return Ok(());
+        }
         let mut node = self.node(classes)?;
         node.convert_to_kind(kind);
-        self.take(false, node, classes)?;
+        self.take_apart(false, node, classes)?;
         Ok(())
     }
 
@@ -355,16 +409,18 @@ impl<'s> Parser<'s> {
     }
 
     /// Takes the token at hand as an error that it was not expected.
+    #[cold]
     pub fn unexpected<C: Classes>(&mut self, classes: &C) -> Result<(), AllocError>
         ensures { (l : Level) → l.classes ≡ C.classes classes.now → Reads l (spec.unexpected []) self.old result self.new }
     {
         let mut node = self.node(classes)?;
         node.unexpected()?;
-        self.take(true, node, classes)?;
+        self.take_apart(true, node, classes)?;
         Ok(())
     }
 
     /// The same with a hint.
+    #[cold]
     pub fn unexpected_with_hint<C: Classes>(
         &mut self,
         hint: &str,
@@ -375,7 +431,7 @@ impl<'s> Parser<'s> {
         let mut node = self.node(classes)?;
         node.unexpected()?;
         node.hint(hint)?;
-        self.take(true, node, classes)?;
+        self.take_apart(true, node, classes)?;
         Ok(())
     }
 
@@ -386,7 +442,7 @@ impl<'s> Parser<'s> {
     {
         if self.ahead.kind.is_error() {
             let node = self.node(classes)?;
-            self.take(true, node, classes)?;
+            self.take_apart(true, node, classes)?;
             return Ok(());
         }
         if self.state.is_after_error {
@@ -449,6 +505,7 @@ impl<'s> Parser<'s> {
     }
 
     /// The same, where the first of them becomes the error that it was not closed.
+    #[cold]
     pub fn wrap_unclosed(&mut self, from: usize, kind: SyntaxKind) -> Result<(), AllocError>
         requires { is_error kind ≡ false }
         ensures { OnOk result (Rewrapped from (unclosed kind) self.old self.new) }
@@ -462,6 +519,7 @@ impl<'s> Parser<'s> {
     }
 
     /// The same, with a warning and its hint on the node.
+    #[cold]
     pub fn wrap_with_warning(
         &mut self,
         from: usize,
@@ -483,6 +541,7 @@ impl<'s> Parser<'s> {
     }
 
     /// Makes the nodes from a number on one error leaf of their text.
+    #[cold]
     pub fn wrap_error(&mut self, from: usize, message: &str) -> Result<(), AllocError>
         ensures { OnOk result (Rewrapped from (fails message.now) self.old self.new) }
     {

@@ -2,6 +2,7 @@ pub mod Ahead
 pub mod ColumnLemmas
 pub mod Frame
 pub mod Moves
+pub mod PairLemmas
 pub mod Sights
 pub mod Spans
 pub mod Steps

@@ -1,12 +1,11 @@
 -- Machines, taken one character after the other.
-use Rattle.std.proofs.Common.{◌≡◌, ℕ, suc, ◌+◌, max, Bool, true, false, List, [], ◌∷◌, length, refl, sym, ap, ◌∙◌, arith}
-use Rattle.std.specs.List.{prefix_len}
+use Rattle.std.proofs.Common.{◌≡◌, ℕ, suc, max, List, [], ◌∷◌, length, refl, sym, ap, ◌∙◌, arith}
 use Rattle.typst_lines.specs.Place.{Place, moved_from}
 use Rattle.typst_readers.specs.Reader.{place, both, no_look, widened, from_before, Look, ask, glimpse, Machine, Memory, Turn, spanned, span_look, Reader, eat_span}
 use Rattle.typst_readers.specs.Reader.Turn.{leave, last, go}
-use Rattle.typst_readers.specs.Sight.{far, Sight, Covers, saw, saw_by, went, went_past, sight}
+use Rattle.typst_readers.specs.Sight.{far, Sight, Covers, saw, saw_by, went, sight}
 use Rattle.typst_readers.proofs.Frame.{turned}
-use Rattle.typst_readers.proofs.Sights.{far-none, far-le, far-on, far-moved, same-sight, covers-saw, covers-saw_by, covers-went, saw-both, saw-nothing, saw-ahead, saw-before, went-nowhere}
+use Rattle.typst_readers.proofs.Sights.{far-none, far-le, far-on, same-sight, covers-saw, covers-saw_by, saw-both, saw-nothing, saw-ahead, saw-before, went-nowhere}
 
 abbrev turn_look : Machine → List ℕ → ℕ → List ℕ → Turn → Look
 turn_look m behind c ahead t = elim t [ leave ↦ no_look | last after ↦ no_look | go after ↦ from_before (c ∷ ahead) (span_look m after (c ∷ behind) ahead) ]
@@ -81,53 +80,9 @@ sight-first m state k b (c ∷ a) r l h =
     ∙ ap (λ w. turned_sight m state k (saw_by (glimpse (m state) (place b (c ∷ a))) w) t) (saw-twice v)
     ∙ sym (sight-turn m state k c b a r l t refl h)
 
--- ---- what a machine takes, it takes at once
+-- ---- one character on
 
-prefix-on : (test : ℕ → Bool) (c : ℕ) (a : List ℕ) → test c ≡ true → prefix_len test (c ∷ a) ≡ suc (prefix_len test a)
-prefix-on test c a e = let one : 1 + prefix_len test a ≡ suc (prefix_len test a) = omega arith in rw (e, one) refl
-
-prefix-off : (test : ℕ → Bool) (c : ℕ) (a : List ℕ) → test c ≡ false → prefix_len test (c ∷ a) ≡ 0
-prefix-off test c a e = rw e refl
-
-went-on : (n r l c : ℕ) (b a : List ℕ)
+pub went-on : (n r l c : ℕ) (b a : List ℕ)
     → went n (saw (suc n) (went 1 (saw 1 (record { place = place b (c ∷ a); reach = r; least = l })))) ≡ went (suc n) (saw (suc (suc n)) (record { place = place b (c ∷ a); reach = r; least = l }))
 went-on n r l c b a =
     same-sight _ _ _ _ _ _ refl (omega (arith, far-on (suc n) c b a, far-on n c b a, far-on 0 c b a, far-none (place (c ∷ b) a), far-le n (place (c ∷ b) a))) refl
-
--- what was gone past was looked at
-pub past-seen : (test : ℕ → Bool) (v : Sight) → saw 1 (went_past test v) ≡ went_past test v
-past-seen test v =
-    let n = prefix_len test v.place.ahead in
-    let up : suc (0 + n) ≡ suc n = omega arith in
-    same-sight _ _ _ _ _ _ refl (omega (arith, far-moved 0 n v.place.behind v.place.ahead, ap (λ k. far k v.place) up)) refl
-
-module _ {A : Type 0} (m : Machine) (state : Memory) (test : ℕ → Bool) (k : Memory → Reader A)
-    (goes : (c : ℕ) (b a : List ℕ) → test c ≡ true → ask (m state) (place b (c ∷ a)) ≡ go state)
-    (looks : (c : ℕ) (b a : List ℕ) → test c ≡ true → glimpse (m state) (place b (c ∷ a)) ≡ record { back = 0; front = 1 }) where
-  abbrev ahead_of : List ℕ → List ℕ → ℕ → ℕ → Sight
-  ahead_of b a r l = record { place = place b a; reach = r; least = l }
-
-  stays : (b a : List ℕ) (r l : ℕ) → Covers (ahead_of b a r l) → prefix_len test a ≡ 0 → sight (eat_span m state k) (ahead_of b a r l) ≡ sight (eat_span m state k) (went_past test (ahead_of b a r l))
-  stays b a r l h e =
-      sym (sight-first m state k b a r l h)
-      ∙ ap (sight (eat_span m state k)) (sym (went-nowhere (saw 1 (ahead_of b a r l)) (covers-saw 1 (ahead_of b a r l) h)))
-      ∙ ap (λ n. sight (eat_span m state k) (went n (saw (suc n) (ahead_of b a r l)))) (sym e)
-
-  abbrev Past : List ℕ → List ℕ → ℕ → ℕ → Type 0
-  Past b a r l = Covers (ahead_of b a r l) → sight (eat_span m state k) (ahead_of b a r l) ≡ sight (eat_span m state k) (went_past test (ahead_of b a r l))
-
-  by-test : (b a : List ℕ) (r l c : ℕ) (t : Bool) → test c ≡ t → ((r : ℕ) → Past (c ∷ b) a r l) → Past b (c ∷ a) r l
-  by-test b a r l c false e rest h = stays b (c ∷ a) r l h (prefix-off test c a e)
-  by-test b a r l c true e rest h =
-      let v = ahead_of b (c ∷ a) r l in
-      let w = went 1 (saw 1 v) in
-      sight-turn m state k c b a r l (go state) (goes c b a e) h
-      ∙ ap (λ (x : Look). sight (eat_span m state k) (went 1 (saw_by x (saw 1 v)))) (looks c b a e)
-      ∙ ap (λ x. sight (eat_span m state k) (went 1 x)) (saw-ahead 1 (saw 1 v) (covers-saw 1 v h) ∙ saw-twice v)
-      ∙ rest w.reach (covers-went 1 (saw 1 v) (covers-saw 1 v h))
-      ∙ ap (sight (eat_span m state k)) (went-on (prefix_len test a) r l c b a)
-      ∙ ap (λ n. sight (eat_span m state k) (went n (saw (suc n) v))) (sym (prefix-on test c a e))
-
-  pub sight-past : (b a : List ℕ) (r l : ℕ) → Past b a r l
-  sight-past b [] r l h = stays b [] r l h refl
-  sight-past b (c ∷ a) r l h = by-test b a r l c (test c) refl (λ s. sight-past (c ∷ b) a s l) h

@@ -2,11 +2,13 @@
 ghost use Rattle.std.specs.Prelude.{◌≡◌, ◌==◌, ◌+◌, ◌<◌, ◌^◌, ℕ, suc, IsTrue, if◌then◌else◌, is_none, slice_get, length, take};
 ghost use Rattle.std.specs.List.{prefix_len};
 ghost use Rattle.std.specs.Str.{chars};
+ghost use Rattle.typst_readers.specs.Pairs.{either, went_past_pairs};
 ghost use Rattle.typst_readers.specs.Sight as spec;
 ghost use Rattle.typst_lines.specs.Place.{moved, passes, run, scout, word_at};
 ghost use Rattle.typst_lines.specs.Scanner.{place};
 
 use crate::hull::Hull;
+use crate::pairs::{PairSet, past_pairs};
 use std::marker::Model;
 use typst_lines::{CharSet, Scanner, ScannerExt};
 
@@ -218,16 +220,16 @@ impl<'a> Cursor<'a> {
         taken
     }
 
-    /// Goes past the longest run of characters of the set, and gives the character that ends it.
-    pub fn go_past<S: CharSet>(&mut self, set: &S) -> Option<char>
+    /// Goes past the longest run of characters that are in one set, or in the other by what
+    /// follows, and gives the character that ends it.
+    #[inline]
+    pub fn go_past<S: CharSet, P: PairSet>(&mut self, alone: &S, pairs: &P) -> Option<char>
         ensures next { result ≡ scout 0 self.new.place }
-        ensures sight { self.new ≡ spec.went_past (S.members set.now) self.old }
+        ensures sight { self.new ≡ went_past_pairs (either (S.members alone.now) (P.members pairs.now)) self.old }
         ensures covers { spec.Covers self.old }
     {
-        self.s.eat_while(set);
-        let mut ahead = self.s;
-        let c = ahead.eat();
-        self.reach = self.reach.max(end_of(&ahead, c));
+        let (behind, c) = past_pairs(&mut self.s, alone, pairs);
+        self.reach = self.reach.max(end_of(&behind, c));
         c
     }
 }

@@ -4,6 +4,8 @@
 pub mod column;
 pub mod cursor;
 pub mod hull;
+pub mod pairs;
 
 pub use cursor::Cursor;
 pub use hull::Hull;
+pub use pairs::PairSet;

@@ -9,7 +9,7 @@ use Rattle.typst_parsing.proofs.parser.Parser.expected.Goals as goal
 pub returns-then-is_error : goal.returns-then-is_error
 unfolding expected
 returns-then-is_error g c l e =
-    does-next (does-peek _) (does-pick (ap (λ (v : View). is_error v.hand.kind) (sym c.self.view_is) ∙ sym c.is_error.ensures ∙ c.if-is_error.true) (c.in_ok-take.ensures l itself e c.in_ok-node.ensures))
+    does-next (does-peek _) (does-pick (ap (λ (v : View). is_error v.hand.kind) (sym c.self.view_is) ∙ sym c.is_error.ensures ∙ c.if-is_error.true) (c.in_ok-take_apart.ensures l itself e c.in_ok-node.ensures))
 
 pub returns-then-self : goal.returns-then-self
 unfolding expected

@@ -21,7 +21,7 @@ returns g c =
     let first : Note = record { mark = c.args.mark; before = 0; start = 0; depth = c.args.depth; state = start_state c.args.reading; reach = 0; least = 2 ^ 64 - 1 } in
     let at = ap (λ (s : Scanner). place s) b.before ∙ c.new-before.ensures.place ∙ start-is c.args.text.now in
     record {
-      nodes = c.new.ensures.items;
+      nodes = c.in_ok-with_capacity.ensures.items;
       place = at;
       state = refl;
       hand = b.hand ∙ ap (λ (s : Scanner). hand_at k c.args.reading no_newlines (place s)) (sym b.before);

@@ -1,0 +1,11 @@
+use Rattle.std.proofs.Common.{◌≡◌, length}
+use Rattle.typst_lines.specs.Scanner.{place}
+use Rattle.typst_readers.specs.Pairs.{either, past_pairs}
+use Rattle.typst_readers.proofs.pairs.past_pairs.Given as goal
+
+abbrev pub invariant-runs : goal.invariant-runs
+invariant-runs g l =
+    record { past : past_pairs (either (g.S.CharSet.members l.alone) (g.P.PairSet.members l.pairs)) (place l.at) ≡ past_pairs (either (g.S.CharSet.members l.alone) (g.P.PairSet.members l.pairs)) (place l.fn.s) }
+
+abbrev pub decreases-runs : goal.decreases-runs
+decreases-runs g l = length (place l.at).ahead
