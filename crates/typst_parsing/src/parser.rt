@@ -29,8 +29,7 @@ use typst_lexer::token::{is_leaf, leaf_node, make_node};
 use typst_lines::Scanner;
 use typst_node::SyntaxNode;
 
-/// Of so many bytes a node of the text's own is made at least, as a rule: so much room is taken at
-/// once.
+/// Room for one node is taken at once for so many bytes of the text, which suffices as a rule.
 const BYTES_OF_A_NODE: usize = 32;
 
 /// A parser of a text: the nodes so far, the token at hand, and how to go on.
