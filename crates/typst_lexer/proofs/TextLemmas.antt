@@ -1,5 +1,5 @@
 -- Facts on texts.
-use Rattle.std.proofs.Common.{◌≡◌, ◌≤◌, ◌<◌, ℕ, zero, suc, length, Bool, true, false, not, ◌||◌, ◌&&◌, ◌==◌, if◌then◌else◌, List, [], ◌∷◌, refl, sym, ap, subst, ◌∙◌, arith, slice_get, Option, Some, None}
+use Rattle.std.proofs.Common.{◌≡◌, ◌≤◌, ◌<◌, ℕ, length, Bool, true, false, not, ◌||◌, ◌&&◌, ◌==◌, if◌then◌else◌, List, [], ◌∷◌, refl, sym, ap, subst, ◌∙◌, arith, slice_get, Option, Some, None}
 use Rattle.std.proofs.lemmas.Bool.Decides.{nat_tests}
 use Rattle.typst_kinds.specs.declared.kind.SyntaxKind.TheVariants as kind
 use Rattle.typst_lines.specs.Place.{Place, moved, moved_from, passes, scout, word_at}
@@ -16,7 +16,7 @@ use Rattle.typst_lexer.specs.Token.{plain}
 use Rattle.typst_lexer.specs.declared.token.Token.{Token}
 use Rattle.typst_readers.proofs.Sights.{regard-is, covers-saw, covers-saw_by, saw-ahead, saw-both}
 use Rattle.typst_readers.proofs.WordLemmas.{regard-see_word}
-use Rattle.typst_readers.proofs.PairLemmas.{sight-pairs}
+use Rattle.typst_readers.proofs.PairLemmas.{moved-less, sight-pairs}
 use Rattle.typst_readers.proofs.Spans.{saw-twice, sight-turn, sight-end, turned_sight}
 
 abbrev pub rest : CharClasses → Reader Token
@@ -145,18 +145,13 @@ rest-place k c v w t h g = ap (λ (p : Turn × Sight). p.1.place) (sym g ∙ reg
 pub rest-covers : (k : CharClasses) (c : ℕ) (v w : Sight) (t : Turn) → Covers v → regard (text_step k c) v ≡ (t, w) → Covers w
 rest-covers k c v w t h g = subst Covers (ap (λ (p : Turn × Sight). p.1) (sym (regard-is (text_step k c) v h) ∙ g)) (covers-saw_by (glimpse (text_step k c) v.place) v h)
 
-past-shortens : (n : ℕ) (b a : List ℕ) → length (moved_from n b a).ahead ≤ length a
-past-shortens zero b a = omega arith
-past-shortens (suc n) b [] = omega arith
-past-shortens (suc n) b (d ∷ a) = omega (arith, past-shortens n (d ∷ b) a)
-
 -- behind a character and a run fewer are ahead
 pub rest-shortens : (test : ℕ → Option ℕ → Bool) (c : ℕ) (z y : Place) → y ≡ z → Some c ≡ scout 0 z → length (past_pairs test (moved 1 y)).ahead < length z.ahead
 rest-shortens test c z y e s = rw e (shorter z.behind z.ahead s)
   where
     shorter : (b a : List ℕ) → Some c ≡ slice_get a 0 → length (past_pairs test (moved_from 1 b a)).ahead < length a
     shorter b [] s = absurd (cc)
-    shorter b (d ∷ a) s = omega (arith, past-shortens (pairs_len test a) (d ∷ b) a)
+    shorter b (d ∷ a) s = omega (arith, moved-less (pairs_len test a) (d ∷ b) a)
 
 -- ---- words at which a text stops
 

@@ -6,7 +6,7 @@ use Rattle.typst_readers.specs.Pairs.{either, pair_passes, pairs_len, past_pairs
 use Rattle.typst_readers.specs.Reader.{place, ask, glimpse, Machine, Memory, Reader, eat_span}
 use Rattle.typst_readers.specs.Reader.Turn.{go}
 use Rattle.typst_readers.specs.Sight.{position, far, Sight, Covers, saw, saw_by, went, sight}
-use Rattle.typst_readers.proofs.Sights.{covers-saw, covers-went, far-le, far-max, far-moved, far-none, far-on, far-read, same-sight, saw-ahead, two-scout, went-nowhere}
+use Rattle.typst_readers.proofs.Sights.{covers-saw, covers-went, far-le, far-moved, far-next, far-none, far-on, far-read, same-sight, saw-ahead, two-scout, went-nowhere}
 use Rattle.typst_readers.proofs.Spans.{sight-turn, sight-first, went-on}
 
 -- ---- the run itself
@@ -76,10 +76,11 @@ past-stops alone z = on z.behind z.ahead
     on b [] = refl
     on b (c ∷ a) = by b a c (alone c) refl (on (c ∷ b) a)
 
-past-less : (n : ℕ) (b a : List ℕ) → length (moved_from n b a).ahead ≤ length a
-past-less zero b a = omega arith
-past-less (suc n) b [] = omega arith
-past-less (suc n) b (d ∷ a) = omega (arith, past-less n (d ∷ b) a)
+-- who goes on has no more ahead
+pub moved-less : (n : ℕ) (b a : List ℕ) → length (moved_from n b a).ahead ≤ length a
+moved-less zero b a = omega arith
+moved-less (suc n) b [] = omega arith
+moved-less (suc n) b (d ∷ a) = omega (arith, moved-less n (d ∷ b) a)
 
 or-second : (a b : Bool) → b ≡ true → (a || b) ≡ true
 or-second true b e = refl
@@ -111,7 +112,7 @@ run-on alone pairs (Some c) p y w o m n e = ap (past_pairs (either alone pairs))
 pub run-shortens : (alone : ℕ → Bool) (pairs : ℕ → Option ℕ → Bool) (o p : Option ℕ) (z y w : Place) → y ≡ past alone z → o ≡ scout 0 y → w ≡ moved 1 y → pair_passes pairs o p ≡ true → length w.ahead < length z.ahead
 run-shortens alone pairs None p z y w f o m e = absurd (cc)
 run-shortens alone pairs (Some c) p z y w f o m e =
-    let less = past-less (prefix_len alone z.ahead) z.behind z.ahead in
+    let less = moved-less (prefix_len alone z.ahead) z.behind z.ahead in
     omega (arith, less, ap (λ (x : Place). length x.ahead) f, ap (λ (x : Place). length x.ahead) m, shorter y.behind y.ahead o)
   where
     shorter : (b a : List ℕ) → Some c ≡ slice_get a 0 → length (moved_from 1 b a).ahead < length a
@@ -130,9 +131,6 @@ ran-pairs test z y w o r l m e g f p h q =
     let up : suc (0 + n) ≡ suc n = omega arith in
     let one = far-read 0 y w o e f p h ∙ ap (far 1) q ∙ far-moved 0 n z.behind z.ahead ∙ ap (λ k. far k z) up in
     same-sight _ _ _ _ _ _ q (omega (arith, g, one, far-next n z)) refl
-  where
-    far-next : (n : ℕ) (z : Place) → far n z ≤ far (suc n) z
-    far-next n z = let e : max n (suc n) ≡ suc n = omega arith in omega (arith, far-max n (suc n) z, ap (λ k. far k z) e)
 
 -- what was gone past was looked at
 pub pairs-seen : (test : ℕ → Option ℕ → Bool) (v : Sight) → saw 1 (went_past_pairs test v) ≡ went_past_pairs test v

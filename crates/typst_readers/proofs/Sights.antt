@@ -327,6 +327,10 @@ pub ate : (n : ℕ) (z y : Place) (o : Option ℕ) (r l m e : ℕ) → m ≡ max
     → ◌≡◌ {A = Sight} (record { place = y; reach = m; least = l }) (went (suc n) (record { place = z; reach = r; least = l }))
 ate n z y o r l m e g f p h = same-sight _ _ _ _ _ _ p (g ∙ ap (max r) (far-read n z y o e f p h)) refl
 
+-- who looks further sees no less
+pub far-next : (n : ℕ) (z : Place) → far n z ≤ far (suc n) z
+far-next n z = let e : max n (suc n) ≡ suc n = omega arith in omega (arith, far-max n (suc n) z, ap (λ k. far k z) e)
+
 pub ran : (test : ℕ → Bool) (z y w : Place) (o : Option ℕ) (r l m e : ℕ) → m ≡ max r e → e ≡ position w + (if is_none o then 1 else 0) → w ≡ moved 1 y → o ≡ scout 0 y → y ≡ past test z
     → ◌≡◌ {A = Sight} (record { place = y; reach = m; least = l }) (went_past test (record { place = z; reach = r; least = l }))
 ran test z y w o r l m e g f p h q =
@@ -334,9 +338,6 @@ ran test z y w o r l m e g f p h q =
     let up : suc (0 + n) ≡ suc n = omega arith in
     let one = far-read 0 y w o e f p h ∙ ap (far 1) q ∙ far-moved 0 n z.behind z.ahead ∙ ap (λ k. far k z) up in
     same-sight _ _ _ _ _ _ q (omega (arith, g, one, far-next n z)) refl
-  where
-    far-next : (n : ℕ) (z : Place) → far n z ≤ far (suc n) z
-    far-next n z = let e : max n (suc n) ≡ suc n = omega arith in omega (arith, far-max n (suc n) z, ap (λ k. far k z) e)
 
 pub two-moved : (z y x : Place) → y ≡ moved 1 z → x ≡ moved 1 y → x ≡ moved 2 z
 two-moved z y x e f = f ∙ ap (moved 1) e ∙ moved-more 1 1 z.behind z.ahead
