@@ -3,9 +3,8 @@
 ghost use Rattle.std.specs.Prelude.{◌≡◌, ◌<◌, IfOk, Some};
 ghost use Rattle.std.specs.Str.{chars};
 ghost use Rattle.typst_node.specs.Tree.{text_of};
-ghost use Rattle.typst_parsing.specs.Meaning.{Level};
-ghost use Rattle.typst_parsing.specs.View.{Calls, MayNest, Nests, Reads, ReadsBlock};
-ghost use Rattle.typst_markup.specs.Markup.{content_block};
+ghost use Rattle.typst_parsing.specs.View.{Calls};
+ghost use Rattle.typst_markup.specs.Outside.{MeansOutside};
 ghost use Rattle.typst_grammar.specs.Grammar as spec;
 ghost use Rattle.typst_grammar.specs.Read.{IsParsed};
 
@@ -15,19 +14,15 @@ use typst_kinds::{SyntaxKind, SyntaxMode};
 use typst_lexer::Hull;
 use typst_markup::{markup_expr, markup_exprs};
 use typst_node::SyntaxNode;
-use typst_parsing::{AtNewline, Block, Call, Grammar, Mark, Note, Parser, Reading, Stop};
+use typst_parsing::{AtNewline, Call, Grammar, Levels, Mark, Note, Parser, Reading, Stop};
 
 /// How deep calls may nest.
 const MAX_DEPTH: usize = 256;
 
 /// Reads what a call asks for.
-pub fn production<C: Classes, F: Fn(&C, &mut Parser<'_>, usize, Call) -> Result<usize, AllocError>>(
-    g: &Grammar<'_, C, F>,
-    p: &mut Parser<'_>,
-    call: Call,
-) -> Result<usize, AllocError>
-    requires { MayNest g.now.depth (F.pre g.now.call g.now.classes) }
-    ensures { (l : Level) → l.classes ≡ C.classes g.now.classes.now → Nests l g.now.depth (F.post g.now.call g.now.classes) → ReadsBlock l Block.Content content_block → Reads l (spec.production call) p.old result p.new }
+pub fn production<L: Levels>(g: &L, p: &mut Parser<'_>, call: Call) -> Result<usize, AllocError>
+    requires { L.may_call g.now }
+    ensures { MeansOutside (L.frame g.now) (spec.production call) p.old result p.new }
 {
     match call {
         Call::MarkupExpr(at_start, nesting) => Ok(markup_expr(g, p, at_start, nesting)?),

@@ -24,8 +24,3 @@ pub does-entered : {A : Type 0} {l : Level} (f : Reading → Reading) {p : Parse
     → inner ≡ record old { state = entered (f old.state.reading) old.state } → Does l p a inner mid → outer ≡ old.state.reading → Left l outer mid new → Does l (within f p) a old new
 does-entered {l = l} f {p = p} {a = a} {old = old} {mid = mid} {new = new} e d o t =
     does-within f (subst (λ (v : View). Does l p a v mid) e d) (subst (λ (r : Reading). Left l r mid new) o t)
-
--- a bound's post, as invariants name it
-abbrev pub spread : {R : Type 0} → (R × (MutBor View × (ℕ × (Call × Unit {0}))) → Result ℕ AllocError × (MutBor View × Unit {0}) → Type 0)
-    → R → MutBor View → ℕ → Call → Result ℕ AllocError → MutBor View → Type 0
-spread post classes old depth call r new = post (classes, (old, (depth, (call, tt)))) (r, (new, tt))

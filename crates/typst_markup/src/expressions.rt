@@ -2,33 +2,27 @@
 
 ghost use Rattle.std.specs.Prelude.{◌≡◌, ◌<◌, OnOk, false};
 ghost use Rattle.typst_kinds.specs.Kinds.{is_error};
-ghost use Rattle.typst_parsing.specs.Meaning.{Level};
-ghost use Rattle.typst_parsing.specs.View.{MayNest, Nests, Reads, ReadsBlock, Rewrapped};
+ghost use Rattle.typst_parsing.specs.View.{Means, Rewrapped};
 ghost use Rattle.typst_markup.specs.Markup as spec;
+ghost use Rattle.typst_markup.specs.Outside.{MeansOutside};
 
 use crate::head::{MarkupHead, markup_head};
 use crate::references::reference;
 use crate::sequences::{markup, markup_with_trivia};
 use std::alloc::AllocError;
-use typst_classes::Classes;
 use typst_kinds::SyntaxKind;
-use typst_parsing::{
-    AtNewline, Block, Call, Grammar, Parser, Stop, is_colon, is_star, is_underscore,
-};
+use typst_parsing::{AtNewline, Block, Levels, Parser, Stop, is_colon, is_star, is_underscore};
 
 /// `*..*`
-pub fn strong<C: Classes, F: Fn(&C, &mut Parser<'_>, usize, Call) -> Result<usize, AllocError>>(
-    g: &Grammar<'_, C, F>,
-    p: &mut Parser<'_>,
-) -> Result<(), AllocError>
-    requires { MayNest g.now.depth (F.pre g.now.call g.now.classes) }
-    ensures { (l : Level) → l.classes ≡ C.classes g.now.classes.now → Nests l g.now.depth (F.post g.now.call g.now.classes) → Reads l (spec.strong) p.old result p.new }
+pub fn strong<L: Levels>(g: &L, p: &mut Parser<'_>) -> Result<(), AllocError>
+    requires { L.may_call g.now }
+    ensures { Means (L.frame g.now) (spec.strong) p.old result p.new }
 {
     let outer = p.enter_rule(AtNewline::StopParBreak);
     let from = p.marker();
-    p.eat(g.classes)?;
+    p.eat(g)?;
     let is_empty = markup_with_trivia(g, p, false, Stop::Strong)?;
-    let closed = p.eat_if(is_star(p.current()), g.classes)?;
+    let closed = p.eat_if(is_star(p.current()), g)?;
     wrap_emphasized(
         p,
         from,
@@ -38,23 +32,20 @@ pub fn strong<C: Classes, F: Fn(&C, &mut Parser<'_>, usize, Call) -> Result<usiz
         "no text within stars",
         "using multiple consecutive stars (e.g. **) has no additional effect",
     )?;
-    p.leave(outer, g.classes)?;
+    p.leave(outer, g)?;
     Ok(())
 }
 
 /// `_.._`
-pub fn emph<C: Classes, F: Fn(&C, &mut Parser<'_>, usize, Call) -> Result<usize, AllocError>>(
-    g: &Grammar<'_, C, F>,
-    p: &mut Parser<'_>,
-) -> Result<(), AllocError>
-    requires { MayNest g.now.depth (F.pre g.now.call g.now.classes) }
-    ensures { (l : Level) → l.classes ≡ C.classes g.now.classes.now → Nests l g.now.depth (F.post g.now.call g.now.classes) → Reads l (spec.emph) p.old result p.new }
+pub fn emph<L: Levels>(g: &L, p: &mut Parser<'_>) -> Result<(), AllocError>
+    requires { L.may_call g.now }
+    ensures { Means (L.frame g.now) (spec.emph) p.old result p.new }
 {
     let outer = p.enter_rule(AtNewline::StopParBreak);
     let from = p.marker();
-    p.eat(g.classes)?;
+    p.eat(g)?;
     let is_empty = markup_with_trivia(g, p, false, Stop::Emph)?;
-    let closed = p.eat_if(is_underscore(p.current()), g.classes)?;
+    let closed = p.eat_if(is_underscore(p.current()), g)?;
     wrap_emphasized(
         p,
         from,
@@ -64,7 +55,7 @@ pub fn emph<C: Classes, F: Fn(&C, &mut Parser<'_>, usize, Call) -> Result<usize,
         "no text within underscores",
         "using multiple consecutive underscores (e.g. __) has no additional effect",
     )?;
-    p.leave(outer, g.classes)?;
+    p.leave(outer, g)?;
     Ok(())
 }
 
@@ -94,106 +85,91 @@ fn wrap_emphasized(
 }
 
 /// `= ..`
-pub fn heading<C: Classes, F: Fn(&C, &mut Parser<'_>, usize, Call) -> Result<usize, AllocError>>(
-    g: &Grammar<'_, C, F>,
-    p: &mut Parser<'_>,
-) -> Result<(), AllocError>
-    requires { MayNest g.now.depth (F.pre g.now.call g.now.classes) }
-    ensures { (l : Level) → l.classes ≡ C.classes g.now.classes.now → Nests l g.now.depth (F.post g.now.call g.now.classes) → Reads l (spec.heading) p.old result p.new }
+pub fn heading<L: Levels>(g: &L, p: &mut Parser<'_>) -> Result<(), AllocError>
+    requires { L.may_call g.now }
+    ensures { Means (L.frame g.now) (spec.heading) p.old result p.new }
 {
     let outer = p.enter_rule(AtNewline::Stop);
     let from = p.marker();
-    p.eat(g.classes)?;
+    p.eat(g)?;
     markup(g, p, false, Stop::Heading)?;
     p.wrap(from, SyntaxKind::Heading)?;
-    p.leave(outer, g.classes)?;
+    p.leave(outer, g)?;
     Ok(())
 }
 
 /// `- ..`
-pub fn list_item<C: Classes, F: Fn(&C, &mut Parser<'_>, usize, Call) -> Result<usize, AllocError>>(
-    g: &Grammar<'_, C, F>,
-    p: &mut Parser<'_>,
-) -> Result<(), AllocError>
-    requires { MayNest g.now.depth (F.pre g.now.call g.now.classes) }
-    ensures { (l : Level) → l.classes ≡ C.classes g.now.classes.now → Nests l g.now.depth (F.post g.now.call g.now.classes) → Reads l (spec.list_item) p.old result p.new }
+pub fn list_item<L: Levels>(g: &L, p: &mut Parser<'_>) -> Result<(), AllocError>
+    requires { L.may_call g.now }
+    ensures { Means (L.frame g.now) (spec.list_item) p.old result p.new }
 {
     let column = p.current_column();
     let outer = p.enter_rule(AtNewline::RequireColumn(column));
     let from = p.marker();
-    p.eat(g.classes)?;
+    p.eat(g)?;
     markup(g, p, true, Stop::Item)?;
     p.wrap(from, SyntaxKind::ListItem)?;
-    p.leave(outer, g.classes)?;
+    p.leave(outer, g)?;
     Ok(())
 }
 
 /// `+ ..` or `1. ..`
-pub fn enum_item<C: Classes, F: Fn(&C, &mut Parser<'_>, usize, Call) -> Result<usize, AllocError>>(
-    g: &Grammar<'_, C, F>,
-    p: &mut Parser<'_>,
-) -> Result<(), AllocError>
-    requires { MayNest g.now.depth (F.pre g.now.call g.now.classes) }
-    ensures { (l : Level) → l.classes ≡ C.classes g.now.classes.now → Nests l g.now.depth (F.post g.now.call g.now.classes) → Reads l (spec.enum_item) p.old result p.new }
+pub fn enum_item<L: Levels>(g: &L, p: &mut Parser<'_>) -> Result<(), AllocError>
+    requires { L.may_call g.now }
+    ensures { Means (L.frame g.now) (spec.enum_item) p.old result p.new }
 {
     let column = p.current_column();
     let outer = p.enter_rule(AtNewline::RequireColumn(column));
     let from = p.marker();
-    p.eat(g.classes)?;
+    p.eat(g)?;
     markup(g, p, true, Stop::Item)?;
     p.wrap(from, SyntaxKind::EnumItem)?;
-    p.leave(outer, g.classes)?;
+    p.leave(outer, g)?;
     Ok(())
 }
 
 /// `/ Term: ..`
-pub fn term_item<C: Classes, F: Fn(&C, &mut Parser<'_>, usize, Call) -> Result<usize, AllocError>>(
-    g: &Grammar<'_, C, F>,
-    p: &mut Parser<'_>,
-) -> Result<(), AllocError>
-    requires { MayNest g.now.depth (F.pre g.now.call g.now.classes) }
-    ensures { (l : Level) → l.classes ≡ C.classes g.now.classes.now → Nests l g.now.depth (F.post g.now.call g.now.classes) → Reads l (spec.term_item) p.old result p.new }
+pub fn term_item<L: Levels>(g: &L, p: &mut Parser<'_>) -> Result<(), AllocError>
+    requires { L.may_call g.now }
+    ensures { Means (L.frame g.now) (spec.term_item) p.old result p.new }
 {
     let column = p.current_column();
     let outer = p.enter_rule(AtNewline::RequireColumn(column));
     let from = p.marker();
     let item = p.enter_rule(AtNewline::Stop);
-    p.eat(g.classes)?;
+    p.eat(g)?;
     markup(g, p, false, Stop::Term)?;
-    p.leave(item, g.classes)?;
-    p.expect(is_colon(p.current()), "colon", g.classes)?;
+    p.leave(item, g)?;
+    p.expect(is_colon(p.current()), "colon", g)?;
     markup(g, p, true, Stop::Item)?;
     p.wrap(from, SyntaxKind::TermItem)?;
-    p.leave(outer, g.classes)?;
+    p.leave(outer, g)?;
     Ok(())
 }
 
 /// One expression of markup, whether at the start of a line, and in how many brackets; answers in how
 /// many brackets what comes next stands.
-pub fn markup_expr<
-    C: Classes,
-    F: Fn(&C, &mut Parser<'_>, usize, Call) -> Result<usize, AllocError>,
->(
-    g: &Grammar<'_, C, F>,
+pub fn markup_expr<L: Levels>(
+    g: &L,
     p: &mut Parser<'_>,
     at_start: bool,
     nesting: usize,
 ) -> Result<usize, AllocError>
-    requires { MayNest g.now.depth (F.pre g.now.call g.now.classes) }
-    ensures { (l : Level) → l.classes ≡ C.classes g.now.classes.now → Nests l g.now.depth (F.post g.now.call g.now.classes) → ReadsBlock l Block.Content spec.content_block → Reads l (spec.markup_expr at_start nesting) p.old result p.new }
+    requires { L.may_call g.now }
+    ensures { MeansOutside (L.frame g.now) (spec.markup_expr at_start nesting) p.old result p.new }
 {
     match markup_head(at_start, nesting, p.current()) {
-        MarkupHead::Itself => p.eat(g.classes)?,
+        MarkupHead::Itself => p.eat(g)?,
         MarkupHead::Opening => {
-            p.convert_and_eat(SyntaxKind::Text, g.classes)?;
+            p.convert_and_eat(SyntaxKind::Text, g)?;
             return Ok(nesting.saturating_add(1));
         }
         MarkupHead::Closing => {
-            p.convert_and_eat(SyntaxKind::Text, g.classes)?;
+            p.convert_and_eat(SyntaxKind::Text, g)?;
             return Ok(nesting.saturating_sub(1));
         }
         MarkupHead::Stray => {
-            p.unexpected_with_hint("try using a backslash escape: \\]", g.classes)?;
+            p.unexpected_with_hint("try using a backslash escape: \\]", g)?;
         }
         MarkupHead::Strong => strong(g, p)?,
         MarkupHead::Emph => emph(g, p)?,
@@ -202,8 +178,8 @@ pub fn markup_expr<
         MarkupHead::EnumItem => enum_item(g, p)?,
         MarkupHead::TermItem => term_item(g, p)?,
         MarkupHead::Reference => reference(g, p)?,
-        MarkupHead::Plain => p.convert_and_eat(SyntaxKind::Text, g.classes)?,
-        MarkupHead::Unexpected => p.unexpected(g.classes)?,
+        MarkupHead::Plain => p.convert_and_eat(SyntaxKind::Text, g)?,
+        MarkupHead::Unexpected => p.unexpected(g)?,
     }
     Ok(nesting)
 }

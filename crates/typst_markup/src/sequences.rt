@@ -2,24 +2,25 @@
 
 ghost use Rattle.std.specs.Prelude.{◌≡◌, ◌<◌, IfOk, Ok};
 ghost use Rattle.typst_parsing.specs.Meaning.{Level};
-ghost use Rattle.typst_parsing.specs.View.{MayNest, Nests, Reads};
+ghost use Rattle.typst_parsing.specs.View.{Means, Reads};
 ghost use Rattle.typst_markup.specs.Markup as spec;
 
 use std::alloc::AllocError;
-use typst_classes::Classes;
 use typst_kinds::SyntaxKind;
-use typst_parsing::{Call, Grammar, Mark, Parser, Stop, deeper, too_deep};
+use typst_parsing::{Call, Levels, Mark, Parser, Stop, deeper, too_deep};
 
 /// Reads expressions up to a stop.
-pub fn markup_exprs<
-    C: Classes,
-    F: Fn(&C, &mut Parser<'_>, usize, Call) -> Result<usize, AllocError>,
->(g: &Grammar<'_, C, F>, p: &mut Parser<'_>, at_start: bool, stop: Stop) -> Result<(), AllocError>
-    requires { MayNest g.now.depth (F.pre g.now.call g.now.classes) }
-    ensures { (l : Level) → l.classes ≡ C.classes g.now.classes.now → Nests l g.now.depth (F.post g.now.call g.now.classes) → Reads l (spec.markup_exprs at_start stop) p.old result p.new }
+pub fn markup_exprs<L: Levels>(
+    g: &L,
+    p: &mut Parser<'_>,
+    at_start: bool,
+    stop: Stop,
+) -> Result<(), AllocError>
+    requires { L.may_call g.now }
+    ensures { Means (L.frame g.now) (spec.markup_exprs at_start stop) p.old result p.new }
 {
-    if g.depth == 0 {
-        too_deep(p, Some(stop), g.classes)?;
+    if g.depth() == 0 {
+        too_deep(p, Some(stop), g)?;
         return Ok(());
     }
     let mut at_start = at_start | p.had_newline();
@@ -37,25 +38,22 @@ pub fn markup_exprs<
 
 /// Reads one expression, unless a stop comes; answers whether it did, whether a newline was passed
 /// behind it, and in how many brackets what comes next stands.
-pub fn markup_turn<
-    C: Classes,
-    F: Fn(&C, &mut Parser<'_>, usize, Call) -> Result<usize, AllocError>,
->(
-    g: &Grammar<'_, C, F>,
+pub fn markup_turn<L: Levels>(
+    g: &L,
     p: &mut Parser<'_>,
     stop: Stop,
     at_start: bool,
     nesting: usize,
 ) -> Result<(bool, (bool, usize)), AllocError>
-    requires { MayNest g.now.depth (F.pre g.now.call g.now.classes) }
-    ensures { (l : Level) → l.classes ≡ C.classes g.now.classes.now → Nests l g.now.depth (F.post g.now.call g.now.classes) → Reads l (spec.markup_turn stop (at_start, nesting)) p.old result p.new }
+    requires { L.may_call g.now }
+    ensures { Means (L.frame g.now) (spec.markup_turn stop (at_start, nesting)) p.old result p.new }
 {
     if ends(stop, nesting, p.current()) {
         return Ok((false, (at_start, nesting)));
     }
     let nesting = deeper(g, p, Call::MarkupExpr(at_start, nesting), nesting)?;
     let has_newline = p.had_newline();
-    note_piece(p, stop, has_newline, nesting, g.depth)?;
+    note_piece(p, stop, has_newline, nesting, g.depth())?;
     Ok((true, (has_newline, nesting)))
 }
 
@@ -83,14 +81,14 @@ fn is_run(stop: Stop) -> bool
 }
 
 /// Reads a sequence as one node, which begins at its first token.
-pub fn markup<C: Classes, F: Fn(&C, &mut Parser<'_>, usize, Call) -> Result<usize, AllocError>>(
-    g: &Grammar<'_, C, F>,
+pub fn markup<L: Levels>(
+    g: &L,
     p: &mut Parser<'_>,
     at_start: bool,
     stop: Stop,
 ) -> Result<(), AllocError>
-    requires { MayNest g.now.depth (F.pre g.now.call g.now.classes) }
-    ensures { (l : Level) → l.classes ≡ C.classes g.now.classes.now → Nests l g.now.depth (F.post g.now.call g.now.classes) → Reads l (spec.markup at_start stop) p.old result p.new }
+    requires { L.may_call g.now }
+    ensures { Means (L.frame g.now) (spec.markup at_start stop) p.old result p.new }
 {
     let from = p.marker();
     markup_exprs(g, p, at_start, stop)?;
@@ -99,12 +97,14 @@ pub fn markup<C: Classes, F: Fn(&C, &mut Parser<'_>, usize, Call) -> Result<usiz
 }
 
 /// Reads a sequence as one node with the trivia at both ends; answers whether nothing stood there.
-pub fn markup_with_trivia<
-    C: Classes,
-    F: Fn(&C, &mut Parser<'_>, usize, Call) -> Result<usize, AllocError>,
->(g: &Grammar<'_, C, F>, p: &mut Parser<'_>, at_start: bool, stop: Stop) -> Result<bool, AllocError>
-    requires { MayNest g.now.depth (F.pre g.now.call g.now.classes) }
-    ensures { (l : Level) → l.classes ≡ C.classes g.now.classes.now → Nests l g.now.depth (F.post g.now.call g.now.classes) → Reads l (spec.markup_is_empty at_start stop) p.old result p.new }
+pub fn markup_with_trivia<L: Levels>(
+    g: &L,
+    p: &mut Parser<'_>,
+    at_start: bool,
+    stop: Stop,
+) -> Result<bool, AllocError>
+    requires { L.may_call g.now }
+    ensures { Means (L.frame g.now) (spec.markup_is_empty at_start stop) p.old result p.new }
 {
     let from = p.before_trivia();
     markup_exprs(g, p, at_start, stop)?;

@@ -1,6 +1,5 @@
 -- Blocks, which are noted as units.
-use Rattle.std.proofs.Common.{◌≡◌, ℕ, ◌-◌, [], ◌∷◌, ◌++◌, refl, ap, sym, ◌∙◌, arith}
-use denote.Ref.{MutBor}
+use Rattle.std.proofs.Common.{◌≡◌, ℕ, ◌-◌, [], ◌∷◌, ◌++◌, refl, ap, sym, subst, ◌∙◌, arith}
 use Rattle.std.specs.Prelude.{Result, Ok, Err}
 use Rattle.std.specs.declared.alloc.AllocError.{AllocError}
 use Rattle.typst_lines.specs.Place.{moved}
@@ -16,7 +15,7 @@ use Rattle.typst_parsing.specs.Syntax.{Parser, ◌>>◌}
 use Rattle.typst_parsing.specs.Syntax.Parser.{block}
 use Rattle.typst_parsing.specs.Steps.{peek, read_block}
 use Rattle.typst_parsing.specs.Meaning.{Outcome, Level, inside, noted as noted_block, run}
-use Rattle.typst_parsing.specs.View.{View, Runs, Ran, Sound, Does, Calls, Nests, Fits, Noted, ReadsBlock}
+use Rattle.typst_parsing.specs.View.{View, Runs, Ran, Sound, Does, Calls, Frame, Fills, Fits, Noted, ReadsBlock}
 use Rattle.typst_parsing.proofs.Logs.{logged-append}
 use Rattle.typst_parsing.proofs.Runs.{Looked, looked-fits, noted, ran-next, ran-gives, ran-look}
 
@@ -34,8 +33,12 @@ calls-inside : (l : Level) (call : Call) (old new : View) (r : Result ℕ AllocE
 calls-inside l call old new (Ok a) h = record { ran = λ c. h.ran (fits-outside c); ready = λ c. fits-inside (h.ready (fits-outside c)) }
 calls-inside l call old new (Err e) h = tt
 
-pub nests-inside : {l : Level} {depth : ℕ} {post : MutBor View → ℕ → Call → Result ℕ AllocError → MutBor View → Type 0} → Nests l depth post → Nests (inside l) depth post
-nests-inside {l = l} h = record { sound = sound-inside h.sound; level = h.level; reads = λ old new call r p. calls-inside l call old.now new.now r (h.reads old new call r p) }
+pub fills-inside : {l : Level} {f : Frame} → Fills l f → Fills (inside l) f
+fills-inside {l = l} h = record { classes = h.classes; sound = sound-inside h.sound; level = h.level; reads = λ old new call r p. calls-inside l call old new r (h.reads old new call r p) }
+
+-- what a call gives at references, it gives at what they point to
+pub calls-at : (l : Level) (call : Call) (r : Result ℕ AllocError) {v w old new : View} → v ≡ old → w ≡ new → Calls l call v r w → Calls l call old r new
+calls-at l call r {w = w} {old = old} e f h = subst (λ (y : View). Calls l call old r y) f (subst (λ (x : View). Calls l call x r w) e h)
 
 -- ---- a block
 

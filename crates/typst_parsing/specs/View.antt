@@ -3,6 +3,7 @@ use Rattle.std.specs.Prelude.{◌≡◌, ℕ, ◌+◌, ◌-◌, ◌<◌, ◌≤�
 use Rattle.std.specs.declared.alloc.AllocError.{AllocError}
 use denote.Ref.{MutBor}
 use Rattle.typst_lines.specs.Place.{Place, moved}
+use Rattle.typst_classes.specs.Classes.{CharClasses}
 use Rattle.typst_node.specs.Tree.{Tree}
 use Rattle.typst_parsing.specs.declared.reading.Block.{Block}
 use Rattle.typst_parsing.specs.declared.reading.Call.{Call}
@@ -128,19 +129,29 @@ pub record ReadsBlock (l : Level) (b : Block) (p : Parser (Unit {0})) : Type 0 w
   pub has : l.has b ≡ true
   pub same : (z : Place) (s : State) → l.blocks b z s ≡ run (inside l) (peek >> p) z s
 
--- ---- a function that makes calls at a depth
+-- ---- a function that makes calls
 
--- it may be called above the limit
+-- the calls that are made: by which classes, how deep they may nest, and what each may give
+pub record Frame : Type 1 where
+  pub classes : CharClasses
+  pub depth : ℕ
+  pub gives : Call → View → Result ℕ AllocError → View → Type 0
+
+-- what the calls give is what the level says
+pub record Fills (l : Level) (f : Frame) : Type 0 where
+  pub classes : l.classes ≡ f.classes
+  pub sound : Sound l
+  pub level : l.level ≡ f.depth
+  pub reads : (old new : View) (call : Call) (r : Result ℕ AllocError) → f.gives call old r new → Calls l call old r new
+
+-- what the code reads wherever such calls are made
+abbrev pub Means : {A : Type 0} → Frame → Parser A → View → Result A AllocError → View → Type 0
+Means f q old r new = (l : Level) → Fills l f → Reads l q old r new
+
+-- calls may be made above the limit
 abbrev pub MayNest : ℕ → (MutBor View → ℕ → Call → Type 0) → Type 0
 MayNest depth pre = (old : MutBor View) (call : Call) → 0 < depth → pre old depth call
 
--- what it gives is what the level says
-pub record Nests (l : Level) (depth : ℕ) (post : MutBor View → ℕ → Call → Result ℕ AllocError → MutBor View → Type 0) : Type 0 where
-  pub sound : Sound l
-  pub level : l.level ≡ depth
-  pub reads : (old new : MutBor View) (call : Call) (r : Result ℕ AllocError) → post old depth call r new → Calls l call old.now r new.now
-
--- a bound's post, as invariants name it
-abbrev pub spread : (MutBor View × (ℕ × (Call × Unit {0})) → Result ℕ AllocError × (MutBor View × Unit {0}) → Type 0)
-    → MutBor View → ℕ → Call → Result ℕ AllocError → MutBor View → Type 0
-spread post old depth call r new = post (old, (depth, (call, tt))) (r, (new, tt))
+-- what a function gives of what its reference points to
+abbrev pub given : (MutBor View → ℕ → Call → Result ℕ AllocError → MutBor View → Type 0) → ℕ → Call → View → Result ℕ AllocError → View → Type 0
+given post depth call old r new = (v : MutBor View) × (w : MutBor View) × (v.now ≡ old) × (w.now ≡ new) × post v depth call r w

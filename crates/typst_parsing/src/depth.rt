@@ -1,16 +1,16 @@
 //! The limit of depth, and what stands in place of what lies deeper.
 
-ghost use Rattle.std.specs.Prelude.{◌≡◌, ◌<◌};
+ghost use Rattle.std.specs.Prelude.{◌≡◌, ◌<◌, refl};
 ghost use Rattle.typst_parsing.specs.Depth as spec;
 ghost use Rattle.typst_parsing.specs.Meaning.{Level};
 ghost use Rattle.typst_parsing.specs.Syntax.Parser.{repeat};
-ghost use Rattle.typst_parsing.specs.View.{MayNest, Nests, Reads, Sound};
+ghost use Rattle.typst_parsing.specs.View.{MayNest, Means, Reads, Sound, given};
 
 use crate::parser::Parser;
 use crate::reading::{AtNewline, Call};
 use crate::stop::Stop;
 use std::alloc::AllocError;
-use typst_classes::Classes;
+use typst_classes::{Classes, MathClass};
 use typst_kinds::SyntaxKind;
 
 /// How calls are made: by which classes of characters, how deep they may still nest, and by which function.
@@ -21,21 +21,100 @@ pub struct Grammar<'g, C, F> {
     pub call: F,
 }
 
+/// What calls are made with: by which classes of characters, how deep they may still nest, and by what.
+pub trait Levels: Classes {
+    ghost use Rattle.typst_parsing.specs.View.{Frame};
+
+    // what the calls give
+    ghost frame: { Self → Frame };
+
+    // calls may be made above the limit
+    ghost may_call: { Self → Type 0 };
+
+    /// How many levels are left.
+    fn depth(&self) -> usize
+        ensures { result ≡ (frame self.now).depth };
+
+    /// Reads one level deeper, where one is left.
+    fn call(&self, p: &mut Parser<'_>, call: Call) -> Result<usize, AllocError>
+        requires may { may_call self.now }
+        requires above { 0 < (frame self.now).depth }
+        ensures { (frame self.now).gives call p.old result p.new };
+
+    // the calls are made by the same classes
+    ghost same: { (s : Self) → (frame s).classes ≡ Self.Classes.classes s };
+}
+
+impl<'g, C: Classes, F: Fn(&C, &mut Parser<'_>, usize, Call) -> Result<usize, AllocError>> Levels
+    for Grammar<'g, C, F> {
+    ghost frame = { λ g. record { classes = C.classes g.classes.now; depth = g.depth; gives = given (F.post g.call g.classes) g.depth } };
+
+    ghost same = { λ g. refl };
+
+    ghost may_call = { λ g. MayNest g.depth (F.pre g.call g.classes) };
+
+    fn depth(&self) -> usize {
+        self.depth
+    }
+
+    fn call(&self, p: &mut Parser<'_>, call: Call) -> Result<usize, AllocError> {
+        (self.call)(self.classes, p, self.depth, call)
+    }
+}
+
+impl<'g, C: Classes, F> Classes for Grammar<'g, C, F> {
+    ghost classes = { λ g. C.classes g.classes.now };
+
+    ghost lawful = { λ g. C.lawful g.classes.now };
+
+    fn is_xid_start(&self, c: char) -> bool {
+        self.classes.is_xid_start(c)
+    }
+
+    fn is_xid_continue(&self, c: char) -> bool {
+        self.classes.is_xid_continue(c)
+    }
+
+    fn is_alphabetic(&self, c: char) -> bool {
+        self.classes.is_alphabetic(c)
+    }
+
+    fn is_alphanumeric(&self, c: char) -> bool {
+        self.classes.is_alphanumeric(c)
+    }
+
+    fn is_numeric(&self, c: char) -> bool {
+        self.classes.is_numeric(c)
+    }
+
+    fn is_word(&self, c: char) -> bool {
+        self.classes.is_word(c)
+    }
+
+    fn math_class(&self, c: char) -> Option<MathClass> {
+        self.classes.math_class(c)
+    }
+
+    fn cluster(&self, line: &str) -> usize {
+        self.classes.cluster(line)
+    }
+}
+
 /// Reads one level deeper. What lies too deep is skipped, and the answer is the one handed in.
-pub fn deeper<C: Classes, F: Fn(&C, &mut Parser<'_>, usize, Call) -> Result<usize, AllocError>>(
-    g: &Grammar<'_, C, F>,
+pub fn deeper<L: Levels>(
+    g: &L,
     p: &mut Parser<'_>,
     call: Call,
     answer: usize,
 ) -> Result<usize, AllocError>
-    requires { MayNest g.now.depth (F.pre g.now.call g.now.classes) }
-    ensures { (l : Level) → l.classes ≡ C.classes g.now.classes.now → Nests l g.now.depth (F.post g.now.call g.now.classes) → Reads l (spec.deeper call answer) p.old result p.new }
+    requires { L.may_call g.now }
+    ensures { Means (L.frame g.now) (spec.deeper call answer) p.old result p.new }
 {
-    if g.depth == 0 {
-        too_deep(p, None, g.classes)?;
+    if g.depth() == 0 {
+        too_deep(p, None, g)?;
         return Ok(answer);
     }
-    Ok((g.call)(g.classes, p, g.depth, call)?)
+    Ok(g.call(p, call)?)
 }
 
 /// Makes one error of what lies too deep.

@@ -8,7 +8,7 @@ mod reading;
 mod stop;
 
 pub use ahead::Ahead;
-pub use depth::{Grammar, deeper, is_colon, is_star, is_underscore, too_deep};
+pub use depth::{Grammar, Levels, deeper, is_colon, is_star, is_underscore, too_deep};
 pub use parser::Parser;
 pub use reading::{AtNewline, Block, Call, Mark, Newlines, Note, Reading, State};
 pub use stop::Stop;

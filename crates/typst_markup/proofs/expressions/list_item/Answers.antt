@@ -1,3 +1,4 @@
+use Rattle.std.proofs.Common.{sym, ◌∙◌}
 use Rattle.typst_kinds.specs.declared.kind.SyntaxKind.TheVariants as kind
 use Rattle.typst_parsing.specs.Shape.Shape.{becomes}
 use Rattle.typst_parsing.specs.declared.reading.AtNewline.TheVariants as newline
@@ -8,8 +9,8 @@ use Rattle.typst_markup.proofs.expressions.list_item.Goals as goal
 
 pub returns : goal.returns
 unfolding list_item
-returns g c l k h =
+returns g c l h =
     does-next (c.current_column-column.ensures l)
     (does-entered (at_newline (newline.RequireColumn c.current_column-column.result)) c.enter_rule-outer.ensures.view
-    (does-node (λ _. becomes kind.ListItem) h.sound c.marker-from.ensures.few c.marker-from.ensures.marker (does-next (c.in_ok-eat.ensures l k) (c.in_ok-markup.ensures l k h)) c.in_ok-wrap.ensures.wrapped)
-    c.enter_rule-outer.ensures.outer (c.in_ok-leave.ensures l k))
+    (does-node (λ _. becomes kind.ListItem) h.sound c.marker-from.ensures.few c.marker-from.ensures.marker (does-next (c.in_ok-eat.ensures l (h.classes ∙ g.met.L.Levels.same _)) (c.in_ok-markup.ensures l h)) c.in_ok-wrap.ensures.wrapped)
+    c.enter_rule-outer.ensures.outer (c.in_ok-leave.ensures l (h.classes ∙ g.met.L.Levels.same _)))

@@ -1,4 +1,4 @@
-use Rattle.std.proofs.Common.{◌∙◌, codes, ap}
+use Rattle.std.proofs.Common.{◌∙◌, codes, ap, sym}
 use Rattle.typst_kinds.specs.declared.kind.SyntaxKind.TheVariants as kind
 use Rattle.typst_parsing.specs.declared.reading.AtNewline.TheVariants as newline
 use Rattle.typst_parsing.specs.Depth.{is_star}
@@ -9,9 +9,9 @@ use Rattle.typst_markup.proofs.expressions.strong.Goals as goal
 
 pub returns : goal.returns
 unfolding strong
-returns g c l k h =
+returns g c l h =
     does-entered (at_newline newline.StopParBreak) c.enter_rule-outer.ensures.view
     (does-next (does-node (emphasized kind.Strong (codes "no text within stars") (codes "using multiple consecutive stars (e.g. **) has no additional effect")) h.sound c.marker-from.ensures.few c.marker-from.ensures.marker
-    (does-next (c.in_ok-eat.ensures l k) (does-next (c.in_ok-is_empty.ensures l k h) (does-next (c.in_ok-closed.ensures l is_star k (c.is_star.ensures ∙ ap is_star c.current.ensures)) does-gives)))
+    (does-next (c.in_ok-eat.ensures l (h.classes ∙ g.met.L.Levels.same _)) (does-next (c.in_ok-is_empty.ensures l h) (does-next (c.in_ok-closed.ensures l is_star (h.classes ∙ g.met.L.Levels.same _) (c.is_star.ensures ∙ ap is_star c.current.ensures)) does-gives)))
     c.in_ok-wrap_emphasized.ensures) does-gives)
-    c.enter_rule-outer.ensures.outer (c.in_ok-leave.ensures l k)
+    c.enter_rule-outer.ensures.outer (c.in_ok-leave.ensures l (h.classes ∙ g.met.L.Levels.same _))

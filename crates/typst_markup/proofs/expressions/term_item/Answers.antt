@@ -1,4 +1,4 @@
-use Rattle.std.proofs.Common.{◌∙◌, ap}
+use Rattle.std.proofs.Common.{◌∙◌, ap, sym}
 use Rattle.typst_kinds.specs.declared.kind.SyntaxKind.TheVariants as kind
 use Rattle.typst_parsing.specs.Shape.Shape.{becomes}
 use Rattle.typst_parsing.specs.declared.reading.AtNewline.TheVariants as newline
@@ -10,10 +10,10 @@ use Rattle.typst_markup.proofs.expressions.term_item.Goals as goal
 
 pub returns : goal.returns
 unfolding term_item
-returns g c l k h =
-    let term = does-entered (at_newline newline.Stop) c.enter_rule-item.ensures.view (does-next (c.in_ok-eat.ensures l k) (c.in_ok-markup.ensures l k h)) c.enter_rule-item.ensures.outer (c.in_ok-leave.ensures l k) in
+returns g c l h =
+    let term = does-entered (at_newline newline.Stop) c.enter_rule-item.ensures.view (does-next (c.in_ok-eat.ensures l (h.classes ∙ g.met.L.Levels.same _)) (c.in_ok-markup.ensures l h)) c.enter_rule-item.ensures.outer (c.in_ok-leave.ensures l (h.classes ∙ g.met.L.Levels.same _)) in
     does-next (c.current_column-column.ensures l)
     (does-entered (at_newline (newline.RequireColumn c.current_column-column.result)) c.enter_rule-outer.ensures.view
     (does-node (λ _. becomes kind.TermItem) h.sound c.marker-from.ensures.few c.marker-from.ensures.marker
-    (does-next term (does-next (c.in_ok-expect.ensures l is_colon k (c.is_colon.ensures ∙ ap is_colon c.current.ensures)) (c.in_ok-markup-2.ensures l k h))) c.in_ok-wrap.ensures.wrapped)
-    c.enter_rule-outer.ensures.outer (c.in_ok-leave-2.ensures l k))
+    (does-next term (does-next (c.in_ok-expect.ensures l is_colon (h.classes ∙ g.met.L.Levels.same _) (c.is_colon.ensures ∙ ap is_colon c.current.ensures)) (c.in_ok-markup-2.ensures l h))) c.in_ok-wrap.ensures.wrapped)
+    c.enter_rule-outer.ensures.outer (c.in_ok-leave-2.ensures l (h.classes ∙ g.met.L.Levels.same _)))

@@ -1,3 +1,4 @@
+use Rattle.std.proofs.Common.{sym, ◌∙◌}
 use Rattle.typst_kinds.specs.declared.kind.SyntaxKind.TheVariants as kind
 use Rattle.typst_parsing.specs.Shape.Shape.{becomes}
 use Rattle.typst_markup.specs.Markup.{reference}
@@ -6,5 +7,5 @@ use Rattle.typst_markup.proofs.references.reference.Goals as goal
 
 pub returns : goal.returns
 unfolding reference
-returns g c l k h b =
-    does-node (λ _. becomes kind.Ref) h.sound c.marker-from.ensures.few c.marker-from.ensures.marker (does-next (c.in_ok-eat.ensures l k) (c.in_ok-direct_content.ensures l k h b)) c.in_ok-wrap.ensures.wrapped
+returns g c l h b =
+    does-node (λ _. becomes kind.Ref) h.sound c.marker-from.ensures.few c.marker-from.ensures.marker (does-next (c.in_ok-eat.ensures l (h.classes ∙ g.met.L.Levels.same _)) (c.in_ok-direct_content.ensures l h b)) c.in_ok-wrap.ensures.wrapped

@@ -6,4 +6,4 @@ use Rattle.typst_markup.proofs.sequences.markup.Goals as goal
 
 pub returns : goal.returns
 unfolding markup
-returns g c l k h = does-node (λ _. becomes kind.Markup) h.sound c.marker-from.ensures.few c.marker-from.ensures.marker (c.in_ok-markup_exprs.ensures l k h) c.in_ok-wrap.ensures.wrapped
+returns g c l h = does-node (λ _. becomes kind.Markup) h.sound c.marker-from.ensures.few c.marker-from.ensures.marker (c.in_ok-markup_exprs.ensures l h) c.in_ok-wrap.ensures.wrapped

@@ -1,14 +1,13 @@
-use Rattle.std.proofs.Common.{◌≡◌, ◌||◌}
+use Rattle.std.proofs.Common.{◌||◌}
 use Rattle.typst_parsing.specs.Hand.{bytes_left}
 use Rattle.typst_parsing.specs.Meaning.{Level}
-use Rattle.typst_parsing.specs.View.{Nests}
-use Rattle.typst_markup.proofs.Heads.{spread}
+use Rattle.typst_parsing.specs.View.{Fills}
 use Rattle.typst_parsing.proofs.Steps.{Turning}
 use Rattle.typst_markup.specs.Markup.{markup_turn}
 use Rattle.typst_markup.proofs.sequences.markup_exprs.Given as goal
 
 abbrev pub invariant-turns : goal.invariant-turns
-invariant-turns g l = (v : Level) → v.classes ≡ g.C.Classes.classes l.g.classes.now → Nests v l.g.depth (spread (g.F.Fn.post l.g.call) l.g.classes)
+invariant-turns g l = (v : Level) → Fills v (g.L.Levels.frame l.g)
     → Turning v (markup_turn l.stop) (l.fn.at_start || l.fn.p.hand.newlines.any, 0) l.fn.p (l.at_start, l.nesting) l.p
 
 abbrev pub decreases-turns : goal.decreases-turns

@@ -16,9 +16,9 @@ noted-behind l at b nesting v w e d =
 
 pub returns-then-ends : goal.returns-then-ends
 unfolding markup_turn
-returns-then-ends g c l k h = does-next (does-peek _) (does-pick (ap (ends c.args.stop c.args.nesting) (sym c.current.ensures) ∙ sym c.ends.ensures ∙ c.if-ends.true) does-gives)
+returns-then-ends g c l h = does-next (does-peek _) (does-pick (ap (ends c.args.stop c.args.nesting) (sym c.current.ensures) ∙ sym c.ends.ensures ∙ c.if-ends.true) does-gives)
 
 pub returns : goal.returns
 unfolding markup_turn
-returns g c l k h = does-next (does-peek _) (does-other (ap (ends c.args.stop c.args.nesting) (sym c.current.ensures) ∙ sym c.ends.ensures ∙ c.if-ends.false)
-    (does-next (c.in_ok-nesting.ensures l k h) (noted-behind l c.args.stop c.had_newline-has_newline.result c.in_ok-nesting.nesting c.deeper.new.p c.note_piece.new.p c.had_newline-has_newline.ensures (c.in_ok-note_piece.ensures l h.level))))
+returns g c l h = does-next (does-peek _) (does-other (ap (ends c.args.stop c.args.nesting) (sym c.current.ensures) ∙ sym c.ends.ensures ∙ c.if-ends.false)
+    (does-next (c.in_ok-nesting.ensures l h) (noted-behind l c.args.stop c.had_newline-has_newline.result c.in_ok-nesting.nesting c.deeper.new.p c.note_piece.new.p c.had_newline-has_newline.ensures (c.in_ok-note_piece.ensures l (h.level ∙ sym c.depth.ensures)))))
