@@ -1,18 +1,18 @@
 -- The laws of the language, for the grammar.
 use Rattle.std.proofs.Common.{◌≡◌, ℕ, zero, suc, true, false, inl, refl, arith}
 use Rattle.typst_classes.specs.Classes.{CharClasses}
-use Rattle.typst_parsing.specs.declared.reading.Block.{Block}
-use Rattle.typst_parsing.specs.declared.reading.Call.{Call}
-use Rattle.typst_parsing.specs.Steps.{peek}
-use Rattle.typst_parsing.specs.Syntax.{Parser, ◌>>◌}
-use Rattle.typst_parsing.specs.Meaning.{Meaning, plain, blockless, run}
-use Rattle.typst_parsing.specs.View.{Within, Backs}
-use Rattle.typst_parsing.proofs.Backs.{backs-run}
-use Rattle.typst_parsing.proofs.Leaves.{Keeps, blank-nil, kept-run}
-use Rattle.typst_parsing.proofs.Rests.{Restful, rests-run}
-use Rattle.typst_parsing.proofs.Within.{within-run}
-use Rattle.typst_parsing.proofs.Frame.{Framed, framed-run}
-use Rattle.typst_parsing.proofs.Alike.{Alike, alike-run}
+use Rattle.typst_combinators.specs.declared.reading.Block.{Block}
+use Rattle.typst_combinators.specs.declared.reading.Call.{Call}
+use Rattle.typst_combinators.specs.Steps.{peek}
+use Rattle.typst_combinators.specs.Syntax.{Parser, ◌>>◌}
+use Rattle.typst_combinators.specs.Meaning.{Meaning, plain, blockless, run}
+use Rattle.typst_combinators.specs.View.{Within, Backs}
+use Rattle.typst_combinators.proofs.Backs.{backs-run}
+use Rattle.typst_combinators.proofs.Leaves.{Keeps, blank-nil, kept-run}
+use Rattle.typst_combinators.proofs.Rests.{Restful, rests-run}
+use Rattle.typst_combinators.proofs.Within.{within-run}
+use Rattle.typst_combinators.proofs.Frame.{Framed, framed-run}
+use Rattle.typst_combinators.proofs.Alike.{Alike, alike-run}
 use Rattle.typst_grammar.specs.Grammar.{production, block_production, has, blocks, meaning, level_at}
 
 within-none : (b : Block) → Within {A = Unit {0}} (λ z s. plain tt s)

@@ -6,22 +6,22 @@ use Rattle.typst_kinds.specs.declared.kind.SyntaxKind.TheVariants as kind
 use Rattle.typst_lines.specs.Place.{Place, moved}
 use Rattle.typst_node.specs.Tree.{text_of}
 use Rattle.typst_classes.specs.Classes.{CharClasses}
-use Rattle.typst_parsing.specs.declared.reading.Call.TheVariants.{MarkupExpr}
-use Rattle.typst_parsing.specs.declared.reading.Reading.{Reading}
-use Rattle.typst_parsing.specs.declared.reading.State.{State}
-use Rattle.typst_parsing.specs.declared.stop.Stop.TheVariants.{End}
-use Rattle.typst_parsing.specs.Hand.{hand_at}
-use Rattle.typst_parsing.specs.Shape.Making.{itself, of_kind, surprise}
-use Rattle.typst_parsing.specs.Syntax.{Parser, ◌>>=◌}
-use Rattle.typst_parsing.specs.Syntax.Op.{hand}
-use Rattle.typst_parsing.specs.Syntax.Parser.{gives, does, next}
-use Rattle.typst_parsing.specs.Steps.{peek, eat, convert_and_eat, unexpected, flush_trivia}
-use Rattle.typst_parsing.specs.Depth.{is_end, deeper}
-use Rattle.typst_parsing.specs.Meaning.{Outcome, Meaning, Level, joined, turns, as_last, repeated, hand_of, start_state, run}
-use Rattle.typst_parsing.proofs.Places.{moved-sum, ahead-left, take-all}
-use Rattle.typst_parsing.proofs.Ends.{hand-takes, hand-ends}
-use Rattle.typst_parsing.proofs.Eats.{Eats, eats-next, eats-peek, eats-column, eats-making, eats-within, eats-node}
-use Rattle.typst_parsing.proofs.Rests.{Rests}
+use Rattle.typst_combinators.specs.declared.reading.Call.TheVariants.{MarkupExpr}
+use Rattle.typst_combinators.specs.declared.reading.Reading.{Reading}
+use Rattle.typst_combinators.specs.declared.reading.State.{State}
+use Rattle.typst_combinators.specs.declared.stop.Stop.TheVariants.{End}
+use Rattle.typst_combinators.specs.Hand.{hand_at}
+use Rattle.typst_combinators.specs.Shape.Making.{itself, of_kind, surprise}
+use Rattle.typst_combinators.specs.Syntax.{Parser, ◌>>=◌}
+use Rattle.typst_combinators.specs.Syntax.Op.{hand}
+use Rattle.typst_combinators.specs.Syntax.Parser.{gives, does, next}
+use Rattle.typst_combinators.specs.Steps.{peek, eat, convert_and_eat, unexpected, flush_trivia}
+use Rattle.typst_combinators.specs.Depth.{is_end, deeper}
+use Rattle.typst_combinators.specs.Meaning.{Outcome, Meaning, Level, joined, turns, as_last, repeated, hand_of, start_state, run}
+use Rattle.typst_combinators.proofs.Places.{moved-sum, ahead-left, take-all}
+use Rattle.typst_combinators.proofs.Ends.{hand-takes, hand-ends}
+use Rattle.typst_combinators.proofs.Eats.{Eats, eats-next, eats-peek, eats-column, eats-making, eats-within, eats-node}
+use Rattle.typst_combinators.proofs.Rests.{Rests}
 use Rattle.typst_markup.specs.declared.head.MarkupHead.{MarkupHead}
 use Rattle.typst_markup.specs.declared.head.MarkupHead.TheVariants as head
 use Rattle.typst_markup.specs.Markup.{ends, note_piece, markup_turn, markup_exprs, strong, emph, heading, list_item, enum_item, term_item, reference, markup_head, markup_by, markup_expr, markup_reading}

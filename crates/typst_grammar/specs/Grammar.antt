@@ -4,18 +4,18 @@ use Rattle.typst_kinds.specs.declared.kind.SyntaxKind.TheVariants as kind
 use Rattle.typst_lines.specs.Place.{Place}
 use Rattle.typst_node.specs.Tree.{Tree, forest, inner_of}
 use Rattle.typst_classes.specs.Classes.{CharClasses}
-use Rattle.typst_parsing.specs.declared.reading.Block.{Block}
-use Rattle.typst_parsing.specs.declared.reading.Block.TheVariants as block
-use Rattle.typst_parsing.specs.declared.reading.Call.{Call}
-use Rattle.typst_parsing.specs.declared.reading.Call.TheVariants.{MarkupExpr}
-use Rattle.typst_parsing.specs.declared.reading.Mark.TheVariants.{Piece}
-use Rattle.typst_parsing.specs.declared.stop.Stop.TheVariants.{End}
-use Rattle.typst_parsing.specs.Syntax.{Parser, ◌>>=◌, ◌>>◌}
-use Rattle.typst_parsing.specs.Syntax.Op.{marks}
-use Rattle.typst_parsing.specs.Syntax.Parser.{gives, does}
-use Rattle.typst_parsing.specs.Steps.{peek, flush_trivia}
-use Rattle.typst_parsing.specs.Log.{Log, no_log, logged}
-use Rattle.typst_parsing.specs.Meaning.{Outcome, Meaning, Level, plain, blockless, start_state, run}
+use Rattle.typst_combinators.specs.declared.reading.Block.{Block}
+use Rattle.typst_combinators.specs.declared.reading.Block.TheVariants as block
+use Rattle.typst_combinators.specs.declared.reading.Call.{Call}
+use Rattle.typst_combinators.specs.declared.reading.Call.TheVariants.{MarkupExpr}
+use Rattle.typst_combinators.specs.declared.reading.Mark.TheVariants.{Piece}
+use Rattle.typst_combinators.specs.declared.stop.Stop.TheVariants.{End}
+use Rattle.typst_combinators.specs.Syntax.{Parser, ◌>>=◌, ◌>>◌}
+use Rattle.typst_combinators.specs.Syntax.Op.{marks}
+use Rattle.typst_combinators.specs.Syntax.Parser.{gives, does}
+use Rattle.typst_combinators.specs.Steps.{peek, flush_trivia}
+use Rattle.typst_combinators.specs.Log.{Log, no_log, logged}
+use Rattle.typst_combinators.specs.Meaning.{Outcome, Meaning, Level, plain, blockless, start_state, run}
 use Rattle.typst_markup.specs.Markup.{content_block, markup_expr, markup_exprs, markup_reading}
 
 -- what a call reads

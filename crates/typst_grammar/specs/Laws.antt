@@ -3,12 +3,12 @@ use Rattle.std.specs.Prelude.{◌≡◌, ℕ, Bool, false, List, encode_utf8_all
 use Rattle.typst_lines.specs.Place.{Place}
 use Rattle.typst_node.specs.Tree.{forest, joined, text_of}
 use Rattle.typst_classes.specs.Classes.{CharClasses}
-use Rattle.typst_parsing.specs.declared.reading.Call.{Call}
-use Rattle.typst_parsing.specs.declared.reading.State.{State}
-use Rattle.typst_parsing.specs.declared.stop.Stop.{Stop}
-use Rattle.typst_parsing.specs.Ask.{SameIn}
-use Rattle.typst_parsing.specs.Hand.{utf8_ahead}
-use Rattle.typst_parsing.specs.Meaning.{Meaning, run}
+use Rattle.typst_combinators.specs.declared.reading.Call.{Call}
+use Rattle.typst_combinators.specs.declared.reading.State.{State}
+use Rattle.typst_combinators.specs.declared.stop.Stop.{Stop}
+use Rattle.typst_combinators.specs.Ask.{SameIn}
+use Rattle.typst_combinators.specs.Hand.{utf8_ahead}
+use Rattle.typst_combinators.specs.Meaning.{Meaning, run}
 use Rattle.typst_markup.specs.Markup.{markup_turn, markup_exprs}
 use Rattle.typst_grammar.specs.Grammar.{level_at, meaning, tree}
 

@@ -3,13 +3,13 @@ use Rattle.std.proofs.Common.{◌≡◌, ℕ, sym, subst}
 use denote.Ref.{MutBor}
 use Rattle.std.specs.Prelude.{Result}
 use Rattle.std.specs.declared.alloc.AllocError.{AllocError}
-use Rattle.typst_parsing.specs.declared.reading.Call.{Call}
-use Rattle.typst_parsing.specs.declared.reading.Reading.{Reading}
-use Rattle.typst_parsing.specs.Meaning.{Level, entered}
-use Rattle.typst_parsing.specs.Syntax.{Parser}
-use Rattle.typst_parsing.specs.Steps.{within}
-use Rattle.typst_parsing.specs.View.{View, Does, Left}
-use Rattle.typst_parsing.proofs.Steps.{does-within}
+use Rattle.typst_combinators.specs.declared.reading.Call.{Call}
+use Rattle.typst_combinators.specs.declared.reading.Reading.{Reading}
+use Rattle.typst_combinators.specs.Meaning.{Level, entered}
+use Rattle.typst_combinators.specs.Syntax.{Parser}
+use Rattle.typst_combinators.specs.Steps.{within}
+use Rattle.typst_combinators.specs.View.{View, Does, Left}
+use Rattle.typst_combinators.proofs.Steps.{does-within}
 use Rattle.typst_markup.specs.declared.head.MarkupHead.{MarkupHead}
 use Rattle.typst_markup.specs.Markup.{markup_by}
 

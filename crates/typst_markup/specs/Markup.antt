@@ -2,24 +2,24 @@
 use Rattle.std.specs.Prelude.{ℕ, ◌-◌, Bool, true, false, ◌||◌, ◌&&◌, if◌then◌else◌, ◌==◌, List, [], ◌∷◌, codes, Some}
 use Rattle.typst_kinds.specs.declared.kind.SyntaxKind.{SyntaxKind}
 use Rattle.typst_kinds.specs.declared.kind.SyntaxKind.TheVariants as kind
-use Rattle.typst_parsing.specs.declared.reading.AtNewline.{AtNewline}
-use Rattle.typst_parsing.specs.declared.reading.AtNewline.TheVariants as newline
+use Rattle.typst_combinators.specs.declared.reading.AtNewline.{AtNewline}
+use Rattle.typst_combinators.specs.declared.reading.AtNewline.TheVariants as newline
 use Rattle.typst_kinds.specs.declared.mode.SyntaxMode.TheVariants as mode
-use Rattle.typst_parsing.specs.declared.reading.Block.TheVariants as block
-use Rattle.typst_parsing.specs.declared.reading.Call.TheVariants.{MarkupExpr}
-use Rattle.typst_parsing.specs.declared.reading.Mark.TheVariants as mark
-use Rattle.typst_parsing.specs.declared.reading.Reading.{Reading}
-use Rattle.typst_parsing.specs.Hand.{Hand}
-use Rattle.typst_parsing.specs.Shape.{Shape, is_nil}
-use Rattle.typst_parsing.specs.Shape.Shape.{becomes, unclosed, warns}
-use Rattle.typst_parsing.specs.Syntax.{Parser, ◌>>=◌, ◌>>◌}
-use Rattle.typst_parsing.specs.Syntax.Op.{column, is_deepest}
-use Rattle.typst_parsing.specs.Syntax.Parser.{gives, does, pick, repeat}
-use Rattle.typst_parsing.specs.Steps.{peek, eat, convert_and_eat, eat_if, unexpected, expect, within, node, node_with_trivia, read_block}
-use Rattle.typst_parsing.specs.Depth.{one_more, too_deep, deeper, stops_at, is_colon, is_star, is_underscore}
-use Rattle.typst_parsing.specs.Steps.{note}
-use Rattle.typst_parsing.specs.declared.stop.Stop.{Stop}
-use Rattle.typst_parsing.specs.declared.stop.Stop.TheVariants as stop
+use Rattle.typst_combinators.specs.declared.reading.Block.TheVariants as block
+use Rattle.typst_combinators.specs.declared.reading.Call.TheVariants.{MarkupExpr}
+use Rattle.typst_combinators.specs.declared.reading.Mark.TheVariants as mark
+use Rattle.typst_combinators.specs.declared.reading.Reading.{Reading}
+use Rattle.typst_combinators.specs.Hand.{Hand}
+use Rattle.typst_combinators.specs.Shape.{Shape, is_nil}
+use Rattle.typst_combinators.specs.Shape.Shape.{becomes, unclosed, warns}
+use Rattle.typst_combinators.specs.Syntax.{Parser, ◌>>=◌, ◌>>◌}
+use Rattle.typst_combinators.specs.Syntax.Op.{column, is_deepest}
+use Rattle.typst_combinators.specs.Syntax.Parser.{gives, does, pick, repeat}
+use Rattle.typst_combinators.specs.Steps.{peek, eat, convert_and_eat, eat_if, unexpected, expect, within, node, node_with_trivia, read_block}
+use Rattle.typst_combinators.specs.Depth.{one_more, too_deep, deeper, stops_at, is_colon, is_star, is_underscore}
+use Rattle.typst_combinators.specs.Steps.{note}
+use Rattle.typst_combinators.specs.declared.stop.Stop.{Stop}
+use Rattle.typst_combinators.specs.declared.stop.Stop.TheVariants as stop
 use Rattle.typst_markup.specs.declared.head.MarkupHead.{MarkupHead}
 use Rattle.typst_markup.specs.declared.head.MarkupHead.TheVariants as head
 

@@ -1,10 +1,10 @@
 -- What productions read where blocks may be read.
 use Rattle.std.specs.Prelude.{Result}
 use Rattle.std.specs.declared.alloc.AllocError.{AllocError}
-use Rattle.typst_parsing.specs.declared.reading.Block.TheVariants as block
-use Rattle.typst_parsing.specs.Meaning.{Level}
-use Rattle.typst_parsing.specs.Syntax.{Parser}
-use Rattle.typst_parsing.specs.View.{View, Frame, Fills, ReadsBlock, Reads}
+use Rattle.typst_combinators.specs.declared.reading.Block.TheVariants as block
+use Rattle.typst_combinators.specs.Meaning.{Level}
+use Rattle.typst_combinators.specs.Syntax.{Parser}
+use Rattle.typst_combinators.specs.View.{View, Frame, Fills, ReadsBlock, Reads}
 use Rattle.typst_markup.specs.Markup.{content_block}
 
 -- each block may be read there

@@ -1,7 +1,7 @@
 -- What it is for two trees to be the same, spans aside.
 use Rattle.std.proofs.Common.{◌≡◌, ℕ, zero, suc, List, [], ◌∷◌, map, refl, ap, sym, ◌∙◌, ◌<◌, ◌≤◌, length, take, get_or, arith}
 use Rattle.std.proofs.lemmas.List.{take_all, length-map}
-use Rattle.typst_heads.specs.Head.{Head, bare_head}
+use Rattle.typst_node_data.specs.Head.{Head, bare_head}
 use Rattle.typst_node.specs.Tree.{Forest, none, more, Tree, forest, trees, bare, bare_forest}
 
 pub trees_forest : (ts : List Tree) → trees (forest ts) ≡ ts

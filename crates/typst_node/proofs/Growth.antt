@@ -1,7 +1,7 @@
 -- One try of `growth`.
 use Rattle.std.proofs.Common.{◌≡◌, ℕ, suc, ◌+◌, ◌-◌, ◌*◌, ◌<◌, ◌≤◌, Bool, true, false, ◌&&◌, nat_le, max, List, length, Some, None, refl, arith, ◌⊎◌, inl, inr}
 use Rattle.std.proofs.lemmas.Bool.Decides.{nat_tests}
-use Rattle.typst_heads.specs.Head.{Head}
+use Rattle.typst_node_data.specs.Head.{Head}
 use Rattle.typst_node.specs.Tree.{Tree}
 use Rattle.typst_node.specs.Replace.{growth, has_room, is_all}
 

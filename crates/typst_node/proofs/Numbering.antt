@@ -5,7 +5,7 @@ use Rattle.std.proofs.Math.Nat.{mul-le-mul_left, mul-le-mul_right}
 use Rattle.std.proofs.lemmas.List.{take_all, drop_all, with_items_is, get_or_default}
 use Rattle.std.specs.Global.{Vec}
 use Rattle.std.specs.Vec.{with_items}
-use Rattle.typst_heads.specs.Head.{Head, bare_head}
+use Rattle.typst_node_data.specs.Head.{Head, bare_head}
 use Rattle.typst_node.specs.Tree.{Forest, none, more, Tree, forest, joined, count, nodes, text_of, bare, bare_forest, saturated}
 use Rattle.typst_node.specs.Numbers.{placed, numbered, numbered_forest, numbered_list, stride}
 

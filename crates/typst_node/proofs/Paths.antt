@@ -2,7 +2,7 @@
 use Rattle.std.proofs.Common.{◌≡◌, ℕ, zero, suc, ◌<◌, ◌≤◌, List, [], ◌∷◌, length, get_or, Some, None, refl, ap, sym, ◌∙◌, arith}
 use Rattle.std.specs.Prelude.{option_map, slice_get, slice_range}
 use Rattle.std.proofs.Math.ListN.{set}
-use Rattle.typst_heads.specs.Head.{Head, Place}
+use Rattle.typst_node_data.specs.Head.{Head, Place}
 use Rattle.typst_node.specs.Tree.{Tree, forest, trees}
 use Rattle.typst_node.specs.Replace.{At, Reaches, replaced_at, replaced, in_file, swapped}
 use Rattle.typst_node.proofs.Bares.{over, trees_forest}

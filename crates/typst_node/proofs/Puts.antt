@@ -7,7 +7,7 @@ use Rattle.std.proofs.lemmas.List.{take-append-drop, take-append-le, drop-append
 use Rattle.std.proofs.lemmas.List.Folds.{drop_split}
 use Rattle.std.proofs.lemmas.Option.{slice_get_within, get_or_from_slice_get}
 use Rattle.typst_node.specs.declared.replace.Stretch.{Stretch}
-use Rattle.typst_heads.specs.Head.{Head, bare_head}
+use Rattle.typst_node_data.specs.Head.{Head, bare_head}
 use Rattle.typst_node.specs.Tree.{Tree, forest, joined, text_of, nodes, bare, at_tree, at_child}
 use Rattle.typst_node.specs.Numbers.{numbered_list}
 use Rattle.typst_node.specs.Same.{front}

@@ -5,7 +5,7 @@ use Rattle.std.proofs.lemmas.Bool.Decides.{nat_tests}
 use Rattle.std.proofs.lemmas.List.{take_rest}
 use Rattle.std.proofs.lemmas.Option.{slice_get_past}
 use Rattle.typst_node.specs.declared.replace.Stretch.{Stretch}
-use Rattle.typst_heads.specs.Head.{Head, Place, number_of}
+use Rattle.typst_node_data.specs.Head.{Head, Place, number_of}
 use Rattle.typst_node.specs.Tree.{Tree, forest, count, bare, bare_forest}
 use Rattle.typst_node.specs.Same.{front}
 use Rattle.typst_node.specs.Replace.{kids_of, with_kids, left_of, right_of, wanted, room, has_room, is_all, growth, stretch, fit, middle, back, in_file, swapped, exchanged, renumbered, replaced, Reaches}

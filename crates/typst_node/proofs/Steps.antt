@@ -2,7 +2,7 @@
 use Rattle.std.proofs.Common.{◌≡◌, ℕ, ◌+◌, List, [], ◌∷◌, ◌++◌, length, take, drop, Option, Some, None, refl, sym}
 use Rattle.std.specs.Prelude.{option_map, option_and_then, slice_get, slice_set, slice_range}
 use Rattle.typst_node.specs.declared.replace.Stretch.{Stretch}
-use Rattle.typst_heads.specs.Head.{Head, Place}
+use Rattle.typst_node_data.specs.Head.{Head, Place}
 use Rattle.typst_node.specs.Tree.{Tree, forest, count}
 use Rattle.typst_node.specs.Replace.{kids_of, with_kids, in_file, swapped, exchanged, renumbered, fit, growth, stretch, replaced, replaced_at, At, Reaches}
 use Rattle.typst_node.specs.Laws.{Along, AtPath}

@@ -5,7 +5,7 @@ use Rattle.std.proofs.lemmas.List.{take-append-drop, take-take, drop-take, take_
 use Rattle.std.proofs.lemmas.List.Folds.{drop_split}
 use Rattle.std.proofs.lemmas.Bool.Decides.{nat_tests}
 use Rattle.typst_node.specs.declared.replace.Stretch.{Stretch}
-use Rattle.typst_heads.specs.Head.{Head}
+use Rattle.typst_node_data.specs.Head.{Head}
 use Rattle.typst_node.specs.Tree.{Tree, forest, count}
 use Rattle.typst_node.specs.Replace.{has_room, is_all, growth, fit, renumbered, exchanged}
 use Rattle.std.specs.Prelude.{zero, suc, max, Result, Ok, Err, OnOk, is_err}

@@ -7,7 +7,7 @@ use Rattle.std.specs.Global.{Vec}
 use Rattle.std.specs.Vec.{with_items}
 use Rattle.std.proofs.lemmas.List.{with_items_is, length-map}
 use Rattle.std.proofs.lemmas.List.{take_all, drop_all}
-use Rattle.typst_heads.specs.Head.{Head, Place, spanned}
+use Rattle.typst_node_data.specs.Head.{Head, Place, spanned}
 use Rattle.typst_node.specs.Tree.{Forest, none, more, Tree, forest, joined, count, with_each, synthesized, at_tree, with_kind}
 
 pub joined_spanned : (sp : Place) (f : Forest) → joined (with_each (spanned sp) f) ≡ joined f

@@ -2,7 +2,7 @@
 use Rattle.std.proofs.Common.{◌≡◌, ℕ, zero, suc, ◌+◌, ◌<◌, true, false, List, [], ◌∷◌, ◌++◌, length, take, get_or, refl, ap, sym, ◌∙◌, subst, arith, add-one, if◌then◌else◌}
 use Rattle.typst_kinds.specs.declared.kind.SyntaxKind.{SyntaxKind}
 use Rattle.typst_kinds.specs.Kinds.{is_error}
-use Rattle.typst_heads.specs.Head.{Place, bare_head, spanned}
+use Rattle.typst_node_data.specs.Head.{Place, bare_head, spanned}
 use Rattle.typst_node.specs.Tree.{Forest, none, more, Tree, forest, bare, bare_forest, with_each, synthesized, with_kind, at_tree}
 use Rattle.typst_node.specs.Numbers.{numbered_list}
 use Rattle.typst_node.specs.Order.{IsWholeForest, IsWhole}

@@ -2,8 +2,8 @@
 use Rattle.std.specs.Prelude.{ℕ, List, None, if◌then◌else◌}
 use Rattle.typst_kinds.specs.Kinds.{is_error}
 use Rattle.typst_kinds.specs.Names.{name_of}
-use Rattle.typst_heads.specs.Diagnostic.{hint_with}
-pub use Rattle.typst_heads.specs.Messages.{expected_message, unexpected_message, keyword_hint, is_name_word, is_lost_name}
+use Rattle.typst_node_data.specs.Diagnostic.{hint_with}
+pub use Rattle.typst_node_data.specs.Messages.{expected_message, unexpected_message, keyword_hint, is_name_word, is_lost_name}
 use Rattle.typst_node.specs.Tree.{Tree, text_of, error_of, made_error, advised}
 
 -- an error leaf of a tree's text that says what was expected

@@ -1,6 +1,6 @@
 -- The numbers of a tree's nodes. A stretch a..e of numbers has those from a on that are below e.
 use Rattle.std.specs.Prelude.{ℕ, ◌+◌, ◌-◌, ◌*◌, ◌/◌, ◌<◌, ◌≤◌, ◌^◌, ◌==◌, nat_le, List, [], ◌∷◌, Option, Some, None, if◌then◌else◌}
-use Rattle.typst_heads.specs.Head.{Head}
+use Rattle.typst_node_data.specs.Head.{Head}
 use Rattle.typst_node.specs.Tree.{Forest, none, more, Tree, count, nodes}
 
 -- a stretch with no number below the first or past the last

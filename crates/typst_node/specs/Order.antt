@@ -1,6 +1,6 @@
 -- Numbers that stand in order.
 use Rattle.std.specs.Prelude.{◌≡◌, ℕ, ◌+◌, ◌<◌, ◌≤◌, false, List, [], ◌∷◌, ◌++◌, AllPairs, if◌then◌else◌}
-use Rattle.typst_heads.specs.Head.{Head, number_of}
+use Rattle.typst_node_data.specs.Head.{Head, number_of}
 use Rattle.typst_node.specs.Tree.{Forest, none, more, Tree}
 
 -- leaves have no children

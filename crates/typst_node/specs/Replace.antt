@@ -1,7 +1,7 @@
 -- Children replaced along a path.
 use Rattle.std.specs.Prelude.{◌^◌, ℕ, zero, suc, ◌+◌, ◌-◌, ◌*◌, ◌≤◌, ◌<◌, Bool, nat_le, ◌==◌, ◌&&◌, min, max, IsTrue, List, [], ◌∷◌, ◌++◌, length, take, drop, reverse, Option, Some, None, option_map, option_and_then, slice_get, slice_set, slice_range, if◌then◌else◌}
 use Rattle.typst_node.specs.declared.replace.Stretch.{Stretch}
-use Rattle.typst_heads.specs.Head.{Head, Place, number_of}
+use Rattle.typst_node_data.specs.Head.{Head, Place, number_of}
 use Rattle.typst_node.specs.Tree.{Tree, forest, trees, count}
 use Rattle.typst_node.specs.Numbers.{numbered_list, stride}
 use Rattle.typst_node.specs.Same.{front}

@@ -6,8 +6,8 @@ use base.Stored.{Gv, gnil, gnum, gcons}
 use denote.Param.Weighed.{most}
 use Rattle.typst_kinds.specs.declared.kind.SyntaxKind.{SyntaxKind}
 use Rattle.typst_kinds.specs.Kinds.{is_error}
-use Rattle.typst_heads.specs.Diagnostic.{Diagnostic, Hint}
-use Rattle.typst_heads.specs.Head.{Head, Place, head_code, bare_head, spanned, leaf_head, inner_head, error_head, diagnosed, helped}
+use Rattle.typst_node_data.specs.Diagnostic.{Diagnostic, Hint}
+use Rattle.typst_node_data.specs.Head.{Head, Place, head_code, bare_head, spanned, leaf_head, inner_head, error_head, diagnosed, helped}
 
 -- several trees: none, or a first one by its head and children, and then more
 pub data Forest : Type 0 where

@@ -11,4 +11,4 @@ mod numbers;
 mod replace;
 
 pub use node::SyntaxNode;
-pub use typst_heads::{Diagnostic, Hint, Items, Severity, Text};
+pub use typst_node_data::{Diagnostic, Hint, Items, Severity, Text};

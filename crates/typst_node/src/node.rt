@@ -1,6 +1,6 @@
 ghost use Rattle.std.specs.Prelude.{◌≡◌, ◌↔◌, IsTrue, [], ◌≤◌, ◌^◌, length, ◌++◌, IfOk, OnOk, OnErr, None, Some, false};
 ghost use Rattle.typst_kinds.specs.Kinds.{is_error};
-ghost use Rattle.typst_heads.specs.Diagnostic.{warning_with, hint_with};
+ghost use Rattle.typst_node_data.specs.Diagnostic.{warning_with, hint_with};
 ghost use Rattle.typst_node.specs.Tree.{forest, text_of, nodes, saturated, bare, leaf_of, inner_of, error_of, synthesized, with_kind, at_child, made_error, remarked, advised};
 ghost use Rattle.typst_node.specs.Replace.{upper_of};
 ghost use Rattle.typst_node.specs.Order.{IsWhole};
@@ -8,9 +8,9 @@ ghost use Rattle.typst_node.specs.Messages.{made_expected, made_unexpected};
 
 use std::alloc::{AllocError, Global};
 use std::marker::Model;
-use typst_heads::messages::{expected_message, is_lost_name, keyword_hint, unexpected_message};
-use typst_heads::{Diagnostic, Hint, Own, Text};
 use typst_kinds::{Span, SubRange, SyntaxKind};
+use typst_node_data::messages::{expected_message, is_lost_name, keyword_hint, unexpected_message};
+use typst_node_data::{Diagnostic, Hint, Own, Text};
 
 /// A node of a syntax tree: a leaf with a text, or an inner node with children.
 #[derive(Drop)]

@@ -1,14 +1,14 @@
 ghost use Rattle.std.specs.Prelude.{◌≡◌, ◌+◌, ◌-◌, ◌*◌, ◌^◌, ◌<◌, ◌≤◌, ◌++◌, None, Some, MatchResult, OnOk, take, drop, slice_range, vec_len};
 ghost use Rattle.typst_kinds.specs.Span.{IsSpanNumber};
-ghost use Rattle.typst_heads.specs.Head.{with_head};
+ghost use Rattle.typst_node_data.specs.Head.{with_head};
 ghost use Rattle.typst_node.specs.Tree.{nodes, forest, count};
 ghost use Rattle.typst_node.specs.Order.{IsNumbered, AreInOrder, numbers_of};
 ghost use Rattle.typst_node.specs.Numbers.{IsStretch, placed, numbered, numbered_list, numberized, stride};
 
 use crate::SyntaxNode;
 use std::ops::Range;
-use typst_heads::Own;
 use typst_kinds::{FileId, SourceError, Span, SpanNumber};
+use typst_node_data::Own;
 
 /// How many numbers each of `count` nodes gets of `room`.
 pub(crate) fn stride(room: u64, count: u64) -> u64

@@ -8,8 +8,8 @@ use crate::SyntaxNode;
 use crate::items::{keep_middle, remove, splice};
 use crate::numbers::{number_part, stride};
 use std::ops::Range;
-use typst_heads::Own;
 use typst_kinds::{FileId, SourceError};
+use typst_node_data::Own;
 
 /// The children that are numbered anew, by their places before the replacement, and where their
 /// numbers begin and how many each of their nodes gets.

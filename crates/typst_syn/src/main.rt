@@ -4,7 +4,7 @@
 use std::alloc::Global;
 use std::env;
 use std::process::ExitCode;
-use typst_words::{Failure, run};
+use typst_cli::{Failure, run};
 
 fn main(rt: HostRuntime) -> ExitCode {
     let alloc = rt.alloc();

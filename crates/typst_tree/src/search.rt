@@ -2,7 +2,7 @@
 
 ghost use Rattle.std.specs.Prelude.{◌≡◌, ◌+◌, ◌^◌, ◌<◌, ◌-◌, true, None, IfSome, IsTrue, ◌↔◌};
 ghost use Rattle.std.specs.Option.{option_map};
-ghost use Rattle.typst_heads.specs.Head.{number_of};
+ghost use Rattle.typst_node_data.specs.Head.{number_of};
 ghost use Rattle.typst_node.specs.Tree.{nodes, places};
 ghost use Rattle.typst_tree.specs.Walks.{first_at, last_leaf, is_childless, is_leaf, has_child, holds_byte, Within};
 ghost use Rattle.typst_tree.specs.Wanted.{wanted};

@@ -5,10 +5,10 @@ use Rattle.typst_lexer.specs.Common.{line_ends, whitespace, shebang, line_commen
 use Rattle.typst_lexer.specs.Markup.{markup as markup_token, heading as heading_token, sign, code_point, backslash, dot, marker_or_text, marker, hyphen, minus, emphasis, numbering}
 use Rattle.typst_lexer.specs.Text.{text as text_token, text_from}
 use Rattle.typst_lexer.specs.Tokens.{of_mode, hash, slash, star, token}
-use Rattle.typst_parsing.specs.Hand.{ahead, ahead_asks, column_at, hand_at, hand_asks}
-use Rattle.typst_parsing.specs.Meaning.{less, repeated, run}
-use Rattle.typst_parsing.specs.Steps.{eat_making, eat, convert_and_eat, eat_if, unexpected, expected, expect, flush_trivia, within, node, node_with_trivia, note}
-use Rattle.typst_parsing.specs.Depth.{deeper}
+use Rattle.typst_combinators.specs.Hand.{ahead, ahead_asks, column_at, hand_at, hand_asks}
+use Rattle.typst_combinators.specs.Meaning.{less, repeated, run}
+use Rattle.typst_combinators.specs.Steps.{eat_making, eat, convert_and_eat, eat_if, unexpected, expected, expect, flush_trivia, within, node, node_with_trivia, note}
+use Rattle.typst_combinators.specs.Depth.{deeper}
 use Rattle.typst_markup.specs.Markup.{note_piece, markup_turn, markup_exprs, markup, markup_is_empty, strong, emph, heading, list_item, term_item, markup_expr}
 use Rattle.typst_grammar.specs.Grammar.{meaning, whole, tree}
 use Rattle.typst_grammar.proofs.laws.trees_of_texts.Goals as goal

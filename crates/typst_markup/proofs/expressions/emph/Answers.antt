@@ -1,9 +1,9 @@
 use Rattle.std.proofs.Common.{◌∙◌, codes, ap, sym}
 use Rattle.typst_kinds.specs.declared.kind.SyntaxKind.TheVariants as kind
-use Rattle.typst_parsing.specs.declared.reading.AtNewline.TheVariants as newline
-use Rattle.typst_parsing.specs.Depth.{is_underscore}
+use Rattle.typst_combinators.specs.declared.reading.AtNewline.TheVariants as newline
+use Rattle.typst_combinators.specs.Depth.{is_underscore}
 use Rattle.typst_markup.specs.Markup.{emph, at_newline, emphasized}
-use Rattle.typst_parsing.proofs.Steps.{does-next, does-gives, does-node}
+use Rattle.typst_combinators.proofs.Steps.{does-next, does-gives, does-node}
 use Rattle.typst_markup.proofs.Heads.{does-entered}
 use Rattle.typst_markup.proofs.expressions.emph.Goals as goal
 

@@ -1,9 +1,9 @@
 use Rattle.std.proofs.Common.{sym, ◌∙◌}
 use Rattle.typst_kinds.specs.declared.kind.SyntaxKind.TheVariants as kind
-use Rattle.typst_parsing.specs.Shape.Shape.{becomes}
-use Rattle.typst_parsing.specs.declared.reading.AtNewline.TheVariants as newline
+use Rattle.typst_combinators.specs.Shape.Shape.{becomes}
+use Rattle.typst_combinators.specs.declared.reading.AtNewline.TheVariants as newline
 use Rattle.typst_markup.specs.Markup.{heading, at_newline}
-use Rattle.typst_parsing.proofs.Steps.{does-next, does-node}
+use Rattle.typst_combinators.proofs.Steps.{does-next, does-node}
 use Rattle.typst_markup.proofs.Heads.{does-entered}
 use Rattle.typst_markup.proofs.expressions.heading.Goals as goal
 

@@ -1,11 +1,11 @@
 use Rattle.std.proofs.Common.{◌≡◌, ◌∙◌, ℕ, Bool, true, ap, sym, subst}
-use Rattle.typst_parsing.specs.declared.stop.Stop.{Stop}
-use Rattle.typst_parsing.specs.Meaning.{Level}
-use Rattle.typst_parsing.specs.Steps.{peek}
-use Rattle.typst_parsing.specs.Syntax.Parser.{gives, next}
-use Rattle.typst_parsing.specs.View.{View, Does}
+use Rattle.typst_combinators.specs.declared.stop.Stop.{Stop}
+use Rattle.typst_combinators.specs.Meaning.{Level}
+use Rattle.typst_combinators.specs.Steps.{peek}
+use Rattle.typst_combinators.specs.Syntax.Parser.{gives, next}
+use Rattle.typst_combinators.specs.View.{View, Does}
 use Rattle.typst_markup.specs.Markup.{markup_turn, note_piece, ends}
-use Rattle.typst_parsing.proofs.Steps.{does-next, does-gives, does-peek, does-pick, does-other}
+use Rattle.typst_combinators.proofs.Steps.{does-next, does-gives, does-peek, does-pick, does-other}
 use Rattle.typst_markup.proofs.sequences.markup_turn.Goals as goal
 
 -- what comes behind an expression was noted with the newlines that were passed

@@ -1,5 +1,5 @@
 use Rattle.std.proofs.Common.{◌≡◌, ◌+◌, ◌<◌, ◌^◌, ◌∷◌, ap, sym, subst, ◌∙◌, arith, length}
-use Rattle.typst_heads.specs.Head.{number_of}
+use Rattle.typst_node_data.specs.Head.{number_of}
 use Rattle.typst_node.specs.Tree.{forest, nodes, places, preorder, saturated, text_of, count}
 use Rattle.typst_tree.specs.Walks.{first_at, Within}
 use Rattle.typst_tree.specs.Wanted.{wanted}

@@ -1,0 +1,74 @@
+//! Why the program failed.
+ghost use Rattle.std.specs.Prelude.{◌≡◌};
+ghost use Rattle.typst_cli.specs.Faults.{Begins, line_of, status_of};
+ghost use Rattle.typst_cli.specs.declared.failure.Failure.TheVariants as failure;
+
+use crate::streams::write_bytes;
+use std::alloc::{AllocError, AllocFailed};
+use std::io::Write;
+
+/// What went wrong, in the order in which it is looked for; want of memory is met anywhere.
+#[derive(Debug, Clone, Copy, PartialEq, Eq)]
+pub enum Failure {
+    /// The words are none that the program knows.
+    Usage,
+    /// Standard input couldn't be read.
+    NotRead,
+    /// The text isn't UTF-8.
+    NotUtf8,
+    /// A request for memory was refused.
+    OutOfMemory,
+    /// The answer couldn't be written.
+    NotWritten,
+}
+
+impl From<AllocError> for Failure {
+    ghost from_gives = { λ _ made. made ≡ failure.OutOfMemory };
+
+    fn from(_error: AllocError) -> Failure {
+        Failure::OutOfMemory
+    }
+}
+
+impl<T: Drop> From<AllocFailed<T>> for Failure {
+    ghost from_gives = { λ _ made. made ≡ failure.OutOfMemory };
+
+    fn from(_error: AllocFailed<T>) -> Failure {
+        Failure::OutOfMemory
+    }
+}
+
+impl Failure {
+    /// The program's exit status.
+    pub fn status(self) -> u8
+        ensures { result ≡ status_of self }
+    {
+        match self {
+            Failure::Usage => 2,
+            _ => 1,
+        }
+    }
+
+    /// The line that tells of it.
+    pub fn line(self) -> &'static str
+        ensures { result.now ≡ line_of self }
+    {
+        match self {
+            Failure::Usage => "usage: typst_syn lines | tree | html | edit START END TEXT\n",
+            Failure::NotRead => "read failed\n",
+            Failure::NotUtf8 => "not UTF-8\n",
+            Failure::OutOfMemory => "out of memory\n",
+            Failure::NotWritten => "write failed\n",
+        }
+    }
+
+    /// Tells of the failure, which takes no memory, and gives the status, also where the line can't
+    /// be written.
+    pub fn report<E: Write>(self, errors: &mut E) -> u8
+        ensures status { result ≡ status_of self }
+        ensures line { Begins (E.contents errors.old) (E.contents errors.new) (line_of self) }
+    {
+        let _ = write_bytes(errors, self.line().as_bytes());
+        self.status()
+    }
+}

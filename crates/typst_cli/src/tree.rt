@@ -1,0 +1,130 @@
+//! The word `tree`.
+
+ghost use Rattle.std.specs.Prelude.{◌≡◌, ◌+◌, ◌<◌, ◌^◌, ◌++◌, length, IfOk, OnOk, string_bytes};
+ghost use Rattle.typst_node.specs.Tree.{text_of};
+ghost use Rattle.typst_cli.specs.PrintedTree as spec;
+
+use crate::variants::variant_name;
+use std::alloc::{AllocError, Global};
+use typst_parser::{UnicodeClasses, is_newline, parse};
+use typst_tree::{Diagnostic, Hint, Severity, SyntaxNode};
+
+/// The syntax tree of the text. Each node has a line with its kind, its range in bytes and, for an
+/// error, its message, two spaces deeper than its parent; below it stand its warnings and hints, and
+/// then its children.
+pub fn answer(alloc: Global, text: &str) -> Result<String, AllocError>
+    ensures { IfOk result (λ printed. string_bytes printed ≡ spec.tree_printed text.now) }
+{
+    let root = parse(alloc, text, &UnicodeClasses)?;
+    let mut printed = String::new(alloc);
+    print_node(alloc, &mut printed, &root, "", 0)?;
+    Ok(printed)
+}
+
+/// Prints a node that begins at a byte, and all below it.
+fn print_node(
+    alloc: Global,
+    printed: &mut String,
+    node: &SyntaxNode,
+    indent: &str,
+    start: usize,
+) -> Result<(), AllocError>
+    requires { start + length (text_of node.now) < 2 ^ 64 }
+    ensures { OnOk result (string_bytes printed.new ≡ string_bytes printed.old ++ spec.node_lines indent.now start node.now) }
+{
+    print_own_line(printed, node, indent, start)?;
+    let deeper = format!(in alloc; "{indent}  ")?;
+    print_remarks(printed, node.diagnostics(), deeper.as_str())?;
+    let mut kid_start = start;
+    for kid in node.children() {
+        print_node(alloc, printed, kid, deeper.as_str(), kid_start)?;
+        kid_start += kid.len();
+    }
+    Ok(())
+}
+
+/// Prints a node's own line.
+fn print_own_line(
+    printed: &mut String,
+    node: &SyntaxNode,
+    indent: &str,
+    start: usize,
+) -> Result<(), AllocError>
+    requires { start + length (text_of node.now) < 2 ^ 64 }
+    ensures { OnOk result (string_bytes printed.new ≡ string_bytes printed.old ++ spec.own_line indent.now start (start + length (text_of node.now)) node.now.head) }
+{
+    let (name, end) = (variant_name(node.kind()), start + node.len());
+    write!(printed, "{indent}{name} {start}..{end}")?;
+    print_errors(printed, node.diagnostics())?;
+    printed.push_str("\n")?;
+    Ok(())
+}
+
+/// Prints the messages of the errors.
+fn print_errors(printed: &mut String, diagnostics: &[Diagnostic]) -> Result<(), AllocError>
+    ensures { OnOk result (string_bytes printed.new ≡ string_bytes printed.old ++ spec.errors diagnostics.now) }
+{
+    for diagnostic in diagnostics {
+        match diagnostic.severity() {
+            Severity::Error => {
+                printed.push_str(" ")?;
+                print_message(printed, diagnostic.message())?;
+            }
+            Severity::Warning => {}
+        }
+    }
+    Ok(())
+}
+
+/// Prints a line for each warning and each hint.
+fn print_remarks(
+    printed: &mut String,
+    diagnostics: &[Diagnostic],
+    indent: &str,
+) -> Result<(), AllocError>
+    ensures { OnOk result (string_bytes printed.new ≡ string_bytes printed.old ++ spec.remarks indent.now diagnostics.now) }
+{
+    for diagnostic in diagnostics {
+        match diagnostic.severity() {
+            Severity::Error => {}
+            Severity::Warning => print_remark(printed, indent, "warning", diagnostic.message())?,
+        }
+        print_hints(printed, diagnostic.hints(), indent)?;
+    }
+    Ok(())
+}
+
+/// Prints a line for each hint.
+fn print_hints(printed: &mut String, hints: &[Hint], indent: &str) -> Result<(), AllocError>
+    ensures { OnOk result (string_bytes printed.new ≡ string_bytes printed.old ++ spec.hints indent.now hints.now) }
+{
+    for hint in hints {
+        print_remark(printed, indent, "hint", hint.message())?;
+    }
+    Ok(())
+}
+
+/// Prints a line that a word begins.
+fn print_remark(
+    printed: &mut String,
+    indent: &str,
+    word: &str,
+    message: &str,
+) -> Result<(), AllocError>
+    ensures { OnOk result (string_bytes printed.new ≡ string_bytes printed.old ++ spec.remark indent.now word.now message.now) }
+{
+    write!(printed, "{indent}{word}: ")?;
+    print_message(printed, message)?;
+    printed.push_str("\n")?;
+    Ok(())
+}
+
+/// Prints a message with a space for each newline character.
+fn print_message(printed: &mut String, message: &str) -> Result<(), AllocError>
+    ensures { OnOk result (string_bytes printed.new ≡ string_bytes printed.old ++ spec.one_line message.now) }
+{
+    for c in message.chars() {
+        printed.push(if is_newline(c) { ' ' } else { c })?;
+    }
+    Ok(())
+}

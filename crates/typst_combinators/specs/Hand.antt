@@ -1,0 +1,219 @@
+-- The token at hand: the trivia ahead, and the token after it.
+use Rattle.std.specs.Prelude.{ℕ, zero, suc, ◌+◌, max, min, Bool, true, false, not, ◌||◌, ◌&&◌, if◌then◌else◌, nat_lt, nat_le, List, [], ◌∷◌, ◌++◌, length, take, encode_utf8_all}
+use Rattle.std.specs.List.{prefix_len}
+use Rattle.typst_kinds.specs.declared.kind.SyntaxKind.{SyntaxKind}
+use Rattle.typst_kinds.specs.declared.kind.SyntaxKind.TheVariants as kind
+use Rattle.typst_kinds.specs.declared.mode.SyntaxMode.{SyntaxMode}
+use Rattle.typst_kinds.specs.declared.mode.SyntaxMode.TheVariants as mode
+use Rattle.typst_lines.specs.Newline.{is_newline}
+use Rattle.typst_lines.specs.Place.{Place, moved}
+use Rattle.typst_node.specs.Tree.{Tree}
+use Rattle.typst_readers.specs.declared.hull.Hull.{Hull}
+use Rattle.typst_lexer.specs.declared.token.Token.{Token}
+use Rattle.typst_classes.specs.Classes.{CharClasses}
+use Rattle.typst_readers.specs.Reader.{Look, exec, eaten, look}
+use Rattle.typst_readers.specs.Sight.{hull_of}
+use Rattle.typst_lexer.specs.Tokens.{token}
+use Rattle.typst_lexer.specs.Nodes.{token_node}
+use Rattle.typst_combinators.specs.declared.reading.AtNewline.TheVariants.{Continue, Stop, ContextualContinue, StopParBreak, RequireColumn}
+use Rattle.typst_combinators.specs.declared.reading.Newlines.{Newlines}
+use Rattle.typst_combinators.specs.declared.reading.Reading.{Reading}
+use Rattle.typst_combinators.specs.Ask.{Ask, shift}
+use Rattle.typst_combinators.specs.Ask.Ask.{looked}
+
+-- the first characters ahead
+abbrev pub text_ahead : ℕ → Place → List ℕ
+text_ahead n z = take n z.ahead
+
+-- the same as bytes
+abbrev pub utf8_ahead : ℕ → Place → List ℕ
+utf8_ahead n z = encode_utf8_all (take n z.ahead)
+
+-- how many bytes the characters ahead take
+abbrev pub bytes_left : Place → ℕ
+bytes_left z = length (encode_utf8_all z.ahead)
+
+-- whitespace and comments are trivia
+abbrev pub is_trivia : SyntaxKind → Bool
+is_trivia kind.Space = true
+is_trivia kind.Parbreak = true
+is_trivia kind.LineComment = true
+is_trivia kind.BlockComment = true
+is_trivia _ = false
+
+abbrev pub is_parbreak : SyntaxKind → Bool
+is_parbreak kind.Parbreak = true
+is_parbreak _ = false
+
+-- the token at a place, and how many characters it takes
+abbrev pub token_at : CharClasses → SyntaxMode → Place → Token
+token_at k m z = (exec (token k m) z).0
+
+abbrev pub len_at : CharClasses → SyntaxMode → Place → ℕ
+len_at k m z = min (eaten (token k m) z) (length z.ahead)
+
+-- trivia, as nodes and as characters, with the newlines in it, and the token after it
+pub record Ahead : Type 0 where
+  pub trivia : List Tree
+  pub gap : ℕ
+  pub newlines : Newlines
+  pub token : Token
+  pub len : ℕ
+
+abbrev pub no_newlines : Newlines
+no_newlines = record { any = false; parbreak = false }
+
+-- no trivia, and this token
+abbrev pub direct : Token → ℕ → Ahead
+direct t n = record { trivia = []; gap = 0; newlines = no_newlines; token = t; len = n }
+
+abbrev pub both_newlines : Newlines → Newlines → Newlines
+both_newlines a b = record { any = a.any || b.any; parbreak = a.parbreak || b.parbreak }
+
+-- the newlines that a trivia token holds
+abbrev pub newlines_of : Token → Newlines
+newlines_of t = record { any = t.newline; parbreak = is_parbreak t.kind }
+
+-- one trivia token more in front, of so many characters
+abbrev pub after_trivia : Token → ℕ → Tree → Ahead → Ahead
+after_trivia t n node a = record a {
+  trivia = node ∷ a.trivia;
+  gap = n + a.gap;
+  newlines = both_newlines (newlines_of t) a.newlines;
+}
+
+-- whether the token at a place is trivia
+abbrev pub at_trivia : CharClasses → SyntaxMode → Place → Bool
+at_trivia k m z = is_trivia (token_at k m z).kind && nat_lt 0 (len_at k m z)
+
+-- there are no more trivia tokens than the number says
+abbrev pub ahead_by : CharClasses → SyntaxMode → ℕ → Place → Ahead
+ahead_by k m zero z = direct (token_at k m z) (len_at k m z)
+ahead_by k m (suc n) z =
+    if at_trivia k m z
+    then after_trivia (token_at k m z) (len_at k m z) (token_node k (token_at k m z) (text_ahead (len_at k m z) z)) (ahead_by k m n (moved (len_at k m z) z))
+    else direct (token_at k m z) (len_at k m z)
+
+-- the trivia at a place and the token after it
+unfoldable pub ahead : CharClasses → SyntaxMode → Place → Ahead
+ahead k m z = ahead_by k m (length z.ahead) z
+
+abbrev pub asks_by : CharClasses → SyntaxMode → ℕ → Place → List Ask
+asks_by k m zero z = looked 0 (look (token k m) z) ∷ []
+asks_by k m (suc n) z =
+    looked 0 (look (token k m) z) ∷ (if at_trivia k m z then shift (len_at k m z) (asks_by k m n (moved (len_at k m z) z)) else [])
+
+-- what each of these tokens looked at
+unfoldable pub ahead_asks : CharClasses → SyntaxMode → Place → List Ask
+ahead_asks k m z = asks_by k m (length z.ahead) z
+
+-- how many characters stand between a place and the last newline character before it, or the text's start
+unfoldable pub column_at : Place → ℕ
+column_at z = prefix_len (λ c. not (is_newline c)) z.behind
+
+-- a column is told by these characters and what ends them
+abbrev pub column_look : Place → Look
+column_look z = record { back = suc (column_at z); front = 0 }
+
+-- a line that begins with `else` or `.` goes on with the line before it
+abbrev pub goes_on : SyntaxKind → Bool
+goes_on kind.Else = true
+goes_on kind.Dot = true
+goes_on _ = false
+
+abbrev pub is_markup : SyntaxMode → Bool
+is_markup mode.Markup = true
+is_markup _ = false
+
+-- whether the rule stops at a token of this kind and column, with these newlines before it. Only in markup is a column known
+abbrev pub stops : Reading → Newlines → SyntaxKind → ℕ → Bool
+stops reading newlines k column = newlines.any && (elim reading.at_newline [
+  | Continue ↦ false
+  | Stop ↦ true
+  | ContextualContinue ↦ not (goes_on k)
+  | StopParBreak ↦ newlines.parbreak
+  | RequireColumn least ↦ is_markup reading.mode && nat_le column least
+])
+
+-- a token's kind, or End where the rule stops
+abbrev pub judged : Reading → Newlines → SyntaxKind → ℕ → SyntaxKind
+judged reading newlines k column = if stops reading newlines k column then kind.End else k
+
+-- whether the rule asks for the column
+abbrev pub asks_column : Reading → Newlines → Bool
+asks_column reading newlines = newlines.any && (elim reading.at_newline [ RequireColumn least ↦ is_markup reading.mode | _ ↦ false ])
+
+-- the token at hand with the trivia before it
+pub record Hand : Type 0 where
+  -- End where the newline rule stops
+  pub kind : SyntaxKind
+  pub trivia : List Tree
+  -- how many characters the trivia and the token take
+  pub gap : ℕ
+  pub len : ℕ
+  -- those of trivia that became nodes already counted too
+  pub newlines : Newlines
+  -- whatever the rule says
+  pub token : Token
+
+abbrev pub hand_by : Reading → Newlines → ℕ → Ahead → Hand
+hand_by held flushed column a = record {
+  kind = judged held (both_newlines flushed a.newlines) a.token.kind column;
+  trivia = a.trivia;
+  gap = a.gap;
+  len = a.len;
+  newlines = both_newlines flushed a.newlines;
+  token = a.token;
+}
+
+-- the token at hand, by how it is read and which newlines became nodes already
+unfoldable pub hand_at : CharClasses → Reading → Newlines → Place → Hand
+hand_at k held flushed z = hand_by held flushed (column_at (moved (ahead k held.mode z).gap z)) (ahead k held.mode z)
+
+abbrev pub column_asks : Reading → Newlines → ℕ → Place → List Ask
+column_asks held newlines gap z = if asks_column held newlines then looked gap (column_look (moved gap z)) ∷ [] else []
+
+-- what it looked at
+unfoldable pub hand_asks : CharClasses → Reading → Newlines → Place → List Ask
+hand_asks k held flushed z =
+    let a = ahead k held.mode z in
+    ahead_asks k held.mode z ++ column_asks held (both_newlines flushed a.newlines) a.gap z
+
+-- ---- the same in bytes
+
+-- both stretches, and what lies between them
+abbrev pub joined_hull : Hull → Hull → Hull
+joined_hull a b = record { reach = max a.reach b.reach; least = min a.least b.least }
+
+-- what was looked at for the token at a place
+abbrev pub token_hull : CharClasses → SyntaxMode → Place → Hull
+token_hull k m z = hull_of (look (token k m) z) z
+
+abbrev pub tokens_by : CharClasses → SyntaxMode → ℕ → Place → Hull
+tokens_by k m zero z = token_hull k m z
+tokens_by k m (suc n) z = if at_trivia k m z then joined_hull (token_hull k m z) (tokens_by k m n (moved (len_at k m z) z)) else token_hull k m z
+
+-- what was looked at for the trivia at a place and the token after it
+unfoldable pub tokens_at : CharClasses → SyntaxMode → Place → Hull
+tokens_at k m z = tokens_by k m (length z.ahead) z
+
+-- with what was looked at for the column, where the rule asks for it
+abbrev pub column_hull : Reading → Newlines → Place → Hull → Hull
+column_hull held newlines z h = if asks_column held newlines then joined_hull h (hull_of (column_look z) z) else h
+
+-- what was looked at for the trivia and the token, for the token alone, and for it and its column
+pub record Looks : Type 0 where
+  pub tokens : Hull
+  pub own : Hull
+  pub here : Hull
+
+-- all of it
+abbrev pub whole : Looks → Hull
+whole l = joined_hull l.tokens l.here
+
+-- what was looked at for the token at hand
+unfoldable pub looks_at : CharClasses → Reading → Newlines → Place → Looks
+looks_at k held flushed z =
+    let a = ahead k held.mode z in
+    let w = moved a.gap z in
+    record { tokens = tokens_at k held.mode z; own = token_hull k held.mode w; here = column_hull held (both_newlines flushed a.newlines) w (token_hull k held.mode w) }

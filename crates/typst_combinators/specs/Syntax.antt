@@ -1,0 +1,59 @@
+-- The language in which the grammar is written: a parser asks, takes, gives nodes, and calls another.
+use Rattle.std.specs.Prelude.{ℕ, Bool, List}
+use Rattle.typst_combinators.specs.declared.reading.Block.{Block}
+use Rattle.typst_combinators.specs.declared.reading.Call.{Call}
+use Rattle.typst_combinators.specs.declared.reading.Mark.{Mark}
+use Rattle.typst_combinators.specs.declared.reading.Reading.{Reading}
+use Rattle.typst_combinators.specs.Hand.{Hand}
+use Rattle.typst_combinators.specs.Shape.{Making, Shape, Seen}
+
+pub data Op : Type 0 → Type 1 where
+  -- asks for the token at hand, with the trivia before it
+  hand : Op Hand
+  -- asks for the column in which the token at hand stands
+  column : Op ℕ
+  -- asks whether the node before the pending trivia is an error
+  erred : Op Bool
+  -- passes the trivia and the token at hand, gives the nodes of the trivia and then what the token
+  -- becomes, and may first take back the empty errors that stand before the trivia
+  takes : Bool → Making → Op (Unit {0})
+  -- passes the trivia at hand and gives its nodes; the newlines in it stay known
+  flushes : Op (Unit {0})
+  -- gives an empty error with this message, before the pending trivia
+  complains : List ℕ → Op (Unit {0})
+  -- notes that a unit begins or ends here, before so many characters of trivia
+  marks : ℕ → Mark → Op (Unit {0})
+  -- asks whether no level is left for a call
+  is_deepest : Op Bool
+
+pub data Parser : Type 0 → Type 1 where
+  -- answers, and does nothing
+  gives : {A : Type 0} → A → Parser A
+  -- does one thing
+  does : {A : Type 0} → Op A → Parser A
+  -- goes on by the answer of the first
+  next : {A B : Type 0} → Parser B → (B → Parser A) → Parser A
+  -- the first where the test holds, else the second
+  pick : {A : Type 0} → Bool → Parser A → Parser A → Parser A
+  -- again and again, while it says so and has taken something
+  repeat : {A : Type 0} → (A → Parser (Bool × A)) → A → Parser A
+  -- what was given becomes one node, but for the first few nodes; answers what is seen of those that it was made of
+  wraps : {A : Type 0} → (A → Shape) → ℕ → Parser A → Parser (A × List Seen)
+  -- the tokens to come are read in another way, and behind it as before
+  scoped : {A : Type 0} → (Reading → Reading) → Parser A → Parser A
+  -- answers what is seen of the nodes that were given, too
+  sees : {A : Type 0} → Parser A → Parser (A × List Seen)
+  -- where the first turns out wrong it is given up, and the second reads from the same place
+  either : {A : Type 0} → Parser A → (A → Bool) → Parser A → Parser A
+  -- reads one level deeper
+  calls : Call → Parser ℕ
+  -- reads a block, which is noted as a unit
+  block : Block → Parser (Unit {0})
+
+infixl 10 ◌>>=◌
+abbrev pub ◌>>=◌ : {A B : Type 0} → Parser A → (A → Parser B) → Parser B
+p >>= f = next p f
+
+infixl 10 ◌>>◌
+abbrev pub ◌>>◌ : {A B : Type 0} → Parser A → Parser B → Parser B
+p >> q = next p (λ _. q)

@@ -1,0 +1,397 @@
+ghost use Rattle.std.specs.Prelude.{◌≡◌, ◌≤◌, ◌<◌, ◌^◌, ◌↔◌, IfOk, OnOk, OnErr, IsTrue, false};
+ghost use Rattle.typst_node_data.specs.Head.{bare_head, located, spanned, leaf_head, inner_head, error_head, leaf_own, with_head, diagnosed, helped, number_of};
+ghost use Rattle.typst_node_data.specs.Diagnostic.{at_last, hinted};
+
+use crate::diagnostic::{clone_diagnostics, same_diagnostics};
+use crate::text::ShortText;
+use crate::{Diagnostic, Hint, Text};
+use std::alloc::{AllocError, Global};
+use std::marker::Model;
+use typst_kinds::{Span, SyntaxKind};
+
+/// Where a node's numbers end, and what its children add up to.
+#[derive(Clone, Copy)]
+struct Extent {
+    upper: u64,
+    len: usize,
+    descendants: usize,
+}
+
+/// The parts of a node that has diagnostics.
+#[derive(Drop)]
+struct Parts {
+    is_inner: bool,
+    text: Text,
+    extent: Extent,
+    diagnostics: Vec<Diagnostic>,
+}
+
+/// The usual nodes hold their parts in 32 bytes.
+#[derive(Drop)]
+enum Repr {
+    ShortLeaf(SyntaxKind, ShortText),
+    LongLeaf(SyntaxKind, Text),
+    Inner(SyntaxKind, Extent),
+    Diagnosed(SyntaxKind, Box<Parts>),
+}
+
+/// What a node keeps beside its children.
+#[derive(Drop)]
+pub struct Own {
+    span: Span,
+    repr: Repr,
+}
+
+impl Model for Own {
+    ghost use Rattle.typst_node_data.specs.Head.{Own, own_code};
+
+    ghost Value = { Own };
+
+    ghost coded = { own_code };
+
+    ghost use Rattle.typst_node_data.specs.Repr.{own_of, IsOwn};
+
+    ghost view = { λ o. own_of o.span o.repr };
+
+    ghost invariant = { λ o. IsOwn o.repr };
+}
+
+/// The number of a span, or 0 where it is detached.
+fn number_of(span: Span) -> u64
+    ensures value { result ≡ number_of span }
+    ensures small { result < 2 ^ 47 }
+{
+    match span.number() {
+        None => 0,
+        Some(number) => number.get(),
+    }
+}
+
+// Makers.
+impl Own {
+    /// A leaf's.
+    pub fn leaf(alloc: Global, kind: SyntaxKind, text: &str) -> Result<Own, AllocError>
+        ensures { IfOk result (λ o. o ≡ leaf_own (leaf_head kind text.now)) }
+    {
+        if let Some(short) = ShortText::new(text) {
+            return Ok(Own {
+                span: Span::detached(),
+                repr: Repr::ShortLeaf(kind, short),
+            });
+        }
+        let long = Text::new(alloc, text)?;
+        Ok(Own {
+            span: Span::detached(),
+            repr: Repr::LongLeaf(kind, long),
+        })
+    }
+
+    /// An inner node's.
+    pub fn inner(kind: SyntaxKind, len: usize, descendants: usize) -> Own
+        ensures { result ≡ record { head = inner_head kind; len = len; descendants = descendants } }
+    {
+        let extent = Extent {
+            upper: 0,
+            len,
+            descendants,
+        };
+        Own {
+            span: Span::detached(),
+            repr: Repr::Inner(kind, extent),
+        }
+    }
+
+    /// An error leaf's.
+    pub fn error(alloc: Global, message: Text, text: Text) -> Result<Own, AllocError>
+        ensures { IfOk result (λ o. o ≡ leaf_own (error_head message text)) }
+    {
+        let mut diagnostics = Vec::with_capacity(alloc, 1)?;
+        diagnostics.push(Diagnostic::error(alloc, message))?;
+        let extent = Extent {
+            upper: 0,
+            len: text.len(),
+            descendants: 1,
+        };
+        let parts = Parts {
+            is_inner: false,
+            text,
+            extent,
+            diagnostics,
+        };
+        Ok(Own {
+            span: Span::detached(),
+            repr: Repr::Diagnosed(SyntaxKind::Error, Box::new(alloc, parts)?),
+        })
+    }
+
+    /// The same again.
+    pub fn try_clone(&self, alloc: Global) -> Result<Own, AllocError>
+        ensures { IfOk result (λ o. o ≡ self.now) }
+    {
+        let span = self.span;
+        match &self.repr {
+            Repr::ShortLeaf(kind, text) => Ok(Own {
+                span,
+                repr: Repr::ShortLeaf(*kind, text.copy()),
+            }),
+            Repr::LongLeaf(kind, text) => {
+                let text = text.try_clone(alloc)?;
+                Ok(Own {
+                    span,
+                    repr: Repr::LongLeaf(*kind, text),
+                })
+            }
+            Repr::Inner(kind, extent) => Ok(Own {
+                span,
+                repr: Repr::Inner(*kind, *extent),
+            }),
+            Repr::Diagnosed(kind, parts) => {
+                let parts = parts.try_clone(alloc)?;
+                Ok(Own {
+                    span,
+                    repr: Repr::Diagnosed(*kind, Box::new(alloc, parts)?),
+                })
+            }
+        }
+    }
+}
+
+impl Parts {
+    fn try_clone(&self, alloc: Global) -> Result<Parts, AllocError>
+        ensures { IfOk result (λ p. (p.is_inner ≡ self.now.is_inner) × (p.text ≡ self.now.text) × (p.extent ≡ self.now.extent) × (p.diagnostics.items ≡ self.now.diagnostics.items)) }
+    {
+        let text = self.text.try_clone(alloc)?;
+        let diagnostics = clone_diagnostics(alloc, &self.diagnostics)?;
+        Ok(Parts {
+            is_inner: self.is_inner,
+            text,
+            extent: self.extent,
+            diagnostics,
+        })
+    }
+}
+
+// Readers.
+impl Own {
+    pub fn kind(&self) -> SyntaxKind
+        ensures { result ≡ self.now.head.kind }
+    {
+        match &self.repr {
+            Repr::ShortLeaf(kind, _) => *kind,
+            Repr::LongLeaf(kind, _) => *kind,
+            Repr::Inner(kind, _) => *kind,
+            Repr::Diagnosed(kind, _) => *kind,
+        }
+    }
+
+    pub fn is_inner(&self) -> bool
+        ensures { result ≡ self.now.head.is_inner }
+    {
+        match &self.repr {
+            Repr::ShortLeaf(_, _) => false,
+            Repr::LongLeaf(_, _) => false,
+            Repr::Inner(_, _) => true,
+            Repr::Diagnosed(_, parts) => parts.is_inner,
+        }
+    }
+
+    pub fn text(&self) -> &str
+        ensures { result.now ≡ self.now.head.text }
+    {
+        match &self.repr {
+            Repr::ShortLeaf(_, text) => text.as_str(),
+            Repr::LongLeaf(_, text) => text.as_str(),
+            Repr::Inner(_, _) => "",
+            Repr::Diagnosed(_, parts) => parts.text.as_str(),
+        }
+    }
+
+    pub fn span(&self) -> Span
+        ensures { result ≡ self.now.head.span }
+    {
+        self.span
+    }
+
+    /// The node's number, or 0 where it is detached.
+    pub fn number(&self) -> u64
+        ensures value { result ≡ number_of self.now.head.span }
+        ensures small { result < 2 ^ 47 }
+    {
+        number_of(self.span)
+    }
+
+    pub fn diagnostics(&self) -> &[Diagnostic]
+        ensures { result.now ≡ self.now.head.diagnostics }
+    {
+        match &self.repr {
+            Repr::ShortLeaf(_, _) => &[],
+            Repr::LongLeaf(_, _) => &[],
+            Repr::Inner(_, _) => &[],
+            Repr::Diagnosed(_, parts) => parts.diagnostics.as_slice(),
+        }
+    }
+
+    pub fn len(&self) -> usize
+        ensures { result ≡ self.now.len }
+    {
+        match &self.repr {
+            Repr::ShortLeaf(_, text) => text.len(),
+            Repr::LongLeaf(_, text) => text.len(),
+            Repr::Inner(_, extent) => extent.len,
+            Repr::Diagnosed(_, parts) => parts.extent.len,
+        }
+    }
+
+    pub fn descendants(&self) -> usize
+        ensures { result ≡ self.now.descendants }
+    {
+        match &self.repr {
+            Repr::ShortLeaf(_, _) => 1,
+            Repr::LongLeaf(_, _) => 1,
+            Repr::Inner(_, extent) => extent.descendants,
+            Repr::Diagnosed(_, parts) => parts.extent.descendants,
+        }
+    }
+
+    pub fn upper(&self) -> u64
+        ensures value { result ≡ self.now.head.upper }
+        ensures small { result ≤ 2 ^ 47 }
+    {
+        match &self.repr {
+            Repr::ShortLeaf(_, _) => 0,
+            Repr::LongLeaf(_, _) => 0,
+            Repr::Inner(_, extent) => extent.upper,
+            Repr::Diagnosed(_, parts) => parts.extent.upper,
+        }
+    }
+
+    /// Whether all but the numbers are the same.
+    pub fn same_bare(&self, other: &Own) -> bool
+        ensures { IsTrue result ↔ (bare_head self.now.head ≡ bare_head other.now.head) }
+    {
+        if !self.kind().same(other.kind()) {
+            return false;
+        }
+        if self.is_inner() != other.is_inner() {
+            return false;
+        }
+        if self.text() != other.text() {
+            return false;
+        }
+        same_diagnostics(self.diagnostics(), other.diagnostics())
+    }
+}
+
+// What changes a node.
+impl Own {
+    /// Gives the node another kind.
+    pub fn set_kind(&mut self, kind: SyntaxKind)
+        ensures { self.new ≡ with_head self.old (record self.old.head { kind = kind }) }
+    {
+        match &mut self.repr {
+            Repr::ShortLeaf(old, _) => *old = kind,
+            Repr::LongLeaf(old, _) => *old = kind,
+            Repr::Inner(old, _) => *old = kind,
+            Repr::Diagnosed(old, _) => *old = kind,
+        }
+    }
+
+    /// Gives the node a span, and the upper end where it is an inner node.
+    pub fn locate(&mut self, span: Span, upper: u64)
+        requires { upper ≤ 2 ^ 47 }
+        ensures { self.new ≡ with_head self.old (located span upper self.old.head) }
+    {
+        self.span = span;
+        match &mut self.repr {
+            Repr::ShortLeaf(_, _) => {}
+            Repr::LongLeaf(_, _) => {}
+            Repr::Inner(_, extent) => extent.upper = upper,
+            Repr::Diagnosed(_, parts) => parts.extent.upper = if parts.is_inner {
+                upper
+            } else {
+                0
+            },
+        }
+    }
+
+    /// Gives an inner node the length of its text and the count of its nodes.
+    pub fn set_counts(&mut self, len: usize, descendants: usize)
+        requires { self.old.head.is_inner ≡ false → 1 < self.old.descendants }
+        ensures { self.new ≡ record { head = self.old.head; len = len; descendants = descendants } }
+    {
+        match &mut self.repr {
+            Repr::ShortLeaf(_, _) => {}
+            Repr::LongLeaf(_, _) => {}
+            Repr::Inner(_, extent) => {
+                extent.len = len;
+                extent.descendants = descendants;
+            }
+            Repr::Diagnosed(_, parts) => {
+                parts.extent.len = len;
+                parts.extent.descendants = descendants;
+            }
+        }
+    }
+
+    /// Gives the node a span, whose number is its upper end.
+    pub fn set_span(&mut self, span: Span)
+        ensures { self.new ≡ with_head self.old (spanned span self.old.head) }
+    {
+        self.locate(span, number_of(span));
+    }
+
+    /// Adds a diagnostic behind the others.
+    pub fn push_diagnostic(
+        &mut self,
+        alloc: Global,
+        diagnostic: Diagnostic,
+    ) -> Result<(), AllocError>
+        ensures ok { OnOk result (self.new ≡ with_head self.old (diagnosed diagnostic self.old.head)) }
+        ensures err { OnErr result (self.new ≡ self.old) }
+    {
+        if let Repr::Diagnosed(_, parts) = &mut self.repr {
+            parts.diagnostics.push(diagnostic)?;
+            return Ok(());
+        }
+        let mut diagnostics = Vec::with_capacity(alloc, 1)?;
+        diagnostics.push(diagnostic)?;
+        let parts = Parts {
+            is_inner: self.is_inner(),
+            text: Text::new(alloc, self.text())?,
+            extent: Extent {
+                upper: self.upper(),
+                len: self.len(),
+                descendants: self.descendants(),
+            },
+            diagnostics,
+        };
+        self.repr = Repr::Diagnosed(self.kind(), Box::new(alloc, parts)?);
+        Ok(())
+    }
+
+    /// Adds a hint behind those of the last diagnostic, if there is one.
+    pub fn push_hint(&mut self, hint: Hint) -> Result<(), AllocError>
+        ensures ok { OnOk result (self.new ≡ with_head self.old (helped hint self.old.head)) }
+        ensures err { OnErr result (self.new ≡ self.old) }
+    {
+        if let Repr::Diagnosed(_, parts) = &mut self.repr {
+            push_last(&mut parts.diagnostics, hint)?;
+            return Ok(());
+        }
+        Ok(())
+    }
+}
+
+/// Adds a hint to the last of the diagnostics, if there is one.
+fn push_last(diagnostics: &mut Vec<Diagnostic>, hint: Hint) -> Result<(), AllocError>
+    ensures ok { OnOk result (diagnostics.new.items ≡ at_last (hinted hint) diagnostics.old.items) }
+    ensures err { OnErr result (diagnostics.new.items ≡ diagnostics.old.items) }
+{
+    let count = diagnostics.len();
+    if count == 0 {
+        return Ok(());
+    }
+    let last = &mut diagnostics[count - 1];
+    last.push_hint(hint)?;
+    Ok(())
+}
