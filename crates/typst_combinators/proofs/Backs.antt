@@ -13,7 +13,7 @@ use Rattle.typst_combinators.specs.Syntax.{Op, Parser}
 use Rattle.typst_combinators.specs.Syntax.Op.{hand, column, erred, takes, flushes, complains, marks, is_deepest}
 use Rattle.typst_combinators.specs.Syntax.Parser.{gives, does, next, pick, repeat, wraps, scoped, sees, either, calls, block}
 use Rattle.typst_combinators.specs.Meaning.{Outcome, Meaning, Level, plain, less, joined, turns, as_last, repeated, given_up, noted, same_mode, entered, left, flushed_state, hand_of, taken_node, done, run}
-use Rattle.typst_combinators.specs.View.{Tidy, Backs}
+use Rattle.typst_combinators.specs.Sound.{Tidy, Backs}
 use Rattle.typst_combinators.proofs.Places.{length-less}
 use Rattle.typst_combinators.proofs.Within.{on_both}
 

@@ -26,7 +26,7 @@ use Rattle.typst_kinds.specs.Kinds.{is_error}
 use Rattle.typst_node.specs.Tree.{text_of}
 use Rattle.typst_combinators.specs.Shape.{Making, made, after_node}
 use Rattle.typst_combinators.specs.Meaning.{Outcome, Meaning, Level, joined, followed, turns, repeated, wrapped, with_seen, noted, deeper_by_one, given_up, chosen, entered, left_to, plain, hand_of, hand_asks_of, renewed, flushed_state, passed, done, run}
-use Rattle.typst_combinators.specs.View.{Within}
+use Rattle.typst_combinators.specs.Sound.{Within}
 use Rattle.typst_combinators.proofs.Places.{ahead-left}
 use Rattle.typst_combinators.proofs.Within.{turns-enough, within-run}
 use Rattle.typst_combinators.proofs.Looks.{same_in-shift, same_in-first, same_in-second, same_in-only, same_in-sunk, token-same, passed-same, column-same}

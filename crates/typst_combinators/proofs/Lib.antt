@@ -4,17 +4,8 @@ pub mod Alike
 pub mod Tokens
 pub mod Ends
 pub mod Eats
-pub mod Hulls
 pub mod Leaves
-pub mod Logs
 pub mod Rests
 pub mod Places
-pub mod Bytes
-pub mod Columns
 pub mod Within
 pub mod Backs
-pub mod Blocks
-pub mod Trivia
-pub mod Runs
-pub mod Steps
-pub mod Ready

@@ -14,7 +14,7 @@ use Rattle.typst_combinators.specs.Syntax.{Op, Parser}
 use Rattle.typst_combinators.specs.Syntax.Op.{hand, column, erred, takes, flushes, complains, marks, is_deepest}
 use Rattle.typst_combinators.specs.Syntax.Parser.{gives, does, next, pick, repeat, wraps, scoped, sees, either, calls, block}
 use Rattle.typst_combinators.specs.Meaning.{Meaning, Level, joined, followed, turns, as_last, repeated, given_up, plain, noted, entered, done, run}
-use Rattle.typst_combinators.specs.View.{Within}
+use Rattle.typst_combinators.specs.Sound.{Within}
 use Rattle.typst_combinators.proofs.Places.{ahead-left}
 
 pub on_both : {A : Type 0} (P : A → Type 0) (b : Bool) (x y : A) → P x → P y → P (if b then x else y)

@@ -29,10 +29,6 @@ text_ahead n z = take n z.ahead
 abbrev pub utf8_ahead : ℕ → Place → List ℕ
 utf8_ahead n z = encode_utf8_all (take n z.ahead)
 
--- how many bytes the characters ahead take
-abbrev pub bytes_left : Place → ℕ
-bytes_left z = length (encode_utf8_all z.ahead)
-
 -- whitespace and comments are trivia
 abbrev pub is_trivia : SyntaxKind → Bool
 is_trivia kind.Space = true
@@ -178,42 +174,3 @@ unfoldable pub hand_asks : CharClasses → Reading → Newlines → Place → Li
 hand_asks k held flushed z =
     let a = ahead k held.mode z in
     ahead_asks k held.mode z ++ column_asks held (both_newlines flushed a.newlines) a.gap z
-
--- ---- the same in bytes
-
--- both stretches, and what lies between them
-abbrev pub joined_hull : Hull → Hull → Hull
-joined_hull a b = record { reach = max a.reach b.reach; least = min a.least b.least }
-
--- what was looked at for the token at a place
-abbrev pub token_hull : CharClasses → SyntaxMode → Place → Hull
-token_hull k m z = hull_of (look (token k m) z) z
-
-abbrev pub tokens_by : CharClasses → SyntaxMode → ℕ → Place → Hull
-tokens_by k m zero z = token_hull k m z
-tokens_by k m (suc n) z = if at_trivia k m z then joined_hull (token_hull k m z) (tokens_by k m n (moved (len_at k m z) z)) else token_hull k m z
-
--- what was looked at for the trivia at a place and the token after it
-unfoldable pub tokens_at : CharClasses → SyntaxMode → Place → Hull
-tokens_at k m z = tokens_by k m (length z.ahead) z
-
--- with what was looked at for the column, where the rule asks for it
-abbrev pub column_hull : Reading → Newlines → Place → Hull → Hull
-column_hull held newlines z h = if asks_column held newlines then joined_hull h (hull_of (column_look z) z) else h
-
--- what was looked at for the trivia and the token, for the token alone, and for it and its column
-pub record Looks : Type 0 where
-  pub tokens : Hull
-  pub own : Hull
-  pub here : Hull
-
--- all of it
-abbrev pub whole : Looks → Hull
-whole l = joined_hull l.tokens l.here
-
--- what was looked at for the token at hand
-unfoldable pub looks_at : CharClasses → Reading → Newlines → Place → Looks
-looks_at k held flushed z =
-    let a = ahead k held.mode z in
-    let w = moved a.gap z in
-    record { tokens = tokens_at k held.mode z; own = token_hull k held.mode w; here = column_hull held (both_newlines flushed a.newlines) w (token_hull k held.mode w) }

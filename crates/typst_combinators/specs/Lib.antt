@@ -6,6 +6,4 @@ pub mod Syntax
 pub mod Meaning
 pub mod Steps
 pub mod Depth
-pub mod View
-pub mod Codes
-pub mod Cursor
+pub mod Sound

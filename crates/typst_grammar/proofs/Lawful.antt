@@ -6,7 +6,7 @@ use Rattle.typst_combinators.specs.declared.reading.Call.{Call}
 use Rattle.typst_combinators.specs.Steps.{peek}
 use Rattle.typst_combinators.specs.Syntax.{Parser, ◌>>◌}
 use Rattle.typst_combinators.specs.Meaning.{Meaning, plain, blockless, run}
-use Rattle.typst_combinators.specs.View.{Within, Backs}
+use Rattle.typst_combinators.specs.Sound.{Within, Backs}
 use Rattle.typst_combinators.proofs.Backs.{backs-run}
 use Rattle.typst_combinators.proofs.Leaves.{Keeps, blank-nil, kept-run}
 use Rattle.typst_combinators.proofs.Rests.{Restful, rests-run}

@@ -8,10 +8,11 @@ use Rattle.typst_classes.specs.Classes.{CharClasses}
 use Rattle.typst_combinators.specs.declared.reading.Block.TheVariants as block
 use Rattle.typst_combinators.specs.declared.reading.Call.{Call}
 use Rattle.typst_combinators.specs.declared.reading.State.{State}
-use Rattle.typst_combinators.specs.Cursor.{IsStart}
+use Rattle.typst_machine.specs.Cursor.{IsStart}
 use Rattle.typst_combinators.specs.declared.reading.Mark.TheVariants.{Piece}
 use Rattle.typst_combinators.specs.declared.stop.Stop.TheVariants.{End}
-use Rattle.typst_combinators.specs.Hand.{hand_at, looks_at, whole as whole_hull}
+use Rattle.typst_combinators.specs.Hand.{hand_at}
+use Rattle.typst_machine.specs.Bytes.{looks_at, whole as whole_hull}
 use Rattle.typst_combinators.specs.Ask.{Ask}
 use Rattle.typst_combinators.specs.Ask.Ask.{looked, marked}
 use Rattle.typst_combinators.specs.declared.reading.Note.{Note}
@@ -19,10 +20,11 @@ use Rattle.typst_combinators.specs.Log.{Log, no_log, blank_log, with_more, with_
 use Rattle.typst_grammar.specs.Read.{IsParsed}
 use Rattle.typst_combinators.specs.Steps.{flush_trivia}
 use Rattle.typst_combinators.specs.Syntax.{◌>>◌}
-use Rattle.typst_combinators.proofs.Runs.{Looked, looked-fits, noted, ran-next, ran-marks, ran-look}
+use Rattle.typst_machine.proofs.Runs.{Looked, looked-fits, noted, ran-next, ran-marks, ran-look}
 use Rattle.typst_markup.specs.Markup.{content_block, markup_exprs, markup_reading}
 use Rattle.typst_combinators.specs.Meaning.{less}
-use Rattle.typst_combinators.specs.View.{View, Runs, Sound, ReadsBlock, Does, Makes, Fits, at}
+use Rattle.typst_machine.specs.View.{View, Runs, ReadsBlock, Does, Makes, Fits, at}
+use Rattle.typst_combinators.specs.Sound.{Sound}
 use Rattle.std.specs.Prelude.{◌∷◌, IsSome, IfSome}
 use Rattle.typst_grammar.specs.Grammar.{production, meaning, level_at, max_depth, start_of, whole, parsed, log}
 use Rattle.typst_grammar.proofs.Lawful.{within-meaning, backs-meaning, within-block, backs-block}

@@ -2,7 +2,7 @@
 use Rattle.std.specs.Prelude.{◌≡◌, ℕ, Bool, List}
 use Rattle.typst_classes.specs.Classes.{CharClasses}
 use Rattle.typst_combinators.specs.Log.{blank_log, logged}
-use Rattle.typst_combinators.specs.View.{View}
+use Rattle.typst_machine.specs.View.{View}
 use Rattle.typst_grammar.specs.Grammar.{max_depth, start_of, parsed}
 
 -- it has the nodes, and the looks and notes, of the definition

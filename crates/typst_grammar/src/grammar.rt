@@ -3,16 +3,17 @@
 ghost use Rattle.std.specs.Prelude.{◌≡◌, ◌<◌, IfOk, Some};
 ghost use Rattle.std.specs.Str.{chars};
 ghost use Rattle.typst_node.specs.Tree.{text_of};
-ghost use Rattle.typst_combinators.specs.View.{Calls};
+ghost use Rattle.typst_machine.specs.View.{Calls};
 ghost use Rattle.typst_markup.specs.Outside.{MeansOutside};
 ghost use Rattle.typst_grammar.specs.Grammar as spec;
 ghost use Rattle.typst_grammar.specs.Read.{IsParsed};
 
 use std::alloc::{AllocError, Global};
 use typst_classes::Classes;
-use typst_combinators::{AtNewline, Call, Grammar, Levels, Mark, Note, Parser, Reading, Stop};
+use typst_combinators::{AtNewline, Call, Mark, Note, Reading, Stop};
 use typst_kinds::{SyntaxKind, SyntaxMode};
 use typst_lexer::Hull;
+use typst_machine::{Grammar, Levels, Parser};
 use typst_markup::{markup_expr, markup_exprs};
 use typst_node::SyntaxNode;
 

@@ -8,8 +8,8 @@ use Rattle.typst_combinators.specs.declared.reading.Reading.{Reading}
 use Rattle.typst_combinators.specs.Meaning.{Level, entered}
 use Rattle.typst_combinators.specs.Syntax.{Parser}
 use Rattle.typst_combinators.specs.Steps.{within}
-use Rattle.typst_combinators.specs.View.{View, Does, Left}
-use Rattle.typst_combinators.proofs.Steps.{does-within}
+use Rattle.typst_machine.specs.View.{View, Does, Left}
+use Rattle.typst_machine.proofs.Steps.{does-within}
 use Rattle.typst_markup.specs.declared.head.MarkupHead.{MarkupHead}
 use Rattle.typst_markup.specs.Markup.{markup_by}
 

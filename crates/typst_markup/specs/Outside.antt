@@ -4,7 +4,7 @@ use Rattle.std.specs.declared.alloc.AllocError.{AllocError}
 use Rattle.typst_combinators.specs.declared.reading.Block.TheVariants as block
 use Rattle.typst_combinators.specs.Meaning.{Level}
 use Rattle.typst_combinators.specs.Syntax.{Parser}
-use Rattle.typst_combinators.specs.View.{View, Frame, Fills, ReadsBlock, Reads}
+use Rattle.typst_machine.specs.View.{View, Frame, Fills, ReadsBlock, Reads}
 use Rattle.typst_markup.specs.Markup.{content_block}
 
 -- each block may be read there

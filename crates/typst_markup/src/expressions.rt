@@ -2,7 +2,7 @@
 
 ghost use Rattle.std.specs.Prelude.{◌≡◌, ◌<◌, OnOk, false};
 ghost use Rattle.typst_kinds.specs.Kinds.{is_error};
-ghost use Rattle.typst_combinators.specs.View.{Means, Rewrapped};
+ghost use Rattle.typst_machine.specs.View.{Means, Rewrapped};
 ghost use Rattle.typst_markup.specs.Markup as spec;
 ghost use Rattle.typst_markup.specs.Outside.{MeansOutside};
 
@@ -10,8 +10,9 @@ use crate::head::{MarkupHead, markup_head};
 use crate::references::reference;
 use crate::sequences::{markup, markup_with_trivia};
 use std::alloc::AllocError;
-use typst_combinators::{AtNewline, Block, Levels, Parser, Stop, is_colon, is_star, is_underscore};
+use typst_combinators::{AtNewline, Block, Stop, is_colon, is_star, is_underscore};
 use typst_kinds::SyntaxKind;
+use typst_machine::{Levels, Parser};
 
 /// `*..*`
 pub fn strong<L: Levels>(g: &L, p: &mut Parser<'_>) -> Result<(), AllocError>

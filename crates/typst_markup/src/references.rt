@@ -2,14 +2,15 @@
 
 ghost use Rattle.std.specs.Prelude.{◌≡◌, ◌<◌, OnOk};
 ghost use Rattle.typst_combinators.specs.Steps.{read_block};
-ghost use Rattle.typst_combinators.specs.View.{Means, Rewrapped};
+ghost use Rattle.typst_machine.specs.View.{Means, Rewrapped};
 ghost use Rattle.typst_markup.specs.Markup as spec;
 ghost use Rattle.typst_markup.specs.Outside.{MeansOutside};
 
 use crate::sequences::{is_right_bracket, markup_with_trivia};
 use std::alloc::AllocError;
-use typst_combinators::{AtNewline, Block, Levels, Mark, Parser, Reading, Stop};
+use typst_combinators::{AtNewline, Block, Mark, Reading, Stop};
 use typst_kinds::{SyntaxKind, SyntaxMode};
+use typst_machine::{Levels, Parser};
 
 /// `[ .. ]`, read as markup whatever stands around it.
 pub fn content_block<L: Levels>(g: &L, p: &mut Parser<'_>) -> Result<(), AllocError>

@@ -2,12 +2,13 @@
 
 ghost use Rattle.std.specs.Prelude.{◌≡◌, ◌<◌, IfOk, Ok};
 ghost use Rattle.typst_combinators.specs.Meaning.{Level};
-ghost use Rattle.typst_combinators.specs.View.{Means, Reads};
+ghost use Rattle.typst_machine.specs.View.{Means, Reads};
 ghost use Rattle.typst_markup.specs.Markup as spec;
 
 use std::alloc::AllocError;
-use typst_combinators::{Call, Levels, Mark, Parser, Stop, deeper, too_deep};
+use typst_combinators::{Call, Mark, Stop};
 use typst_kinds::SyntaxKind;
+use typst_machine::{Levels, Parser, deeper, too_deep};
 
 /// Reads expressions up to a stop.
 pub fn markup_exprs<L: Levels>(

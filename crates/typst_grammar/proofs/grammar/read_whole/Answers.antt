@@ -1,6 +1,6 @@
 use Rattle.std.proofs.Common.{refl}
-use Rattle.typst_combinators.proofs.Steps.{does-next}
-use Rattle.typst_combinators.proofs.Blocks.{calls-at}
+use Rattle.typst_machine.proofs.Steps.{does-next}
+use Rattle.typst_machine.proofs.Blocks.{calls-at}
 use Rattle.typst_grammar.specs.Grammar.{level_at, max_depth}
 use Rattle.typst_grammar.proofs.Levels.{sound-level, parsed-is}
 use Rattle.typst_grammar.proofs.grammar.read_whole.Goals as goal

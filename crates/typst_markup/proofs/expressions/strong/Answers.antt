@@ -3,7 +3,7 @@ use Rattle.typst_kinds.specs.declared.kind.SyntaxKind.TheVariants as kind
 use Rattle.typst_combinators.specs.declared.reading.AtNewline.TheVariants as newline
 use Rattle.typst_combinators.specs.Depth.{is_star}
 use Rattle.typst_markup.specs.Markup.{strong, at_newline, emphasized}
-use Rattle.typst_combinators.proofs.Steps.{does-next, does-gives, does-node}
+use Rattle.typst_machine.proofs.Steps.{does-next, does-gives, does-node}
 use Rattle.typst_markup.proofs.Heads.{does-entered}
 use Rattle.typst_markup.proofs.expressions.strong.Goals as goal
 

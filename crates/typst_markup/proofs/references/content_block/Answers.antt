@@ -1,6 +1,6 @@
 use Rattle.std.proofs.Common.{◌∙◌, ap, sym}
 use Rattle.typst_markup.specs.Markup.{content_block, bracketed, markup_reading, is_right_bracket}
-use Rattle.typst_combinators.proofs.Steps.{does-next, does-gives, does-node}
+use Rattle.typst_machine.proofs.Steps.{does-next, does-gives, does-node}
 use Rattle.typst_markup.proofs.Heads.{does-entered}
 use Rattle.typst_markup.proofs.references.content_block.Goals as goal
 

@@ -1,5 +1,5 @@
 use Rattle.std.proofs.Common.{◌∙◌, sym}
-use Rattle.typst_combinators.proofs.Blocks.{does-block, fills-inside}
+use Rattle.typst_machine.proofs.Blocks.{does-block, fills-inside}
 use Rattle.typst_markup.proofs.references.read_content.Goals as goal
 
 pub returns : goal.returns

@@ -2,7 +2,7 @@ use Rattle.std.proofs.Common.{sym, ◌∙◌}
 use Rattle.typst_kinds.specs.declared.kind.SyntaxKind.TheVariants as kind
 use Rattle.typst_combinators.specs.Shape.Shape.{becomes}
 use Rattle.typst_markup.specs.Markup.{reference}
-use Rattle.typst_combinators.proofs.Steps.{does-next, does-node}
+use Rattle.typst_machine.proofs.Steps.{does-next, does-node}
 use Rattle.typst_markup.proofs.references.reference.Goals as goal
 
 pub returns : goal.returns

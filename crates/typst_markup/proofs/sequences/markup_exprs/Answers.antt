@@ -1,8 +1,8 @@
 use Rattle.std.proofs.Common.{◌≡◌, ◌≤◌, ◌==◌, ◌∙◌, true, ap, arith, sym}
 use Rattle.std.proofs.lemmas.Bool.{ne_eqb}
-use Rattle.typst_combinators.specs.Hand.{bytes_left}
+use Rattle.typst_machine.specs.Bytes.{bytes_left}
 use Rattle.typst_markup.specs.Markup.{markup_exprs}
-use Rattle.typst_combinators.proofs.Steps.{does-next, does-gives, does-peek, turning-next, does-last, does-pick, does-other, does-deepest}
+use Rattle.typst_machine.proofs.Steps.{does-next, does-gives, does-peek, turning-next, does-last, does-pick, does-other, does-deepest}
 use Rattle.typst_markup.proofs.sequences.markup_exprs.Goals as goal
 use Rattle.typst_markup.proofs.sequences.markup_exprs.Goals.{then-not-more-via-then-not-more, then-not-more-via-else-not-more+then-left-before}
 

@@ -1,8 +1,8 @@
 use Rattle.std.proofs.Common.{◌||◌}
-use Rattle.typst_combinators.specs.Hand.{bytes_left}
+use Rattle.typst_machine.specs.Bytes.{bytes_left}
 use Rattle.typst_combinators.specs.Meaning.{Level}
-use Rattle.typst_combinators.specs.View.{Fills}
-use Rattle.typst_combinators.proofs.Steps.{Turning}
+use Rattle.typst_machine.specs.View.{Fills}
+use Rattle.typst_machine.proofs.Steps.{Turning}
 use Rattle.typst_markup.specs.Markup.{markup_turn}
 use Rattle.typst_markup.proofs.sequences.markup_exprs.Given as goal
 

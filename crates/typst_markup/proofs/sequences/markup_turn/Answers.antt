@@ -3,9 +3,9 @@ use Rattle.typst_combinators.specs.declared.stop.Stop.{Stop}
 use Rattle.typst_combinators.specs.Meaning.{Level}
 use Rattle.typst_combinators.specs.Steps.{peek}
 use Rattle.typst_combinators.specs.Syntax.Parser.{gives, next}
-use Rattle.typst_combinators.specs.View.{View, Does}
+use Rattle.typst_machine.specs.View.{View, Does}
 use Rattle.typst_markup.specs.Markup.{markup_turn, note_piece, ends}
-use Rattle.typst_combinators.proofs.Steps.{does-next, does-gives, does-peek, does-pick, does-other}
+use Rattle.typst_machine.proofs.Steps.{does-next, does-gives, does-peek, does-pick, does-other}
 use Rattle.typst_markup.proofs.sequences.markup_turn.Goals as goal
 
 -- what comes behind an expression was noted with the newlines that were passed

@@ -1,7 +1,0 @@
-use Rattle.typst_combinators.specs.Depth.{skip_one}
-use Rattle.typst_combinators.proofs.Steps.{does-next, does-gives, does-peek}
-use Rattle.typst_combinators.proofs.depth.skip_one.Goals as goal
-
-pub returns : goal.returns
-unfolding skip_one
-returns g c l k = rw (c.skips.ensures, c.current-2.ensures, c.balance-count.ensures, c.current.ensures) (does-next (does-peek _) (does-next (c.in_ok-eat.ensures l k) (does-next (does-peek _) does-gives)))

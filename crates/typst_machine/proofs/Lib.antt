@@ -1,0 +1,9 @@
+pub mod Hulls
+pub mod Logs
+pub mod Bytes
+pub mod Columns
+pub mod Blocks
+pub mod Trivia
+pub mod Runs
+pub mod Steps
+pub mod Ready

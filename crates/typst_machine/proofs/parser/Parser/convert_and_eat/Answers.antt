@@ -1,0 +1,13 @@
+use Rattle.std.proofs.Common.{ap, ◌∙◌}
+use Rattle.typst_node.specs.Tree.{with_kind}
+use Rattle.typst_combinators.specs.Shape.Making.{of_kind}
+use Rattle.typst_combinators.specs.Steps.{convert_and_eat}
+use Rattle.typst_machine.proofs.parser.Parser.convert_and_eat.Goals as goal
+
+pub returns : goal.returns
+unfolding convert_and_eat
+returns g c l e = c.in_ok-take_apart.ensures l (of_kind c.args.kind) e (c.convert_to_kind-2.ensures ∙ ap (with_kind c.args.kind) c.in_ok-node.ensures)
+
+pub returns-then-has_leaf : goal.returns-then-has_leaf
+unfolding convert_and_eat
+returns-then-has_leaf g c l e = c.in_ok-take.ensures l (of_kind c.args.kind) e (c.convert_to_kind.ensures ∙ ap (with_kind c.args.kind) (c.in_ok-leaf.ensures (g.C.Classes.classes c.args.classes.now)))

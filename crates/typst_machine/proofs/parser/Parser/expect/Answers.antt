@@ -1,0 +1,12 @@
+use Rattle.std.proofs.Common.{sym, ◌∙◌}
+use Rattle.typst_machine.proofs.Steps.{does-next, does-peek, does-pick, does-other}
+use Rattle.typst_combinators.specs.Steps.{expect}
+use Rattle.typst_machine.proofs.parser.Parser.expect.Goals as goal
+
+pub returns-in_ok-eat : goal.returns-in_ok-eat
+unfolding expect
+returns-in_ok-eat g c l kinds e h = does-next (does-peek _) (does-pick (sym h ∙ c.if-is.true) (c.in_ok-eat.ensures l e))
+
+pub returns-in_ok-expected : goal.returns-in_ok-expected
+unfolding expect
+returns-in_ok-expected g c l kinds e h = does-next (does-peek _) (does-other (sym h ∙ c.if-is.false) (c.in_ok-expected.ensures l e))

@@ -1,0 +1,4 @@
+pub mod Bytes
+pub mod View
+pub mod Codes
+pub mod Cursor

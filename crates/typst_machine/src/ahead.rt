@@ -1,0 +1,303 @@
+//! The token that is read ahead.
+
+ghost use Rattle.std.specs.Prelude.{◌≡◌, ◌≤◌, ◌<◌, ◌^◌, ◌++◌, ◌∷◌, [], IfOk, OnOk, OnErr};
+ghost use Rattle.std.specs.Str.{chars};
+ghost use Rattle.typst_lexer.specs.Nodes.{token_node};
+ghost use Rattle.typst_kinds.specs.Kinds.{is_error};
+ghost use Rattle.typst_lines.specs.Scanner.{place};
+ghost use Rattle.typst_combinators.specs.Hand as spec;
+ghost use Rattle.typst_machine.specs.Bytes as bytes;
+ghost use Rattle.typst_machine.specs.Bytes.{bytes_left};
+ghost use Rattle.typst_readers.specs.Reader.{exec};
+ghost use Rattle.typst_readers.specs.Sight.{hull_of};
+ghost use Rattle.typst_lexer.specs.Tokens.{token};
+ghost use Rattle.typst_machine.specs.Cursor.{IsAhead, Stands};
+
+use std::alloc::{AllocError, Global};
+use typst_classes::Classes;
+use typst_combinators::{AtNewline, Newlines, Reading};
+use typst_kinds::{SyntaxKind, SyntaxMode};
+use typst_lexer::lexer::token;
+use typst_lexer::token::{is_leaf, leaf_node, make_node};
+use typst_lexer::{Hull, Token};
+use typst_lines::{Scanner, is_newline};
+use typst_node::SyntaxNode;
+
+/// The token at hand, with the trivia before it.
+#[derive(Drop)]
+pub struct Ahead<'s> {
+    /// Where the trivia begin.
+    pub(crate) before: Scanner<'s>,
+    /// Where the token begins.
+    pub(crate) start: Scanner<'s>,
+    /// Where it ends.
+    pub(crate) after: Scanner<'s>,
+    /// The nodes of the trivia.
+    pub(crate) trivia: Vec<SyntaxNode>,
+    /// The newlines before the token, also those that became nodes already.
+    pub(crate) newlines: Newlines,
+    pub(crate) token: Token,
+    /// The token's kind, or the end where the newline rule stops.
+    pub(crate) kind: SyntaxKind,
+    /// What was looked at for the trivia and the token.
+    pub(crate) tokens: Hull,
+    /// What was looked at for the token alone.
+    pub(crate) own: Hull,
+    /// The same, with its column where the newline rule asks for it.
+    pub(crate) here: Hull,
+}
+
+impl<'s> Ahead<'s> {
+    ghost use Rattle.typst_machine.specs.Cursor.{looks_of_ahead};
+
+    /// Nothing, at a place.
+    pub(crate) fn none(alloc: Global, at: Scanner<'s>) -> Ahead<'s>
+        ensures stands { Stands result }
+        ensures trivia { result.trivia.items ≡ [] }
+    {
+        let nothing = Hull { reach: 0, least: 0 };
+        Ahead {
+            before: at,
+            start: at,
+            after: at,
+            trivia: Vec::new(alloc),
+            newlines: Newlines {
+                any: false,
+                parbreak: false,
+            },
+            token: Token {
+                kind: SyntaxKind::End,
+                newline: false,
+                fault: None,
+            },
+            kind: SyntaxKind::End,
+            tokens: nothing,
+            own: nothing,
+            here: nothing,
+        }
+    }
+
+    /// Reads trivia and a token from a place on. The trivia so far have become nodes.
+    pub(crate) fn read<C: Classes>(
+        &mut self,
+        alloc: Global,
+        before: Scanner<'s>,
+        held: Reading,
+        flushed: Newlines,
+        classes: &C,
+    ) -> Result<(), AllocError>
+        requires { self.old.trivia.items ≡ [] }
+        ensures read { OnOk result (IsAhead (C.classes classes.now) held flushed before.entry self.new) }
+        ensures refused { OnErr result (Stands self.old → Stands self.new) }
+    {
+        let mut newlines = flushed;
+        let mut start = before;
+        let mut tokens = Hull {
+            reach: 0,
+            least: usize::MAX,
+        };
+        'tokens: loop {
+            let next = read_token(alloc, start, held.mode, classes)?;
+            tokens = joined(tokens, next.hull);
+            if !is_trivia(next.token.kind) || left(&start) <= left(&next.after) {
+                let (kind, here) = judged(held, newlines, next.token.kind, &start, next.hull);
+                self.before = before;
+                self.start = start;
+                self.after = next.after;
+                self.newlines = newlines;
+                self.token = next.token;
+                self.kind = kind;
+                self.tokens = tokens;
+                self.own = next.hull;
+                self.here = here;
+                return Ok(());
+            }
+            let text = next.after.since(&start);
+            push_node(&mut self.trivia, alloc, next.token, text, classes)?;
+            newlines = with_token(newlines, next.token);
+            start = next.after;
+        }
+    }
+
+    /// All that was looked at for it.
+    pub(crate) fn whole(&self) -> Hull
+        ensures { result ≡ bytes.whole (looks_of_ahead self.now) }
+    {
+        joined(self.tokens, self.here)
+    }
+}
+
+/// Adds the node of a token that took the text behind the others.
+#[inline(always)]
+fn push_node<C: Classes>(
+    nodes: &mut Vec<SyntaxNode>,
+    alloc: Global,
+    token: Token,
+    text: &str,
+    classes: &C,
+) -> Result<(), AllocError>
+    ensures { OnOk result (nodes.new.items ≡ nodes.old.items ++ token_node (C.classes classes.now) token (chars text.now) ∷ []) }
+{
+    if is_leaf(token) {
+        let node = leaf_node(alloc, token, text)?;
+        nodes.push(node)?;
+        return Ok(());
+    }
+    let node = make_node(alloc, token, text, classes)?;
+    nodes.push(node)?;
+    Ok(())
+}
+
+/// A token that was read, where it ends, and what was looked at for it.
+#[derive(Clone, Copy)]
+struct Read<'s> {
+    token: Token,
+    after: Scanner<'s>,
+    hull: Hull,
+}
+
+/// Reads one token.
+#[inline(always)]
+fn read_token<'s, C: Classes>(
+    alloc: Global,
+    start: Scanner<'s>,
+    mode: SyntaxMode,
+    classes: &C,
+) -> Result<Read<'s>, AllocError>
+    ensures reads { IfOk result (λ r. exec (token (C.classes classes.now) mode) (place start.entry) ≡ (r.token, place r.after)) }
+    ensures hull { IfOk result (λ r. r.hull ≡ bytes.token_hull (C.classes classes.now) mode (place start.entry)) }
+    ensures fits { IfOk result (λ r. r.hull.least < 2 ^ 64) }
+    ensures same_text { IfOk result (λ r. r.after.text.now ≡ start.entry.text.now) }
+{
+    let mut after = start;
+    let (token, hull) = token(alloc, &mut after, mode, classes)?;
+    Ok(Read { token, after, hull })
+}
+
+/// Both stretches, and what lies between them.
+fn joined(a: Hull, b: Hull) -> Hull
+    ensures { result ≡ bytes.joined_hull a b }
+{
+    Hull {
+        reach: a.reach.max(b.reach),
+        least: a.least.min(b.least),
+    }
+}
+
+/// How many bytes are ahead.
+pub(crate) fn left(s: &Scanner<'_>) -> usize
+    ensures { result ≡ bytes_left (place s.now) }
+{
+    s.after().len()
+}
+
+/// Whether tokens of this kind mean nothing to the grammar.
+fn is_trivia(kind: SyntaxKind) -> bool
+    ensures { result ≡ spec.is_trivia kind }
+{
+    matches!(
+        kind,
+        SyntaxKind::Space
+            | SyntaxKind::Parbreak
+            | SyntaxKind::LineComment
+            | SyntaxKind::BlockComment
+    )
+}
+
+/// With the newlines of a trivia token.
+fn with_token(newlines: Newlines, token: Token) -> Newlines
+    ensures { result ≡ spec.both_newlines newlines (spec.newlines_of token) }
+{
+    Newlines {
+        any: newlines.any | token.newline,
+        parbreak: newlines.parbreak | is_parbreak(token.kind),
+    }
+}
+
+fn is_parbreak(kind: SyntaxKind) -> bool
+    ensures { result ≡ spec.is_parbreak kind }
+{
+    matches!(kind, SyntaxKind::Parbreak)
+}
+
+/// The kind of a token, or the end where the newline rule stops; and what was looked at for the
+/// token, with its column where the rule asks for it.
+#[inline(always)]
+pub(crate) fn judged(
+    held: Reading,
+    newlines: Newlines,
+    kind: SyntaxKind,
+    start: &Scanner<'_>,
+    own: Hull,
+) -> (SyntaxKind, Hull)
+    ensures kind { result.0 ≡ spec.judged held newlines kind (spec.column_at (place start.now)) }
+    ensures here { result.1 ≡ bytes.column_hull held newlines (place start.now) own }
+{
+    let (stops, here) = stops(held, newlines, kind, start, own);
+    if stops {
+        (SyntaxKind::End, here)
+    } else {
+        (kind, here)
+    }
+}
+
+#[inline(always)]
+fn stops(
+    held: Reading,
+    newlines: Newlines,
+    kind: SyntaxKind,
+    start: &Scanner<'_>,
+    own: Hull,
+) -> (bool, Hull)
+    ensures stops { result.0 ≡ spec.stops held newlines kind (spec.column_at (place start.now)) }
+    ensures here { result.1 ≡ bytes.column_hull held newlines (place start.now) own }
+{
+    if !newlines.any {
+        return (false, own);
+    }
+    match held.at_newline {
+        AtNewline::Continue => (false, own),
+        AtNewline::Stop => (true, own),
+        AtNewline::ContextualContinue => (!goes_on(kind), own),
+        AtNewline::StopParBreak => (newlines.parbreak, own),
+        AtNewline::RequireColumn(least) => {
+            if !is_markup(held.mode) {
+                return (false, own);
+            }
+            let (column, line) = column(start);
+            (column <= least, joined(own, line))
+        }
+    }
+}
+
+fn goes_on(kind: SyntaxKind) -> bool
+    ensures { result ≡ spec.goes_on kind }
+{
+    matches!(kind, SyntaxKind::Else | SyntaxKind::Dot)
+}
+
+fn is_markup(mode: SyntaxMode) -> bool
+    ensures { result ≡ spec.is_markup mode }
+{
+    matches!(mode, SyntaxMode::Markup)
+}
+
+/// How many characters stand between the last newline character, or the text's start, and here; and
+/// what was looked at for it.
+#[inline(never)]
+pub(crate) fn column(s: &Scanner<'_>) -> (usize, Hull)
+    ensures column { result.0 ≡ spec.column_at (place s.now) }
+    ensures hull { result.1 ≡ hull_of (spec.column_look (place s.now)) (place s.now) }
+{
+    let reach = s.cursor();
+    let mut behind = *s;
+    let mut count = 0usize;
+    'back: while let Some(c) = behind.uneat() {
+        if is_newline(c) {
+            let least = behind.cursor() + 1;
+            return (count, Hull { reach, least });
+        }
+        count = count.saturating_add(1);
+    }
+    (count, Hull { reach, least: 0 })
+}
