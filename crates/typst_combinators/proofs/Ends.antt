@@ -7,25 +7,28 @@ use Rattle.typst_kinds.specs.declared.kind.SyntaxKind.TheVariants as kind
 use Rattle.typst_kinds.specs.declared.mode.SyntaxMode.{SyntaxMode}
 use Rattle.typst_kinds.specs.declared.mode.SyntaxMode.TheVariants.{Markup, Math, Code}
 use Rattle.typst_lines.specs.Place.{Place, scout, passes, moved, run, past}
-use Rattle.typst_lexer.specs.Characters.{among, is_code_point, is_space, is_u64}
+use Rattle.typst_tokens.specs.Characters.{among, is_code_point, is_space, is_u64}
 use Rattle.typst_classes.specs.Classes.{CharClasses}
-use Rattle.typst_lexer.specs.Common.{line_ends, is_parbreak, whitespace, shebang, line_comment, block_comment, comment_end}
-use Rattle.typst_lexer.specs.Markup.{sign, code_point, backslash, dot, marker_or_text, marker, hyphen, minus, emphasis, heading, numbering, markup}
+use Rattle.typst_tokens.specs.Common.{line_ends, is_parbreak, whitespace, shebang, line_comment, block_comment, comment_end}
+use Rattle.typst_markup_tokens.specs.Markup.{dot, marker_or_text, marker, hyphen, minus, emphasis, heading, numbering, markup}
+use Rattle.typst_tokens.specs.Common.{sign}
+use Rattle.typst_tokens.specs.Escapes.{code_point, backslash}
 use Rattle.typst_readers.specs.Reader.{Reader, Memory, place, spanned, at_word, exec}
 use Rattle.typst_readers.specs.Reader.Memory.{blank, comment, fence, brackets}
 use Rattle.typst_readers.specs.Reader.Reader.{answer, peek, skip}
-use Rattle.typst_lexer.specs.Text.{text, text_from}
-use Rattle.typst_lexer.specs.Link.{in_link, link_end, link, link_or_text}
-use Rattle.typst_lexer.specs.Names.{label, label_or_text, ref_marker, ref_or_text}
-use Rattle.typst_lexer.specs.Raw.{in_raw, raw_end, raw}
+use Rattle.typst_markup_tokens.specs.Text.{text, text_from}
+use Rattle.typst_markup_tokens.specs.Link.{in_link, link_end, link, link_or_text}
+use Rattle.typst_markup_tokens.specs.Names.{label_or_text, ref_marker, ref_or_text}
+use Rattle.typst_tokens.specs.Labels.{label}
+use Rattle.typst_tokens.specs.Raw.{in_raw, raw_end, raw}
 use Rattle.typst_classes.specs.Identifiers.{is_id_continue}
 use Rattle.typst_links.specs.Labels.{is_name}
-use Rattle.typst_lexer.specs.Token.{plain}
+use Rattle.typst_tokens.specs.Token.{plain}
 use Rattle.typst_lexer.specs.Tokens.{of_mode, hash, slash, star, backtick, token}
-use Rattle.typst_lexer.specs.declared.token.Token.{Token}
+use Rattle.typst_tokens.specs.declared.token.Token.{Token}
 use Rattle.typst_lexer.proofs.TokenEats.{token-eats}
 use Rattle.typst_combinators.specs.Depth.{is_end}
-use Rattle.typst_lexer.specs.Nodes.{token_node}
+use Rattle.typst_token_nodes.specs.Nodes.{token_node}
 use Rattle.typst_combinators.specs.declared.reading.AtNewline.TheVariants.{Continue}
 use Rattle.typst_combinators.specs.declared.reading.Newlines.{Newlines}
 use Rattle.typst_combinators.specs.declared.reading.Reading.{Reading}

@@ -20,7 +20,7 @@ use Rattle.typst_combinators.specs.Shape.Shape.{becomes, unclosed, warns, fails}
 use Rattle.typst_combinators.specs.declared.reading.Newlines.{Newlines}
 use Rattle.typst_combinators.specs.declared.reading.Reading.{Reading}
 use Rattle.typst_classes.specs.Classes.{CharClasses}
-use Rattle.typst_lexer.specs.Nodes.{token_node}
+use Rattle.typst_token_nodes.specs.Nodes.{token_node}
 use Rattle.typst_combinators.specs.Hand.{utf8_ahead, token_at, len_at, at_trivia, Ahead, after_trivia, direct, ahead_by, ahead, hand_at}
 use Rattle.typst_combinators.specs.Syntax.{Op, Parser}
 use Rattle.typst_combinators.specs.Syntax.Op.{hand, column, erred, takes, flushes, complains, marks, is_deepest}

@@ -9,12 +9,12 @@ use Rattle.typst_lines.specs.Newline.{is_newline}
 use Rattle.typst_lines.specs.Place.{Place, moved}
 use Rattle.typst_node.specs.Tree.{Tree}
 use Rattle.typst_readers.specs.declared.hull.Hull.{Hull}
-use Rattle.typst_lexer.specs.declared.token.Token.{Token}
+use Rattle.typst_tokens.specs.declared.token.Token.{Token}
 use Rattle.typst_classes.specs.Classes.{CharClasses}
 use Rattle.typst_readers.specs.Reader.{Look, exec, eaten, look}
 use Rattle.typst_readers.specs.Sight.{hull_of}
 use Rattle.typst_lexer.specs.Tokens.{token}
-use Rattle.typst_lexer.specs.Nodes.{token_node}
+use Rattle.typst_token_nodes.specs.Nodes.{token_node}
 use Rattle.typst_combinators.specs.declared.reading.AtNewline.TheVariants.{Continue, Stop, ContextualContinue, StopParBreak, RequireColumn}
 use Rattle.typst_combinators.specs.declared.reading.Newlines.{Newlines}
 use Rattle.typst_combinators.specs.declared.reading.Reading.{Reading}

@@ -6,7 +6,7 @@ use Rattle.typst_lines.specs.Place.{Place, moved}
 use Rattle.typst_kinds.specs.Kinds.{is_error}
 use Rattle.typst_node.specs.Tree.{Tree, text_of, error_of}
 use Rattle.typst_classes.specs.Classes.{CharClasses}
-use Rattle.typst_lexer.specs.Nodes.{token_node}
+use Rattle.typst_token_nodes.specs.Nodes.{token_node}
 use Rattle.typst_combinators.specs.declared.reading.AtNewline.{AtNewline}
 use Rattle.typst_combinators.specs.declared.reading.AtNewline.TheVariants.{Continue, Stop, ContextualContinue, StopParBreak, RequireColumn}
 use Rattle.typst_combinators.specs.declared.reading.Block.{Block}

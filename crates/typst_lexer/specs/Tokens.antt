@@ -4,16 +4,16 @@ use Rattle.typst_kinds.specs.declared.kind.SyntaxKind.TheVariants as kind
 use Rattle.typst_kinds.specs.declared.mode.SyntaxMode.{SyntaxMode}
 use Rattle.typst_kinds.specs.declared.mode.SyntaxMode.TheVariants.{Markup, Math, Code}
 use Rattle.typst_lines.specs.Place.{passes}
-use Rattle.typst_lexer.specs.Characters.{is_space}
+use Rattle.typst_tokens.specs.Characters.{is_space}
 use Rattle.typst_classes.specs.Classes.{CharClasses}
-use Rattle.typst_lexer.specs.Common.{whitespace, shebang, line_comment, block_comment, comment_end}
-use Rattle.typst_lexer.specs.Markup.{markup}
-use Rattle.typst_lexer.specs.Raw.{raw}
-use Rattle.typst_lexer.specs.Text.{text_from}
+use Rattle.typst_tokens.specs.Common.{whitespace, shebang, line_comment, block_comment, comment_end}
+use Rattle.typst_markup_tokens.specs.Markup.{markup}
+use Rattle.typst_tokens.specs.Raw.{raw}
+use Rattle.typst_markup_tokens.specs.Text.{text_from}
 use Rattle.typst_readers.specs.Reader.{Reader}
 use Rattle.typst_readers.specs.Reader.Reader.{answer, peek, glance}
-use Rattle.typst_lexer.specs.Token.{plain}
-use Rattle.typst_lexer.specs.declared.token.Token.{Token}
+use Rattle.typst_tokens.specs.Token.{plain}
+use Rattle.typst_tokens.specs.declared.token.Token.{Token}
 
 -- A token that only one mode has, at the character that comes next.
 unfoldable pub of_mode : CharClasses → SyntaxMode → ℕ → Reader Token

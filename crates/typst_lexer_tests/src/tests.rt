@@ -6,6 +6,7 @@ use typst_classes::{Classes, UnicodeClasses};
 use typst_kinds::{SyntaxKind, SyntaxMode};
 use typst_lexer::Lexer;
 use typst_test_classes::{Narrow, Wide};
+use typst_token_nodes::next_node;
 
 /// Texts of markup, and their tokens by kind and text.
 const TOKENS: &[(&str, &str)] = &[
@@ -360,7 +361,7 @@ const FAULTS: [(&str, &str, &str); 5] = [
 fn makes_errors(rt: HostRuntime) -> Result<(), Fail> {
     for (text, message, hint) in FAULTS {
         let mut lexer = Lexer::new(text, SyntaxMode::Markup, &UnicodeClasses);
-        let (kind, node) = lexer.next(rt.alloc())?;
+        let (kind, node) = next_node(rt.alloc(), &mut lexer)?;
         assert!(rt; kind.is_error() && node.kind().is_error());
         assert_eq!(rt; node.leaf_text(), text);
         assert_eq!(rt; lexer.cursor(), text.len());
@@ -433,7 +434,7 @@ fn stays_where_memory_is_refused(rt: HostRuntime) -> Result<(), Fail> {
     let mut ends = 0;
     for _ in 0..40 {
         let (cursor, newline) = (lexer.cursor(), lexer.newline());
-        match lexer.next(rt.alloc()) {
+        match next_node(rt.alloc(), &mut lexer) {
             Ok((kind, node)) => {
                 assert!(rt; kind.same(node.kind()));
                 assert_eq!(rt; lexer.cursor(), cursor.saturating_add(node.len()));

@@ -1,0 +1,6 @@
+pub mod Characters
+pub mod Common
+pub mod Escapes
+pub mod Labels
+pub mod Raw
+pub mod Token
