@@ -5,12 +5,8 @@ pub mod command;
 pub mod failure;
 mod lines;
 pub mod program;
-mod streams;
-#[cfg(test)]
-mod tests;
+pub mod streams;
 pub mod tree;
-#[cfg(test)]
-mod tree_tests;
 mod variants;
 
 pub use command::Command;

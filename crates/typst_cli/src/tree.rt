@@ -6,16 +6,15 @@ ghost use Rattle.typst_cli.specs.PrintedTree as spec;
 
 pub use crate::variants::variant_name;
 use std::alloc::{AllocError, Global};
-use typst_parser::{UnicodeClasses, is_newline, parse};
-use typst_tree::{Diagnostic, Hint, Severity, SyntaxNode};
+use typst_parser::{Classes, Diagnostic, Hint, Severity, SyntaxNode, is_newline, parse};
 
 /// The syntax tree of the text. Each node has a line with its kind, its range in bytes and, for an
 /// error, its message, two spaces deeper than its parent; below it stand its warnings and hints, and
 /// then its children.
-pub fn answer(alloc: Global, text: &str) -> Result<String, AllocError>
-    ensures { IfOk result (λ printed. string_bytes printed ≡ spec.tree_printed text.now) }
+pub fn answer<C: Classes>(alloc: Global, text: &str, classes: &C) -> Result<String, AllocError>
+    ensures { IfOk result (λ printed. string_bytes printed ≡ spec.tree_printed (C.classes classes.now) text.now) }
 {
-    let root = parse(alloc, text, &UnicodeClasses)?;
+    let root = parse(alloc, text, classes)?;
     let mut printed = String::new(alloc);
     print_node(alloc, &mut printed, &root, "", 0)?;
     Ok(printed)
