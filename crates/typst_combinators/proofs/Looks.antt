@@ -112,7 +112,7 @@ skip-covers (suc n) e l (c ∷ a) h =
     omega (arith, skip-covers n e l a k)
 
 -- what is eaten was looked at
-pub front-covers : {A : Type 0} (r : Reader A) (p : Place) → min (eaten r p) (suc (length p.ahead)) ≤ (look r p).front
+pub front-covers : {M A : Type 0} (r : Reader M A) (p : Place) → min (eaten r p) (suc (length p.ahead)) ≤ (look r p).front
 front-covers (answer a) p = omega arith
 front-covers (peek n k) p = omega (arith, front-covers (k (scout n p)) p)
 front-covers (glance k) p = omega (arith, front-covers (k (slice_get p.behind 0)) p)

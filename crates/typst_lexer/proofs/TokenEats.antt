@@ -28,6 +28,7 @@ use Rattle.typst_markup_tokens.proofs.Eats.{markup-eats}
 use Rattle.typst_tokens.proofs.Eats.{either, some-ahead, run-ahead, line-eats}
 use Rattle.typst_lexer.specs.Tokens.{of_mode, hash, slash, star, backtick, token}
 use Rattle.typst_tokens.specs.declared.token.Token.{Token}
+use Rattle.typst_tokens.specs.Memory.{Memory}
 
 mode-eats : (c : ℕ) (p : Place) (e : scout 0 p ≡ Some c) (k : CharClasses) (mode : SyntaxMode) → 1 ≤ eaten (of_mode k mode c) p
 unfolding of_mode text_from
@@ -63,7 +64,7 @@ tick-eats k Markup c p e t = omega (arith, line-eats (λ d. d == 96) c 96 p e t 
 tick-eats k Math c p e t = own-eats k Math c 96 p e t
 tick-eats k Code c p e t = omega (arith, line-eats (λ d. d == 96) c 96 p e t refl)
 
-abbrev token_from : CharClasses → SyntaxMode → ℕ → Reader Token
+abbrev token_from : CharClasses → SyntaxMode → ℕ → Reader Memory Token
 token_from k mode c =
     if is_space mode c then whitespace mode
     else (if c == 35 then hash k mode

@@ -10,12 +10,13 @@ use Rattle.typst_lines.specs.Place.{Place, moved}
 use Rattle.typst_links.proofs.EndLemmas.{last-taken}
 use Rattle.typst_links.proofs.LinkLemmas.{front-taken}
 use Rattle.typst_links.specs.Links.{among, last_signs, after, front, without_last_signs, link_prefix}
-use Rattle.typst_readers.specs.Reader.{Look, Memory, Turn, both, no_look, widened, from_before, spanned, span_look, exec}
-use Rattle.typst_readers.specs.Reader.Memory.{brackets}
+use Rattle.typst_readers.specs.Reader.{Look, Turn, both, no_look, widened, from_before, spanned, span_look, exec}
+use Rattle.typst_tokens.specs.Memory.Memory.{brackets}
 use Rattle.typst_readers.specs.Reader.Turn.{leave, last, go}
 use Rattle.typst_readers.specs.Sight.{Sight, Covers, saw, saw_by, went, sight}
 use Rattle.typst_readers.proofs.Frame.{turned}
 use Rattle.typst_readers.proofs.Sights.{saw-ahead}
+use Rattle.typst_tokens.specs.Memory.{Memory}
 
 -- the front as the next character's turn has it
 abbrev front_by : List ℕ → ℕ → List ℕ → Option (List ℕ) → List ℕ × List ℕ
@@ -34,7 +35,7 @@ link-front awaited b (c ∷ a) = by-turn (after awaited c) (λ inside. link-fron
 same-look : (m : ℕ) → ◌≡◌ {A = Look} (record { back = 0; front = max 1 (max 1 (suc (suc m))) }) (record { back = 0; front = suc (suc m) })
 same-look m = let e : max 1 (max 1 (suc (suc m))) ≡ suc (suc m) = omega arith in rw e refl
 
-abbrev turn_look : List ℕ → ℕ → List ℕ → Turn → Look
+abbrev turn_look : List ℕ → ℕ → List ℕ → Turn Memory → Look
 turn_look b c a t = elim t [ leave ↦ no_look | last after ↦ no_look | go after ↦ from_before (c ∷ a) (span_look in_link after (c ∷ b) a) ]
 
 -- and it looks at the front and at what ends it

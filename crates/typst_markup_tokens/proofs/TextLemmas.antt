@@ -5,7 +5,7 @@ use Rattle.typst_kinds.specs.declared.kind.SyntaxKind.TheVariants as kind
 use Rattle.typst_lines.specs.Place.{Place, moved, moved_from, passes, scout, word_at}
 use Rattle.typst_classes.specs.Classes.{CharClasses}
 use Rattle.typst_readers.specs.Reader.{place, widened, Reader, Turn, ask, glimpse, eat_span, see_word}
-use Rattle.typst_readers.specs.Reader.Memory.{blank}
+use Rattle.typst_tokens.specs.Memory.Memory.{blank}
 use Rattle.typst_readers.specs.Reader.Reader.{answer}
 use Rattle.typst_readers.specs.Reader.Turn.{leave, go}
 use Rattle.typst_readers.specs.Sight.{Sight, Covers, saw, saw_by, went, saw_word, regard, sight}
@@ -18,8 +18,9 @@ use Rattle.typst_readers.proofs.Sights.{regard-is, covers-saw, covers-saw_by, sa
 use Rattle.typst_readers.proofs.WordLemmas.{regard-see_word}
 use Rattle.typst_readers.proofs.PairLemmas.{moved-less, sight-pairs}
 use Rattle.typst_readers.proofs.Spans.{saw-twice, sight-turn, sight-end, turned_sight}
+use Rattle.typst_tokens.specs.Memory.{Memory}
 
-abbrev pub rest : CharClasses → Reader Token
+abbrev pub rest : CharClasses → Reader Memory Token
 rest k = eat_span (in_text k) blank (λ _. answer (plain kind.Text))
 
 other : (c d : ℕ) → may_stop d ≡ true → not (may_stop c) ≡ true → (c == d) ≡ false
@@ -93,8 +94,8 @@ flow-looks k c b a e = by (way k c (slice_get a 0) e)
 pub rest-past : (k : CharClasses) (v : Sight) → Covers v → sight (rest k) v ≡ sight (rest k) (went_past_pairs (flowing k) v)
 rest-past k v h = sight-pairs (in_text k) blank (flowing k) (λ _. answer (plain kind.Text)) (flow-goes k) (flow-looks k) v.place.behind v.place.ahead v.reach v.least h
 
-module _ (k : CharClasses) (c : ℕ) (v w : Sight) (h : Covers v) (s : saw 1 v ≡ v) (t : Turn) (g : regard (text_step k c) v ≡ (t, w)) where
-  both-are : ◌≡◌ {A = Turn × Sight} (ask (text_step k c) v.place, saw_by (glimpse (text_step k c) v.place) v) (t, w)
+module _ (k : CharClasses) (c : ℕ) (v w : Sight) (h : Covers v) (s : saw 1 v ≡ v) (t : Turn Memory) (g : regard (text_step k c) v ≡ (t, w)) where
+  both-are : ◌≡◌ {A = Turn Memory × Sight} (ask (text_step k c) v.place, saw_by (glimpse (text_step k c) v.place) v) (t, w)
   both-are = sym (regard-is (text_step k c) v h) ∙ g
 
   turned-is : saw_by (widened 0 1 (glimpse (text_step k c) v.place)) (saw 1 v) ≡ w
@@ -104,7 +105,7 @@ module _ (k : CharClasses) (c : ℕ) (v w : Sight) (h : Covers v) (s : saw 1 v �
       ∙ ap (saw_by l) (saw-ahead 1 (saw 1 v) (covers-saw 1 v h) ∙ saw-twice v ∙ s)
       ∙ ap (λ p. p.1) both-are
 
-step-at : (k : CharClasses) (c : ℕ) (b a : List ℕ) (r l : ℕ) (w : Sight) (t : Turn)
+step-at : (k : CharClasses) (c : ℕ) (b a : List ℕ) (r l : ℕ) (w : Sight) (t : Turn Memory)
     → Covers (record { place = place b a; reach = r; least = l })
     → saw 1 (record { place = place b a; reach = r; least = l }) ≡ record { place = place b a; reach = r; least = l }
     → regard (text_step k c) (record { place = place b a; reach = r; least = l }) ≡ (t, w)
@@ -139,11 +140,11 @@ unfolding text
 rest-text k v = refl
 
 -- the place stays while its surroundings are looked at
-pub rest-place : (k : CharClasses) (c : ℕ) (v w : Sight) (t : Turn) → Covers v → regard (text_step k c) v ≡ (t, w) → w.place ≡ v.place
-rest-place k c v w t h g = ap (λ (p : Turn × Sight). p.1.place) (sym g ∙ regard-is (text_step k c) v h)
+pub rest-place : (k : CharClasses) (c : ℕ) (v w : Sight) (t : Turn Memory) → Covers v → regard (text_step k c) v ≡ (t, w) → w.place ≡ v.place
+rest-place k c v w t h g = ap (λ (p : Turn Memory × Sight). p.1.place) (sym g ∙ regard-is (text_step k c) v h)
 
-pub rest-covers : (k : CharClasses) (c : ℕ) (v w : Sight) (t : Turn) → Covers v → regard (text_step k c) v ≡ (t, w) → Covers w
-rest-covers k c v w t h g = subst Covers (ap (λ (p : Turn × Sight). p.1) (sym (regard-is (text_step k c) v h) ∙ g)) (covers-saw_by (glimpse (text_step k c) v.place) v h)
+pub rest-covers : (k : CharClasses) (c : ℕ) (v w : Sight) (t : Turn Memory) → Covers v → regard (text_step k c) v ≡ (t, w) → Covers w
+rest-covers k c v w t h g = subst Covers (ap (λ (p : Turn Memory × Sight). p.1) (sym (regard-is (text_step k c) v h) ∙ g)) (covers-saw_by (glimpse (text_step k c) v.place) v h)
 
 -- behind a character and a run fewer are ahead
 pub rest-shortens : (test : ℕ → Option ℕ → Bool) (c : ℕ) (z y : Place) → y ≡ z → Some c ≡ scout 0 z → length (past_pairs test (moved 1 y)).ahead < length z.ahead
@@ -155,7 +156,7 @@ rest-shortens test c z y e s = rw e (shorter z.behind z.ahead s)
 
 -- ---- words at which a text stops
 
-stopped : (b : Bool) (y : Sight) → ◌≡◌ {A = Turn × Sight} (if b then (leave, y) else (go blank, y)) (if not b then go blank else leave, y)
+stopped : (b : Bool) (y : Sight) → ◌≡◌ {A = Turn Memory × Sight} (if b then (leave, y) else (go blank, y)) (if not b then go blank else leave, y)
 stopped true y = refl
 stopped false y = refl
 

@@ -15,13 +15,14 @@ use Rattle.typst_tokens.specs.Common.{sign}
 use Rattle.typst_tokens.specs.Escapes.{backslash}
 use Rattle.typst_tokens.specs.Token.{plain}
 use Rattle.typst_tokens.specs.declared.token.Token.{Token}
+use Rattle.typst_tokens.specs.Memory.{Memory}
 
 -- A dot comes next: three are a shorthand.
-unfoldable pub dot : CharClasses → Reader Token
+unfoldable pub dot : CharClasses → Reader Memory Token
 dot k = eat (at_word 0 (codes "..") (skip 2 (answer (plain kind.Shorthand))) (text k))
 
 -- Whether a marker may end there: at the end, at whitespace or at a comment.
-abbrev pub marker_end : {A : Type 0} → (Bool → Reader A) → Reader A
+abbrev pub marker_end : {M A : Type 0} → (Bool → Reader M A) → Reader M A
 marker_end go_on = peek 0 (λ c. elim c [
   | None ↦ go_on true
   | Some c ↦
@@ -29,44 +30,44 @@ marker_end go_on = peek 0 (λ c. elim c [
 ])
 
 -- A marker where it may end here, else what is left of a text.
-unfoldable pub marker_or_text : CharClasses → SyntaxKind → Reader Token
+unfoldable pub marker_or_text : CharClasses → SyntaxKind → Reader Memory Token
 marker_or_text k kind = marker_end (λ ends. if ends then answer (plain kind) else text k)
 
 -- A sign comes next that is a marker where it may end, and else begins a text.
-unfoldable pub marker : CharClasses → SyntaxKind → Reader Token
+unfoldable pub marker : CharClasses → SyntaxKind → Reader Memory Token
 marker k kind = eat (marker_or_text k kind)
 
 -- After one hyphen: two more, one more, a question mark and, which stays ahead, a numeric character
 -- make it a shorthand.
-unfoldable pub hyphen : CharClasses → Reader Token
+unfoldable pub hyphen : CharClasses → Reader Memory Token
 hyphen k =
     if_next (λ c. c == 45) (if_next (λ c. c == 45) (answer (plain kind.Shorthand)) (answer (plain kind.Shorthand)))
     (if_next (λ c. c == 63) (answer (plain kind.Shorthand))
     (peek 0 (λ c. if passes k.numeric c then answer (plain kind.Shorthand) else marker_or_text k kind.ListMarker)))
 
 -- A hyphen comes next.
-unfoldable pub minus : CharClasses → Reader Token
+unfoldable pub minus : CharClasses → Reader Memory Token
 minus k = eat (hyphen k)
 
 -- A star or an underscore comes next: between two characters of words it is text.
-unfoldable pub emphasis : CharClasses → SyntaxKind → Reader Token
+unfoldable pub emphasis : CharClasses → SyntaxKind → Reader Memory Token
 emphasis k kind = glance (λ before.
     if passes k.word before then peek 1 (λ after. if passes k.word after then text_from k else sign kind)
     else sign kind)
 
 -- Equals signs come next: all of them are a marker where it may end.
-unfoldable pub heading : CharClasses → Reader Token
+unfoldable pub heading : CharClasses → Reader Memory Token
 heading k = eat_run (λ c. c == 61) (λ _. marker_or_text k kind.HeadingMarker)
 
 -- Digits come next: with a dot they are a marker where they write a u64 and it may end, and else
 -- they begin a text, the dot in it.
-unfoldable pub numbering : CharClasses → Reader Token
+unfoldable pub numbering : CharClasses → Reader Memory Token
 numbering k = eat_run is_ascii_digit (λ digits. if_next (λ c. c == 46)
     (if is_u64 digits then marker_or_text k kind.EnumMarker else text k) (text k))
 
 -- A token of markup that begins with the character, which comes next and begins no token that all
 -- modes share.
-unfoldable pub markup : CharClasses → ℕ → Reader Token
+unfoldable pub markup : CharClasses → ℕ → Reader Memory Token
 markup k c =
     if c == 92 then backslash
     else (if c == 104 then link_or_text k

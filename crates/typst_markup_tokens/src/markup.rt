@@ -6,6 +6,7 @@ ghost use Rattle.typst_readers.specs.Reads.{Reads};
 ghost use Rattle.typst_readers.specs.Sight.{sight};
 ghost use Rattle.typst_tokens.specs.declared.token.Token.{Token};
 ghost use Rattle.typst_lines.specs.Place.{passes};
+ghost use Rattle.typst_tokens.specs.Memory.{Memory};
 
 use crate::link::link_or_text;
 use crate::names::{label_or_text, ref_or_text};
@@ -154,7 +155,7 @@ fn marker_or_text<C: Classes>(s: &mut Cursor<'_>, kind: SyntaxKind, classes: &C)
 
 /// Whether a marker may end here: at the end, at whitespace or at a comment.
 fn space_or_end(s: &mut Cursor<'_>) -> bool
-    ensures { (go_on : Bool → Reader Token) → sight (spec.marker_end go_on) s.old ≡ sight (go_on result) s.new }
+    ensures { (go_on : Bool → Reader Memory Token) → sight (spec.marker_end go_on) s.old ≡ sight (go_on result) s.new }
 {
     match s.peek() {
         None => true,

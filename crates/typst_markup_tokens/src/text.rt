@@ -1,6 +1,6 @@
 //! Plain text of markup.
 ghost use Rattle.std.specs.Prelude.{◌≡◌, if◌then◌else◌};
-ghost use Rattle.typst_readers.specs.Reader.Memory.{blank};
+ghost use Rattle.typst_tokens.specs.Memory.Memory.{blank};
 ghost use Rattle.typst_readers.specs.Reader.Turn.{leave, go};
 ghost use Rattle.typst_readers.specs.Reads.{Reads};
 ghost use Rattle.typst_readers.specs.Sight.{regard};

@@ -13,6 +13,7 @@ use Rattle.typst_kinds.specs.Kinds.{is_error}
 use Rattle.typst_node.specs.Diagnostic.{hint_with}
 use Rattle.typst_classes.specs.Classes.{CharClasses}
 use Rattle.typst_node.specs.Tree.{Tree, text_of, leaf_of, error_of, advised}
+use Rattle.typst_tokens.specs.Memory.{Memory}
 
 start-of : (text : List ℕ) → place_at text 0 ≡ place [] (chars text)
 unfolding place_at chars
@@ -26,7 +27,7 @@ thrice text =
     ∙ moved-more 2 1 [] (chars text)
 
 -- a token that was read, with the node that was made of its characters
-pub is-read : (k : CharClasses) (r : Reader Token) (p q : Place) (t : Token) (node : Tree) (taken : List ℕ) → exec r p ≡ (t, q) → node ≡ token_node k t taken → taken ≡ take (eaten r p) p.ahead → IsRead k r p q t.kind node
+pub is-read : (k : CharClasses) (r : Reader Memory Token) (p q : Place) (t : Token) (node : Tree) (taken : List ℕ) → exec r p ≡ (t, q) → node ≡ token_node k t taken → taken ≡ take (eaten r p) p.ahead → IsRead k r p q t.kind node
 is-read k r p q t node taken e made same = record {
   kind_is = sym (ap (λ x. x.0.kind) e);
   node_is = made ∙ ap (token_node k t) same ∙ sym (ap (λ x. token_node k x.0 (take (eaten r p) p.ahead)) e);

@@ -13,6 +13,7 @@ use Rattle.typst_readers.specs.Reader.{Reader, exec, eaten, place}
 use Rattle.typst_tokens.specs.declared.token.Token.{Token}
 use Rattle.typst_tokens.specs.declared.token.Fault.{Fault}
 use Rattle.typst_tokens.specs.declared.token.Fault.TheVariants.{CommentEnd, UnclosedRaw, UnclosedEscape, InvalidEscape, UnbalancedLink, UnclosedLabel}
+use Rattle.typst_tokens.specs.Memory.{Memory}
 
 -- The letters and digits of an escape, which stand behind `\u{`.
 abbrev pub escaped : List ℕ → List ℕ
@@ -61,7 +62,7 @@ abbrev pub token_node : CharClasses → Token → List ℕ → Tree
 token_node k t taken = elim t.fault [ None ↦ plain_node k t taken | Some f ↦ fault_node f taken ]
 
 -- The token of a reader was read: kind and node are its own, and the place is behind it.
-pub record IsRead (k : CharClasses) (r : Reader Token) (old new : Place) (kind : SyntaxKind) (node : Tree) : Type 0 where
+pub record IsRead (k : CharClasses) (r : Reader Memory Token) (old new : Place) (kind : SyntaxKind) (node : Tree) : Type 0 where
   pub kind_is : kind ≡ (exec r old).0.kind
   pub node_is : node ≡ token_node k (exec r old).0 (take (eaten r old) old.ahead)
   pub place_is : new ≡ (exec r old).1

@@ -4,20 +4,21 @@ use Rattle.std.proofs.lemmas.Bool.{ne_eqb}
 use Rattle.typst_kinds.specs.declared.kind.SyntaxKind.TheVariants as kind
 use Rattle.typst_lines.specs.Place.{scout}
 use Rattle.typst_tokens.specs.Common.{comment_turn, comment_step, in_comment, block_comment}
-use Rattle.typst_readers.specs.Reader.{Memory, Reader, eat_span}
-use Rattle.typst_readers.specs.Reader.Memory.{blank, comment}
+use Rattle.typst_readers.specs.Reader.{Reader, eat_span}
+use Rattle.typst_tokens.specs.Memory.Memory.{blank, comment}
 use Rattle.typst_readers.specs.Reader.Turn.{last, go}
 use Rattle.typst_readers.specs.Reader.Reader.{answer}
 use Rattle.typst_readers.specs.Sight.{Sight, Covers, went, sight}
 use Rattle.typst_tokens.specs.Token.{plain}
 use Rattle.typst_tokens.specs.declared.token.Token.{Token}
 use Rattle.typst_readers.proofs.Steps.{step-go, step-last, step-end, end-seen}
+use Rattle.typst_tokens.specs.Memory.{Memory}
 
-abbrev pub done : Memory → Reader Token
+abbrev pub done : Memory → Reader Memory Token
 done _ = answer (plain kind.BlockComment)
 
 -- what is left of a comment
-abbrev pub rest : ℕ → ℕ → Reader Token
+abbrev pub rest : ℕ → ℕ → Reader Memory Token
 rest before depth = eat_span in_comment (comment before depth) done
 
 -- ---- turns

@@ -5,7 +5,7 @@ use Rattle.std.specs.List.{prefix_len}
 use Rattle.typst_lines.specs.Place.{Place, scout}
 use Rattle.typst_readers.specs.Reader.{Reader, eaten}
 
-pub either : {A : Type 0} (b : Bool) (x y : Reader A) (p : Place) → (b ≡ true → 1 ≤ eaten x p) → 1 ≤ eaten y p → 1 ≤ eaten (if b then x else y) p
+pub either : {M A : Type 0} (b : Bool) (x y : Reader M A) (p : Place) → (b ≡ true → 1 ≤ eaten x p) → 1 ≤ eaten y p → 1 ≤ eaten (if b then x else y) p
 either true x y p h i = h refl
 either false x y p h i = i
 

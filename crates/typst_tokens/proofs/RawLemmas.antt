@@ -12,18 +12,19 @@ use Rattle.typst_tokens.specs.Token.{plain, faulty}
 use Rattle.typst_tokens.specs.declared.token.Token.{Token}
 use Rattle.typst_tokens.specs.declared.token.Fault.TheVariants as fault
 use Rattle.typst_lines.specs.Place.{Place, scout, run}
-use Rattle.typst_readers.specs.Reader.{Memory, Reader, eat_span}
-use Rattle.typst_readers.specs.Reader.Memory.{blank, fence}
+use Rattle.typst_readers.specs.Reader.{Reader, eat_span}
+use Rattle.typst_tokens.specs.Memory.Memory.{blank, fence}
 use Rattle.typst_readers.specs.Reader.Turn.{last, go}
 use Rattle.typst_readers.specs.Reader.Reader.{answer}
 use Rattle.typst_readers.specs.Sight.{Sight, Covers, went, went_past, sight}
 use Rattle.typst_readers.proofs.Steps.{step-go, step-last, step-end, end-seen}
+use Rattle.typst_tokens.specs.Memory.{Memory}
 
-abbrev pub closing : Memory → Reader Token
+abbrev pub closing : Memory → Reader Memory Token
 closing memory = answer (raw_end memory)
 
 -- what is left of a raw text
-abbrev pub rest : ℕ → ℕ → Reader Token
+abbrev pub rest : ℕ → ℕ → Reader Memory Token
 rest wanted found = eat_span in_raw (fence wanted found) closing
 
 -- ---- turns

@@ -1,6 +1,6 @@
 use Rattle.std.proofs.Common.{◌≡◌, sym, ap, subst, ◌∙◌, length, Some, arith}
 use Rattle.typst_lines.specs.Place.{scout}
-use Rattle.typst_readers.specs.Reader.Memory.{blank}
+use Rattle.typst_tokens.specs.Memory.Memory.{blank}
 use Rattle.typst_readers.specs.Reader.Turn.{go}
 use Rattle.typst_readers.specs.Sight.{Covers, Sight, saw, sight, went}
 use Rattle.typst_readers.specs.Pairs.{went_past_pairs}
