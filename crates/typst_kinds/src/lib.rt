@@ -15,5 +15,3 @@ pub use operator::{Assoc, BinOp, UnOp};
 pub use set::SyntaxSet;
 pub use span::{FileId, Span, SpanNumber, SubRange};
 
-#[cfg(test)]
-mod tests;
