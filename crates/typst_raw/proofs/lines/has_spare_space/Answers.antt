@@ -2,7 +2,7 @@ use Rattle.std.proofs.Common.{◌≡◌, ◌==◌, reverse, sym, ap, ◌∙◌, 
 use Rattle.std.specs.Char.{is_whitespace}
 use Rattle.std.specs.Prelude.{find}
 use Rattle.std.specs.Str.{chars}
-use Rattle.typst_lines.proofs.CommonLemmas.{behind-all}
+use Rattle.typst_lines.proofs.CommonEnds.{behind-all}
 use Rattle.typst_lines.specs.Place.{passes}
 use Rattle.typst_lines.specs.Scanner.{place}
 use Rattle.typst_raw.proofs.LoopLemmas.{spare-no, spare-found}

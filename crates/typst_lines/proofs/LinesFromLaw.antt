@@ -3,9 +3,9 @@ use Rattle.std.proofs.Common.{◌≡◌, ◌≤◌, ◌<◌, Bool, length, ℕ, 
 use Rattle.std.proofs.lemmas.Bool.Decides.{nat_tests}
 use Rattle.std.proofs.lemmas.Str.{chars-nil, IsCharBoundary-start}
 use Rattle.std.specs.Str.{chars, IsUtf8, IsCharBoundary}
-use Rattle.typst_lines.proofs.LineLemmas.{line_at, onto_if, starts_from, line_table-starts, width-positive, chars-split, bytes-front, place-end, ahead-text}
+use Rattle.typst_lines.proofs.LineTable.{line_at, onto_if, starts_from, line_table-starts, width-positive, chars-split, bytes-front, place-end, ahead-text}
 use Rattle.typst_lines.proofs.PlaceLemmas.{head-splits, IsStep-from_ascii}
-use Rattle.typst_lines.proofs.PositionLemmas.{units-behind, units-moved}
+use Rattle.typst_lines.proofs.RoundTrip.{units-behind, units-moved}
 use Rattle.typst_lines.specs.Newline.{is_newline, ends_line}
 use Rattle.typst_lines.specs.Place.{Place, place_at, moved, scout, char_width, IsStep}
 use Rattle.typst_lines.specs.Lines.{utf16_len, units, bytes, line_table, lines_after, utf16_before, IsPlainRun}

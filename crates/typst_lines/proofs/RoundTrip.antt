@@ -7,9 +7,9 @@ use mathlib.Core.List.{reverse_aux}
 use Rattle.std.specs.Prelude.{option_map}
 use Rattle.std.specs.Str.{chars, IsUtf8, IsCharBoundary}
 use Rattle.std.specs.declared.ops.Range.{Range}
-use Rattle.typst_lines.proofs.LineLemmas.{units-append, bytes-append, bytes-front, units-front, bytes-text, chars-split, chars-range, utf16_len-positive, place-end, bytes-step}
+use Rattle.typst_lines.proofs.LineTable.{units-append, bytes-append, bytes-front, units-front, bytes-text, chars-split, chars-range, utf16_len-positive, place-end, bytes-step}
 use Rattle.typst_lines.proofs.PlaceLemmas.{head-splits}
-use Rattle.typst_lines.proofs.TableLemmas.{table-sound, table-next, line_of-next}
+use Rattle.typst_lines.proofs.TableOrder.{table-sound, table-next, line_of-next}
 use Rattle.typst_lines.specs.Place.{Place, place_at, moved, scout, char_width}
 use Rattle.typst_lines.specs.Lines.{utf16_len, units, bytes, places_from, line_table, line_of, line_start, line_range, column_of, byte_at, byte_reached, byte_at_utf16, least_place, utf16_before, IsLine, IsLineOf, IsLineUpTo}
 use Rattle.typst_lines.specs.declared.lines.Line.{Line}
