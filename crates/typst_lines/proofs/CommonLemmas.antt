@@ -11,6 +11,7 @@ use Rattle.typst_lines.proofs.PositionLemmas.{bytes-behind}
 use Rattle.typst_lines.specs.Lines.{bytes, common_front, common_ends, IsCommonFront}
 use Rattle.typst_lines.specs.Newline.{is_newline, ends_line, line_end_len, stretches, line_ends, onto_first, woven, all_lack_newlines}
 use Rattle.typst_lines.specs.Place.{Place, place_at, moved, moved_back, moved_from, scout, passes}
+use Rattle.typst_lines.proofs.Tests.{and-second}
 
 -- two lists that begin alike and then differ, or end
 pub record Shares (cs ds us vs : List ℕ) : Type 0 where
@@ -186,10 +187,6 @@ glued-plain xs q r c e m plain =
 -- a carriage return that a line feed follows
 abbrev crlf : ℕ → List ℕ → Bool
 crlf c rest = c == 13 && passes (λ d. d == 10) (slice_get rest 0)
-
-and-second : (a b : Bool) → (a && b) ≡ true → b ≡ true
-and-second true b e = e
-and-second false b e = absurd (cc)
 
 ten : (d : ℕ) → (d == 10) ≡ true → d ≡ 10
 ten d t = grind (arith, nat_tests)
