@@ -4,6 +4,7 @@ use Rattle.std.proofs.lemmas.Bool.Decides.{nat_tests}
 use Rattle.std.specs.Str.{chars}
 use Rattle.typst_lines.proofs.LineTable.{place-end}
 use Rattle.typst_lines.proofs.PlaceLemmas.{moved-step}
+use Rattle.typst_lines.proofs.Tests.{and-second}
 use Rattle.typst_lines.specs.Newline.{is_newline, ends_line, line_end_len, stretches, line_ends, onto_first, woven, all_lack_newlines}
 use Rattle.typst_lines.specs.Place.{Place, moved, moved_from, scout, passes}
 use Rattle.typst_lines.proofs.CommonEnds.{ahead-step}
@@ -55,10 +56,6 @@ glued-plain xs q r c e m plain =
 -- a carriage return that a line feed follows
 abbrev crlf : ℕ → List ℕ → Bool
 crlf c rest = c == 13 && passes (λ d. d == 10) (slice_get rest 0)
-
-and-second : (a b : Bool) → (a && b) ≡ true → b ≡ true
-and-second true b e = e
-and-second false b e = absurd (cc)
 
 ten : (d : ℕ) → (d == 10) ≡ true → d ≡ 10
 ten d t = grind (arith, nat_tests)

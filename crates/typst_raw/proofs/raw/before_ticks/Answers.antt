@@ -3,7 +3,7 @@ use Rattle.std.specs.Str.{chars}
 use Rattle.typst_lines.proofs.CommonEnds.{behind-all}
 use Rattle.typst_lines.specs.Scanner.{place}
 use Rattle.typst_raw.specs.Raw.{past_ticks}
-use Rattle.typst_raw.proofs.TagLemmas.{ticks-step}
+use Rattle.typst_raw.proofs.Tags.{ticks-step}
 use Rattle.typst_raw.proofs.raw.before_ticks.Goals as goal
 
 pub loop-i-init : goal.loop-i-init
