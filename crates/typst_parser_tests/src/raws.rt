@@ -1,9 +1,7 @@
 //! What of raw texts needs code: the stretches of warnings, refused memory.
 use std::alloc::AllocError;
 use std::test::Fail;
-use typst_classes::UnicodeClasses;
-use typst_kinds::SubRange;
-use typst_node::Severity;
+use typst_parser::{Severity, SubRange, UnicodeClasses};
 use typst_raw::raw_node;
 
 /// Raw texts, and the stretch of their warning and of each of its hints.

@@ -26,7 +26,11 @@ fn expect_run(
     let mut errors = roomy(rt.alloc(), Pace::Interrupted);
     let got = run(rt.alloc(), words, &mut input, &mut output, &mut errors);
     assert_eq!(rt; got, status, "at {words:?}");
-    assert_eq!(rt; output.passed.as_slice(), printed.as_bytes(), "at {words:?}");
+    assert_eq!(rt;
+        output.passed.as_slice(),
+        printed.as_bytes(),
+        "at {words:?}"
+    );
     assert_eq!(rt; errors.passed.as_slice(), said.as_bytes(), "at {words:?}");
 }
 
@@ -58,7 +62,10 @@ fn refuses_other_words(rt: HostRuntime) {
         &["edit", "0", "0", "x"],
     ];
     for words in table {
-        let (input, output) = (Reader::ending(b"a", Pace::Whole), roomy(rt.alloc(), Pace::Whole));
+        let (input, output) = (
+            Reader::ending(b"a", Pace::Whole),
+            roomy(rt.alloc(), Pace::Whole),
+        );
         expect_run(&rt, words, input, output, (2, "", USAGE));
     }
 }
@@ -75,16 +82,43 @@ fn looks_for_faults_in_order(rt: HostRuntime) {
     let broken = || Reader::failing(b"\xff");
     let other = |bytes| Reader::ending(bytes, Pace::Whole);
     expect_run(&rt, &["line"], broken(), full(alloc), (2, "", USAGE));
-    expect_run(&rt, &["lines"], broken(), full(alloc), (1, "", "read failed\n"));
-    expect_run(&rt, &["lines"], other(b"\xff"), full(alloc), (1, "", "not UTF-8\n"));
-    expect_run(&rt, &["tree"], other(b"ok\n\xc3"), full(alloc), (1, "", "not UTF-8\n"));
-    expect_run(&rt, &["lines"], other(b"a"), full(alloc), (1, "", "write failed\n"));
+    expect_run(
+        &rt,
+        &["lines"],
+        broken(),
+        full(alloc),
+        (1, "", "read failed\n"),
+    );
+    expect_run(
+        &rt,
+        &["lines"],
+        other(b"\xff"),
+        full(alloc),
+        (1, "", "not UTF-8\n"),
+    );
+    expect_run(
+        &rt,
+        &["tree"],
+        other(b"ok\n\xc3"),
+        full(alloc),
+        (1, "", "not UTF-8\n"),
+    );
+    expect_run(
+        &rt,
+        &["lines"],
+        other(b"a"),
+        full(alloc),
+        (1, "", "write failed\n"),
+    );
 }
 
 #[test]
 fn tells_of_a_read_that_fails(rt: HostRuntime) {
     for given in 0..TEXT.len() + 1 {
-        let (input, output) = (Reader::failing(&TEXT[..given]), roomy(rt.alloc(), Pace::Whole));
+        let (input, output) = (
+            Reader::failing(&TEXT[..given]),
+            roomy(rt.alloc(), Pace::Whole),
+        );
         expect_run(&rt, &["lines"], input, output, (1, "", "read failed\n"));
     }
 }
@@ -116,7 +150,13 @@ fn expect_long(
         text.push(b'a')?;
     }
     let input = Reader::ending(text.as_slice(), Pace::Whole);
-    expect_run(rt, &["lines"], input, roomy(rt.alloc(), Pace::Whole), (0, printed, ""));
+    expect_run(
+        rt,
+        &["lines"],
+        input,
+        roomy(rt.alloc(), Pace::Whole),
+        (0, printed, ""),
+    );
     Ok(())
 }
 

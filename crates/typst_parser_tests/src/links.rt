@@ -2,10 +2,7 @@
 use std::alloc::{AllocError, Global};
 use std::process::Abort;
 use std::test::Fail;
-use typst_classes::UnicodeClasses;
-use typst_kinds::SyntaxMode;
-use typst_lexer::Lexer;
-use typst_links::{is_valid_label_literal_id, link_prefix};
+use typst_parser::{UnicodeClasses, is_valid_label_literal_id, link_prefix};
 use typst_test_classes::{Narrow, Wide};
 
 /// Texts, the links that they begin with, and whether these are balanced.
@@ -106,28 +103,6 @@ fn closes_brackets(rt: HostRuntime) -> Result<(), Fail> {
             let (len, closed) = longest(alloc, brackets.as_str())?;
             assert_eq!(rt; link.len(), len, "at {brackets:?}");
             assert_eq!(rt; balanced, closed, "at {brackets:?}");
-        }
-        ways = ways.saturating_mul(4);
-    }
-    Ok(())
-}
-
-/// The same behind a scheme, as the lexer reads it.
-#[test]
-fn reads_links_with_brackets(rt: HostRuntime) -> Result<(), Fail> {
-    let alloc = rt.alloc();
-    let mut ways = 1usize;
-    for count in 0..7 {
-        for number in 0..ways {
-            let brackets = written(alloc, count, number)?;
-            let (len, closed) = longest(alloc, brackets.as_str())?;
-            let mut text = String::from_str(alloc, "https://")?;
-            text.push_str(brackets.as_str())?;
-            let mut lexer = Lexer::new(text.as_str(), SyntaxMode::Markup, &UnicodeClasses);
-            let (token, taken) = lexer.scan(alloc)?;
-            assert_eq!(rt; taken.len(), len.saturating_add(8), "at {brackets:?}");
-            let kind = if closed { "link" } else { "syntax error" };
-            assert_eq!(rt; token.kind.name(), kind, "at {brackets:?}");
         }
         ways = ways.saturating_mul(4);
     }

@@ -2,9 +2,8 @@
 use std::alloc::{AllocError, Global};
 use std::process::Abort;
 use std::test::Fail;
-use typst_classes::{Classes, UnicodeClasses};
-use typst_kinds::{SyntaxKind, SyntaxMode};
 use typst_lexer::Lexer;
+use typst_parser::{Classes, SyntaxKind, SyntaxMode, UnicodeClasses};
 use typst_test_classes::{Narrow, Wide};
 
 /// Texts whose tokens past ASCII are of no class.
