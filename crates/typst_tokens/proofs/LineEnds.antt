@@ -2,7 +2,7 @@
 use Rattle.std.proofs.Common.{◌≡◌, ◌≤◌, ℕ, suc, Bool, true, false, not, ◌&&◌, ◌==◌, if◌then◌else◌, List, [], ◌∷◌, length, refl, sym, ap, arith, slice_get, Some, None}
 use Rattle.std.proofs.lemmas.Str.{length-le-encodes, encodes-chars}
 use Rattle.std.specs.Str.{chars, IsUtf8}
-use Rattle.typst_lines.proofs.LineLemmas.{place-end}
+use Rattle.typst_lines.proofs.LineTable.{place-end}
 use Rattle.typst_lines.proofs.PlaceLemmas.{head-splits}
 use Rattle.typst_lines.specs.Place.{Place, place_at, moved, scout}
 use Rattle.typst_lines.specs.Newline.{is_newline}

@@ -8,7 +8,7 @@ use Rattle.std.specs.Prelude.{slice_get, encode_utf8_all}
 use Rattle.std.specs.Str.{chars, IsUtf8}
 use Rattle.std.proofs.lemmas.Str.{encodes-chars}
 use Rattle.typst_lines.specs.Place.{Place, place_at, moved, scout}
-use Rattle.typst_lines.proofs.LineLemmas.{place-end}
+use Rattle.typst_lines.proofs.LineTable.{place-end}
 use Rattle.typst_lines.proofs.PlaceLemmas.{head-splits}
 use Rattle.typst_tokens.specs.Characters.{number_after, number, with_digit}
 
