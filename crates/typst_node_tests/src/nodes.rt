@@ -215,15 +215,15 @@ fn long_texts_are_kept(rt: HostRuntime) -> Result<(), Fail> {
 }
 
 #[test]
-fn a_million_children(rt: HostRuntime) -> Result<(), Fail> {
+fn two_hundred_thousand_children(rt: HostRuntime) -> Result<(), Fail> {
     let alloc = rt.alloc();
     let mut kids = Vec::new(alloc);
-    for _ in 0..1_000_000 {
+    for _ in 0..200_000 {
         kids.push(SyntaxNode::leaf(alloc, SyntaxKind::Text, "a")?)?;
     }
     let mut node = SyntaxNode::inner(SyntaxKind::Markup, kids);
     let same = node.try_clone()?;
     node.synthesize(Span::detached());
-    assert!(rt; node.descendants() == 1_000_001 && node.spanless_eq(&same));
+    assert!(rt; node.descendants() == 200_001 && node.spanless_eq(&same));
     Ok(())
 }

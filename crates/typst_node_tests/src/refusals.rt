@@ -98,15 +98,18 @@ fn fresh(alloc: Global) -> Option<Vec<SyntaxNode>> {
 /// Whether replacing a leaf three levels down, with numbers below `end`, is answered so, or refused
 /// for want of memory; and a refusal leaves the tree as before.
 fn replaces_or_stays(alloc: Global, end: u64, at: usize, answer: Result<(), SourceError>) -> bool {
-    let (Some((mut node, before)), Some(nodes)) = (deep(alloc, end), fresh(alloc)) else {
+    let Some((mut node, before)) = deep(alloc, end) else {
         return true;
     };
-    let answered = replace(&mut node, &[0, 0, 0], at, at + 1, nodes);
-    match answered {
-        Ok(()) => answer.is_ok() && node.len() == 3 && node.descendants() == 8,
-        Err(SourceError::OutOfMemory) => same(alloc, &node, &before),
-        Err(_) => answered == answer && same(alloc, &node, &before),
+    let Some(nodes) = fresh(alloc) else {
+        return true;
+    };
+    let answered = replace(&mut node, &[0, 0, 0], at, at.saturating_add(1), nodes);
+    if answered.is_ok() {
+        return answer.is_ok() && node.descendants() == 8;
     }
+    let allowed = answered == answer || answered == Err(SourceError::OutOfMemory);
+    allowed && same(alloc, &node, &before)
 }
 
 // Among all numbers, where the neighbour has to be numbered anew, and where numbers are too few.

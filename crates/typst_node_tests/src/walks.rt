@@ -1,4 +1,4 @@
-use crate::trees::{leaf, numbers};
+use crate::trees::{END, Row, leaf, number, numbers, tree};
 use std::alloc::{AllocError, Global};
 use std::mem::size_of;
 use std::test::Fail;
@@ -6,398 +6,188 @@ use typst_kinds::{FileId, Span, SpanNumber, SyntaxKind};
 use typst_node::SyntaxNode;
 use typst_tree::{LinkedNode, is_ordered};
 
-/// A node in a plain list of a tree's nodes in preorder: how many nodes are above it, and its kind
-/// if it has no children.
-#[derive(Clone, Copy)]
-struct Row {
-    depth: usize,
-    kind: SyntaxKind,
-}
-
-/// Kinds of nodes without children: a name, trivia, an error, and an inner node.
-const CHILDLESS: [SyntaxKind; 4] = [
-    SyntaxKind::Ident,
-    SyntaxKind::Space,
-    SyntaxKind::Error,
-    SyntaxKind::Markup,
+/// `ab ( ab)xab `, with an empty inner node before the error `x`.
+const TREE: [Row; 10] = [
+    (SyntaxKind::Ident, "ab", None),
+    (SyntaxKind::Space, " ", None),
+    (SyntaxKind::Space, " ", None),
+    (SyntaxKind::Ident, "ab", None),
+    (SyntaxKind::Strong, "", Some(2)),
+    (SyntaxKind::Math, "", Some(0)),
+    (SyntaxKind::Error, "x", None),
+    (SyntaxKind::Ident, "ab", None),
+    (SyntaxKind::Space, " ", None),
+    (SyntaxKind::Markup, "", Some(7)),
 ];
 
-fn text_of(kind: SyntaxKind) -> &'static str {
-    match kind {
-        SyntaxKind::Ident => "ab",
-        SyntaxKind::Markup => "",
-        _ => " ",
-    }
+/// Where the nodes of `TREE` begin and end, in preorder.
+const RANGES: [(usize, usize); 10] = [
+    (0, 10),
+    (0, 2),
+    (2, 3),
+    (3, 6),
+    (3, 4),
+    (4, 6),
+    (6, 6),
+    (6, 7),
+    (7, 9),
+    (9, 10),
+];
+
+/// The places of their parents, next siblings, leaves before, leaves behind and first leaves within.
+const STEPS: [[Option<usize>; 5]; 10] = [
+    [None, None, None, None, Some(1)],
+    [Some(0), Some(3), None, Some(5), Some(1)],
+    [Some(0), Some(3), Some(1), Some(5), None],
+    [Some(0), Some(6), Some(1), Some(6), Some(5)],
+    [Some(3), Some(5), Some(1), Some(5), None],
+    [Some(3), None, Some(1), Some(6), Some(5)],
+    [Some(0), Some(7), Some(5), Some(8), Some(6)],
+    [Some(0), Some(8), Some(6), Some(8), None],
+    [Some(0), None, Some(6), None, Some(8)],
+    [Some(0), None, Some(8), None, None],
+];
+
+/// The leaves of `TREE` by the bytes that they hold.
+const LEAVES: [Option<usize>; 11] = [
+    Some(1),
+    Some(1),
+    Some(2),
+    Some(4),
+    Some(5),
+    Some(5),
+    Some(7),
+    Some(8),
+    Some(8),
+    Some(9),
+    None,
+];
+
+/// The place in preorder of a node, by its number.
+fn place(numbers: &[u64], node: Option<LinkedNode>) -> Option<usize> {
+    let own = node?.get().span().number_or_zero();
+    numbers.iter().position(|number| *number == own)
 }
 
-fn childless(alloc: Global, kind: SyntaxKind) -> Result<SyntaxNode, AllocError> {
-    if kind == SyntaxKind::Markup {
-        return Ok(SyntaxNode::inner(SyntaxKind::Markup, Vec::new(alloc)));
-    }
-    leaf(alloc, kind, text_of(kind))
+fn steps(numbers: &[u64], node: LinkedNode) -> [Option<usize>; 5] {
+    [
+        place(numbers, node.parent()),
+        place(numbers, node.next_sibling()),
+        place(numbers, node.prev_leaf()),
+        place(numbers, node.next_leaf()),
+        place(numbers, node.leftmost_leaf()),
+    ]
 }
 
-/// The tree of a list.
-fn build(alloc: Global, rows: &[Row]) -> Result<SyntaxNode, AllocError> {
-    let mut pending: Vec<(usize, SyntaxNode)> = Vec::new(alloc);
-    for row in rows.iter().rev() {
-        let kids = below(alloc, &mut pending, row.depth)?;
-        let node = if kids.is_empty() {
-            childless(alloc, row.kind)?
-        } else {
-            SyntaxNode::inner(SyntaxKind::Markup, kids)
-        };
-        pending.push((row.depth, node))?;
-    }
-    match pending.pop() {
-        Some((_, node)) => Ok(node),
-        None => childless(alloc, SyntaxKind::Markup),
-    }
+/// The node with that number.
+fn node_at<'a>(top: LinkedNode<'a>, number: u64) -> Option<LinkedNode<'a>> {
+    top.find_number(SpanNumber::new(number)?)
 }
 
-/// Takes the nodes that stand deeper from the end, the last one first.
-fn below(
-    alloc: Global,
-    pending: &mut Vec<(usize, SyntaxNode)>,
-    depth: usize,
-) -> Result<Vec<SyntaxNode>, AllocError> {
-    let mut kids = Vec::new(alloc);
-    for _ in 0..pending.len() {
-        match pending.pop() {
-            Some((deeper, kid)) if deeper > depth => kids.push(kid)?,
-            Some(other) => {
-                pending.push(other)?;
-                break;
-            }
-            None => break,
-        }
-    }
-    Ok(kids)
+fn has_range(node: LinkedNode, range: (usize, usize)) -> bool {
+    let own = node.range();
+    (own.start, own.end) == range
 }
 
-/// A tree as a plain list of its nodes, and their numbers.
-#[derive(Clone, Copy)]
-struct List<'a> {
-    rows: &'a [Row],
-    numbers: &'a [u64],
-}
-
-impl<'a> List<'a> {
-    fn depth(&self, i: usize) -> usize {
-        match self.rows.get(i) {
-            Some(row) => row.depth,
-            None => 0,
-        }
-    }
-
-    /// Where the nodes below node `i` end.
-    fn end(&self, i: usize) -> usize {
-        for j in 0..self.rows.len() {
-            if j > i && self.depth(j) <= self.depth(i) {
-                return j;
-            }
-        }
-        self.rows.len()
-    }
-
-    fn has_children(&self, i: usize) -> bool {
-        self.end(i) > i.saturating_add(1)
-    }
-
-    fn kind(&self, i: usize) -> SyntaxKind {
-        match self.rows.get(i) {
-            Some(row) if !self.has_children(i) => row.kind,
-            _ => SyntaxKind::Markup,
-        }
-    }
-
-    /// How long the texts of the nodes before node `i` are.
-    fn offset(&self, i: usize) -> usize {
-        let mut sum: usize = 0;
-        for j in 0..self.rows.len() {
-            if j < i {
-                sum = sum.saturating_add(text_of(self.kind(j)).len());
-            }
-        }
-        sum
-    }
-
-    fn parent(&self, i: usize) -> Option<usize> {
-        let mut found = None;
-        for j in 0..self.rows.len() {
-            if j < i && self.depth(j) < self.depth(i) {
-                found = Some(j);
-            }
-        }
-        found
-    }
-
-    fn next_sibling(&self, i: usize) -> Option<usize> {
-        let above = self.parent(i)?;
-        for j in 0..self.rows.len() {
-            if j > i && self.parent(j) == Some(above) && self.kind(j) != SyntaxKind::Space {
-                return Some(j);
-            }
-        }
-        None
-    }
-
-    fn is_leaf(&self, i: usize) -> bool {
-        let kind = self.kind(i);
-        !self.has_children(i) && kind != SyntaxKind::Space && kind != SyntaxKind::Error
-    }
-
-    /// The first leaf that counts from `from` up to `until`.
-    fn first_leaf(&self, from: usize, until: usize) -> Option<usize> {
-        for j in 0..self.rows.len() {
-            if from <= j && j < until && self.is_leaf(j) {
-                return Some(j);
-            }
-        }
-        None
-    }
-
-    fn prev_leaf(&self, i: usize) -> Option<usize> {
-        let mut found = None;
-        for j in 0..self.rows.len() {
-            if j < i && self.is_leaf(j) {
-                found = Some(j);
-            }
-        }
-        found
-    }
-
-    fn leaf_at(&self, i: usize, byte: usize) -> Option<usize> {
-        for j in 0..self.rows.len() {
-            let inside = i <= j && j < self.end(i) && !self.has_children(j);
-            let begin = self.offset(j);
-            let end = begin.saturating_add(text_of(self.kind(j)).len());
-            if inside && begin <= byte && byte < end {
-                return Some(j);
-            }
-        }
-        None
-    }
-
-    /// The place of a linked node in the list.
-    fn place(&self, node: Option<LinkedNode>) -> Option<usize> {
-        let own = node?.get().span().number_or_zero();
-        for (j, number) in self.numbers.iter().enumerate() {
-            if *number == own {
-                return Some(j);
-            }
-        }
-        None
-    }
-
-    /// Whether the steps from node `i` to others above and beside it are those of the list.
-    fn has_steps(&self, node: LinkedNode, i: usize) -> bool {
-        self.place(node.parent()) == self.parent(i)
-            && self.place(node.next_sibling()) == self.next_sibling(i)
-            && self.place(node.prev_leaf()) == self.prev_leaf(i)
-            && self.place(node.next_leaf()) == self.first_leaf(self.end(i), self.rows.len())
-    }
-
-    /// Whether the steps from node `i` to leaves within it are those of the list.
-    fn has_leaves(&self, node: LinkedNode, i: usize) -> bool {
-        for byte in 0..14 {
-            if self.place(node.leaf_at(byte)) != self.leaf_at(i, byte) {
-                return false;
-            }
-        }
-        self.place(node.leftmost_leaf()) == self.first_leaf(i, self.end(i))
-    }
-
-    fn kind_at(&self, i: Option<usize>) -> Option<SyntaxKind> {
-        Some(self.kind(i?))
-    }
-
-    /// Whether what is read of node `i` is what the list has.
-    fn has_data(&self, node: LinkedNode, i: usize) -> bool {
-        let range = node.range();
-        node.kind() == self.kind(i)
-            && node.hash_expr() == (self.kind(i) == SyntaxKind::Ident)
-            && node.offset() == self.offset(i)
-            && range.start == self.offset(i)
-            && range.end == self.offset(self.end(i))
-            && node.leaf_text() == text_of(self.kind(i))
-            && node.parent_kind() == self.kind_at(self.parent(i))
-            && node.next_sibling_kind() == self.kind_at(self.next_sibling(i))
-    }
-
-    /// Whether the children of node `i` are those of the list, in order.
-    fn has_kids(&self, node: LinkedNode, i: usize) -> bool {
-        let mut children = node.children();
-        for j in 0..self.rows.len() {
-            if self.parent(j) == Some(i) && self.place(children.next()) != Some(j) {
-                return false;
-            }
-        }
-        children.next().is_none()
-    }
-
-    /// Whether the span of node `j` finds it from node `i`, where it is within that.
-    fn finds(&self, node: LinkedNode, i: usize, j: usize, other: Span) -> bool {
-        let inside = i <= j && j < self.end(i);
-        let wanted = if inside { Some(j) } else { None };
-        match other.number() {
-            Some(number) => {
-                self.place(node.find(other)) == wanted
-                    && self.place(node.find_number(number)) == wanted
-            }
-            None => false,
-        }
-    }
-}
-
-/// Whether all nodes of the tree, each reached through its parent's children, agree with the list.
-fn agrees(alloc: Global, root: LinkedNode, list: &List) -> Result<bool, AllocError> {
-    let mut all = Vec::new(alloc);
-    all.push(root)?;
-    for i in 0..list.rows.len() {
-        let Some(node) = all.as_slice().get(i).copied() else {
-            return Ok(false);
-        };
-        for child in node.children() {
-            all.push(child)?;
-        }
-    }
-    Ok(
-        all.len() == list.rows.len()
-            && all
-                .iter()
-                .all(|node| agrees_at(all.as_slice(), *node, list)),
-    )
-}
-
-fn agrees_at(all: &[LinkedNode], node: LinkedNode, list: &List) -> bool {
-    let Some(i) = list.place(Some(node)) else {
-        return false;
-    };
-    for other in all {
-        match list.place(Some(*other)) {
-            Some(j) if list.finds(node, i, j, other.get().span()) => {}
-            _ => return false,
-        }
-    }
-    list.has_steps(node, i)
-        && list.has_leaves(node, i)
-        && list.has_data(node, i)
-        && list.has_kids(node, i)
-}
-
-/// Whether the first `count` numbers are the depths of a tree's nodes in preorder, and the rest 0.
-fn is_shape(depths: &[usize; 6], count: usize) -> bool {
-    let mut last = 0;
-    for (k, depth) in depths.iter().enumerate() {
-        let wrong = if k == 0 || k >= count {
-            *depth != 0
-        } else {
-            *depth == 0 || *depth > last && *depth - last > 1
-        };
-        if wrong {
+/// Whether the leaves are those of the list.
+fn has_leaves(top: LinkedNode, numbers: &[u64]) -> bool {
+    for (byte, wanted) in LEAVES.iter().enumerate() {
+        if place(numbers, top.leaf_at(byte)) != *wanted {
             return false;
         }
-        last = *depth;
     }
     true
 }
 
-fn depths(code: usize) -> [usize; 6] {
-    let digit = |place: usize| code / place % 6;
-    [0, digit(1), digit(6), digit(36), digit(216), digit(1296)]
-}
-
-/// The list with these depths. The seed chooses what the nodes without children are.
-fn rows_of(depths: &[usize; 6], seed: usize) -> [Row; 6] {
-    let row = |k: usize| Row {
-        depth: depths[k % 6],
-        kind: CHILDLESS[(seed % 4 * k % 4 + seed / 4 % 4) % 4],
-    };
-    [row(0), row(1), row(2), row(3), row(4), row(5)]
-}
-
-/// Whether the walks over the tree of a list agree with it, from a root with and without the order
-/// of numbers.
-fn walks_agree(alloc: Global, rows: &[Row]) -> Result<bool, AllocError> {
-    let mut root = build(alloc, rows)?;
-    let Some(file) = FileId::new(1) else {
-        return Ok(false);
-    };
-    let numbered = root.numberize(file, 2..1 << 47).is_ok();
-    if !numbered || root.descendants() == usize::MAX || !is_ordered(&root) {
-        return Ok(false);
+/// Whether each node is found, and its range and steps are those of the lists.
+fn has_steps(top: LinkedNode, numbers: &[u64]) -> bool {
+    for ((number, range), wanted) in numbers.iter().zip(RANGES.iter()).zip(STEPS.iter()) {
+        match node_at(top, *number) {
+            Some(node) if has_range(node, *range) && steps(numbers, node) == *wanted => {}
+            _ => return false,
+        }
     }
-    let numbers = numbers(alloc, &root)?;
-    let list = List {
-        rows,
-        numbers: numbers.as_slice(),
-    };
-    Ok(
-        agrees(alloc, LinkedNode::new(&root), &list)?
-            && agrees(alloc, LinkedNode::ordered(&root), &list)?,
-    )
+    numbers.len() == STEPS.len()
+}
+
+/// `TREE` with numbers, or nothing where memory was refused.
+fn numbered(alloc: Global) -> Option<SyntaxNode> {
+    let mut root = tree(alloc, &TREE).ok()?;
+    number(&mut root, 2, END).ok()?;
+    Some(root)
 }
 
 #[test]
 fn walks(rt: HostRuntime) -> Result<(), Fail> {
-    let mut shapes: u32 = 0;
-    for code in 0..7776 {
-        let depths = depths(code);
-        for count in 1..7 {
-            if is_shape(&depths, count) {
-                shapes = shapes.saturating_add(1);
-                for seed in 0..16 {
-                    let all = rows_of(&depths, seed);
-                    let rows = all.get(..count).ok_or("rows")?;
-                    assert!(rt; walks_agree(rt.alloc(), rows)?, "{code} {count} {seed}");
-                }
-            }
-        }
-    }
-    assert_eq!(rt; shapes, 65);
+    let root = numbered(rt.alloc()).ok_or("tree")?;
+    let all = numbers(rt.alloc(), &root)?;
+    assert!(rt; root.descendants() == 10 && is_ordered(&root));
+    let plain = LinkedNode::new(&root);
+    assert!(rt; has_leaves(plain, all.as_slice()) && has_steps(plain, all.as_slice()));
+    let ordered = LinkedNode::ordered(&root);
+    assert!(rt; has_leaves(ordered, all.as_slice()) && has_steps(ordered, all.as_slice()));
     Ok(())
 }
 
-/// A leaf with this number alone.
-fn numbered_leaf(
-    alloc: Global,
-    file: FileId,
-    number: SpanNumber,
-) -> Result<SyntaxNode, AllocError> {
-    let mut leaf = childless(alloc, SyntaxKind::Ident)?;
-    leaf.synthesize(Span::new(file, number));
+/// Whether what is read of the node is what the error of `TREE` has.
+fn is_the_error(node: LinkedNode) -> bool {
+    node.kind() == SyntaxKind::Error
+        && node.leaf_text() == "x"
+        && node.offset() == 6
+        && !node.hash_expr()
+        && node.parent_kind() == Some(SyntaxKind::Markup)
+        && node.next_sibling_kind() == Some(SyntaxKind::Ident)
+}
+
+fn count_errors(top: LinkedNode) -> u32 {
+    let mut errors: u32 = 0;
+    for child in top.children() {
+        if is_the_error(child) {
+            errors = errors.saturating_add(1);
+        }
+    }
+    errors
+}
+
+#[test]
+fn reads_through_the_children(rt: HostRuntime) -> Result<(), Fail> {
+    let root = numbered(rt.alloc()).ok_or("tree")?;
+    assert!(rt; root.descendants() == 10);
+    assert!(rt; count_errors(LinkedNode::new(&root)) == 1);
+    Ok(())
+}
+
+/// A leaf with this span.
+fn spanned(alloc: Global, span: Span) -> Result<SyntaxNode, AllocError> {
+    let mut leaf = leaf(alloc, SyntaxKind::Ident, "ab")?;
+    leaf.synthesize(span);
     Ok(leaf)
 }
 
-/// A detached node over leaves with these spans, and a detached one.
-fn unordered(alloc: Global, spans: &[(FileId, SpanNumber)]) -> Result<SyntaxNode, AllocError> {
+/// A detached node over leaves with these spans.
+fn unordered(alloc: Global, spans: &[Span]) -> Result<SyntaxNode, AllocError> {
     let mut kids = Vec::new(alloc);
-    for (file, number) in spans {
-        kids.push(numbered_leaf(alloc, *file, *number)?)?;
+    for span in spans {
+        kids.push(spanned(alloc, *span)?)?;
     }
-    kids.push(childless(alloc, SyntaxKind::Ident)?)?;
     Ok(SyntaxNode::inner(SyntaxKind::Markup, kids))
 }
 
-/// Where a node begins.
-fn begin(node: Option<LinkedNode>) -> Option<usize> {
-    Some(node?.offset())
+/// Where the first node with a span begins.
+fn found(top: LinkedNode, span: Span) -> Option<usize> {
+    Some(top.find(span)?.offset())
 }
 
 #[test]
 fn finds_the_first_without_order(rt: HostRuntime) -> Result<(), Fail> {
-    let (first, second) = (FileId::new(1).ok_or("1")?, FileId::new(2).ok_or("2")?);
-    let three = SpanNumber::new(3).ok_or("3")?;
-    let ten = SpanNumber::new(10).ok_or("10")?;
-    let root = unordered(rt.alloc(), &[(first, ten), (first, three), (second, ten)])?;
-    assert!(rt; root.descendants() == 5 && !is_ordered(&root));
+    let file = FileId::new(1).ok_or("1")?;
+    let three = Span::new(file, SpanNumber::new(3).ok_or("3")?);
+    let ten = Span::new(file, SpanNumber::new(10).ok_or("10")?);
+    let root = unordered(rt.alloc(), &[ten, three, ten])?;
+    assert!(rt; root.descendants() == 4 && !is_ordered(&root));
     let top = LinkedNode::new(&root);
-    assert!(rt; begin(top.find_number(ten)) == Some(0) && begin(top.find_number(three)) == Some(2));
-    assert!(rt; begin(top.find(Span::new(first, ten))) == Some(0));
-    assert!(rt; begin(top.find(Span::new(second, ten))) == Some(4));
-    assert!(rt; top.find(Span::new(second, three)).is_none());
-    assert!(rt; begin(top.find(Span::detached())) == Some(0));
+    assert!(rt; found(top, ten) == Some(0) && found(top, three) == Some(2));
+    assert!(rt; found(top, Span::detached()) == Some(0));
     Ok(())
 }
 
