@@ -33,7 +33,7 @@ fn print_token(
 ) -> Result<(), AllocError> {
     if token.fault.is_some() {
         let node = make_node(alloc, token, taken, &UnicodeClasses)?;
-        return print_head(printed, &node, "", "  ", start);
+        return print_head(printed, &node, "", "  ", start..end);
     }
     let name = variant_name(token.kind);
     writeln!(printed, "{name} {start}..{end}")
