@@ -1,9 +1,8 @@
 use crate::trees::{leaf, sample};
-use std::alloc::{AllocError, Global};
 use std::mem::size_of;
 use std::test::Fail;
-use typst_kinds::{Span, SubRange, SyntaxKind};
-use typst_node::{Diagnostic, Severity, SyntaxNode};
+use typst_kinds::{Span, SyntaxKind};
+use typst_node::{Hint, Severity, SyntaxNode};
 
 #[test]
 fn a_node_takes_64_bytes(rt: HostRuntime) {
@@ -40,37 +39,37 @@ fn reads_what_was_made(rt: HostRuntime) -> Result<(), Fail> {
     Ok(())
 }
 
-/// Whether it is an error about all of its node, with that message and those hints.
-fn is_error(diagnostic: &Diagnostic, message: &str, hints: &[&str]) -> bool {
-    let all = diagnostic.hints();
-    diagnostic.severity() == Severity::Error
-        && diagnostic.sub_range().is_none()
-        && diagnostic.message() == message
-        && all.len() == hints.len()
-        && all
-            .iter()
-            .zip(hints)
-            .all(|(hint, text)| hint.message() == *text)
-}
-
-/// Whether the node has that one error.
-fn says(node: &SyntaxNode, message: &str, hints: &[&str]) -> bool {
-    match node.diagnostics() {
-        [error] => is_error(error, message, hints),
+/// Whether the hints are that one, or none.
+fn are_hint(hints: &[Hint], wanted: Option<&str>) -> bool {
+    match hints {
+        [] => wanted.is_none(),
+        [hint] => wanted == Some(hint.message()),
         _ => false,
     }
 }
 
-/// A token, what was expected in its place, and the error's message and hints.
+/// Whether the node has one error, with that message and that hint.
+fn says(node: &SyntaxNode, message: &str, hint: Option<&str>) -> bool {
+    match node.diagnostics() {
+        [error] => {
+            error.severity() == Severity::Error
+                && error.message() == message
+                && are_hint(error.hints(), hint)
+        }
+        _ => false,
+    }
+}
+
+/// A token, what was expected in its place, and the error's message and hint.
 type Expected = (
     SyntaxKind,
     &'static str,
     &'static str,
     &'static str,
-    &'static [&'static str],
+    Option<&'static str>,
 );
 
-const HINTS: [&str; 1] = ["keyword `let` is not allowed as an identifier; try `let_` instead"];
+const HINT: &str = "keyword `let` is not allowed as an identifier; try `let_` instead";
 
 const EXPECTED: [Expected; 5] = [
     (
@@ -78,44 +77,44 @@ const EXPECTED: [Expected; 5] = [
         "let",
         "identifier",
         "expected identifier, found keyword `let`",
-        &HINTS,
+        Some(HINT),
     ),
     (
         SyntaxKind::Let,
         "let",
         "pattern",
         "expected pattern, found keyword `let`",
-        &HINTS,
+        Some(HINT),
     ),
     (
         SyntaxKind::Let,
         "let",
         "expression",
         "expected expression, found keyword `let`",
-        &[],
+        None,
     ),
     (
         SyntaxKind::Underscore,
         "_",
         "identifier",
         "expected identifier, found underscore",
-        &[],
+        None,
     ),
     (
         SyntaxKind::None,
         "none",
         "colon",
         "expected colon, found `none`",
-        &[],
+        None,
     ),
 ];
 
 #[test]
 fn says_what_was_expected(rt: HostRuntime) -> Result<(), Fail> {
-    for (kind, text, thing, message, hints) in EXPECTED {
+    for (kind, text, thing, message, hint) in EXPECTED {
         let mut node = leaf(rt.alloc(), kind, text)?;
         node.expected(thing)?;
-        assert!(rt; says(&node, message, hints), "{message}");
+        assert!(rt; says(&node, message, hint), "{message}");
     }
     Ok(())
 }
@@ -128,57 +127,7 @@ fn an_error_stays(rt: HostRuntime) -> Result<(), Fail> {
     node.convert_to_error("again")?;
     node.convert_to_kind(SyntaxKind::Text);
     assert!(rt; node.kind() == SyntaxKind::Error && node.leaf_text() == "]");
-    assert!(rt; says(&node, "unexpected closing bracket", &[]));
-    Ok(())
-}
-
-#[test]
-fn a_hint_without_a_diagnostic_is_lost(rt: HostRuntime) -> Result<(), Fail> {
-    let mut node = SyntaxNode::leaf(rt.alloc(), SyntaxKind::Raw, "``")?;
-    node.hint("to nobody")?;
-    assert!(rt; node.diagnostics().is_empty());
-    Ok(())
-}
-
-/// Whether it is a warning about that range, with hints about those.
-fn is_warning(
-    diagnostic: &Diagnostic,
-    range: Option<SubRange>,
-    hints: &[Option<SubRange>],
-) -> bool {
-    let all = diagnostic.hints();
-    diagnostic.severity() == Severity::Warning
-        && diagnostic.sub_range() == range
-        && all.len() == hints.len()
-        && all
-            .iter()
-            .zip(hints)
-            .all(|(hint, range)| hint.sub_range() == *range)
-}
-
-/// Whether the node has a warning about all of it, and another about a range, with two hints.
-fn has_two_warnings(node: &SyntaxNode, range: SubRange) -> bool {
-    match node.diagnostics() {
-        [first, second] => {
-            is_warning(first, None, &[]) && is_warning(second, Some(range), &[None, Some(range)])
-        }
-        _ => false,
-    }
-}
-
-fn remark(node: &mut SyntaxNode, range: SubRange) -> Result<(), AllocError> {
-    node.warn("first")?;
-    node.warn_at(range, "second")?;
-    node.hint("one")?;
-    node.hint_at(range, "two")
-}
-
-#[test]
-fn remarks_go_to_their_places(rt: HostRuntime) -> Result<(), Fail> {
-    let range = SubRange::new(1, 2).ok_or("range")?;
-    let mut node = SyntaxNode::leaf(rt.alloc(), SyntaxKind::Raw, "``")?;
-    remark(&mut node, range)?;
-    assert!(rt; has_two_warnings(&node, range) && node.leaf_text() == "``");
+    assert!(rt; says(&node, "unexpected closing bracket", None));
     Ok(())
 }
 
@@ -191,26 +140,8 @@ fn converts(rt: HostRuntime) -> Result<(), Fail> {
     let same = node.try_clone()?;
     assert!(rt; node.kind() == SyntaxKind::Markup && node.spanless_eq(&same));
     node.convert_to_error("wrong")?;
-    assert!(rt; node.leaf_text() == "[a *b*]" && says(&node, "wrong", &[]));
+    assert!(rt; node.leaf_text() == "[a *b*]" && says(&node, "wrong", None));
     assert!(rt; !node.spanless_eq(&same));
-    Ok(())
-}
-
-/// Whether a leaf keeps this text, with a diagnostic too.
-fn keeps_text(alloc: Global, text: &str) -> Result<bool, AllocError> {
-    let mut node = SyntaxNode::leaf(alloc, SyntaxKind::Text, text)?;
-    let plain = node.leaf_text() == text && node.len() == text.len();
-    node.warn("long")?;
-    Ok(plain && node.leaf_text() == text)
-}
-
-#[test]
-fn long_texts_are_kept(rt: HostRuntime) -> Result<(), Fail> {
-    let text = "äöü four and twenty blackbirds baked in a pie";
-    for (end, _) in text.char_indices() {
-        let part = text.get(..end).ok_or("boundary")?;
-        assert!(rt; keeps_text(rt.alloc(), part)?, "{part}");
-    }
     Ok(())
 }
 
