@@ -75,7 +75,7 @@ pub struct Context {
 }
 
 /// Whether the node has no children.
-fn is_childless(node: &SyntaxNode) -> bool
+pub fn is_childless(node: &SyntaxNode) -> bool
     ensures { result ≡ is_childless node.now.kids }
 {
     node.children().is_empty()

@@ -5,9 +5,9 @@ ghost use Rattle.typst_node.specs.Tree.{nodes, text_of, forest};
 ghost use Rattle.typst_highlight.specs.Html as spec;
 ghost use Rattle.typst_highlight.specs.Walk as walk;
 
-use crate::context::{Context, Trail, is_leaf};
+use crate::context::{Context, Trail, is_childless};
 use crate::tags::Tag;
-use crate::walk::tag_here;
+use crate::walk::{passed, tag_here};
 use std::alloc::{AllocError, Global};
 use typst_node::SyntaxNode;
 
@@ -40,6 +40,10 @@ fn write_node(
     let tag = spanned(tag_here(node, later, context));
     write_start(html, tag)?;
     write_escaped(html, node.leaf_text())?;
+    if is_childless(node) {
+        write_end(html, tag)?;
+        return Ok(passed(node, later, context));
+    }
     let mut inner = context.within(node, later);
     let mut rest = node.children();
     while let Some((kid, behind)) = rest.split_first() {
@@ -48,11 +52,7 @@ fn write_node(
         rest = behind;
     }
     write_end(html, tag)?;
-    if is_leaf(node) {
-        Ok(context.step(node, later))
-    } else {
-        Ok(inner.trail)
-    }
+    Ok(inner.trail)
 }
 
 /// The tag of the span that a node stands in: an error has none.

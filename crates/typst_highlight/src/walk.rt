@@ -4,7 +4,7 @@ ghost use Rattle.std.specs.Prelude.{◌≡◌};
 ghost use Rattle.typst_node.specs.Tree.{forest};
 ghost use Rattle.typst_highlight.specs.Walk as walk;
 
-use crate::context::{Context, Trail, is_leaf};
+use crate::context::{Context, Trail, is_childless, is_leaf};
 use crate::rules::{
     Rule, equals_tag, paren_tag, rule_of, slash_tag, star_tag, term_tag, underscore_tag,
 };
@@ -13,11 +13,14 @@ use typst_kinds::SyntaxKind;
 use typst_node::SyntaxNode;
 
 /// The last leaves behind a node.
-fn passed(node: &SyntaxNode, later: &[SyntaxNode], context: Context) -> Trail
+pub fn passed(node: &SyntaxNode, later: &[SyntaxNode], context: Context) -> Trail
     ensures { result ≡ walk.passed context node.now (forest later.now) }
 {
     if is_leaf(node) {
         return context.step(node, later);
+    }
+    if is_childless(node) {
+        return context.trail;
     }
     let mut inner = context.within(node, later);
     let mut rest = node.children();
@@ -92,6 +95,9 @@ fn leaf_tag(node: &SyntaxNode, later: &[SyntaxNode], context: Context) -> Option
 {
     if is_leaf(node) {
         return Some(tag_here(node, later, context));
+    }
+    if is_childless(node) {
+        return None;
     }
     let mut inner = context.within(node, later);
     let mut rest = node.children();

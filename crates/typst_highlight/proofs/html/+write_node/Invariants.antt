@@ -9,8 +9,8 @@ decreases-write_node l = nodes l.node.now
 
 abbrev pub invariant-loop-kid : goal.invariant-loop-kid
 invariant-loop-kid l = record {
-  written : string_bytes l.html ++ (forest_html l.inner (forest l.rest) ++ span_end l.tag) ≡ string_bytes l.fn.html ++ node_html l.context l.node (forest l.later);
-  left : passed_row (within l.context l.node (forest l.later)) l.node.kids ≡ passed_row l.inner (forest l.rest);
+  written : string_bytes l.html ++ (forest_html l.inner (forest l.rest) ++ span_end l.tag) ≡ string_bytes l.fn.html ++ node_html l.fn.context l.node (forest l.later);
+  left : passed_row (within l.fn.context l.node (forest l.later)) l.node.kids ≡ passed_row l.inner (forest l.rest);
   smaller : count (forest l.rest) < nodes l.node;
 }
 
