@@ -15,7 +15,7 @@ use Rattle.typst_markup_tokens.specs.Markup.{dot, marker_or_text, marker, hyphen
 use Rattle.typst_tokens.specs.Common.{sign}
 use Rattle.typst_tokens.specs.Escapes.{code_point, backslash}
 use Rattle.typst_readers.specs.Reader.{Reader, place, spanned, at_word, exec}
-use Rattle.typst_tokens.specs.Memory.Memory.{blank, comment, fence, brackets}
+use Rattle.typst_tokens.specs.Memory.Memory.{blank, comment, fence, brackets, quoted}
 use Rattle.typst_readers.specs.Reader.Reader.{answer, peek, skip}
 use Rattle.typst_markup_tokens.specs.Text.{text, text_from}
 use Rattle.typst_markup_tokens.specs.Link.{in_link, link_end, link, link_or_text}
@@ -127,6 +127,7 @@ link-end-goes (comment a b) = refl
 link-end-goes (fence a b) = refl
 link-end-goes (brackets []) = refl
 link-end-goes (brackets (c ∷ cs)) = refl
+link-end-goes (quoted e) = refl
 
 link-goes : (p : Place) → Goes link p
 unfolding link
@@ -154,6 +155,7 @@ raw-end-goes blank = refl
 raw-end-goes (comment a b) = refl
 raw-end-goes (fence a b) = refl
 raw-end-goes (brackets cs) = refl
+raw-end-goes (quoted e) = refl
 
 raw-goes : (p : Place) → Goes raw p
 unfolding raw

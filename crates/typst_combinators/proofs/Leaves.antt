@@ -28,7 +28,7 @@ use Rattle.typst_combinators.specs.Syntax.Parser.{gives, does, next, pick, repea
 use Rattle.typst_combinators.specs.Meaning.{Outcome, Meaning, Level, less, joined, turns, as_last, repeated, wrapped, given_up, noted, plain, same_mode, entered, left, taken_node, hand_of, done, run}
 use Rattle.typst_combinators.specs.Sound.{Tidy, Backs}
 use Rattle.typst_combinators.proofs.Backs.{backs-run}
-use Rattle.typst_combinators.proofs.Tokens.{text-token}
+use Rattle.typst_token_nodes.proofs.TokenTexts.{text-token}
 use Rattle.typst_combinators.proofs.Places.{less-append, less-twice, less-none, length-less, moved-ahead}
 
 -- ---- texts of nodes

@@ -1,7 +1,6 @@
 pub mod Looks
 pub mod Frame
 pub mod Alike
-pub mod Tokens
 pub mod Ends
 pub mod Eats
 pub mod Leaves

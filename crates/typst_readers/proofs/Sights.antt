@@ -354,25 +354,29 @@ pub start-is : (z y : Place) (o : Option ℕ) (e : ℕ) → e ≡ (if is_none o 
 start-is z y None e f g h = f ∙ near-start z h
 start-is z y (Some c) e f g h = let one : position y + 1 ≡ suc (position y) = omega arith in f ∙ one ∙ ap (λ w. suc (position w)) g ∙ near-some z c h
 
--- and one that read the character before the one behind
-back-one : (z y : Place) → y ≡ moved_back z → (slice_get y.behind 0 ≡ slice_get z.behind 1) × (near 1 y ≡ near 2 z)
+-- and further back
+back-on-one : (n : ℕ) (z y : Place) → y ≡ moved_back z → (slice_get y.behind n ≡ slice_get z.behind (suc n)) × (near (suc n) y ≡ near (suc (suc n)) z)
 unfolding near stretch position width
-back-one z y e = rw e (by z.behind z.ahead)
+back-on-one n z y e = rw e (by z.behind z.ahead)
   where
-    by : (b a : List ℕ) → (slice_get (back_from b a).behind 0 ≡ slice_get b 1) × (near 1 (back_from b a) ≡ near 2 (place b a))
+    by : (b a : List ℕ) → (slice_get (back_from b a).behind n ≡ slice_get b (suc n)) × (near (suc n) (back_from b a) ≡ near (suc (suc n)) (place b a))
     by [] a = (refl, refl)
     by (c ∷ b) a = (refl, omega arith)
 
 pub second-start-is : (z y x : Place) (o : Option ℕ) (e : ℕ) → e ≡ (if is_none o then 0 else position x + 1) → y ≡ moved_back z → x ≡ moved_back y → o ≡ slice_get y.behind 0
     → (o ≡ slice_get z.behind 1) × (e ≡ near 2 z)
-second-start-is z y x o e f g h k = let b = back-one z y g in (k ∙ b.0, start-is y x o e f h k ∙ b.1)
+second-start-is z y x o e f g h k = let b = back-on-one 0 z y g in (k ∙ b.0, start-is y x o e f h k ∙ b.1)
+
+pub third-start-is : (z y x w : Place) (o : Option ℕ) (e : ℕ) → e ≡ (if is_none o then 0 else position w + 1) → y ≡ moved_back z → x ≡ moved_back y → w ≡ moved_back x → o ≡ slice_get x.behind 0
+    → (o ≡ slice_get z.behind 2) × (e ≡ near 3 z)
+third-start-is z y x w o e f g h i k = let b = back-on-one 1 z y g in let s = second-start-is y x w o e f h i k in (s.0 ∙ b.0, s.1 ∙ b.1)
 
 pub glanced : (n : ℕ) (z : Place) (r l m s : ℕ) → m ≡ min l s → s ≡ near n z → ◌≡◌ {A = Sight} (record { place = z; reach = r; least = m }) (saw_behind n (record { place = z; reach = r; least = l }))
 glanced n z r l m s g f = same-sight _ _ _ _ _ _ refl refl (g ∙ ap (min l) f)
 
 -- ---- the text around a place
 
-text-on : (n : ℕ) (b a : List ℕ) → reverse (moved_from n b a).behind ++ (moved_from n b a).ahead ≡ reverse b ++ a
+pub text-on : (n : ℕ) (b a : List ℕ) → reverse (moved_from n b a).behind ++ (moved_from n b a).ahead ≡ reverse b ++ a
 text-on zero b a = refl
 text-on (suc n) b [] = refl
 text-on (suc n) b (c ∷ a) = text-on n (c ∷ b) a ∙ ap (λ t. t ++ a) (reverse-append (c ∷ []) b) ∙ append_assoc (reverse b) (c ∷ []) a

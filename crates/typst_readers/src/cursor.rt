@@ -111,6 +111,20 @@ impl<'a> Cursor<'a> {
         c
     }
 
+    /// The character two before the one behind.
+    #[inline]
+    pub fn third_last(&mut self) -> Option<char>
+        ensures third_last { result ≡ slice_get self.old.place.behind 2 }
+        ensures sight { self.new ≡ spec.saw_behind 3 self.old }
+    {
+        let mut behind = self.s;
+        behind.uneat();
+        behind.uneat();
+        let c = behind.uneat();
+        self.least = self.least.min(start_of(&behind, c));
+        c
+    }
+
     /// Eats the next character.
     #[inline]
     pub fn eat(&mut self) -> Option<char>

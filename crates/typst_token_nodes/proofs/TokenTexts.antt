@@ -4,7 +4,8 @@ use Rattle.std.specs.Str.{chars}
 use Rattle.typst_lines.proofs.Tests.{on}
 use Rattle.typst_lines.specs.Place.{Place, place_at, moved}
 use Rattle.typst_readers.proofs.Moves.{moved-more}
-use Rattle.typst_token_nodes.specs.Nodes.{IsRead, is_leaf, token_node, plain_node, fault_node, is_raw, with_hints, hints, message}
+use Rattle.typst_token_nodes.specs.Nodes.{IsRead, is_leaf, token_node, plain_node, fault_node, is_raw, with_hints}
+use Rattle.typst_token_nodes.specs.Faults.{hints, message}
 use Rattle.typst_readers.specs.Reader.{Reader, exec, eaten, place}
 use Rattle.typst_tokens.specs.declared.token.Token.{Token}
 use Rattle.typst_tokens.specs.declared.token.Fault.{Fault}
@@ -42,7 +43,7 @@ text-hints [] t = refl
 text-hints (hint ∷ more) t = text-hints more (advised (hint_with None hint) t)
 
 text-fault : (f : Fault) (taken : List ℕ) → text_of (fault_node f taken) ≡ encode_utf8_all taken
-text-fault f taken = text-hints (hints f) (error_of (message f taken) (encode_utf8_all taken)) ∙ append-nil (encode_utf8_all taken)
+text-fault f taken = text-hints (hints f taken) (error_of (message f taken) (encode_utf8_all taken)) ∙ append-nil (encode_utf8_all taken)
 
 text-plain : (k : CharClasses) (t : Token) (taken : List ℕ) → text_of (plain_node k t taken) ≡ encode_utf8_all taken
 text-plain k t taken =
@@ -71,3 +72,7 @@ leaf-is k t taken h = by t.fault h
         → (elim f [ None ↦ plain_node k t taken | Some g ↦ fault_node g taken ]) ≡ leaf_of t.kind (encode_utf8_all taken)
     by None h = plain (is_error t.kind) (is_raw t.kind) h
     by (Some g) h = absurd (cc)
+
+-- a node that was made with a message, and got hints
+pub fault-is : (f : Fault) (taken bytes said : List ℕ) (node made : Tree) → encode_utf8_all taken ≡ bytes → node ≡ error_of said bytes → said ≡ message f taken → made ≡ with_hints (hints f taken) node → made ≡ fault_node f taken
+fault-is f taken bytes said node made u e m h = h ∙ ap (with_hints (hints f taken)) (e ∙ ap (λ x. error_of x bytes) m ∙ ap (error_of (message f taken)) (sym u))

@@ -1,37 +1,18 @@
 -- The node that a token makes of the characters that it took.
-use Rattle.std.specs.Prelude.{◌≡◌, ℕ, Bool, true, false, not, ◌&&◌, if◌then◌else◌, List, [], ◌∷◌, ◌++◌, take, Some, None, codes, encode_utf8_all}
-use Rattle.std.specs.Char.{is_ascii_alphanumeric}
+use Rattle.std.specs.Prelude.{◌≡◌, ℕ, Bool, true, false, not, ◌&&◌, if◌then◌else◌, List, [], ◌∷◌, take, Some, None, encode_utf8_all}
 use Rattle.typst_classes.specs.Classes.{CharClasses}
 use Rattle.typst_kinds.specs.Kinds.{is_error}
 use Rattle.typst_kinds.specs.declared.kind.SyntaxKind.{SyntaxKind}
 use Rattle.typst_kinds.specs.declared.kind.SyntaxKind.TheVariants as kind
-use Rattle.typst_lines.specs.Place.{Place, moved, run}
+use Rattle.typst_lines.specs.Place.{Place}
 use Rattle.typst_node.specs.Diagnostic.{hint_with}
 use Rattle.typst_node.specs.Tree.{Tree, leaf_of, error_of, advised}
 use Rattle.typst_raw.specs.Raw.{raw_node}
-use Rattle.typst_readers.specs.Reader.{Reader, exec, eaten, place}
+use Rattle.typst_readers.specs.Reader.{Reader, exec, eaten}
 use Rattle.typst_tokens.specs.declared.token.Token.{Token}
 use Rattle.typst_tokens.specs.declared.token.Fault.{Fault}
-use Rattle.typst_tokens.specs.declared.token.Fault.TheVariants.{CommentEnd, UnclosedRaw, UnclosedEscape, InvalidEscape, UnbalancedLink, UnclosedLabel}
+use Rattle.typst_token_nodes.specs.Faults.{hints, message}
 use Rattle.typst_tokens.specs.Memory.{Memory}
-
--- The letters and digits of an escape, which stand behind `\u{`.
-abbrev pub escaped : List ℕ → List ℕ
-escaped taken = run is_ascii_alphanumeric (moved 3 (place [] taken))
-
--- What is said of a fault, by the characters that were taken.
-abbrev pub message : Fault → List ℕ → List ℕ
-message CommentEnd taken = codes "unexpected end of block comment"
-message UnclosedRaw taken = codes "unclosed raw text"
-message UnclosedEscape taken = codes "unclosed Unicode escape sequence"
-message InvalidEscape taken = codes "invalid Unicode codepoint: " ++ encode_utf8_all (escaped taken)
-message UnbalancedLink taken = codes "automatic links cannot contain unbalanced brackets, use the `link` function instead"
-message UnclosedLabel taken = codes "unclosed label"
-
--- The hints that go with it.
-abbrev pub hints : Fault → List (List ℕ)
-hints CommentEnd = codes "consider escaping the `*` with a backslash or opening the block comment with `/*`" ∷ []
-hints _ = []
 
 -- A tree with hints for its last diagnostic.
 abbrev pub with_hints : List (List ℕ) → Tree → Tree
@@ -40,7 +21,7 @@ with_hints (hint ∷ more) t = with_hints more (advised (hint_with None hint) t)
 
 -- An error leaf of the characters, with message and hints.
 abbrev pub fault_node : Fault → List ℕ → Tree
-fault_node f taken = with_hints (hints f) (error_of (message f taken) (encode_utf8_all taken))
+fault_node f taken = with_hints (hints f taken) (error_of (message f taken) (encode_utf8_all taken))
 
 -- Only raw texts are more than leaves.
 abbrev pub is_raw : SyntaxKind → Bool

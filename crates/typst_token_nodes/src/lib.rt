@@ -1,9 +1,11 @@
 //! The nodes that tokens make of their texts.
 #![tactic(auto)]
 
+mod faults;
 pub mod laws;
 mod next;
 mod nodes;
+mod numbers;
 
 pub use next::next_node;
 pub use nodes::{is_leaf, leaf_node, make_node};

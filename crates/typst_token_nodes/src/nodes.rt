@@ -1,18 +1,16 @@
-//! The nodes of tokens, with what is said of their faults.
-ghost use Rattle.std.specs.Prelude.{◌≡◌, true, IfOk, string_bytes};
+//! The nodes of tokens.
+ghost use Rattle.std.specs.Prelude.{◌≡◌, true, IfOk};
 ghost use Rattle.std.specs.Str.{chars};
 ghost use Rattle.typst_classes.specs.Classes.{CharClasses};
 ghost use Rattle.typst_token_nodes.specs.Nodes as spec;
-ghost use Rattle.typst_tokens.specs.declared.token.Fault.{Fault};
 
+use crate::faults::fault_node;
 use std::alloc::{AllocError, Global};
 use typst_classes::classes::Classes;
 use typst_kinds::SyntaxKind;
-use typst_lines::Scanner;
 use typst_node::SyntaxNode;
 use typst_raw::raw_node;
-use typst_tokens::sets::AsciiAlphanumeric;
-use typst_tokens::{Fault, Token};
+use typst_tokens::Token;
 
 /// Whether the node of a token is a leaf of its kind, which `leaf_node` makes.
 #[inline(always)]
@@ -75,51 +73,4 @@ fn is_raw(kind: SyntaxKind) -> bool
         SyntaxKind::Raw => true,
         _ => false,
     }
-}
-
-fn fault_node(alloc: Global, fault: Fault, text: &str) -> Result<SyntaxNode, AllocError>
-    ensures { IfOk result (λ node. node ≡ spec.fault_node fault (chars text.now)) }
-{
-    match fault {
-        Fault::CommentEnd => comment_end_node(alloc, text),
-        Fault::UnclosedRaw => SyntaxNode::error(alloc, "unclosed raw text", text),
-        Fault::UnclosedEscape => SyntaxNode::error(alloc, "unclosed Unicode escape sequence", text),
-        Fault::InvalidEscape => {
-            let message = code_point_message(alloc, text)?;
-            SyntaxNode::error(alloc, message.as_str(), text)
-        }
-        Fault::UnbalancedLink => SyntaxNode::error(
-            alloc,
-            "automatic links cannot contain unbalanced brackets, use the `link` function instead",
-            text,
-        ),
-        Fault::UnclosedLabel => SyntaxNode::error(alloc, "unclosed label", text),
-    }
-}
-
-fn comment_end_node(alloc: Global, text: &str) -> Result<SyntaxNode, AllocError>
-    ensures { IfOk result (λ node. node ≡ spec.fault_node Fault.CommentEnd (chars text.now)) }
-{
-    let mut node = SyntaxNode::error(alloc, "unexpected end of block comment", text)?;
-    node.hint("consider escaping the `*` with a backslash or opening the block comment with `/*`")?;
-    Ok(node)
-}
-
-/// What is said of an escape that names no character.
-fn code_point_message(alloc: Global, text: &str) -> Result<String, AllocError>
-    ensures { IfOk result (λ message. string_bytes message ≡ spec.message Fault.InvalidEscape (chars text.now)) }
-{
-    let digits = escaped(text);
-    format!(in alloc; "invalid Unicode codepoint: {digits}")
-}
-
-/// The letters and digits of an escape by a code point.
-fn escaped(text: &str) -> &str
-    ensures { chars result.now ≡ spec.escaped (chars text.now) }
-{
-    let mut s = Scanner::new(text);
-    s.eat();
-    s.eat();
-    s.eat();
-    s.eat_while(&AsciiAlphanumeric)
 }

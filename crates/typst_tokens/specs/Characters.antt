@@ -1,7 +1,8 @@
 -- Sets of characters, and what digits write.
-use Rattle.std.specs.Prelude.{ℕ, ◌+◌, ◌*◌, ◌^◌, Bool, false, ◌&&◌, ◌||◌, if◌then◌else◌, ◌==◌, nat_lt, List, [], ◌∷◌, length, Option, Some, None, is_some}
+use Rattle.std.specs.Prelude.{ℕ, ◌+◌, ◌*◌, ◌^◌, Bool, false, ◌&&◌, ◌||◌, if◌then◌else◌, ◌==◌, nat_lt, List, [], ◌∷◌, length, Option, Some, None, is_some, codes}
 use Rattle.std.specs.Char.{is_whitespace, digit_value}
 use Rattle.std.specs.List.{list_all}
+use Rattle.std.specs.Str.{bytes_eq}
 use Rattle.typst_kinds.specs.declared.mode.SyntaxMode.{SyntaxMode}
 use Rattle.typst_kinds.specs.declared.mode.SyntaxMode.TheVariants.{Markup, Math, Code}
 use Rattle.typst_lines.specs.Newline.{is_newline}
@@ -37,3 +38,9 @@ is_code_point digits = nat_lt 0 (length digits) && passes is_scalar (number 16 d
 -- Decimal digits write a number below 2 ^ 64.
 abbrev pub is_u64 : List ℕ → Bool
 is_u64 digits = is_some (number 10 digits)
+
+-- The suffixes that a number can have, by their bytes.
+abbrev pub is_unit : List ℕ → Bool
+is_unit s =
+    bytes_eq s (codes "pt") || bytes_eq s (codes "mm") || bytes_eq s (codes "cm") || bytes_eq s (codes "in") || bytes_eq s (codes "deg")
+    || bytes_eq s (codes "rad") || bytes_eq s (codes "em") || bytes_eq s (codes "fr") || bytes_eq s (codes "%")

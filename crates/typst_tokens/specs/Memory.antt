@@ -1,5 +1,5 @@
 -- What the machines of tokens keep in mind from one character to the next.
-use Rattle.std.specs.Prelude.{ℕ, List}
+use Rattle.std.specs.Prelude.{ℕ, Bool, List}
 
 pub data Memory : Type 0 where
   -- nothing
@@ -11,3 +11,5 @@ pub data Memory : Type 0 where
   fence : ℕ → ℕ → Memory
   -- within a link: the closing brackets that are still to come, the innermost first
   brackets : List ℕ → Memory
+  -- within a string: whether a backslash behind takes the next character
+  quoted : Bool → Memory

@@ -9,4 +9,4 @@ pub mod raw;
 pub mod sets;
 pub mod token;
 
-pub use token::{Fault, Token};
+pub use token::{Base, Fault, NumberFault, Token};

@@ -117,3 +117,13 @@ pub fn is_u64(digits: &str) -> bool
 {
     number(digits, 10).is_some()
 }
+
+/// Whether a number can have the suffix.
+pub fn is_unit(suffix: &str) -> bool
+    ensures { result ≡ spec.is_unit suffix.now }
+{
+    matches!(
+        suffix,
+        "pt" | "mm" | "cm" | "in" | "deg" | "rad" | "em" | "fr" | "%"
+    )
+}

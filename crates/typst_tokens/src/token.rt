@@ -1,7 +1,49 @@
 //! Tokens: what is read in one piece.
-ghost use Rattle.std.specs.Prelude.{◌≡◌};
+ghost use Rattle.std.specs.Prelude.{◌≡◌, ◌≤◌};
+ghost use Rattle.typst_tokens.specs.Token.{radix_of};
 
 use typst_kinds::SyntaxKind;
+
+/// The base of a number that isn't decimal.
+#[derive(Debug, Clone, Copy, PartialEq, Eq)]
+pub enum Base {
+    /// `0b`
+    Binary,
+    /// `0o`
+    Octal,
+    /// `0x`
+    Hexadecimal,
+}
+
+impl Base {
+    /// How many digits the base has.
+    pub fn radix(self) -> u32
+        ensures value { result ≡ radix_of self }
+        ensures least { 2 ≤ result }
+        ensures most { result ≤ 36 }
+    {
+        match self {
+            Base::Binary => 2,
+            Base::Octal => 8,
+            Base::Hexadecimal => 16,
+        }
+    }
+}
+
+/// What is wrong with a number.
+#[derive(Debug, Clone, Copy, PartialEq, Eq)]
+pub enum NumberFault {
+    /// A suffix that no number has.
+    UnknownSuffix,
+    /// An exponent without digits.
+    Exponent,
+    /// A base without digits.
+    NoDigits(Base),
+    /// Digits that the base doesn't have, or a number that isn't below 2^63.
+    WrongDigits(Base),
+    /// A suffix behind a number of the base.
+    Suffix(Base),
+}
 
 /// What is wrong with an error token.
 #[derive(Debug, Clone, Copy, PartialEq, Eq)]
@@ -18,6 +60,16 @@ pub enum Fault {
     UnbalancedLink,
     /// A label without `>`.
     UnclosedLabel,
+    /// A string without its closing quotation mark.
+    UnclosedString,
+    /// A number, and how many bytes of it are its suffix, which is at its end.
+    Number(NumberFault, usize),
+    /// A character that no token of code begins with.
+    InvalidCharacter,
+    /// Such a character directly behind a hash.
+    HashedCharacter,
+    /// An operator of other languages: `&&`, `||` or `~=`.
+    InvalidOperator,
 }
 
 /// A token, aside from its text.

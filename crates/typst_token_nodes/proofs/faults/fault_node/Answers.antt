@@ -1,5 +1,5 @@
 use Rattle.std.proofs.lemmas.Str.{encodes-chars}
-use Rattle.typst_token_nodes.proofs.nodes.fault_node.Goals as goal
+use Rattle.typst_token_nodes.proofs.faults.fault_node.Goals as goal
 
 pub returns-in-UnclosedRaw : goal.returns-in-UnclosedRaw
 returns-in-UnclosedRaw c = rw (c.in-UnclosedRaw.is, encodes-chars c.args.text.now c.utf8.text) c.error.ensures
@@ -16,3 +16,6 @@ returns-in-UnbalancedLink c = rw (c.in-UnbalancedLink.is, encodes-chars c.args.t
 
 pub returns-in-UnclosedLabel : goal.returns-in-UnclosedLabel
 returns-in-UnclosedLabel c = rw (c.in-UnclosedLabel.is, encodes-chars c.args.text.now c.utf8.text) c.error-in-UnclosedLabel.ensures
+
+pub returns-in-UnclosedString : goal.returns-in-UnclosedString
+returns-in-UnclosedString c = rw (c.in-UnclosedString.is, encodes-chars c.args.text.now c.utf8.text) c.error-in-UnclosedString.ensures

@@ -2,7 +2,7 @@ use Rattle.std.proofs.Common.{ap, ◌∙◌}
 use Rattle.std.specs.Char.{is_ascii_alphanumeric}
 use Rattle.typst_lines.specs.Place.{moved, run}
 use Rattle.typst_token_nodes.proofs.TokenTexts.{thrice}
-use Rattle.typst_token_nodes.proofs.nodes.escaped.Goals as goal
+use Rattle.typst_token_nodes.proofs.faults.escaped.Goals as goal
 
 pub returns : goal.returns
 returns c =

@@ -1,0 +1,9 @@
+//! The tokens that only code has.
+#![tactic(auto)]
+
+pub mod code;
+mod identifiers;
+mod invalid;
+pub mod laws;
+pub mod numbers;
+mod strings;

@@ -1,0 +1,17 @@
+use Rattle.std.proofs.Common.{ap, sym, ◌∙◌, ◌++◌, codes}
+use Rattle.std.proofs.lemmas.Str.{encodes-chars}
+use Rattle.std.specs.Str.{chars}
+use Rattle.typst_node.specs.Tree.{Tree}
+use Rattle.typst_token_nodes.proofs.TokenTexts.{fault-is}
+use Rattle.typst_token_nodes.proofs.faults.operator_node.Goals as goal
+use Rattle.typst_token_nodes.specs.Faults.{operator_hints}
+use Rattle.typst_token_nodes.specs.Nodes.{with_hints}
+use Rattle.typst_tokens.specs.declared.token.Fault.TheVariants.{InvalidOperator}
+
+pub returns : goal.returns
+returns c =
+    let text = c.args.text.now in
+    let same = encodes-chars text c.utf8.text in
+    fault-is InvalidOperator (chars text) text c.as_str.result.now c.in_ok-node.node _ same c.in_ok-node.ensures
+    (c.as_str.ensures.value ∙ c.in_ok-message.ensures.ok ∙ ap (λ t. codes "`" ++ (t ++ codes "` is not valid in code")) (sym same))
+    (c.in_ok-hint_at_operator.ensures ∙ ap (λ t. with_hints (operator_hints t) c.in_ok-node.node) (sym same))
