@@ -4,7 +4,7 @@ use Rattle.std.specs.Prelude.{option_and_then}
 use Rattle.typst_node.specs.Tree.{Tree, nodes, places}
 use Rattle.typst_tree.specs.Walks.{Stands}
 use Rattle.typst_tree.specs.Steps.{At, kind_of, parent}
-use Rattle.typst_tree.proofs.Walking.{length_places}
+use Rattle.typst_tree.proofs.WalksInPreorder.{length_places}
 use Rattle.typst_highlight.specs.declared.tags.Tag.{Tag}
 use Rattle.typst_highlight.specs.declared.rules.Rule.{Rule}
 use Rattle.typst_highlight.specs.declared.rules.Rule.TheVariants as rule

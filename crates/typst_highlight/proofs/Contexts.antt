@@ -6,8 +6,8 @@ use Rattle.typst_node_data.specs.Head.{Head}
 use Rattle.typst_node.specs.Tree.{Forest, none, more, Tree, count, places, preorder, text_of}
 use Rattle.typst_tree.specs.Walks.{is_leaf}
 use Rattle.typst_tree.specs.Steps.{At, at, node_of, kind_of, offset_of, end_of, parent, prev_leaf, next_leaf}
-use Rattle.typst_tree.proofs.LastLeaves.{last_none}
-use Rattle.typst_tree.proofs.Walking.{length_places}
+use Rattle.typst_tree.proofs.LastLeaf.{last_none}
+use Rattle.typst_tree.proofs.WalksInPreorder.{length_places}
 use Rattle.typst_highlight.specs.declared.tags.Tag.{Tag}
 use Rattle.typst_highlight.specs.declared.context.Outer.{Outer}
 use Rattle.typst_highlight.specs.declared.context.Trail.{Trail}

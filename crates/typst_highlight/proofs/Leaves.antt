@@ -8,8 +8,8 @@ use Rattle.typst_node_data.specs.Head.{Head}
 use Rattle.typst_node.specs.Tree.{Forest, none, more, Tree, count, nodes, places, preorder, saturated, text_of}
 use Rattle.typst_tree.specs.Walks.{texts, first_at, if_none, last_leaf, is_leaf, is_leaf_from}
 use Rattle.typst_tree.specs.Steps.{At, at, kind_of, offset_of, prev_leaf, next_leaf}
-use Rattle.typst_tree.proofs.Walking.{texts_append, texts_places, none_between}
-use Rattle.typst_tree.proofs.LastLeaves.{last_append, last_none}
+use Rattle.typst_tree.proofs.WalksInPreorder.{texts_append, texts_places, none_between}
+use Rattle.typst_tree.proofs.LastLeaf.{last_append, last_none}
 use Rattle.typst_highlight.specs.declared.tags.Tag.{Tag}
 use Rattle.typst_highlight.specs.declared.context.Ahead.{Ahead}
 use Rattle.typst_highlight.specs.declared.context.Trail.{Trail}

@@ -10,8 +10,8 @@ use Rattle.typst_node_data.specs.Head.{Head}
 use Rattle.typst_node.specs.Tree.{Forest, none, more, Tree, count, places, preorder, saturated}
 use Rattle.typst_tree.specs.Walks.{texts, numbers, first_at, if_none, has_child}
 use Rattle.typst_tree.specs.Steps.{At, at, node_of, kind_of, start_of, parent, children, is_sibling_after, next_sibling}
-use Rattle.typst_tree.proofs.Walking.{length_places, first_append}
-use Rattle.typst_tree.proofs.Passing.{no_child_before, no_child_after}
+use Rattle.typst_tree.proofs.WalksInPreorder.{length_places, first_append}
+use Rattle.typst_tree.proofs.PassesOver.{no_child_before, no_child_after}
 use Rattle.typst_highlight.specs.Walk.{tree_of, next_kind}
 use Rattle.typst_highlight.proofs.Bounds.{member, member_from, member_until, not_before}
 use Rattle.typst_highlight.proofs.Cases.{bool_cases}

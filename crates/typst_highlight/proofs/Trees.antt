@@ -7,7 +7,7 @@ use Rattle.typst_node_data.specs.Head.{Head}
 use Rattle.typst_node.specs.Tree.{Forest, none, more, Tree, count, nodes, places, preorder}
 use Rattle.typst_tree.specs.Walks.{first_at, if_none, is_leaf, is_leaf_from, numbers}
 use Rattle.typst_tree.specs.Steps.{At, at, kind_of, start_of, parent, next_sibling, leftmost_leaf}
-use Rattle.typst_tree.proofs.Walking.{length_places, first_append}
+use Rattle.typst_tree.proofs.WalksInPreorder.{length_places, first_append}
 use Rattle.typst_highlight.specs.declared.tags.Tag.{Tag}
 use Rattle.typst_highlight.specs.declared.rules.Rule.{Rule}
 use Rattle.typst_highlight.specs.declared.rules.Rule.TheVariants as rule
