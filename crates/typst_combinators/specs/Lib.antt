@@ -1,3 +1,5 @@
+pub mod Calls
+pub mod Point
 pub mod Ask
 pub mod Hand
 pub mod Log
