@@ -16,6 +16,7 @@ use Rattle.typst_combinators.specs.Hand.{Hand}
 use Rattle.typst_machine.specs.Bytes.{Looks, looks_at, whole}
 use Rattle.typst_combinators.specs.Log.{Log, logged, with_hull, with_more, with_note}
 use Rattle.typst_combinators.specs.Shape.{Shape, shaped, after_shape}
+use Rattle.typst_combinators.specs.Sound.{Sound}
 use Rattle.typst_combinators.specs.Syntax.{Parser, ◌>>◌}
 use Rattle.typst_combinators.specs.Meaning.{Outcome, Meaning, Level, inside, hand_of, left, less, run}
 use Rattle.typst_combinators.specs.Steps.{peek}
