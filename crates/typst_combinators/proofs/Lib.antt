@@ -5,3 +5,5 @@ pub mod Tokens
 pub mod Within
 pub mod Backs
 pub mod Rests
+pub mod Ends
+pub mod Eats
