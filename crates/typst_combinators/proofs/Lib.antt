@@ -1,11 +1,9 @@
-pub mod Looks
-pub mod Frame
-pub mod Alike
-pub mod Tokens
-pub mod Ends
-pub mod Eats
-pub mod Leaves
-pub mod Rests
 pub mod Places
+pub mod Hints
+pub mod Looks
+pub mod Tokens
 pub mod Within
 pub mod Backs
+pub mod Rests
+pub mod Ends
+pub mod Eats
