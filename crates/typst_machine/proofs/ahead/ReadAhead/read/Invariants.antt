@@ -3,7 +3,7 @@ use Rattle.typst_lines.specs.Scanner.{place}
 use Rattle.typst_machine.specs.Cursor.{Stands}
 use Rattle.typst_machine.specs.Bytes.{joined_hull, token_hull}
 use Rattle.typst_machine.proofs.Trivia.{Along, Looking}
-use Rattle.typst_machine.proofs.ahead.Ahead.read.Given as goal
+use Rattle.typst_machine.proofs.ahead.ReadAhead.read.Given as goal
 
 abbrev pub invariant-tokens : goal.invariant-tokens
 invariant-tokens g l =
@@ -11,9 +11,10 @@ invariant-tokens g l =
     let m = l.held.mode in
     let own = token_hull k m (place l.start) in
     record {
-      along : Along k m l.fn.flushed l.newlines l.self.trivia.items (place l.before) (place l.start);
-      text : l.start.text.now ≡ l.before.text.now;
-      looks : own.least ≤ 2 ^ 64 - 1 → Looking k m (place l.before) (place l.start) (joined_hull l.tokens own);
+      before : l.self.before ≡ l.fn.self.before;
+      along : Along k m l.newlines l.self.trivia.items (place l.self.before) (place l.start);
+      text : l.start.text.now ≡ l.self.before.text.now;
+      looks : own.least ≤ 2 ^ 64 - 1 → Looking k m (place l.self.before) (place l.start) (joined_hull l.tokens own);
       stands : Stands l.fn.self → Stands l.self;
     }
 
