@@ -8,7 +8,8 @@ use Rattle.typst_combinators.specs.declared.calls.Call.{Call}
 use Rattle.typst_combinators.specs.declared.calls.Mark.{Mark}
 use Rattle.typst_combinators.specs.declared.reading.Reading.{Reading}
 use Rattle.typst_combinators.specs.Calls.{Answer}
-use Rattle.typst_combinators.specs.Point.{Point, Trivia, gap_of, pending, is_nil}
+use Rattle.typst_combinators.specs.Point.{Point, Trivia, gap_of, pending, is_nil, state_of}
+use Rattle.typst_combinators.specs.Log.{with_note}
 use Rattle.typst_combinators.specs.Hand.{AtHand, told, column_at}
 use Rattle.typst_combinators.specs.Shape.{Making, Shape, becomes, seen}
 use Rattle.typst_combinators.specs.Sound.{Sound}
@@ -19,7 +20,7 @@ use Rattle.typst_combinators.specs.Syntax.Parser.{gives, does, next, pick, repea
 use Rattle.typst_combinators.specs.Steps.{peek, eat_making, flush_trivia, within, node, node_with_trivia, note}
 use Rattle.typst_combinators.specs.Meaning.{Level, before, entered, left, same_mode}
 use Rattle.typst_machine.specs.Bytes.{bytes_left}
-use Rattle.typst_machine.specs.View.{View, Ran, Goes, Does, Makes, Fits, Bare, Loose, Looked, Left, Flushed, Rewrapped, unasked}
+use Rattle.typst_machine.specs.View.{View, Ran, Goes, Does, Makes, Fits, Bare, Loose, Looked, Left, Flushed, Rewrapped, unasked, noted_here}
 use Rattle.typst_machine.proofs.Runs.{ran-next, ran-gives, ran-calls, ran-pick, ran-other, ran-hand, ran-column, ran-erred, ran-deepest, ran-marks, Eaten, ran-takes, eaten-bare, ran-flushes, flushed-fits, ran-complains, ran-scoped, ran-wraps, rewrapped-fits, ran-turn, ran-last, looked-fits, ran-look, after-peek, column_seen, fits-more, noted}
 
 pub does-next : {A B : Type 0} {l : Level} {P Q R : View → Type 0} {p : Parser B} {f : B → Parser A} {b : B} {a : A} {old mid new : View}
@@ -183,3 +184,7 @@ does-last sound did stuck = record { ran = λ c. ran-last sound (known-few c) (d
 pub turning-next : {A : Type 0} {l : Level} {p : A → Parser (Bool × A)} {start x y : A} {old v w : View}
     → Sound l → Turning l p start old x v → Does l (p x) (true, y) v w → bytes_left w.place < bytes_left v.place → Turning l p start old y w
 turning-next sound t did less_left = record { rest = λ a new d. t.rest a new (does-turn sound did less_left d) }
+
+-- the code noted something before anything was asked
+pub first-noted : {l : Level} {levels : ℕ} {m : Mark} {v w : View} → w ≡ noted_here levels m v → l.levels ≡ levels → Goes l Bare Bare (does (marks m)) tt v w
+first-noted {l = l} {m = m} {v = v} {w = w} e n = does-marks m v w (λ b. e ∙ ap (λ k. noted_here k m v) (sym n) ∙ ap (λ (x : Option Trivia). record v { log = with_note (gap_of x) l.levels m (state_of v.state) v.place v.log }) (sym b.known))

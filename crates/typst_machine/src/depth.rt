@@ -1,11 +1,12 @@
 //! The limit of depth, and what stands in place of what lies deeper.
 
-ghost use Rattle.std.specs.Prelude.{◌≡◌, ◌<◌, Bool, refl};
+ghost use Rattle.std.specs.Prelude.{◌≡◌, ◌<◌, ℕ, Bool, refl};
 ghost use Rattle.typst_kinds.specs.declared.kind.SyntaxKind.{SyntaxKind as Kind};
 ghost use Rattle.typst_combinators.specs.Depth as spec;
 ghost use Rattle.typst_combinators.specs.Syntax.Parser.{repeat};
 ghost use Rattle.typst_machine.specs.View.{MayNest, Means, MeansAs, given, said};
 ghost use Rattle.typst_combinators.specs.Calls.{Answer};
+ghost use Rattle.typst_machine.specs.declared.depth.Answered.TheVariants.{Brackets};
 
 use crate::parser::Parser;
 use std::alloc::AllocError;
@@ -18,6 +19,17 @@ use typst_kinds::SyntaxKind;
 pub enum Answered {
     /// In how many brackets what comes behind an expression of markup stands.
     Brackets(usize),
+}
+
+impl Answered {
+    /// In how many brackets what comes behind stands.
+    pub fn brackets(self) -> usize
+        ensures { (n : ℕ) → self ≡ Brackets n → result ≡ n }
+    {
+        match self {
+            Answered::Brackets(nesting) => nesting,
+        }
+    }
 }
 
 /// How calls are made: by which classes of characters, how deep they may still nest, and by which function.
