@@ -7,3 +7,5 @@ pub mod Backs
 pub mod Rests
 pub mod Ends
 pub mod Eats
+pub mod Alike
+pub mod Frame

@@ -142,11 +142,13 @@ growing m n first z s = growths m n (suc (bound z s)) (first z s) z
 abbrev pub with_seen : {A : Type 0} → Outcome A → Outcome (A × List Seen)
 with_seen o = answered (o.value, map seen o.nodes) o
 
--- a block: it begins and ends with nothing known of the trivia at hand, and is noted at both ends
+-- what a block gives, noted at both ends, and with nothing known of the trivia behind it
+abbrev pub closed : Block → Point → Outcome (Unit {0}) → Outcome (Unit {0})
+closed b s o = record o { state = forgot o.state; asks = marked 0 0 0 (mark.Opens b) (state_of s) ∷ (o.asks ++ marked o.taken 0 0 mark.Closes (state_of o.state) ∷ []) }
+
+-- a block, which begins with nothing known of the trivia
 abbrev pub bounded : Block → Meaning (Unit {0}) → Meaning (Unit {0})
-bounded b m z s =
-    let o = m z (forgot s) in
-    record o { state = forgot o.state; asks = marked 0 0 0 (mark.Opens b) (state_of s) ∷ (o.asks ++ marked o.taken 0 0 mark.Closes (state_of o.state) ∷ []) }
+bounded b m z s = closed b s (m z (forgot s))
 
 -- what is read one level deeper
 abbrev pub deeper_by_one : {A : Type 0} → Outcome A → Outcome A
