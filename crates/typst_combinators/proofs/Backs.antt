@@ -36,7 +36,7 @@ backs-joined s o p h k =
 backs-if : {A : Type 0} (s : Point) (b : Bool) (x y : Outcome A) → Tidy s x → Tidy s y → Tidy s (if b then x else y)
 backs-if s b x y p q = on_both (Tidy s) b x y p q
 
-backs-turns : {A : Type 0} (m : A → Meaning (Bool × A)) → ((x : A) → Backs (m x)) → (n : ℕ) (x : A) → Backs (turns m n x)
+pub backs-turns : {A : Type 0} (m : A → Meaning (Bool × A)) → ((x : A) → Backs (m x)) → (n : ℕ) (x : A) → Backs (turns m n x)
 backs-turns m h zero x z s = record { back = omega arith; left = omega arith }
 backs-turns m h (suc n) x z s =
     let o = m x z s in

@@ -9,3 +9,4 @@ pub mod Ends
 pub mod Eats
 pub mod Alike
 pub mod Frame
+pub mod Leaves
