@@ -10,3 +10,4 @@ pub mod Eats
 pub mod Alike
 pub mod Frame
 pub mod Leaves
+pub mod Knot

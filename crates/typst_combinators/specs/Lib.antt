@@ -8,4 +8,5 @@ pub mod Syntax
 pub mod Meaning
 pub mod Steps
 pub mod Depth
+pub mod Knot
 pub mod Sound
