@@ -1,3 +1,10 @@
+-- Where each clause is proved.
+--   SyntaxKind::same                          Sameness: same-is, is-same
+--   SyntaxSet::new, add, remove, union        Membership: empty; added, added_other; removed, removed_other; united
+--   set::named_sets                           NamedSets: has_stmt and its like, a law for each named set
+-- Membership rests on Bits: what setting and clearing one bit of a row of words does.
+-- All other clauses need no lemma.
 mod Bits
 pub mod Membership
 pub mod NamedSets
+pub mod Sameness

@@ -1,18 +1,17 @@
 -- What a set contains after its bits were changed.
-use Rattle.std.proofs.Common.{rules, arith, lit<, zero, suc, max, bit_or, get_or, ◌≡◌, ◌≢◌, ℕ, ◌/◌, ◌%◌, ◌<◌, ◌==◌, ◌||◌, true, false, List, [], ◌∷◌, length, refl, ap, eq-eqb}
+use Rattle.std.proofs.Common.{arith, lit<, zero, suc, max, bit_or, get_or, ◌≡◌, ◌≢◌, ℕ, ◌/◌, ◌%◌, ◌<◌, ◌==◌, ◌||◌, true, false, List, [], ◌∷◌, length, refl, ap, eq-eqb}
 use Rattle.std.proofs.lemmas.Nat.Bits.{bit_at_or, bit_at-lt}
 use Rattle.std.specs.Int.{bit_at}
 use Rattle.typst_kinds.specs.Members.{has, place_of}
-use Rattle.typst_kinds.specs.contracts.kind.SyntaxKind.{the_type}
 use Rattle.typst_kinds.specs.declared.kind.SyntaxKind.{SyntaxKind}
 use Rattle.typst_kinds.specs.declared.kind.SyntaxKind.TheVariants as kind
-use denote.Enum.Bare.{same_true}
+use Rattle.typst_kinds.proofs.Sameness.{same-is}
 use Rattle.typst_kinds.proofs.Bits.{with_bit, without_bit, with_bit_same, without_bit_same, with_bit_other, without_bit_other}
 
 -- two kinds have two places
 places_apart : (a b : SyntaxKind) → a ≢ b → place_of a ≢ place_of b
 unfolding place_of
-places_apart a b ne e = ne (same_true the_type (search rules) a b (eq-eqb _ _ e))
+places_apart a b ne e = ne (same-is b a (eq-eqb _ _ e))
 
 pub added : (ws : List ℕ) (k : SyntaxKind) → place_of k / 64 < length ws → has (record { words = with_bit ws (place_of k) }) k ≡ true
 unfolding has

@@ -1,7 +1,18 @@
 -- Classes of kinds.
-use Rattle.std.specs.Prelude.{Bool, true, false}
+use Rattle.std.specs.Prelude.{Bool, true, false, List, [], ◌∷◌, ◌||◌}
+use Rattle.typst_kinds.specs.contracts.kind.SyntaxKind.{the_type}
 use Rattle.typst_kinds.specs.declared.kind.SyntaxKind.{SyntaxKind}
 use Rattle.typst_kinds.specs.declared.kind.SyntaxKind.TheVariants as kind
+use denote.Enum.Bare.{sameb}
+
+-- whether a kind is the wanted one
+abbrev pub same : SyntaxKind → SyntaxKind → Bool
+same wanted kind = sameb the_type kind wanted
+
+-- whether a kind is one of some kinds
+abbrev pub among : List SyntaxKind → SyntaxKind → Bool
+among [] kind = false
+among (k ∷ ks) kind = same k kind || among ks kind
 
 -- space and comments
 abbrev pub is_trivia : SyntaxKind → Bool

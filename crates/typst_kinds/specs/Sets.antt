@@ -1,126 +1,48 @@
--- The named sets of kinds, each as a test.
-use Rattle.std.specs.Prelude.{Bool, true, false, ◌||◌}
+-- The named sets of kinds.
+use Rattle.std.specs.Prelude.{List, [], ◌∷◌, ◌++◌}
 use Rattle.typst_kinds.specs.declared.kind.SyntaxKind.{SyntaxKind}
 use Rattle.typst_kinds.specs.declared.kind.SyntaxKind.TheVariants as kind
 
 -- kinds that begin a statement of code
-abbrev pub in_stmt : SyntaxKind → Bool
-in_stmt kind.Let = true
-in_stmt kind.Set = true
-in_stmt kind.Show = true
-in_stmt kind.Import = true
-in_stmt kind.Include = true
-in_stmt kind.Return = true
-in_stmt _ = false
+abbrev pub stmt : List SyntaxKind
+stmt = kind.Let ∷ kind.Set ∷ kind.Show ∷ kind.Import ∷ kind.Include ∷ kind.Return ∷ []
 
 -- kinds that begin an expression of math
-abbrev pub in_math_expr : SyntaxKind → Bool
-in_math_expr kind.Hash = true
-in_math_expr kind.MathIdent = true
-in_math_expr kind.MathFieldAccess = true
-in_math_expr kind.LeftBrace = true
-in_math_expr kind.LeftParen = true
-in_math_expr kind.RightBrace = true
-in_math_expr kind.RightParen = true
-in_math_expr kind.Dot = true
-in_math_expr kind.Bang = true
-in_math_expr kind.Comma = true
-in_math_expr kind.Semicolon = true
-in_math_expr kind.MathText = true
-in_math_expr kind.Linebreak = true
-in_math_expr kind.MathAlignPoint = true
-in_math_expr kind.MathShorthand = true
-in_math_expr kind.MathPrimes = true
-in_math_expr kind.Escape = true
-in_math_expr kind.Str = true
-in_math_expr kind.Root = true
-in_math_expr _ = false
+abbrev pub math_expr : List SyntaxKind
+math_expr = kind.Hash ∷ kind.MathIdent ∷ kind.MathFieldAccess ∷ kind.LeftBrace ∷ kind.LeftParen ∷ kind.RightBrace ∷ kind.RightParen ∷ kind.Dot ∷ kind.Bang ∷ kind.Comma ∷ kind.Semicolon ∷ kind.MathText ∷ kind.Linebreak ∷ kind.MathAlignPoint ∷ kind.MathShorthand ∷ kind.MathPrimes ∷ kind.Escape ∷ kind.Str ∷ kind.Root ∷ []
 
 -- kinds of unary operators
-abbrev pub in_unary_op : SyntaxKind → Bool
-in_unary_op kind.Plus = true
-in_unary_op kind.Minus = true
-in_unary_op kind.Not = true
-in_unary_op _ = false
+abbrev pub unary_op : List SyntaxKind
+unary_op = kind.Plus ∷ kind.Minus ∷ kind.Not ∷ []
 
 -- kinds of binary operators, but for the word pair `not in`
-abbrev pub in_binary_op : SyntaxKind → Bool
-in_binary_op kind.Plus = true
-in_binary_op kind.Minus = true
-in_binary_op kind.Star = true
-in_binary_op kind.Slash = true
-in_binary_op kind.And = true
-in_binary_op kind.Or = true
-in_binary_op kind.EqEq = true
-in_binary_op kind.ExclEq = true
-in_binary_op kind.Lt = true
-in_binary_op kind.LtEq = true
-in_binary_op kind.Gt = true
-in_binary_op kind.GtEq = true
-in_binary_op kind.Eq = true
-in_binary_op kind.In = true
-in_binary_op kind.PlusEq = true
-in_binary_op kind.HyphEq = true
-in_binary_op kind.StarEq = true
-in_binary_op kind.SlashEq = true
-in_binary_op _ = false
+abbrev pub binary_op : List SyntaxKind
+binary_op = kind.Plus ∷ kind.Minus ∷ kind.Star ∷ kind.Slash ∷ kind.And ∷ kind.Or ∷ kind.EqEq ∷ kind.ExclEq ∷ kind.Lt ∷ kind.LtEq ∷ kind.Gt ∷ kind.GtEq ∷ kind.Eq ∷ kind.In ∷ kind.PlusEq ∷ kind.HyphEq ∷ kind.StarEq ∷ kind.SlashEq ∷ []
 
 -- kinds that begin a part of a pattern that is no pattern in parens
-abbrev pub in_pattern_leaf : SyntaxKind → Bool
-in_pattern_leaf kind.Ident = true
-in_pattern_leaf kind.LeftBrace = true
-in_pattern_leaf kind.LeftBracket = true
-in_pattern_leaf kind.LeftParen = true
-in_pattern_leaf kind.Dollar = true
-in_pattern_leaf kind.Let = true
-in_pattern_leaf kind.Set = true
-in_pattern_leaf kind.Show = true
-in_pattern_leaf kind.Context = true
-in_pattern_leaf kind.If = true
-in_pattern_leaf kind.While = true
-in_pattern_leaf kind.For = true
-in_pattern_leaf kind.Import = true
-in_pattern_leaf kind.Include = true
-in_pattern_leaf kind.Break = true
-in_pattern_leaf kind.Continue = true
-in_pattern_leaf kind.Return = true
-in_pattern_leaf kind.Raw = true
-in_pattern_leaf kind.None = true
-in_pattern_leaf kind.Auto = true
-in_pattern_leaf kind.Int = true
-in_pattern_leaf kind.Float = true
-in_pattern_leaf kind.Bool = true
-in_pattern_leaf kind.Numeric = true
-in_pattern_leaf kind.Str = true
-in_pattern_leaf kind.Label = true
-in_pattern_leaf _ = false
+abbrev pub pattern_leaf : List SyntaxKind
+pattern_leaf = kind.Ident ∷ kind.LeftBrace ∷ kind.LeftBracket ∷ kind.LeftParen ∷ kind.Dollar ∷ kind.Let ∷ kind.Set ∷ kind.Show ∷ kind.Context ∷ kind.If ∷ kind.While ∷ kind.For ∷ kind.Import ∷ kind.Include ∷ kind.Break ∷ kind.Continue ∷ kind.Return ∷ kind.Raw ∷ kind.None ∷ kind.Auto ∷ kind.Int ∷ kind.Float ∷ kind.Bool ∷ kind.Numeric ∷ kind.Str ∷ kind.Label ∷ []
 
 -- kinds that begin an expression of code
-abbrev pub in_code_expr : SyntaxKind → Bool
-in_code_expr kind.Underscore = true
-in_code_expr kind = in_pattern_leaf kind || in_unary_op kind
+abbrev pub code_expr : List SyntaxKind
+code_expr = kind.Underscore ∷ (pattern_leaf ++ unary_op)
 
 -- kinds that begin a pattern
-abbrev pub in_pattern : SyntaxKind → Bool
-in_pattern kind.Underscore = true
-in_pattern kind = in_pattern_leaf kind
+abbrev pub pattern : List SyntaxKind
+pattern = kind.Underscore ∷ pattern_leaf
 
 -- kinds that begin an argument of a call
-abbrev pub in_arg : SyntaxKind → Bool
-in_arg kind.Dots = true
-in_arg kind = in_code_expr kind
+abbrev pub arg : List SyntaxKind
+arg = kind.Dots ∷ code_expr
 
 -- kinds that begin an item of an array or a dictionary
-abbrev pub in_array_or_dict_item : SyntaxKind → Bool
-in_array_or_dict_item kind.Dots = true
-in_array_or_dict_item kind = in_code_expr kind
+abbrev pub array_or_dict_item : List SyntaxKind
+array_or_dict_item = kind.Dots ∷ code_expr
 
 -- kinds that begin a parameter of a closure
-abbrev pub in_param : SyntaxKind → Bool
-in_param kind.Dots = true
-in_param kind = in_pattern kind
+abbrev pub param : List SyntaxKind
+param = kind.Dots ∷ pattern
 
 -- kinds that begin an item of a destructuring pattern
-abbrev pub in_destructuring_item : SyntaxKind → Bool
-in_destructuring_item kind.Dots = true
-in_destructuring_item kind = in_pattern kind
+abbrev pub destructuring_item : List SyntaxKind
+destructuring_item = kind.Dots ∷ pattern

@@ -16,12 +16,21 @@ pub record Bytes : Type 0 where
   pub start : ℕ
   pub end : ℕ
 
+-- what contracts see of a span: a file and a node's number in it, or neither
+abbrev pub SpanValue : Type 0
+SpanValue = Option (ℕ × ℕ)
+
+-- the node's number, or 0 where the span is detached
+abbrev pub number_of : SpanValue → ℕ
+number_of None = 0
+number_of (Some p) = p.1
+
 -- a span in one number: the file above 48 bits for the node's number, and 0 where there is neither
-abbrev pub packed : Option (ℕ × ℕ) → ℕ
+abbrev pub packed : SpanValue → ℕ
 packed None = 0
 packed (Some p) = p.0 * 2 ^ 48 + p.1
 
-abbrev pub unpacked : ℕ → Option (ℕ × ℕ)
+abbrev pub unpacked : ℕ → SpanValue
 unpacked n = if n == 0 then None else Some (n / 2 ^ 48, n % 2 ^ 48)
 
 -- what is packed is nothing, or a file and a node's number

@@ -1,6 +1,6 @@
 ghost use Rattle.std.specs.Prelude.{◌≡◌, ◌↔◌, IsTrue};
 ghost use Rattle.typst_kinds.specs.Names.{name_of};
-ghost use Rattle.typst_kinds.specs.Kinds.{is_trivia, is_error, is_keyword, is_grouping, is_terminator, is_block, is_hash_expr};
+ghost use Rattle.typst_kinds.specs.Kinds.{same, is_trivia, is_error, is_keyword, is_grouping, is_terminator, is_block, is_hash_expr};
 
 /// What a node of the syntax tree is.
 #[derive(Debug, Clone, Copy, PartialEq, Eq)]
@@ -284,7 +284,8 @@ pub enum SyntaxKind {
 impl SyntaxKind {
     /// Whether the two kinds are the same: `==`, with a contract that says so.
     pub fn same(self, other: SyntaxKind) -> bool
-        ensures { IsTrue result ↔ (self ≡ other) }
+        ensures same { result ≡ same other self }
+        ensures exact { IsTrue result ↔ (self ≡ other) }
     {
         self == other
     }

@@ -1,8 +1,9 @@
 //! Sets of kinds.
 
 ghost use Rattle.std.specs.Prelude.{◌≡◌, ◌≢◌, ◌<◌, ◌||◌, true, false};
+ghost use Rattle.typst_kinds.specs.Kinds.{among};
 ghost use Rattle.typst_kinds.specs.Members.{has, place_of};
-ghost use Rattle.typst_kinds.specs.Sets.{in_stmt, in_math_expr, in_unary_op, in_binary_op, in_pattern_leaf, in_code_expr, in_pattern, in_arg, in_array_or_dict_item, in_param, in_destructuring_item};
+ghost use Rattle.typst_kinds.specs.Sets.{stmt, math_expr, unary_op, binary_op, pattern_leaf, code_expr, pattern, arg, array_or_dict_item, param, destructuring_item};
 ghost use Rattle.typst_kinds.specs.declared.kind.SyntaxKind.{SyntaxKind};
 
 use crate::SyntaxKind;
@@ -188,15 +189,15 @@ impl SyntaxSet {
 ///
 /// For proofs: it does nothing when it runs.
 pub fn named_sets()
-    ensures stmt { (kind : SyntaxKind) → has STMT kind ≡ in_stmt kind }
-    ensures math_expr { (kind : SyntaxKind) → has MATH_EXPR kind ≡ in_math_expr kind }
-    ensures unary_op { (kind : SyntaxKind) → has UNARY_OP kind ≡ in_unary_op kind }
-    ensures binary_op { (kind : SyntaxKind) → has BINARY_OP kind ≡ in_binary_op kind }
-    ensures pattern_leaf { (kind : SyntaxKind) → has PATTERN_LEAF kind ≡ in_pattern_leaf kind }
-    ensures code_expr { (kind : SyntaxKind) → has CODE_EXPR kind ≡ in_code_expr kind }
-    ensures pattern { (kind : SyntaxKind) → has PATTERN kind ≡ in_pattern kind }
-    ensures arg { (kind : SyntaxKind) → has ARG kind ≡ in_arg kind }
-    ensures array_or_dict_item { (kind : SyntaxKind) → has ARRAY_OR_DICT_ITEM kind ≡ in_array_or_dict_item kind }
-    ensures param { (kind : SyntaxKind) → has PARAM kind ≡ in_param kind }
-    ensures destructuring_item { (kind : SyntaxKind) → has DESTRUCTURING_ITEM kind ≡ in_destructuring_item kind }
+    ensures stmt { (kind : SyntaxKind) → has STMT kind ≡ among stmt kind }
+    ensures math_expr { (kind : SyntaxKind) → has MATH_EXPR kind ≡ among math_expr kind }
+    ensures unary_op { (kind : SyntaxKind) → has UNARY_OP kind ≡ among unary_op kind }
+    ensures binary_op { (kind : SyntaxKind) → has BINARY_OP kind ≡ among binary_op kind }
+    ensures pattern_leaf { (kind : SyntaxKind) → has PATTERN_LEAF kind ≡ among pattern_leaf kind }
+    ensures code_expr { (kind : SyntaxKind) → has CODE_EXPR kind ≡ among code_expr kind }
+    ensures pattern { (kind : SyntaxKind) → has PATTERN kind ≡ among pattern kind }
+    ensures arg { (kind : SyntaxKind) → has ARG kind ≡ among arg kind }
+    ensures array_or_dict_item { (kind : SyntaxKind) → has ARRAY_OR_DICT_ITEM kind ≡ among array_or_dict_item kind }
+    ensures param { (kind : SyntaxKind) → has PARAM kind ≡ among param kind }
+    ensures destructuring_item { (kind : SyntaxKind) → has DESTRUCTURING_ITEM kind ≡ among destructuring_item kind }
 {}

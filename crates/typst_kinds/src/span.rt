@@ -1,6 +1,6 @@
-ghost use Rattle.std.specs.Prelude.{◌≡◌, ◌≤◌, None, Some};
+ghost use Rattle.std.specs.Prelude.{◌≡◌, ◌≤◌, ◌<◌, ◌^◌, None, Some};
 ghost use Rattle.std.specs.Option.{SomeIff, option_map};
-ghost use Rattle.typst_kinds.specs.Span.{IsFile, IsSpanNumber};
+ghost use Rattle.typst_kinds.specs.Span.{IsFile, IsSpanNumber, number_of};
 
 use std::marker::Model;
 
@@ -89,11 +89,10 @@ pub struct Span {
 }
 
 impl Model for Span {
-    ghost use Rattle.std.specs.Prelude.{ℕ, Option};
     ghost use Rattle.std.proofs.Common.{ap};
-    ghost use Rattle.typst_kinds.specs.Span.{packed, unpacked, IsPacked, packed-unpacked};
+    ghost use Rattle.typst_kinds.specs.Span.{SpanValue, packed, unpacked, IsPacked, packed-unpacked};
 
-    ghost Value = { Option (ℕ × ℕ) };
+    ghost Value = { SpanValue };
 
     ghost view = { λ span. unpacked span.bits };
 
@@ -142,6 +141,18 @@ impl Span {
         match self.get() {
             None => None,
             Some((_, number)) => Some(number),
+        }
+    }
+
+    /// The node's number, or 0 where the span is detached: detached nodes come first in an order of
+    /// numbers.
+    pub fn number_or_zero(self) -> u64
+        ensures value { result ≡ number_of self }
+        ensures small { result < 2 ^ 47 }
+    {
+        match self.number() {
+            None => 0,
+            Some(number) => number.get(),
         }
     }
 

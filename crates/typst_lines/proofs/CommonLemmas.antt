@@ -5,6 +5,7 @@ use Rattle.std.proofs.lemmas.List.{take-append-drop}
 use Rattle.std.proofs.lemmas.Str.{IsCharBoundary-end}
 use Rattle.std.specs.Cmp.Lexicographic.{pointwise}
 use Rattle.std.specs.Str.{chars, IsUtf8, IsCharBoundary}
+use Rattle.typst_lines.proofs.BoolLemmas.{and-second}
 use Rattle.typst_lines.proofs.LineLemmas.{bytes-append, bytes-text, bytes-front, chars-split, place-end}
 use Rattle.typst_lines.proofs.PlaceLemmas.{head-splits, moved-step}
 use Rattle.typst_lines.proofs.PositionLemmas.{bytes-behind}
@@ -186,10 +187,6 @@ glued-plain xs q r c e m plain =
 -- a carriage return that a line feed follows
 abbrev crlf : ℕ → List ℕ → Bool
 crlf c rest = c == 13 && passes (λ d. d == 10) (slice_get rest 0)
-
-and-second : (a b : Bool) → (a && b) ≡ true → b ≡ true
-and-second true b e = e
-and-second false b e = absurd (cc)
 
 ten : (d : ℕ) → (d == 10) ≡ true → d ≡ 10
 ten d t = grind (arith, nat_tests)

@@ -10,6 +10,7 @@ use lib.Utf8.{scalar}
 use Rattle.std.specs.List.{prefix_len}
 use Rattle.std.specs.Char.{IsScalar}
 use Rattle.std.specs.Str.{chars, IsUtf8, IsCharBoundary}
+use Rattle.typst_lines.proofs.BoolLemmas.{and-first, and-second}
 use Rattle.typst_lines.specs.Place.{bytes_ahead, char_width, Place, place_at, moved, scout, moved_from, passes, past, word_at, IsStep, IsStepBack, IsFirst, IsLast, moved_back}
 
 pub encode_utf8_nonempty : (c : ℕ) → 0 < length (encode_utf8 c)
@@ -17,10 +18,6 @@ encode_utf8_nonempty c = let bounds = len_utf8_bounds c in omega (arith, length-
 
 chars-encode_utf8 : (c : ℕ) → IsUtf8 (encode_utf8 c) → chars (encode_utf8 c) ≡ c ∷ []
 chars-encode_utf8 c u = chars_past_char (encode_utf8 c) [] c u (sym (append-nil (encode_utf8 c))) ∙ ap (λ t. c ∷ t) chars-nil
-
-and-first : (a b : Bool) → (a && b) ≡ true → a ≡ true
-and-first true b e = refl
-and-first false b e = e
 
 module _ (s : List ℕ) (u : IsUtf8 s) (i c j : ℕ) (start : IsCharBoundary s i) (rest : List ℕ) (e : drop i s ≡ encode_utf8 c ++ rest) (at : j ≡ length s - length rest) where
   lens : i + (length (encode_utf8 c) + length rest) ≡ length s
@@ -215,10 +212,6 @@ module _ (a b : List ℕ) (same : b ≡ a) (u : IsUtf8 a) (i j n : ℕ) (start :
       (λ end' e'. chars-between a u i j n (cursor-le a u i j n start end' e') start end' e') end e
 
 -- ---- several characters
-
-and-second : (a b : Bool) → (a && b) ≡ true → b ≡ true
-and-second true b e = e
-and-second false b e = absurd (cc)
 
 pub scalars-both : (n : ℕ) (cs : List ℕ) → all_scalars cs ≡ true → (all_scalars (take n cs) ≡ true) × (all_scalars (drop n cs) ≡ true)
 scalars-both zero cs e = (refl, e)

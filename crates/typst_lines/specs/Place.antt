@@ -1,5 +1,6 @@
 -- A place in a text.
-use Rattle.std.specs.Prelude.{◌≡◌, ◌<◌, ◌≤◌, ℕ, zero, suc, ◌+◌, Bool, true, false, ◌&&◌, List, [], ◌∷◌, length, encode_utf8_all, take, drop, reverse, slice_get, Option, Some, None, ◌==◌, ℤ, pos, negsuc}
+use Rattle.std.specs.Prelude.{◌≡◌, ◌<◌, ◌≤◌, ℕ, zero, suc, ◌+◌, Bool, true, false, ◌&&◌, List, [], ◌∷◌, length, encode_utf8_all, take, drop, reverse, slice_get, Option, Some, None, ◌==◌, ℤ, pos, negsuc, refl}
+use Rattle.std.specs.Coded.{Coded, code_by, coded×, coded_ℕ, coded_list}
 use Rattle.std.specs.Char.{IsScalar, len_utf8}
 use Rattle.std.specs.Str.{chars, IsCharBoundary}
 use Rattle.std.specs.List.{prefix_len}
@@ -8,6 +9,10 @@ use Rattle.std.specs.List.{prefix_len}
 pub record Place : Type 0 where
   pub behind : List ℕ
   pub ahead : List ℕ
+
+-- how a place is stored in ghost fields
+abbrev pub place_code : Coded Place
+place_code = code_by (List ℕ × List ℕ) (coded× (coded_list coded_ℕ) (coded_list coded_ℕ)) (λ z. (z.behind, z.ahead)) (λ p. record { behind = p.0; ahead = p.1 }) (λ _. refl)
 
 -- how many bytes a character takes; a word that tactics do not look into
 unfoldable pub char_width : ℕ → ℕ

@@ -12,5 +12,6 @@ pub mod Sames
 pub mod Steps
 pub mod Stretches
 pub mod Sums
+pub mod Texts
 pub mod Trees
 pub mod Wholes

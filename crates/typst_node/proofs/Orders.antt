@@ -5,7 +5,8 @@ use Rattle.std.proofs.Math.Nat.{mul-le-mul_left}
 use Rattle.std.proofs.lemmas.Bool.Decides.{nat_tests}
 use Rattle.std.proofs.lemmas.List.Elements.{All-cons}
 use Rattle.std.proofs.lemmas.List.Kept.{AllPairs-cons}
-use Rattle.typst_node_data.specs.Head.{Head, number_of}
+use Rattle.typst_kinds.specs.Span.{number_of}
+use Rattle.typst_node_data.specs.Head.{Head}
 use Rattle.typst_node.specs.Tree.{Forest, none, more, Tree, count, nodes}
 use Rattle.typst_node.specs.Numbers.{stride, placed, numbered_forest, numbered, numberized}
 use Rattle.typst_node.specs.Order.{IsWholeForest, IsWhole, numbers, numbers_of, AreInOrder, upper_at, IsOrdered, IsNumbered}

@@ -2,7 +2,8 @@
 use Rattle.std.proofs.Common.{◌≡◌, ℕ, zero, suc, ◌<◌, ◌≤◌, List, [], ◌∷◌, length, get_or, Some, None, refl, ap, sym, ◌∙◌, arith}
 use Rattle.std.specs.Prelude.{option_map, slice_get, slice_range}
 use Rattle.std.proofs.Math.ListN.{set}
-use Rattle.typst_node_data.specs.Head.{Head, Place}
+use Rattle.typst_kinds.specs.Span.{SpanValue}
+use Rattle.typst_node_data.specs.Head.{Head}
 use Rattle.typst_node.specs.Tree.{Tree, forest, trees}
 use Rattle.typst_node.specs.Replace.{At, Reaches, replaced_at, replaced, in_file, swapped}
 use Rattle.typst_node.proofs.Bares.{over, trees_forest}
@@ -36,7 +37,7 @@ pub reached_by : (path rest : List ℕ) (i a b : ℕ) (t : Tree) (h : Head) (xs 
 reached_by path rest i a b t h xs k e p got r = rw (p, ← e, trees_forest, got) r
 
 -- a node in a file swaps its children
-pub in_file_some : (sp : Place) (file : ℕ) (h : Head) (xs : List Tree) (from to : ℕ) (ms : List Tree) → option_map (λ p. p.0) sp ≡ Some file → in_file sp h xs from to ms ≡ swapped file h xs from to (slice_range xs from to) ms
+pub in_file_some : (sp : SpanValue) (file : ℕ) (h : Head) (xs : List Tree) (from to : ℕ) (ms : List Tree) → option_map (λ p. p.0) sp ≡ Some file → in_file sp h xs from to ms ≡ swapped file h xs from to (slice_range xs from to) ms
 in_file_some None file h xs from to ms e = absurd (cc)
 in_file_some (Some p) file h xs from to ms e =
     let same : p.0 ≡ file = cc in ap (λ f. swapped f h xs from to (slice_range xs from to) ms) same

@@ -3,7 +3,8 @@ use Rattle.std.proofs.Common.{◌≡◌, ℕ, zero, suc, ◌+◌, ◌-◌, ◌*�
 use Rattle.std.specs.Prelude.{slice_get, slice_range}
 use Rattle.std.proofs.Math.ListN.{set}
 use Rattle.std.proofs.lemmas.Bool.Decides.{nat_tests}
-use Rattle.typst_node_data.specs.Head.{Head, number_of}
+use Rattle.typst_kinds.specs.Span.{number_of}
+use Rattle.typst_node_data.specs.Head.{Head}
 use Rattle.typst_node.specs.Tree.{Tree, forest, count}
 use Rattle.typst_node.specs.Numbers.{stride, numbered_list, numbered_forest}
 use Rattle.typst_node.specs.Same.{front}

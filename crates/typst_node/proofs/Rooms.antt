@@ -5,7 +5,8 @@ use Rattle.std.proofs.lemmas.Bool.Decides.{nat_tests}
 use Rattle.std.proofs.lemmas.List.{take_rest}
 use Rattle.std.proofs.lemmas.Option.{slice_get_past}
 use Rattle.typst_node.specs.declared.replace.Stretch.{Stretch}
-use Rattle.typst_node_data.specs.Head.{Head, Place, number_of}
+use Rattle.typst_kinds.specs.Span.{SpanValue, number_of}
+use Rattle.typst_node_data.specs.Head.{Head}
 use Rattle.typst_node.specs.Tree.{Tree, forest, count, bare, bare_forest}
 use Rattle.typst_node.specs.Same.{front}
 use Rattle.typst_node.specs.Replace.{kids_of, with_kids, left_of, right_of, wanted, room, has_room, is_all, growth, stretch, fit, middle, back, in_file, swapped, exchanged, renumbered, replaced, Reaches}
@@ -91,7 +92,7 @@ replaced_full from to new t r e = by_file t.head.span refl e
     by_kids None e = refl
     by_kids (Some ys) e = absurd (cc)
 
-    by_file : (sp : Place) → t.head.span ≡ sp → option_map (with_kids t) (in_file sp t.head (kids_of t) from to new) ≡ None → IsFull from to new t
+    by_file : (sp : SpanValue) → t.head.span ≡ sp → option_map (with_kids t) (in_file sp t.head (kids_of t) from to new) ≡ None → IsFull from to new t
     by_file None q e = inl q
     by_file (Some p) q e =
         let a = front (slice_range (kids_of t) from to) new in

@@ -2,7 +2,8 @@
 use Rattle.std.proofs.Common.{◌≡◌, ℕ, ◌+◌, List, [], ◌∷◌, ◌++◌, length, take, drop, Option, Some, None, refl, sym}
 use Rattle.std.specs.Prelude.{option_map, option_and_then, slice_get, slice_set, slice_range}
 use Rattle.typst_node.specs.declared.replace.Stretch.{Stretch}
-use Rattle.typst_node_data.specs.Head.{Head, Place}
+use Rattle.typst_kinds.specs.Span.{SpanValue}
+use Rattle.typst_node_data.specs.Head.{Head}
 use Rattle.typst_node.specs.Tree.{Tree, forest, count}
 use Rattle.typst_node.specs.Replace.{kids_of, with_kids, in_file, swapped, exchanged, renumbered, fit, growth, stretch, replaced, replaced_at, At, Reaches}
 use Rattle.typst_node.specs.Laws.{Along, AtPath}
@@ -21,7 +22,7 @@ inside t u from to new e = by_file t.head.span e
     by_kids file None s e = absurd (cc)
     by_kids file (Some ys) s e = let same : with_kids t ys ≡ u = cc in record { file = file; kids = ys; swaps = s; is = same }
 
-    by_file : (sp : Place) → option_map (with_kids t) (in_file sp t.head (kids_of t) from to new) ≡ Some u → Inside t u from to new
+    by_file : (sp : SpanValue) → option_map (with_kids t) (in_file sp t.head (kids_of t) from to new) ≡ Some u → Inside t u from to new
     by_file None e = absurd (cc)
     by_file (Some p) e = by_kids p.0 (swapped p.0 t.head (kids_of t) from to (slice_range (kids_of t) from to) new) refl e
 

@@ -7,10 +7,11 @@ use Rattle.std.specs.Global.{Vec}
 use Rattle.std.specs.Vec.{with_items}
 use Rattle.std.proofs.lemmas.List.{with_items_is, length-map}
 use Rattle.std.proofs.lemmas.List.{take_all, drop_all}
-use Rattle.typst_node_data.specs.Head.{Head, Place, spanned}
+use Rattle.typst_kinds.specs.Span.{SpanValue}
+use Rattle.typst_node_data.specs.Head.{Head, spanned}
 use Rattle.typst_node.specs.Tree.{Forest, none, more, Tree, forest, joined, count, with_each, synthesized, at_tree, with_kind}
 
-pub joined_spanned : (sp : Place) (f : Forest) → joined (with_each (spanned sp) f) ≡ joined f
+pub joined_spanned : (sp : SpanValue) (f : Forest) → joined (with_each (spanned sp) f) ≡ joined f
 joined_spanned sp none = refl
 joined_spanned sp (more h ks r) = simp (joined_spanned sp ks, joined_spanned sp r)
 
@@ -18,7 +19,7 @@ pub count_with_each : (set : Head → Head) (f : Forest) → count (with_each se
 count_with_each set none = refl
 count_with_each set (more h ks r) = omega (arith, count_with_each set ks, count_with_each set r)
 
-pub forest_synthesized : (sp : Place) (ts : List Tree) → forest (map (synthesized sp) ts) ≡ with_each (spanned sp) (forest ts)
+pub forest_synthesized : (sp : SpanValue) (ts : List Tree) → forest (map (synthesized sp) ts) ≡ with_each (spanned sp) (forest ts)
 forest_synthesized sp [] = refl
 forest_synthesized sp (t ∷ ts) = ap (more (spanned sp t.head) (with_each (spanned sp) t.kids)) (forest_synthesized sp ts)
 

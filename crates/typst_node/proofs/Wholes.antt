@@ -2,7 +2,8 @@
 use Rattle.std.proofs.Common.{◌≡◌, ℕ, zero, suc, ◌+◌, ◌<◌, true, false, List, [], ◌∷◌, ◌++◌, length, take, get_or, refl, ap, sym, ◌∙◌, subst, arith, add-one, if◌then◌else◌}
 use Rattle.typst_kinds.specs.declared.kind.SyntaxKind.{SyntaxKind}
 use Rattle.typst_kinds.specs.Kinds.{is_error}
-use Rattle.typst_node_data.specs.Head.{Place, bare_head, spanned}
+use Rattle.typst_kinds.specs.Span.{SpanValue}
+use Rattle.typst_node_data.specs.Head.{bare_head, spanned}
 use Rattle.typst_node.specs.Tree.{Forest, none, more, Tree, forest, bare, bare_forest, with_each, synthesized, with_kind, at_tree}
 use Rattle.typst_node.specs.Numbers.{numbered_list}
 use Rattle.typst_node.specs.Order.{IsWholeForest, IsWhole}
@@ -50,11 +51,11 @@ whole_more [] i x h e w v = absurd (omega arith)
 whole_more (y ∷ xs) zero x h e w v = let u : IsWhole y = subst (λ (t : Tree). IsWhole t) e v in (u.0, u.1, tt)
 whole_more (y ∷ xs) (suc i) x h e w v = rw add-one (w.0, w.1, rw add-one at (whole_more xs i x (omega arith) e w.2 v))
 
-with_each_bare : (sp : Place) (f : Forest) → bare_forest (with_each (spanned sp) f) ≡ bare_forest f
+with_each_bare : (sp : SpanValue) (f : Forest) → bare_forest (with_each (spanned sp) f) ≡ bare_forest f
 with_each_bare sp none = refl
 with_each_bare sp (more h ks r) = λ i. more (bare_head h) (with_each_bare sp ks i) (with_each_bare sp r i)
 
-pub whole_synthesized : (sp : Place) (t : Tree) → IsWhole t → IsWhole (synthesized sp t)
+pub whole_synthesized : (sp : SpanValue) (t : Tree) → IsWhole t → IsWhole (synthesized sp t)
 whole_synthesized sp t w =
     whole_same_tree (synthesized sp t) t (λ i. record { head = bare_head t.head; kids = with_each_bare sp t.kids i }) w
 

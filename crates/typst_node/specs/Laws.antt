@@ -1,6 +1,7 @@
 -- What replacing keeps, as statements about its definition.
 use Rattle.std.specs.Prelude.{◌≡◌, ℕ, ◌+◌, ◌-◌, ◌<◌, max, ◌⊎◌, List, [], ◌∷◌, ◌++◌, length, take, drop, slice_get, slice_set, slice_range, Option, Some, None, option_map}
-use Rattle.typst_node_data.specs.Head.{Head, number_of}
+use Rattle.typst_kinds.specs.Span.{number_of}
+use Rattle.typst_node_data.specs.Head.{Head}
 use Rattle.typst_node.specs.Tree.{Tree, forest, joined, text_of, count, bare, at_child}
 use Rattle.typst_node.specs.Same.{front}
 use Rattle.typst_node.specs.Order.{IsWhole, IsNumbered, AreInOrder, numbers_of}

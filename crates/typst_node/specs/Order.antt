@@ -1,6 +1,7 @@
 -- Numbers that stand in order.
 use Rattle.std.specs.Prelude.{◌≡◌, ℕ, ◌+◌, ◌<◌, ◌≤◌, false, List, [], ◌∷◌, ◌++◌, AllPairs, if◌then◌else◌}
-use Rattle.typst_node_data.specs.Head.{Head, number_of}
+use Rattle.typst_kinds.specs.Span.{number_of}
+use Rattle.typst_node_data.specs.Head.{Head}
 use Rattle.typst_node.specs.Tree.{Forest, none, more, Tree}
 
 -- leaves have no children

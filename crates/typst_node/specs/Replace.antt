@@ -1,7 +1,8 @@
 -- Children replaced along a path.
 use Rattle.std.specs.Prelude.{◌^◌, ℕ, zero, suc, ◌+◌, ◌-◌, ◌*◌, ◌≤◌, ◌<◌, Bool, nat_le, ◌==◌, ◌&&◌, min, max, IsTrue, List, [], ◌∷◌, ◌++◌, length, take, drop, reverse, Option, Some, None, option_map, option_and_then, slice_get, slice_set, slice_range, if◌then◌else◌}
 use Rattle.typst_node.specs.declared.replace.Stretch.{Stretch}
-use Rattle.typst_node_data.specs.Head.{Head, Place, number_of}
+use Rattle.typst_kinds.specs.Span.{SpanValue, number_of}
+use Rattle.typst_node_data.specs.Head.{Head}
 use Rattle.typst_node.specs.Tree.{Tree, forest, trees, count}
 use Rattle.typst_node.specs.Numbers.{numbered_list, stride}
 use Rattle.typst_node.specs.Same.{front}
@@ -107,7 +108,7 @@ swapped file h xs from to old new =
     let a = front old new in let b = back a old new in exchanged file h xs (from + a) (to - b) (middle a b new)
 
 -- a node without a file takes no child
-abbrev pub in_file : Place → Head → List Tree → ℕ → ℕ → List Tree → Option (List Tree)
+abbrev pub in_file : SpanValue → Head → List Tree → ℕ → ℕ → List Tree → Option (List Tree)
 in_file None h xs from to new = None
 in_file (Some p) h xs from to new = swapped p.0 h xs from to (slice_range xs from to) new
 

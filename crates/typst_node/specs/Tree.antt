@@ -1,13 +1,14 @@
 -- A syntax tree as contracts see it, and the functions of it that contracts name.
-use Rattle.std.specs.Prelude.{◌≡◌, ℕ, ◌+◌, ◌-◌, ◌^◌, ◌≤◌, List, [], ◌∷◌, ◌++◌, min, zero, suc, refl, if◌then◌else◌}
+use Rattle.std.specs.Prelude.{◌≡◌, ℕ, ◌+◌, ◌-◌, ◌^◌, ◌≤◌, List, [], ◌∷◌, ◌++◌, None, min, zero, suc, refl, if◌then◌else◌}
 use Rattle.std.specs.Coded.{Coded, code_by, coded×}
 use Rattle.std.proofs.Common.{ap, subst, sym, arith}
 use base.Stored.{Gv, gnil, gnum, gcons}
 use denote.Param.Weighed.{most}
 use Rattle.typst_kinds.specs.declared.kind.SyntaxKind.{SyntaxKind}
 use Rattle.typst_kinds.specs.Kinds.{is_error}
-use Rattle.typst_node_data.specs.Diagnostic.{Diagnostic, Hint}
-use Rattle.typst_node_data.specs.Head.{Head, Place, head_code, bare_head, spanned, leaf_head, inner_head, error_head, diagnosed, helped}
+use Rattle.typst_node_data.specs.Diagnostic.{Diagnostic, Hint, hint_with}
+use Rattle.typst_kinds.specs.Span.{SpanValue}
+use Rattle.typst_node_data.specs.Head.{Head, head_code, bare_head, spanned, leaf_head, inner_head, error_head, diagnosed, helped}
 
 -- several trees: none, or a first one by its head and children, and then more
 pub data Forest : Type 0 where
@@ -115,7 +116,7 @@ with_each set none = none
 with_each set (more h ks r) = more (set h) (with_each set ks) (with_each set r)
 
 -- the tree with one span at each node
-abbrev pub synthesized : Place → Tree → Tree
+abbrev pub synthesized : SpanValue → Tree → Tree
 synthesized sp t = record { head = spanned sp t.head; kids = with_each (spanned sp) t.kids }
 
 -- a leaf that was just made
@@ -159,3 +160,8 @@ remarked d t = topped t (diagnosed d t.head)
 -- the tree whose root's last diagnostic, if there is one, has one more hint
 abbrev pub advised : Hint → Tree → Tree
 advised n t = topped t (helped n t.head)
+
+-- the tree with a hint for each message, in their order
+abbrev pub all_advised : List (List ℕ) → Tree → Tree
+all_advised [] t = t
+all_advised (message ∷ messages) t = all_advised messages (advised (hint_with None message) t)

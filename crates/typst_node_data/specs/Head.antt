@@ -1,27 +1,24 @@
 -- What a node is without its children.
-use Rattle.std.specs.Prelude.{ℕ, Bool, true, false, List, [], ◌∷◌, ◌++◌, Option, None, Some, length, refl, if◌then◌else◌}
+use Rattle.std.specs.Prelude.{ℕ, Bool, true, false, List, [], ◌∷◌, ◌++◌, None, length, refl, if◌then◌else◌}
 use Rattle.std.specs.Coded.{Coded, code_by, coded×, coded_ℕ, coded_bool, coded_list, coded_option}
+use Rattle.typst_kinds.specs.Span.{SpanValue, number_of}
 use Rattle.typst_kinds.specs.declared.kind.SyntaxKind.{SyntaxKind}
 use Rattle.typst_kinds.specs.declared.kind.SyntaxKind.TheVariants.{Error}
 use Rattle.typst_kinds.specs.contracts.kind.SyntaxKind.{the_row as kind_row}
 use Rattle.typst_node_data.specs.Diagnostic.{Diagnostic, Hint, diagnostic_code, error_with, at_last, hinted}
-
--- a file and a number in it, or neither
-abbrev pub Place : Type 0
-Place = Option (ℕ × ℕ)
 
 -- a node without its children. An inner node has no text of its own, and a leaf has 0 as upper end
 pub record Head : Type 0 where
   pub kind : SyntaxKind
   pub is_inner : Bool
   pub text : List ℕ
-  pub span : Place
+  pub span : SpanValue
   pub upper : ℕ
   pub diagnostics : List Diagnostic
 
 abbrev pub head_code : Coded Head
 head_code =
-    code_by (SyntaxKind × (Bool × (List ℕ × (Place × (ℕ × List Diagnostic)))))
+    code_by (SyntaxKind × (Bool × (List ℕ × (SpanValue × (ℕ × List Diagnostic)))))
     (coded× kind_row.coded (coded× coded_bool (coded× (coded_list coded_ℕ) (coded× (coded_option (coded× coded_ℕ coded_ℕ)) (coded× coded_ℕ (coded_list diagnostic_code))))))
     (λ h. (h.kind, (h.is_inner, (h.text, (h.span, (h.upper, h.diagnostics))))))
     (λ p. record { kind = p.0; is_inner = p.1.0; text = p.1.1.0; span = p.1.1.1.0; upper = p.1.1.1.1.0; diagnostics = p.1.1.1.1.1 })
@@ -39,21 +36,16 @@ own_code =
     (λ p. record { head = p.0; len = p.1.0; descendants = p.1.1 })
     (λ _. refl)
 
--- the number of a span, or 0 where it is detached
-abbrev pub number_of : Place → ℕ
-number_of None = 0
-number_of (Some p) = p.1
-
 -- the head, spans aside
 abbrev pub bare_head : Head → Head
 bare_head h = record h { span = None; upper = 0 }
 
 -- the head with a span, and with an upper end where the node is an inner one
-abbrev pub located : Place → ℕ → Head → Head
+abbrev pub located : SpanValue → ℕ → Head → Head
 located sp e h = record h { span = sp; upper = if h.is_inner then e else 0 }
 
 -- the head with a span, whose number is the upper end
-abbrev pub spanned : Place → Head → Head
+abbrev pub spanned : SpanValue → Head → Head
 spanned sp h = located sp (number_of sp) h
 
 -- the head of a leaf that was just made

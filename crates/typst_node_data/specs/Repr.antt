@@ -1,25 +1,26 @@
 -- How the parts of a node stand in memory, and what contracts see of them.
 use Rattle.std.specs.Prelude.{ℕ, ◌≤◌, ◌^◌, true, false, List, []}
 use Rattle.typst_kinds.specs.declared.kind.SyntaxKind.{SyntaxKind}
-use Rattle.typst_node_data.specs.Head.{Own, Place, leaf_own}
+use Rattle.typst_kinds.specs.Span.{SpanValue}
+use Rattle.typst_node_data.specs.Head.{Own, leaf_own}
 use Rattle.typst_node_data.specs.declared.own.Extent.{Extent}
 use Rattle.typst_node_data.specs.declared.own.Parts.{Parts}
 use Rattle.typst_node_data.specs.declared.own.Repr.{Repr}
 use Rattle.typst_node_data.specs.declared.own.Repr.TheVariants.{ShortLeaf, LongLeaf, Inner, Diagnosed}
 
 -- a leaf without diagnostics
-abbrev pub plain_leaf : Place → SyntaxKind → List ℕ → Own
+abbrev pub plain_leaf : SpanValue → SyntaxKind → List ℕ → Own
 plain_leaf sp k s = leaf_own (record { kind = k; is_inner = false; text = s; span = sp; upper = 0; diagnostics = [] })
 
-abbrev pub plain_inner : Place → SyntaxKind → Extent → Own
+abbrev pub plain_inner : SpanValue → SyntaxKind → Extent → Own
 plain_inner sp k x =
     record { head = record { kind = k; is_inner = true; text = []; span = sp; upper = x.upper; diagnostics = [] }; len = x.len; descendants = x.descendants }
 
-abbrev pub of_parts : Place → SyntaxKind → Parts → Own
+abbrev pub of_parts : SpanValue → SyntaxKind → Parts → Own
 of_parts sp k p =
     record { head = record { kind = k; is_inner = p.is_inner; text = p.text; span = sp; upper = p.extent.upper; diagnostics = p.diagnostics.items }; len = p.extent.len; descendants = p.extent.descendants }
 
-abbrev pub own_of : Place → Repr → Own
+abbrev pub own_of : SpanValue → Repr → Own
 own_of sp (ShortLeaf k s) = plain_leaf sp k s
 own_of sp (LongLeaf k s) = plain_leaf sp k s
 own_of sp (Inner k x) = plain_inner sp k x

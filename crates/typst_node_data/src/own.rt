@@ -1,5 +1,6 @@
 ghost use Rattle.std.specs.Prelude.{◌≡◌, ◌≤◌, ◌<◌, ◌^◌, ◌↔◌, IfOk, OnOk, OnErr, IsTrue, false};
-ghost use Rattle.typst_node_data.specs.Head.{bare_head, located, spanned, leaf_head, inner_head, error_head, leaf_own, with_head, diagnosed, helped, number_of};
+ghost use Rattle.typst_kinds.specs.Span.{number_of};
+ghost use Rattle.typst_node_data.specs.Head.{bare_head, located, spanned, leaf_head, inner_head, error_head, leaf_own, with_head, diagnosed, helped};
 ghost use Rattle.typst_node_data.specs.Diagnostic.{at_last, hinted};
 
 use crate::diagnostic::{clone_diagnostics, same_diagnostics};
@@ -54,17 +55,6 @@ impl Model for Own {
     ghost view = { λ o. own_of o.span o.repr };
 
     ghost invariant = { λ o. IsOwn o.repr };
-}
-
-/// The number of a span, or 0 where it is detached.
-fn number_of(span: Span) -> u64
-    ensures value { result ≡ number_of span }
-    ensures small { result < 2 ^ 47 }
-{
-    match span.number() {
-        None => 0,
-        Some(number) => number.get(),
-    }
 }
 
 // Makers.
@@ -217,7 +207,7 @@ impl Own {
         ensures value { result ≡ number_of self.now.head.span }
         ensures small { result < 2 ^ 47 }
     {
-        number_of(self.span)
+        self.span.number_or_zero()
     }
 
     pub fn diagnostics(&self) -> &[Diagnostic]
@@ -337,7 +327,7 @@ impl Own {
     pub fn set_span(&mut self, span: Span)
         ensures { self.new ≡ with_head self.old (spanned span self.old.head) }
     {
-        self.locate(span, number_of(span));
+        self.locate(span, span.number_or_zero());
     }
 
     /// Adds a diagnostic behind the others.

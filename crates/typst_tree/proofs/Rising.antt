@@ -5,7 +5,7 @@ use Rattle.std.proofs.lemmas.List.{map-append}
 use Rattle.std.proofs.lemmas.List.Elements.{All-cons}
 use Rattle.std.proofs.lemmas.List.Kept.{AllPairs-cons}
 use Rattle.std.proofs.lemmas.Bool.Decides.{nat_tests}
-use Rattle.typst_node_data.specs.Head.{number_of}
+use Rattle.typst_kinds.specs.Span.{number_of}
 use Rattle.typst_node.specs.Tree.{Forest, none, more, Tree, forest, places, preorder, nodes, text_of, saturated}
 use Rattle.typst_node.specs.Order.{numbers, numbers_of, AreInOrder}
 use Rattle.typst_tree.specs.Walks.{first_at, Stands}

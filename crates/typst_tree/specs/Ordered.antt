@@ -1,6 +1,6 @@
 -- Numbers in order, and searches for a number.
 use Rattle.std.specs.Prelude.{◌≡◌, ℕ, ◌+◌, nat_le, nat_lt, Bool, true, IsTrue, List, [], ◌∷◌, Option, Some, None, if◌then◌else◌}
-use Rattle.typst_node_data.specs.Head.{number_of}
+use Rattle.typst_kinds.specs.Span.{number_of}
 use Rattle.typst_node.specs.Tree.{Forest, none, more, Tree}
 
 -- the number behind those of some nodes, where each is above the one before it and the first at least a

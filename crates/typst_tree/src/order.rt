@@ -8,7 +8,7 @@ ghost use Rattle.typst_tree.specs.Walks.{first_at, Within};
 ghost use Rattle.typst_tree.specs.Wanted.{wanted};
 ghost use Rattle.typst_tree.specs.Ordered.{climb, begins_past, IsKey};
 
-use crate::search::{Search, Spot, first_in, span_number};
+use crate::search::{Search, Spot, first_in};
 use typst_node::SyntaxNode;
 
 /// The number behind those of the node and of all below it, if each is above the one before it
@@ -17,7 +17,7 @@ fn climb(node: &SyntaxNode, least: u64) -> Option<u64>
     ensures value { result ≡ climb least (places node.now) }
     ensures small { IfSome result (λ m. m ≤ 2 ^ 47) }
 {
-    let own = span_number(node.span());
+    let own = node.span().number_or_zero();
     if own < least {
         return None;
     }
@@ -42,7 +42,7 @@ fn begins_past(trees: &[SyntaxNode], key: u64) -> bool
 {
     match trees.first() {
         None => true,
-        Some(tree) => key < span_number(tree.span()),
+        Some(tree) => key < tree.span().number_or_zero(),
     }
 }
 
@@ -61,7 +61,7 @@ fn first_in_order<'a>(
     ensures first { option_map (λ spot. spot.number) result ≡ first_at (wanted search.now) number offset (places node.now) }
     ensures spot { IfSome result (λ spot. Within number offset (places node.now) spot.number spot.offset (places spot.node.now)) }
 {
-    if key < span_number(node.span()) {
+    if key < node.span().number_or_zero() {
         return None;
     }
     if search.wants(number, offset, node) {

@@ -2,7 +2,6 @@
 
 ghost use Rattle.std.specs.Prelude.{◌≡◌, ◌+◌, ◌^◌, ◌<◌, ◌-◌, true, None, IfSome, IsTrue, ◌↔◌};
 ghost use Rattle.std.specs.Option.{option_map};
-ghost use Rattle.typst_node_data.specs.Head.{number_of};
 ghost use Rattle.typst_node.specs.Tree.{nodes, places};
 ghost use Rattle.typst_tree.specs.Walks.{first_at, last_leaf, is_childless, is_leaf, has_child, holds_byte, Within};
 ghost use Rattle.typst_tree.specs.Wanted.{wanted};
@@ -107,21 +106,10 @@ impl Search {
         ensures { IfSome result (λ m. IsKey (wanted self.now) m) }
     {
         match self {
-            Search::Spanned(span) => Some(span_number(*span)),
+            Search::Spanned(span) => Some(span.number_or_zero()),
             Search::Numbered(number) => Some(number.get()),
             _ => None,
         }
-    }
-}
-
-/// The number of a span, or 0 where it is detached.
-pub fn span_number(span: Span) -> u64
-    ensures value { result ≡ number_of span }
-    ensures small { result < 2 ^ 47 }
-{
-    match span.number() {
-        None => 0,
-        Some(number) => number.get(),
     }
 }
 

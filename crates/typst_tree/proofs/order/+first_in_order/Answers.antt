@@ -1,5 +1,5 @@
 use Rattle.std.proofs.Common.{◌≡◌, ◌+◌, ◌<◌, ◌^◌, ◌∷◌, ap, sym, subst, ◌∙◌, arith, length}
-use Rattle.typst_node_data.specs.Head.{number_of}
+use Rattle.typst_kinds.specs.Span.{number_of}
 use Rattle.typst_node.specs.Tree.{forest, nodes, places, preorder, saturated, text_of, count}
 use Rattle.typst_tree.specs.Walks.{first_at, Within}
 use Rattle.typst_tree.specs.Wanted.{wanted}
@@ -7,9 +7,9 @@ use Rattle.typst_tree.proofs.Rising.{Rising, none_past, none_in_first, found_onl
 use Rattle.typst_tree.proofs.Walking.{within_self, within_in, within_first, within_rest, within_children, within_same, found_below, found_next}
 use Rattle.typst_tree.proofs.order.+first_in_order.Goals as goal
 
-pub returns-then-key-span_number-clause-first : goal.returns-then-key-span_number-clause-first
-returns-then-key-span_number-clause-first t c =
-    sym (none_past (wanted c.args.search.now) c.args.key c.args.number c.args.offset c.args.node.now c.requires.keyed (omega (arith, c.if-key-span_number.true, c.span_number.ensures.value, ap number_of c.span.ensures)) c.requires.in_order)
+pub returns-then-key-number_or_zero-clause-first : goal.returns-then-key-number_or_zero-clause-first
+returns-then-key-number_or_zero-clause-first t c =
+    sym (none_past (wanted c.args.search.now) c.args.key c.args.number c.args.offset c.args.node.now c.requires.keyed (omega (arith, c.if-key-number_or_zero.true, c.number_or_zero.ensures.value, ap number_of c.span.ensures)) c.requires.in_order)
 
 pub returns-then-wants-clause-spot : goal.returns-then-wants-clause-spot
 returns-then-wants-clause-spot t c =
