@@ -6,8 +6,8 @@ use Rattle.typst_kinds.specs.declared.kind.SyntaxKind.TheVariants as kind
 use Rattle.typst_kinds.specs.declared.mode.SyntaxMode.{SyntaxMode}
 use Rattle.typst_lines.specs.Place.{Place, moved}
 use Rattle.typst_classes.specs.Classes.{CharClasses}
-use Rattle.typst_lexer.specs.Nodes.{token_node}
-use Rattle.typst_lexer.specs.declared.token.Token.{Token}
+use Rattle.typst_token_nodes.specs.Nodes.{token_node}
+use Rattle.typst_tokens.specs.declared.token.Token.{Token}
 use Rattle.typst_readers.specs.Reader.{Look, look}
 use Rattle.typst_lexer.specs.Tokens.{token}
 use Rattle.typst_combinators.specs.declared.reading.AtNewline.TheVariants.{Continue, Stop, ContextualContinue, StopParBreak, RequireColumn}

@@ -22,7 +22,7 @@ use Rattle.typst_combinators.specs.Shape.Making.{itself, of_kind, surprise, want
 use Rattle.typst_combinators.specs.Shape.Shape.{keeps, holds, lacks, warns, fails}
 use Rattle.typst_combinators.specs.declared.reading.Reading.{Reading}
 use Rattle.typst_classes.specs.Classes.{CharClasses}
-use Rattle.typst_lexer.specs.Nodes.{token_node}
+use Rattle.typst_token_nodes.specs.Nodes.{token_node}
 use Rattle.typst_lexer.specs.Tokens.{token}
 use Rattle.typst_combinators.specs.Hand.{Hand, utf8_ahead, token_at, len_at, token_by, len_by, at_trivia, Ahead, after_trivia, direct, ahead_by, ahead, hand_at, told, column_at}
 use Rattle.typst_combinators.specs.Syntax.{Op, Begin, Parser}
@@ -36,7 +36,6 @@ use Rattle.typst_combinators.specs.Ask.Ask.{looked}
 use Rattle.typst_readers.specs.Reader.{look}
 use Rattle.typst_combinators.proofs.Within.{grew}
 use Rattle.typst_combinators.proofs.Hints.{length-hinted}
-use Rattle.typst_combinators.specs.Sound.{Tidy, Backs}
 use Rattle.typst_combinators.proofs.Backs.{backs-turns, backs-run}
 use Rattle.typst_combinators.proofs.Tokens.{text-token}
 use Rattle.typst_combinators.proofs.Places.{moved-sum, less-append, less-twice, less-none, length-less, moved-ahead}

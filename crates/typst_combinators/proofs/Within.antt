@@ -11,7 +11,8 @@ use Rattle.typst_combinators.specs.Shape.{Shape, after_node, after_change, after
 use Rattle.typst_combinators.specs.Shape.Shape.{keeps, holds, lacks, warns, fails}
 use Rattle.typst_combinators.specs.declared.reading.Reading.{Reading}
 use Rattle.typst_readers.specs.Reader.{Reader}
-use Rattle.typst_lexer.specs.declared.token.Token.{Token}
+use Rattle.typst_tokens.specs.declared.token.Token.{Token}
+use Rattle.typst_tokens.specs.Memory.{Memory}
 use Rattle.typst_combinators.specs.Calls.{Answer}
 use Rattle.typst_combinators.specs.Hand.{Ahead, len_at, len_by, at_trivia, ahead_by, ahead, hand_at}
 use Rattle.typst_combinators.specs.Syntax.{Op, Begin, Parser}
@@ -79,7 +80,7 @@ unfolding hand_at ahead
 trivia-short k held None z = omega (arith, ahead-short k held.mode (length z.ahead) z)
 trivia-short k held (Some t) z = omega arith
 
-so-fits : (k : CharClasses) (held : Reading) (known : Option Trivia) (z : Place) (r : Reader Token) → Room z (gap_of known) ((hand_at k held known z).gap + len_by r (moved (hand_at k held known z).gap z)) 0
+so-fits : (k : CharClasses) (held : Reading) (known : Option Trivia) (z : Place) (r : Reader Memory Token) → Room z (gap_of known) ((hand_at k held known z).gap + len_by r (moved (hand_at k held known z).gap z)) 0
 so-fits k held known z r =
     let g = (hand_at k held known z).gap in
     omega (arith, trivia-short k held known z, ahead-left g z, ahead-left (g + len_by r (moved g z)) z)

@@ -8,9 +8,10 @@ use Rattle.typst_kinds.specs.Kinds.{is_error}
 use Rattle.typst_node.specs.Tree.{Tree, text_of, error_of}
 use Rattle.typst_classes.specs.Classes.{CharClasses}
 use Rattle.typst_readers.specs.Reader.{Reader, look}
-use Rattle.typst_lexer.specs.Nodes.{token_node}
+use Rattle.typst_token_nodes.specs.Nodes.{token_node}
 use Rattle.typst_lexer.specs.Tokens.{token}
-use Rattle.typst_lexer.specs.declared.token.Token.{Token}
+use Rattle.typst_tokens.specs.declared.token.Token.{Token}
+use Rattle.typst_tokens.specs.Memory.{Memory}
 use Rattle.typst_combinators.specs.declared.reading.AtNewline.{AtNewline}
 use Rattle.typst_combinators.specs.declared.reading.AtNewline.TheVariants.{Continue, Stop, ContextualContinue, StopParBreak, RequireColumn}
 use Rattle.typst_combinators.specs.declared.calls.Block.{Block}
@@ -254,7 +255,7 @@ gave h trims len node asks s = record (plain tt (renewed (after_node (is_error n
 
 module _ (l : Level) where
   -- the token at hand, read from its start in another way
-  abbrev pub reader_so : Way → Reader Token
+  abbrev pub reader_so : Way → Reader Memory Token
   reader_so way = token_so l.classes way
 
   abbrev pub done : {A : Type 0} → Op A → Meaning A

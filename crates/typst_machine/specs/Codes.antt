@@ -7,8 +7,8 @@ use Rattle.typst_lines.specs.Place.{Place}
 use Rattle.typst_node.specs.Tree.{Tree, tree_code}
 use Rattle.typst_readers.specs.declared.hull.Hull.{Hull}
 use Rattle.typst_readers.specs.contracts.hull.Hull.{the_row as hull_row}
-use Rattle.typst_lexer.specs.declared.token.Token.{Token}
-use Rattle.typst_lexer.specs.contracts.token.Token.{the_row as token_row}
+use Rattle.typst_tokens.specs.declared.token.Token.{Token}
+use Rattle.typst_tokens.specs.contracts.token.Token.{the_row as token_row}
 use Rattle.typst_combinators.specs.declared.reading.Newlines.{Newlines}
 use Rattle.typst_combinators.specs.contracts.reading.Newlines.{the_row as newlines_row}
 use Rattle.typst_combinators.specs.declared.reading.Note.{Note}

@@ -1,9 +1,11 @@
 use lib.Utf8.{encode}
 use Rattle.std.proofs.Common.{refl}
-use Rattle.typst_lexer.specs.Characters.{number_after}
-use Rattle.typst_lexer.specs.Common.{line_ends, whitespace, shebang, line_comment, block_comment, comment_end}
-use Rattle.typst_lexer.specs.Markup.{markup as markup_token, heading as heading_token, sign, code_point, backslash, dot, marker_or_text, marker, hyphen, minus, emphasis, numbering}
-use Rattle.typst_lexer.specs.Text.{text as text_token, text_from}
+use Rattle.typst_tokens.specs.Characters.{number_after}
+use Rattle.typst_tokens.specs.Common.{line_ends, whitespace, shebang, line_comment, block_comment, comment_end}
+use Rattle.typst_markup_tokens.specs.Markup.{markup as markup_token, heading as heading_token, dot, marker_or_text, marker, hyphen, minus, emphasis, numbering}
+use Rattle.typst_tokens.specs.Common.{sign}
+use Rattle.typst_tokens.specs.Escapes.{code_point, backslash}
+use Rattle.typst_markup_tokens.specs.Text.{text as text_token, text_from}
 use Rattle.typst_lexer.specs.Tokens.{of_mode, hash, slash, star, token}
 use Rattle.typst_combinators.specs.Hand.{ahead, ahead_asks, column_at, hand_at, hand_asks}
 use Rattle.typst_combinators.specs.Knot.{meaning_of}
