@@ -7,12 +7,12 @@ use Rattle.typst_combinators.specs.declared.calls.Call.{Call}
 use Rattle.typst_combinators.specs.Point.{Point, forgot}
 use Rattle.typst_combinators.specs.Syntax.{Op, Begin, Parser}
 use Rattle.typst_combinators.specs.Syntax.Op.{hand, so, further, column, erred, takes, takes_so, flushes, complains, advises, marks, is_deepest}
-use Rattle.typst_combinators.specs.Syntax.Parser.{gives, does, next, pick, repeat, wraps, grows, scoped, sees, either, calls, block}
-use Rattle.typst_combinators.specs.Meaning.{Outcome, Meaning, Level, joined, answered, followed, turns, as_last, bound, repeated, before, wrapped, grown, is_more, growths, growing, with_seen, closed, bounded, deeper_by_one, given_up, chosen, entered, left_to, plain, done, run}
+use Rattle.typst_combinators.specs.Syntax.Parser.{gives, does, next, pick, repeat, wraps, grows, nests, scoped, sees, either, calls, block}
+use Rattle.typst_combinators.specs.Meaning.{Outcome, Meaning, Level, joined, answered, followed, turns, as_last, bound, repeated, before, wrapped, grown, is_more, growths, growing, nestings, nesting, with_seen, closed, bounded, deeper_by_one, given_up, chosen, entered, left_to, plain, done, run}
 use Rattle.typst_combinators.specs.Sound.{Alike}
 use Rattle.typst_combinators.specs.Calls.{Answer}
 use Rattle.typst_combinators.specs.Shape.{Shape}
-use Rattle.typst_combinators.proofs.Within.{grew}
+use Rattle.typst_combinators.proofs.Within.{grew, nest}
 
 or-first : (a b : Bool) → (a || b) ≡ false → a ≡ false
 or-first true b h = cc
@@ -101,6 +101,16 @@ alike-growing m n f b k o u z first h i =
     let h2 = subst (λ x. (growths m b k x z).met ≡ false) e h in
     rw e (alike-growths m n f b k u z h2 i)
 
+alike-nestings : {A : Type 0} (f : A → Shape) (begin : Begin) (m n : A → Meaning (Bool × A)) → ((x : A) → Alike (m x) (n x)) → (k : ℕ) (x : A) → Alike (nestings f begin m k x) (nestings f begin n k x)
+alike-nestings f begin m n g zero x z s h i = refl
+alike-nestings f begin m n g (suc k) x z s h i =
+    let o = n x z s in
+    let u = m x z s in
+    let b = o.value.0 && nat_lt 0 o.taken in
+    let e = g x z s (first-met (u.value.0 && nat_lt 0 u.taken) _ (as_last u) u.met (or-first u.met _) (λ l. l) h) (first-met b _ (as_last o) o.met (or-first o.met _) (λ l. l) i) in
+    let h2 = subst (λ u. (if u.value.0 && nat_lt 0 u.taken then followed u (λ v. nestings f begin m k v.1) z else as_last u).met ≡ false) e h in
+    rw e (ap (nest f (before begin s)) (if-alike b _ _ (as_last o) h2 i (λ l j. ap (joined o) (alike-nestings f begin m n g k o.value.1 (moved o.taken z) o.state (or-second o.met _ l) (or-second o.met _ j)))))
+
 alike-bounded : (b : Block) (m n : Meaning (Unit {0})) → Alike m n → Alike (bounded b m) (bounded b n)
 alike-bounded b m n f z s h i = ap (λ o. closed b s o) (f z (forgot s) h i)
 
@@ -129,7 +139,7 @@ module _ (k : CharClasses) (i j : ℕ) (d e : (c : Call) → Meaning (Answer c))
   module _ (f : (c : Call) → Alike (d c) (e c)) (g : (x : Block) → Alike (a x) (b x)) where
     -- the law of depth
     pub alike-run : {A : Type 0} (p : Parser A) → Alike (run one p) (run other p)
-    unfolding run repeated growing
+    unfolding run repeated growing nesting
     alike-run (gives x) z s h i = refl
     alike-run (does o) z s h i = alike-done o z s h i
     alike-run (next p q) z s h i = alike-followed (run one p) (run other p) (λ x. run one (q x)) (λ x. run other (q x)) (alike-run p) (λ x. alike-run (q x)) z s h i
@@ -138,6 +148,7 @@ module _ (k : CharClasses) (i j : ℕ) (d e : (c : Call) → Meaning (Answer c))
     alike-run (wraps w begin p) z s h i = ap (wrapped w (before begin s)) (alike-run p z s h i)
     alike-run (grows begin p q) z s h i =
         alike-growing (λ y. run one (q y)) (λ y. run other (q y)) (λ y. alike-run (q y)) (before begin s) (suc (bound z s)) (run one p z s) (run other p z s) z (alike-run p z s) h i
+    alike-run (nests w begin p x) z s h i = alike-nestings w begin (λ y. run one (p y)) (λ y. run other (p y)) (λ y. alike-run (p y)) (suc (bound z s)) x z s h i
     alike-run (scoped w p) z s h i = ap (left_to s.reading) (alike-run p z (entered (w s.reading) s) h i)
     alike-run (sees p) z s h i = ap with_seen (alike-run p z s h i)
     alike-run (either p is_wrong q) z s h i =

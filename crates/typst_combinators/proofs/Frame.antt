@@ -23,15 +23,15 @@ use Rattle.typst_combinators.specs.Shape.{Shape}
 use Rattle.typst_combinators.proofs.Places.{moved-sum}
 use Rattle.typst_combinators.specs.Syntax.{Op, Begin, Parser}
 use Rattle.typst_combinators.specs.Syntax.Op.{hand, so, further, column, erred, takes, takes_so, flushes, complains, advises, marks, is_deepest}
-use Rattle.typst_combinators.specs.Syntax.Parser.{gives, does, next, pick, repeat, wraps, grows, scoped, sees, either, calls, block}
+use Rattle.typst_combinators.specs.Syntax.Parser.{gives, does, next, pick, repeat, wraps, grows, nests, scoped, sees, either, calls, block}
 use Rattle.typst_kinds.specs.Kinds.{is_trivia}
 use Rattle.typst_node.specs.Tree.{text_of}
 use Rattle.typst_combinators.specs.Shape.{Making, made}
-use Rattle.typst_combinators.specs.Meaning.{Outcome, Meaning, Level, joined, answered, followed, turns, bound, repeated, before, wrapped, grown, is_more, growths, growing, with_seen, closed, bounded, deeper_by_one, given_up, chosen, entered, left_to, plain, hand_of, hand_asks_of, asked, renewed, flushed_state, reader_so, node_by, gave, done, run}
+use Rattle.typst_combinators.specs.Meaning.{Outcome, Meaning, Level, joined, answered, followed, turns, as_last, bound, repeated, before, wrapped, grown, is_more, growths, growing, nestings, nesting, with_seen, closed, bounded, deeper_by_one, given_up, chosen, entered, left_to, plain, hand_of, hand_asks_of, asked, renewed, flushed_state, reader_so, node_by, gave, done, run}
 use Rattle.typst_combinators.specs.Sound.{Framed, Within}
 use Rattle.typst_combinators.specs.Calls.{Answer}
 use Rattle.typst_combinators.proofs.Places.{ahead-left}
-use Rattle.typst_combinators.proofs.Within.{grew, turns-enough, growths-enough, within-run}
+use Rattle.typst_combinators.proofs.Within.{grew, nest, turns-enough, growths-enough, nestings-enough, within-run}
 use Rattle.typst_combinators.proofs.Looks.{same_in-shift, same_in-first, same_in-second, same_in-only, same_in-sunk, SameToken, token-same, column-same}
 
 -- ---- the token at hand
@@ -297,6 +297,23 @@ framed-growing m first n b c f g z w s h =
     let e = g z w s (growths-asks m (n s) k (first z s) z w l) in
     there ∙ ap (λ o. growths m (n s) k o w) e ∙ framed-growths m f (n s) k (first z s) z w l ∙ sym here
 
+framed-nestings : {A : Type 0} (f : A → Shape) (begin : Begin) (m : A → Meaning (Bool × A)) → ((x : A) → Framed (m x)) → (n : ℕ) (x : A) → Framed (nestings f begin m n x)
+framed-nestings f begin m g zero x z w s h = refl
+framed-nestings f begin m g (suc n) x z w s h =
+    let o = m x z s in
+    let b = o.value.0 && nat_lt 0 o.taken in
+    let e = g x z w s (first_asks b (followed o (λ v. nestings f begin m n v.1) z) (as_last o) o.asks z w (same_in-first o.asks _ z w) (λ l. l) h) in
+    rw e (ap (nest f (before begin s)) (if-framed b _ _ (as_last o) z w h (λ l.
+    ap (joined o) (framed-nestings f begin m g n o.value.1 (moved o.taken z) (moved o.taken w) o.state (same_in-shift o.taken _ z w (same_in-second o.asks _ z w l))))))
+
+framed-nesting : {A : Type 0} (f : A → Shape) (begin : Begin) (m : A → Meaning (Bool × A)) → ((x : A) → Within (m x)) → ((x : A) → Framed (m x)) → (x : A) → Framed (nesting f begin m x)
+unfolding nesting
+framed-nesting f begin m w g x z v s h =
+    let k = suc (max (bound z s) (bound v s)) in
+    let here = nestings-enough f begin m w (suc (bound z s)) k x z s (omega arith) (omega arith) in
+    let there = nestings-enough f begin m w (suc (bound v s)) k x v s (omega arith) (omega arith) in
+    there ∙ framed-nestings f begin m g k x z v s (subst (λ o. SameIn o.asks z v) here h) ∙ sym here
+
 framed-bounded : (b : Block) (m : Meaning (Unit {0})) → Framed m → Framed (bounded b m)
 framed-bounded b m f z w s h = ap (λ o. closed b s o) (f z w (forgot s) (same_in-first (m z (forgot s)).asks _ z w h.1))
 
@@ -407,6 +424,7 @@ module _ (l : Level) where
     framed-run (wraps g begin p) z w s h = ap (wrapped g (before begin s)) (framed-run p z w s h)
     framed-run (grows begin p g) z w s h =
         framed-growing (λ y. run l (g y)) (run l p) (before begin) (λ y. within-run l d e (g y)) (within-run l d e p) (λ y. framed-run (g y)) (framed-run p) z w s h
+    framed-run (nests g begin p x) z w s h = framed-nesting g begin (λ y. run l (p y)) (λ y. within-run l d e (p y)) (λ y. framed-run (p y)) x z w s h
     framed-run (scoped g p) z w s h = ap (left_to s.reading) (framed-run p z w (entered (g s.reading) s) h)
     framed-run (sees p) z w s h = ap with_seen (framed-run p z w s h)
     framed-run (either p is_wrong q) z w s h = framed-chosen is_wrong (run l p) (run l q) (framed-run p) (framed-run q) z w s h

@@ -27,8 +27,8 @@ use Rattle.typst_lexer.specs.Tokens.{token}
 use Rattle.typst_combinators.specs.Hand.{Hand, utf8_ahead, token_at, len_at, token_by, len_by, at_trivia, Ahead, after_trivia, direct, ahead_by, ahead, hand_at, told, column_at}
 use Rattle.typst_combinators.specs.Syntax.{Op, Begin, Parser}
 use Rattle.typst_combinators.specs.Syntax.Op.{hand, so, further, column, erred, takes, takes_so, flushes, complains, advises, marks, is_deepest}
-use Rattle.typst_combinators.specs.Syntax.Parser.{gives, does, next, pick, repeat, wraps, grows, scoped, sees, either, calls, block}
-use Rattle.typst_combinators.specs.Meaning.{Outcome, Meaning, Level, less, joined, answered, followed, turns, as_last, bound, repeated, before, inside, reshaped, wrapped, grown, is_more, growths, growing, closed, bounded, given_up, plain, same_mode, entered, left, taken_node, node_by, reader_so, gave, hand_of, hand_asks_of, asked, done, run}
+use Rattle.typst_combinators.specs.Syntax.Parser.{gives, does, next, pick, repeat, wraps, grows, nests, scoped, sees, either, calls, block}
+use Rattle.typst_combinators.specs.Meaning.{Outcome, Meaning, Level, less, joined, answered, followed, turns, as_last, bound, repeated, before, inside, reshaped, wrapped, grown, is_more, growths, growing, nestings, nesting, closed, bounded, given_up, plain, same_mode, entered, left, taken_node, node_by, reader_so, gave, hand_of, hand_asks_of, asked, done, run}
 use Rattle.typst_combinators.specs.Sound.{Tidy, Backs, Stands}
 use Rattle.typst_combinators.specs.Calls.{Answer}
 use Rattle.typst_combinators.specs.Ask.{Ask}
@@ -36,7 +36,7 @@ use Rattle.typst_combinators.specs.Ask.Ask.{looked}
 use Rattle.typst_readers.specs.Reader.{look}
 use Rattle.typst_combinators.proofs.Within.{grew}
 use Rattle.typst_combinators.proofs.Hints.{length-hinted}
-use Rattle.typst_combinators.proofs.Backs.{backs-turns, backs-run}
+use Rattle.typst_combinators.proofs.Backs.{backs-turns, tidy-nestings, backs-run}
 use Rattle.typst_combinators.proofs.Tokens.{text-token}
 use Rattle.typst_combinators.proofs.Places.{moved-sum, less-append, less-twice, less-none, length-less, moved-ahead}
 
@@ -400,6 +400,19 @@ kept-growths m b f n (suc k) o z h =
     let g = kept-grown z n p.value.0 (answered p.value.1 (joined o p)) (record { text = j.text; known = j.known; blank = j.blank }) in
     kept-if z (is_more p.value.0 && nat_lt 0 p.taken) (growths m n k (grew n o p) z) (grew n o p) (kept-growths m b f n k (grew n o p) z g) g
 
+kept-nestings : {A : Type 0} (f : A → Shape) (begin : Begin) (m : A → Meaning (Bool × A)) → ((x : A) → Backs (m x)) → ((x : A) → Keeps (m x)) → (n : ℕ) (x : A) → Keeps (nestings f begin m n x)
+kept-nestings f begin m b g zero x z s h = kept-plain z x s h
+kept-nestings f begin m b g (suc n) x z s h =
+    let o = m x z s in
+    let w = moved o.taken z in
+    let p = nestings f begin m n o.value.1 w o.state in
+    let t = o.value.0 && nat_lt 0 o.taken in
+    let q = if t then joined o p else as_last o in
+    let first = g x z s h in
+    kept-reshaped z (f q.value) (before begin s) q
+    (kept-if z t (joined o p) (as_last o) (kept-joined z o p first (kept-nestings f begin m b g n o.value.1 w o.state first.known) (tidy-nestings f begin m b n o.value.1 w o.state))
+    (record { text = first.text; known = first.known; blank = first.blank }))
+
 blank-flushed : (s : Point) (ts : List Tree) → Blank (elim ts as (λ _. Point) [ [] ↦ s | u ∷ us ↦ after_node false [] s ]).empties ts
 blank-flushed s [] = blank-nil s.empties
 blank-flushed s (t ∷ ts) = blank-none (t ∷ ts)
@@ -447,7 +460,7 @@ module _ (l : Level) where
 
     -- the law of the leaves
     pub kept-run : {A : Type 0} (p : Parser A) → Keeps (run l p)
-    unfolding run repeated growing
+    unfolding run repeated growing nesting
     kept-run (gives a) z s h = kept-plain z a s h
     kept-run (does o) z s h = kept-done o z s h
     kept-run (next p f) z s h =
@@ -463,6 +476,7 @@ module _ (l : Level) where
         record { text = k.text; known = k.known; blank = k.blank }
     kept-run (grows begin p f) z s h =
         kept-growths (λ y. run l (f y)) (λ y. backs-run l b c (f y)) (λ y. kept-run (f y)) (before begin s) (suc (bound z s)) (run l p z s) z (kept-run p z s h)
+    kept-run (nests f begin p x) z s h = kept-nestings f begin (λ y. run l (p y)) (λ y. backs-run l b c (p y)) (λ y. kept-run (p y)) (suc (bound z s)) x z s h
     kept-run (scoped f p) z s h =
         let o = run l p z (entered (f s.reading) s) in
         let k = kept-run p z (entered (f s.reading) s) h in

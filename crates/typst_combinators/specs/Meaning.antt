@@ -28,7 +28,7 @@ use Rattle.typst_combinators.specs.Shape.{Making, made, hinted, Shape, shaped, a
 use Rattle.typst_combinators.specs.Syntax.{Op, Begin, Parser}
 use Rattle.typst_combinators.specs.Syntax.Begin.{at_token, at_trivia}
 use Rattle.typst_combinators.specs.Syntax.Op.{hand, so, further, column, erred, takes, takes_so, flushes, complains, advises, marks, is_deepest}
-use Rattle.typst_combinators.specs.Syntax.Parser.{gives, does, next, pick, repeat, wraps, grows, scoped, sees, either, calls, block}
+use Rattle.typst_combinators.specs.Syntax.Parser.{gives, does, next, pick, repeat, wraps, grows, nests, scoped, sees, either, calls, block}
 
 pub record Outcome (A : Type 0) : Type 0 where
   pub value : A
@@ -139,6 +139,17 @@ growths m n (suc k) o z =
 
 unfoldable pub growing : {A : Type 0} → (A → Meaning (Option Shape × A)) → ℕ → Meaning A → Meaning A
 growing m n first z s = growths m n (suc (bound z s)) (first z s) z
+
+-- a turn with all that comes behind it becomes one node
+abbrev pub nestings : {A : Type 0} → (A → Shape) → Begin → (A → Meaning (Bool × A)) → ℕ → A → Meaning A
+nestings f begin m zero x z s = plain x s
+nestings f begin m (suc n) x z s =
+    let o = m x z s in
+    let p = if o.value.0 && nat_lt 0 o.taken then followed o (λ v. nestings f begin m n v.1) z else as_last o in
+    reshaped (f p.value) (before begin s) p
+
+unfoldable pub nesting : {A : Type 0} → (A → Shape) → Begin → (A → Meaning (Bool × A)) → A → Meaning A
+nesting f begin m x z s = nestings f begin m (suc (bound z s)) x z s
 
 abbrev pub with_seen : {A : Type 0} → Outcome A → Outcome (A × List Seen)
 with_seen o = answered (o.value, map seen o.nodes) o
@@ -299,6 +310,7 @@ module _ (l : Level) where
   run (repeat p x) z s = repeated (λ y. run (p y)) x z s
   run (wraps f begin p) z s = wrapped f (before begin s) (run p z s)
   run (grows begin p f) z s = growing (λ y. run (f y)) (before begin s) (run p) z s
+  run (nests f begin p x) z s = nesting f begin (λ y. run (p y)) x z s
   run (scoped f p) z s = left_to s.reading (run p z (entered (f s.reading) s))
   run (sees p) z s = with_seen (run p z s)
   run (either p is_wrong q) z s = chosen is_wrong (run p z s) (run q z s)
