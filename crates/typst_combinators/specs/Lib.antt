@@ -9,4 +9,5 @@ pub mod Meaning
 pub mod Steps
 pub mod Depth
 pub mod Knot
+pub mod Words
 pub mod Sound
