@@ -3,8 +3,7 @@ ghost use Rattle.std.specs.Prelude.{◌≡◌};
 ghost use Rattle.typst_bench.specs.Words.{word_of, work_named};
 
 use std::alloc::{AllocError, Global};
-use typst_lines::Lines;
-use typst_parser::{UnicodeClasses, parse};
+use typst_parser::{Lines, UnicodeClasses, parse};
 
 /// A kind of work on a text.
 #[derive(Debug, Clone, Copy, PartialEq, Eq)]

@@ -1,3 +1,4 @@
+pub mod AsciiRuns
 pub mod CharsLemmas
 pub mod ClusterLemmas
 pub mod LineCluster

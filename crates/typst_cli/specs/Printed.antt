@@ -6,6 +6,7 @@ use Rattle.typst_lines.specs.Lines.{line_table, units}
 use Rattle.typst_lines.specs.declared.lines.Line.{Line}
 use Rattle.typst_cli.specs.declared.command.Command.{Command}
 use Rattle.typst_cli.specs.declared.command.Command.TheVariants.{Lines, Tree}
+use Rattle.typst_classes.specs.UnicodeTables.{unicode_classes}
 use Rattle.typst_cli.specs.PrintedTree.{tree_printed}
 
 -- the command that is named by one word
@@ -37,7 +38,7 @@ totals text =
 abbrev pub lines_printed : List ℕ → List ℕ
 lines_printed text = rows 0 (line_table text) ++ totals text
 
--- all that a command prints about a text
+-- all that a command prints about a text, by the classes of Unicode
 abbrev pub printed : Command → List ℕ → List ℕ
 printed Lines text = lines_printed text
-printed Tree text = tree_printed text
+printed Tree text = tree_printed unicode_classes text

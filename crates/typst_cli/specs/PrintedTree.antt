@@ -8,7 +8,7 @@ use Rattle.typst_node_data.specs.declared.diagnostic.Severity.TheVariants as sev
 use Rattle.typst_node.specs.Diagnostic.{Diagnostic, Hint}
 use Rattle.typst_node_data.specs.Head.{Head}
 use Rattle.typst_node.specs.Tree.{Forest, none, more, Tree, joined, text_of}
-use Rattle.typst_classes.specs.UnicodeTables.{unicode_classes}
+use Rattle.typst_classes.specs.Classes.{CharClasses}
 use Rattle.typst_grammar.specs.Grammar.{tree}
 use Rattle.typst_cli.specs.Variants.{variant_name}
 
@@ -74,6 +74,6 @@ lines indent start (more h ks r) =
 abbrev pub node_lines : List ℕ → ℕ → Tree → List ℕ
 node_lines indent start t = head_lines indent start (start + length (text_of t)) t.head ++ lines (deeper indent) start t.kids
 
--- the tree of a text, by the classes of Unicode, as it is printed
-abbrev pub tree_printed : List ℕ → List ℕ
-tree_printed text = node_lines [] 0 (tree unicode_classes (chars text))
+-- the tree of a text, by some classes of characters, as it is printed
+abbrev pub tree_printed : CharClasses → List ℕ → List ℕ
+tree_printed k text = node_lines [] 0 (tree k (chars text))

@@ -5,6 +5,7 @@ ghost use Rattle.typst_cli.specs.Printed.{command_named, command_of, printed};
 
 use crate::{lines, tree};
 use std::alloc::{AllocError, Global};
+use typst_parser::UnicodeClasses;
 
 /// What the program is asked for.
 #[derive(Debug, Clone, Copy, PartialEq, Eq)]
@@ -42,7 +43,7 @@ impl Command {
     {
         match self {
             Command::Lines => lines::answer(alloc, text),
-            Command::Tree => tree::answer(alloc, text),
+            Command::Tree => tree::answer(alloc, text, &UnicodeClasses),
         }
     }
 }

@@ -1,11 +1,12 @@
 //! Why the program failed.
-ghost use Rattle.std.specs.Prelude.{◌≡◌};
-ghost use Rattle.typst_cli.specs.Faults.{Begins, line_of, status_of};
+ghost use Rattle.std.specs.Prelude.{◌≡◌, OnOk};
+ghost use Rattle.std.specs.Io.KnownBytes.{Appends};
+ghost use Rattle.typst_cli.specs.Faults.{Begins, failure_of, line_of, status_of};
 ghost use Rattle.typst_cli.specs.declared.failure.Failure.TheVariants as failure;
 
-use crate::streams::write_bytes;
+use crate::streams::{Delivered, Unread, deliver};
 use std::alloc::{AllocError, AllocFailed};
-use std::io::Write;
+use std::io::{self, Write};
 
 /// What went wrong, in the order in which it is looked for; want of memory is met anywhere.
 #[derive(Debug, Clone, Copy, PartialEq, Eq)]
@@ -38,6 +39,17 @@ impl<T: Drop> From<AllocFailed<T>> for Failure {
     }
 }
 
+impl From<Unread> for Failure {
+    ghost from_gives = { λ unread made. made ≡ failure_of unread };
+
+    fn from(unread: Unread) -> Failure {
+        match unread {
+            Unread::Failed(_) => Failure::NotRead,
+            Unread::OutOfMemory => Failure::OutOfMemory,
+        }
+    }
+}
+
 impl Failure {
     /// The program's exit status.
     pub fn status(self) -> u8
@@ -62,13 +74,20 @@ impl Failure {
         }
     }
 
-    /// Tells of the failure, which takes no memory, and gives the status, also where the line can't
-    /// be written.
+    /// Tells of the failure and gives the status, also where the line can't be written.
     pub fn report<E: Write>(self, errors: &mut E) -> u8
         ensures status { result ≡ status_of self }
         ensures line { Begins (E.contents errors.old) (E.contents errors.new) (line_of self) }
     {
-        let _ = write_bytes(errors, self.line().as_bytes());
+        let _ = self.tell(errors);
         self.status()
+    }
+
+    /// Writes and flushes the line that tells of it, which takes no memory.
+    pub fn tell<E: Write>(self, errors: &mut E) -> io::Result<Delivered>
+        ensures whole { OnOk result (Appends (E.contents errors.old) (E.contents errors.new) (line_of self)) }
+        ensures begins { Begins (E.contents errors.old) (E.contents errors.new) (line_of self) }
+    {
+        deliver(errors, self.line().as_bytes())
     }
 }

@@ -4,7 +4,7 @@ ghost use Rattle.std.specs.String.{string_bytes};
 ghost use Rattle.typst_cli.specs.Printed.{lines_printed, row, totals};
 
 use std::alloc::{AllocError, Global};
-use typst_lines::{Line, Lines};
+use typst_parser::{Line, Lines};
 
 /// A row for each line of the text, with its number and its start in bytes and in UTF-16 units, and
 /// then a row with the totals.

@@ -7,7 +7,7 @@ ghost use Rattle.typst_cli.specs.declared.failure.Failure.{Failure};
 
 use crate::command::Command;
 use crate::failure::Failure;
-use crate::streams::{read_text, write_bytes};
+use crate::streams::{Delivered, decode, deliver, read_all};
 use std::alloc::Global;
 use std::io::{Read, Write};
 
@@ -29,7 +29,7 @@ pub fn run<R: Read, W: Write, E: Write>(
         Begins (W.contents output.old) (W.contents output.new) (printed command text))) }
 {
     match answer(alloc, words, input, output) {
-        Ok(()) => 0,
+        Ok(_delivered) => 0,
         Err(failure) => failure.report(errors),
     }
 }
@@ -39,18 +39,17 @@ fn answer<R: Read, W: Write>(
     words: &[&str],
     input: &mut R,
     output: &mut W,
-) -> Result<(), Failure>
+) -> Result<Delivered, Failure>
     ensures answered { OnOk result (IsAnswered (command_of (map (λ word. word.now) words.now)) (R.remaining input.old) (W.contents output.old) (W.contents output.new)) }
     ensures failed { IfErr result (λ failure. IsFault failure (command_of (map (λ word. word.now) words.now)) (R.remaining input.old) (W.contents output.old) (W.contents output.new)) }
     ensures begins { IfSome (command_of (map (λ word. word.now) words.now)) (λ command. IfSome (R.remaining input.old) (λ text.
         Begins (W.contents output.old) (W.contents output.new) (printed command text))) }
 {
     let command = Command::from_words(words).ok_or(Failure::Usage)?;
-    let text = read_text(alloc, input)?;
+    let text = decode(read_all(alloc, input)?)?;
     let printed = command.answer(alloc, text.as_str())?;
-    write_bytes(output, printed.as_bytes())?;
-    match output.flush() {
-        Ok(()) => Ok(()),
+    match deliver(output, printed.as_bytes()) {
+        Ok(delivered) => Ok(delivered),
         Err(_) => Err(Failure::NotWritten),
     }
 }

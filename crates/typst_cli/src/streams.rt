@@ -1,30 +1,34 @@
-//! Reading all of a reader, and writing all of an answer.
-ghost use Rattle.std.specs.Prelude.{◌≡◌, IfOk, IfErr, OnOk, IfSome};
+//! Reading all of a reader, and delivering all of an answer.
+ghost use Rattle.std.specs.Prelude.{◌≡◌, ◌≢◌, IfOk, IfErr, OnOk, IfSome};
+ghost use Rattle.std.specs.Str.{IsUtf8};
 ghost use Rattle.std.specs.String.{string_bytes};
-ghost use Rattle.std.specs.Io.KnownBytes.{Appends};
-ghost use Rattle.typst_cli.specs.Faults.{Begins, IsReadFault};
+ghost use Rattle.std.specs.Io.KnownBytes.{Appends, Keeps};
+ghost use Rattle.typst_cli.specs.Faults.{Begins, IsFinal, IsFinalRead};
 ghost use Rattle.typst_cli.specs.declared.failure.Failure.TheVariants as failure;
 
 use crate::failure::Failure;
-use std::alloc::Global;
-use std::io::{ErrorKind, Read, Write};
+use std::alloc::{AllocError, Global};
+use std::io::{self, ErrorKind, Read, Write};
 
-/// All that the reader gives, as text.
-pub fn read_text<R: Read>(alloc: Global, input: &mut R) -> Result<String, Failure>
-    ensures text { IfOk result (λ text. IfSome (R.remaining input.old) (λ bytes. string_bytes text ≡ bytes)) }
-    ensures fault { IfErr result (λ f. IsReadFault f (R.remaining input.old)) }
-{
-    let bytes = read_bytes(alloc, input)?;
-    match String::from_utf8(bytes) {
-        Ok(text) => Ok(text),
-        Err(_) => Err(Failure::NotUtf8),
+/// Why not all of the input is at hand.
+#[derive(Debug, Drop)]
+pub enum Unread {
+    /// A read failed, with that error.
+    Failed(io::Error),
+    /// A request for memory was refused.
+    OutOfMemory,
+}
+
+impl From<AllocError> for Unread {
+    fn from(_error: AllocError) -> Unread {
+        Unread::OutOfMemory
     }
 }
 
 /// All that the reader gives. A read that was interrupted is made again.
-fn read_bytes<R: Read>(alloc: Global, input: &mut R) -> Result<Vec<u8>, Failure>
+pub fn read_all<R: Read>(alloc: Global, input: &mut R) -> Result<Vec<u8>, Unread>
     ensures bytes { IfOk result (λ bytes. IfSome (R.remaining input.old) (λ all. bytes.items ≡ all)) }
-    ensures fault { IfErr result (λ f. IsReadFault f (R.remaining input.old)) }
+    ensures retried { IfErr result IsFinalRead }
 {
     let mut bytes = Vec::new(alloc);
     let mut buffer = [0u8; 8192];
@@ -33,17 +37,44 @@ fn read_bytes<R: Read>(alloc: Global, input: &mut R) -> Result<Vec<u8>, Failure>
             Ok(0) => return Ok(bytes),
             Ok(count) => bytes.extend_from_slice(&buffer[..count])?,
             Err(error) if error.kind() == ErrorKind::Interrupted => {}
-            Err(_) => return Err(Failure::NotRead),
+            Err(error) => return Err(Unread::Failed(error)),
         }
     }
-    Err(Failure::NotRead)
+    Err(Unread::Failed(too_many_turns()))
 }
 
-/// Writes the bytes. After an error a beginning of them was written.
-pub fn write_bytes<W: Write>(output: &mut W, bytes: &[u8]) -> Result<(), Failure>
+/// The text that the bytes are.
+pub fn decode(bytes: Vec<u8>) -> Result<String, Failure>
+    ensures text { IfOk result (λ text. string_bytes text ≡ bytes.items) }
+    ensures fault { IfErr result (λ fault. (fault ≡ failure.NotUtf8) × ¬ (IsUtf8 bytes.items)) }
+{
+    match String::from_utf8(bytes) {
+        Ok(text) => Ok(text),
+        Err(_) => Err(Failure::NotUtf8),
+    }
+}
+
+/// That bytes were written and then flushed: only `deliver` makes it.
+#[derive(Debug, Drop)]
+pub struct Delivered {
+    flushed: (),
+}
+
+/// Writes the bytes, and flushes them. After an error a beginning of them was written.
+pub fn deliver<W: Write>(output: &mut W, bytes: &[u8]) -> io::Result<Delivered>
     ensures all { OnOk result (Appends (W.contents output.old) (W.contents output.new) bytes.now) }
     ensures begins { Begins (W.contents output.old) (W.contents output.new) bytes.now }
-    ensures fault { IfErr result (λ f. f ≡ failure.NotWritten) }
+    ensures retried { IfErr result IsFinal }
+{
+    write_bytes(output, bytes)?;
+    flush(output)
+}
+
+/// Writes the bytes. A write that was interrupted is made again.
+fn write_bytes<W: Write>(output: &mut W, bytes: &[u8]) -> io::Result<()>
+    ensures all { OnOk result (Appends (W.contents output.old) (W.contents output.new) bytes.now) }
+    ensures begins { Begins (W.contents output.old) (W.contents output.new) bytes.now }
+    ensures retried { IfErr result IsFinal }
 {
     let mut done = 0;
     for _turn in 0..u64::MAX {
@@ -51,11 +82,33 @@ pub fn write_bytes<W: Write>(output: &mut W, bytes: &[u8]) -> Result<(), Failure
             return Ok(());
         }
         match output.write(&bytes[done..]) {
-            Ok(0) => return Err(Failure::NotWritten),
+            Ok(0) => return Err(io::Error::from(ErrorKind::WriteZero)),
             Ok(count) => done += count,
             Err(error) if error.kind() == ErrorKind::Interrupted => {}
-            Err(_) => return Err(Failure::NotWritten),
+            Err(error) => return Err(error),
         }
     }
-    Err(Failure::NotWritten)
+    Err(too_many_turns())
+}
+
+/// Flushes what was written. A flush that was interrupted is made again.
+fn flush<W: Write>(output: &mut W) -> io::Result<Delivered>
+    ensures kept { Keeps (W.contents output.old) (W.contents output.new) }
+    ensures retried { IfErr result IsFinal }
+{
+    for _turn in 0..u64::MAX {
+        match output.flush() {
+            Ok(flushed) => return Ok(Delivered { flushed }),
+            Err(error) if error.kind() == ErrorKind::Interrupted => {}
+            Err(error) => return Err(error),
+        }
+    }
+    Err(too_many_turns())
+}
+
+/// The error where a stream was interrupted without an end.
+fn too_many_turns() -> io::Error
+    ensures { IsFinal result }
+{
+    io::Error::from(ErrorKind::TimedOut)
 }

@@ -4,18 +4,17 @@ ghost use Rattle.std.specs.Prelude.{◌≡◌, ◌+◌, ◌<◌, ◌^◌, ◌++�
 ghost use Rattle.typst_node.specs.Tree.{text_of};
 ghost use Rattle.typst_cli.specs.PrintedTree as spec;
 
-use crate::variants::variant_name;
+pub use crate::variants::variant_name;
 use std::alloc::{AllocError, Global};
-use typst_parser::{UnicodeClasses, is_newline, parse};
-use typst_tree::{Diagnostic, Hint, Severity, SyntaxNode};
+use typst_parser::{Classes, Diagnostic, Hint, Severity, SyntaxNode, is_newline, parse};
 
 /// The syntax tree of the text. Each node has a line with its kind, its range in bytes and, for an
 /// error, its message, two spaces deeper than its parent; below it stand its warnings and hints, and
 /// then its children.
-pub fn answer(alloc: Global, text: &str) -> Result<String, AllocError>
-    ensures { IfOk result (λ printed. string_bytes printed ≡ spec.tree_printed text.now) }
+pub fn answer<C: Classes>(alloc: Global, text: &str, classes: &C) -> Result<String, AllocError>
+    ensures { IfOk result (λ printed. string_bytes printed ≡ spec.tree_printed (C.classes classes.now) text.now) }
 {
-    let root = parse(alloc, text, &UnicodeClasses)?;
+    let root = parse(alloc, text, classes)?;
     let mut printed = String::new(alloc);
     print_node(alloc, &mut printed, &root, "", 0)?;
     Ok(printed)
@@ -32,15 +31,29 @@ fn print_node(
     requires { start + length (text_of node.now) < 2 ^ 64 }
     ensures { OnOk result (string_bytes printed.new ≡ string_bytes printed.old ++ spec.node_lines indent.now start node.now) }
 {
-    print_own_line(printed, node, indent, start)?;
     let deeper = format!(in alloc; "{indent}  ")?;
-    print_remarks(printed, node.diagnostics(), deeper.as_str())?;
+    print_head(printed, node, indent, deeper.as_str(), start)?;
     let mut kid_start = start;
     for kid in node.children() {
         print_node(alloc, printed, kid, deeper.as_str(), kid_start)?;
         kid_start += kid.len();
     }
     Ok(())
+}
+
+/// Prints the line of a node that begins at a byte, and below it, deeper, its warnings and hints.
+pub fn print_head(
+    printed: &mut String,
+    node: &SyntaxNode,
+    indent: &str,
+    deeper: &str,
+    start: usize,
+) -> Result<(), AllocError>
+    requires { start + length (text_of node.now) < 2 ^ 64 }
+    ensures { OnOk result (string_bytes printed.new ≡ string_bytes printed.old ++ (spec.own_line indent.now start (start + length (text_of node.now)) node.now.head ++ spec.remarks deeper.now node.now.head.diagnostics)) }
+{
+    print_own_line(printed, node, indent, start)?;
+    print_remarks(printed, node.diagnostics(), deeper)
 }
 
 /// Prints a node's own line.

@@ -3,7 +3,7 @@
 ghost use Rattle.std.specs.Prelude.{◌≡◌};
 ghost use Rattle.typst_cli.specs.Variants as spec;
 
-use typst_tree::SyntaxKind;
+use typst_parser::SyntaxKind;
 
 /// The kind's name, as the code has it.
 pub fn variant_name(kind: SyntaxKind) -> &'static str

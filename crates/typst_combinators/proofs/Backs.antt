@@ -16,8 +16,8 @@ use Rattle.typst_combinators.specs.Shape.Change.{stays, turns_wrong, is_not, ren
 use Rattle.typst_combinators.specs.Shape.Shape.{keeps, holds, lacks, warns, fails}
 use Rattle.typst_combinators.specs.Syntax.{Op, Begin, Parser}
 use Rattle.typst_combinators.specs.Syntax.Op.{hand, so, further, column, erred, takes, takes_so, flushes, complains, advises, marks, is_deepest}
-use Rattle.typst_combinators.specs.Syntax.Parser.{gives, does, next, pick, repeat, wraps, grows, scoped, sees, either, calls, block}
-use Rattle.typst_combinators.specs.Meaning.{Outcome, Meaning, Level, plain, less, answered, joined, turns, as_last, bound, repeated, before, inside, reshaped, grown, is_more, growths, growing, given_up, bounded, same_mode, entered, left, flushed_state, hand_of, hand_asks_of, gave, followed, taken_node, reader_so, node_by, done, run}
+use Rattle.typst_combinators.specs.Syntax.Parser.{gives, does, next, pick, repeat, wraps, grows, nests, scoped, sees, either, calls, block}
+use Rattle.typst_combinators.specs.Meaning.{Outcome, Meaning, Level, plain, less, answered, joined, turns, as_last, bound, repeated, before, inside, reshaped, grown, is_more, growths, growing, nestings, nesting, given_up, bounded, same_mode, entered, left, flushed_state, hand_of, hand_asks_of, gave, followed, taken_node, reader_so, node_by, done, run}
 use Rattle.typst_combinators.specs.Sound.{Tidy, Backs}
 use Rattle.typst_combinators.proofs.Places.{length-less}
 use Rattle.typst_combinators.proofs.Within.{on_both, grew}
@@ -36,7 +36,7 @@ backs-joined s o p h k =
 backs-if : {A : Type 0} (s : Point) (b : Bool) (x y : Outcome A) → Tidy s x → Tidy s y → Tidy s (if b then x else y)
 backs-if s b x y p q = on_both (Tidy s) b x y p q
 
-backs-turns : {A : Type 0} (m : A → Meaning (Bool × A)) → ((x : A) → Backs (m x)) → (n : ℕ) (x : A) → Backs (turns m n x)
+pub backs-turns : {A : Type 0} (m : A → Meaning (Bool × A)) → ((x : A) → Backs (m x)) → (n : ℕ) (x : A) → Backs (turns m n x)
 backs-turns m h zero x z s = record { back = omega arith; left = omega arith }
 backs-turns m h (suc n) x z s =
     let o = m x z s in
@@ -125,6 +125,16 @@ tidy-growths m b s n (suc k) o z h =
     let t = tidy-grew s n o p h (b o.value (moved o.taken z) o.state) in
     backs-if s (is_more p.value.0 && nat_lt 0 p.taken) _ _ (tidy-growths m b s n k (grew n o p) z t) t
 
+pub tidy-nestings : {A : Type 0} (f : A → Shape) (begin : Begin) (m : A → Meaning (Bool × A)) → ((x : A) → Backs (m x)) → (n : ℕ) (x : A) → Backs (nestings f begin m n x)
+tidy-nestings f begin m h zero x z s = record { back = omega arith; left = omega arith }
+tidy-nestings f begin m h (suc n) x z s =
+    let o = m x z s in
+    let p = nestings f begin m n o.value.1 (moved o.taken z) o.state in
+    let b = o.value.0 && nat_lt 0 o.taken in
+    let q = if b then joined o p else as_last o in
+    tidy-reshaped s (f q.value) (before begin s) q
+    (backs-if s b (joined o p) (as_last o) (backs-joined s o p (h x z s) (tidy-nestings f begin m h n o.value.1 (moved o.taken z) o.state)) (record { back = (h x z s).back; left = (h x z s).left }))
+
 left-empties : (outer : _) (s : Point) → (left outer s).empties ≡ s.empties
 left-empties outer s = on_both (λ (t : Point). t.empties ≡ s.empties) (same_mode s.reading.mode outer.mode) _ _ (omega arith) (omega arith)
 
@@ -162,7 +172,7 @@ module _ (l : Level) where
     backs-bounded b z s = let k = e b z (record s { known = None }) in record { back = k.back; left = k.left }
 
     pub backs-run : {A : Type 0} (p : Parser A) → Backs (run l p)
-    unfolding run repeated growing
+    unfolding run repeated growing nesting
     backs-run (gives a) z s = record { back = omega arith; left = omega arith }
     backs-run (does o) z s = backs-done o z s
     backs-run (next p f) z s = let o = run l p z s in backs-joined s o (run l (f o.value) (moved o.taken z) o.state) (backs-run p z s) (backs-run (f o.value) (moved o.taken z) o.state)
@@ -173,6 +183,7 @@ module _ (l : Level) where
         let t = tidy-reshaped s (f o.value) (before begin s) o (backs-run p z s) in
         record { back = t.back; left = t.left }
     backs-run (grows begin p f) z s = tidy-growths (λ y. run l (f y)) (λ y. backs-run (f y)) s (before begin s) (suc (bound z s)) (run l p z s) z (backs-run p z s)
+    backs-run (nests f begin p x) z s = tidy-nestings f begin (λ y. run l (p y)) (λ y. backs-run (p y)) (suc (bound z s)) x z s
     backs-run (scoped f p) z s =
         let o = run l p z (entered (f s.reading) s) in
         let b = backs-run p z (entered (f s.reading) s) in

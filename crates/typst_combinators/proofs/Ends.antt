@@ -7,37 +7,41 @@ use Rattle.typst_kinds.specs.declared.kind.SyntaxKind.TheVariants as kind
 use Rattle.typst_kinds.specs.declared.mode.SyntaxMode.{SyntaxMode}
 use Rattle.typst_kinds.specs.declared.mode.SyntaxMode.TheVariants.{Markup, Math, Code}
 use Rattle.typst_lines.specs.Place.{Place, scout, passes, moved, run, past}
-use Rattle.typst_lexer.specs.Characters.{among, is_code_point, is_space, is_u64}
+use Rattle.typst_tokens.specs.Characters.{among, is_code_point, is_space, is_u64}
 use Rattle.typst_classes.specs.Classes.{CharClasses}
-use Rattle.typst_lexer.specs.Common.{line_ends, is_parbreak, whitespace, shebang, line_comment, block_comment, comment_end}
-use Rattle.typst_lexer.specs.Markup.{sign, code_point, backslash, dot, marker_or_text, marker, hyphen, minus, emphasis, heading, numbering, markup}
-use Rattle.typst_readers.specs.Reader.{Reader, Memory, place, spanned, at_word, exec}
-use Rattle.typst_readers.specs.Reader.Memory.{blank, comment, fence, brackets}
+use Rattle.typst_tokens.specs.Common.{line_ends, is_parbreak, whitespace, shebang, line_comment, block_comment, comment_end}
+use Rattle.typst_markup_tokens.specs.Markup.{dot, marker_or_text, marker, hyphen, minus, emphasis, heading, numbering, markup}
+use Rattle.typst_tokens.specs.Common.{sign}
+use Rattle.typst_tokens.specs.Escapes.{code_point, backslash}
+use Rattle.typst_readers.specs.Reader.{Reader, place, spanned, at_word, exec}
+use Rattle.typst_tokens.specs.Memory.Memory.{blank, comment, fence, brackets}
 use Rattle.typst_readers.specs.Reader.Reader.{answer, peek, skip}
-use Rattle.typst_lexer.specs.Text.{text, text_from}
-use Rattle.typst_lexer.specs.Link.{in_link, link_end, link, link_or_text}
-use Rattle.typst_lexer.specs.Names.{label, label_or_text, ref_marker, ref_or_text}
-use Rattle.typst_lexer.specs.Raw.{in_raw, raw_end, raw}
+use Rattle.typst_markup_tokens.specs.Text.{text, text_from}
+use Rattle.typst_markup_tokens.specs.Link.{in_link, link_end, link, link_or_text}
+use Rattle.typst_markup_tokens.specs.Names.{label_or_text, ref_marker, ref_or_text}
+use Rattle.typst_tokens.specs.Labels.{label}
+use Rattle.typst_tokens.specs.Raw.{in_raw, raw_end, raw}
 use Rattle.typst_classes.specs.Identifiers.{is_id_continue}
 use Rattle.typst_links.specs.Labels.{is_name}
-use Rattle.typst_lexer.specs.Token.{plain}
+use Rattle.typst_tokens.specs.Token.{plain}
 use Rattle.typst_lexer.specs.Tokens.{of_mode, hash, slash, star, backtick, token}
-use Rattle.typst_lexer.specs.declared.token.Token.{Token}
+use Rattle.typst_tokens.specs.declared.token.Token.{Token}
 use Rattle.typst_lexer.proofs.TokenEats.{token-eats}
 use Rattle.typst_combinators.specs.Depth.{is_end}
-use Rattle.typst_lexer.specs.Nodes.{token_node}
+use Rattle.typst_token_nodes.specs.Nodes.{token_node}
 use Rattle.typst_combinators.specs.declared.reading.AtNewline.TheVariants.{Continue}
 use Rattle.typst_combinators.specs.declared.reading.Newlines.{Newlines}
 use Rattle.typst_combinators.specs.declared.reading.Reading.{Reading}
 use Rattle.typst_combinators.specs.Hand.{token_at, len_at, at_trivia, Ahead, after_trivia, direct, both_newlines, ahead_by, ahead, ahead_of, column_at, stops, known_by, hand_by, hand_at}
 use Rattle.typst_combinators.specs.Point.{Trivia}
 use Rattle.typst_combinators.proofs.Places.{moved-sum}
+use Rattle.typst_tokens.specs.Memory.{Memory}
 
 -- what is read there isn't the end
-abbrev Goes : Reader Token → Place → Type 0
+abbrev Goes : Reader Memory Token → Place → Type 0
 Goes r p = is_end (exec r p).0.kind ≡ false
 
-goes-if : (b : Bool) (x y : Reader Token) (p : Place) → Goes x p → Goes y p → Goes (if b then x else y) p
+goes-if : (b : Bool) (x y : Reader Memory Token) (p : Place) → Goes x p → Goes y p → Goes (if b then x else y) p
 goes-if true x y p h i = h
 goes-if false x y p h i = i
 
@@ -53,7 +57,7 @@ text-goes : (k : CharClasses) (p : Place) → Goes (text k) p
 unfolding text
 text-goes k p = refl
 
-abbrev ends : CharClasses → SyntaxKind → Bool → Reader Token
+abbrev ends : CharClasses → SyntaxKind → Bool → Reader Memory Token
 ends k s b = if b then answer (plain s) else text k
 
 ends-goes : (k : CharClasses) (s : SyntaxKind) (p : Place) → is_end s ≡ false → (b : Bool) → Goes (ends k s b) p
@@ -62,7 +66,7 @@ ends-goes k s p h b = goes-if b (answer (plain s)) (text k) p h (text-goes k p)
 marker-goes : (k : CharClasses) (s : SyntaxKind) (p : Place) → is_end s ≡ false → Goes (marker_or_text k s) p
 unfolding marker_or_text
 marker-goes k s p h =
-    elim (scout 0 p) as (λ o. Goes (elim o as (λ _. Reader Token) [
+    elim (scout 0 p) as (λ o. Goes (elim o as (λ _. Reader Memory Token) [
       | None ↦ ends k s true
       | Some c ↦ if c == 47 then peek 1 (λ d. ends k s (passes (among (codes "/*")) d)) else ends k s (is_whitespace c)
     ]) p) [
@@ -113,7 +117,7 @@ numbering-goes k p =
     goes-if (passes (λ c. c == 46) (scout 0 q)) _ _ q
     (goes-if (is_u64 (run is_ascii_digit p)) _ _ (moved 1 q) (marker-goes k kind.EnumMarker (moved 1 q) refl) (text-goes k (moved 1 q))) (text-goes k q)
 
-word-goes : (n : ℕ) (word : List ℕ) (x y : Reader Token) (p : Place) → Goes x p → Goes y p → Goes (at_word n word x y) p
+word-goes : (n : ℕ) (word : List ℕ) (x y : Reader Memory Token) (p : Place) → Goes x p → Goes y p → Goes (at_word n word x y) p
 word-goes n [] x y p h i = h
 word-goes n (c ∷ word) x y p h i = goes-if (passes (λ d. d == c) (scout n p)) (at_word (suc n) word x y) y p (word-goes (suc n) word x y p h i) i
 

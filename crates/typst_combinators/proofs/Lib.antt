@@ -7,3 +7,7 @@ pub mod Backs
 pub mod Rests
 pub mod Ends
 pub mod Eats
+pub mod Alike
+pub mod Frame
+pub mod Leaves
+pub mod Knot

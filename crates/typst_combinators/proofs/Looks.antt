@@ -6,7 +6,8 @@ use Rattle.typst_lines.specs.Newline.{is_newline}
 use Rattle.typst_lines.specs.Place.{Place, moved, scout, run, past}
 use Rattle.typst_readers.specs.Reader.{Reader, eaten, Look, look, marked, Agree, spanned, from_before, skip_look}
 use Rattle.typst_readers.specs.Reader.Reader.{answer, peek, glance, span, eat, see_run, skip, eat_run}
-use Rattle.typst_lexer.specs.declared.token.Token.{Token}
+use Rattle.typst_tokens.specs.declared.token.Token.{Token}
+use Rattle.typst_tokens.specs.Memory.{Memory}
 use Rattle.typst_readers.proofs.Frame.{frame}
 use Rattle.typst_combinators.specs.Ask.{Ask, SameOne, SameIn, shift, shift_one, sunk, only_looks}
 use Rattle.typst_combinators.specs.Ask.Ask.{looked, marked as unit}
@@ -110,7 +111,7 @@ skip-covers (suc n) e l (c ∷ a) h =
     omega (arith, skip-covers n e l a k)
 
 -- what is eaten was looked at
-pub front-covers : {A : Type 0} (r : Reader A) (p : Place) → min (eaten r p) (suc (length p.ahead)) ≤ (look r p).front
+pub front-covers : {M A : Type 0} (r : Reader M A) (p : Place) → min (eaten r p) (suc (length p.ahead)) ≤ (look r p).front
 front-covers (answer a) p = omega arith
 front-covers (peek n k) p = omega (arith, front-covers (k (scout n p)) p)
 front-covers (glance k) p = omega (arith, front-covers (k (slice_get p.behind 0)) p)
@@ -127,17 +128,17 @@ lengths-same : (e a b f : ℕ) → (a < f → b ≡ a) → (b < f → a ≡ b) �
 lengths-same e a b f g h c d =
     elim (cases_lt a f) [ inl l ↦ omega (arith, g l) | inr r ↦ elim (cases_lt b f) [ inl l ↦ omega (arith, h l) | inr s ↦ omega arith ] ]
 
-pub len-covers : (r : Reader Token) (z : Place) → len_by r z ≤ (look r z).front
+pub len-covers : (r : Reader Memory Token) (z : Place) → len_by r z ≤ (look r z).front
 len-covers r z = omega (arith, front-covers r z)
 
 -- what is read of a token
-pub record SameToken (r : Reader Token) (z w : Place) : Type 0 where
+pub record SameToken (r : Reader Memory Token) (z w : Place) : Type 0 where
   pub read : token_by r w ≡ token_by r z
   pub len : len_by r w ≡ len_by r z
   pub seen : look r w ≡ look r z
   pub text : take (len_by r z) w.ahead ≡ take (len_by r z) z.ahead
 
-pub token-same : (r : Reader Token) (z w : Place) → Agree (look r z) z w → SameToken r z w
+pub token-same : (r : Reader Memory Token) (z w : Place) → Agree (look r z) z w → SameToken r z w
 token-same r z w g =
     let s = frame r z w g in
     let f = (look r z).front in

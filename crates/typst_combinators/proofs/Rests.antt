@@ -18,14 +18,14 @@ use Rattle.typst_combinators.specs.Shape.{Change, Shape, changed, after_node, af
 use Rattle.typst_combinators.specs.Shape.Shape.{keeps, holds, lacks, warns, fails}
 use Rattle.typst_combinators.specs.Syntax.{Op, Begin, Parser}
 use Rattle.typst_combinators.specs.Syntax.Op.{hand, so, further, column, erred, takes, takes_so, flushes, complains, advises, marks, is_deepest}
-use Rattle.typst_combinators.specs.Syntax.Parser.{gives, does, next, pick, repeat, wraps, grows, scoped, sees, either, calls, block}
+use Rattle.typst_combinators.specs.Syntax.Parser.{gives, does, next, pick, repeat, wraps, grows, nests, scoped, sees, either, calls, block}
 use Rattle.typst_combinators.specs.Hand.{Hand, len_by, token_by}
 use Rattle.typst_combinators.specs.Ask.{Ask}
 use Rattle.typst_combinators.specs.Ask.Ask.{looked}
 use Rattle.typst_readers.specs.Reader.{look}
 use Rattle.typst_combinators.specs.Calls.{Answer}
 use Rattle.typst_combinators.proofs.Within.{grew}
-use Rattle.typst_combinators.specs.Meaning.{Outcome, Meaning, Level, joined, answered, turns, as_last, bound, repeated, before, inside, reshaped, wrapped, grown, is_more, growths, growing, given_up, bounded, followed, plain, same_mode, same_rule, entered, left, flushed_state, hand_of, hand_asks_of, gave, taken_node, reader_so, node_by, done, run}
+use Rattle.typst_combinators.specs.Meaning.{Outcome, Meaning, Level, joined, answered, turns, as_last, bound, repeated, before, inside, reshaped, wrapped, grown, is_more, growths, growing, nestings, nesting, given_up, bounded, followed, plain, same_mode, same_rule, entered, left, flushed_state, hand_of, hand_asks_of, gave, taken_node, reader_so, node_by, done, run}
 
 pub record Rests (r h : Reading) (s : Point) : Type 0 where
   pub reading : s.reading ≡ r
@@ -139,6 +139,17 @@ rests-growths m f r h n (suc k) o z a =
     let b = rests-grown r h n p.value.0 (answered p.value.1 (joined o p)) (rests-then r h o.state p.state a (f o.value (moved o.taken z) o.state)) in
     on (λ u. Rests r h u.state) (is_more p.value.0 && nat_lt 0 p.taken) (growths m n k (grew n o p) z) (grew n o p) (rests-growths m f r h n k (grew n o p) z b) b
 
+rests-nestings : {A : Type 0} (f : A → Shape) (begin : Begin) (m : A → Meaning (Bool × A)) → ((x : A) → Restful (m x)) → (n : ℕ) (x : A) → Restful (nestings f begin m n x)
+rests-nestings f begin m h zero x z s = rests-same s
+rests-nestings f begin m h (suc n) x z s =
+    let o = m x z s in
+    let p = nestings f begin m n o.value.1 (moved o.taken z) o.state in
+    let b = o.value.0 && nat_lt 0 o.taken in
+    let q = if b then joined o p else as_last o in
+    rests-like s.reading s.held q.state (after_shape (f q.value) (inside (before begin s) q) q.state)
+    (on (λ u. Rests s.reading s.held u.state) b (joined o p) (as_last o) (rests-then s.reading s.held o.state p.state (h x z s) (rests-nestings f begin m h n o.value.1 (moved o.taken z) o.state)) (h x z s))
+    (like-shape (f q.value) (inside (before begin s) q) q.state)
+
 module _ (l : Level) where
   rests-gave : (h : Hand) (trims : Bool) (len : ℕ) (node : Tree) (asks : List Ask) (s : Point) → Rests s.reading s.held (gave h trims len node asks s).state
   rests-gave h trims len node asks s =
@@ -168,7 +179,7 @@ module _ (l : Level) where
     rests-bounded b z s = let a = e b z (record s { known = None }) in record { reading = a.reading; mode = a.mode; rule = a.rule }
 
     pub rests-run : {A : Type 0} (p : Parser A) → Restful (run l p)
-    unfolding run repeated growing
+    unfolding run repeated growing nesting
     rests-run (gives a) z s = rests-same s
     rests-run (does o) z s = rests-done o z s
     rests-run (next p f) z s =
@@ -180,6 +191,7 @@ module _ (l : Level) where
         let o = run l p z s in
         rests-like s.reading s.held o.state (after_shape (f o.value) (inside (before begin s) o) o.state) (rests-run p z s) (like-shape (f o.value) (inside (before begin s) o) o.state)
     rests-run (grows begin p f) z s = rests-growths (λ y. run l (f y)) (λ y. rests-run (f y)) s.reading s.held (before begin s) (suc (bound z s)) (run l p z s) z (rests-run p z s)
+    rests-run (nests f begin p x) z s = rests-nestings f begin (λ y. run l (p y)) (λ y. rests-run (p y)) (suc (bound z s)) x z s
     rests-run (scoped f p) z s = rests-left (f s.reading) s.reading s.held (run l p z (entered (f s.reading) s)).state (rests-run p z (entered (f s.reading) s))
     rests-run (sees p) z s = rests-run p z s
     rests-run (either p is_wrong q) z s =

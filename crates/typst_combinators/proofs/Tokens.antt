@@ -6,9 +6,9 @@ use Rattle.typst_node.specs.Tree.{Tree, text_of, leaf_of, error_of, advised}
 use Rattle.typst_classes.specs.Classes.{CharClasses}
 use Rattle.typst_raw.proofs.LeafLemmas.{raw-leaves}
 use Rattle.typst_raw.specs.Raw.{raw_node}
-use Rattle.typst_lexer.specs.Nodes.{token_node, fault_node, plain_node, is_raw, with_hints, hints, message}
-use Rattle.typst_lexer.specs.declared.token.Token.{Token}
-use Rattle.typst_lexer.specs.declared.token.Fault.{Fault}
+use Rattle.typst_token_nodes.specs.Nodes.{token_node, fault_node, plain_node, is_raw, with_hints, hints, message}
+use Rattle.typst_tokens.specs.declared.token.Token.{Token}
+use Rattle.typst_tokens.specs.declared.token.Fault.{Fault}
 
 on : {A : Type 0} (P : A → Type 0) (b : Bool) (x y : A) → P x → P y → P (if b then x else y)
 on P true x y p q = p

@@ -11,13 +11,14 @@ use Rattle.typst_combinators.specs.Shape.{Shape, after_node, after_change, after
 use Rattle.typst_combinators.specs.Shape.Shape.{keeps, holds, lacks, warns, fails}
 use Rattle.typst_combinators.specs.declared.reading.Reading.{Reading}
 use Rattle.typst_readers.specs.Reader.{Reader}
-use Rattle.typst_lexer.specs.declared.token.Token.{Token}
+use Rattle.typst_tokens.specs.declared.token.Token.{Token}
+use Rattle.typst_tokens.specs.Memory.{Memory}
 use Rattle.typst_combinators.specs.Calls.{Answer}
 use Rattle.typst_combinators.specs.Hand.{Ahead, len_at, len_by, at_trivia, ahead_by, ahead, hand_at}
 use Rattle.typst_combinators.specs.Syntax.{Op, Begin, Parser}
 use Rattle.typst_combinators.specs.Syntax.Op.{hand, so, further, column, erred, takes, takes_so, flushes, complains, advises, marks, is_deepest}
-use Rattle.typst_combinators.specs.Syntax.Parser.{gives, does, next, pick, repeat, wraps, grows, scoped, sees, either, calls, block}
-use Rattle.typst_combinators.specs.Meaning.{Outcome, Meaning, Level, plain, joined, answered, followed, turns, as_last, bound, repeated, before, inside, reshaped, wrapped, grown, is_more, growths, growing, given_up, bounded, entered, left, same_mode, flushed_state, hand_of, reader_so, done, run}
+use Rattle.typst_combinators.specs.Syntax.Parser.{gives, does, next, pick, repeat, wraps, grows, nests, scoped, sees, either, calls, block}
+use Rattle.typst_combinators.specs.Meaning.{Outcome, Meaning, Level, plain, joined, answered, followed, turns, as_last, bound, repeated, before, inside, reshaped, wrapped, grown, is_more, growths, growing, nestings, nesting, given_up, bounded, entered, left, same_mode, flushed_state, hand_of, reader_so, done, run}
 use Rattle.typst_combinators.specs.Sound.{Within}
 use Rattle.typst_kinds.specs.Kinds.{is_error}
 use Rattle.typst_node.specs.Tree.{Tree}
@@ -79,7 +80,7 @@ unfolding hand_at ahead
 trivia-short k held None z = omega (arith, ahead-short k held.mode (length z.ahead) z)
 trivia-short k held (Some t) z = omega arith
 
-so-fits : (k : CharClasses) (held : Reading) (known : Option Trivia) (z : Place) (r : Reader Token) → Room z (gap_of known) ((hand_at k held known z).gap + len_by r (moved (hand_at k held known z).gap z)) 0
+so-fits : (k : CharClasses) (held : Reading) (known : Option Trivia) (z : Place) (r : Reader Memory Token) → Room z (gap_of known) ((hand_at k held known z).gap + len_by r (moved (hand_at k held known z).gap z)) 0
 so-fits k held known z r =
     let g = (hand_at k held known z).gap in
     omega (arith, trivia-short k held known z, ahead-left g z, ahead-left (g + len_by r (moved g z)) z)
@@ -190,6 +191,32 @@ growths-enough m w n (suc i) (suc j) z known o h a b =
     let some : 0 < p.taken = ltb-true 0 p.taken (and-second (is_more p.value.0) (nat_lt 0 p.taken) goes_on) in
     growths-enough m w n i j z known (grew n o p) e (omega (arith, t)) (omega (arith, t)))
 
+-- ---- what nests
+
+enough-nestings : {A : Type 0} (f : A → Shape) (begin : Begin) (m : A → Meaning (Bool × A)) → ((x : A) → Within (m x)) → (n : ℕ) (x : A) → Within (nestings f begin m n x)
+enough-nestings f begin m h zero x z s = omega arith
+enough-nestings f begin m h (suc n) x z s =
+    let o = m x z s in
+    let p = nestings f begin m n o.value.1 (moved o.taken z) o.state in
+    let b = o.value.0 && nat_lt 0 o.taken in
+    enough-reshaped z (gap_of s.known) (f (if b then joined o p else as_last o).value) (before begin s) (if b then joined o p else as_last o)
+    (on_both (Enough z (gap_of s.known)) b (joined o p) (as_last o) (enough-joined z (gap_of s.known) o p (h x z s) (enough-nestings f begin m h n o.value.1 (moved o.taken z) o.state)) (h x z s))
+
+abbrev pub nest : {A : Type 0} → (A → Shape) → ℕ → Outcome A → Outcome A
+nest f k p = reshaped (f p.value) k p
+
+-- more turns than characters are never made
+pub nestings-enough : {A : Type 0} (f : A → Shape) (begin : Begin) (m : A → Meaning (Bool × A)) → ((x : A) → Within (m x)) → (n k : ℕ) (x : A) (z : Place) (s : Point)
+    → bound z s < n → bound z s < k → nestings f begin m n x z s ≡ nestings f begin m k x z s
+nestings-enough f begin m w zero k x z s a b = absurd (omega arith)
+nestings-enough f begin m w (suc n) zero x z s a b = absurd (omega arith)
+nestings-enough f begin m w (suc n) (suc k) x z s a b =
+    let o = m x z s in
+    ap (nest f (before begin s)) (if-same (o.value.0 && nat_lt 0 o.taken) _ _ (as_last o) (λ goes_on.
+    let some : 0 < o.taken = ltb-true 0 o.taken (and-second o.value.0 (nat_lt 0 o.taken) goes_on) in
+    let most = w x z s in
+    ap (joined o) (nestings-enough f begin m w n k o.value.1 (moved o.taken z) o.state (omega arith) (omega arith))))
+
 module _ (l : Level) where
   within-done : {A : Type 0} (o : Op A) → Within (done l o)
   within-done hand z s = (hand-fits l.classes s.held s.known z).kept
@@ -210,7 +237,7 @@ module _ (l : Level) where
     within-bounded b z s = omega (arith, e b z (record s { known = None }))
 
     pub within-run : {A : Type 0} (p : Parser A) → Within (run l p)
-    unfolding run repeated growing
+    unfolding run repeated growing nesting
     within-run (gives a) z s = omega arith
     within-run (does o) z s = within-done o z s
     within-run (next p f) z s = let o = run l p z s in enough-joined z (gap_of s.known) o (run l (f o.value) (moved o.taken z) o.state) (within-run p z s) (within-run (f o.value) (moved o.taken z) o.state)
@@ -218,6 +245,7 @@ module _ (l : Level) where
     within-run (repeat p x) z s = enough-turns (λ y. run l (p y)) (λ y. within-run (p y)) (suc (bound z s)) x z s
     within-run (wraps f begin p) z s = let o = run l p z s in enough-reshaped z (gap_of s.known) (f o.value) (before begin s) o (within-run p z s)
     within-run (grows begin p f) z s = enough-growths (λ y. run l (f y)) (λ y. within-run (f y)) (before begin s) (suc (bound z s)) z (gap_of s.known) (run l p z s) (within-run p z s)
+    within-run (nests f begin p x) z s = enough-nestings f begin (λ y. run l (p y)) (λ y. within-run (p y)) (suc (bound z s)) x z s
     within-run (scoped f p) z s = enough-left z (gap_of s.known) s.reading (run l p z (entered (f s.reading) s)) (within-run p z (entered (f s.reading) s))
     within-run (sees p) z s = within-run p z s
     within-run (either p is_wrong q) z s = on_both (Enough z (gap_of s.known)) _ (given_up (run l p z s) (run l q z s)) (run l p z s) (within-run q z s) (within-run p z s)

@@ -2,7 +2,8 @@
 use Rattle.std.specs.Prelude.{ℕ}
 use Rattle.typst_classes.specs.Classes.{CharClasses}
 use Rattle.typst_readers.specs.Reader.{Reader}
-use Rattle.typst_lexer.specs.declared.token.Token.{Token}
+use Rattle.typst_tokens.specs.declared.token.Token.{Token}
+use Rattle.typst_tokens.specs.Memory.{Memory}
 use Rattle.typst_lexer.specs.Tokens.{token}
 use Rattle.typst_combinators.specs.declared.calls.Call.{Call}
 use Rattle.typst_combinators.specs.declared.calls.Call.TheVariants.{MarkupExpr}
@@ -18,5 +19,5 @@ abbrev pub no_answer : (call : Call) → Answer call
 no_answer (MarkupExpr at_start nesting) = 0
 
 -- the token that another way of reading finds at a place
-abbrev pub token_so : CharClasses → Way → Reader Token
+abbrev pub token_so : CharClasses → Way → Reader Memory Token
 token_so k (InMode mode) = token k mode

@@ -10,12 +10,13 @@ use Rattle.typst_lines.specs.Newline.{is_newline}
 use Rattle.typst_lines.specs.Place.{Place, moved}
 use Rattle.typst_node.specs.Tree.{Tree}
 use Rattle.typst_readers.specs.declared.hull.Hull.{Hull}
-use Rattle.typst_lexer.specs.declared.token.Token.{Token}
+use Rattle.typst_tokens.specs.declared.token.Token.{Token}
+use Rattle.typst_tokens.specs.Memory.{Memory}
 use Rattle.typst_classes.specs.Classes.{CharClasses}
 use Rattle.typst_readers.specs.Reader.{Reader, Look, exec, eaten, look}
 use Rattle.typst_readers.specs.Sight.{hull_of}
 use Rattle.typst_lexer.specs.Tokens.{token}
-use Rattle.typst_lexer.specs.Nodes.{token_node}
+use Rattle.typst_token_nodes.specs.Nodes.{token_node}
 use Rattle.typst_combinators.specs.declared.reading.AtNewline.TheVariants.{Continue, Stop, ContextualContinue, StopParBreak, RequireColumn}
 use Rattle.typst_combinators.specs.declared.reading.Newlines.{Newlines}
 use Rattle.typst_combinators.specs.declared.reading.Reading.{Reading}
@@ -36,10 +37,10 @@ is_parbreak kind.Parbreak = true
 is_parbreak _ = false
 
 -- the token that a reader finds at a place, and how many characters it takes
-abbrev pub token_by : Reader Token → Place → Token
+abbrev pub token_by : Reader Memory Token → Place → Token
 token_by r z = (exec r z).0
 
-abbrev pub len_by : Reader Token → Place → ℕ
+abbrev pub len_by : Reader Memory Token → Place → ℕ
 len_by r z = min (eaten r z) (length z.ahead)
 
 -- the token of a mode

@@ -8,4 +8,6 @@ pub mod Syntax
 pub mod Meaning
 pub mod Steps
 pub mod Depth
+pub mod Knot
+pub mod Words
 pub mod Sound

@@ -8,9 +8,10 @@ use Rattle.typst_kinds.specs.Kinds.{is_error}
 use Rattle.typst_node.specs.Tree.{Tree, text_of, error_of}
 use Rattle.typst_classes.specs.Classes.{CharClasses}
 use Rattle.typst_readers.specs.Reader.{Reader, look}
-use Rattle.typst_lexer.specs.Nodes.{token_node}
+use Rattle.typst_token_nodes.specs.Nodes.{token_node}
 use Rattle.typst_lexer.specs.Tokens.{token}
-use Rattle.typst_lexer.specs.declared.token.Token.{Token}
+use Rattle.typst_tokens.specs.declared.token.Token.{Token}
+use Rattle.typst_tokens.specs.Memory.{Memory}
 use Rattle.typst_combinators.specs.declared.reading.AtNewline.{AtNewline}
 use Rattle.typst_combinators.specs.declared.reading.AtNewline.TheVariants.{Continue, Stop, ContextualContinue, StopParBreak, RequireColumn}
 use Rattle.typst_combinators.specs.declared.calls.Block.{Block}
@@ -27,7 +28,7 @@ use Rattle.typst_combinators.specs.Shape.{Making, made, hinted, Shape, shaped, a
 use Rattle.typst_combinators.specs.Syntax.{Op, Begin, Parser}
 use Rattle.typst_combinators.specs.Syntax.Begin.{at_token, at_trivia}
 use Rattle.typst_combinators.specs.Syntax.Op.{hand, so, further, column, erred, takes, takes_so, flushes, complains, advises, marks, is_deepest}
-use Rattle.typst_combinators.specs.Syntax.Parser.{gives, does, next, pick, repeat, wraps, grows, scoped, sees, either, calls, block}
+use Rattle.typst_combinators.specs.Syntax.Parser.{gives, does, next, pick, repeat, wraps, grows, nests, scoped, sees, either, calls, block}
 
 pub record Outcome (A : Type 0) : Type 0 where
   pub value : A
@@ -139,14 +140,27 @@ growths m n (suc k) o z =
 unfoldable pub growing : {A : Type 0} → (A → Meaning (Option Shape × A)) → ℕ → Meaning A → Meaning A
 growing m n first z s = growths m n (suc (bound z s)) (first z s) z
 
+-- a turn with all that comes behind it becomes one node
+abbrev pub nestings : {A : Type 0} → (A → Shape) → Begin → (A → Meaning (Bool × A)) → ℕ → A → Meaning A
+nestings f begin m zero x z s = plain x s
+nestings f begin m (suc n) x z s =
+    let o = m x z s in
+    let p = if o.value.0 && nat_lt 0 o.taken then followed o (λ v. nestings f begin m n v.1) z else as_last o in
+    reshaped (f p.value) (before begin s) p
+
+unfoldable pub nesting : {A : Type 0} → (A → Shape) → Begin → (A → Meaning (Bool × A)) → A → Meaning A
+nesting f begin m x z s = nestings f begin m (suc (bound z s)) x z s
+
 abbrev pub with_seen : {A : Type 0} → Outcome A → Outcome (A × List Seen)
 with_seen o = answered (o.value, map seen o.nodes) o
 
--- a block: it begins and ends with nothing known of the trivia at hand, and is noted at both ends
+-- what a block gives, noted at both ends, and with nothing known of the trivia behind it
+abbrev pub closed : Block → Point → Outcome (Unit {0}) → Outcome (Unit {0})
+closed b s o = record o { state = forgot o.state; asks = marked 0 0 0 (mark.Opens b) (state_of s) ∷ (o.asks ++ marked o.taken 0 0 mark.Closes (state_of o.state) ∷ []) }
+
+-- a block, which begins with nothing known of the trivia
 abbrev pub bounded : Block → Meaning (Unit {0}) → Meaning (Unit {0})
-bounded b m z s =
-    let o = m z (forgot s) in
-    record o { state = forgot o.state; asks = marked 0 0 0 (mark.Opens b) (state_of s) ∷ (o.asks ++ marked o.taken 0 0 mark.Closes (state_of o.state) ∷ []) }
+bounded b m z s = closed b s (m z (forgot s))
 
 -- what is read one level deeper
 abbrev pub deeper_by_one : {A : Type 0} → Outcome A → Outcome A
@@ -252,7 +266,7 @@ gave h trims len node asks s = record (plain tt (renewed (after_node (is_error n
 
 module _ (l : Level) where
   -- the token at hand, read from its start in another way
-  abbrev pub reader_so : Way → Reader Token
+  abbrev pub reader_so : Way → Reader Memory Token
   reader_so way = token_so l.classes way
 
   abbrev pub done : {A : Type 0} → Op A → Meaning A
@@ -296,6 +310,7 @@ module _ (l : Level) where
   run (repeat p x) z s = repeated (λ y. run (p y)) x z s
   run (wraps f begin p) z s = wrapped f (before begin s) (run p z s)
   run (grows begin p f) z s = growing (λ y. run (f y)) (before begin s) (run p) z s
+  run (nests f begin p x) z s = nesting f begin (λ y. run (p y)) x z s
   run (scoped f p) z s = left_to s.reading (run p z (entered (f s.reading) s))
   run (sees p) z s = with_seen (run p z s)
   run (either p is_wrong q) z s = chosen is_wrong (run p z s) (run q z s)

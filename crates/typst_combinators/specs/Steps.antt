@@ -12,7 +12,7 @@ use Rattle.typst_combinators.specs.Shape.Making.{itself, of_kind, surprise}
 use Rattle.typst_combinators.specs.Syntax.{Parser, ◌>>=◌, ◌>>◌}
 use Rattle.typst_combinators.specs.Syntax.Begin.{at_token, at_trivia}
 use Rattle.typst_combinators.specs.Syntax.Op.{hand, erred, takes, takes_so, flushes, complains, marks}
-use Rattle.typst_combinators.specs.Syntax.Parser.{gives, does, pick, wraps, grows, scoped, block}
+use Rattle.typst_combinators.specs.Syntax.Parser.{gives, does, pick, wraps, grows, nests, scoped, block}
 
 -- the token at hand
 abbrev pub peek : Parser AtHand
@@ -102,6 +102,12 @@ unfoldable pub grow : {A : Type 0} → Parser A → (A → Parser (Option Shape 
 grow p turn = do
   ahead ← peek
   grows at_token p turn
+
+-- turn by turn; what a turn gives becomes one node with all that comes behind it
+unfoldable pub nest : {A : Type 0} → (A → Shape) → (A → Parser (Bool × A)) → A → Parser A
+nest shape turn x = do
+  ahead ← peek
+  nests shape at_token turn x
 
 -- notes what begins or ends at the token at hand
 unfoldable pub note : Mark → Parser (Unit {0})

@@ -57,6 +57,8 @@ pub data Parser : Type 0 → Type 1 where
   wraps : {A : Type 0} → (A → Shape) → Begin → Parser A → Parser (A × List Seen)
   -- the first, and then again and again, while it says into which shape all that was given since the beginning goes and has taken something
   grows : {A : Type 0} → Begin → Parser A → (A → Parser (Option Shape × A)) → Parser A
+  -- again and again, while it says so and has taken something; each time what it gives becomes one node with all that comes behind it
+  nests : {A : Type 0} → (A → Shape) → Begin → (A → Parser (Bool × A)) → A → Parser A
   -- the tokens to come are read in another way, and behind it as before
   scoped : {A : Type 0} → (Reading → Reading) → Parser A → Parser A
   -- answers what is seen of the nodes that were given, too

@@ -2,7 +2,9 @@
 #![tactic(auto)]
 
 mod calls;
+mod laws;
 mod reading;
 
 pub use calls::{Block, Call, Mark, Note, Way};
+pub use laws::words_of_the_language;
 pub use reading::{AtNewline, Newlines, Reading, State};

@@ -1,5 +1,5 @@
 -- The whole grammar: what is read one level deeper, and the tree of a text.
-use Rattle.std.specs.Prelude.{ℕ, zero, suc, Bool, true, false, List, []}
+use Rattle.std.specs.Prelude.{ℕ, Bool, true, false, List, []}
 use Rattle.typst_kinds.specs.declared.kind.SyntaxKind.TheVariants as kind
 use Rattle.typst_lines.specs.Place.{Place}
 use Rattle.typst_node.specs.Tree.{Tree, forest, inner_of}
@@ -8,13 +8,14 @@ use Rattle.typst_combinators.specs.declared.calls.Block.{Block}
 use Rattle.typst_combinators.specs.declared.calls.Block.TheVariants as block
 use Rattle.typst_combinators.specs.declared.calls.Call.{Call}
 use Rattle.typst_combinators.specs.declared.calls.Call.TheVariants.{MarkupExpr}
-use Rattle.typst_combinators.specs.Syntax.{Parser, ◌>>=◌, ◌>>◌}
+use Rattle.typst_combinators.specs.Calls.{Answer}
+use Rattle.typst_combinators.specs.Syntax.{Parser, ◌>>◌}
 use Rattle.typst_combinators.specs.Syntax.Parser.{gives}
-use Rattle.typst_combinators.specs.Calls.{Answer, no_answer}
+use Rattle.typst_combinators.specs.Steps.{flush_trivia}
 use Rattle.typst_combinators.specs.Depth.{is_end}
-use Rattle.typst_combinators.specs.Steps.{peek, flush_trivia}
 use Rattle.typst_combinators.specs.Log.{Log, no_log, logged}
-use Rattle.typst_combinators.specs.Meaning.{Outcome, Meaning, Level, plain, blockless, start_point, run}
+use Rattle.typst_combinators.specs.Meaning.{Outcome, Meaning, Level, start_point, run}
+use Rattle.typst_combinators.specs.Knot.{Rules, meaning_of, level_of}
 use Rattle.typst_markup.specs.Markup.{content_block, markup_expr, markup_run, markup_reading}
 
 -- what a call reads
@@ -31,18 +32,16 @@ abbrev pub block_production : Block → Parser (Unit {0})
 block_production block.Content = content_block
 block_production block.Code = gives tt
 
--- what blocks are there
-abbrev pub blocks : CharClasses → ℕ → ((call : Call) → Meaning (Answer call)) → Block → Meaning (Unit {0})
-blocks k levels deeper b = run (blockless k levels deeper) (peek >> block_production b)
+abbrev pub rules : Rules
+rules = record { production = production; has = has; block_production = block_production }
 
--- what a call gives below so many levels; at the limit none is made
-unfoldable pub meaning : CharClasses → ℕ → (call : Call) → Meaning (Answer call)
-meaning k zero call = λ z s. record (plain (no_answer call) s) { met = true }
-meaning k (suc levels) call = run (record { classes = k; levels = levels; deeper = meaning k levels; has = has; blocks = blocks k levels (meaning k levels) }) (production call)
+-- what a call gives below so many levels
+abbrev pub meaning : CharClasses → ℕ → (call : Call) → Meaning (Answer call)
+meaning k levels call = meaning_of rules k levels call
 
 -- where so many levels are left
 abbrev pub level_at : CharClasses → ℕ → Level
-level_at k levels = record { classes = k; levels = levels; deeper = meaning k levels; has = has; blocks = blocks k levels (meaning k levels) }
+level_at k levels = level_of rules k levels
 
 -- how deep calls may nest
 abbrev pub max_depth : ℕ

@@ -1,10 +1,1 @@
-pub mod CommentLemmas
-pub mod LinkLemmas
-pub mod NameLemmas
-pub mod NodeLemmas
-pub mod NumberLemmas
-pub mod RawLemmas
-pub mod TableLemmas
-pub mod TextLemmas
 pub mod TokenEats
-pub mod TokenLemmas

@@ -9,72 +9,32 @@ use Rattle.typst_kinds.specs.declared.kind.SyntaxKind.TheVariants as kind
 use Rattle.typst_kinds.specs.declared.mode.SyntaxMode.{SyntaxMode}
 use Rattle.typst_kinds.specs.declared.mode.SyntaxMode.TheVariants.{Markup, Math, Code}
 use Rattle.typst_lines.specs.Place.{Place, scout, passes}
-use Rattle.typst_lexer.specs.Characters.{is_space}
+use Rattle.typst_tokens.specs.Characters.{is_space}
 use Rattle.typst_classes.specs.Classes.{CharClasses, in_line}
 use Rattle.typst_classes.specs.Identifiers.{is_id_continue}
-use Rattle.typst_lexer.specs.Common.{whitespace, shebang, line_comment, block_comment, comment_end}
-use Rattle.typst_lexer.specs.Markup.{sign, backslash, dot, minus, emphasis, heading, marker, numbering, markup}
+use Rattle.typst_tokens.specs.Common.{whitespace, shebang, line_comment, block_comment, comment_end}
+use Rattle.typst_markup_tokens.specs.Markup.{dot, minus, emphasis, heading, marker, numbering, markup}
+use Rattle.typst_tokens.specs.Common.{sign}
+use Rattle.typst_tokens.specs.Escapes.{backslash}
 use Rattle.typst_readers.specs.Reader.{Reader, eaten}
 use Rattle.typst_readers.specs.Reader.Reader.{answer}
-use Rattle.typst_lexer.specs.Link.{link_or_text}
-use Rattle.typst_lexer.specs.Names.{label, label_or_text, ref_marker, ref_or_text}
-use Rattle.typst_lexer.specs.Raw.{raw}
-use Rattle.typst_lexer.specs.Text.{text_from}
-use Rattle.typst_lexer.specs.Token.{plain}
+use Rattle.typst_markup_tokens.specs.Link.{link_or_text}
+use Rattle.typst_markup_tokens.specs.Names.{label_or_text, ref_marker, ref_or_text}
+use Rattle.typst_tokens.specs.Labels.{label}
+use Rattle.typst_tokens.specs.Raw.{raw}
+use Rattle.typst_markup_tokens.specs.Text.{text_from}
+use Rattle.typst_tokens.specs.Token.{plain}
+use Rattle.typst_markup_tokens.proofs.Eats.{markup-eats}
+use Rattle.typst_tokens.proofs.Eats.{either, some-ahead, run-ahead, line-eats}
 use Rattle.typst_lexer.specs.Tokens.{of_mode, hash, slash, star, backtick, token}
-use Rattle.typst_lexer.specs.declared.token.Token.{Token}
+use Rattle.typst_tokens.specs.declared.token.Token.{Token}
+use Rattle.typst_tokens.specs.Memory.{Memory}
 
-either : {A : Type 0} (b : Bool) (x y : Reader A) (p : Place) → (b ≡ true → 1 ≤ eaten x p) → 1 ≤ eaten y p → 1 ≤ eaten (if b then x else y) p
-either true x y p h i = h refl
-either false x y p h i = i
-
-some-ahead : (c : ℕ) (ahead : List ℕ) → slice_get ahead 0 ≡ Some c → 1 ≤ length ahead
-some-ahead c [] e = absurd (cc)
-some-ahead c (d ∷ ahead) e = omega arith
-
-run-ahead : (test : ℕ → Bool) (c : ℕ) (ahead : List ℕ) → slice_get ahead 0 ≡ Some c → test c ≡ true → 1 ≤ prefix_len test ahead
-run-ahead test c [] e t = absurd (cc)
-run-ahead test c (d ∷ ahead) e t =
-    let same : d ≡ c = cc in
-    let t' : test d ≡ true = ap test same ∙ t in
-    rw t' (omega arith)
-
-emphasis-eats : (k : CharClasses) (s : SyntaxKind) (p : Place) → 1 ≤ eaten (emphasis k s) p
-unfolding emphasis sign text_from
-emphasis-eats k s p =
-    either (passes k.word (slice_get p.behind 0)) _ _ p (λ _. either (passes k.word (scout 1 p)) _ _ p (λ _. omega arith) (omega arith)) (omega arith)
-
-module _ (c : ℕ) (p : Place) (e : scout 0 p ≡ Some c) where
-  markup-eats : (k : CharClasses) → 1 ≤ eaten (markup k c) p
-  unfolding markup link_or_text label label_or_text ref_marker ref_or_text backslash dot minus emphasis sign heading marker numbering text_from
-  markup-eats k =
-      either (c == 92) _ _ p (λ _. omega arith)
-      (either (c == 104) _ _ p (λ _. omega arith)
-      (either (c == 60) _ _ p (λ _. either (passes (is_id_continue k) (scout 1 p)) _ _ p (λ _. omega arith) (omega arith))
-      (either (c == 64) _ _ p (λ _. either (passes (is_id_continue k) (scout 1 p)) _ _ p (λ _. omega arith) (omega arith))
-      (either (c == 46) _ _ p (λ _. omega arith)
-      (either (c == 45) _ _ p (λ _. omega arith)
-      (either (c == 42) _ _ p (λ _. emphasis-eats k kind.Star p)
-      (either (c == 95) _ _ p (λ _. emphasis-eats k kind.Underscore p)
-      (either (c == 91) _ _ p (λ _. omega arith)
-      (either (c == 93) _ _ p (λ _. omega arith)
-      (either (c == 39 || c == 34) _ _ p (λ _. omega arith)
-      (either (c == 126) _ _ p (λ _. omega arith)
-      (either (c == 58) _ _ p (λ _. omega arith)
-      (either (c == 61) _ _ p (λ t. omega (arith, run-ahead (λ d. d == 61) c p.ahead e t))
-      (either (c == 43) _ _ p (λ _. omega arith)
-      (either (c == 47) _ _ p (λ _. omega arith)
-      (either (is_ascii_digit c) _ _ p (λ t. omega (arith, run-ahead is_ascii_digit c p.ahead e t))
-      (omega arith)))))))))))))))))
-
-  mode-eats : (k : CharClasses) (mode : SyntaxMode) → 1 ≤ eaten (of_mode k mode c) p
-  unfolding of_mode text_from
-  mode-eats k Markup = markup-eats k
-  mode-eats k Math = omega arith
-  mode-eats k Code = omega arith
-
-line-eats : (test : ℕ → Bool) (c d : ℕ) (p : Place) → scout 0 p ≡ Some c → (c == d) ≡ true → test d ≡ true → 1 ≤ prefix_len test p.ahead
-line-eats test c d p e t h = let same : c ≡ d = grind (arith, nat_tests) in run-ahead test c p.ahead e (ap test same ∙ h)
+mode-eats : (c : ℕ) (p : Place) (e : scout 0 p ≡ Some c) (k : CharClasses) (mode : SyntaxMode) → 1 ≤ eaten (of_mode k mode c) p
+unfolding of_mode text_from
+mode-eats c p e k Markup = markup-eats c p e k
+mode-eats c p e k Math = omega arith
+mode-eats c p e k Code = omega arith
 
 -- the mode's own token at a character that is known
 own-eats : (k : CharClasses) (mode : SyntaxMode) (c d : ℕ) (p : Place) → scout 0 p ≡ Some c → (c == d) ≡ true → 1 ≤ eaten (of_mode k mode d) p
@@ -104,7 +64,7 @@ tick-eats k Markup c p e t = omega (arith, line-eats (λ d. d == 96) c 96 p e t 
 tick-eats k Math c p e t = own-eats k Math c 96 p e t
 tick-eats k Code c p e t = omega (arith, line-eats (λ d. d == 96) c 96 p e t refl)
 
-abbrev token_from : CharClasses → SyntaxMode → ℕ → Reader Token
+abbrev token_from : CharClasses → SyntaxMode → ℕ → Reader Memory Token
 token_from k mode c =
     if is_space mode c then whitespace mode
     else (if c == 35 then hash k mode

@@ -1,29 +1,20 @@
 -- What the looks of tokens and columns are good for, and that none of them is too far.
-use Rattle.std.specs.Prelude.{◌≡◌, ℕ, [], codes, length, if◌then◌else◌, List, encode_utf8_all}
+use Rattle.std.specs.Prelude.{◌≡◌, ℕ, [], codes}
 use Rattle.typst_kinds.specs.declared.kind.SyntaxKind.TheVariants as kind
 use Rattle.typst_kinds.specs.declared.mode.SyntaxMode.{SyntaxMode}
 use Rattle.typst_kinds.specs.declared.mode.SyntaxMode.TheVariants.{Markup}
-use Rattle.typst_lines.specs.Place.{Place, moved}
+use Rattle.typst_lines.specs.Place.{Place}
 use Rattle.typst_classes.specs.Classes.{CharClasses, by_law}
-use Rattle.typst_readers.specs.Column.{column, column_look}
+use Rattle.typst_readers.specs.Column.{column_look}
 use Rattle.typst_readers.specs.Reader.{Look, look, eaten, exec, Agree, SameReading, place}
-use Rattle.typst_lexer.specs.Link.{link}
-use Rattle.typst_lexer.specs.Nodes.{token_node}
-use Rattle.typst_lexer.specs.Token.{plain, faulty}
+use Rattle.typst_tokens.specs.Token.{plain}
 use Rattle.typst_lexer.specs.Tokens.{token}
-use Rattle.typst_lexer.specs.declared.token.Token.{Token}
-use Rattle.typst_lexer.specs.declared.token.Fault.TheVariants as fault
-use Rattle.typst_links.specs.Links.{link_prefix}
-use Rattle.typst_node.specs.Tree.{text_of}
+use Rattle.typst_tokens.specs.declared.token.Token.{Token}
 
 -- Where another place shows the same characters and marks in the look of a token, the token there
 -- is the same, as long, and with the same look.
 abbrev pub TokenFrame : Type 0
 TokenFrame = (k : CharClasses) (mode : SyntaxMode) (p q : Place) → Agree (look (token k mode) p) p q → SameReading (token k mode) p q
-
--- And in the look of a column, the column.
-abbrev pub ColumnFrame : Type 0
-ColumnFrame = (p q : Place) → Agree (column_look p) p q → column p ≡ column q
 
 -- How far a look goes back and ahead.
 abbrev pub reach : ℕ → ℕ → Look
@@ -91,11 +82,3 @@ pub record NameLook (beyond : CharClasses) : Type 0 where
   pub shorter_label : Differ (by_law beyond) (reach 0 2) (place [] (codes "<a>")) (place [] (codes "<ab>")) (plain kind.Label) (plain kind.Label) 3 4
   -- a colon begins no label
   pub colon : look (token (by_law beyond) Markup) (place [] (codes "<:a>")) ≡ reach 0 2
-
--- What stands behind the scheme of a link is the link that the characters ahead begin with.
-abbrev pub LinkIsPrefix : Type 0
-LinkIsPrefix = (p : Place) → exec link p ≡ (let r = link_prefix p.ahead in (if r.1 then plain kind.Link else faulty fault.UnbalancedLink, moved (length r.0) p))
-
--- The leaves of a token's node joined are the characters that it took.
-abbrev pub TokenText : Type 0
-TokenText = (k : CharClasses) (t : Token) (taken : List ℕ) → text_of (token_node k t taken) ≡ encode_utf8_all taken

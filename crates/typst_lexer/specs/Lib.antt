@@ -1,13 +1,3 @@
-pub mod Characters
-pub mod Common
-pub mod Flow
 pub mod Laws
 pub mod Lexer
-pub mod Link
-pub mod Markup
-pub mod Names
-pub mod Nodes
-pub mod Raw
-pub mod Text
-pub mod Token
 pub mod Tokens

@@ -8,11 +8,6 @@ pub fn token_frame_law()
     ensures { law.TokenFrame }
 {}
 
-/// The frame law of columns.
-pub fn column_frame_law()
-    ensures { law.ColumnFrame }
-{}
-
 /// How far some tokens and a column are looked for.
 pub fn looks_of_tokens()
     ensures { (beyond : CharClasses) → law.Looks beyond }
@@ -46,14 +41,4 @@ pub fn look_of_a_link()
 /// The looks of a reference and of a label can't be shorter.
 pub fn looks_of_names()
     ensures { (beyond : CharClasses) → law.NameLook beyond }
-{}
-
-/// How far a link goes is what `link_prefix` says.
-pub fn links_are_prefixes()
-    ensures { law.LinkIsPrefix }
-{}
-
-/// The leaves law of tokens, for every class value, token and list of characters.
-pub fn token_text_law()
-    ensures { law.TokenText }
 {}

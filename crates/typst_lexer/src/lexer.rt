@@ -2,28 +2,26 @@
 ghost use Rattle.std.specs.Prelude.{◌≡◌, ◌≤◌, IfOk, OnOk, OnErr, IsSome, false, take};
 ghost use Rattle.std.specs.Str.{chars, IsCharBoundary};
 ghost use Rattle.typst_readers.specs.Column.{column};
-ghost use Rattle.typst_lexer.specs.Nodes.{IsRead};
 ghost use Rattle.typst_readers.specs.Reader.{exec, eaten};
 ghost use Rattle.typst_readers.specs.Reads.{Reads, Scans};
 ghost use Rattle.typst_lexer.specs.Tokens as spec;
 ghost use Rattle.typst_lines.specs.Place.{place_at, scout};
 
-use crate::common::{block_comment, comment_end, line_comment, shebang, whitespace};
-use crate::markup::markup;
-use crate::raw::raw;
-use crate::sets::is_space;
-use crate::text::text_from;
-use crate::token::{Token, make_node};
 use std::alloc::{AllocError, Global};
 use typst_classes::classes::Classes;
 use typst_kinds::{SyntaxKind, SyntaxMode};
 use typst_lines::Scanner;
-use typst_node::SyntaxNode;
+use typst_markup_tokens::markup::markup;
+use typst_markup_tokens::text::text_from;
 use typst_readers::column::column;
 use typst_readers::{Cursor, Hull};
+use typst_tokens::Token;
+use typst_tokens::common::{block_comment, comment_end, line_comment, shebang, whitespace};
+use typst_tokens::raw::raw;
+use typst_tokens::sets::is_space;
 
 /// Reads a text token by token, in one mode or another.
-#[derive(Drop)]
+#[derive_where(Clone, Copy)]
 pub struct Lexer<'a, C: Classes> {
     s: Scanner<'a>,
     mode: SyntaxMode,
@@ -90,6 +88,13 @@ impl<'a, C: Classes> Lexer<'a, C> {
         self.s.jump(index);
     }
 
+    /// The class value by which it reads.
+    pub fn classes(&self) -> &'a C
+        ensures { result.now ≡ self.now.classes.now }
+    {
+        self.classes
+    }
+
     /// Whether a line ended in the token that was read last.
     pub fn newline(&self) -> bool
         ensures { result ≡ newline_of self.now }
@@ -126,23 +131,6 @@ impl<'a, C: Classes> Lexer<'a, C> {
         self.s = s;
         self.newline = token.newline;
         Ok((token, text))
-    }
-
-    /// Reads a token, and makes its node. Where memory is refused nothing changes.
-    pub fn next(&mut self, alloc: Global) -> Result<(SyntaxKind, SyntaxNode), AllocError>
-        ensures read { IfOk result (λ r. IsRead (C.classes self.old.classes.now) (spec.token (C.classes self.old.classes.now) (mode_of self.old)) (place self.old) (place self.new) r.0 r.1) }
-        ensures newline { OnOk result (newline_of self.new ≡ (exec (spec.token (C.classes self.old.classes.now) (mode_of self.old)) (place self.old)).0.newline) }
-        ensures mode { mode_of self.new ≡ mode_of self.old }
-        ensures text { text_of self.new ≡ text_of self.old }
-        ensures classes { self.new.classes.now ≡ self.old.classes.now }
-        ensures refused { OnErr result (self.new ≡ self.old) }
-    {
-        let mut s = self.s;
-        let (token, _) = token(alloc, &mut s, self.mode, self.classes)?;
-        let node = make_node(alloc, token, s.since(&self.s), self.classes)?;
-        self.s = s;
-        self.newline = token.newline;
-        Ok((token.kind, node))
     }
 }
 

@@ -3,13 +3,12 @@ use Rattle.std.specs.Prelude.{ℕ, Bool, List, Option, refl}
 use Rattle.std.specs.Coded.{Coded, code_by, coded×, coded_ℕ, coded_list, coded_option, coded_bool}
 use Rattle.typst_kinds.specs.declared.kind.SyntaxKind.{SyntaxKind}
 use Rattle.typst_kinds.specs.contracts.kind.SyntaxKind.{the_row as kind_row}
-use Rattle.typst_lines.specs.Place.{Place}
+use Rattle.typst_lines.specs.Place.{Place, place_code}
 use Rattle.typst_node.specs.Tree.{Tree, tree_code}
 use Rattle.typst_readers.specs.declared.hull.Hull.{Hull}
 use Rattle.typst_readers.specs.contracts.hull.Hull.{the_row as hull_row}
-use Rattle.typst_readers.specs.Sight.{place_code}
-use Rattle.typst_lexer.specs.declared.token.Token.{Token}
-use Rattle.typst_lexer.specs.contracts.token.Token.{the_row as token_row}
+use Rattle.typst_tokens.specs.declared.token.Token.{Token}
+use Rattle.typst_tokens.specs.contracts.token.Token.{the_row as token_row}
 use Rattle.typst_combinators.specs.declared.reading.Newlines.{Newlines}
 use Rattle.typst_combinators.specs.contracts.reading.Newlines.{the_row as newlines_row}
 use Rattle.typst_combinators.specs.declared.calls.Note.{Note}

@@ -6,7 +6,7 @@ ghost use Rattle.typst_kinds.specs.declared.kind.SyntaxKind.{SyntaxKind as Kind}
 ghost use Rattle.typst_lines.specs.Place.{moved};
 ghost use Rattle.typst_node.specs.Tree.{made_error, text_of};
 ghost use Rattle.typst_classes.specs.Classes.{CharClasses};
-ghost use Rattle.typst_lexer.specs.Nodes.{is_leaf, token_node};
+ghost use Rattle.typst_token_nodes.specs.Nodes.{is_leaf, token_node};
 ghost use Rattle.typst_combinators.specs.Hand.{column_at, text_ahead};
 ghost use Rattle.typst_machine.specs.Bytes.{bytes_left};
 ghost use Rattle.typst_machine.specs.Cursor.{IsStart};
@@ -29,9 +29,9 @@ use typst_classes::Classes;
 use typst_combinators::{AtNewline, Block, Mark, Note, Reading, State};
 use typst_kinds::{SyntaxKind, SyntaxMode};
 use typst_lexer::Hull;
-use typst_lexer::token::{is_leaf, leaf_node, make_node};
 use typst_lines::Scanner;
 use typst_node::SyntaxNode;
+use typst_token_nodes::{is_leaf, leaf_node, make_node};
 
 /// Room for one node is taken at once for so many bytes of the text, which suffices as a rule.
 const BYTES_OF_A_NODE: usize = 32;

@@ -1,8 +1,9 @@
 //! The parser layer of Typst, as programs use it.
 //!
 //! - [`parse`] makes the syntax tree of a text of markup. Any text has one; errors, warnings and hints
-//!   stand in the tree, and its leaves joined are the text. Trees, their nodes and their kinds are those
-//!   of `typst_tree`.
+//!   stand in the tree, and its leaves joined are the text.
+//! - A tree is a [`SyntaxNode`] of some [`SyntaxKind`], with its [`Diagnostic`]s and its [`Span`];
+//!   [`LinkedNode`] is a node with what stands round it.
 //! - What characters are letters, digits and word characters is asked of a value of [`Classes`];
 //!   [`UnicodeClasses`] answers by Unicode. [`is_id_start`], [`is_id_continue`] and [`is_ident`] tell by
 //!   such a value what an identifier is, and [`is_valid_label_literal_id`] what a label can be named.
@@ -18,3 +19,7 @@ pub use typst_grammar::parse;
 pub use typst_lexer::{Classes, MathClass, UnicodeClasses, is_id_continue, is_id_start, is_ident};
 pub use typst_lines::{Line, Lines, Text, is_newline, split_newlines};
 pub use typst_links::{is_valid_label_literal_id, link_prefix};
+pub use typst_tree::{
+    Assoc, BinOp, Diagnostic, FileId, Hint, LinkedChildren, LinkedNode, Severity, SourceError, Span,
+    SpanNumber, SubRange, SyntaxKind, SyntaxMode, SyntaxNode, SyntaxSet, UnOp, is_ordered, set,
+};

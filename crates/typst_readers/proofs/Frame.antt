@@ -2,7 +2,7 @@
 use Rattle.std.proofs.Common.{◌≡◌, ◌≤◌, ℕ, zero, suc, ◌+◌, ◌-◌, max, min, Bool, true, false, List, [], ◌∷◌, take, length, slice_get, if◌then◌else◌, refl, sym, ap, subst, ◌∙◌, arith, Some}
 use Rattle.std.specs.List.{prefix_len}
 use Rattle.typst_lines.specs.Place.{Place, moved, moved_from, scout, run, past}
-use Rattle.typst_readers.specs.Reader.{place, both, no_look, Step, ask, glimpse, Machine, Memory, Turn, spanned, span_look, Reader, exec, eaten, Look, look, marked, Agree, SameReading, widened, from_before, from_far, skip_look}
+use Rattle.typst_readers.specs.Reader.{place, both, no_look, Step, ask, glimpse, Machine, Turn, spanned, span_look, Reader, exec, eaten, Look, look, marked, Agree, SameReading, widened, from_before, from_far, skip_look}
 use Rattle.typst_readers.specs.Reader.Step.{turn, see, see_behind}
 use Rattle.typst_readers.specs.Reader.Turn.{leave, last, go}
 use Rattle.typst_readers.specs.Reader.Reader.{answer, peek, glance, span, eat, see_run, skip, eat_run}
@@ -104,18 +104,18 @@ step-frame (see_behind k) p q g =
 
 -- ---- machines
 
-record SameSpan (m : Machine) (state : Memory) (pb pa qb qa : List ℕ) : Type 0 where
+record SameSpan {M : Type 0} (m : Machine M) (state : M) (pb pa qb qa : List ℕ) : Type 0 where
   taken : spanned m state pb pa ≡ spanned m state qb qa
   looks : span_look m state pb pa ≡ span_look m state qb qa
 
-abbrev pub turned : Machine → Memory → List ℕ → ℕ → List ℕ → Turn → List ℕ × Memory
+abbrev pub turned : {M : Type 0} → Machine M → M → List ℕ → ℕ → List ℕ → Turn M → List ℕ × M
 turned m state behind c ahead t = elim t [ leave ↦ ([], state) | last after ↦ (c ∷ [], after) | go after ↦ (let r = spanned m after (c ∷ behind) ahead in (c ∷ r.0, r.1)) ]
 
-abbrev turn_look : Machine → List ℕ → ℕ → List ℕ → Turn → Look
+abbrev turn_look : {M : Type 0} → Machine M → List ℕ → ℕ → List ℕ → Turn M → Look
 turn_look m behind c ahead t = elim t [ leave ↦ no_look | last after ↦ no_look | go after ↦ from_before (c ∷ ahead) (span_look m after (c ∷ behind) ahead) ]
 
-turn-agree : (m : Machine) (state : Memory) (c : ℕ) (pb pa qb qa : List ℕ) (t : Turn)
-    → ((after : Memory) → Agree (span_look m after (c ∷ pb) pa) (place (c ∷ pb) pa) (place (c ∷ qb) qa) → SameSpan m after (c ∷ pb) pa (c ∷ qb) qa)
+turn-agree : {M : Type 0} (m : Machine M) (state : M) (c : ℕ) (pb pa qb qa : List ℕ) (t : Turn M)
+    → ((after : M) → Agree (span_look m after (c ∷ pb) pa) (place (c ∷ pb) pa) (place (c ∷ qb) qa) → SameSpan m after (c ∷ pb) pa (c ∷ qb) qa)
     → Agree (turn_look m pb c pa t) (place pb (c ∷ pa)) (place qb (c ∷ qa))
     → (turned m state pb c pa t ≡ turned m state qb c qa t) × (turn_look m pb c pa t ≡ turn_look m qb c qa t)
 turn-agree m state c pb pa qb qa leave more g = (refl, refl)
@@ -124,7 +124,7 @@ turn-agree m state c pb pa qb qa (go after) more g =
     let s = more after (step-agree (span_look m after (c ∷ pb) pa) pb (c ∷ pa) qb (c ∷ qa) g) in
     (ap (λ r. (c ∷ r.0, r.1)) s.taken, ap (λ l. record { back = l.back - 1; front = suc l.front }) s.looks)
 
-span-agree : (m : Machine) (state : Memory) (pb pa qb qa : List ℕ) → Agree (span_look m state pb pa) (place pb pa) (place qb qa) → SameSpan m state pb pa qb qa
+span-agree : {M : Type 0} (m : Machine M) (state : M) (pb pa qb qa : List ℕ) → Agree (span_look m state pb pa) (place pb pa) (place qb qa) → SameSpan m state pb pa qb qa
 span-agree m state pb [] qb [] g = record { taken = refl; looks = refl }
 span-agree m state pb [] qb (d ∷ qa) g = let e = g.ahead in absurd (cc)
 span-agree m state pb (c ∷ pa) qb [] g =
@@ -204,7 +204,7 @@ skip-agree (suc n) l pb (c ∷ pa) qb (d ∷ qa) g =
     let s = skip-agree n l (c ∷ pb) pa (d ∷ qb) qa (step-agree (skip_look n pa l) pb (c ∷ pa) qb (d ∷ qa) g) in
     record { long = omega (arith, s.long); looks = λ m. ap (from_before (c ∷ pa)) (s.looks m); rest = s.rest }
 
-pub frame : {A : Type 0} (r : Reader A) (p q : Place) → Agree (look r p) p q → SameReading r p q
+pub frame : {M A : Type 0} (r : Reader M A) (p q : Place) → Agree (look r p) p q → SameReading r p q
 frame (answer a) p q g = record { answers = refl; lengths = refl; looks = refl }
 frame (peek n k) p q g =
     let same = scout-same n (look (k (scout n p)) p) p q g in

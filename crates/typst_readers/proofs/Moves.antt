@@ -19,7 +19,7 @@ moved-min n xs [] = let e : min n 0 ≡ 0 = omega arith in rw e (moved-end n xs)
 moved-min zero xs (c ∷ ys) = let e : min 0 (suc (length ys)) ≡ 0 = omega arith in rw e refl
 moved-min (suc n) xs (c ∷ ys) = let e : min (suc n) (suc (length ys)) ≡ suc (min n (length ys)) = omega arith in rw e (moved-min n (c ∷ xs) ys)
 
-pub exec-moved : {A : Type 0} (r : Reader A) (p : Place) → (exec r p).1 ≡ moved (eaten r p) p
+pub exec-moved : {M A : Type 0} (r : Reader M A) (p : Place) → (exec r p).1 ≡ moved (eaten r p) p
 exec-moved (answer a) p = refl
 exec-moved (peek n k) p = exec-moved (k (scout n p)) p
 exec-moved (glance k) p = exec-moved (k (slice_get p.behind 0)) p

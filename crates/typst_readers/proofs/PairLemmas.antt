@@ -3,7 +3,7 @@ use Rattle.std.proofs.Common.{◌≡◌, ◌≤◌, ◌<◌, ℕ, zero, suc, ◌
 use Rattle.std.specs.List.{prefix_len}
 use Rattle.typst_lines.specs.Place.{Place, moved, moved_from, passes, past, scout}
 use Rattle.typst_readers.specs.Pairs.{either, pair_passes, pairs_len, past_pairs, went_past_pairs}
-use Rattle.typst_readers.specs.Reader.{place, ask, glimpse, Machine, Memory, Reader, eat_span}
+use Rattle.typst_readers.specs.Reader.{place, ask, glimpse, Machine, Reader, eat_span}
 use Rattle.typst_readers.specs.Reader.Turn.{go}
 use Rattle.typst_readers.specs.Sight.{position, far, Sight, Covers, saw, saw_by, went, sight}
 use Rattle.typst_readers.proofs.Sights.{covers-saw, covers-went, far-le, far-moved, far-next, far-none, far-on, far-read, same-sight, saw-ahead, two-scout, went-nowhere}
@@ -141,7 +141,7 @@ pairs-seen test v =
 
 -- ---- what a machine takes, it takes at once
 
-module _ {A : Type 0} (m : Machine) (state : Memory) (test : ℕ → Option ℕ → Bool) (k : Memory → Reader A)
+module _ {A M : Type 0} (m : Machine M) (state : M) (test : ℕ → Option ℕ → Bool) (k : M → Reader M A)
     (goes : (c : ℕ) (b a : List ℕ) → test c (slice_get a 0) ≡ true → ask (m state) (place b (c ∷ a)) ≡ go state)
     (looks : (c : ℕ) (b a : List ℕ) → test c (slice_get a 0) ≡ true → (f : ℕ) × ((glimpse (m state) (place b (c ∷ a)) ≡ record { back = 0; front = f }) × (f ≤ 2))) where
   abbrev ahead_of : List ℕ → List ℕ → ℕ → ℕ → Sight

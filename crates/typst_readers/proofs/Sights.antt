@@ -251,7 +251,7 @@ regard-is (see_behind k) v h =
     ∙ ap (λ w. (ask rest v.place, w)) (sym (saw-both (record { back = 1; front = 0 }) (glimpse rest v.place) v))
 
 -- what a reader answers, where, and what it looked at on the way
-pub sight-is : {A : Type 0} (r : Reader A) (v : Sight) → Covers v → sight r v ≡ ((exec r v.place).0, as_place (exec r v.place).1 (saw_by (look r v.place) v))
+pub sight-is : {M A : Type 0} (r : Reader M A) (v : Sight) → Covers v → sight r v ≡ ((exec r v.place).0, as_place (exec r v.place).1 (saw_by (look r v.place) v))
 sight-is (answer a) v h = ap (λ w. (a, w)) (sym (saw-nothing v h))
 sight-is (peek n k) v h =
     let rest = k (scout n v.place) in
@@ -300,10 +300,10 @@ sight-is (eat_run test k) v h =
     ∙ ap (λ w. (e.0, as_place e.1 w)) (sym (saw-both (record { back = 0; front = suc n }) (from_far n l) v))
 
 -- what is read from a place, at which nothing was looked at yet
-pub read-is : {A : Type 0} (r : Reader A) (z : Place) (a : A) (v : Sight) → sight r (fresh z) ≡ (a, v) → exec r z ≡ (a, v.place)
+pub read-is : {M A : Type 0} (r : Reader M A) (z : Place) (a : A) (v : Sight) → sight r (fresh z) ≡ (a, v) → exec r z ≡ (a, v.place)
 read-is r z a v e = let f = sym (sight-is r (fresh z) (covers-fresh z)) ∙ e in ap (λ p. (p.0, p.1.place)) f
 
-pub hull-is : {A : Type 0} (r : Reader A) (z : Place) (a : A) (v : Sight) → sight r (fresh z) ≡ (a, v) → ◌≡◌ {A = Hull} (record { reach = v.reach; least = v.least }) (hull_of (look r z) z)
+pub hull-is : {M A : Type 0} (r : Reader M A) (z : Place) (a : A) (v : Sight) → sight r (fresh z) ≡ (a, v) → ◌≡◌ {A = Hull} (record { reach = v.reach; least = v.least }) (hull_of (look r z) z)
 hull-is r z a v e =
     let f = sym (sight-is r (fresh z) (covers-fresh z)) ∙ e in
     let l = look r z in
@@ -364,7 +364,7 @@ unfolding text_of
 text-moved n z = ap encode_utf8_all (text-on n z.behind z.ahead)
 
 -- a reader stays in its text
-pub text-read : {A : Type 0} (r : Reader A) (z : Place) → text_of (exec r z).1 ≡ text_of z
+pub text-read : {M A : Type 0} (r : Reader M A) (z : Place) → text_of (exec r z).1 ≡ text_of z
 text-read r z = ap text_of (exec-moved r z) ∙ text-moved (eaten r z) z
 
 pub text-is : (text : List ℕ) (i : ℕ) → IsUtf8 text → IsCharBoundary text i → text ≡ text_of (place_at text i)

@@ -1,17 +1,17 @@
 -- Machines, taken one character after the other.
 use Rattle.std.proofs.Common.{◌≡◌, ℕ, suc, max, List, [], ◌∷◌, length, refl, sym, ap, ◌∙◌, arith}
 use Rattle.typst_lines.specs.Place.{Place, moved_from}
-use Rattle.typst_readers.specs.Reader.{place, both, no_look, widened, from_before, Look, ask, glimpse, Machine, Memory, Turn, spanned, span_look, Reader, eat_span}
+use Rattle.typst_readers.specs.Reader.{place, both, no_look, widened, from_before, Look, ask, glimpse, Machine, Turn, spanned, span_look, Reader, eat_span}
 use Rattle.typst_readers.specs.Reader.Turn.{leave, last, go}
 use Rattle.typst_readers.specs.Sight.{far, Sight, Covers, saw, saw_by, went, sight}
 use Rattle.typst_readers.proofs.Frame.{turned}
 use Rattle.typst_readers.proofs.Sights.{far-none, far-le, far-on, same-sight, covers-saw, covers-saw_by, saw-both, saw-nothing, saw-ahead, saw-before, went-nowhere}
 
-abbrev turn_look : Machine → List ℕ → ℕ → List ℕ → Turn → Look
+abbrev turn_look : {M : Type 0} → Machine M → List ℕ → ℕ → List ℕ → Turn M → Look
 turn_look m behind c ahead t = elim t [ leave ↦ no_look | last after ↦ no_look | go after ↦ from_before (c ∷ ahead) (span_look m after (c ∷ behind) ahead) ]
 
 -- what is read behind the turn at a character
-abbrev pub turned_sight : {A : Type 0} → Machine → Memory → (Memory → Reader A) → Sight → Turn → A × Sight
+abbrev pub turned_sight : {A M : Type 0} → Machine M → M → (M → Reader M A) → Sight → Turn M → A × Sight
 turned_sight m state k w t = elim t [ leave ↦ sight (k state) w | last after ↦ sight (k after) (went 1 w) | go after ↦ sight (eat_span m after k) (went 1 w) ]
 
 -- one place ahead is looked at in any case
@@ -21,7 +21,7 @@ one_ahead r z = omega arith
 pub saw-twice : (v : Sight) → saw 1 (saw 1 v) ≡ saw 1 v
 saw-twice v = same-sight _ _ _ _ _ _ refl (one_ahead v.reach v.place) refl
 
-module _ {A : Type 0} (m : Machine) (state : Memory) (k : Memory → Reader A) (c : ℕ) (b a : List ℕ) (r l : ℕ) where
+module _ {A M : Type 0} (m : Machine M) (state : M) (k : M → Reader M A) (c : ℕ) (b a : List ℕ) (r l : ℕ) where
   abbrev at_c : Sight
   at_c = record { place = place b (c ∷ a); reach = r; least = l }
 
@@ -32,10 +32,10 @@ module _ {A : Type 0} (m : Machine) (state : Memory) (k : Memory → Reader A) (
   abbrev turning : Sight
   turning = saw_by looks (saw 1 at_c)
 
-  abbrev through : Turn → A × Sight
+  abbrev through : Turn M → A × Sight
   through t = let s = turned m state b c a t in sight (k s.1) (went (length s.0) (saw_by (widened 0 1 (both looks (turn_look m b c a t))) at_c))
 
-  same-looks : (t : Turn) → Covers at_c → saw_by (widened 0 1 (both looks (turn_look m b c a t))) at_c ≡ saw_by (turn_look m b c a t) turning
+  same-looks : (t : Turn M) → Covers at_c → saw_by (widened 0 1 (both looks (turn_look m b c a t))) at_c ≡ saw_by (turn_look m b c a t) turning
   same-looks t h =
       saw-both (record { back = 0; front = 1 }) (both looks (turn_look m b c a t)) at_c
       ∙ saw-both looks (turn_look m b c a t) (saw_by (record { back = 0; front = 1 }) at_c)
@@ -49,7 +49,7 @@ module _ {A : Type 0} (m : Machine) (state : Memory) (k : Memory → Reader A) (
       ap (λ e. record { place = moved_from n (c ∷ b) a; reach = max (saw_by (from_before (c ∷ a) s) turning).reach e; least = (saw_by (from_before (c ∷ a) s) turning).least }) (far-on n c b a)
       ∙ ap (went n) (saw-before s turning.reach turning.least b (c ∷ a) h)
 
-  by-turn : (t : Turn) → Covers at_c → through t ≡ turned_sight m state k turning t
+  by-turn : (t : Turn M) → Covers at_c → through t ≡ turned_sight m state k turning t
   by-turn leave h = ap (λ v. sight (k state) (went 0 v)) (same-looks leave h ∙ saw-nothing turning (covered h)) ∙ ap (sight (k state)) (went-nowhere turning (covered h))
   by-turn (last after) h = ap (λ v. sight (k after) (went 1 v)) (same-looks (last after) h ∙ saw-nothing turning (covered h))
   by-turn (go after) h =
@@ -57,18 +57,18 @@ module _ {A : Type 0} (m : Machine) (state : Memory) (k : Memory → Reader A) (
       ap (λ v. sight (k s.1) (went (suc (length s.0)) v)) (same-looks (go after) h)
       ∙ ap (sight (k s.1)) (went-more (length s.0) (span_look m after (c ∷ b) a) (covered h))
 
-  pub sight-turn : (t : Turn) → ask (m state) (place b (c ∷ a)) ≡ t → Covers at_c → sight (eat_span m state k) at_c ≡ turned_sight m state k turning t
+  pub sight-turn : (t : Turn M) → ask (m state) (place b (c ∷ a)) ≡ t → Covers at_c → sight (eat_span m state k) at_c ≡ turned_sight m state k turning t
   sight-turn t e h = ap through e ∙ by-turn t h
 
 -- at the end nothing is taken
-pub sight-end : {A : Type 0} (m : Machine) (state : Memory) (k : Memory → Reader A) (b : List ℕ) (r l : ℕ) → Covers (record { place = place b []; reach = r; least = l })
+pub sight-end : {A M : Type 0} (m : Machine M) (state : M) (k : M → Reader M A) (b : List ℕ) (r l : ℕ) → Covers (record { place = place b []; reach = r; least = l })
     → sight (eat_span m state k) (record { place = place b []; reach = r; least = l }) ≡ sight (k state) (saw 1 (record { place = place b []; reach = r; least = l }))
 sight-end m state k b r l h =
     let v : Sight = record { place = place b []; reach = r; least = l } in
     ap (λ w. sight (k state) (went 0 w)) (saw-ahead 1 v h) ∙ ap (sight (k state)) (went-nowhere (saw 1 v) (covers-saw 1 v h))
 
 -- the first place ahead may as well be looked at before
-pub sight-first : {A : Type 0} (m : Machine) (state : Memory) (k : Memory → Reader A) (b a : List ℕ) (r l : ℕ) → Covers (record { place = place b a; reach = r; least = l })
+pub sight-first : {A M : Type 0} (m : Machine M) (state : M) (k : M → Reader M A) (b a : List ℕ) (r l : ℕ) → Covers (record { place = place b a; reach = r; least = l })
     → sight (eat_span m state k) (saw 1 (record { place = place b a; reach = r; least = l })) ≡ sight (eat_span m state k) (record { place = place b a; reach = r; least = l })
 sight-first m state k b [] r l h =
     let v : Sight = record { place = place b []; reach = r; least = l } in

@@ -1,13 +1,13 @@
 -- Machines that look at one character after the other.
 use Rattle.std.proofs.Common.{◌≡◌, ◌<◌, ℕ, List, [], ◌∷◌, slice_get, refl, sym, ap, ◌∙◌, arith, Some, None}
 use Rattle.typst_lines.specs.Place.{scout}
-use Rattle.typst_readers.specs.Reader.{place, Memory, Turn, Reader, by_character, eat_span}
+use Rattle.typst_readers.specs.Reader.{place, Turn, Reader, by_character, eat_span}
 use Rattle.typst_readers.specs.Reader.Turn.{last, go}
 use Rattle.typst_readers.specs.Sight.{position, Sight, Covers, saw, went, sight}
 use Rattle.typst_readers.proofs.Sights.{covers-saw, position-step, saw-ahead, went-seen}
 use Rattle.typst_readers.proofs.Spans.{saw-twice, sight-turn, sight-end, turned_sight}
 
-module _ {A : Type 0} (step : Memory → ℕ → Turn) (state : Memory) (k : Memory → Reader A) where
+module _ {A M : Type 0} (step : M → ℕ → Turn M) (state : M) (k : M → Reader M A) where
   step-at : (c r l : ℕ) (b a : List ℕ) → Some c ≡ slice_get a 0 → Covers (record { place = place b a; reach = r; least = l })
       → sight (eat_span (by_character step) state k) (record { place = place b a; reach = r; least = l }) ≡ turned_sight (by_character step) state k (saw 1 (record { place = place b a; reach = r; least = l })) (step state c)
   step-at c r l b [] e h = absurd (cc)
@@ -19,7 +19,7 @@ module _ {A : Type 0} (step : Memory → ℕ → Turn) (state : Memory) (k : Mem
       ∙ ap (λ x. turned_sight (by_character step) state k (saw 1 v) (step state x)) same
 
   -- it takes the character and goes on
-  pub step-go : (after : Memory) (c : ℕ) (v w : Sight) → Covers v → Some c ≡ scout 0 v.place → w ≡ went 1 v → step state c ≡ go after
+  pub step-go : (after : M) (c : ℕ) (v w : Sight) → Covers v → Some c ≡ scout 0 v.place → w ≡ went 1 v → step state c ≡ go after
       → sight (eat_span (by_character step) state k) v ≡ sight (eat_span (by_character step) after k) w
   step-go after c v w h e f t =
       step-at c v.reach v.least v.place.behind v.place.ahead e h
@@ -27,7 +27,7 @@ module _ {A : Type 0} (step : Memory → ℕ → Turn) (state : Memory) (k : Mem
       ∙ ap (sight (eat_span (by_character step) after k)) (went-seen v ∙ sym f)
 
   -- it takes the character as its last
-  pub step-last : (after : Memory) (c : ℕ) (v w : Sight) → Covers v → Some c ≡ scout 0 v.place → w ≡ went 1 v → step state c ≡ last after
+  pub step-last : (after : M) (c : ℕ) (v w : Sight) → Covers v → Some c ≡ scout 0 v.place → w ≡ went 1 v → step state c ≡ last after
       → sight (eat_span (by_character step) state k) v ≡ sight (k after) w
   step-last after c v w h e f t =
       step-at c v.reach v.least v.place.behind v.place.ahead e h

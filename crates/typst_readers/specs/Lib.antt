@@ -1,5 +1,6 @@
 pub mod Column
 pub mod Cursor
+pub mod Laws
 pub mod Pairs
 pub mod Reader
 pub mod Reads

@@ -62,39 +62,29 @@ see_word n (c ∷ word) found other = see n (λ d. if passes (λ d. d == c) d th
 
 -- ---- machines, which take one character after the other
 
--- what a machine keeps in mind from one character to the next
-pub data Memory : Type 0 where
-  -- nothing
-  blank : Memory
-  -- within a block comment: the character behind, or 0 where it ended a delimiter, and how many
-  -- comments are open around the innermost one
-  comment : ℕ → ℕ → Memory
-  -- within a raw text: how many backticks in a row close it, and how many stand behind
-  fence : ℕ → ℕ → Memory
-  -- within a link: the closing brackets that are still to come, the innermost first
-  brackets : List ℕ → Memory
+-- what a machine does at a character: it leaves it, takes it as its last, or takes it and goes on, with
+-- what it keeps in mind then
+pub data Turn (M : Type 0) : Type 0 where
+  leave : Turn M
+  last : M → Turn M
+  go : M → Turn M
 
--- what a machine does at a character: it leaves it, takes it as its last, or takes it and goes on
-pub data Turn : Type 0 where
-  leave : Turn
-  last : Memory → Turn
-  go : Memory → Turn
-
-abbrev pub Machine : Type 0
-Machine = Memory → Step Turn
+-- a machine keeps something in mind from one character to the next
+abbrev pub Machine : Type 0 → Type 0
+Machine M = M → Step (Turn M)
 
 -- a machine that looks at nothing but the character
-abbrev pub by_character : (Memory → ℕ → Turn) → Machine
+abbrev pub by_character : {M : Type 0} → (M → ℕ → Turn M) → Machine M
 by_character step memory = see 0 (λ c. turn (elim c [ None ↦ leave | Some c ↦ step memory c ]))
 
 -- the characters that a machine takes, and its memory at the end
-abbrev pub spanned : Machine → Memory → List ℕ → List ℕ → List ℕ × Memory
+abbrev pub spanned : {M : Type 0} → Machine M → M → List ℕ → List ℕ → List ℕ × M
 spanned m state behind [] = ([], state)
 spanned m state behind (c ∷ ahead) =
     elim (ask (m state) (place behind (c ∷ ahead)))
     [ leave ↦ ([], state) | last after ↦ (c ∷ [], after) | go after ↦ (let r = spanned m after (c ∷ behind) ahead in (c ∷ r.0, r.1)) ]
 
-abbrev pub span_look : Machine → Memory → List ℕ → List ℕ → Look
+abbrev pub span_look : {M : Type 0} → Machine M → M → List ℕ → List ℕ → Look
 span_look m state behind [] = record { back = 0; front = 1 }
 span_look m state behind (c ∷ ahead) =
     widened 0 1 (both (glimpse (m state) (place behind (c ∷ ahead)))
@@ -102,26 +92,27 @@ span_look m state behind (c ∷ ahead) =
 
 -- ---- readers
 
-pub data Reader (A : Type 0) : Type 0 where
+-- the machines of a reader keep things of one type in mind
+pub data Reader (M A : Type 0) : Type 0 where
   -- nothing more is asked
-  answer : A → Reader A
+  answer : A → Reader M A
   -- the character n places ahead
-  peek : ℕ → (Option ℕ → Reader A) → Reader A
+  peek : ℕ → (Option ℕ → Reader M A) → Reader M A
   -- the character behind
-  glance : (Option ℕ → Reader A) → Reader A
+  glance : (Option ℕ → Reader M A) → Reader M A
   -- the characters that a machine takes, which stay ahead, and its memory at the end
-  span : Machine → Memory → (List ℕ → Memory → Reader A) → Reader A
+  span : Machine M → M → (List ℕ → M → Reader M A) → Reader M A
   -- goes past a character
-  eat : Reader A → Reader A
+  eat : Reader M A → Reader M A
   -- the longest run of characters that pass, which stays ahead
-  see_run : (ℕ → Bool) → (List ℕ → Reader A) → Reader A
+  see_run : (ℕ → Bool) → (List ℕ → Reader M A) → Reader M A
   -- goes past n characters
-  skip : ℕ → Reader A → Reader A
+  skip : ℕ → Reader M A → Reader M A
   -- goes past the longest run of characters that pass
-  eat_run : (ℕ → Bool) → (List ℕ → Reader A) → Reader A
+  eat_run : (ℕ → Bool) → (List ℕ → Reader M A) → Reader M A
 
 -- the answer, and the place that it was given at
-abbrev pub exec : {A : Type 0} → Reader A → Place → A × Place
+abbrev pub exec : {M A : Type 0} → Reader M A → Place → A × Place
 exec (answer a) p = (a, p)
 exec (peek n k) p = exec (k (scout n p)) p
 exec (glance k) p = exec (k (slice_get p.behind 0)) p
@@ -132,7 +123,7 @@ exec (skip n r) p = exec r (moved n p)
 exec (eat_run test k) p = exec (k (run test p)) (past test p)
 
 -- how many characters were eaten
-abbrev pub eaten : {A : Type 0} → Reader A → Place → ℕ
+abbrev pub eaten : {M A : Type 0} → Reader M A → Place → ℕ
 eaten (answer a) p = 0
 eaten (peek n k) p = eaten (k (scout n p)) p
 eaten (glance k) p = eaten (k (slice_get p.behind 0)) p
@@ -142,7 +133,7 @@ eaten (see_run test k) p = eaten (k (run test p)) p
 eaten (skip n r) p = min n (length p.ahead) + eaten r (moved n p)
 eaten (eat_run test k) p = prefix_len test p.ahead + eaten (k (run test p)) (past test p)
 
-abbrev pub look : {A : Type 0} → Reader A → Place → Look
+abbrev pub look : {M A : Type 0} → Reader M A → Place → Look
 look (answer a) p = no_look
 look (peek n k) p = widened 0 (suc n) (look (k (scout n p)) p)
 look (glance k) p = widened 1 0 (look (k (slice_get p.behind 0)) p)
@@ -155,15 +146,15 @@ look (eat_run test k) p = let n = prefix_len test p.ahead in widened 0 (suc n) (
 -- ---- common readers
 
 -- goes past what a machine takes
-abbrev pub eat_span : {A : Type 0} → Machine → Memory → (Memory → Reader A) → Reader A
+abbrev pub eat_span : {M A : Type 0} → Machine M → M → (M → Reader M A) → Reader M A
 eat_span m state k = span m state (λ cs after. skip (length cs) (k after))
 
 -- goes past the next character if it passes
-abbrev pub if_next : {A : Type 0} → (ℕ → Bool) → Reader A → Reader A → Reader A
+abbrev pub if_next : {M A : Type 0} → (ℕ → Bool) → Reader M A → Reader M A → Reader M A
 if_next test found other = peek 0 (λ c. if passes test c then eat found else other)
 
 -- whether a word stands n places ahead
-abbrev pub at_word : {A : Type 0} → ℕ → List ℕ → Reader A → Reader A → Reader A
+abbrev pub at_word : {M A : Type 0} → ℕ → List ℕ → Reader M A → Reader M A → Reader M A
 at_word n [] found other = found
 at_word n (c ∷ word) found other = peek n (λ d. if passes (λ d. d == c) d then at_word (suc n) word found other else other)
 
@@ -178,7 +169,7 @@ pub record Agree (l : Look) (p q : Place) : Type 0 where
   pub ahead : take l.front (marked p.ahead) ≡ take l.front (marked q.ahead)
 
 -- what was read is the same
-pub record SameReading {A : Type 0} (r : Reader A) (p q : Place) : Type 0 where
+pub record SameReading {M A : Type 0} (r : Reader M A) (p q : Place) : Type 0 where
   pub answers : (exec r p).0 ≡ (exec r q).0
   pub lengths : eaten r p ≡ eaten r q
   pub looks : look r p ≡ look r q

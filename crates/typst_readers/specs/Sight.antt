@@ -91,7 +91,7 @@ regard (see n k) v = regard (k (scout n v.place)) (saw (suc n) v)
 regard (see_behind k) v = regard (k (slice_get v.place.behind 0)) (saw_behind v)
 
 -- the answer of a reader, where it was given, and what was looked at for it
-abbrev pub sight : {A : Type 0} → Reader A → Sight → A × Sight
+abbrev pub sight : {M A : Type 0} → Reader M A → Sight → A × Sight
 sight (answer a) v = (a, v)
 sight (peek n k) v = sight (k (scout n v.place)) (saw (suc n) v)
 sight (glance k) v = sight (k (slice_get v.place.behind 0)) (saw_behind v)

@@ -4,6 +4,7 @@
 pub mod column;
 pub mod cursor;
 pub mod hull;
+pub mod laws;
 pub mod pairs;
 
 pub use cursor::Cursor;

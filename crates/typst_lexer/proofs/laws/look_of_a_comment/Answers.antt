@@ -1,7 +1,8 @@
 use Rattle.std.proofs.Common.{refl}
-use Rattle.typst_lexer.specs.Common.{whitespace, line_comment, block_comment, line_ends}
-use Rattle.typst_lexer.specs.Markup.{markup, sign, minus, hyphen, emphasis, marker_or_text}
-use Rattle.typst_lexer.specs.Text.{text, text_from}
+use Rattle.typst_tokens.specs.Common.{whitespace, line_comment, block_comment, line_ends}
+use Rattle.typst_markup_tokens.specs.Markup.{markup, minus, hyphen, emphasis, marker_or_text}
+use Rattle.typst_tokens.specs.Common.{sign}
+use Rattle.typst_markup_tokens.specs.Text.{text, text_from}
 use Rattle.typst_lexer.specs.Tokens.{token, of_mode, hash, slash, star}
 use Rattle.typst_lexer.proofs.laws.look_of_a_comment.Goals as goal
 

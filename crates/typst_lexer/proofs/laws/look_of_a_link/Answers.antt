@@ -1,6 +1,6 @@
 use Rattle.std.proofs.Common.{refl}
-use Rattle.typst_lexer.specs.Link.{link, link_or_text}
-use Rattle.typst_lexer.specs.Markup.{markup}
+use Rattle.typst_markup_tokens.specs.Link.{link, link_or_text}
+use Rattle.typst_markup_tokens.specs.Markup.{markup}
 use Rattle.typst_lexer.specs.Tokens.{token, of_mode}
 use Rattle.typst_lexer.proofs.laws.look_of_a_link.Goals as goal
 

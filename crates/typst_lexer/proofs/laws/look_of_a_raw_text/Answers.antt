@@ -1,5 +1,5 @@
 use Rattle.std.proofs.Common.{refl}
-use Rattle.typst_lexer.specs.Raw.{raw}
+use Rattle.typst_tokens.specs.Raw.{raw}
 use Rattle.typst_lexer.specs.Tokens.{token, backtick}
 use Rattle.typst_lexer.proofs.laws.look_of_a_raw_text.Goals as goal
 

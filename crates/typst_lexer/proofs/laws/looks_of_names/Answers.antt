@@ -1,7 +1,8 @@
 use Rattle.std.proofs.Common.{refl}
-use Rattle.typst_lexer.specs.Markup.{markup}
-use Rattle.typst_lexer.specs.Names.{label, label_or_text, ref_marker, ref_or_text}
-use Rattle.typst_lexer.specs.Text.{text, text_from}
+use Rattle.typst_markup_tokens.specs.Markup.{markup}
+use Rattle.typst_markup_tokens.specs.Names.{label_or_text, ref_marker, ref_or_text}
+use Rattle.typst_tokens.specs.Labels.{label}
+use Rattle.typst_markup_tokens.specs.Text.{text, text_from}
 use Rattle.typst_lexer.specs.Tokens.{token, of_mode}
 use Rattle.typst_lexer.proofs.laws.looks_of_names.Goals as goal
 

@@ -1,0 +1,5 @@
+use Rattle.typst_markup_tokens.proofs.LinkLemmas.{link-prefix-is}
+use Rattle.typst_markup_tokens.proofs.laws.links_are_prefixes.Goals as goal
+
+pub returns : goal.returns
+returns c = link-prefix-is

@@ -1,0 +1,41 @@
+//! Escapes in rows: characters that don't show, by their names between `‹` and `›`.
+
+use std::alloc::AllocError;
+
+/// Writes a line of a row with each escape put back into the character that it names. Gives false
+/// where an escape names none or isn't closed.
+pub fn push_decoded(out: &mut String, line: &str) -> Result<bool, AllocError> {
+    let mut pieces = line.split('‹');
+    if let Some(front) = pieces.next() {
+        out.push_str(front)?;
+    }
+    for piece in pieces {
+        let Some((name, rest)) = piece.split_once('›') else {
+            return Ok(false);
+        };
+        let Some(character) = named(name) else {
+            return Ok(false);
+        };
+        out.push(character)?;
+        out.push_str(rest)?;
+    }
+    Ok(true)
+}
+
+/// The character that an escape names.
+fn named(name: &str) -> Option<char> {
+    match name {
+        "LF" => Some('\n'),
+        "CR" => Some('\r'),
+        "TAB" => Some('\t'),
+        "SP" => Some(' '),
+        "NUL" => Some('\0'),
+        _ => numbered(name),
+    }
+}
+
+/// The character of a name `U+` and its number in hexadecimal digits.
+fn numbered(name: &str) -> Option<char> {
+    let digits = name.strip_prefix("U+")?;
+    char::from_u32(u32::from_str_radix(digits, 16).ok()?)
+}

@@ -1,0 +1,30 @@
+//! A row: a text, and what is wanted of it.
+
+use crate::word::Word;
+use std::alloc::{AllocError, Global};
+
+/// A text, and what a word is to answer about it.
+#[derive(Debug, Drop)]
+pub struct Row {
+    /// The number of the line in its file at which its title stands, from 1 on.
+    pub line: u64,
+    /// What is asked.
+    pub word: Word,
+    /// What it shows, with the word in front.
+    pub title: String,
+    /// The text.
+    pub text: String,
+    /// The whole answer that is wanted.
+    pub wanted: String,
+}
+
+impl Row {
+    /// The answer, where it isn't what is wanted.
+    pub fn differing(&self, alloc: Global) -> Result<Option<String>, AllocError> {
+        let answer = self.word.answer(alloc, self.text.as_str())?;
+        if answer.as_str() == self.wanted.as_str() {
+            return Ok(None);
+        }
+        Ok(Some(answer))
+    }
+}

@@ -1,0 +1,40 @@
+//! The word `tokens`.
+
+use std::alloc::{AllocError, Global};
+use typst_cli::tree::{print_head, variant_name};
+
+use typst_lexer::{Lexer, Token};
+use typst_token_nodes::make_node;
+use typst_parser::{SyntaxMode, UnicodeClasses};
+
+/// The tokens of the text as markup. Each has a line with its kind, its range in bytes and, for an
+/// error, its message; below an error stand its hints, two spaces deeper.
+pub fn answer(alloc: Global, text: &str) -> Result<String, AllocError> {
+    let mut lexer = Lexer::new(text, SyntaxMode::Markup, &UnicodeClasses);
+    let mut printed = String::new(alloc);
+    for _ in text.as_bytes() {
+        let start = lexer.cursor();
+        let (token, taken) = lexer.scan(alloc)?;
+        if taken.is_empty() {
+            return Ok(printed);
+        }
+        print_token(alloc, &mut printed, token, taken, (start, lexer.cursor()))?;
+    }
+    Ok(printed)
+}
+
+/// Prints a token that took the text between two bytes.
+fn print_token(
+    alloc: Global,
+    printed: &mut String,
+    token: Token,
+    taken: &str,
+    (start, end): (usize, usize),
+) -> Result<(), AllocError> {
+    if token.fault.is_some() {
+        let node = make_node(alloc, token, taken, &UnicodeClasses)?;
+        return print_head(printed, &node, "", "  ", start);
+    }
+    let name = variant_name(token.kind);
+    writeln!(printed, "{name} {start}..{end}")
+}

@@ -1,0 +1,37 @@
+//! The words that name what can be asked about a text.
+
+use crate::tokens;
+use std::alloc::{AllocError, Global};
+use typst_cli::Command;
+
+/// What can be asked about a text.
+#[derive(Debug, Clone, Copy, PartialEq, Eq)]
+pub enum Word {
+    /// The syntax tree of the text as markup.
+    Tree,
+    /// The tokens of the text as markup.
+    Tokens,
+    /// Where the lines of the text start.
+    Lines,
+}
+
+impl Word {
+    /// The word of that name.
+    pub fn from_name(name: &str) -> Option<Word> {
+        match name {
+            "tree" => Some(Word::Tree),
+            "tokens" => Some(Word::Tokens),
+            "lines" => Some(Word::Lines),
+            _ => None,
+        }
+    }
+
+    /// The whole answer about a text.
+    pub fn answer(self, alloc: Global, text: &str) -> Result<String, AllocError> {
+        match self {
+            Word::Tree => Command::Tree.answer(alloc, text),
+            Word::Tokens => tokens::answer(alloc, text),
+            Word::Lines => Command::Lines.answer(alloc, text),
+        }
+    }
+}

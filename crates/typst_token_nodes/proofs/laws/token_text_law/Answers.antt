@@ -1,0 +1,5 @@
+use Rattle.typst_token_nodes.proofs.NodeLemmas.{text-token}
+use Rattle.typst_token_nodes.proofs.laws.token_text_law.Goals as goal
+
+pub returns : goal.returns
+returns c = text-token

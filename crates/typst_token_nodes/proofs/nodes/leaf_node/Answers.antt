@@ -1,0 +1,13 @@
+use Rattle.std.proofs.Common.{◌≡◌, ◌∙◌, ap, sym, subst}
+use Rattle.std.proofs.lemmas.Str.{encodes-chars}
+use Rattle.std.specs.Result.{IfOk}
+use Rattle.std.specs.Str.{chars}
+use Rattle.typst_node.specs.Tree.{Tree, leaf_of}
+use Rattle.typst_token_nodes.proofs.NodeLemmas.{leaf-is}
+use Rattle.typst_token_nodes.proofs.nodes.leaf_node.Goals as goal
+
+pub returns : goal.returns
+returns c = λ k.
+    let text = c.args.text.now in
+    let e = ap (leaf_of c.args.token.kind) (sym (encodes-chars text c.utf8.text)) ∙ sym (leaf-is k c.args.token (chars text) c.requires) in
+    subst (λ (x : Tree). IfOk c.leaf.result (λ node. node ≡ x)) e c.leaf.ensures

@@ -1,0 +1,11 @@
+use Rattle.std.proofs.lemmas.Str.{encodes-chars}
+use Rattle.typst_token_nodes.proofs.nodes.plain_node.Goals as goal
+
+pub returns-then-is_error : goal.returns-then-is_error
+returns-then-is_error g c = rw (← c.if-is_error.ensures, encodes-chars c.args.text.now c.utf8.text) c.error.ensures
+
+pub returns-then-is_raw : goal.returns-then-is_raw
+returns-then-is_raw g c = rw (← c.if-is_error.ensures, ← c.if-is_raw.ensures) c.raw_node.ensures
+
+pub returns : goal.returns
+returns g c = rw (← c.if-is_error.ensures, ← c.if-is_raw.ensures, encodes-chars c.args.text.now c.utf8.text) c.leaf.ensures

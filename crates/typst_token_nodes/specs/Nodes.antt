@@ -1,0 +1,68 @@
+-- The node that a token makes of the characters that it took.
+use Rattle.std.specs.Prelude.{◌≡◌, ℕ, Bool, true, false, not, ◌&&◌, if◌then◌else◌, List, [], ◌∷◌, ◌++◌, take, Some, None, codes, encode_utf8_all}
+use Rattle.std.specs.Char.{is_ascii_alphanumeric}
+use Rattle.typst_classes.specs.Classes.{CharClasses}
+use Rattle.typst_kinds.specs.Kinds.{is_error}
+use Rattle.typst_kinds.specs.declared.kind.SyntaxKind.{SyntaxKind}
+use Rattle.typst_kinds.specs.declared.kind.SyntaxKind.TheVariants as kind
+use Rattle.typst_lines.specs.Place.{Place, moved, run}
+use Rattle.typst_node.specs.Diagnostic.{hint_with}
+use Rattle.typst_node.specs.Tree.{Tree, leaf_of, error_of, advised}
+use Rattle.typst_raw.specs.Raw.{raw_node}
+use Rattle.typst_readers.specs.Reader.{Reader, exec, eaten, place}
+use Rattle.typst_tokens.specs.declared.token.Token.{Token}
+use Rattle.typst_tokens.specs.declared.token.Fault.{Fault}
+use Rattle.typst_tokens.specs.declared.token.Fault.TheVariants.{CommentEnd, UnclosedRaw, UnclosedEscape, InvalidEscape, UnbalancedLink, UnclosedLabel}
+use Rattle.typst_tokens.specs.Memory.{Memory}
+
+-- The letters and digits of an escape, which stand behind `\u{`.
+abbrev pub escaped : List ℕ → List ℕ
+escaped taken = run is_ascii_alphanumeric (moved 3 (place [] taken))
+
+-- What is said of a fault, by the characters that were taken.
+abbrev pub message : Fault → List ℕ → List ℕ
+message CommentEnd taken = codes "unexpected end of block comment"
+message UnclosedRaw taken = codes "unclosed raw text"
+message UnclosedEscape taken = codes "unclosed Unicode escape sequence"
+message InvalidEscape taken = codes "invalid Unicode codepoint: " ++ encode_utf8_all (escaped taken)
+message UnbalancedLink taken = codes "automatic links cannot contain unbalanced brackets, use the `link` function instead"
+message UnclosedLabel taken = codes "unclosed label"
+
+-- The hints that go with it.
+abbrev pub hints : Fault → List (List ℕ)
+hints CommentEnd = codes "consider escaping the `*` with a backslash or opening the block comment with `/*`" ∷ []
+hints _ = []
+
+-- A tree with hints for its last diagnostic.
+abbrev pub with_hints : List (List ℕ) → Tree → Tree
+with_hints [] t = t
+with_hints (hint ∷ more) t = with_hints more (advised (hint_with None hint) t)
+
+-- An error leaf of the characters, with message and hints.
+abbrev pub fault_node : Fault → List ℕ → Tree
+fault_node f taken = with_hints (hints f) (error_of (message f taken) (encode_utf8_all taken))
+
+-- Only raw texts are more than leaves.
+abbrev pub is_raw : SyntaxKind → Bool
+is_raw kind.Raw = true
+is_raw _ = false
+
+-- The node of a raw text, or a leaf; an error without a fault, which is never read, would say nothing.
+abbrev pub plain_node : CharClasses → Token → List ℕ → Tree
+plain_node k t taken =
+    if is_error t.kind then error_of [] (encode_utf8_all taken)
+    else (if is_raw t.kind then raw_node k taken else leaf_of t.kind (encode_utf8_all taken))
+
+-- Whether the node of a token is a leaf of its kind.
+abbrev pub is_leaf : Token → Bool
+is_leaf t = elim t.fault [ None ↦ not (is_error t.kind) && not (is_raw t.kind) | Some f ↦ false ]
+
+-- The node of a token: its own, or an error leaf.
+abbrev pub token_node : CharClasses → Token → List ℕ → Tree
+token_node k t taken = elim t.fault [ None ↦ plain_node k t taken | Some f ↦ fault_node f taken ]
+
+-- The token of a reader was read: kind and node are its own, and the place is behind it.
+pub record IsRead (k : CharClasses) (r : Reader Memory Token) (old new : Place) (kind : SyntaxKind) (node : Tree) : Type 0 where
+  pub kind_is : kind ≡ (exec r old).0.kind
+  pub node_is : node ≡ token_node k (exec r old).0 (take (eaten r old) old.ahead)
+  pub place_is : new ≡ (exec r old).1

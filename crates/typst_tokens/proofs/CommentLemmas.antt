@@ -1,0 +1,63 @@
+-- Block comments, character by character.
+use Rattle.std.proofs.Common.{◌≡◌, ℕ, ◌+◌, ◌-◌, Bool, true, false, ◌&&◌, ◌==◌, refl, sym, ap, ◌∙◌, Some, None}
+use Rattle.std.proofs.lemmas.Bool.{ne_eqb}
+use Rattle.typst_kinds.specs.declared.kind.SyntaxKind.TheVariants as kind
+use Rattle.typst_lines.specs.Place.{scout}
+use Rattle.typst_tokens.specs.Common.{comment_turn, comment_step, in_comment, block_comment}
+use Rattle.typst_readers.specs.Reader.{Reader, eat_span}
+use Rattle.typst_tokens.specs.Memory.Memory.{blank, comment}
+use Rattle.typst_readers.specs.Reader.Turn.{last, go}
+use Rattle.typst_readers.specs.Reader.Reader.{answer}
+use Rattle.typst_readers.specs.Sight.{Sight, Covers, went, sight}
+use Rattle.typst_tokens.specs.Token.{plain}
+use Rattle.typst_tokens.specs.declared.token.Token.{Token}
+use Rattle.typst_readers.proofs.Steps.{step-go, step-last, step-end, end-seen}
+use Rattle.typst_tokens.specs.Memory.{Memory}
+
+abbrev pub done : Memory → Reader Memory Token
+done _ = answer (plain kind.BlockComment)
+
+-- what is left of a comment
+abbrev pub rest : ℕ → ℕ → Reader Memory Token
+rest before depth = eat_span in_comment (comment before depth) done
+
+-- ---- turns
+
+and-none : (b : Bool) → (b && false) ≡ false
+and-none true = refl
+and-none false = refl
+
+pub no-first : (x n : ℕ) (b : Bool) → ¬ (x ≡ n) → (x == n && b) ≡ false
+no-first x n b h = rw (ne_eqb x n h) refl
+
+pub no-second : (b : Bool) (x n : ℕ) → ¬ (x ≡ n) → (b && x == n) ≡ false
+no-second b x n h = rw (ne_eqb x n h) (and-none b)
+
+pub turn-last : (before depth c : ℕ) → before ≡ 42 → c ≡ 47 → depth ≡ 0 → comment_turn before depth c ≡ last blank
+turn-last before depth c e f g = rw (e, f, g) refl
+
+pub turn-closes : (before depth c : ℕ) → before ≡ 42 → c ≡ 47 → ¬ (depth ≡ 0) → comment_turn before depth c ≡ go (comment 0 (depth - 1))
+turn-closes before depth c e f g = rw (e, f, ne_eqb depth 0 g) refl
+
+pub turn-opens : (before depth c : ℕ) → before ≡ 47 → c ≡ 42 → comment_turn before depth c ≡ go (comment 0 (depth + 1))
+turn-opens before depth c e f = rw (e, f) refl
+
+pub turn-on : (before depth c : ℕ) → (before == 42 && c == 47) ≡ false → (before == 47 && c == 42) ≡ false → comment_turn before depth c ≡ go (comment c depth)
+turn-on before depth c e f = rw (e, f) refl
+
+-- it goes on
+pub comment-on : (before depth c b d : ℕ) (v w : Sight) → Covers v → Some c ≡ scout 0 v.place → w ≡ went 1 v → comment_turn before depth c ≡ go (comment b d) → sight (rest before depth) v ≡ sight (rest b d) w
+comment-on before depth c b d v w h e f t = step-go comment_step (comment before depth) done (comment b d) c v w h e f t
+
+-- it ends at a delimiter
+pub comment-stop : (before depth c : ℕ) (v w : Sight) → Covers v → Some c ≡ scout 0 v.place → w ≡ went 1 v → comment_turn before depth c ≡ last blank → sight (rest before depth) v ≡ (plain kind.BlockComment, w)
+comment-stop before depth c v w h e f t = step-last comment_step (comment before depth) done blank c v w h e f t
+
+-- the text ends
+pub comment-end : (before depth : ℕ) (v w : Sight) → Covers v → None ≡ scout 0 v.place → w ≡ went 1 v → sight (rest before depth) v ≡ (plain kind.BlockComment, w)
+comment-end before depth v w h e f = step-end comment_step (comment before depth) done v h e ∙ ap (λ x. (plain kind.BlockComment, x)) (end-seen v e ∙ sym f)
+
+-- two characters begin it
+pub comment-begins : (v : Sight) → sight (rest 0 0) (went 2 v) ≡ sight block_comment v
+unfolding block_comment
+comment-begins v = refl

@@ -1,0 +1,5 @@
+pub mod CommentLemmas
+pub mod Eats
+pub mod NumberLemmas
+pub mod RawLemmas
+pub mod TokenLemmas

@@ -1,0 +1,16 @@
+use Rattle.std.proofs.Common.{◌≡◌, ◌≤◌, length}
+use Rattle.typst_tokens.specs.Common.{block_comment}
+use Rattle.typst_readers.specs.Sight.{Covers, position, sight}
+use Rattle.typst_tokens.proofs.CommentLemmas.{rest}
+use Rattle.typst_tokens.proofs.common.block_comment.Given as goal
+
+abbrev pub invariant-loop-c : goal.invariant-loop-c
+invariant-loop-c l =
+    record {
+      reads : sight (rest l.before l.depth) l.s ≡ sight block_comment l.fn.s;
+      covers : Covers l.s;
+      deep : l.depth ≤ position l.s.place;
+    }
+
+abbrev pub decreases-loop-c : goal.decreases-loop-c
+decreases-loop-c l = length l.s.place.ahead

@@ -1,0 +1,11 @@
+use Rattle.std.proofs.Common.{◌≡◌, ◌+◌, ◌-◌, length, false}
+use Rattle.std.specs.Str.{chars}
+use Rattle.typst_lines.specs.Scanner.{place}
+use Rattle.typst_tokens.specs.Common.{line_ends}
+use Rattle.typst_tokens.proofs.common.count_newlines.Given as goal
+
+abbrev pub invariant-loop-c : goal.invariant-loop-c
+invariant-loop-c l = l.ends + line_ends l.after_cr (place l.s).ahead ≡ line_ends false (chars l.text)
+
+abbrev pub decreases-loop-c : goal.decreases-loop-c
+decreases-loop-c l = length l.s.text.now - l.s.cursor

@@ -1,0 +1,16 @@
+use Rattle.std.proofs.Common.{◌≡◌, ◌≤◌, length}
+use Rattle.typst_tokens.specs.Raw.{raw}
+use Rattle.typst_readers.specs.Sight.{Covers, position, sight}
+use Rattle.typst_tokens.proofs.RawLemmas.{rest}
+use Rattle.typst_tokens.proofs.raw.raw.Given as goal
+
+abbrev pub invariant-loop-c : goal.invariant-loop-c
+invariant-loop-c l =
+    record {
+      reads : sight (rest l.backticks l.found) l.s ≡ sight raw l.fn.s;
+      covers : Covers l.s;
+      long : l.found ≤ position l.s.place;
+    }
+
+abbrev pub decreases-loop-c : goal.decreases-loop-c
+decreases-loop-c l = length l.s.place.ahead
