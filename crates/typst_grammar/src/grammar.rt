@@ -3,6 +3,7 @@
 ghost use Rattle.std.specs.Prelude.{◌≡◌, ◌<◌, IfOk, Some};
 ghost use Rattle.std.specs.Str.{chars};
 ghost use Rattle.typst_node.specs.Tree.{text_of};
+ghost use Rattle.typst_combinators.specs.declared.calls.Call.TheVariants.{MarkupExpr};
 ghost use Rattle.typst_machine.specs.View.{Calls};
 ghost use Rattle.typst_markup.specs.Outside.{MeansOutsideAs};
 ghost use Rattle.typst_grammar.specs.Grammar as spec;
@@ -25,11 +26,18 @@ pub fn production<L: Levels>(g: &L, p: &mut Parser<'_>, call: Call) -> Result<An
     requires { L.may_call g.now }
     ensures { MeansOutsideAs (L.frame g.now) call (spec.production call) p.old result p.new }
 {
+    let parts = markup_of(call);
+    let nesting = markup_expr(g, p, parts.0, parts.1)?;
+    Ok(Answered::Brackets(nesting))
+}
+
+/// Whether the expression that a call asks for stands at the start of a line, and in how many
+/// brackets.
+fn markup_of(call: Call) -> (bool, usize)
+    ensures { call ≡ MarkupExpr result.0 result.1 }
+{
     match call {
-        Call::MarkupExpr(at_start, nesting) => {
-            let nesting = markup_expr(g, p, at_start, nesting)?;
-            Ok(Answered::Brackets(nesting))
-        }
+        Call::MarkupExpr(at_start, nesting) => (at_start, nesting),
     }
 }
 

@@ -103,8 +103,8 @@ abbrev pub emphasized : SyntaxKind → List ℕ → List ℕ → Bool × Bool �
 emphasized k warning hint x = if x.0 then (if x.1 then warns k warning hint else becomes k) else unclosed k
 
 -- what stands between two tokens of a kind, which doesn't go past a parbreak
-unfoldable pub emphasis : SyntaxKind → (SyntaxKind → Bool) → SyntaxKind → List ℕ → List ℕ → Parser (Unit {0})
-emphasis k stops delimiter warning hint = within (at_newline newline.StopParBreak) (do
+unfoldable pub delimited : SyntaxKind → (SyntaxKind → Bool) → SyntaxKind → List ℕ → List ℕ → Parser (Unit {0})
+delimited k stops delimiter warning hint = within (at_newline newline.StopParBreak) (do
   x ← node (emphasized k warning hint) (do
     first ← eat
     is_empty ← markup_is_empty (markup_exprs false stops)
@@ -114,11 +114,11 @@ emphasis k stops delimiter warning hint = within (at_newline newline.StopParBrea
 
 -- `*..*`
 abbrev pub strong : Parser (Unit {0})
-strong = emphasis kind.Strong ends_strong kind.Star (codes "no text within stars") (codes "using multiple consecutive stars (e.g. **) has no additional effect")
+strong = delimited kind.Strong ends_strong kind.Star (codes "no text within stars") (codes "using multiple consecutive stars (e.g. **) has no additional effect")
 
 -- `_.._`
 abbrev pub emph : Parser (Unit {0})
-emph = emphasis kind.Emph ends_emph kind.Underscore (codes "no text within underscores") (codes "using multiple consecutive underscores (e.g. __) has no additional effect")
+emph = delimited kind.Emph ends_emph kind.Underscore (codes "no text within underscores") (codes "using multiple consecutive underscores (e.g. __) has no additional effect")
 
 -- a marker and the rest of its line, up to a label
 unfoldable pub heading : Parser (Unit {0})

@@ -21,7 +21,7 @@ pub fn strong<L: Levels>(g: &L, p: &mut Parser<'_>) -> Result<(), AllocError>
     requires { L.may_call g.now }
     ensures { Means (L.frame g.now) spec.strong p.old result p.new }
 {
-    emphasis(
+    delimited(
         g,
         p,
         SyntaxKind::Strong,
@@ -38,7 +38,7 @@ pub fn emph<L: Levels>(g: &L, p: &mut Parser<'_>) -> Result<(), AllocError>
     requires { L.may_call g.now }
     ensures { Means (L.frame g.now) spec.emph p.old result p.new }
 {
-    emphasis(
+    delimited(
         g,
         p,
         SyntaxKind::Emph,
@@ -51,7 +51,7 @@ pub fn emph<L: Levels>(g: &L, p: &mut Parser<'_>) -> Result<(), AllocError>
 }
 
 /// What stands between two tokens of a kind.
-fn emphasis<L: Levels>(
+fn delimited<L: Levels>(
     g: &L,
     p: &mut Parser<'_>,
     kind: SyntaxKind,
@@ -62,7 +62,7 @@ fn emphasis<L: Levels>(
 ) -> Result<(), AllocError>
     requires may { L.may_call g.now }
     requires fine { is_error kind ≡ false }
-    ensures { Means (L.frame g.now) (spec.emphasis kind (stops_at stop) delimiter warning.now hint.now) p.old result p.new }
+    ensures { Means (L.frame g.now) (spec.delimited kind (stops_at stop) delimiter warning.now hint.now) p.old result p.new }
 {
     let outer = p.enter_rule(AtNewline::StopParBreak);
     let from = p.marker();

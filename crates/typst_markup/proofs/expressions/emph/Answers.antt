@@ -1,4 +1,4 @@
 use Rattle.typst_markup.proofs.expressions.emph.Goals as goal
 
 pub returns : goal.returns
-returns g c = c.in_ok-emphasis.ensures
+returns g c = c.in_ok-delimited.ensures
