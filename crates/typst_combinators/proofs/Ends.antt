@@ -1,5 +1,5 @@
 -- Where a token is the end, and how many characters another takes.
-use Rattle.std.proofs.Common.{◌≡◌, ◌<◌, ℕ, zero, suc, Bool, true, false, not, ◌||◌, ◌&&◌, ◌==◌, if◌then◌else◌, List, [], ◌∷◌, length, take, slice_get, Some, None, refl, ap, sym, ◌∙◌, arith}
+use Rattle.std.proofs.Common.{◌≡◌, ◌<◌, ℕ, zero, suc, Bool, true, false, not, ◌||◌, ◌&&◌, ◌==◌, if◌then◌else◌, List, [], ◌∷◌, length, take, slice_get, Some, None, refl, ap, sym, ◌∙◌, arith, Option}
 use Rattle.std.specs.Char.{is_ascii_digit, is_whitespace}
 use Rattle.std.specs.Prelude.{is_none, codes}
 use Rattle.typst_kinds.specs.declared.kind.SyntaxKind.{SyntaxKind}
@@ -33,7 +33,8 @@ use Rattle.typst_token_nodes.specs.Nodes.{token_node}
 use Rattle.typst_combinators.specs.declared.reading.AtNewline.TheVariants.{Continue}
 use Rattle.typst_combinators.specs.declared.reading.Newlines.{Newlines}
 use Rattle.typst_combinators.specs.declared.reading.Reading.{Reading}
-use Rattle.typst_combinators.specs.Hand.{token_at, len_at, at_trivia, Ahead, after_trivia, direct, both_newlines, ahead_by, ahead, column_at, stops, hand_at}
+use Rattle.typst_combinators.specs.Hand.{token_at, len_at, at_trivia, Ahead, after_trivia, direct, both_newlines, ahead_by, ahead, ahead_of, column_at, stops, known_by, hand_by, hand_at}
+use Rattle.typst_combinators.specs.Point.{Trivia}
 use Rattle.typst_combinators.proofs.Places.{moved-sum}
 use Rattle.typst_tokens.specs.Memory.{Memory}
 
@@ -253,7 +254,7 @@ on P true x y p q = p
 on P false x y p q = q
 
 -- the token after the trivia is the one that stands there
-ahead-read : (k : CharClasses) (m : SyntaxMode) (n : ℕ) (z : Place) → Read k m z (ahead_by k m n z)
+pub ahead-read : (k : CharClasses) (m : SyntaxMode) (n : ℕ) (z : Place) → Read k m z (ahead_by k m n z)
 ahead-read k m zero z = (refl, refl)
 ahead-read k m (suc n) z =
     let t = token_at k m z in
@@ -272,21 +273,41 @@ end-continues : (any : Bool) (t : SyntaxKind) → is_end (if any && false then k
 end-continues true t h = h
 end-continues false t h = h
 
+-- the token at hand behind its trivia, whether these are known or not
+abbrev Behind : CharClasses → SyntaxMode → Option Trivia → Place → Type 0
+Behind k m known z = Read k m z (ahead_of k m known z)
+
+ahead_of-read : (k : CharClasses) (m : SyntaxMode) (known : Option Trivia) (z : Place) → Behind k m known z
+unfolding ahead
+ahead_of-read k m None z = ahead-read k m (length z.ahead) z
+ahead_of-read k m (Some t) z = (refl, refl)
+
 -- a token at hand that isn't the end takes a character
-pub hand-takes : (k : CharClasses) (held : Reading) (flushed : Newlines) (z : Place) → is_end (hand_at k held flushed z).kind ≡ false → 0 < (hand_at k held flushed z).len
-unfolding hand_at ahead
-hand-takes k held flushed z h =
-    let a = ahead_by k held.mode (length z.ahead) z in
-    let r = ahead-read k held.mode (length z.ahead) z in
-    let g = end-judged (stops held (both_newlines flushed a.newlines) a.token.kind (column_at (moved a.gap z))) a.token.kind h in
+pub hand-takes : (k : CharClasses) (held : Reading) (known : Option Trivia) (z : Place) → is_end (hand_at k held known z).kind ≡ false → 0 < (hand_at k held known z).len
+unfolding hand_at
+hand-takes k held known z h =
+    let a = ahead_of k held.mode known z in
+    let r = ahead_of-read k held.mode known z in
+    let g = end-judged (stops held a.newlines a.token.kind (column_at (moved a.gap z))) a.token.kind h in
     let some = token-takes k held.mode (moved a.gap z) (ap (λ (t : Token). is_end t.kind) (sym r.0) ∙ g) in
     omega (arith, r.1)
 
 -- where newlines don't matter, nothing is behind the end
-pub hand-ends : (k : CharClasses) (m : SyntaxMode) (flushed : Newlines) (z : Place)
-    → is_end (hand_at k (record { mode = m; at_newline = Continue }) flushed z).kind ≡ true → (moved (hand_at k (record { mode = m; at_newline = Continue }) flushed z).gap z).ahead ≡ []
-unfolding hand_at ahead
-hand-ends k m flushed z h =
-    let a = ahead_by k m (length z.ahead) z in
-    let r = ahead-read k m (length z.ahead) z in
-    token-ends k m (moved a.gap z) (ap (λ (t : Token). is_end t.kind) (sym r.0) ∙ end-continues (both_newlines flushed a.newlines).any a.token.kind h)
+pub hand-ends : (k : CharClasses) (m : SyntaxMode) (known : Option Trivia) (z : Place)
+    → is_end (hand_at k (record { mode = m; at_newline = Continue }) known z).kind ≡ true → (moved (hand_at k (record { mode = m; at_newline = Continue }) known z).gap z).ahead ≡ []
+unfolding hand_at
+hand-ends k m known z h =
+    let a = ahead_of k m known z in
+    let r = ahead_of-read k m known z in
+    token-ends k m (moved a.gap z) (ap (λ (t : Token). is_end t.kind) (sym r.0) ∙ end-continues a.newlines.any a.token.kind h)
+
+again-by : (k : CharClasses) (held : Reading) (z : Place) (a : Ahead) → Read k held.mode z a
+    → hand_by held (column_at (moved a.gap z)) (record { trivia = a.trivia; gap = a.gap; newlines = a.newlines; token = token_at k held.mode (moved a.gap z); len = len_at k held.mode (moved a.gap z) }) ≡ hand_by held (column_at (moved a.gap z)) a
+again-by k held z a r =
+    ap (λ (t : Token). hand_by held (column_at (moved a.gap z)) (record { trivia = a.trivia; gap = a.gap; newlines = a.newlines; token = t; len = len_at k held.mode (moved a.gap z) })) (sym r.0)
+    ∙ ap (λ n. hand_by held (column_at (moved a.gap z)) (record { trivia = a.trivia; gap = a.gap; newlines = a.newlines; token = a.token; len = n })) (sym r.1)
+
+-- where the trivia were asked for, the token at hand is the same
+pub hand-again : (k : CharClasses) (held : Reading) (known : Option Trivia) (z : Place) → hand_at k held (known_by (hand_at k held known z)) z ≡ hand_at k held known z
+unfolding hand_at
+hand-again k held known z = again-by k held z (ahead_of k held.mode known z) (ahead_of-read k held.mode known z)

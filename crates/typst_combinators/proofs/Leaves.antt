@@ -1,35 +1,44 @@
 -- The nodes that are given hold the characters that are taken.
-use Rattle.std.proofs.Common.{◌≡◌, ℕ, zero, suc, ◌+◌, ◌-◌, ◌<◌, ◌≤◌, Bool, true, false, ◌&&◌, if◌then◌else◌, nat_lt, List, [], ◌∷◌, ◌++◌, length, take, drop, length-append, append_assoc, append-nil, take-add, take_at, encode_utf8_all, refl, ap, sym, ◌∙◌, subst, arith}
+use Rattle.std.proofs.Common.{◌≡◌, ℕ, zero, suc, ◌+◌, ◌-◌, ◌<◌, ◌≤◌, Bool, true, false, ◌&&◌, if◌then◌else◌, nat_lt, List, [], ◌∷◌, ◌++◌, length, take, drop, length-append, append_assoc, append-nil, take-add, take_at, encode_utf8_all, refl, ap, sym, ◌∙◌, subst, arith, Option, Some}
 use Rattle.std.proofs.lemmas.Str.{encodes-append}
 use Rattle.std.proofs.lemmas.List.{take-append-drop}
 use Rattle.typst_kinds.specs.declared.kind.SyntaxKind.{SyntaxKind}
 use Rattle.typst_kinds.specs.declared.mode.SyntaxMode.{SyntaxMode}
 use Rattle.typst_kinds.specs.Kinds.{is_error}
 use Rattle.typst_lines.specs.Place.{Place, moved}
-use Rattle.typst_node.specs.Tree.{Tree, forest, joined as text_joined, text_of, with_kind, made_error, advised, error_of, topped}
+use Rattle.typst_node.specs.Tree.{Tree, Forest, forest, trees, joined as text_joined, text_of, with_kind, made_error, advised, error_of, topped, inner_of}
+use Rattle.typst_node.specs.Tree.Forest.{none, more}
+use Rattle.typst_kinds.specs.declared.kind.SyntaxKind.TheVariants as kind
 use Rattle.typst_node.specs.Messages.{made_unexpected, made_expected, expected_error, expected_message, unexpected_message, is_lost_name, keyword_hint}
 use Rattle.typst_node.specs.Diagnostic.{hint_with}
 use Rattle.typst_kinds.specs.Names.{name_of}
 use Rattle.std.specs.Prelude.{codes, None}
-use Rattle.typst_combinators.specs.declared.reading.Block.{Block}
-use Rattle.typst_combinators.specs.declared.reading.Call.{Call}
-use Rattle.typst_combinators.specs.declared.reading.State.{State}
-use Rattle.typst_combinators.specs.Shape.{Making, made, all_advised, Shape, shaped, first_failed, count_empty, after_node, after_shape}
+use Rattle.typst_combinators.specs.declared.calls.Block.{Block}
+use Rattle.typst_combinators.specs.declared.calls.Call.{Call}
+use Rattle.typst_combinators.specs.Point.{Trivia, Point, forgot}
+use Rattle.typst_combinators.specs.Shape.{Making, made, all_advised, hinted_error, hinted_last, hinted, Change, changed, on_first, first_changed, is_delimited, in_parens, renamed_last, parens_renamed, without_parens, Shape, shaped, count_empty, after_node, after_change, after_shape}
+use Rattle.typst_combinators.specs.Shape.Change.{stays, turns_wrong, is_not, renamed, unparened}
 use Rattle.typst_combinators.specs.Shape.Making.{itself, of_kind, surprise, wanted}
-use Rattle.typst_combinators.specs.Shape.Shape.{becomes, unclosed, warns, fails}
-use Rattle.typst_combinators.specs.declared.reading.Newlines.{Newlines}
+use Rattle.typst_combinators.specs.Shape.Shape.{keeps, holds, lacks, warns, fails}
 use Rattle.typst_combinators.specs.declared.reading.Reading.{Reading}
 use Rattle.typst_classes.specs.Classes.{CharClasses}
 use Rattle.typst_token_nodes.specs.Nodes.{token_node}
-use Rattle.typst_combinators.specs.Hand.{utf8_ahead, token_at, len_at, at_trivia, Ahead, after_trivia, direct, ahead_by, ahead, hand_at}
-use Rattle.typst_combinators.specs.Syntax.{Op, Parser}
-use Rattle.typst_combinators.specs.Syntax.Op.{hand, column, erred, takes, flushes, complains, marks, is_deepest}
-use Rattle.typst_combinators.specs.Syntax.Parser.{gives, does, next, pick, repeat, wraps, scoped, sees, either, calls, block}
-use Rattle.typst_combinators.specs.Meaning.{Outcome, Meaning, Level, less, joined, turns, as_last, repeated, wrapped, given_up, noted, plain, same_mode, entered, left, taken_node, hand_of, done, run}
-use Rattle.typst_combinators.specs.Sound.{Tidy, Backs}
-use Rattle.typst_combinators.proofs.Backs.{backs-run}
+use Rattle.typst_lexer.specs.Tokens.{token}
+use Rattle.typst_combinators.specs.Hand.{Hand, utf8_ahead, token_at, len_at, token_by, len_by, at_trivia, Ahead, after_trivia, direct, ahead_by, ahead, hand_at, told, column_at}
+use Rattle.typst_combinators.specs.Syntax.{Op, Begin, Parser}
+use Rattle.typst_combinators.specs.Syntax.Op.{hand, so, further, column, erred, takes, takes_so, flushes, complains, advises, marks, is_deepest}
+use Rattle.typst_combinators.specs.Syntax.Parser.{gives, does, next, pick, repeat, wraps, grows, nests, scoped, sees, either, calls, block}
+use Rattle.typst_combinators.specs.Meaning.{Outcome, Meaning, Level, less, joined, answered, followed, turns, as_last, bound, repeated, before, inside, reshaped, wrapped, grown, is_more, growths, growing, nestings, nesting, closed, bounded, given_up, plain, same_mode, entered, left, taken_node, node_by, reader_so, gave, hand_of, hand_asks_of, asked, done, run}
+use Rattle.typst_combinators.specs.Sound.{Tidy, Backs, Stands}
+use Rattle.typst_combinators.specs.Calls.{Answer}
+use Rattle.typst_combinators.specs.Ask.{Ask}
+use Rattle.typst_combinators.specs.Ask.Ask.{looked}
+use Rattle.typst_readers.specs.Reader.{look}
+use Rattle.typst_combinators.proofs.Within.{grew}
+use Rattle.typst_combinators.proofs.Hints.{length-hinted}
+use Rattle.typst_combinators.proofs.Backs.{backs-turns, tidy-nestings, backs-run}
 use Rattle.typst_token_nodes.proofs.TokenTexts.{text-token}
-use Rattle.typst_combinators.proofs.Places.{less-append, less-twice, less-none, length-less, moved-ahead}
+use Rattle.typst_combinators.proofs.Places.{moved-sum, less-append, less-twice, less-none, length-less, moved-ahead}
 
 -- ---- texts of nodes
 
@@ -81,14 +90,118 @@ text-made (wanted thing) t = text-wanted thing t
 
 -- ---- what becomes of several nodes
 
-texts-failed : (ts : List Tree) → texts (first_failed ts) ≡ texts ts
-texts-failed [] = refl
-texts-failed (t ∷ ts) = texts-first (made_error (codes "unclosed delimiter") t) ts ∙ ap (λ x. x ++ texts ts) (text-error (codes "unclosed delimiter") t) ∙ sym (texts-first t ts)
+-- several nodes have one by one the texts of others
+abbrev Same : List Tree → List Tree → Type 0
+Same [] [] = Unit {0}
+Same [] (u ∷ us) = ⊥
+Same (t ∷ ts) [] = ⊥
+Same (t ∷ ts) (u ∷ us) = (text_of t ≡ text_of u) × Same ts us
 
-pub text-shaped : (shape : Shape) (ts : List Tree) → text_of (shaped shape ts) ≡ texts ts
-text-shaped (becomes kind) ts = refl
-text-shaped (unclosed kind) ts = texts-failed ts
-text-shaped (warns kind message hint) ts = refl
+same-all : (ts : List Tree) → Same ts ts
+same-all [] = tt
+same-all (t ∷ ts) = (refl, same-all ts)
+
+same-append : (ts us vs ws : List Tree) → Same ts us → Same vs ws → Same (ts ++ vs) (us ++ ws)
+same-append [] [] vs ws h k = k
+same-append [] (u ∷ us) vs ws h k = absurd h
+same-append (t ∷ ts) [] vs ws h k = absurd h
+same-append (t ∷ ts) (u ∷ us) vs ws h k = (h.0, same-append ts us vs ws h.1 k)
+
+same-long : (ts us : List Tree) → Same ts us → length ts ≡ length us
+same-long [] [] h = refl
+same-long [] (u ∷ us) h = absurd h
+same-long (t ∷ ts) [] h = absurd h
+same-long (t ∷ ts) (u ∷ us) h = ap suc (same-long ts us h.1)
+
+texts-same : (ts us : List Tree) → Same ts us → texts ts ≡ texts us
+texts-same [] [] h = refl
+texts-same [] (u ∷ us) h = absurd h
+texts-same (t ∷ ts) [] h = absurd h
+texts-same (t ∷ ts) (u ∷ us) h = texts-first t ts ∙ ap (λ x. x ++ texts ts) h.0 ∙ ap (λ x. text_of u ++ x) (texts-same ts us h.1) ∙ sym (texts-first u us)
+
+same-take : (k : ℕ) (ts us : List Tree) → Same ts us → Same (take k ts) (take k us)
+same-take zero ts us h = tt
+same-take (suc k) [] [] h = tt
+same-take (suc k) [] (u ∷ us) h = absurd h
+same-take (suc k) (t ∷ ts) [] h = absurd h
+same-take (suc k) (t ∷ ts) (u ∷ us) h = (h.0, same-take k ts us h.1)
+
+less-same : (k : ℕ) (ts us : List Tree) → Same ts us → texts (less k ts) ≡ texts (less k us)
+unfolding less
+less-same k ts us h =
+    ap (λ n. texts (take (n - k) ts)) (same-long ts us h) ∙ texts-same (take (length us - k) ts) (take (length us - k) us) (same-take (length us - k) ts us h)
+
+-- with hints
+text-hinted : (hints : List (List ℕ)) (t : Tree) → text_of (hinted_error hints t) ≡ text_of t
+text-hinted hints t = on (λ (u : Tree). text_of u ≡ text_of t) (is_error t.head.kind) (all_advised hints t) t (text-advised hints t) refl
+
+same-last : (hints : List (List ℕ)) (ts : List Tree) → Same (hinted_last hints ts) ts
+same-last hints [] = tt
+same-last hints (t ∷ []) = (text-hinted hints t, tt)
+same-last hints (t ∷ u ∷ ts) = (refl, same-last hints (u ∷ ts))
+
+same-hinted : (hints : List (List ℕ)) (ts : List Tree) → Same (hinted hints ts) ts
+same-hinted [] ts = same-all ts
+same-hinted (hint ∷ hints) ts = same-last (hint ∷ hints) ts
+
+-- without the parens of math
+trees-forest : (f : Forest) → forest (trees f) ≡ f
+trees-forest none = refl
+trees-forest (more h ks r) = ap (more h ks) (trees-forest r)
+
+same-renamed : (k : SyntaxKind) (ts : List Tree) → Same (renamed_last k ts) ts
+same-renamed k [] = tt
+same-renamed k (t ∷ []) = (text-kind k t, tt)
+same-renamed k (t ∷ u ∷ ts) = (refl, same-renamed k (u ∷ ts))
+
+same-parens : (ts : List Tree) → Same (parens_renamed ts) ts
+same-parens [] = tt
+same-parens (t ∷ ts) = (text-kind kind.LeftParen t, same-renamed kind.RightParen ts)
+
+text-parens : (t : Tree) → text_of (without_parens t) ≡ text_of t
+text-parens t =
+    on (λ (u : Tree). text_of u ≡ text_of t) (is_delimited t.head.kind && in_parens (trees t.kids))
+    (record { head = record t.head { kind = kind.Math }; kids = forest (parens_renamed (trees t.kids)) }) t
+    (ap (λ x. t.head.text ++ x) (texts-same (parens_renamed (trees t.kids)) (trees t.kids) (same-parens (trees t.kids)) ∙ ap text_joined (trees-forest t.kids))) refl
+
+-- the first of them changed
+pub text-changed : (change : Change) (t : Tree) → text_of (changed change t) ≡ text_of t
+text-changed stays t = refl
+text-changed (turns_wrong message) t = text-error message t
+text-changed (is_not thing) t = text-wanted thing t
+text-changed (renamed k) t = text-kind k t
+text-changed unparened t = text-parens t
+
+first-is : (change : Change) (t : Tree) (ts : List Tree) → first_changed change (t ∷ ts) ≡ changed change t ∷ ts
+first-is stays t ts = refl
+first-is (turns_wrong message) t ts = refl
+first-is (is_not thing) t ts = refl
+first-is (renamed k) t ts = refl
+first-is unparened t ts = refl
+
+first-none : (change : Change) → first_changed change [] ≡ []
+first-none stays = refl
+first-none (turns_wrong message) = refl
+first-none (is_not thing) = refl
+first-none (renamed k) = refl
+first-none unparened = refl
+
+same-changed : (change : Change) (ts : List Tree) → Same (first_changed change ts) ts
+same-changed change [] = subst (λ us. Same us []) (sym (first-none change)) tt
+same-changed change (t ∷ ts) = subst (λ us. Same us (t ∷ ts)) (sym (first-is change t ts)) (text-changed change t, same-all ts)
+
+texts-changed : (change : Change) (ts : List Tree) → texts (first_changed change ts) ≡ texts ts
+texts-changed change ts = texts-same (first_changed change ts) ts (same-changed change ts)
+
+-- with an empty error between them
+texts-lacking : (count : ℕ) (message : List ℕ) (ts : List Tree) → texts (take count ts ++ error_of message [] ∷ drop count ts) ≡ texts ts
+texts-lacking count message ts = texts-append (take count ts) (error_of message [] ∷ drop count ts) ∙ sym (texts-append (take count ts) (drop count ts)) ∙ ap texts (take-append-drop count ts)
+
+pub text-shaped : (shape : Shape) (ts : List Tree) → texts (shaped shape ts) ≡ texts ts
+text-shaped (keeps change) ts = texts-changed change ts
+text-shaped (holds change k) ts = texts-one (inner_of k (forest (first_changed change ts))) ∙ texts-changed change ts
+text-shaped (lacks count message k) ts = texts-one (inner_of k (forest (take count ts ++ error_of message [] ∷ drop count ts))) ∙ texts-lacking count message ts
+text-shaped (warns k message hint) ts = append-nil (texts ts)
 text-shaped (fails message) ts = append-nil (texts ts)
 
 -- ---- the last nodes hold no text
@@ -144,145 +257,240 @@ ahead-texts k m (suc n) z =
     ∙ ap (λ x. utf8_ahead l z ++ x) (ahead-texts k m n (moved l z)) ∙ text-add l rest.gap z)
     refl
 
--- the trivia at hand hold the characters before the token
-pub hand-texts : (l : Level) (z : Place) (s : State) → texts (hand_of l z s).trivia ≡ utf8_ahead (hand_of l z s).gap z
+known-texts : (k : CharClasses) (held : Reading) (known : Option Trivia) (z : Place) → Stands z known → texts (hand_at k held known z).trivia ≡ utf8_ahead (hand_at k held known z).gap z
 unfolding hand_at ahead
-hand-texts l z s = ahead-texts l.classes s.held.mode (length z.ahead) z
+known-texts k held None z h = ahead-texts k held.mode (length z.ahead) z
+known-texts k held (Some t) z h = h
+
+-- the trivia at hand hold the characters before the token
+pub hand-texts : (l : Level) (z : Place) (s : Point) → Stands z s.known → texts (hand_of l z s).trivia ≡ utf8_ahead (hand_of l z s).gap z
+hand-texts l z s h = known-texts l.classes s.held s.known z h
 
 -- ---- the law
 
--- the nodes hold the characters taken, and those that may be taken back hold none
-pub record Kept {A : Type 0} (z : Place) (o : Outcome A) : Type 0 where
+-- the nodes hold the characters taken, those that may be taken back hold none, and what is known stands there
+pub record Holds {A : Type 0} (z : Place) (o : Outcome A) : Type 0 where
   pub text : texts o.nodes ≡ utf8_ahead o.taken z
+  pub known : Stands (moved o.taken z) o.state.known
   pub blank : Blank o.state.empties o.nodes
 
 abbrev pub Keeps : {A : Type 0} → Meaning A → Type 0
-Keeps m = (z : Place) (s : State) → Kept z (m z s)
+Keeps m = (z : Place) (s : Point) → Stands z s.known → Holds z (m z s)
 
-kept-joined : {A B : Type 0} (z : Place) (o : Outcome B) (p : Outcome A) → Kept z o → Kept (moved o.taken z) p → Tidy o.state p → Kept z (joined o p)
+stands-on : (a b : ℕ) (z : Place) (known : Option Trivia) → Stands (moved b (moved a z)) known → Stands (moved (a + b) z) known
+stands-on a b z known h = subst (λ w. Stands w known) (sym (moved-sum a b z)) h
+
+kept-joined : {A B : Type 0} (z : Place) (o : Outcome B) (p : Outcome A) → Holds z o → Holds (moved o.taken z) p → Tidy o.state p → Holds z (joined o p)
 kept-joined z o p h k t =
     let b = t.back in
     let c = t.left in
+    let rest = less p.back o.nodes in
+    let same = same-hinted p.hints rest in
     record {
-      text = texts-append (less p.back o.nodes) p.nodes ∙ ap (λ x. x ++ texts p.nodes) (h.blank p.back b ∙ h.text) ∙ ap (λ x. utf8_ahead o.taken z ++ x) k.text ∙ text-add o.taken p.taken z;
+      text = texts-append (hinted p.hints rest) p.nodes ∙ ap (λ x. x ++ texts p.nodes) (texts-same (hinted p.hints rest) rest same ∙ h.blank p.back b ∙ h.text)
+          ∙ ap (λ x. utf8_ahead o.taken z ++ x) k.text ∙ text-add o.taken p.taken z;
+      known = stands-on o.taken p.taken z p.state.known k.known;
       blank = λ n le.
-          let m = p.back + (n - length p.nodes) in
+          (let m = p.back + (n - length p.nodes) in
           let few : m ≤ o.state.empties = omega arith in
-          ap texts (less-append n (less p.back o.nodes) p.nodes) ∙ texts-append (less (n - length p.nodes) (less p.back o.nodes)) (less n p.nodes)
-          ∙ ap (λ x. x ++ texts (less n p.nodes)) (ap texts (less-twice p.back (n - length p.nodes) o.nodes) ∙ h.blank m few ∙ sym (h.blank p.back b))
-          ∙ ap (λ x. texts (less p.back o.nodes) ++ x) (k.blank n le) ∙ sym (texts-append (less p.back o.nodes) p.nodes);
+          ap texts (less-append n (hinted p.hints rest) p.nodes) ∙ texts-append (less (n - length p.nodes) (hinted p.hints rest)) (less n p.nodes)
+          ∙ ap (λ x. x ++ texts (less n p.nodes)) (less-same (n - length p.nodes) (hinted p.hints rest) rest same ∙ ap texts (less-twice p.back (n - length p.nodes) o.nodes)
+          ∙ h.blank m few ∙ sym (h.blank p.back b) ∙ sym (texts-same (hinted p.hints rest) rest same))
+          ∙ ap (λ x. texts (hinted p.hints rest) ++ x) (k.blank n le) ∙ sym (texts-append (hinted p.hints rest) p.nodes));
     }
 
-kept-if : {A : Type 0} (z : Place) (b : Bool) (x y : Outcome A) → Kept z x → Kept z y → Kept z (if b then x else y)
-kept-if z b x y p q = on (Kept z) b x y p q
+kept-if : {A : Type 0} (z : Place) (b : Bool) (x y : Outcome A) → Holds z x → Holds z y → Holds z (if b then x else y)
+kept-if z b x y p q = on (Holds z) b x y p q
 
-kept-plain : {A : Type 0} (z : Place) (a : A) (s : State) → Kept z (plain a s)
-kept-plain z a s = record { text = refl; blank = blank-nil s.empties }
+kept-plain : {A : Type 0} (z : Place) (a : A) (s : Point) → Stands z s.known → Holds z (plain a s)
+kept-plain z a s h = record { text = refl; known = h; blank = blank-nil s.empties }
 
-tidy-joined : {A B : Type 0} (s : State) (o : Outcome B) (p : Outcome A) → Tidy s o → Tidy o.state p → Tidy s (joined o p)
-tidy-joined s o p h k =
-    let one = length-append (less p.back o.nodes) p.nodes in
-    let two = length-less p.back o.nodes in
-    let b1 = h.back in let b2 = h.left in let b3 = k.back in let b4 = k.left in
-    record { back = omega arith; left = omega arith }
-
-tidy-turns : {A : Type 0} (m : A → Meaning (Bool × A)) → ((x : A) → Backs (m x)) → (n : ℕ) (x : A) → Backs (turns m n x)
-tidy-turns m h zero x z s = record { back = omega arith; left = omega arith }
-tidy-turns m h (suc n) x z s =
+kept-turns : {A : Type 0} (m : A → Meaning (Bool × A)) → ((x : A) → Backs (m x)) → ((x : A) → Keeps (m x)) → (n : ℕ) (x : A) → ((n : ℕ) (x : A) → Backs (turns m n x)) → Keeps (turns m n x)
+kept-turns m b h zero x t z s k = kept-plain z x s k
+kept-turns m b h (suc n) x t z s k =
     let o = m x z s in
-    let t = h x z s in
-    on (Tidy s) (o.value.0 && nat_lt 0 o.taken) (joined o (turns m n o.value.1 (moved o.taken z) o.state)) (as_last o)
-    (tidy-joined s o _ t (tidy-turns m h n o.value.1 (moved o.taken z) o.state))
-    (record { back = t.back; left = t.left })
-
-kept-turns : {A : Type 0} (m : A → Meaning (Bool × A)) → ((x : A) → Backs (m x)) → ((x : A) → Keeps (m x)) → (n : ℕ) (x : A) → Keeps (turns m n x)
-kept-turns m b h zero x z s = kept-plain z x s
-kept-turns m b h (suc n) x z s =
-    let o = m x z s in
-    let k = h x z s in
-    kept-if z (o.value.0 && nat_lt 0 o.taken) _ (as_last o)
-    (kept-joined z o (turns m n o.value.1 (moved o.taken z) o.state) k (kept-turns m b h n o.value.1 (moved o.taken z) o.state) (tidy-turns m b n o.value.1 (moved o.taken z) o.state))
-    (record { text = k.text; blank = k.blank })
+    let first = h x z s k in
+    kept-if z (o.value.0 && nat_lt 0 o.taken) (joined o (turns m n o.value.1 (moved o.taken z) o.state)) (as_last o)
+    (kept-joined z o (turns m n o.value.1 (moved o.taken z) o.state) first (kept-turns m b h n o.value.1 t (moved o.taken z) o.state first.known) (t n o.value.1 (moved o.taken z) o.state))
+    (record { text = first.text; known = first.known; blank = first.blank })
 
 -- a node that counts as an empty error has no text
 record Empties (n : ℕ) (text : List ℕ) : Type 0 where
   few : n ≤ 1
-  none : 0 < n → text ≡ []
+  no_text : 0 < n → text ≡ []
 
 empties-counted : (text : List ℕ) → Empties (count_empty text) text
-empties-counted [] = record { few = omega arith; none = λ h. refl }
-empties-counted (c ∷ cs) = record { few = omega arith; none = λ h. absurd (omega arith) }
+empties-counted [] = record { few = omega arith; no_text = λ h. refl }
+empties-counted (c ∷ cs) = record { few = omega arith; no_text = λ h. absurd (omega arith) }
 
-empties-node : (b : Bool) (text : List ℕ) (s : State) → Empties (after_node b text s).empties text
+empties-node : (b : Bool) (text : List ℕ) (s : Point) → Empties (after_node b text s).empties text
 empties-node true text s = empties-counted text
-empties-node false text s = record { few = omega arith; none = λ h. absurd (omega arith) }
+empties-node false text s = record { few = omega arith; no_text = λ h. absurd (omega arith) }
 
-empties-shape : (shape : Shape) (ts : List Tree) (s : State) → Empties (after_shape shape ts s).empties (text_of (shaped shape ts))
-empties-shape (becomes kind) ts s = record { few = omega arith; none = λ h. absurd (omega arith) }
-empties-shape (unclosed kind) ts s = record { few = omega arith; none = λ h. absurd (omega arith) }
-empties-shape (warns kind message hint) ts s = record { few = omega arith; none = λ h. absurd (omega arith) }
-empties-shape (fails message) ts s = subst (Empties (count_empty (texts ts))) (sym (append-nil (texts ts))) (empties-counted (texts ts))
+kept-empties : (outer : Reading) (s : Point) → (left outer s).empties ≡ s.empties
+kept-empties outer s = on (λ (t : Point). t.empties ≡ s.empties) (same_mode s.reading.mode outer.mode) _ _ refl refl
 
-kept-empties : (outer : Reading) (s : State) → (left outer s).empties ≡ s.empties
-kept-empties outer s = on (λ (t : State). t.empties ≡ s.empties) (same_mode s.reading.mode outer.mode) _ _ refl refl
+kept-known : (w : Place) (outer : Reading) (s : Point) → Stands w s.known → Stands w (left outer s).known
+kept-known w outer s h = on (λ (t : Point). Stands w t.known) (same_mode s.reading.mode outer.mode) _ _ h tt
 
-kept-wrapped : {A : Type 0} (f : A → Shape) (n : ℕ) (z : Place) (o : Outcome A) → Kept z o → Kept z (wrapped f n o)
-kept-wrapped f n z o k =
+-- nodes of which the first was changed
+blank-same : (n : ℕ) (ts us : List Tree) → Same ts us → Blank n us → Blank n ts
+blank-same n ts us h b = λ k le. less-same k ts us h ∙ b k le ∙ sym (texts-same ts us h)
+
+blank-one : (b c : Bool) (change : Change) (front : List Tree) (t : Tree) (s : Point) → Blank s.empties (front ++ t ∷ [])
+    → Blank (if b then s else after_node c (text_of t) s).empties (front ++ changed change t ∷ [])
+blank-one true c change front t s h =
+    blank-same s.empties (front ++ changed change t ∷ []) (front ++ t ∷ []) (same-append front front (changed change t ∷ []) (t ∷ []) (same-all front) (text-changed change t, tt)) h
+blank-one false c change front t s h =
+    let e = empties-node c (text_of t) s in
+    blank-last (after_node c (text_of t) s).empties front (changed change t) e.few (λ l. text-changed change t ∙ e.no_text l)
+
+blank-changed : (change : Change) (front ts : List Tree) (s : Point) → Blank s.empties (front ++ ts) → Blank (after_change change ts s).empties (front ++ first_changed change ts)
+blank-changed change front [] s h = subst (λ us. Blank s.empties (front ++ us)) (sym (first-none change)) h
+blank-changed change front (t ∷ []) s h =
+    subst (λ us. Blank (after_change change (t ∷ []) s).empties (front ++ us)) (sym (first-is change t []))
+    (blank-one (is_error t.head.kind) (is_error (changed change t).head.kind) change front t s h)
+blank-changed change front (t ∷ u ∷ ts) s h =
+    blank-same s.empties (front ++ first_changed change (t ∷ u ∷ ts)) (front ++ t ∷ u ∷ ts)
+    (same-append front front (first_changed change (t ∷ u ∷ ts)) (t ∷ u ∷ ts) (same-all front) (same-changed change (t ∷ u ∷ ts))) h
+
+blank-shaped : (shape : Shape) (front ts : List Tree) (s : Point) → Blank s.empties (front ++ ts) → Blank (after_shape shape ts s).empties (front ++ shaped shape ts)
+blank-shaped (keeps change) front ts s h = blank-changed change front ts s h
+blank-shaped (holds change k) front ts s h = blank-none _
+blank-shaped (lacks count message k) front ts s h = blank-none _
+blank-shaped (warns k message hint) front ts s h = blank-none _
+blank-shaped (fails message) front ts s h =
+    let e = empties-counted (texts ts) in
+    blank-last (count_empty (texts ts)) front (error_of message (texts ts)) e.few (λ l. append-nil (texts ts) ∙ e.no_text l)
+
+after_node-known : (b : Bool) (text : List ℕ) (s : Point) → (after_node b text s).known ≡ s.known
+after_node-known true text s = refl
+after_node-known false text s = refl
+
+after_shape-known : (shape : Shape) (ts : List Tree) (s : Point) → (after_shape shape ts s).known ≡ s.known
+after_shape-known (keeps change) [] s = refl
+after_shape-known (keeps change) (t ∷ []) s =
+    on (λ (u : Point). u.known ≡ s.known) (is_error t.head.kind) s (after_node (is_error (changed change t).head.kind) (text_of t) s) refl (after_node-known (is_error (changed change t).head.kind) (text_of t) s)
+after_shape-known (keeps change) (t ∷ u ∷ ts) s = refl
+after_shape-known (holds change k) ts s = refl
+after_shape-known (lacks count message k) ts s = refl
+after_shape-known (warns k message hint) ts s = refl
+after_shape-known (fails message) ts s = refl
+
+kept-reshaped : {A : Type 0} (z : Place) (shape : Shape) (n : ℕ) (o : Outcome A) → Holds z o → Holds z (reshaped shape n o)
+kept-reshaped z shape n o k =
     let m = n + o.back in
-    let inside = drop m o.nodes in
-    let shape = f o.value in
-    let e = empties-shape shape inside o.state in
+    let ts = inside n o in
     record {
-      text = texts-append (take m o.nodes) (shaped shape inside ∷ []) ∙ ap (λ x. texts (take m o.nodes) ++ x) (texts-one (shaped shape inside) ∙ text-shaped shape inside)
-          ∙ sym (texts-append (take m o.nodes) inside) ∙ ap texts (take-append-drop m o.nodes) ∙ k.text;
-      blank = blank-last (after_shape shape inside o.state).empties (take m o.nodes) (shaped shape inside) e.few e.none;
+      text = texts-append (take m o.nodes) (shaped shape ts) ∙ ap (λ x. texts (take m o.nodes) ++ x) (text-shaped shape ts)
+          ∙ sym (texts-append (take m o.nodes) ts) ∙ ap texts (take-append-drop m o.nodes) ∙ k.text;
+      known = subst (λ (x : Option Trivia). Stands (moved o.taken z) x) (sym (after_shape-known shape ts o.state)) k.known;
+      blank = blank-shaped shape (take m o.nodes) ts o.state (subst (λ ns. Blank o.state.empties ns) (sym (take-append-drop m o.nodes)) k.blank);
     }
 
-blank-flushed : (newlines : Newlines) (s : State) (ts : List Tree) → Blank (elim ts as (λ _. State) [ [] ↦ s | u ∷ us ↦ record (after_node false [] s) { flushed = newlines } ]).empties ts
-blank-flushed newlines s [] = blank-nil s.empties
-blank-flushed newlines s (t ∷ ts) = blank-none (t ∷ ts)
+kept-grown : {A : Type 0} (z : Place) (n : ℕ) (shape : Option Shape) (o : Outcome A) → Holds z o → Holds z (grown n shape o)
+kept-grown z n None o k = k
+kept-grown z n (Some shape) o k = kept-reshaped z shape n o k
+
+kept-growths : {A : Type 0} (m : A → Meaning (Option Shape × A)) → ((x : A) → Backs (m x)) → ((x : A) → Keeps (m x)) → (n k : ℕ) (o : Outcome A) (z : Place) → Holds z o → Holds z (growths m n k o z)
+kept-growths m b f n zero o z h = h
+kept-growths m b f n (suc k) o z h =
+    let p = m o.value (moved o.taken z) o.state in
+    let j = kept-joined z o p h (f o.value (moved o.taken z) o.state h.known) (b o.value (moved o.taken z) o.state) in
+    let g = kept-grown z n p.value.0 (answered p.value.1 (joined o p)) (record { text = j.text; known = j.known; blank = j.blank }) in
+    kept-if z (is_more p.value.0 && nat_lt 0 p.taken) (growths m n k (grew n o p) z) (grew n o p) (kept-growths m b f n k (grew n o p) z g) g
+
+kept-nestings : {A : Type 0} (f : A → Shape) (begin : Begin) (m : A → Meaning (Bool × A)) → ((x : A) → Backs (m x)) → ((x : A) → Keeps (m x)) → (n : ℕ) (x : A) → Keeps (nestings f begin m n x)
+kept-nestings f begin m b g zero x z s h = kept-plain z x s h
+kept-nestings f begin m b g (suc n) x z s h =
+    let o = m x z s in
+    let w = moved o.taken z in
+    let p = nestings f begin m n o.value.1 w o.state in
+    let t = o.value.0 && nat_lt 0 o.taken in
+    let q = if t then joined o p else as_last o in
+    let first = g x z s h in
+    kept-reshaped z (f q.value) (before begin s) q
+    (kept-if z t (joined o p) (as_last o) (kept-joined z o p first (kept-nestings f begin m b g n o.value.1 w o.state first.known) (tidy-nestings f begin m b n o.value.1 w o.state))
+    (record { text = first.text; known = first.known; blank = first.blank }))
+
+blank-flushed : (s : Point) (ts : List Tree) → Blank (elim ts as (λ _. Point) [ [] ↦ s | u ∷ us ↦ after_node false [] s ]).empties ts
+blank-flushed s [] = blank-nil s.empties
+blank-flushed s (t ∷ ts) = blank-none (t ∷ ts)
 
 module _ (l : Level) where
-  kept-done : {A : Type 0} (o : Op A) → Keeps (done l o)
-  kept-done hand z s = record { text = refl; blank = blank-nil s.empties }
-  kept-done column z s = record { text = refl; blank = blank-nil s.empties }
-  kept-done erred z s = kept-plain z s.is_after_error s
-  kept-done (takes trims making) z s =
+  kept-gave : (z : Place) (s : Point) (trims : Bool) (len : ℕ) (node : Tree) (asks : List Ask) → Stands z s.known → text_of node ≡ utf8_ahead len (moved (hand_of l z s).gap z) → Holds z (gave (hand_of l z s) trims len node asks s)
+  kept-gave z s trims len node asks k e =
       let h = hand_of l z s in
-      let taken = take h.len (moved h.gap z).ahead in
-      let node = taken_node l.classes making h z in
-      let e = empties-node (is_error node.head.kind) (text_of node) s in
+      let n = empties-node (is_error node.head.kind) (text_of node) s in
       record {
-        text = texts-append h.trivia (node ∷ []) ∙ ap (λ x. x ++ texts (node ∷ [])) (hand-texts l z s)
-            ∙ ap (λ x. utf8_ahead h.gap z ++ x) (texts-one node ∙ text-made making (token_node l.classes h.token taken) ∙ text-token l.classes h.token taken) ∙ text-add h.gap h.len z;
-        blank = blank-last (after_node (is_error node.head.kind) (text_of node) s).empties h.trivia node e.few e.none;
+        text = texts-append h.trivia (node ∷ []) ∙ ap (λ x. x ++ texts (node ∷ [])) (hand-texts l z s k) ∙ ap (λ x. utf8_ahead h.gap z ++ x) (texts-one node ∙ e) ∙ text-add h.gap len z;
+        known = tt;
+        blank = blank-last (after_node (is_error node.head.kind) (text_of node) s).empties h.trivia node n.few n.no_text;
       }
-  kept-done flushes z s = record { text = hand-texts l z s; blank = blank-flushed (hand_of l z s).newlines s (hand_of l z s).trivia }
-  kept-done (complains message) z s = record { text = refl; blank = blank-error (s.empties + 1) message }
-  kept-done (marks gap mark) z s = record { text = refl; blank = blank-nil s.empties }
-  kept-done is_deepest z s = record { text = refl; blank = blank-nil s.empties }
+
+  kept-asked : {A : Type 0} (a : A) (asks : List Ask) (z : Place) (s : Point) → Stands z s.known → Holds z (record (plain a (asked (hand_of l z s) s)) { asks = asks })
+  kept-asked a asks z s h = record { text = refl; known = hand-texts l z s h; blank = blank-nil s.empties }
+
+  kept-done : {A : Type 0} (o : Op A) → Keeps (done l o)
+  kept-done hand z s h = kept-asked (told (hand_of l z s)) _ z s h
+  kept-done (so way) z s h = kept-asked (token_by (reader_so l way) (moved (hand_of l z s).gap z)).kind _ z s h
+  kept-done further z s h = kept-asked (token_by (token l.classes s.reading.mode) (moved ((hand_of l z s).gap + (hand_of l z s).len) z)).kind _ z s h
+  kept-done column z s h = kept-asked (column_at (moved (hand_of l z s).gap z)) _ z s h
+  kept-done erred z s h = kept-plain z s.is_after_error s h
+  kept-done (takes trims making) z s h =
+      let x = hand_of l z s in
+      let taken = take x.len (moved x.gap z).ahead in
+      kept-gave z s trims x.len (taken_node l.classes making x z) (hand_asks_of l z s) h (text-made making (token_node l.classes x.token taken) ∙ text-token l.classes x.token taken)
+  kept-done (takes_so way making) z s h =
+      let x = hand_of l z s in
+      let w = moved x.gap z in
+      let r = reader_so l way in
+      let taken = take (len_by r w) w.ahead in
+      kept-gave z s false (len_by r w) (node_by l.classes making (token_by r w) (len_by r w) w) (hand_asks_of l z s ++ looked x.gap (look r w) ∷ []) h
+      (text-made making (token_node l.classes (token_by r w) taken) ∙ text-token l.classes (token_by r w) taken)
+  kept-done flushes z s h = record { text = hand-texts l z s h; known = refl; blank = blank-flushed s (hand_of l z s).trivia }
+  kept-done (complains message) z s h = record { text = refl; known = h; blank = blank-error (s.empties + 1) message }
+  kept-done (advises hint) z s h = record { text = refl; known = h; blank = blank-nil s.empties }
+  kept-done (marks mark) z s h = record { text = refl; known = h; blank = blank-nil s.empties }
+  kept-done is_deepest z s h = record { text = refl; known = h; blank = blank-nil s.empties }
 
   module _ (b : (c : Call) → Backs (l.deeper c)) (c : (x : Block) → Backs (l.blocks x)) (d : (x : Call) → Keeps (l.deeper x)) (e : (x : Block) → Keeps (l.blocks x)) where
+    kept-bounded : (x : Block) → Keeps (bounded x (l.blocks x))
+    kept-bounded x z s h = let k = e x z (record s { known = None }) tt in record { text = k.text; known = tt; blank = k.blank }
+
     -- the law of the leaves
     pub kept-run : {A : Type 0} (p : Parser A) → Keeps (run l p)
-    unfolding run repeated
-    kept-run (gives a) z s = kept-plain z a s
-    kept-run (does o) z s = kept-done o z s
-    kept-run (next p f) z s =
+    unfolding run repeated growing nesting
+    kept-run (gives a) z s h = kept-plain z a s h
+    kept-run (does o) z s h = kept-done o z s h
+    kept-run (next p f) z s h =
         let o = run l p z s in
-        kept-joined z o (run l (f o.value) (moved o.taken z) o.state) (kept-run p z s) (kept-run (f o.value) (moved o.taken z) o.state) (backs-run l b c (f o.value) (moved o.taken z) o.state)
-    kept-run (pick t p q) z s = kept-if z t (run l p z s) (run l q z s) (kept-run p z s) (kept-run q z s)
-    kept-run (repeat p x) z s =
-        kept-turns (λ y. run l (p y)) (λ y. backs-run l b c (p y)) (λ y. kept-run (p y)) (suc (length z.ahead)) x z s
-    kept-run (wraps f n p) z s = kept-wrapped f n z (run l p z s) (kept-run p z s)
-    kept-run (scoped f p) z s =
+        let k = kept-run p z s h in
+        kept-joined z o (run l (f o.value) (moved o.taken z) o.state) k (kept-run (f o.value) (moved o.taken z) o.state k.known) (backs-run l b c (f o.value) (moved o.taken z) o.state)
+    kept-run (pick t p q) z s h = kept-if z t (run l p z s) (run l q z s) (kept-run p z s h) (kept-run q z s h)
+    kept-run (repeat p x) z s h =
+        kept-turns (λ y. run l (p y)) (λ y. backs-run l b c (p y)) (λ y. kept-run (p y)) (suc (bound z s)) x (λ n y. backs-turns (λ w. run l (p w)) (λ w. backs-run l b c (p w)) n y) z s h
+    kept-run (wraps f begin p) z s h =
+        let o = run l p z s in
+        let k = kept-reshaped z (f o.value) (before begin s) o (kept-run p z s h) in
+        record { text = k.text; known = k.known; blank = k.blank }
+    kept-run (grows begin p f) z s h =
+        kept-growths (λ y. run l (f y)) (λ y. backs-run l b c (f y)) (λ y. kept-run (f y)) (before begin s) (suc (bound z s)) (run l p z s) z (kept-run p z s h)
+    kept-run (nests f begin p x) z s h = kept-nestings f begin (λ y. run l (p y)) (λ y. backs-run l b c (p y)) (λ y. kept-run (p y)) (suc (bound z s)) x z s h
+    kept-run (scoped f p) z s h =
         let o = run l p z (entered (f s.reading) s) in
-        let k = kept-run p z (entered (f s.reading) s) in
-        record { text = k.text; blank = subst (λ n. Blank n o.nodes) (sym (kept-empties s.reading o.state)) k.blank }
-    kept-run (sees p) z s = let k = kept-run p z s in record { text = k.text; blank = k.blank }
-    kept-run (either p is_wrong q) z s =
+        let k = kept-run p z (entered (f s.reading) s) h in
+        record { text = k.text; known = kept-known (moved o.taken z) s.reading o.state k.known; blank = subst (λ n. Blank n o.nodes) (sym (kept-empties s.reading o.state)) k.blank }
+    kept-run (sees p) z s h = let k = kept-run p z s h in record { text = k.text; known = k.known; blank = k.blank }
+    kept-run (either p is_wrong q) z s h =
         let o = run l p z s in
-        let k = kept-run q z s in
-        kept-if z (is_wrong o.value) (given_up o (run l q z s)) o (record { text = k.text; blank = k.blank }) (kept-run p z s)
-    kept-run (calls x) z s = let k = d x z s in record { text = k.text; blank = k.blank }
-    kept-run (block x) z s = kept-if z (l.has x) (noted x s (l.blocks x z s)) (plain tt s) (let k = e x z s in record { text = k.text; blank = k.blank }) (kept-plain z tt s)
+        let k = kept-run q z s h in
+        kept-if z (is_wrong o.value) (given_up o (run l q z s)) o (record { text = k.text; known = k.known; blank = k.blank }) (kept-run p z s h)
+    kept-run (calls x) z s h = let k = d x z s h in record { text = k.text; known = k.known; blank = k.blank }
+    kept-run (block x) z s h =
+        let o = done l flushes z s in
+        let w = moved o.taken z in
+        let q = c x w (record o.state { known = None }) in
+        kept-if z (l.has x) (joined o (bounded x (l.blocks x) w o.state)) (plain tt s)
+        (kept-joined z o (bounded x (l.blocks x) w o.state) (kept-done flushes z s h) (kept-bounded x w o.state (kept-done flushes z s h).known) (record { back = q.back; left = q.left }))
+        (kept-plain z tt s h)

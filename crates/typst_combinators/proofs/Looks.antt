@@ -2,18 +2,17 @@
 use Rattle.std.proofs.Common.{◌≡◌, ℕ, zero, suc, ◌+◌, ◌-◌, ◌<◌, ◌≤◌, min, Bool, true, false, if◌then◌else◌, not, List, [], ◌∷◌, ◌++◌, length, take, drop, slice_get, inl, inr, refl, ap, sym, ◌∙◌, subst, arith}
 use Rattle.std.proofs.lemmas.Bool.{cases_lt}
 use Rattle.std.specs.List.{prefix_len}
-use Rattle.typst_kinds.specs.declared.mode.SyntaxMode.{SyntaxMode}
 use Rattle.typst_lines.specs.Newline.{is_newline}
 use Rattle.typst_lines.specs.Place.{Place, moved, scout, run, past}
-use Rattle.typst_classes.specs.Classes.{CharClasses}
 use Rattle.typst_readers.specs.Reader.{Reader, eaten, Look, look, marked, Agree, spanned, from_before, skip_look}
 use Rattle.typst_readers.specs.Reader.Reader.{answer, peek, glance, span, eat, see_run, skip, eat_run}
-use Rattle.typst_lexer.specs.Tokens.{token}
+use Rattle.typst_tokens.specs.declared.token.Token.{Token}
+use Rattle.typst_tokens.specs.Memory.{Memory}
 use Rattle.typst_readers.proofs.Frame.{frame}
 use Rattle.typst_combinators.specs.Ask.{Ask, SameOne, SameIn, shift, shift_one, sunk, only_looks}
 use Rattle.typst_combinators.specs.Ask.Ask.{looked, marked as unit}
-use Rattle.typst_combinators.specs.Hand.{token_at, len_at, column_at}
-use Rattle.typst_combinators.proofs.Places.{moved-sum, moved-ahead, ahead-left}
+use Rattle.typst_combinators.specs.Hand.{token_by, len_by, column_at}
+use Rattle.typst_combinators.proofs.Places.{moved-sum, ahead-left}
 
 -- ---- lists
 
@@ -74,7 +73,7 @@ run-same p (x ∷ xs) (y ∷ ys) e =
 
 pub same_one-shift : (n : ℕ) (ask : Ask) (z w : Place) → SameOne (shift_one n ask) z w → SameOne ask (moved n z) (moved n w)
 same_one-shift n (looked at l) z w h = rw (← moved-sum n at z, ← moved-sum n at w) h
-same_one-shift n (unit at gap level mark s) z w h = tt
+same_one-shift n (unit at gap fewer mark s) z w h = tt
 
 pub same_in-shift : (n : ℕ) (asks : List Ask) (z w : Place) → SameIn (shift n asks) z w → SameIn asks (moved n z) (moved n w)
 same_in-shift n [] z w h = tt
@@ -91,12 +90,12 @@ same_in-second (l ∷ ls) ms z w h = same_in-second ls ms z w h.1
 pub same_in-only : (asks : List Ask) (z w : Place) → SameIn (only_looks asks) z w → SameIn asks z w
 same_in-only [] z w h = tt
 same_in-only (looked at l ∷ asks) z w h = (h.0, same_in-only asks z w h.1)
-same_in-only (unit at gap level mark s ∷ asks) z w h = (tt, same_in-only asks z w h)
+same_in-only (unit at gap fewer mark s ∷ asks) z w h = (tt, same_in-only asks z w h)
 
 pub same_in-sunk : (asks : List Ask) (z w : Place) → SameIn (sunk asks) z w → SameIn asks z w
 same_in-sunk [] z w h = tt
 same_in-sunk (looked at l ∷ asks) z w h = (h.0, same_in-sunk asks z w h.1)
-same_in-sunk (unit at gap level mark s ∷ asks) z w h = (tt, same_in-sunk asks z w h.1)
+same_in-sunk (unit at gap fewer mark s ∷ asks) z w h = (tt, same_in-sunk asks z w h.1)
 
 -- ---- a token
 
@@ -129,48 +128,31 @@ lengths-same : (e a b f : ℕ) → (a < f → b ≡ a) → (b < f → a ≡ b) �
 lengths-same e a b f g h c d =
     elim (cases_lt a f) [ inl l ↦ omega (arith, g l) | inr r ↦ elim (cases_lt b f) [ inl l ↦ omega (arith, h l) | inr s ↦ omega arith ] ]
 
-pub len-covers : (k : CharClasses) (m : SyntaxMode) (z : Place) → len_at k m z ≤ (look (token k m) z).front
-len-covers k m z = omega (arith, front-covers (token k m) z)
+pub len-covers : (r : Reader Memory Token) (z : Place) → len_by r z ≤ (look r z).front
+len-covers r z = omega (arith, front-covers r z)
 
 -- what is read of a token
-pub record SameToken (k : CharClasses) (m : SyntaxMode) (z w : Place) : Type 0 where
-  pub read : token_at k m w ≡ token_at k m z
-  pub len : len_at k m w ≡ len_at k m z
-  pub seen : look (token k m) w ≡ look (token k m) z
-  pub text : take (len_at k m z) w.ahead ≡ take (len_at k m z) z.ahead
+pub record SameToken (r : Reader Memory Token) (z w : Place) : Type 0 where
+  pub read : token_by r w ≡ token_by r z
+  pub len : len_by r w ≡ len_by r z
+  pub seen : look r w ≡ look r z
+  pub text : take (len_by r z) w.ahead ≡ take (len_by r z) z.ahead
 
-pub token-same : (k : CharClasses) (m : SyntaxMode) (z w : Place) → Agree (look (token k m) z) z w → SameToken k m z w
-token-same k m z w g =
-    let s = frame (token k m) z w g in
-    let f = (look (token k m) z).front in
-    let at_w : min (eaten (token k m) z) (suc (length w.ahead)) ≤ f = omega (arith, front-covers (token k m) w, ap (λ l. l.front) s.looks, s.lengths) in
-    let both = lengths-same (eaten (token k m) z) (length z.ahead) (length w.ahead) f
-    (λ l. marked-length f z.ahead w.ahead l g.ahead) (λ l. marked-length f w.ahead z.ahead l (sym g.ahead)) (front-covers (token k m) z) at_w in
+pub token-same : (r : Reader Memory Token) (z w : Place) → Agree (look r z) z w → SameToken r z w
+token-same r z w g =
+    let s = frame r z w g in
+    let f = (look r z).front in
+    let at_w : min (eaten r z) (suc (length w.ahead)) ≤ f = omega (arith, front-covers r w, ap (λ l. l.front) s.looks, s.lengths) in
+    let both = lengths-same (eaten r z) (length z.ahead) (length w.ahead) f
+    (λ l. marked-length f z.ahead w.ahead l g.ahead) (λ l. marked-length f w.ahead z.ahead l (sym g.ahead)) (front-covers r z) at_w in
     record {
       read = sym s.answers;
       len = omega (arith, both, s.lengths);
       seen = sym s.looks;
-      text = sym (take-unmarked (len_at k m z) z.ahead w.ahead (take-fewer (len_at k m z) f _ _ (len-covers k m z) g.ahead));
+      text = sym (take-unmarked (len_by r z) z.ahead w.ahead (take-fewer (len_by r z) f _ _ (len-covers r z) g.ahead));
     }
 
--- ---- texts and columns
-
-pub take-behind : (g n : ℕ) (xs ys : List ℕ) → take (g + n) xs ≡ take (g + n) ys → take n (drop g xs) ≡ take n (drop g ys)
-take-behind zero n xs ys e = let z : 0 + n ≡ n = omega arith in subst (λ m. take m xs ≡ take m ys) z e
-take-behind (suc g) n [] [] e = refl
-take-behind (suc g) n [] (y ∷ ys) e = let m : suc g + n ≡ suc (g + n) = omega arith in let f = subst (λ m. take m [] ≡ take m (y ∷ ys)) m e in absurd (cc)
-take-behind (suc g) n (x ∷ xs) [] e = let m : suc g + n ≡ suc (g + n) = omega arith in let f = subst (λ m. take m (x ∷ xs) ≡ take m []) m e in absurd (cc)
-take-behind (suc g) n (x ∷ xs) (y ∷ ys) e =
-    let m : suc g + n ≡ suc (g + n) = omega arith in
-    let f = subst (λ m. take m (x ∷ xs) ≡ take m (y ∷ ys)) m e in
-    let tails : take (g + n) xs ≡ take (g + n) ys = cc in
-    take-behind g n xs ys tails
-
--- what was passed is the same text
-pub passed-same : (gap len : ℕ) (z w : Place) → Agree (record { back = 0; front = gap + len }) (moved 0 z) (moved 0 w) → take len (moved gap w).ahead ≡ take len (moved gap z).ahead
-passed-same gap len z w g =
-    let e = take-behind gap len z.ahead w.ahead (take-unmarked (gap + len) z.ahead w.ahead g.ahead) in
-    ap (take len) (moved-ahead gap w) ∙ sym e ∙ ap (take len) (sym (moved-ahead gap z))
+-- ---- columns
 
 pub column-same : (z w : Place) → Agree (record { back = suc (column_at z); front = 0 }) z w → column_at w ≡ column_at z
 unfolding column_at

@@ -1,8 +1,9 @@
 -- The token at hand: the trivia ahead, and the token after it.
-use Rattle.std.specs.Prelude.{ℕ, zero, suc, ◌+◌, max, min, Bool, true, false, not, ◌||◌, ◌&&◌, if◌then◌else◌, nat_lt, nat_le, List, [], ◌∷◌, ◌++◌, length, take, encode_utf8_all}
+use Rattle.std.specs.Prelude.{ℕ, zero, suc, ◌+◌, max, min, Bool, true, false, not, ◌||◌, ◌&&◌, if◌then◌else◌, nat_lt, nat_le, List, [], ◌∷◌, ◌++◌, length, take, encode_utf8_all, Option, Some, None}
 use Rattle.std.specs.List.{prefix_len}
 use Rattle.typst_kinds.specs.declared.kind.SyntaxKind.{SyntaxKind}
 use Rattle.typst_kinds.specs.declared.kind.SyntaxKind.TheVariants as kind
+use Rattle.typst_kinds.specs.Kinds.{is_trivia}
 use Rattle.typst_kinds.specs.declared.mode.SyntaxMode.{SyntaxMode}
 use Rattle.typst_kinds.specs.declared.mode.SyntaxMode.TheVariants as mode
 use Rattle.typst_lines.specs.Newline.{is_newline}
@@ -10,14 +11,16 @@ use Rattle.typst_lines.specs.Place.{Place, moved}
 use Rattle.typst_node.specs.Tree.{Tree}
 use Rattle.typst_readers.specs.declared.hull.Hull.{Hull}
 use Rattle.typst_tokens.specs.declared.token.Token.{Token}
+use Rattle.typst_tokens.specs.Memory.{Memory}
 use Rattle.typst_classes.specs.Classes.{CharClasses}
-use Rattle.typst_readers.specs.Reader.{Look, exec, eaten, look}
+use Rattle.typst_readers.specs.Reader.{Reader, Look, exec, eaten, look}
 use Rattle.typst_readers.specs.Sight.{hull_of}
 use Rattle.typst_lexer.specs.Tokens.{token}
 use Rattle.typst_token_nodes.specs.Nodes.{token_node}
 use Rattle.typst_combinators.specs.declared.reading.AtNewline.TheVariants.{Continue, Stop, ContextualContinue, StopParBreak, RequireColumn}
 use Rattle.typst_combinators.specs.declared.reading.Newlines.{Newlines}
 use Rattle.typst_combinators.specs.declared.reading.Reading.{Reading}
+use Rattle.typst_combinators.specs.Point.{Trivia, Point, is_nil, no_newlines}
 use Rattle.typst_combinators.specs.Ask.{Ask, shift}
 use Rattle.typst_combinators.specs.Ask.Ask.{looked}
 
@@ -29,24 +32,23 @@ text_ahead n z = take n z.ahead
 abbrev pub utf8_ahead : ℕ → Place → List ℕ
 utf8_ahead n z = encode_utf8_all (take n z.ahead)
 
--- whitespace and comments are trivia
-abbrev pub is_trivia : SyntaxKind → Bool
-is_trivia kind.Space = true
-is_trivia kind.Parbreak = true
-is_trivia kind.LineComment = true
-is_trivia kind.BlockComment = true
-is_trivia _ = false
-
 abbrev pub is_parbreak : SyntaxKind → Bool
 is_parbreak kind.Parbreak = true
 is_parbreak _ = false
 
--- the token at a place, and how many characters it takes
+-- the token that a reader finds at a place, and how many characters it takes
+abbrev pub token_by : Reader Memory Token → Place → Token
+token_by r z = (exec r z).0
+
+abbrev pub len_by : Reader Memory Token → Place → ℕ
+len_by r z = min (eaten r z) (length z.ahead)
+
+-- the token of a mode
 abbrev pub token_at : CharClasses → SyntaxMode → Place → Token
-token_at k m z = (exec (token k m) z).0
+token_at k m z = token_by (token k m) z
 
 abbrev pub len_at : CharClasses → SyntaxMode → Place → ℕ
-len_at k m z = min (eaten (token k m) z) (length z.ahead)
+len_at k m z = len_by (token k m) z
 
 -- trivia, as nodes and as characters, with the newlines in it, and the token after it
 pub record Ahead : Type 0 where
@@ -55,9 +57,6 @@ pub record Ahead : Type 0 where
   pub newlines : Newlines
   pub token : Token
   pub len : ℕ
-
-abbrev pub no_newlines : Newlines
-no_newlines = record { any = false; parbreak = false }
 
 -- no trivia, and this token
 abbrev pub direct : Token → ℕ → Ahead
@@ -152,25 +151,47 @@ pub record Hand : Type 0 where
   -- whatever the rule says
   pub token : Token
 
-abbrev pub hand_by : Reading → Newlines → ℕ → Ahead → Hand
-hand_by held flushed column a = record {
-  kind = judged held (both_newlines flushed a.newlines) a.token.kind column;
+-- what a production is told of it: of the trivia whether there are any, and their newlines
+pub record AtHand : Type 0 where
+  pub kind : SyntaxKind
+  pub has_trivia : Bool
+  pub newlines : Newlines
+
+abbrev pub told : Hand → AtHand
+told h = record { kind = h.kind; has_trivia = not (is_nil h.trivia); newlines = h.newlines }
+
+-- what is known of the trivia at hand once they were asked for
+abbrev pub known_by : Hand → Option Trivia
+known_by h = Some (record { nodes = h.trivia; gap = h.gap; newlines = h.newlines })
+
+-- the trivia at a place and the token after it; where the trivia are known the token alone is asked for
+abbrev pub ahead_of : CharClasses → SyntaxMode → Option Trivia → Place → Ahead
+ahead_of k m None z = ahead k m z
+ahead_of k m (Some t) z = record { trivia = t.nodes; gap = t.gap; newlines = t.newlines; token = token_at k m (moved t.gap z); len = len_at k m (moved t.gap z) }
+
+abbrev pub ahead_asks_of : CharClasses → SyntaxMode → Option Trivia → Place → List Ask
+ahead_asks_of k m None z = ahead_asks k m z
+ahead_asks_of k m (Some t) z = looked t.gap (look (token k m) (moved t.gap z)) ∷ []
+
+abbrev pub hand_by : Reading → ℕ → Ahead → Hand
+hand_by held column a = record {
+  kind = judged held a.newlines a.token.kind column;
   trivia = a.trivia;
   gap = a.gap;
   len = a.len;
-  newlines = both_newlines flushed a.newlines;
+  newlines = a.newlines;
   token = a.token;
 }
 
--- the token at hand, by how it is read and which newlines became nodes already
-unfoldable pub hand_at : CharClasses → Reading → Newlines → Place → Hand
-hand_at k held flushed z = hand_by held flushed (column_at (moved (ahead k held.mode z).gap z)) (ahead k held.mode z)
+-- the token at hand, by how it is read and what is known of the trivia before it
+unfoldable pub hand_at : CharClasses → Reading → Option Trivia → Place → Hand
+hand_at k held known z = let a = ahead_of k held.mode known z in hand_by held (column_at (moved a.gap z)) a
 
 abbrev pub column_asks : Reading → Newlines → ℕ → Place → List Ask
 column_asks held newlines gap z = if asks_column held newlines then looked gap (column_look (moved gap z)) ∷ [] else []
 
 -- what it looked at
-unfoldable pub hand_asks : CharClasses → Reading → Newlines → Place → List Ask
-hand_asks k held flushed z =
-    let a = ahead k held.mode z in
-    ahead_asks k held.mode z ++ column_asks held (both_newlines flushed a.newlines) a.gap z
+unfoldable pub hand_asks : CharClasses → Reading → Option Trivia → Place → List Ask
+hand_asks k held known z =
+    let a = ahead_of k held.mode known z in
+    ahead_asks_of k held.mode known z ++ column_asks held a.newlines a.gap z

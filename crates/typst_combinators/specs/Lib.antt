@@ -1,3 +1,5 @@
+pub mod Calls
+pub mod Point
 pub mod Ask
 pub mod Hand
 pub mod Log
@@ -6,4 +8,6 @@ pub mod Syntax
 pub mod Meaning
 pub mod Steps
 pub mod Depth
+pub mod Knot
+pub mod Words
 pub mod Sound

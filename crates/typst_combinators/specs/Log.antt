@@ -3,8 +3,8 @@ use Rattle.std.specs.Prelude.{ℕ, ◌-◌, ◌^◌, max, min, Bool, true, if◌
 use Rattle.typst_lines.specs.Place.{Place, moved}
 use Rattle.typst_readers.specs.Sight.{position, hull_of}
 use Rattle.typst_readers.specs.declared.hull.Hull.{Hull}
-use Rattle.typst_combinators.specs.declared.reading.Mark.{Mark}
-use Rattle.typst_combinators.specs.declared.reading.Note.{Note}
+use Rattle.typst_combinators.specs.declared.calls.Mark.{Mark}
+use Rattle.typst_combinators.specs.declared.calls.Note.{Note}
 use Rattle.typst_combinators.specs.declared.reading.State.{State}
 use Rattle.typst_combinators.specs.Ask.{Ask}
 use Rattle.typst_combinators.specs.Ask.Ask.{looked, marked}
@@ -43,17 +43,17 @@ with_hull u h = record h { reach = max h.reach u.reach; least = min h.least u.le
 
 -- this was noted too, behind so many characters of trivia and where so many levels are left
 abbrev pub with_note : ℕ → ℕ → Mark → State → Place → Log → Log
-with_note gap depth mark s z h = record {
+with_note gap levels mark s z h = record {
   reach = h.reach;
   least = 2 ^ 64 - 1;
-  notes = with_more (record { mark = mark; before = position z; start = position (moved gap z); depth = depth; state = s; reach = h.reach; least = h.least }) h.notes;
+  notes = with_more (record { mark = mark; before = position z; start = position (moved gap z); levels = levels; state = s; reach = h.reach; least = h.least }) h.notes;
 }
 
 -- after what a parser asked at a place, where so many levels are left
 abbrev pub logged_one : ℕ → Place → Log → Ask → Log
-logged_one depth z h (looked at look) = with_hull (hull_of look (moved at z)) h
-logged_one depth z h (marked at gap level mark s) = with_note gap (depth - level) mark s (moved at z) h
+logged_one levels z h (looked at look) = with_hull (hull_of look (moved at z)) h
+logged_one levels z h (marked at gap fewer mark s) = with_note gap (levels - fewer) mark s (moved at z) h
 
 abbrev pub logged : ℕ → Place → Log → List Ask → Log
-logged depth z h [] = h
-logged depth z h (ask ∷ asks) = logged depth z (logged_one depth z h ask) asks
+logged levels z h [] = h
+logged levels z h (ask ∷ asks) = logged levels z (logged_one levels z h ask) asks

@@ -1,20 +1,21 @@
--- The steps that every production is made of. Each begins and ends with a token at hand that was looked at.
-use Rattle.std.specs.Prelude.{ℕ, Bool, true, false, List, ◌++◌, length, codes}
+-- The steps that every production is made of. Each begins and ends with a token at hand that was looked at, unless it says otherwise.
+use Rattle.std.specs.Prelude.{ℕ, Bool, true, false, List, ◌++◌, Option, codes}
 use Rattle.typst_kinds.specs.declared.kind.SyntaxKind.{SyntaxKind}
 use Rattle.typst_kinds.specs.Kinds.{is_error}
-use Rattle.typst_combinators.specs.declared.reading.Block.{Block}
-use Rattle.typst_combinators.specs.declared.reading.Mark.{Mark}
+use Rattle.typst_combinators.specs.declared.calls.Block.{Block}
+use Rattle.typst_combinators.specs.declared.calls.Mark.{Mark}
+use Rattle.typst_combinators.specs.declared.calls.Way.{Way}
 use Rattle.typst_combinators.specs.declared.reading.Reading.{Reading}
-use Rattle.typst_combinators.specs.Hand.{Hand}
-use Rattle.typst_combinators.specs.Shape.{Making, Shape, Seen}
+use Rattle.typst_combinators.specs.Hand.{AtHand}
+use Rattle.typst_combinators.specs.Shape.{Making, Shape, Seen, becomes}
 use Rattle.typst_combinators.specs.Shape.Making.{itself, of_kind, surprise}
-use Rattle.typst_combinators.specs.Shape.Shape.{becomes}
 use Rattle.typst_combinators.specs.Syntax.{Parser, ◌>>=◌, ◌>>◌}
-use Rattle.typst_combinators.specs.Syntax.Op.{hand, erred, takes, flushes, complains, marks}
-use Rattle.typst_combinators.specs.Syntax.Parser.{gives, does, pick, wraps, scoped, block}
+use Rattle.typst_combinators.specs.Syntax.Begin.{at_token, at_trivia}
+use Rattle.typst_combinators.specs.Syntax.Op.{hand, erred, takes, takes_so, flushes, complains, marks}
+use Rattle.typst_combinators.specs.Syntax.Parser.{gives, does, pick, wraps, grows, nests, scoped, block}
 
 -- the token at hand
-abbrev pub peek : Parser Hand
+abbrev pub peek : Parser AtHand
 peek = does hand
 
 -- takes the token so, and looks at the one behind it
@@ -32,11 +33,24 @@ eat = eat_making false itself
 unfoldable pub convert_and_eat : SyntaxKind → Parser (Unit {0})
 convert_and_eat kind = eat_making false (of_kind kind)
 
+-- takes the token that is found in another way, and looks at the one behind it
+unfoldable pub eat_so : Way → Making → Parser (Unit {0})
+eat_so way making = do
+  first ← does (takes_so way making)
+  ahead ← peek
+  gives tt
+
 -- takes the token if the test holds, and answers whether it did
 unfoldable pub eat_if : (SyntaxKind → Bool) → Parser Bool
 eat_if is = do
   ahead ← peek
   pick (is ahead.kind) (eat >> gives true) (gives false)
+
+-- takes the token if the test holds, and answers whether it did; nothing is asked behind it
+unfoldable pub close_if : (SyntaxKind → Bool) → Parser Bool
+close_if is = do
+  ahead ← peek
+  pick (is ahead.kind) (does (takes false itself) >> gives true) (gives false)
 
 -- takes the token as an error, with hints, in place of the empty errors before it
 unfoldable pub unexpected : List (List ℕ) → Parser (Unit {0})
@@ -74,24 +88,36 @@ within f p = do
 unfoldable pub node : {A : Type 0} → (A → Shape) → Parser A → Parser A
 node shape p = do
   ahead ← peek
-  a ← wraps shape (length ahead.trivia) p
+  a ← wraps shape at_token p
   gives a.0
 
 -- what the parser gives becomes one node, which begins at the pending trivia; answers what is seen of its children
 unfoldable pub node_with_trivia : SyntaxKind → Parser (Unit {0}) → Parser (List Seen)
 node_with_trivia kind p = do
-  a ← wraps (λ _. becomes kind) 0 (p >> flush_trivia)
+  a ← wraps (λ _. becomes kind) at_trivia (p >> flush_trivia)
   gives a.1
+
+-- what the parser gives, with what comes behind it turn by turn, which takes what stands to its left into its node
+unfoldable pub grow : {A : Type 0} → Parser A → (A → Parser (Option Shape × A)) → Parser A
+grow p turn = do
+  ahead ← peek
+  grows at_token p turn
+
+-- turn by turn; what a turn gives becomes one node with all that comes behind it
+unfoldable pub nest : {A : Type 0} → (A → Shape) → (A → Parser (Bool × A)) → A → Parser A
+nest shape turn x = do
+  ahead ← peek
+  nests shape at_token turn x
 
 -- notes what begins or ends at the token at hand
 unfoldable pub note : Mark → Parser (Unit {0})
 note mark = do
   ahead ← peek
-  noted ← does (marks ahead.gap mark)
+  noted ← does (marks mark)
   again ← peek
   gives tt
 
--- reads a block, and looks at the token behind it
+-- gives the pending trivia, reads a block, and looks at the token behind it
 unfoldable pub read_block : Block → Parser (Unit {0})
 read_block b = do
   read ← block b

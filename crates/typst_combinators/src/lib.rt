@@ -1,8 +1,10 @@
 //! The language in which Typst's grammar is written.
 #![tactic(auto)]
 
+mod calls;
+mod laws;
 mod reading;
-mod stop;
 
-pub use reading::{AtNewline, Block, Call, Mark, Newlines, Note, Reading, State};
-pub use stop::{Stop, is_colon, is_end, is_label, is_star, is_underscore};
+pub use calls::{Block, Call, Mark, Note, Way};
+pub use laws::words_of_the_language;
+pub use reading::{AtNewline, Newlines, Reading, State};

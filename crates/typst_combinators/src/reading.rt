@@ -1,4 +1,4 @@
-//! How tokens are read, what a parser goes on from, and what it may call.
+//! How tokens are read, and what a parser goes on from.
 
 use typst_kinds::SyntaxMode;
 
@@ -40,58 +40,8 @@ pub struct State {
     pub reading: Reading,
     /// How the token at hand is read.
     pub held: Reading,
-    /// The newlines of trivia that stand before the token at hand and became nodes already.
-    pub flushed: Newlines,
     /// How many empty errors stand directly before the pending trivia.
     pub empties: usize,
     /// Whether the node before the pending trivia is an error.
     pub is_after_error: bool,
-}
-
-/// What is read one level deeper.
-#[derive(Debug, Clone, Copy, PartialEq, Eq)]
-pub enum Call {
-    /// An expression of markup, whether at the start of a line, and in how many brackets. It
-    /// answers in how many brackets what comes after it stands.
-    MarkupExpr(bool, usize),
-}
-
-/// What is noted as one block.
-#[derive(Debug, Clone, Copy, PartialEq, Eq)]
-pub enum Block {
-    /// `{ .. }`
-    Code,
-    /// `[ .. ]`
-    Content,
-}
-
-/// What begins or ends at a place.
-#[derive(Debug, Clone, Copy, PartialEq, Eq)]
-pub enum Mark {
-    /// An expression of markup, whether at the start of a line, and in how many brackets.
-    Piece(bool, usize),
-    /// A block begins.
-    Opens(Block),
-    /// A block ends.
-    Closes,
-}
-
-/// What was noted where a unit begins or ends. Before the text's first and after its last character
-/// stands a mark, each as long as a byte.
-#[derive(Debug, Clone, Copy, PartialEq, Eq)]
-pub struct Note {
-    /// What begins or ends.
-    pub mark: Mark,
-    /// Where the trivia before it begin, in bytes from the text's start.
-    pub before: usize,
-    /// Where the token behind them begins, in bytes from the text's start.
-    pub start: usize,
-    /// How many levels of depth are left.
-    pub depth: usize,
-    /// What the parser goes on from.
-    pub state: State,
-    /// Where all looks before it end, in bytes from the text's start.
-    pub reach: usize,
-    /// Where all looks since the note before it begin, in bytes from the mark before the text.
-    pub least: usize,
 }

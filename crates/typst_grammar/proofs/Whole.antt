@@ -6,27 +6,27 @@ use Rattle.typst_kinds.specs.declared.kind.SyntaxKind.TheVariants as kind
 use Rattle.typst_lines.specs.Place.{Place, moved}
 use Rattle.typst_node.specs.Tree.{text_of}
 use Rattle.typst_classes.specs.Classes.{CharClasses}
-use Rattle.typst_combinators.specs.declared.reading.Call.TheVariants.{MarkupExpr}
+use Rattle.typst_combinators.specs.declared.calls.Call.TheVariants.{MarkupExpr}
 use Rattle.typst_combinators.specs.declared.reading.Reading.{Reading}
-use Rattle.typst_combinators.specs.declared.reading.State.{State}
-use Rattle.typst_combinators.specs.declared.stop.Stop.TheVariants.{End}
-use Rattle.typst_combinators.specs.Hand.{hand_at}
+use Rattle.typst_combinators.specs.Point.{Point}
+use Rattle.typst_combinators.specs.Hand.{Hand, hand_at}
+use Rattle.typst_combinators.specs.Knot.{meaning_of}
 use Rattle.typst_combinators.specs.Shape.Making.{itself, of_kind, surprise}
 use Rattle.typst_combinators.specs.Syntax.{Parser, ◌>>=◌}
 use Rattle.typst_combinators.specs.Syntax.Op.{hand}
 use Rattle.typst_combinators.specs.Syntax.Parser.{gives, does, next}
 use Rattle.typst_combinators.specs.Steps.{peek, eat, convert_and_eat, unexpected, flush_trivia}
 use Rattle.typst_combinators.specs.Depth.{is_end, deeper}
-use Rattle.typst_combinators.specs.Meaning.{Outcome, Meaning, Level, joined, turns, as_last, repeated, hand_of, start_state, run}
+use Rattle.typst_combinators.specs.Meaning.{Outcome, Meaning, Level, joined, turns, as_last, bound, repeated, hand_of, asked, start_point, run}
 use Rattle.typst_combinators.proofs.Places.{moved-sum, ahead-left, take-all}
-use Rattle.typst_combinators.proofs.Ends.{hand-takes, hand-ends}
+use Rattle.typst_combinators.proofs.Ends.{hand-takes, hand-ends, hand-again}
+use Rattle.typst_combinators.proofs.Knot.{sane-at}
 use Rattle.typst_combinators.proofs.Eats.{Eats, eats-next, eats-peek, eats-column, eats-making, eats-within, eats-node}
 use Rattle.typst_combinators.proofs.Rests.{Rests}
 use Rattle.typst_markup.specs.declared.head.MarkupHead.{MarkupHead}
 use Rattle.typst_markup.specs.declared.head.MarkupHead.TheVariants as head
-use Rattle.typst_markup.specs.Markup.{ends, note_piece, markup_turn, markup_exprs, strong, emph, heading, list_item, enum_item, term_item, reference, markup_head, markup_by, markup_expr, markup_reading}
-use Rattle.typst_grammar.specs.Grammar.{meaning, level_at, max_depth, start_of, whole, parsed, tree}
-use Rattle.typst_grammar.proofs.Lawful.{kept-at, rests-at, within-at}
+use Rattle.typst_markup.specs.Markup.{ends, note_piece, markup_turn, markup_run, delimited, strong, emph, heading, item, term_item, reference, markup_head, markup_by, markup_expr, markup_reading}
+use Rattle.typst_grammar.specs.Grammar.{rules, level_at, max_depth, start_of, whole, parsed, tree}
 
 -- ---- each expression takes something
 
@@ -43,25 +43,17 @@ module _ (l : Level) where
   unfolding unexpected
   eats-unexpected hints = eats-making l true (surprise hints)
 
-  eats-strong : Eats l strong
-  unfolding strong
-  eats-strong = eats-within l _ _ (eats-next l _ _ (eats-node l _ _ (eats-next l eat _ eats-eat)))
-
-  eats-emph : Eats l emph
-  unfolding emph
-  eats-emph = eats-within l _ _ (eats-next l _ _ (eats-node l _ _ (eats-next l eat _ eats-eat)))
+  eats-delimited : (k : SyntaxKind) (stops : SyntaxKind → Bool) (delimiter : SyntaxKind) (warning hint : List ℕ) → Eats l (delimited k stops delimiter warning hint)
+  unfolding delimited
+  eats-delimited k stops delimiter warning hint = eats-within l _ _ (eats-next l _ _ (eats-node l _ _ (eats-next l eat _ eats-eat)))
 
   eats-heading : Eats l heading
   unfolding heading
   eats-heading = eats-within l _ _ (eats-node l _ _ (eats-next l eat _ eats-eat))
 
-  eats-list : Eats l list_item
-  unfolding list_item
-  eats-list = eats-column l _ (λ here. eats-within l _ _ (eats-node l _ _ (eats-next l eat _ eats-eat)))
-
-  eats-enum : Eats l enum_item
-  unfolding enum_item
-  eats-enum = eats-column l _ (λ here. eats-within l _ _ (eats-node l _ _ (eats-next l eat _ eats-eat)))
+  eats-item : (k : SyntaxKind) → Eats l (item k)
+  unfolding item
+  eats-item k = eats-column l _ (λ here. eats-within l _ _ (eats-node l _ _ (eats-next l eat _ eats-eat)))
 
   eats-term : Eats l term_item
   unfolding term_item
@@ -76,11 +68,11 @@ module _ (l : Level) where
   eats-by nesting head.Opening = eats-next l (convert_and_eat kind.Text) _ eats-text
   eats-by nesting head.Closing = eats-next l (convert_and_eat kind.Text) _ eats-text
   eats-by nesting head.Stray = eats-next l (unexpected _) _ (eats-unexpected _)
-  eats-by nesting head.Strong = eats-next l strong _ eats-strong
-  eats-by nesting head.Emph = eats-next l emph _ eats-emph
+  eats-by nesting head.Strong = eats-next l strong _ (eats-delimited _ _ _ _ _)
+  eats-by nesting head.Emph = eats-next l emph _ (eats-delimited _ _ _ _ _)
   eats-by nesting head.Heading = eats-next l heading _ eats-heading
-  eats-by nesting head.ListItem = eats-next l list_item _ eats-list
-  eats-by nesting head.EnumItem = eats-next l enum_item _ eats-enum
+  eats-by nesting head.ListItem = eats-next l (item kind.ListItem) _ (eats-item kind.ListItem)
+  eats-by nesting head.EnumItem = eats-next l (item kind.EnumItem) _ (eats-item kind.EnumItem)
   eats-by nesting head.TermItem = eats-next l term_item _ eats-term
   eats-by nesting head.Reference = eats-next l reference _ eats-reference
   eats-by nesting head.Plain = eats-next l (convert_and_eat kind.Text) _ eats-text
@@ -92,7 +84,7 @@ module _ (l : Level) where
 
 -- ---- the sequence of a text goes on to the end
 
-ends-is : (n : ℕ) (k : SyntaxKind) → ends End n k ≡ is_end k
+ends-is : (n : ℕ) (k : SyntaxKind) → ends is_end n k ≡ is_end k
 ends-is n kind.RightBracket = refl
 ends-is n _ = refl
 
@@ -115,62 +107,70 @@ module _ (k : CharClasses) where
   abbrev top : Level
   top = level_at k max_depth
 
-  abbrev kind_at : Place → State → SyntaxKind
+  abbrev kind_at : Place → Point → SyntaxKind
   kind_at z s = (hand_of top z s).kind
 
   abbrev Turn : Type 0
   Turn = Bool × (Bool × ℕ)
 
   abbrev turn : Bool × ℕ → Meaning Turn
-  turn x = run top (markup_turn End x)
+  turn x = run top (markup_turn true is_end x)
 
   abbrev behind : ℕ → Parser Turn
   behind nesting = do
     after ← peek
-    noted ← note_piece End after.newlines.any nesting
+    noted ← note_piece true after.newlines.any nesting
     gives (true, (after.newlines.any, nesting))
 
   abbrev rest : Bool × ℕ → Parser Turn
   rest x = next (deeper (MarkupExpr x.0 x.1) x.1) behind
 
   eats-deeper : (x : Bool × ℕ) → Eats top (deeper (MarkupExpr x.0 x.1) x.1)
-  unfolding run deeper meaning
+  unfolding run deeper meaning_of
   eats-deeper x z s h =
       let inside : 0 < (run (level_at k 255) (markup_expr x.0 x.1) (moved 0 z) s).taken = eats-expr (level_at k 255) x.0 x.1 z s h in
       some-more _ inside
 
+  -- the point once the token at hand was asked for
+  abbrev known : Place → Point → Point
+  known z s = asked (hand_of top z s) s
+
+  kind-again : (z : Place) (s : Point) → kind_at z (known z s) ≡ kind_at z s
+  kind-again z s = ap (λ (h : Hand). h.kind) (hand-again k s.held s.known z)
+
   -- the token at hand, and then one or the other
-  abbrev shown : Place → State → Outcome Turn → Outcome Turn
+  abbrev shown : Place → Point → Outcome Turn → Outcome Turn
   shown z s o = joined (run top (does hand) z s) o
 
-  record Stops (z : Place) (s : State) (o : Outcome Turn) : Type 0 where
+  record Stops (z : Place) (s : Point) (o : Outcome Turn) : Type 0 where
     says : o.value.0 ≡ false
     taken : o.taken ≡ 0
-    state : o.state ≡ s
+    kind : kind_at z o.state ≡ kind_at z s
 
   record GoesOn (o : Outcome Turn) : Type 0 where
     says : o.value.0 ≡ true
     taken : 0 < o.taken
 
-  turn-stops : (x : Bool × ℕ) (z : Place) (s : State) → is_end (kind_at z s) ≡ true → Stops z s (turn x z s)
+  turn-stops : (x : Bool × ℕ) (z : Place) (s : Point) → is_end (kind_at z s) ≡ true → Stops z s (turn x z s)
   unfolding run markup_turn
   turn-stops x z s e =
-      on_true (λ o. Stops z s (shown z s o)) (ends End x.1 (kind_at z s)) (run top (gives (false, x)) (moved 0 z) s) (run top (rest x) (moved 0 z) s) (ends-is x.1 (kind_at z s) ∙ e)
-      (record { says = refl; taken = refl; state = refl })
+      on_true (λ o. Stops z s (shown z s o)) (ends is_end x.1 (kind_at z s)) (run top (gives (false, x)) (moved 0 z) (known z s)) (run top (rest x) (moved 0 z) (known z s)) (ends-is x.1 (kind_at z s) ∙ e)
+      (record { says = refl; taken = refl; kind = kind-again z s })
 
-  turn-goes : (x : Bool × ℕ) (z : Place) (s : State) → is_end (kind_at z s) ≡ false → GoesOn (turn x z s)
+  turn-goes : (x : Bool × ℕ) (z : Place) (s : Point) → is_end (kind_at z s) ≡ false → GoesOn (turn x z s)
   unfolding run markup_turn
   turn-goes x z s e =
-      let more : 0 < (run top (rest x) (moved 0 z) s).taken = eats-next top (deeper (MarkupExpr x.0 x.1) x.1) behind (eats-deeper x) z s (hand-takes k s.held s.flushed z e) in
-      on_false (λ o. GoesOn (shown z s o)) (ends End x.1 (kind_at z s)) (run top (gives (false, x)) (moved 0 z) s) (run top (rest x) (moved 0 z) s) (ends-is x.1 (kind_at z s) ∙ e)
+      let t = known z s in
+      let more : 0 < (run top (rest x) (moved 0 z) t).taken = eats-next top (deeper (MarkupExpr x.0 x.1) x.1) behind (eats-deeper x) z t (hand-takes k t.held t.known z (ap is_end (kind-again z s) ∙ e)) in
+      on_false (λ o. GoesOn (shown z s o)) (ends is_end x.1 (kind_at z s)) (run top (gives (false, x)) (moved 0 z) t) (run top (rest x) (moved 0 z) t) (ends-is x.1 (kind_at z s) ∙ e)
       (record { says = refl; taken = omega (arith, more) })
 
   -- read as markup, and newlines don't matter
-  record Settled (s : State) : Type 0 where
+  record Settled (s : Point) : Type 0 where
     reading : s.reading ≡ markup_reading
     held : s.held ≡ markup_reading
 
-  settled-then : (s t : State) → Settled s → Rests s.reading s.held t → Settled t
+  settled-then : (s t : Point) → Settled s → Rests s.reading s.held t → Settled t
   settled-then s t a b = record {
     reading = b.reading ∙ a.reading;
     held =
@@ -185,7 +185,7 @@ module _ (k : CharClasses) where
   is-less : (n : ℕ) → 0 < n → nat_lt 0 n ≡ true
   is-less n h = grind (arith, nat_tests)
 
-  loop : (n : ℕ) (x : Bool × ℕ) (z : Place) (s : State) → length z.ahead < n → Ended z (turns turn n x z s)
+  loop : (n : ℕ) (x : Bool × ℕ) (z : Place) (s : Point) → bound z s < n → Ended z (turns turn n x z s)
   loop zero x z s h = absurd (omega arith)
   loop (suc n) x z s h =
       let o = turn x z s in
@@ -194,33 +194,34 @@ module _ (k : CharClasses) where
       (λ e.
       let t = turn-stops x z s e in
       on_false (Ended z) (o.value.0 && nat_lt 0 o.taken) (joined o p) (as_last o) (ap (λ b. b && nat_lt 0 o.taken) t.says)
-      (ap (λ m. is_end (kind_at (moved m z) o.state)) t.taken ∙ ap (λ u. is_end (kind_at z u)) t.state ∙ e))
+      (ap (λ m. is_end (kind_at (moved m z) o.state)) t.taken ∙ ap is_end t.kind ∙ e))
       (λ e.
       let t = turn-goes x z s e in
       let some = t.taken in
-      let most = within-at k max_depth (markup_turn End x) z s in
-      let fewer : length (moved o.taken z).ahead < n = omega (arith, ahead-left o.taken z) in
+      let most = (sane-at rules k max_depth (markup_turn true is_end x)).within z s in
+      let fewer : bound (moved o.taken z) o.state < n = omega (arith, some, most) in
       on_true (Ended z) (o.value.0 && nat_lt 0 o.taken) (joined o p) (as_last o) (ap (λ b. b && nat_lt 0 o.taken) t.says ∙ is-less o.taken some)
       (ap (λ w. is_end (kind_at w p.state)) (moved-sum o.taken p.taken z) ∙ loop n o.value.1 (moved o.taken z) o.state fewer))
 
-  exprs-end : (z : Place) (s : State) → is_end (kind_at (moved (run top (markup_exprs true End) z s).taken z) (run top (markup_exprs true End) z s).state) ≡ true
-  unfolding run markup_exprs repeated
-  exprs-end z s =
-      let x : Bool × ℕ = (true || (hand_of top z s).newlines.any, 0) in
-      let o = turns turn (suc (length z.ahead)) x z s in
-      let e : 0 + (0 + (o.taken + 0)) ≡ o.taken = omega arith in
-      ap (λ m. is_end (kind_at (moved m z) o.state)) e ∙ loop (suc (length z.ahead)) x z s (omega arith)
+  run-ends : (z : Place) (s : Point) → is_end (kind_at (moved (run top (markup_run is_end) z s).taken z) (run top (markup_run is_end) z s).state) ≡ true
+  unfolding run markup_run repeated
+  run-ends z s =
+      let x : Bool × ℕ = (true, 0) in
+      let t = known z s in
+      let o = turns turn (suc (bound z t)) x z t in
+      let e : 0 + (0 + (0 + (o.taken + 0))) ≡ o.taken = omega arith in
+      ap (λ m. is_end (kind_at (moved m z) o.state)) e ∙ loop (suc (bound z t)) x z t (omega arith)
 
   pub whole-taken : (text : List ℕ) → length text ≤ (parsed k max_depth text).taken
   unfolding run whole flush_trivia
   whole-taken text =
       let z = start_of text in
-      let s = start_state markup_reading in
-      let o = run top (markup_exprs true End) z s in
-      let t = settled-then s o.state (record { reading = refl; held = refl }) (rests-at k max_depth (markup_exprs true End) z s) in
+      let s = start_point markup_reading in
+      let o = run top (markup_run is_end) z s in
+      let t = settled-then s o.state (record { reading = refl; held = refl }) ((sane-at rules k max_depth (markup_run is_end)).rests z s) in
       let w = moved o.taken z in
-      let e = ap (λ r. is_end (hand_at k r o.state.flushed w).kind) (sym t.held) ∙ exprs-end z s in
-      let none = ap (λ r. (moved (hand_at k r o.state.flushed w).gap w).ahead) t.held ∙ hand-ends k markup_reading.mode o.state.flushed w e in
+      let e = ap (λ r. is_end (hand_at k r o.state.known w).kind) (sym t.held) ∙ run-ends z s in
+      let none = ap (λ r. (moved (hand_at k r o.state.known w).gap w).ahead) t.held ∙ hand-ends k markup_reading.mode o.state.known w e in
       let left = ahead-left (hand_of top w o.state).gap w in
       let all = ahead-left o.taken z in
       let nothing = ap length none in
@@ -231,4 +232,4 @@ pub leaves : (k : CharClasses) (text : List ℕ) → text_of (tree k text) ≡ e
 unfolding tree
 leaves k text =
     let o = parsed k max_depth text in
-    (kept-at k max_depth whole (start_of text) (start_state markup_reading)).text ∙ ap encode_utf8_all (take-all o.taken text (whole-taken k text))
+    ((sane-at rules k max_depth whole).kept (start_of text) (start_point markup_reading) tt).text ∙ ap encode_utf8_all (take-all o.taken text (whole-taken k text))

@@ -1,25 +1,25 @@
 -- The whole grammar: what is read one level deeper, and the tree of a text.
-use Rattle.std.specs.Prelude.{ℕ, zero, suc, Bool, true, false, List, []}
+use Rattle.std.specs.Prelude.{ℕ, Bool, true, false, List, []}
 use Rattle.typst_kinds.specs.declared.kind.SyntaxKind.TheVariants as kind
 use Rattle.typst_lines.specs.Place.{Place}
 use Rattle.typst_node.specs.Tree.{Tree, forest, inner_of}
 use Rattle.typst_classes.specs.Classes.{CharClasses}
-use Rattle.typst_combinators.specs.declared.reading.Block.{Block}
-use Rattle.typst_combinators.specs.declared.reading.Block.TheVariants as block
-use Rattle.typst_combinators.specs.declared.reading.Call.{Call}
-use Rattle.typst_combinators.specs.declared.reading.Call.TheVariants.{MarkupExpr}
-use Rattle.typst_combinators.specs.declared.reading.Mark.TheVariants.{Piece}
-use Rattle.typst_combinators.specs.declared.stop.Stop.TheVariants.{End}
-use Rattle.typst_combinators.specs.Syntax.{Parser, ◌>>=◌, ◌>>◌}
-use Rattle.typst_combinators.specs.Syntax.Op.{marks}
-use Rattle.typst_combinators.specs.Syntax.Parser.{gives, does}
-use Rattle.typst_combinators.specs.Steps.{peek, flush_trivia}
+use Rattle.typst_combinators.specs.declared.calls.Block.{Block}
+use Rattle.typst_combinators.specs.declared.calls.Block.TheVariants as block
+use Rattle.typst_combinators.specs.declared.calls.Call.{Call}
+use Rattle.typst_combinators.specs.declared.calls.Call.TheVariants.{MarkupExpr}
+use Rattle.typst_combinators.specs.Calls.{Answer}
+use Rattle.typst_combinators.specs.Syntax.{Parser, ◌>>◌}
+use Rattle.typst_combinators.specs.Syntax.Parser.{gives}
+use Rattle.typst_combinators.specs.Steps.{flush_trivia}
+use Rattle.typst_combinators.specs.Depth.{is_end}
 use Rattle.typst_combinators.specs.Log.{Log, no_log, logged}
-use Rattle.typst_combinators.specs.Meaning.{Outcome, Meaning, Level, plain, blockless, start_state, run}
-use Rattle.typst_markup.specs.Markup.{content_block, markup_expr, markup_exprs, markup_reading}
+use Rattle.typst_combinators.specs.Meaning.{Outcome, Meaning, Level, start_point, run}
+use Rattle.typst_combinators.specs.Knot.{Rules, meaning_of, level_of}
+use Rattle.typst_markup.specs.Markup.{content_block, markup_expr, markup_run, markup_reading}
 
 -- what a call reads
-abbrev pub production : Call → Parser ℕ
+abbrev pub production : (call : Call) → Parser (Answer call)
 production (MarkupExpr at_start nesting) = markup_expr at_start nesting
 
 -- content blocks may be read; LATER, code blocks
@@ -32,18 +32,16 @@ abbrev pub block_production : Block → Parser (Unit {0})
 block_production block.Content = content_block
 block_production block.Code = gives tt
 
--- what blocks are there
-abbrev pub blocks : CharClasses → ℕ → (Call → Meaning ℕ) → Block → Meaning (Unit {0})
-blocks k level deeper b = run (blockless k level deeper) (peek >> block_production b)
+abbrev pub rules : Rules
+rules = record { production = production; has = has; block_production = block_production }
 
--- what a call gives below so many levels; at the limit none is made
-unfoldable pub meaning : CharClasses → ℕ → Call → Meaning ℕ
-meaning k zero call = λ z s. record (plain 0 s) { met = true }
-meaning k (suc level) call = run (record { classes = k; level = level; deeper = meaning k level; has = has; blocks = blocks k level (meaning k level) }) (production call)
+-- what a call gives below so many levels
+abbrev pub meaning : CharClasses → ℕ → (call : Call) → Meaning (Answer call)
+meaning k levels call = meaning_of rules k levels call
 
 -- where so many levels are left
 abbrev pub level_at : CharClasses → ℕ → Level
-level_at k level = record { classes = k; level = level; deeper = meaning k level; has = has; blocks = blocks k level (meaning k level) }
+level_at k levels = level_of rules k levels
 
 -- how deep calls may nest
 abbrev pub max_depth : ℕ
@@ -52,17 +50,13 @@ max_depth = 256
 abbrev pub start_of : List ℕ → Place
 start_of text = record { behind = []; ahead = text }
 
--- the expressions of a whole text, with all trivia
+-- the run of a whole text, with all trivia
 unfoldable pub whole : Parser (Unit {0})
-whole = do
-  noted ← does (marks 0 (Piece true 0))
-  ahead ← peek
-  read ← markup_exprs true End
-  flush_trivia
+whole = markup_run is_end >> flush_trivia
 
 -- what is read of the characters of a text, where so many levels are left
 abbrev pub parsed : CharClasses → ℕ → List ℕ → Outcome (Unit {0})
-parsed k level text = run (level_at k level) whole (start_of text) (start_state markup_reading)
+parsed k levels text = run (level_at k levels) whole (start_of text) (start_point markup_reading)
 
 -- what is looked at and noted in reading the characters of a text
 unfoldable pub log : CharClasses → List ℕ → Log

@@ -1,4 +1,5 @@
 pub mod Examples
 pub mod Grammar
 pub mod Laws
+pub mod Notes
 pub mod Read

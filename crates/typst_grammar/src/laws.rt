@@ -2,31 +2,24 @@
 
 ghost use Rattle.typst_classes.specs.Classes.{CharClasses};
 ghost use Rattle.typst_grammar.specs.Examples.{NamedTrees, Trees};
-ghost use Rattle.typst_grammar.specs.Laws.{CallDepthLaw, CallFrameLaw, CallLeavesLaw, LeavesLaw, MarkupDepthLaw, MarkupFrameLaw, MarkupLeavesLaw, PieceDepthLaw, PieceFrameLaw, PieceLeavesLaw};
+ghost use Rattle.typst_grammar.specs.Laws.{CallLaws, LeavesLaw, PieceLaws, RunLaws, SequenceLaws};
+ghost use Rattle.typst_grammar.specs.Notes.{Notes};
 
-/// Where all that was asked shows the same at two places, the same is read there: the value, the
-/// characters taken, the state, the nodes, what was asked and noted, and whether the limit of depth
-/// was met.
-pub fn frame_law()
-    ensures piece { PieceFrameLaw }
-    ensures markup { MarkupFrameLaw }
-    ensures call { CallFrameLaw }
+/// What holds of every part of the grammar. Where all that was asked shows the same at two places,
+/// the same is read there: the value, the characters taken, the state, the nodes, what was asked
+/// and noted, and whether the limit of depth was met. Two readings at different depths that meet no
+/// limit are the same. The nodes that are given hold the characters that are taken, and no more is
+/// taken than there is.
+pub fn grammar_laws()
+    ensures piece { PieceLaws }
+    ensures sequence { SequenceLaws }
+    ensures run { RunLaws }
+    ensures call { CallLaws }
 {}
 
-/// Two readings at different depths that meet no limit are the same.
-pub fn depth_law()
-    ensures piece { PieceDepthLaw }
-    ensures markup { MarkupDepthLaw }
-    ensures call { CallDepthLaw }
-{}
-
-/// The leaves of the tree of a text, joined, are the text; and the nodes that a part of the grammar
-/// gives hold the characters that it takes.
+/// The leaves of the tree of a text, joined, are the text.
 pub fn leaves_law()
-    ensures tree { LeavesLaw }
-    ensures piece { PieceLeavesLaw }
-    ensures markup { MarkupLeavesLaw }
-    ensures call { CallLeavesLaw }
+    ensures { LeavesLaw }
 {}
 
 /// Trees of short texts, which follow from the definitions.
@@ -37,4 +30,9 @@ pub fn trees_of_texts()
 /// The same of texts with raw texts, links, labels and references.
 pub fn trees_of_names()
     ensures { (beyond : CharClasses) → NamedTrees beyond }
+{}
+
+/// What is noted of short texts.
+pub fn notes_of_texts()
+    ensures { (beyond : CharClasses) → Notes beyond }
 {}

@@ -1,74 +1,96 @@
 -- The productions of markup.
-use Rattle.std.specs.Prelude.{ℕ, ◌-◌, Bool, true, false, ◌||◌, ◌&&◌, if◌then◌else◌, ◌==◌, List, [], ◌∷◌, codes, Some}
+use Rattle.std.specs.Prelude.{ℕ, ◌-◌, Bool, true, false, not, ◌||◌, ◌&&◌, if◌then◌else◌, ◌==◌, List, [], ◌∷◌, codes}
+use Rattle.typst_kinds.specs.Kinds.{same}
 use Rattle.typst_kinds.specs.declared.kind.SyntaxKind.{SyntaxKind}
 use Rattle.typst_kinds.specs.declared.kind.SyntaxKind.TheVariants as kind
 use Rattle.typst_combinators.specs.declared.reading.AtNewline.{AtNewline}
 use Rattle.typst_combinators.specs.declared.reading.AtNewline.TheVariants as newline
 use Rattle.typst_kinds.specs.declared.mode.SyntaxMode.TheVariants as mode
-use Rattle.typst_combinators.specs.declared.reading.Block.TheVariants as block
-use Rattle.typst_combinators.specs.declared.reading.Call.TheVariants.{MarkupExpr}
-use Rattle.typst_combinators.specs.declared.reading.Mark.TheVariants as mark
+use Rattle.typst_combinators.specs.declared.calls.Block.TheVariants as block
+use Rattle.typst_combinators.specs.declared.calls.Call.TheVariants.{MarkupExpr}
+use Rattle.typst_combinators.specs.declared.calls.Mark.TheVariants as mark
 use Rattle.typst_combinators.specs.declared.reading.Reading.{Reading}
-use Rattle.typst_combinators.specs.Hand.{Hand}
-use Rattle.typst_combinators.specs.Shape.{Shape, is_nil}
-use Rattle.typst_combinators.specs.Shape.Shape.{becomes, unclosed, warns}
+use Rattle.typst_combinators.specs.Hand.{AtHand}
+use Rattle.typst_combinators.specs.Point.{is_nil}
+use Rattle.typst_combinators.specs.Shape.{Shape, becomes, unclosed}
+use Rattle.typst_combinators.specs.Shape.Making.{itself}
+use Rattle.typst_combinators.specs.Shape.Shape.{warns}
 use Rattle.typst_combinators.specs.Syntax.{Parser, ◌>>=◌, ◌>>◌}
-use Rattle.typst_combinators.specs.Syntax.Op.{column, is_deepest}
-use Rattle.typst_combinators.specs.Syntax.Parser.{gives, does, pick, repeat}
-use Rattle.typst_combinators.specs.Steps.{peek, eat, convert_and_eat, eat_if, unexpected, expect, within, node, node_with_trivia, read_block}
-use Rattle.typst_combinators.specs.Depth.{one_more, too_deep, deeper, stops_at, is_colon, is_star, is_underscore}
-use Rattle.typst_combinators.specs.Steps.{note}
-use Rattle.typst_combinators.specs.declared.stop.Stop.{Stop}
-use Rattle.typst_combinators.specs.declared.stop.Stop.TheVariants as stop
+use Rattle.typst_combinators.specs.Syntax.Op.{column, takes, marks, is_deepest}
+use Rattle.typst_combinators.specs.Syntax.Parser.{gives, does, pick, repeat, scoped}
+use Rattle.typst_combinators.specs.Steps.{peek, eat, convert_and_eat, eat_if, close_if, unexpected, expect, within, node, node_with_trivia, note, read_block}
+use Rattle.typst_combinators.specs.Depth.{is_end, one_more, too_deep, deeper}
 use Rattle.typst_markup.specs.declared.head.MarkupHead.{MarkupHead}
 use Rattle.typst_markup.specs.declared.head.MarkupHead.TheVariants as head
 
-abbrev pub is_right_bracket : SyntaxKind → Bool
-is_right_bracket kind.RightBracket = true
-is_right_bracket _ = false
+-- ---- where sequences stop
+
+-- a content block and an item stop at a bracket
+abbrev pub ends_block : SyntaxKind → Bool
+ends_block k = same kind.RightBracket k || is_end k
+
+-- a term also at a colon
+abbrev pub ends_term : SyntaxKind → Bool
+ends_term k = same kind.Colon k || ends_block k
+
+-- a heading also at a label
+abbrev pub ends_heading : SyntaxKind → Bool
+ends_heading k = same kind.Label k || ends_block k
+
+-- what stands between stars or underscores also at these
+abbrev pub ends_strong : SyntaxKind → Bool
+ends_strong k = same kind.Star k || ends_block k
+
+abbrev pub ends_emph : SyntaxKind → Bool
+ends_emph k = same kind.Underscore k || ends_block k
 
 -- ---- sequences
 
 -- a sequence ends at a stop, but not at a bracket that closes one of its own
-abbrev pub ends : Stop → ℕ → SyntaxKind → Bool
-ends at nesting k = if is_right_bracket k then stops_at at k && nesting == 0 else stops_at at k
+abbrev pub ends : (SyntaxKind → Bool) → ℕ → SyntaxKind → Bool
+ends stops nesting k = if same kind.RightBracket k then stops k && nesting == 0 else stops k
 
--- the expressions of the root and of a content block are noted
-abbrev pub is_run : Stop → Bool
-is_run stop.End = true
-is_run stop.Content = true
-is_run _ = false
-
-unfoldable pub note_piece : Stop → Bool → ℕ → Parser (Unit {0})
-note_piece at at_start nesting = pick (is_run at) (note (mark.Piece at_start nesting)) (gives tt)
+-- the expressions of a run are noted
+unfoldable pub note_piece : Bool → Bool → ℕ → Parser (Unit {0})
+note_piece is_run at_start nesting = pick is_run (note (mark.Piece at_start nesting)) (gives tt)
 
 -- one expression, with whether a newline was passed behind it, and the brackets that are open then
-unfoldable pub markup_turn : Stop → Bool × ℕ → Parser (Bool × (Bool × ℕ))
-markup_turn at x = do
+unfoldable pub markup_turn : Bool → (SyntaxKind → Bool) → Bool × ℕ → Parser (Bool × (Bool × ℕ))
+markup_turn is_run stops x = do
   ahead ← peek
-  pick (ends at x.1 ahead.kind) (gives (false, x)) (do
+  pick (ends stops x.1 ahead.kind) (gives (false, x)) (do
     nesting ← deeper (MarkupExpr x.0 x.1) x.1
     after ← peek
-    noted ← note_piece at after.newlines.any nesting
+    noted ← note_piece is_run after.newlines.any nesting
     gives (true, (after.newlines.any, nesting)))
 
 -- expressions, up to a stop
-unfoldable pub markup_exprs : Bool → Stop → Parser (Unit {0})
-markup_exprs at_start at = do
+unfoldable pub markup_exprs : Bool → (SyntaxKind → Bool) → Parser (Unit {0})
+markup_exprs at_start stops = do
   is_deep ← does is_deepest
-  pick is_deep (too_deep (Some at)) (do
+  pick is_deep (too_deep stops) (do
     ahead ← peek
-    x ← repeat (markup_turn at) (at_start || ahead.newlines.any, 0)
+    x ← repeat (markup_turn false stops) (at_start || ahead.newlines.any, 0)
+    gives tt)
+
+-- the expressions of a text or of a content block, at the start of a line: a run, whose first piece is noted before its first look
+unfoldable pub markup_run : (SyntaxKind → Bool) → Parser (Unit {0})
+markup_run stops = do
+  is_deep ← does is_deepest
+  pick is_deep (peek >> too_deep stops) (do
+    noted ← does (marks (mark.Piece true 0))
+    ahead ← peek
+    x ← repeat (markup_turn true stops) (true, 0)
     gives tt)
 
 -- a sequence as one node, which begins at its first token
-unfoldable pub markup : Bool → Stop → Parser (Unit {0})
-markup at_start at = node (λ _. becomes kind.Markup) (markup_exprs at_start at)
+unfoldable pub markup : Bool → (SyntaxKind → Bool) → Parser (Unit {0})
+markup at_start stops = node (λ _. becomes kind.Markup) (markup_exprs at_start stops)
 
 -- a sequence as one node with the trivia at both ends; answers whether nothing stands there
-unfoldable pub markup_is_empty : Bool → Stop → Parser Bool
-markup_is_empty at_start at = do
-  inside ← node_with_trivia kind.Markup (markup_exprs at_start at)
+unfoldable pub markup_is_empty : Parser (Unit {0}) → Parser Bool
+markup_is_empty exprs = do
+  inside ← node_with_trivia kind.Markup exprs
   gives (is_nil inside)
 
 -- ---- expressions
@@ -80,52 +102,42 @@ at_newline rule r = record r { at_newline = rule }
 abbrev pub emphasized : SyntaxKind → List ℕ → List ℕ → Bool × Bool → Shape
 emphasized k warning hint x = if x.0 then (if x.1 then warns k warning hint else becomes k) else unclosed k
 
--- `*..*`, which doesn't go past a parbreak
-unfoldable pub strong : Parser (Unit {0})
-strong = within (at_newline newline.StopParBreak) (do
-  x ← node (emphasized kind.Strong (codes "no text within stars") (codes "using multiple consecutive stars (e.g. **) has no additional effect")) (do
-    star ← eat
-    is_empty ← markup_is_empty false stop.Strong
-    closed ← eat_if is_star
+-- what stands between two tokens of a kind, which doesn't go past a parbreak
+unfoldable pub delimited : SyntaxKind → (SyntaxKind → Bool) → SyntaxKind → List ℕ → List ℕ → Parser (Unit {0})
+delimited k stops delimiter warning hint = within (at_newline newline.StopParBreak) (do
+  x ← node (emphasized k warning hint) (do
+    first ← eat
+    is_empty ← markup_is_empty (markup_exprs false stops)
+    closed ← eat_if (same delimiter)
     gives (closed, is_empty))
   gives tt)
 
--- `_.._`, which doesn't go past a parbreak
-unfoldable pub emph : Parser (Unit {0})
-emph = within (at_newline newline.StopParBreak) (do
-  x ← node (emphasized kind.Emph (codes "no text within underscores") (codes "using multiple consecutive underscores (e.g. __) has no additional effect")) (do
-    underscore ← eat
-    is_empty ← markup_is_empty false stop.Emph
-    closed ← eat_if is_underscore
-    gives (closed, is_empty))
-  gives tt)
+-- `*..*`
+abbrev pub strong : Parser (Unit {0})
+strong = delimited kind.Strong ends_strong kind.Star (codes "no text within stars") (codes "using multiple consecutive stars (e.g. **) has no additional effect")
+
+-- `_.._`
+abbrev pub emph : Parser (Unit {0})
+emph = delimited kind.Emph ends_emph kind.Underscore (codes "no text within underscores") (codes "using multiple consecutive underscores (e.g. __) has no additional effect")
 
 -- a marker and the rest of its line, up to a label
 unfoldable pub heading : Parser (Unit {0})
-heading = within (at_newline newline.Stop) (node (λ _. becomes kind.Heading) (eat >> markup false stop.Heading))
+heading = within (at_newline newline.Stop) (node (λ _. becomes kind.Heading) (eat >> markup false ends_heading))
 
--- a marker, and what stands in a greater column than it
-abbrev pub item : SyntaxKind → Parser (Unit {0})
+-- `- ..`, `+ ..` or `1. ..`: a marker, and what stands in a greater column than it
+unfoldable pub item : SyntaxKind → Parser (Unit {0})
 item k = do
   here ← does column
-  within (at_newline (newline.RequireColumn here)) (node (λ _. becomes k) (eat >> markup true stop.Item))
-
--- `- ..`
-unfoldable pub list_item : Parser (Unit {0})
-list_item = item kind.ListItem
-
--- `+ ..` and `1. ..`
-unfoldable pub enum_item : Parser (Unit {0})
-enum_item = item kind.EnumItem
+  within (at_newline (newline.RequireColumn here)) (node (λ _. becomes k) (eat >> markup true ends_block))
 
 -- a marker with the rest of its line up to a colon, and behind the colon what stands in a greater column than the marker
 unfoldable pub term_item : Parser (Unit {0})
 term_item = do
   here ← does column
   within (at_newline (newline.RequireColumn here)) (node (λ _. becomes kind.TermItem) (do
-    term ← within (at_newline newline.Stop) (eat >> markup false stop.Term)
-    colon ← expect is_colon (codes "colon")
-    markup true stop.Item))
+    term ← within (at_newline newline.Stop) (eat >> markup false ends_term)
+    colon ← expect (same kind.Colon) (codes "colon")
+    markup true ends_block))
 
 -- `[ .. ]`, which is markup whatever stands around it: where the second bracket is missing the first is an error
 abbrev pub bracketed : Bool → Shape
@@ -134,21 +146,18 @@ bracketed closed = if closed then becomes kind.ContentBlock else unclosed kind.C
 abbrev pub markup_reading : Reading
 markup_reading = record { mode = mode.Markup; at_newline = newline.Continue }
 
+-- the tokens of the brackets are taken so that nothing is asked behind them: behind the first one its run begins, and behind the second one the token is asked for as it is read around the block
 unfoldable pub content_block : Parser (Unit {0})
-content_block = within (λ _. markup_reading) (do
-  closed ← node bracketed (do
-    bracket ← eat
-    is_empty ← markup_is_empty true stop.Content
-    eat_if is_right_bracket)
-  gives tt)
-
-abbrev pub is_left_bracket : SyntaxKind → Bool
-is_left_bracket kind.LeftBracket = true
-is_left_bracket _ = false
+content_block = do
+  closed ← node bracketed (scoped (λ _. markup_reading) (do
+    bracket ← does (takes false itself)
+    is_empty ← markup_is_empty (markup_run ends_block)
+    close_if (same kind.RightBracket)))
+  gives tt
 
 -- a content block begins directly here, without trivia before it
-abbrev pub opens_directly : Hand → Bool
-opens_directly h = is_left_bracket h.kind && is_nil h.trivia
+abbrev pub opens_directly : AtHand → Bool
+opens_directly h = same kind.LeftBracket h.kind && not h.has_trivia
 
 -- a content block, if one begins directly here
 unfoldable pub direct_content : Parser (Unit {0})
@@ -192,8 +201,8 @@ markup_by nesting head.Stray = unexpected (codes "try using a backslash escape: 
 markup_by nesting head.Strong = strong >> gives nesting
 markup_by nesting head.Emph = emph >> gives nesting
 markup_by nesting head.Heading = heading >> gives nesting
-markup_by nesting head.ListItem = list_item >> gives nesting
-markup_by nesting head.EnumItem = enum_item >> gives nesting
+markup_by nesting head.ListItem = item kind.ListItem >> gives nesting
+markup_by nesting head.EnumItem = item kind.EnumItem >> gives nesting
 markup_by nesting head.TermItem = term_item >> gives nesting
 markup_by nesting head.Reference = reference >> gives nesting
 markup_by nesting head.Plain = convert_and_eat kind.Text >> gives nesting

@@ -1,0 +1,23 @@
+-- What the grammar adds to the language. No law of the language looks at a single case of these.
+use Rattle.std.specs.Prelude.{ℕ}
+use Rattle.typst_classes.specs.Classes.{CharClasses}
+use Rattle.typst_readers.specs.Reader.{Reader}
+use Rattle.typst_tokens.specs.declared.token.Token.{Token}
+use Rattle.typst_tokens.specs.Memory.{Memory}
+use Rattle.typst_lexer.specs.Tokens.{token}
+use Rattle.typst_combinators.specs.declared.calls.Call.{Call}
+use Rattle.typst_combinators.specs.declared.calls.Call.TheVariants.{MarkupExpr}
+use Rattle.typst_combinators.specs.declared.calls.Way.{Way}
+use Rattle.typst_combinators.specs.declared.calls.Way.TheVariants.{InMode}
+
+-- what a call answers: of an expression of markup in how many brackets what comes after it stands
+abbrev pub Answer : Call → Type 0
+Answer (MarkupExpr at_start nesting) = ℕ
+
+-- what stands for an answer where no call is made
+abbrev pub no_answer : (call : Call) → Answer call
+no_answer (MarkupExpr at_start nesting) = 0
+
+-- the token that another way of reading finds at a place
+abbrev pub token_so : CharClasses → Way → Reader Memory Token
+token_so k (InMode mode) = token k mode
