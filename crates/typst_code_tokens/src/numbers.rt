@@ -1,11 +1,15 @@
 //! Numbers.
-ghost use Rattle.std.specs.Prelude.{◌≡◌, ◌≤◌};
+ghost use Rattle.std.specs.Prelude.{◌≡◌, ◌≤◌, if◌then◌else◌, codes};
 ghost use Rattle.std.specs.Str.{chars};
 ghost use Rattle.typst_classes.specs.Identifiers.{is_id_start};
 ghost use Rattle.typst_code_tokens.specs.Numbers as spec;
 ghost use Rattle.typst_code_tokens.specs.declared.numbers.Numeral.TheVariants as numeral;
 ghost use Rattle.typst_lines.specs.Place.{passes};
+ghost use Rattle.typst_readers.specs.Reader.{Reader, at_word};
 ghost use Rattle.typst_readers.specs.Reads.{Reads};
+ghost use Rattle.typst_readers.specs.Sight.{sight};
+ghost use Rattle.typst_tokens.specs.Memory.{Memory};
+ghost use Rattle.typst_tokens.specs.declared.token.Token.{Token};
 
 use typst_classes::classes::{Classes, is_id_start};
 use typst_kinds::SyntaxKind;
@@ -143,7 +147,7 @@ pub(crate) fn dotted(s: &mut Cursor<'_>) -> Token
 fn fraction<C: Classes>(s: &mut Cursor<'_>, first: Numeral, classes: &C) -> Token
     ensures { Reads (spec.fraction (C.classes classes.now) first) s.old result s.new }
 {
-    if s.peek() == Some('.') && s.second() == Some('.') {
+    if range_follows(s) {
         return exponent(s, first);
     }
     if starts_name(s.second(), classes) {
@@ -154,6 +158,13 @@ fn fraction<C: Classes>(s: &mut Cursor<'_>, first: Numeral, classes: &C) -> Toke
         return exponent(s, Numeral::Valid(SyntaxKind::Float));
     }
     exponent(s, first)
+}
+
+/// Whether two dots come next, so that a dot is none of the number's.
+fn range_follows(s: &mut Cursor<'_>) -> bool
+    ensures { (found other : Reader Memory Token) → sight (at_word 0 (codes "..") found other) s.old ≡ sight (if result then found else other) s.new }
+{
+    s.peek() == Some('.') && s.second() == Some('.')
 }
 
 fn starts_name<C: Classes>(c: Option<char>, classes: &C) -> bool
@@ -170,7 +181,7 @@ fn starts_name<C: Classes>(c: Option<char>, classes: &C) -> bool
 fn exponent(s: &mut Cursor<'_>, before: Numeral) -> Token
     ensures { Reads (spec.exponent before) s.old result s.new }
 {
-    if s.peek() == Some('e') && s.second() == Some('m') {
+    if em_follows(s) {
         return suffixed(s, before);
     }
     if s.eat_if('e') {
@@ -180,6 +191,13 @@ fn exponent(s: &mut Cursor<'_>, before: Numeral) -> Token
         return signed_digits(s);
     }
     suffixed(s, before)
+}
+
+/// Whether the suffix `em` comes next, or one that begins with it.
+fn em_follows(s: &mut Cursor<'_>) -> bool
+    ensures { (found other : Reader Memory Token) → sight (at_word 0 (codes "em") found other) s.old ≡ sight (if result then found else other) s.new }
+{
+    s.peek() == Some('e') && s.second() == Some('m')
 }
 
 #[tactic(auto, unfolding(crate::specs::Numbers::signed_digits))]
