@@ -133,7 +133,7 @@ tidy-nestings f begin m h (suc n) x z s =
     tidy-reshaped s (f q.value) (before begin s) q
     (backs-if s b (joined o p) (as_last o) (backs-joined s o p (h x z s) (tidy-nestings f begin m h n o.value.1 (moved o.taken z) o.state)) (record { back = (h x z s).back; left = (h x z s).left }))
 
-left-empties : (outer : _) (s : Point) → (left outer s).empties ≡ s.empties
+pub left-empties : (outer : _) (s : Point) → (left outer s).empties ≡ s.empties
 left-empties outer s = on_both (λ (t : Point). t.empties ≡ s.empties) (same_mode s.reading.mode outer.mode) _ _ (omega arith) (omega arith)
 
 flushed-le : (h : Hand) (s : Point) → (flushed_state h s).empties ≤ s.empties
