@@ -8,14 +8,7 @@ use Rattle.std.specs.List.{list_all}
 use Rattle.std.specs.Prelude.{encode_utf8, encode_utf8_all, slice_index}
 use Rattle.std.specs.Str.{chars, IsUtf8, IsAscii, IsNotAscii}
 use Rattle.typst_classes.specs.Classes.{kept_cluster}
-
-and-first : (a b : Bool) → (a && b) ≡ true → a ≡ true
-and-first true b e = refl
-and-first false b e = e
-
-and-second : (a b : Bool) → (a && b) ≡ true → b ≡ true
-and-second true b e = e
-and-second false b e = absurd (cc)
+use Rattle.typst_lines.proofs.Tests.{and-first, and-second}
 
 IsAscii-chars : (cs : List ℕ) → list_all is_ascii cs ≡ true → IsAscii cs
 IsAscii-chars [] e = IsAscii-nil

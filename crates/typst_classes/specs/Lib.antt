@@ -3,3 +3,4 @@ pub mod Classes
 pub mod Identifiers
 pub mod UnicodeLaws
 pub mod UnicodeTables
+pub mod Sets

@@ -1,7 +1,9 @@
 -- What the program says where it fails, and what it leaves.
 use Rattle.std.specs.Prelude.{◌≡◌, ◌≢◌, ⊤, ℕ, List, take, codes, Option, None, Some, IsSome, IfSome}
 use Rattle.std.specs.Io.KnownBytes.{Appends, Keeps}
-use Rattle.std.specs.IoError.{Error, ErrorKind, error_kind}
+use Rattle.std.specs.IoError.{error_kind}
+use Rattle.std.specs.declared.io.Error.{Error}
+use Rattle.std.specs.declared.io.ErrorKind.TheVariants as kind
 use Rattle.std.specs.Str.{IsUtf8}
 use Rattle.typst_cli.specs.Printed.{command_of, printed}
 use Rattle.typst_cli.specs.declared.command.Command.{Command}
@@ -32,6 +34,13 @@ abbrev pub Tells : Failure → Option Command → Option (List ℕ) → Type 0
 Tells Usage command input = command ≡ None
 Tells NotUtf8 command input = IsSome command × IfSome input (λ bytes. ¬ (IsUtf8 bytes))
 Tells _ command input = IsSome command
+
+-- a failure of reading: the input could not be read, isn't UTF-8, or memory was refused
+abbrev pub IsReadFault : Failure → Option (List ℕ) → Type 0
+IsReadFault NotRead input = ⊤
+IsReadFault NotUtf8 input = IfSome input (λ bytes. ¬ (IsUtf8 bytes))
+IsReadFault OutOfMemory input = ⊤
+IsReadFault _ input = ⊥
 
 -- an error that ends the work: an interrupted call is made again
 abbrev pub IsFinal : Error → Type 0

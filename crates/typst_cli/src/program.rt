@@ -7,7 +7,7 @@ ghost use Rattle.typst_cli.specs.declared.failure.Failure.{Failure};
 
 use crate::command::Command;
 use crate::failure::Failure;
-use crate::streams::{Delivered, decode, deliver, read_all};
+use crate::streams::{Delivered, deliver, read_text};
 use std::alloc::Global;
 use std::io::{Read, Write};
 
@@ -46,7 +46,7 @@ fn answer<R: Read, W: Write>(
         Begins (W.contents output.old) (W.contents output.new) (printed command text))) }
 {
     let command = Command::from_words(words).ok_or(Failure::Usage)?;
-    let text = decode(read_all(alloc, input)?)?;
+    let text = read_text(alloc, input)?;
     let printed = command.answer(alloc, text.as_str())?;
     match deliver(output, printed.as_bytes()) {
         Ok(delivered) => Ok(delivered),

@@ -1,10 +1,11 @@
 //! Reading all of a reader, and delivering all of an answer.
-ghost use Rattle.std.specs.Prelude.{◌≡◌, ◌≢◌, IfOk, IfErr, OnOk, IfSome};
+ghost use Rattle.std.specs.Prelude.{◌≡◌, ◌↔◌, IfOk, IfErr, IsFalse, OnOk, IfSome};
 ghost use Rattle.std.specs.Str.{IsUtf8};
 ghost use Rattle.std.specs.String.{string_bytes};
 ghost use Rattle.std.specs.Io.KnownBytes.{Appends, Keeps};
-ghost use Rattle.typst_cli.specs.Faults.{Begins, IsFinal, IsFinalRead};
+ghost use Rattle.typst_cli.specs.Faults.{Begins, IsFinal, IsFinalRead, IsReadFault};
 ghost use Rattle.typst_cli.specs.declared.failure.Failure.TheVariants as failure;
+ghost use Rattle.typst_cli.specs.declared.streams.Unread.TheVariants as unread;
 
 use crate::failure::Failure;
 use std::alloc::{AllocError, Global};
@@ -20,13 +21,23 @@ pub enum Unread {
 }
 
 impl From<AllocError> for Unread {
+    ghost from_gives = { λ _ made. made ≡ unread.OutOfMemory };
+
     fn from(_error: AllocError) -> Unread {
         Unread::OutOfMemory
     }
 }
 
+/// All that the reader gives, as text.
+pub fn read_text<R: Read>(alloc: Global, input: &mut R) -> Result<String, Failure>
+    ensures text { IfOk result (λ text. IfSome (R.remaining input.old) (λ bytes. string_bytes text ≡ bytes)) }
+    ensures fault { IfErr result (λ fault. IsReadFault fault (R.remaining input.old)) }
+{
+    decode(read_all(alloc, input)?)
+}
+
 /// All that the reader gives. A read that was interrupted is made again.
-pub fn read_all<R: Read>(alloc: Global, input: &mut R) -> Result<Vec<u8>, Unread>
+fn read_all<R: Read>(alloc: Global, input: &mut R) -> Result<Vec<u8>, Unread>
     ensures bytes { IfOk result (λ bytes. IfSome (R.remaining input.old) (λ all. bytes.items ≡ all)) }
     ensures retried { IfErr result IsFinalRead }
 {
@@ -36,7 +47,7 @@ pub fn read_all<R: Read>(alloc: Global, input: &mut R) -> Result<Vec<u8>, Unread
         match input.read(&mut buffer) {
             Ok(0) => return Ok(bytes),
             Ok(count) => bytes.extend_from_slice(&buffer[..count])?,
-            Err(error) if error.kind() == ErrorKind::Interrupted => {}
+            Err(error) if is_interrupted(&error) => {}
             Err(error) => return Err(Unread::Failed(error)),
         }
     }
@@ -44,7 +55,7 @@ pub fn read_all<R: Read>(alloc: Global, input: &mut R) -> Result<Vec<u8>, Unread
 }
 
 /// The text that the bytes are.
-pub fn decode(bytes: Vec<u8>) -> Result<String, Failure>
+fn decode(bytes: Vec<u8>) -> Result<String, Failure>
     ensures text { IfOk result (λ text. string_bytes text ≡ bytes.items) }
     ensures fault { IfErr result (λ fault. (fault ≡ failure.NotUtf8) × ¬ (IsUtf8 bytes.items)) }
 {
@@ -84,7 +95,7 @@ fn write_bytes<W: Write>(output: &mut W, bytes: &[u8]) -> io::Result<()>
         match output.write(&bytes[done..]) {
             Ok(0) => return Err(io::Error::from(ErrorKind::WriteZero)),
             Ok(count) => done += count,
-            Err(error) if error.kind() == ErrorKind::Interrupted => {}
+            Err(error) if is_interrupted(&error) => {}
             Err(error) => return Err(error),
         }
     }
@@ -99,11 +110,18 @@ fn flush<W: Write>(output: &mut W) -> io::Result<Delivered>
     for _turn in 0..u64::MAX {
         match output.flush() {
             Ok(flushed) => return Ok(Delivered { flushed }),
-            Err(error) if error.kind() == ErrorKind::Interrupted => {}
+            Err(error) if is_interrupted(&error) => {}
             Err(error) => return Err(error),
         }
     }
     Err(too_many_turns())
+}
+
+/// Whether the call that failed so is to be made again.
+fn is_interrupted(error: &io::Error) -> bool
+    ensures { IsFalse result ↔ IsFinal error.now }
+{
+    error.kind() == ErrorKind::Interrupted
 }
 
 /// The error where a stream was interrupted without an end.

@@ -6,6 +6,7 @@ ghost use Rattle.typst_cli.specs.PrintedTree as spec;
 
 pub use crate::variants::variant_name;
 use std::alloc::{AllocError, Global};
+use std::ops::Range;
 use typst_parser::{Classes, Diagnostic, Hint, Severity, SyntaxNode, is_newline, parse};
 
 /// The syntax tree of the text. Each node has a line with its kind, its range in bytes and, for an
@@ -32,7 +33,8 @@ fn print_node(
     ensures { OnOk result (string_bytes printed.new ≡ string_bytes printed.old ++ spec.node_lines indent.now start node.now) }
 {
     let deeper = format!(in alloc; "{indent}  ")?;
-    print_head(printed, node, indent, deeper.as_str(), start)?;
+    let end = start + node.len();
+    print_head(printed, node, indent, deeper.as_str(), start..end)?;
     let mut kid_start = start;
     for kid in node.children() {
         print_node(alloc, printed, kid, deeper.as_str(), kid_start)?;
@@ -41,18 +43,17 @@ fn print_node(
     Ok(())
 }
 
-/// Prints the line of a node that begins at a byte, and below it, deeper, its warnings and hints.
+/// Prints the line of a node in a range of bytes, and below it, deeper, its warnings and hints.
 pub fn print_head(
     printed: &mut String,
     node: &SyntaxNode,
     indent: &str,
     deeper: &str,
-    start: usize,
+    range: Range<usize>,
 ) -> Result<(), AllocError>
-    requires { start + length (text_of node.now) < 2 ^ 64 }
-    ensures { OnOk result (string_bytes printed.new ≡ string_bytes printed.old ++ (spec.own_line indent.now start (start + length (text_of node.now)) node.now.head ++ spec.remarks deeper.now node.now.head.diagnostics)) }
+    ensures { OnOk result (string_bytes printed.new ≡ string_bytes printed.old ++ (spec.own_line indent.now range.start range.end node.now.head ++ spec.remarks deeper.now node.now.head.diagnostics)) }
 {
-    print_own_line(printed, node, indent, start)?;
+    print_own_line(printed, node, indent, range)?;
     print_remarks(printed, node.diagnostics(), deeper)
 }
 
@@ -61,12 +62,11 @@ fn print_own_line(
     printed: &mut String,
     node: &SyntaxNode,
     indent: &str,
-    start: usize,
+    range: Range<usize>,
 ) -> Result<(), AllocError>
-    requires { start + length (text_of node.now) < 2 ^ 64 }
-    ensures { OnOk result (string_bytes printed.new ≡ string_bytes printed.old ++ spec.own_line indent.now start (start + length (text_of node.now)) node.now.head) }
+    ensures { OnOk result (string_bytes printed.new ≡ string_bytes printed.old ++ spec.own_line indent.now range.start range.end node.now.head) }
 {
-    let (name, end) = (variant_name(node.kind()), start + node.len());
+    let (name, start, end) = (variant_name(node.kind()), range.start, range.end);
     write!(printed, "{indent}{name} {start}..{end}")?;
     print_errors(printed, node.diagnostics())?;
     printed.push_str("\n")?;

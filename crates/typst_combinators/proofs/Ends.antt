@@ -7,7 +7,8 @@ use Rattle.typst_kinds.specs.declared.kind.SyntaxKind.TheVariants as kind
 use Rattle.typst_kinds.specs.declared.mode.SyntaxMode.{SyntaxMode}
 use Rattle.typst_kinds.specs.declared.mode.SyntaxMode.TheVariants.{Markup, Math, Code}
 use Rattle.typst_lines.specs.Place.{Place, scout, passes, moved, run, past}
-use Rattle.typst_tokens.specs.Characters.{among, is_code_point, is_space, is_u64}
+use Rattle.typst_classes.specs.Sets.{among}
+use Rattle.typst_tokens.specs.Characters.{is_code_point, is_space, is_u64}
 use Rattle.typst_classes.specs.Classes.{CharClasses}
 use Rattle.typst_tokens.specs.Common.{line_ends, is_parbreak, whitespace, shebang, line_comment, block_comment, comment_end}
 use Rattle.typst_markup_tokens.specs.Markup.{dot, marker_or_text, marker, hyphen, minus, emphasis, heading, numbering, markup}

@@ -4,7 +4,7 @@ use Rattle.typst_kinds.specs.Kinds.{is_error}
 use Rattle.typst_node.specs.Diagnostic.{hint_with}
 use Rattle.typst_node.specs.Tree.{Tree, text_of, leaf_of, error_of, advised}
 use Rattle.typst_classes.specs.Classes.{CharClasses}
-use Rattle.typst_raw.proofs.LeafLemmas.{raw-leaves}
+use Rattle.typst_raw.proofs.Leaves.{raw-leaves}
 use Rattle.typst_raw.specs.Raw.{raw_node}
 use Rattle.typst_token_nodes.specs.Nodes.{token_node, fault_node, plain_node, is_raw, with_hints, hints, message}
 use Rattle.typst_tokens.specs.declared.token.Token.{Token}

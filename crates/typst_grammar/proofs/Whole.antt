@@ -25,7 +25,7 @@ use Rattle.typst_combinators.proofs.Eats.{Eats, eats-next, eats-peek, eats-colum
 use Rattle.typst_combinators.proofs.Rests.{Rests}
 use Rattle.typst_markup.specs.declared.head.MarkupHead.{MarkupHead}
 use Rattle.typst_markup.specs.declared.head.MarkupHead.TheVariants as head
-use Rattle.typst_markup.specs.Markup.{ends, note_piece, markup_turn, markup_run, strong, emph, heading, list_item, enum_item, term_item, reference, markup_head, markup_by, markup_expr, markup_reading}
+use Rattle.typst_markup.specs.Markup.{ends, note_piece, markup_turn, markup_run, delimited, strong, emph, heading, item, term_item, reference, markup_head, markup_by, markup_expr, markup_reading}
 use Rattle.typst_grammar.specs.Grammar.{rules, level_at, max_depth, start_of, whole, parsed, tree}
 
 -- ---- each expression takes something
@@ -43,25 +43,17 @@ module _ (l : Level) where
   unfolding unexpected
   eats-unexpected hints = eats-making l true (surprise hints)
 
-  eats-strong : Eats l strong
-  unfolding strong
-  eats-strong = eats-within l _ _ (eats-next l _ _ (eats-node l _ _ (eats-next l eat _ eats-eat)))
-
-  eats-emph : Eats l emph
-  unfolding emph
-  eats-emph = eats-within l _ _ (eats-next l _ _ (eats-node l _ _ (eats-next l eat _ eats-eat)))
+  eats-delimited : (k : SyntaxKind) (stops : SyntaxKind → Bool) (delimiter : SyntaxKind) (warning hint : List ℕ) → Eats l (delimited k stops delimiter warning hint)
+  unfolding delimited
+  eats-delimited k stops delimiter warning hint = eats-within l _ _ (eats-next l _ _ (eats-node l _ _ (eats-next l eat _ eats-eat)))
 
   eats-heading : Eats l heading
   unfolding heading
   eats-heading = eats-within l _ _ (eats-node l _ _ (eats-next l eat _ eats-eat))
 
-  eats-list : Eats l list_item
-  unfolding list_item
-  eats-list = eats-column l _ (λ here. eats-within l _ _ (eats-node l _ _ (eats-next l eat _ eats-eat)))
-
-  eats-enum : Eats l enum_item
-  unfolding enum_item
-  eats-enum = eats-column l _ (λ here. eats-within l _ _ (eats-node l _ _ (eats-next l eat _ eats-eat)))
+  eats-item : (k : SyntaxKind) → Eats l (item k)
+  unfolding item
+  eats-item k = eats-column l _ (λ here. eats-within l _ _ (eats-node l _ _ (eats-next l eat _ eats-eat)))
 
   eats-term : Eats l term_item
   unfolding term_item
@@ -76,11 +68,11 @@ module _ (l : Level) where
   eats-by nesting head.Opening = eats-next l (convert_and_eat kind.Text) _ eats-text
   eats-by nesting head.Closing = eats-next l (convert_and_eat kind.Text) _ eats-text
   eats-by nesting head.Stray = eats-next l (unexpected _) _ (eats-unexpected _)
-  eats-by nesting head.Strong = eats-next l strong _ eats-strong
-  eats-by nesting head.Emph = eats-next l emph _ eats-emph
+  eats-by nesting head.Strong = eats-next l strong _ (eats-delimited _ _ _ _ _)
+  eats-by nesting head.Emph = eats-next l emph _ (eats-delimited _ _ _ _ _)
   eats-by nesting head.Heading = eats-next l heading _ eats-heading
-  eats-by nesting head.ListItem = eats-next l list_item _ eats-list
-  eats-by nesting head.EnumItem = eats-next l enum_item _ eats-enum
+  eats-by nesting head.ListItem = eats-next l (item kind.ListItem) _ (eats-item kind.ListItem)
+  eats-by nesting head.EnumItem = eats-next l (item kind.EnumItem) _ (eats-item kind.EnumItem)
   eats-by nesting head.TermItem = eats-next l term_item _ eats-term
   eats-by nesting head.Reference = eats-next l reference _ eats-reference
   eats-by nesting head.Plain = eats-next l (convert_and_eat kind.Text) _ eats-text

@@ -3,30 +3,41 @@
 ghost use Rattle.std.specs.Prelude.{◌≡◌, ◌<◌, IfOk, Some};
 ghost use Rattle.std.specs.Str.{chars};
 ghost use Rattle.typst_node.specs.Tree.{text_of};
+ghost use Rattle.typst_combinators.specs.declared.calls.Call.TheVariants.{MarkupExpr};
 ghost use Rattle.typst_machine.specs.View.{Calls};
-ghost use Rattle.typst_markup.specs.Outside.{MeansOutside};
+ghost use Rattle.typst_markup.specs.Outside.{MeansOutsideAs};
 ghost use Rattle.typst_grammar.specs.Grammar as spec;
 ghost use Rattle.typst_grammar.specs.Read.{IsParsed};
 
 use std::alloc::{AllocError, Global};
 use typst_classes::Classes;
-use typst_combinators::{AtNewline, Call, Mark, Note, Reading, Stop};
+use typst_combinators::{AtNewline, Call, Note, Reading};
 use typst_kinds::{SyntaxKind, SyntaxMode};
 use typst_lexer::Hull;
-use typst_machine::{Grammar, Levels, Parser};
-use typst_markup::{markup_expr, markup_exprs};
+use typst_machine::{Answered, Grammar, Levels, Parser};
+use typst_markup::{Stop, markup_expr, markup_run};
 use typst_node::SyntaxNode;
 
 /// How deep calls may nest.
 const MAX_DEPTH: usize = 256;
 
 /// Reads what a call asks for.
-pub fn production<L: Levels>(g: &L, p: &mut Parser<'_>, call: Call) -> Result<usize, AllocError>
+pub fn production<L: Levels>(g: &L, p: &mut Parser<'_>, call: Call) -> Result<Answered, AllocError>
     requires { L.may_call g.now }
-    ensures { MeansOutside (L.frame g.now) (spec.production call) p.old result p.new }
+    ensures { MeansOutsideAs (L.frame g.now) call (spec.production call) p.old result p.new }
+{
+    let parts = markup_of(call);
+    let nesting = markup_expr(g, p, parts.0, parts.1)?;
+    Ok(Answered::Brackets(nesting))
+}
+
+/// Whether the expression that a call asks for stands at the start of a line, and in how many
+/// brackets.
+fn markup_of(call: Call) -> (bool, usize)
+    ensures { call ≡ MarkupExpr result.0 result.1 }
 {
     match call {
-        Call::MarkupExpr(at_start, nesting) => Ok(markup_expr(g, p, at_start, nesting)?),
+        Call::MarkupExpr(at_start, nesting) => (at_start, nesting),
     }
 }
 
@@ -34,15 +45,15 @@ pub fn production<L: Levels>(g: &L, p: &mut Parser<'_>, call: Call) -> Result<us
 pub fn make_call<C: Classes>(
     classes: &C,
     p: &mut Parser<'_>,
-    depth: usize,
+    levels: usize,
     call: Call,
-) -> Result<usize, AllocError>
-    requires { 0 < depth }
-    ensures { Calls (spec.level_at (C.classes classes.now) depth) call p.old result p.new }
+) -> Result<Answered, AllocError>
+    requires { 0 < levels }
+    ensures { Calls (spec.level_at (C.classes classes.now) levels) call p.old result p.new }
 {
     let below = Grammar {
         classes,
-        depth: depth - 1,
+        levels: levels - 1,
         call: make_call::<C>,
     };
     Ok(production(&below, p, call)?)
@@ -69,7 +80,8 @@ pub struct Noted {
 
 /// The syntax tree of a text of markup, and what was looked at and noted for it, in order: a piece
 /// at the text's start and behind each expression of the text's own, where a content block opens
-/// and closes, and between them its pieces in the same way.
+/// and closes, and between them a piece behind its bracket and behind each of its expressions. What
+/// lies at the limit of depth is no run and has no pieces.
 pub fn parse_noted<C: Classes>(alloc: Global, text: &str, classes: &C) -> Result<Noted, AllocError>
     ensures tree { IfOk result (λ r. r.tree ≡ spec.tree (C.classes classes.now) (chars text.now)) }
     ensures log { IfOk result (λ r. record { reach = r.hull.reach; least = r.hull.least; notes = Some r.notes.items } ≡ spec.log (C.classes classes.now) (chars text.now)) }
@@ -95,14 +107,13 @@ fn read_whole<'s, C: Classes>(
         mode: SyntaxMode::Markup,
         at_newline: AtNewline::Continue,
     };
-    let first = Mark::Piece(true, 0);
-    let mut p = Parser::new(alloc, text, reading, MAX_DEPTH, first, keeps_notes, classes)?;
+    let mut p = Parser::new(alloc, text, reading, keeps_notes)?;
     let g = Grammar {
         classes,
-        depth: MAX_DEPTH,
+        levels: MAX_DEPTH,
         call: make_call::<C>,
     };
-    markup_exprs(&g, &mut p, true, Stop::End)?;
+    markup_run(&g, &mut p, Stop::End)?;
     p.flush_trivia()?;
     Ok(p)
 }

@@ -14,6 +14,3 @@ pub use mode::SyntaxMode;
 pub use operator::{Assoc, BinOp, UnOp};
 pub use set::SyntaxSet;
 pub use span::{FileId, Span, SpanNumber, SubRange};
-
-#[cfg(test)]
-mod tests;

@@ -25,7 +25,7 @@ of_mode k Code c = text_from k
 
 -- A hash comes next: at the text's start `#!` begins a shebang.
 unfoldable pub hash : CharClasses → SyntaxMode → Reader Memory Token
-hash k mode = glance (λ before.
+hash k mode = glance 0 (λ before.
     if is_none before then peek 1 (λ d. if passes (λ d. d == 33) d then shebang else of_mode k mode 35)
     else of_mode k mode 35)
 

@@ -110,7 +110,7 @@ impl<'a, C: Classes> Lexer<'a, C> {
     {
         let mut s = self.s;
         s.jump(index);
-        column(&s)
+        column(&s).0
     }
 
     /// Reads a token, and gives it with its text. This takes no memory but for the brackets of a

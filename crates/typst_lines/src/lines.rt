@@ -10,6 +10,7 @@ ghost use Rattle.std.specs.Hash as fed;
 ghost use Rattle.std.proofs.Common.{rules};
 ghost use Rattle.typst_lines.specs.Newline.{is_newline, ends_line};
 ghost use Rattle.typst_lines.specs.Place.{char_width, place_at, scout};
+ghost use Rattle.typst_lines.specs.Replacement.{Replaces};
 ghost use Rattle.typst_lines.specs.Lines.{IsLineOf, IsLineUpTo, IsPlainRun, utf16_len, units, line_table, lines_after, utf16_before, line_of, line_start, column_of, line_range, byte_at, byte_at_utf16, bytes, common_ends, common_front, IsCommonFront};
 
 use crate::newline::is_newline;
@@ -404,7 +405,8 @@ impl Lines<String> {
     /// the longest common end of what is left of both; none where the texts are equal.
     #[tactic(auto, unfolding(crate::specs::Lines::common_ends))]
     pub fn replacement_range(&self, new: &str) -> Option<(usize, usize)>
-        ensures { MatchOption result (self.now ≡ new.now) (λ ends. (self.now ≢ new.now) × (ends ≡ common_ends self.now new.now)) }
+        ensures value { MatchOption result (self.now ≡ new.now) (λ ends. (self.now ≢ new.now) × (ends ≡ common_ends self.now new.now)) }
+        ensures replaces { IfSome result (Replaces self.now new.now) }
     {
         let old = self.text();
         if old == new {

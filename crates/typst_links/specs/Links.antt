@@ -1,12 +1,8 @@
 -- How far a link goes.
 use Rattle.std.specs.Prelude.{ℕ, Bool, false, ◌||◌, ◌==◌, if◌then◌else◌, List, [], ◌∷◌, length, Option, Some, None}
 use Rattle.std.specs.Char.{is_ascii_alphanumeric}
+use Rattle.typst_classes.specs.Sets.{among}
 use Rattle.typst_links.specs.Ends.{without_last}
-
--- A character is one of the signs.
-abbrev pub among : List ℕ → ℕ → Bool
-among [] c = false
-among (d ∷ signs) c = c == d || among signs c
 
 -- The signs of links beside brackets: ! # $ % & * + , - . / : ; = ? @ _ ~ and the apostrophe.
 abbrev pub signs : List ℕ

@@ -4,6 +4,7 @@ ghost use Rattle.typst_lines.specs.Place.{moved};
 ghost use Rattle.std.specs.Bool.{OnFalse};
 ghost use Rattle.std.specs.Str.{chars};
 ghost use Rattle.typst_lines.specs.Scanner.{place};
+ghost use Rattle.typst_classes.specs.Sets.{among};
 ghost use Rattle.typst_links.specs.Links as spec;
 
 use crate::ends::without_last;
@@ -146,7 +147,7 @@ fn is_plain(c: char) -> bool
 struct LastSigns;
 
 impl CharSet for LastSigns {
-    ghost members = { λ _. spec.among spec.last_signs };
+    ghost members = { λ _. among spec.last_signs };
 
     #[inline]
     fn has(&self, c: char) -> bool {

@@ -1,95 +1,92 @@
--- Blocks, which are noted as units.
-use Rattle.std.proofs.Common.{◌≡◌, ℕ, ◌-◌, [], ◌∷◌, ◌++◌, refl, ap, sym, subst, ◌∙◌, arith}
+-- Blocks, which are noted as units, and the calls that code makes.
+use Rattle.std.proofs.Common.{◌≡◌, ℕ, ◌-◌, ◌≤◌, [], ◌∷◌, ◌++◌, length, refl, ap, sym, subst, ◌∙◌, arith}
 use Rattle.std.specs.Prelude.{Result, Ok, Err}
 use Rattle.std.specs.declared.alloc.AllocError.{AllocError}
 use Rattle.typst_lines.specs.Place.{moved}
-use Rattle.typst_combinators.specs.declared.reading.Block.{Block}
-use Rattle.typst_combinators.specs.declared.reading.Call.{Call}
-use Rattle.typst_combinators.specs.declared.reading.Mark.{Mark}
-use Rattle.typst_combinators.specs.declared.reading.Mark.TheVariants.{Opens, Closes}
+use Rattle.typst_combinators.specs.declared.calls.Block.{Block}
+use Rattle.typst_combinators.specs.declared.calls.Call.{Call}
+use Rattle.typst_combinators.specs.declared.calls.Mark.{Mark}
+use Rattle.typst_combinators.specs.declared.calls.Mark.TheVariants.{Opens, Closes}
 use Rattle.typst_combinators.specs.declared.reading.State.{State}
 use Rattle.typst_combinators.specs.Ask.Ask.{marked}
-use Rattle.typst_machine.specs.Bytes.{whole}
-use Rattle.typst_combinators.specs.Log.{logged, with_hull, with_note}
-use Rattle.typst_combinators.specs.Syntax.{Parser, ◌>>◌}
-use Rattle.typst_combinators.specs.Syntax.Parser.{block}
-use Rattle.typst_combinators.specs.Steps.{peek, read_block}
-use Rattle.typst_combinators.specs.Meaning.{Outcome, Level, inside, noted as noted_block, run}
-use Rattle.typst_machine.specs.View.{View, Runs, Ran, Does, Calls, Frame, Fills, Fits, Noted, ReadsBlock}
+use Rattle.typst_combinators.specs.Point.{Point, forgot, state_of}
+use Rattle.typst_combinators.specs.Log.{logged, with_note}
 use Rattle.typst_combinators.specs.Sound.{Sound}
+use Rattle.typst_combinators.specs.Syntax.{Parser, ◌>>◌}
+use Rattle.typst_combinators.specs.Syntax.Op.{flushes}
+use Rattle.typst_combinators.specs.Syntax.Parser.{does, block}
+use Rattle.typst_combinators.specs.Steps.{peek, read_block}
+use Rattle.typst_combinators.specs.Meaning.{Outcome, Level, apart, bounded, done, run}
+use Rattle.typst_machine.specs.declared.depth.Answered.{Answered}
+use Rattle.typst_machine.specs.View.{View, Runs, Ran, Goes, Does, Calls, Frame, Fills, Fits, Loose, Looked, Opened, Closed, ReadsBlock, noted_here, unasked}
 use Rattle.typst_machine.proofs.Logs.{logged-append}
-use Rattle.typst_machine.proofs.Runs.{Looked, looked-fits, noted, ran-next, ran-gives, ran-look}
+use Rattle.typst_machine.proofs.Runs.{runs-followed, ran-next, ran-gives, ran-look, ran-flushes, looked-fits}
 
 -- what holds of a level holds of the same where no block may be read
-pub sound-inside : {l : Level} → Sound l → Sound (inside l)
-sound-inside s = record { within = s.within; backs = s.backs; within_block = λ b z t. omega arith; backs_block = λ b z t. record { back = omega arith; left = omega arith } }
+pub sound-apart : {l : Level} → Sound l → Sound (apart l)
+sound-apart s = record { within = s.within; backs = s.backs; within_block = λ b z t. omega arith; backs_block = λ b z t. record { back = omega arith; left = omega arith } }
 
-pub fits-inside : {l : Level} {v : View} → Fits l v → Fits (inside l) v
-fits-inside c = record { hand = c.hand; looks = c.looks; log = c.log }
+pub fits-apart : {l : Level} {v : View} → Fits l v → Fits (apart l) v
+fits-apart c = record { known = c.known; hand = c.hand; own = c.own; here = c.here; there = c.there; log = c.log }
 
-pub fits-outside : {l : Level} {v : View} → Fits (inside l) v → Fits l v
-fits-outside c = record { hand = c.hand; looks = c.looks; log = c.log }
+pub fits-whole : {l : Level} {v : View} → Fits (apart l) v → Fits l v
+fits-whole c = record { known = c.known; hand = c.hand; own = c.own; here = c.here; there = c.there; log = c.log }
 
-calls-inside : (l : Level) (call : Call) (old new : View) (r : Result ℕ AllocError) → Calls l call old r new → Calls (inside l) call old r new
-calls-inside l call old new (Ok a) h = record { ran = λ c. h.ran (fits-outside c); ready = λ c. fits-inside (h.ready (fits-outside c)) }
-calls-inside l call old new (Err e) h = tt
+calls-apart : (l : Level) (call : Call) (old new : View) (r : Result Answered AllocError) → Calls l call old r new → Calls (apart l) call old r new
+calls-apart l call old new (Ok a) h = record { answer = h.answer; is = h.is; makes = record { ran = λ c. h.makes.ran (fits-whole c); ready = λ c. fits-apart (h.makes.ready (fits-whole c)) } }
+calls-apart l call old new (Err e) h = tt
 
-pub fills-inside : {l : Level} {f : Frame} → Fills l f → Fills (inside l) f
-fills-inside {l = l} h = record { classes = h.classes; sound = sound-inside h.sound; level = h.level; reads = λ old new call r p. calls-inside l call old new r (h.reads old new call r p) }
+pub fills-apart : {l : Level} {f : Frame} → Fills l f → Fills (apart l) f
+fills-apart {l = l} h = record { classes = h.classes; sound = sound-apart h.sound; levels = h.levels; reads = λ old new call r p. calls-apart l call old new r (h.reads old new call r p) }
 
 -- what a call gives at references, it gives at what they point to
-pub calls-at : (l : Level) (call : Call) (r : Result ℕ AllocError) {v w old new : View} → v ≡ old → w ≡ new → Calls l call v r w → Calls l call old r new
+pub calls-at : (l : Level) (call : Call) (r : Result Answered AllocError) {v w old new : View} → v ≡ old → w ≡ new → Calls l call v r w → Calls l call old r new
 calls-at l call r {w = w} {old = old} e f h = subst (λ (y : View). Calls l call old r y) f (subst (λ (x : View). Calls l call x r w) e h)
 
 -- ---- a block
 
-looked-noted : {l : Level} {depth : ℕ} {m : Mark} {v w : View} → l.level ≡ depth → Noted l depth m v w → Fits l v → Looked l (noted 0 l.level m v) w
-looked-noted {l = l} {m = m} {v = v} {w = w} d h c = record {
-  nodes = h.nodes;
-  place = h.place;
-  state = h.state;
-  log = h.log c ∙ ap (λ n. with_hull (whole w.looks) (with_note 0 n m v.state v.place v.log)) (sym d);
-  hand = h.hand ∙ c.hand ∙ (rw (h.place, h.state) refl);
-  looks = h.looks ∙ c.looks ∙ (rw (h.place, h.state) refl);
-}
-
-looked-inside : {l : Level} {v w : View} → Looked l v w → Looked (inside l) v w
-looked-inside h = record { nodes = h.nodes; place = h.place; state = h.state; log = h.log; hand = h.hand; looks = h.looks }
+looked-apart : {l : Level} {v w : View} → Looked l v w → Looked (apart l) v w
+looked-apart h = record { nodes = h.nodes; place = h.place; state = h.state; hand = h.hand; own = h.own; here = h.here; log = h.log }
 
 -- what was read between its two notes is the block
-runs-noted : (n : ℕ) (b : Block) (o : Outcome (Unit {0})) (v w : View) → Runs n o tt (noted 0 n (Opens b) v) w → Runs n (noted_block b v.state o) tt v (noted 0 n Closes w)
-runs-noted n b o v w r =
+runs-bounded : (n : ℕ) (b : Block) (m : Outcome (Unit {0})) (v w : View) → Runs n m tt (noted_here n (Opens b) (unasked v)) w
+    → Runs n (record m { state = forgot m.state; asks = marked 0 0 0 (Opens b) (state_of v.state) ∷ (m.asks ++ marked m.taken 0 0 Closes (state_of m.state) ∷ []) }) tt v (noted_here n Closes (unasked w))
+runs-bounded n b m v w r =
     let z = v.place in
     let e : n - 0 ≡ n = omega arith in
-    let last = marked o.taken 0 0 Closes o.state ∷ [] in
+    let last = marked m.taken 0 0 Closes (state_of m.state) ∷ [] in
+    let first = with_note 0 n (Opens b) (state_of v.state) z v.log in
     record {
       value = refl;
       place = r.place;
-      state = r.state;
+      state = ap forgot r.state;
       nodes = r.nodes;
-      log = ap (λ (s : State). with_note 0 n Closes s w.place w.log) r.state
-          ∙ ap (λ y. with_note 0 n Closes o.state y w.log) r.place
-          ∙ ap (λ h. with_note 0 n Closes o.state (moved o.taken z) h) r.log
-          ∙ sym (ap (λ m. logged n z (with_note 0 m (Opens b) v.state z v.log) (o.asks ++ last)) e
-          ∙ logged-append n z (with_note 0 n (Opens b) v.state z v.log) o.asks last
-          ∙ ap (λ m. with_note 0 m Closes o.state (moved o.taken z) (logged n z (with_note 0 n (Opens b) v.state z v.log) o.asks)) e);
+      log = ap (λ (s : Point). with_note 0 n Closes (state_of s) w.place w.log) r.state
+          ∙ ap (λ y. with_note 0 n Closes (state_of m.state) y w.log) r.place
+          ∙ ap (λ h. with_note 0 n Closes (state_of m.state) (moved m.taken z) h) r.log
+          ∙ sym (ap (λ d. logged n z (with_note 0 d (Opens b) (state_of v.state) z v.log) (m.asks ++ last)) e
+          ∙ logged-append n z first m.asks last
+          ∙ ap (λ d. with_note 0 d Closes (state_of m.state) (moved m.taken z) (logged n z first m.asks)) e);
     }
 
-ran-block : {l : Level} {b : Block} {p : Parser (Unit {0})} {v first w : View}
-    → ReadsBlock l b p → Looked l (noted 0 l.level (Opens b) v) first → Ran (inside l) p tt first w → Ran l (block b) tt v (noted 0 l.level Closes w)
+ran-block : {l : Level} {b : Block} {p : Parser (Unit {0})} {v mid first w : View}
+    → ReadsBlock l b p → Ran l (does flushes) tt v mid → Looked l (noted_here l.levels (Opens b) (unasked mid)) first → Ran (apart l) p tt first w → Ran l (block b) tt v (noted_here l.levels Closes (unasked w))
 unfolding run
-ran-block {l = l} {b = b} {p = p} {v = v} {first = first} {w = w} k look did =
-    let r = (ran-next {f = λ _. p} (ran-look (looked-inside look)) did).runs in
-    record { runs = rw (k.has, k.same v.place v.state) (runs-noted l.level b (run (inside l) (peek >> p) v.place v.state) v w r) }
+ran-block {l = l} {b = b} {p = p} {v = v} {mid = mid} {first = first} {w = w} k flush look did =
+    let r = (ran-next {f = λ _. p} (ran-look (looked-apart look)) did).runs in
+    let m = run (apart l) (peek >> p) mid.place (forgot mid.state) in
+    let same : l.blocks b mid.place (forgot mid.state) ≡ m = k.same mid.place (forgot mid.state) in
+    let inner : Runs l.levels (bounded b (l.blocks b) mid.place mid.state) tt mid (noted_here l.levels Closes (unasked w)) = rw same (runs-bounded l.levels b m mid w r) in
+    record { runs = rw k.has (runs-followed l.levels (done l flushes v.place v.state) (λ _. bounded b (l.blocks b)) tt tt v mid (noted_here l.levels Closes (unasked w)) flush.runs inner) }
 
--- the code noted where the block begins, read it, and noted where it ends
-pub does-block : {l : Level} {b : Block} {depth : ℕ} {p : Parser (Unit {0})} {v first w last : View}
-    → l.level ≡ depth → ReadsBlock l b p → Noted l depth (Opens b) v first → Does (inside l) p tt first w → Noted l depth Closes w last → Does l (read_block b) tt v last
+-- the code gave the pending trivia, noted where the block begins, read it, and noted where it ends
+pub does-block : {l : Level} {b : Block} {p : Parser (Unit {0})} {v first w last : View}
+    → ReadsBlock l b p → Opened l b v first → Goes (apart l) (Fits (apart l)) Loose p tt first w → Closed l w last → Does l (read_block b) tt v last
 unfolding read_block
-does-block {l = l} {b = b} {v = v} {first = first} {w = w} {last = last} d k opens did closes = record {
-  ran = λ c. (let f = looked-noted d opens c in ran-next (ran-block k f (did.ran (fits-inside (looked-fits f)))) (ran-next (ran-look (ends c)) ran-gives));
-  ready = λ c. looked-fits (ends c);
+does-block {l = l} {b = b} {v = v} {first = first} {w = w} {last = last} k opens did closes = record {
+  ran = λ c. (let f = fits-apart (begins) in ran-next (ran-block k (ran-flushes (opens.flushed c) c) opens.looked (did.ran f)) (ran-next (ran-look closes) ran-gives));
+  ready = λ c. looked-fits (omega arith) closes;
 }
   where
-    ends : Fits l v → Looked l (noted 0 l.level Closes w) last
-    ends c = looked-noted d closes (fits-outside (did.ready (fits-inside (looked-fits (looked-noted d opens c)))))
+    begins : Fits l first
+    begins = looked-fits (omega arith) opens.looked

@@ -1,16 +1,11 @@
 -- What was looked at for tokens, in bytes.
-use Rattle.std.proofs.Common.{◌≡◌, ℕ, zero, suc, ◌+◌, ◌≤◌, max, Bool, true, false, if◌then◌else◌, List, [], ◌∷◌, length, refl, ap, ◌∙◌, arith}
+use Rattle.std.proofs.Common.{◌≡◌, ℕ, zero, suc, ◌+◌, ◌≤◌, Bool, true, false, if◌then◌else◌, length, refl, arith}
 use Rattle.typst_kinds.specs.declared.mode.SyntaxMode.{SyntaxMode}
-use Rattle.typst_lines.specs.Place.{Place, moved, moved_from}
+use Rattle.typst_lines.specs.Place.{Place, moved}
 use Rattle.typst_classes.specs.Classes.{CharClasses}
-use Rattle.typst_readers.specs.Reader.{look, place}
-use Rattle.typst_readers.specs.Sight.{far}
-use Rattle.typst_lexer.specs.Tokens.{token}
 use Rattle.typst_readers.specs.declared.hull.Hull.{Hull}
-use Rattle.typst_readers.proofs.Sights.{far-on, far-max}
 use Rattle.typst_combinators.specs.Hand.{Ahead, ahead_by, len_at, at_trivia}
 use Rattle.typst_machine.specs.Bytes.{joined_hull, token_hull, tokens_by}
-use Rattle.typst_combinators.proofs.Looks.{len-covers}
 use Rattle.typst_combinators.proofs.Places.{moved-sum}
 use Rattle.typst_combinators.proofs.Within.{on_both}
 
@@ -38,14 +33,6 @@ pub on_pair : {A B : Type 0} (P : A → B → Type 0) (b : Bool) (x y : A) (u v 
 on_pair P true x y u v p q = p
 on_pair P false x y u v p q = q
 
-pub far-more : (m n : ℕ) (z : Place) → m ≤ n → far m z ≤ far n z
-far-more m n z h = let e : max m n ≡ n = omega arith in omega (arith, far-max m n z, ap (λ x. far x z) e)
-
-far-sum : (m n : ℕ) (b a : List ℕ) → m ≤ length a → far (m + n) (place b a) ≡ far n (moved_from m b a)
-far-sum zero n b a h = let e : 0 + n ≡ n = omega arith in ap (λ x. far x (place b a)) e
-far-sum (suc m) n b [] h = absurd (omega arith)
-far-sum (suc m) n b (c ∷ a) h = let e : suc m + n ≡ suc (m + n) = omega arith in ap (λ x. far x (place b (c ∷ a))) e ∙ far-on (m + n) c b a ∙ far-sum m n (c ∷ b) a (omega arith)
-
 module _ (k : CharClasses) (m : SyntaxMode) where
   -- the last of them
   pub own-in : (f : ℕ) (z : Place) → In (token_hull k m (moved (ahead_by k m f z).gap z)) (tokens_by k m f z)
@@ -64,19 +51,3 @@ module _ (k : CharClasses) (m : SyntaxMode) where
   pub first-in : (f : ℕ) (z : Place) → In (token_hull k m z) (tokens_by k m f z)
   first-in zero z = itself-in (token_hull k m z)
   first-in (suc f) z = on_both (λ (h : Hull). In (token_hull k m z) h) (at_trivia k m z) _ _ (joined-in (token_hull k m z) _) (itself-in (token_hull k m z))
-
-  len-far : (z : Place) → far (0 + len_at k m z) z ≤ (token_hull k m z).reach
-  len-far z = let e : 0 + len_at k m z ≡ len_at k m z = omega arith in omega (arith, ap (λ n. far n z) e, far-more (len_at k m z) (look (token k m) z).front z (len-covers k m z))
-
-  -- they were looked at as far as they go
-  pub tokens-cover : (f : ℕ) (z : Place) → far ((ahead_by k m f z).gap + (ahead_by k m f z).len) z ≤ (tokens_by k m f z).reach
-  tokens-cover zero z = len-far z
-  tokens-cover (suc f) z =
-      let l = len_at k m z in
-      let w = moved l z in
-      let a = ahead_by k m f w in
-      let rest = tokens-cover f w in
-      let sum : l + a.gap + a.len ≡ l + (a.gap + a.len) = omega arith in
-      on_pair (λ (a : Ahead) (h : Hull). far (a.gap + a.len) z ≤ h.reach) (at_trivia k m z) _ _ _ _
-      (omega (arith, ap (λ n. far n z) sum, far-sum l (a.gap + a.len) z.behind z.ahead (omega arith), rest))
-      (len-far z)

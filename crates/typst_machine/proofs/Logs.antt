@@ -1,5 +1,5 @@
 -- What was looked at and noted.
-use Rattle.std.proofs.Common.{Option, ◌≡◌, ℕ, zero, suc, ◌+◌, ◌-◌, ◌≤◌, Bool, true, false, if◌then◌else◌, List, [], ◌∷◌, ◌++◌, length, refl, ap, ◌∙◌, arith}
+use Rattle.std.proofs.Common.{Option, Some, None, ◌≡◌, ℕ, zero, suc, ◌+◌, ◌-◌, ◌≤◌, Bool, true, false, if◌then◌else◌, List, [], ◌∷◌, ◌++◌, length, refl, ap, sym, subst, ◌∙◌, arith}
 use Rattle.typst_kinds.specs.declared.mode.SyntaxMode.{SyntaxMode}
 use Rattle.typst_lines.specs.Place.{Place, moved}
 use Rattle.typst_classes.specs.Classes.{CharClasses}
@@ -7,16 +7,15 @@ use Rattle.typst_readers.specs.Reader.{look}
 use Rattle.typst_readers.specs.Sight.{hull_of}
 use Rattle.typst_lexer.specs.Tokens.{token}
 use Rattle.typst_readers.specs.declared.hull.Hull.{Hull}
-use Rattle.typst_readers.proofs.Sights.{near-none, near-le}
-use Rattle.typst_combinators.specs.declared.reading.Newlines.{Newlines}
-use Rattle.typst_combinators.specs.declared.reading.Note.{Note}
+use Rattle.typst_combinators.specs.declared.calls.Note.{Note}
 use Rattle.typst_combinators.specs.declared.reading.Reading.{Reading}
 use Rattle.typst_combinators.specs.Ask.{Ask, shift, sunk}
 use Rattle.typst_combinators.specs.Ask.Ask.{looked, marked}
-use Rattle.typst_combinators.specs.Hand.{ahead, ahead_by, len_at, at_trivia, asks_by, ahead_asks, column_look, column_asks, asks_column, both_newlines, hand_at, hand_asks}
-use Rattle.typst_machine.specs.Bytes.{joined_hull, token_hull, tokens_by, tokens_at, whole, looks_at}
+use Rattle.typst_combinators.specs.Point.{Trivia}
+use Rattle.typst_combinators.specs.Hand.{ahead, ahead_by, len_at, at_trivia, asks_by, ahead_asks, column_look, column_asks, asks_column, hand_at, hand_asks}
+use Rattle.typst_machine.specs.Bytes.{joined_hull, token_hull, tokens_by, tokens_at, column_hull, whole_at}
 use Rattle.typst_combinators.specs.Log.{Log, with_hull, with_note, logged_one, logged}
-use Rattle.typst_machine.proofs.Hulls.{In, itself-in, joined-in, far-more, own-in, first-in, tokens-cover}
+use Rattle.typst_machine.proofs.Hulls.{In, own-in, second-in}
 use Rattle.typst_combinators.proofs.Places.{moved-sum}
 
 -- ---- logs
@@ -72,49 +71,45 @@ module _ (k : CharClasses) (m : SyntaxMode) where
         | false ↦ refl
       ]
 
--- at most so many characters were passed
-abbrev pub stretch_hull : ℕ → Place → Hull
-stretch_hull n z = hull_of (record { back = 0; front = n }) z
-
-module _ (k : CharClasses) (held : Reading) (flushed : Newlines) (z : Place) where
-  pub tokens-in : In (looks_at k held flushed z).tokens (whole (looks_at k held flushed z))
-  tokens-in = joined-in _ _
-
-  pub looks-own : In (looks_at k held flushed z).own (looks_at k held flushed z).tokens
-  unfolding looks_at tokens_at ahead
-  looks-own = own-in k held.mode (length z.ahead) z
-
-  column-in : (b : Bool) (h c : Hull) → In h (if b then joined_hull h c else h)
-  column-in true h c = joined-in h c
-  column-in false h c = itself-in h
-
-  pub passed-in : (n : ℕ) → n ≤ (hand_at k held flushed z).gap + (hand_at k held flushed z).len → In (stretch_hull n z) (whole (looks_at k held flushed z))
-  unfolding hand_at looks_at tokens_at ahead
-  passed-in n h =
-      let m = held.mode in
-      let f = length z.ahead in
-      let a = ahead_by k m f z in
-      let first = first-in k m f z in
-      record {
-        reach = omega (arith, far-more n (a.gap + a.len) z h, tokens-cover k m f z);
-        least = omega (arith, near-none z, near-le (look (token k m) z).back z, first.least);
-      }
-
+module _ (k : CharClasses) (held : Reading) (z : Place) where
   column-log : (b : Bool) (n g : ℕ) (h : Log) (t own : Hull) → In own t
       → logged n z (with_hull t h) (if b then looked g (column_look (moved g z)) ∷ [] else [])
       ≡ with_hull (joined_hull t (if b then joined_hull own (hull_of (column_look (moved g z)) (moved g z)) else own)) h
   column-log true n g h t own i = same-log _ _ _ _ h.notes (omega (arith, i.reach)) (omega (arith, i.least))
   column-log false n g h t own i = same-log _ _ _ _ h.notes (omega (arith, i.reach)) (omega (arith, i.least))
 
-  -- what was asked for the token at hand
-  pub logged-hand : (n : ℕ) (h : Log) → logged n z h (hand_asks k held flushed z) ≡ with_hull (whole (looks_at k held flushed z)) h
-  unfolding hand_asks ahead_asks looks_at tokens_at ahead
-  logged-hand n h =
+  -- what was asked for the token at hand where nothing was known
+  pub logged-none : (n : ℕ) (h : Log) → logged n z h (hand_asks k held None z) ≡ with_hull (whole_at k held z) h
+  unfolding hand_asks ahead_asks whole_at tokens_at ahead
+  logged-none n h =
       let m = held.mode in
       let f = length z.ahead in
       let a = ahead_by k m f z in
-      let nl = both_newlines flushed a.newlines in
       let t = tokens_by k m f z in
-      logged-append n z h (asks_by k m f z) (column_asks held nl a.gap z)
-      ∙ ap (λ x. logged n z x (column_asks held nl a.gap z)) (logged-tokens k m n f z h)
-      ∙ column-log (asks_column held nl) n a.gap h t (token_hull k m (moved a.gap z)) (own-in k m f z)
+      logged-append n z h (asks_by k m f z) (column_asks held a.newlines a.gap z)
+      ∙ ap (λ x. logged n z x (column_asks held a.newlines a.gap z)) (logged-tokens k m n f z h)
+      ∙ column-log (asks_column held a.newlines) n a.gap h t (token_hull k m (moved a.gap z)) (own-in k m f z)
+
+  -- what was asked for it where the trivia are known
+  pub logged-some : (n : ℕ) (h : Log) (t : Trivia)
+      → logged n z h (hand_asks k held (Some t) z) ≡ with_hull (column_hull held t.newlines (moved t.gap z) (token_hull k held.mode (moved t.gap z))) h
+  unfolding hand_asks
+  logged-some n h t =
+      let w = moved t.gap z in
+      let own = token_hull k held.mode w in
+      elim (asks_column held t.newlines) as (λ b. logged n z (with_hull own h) (if b then looked t.gap (column_look w) ∷ [] else []) ≡ with_hull (if b then joined_hull own (hull_of (column_look w) w) else own) h) [
+        | true ↦ same-log _ _ _ _ h.notes (omega arith) (omega arith)
+        | false ↦ refl
+      ]
+
+  -- the token itself is among it
+  pub hand-among : (known : Option Trivia) (n : ℕ) (h : Log)
+      → let a = hand_at k held known z in Among (column_hull held a.newlines (moved a.gap z) (token_hull k held.mode (moved a.gap z))) (logged n z h (hand_asks k held known z))
+  unfolding hand_at whole_at
+  hand-among None n h =
+      let a = ahead k held.mode z in
+      let here = column_hull held a.newlines (moved a.gap z) (token_hull k held.mode (moved a.gap z)) in
+      subst (λ (x : Log). Among here x) (sym (logged-none n h)) (in-among here (whole_at k held z) (with_hull (whole_at k held z) h) (second-in (tokens_at k held.mode z) here) (with-again (whole_at k held z) h))
+  hand-among (Some t) n h =
+      let here = column_hull held t.newlines (moved t.gap z) (token_hull k held.mode (moved t.gap z)) in
+      subst (λ (x : Log). Among here x) (sym (logged-some n h t)) (with-again here h)

@@ -1,29 +1,30 @@
 -- What the parser of the code does to the token at hand.
-use Rattle.std.proofs.Common.{◌≡◌, ℕ, ◌+◌, ◌-◌, ◌^◌, max, min, Bool, true, false, if◌then◌else◌, List, [], ◌∷◌, ◌++◌, append-nil, refl, ap, sym, ◌∙◌, arith}
+use Rattle.std.proofs.Common.{Option, Some, None, ◌≡◌, ℕ, ◌+◌, ◌-◌, ◌^◌, Bool, true, false, if◌then◌else◌, List, [], ◌∷◌, ◌++◌, take, drop, append-nil, refl, ap, sym, ◌∙◌, arith}
 use Rattle.typst_kinds.specs.Kinds.{is_error}
 use Rattle.typst_lines.specs.Place.{Place, moved}
 use Rattle.typst_node.specs.Tree.{Tree, text_of}
+use Rattle.typst_classes.specs.Classes.{CharClasses}
 use Rattle.typst_readers.specs.Sight.{position}
 use Rattle.typst_readers.specs.declared.hull.Hull.{Hull}
-use Rattle.typst_combinators.specs.declared.reading.Mark.{Mark}
-use Rattle.typst_combinators.specs.declared.reading.Note.{Note}
+use Rattle.typst_combinators.specs.declared.calls.Mark.{Mark}
+use Rattle.typst_combinators.specs.declared.reading.AtNewline.{AtNewline}
 use Rattle.typst_combinators.specs.declared.reading.Reading.{Reading}
 use Rattle.typst_combinators.specs.declared.reading.State.{State}
-use Rattle.typst_combinators.specs.Hand.{Hand, no_newlines, column_at, judged, hand_at}
-use Rattle.typst_machine.specs.Bytes.{Looks, looks_at, column_hull, whole}
-use Rattle.typst_combinators.specs.Log.{Log, kept, added, with_more, with_hull}
-use Rattle.typst_combinators.specs.Shape.{Making, is_nil, count_empty, after_node}
-use Rattle.typst_combinators.specs.Steps.{eat_making, flush_trivia, note}
-use Rattle.typst_combinators.specs.Syntax.Op.{column}
+use Rattle.typst_combinators.specs.Point.{Point, Trivia, gap_of, is_nil, state_of}
+use Rattle.typst_combinators.specs.Hand.{Hand, column_at, judged, hand_at, hand_asks, known_by}
+use Rattle.typst_combinators.specs.Log.{Log, with_hull, logged}
+use Rattle.typst_combinators.specs.Shape.{Making, Shape, shaped, count_empty, after_node, after_shape}
+use Rattle.typst_combinators.specs.Steps.{flush_trivia, note}
+use Rattle.typst_combinators.specs.Syntax.Op.{column, takes}
 use Rattle.typst_combinators.specs.Syntax.Parser.{does}
-use Rattle.typst_machine.specs.Cursor.{start_log}
-use Rattle.typst_combinators.specs.Meaning.{Level, less, start_state, same_mode, same_rule, renewed, taken_node}
-use Rattle.typst_machine.specs.View.{View, Does, Fits, Left, Noted, with_pushed}
-use Rattle.typst_machine.proofs.Runs.{Flushed, column_seen}
-use Rattle.typst_machine.proofs.Steps.{does-eat, does-flush, does-note, does-column}
-use Rattle.typst_machine.proofs.Trivia.{hand-no-gap, hand-flushed, rejudged, flushed-some, same-hand, looks-flushed, looks-judged}
-use Rattle.typst_machine.proofs.Hulls.{In}
-use Rattle.typst_machine.proofs.Logs.{looks-own, among-is, is-among, in-among, with-again, same-log}
+use Rattle.typst_combinators.specs.Meaning.{Level, asked, flushed_state, hand_of, hand_asks_of, left, less, same_mode, same_rule, renewed, taken_node}
+use Rattle.typst_machine.specs.declared.parser.Parser.TheInside.{Inside}
+use Rattle.typst_machine.specs.Bytes.{column_hull, token_hull, whole_at}
+use Rattle.typst_machine.specs.Cursor.{hand_of_ahead, view_of}
+use Rattle.typst_machine.specs.View.{View, Goes, Does, Fits, Bare, Looked, Left, Flushed, Rewrapped, unasked, noted_here, with_noted}
+use Rattle.typst_machine.proofs.Logs.{logged-none, logged-some}
+use Rattle.typst_machine.proofs.Runs.{column_seen, fits-looked, asked-log}
+use Rattle.typst_machine.proofs.Steps.{does-flush, does-note, does-column, does-takes}
 
 pub count-some : (text : List ℕ) → (text ≡ [] → ⊥) → 0 ≡ count_empty text
 count-some [] h = absurd (h refl)
@@ -32,174 +33,158 @@ count-some (c ∷ cs) h = refl
 pub count-none : (text : List ℕ) → text ≡ [] → 1 ≡ count_empty text
 count-none text e = rw e refl
 
-node-state : (i : Bool) (text : List ℕ) (r : Reading) (s : State) → s.reading ≡ r
-    → ◌≡◌ {A = State} (record { reading = r; held = r; flushed = no_newlines; empties = if i then count_empty text else 0; is_after_error = i }) (renewed (after_node i text s))
-node-state true text r s e = rw e refl
-node-state false text r s e = rw e refl
+-- what is told of a node that was added
+pub told-node : (i : Bool) (text : List ℕ) (s : Point) → record s { empties = if i then count_empty text else 0; is_after_error = i } ≡ after_node i text s
+told-node true text s = refl
+told-node false text s = refl
 
--- the token at hand became a node, and the next one was read
-pub eaten-is : (l : Level) (trims : Bool) (making : Making) (v w : View) (node : Tree) → node ≡ taken_node l.classes making v.hand v.place
+-- the token at hand became a node
+pub taken-is : (l : Level) (trims : Bool) (making : Making) (v w : View) (node : Tree) → node ≡ taken_node l.classes making v.hand v.place
     → w.nodes ≡ less (if trims then v.state.empties else 0) v.nodes ++ (v.hand.trivia ++ node ∷ [])
     → w.place ≡ moved (v.hand.gap + v.hand.len) v.place
-    → (n : ℕ) (i : Bool) → n ≡ (if is_error node.head.kind then count_empty (text_of node) else 0) → i ≡ is_error node.head.kind
-    → w.state ≡ record { reading = v.state.reading; held = v.state.reading; flushed = no_newlines; empties = n; is_after_error = i }
-    → w.hand ≡ hand_at l.classes v.state.reading no_newlines w.place → w.looks ≡ looks_at l.classes v.state.reading no_newlines w.place → w.log ≡ with_hull (whole w.looks) v.log
-    → Does l (eat_making trims making) tt v w
-eaten-is l trims making v w node e ns p n i f g t h o j =
-    let s : w.state ≡ record { reading = v.state.reading; held = v.state.reading; flushed = no_newlines; empties = if is_error node.head.kind then count_empty (text_of node) else 0; is_after_error = is_error node.head.kind } = rw (sym f, sym g) t in
-    let state-is = s ∙ node-state (is_error node.head.kind) (text_of node) v.state.reading v.state refl in
-    does-eat (record {
+    → w.state ≡ record v.state { held = v.state.reading; empties = if is_error node.head.kind then count_empty (text_of node) else 0; is_after_error = is_error node.head.kind; known = None }
+    → w.log ≡ v.log → Goes l (Fits l) Bare (does (takes trims making)) tt v w
+taken-is l trims making v w node e ns p s j =
+    does-takes (record {
       nodes = ns ∙ ap (λ (x : Tree). less (if trims then v.state.empties else 0) v.nodes ++ (v.hand.trivia ++ x ∷ [])) e;
       place = p;
-      state = state-is ∙ ap (λ (x : Tree). renewed (after_node (is_error x.head.kind) (text_of x) v.state)) e;
-      hand = h ∙ ap (λ (u : State). hand_at l.classes u.held u.flushed w.place) (sym s);
-      looks = o ∙ ap (λ (u : State). looks_at l.classes u.held u.flushed w.place) (sym s);
+      state = s ∙ ap renewed (told-node (is_error node.head.kind) (text_of node) v.state) ∙ ap (λ (x : Tree). renewed (after_node (is_error x.head.kind) (text_of x) v.state)) e;
       log = j;
     })
 
-joined-log : (w : View) (h : Log) → w.log ≡ with_hull (whole w.looks) h → with_hull (whole w.looks) w.log ≡ w.log
-joined-log w h e = ap (with_hull (whole w.looks)) e ∙ is-among (whole w.looks) (with_hull (whole w.looks) h) (with-again (whole w.looks) h) ∙ sym e
+-- the token to come was read
+pub looked-is : (l : Level) (v w : View) → w.nodes ≡ v.nodes → w.place ≡ v.place
+    → w.state ≡ record v.state { known = known_by w.hand } → w.hand ≡ hand_at l.classes v.state.held None v.place
+    → w.own ≡ token_hull l.classes v.state.held.mode (moved w.hand.gap v.place) → w.here ≡ column_hull v.state.held w.hand.newlines (moved w.hand.gap v.place) w.own
+    → w.log ≡ with_hull (whole_at l.classes v.state.held v.place) v.log → Looked l (unasked v) w
+looked-is l v w n p s h o i j = record {
+  nodes = n;
+  place = p;
+  state = s;
+  hand = h;
+  own = o;
+  here = i;
+  log = j ∙ sym (logged-none l.classes v.state.held v.place l.levels v.log);
+}
 
--- what is known without the trivia
-own-whole : (l : Looks) → In l.own l.tokens → In (whole (record l { tokens = l.own })) (whole l)
-own-whole l i = record { reach = omega (arith, i.reach); least = omega (arith, i.least) }
+pub flushed-none : (h : Hand) (s : Point) (ts : List Tree) → is_nil ts ≡ true → h.trivia ≡ ts → flushed_state h s ≡ record s { known = Some (record { nodes = []; gap = 0; newlines = h.newlines }) }
+flushed-none h s [] n e = rw e refl
+flushed-none h s (t ∷ ts) n e = absurd (cc)
 
-none-flushed : (l : Level) (v : View) → v.hand.trivia ≡ [] → Fits l v → Flushed v v
-none-flushed l v e c =
-    let f = c.hand in
-    let g : v.hand.gap ≡ 0 = ap (λ (h : Hand). h.gap) f ∙ hand-no-gap l.classes v.state.held v.state.flushed v.place (sym (ap (λ (h : Hand). h.trivia) f) ∙ e) in
-    record {
-      nodes = rw e (sym (append-nil v.nodes));
-      place = rw g refl;
-      state = rw e refl;
-      hand = same-hand _ _ _ _ _ _ _ _ _ _ _ _ refl e g refl refl refl;
-      log = refl;
-    }
-
-pub flush-none : (l : Level) (v : View) → v.hand.trivia ≡ [] → Does l flush_trivia tt v v
-flush-none l v e = does-flush (none-flushed l v e) (λ f. f)
+pub flushed-some : (h : Hand) (s : Point) (ts : List Tree) → is_nil ts ≡ false → h.trivia ≡ ts
+    → flushed_state h s ≡ record s { empties = 0; is_after_error = false; known = Some (record { nodes = []; gap = 0; newlines = h.newlines }) }
+flushed-some h s [] n e = absurd (cc)
+flushed-some h s (t ∷ ts) n e = rw e refl
 
 pub nil-is : (ts : List Tree) → is_nil ts ≡ true → ts ≡ []
 nil-is [] e = refl
-nil-is (t ∷ ts) e = cc
+nil-is (t ∷ ts) e = absurd (cc)
 
-pub flush-some : (l : Level) (v w : View) → is_nil v.hand.trivia ≡ false → w.nodes ≡ v.nodes ++ v.hand.trivia → w.place ≡ moved v.hand.gap v.place
-    → w.state ≡ record (after_node false [] v.state) { flushed = v.hand.newlines } → w.hand ≡ record v.hand { trivia = []; gap = 0 }
-    → w.looks ≡ record v.looks { tokens = v.looks.own } → w.log ≡ v.log → Does l flush_trivia tt v w
-flush-some l v w some ns p s h o j =
-    does-flush (λ f. record { nodes = ns; place = p; state = s ∙ sym (flushed-some v.hand.trivia v.hand v.state some refl); hand = h; log = j })
-    (λ f. record {
-      hand = h ∙ hand-flushed l.classes v.state.held v.state.flushed v.place v.hand f.hand ∙ (rw (p, s) refl);
-      looks = o ∙ looks-flushed l.classes v.state.held v.state.flushed v.place v.hand v.looks f.hand f.looks ∙ (rw (p, s) refl);
-      log = rw (o, j) (still f);
-    })
-  where
-    still : Fits l v → with_hull (whole (record v.looks { tokens = v.looks.own })) v.log ≡ v.log
-    still f =
-        let all = among-is (whole v.looks) v.log f.log in
-        let own = ap (λ (x : Looks). x.own) f.looks in
-        let i = looks-own l.classes v.state.held v.state.flushed v.place in
-        is-among (whole (record v.looks { tokens = v.looks.own })) v.log (in-among _ (whole v.looks) v.log (own-whole v.looks (rw f.looks i)) all)
+-- behind another mode the token was read again
+pub left-again : (l : Level) (outer : Reading) (v w : View) → same_mode v.state.reading.mode outer.mode ≡ false
+    → Looked l (unasked (record v { state = record v.state { reading = outer; held = outer } })) w → Left l outer v w
+left-again l outer v w m h = λ c. (rw m h)
 
-pub left-again : (l : Level) (outer : Reading) (v w : View) → same_mode v.state.reading.mode outer.mode ≡ false → w.nodes ≡ v.nodes → w.place ≡ v.place
-    → w.state ≡ record v.state { reading = outer; held = outer; flushed = no_newlines } → w.hand ≡ hand_at l.classes outer no_newlines w.place
-    → w.looks ≡ looks_at l.classes outer no_newlines w.place → w.log ≡ with_hull (whole w.looks) v.log → Left l outer v w
-left-again l outer v w m n p s h o j = record {
-  nodes = n;
-  place = p;
-  state = s ∙ (rw m refl);
-  log = λ f. j;
-  fits = λ f. record {
-    hand = h ∙ ap (λ (u : State). hand_at l.classes u.held u.flushed w.place) (sym s);
-    looks = o ∙ ap (λ (u : State). looks_at l.classes u.held u.flushed w.place) (sym s);
-    log = joined-log w v.log j;
-  };
-}
-
+-- behind the same rule all stays
 pub left-kept : (l : Level) (outer : Reading) (v w : View) → same_mode v.state.reading.mode outer.mode ≡ true → same_rule v.state.reading.at_newline outer.at_newline ≡ true
-    → w.nodes ≡ v.nodes → w.place ≡ v.place → w.state ≡ record v.state { reading = outer } → w.hand ≡ v.hand → w.looks ≡ v.looks → w.log ≡ v.log → Left l outer v w
-left-kept l outer v w m r n p s h o j = record {
-  nodes = n;
-  place = p;
-  state = s ∙ (rw (m, r) refl);
-  log = λ f. rw (o, j) (sym f.log);
-  fits = λ f. record { hand = h ∙ f.hand ∙ (rw (p, s) refl); looks = o ∙ f.looks ∙ (rw (p, s) refl); log = rw (o, j) f.log };
-}
+    → w ≡ record v { state = record v.state { reading = outer } } → Left l outer v w
+left-kept l outer v w m r e = λ c.
+    rw (e, m, r) (fits-looked {l = l} {v = record v { state = record v.state { reading = outer } }} (record { known = c.known; hand = c.hand; own = c.own; here = c.here; there = c.there; log = c.log }))
 
+-- the token at hand by another rule
+rejudged : (k : CharClasses) (held : Reading) (rule : AtNewline) (t : Trivia) (z : Place) (h : Hand) → h ≡ hand_at k held (Some t) z
+    → record h { kind = judged (record held { at_newline = rule }) h.newlines h.token.kind (column_at (moved h.gap z)) } ≡ hand_at k (record held { at_newline = rule }) (Some t) z
+unfolding hand_at
+rejudged k held rule t z h e = ap (λ (x : Hand). record x { kind = judged (record held { at_newline = rule }) x.newlines x.token.kind (column_at (moved x.gap z)) }) e
+
+-- behind another rule it was judged again
 pub left-judged : (l : Level) (outer : Reading) (v w : View) → same_mode v.state.reading.mode outer.mode ≡ true → same_rule v.state.reading.at_newline outer.at_newline ≡ false
-    → w.nodes ≡ v.nodes → w.place ≡ v.place → w.state ≡ record v.state { reading = outer; held = record v.state.held { at_newline = outer.at_newline } }
+    → w.nodes ≡ v.nodes → w.place ≡ v.place → w.state ≡ record v.state { reading = outer; held = record v.state.held { at_newline = outer.at_newline }; known = known_by w.hand }
     → w.hand ≡ record v.hand { kind = judged (record v.state.held { at_newline = outer.at_newline }) v.hand.newlines v.hand.token.kind (column_at (moved v.hand.gap v.place)) }
-    → w.looks ≡ record v.looks { here = column_hull (record v.state.held { at_newline = outer.at_newline }) v.hand.newlines (moved v.hand.gap v.place) v.looks.own }
-    → w.log ≡ with_hull (whole w.looks) v.log → Left l outer v w
-left-judged l outer v w m r n p s h o j = record {
-  nodes = n;
-  place = p;
-  state = s ∙ (rw (m, r) refl);
-  log = λ f. j;
-  fits = λ f. record {
-    hand = h ∙ rejudged l.classes v.state.held outer.at_newline v.state.flushed v.place v.hand f.hand ∙ (rw (p, s) refl);
-    looks = o ∙ looks-judged l.classes v.state.held outer.at_newline v.state.flushed v.place v.hand v.looks f.hand f.looks ∙ (rw (p, s) refl);
-    log = joined-log w v.log j;
-  };
-}
+    → w.own ≡ v.own → w.here ≡ column_hull (record v.state.held { at_newline = outer.at_newline }) v.hand.newlines (moved v.hand.gap v.place) v.own
+    → w.log ≡ with_hull w.here v.log → Left l outer v w
+left-judged l outer v w m r n p s h o i j = λ c.
+    let k = l.classes in
+    let held = record v.state.held { at_newline = outer.at_newline } in
+    let t : Trivia = record { nodes = v.hand.trivia; gap = v.hand.gap; newlines = v.hand.newlines } in
+    let all : v.hand ≡ hand_at k v.state.held (Some t) v.place = c.hand ∙ ap (λ (x : Option Trivia). hand_at k v.state.held x v.place) c.known in
+    let x : View = record v { state = record v.state { reading = outer; held = held } } in
+    let hand-is : w.hand ≡ hand_at k held v.state.known v.place = h ∙ rejudged k v.state.held outer.at_newline t v.place v.hand all ∙ ap (λ (y : Option Trivia). hand_at k held y v.place) (sym c.known) in
+    let gap-is : w.hand.gap ≡ v.hand.gap = ap (λ (y : Hand). y.gap) h in
+    let lines-is : w.hand.newlines ≡ v.hand.newlines = ap (λ (y : Hand). y.newlines) h in
+    let own-is : w.own ≡ token_hull k held.mode (moved w.hand.gap v.place) = o ∙ c.own ∙ ap (λ g. token_hull k held.mode (moved g v.place)) (sym gap-is) in
+    let here-is : w.here ≡ column_hull held w.hand.newlines (moved w.hand.gap v.place) w.own = i ∙ (rw (gap-is, lines-is, o) refl) in
+    rw (m, r)
+    (record {
+      nodes = n;
+      place = p;
+      state = s;
+      hand = hand-is;
+      own = own-is;
+      here = here-is;
+      log = j ∙ sym (ap (λ (y : Option Trivia). logged l.levels v.place v.log (hand_asks k held y v.place)) c.known ∙ logged-some k held v.place l.levels v.log t
+          ∙ ap (λ (u : Hull). with_hull u v.log) (ap (column_hull held v.hand.newlines (moved v.hand.gap v.place)) (sym c.own) ∙ sym i));
+    })
 
--- ---- notes and columns
-
-pub same-note : (v : View) (h : Log) (w : View) → w ≡ record v { log = h } → w.log ≡ h
-same-note v h w e = ap (λ (x : View). x.log) e
-
--- one note more, where notes are kept
-kept-added : (keeps : Bool) (note : Note) (ns : List Note) → kept keeps (added keeps note ns) ≡ with_more note (kept keeps ns)
-kept-added true note ns = refl
-kept-added false note ns = refl
-
--- the first note, and the first look
-pub start-log : (u : Hull) (keeps : Bool) (ns : List Note) (z : Place) (depth : ℕ) (mark : Mark) (reading : Reading) (r l : ℕ) → position z ≡ 0 → r ≡ u.reach → l ≡ min (2 ^ 64 - 1) u.least
-    → ns ≡ added keeps (record { mark = mark; before = 0; start = 0; depth = depth; state = start_state reading; reach = 0; least = 2 ^ 64 - 1 }) []
-    → ◌≡◌ {A = Log} (record { reach = r; least = l; notes = kept keeps ns }) (with_hull u (start_log keeps depth mark reading z))
-start-log u keeps ns z depth mark reading r l p e f g =
-    let zero : max 0 u.reach ≡ u.reach = omega arith in
-    rw (e, f, g, p, zero, kept-added keeps (record { mark = mark; before = 0; start = 0; depth = depth; state = start_state reading; reach = 0; least = 2 ^ 64 - 1 }) []) refl
-
--- the note that the code added
-pub pushed-is : (mark : Mark) (depth start before : ℕ) (v w : View) (keeps : Bool) (old ns : List Note) (m : ℕ) → before ≡ position v.place → v.log.notes ≡ kept keeps old
-    → ns ≡ added keeps (record { mark = mark; before = before; start = start; depth = depth; state = v.state; reach = v.log.reach; least = v.log.least }) old
-    → m ≡ min (2 ^ 64 - 1) (whole v.looks).least → w ≡ record v { log = record { reach = v.log.reach; least = m; notes = kept keeps ns } } → w ≡ with_pushed mark depth start v
-pushed-is mark depth start before v w keeps old ns m b o n e f =
-    rw (f, e, n, b, o, kept-added keeps (record { mark = mark; before = position v.place; start = start; depth = depth; state = v.state; reach = v.log.reach; least = v.log.least }) old) refl
+-- ---- notes, columns and shapes
 
 -- this was noted, and the token at hand was looked at again
-pub noted-is : (l : Level) (mark : Mark) (depth start : ℕ) (v w : View) → l.level ≡ depth → start ≡ position (moved v.hand.gap v.place)
-    → w ≡ with_pushed mark depth start v → Does l (note mark) tt v w
-noted-is l mark depth start v w d s f =
-    rw (f, sym d, s)
+pub noted-is : (l : Level) (mark : Mark) (levels before start : ℕ) (v w : View) → l.levels ≡ levels → before ≡ position v.place → start ≡ position (moved v.hand.gap v.place)
+    → w ≡ record v { log = with_hull v.here (with_noted mark before start levels (state_of v.state) v.log) } → Does l (note mark) tt v w
+noted-is l mark levels before start v w d b s f =
+    rw (f, sym d, b, s)
     (does-note mark (λ c.
-    let all = among-is (whole v.looks) v.log c.log in
-    let reach : v.log.reach ≡ max v.log.reach (whole v.looks).reach = omega (arith, all.reach) in
+    let look = fits-looked c in
+    let gap : position (moved v.hand.gap v.place) ≡ position (moved (gap_of v.state.known) v.place) = ap (λ (x : Option Trivia). position (moved (gap_of x) v.place)) (sym c.known) in
     record {
       nodes = refl;
       place = refl;
-      state = refl;
-      log = same-log _ _ _ _ _ reach refl;
-      hand = c.hand;
-      looks = c.looks;
+      state = look.state;
+      hand = look.hand;
+      own = look.own;
+      here = look.here;
+      log = ap (λ n. with_hull v.here (with_noted mark (position v.place) n l.levels (state_of v.state) v.log)) gap
+          ∙ sym (asked-log l v (with_noted mark (position v.place) (position (moved (gap_of v.state.known) v.place)) l.levels (state_of v.state) v.log) c);
     }))
 
--- the same before the pending trivia
-pub noted-before : (l : Level) (mark : Mark) (depth here : ℕ) (v w : View) → here ≡ position v.place → w ≡ with_pushed mark depth here v → Noted l depth mark v w
-noted-before l mark depth here v w b f =
-    rw (f, b)
-    (record {
-      nodes = refl;
-      place = refl;
-      state = refl;
-      hand = refl;
-      looks = refl;
-      log = λ c.
-          (let all = among-is (whole v.looks) v.log c.log in
-          let reach : v.log.reach ≡ max v.log.reach (whole v.looks).reach = omega (arith, all.reach) in
-          same-log _ _ _ _ _ reach refl);
-    })
+-- this was noted where nothing was asked for
+pub noted-here : (mark : Mark) (levels here : ℕ) (v w : View) → here ≡ position v.place → w ≡ record v { log = with_noted mark here here levels (state_of v.state) v.log } → w ≡ noted_here levels mark v
+noted-here mark levels here v w b f = rw (f, b) refl
 
 pub column-is : (l : Level) (v w : View) (a : ℕ) → a ≡ column_at (moved v.hand.gap v.place) → w ≡ column_seen v → Does l (does column) a v w
 column-is l v w a e f = rw (e, f) (does-column v)
+
+-- the nodes from a number on were taken off, and one was added
+pub rewrapped-is : (from : ℕ) (shape : Shape) (ts : List Tree) (t : Tree) (v mid w : View) → mid ≡ record v { nodes = take from v.nodes; state = record v.state { empties = 0 } } → ts ≡ drop from v.nodes
+    → w ≡ record mid { nodes = mid.nodes ++ t ∷ []; state = after_node (is_error t.head.kind) (text_of t) mid.state }
+    → t ∷ [] ≡ shaped shape ts → after_node (is_error t.head.kind) (text_of t) (record v.state { empties = 0 }) ≡ after_shape shape ts v.state → Rewrapped from shape v w
+rewrapped-is from shape ts t v mid w m d f g s =
+    rw (f, m)
+    (record {
+      place = refl;
+      state = s ∙ ap (λ (x : List Tree). after_shape shape x v.state) d;
+      nodes = ap (λ (x : List Tree). take from v.nodes ++ x) (g ∙ ap (shaped shape) d);
+      hand = refl;
+      own = refl;
+      here = refl;
+      log = refl;
+    })
+
+-- behind a node that is no error
+pub after-fine : (i : Bool) (text : List ℕ) (s : Point) → i ≡ false → after_node i text (record s { empties = 0 }) ≡ after_node false [] s
+after-fine i text s e = rw e refl
+
+-- and behind one that is
+pub after-wrong : (i : Bool) (text : List ℕ) (s : Point) → i ≡ true → after_node i text (record s { empties = 0 }) ≡ after_node true text s
+after-wrong i text s e = rw e refl
+
+-- where the trivia are known, the token was read
+pub was-read : {l : Level} (i : Inside) → Fits l (view_of i) → i.ahead.is_read ≡ true
+was-read i f =
+    let h = hand_of_ahead i.ahead in
+    let t : Trivia = record { nodes = h.trivia; gap = h.gap; newlines = h.newlines } in
+    by-test i.ahead.is_read t t f.known
+  where
+    by-test : (r : Bool) (t u : Trivia) → (if r then Some t else None) ≡ Some u → r ≡ true
+    by-test true t u e = refl
+    by-test false t u e = absurd (cc)

@@ -1,36 +1,43 @@
 -- How runs of the code compose.
-use Rattle.std.proofs.Common.{◌≡◌, ℕ, suc, ◌+◌, ◌-◌, ◌<◌, ◌≤◌, ◌==◌, Bool, true, false, ◌&&◌, nat_lt, if◌then◌else◌, List, [], ◌∷◌, ◌++◌, length, map, take, drop, append_assoc, refl, ap, sym, ◌∙◌, subst, arith}
+use Rattle.std.proofs.Common.{Option, Some, None, ◌≡◌, ℕ, suc, ◌+◌, ◌-◌, ◌<◌, ◌≤◌, ◌==◌, max, Bool, true, false, ◌&&◌, nat_lt, if◌then◌else◌, List, [], ◌∷◌, ◌++◌, length, map, take, drop, append_assoc, refl, ap, sym, ◌∙◌, subst, arith}
 use borrow.Author.Tests.{lt-ltb}
 use Rattle.typst_kinds.specs.Kinds.{is_error}
 use Rattle.typst_lines.specs.Place.{Place, moved}
-use Rattle.typst_node.specs.Tree.{text_of, error_of}
-use Rattle.typst_combinators.specs.declared.reading.Call.{Call}
-use Rattle.typst_combinators.specs.declared.reading.Mark.{Mark}
-use Rattle.typst_combinators.specs.declared.reading.Reading.{Reading}
-use Rattle.typst_combinators.specs.declared.reading.State.{State}
+use Rattle.typst_node.specs.Tree.{Tree, text_of, error_of}
+use Rattle.typst_classes.specs.Classes.{CharClasses}
 use Rattle.typst_readers.specs.Sight.{hull_of}
 use Rattle.typst_readers.specs.declared.hull.Hull.{Hull}
+use Rattle.typst_combinators.specs.declared.calls.Call.{Call}
+use Rattle.typst_combinators.specs.declared.calls.Mark.{Mark}
+use Rattle.typst_combinators.specs.declared.reading.Newlines.{Newlines}
+use Rattle.typst_combinators.specs.declared.reading.Reading.{Reading}
+use Rattle.typst_combinators.specs.Calls.{Answer}
+use Rattle.typst_combinators.specs.Point.{Point, Trivia, gap_of, pending, state_of}
 use Rattle.typst_combinators.specs.Ask.{Ask, shift}
-use Rattle.typst_combinators.specs.Hand.{Hand, column_at, column_look}
-use Rattle.typst_machine.specs.Bytes.{Looks, bytes_left, looks_at, whole}
-use Rattle.typst_combinators.specs.Log.{logged, with_hull, with_note}
-use Rattle.typst_combinators.specs.Shape.{Making, Shape, shaped, after_node, after_shape, seen}
-use Rattle.typst_combinators.specs.Syntax.{Parser}
+use Rattle.typst_combinators.specs.Hand.{Hand, AtHand, told, known_by, hand_at, hand_asks, column_at, column_look, token_at, len_at, judged}
+use Rattle.typst_combinators.specs.Log.{Log, logged, with_hull, with_note}
+use Rattle.typst_combinators.specs.Shape.{Making, Shape, Change, shaped, after_node, after_change, after_shape, changed, hinted, seen}
+use Rattle.typst_combinators.specs.Shape.Shape.{keeps, holds, lacks, warns, fails}
+use Rattle.typst_combinators.specs.Sound.{Sound}
+use Rattle.typst_combinators.specs.Syntax.{Parser, Begin}
+use Rattle.typst_combinators.specs.Syntax.Begin.{at_token, at_trivia}
 use Rattle.typst_combinators.specs.Syntax.Op.{hand, column, erred, takes, flushes, complains, marks, is_deepest}
 use Rattle.typst_combinators.specs.Syntax.Parser.{gives, does, next, pick, repeat, wraps, scoped, calls}
-use Rattle.typst_combinators.specs.Meaning.{Outcome, Meaning, Level, plain, less, followed, turns, repeated, entered, left, renewed, flushed_state, taken_node, hand_of, hand_asks_of, passed, run}
-use Rattle.typst_machine.specs.View.{View, Runs, Ran, at, Fits, Left, Rewrapped}
-use Rattle.typst_combinators.specs.Sound.{Sound}
-use Rattle.typst_combinators.proofs.Places.{moved-sum, ahead-left, take-both, drop-both, take-all, drop-all, less-append, less-twice, less-none, length-less, no-end}
-use Rattle.typst_machine.proofs.Bytes.{some-bytes, none-bytes}
-use Rattle.typst_machine.proofs.Logs.{logged-append, logged-shift, logged-sunk, logged-hand, among-is, is-among, in-among, with-again, stretch_hull, passed-in}
+use Rattle.typst_combinators.specs.Meaning.{Outcome, Meaning, Level, asked, before, bound, plain, less, followed, standing, turns, repeated, inside, entered, left, same_mode, same_rule, renewed, flushed_state, taken_node, hand_of, hand_asks_of, run}
+use Rattle.typst_machine.specs.Bytes.{bytes_left, token_hull, column_hull}
+use Rattle.typst_machine.specs.View.{View, Runs, Ran, at, Fits, Bare, Looked, Flushed, Rewrapped, unasked}
+use Rattle.typst_combinators.proofs.Places.{moved-sum, take-both, drop-both, take-all, drop-all, less-none, length-less, no-end}
+use Rattle.typst_combinators.proofs.Hints.{standing-joined, length-hinted}
 use Rattle.typst_combinators.proofs.Within.{turns-enough, within-run}
 use Rattle.typst_combinators.proofs.Backs.{backs-run}
+use Rattle.typst_machine.proofs.Bytes.{some-bytes, none-bytes}
+use Rattle.typst_machine.proofs.Logs.{logged-append, logged-shift, logged-sunk, logged-some, hand-among, Among, among-is, is-among}
+use Rattle.typst_machine.proofs.Trivia.{hand-known, gap-there}
 
 pub runs-plain : {A : Type 0} (n : ℕ) (a b : A) (v : View) → a ≡ b → Runs n (plain a v.state) b v v
 runs-plain n a b v e = record { value = e; place = refl; state = refl; nodes = no-end v.nodes; log = refl }
 
-pub runs-followed : {A B : Type 0} (n : ℕ) (o : Outcome B) (f : B → Place → State → Outcome A) (b : B) (a : A) (old mid new : View)
+pub runs-followed : {A B : Type 0} (n : ℕ) (o : Outcome B) (f : B → Place → Point → Outcome A) (b : B) (a : A) (old mid new : View)
     → Runs n o b old mid → Runs n (f b mid.place mid.state) a mid new → Runs n (followed o f old.place) a old new
 runs-followed n o f b a old mid new h k =
     let q = f o.value (moved o.taken old.place) o.state in
@@ -40,9 +47,7 @@ runs-followed n o f b a old mid new h k =
       value = l.value;
       place = l.place ∙ ap (moved q.taken) h.place ∙ sym (moved-sum o.taken q.taken old.place);
       state = l.state;
-      nodes = l.nodes ∙ ap (λ ns. less q.back ns ++ q.nodes) h.nodes
-          ∙ ap (λ ns. ns ++ q.nodes) (less-append q.back (less o.back old.nodes) o.nodes ∙ ap (λ ns. ns ++ less q.back o.nodes) (less-twice o.back (q.back - length o.nodes) old.nodes))
-          ∙ append_assoc (less (o.back + (q.back - length o.nodes)) old.nodes) (less q.back o.nodes) q.nodes;
+      nodes = l.nodes ∙ ap (standing q) h.nodes ∙ sym (standing-joined o q old.nodes);
       log = l.log ∙ ap (λ z. logged n z mid.log q.asks) h.place ∙ ap (λ x. logged n (moved o.taken old.place) x q.asks) h.log
           ∙ sym (logged-append n old.place old.log o.asks (shift o.taken q.asks) ∙ logged-shift n o.taken old.place (logged n old.place old.log o.asks) q.asks);
     }
@@ -53,16 +58,16 @@ pub ran-next : {A B : Type 0} {l : Level} {p : Parser B} {f : B → Parser A} {b
     → Ran l p b old mid → Ran l (f b) a mid new → Ran l (next p f) a old new
 unfolding run
 ran-next {l = d} {p = p} {f = f} {b = b} {a = a} {old = old} {mid = mid} {new = new} h k =
-    record { runs = runs-followed d.level (at d p old) (λ x. run d (f x)) b a old mid new h.runs k.runs }
+    record { runs = runs-followed d.levels (at d p old) (λ x. run d (f x)) b a old mid new h.runs k.runs }
 
 pub ran-gives : {A : Type 0} {l : Level} {a : A} {v : View} → Ran l (gives a) a v v
 unfolding run
-ran-gives {l = l} {a = a} {v = v} = record { runs = runs-plain l.level a a v refl }
+ran-gives {l = l} {a = a} {v = v} = record { runs = runs-plain l.levels a a v refl }
 
-pub ran-calls : {l : Level} {call : Call} {a : ℕ} {old new : View} → Runs (l.level - 1) (l.deeper call old.place old.state) a old new → Ran l (calls call) a old new
+pub ran-calls : {l : Level} {call : Call} {a : Answer call} {old new : View} → Runs (l.levels - 1) (l.deeper call old.place old.state) a old new → Ran l (calls call) a old new
 unfolding run
 ran-calls {l = l} {call = call} {old = old} h =
-    record { runs = record { value = h.value; place = h.place; state = h.state; nodes = h.nodes; log = h.log ∙ sym (logged-sunk l.level old.place old.log (l.deeper call old.place old.state).asks) } }
+    record { runs = record { value = h.value; place = h.place; state = h.state; nodes = h.nodes; log = h.log ∙ sym (logged-sunk l.levels old.place old.log (l.deeper call old.place old.state).asks) } }
 
 pub ran-pick : {A : Type 0} {l : Level} {b : Bool} {p q : Parser A} {a : A} {old new : View} → b ≡ true → Ran l p a old new → Ran l (pick b p q) a old new
 unfolding run
@@ -74,58 +79,79 @@ ran-other {a = a} {old = old} {new = new} e d = record { runs = rw e d.runs }
 
 -- ---- what only asks
 
--- the token at hand was looked at
-pub record Looked (l : Level) (v w : View) : Type 0 where
-  pub nodes : w.nodes ≡ v.nodes
-  pub place : w.place ≡ v.place
-  pub state : w.state ≡ v.state
-  pub log : w.log ≡ with_hull (whole w.looks) v.log
-  pub hand : w.hand ≡ hand_of l w.place w.state
-  pub looks : w.looks ≡ looks_at l.classes w.state.held w.state.flushed w.place
-
-pub looked-fits : {l : Level} {v w : View} → Looked l v w → Fits l w
-looked-fits {l = l} {v = v} {w = w} h = record {
-  hand = h.hand;
-  looks = h.looks;
-  log = ap (with_hull (whole w.looks)) h.log ∙ is-among (whole w.looks) (with_hull (whole w.looks) v.log) (with-again (whole w.looks) v.log) ∙ sym h.log;
-}
-
-pub ran-look : {l : Level} {v w : View} → Looked l v w → Ran l (does hand) w.hand v w
+pub ran-look : {l : Level} {v w : View} → Looked l v w → Ran l (does hand) (told w.hand) v w
 unfolding run
 ran-look {l = l} {v = v} {w = w} h =
     record {
       runs = record {
-        value = ap (λ z. hand_of l z v.state) (sym h.place) ∙ ap (hand_of l w.place) (sym h.state) ∙ sym h.hand;
+        value = ap told (sym h.hand);
         place = h.place;
-        state = h.state;
+        state = h.state ∙ ap (λ (x : Hand). asked x v.state) h.hand;
         nodes = h.nodes ∙ no-end v.nodes;
-        log = h.log ∙ ap (λ (x : Looks). with_hull (whole x) v.log) h.looks
-            ∙ ap (λ (s : State). with_hull (whole (looks_at l.classes s.held s.flushed w.place)) v.log) h.state
-            ∙ ap (λ z. with_hull (whole (looks_at l.classes v.state.held v.state.flushed z)) v.log) h.place
-            ∙ sym (logged-hand l.classes v.state.held v.state.flushed v.place l.level v.log);
+        log = h.log;
       };
     }
 
+pub own-at : (k : CharClasses) (a b : Reading) (y z : Place) (u : Hull) → a ≡ b → y ≡ z → u ≡ token_hull k b.mode z → u ≡ token_hull k a.mode y
+own-at k a b y z u e f h = h ∙ ap (λ p. token_hull k b.mode p) (sym f) ∙ ap (λ (r : Reading). token_hull k r.mode y) (sym e)
+
+pub here-at : (a b : Reading) (m n : Newlines) (y z : Place) (u o p : Hull) → a ≡ b → m ≡ n → y ≡ z → o ≡ p → u ≡ column_hull b n z p → u ≡ column_hull a m y o
+here-at a b m n y z u o p e f g i h =
+    h ∙ ap (column_hull b n z) (sym i) ∙ ap (λ q. column_hull b n q o) (sym g) ∙ ap (λ x. column_hull b x y o) (sym f) ∙ ap (λ (r : Reading). column_hull r m y o) (sym e)
+
+pub hand-at : (k : CharClasses) (a b : Reading) (x y : Option Trivia) (w z : Place) → a ≡ b → x ≡ y → w ≡ z → hand_at k a x w ≡ hand_at k b y z
+hand-at k a b x y w z e f g = ap (λ p. hand_at k a x p) g ∙ ap (λ q. hand_at k a q z) f ∙ ap (λ r. hand_at k r y z) e
+
+here-is : (k : CharClasses) (held : Reading) (a h : Hand) (z : Place) (own here : Hull) → h ≡ a → own ≡ token_hull k held.mode (moved h.gap z) → here ≡ column_hull held h.newlines (moved h.gap z) own
+    → here ≡ column_hull held a.newlines (moved a.gap z) (token_hull k held.mode (moved a.gap z))
+here-is k held a h z own here e o j =
+    j ∙ ap (column_hull held h.newlines (moved h.gap z)) o ∙ ap (λ (x : Hand). column_hull held x.newlines (moved x.gap z) (token_hull k held.mode (moved x.gap z))) e
+
+pub looked-fits : {l : Level} {v w : View} → gap_of v.state.known ≤ length v.place.ahead → Looked l v w → Fits l w
+looked-fits {l = l} {v = v} {w = w} few h =
+    let k = l.classes in
+    let held = v.state.held in
+    let a = hand_at k held v.state.known v.place in
+    let among = hand-among k held v.place v.state.known l.levels v.log in
+    let here = here-is k held a w.hand v.place w.own w.here h.hand h.own h.here in
+    let there = gap-there k held v.state.known v.place few in
+    let same : w.state.held ≡ held = ap (λ (s : Point). s.held) h.state in
+    let at : moved w.hand.gap w.place ≡ moved w.hand.gap v.place = ap (moved w.hand.gap) h.place in
+    record {
+      known = ap (λ (s : Point). s.known) h.state;
+      hand = h.hand ∙ sym (hand-known k held v.state.known v.place) ∙ ap (λ (x : Hand). hand_at k held (known_by x) v.place) (sym h.hand)
+          ∙ sym (hand-at k w.state.held held w.state.known (known_by w.hand) w.place v.place same (ap (λ (s : Point). s.known) h.state) h.place);
+      own = own-at k w.state.held held (moved w.hand.gap w.place) (moved w.hand.gap v.place) w.own same at h.own;
+      here = here-at w.state.held held w.hand.newlines w.hand.newlines (moved w.hand.gap w.place) (moved w.hand.gap v.place) w.here w.own w.own same refl at refl h.here;
+      there = rw h.place (let g = ap (λ (x : Hand). x.gap) h.hand in omega arith);
+      log = is-among w.here w.log (subst (λ (u : Hull). Among u w.log) (sym here) (subst (λ (x : Log). Among (column_hull held a.newlines (moved a.gap v.place) (token_hull k held.mode (moved a.gap v.place))) x) (sym h.log) among));
+    }
+
+-- the token at hand is asked for alone
+pub asked-log : (l : Level) (v : View) (h : Log) → Fits l v → logged l.levels v.place h (hand_asks_of l v.place v.state) ≡ with_hull v.here h
+asked-log l v h c =
+    let k = l.classes in
+    let held = v.state.held in
+    let t : Trivia = record { nodes = v.hand.trivia; gap = v.hand.gap; newlines = v.hand.newlines } in
+    ap (λ (x : Option Trivia). logged l.levels v.place h (hand_asks k held x v.place)) c.known
+    ∙ logged-some k held v.place l.levels h t
+    ∙ ap (λ (u : Hull). with_hull u h) (ap (column_hull held v.hand.newlines (moved v.hand.gap v.place)) (sym c.own) ∙ sym c.here)
+
+-- and what was looked at for it is known
+pub asked-again : (l : Level) (v : View) → Fits l v → logged l.levels v.place v.log (hand_asks_of l v.place v.state) ≡ v.log
+asked-again l v c = asked-log l v v.log c ∙ c.log
+
+asked-then : (l : Level) (v : View) → Fits l v → (asks : List Ask) → logged l.levels v.place v.log (hand_asks_of l v.place v.state ++ asks) ≡ logged l.levels v.place v.log asks
+asked-then l v c asks = logged-append l.levels v.place v.log (hand_asks_of l v.place v.state) asks ∙ ap (λ x. logged l.levels v.place x asks) (asked-again l v c)
+
+asked-same : (l : Level) (v : View) → Fits l v → v.state ≡ asked v.hand v.state
+asked-same l v c = ap (λ (x : Option Trivia). record v.state { known = x }) c.known
+
 pub fits-looked : {l : Level} {v : View} → Fits l v → Looked l v v
-fits-looked c = record { nodes = refl; place = refl; state = refl; log = sym c.log; hand = c.hand; looks = c.looks }
+fits-looked {l = l} {v = v} c = record { nodes = refl; place = refl; state = asked-same l v c; hand = c.hand; own = c.own; here = c.here; log = sym (asked-again l v c) }
 
-pub ran-hand : {l : Level} (v : View) → Fits l v → Ran l (does hand) v.hand v v
+pub ran-hand : {l : Level} (v : View) → Fits l v → Ran l (does hand) (told v.hand) v v
 ran-hand v c = ran-look (fits-looked c)
-
--- what was asked for the token at hand is known
-known : (l : Level) (v : View) → Fits l v → (asks : List Ask) → logged l.level v.place v.log (hand_asks_of l v.place v.state ++ asks) ≡ logged l.level v.place v.log asks
-known l v c asks =
-    logged-append l.level v.place v.log (hand_asks_of l v.place v.state) asks
-    ∙ ap (λ x. logged l.level v.place x asks)
-    (logged-hand l.classes v.state.held v.state.flushed v.place l.level v.log ∙ ap (λ (x : Looks). with_hull (whole x) v.log) (sym c.looks) ∙ c.log)
-
--- and what was passed
-passed-known : (l : Level) (v : View) (n : ℕ) → Fits l v → n ≤ v.hand.gap + v.hand.len → v.log ≡ logged l.level v.place v.log (hand_asks_of l v.place v.state ++ passed n ∷ [])
-passed-known l v n c h =
-    let w = looks_at l.classes v.state.held v.state.flushed v.place in
-    let e = ap (λ (x : Hand). x.gap + x.len) c.hand in
-    let all = among-is (whole w) v.log (ap (λ (x : Looks). with_hull (whole x) v.log) (sym c.looks) ∙ c.log) in
-    sym (known l v c (passed n ∷ []) ∙ is-among (stretch_hull n v.place) v.log (in-among (stretch_hull n v.place) (whole w) v.log (passed-in l.classes v.state.held v.state.flushed v.place n (omega arith)) all))
 
 -- the column of the token at hand was looked at
 abbrev pub column_seen : View → View
@@ -138,74 +164,59 @@ ran-column {l = l} v c =
       runs = record {
         value = ap (λ (h : Hand). column_at (moved h.gap v.place)) (sym c.hand);
         place = refl;
-        state = refl;
+        state = asked-same l v c ∙ ap (λ (h : Hand). asked h v.state) c.hand;
         nodes = no-end v.nodes;
-        log = ap (λ (h : Hand). with_hull (hull_of (column_look (moved h.gap v.place)) (moved h.gap v.place)) v.log) c.hand ∙ sym (known l v c _);
+        log = ap (λ (h : Hand). with_hull (hull_of (column_look (moved h.gap v.place)) (moved h.gap v.place)) v.log) c.hand ∙ sym (asked-then l v c _);
       };
     }
 
 pub fits-more : {l : Level} {v : View} (u : Hull) → Fits l v → Fits l (record v { log = with_hull u v.log })
 fits-more {v = v} u c =
-    let a = among-is (whole v.looks) v.log c.log in
-    record { hand = c.hand; looks = c.looks; log = is-among (whole v.looks) (with_hull u v.log) (record { reach = omega (arith, a.reach); least = omega (arith, a.least) }) }
+    let a = among-is v.here v.log c.log in
+    record { known = c.known; hand = c.hand; own = c.own; here = c.here; there = c.there; log = is-among v.here (with_hull u v.log) (record { reach = omega (arith, a.reach); least = omega (arith, a.least) }) }
 
 pub ran-erred : {l : Level} (v : View) → Ran l (does erred) v.state.is_after_error v v
 unfolding run
-ran-erred {l = l} v = record { runs = runs-plain l.level v.state.is_after_error v.state.is_after_error v refl }
+ran-erred {l = l} v = record { runs = runs-plain l.levels v.state.is_after_error v.state.is_after_error v refl }
 
-pub ran-deepest : {l : Level} (v : View) → Ran l (does is_deepest) (l.level == 0) v v
+pub ran-deepest : {l : Level} (v : View) → Ran l (does is_deepest) (l.levels == 0) v v
 unfolding run
-ran-deepest {l = l} v = let r = runs-plain l.level (l.level == 0) (l.level == 0) v refl in record { runs = record { value = r.value; place = r.place; state = r.state; nodes = r.nodes; log = refl } }
+ran-deepest {l = l} v = let r = runs-plain l.levels (l.levels == 0) (l.levels == 0) v refl in record { runs = record { value = r.value; place = r.place; state = r.state; nodes = r.nodes; log = refl } }
 
 -- this was noted
-abbrev pub noted : ℕ → ℕ → Mark → View → View
-noted gap depth m v = record v { log = with_note gap depth m v.state v.place v.log }
+abbrev pub noted : ℕ → Mark → View → View
+noted levels m v = record v { log = with_note (gap_of v.state.known) levels m (state_of v.state) v.place v.log }
 
-pub ran-marks : {l : Level} (gap : ℕ) (m : Mark) (v : View) → Ran l (does (marks gap m)) tt v (noted gap l.level m v)
+pub ran-marks : {l : Level} (m : Mark) (v : View) → Ran l (does (marks m)) tt v (noted l.levels m v)
 unfolding run
-ran-marks {l = l} gap m v =
-    let e : l.level - 0 ≡ l.level = omega arith in
-    record { runs = record { value = refl; place = refl; state = refl; nodes = no-end v.nodes; log = ap (λ n. with_note gap n m v.state v.place v.log) (sym e) } }
+ran-marks {l = l} m v =
+    let e : l.levels - 0 ≡ l.levels = omega arith in
+    record { runs = record { value = refl; place = refl; state = refl; nodes = no-end v.nodes; log = ap (λ n. with_note (gap_of v.state.known) n m (state_of v.state) v.place v.log) (sym e) } }
 
 -- ---- what takes and gives
 
--- the token at hand was taken so, and the next one is at hand
+-- the token at hand was taken so
 pub record Eaten (l : Level) (trims : Bool) (making : Making) (v w : View) : Type 0 where
   pub nodes : w.nodes ≡ less (if trims then v.state.empties else 0) v.nodes ++ (v.hand.trivia ++ taken_node l.classes making v.hand v.place ∷ [])
   pub place : w.place ≡ moved (v.hand.gap + v.hand.len) v.place
   pub state : w.state ≡ renewed (after_node (is_error (taken_node l.classes making v.hand v.place).head.kind) (text_of (taken_node l.classes making v.hand v.place)) v.state)
-  pub log : w.log ≡ with_hull (whole w.looks) v.log
-  pub hand : w.hand ≡ hand_of l w.place w.state
-  pub looks : w.looks ≡ looks_at l.classes w.state.held w.state.flushed w.place
+  pub log : w.log ≡ v.log
 
--- before the next token was looked at
-abbrev pub before_look : View → View → View
-before_look v w = record w { log = v.log }
-
-pub eaten-looked : {l : Level} {trims : Bool} {making : Making} {v w : View} → Eaten l trims making v w → Looked l (before_look v w) w
-eaten-looked h = record { nodes = refl; place = refl; state = refl; log = h.log; hand = h.hand; looks = h.looks }
-
-pub ran-takes : {l : Level} {trims : Bool} {making : Making} {v w : View} → Eaten l trims making v w → Fits l v → Ran l (does (takes trims making)) tt v (before_look v w)
+pub ran-takes : {l : Level} {trims : Bool} {making : Making} {v w : View} → Eaten l trims making v w → Fits l v → Ran l (does (takes trims making)) tt v w
 unfolding run
 ran-takes {l = l} {trims = trims} {making = making} {v = v} {w = w} h c =
-    let g = hand_of l v.place v.state in
     record {
       runs = record {
         value = refl;
         place = h.place ∙ ap (λ (x : Hand). moved (x.gap + x.len) v.place) c.hand;
         state = h.state ∙ ap (λ (x : Hand). renewed (after_node (is_error (taken_node l.classes making x v.place).head.kind) (text_of (taken_node l.classes making x v.place)) v.state)) c.hand;
         nodes = h.nodes ∙ ap (λ (x : Hand). less (if trims then v.state.empties else 0) v.nodes ++ (x.trivia ++ taken_node l.classes making x v.place ∷ [])) c.hand;
-        log = passed-known l v (g.gap + g.len) c (let e = ap (λ (x : Hand). x.gap + x.len) c.hand in omega arith);
+        log = h.log ∙ sym (asked-again l v c);
       };
     }
 
--- the trivia at hand became nodes
-pub record Flushed (v w : View) : Type 0 where
-  pub nodes : w.nodes ≡ v.nodes ++ v.hand.trivia
-  pub place : w.place ≡ moved v.hand.gap v.place
-  pub state : w.state ≡ flushed_state v.hand v.state
-  pub hand : w.hand ≡ record v.hand { trivia = []; gap = 0 }
-  pub log : w.log ≡ v.log
+pub eaten-bare : {l : Level} {trims : Bool} {making : Making} {v w : View} → Eaten l trims making v w → Bare w
+eaten-bare h = record { known = ap (λ (s : Point). s.known) h.state }
 
 pub ran-flushes : {l : Level} {v w : View} → Flushed v w → Fits l v → Ran l (does flushes) tt v w
 unfolding run
@@ -215,9 +226,31 @@ ran-flushes {l = l} {v = v} {w = w} h c =
         value = refl;
         place = h.place ∙ ap (λ (x : Hand). moved x.gap v.place) c.hand;
         state = h.state ∙ ap (λ (x : Hand). flushed_state x v.state) c.hand;
-        log = h.log ∙ passed-known l v (hand_of l v.place v.state).gap c (let e = ap (λ (x : Hand). x.gap) c.hand in omega arith);
+        log = h.log ∙ sym (asked-again l v c);
         nodes = h.nodes ∙ ap (λ (x : Hand). v.nodes ++ x.trivia) c.hand ∙ ap (λ ns. ns ++ (hand_of l v.place v.state).trivia) (sym (less-none v.nodes));
       };
+    }
+
+flushed-held : (ts : List Tree) (h : Hand) (s : Point) → h.trivia ≡ ts → (flushed_state h s).held ≡ s.held
+flushed-held [] h s e = rw e refl
+flushed-held (t ∷ ts) h s e = rw e refl
+
+pub flushed-fits : {l : Level} {v w : View} → Flushed v w → Fits l v → Fits l w
+unfolding hand_at
+flushed-fits {l = l} {v = v} {w = w} h c =
+    let k = l.classes in
+    let t : Trivia = record { nodes = v.hand.trivia; gap = v.hand.gap; newlines = v.hand.newlines } in
+    let held : w.state.held ≡ v.state.held = ap (λ (s : Point). s.held) h.state ∙ flushed-held v.hand.trivia v.hand v.state refl in
+    let known : w.state.known ≡ Some (record { nodes = []; gap = 0; newlines = v.hand.newlines }) = ap (λ (s : Point). s.known) h.state in
+    let all : v.hand ≡ hand_at k v.state.held (Some t) v.place = c.hand ∙ ap (λ (x : Option Trivia). hand_at k v.state.held x v.place) c.known in
+    let at : moved w.hand.gap w.place ≡ moved v.hand.gap v.place = ap (λ (x : Hand). moved x.gap w.place) h.hand ∙ h.place in
+    record {
+      known = known ∙ ap known_by (sym h.hand);
+      hand = h.hand ∙ ap (λ (x : Hand). record x { trivia = []; gap = 0 }) all ∙ sym (hand-at k w.state.held v.state.held w.state.known _ w.place (moved v.hand.gap v.place) held known h.place);
+      own = h.own ∙ own-at k w.state.held v.state.held (moved w.hand.gap w.place) (moved v.hand.gap v.place) v.own held at c.own;
+      here = h.here ∙ here-at w.state.held v.state.held w.hand.newlines v.hand.newlines (moved w.hand.gap w.place) (moved v.hand.gap v.place) v.here w.own v.own held (ap (λ (x : Hand). x.newlines) h.hand) at h.own c.here;
+      there = let g : w.hand.gap ≡ 0 = ap (λ (x : Hand). x.gap) h.hand in omega arith;
+      log = rw (h.here, h.log) c.log;
     }
 
 pub ran-complains : {l : Level} (m : List ℕ) (v : View)
@@ -227,50 +260,66 @@ ran-complains m v = record { runs = record { value = refl; place = refl; state =
 
 -- ---- what is read in another way
 
-pub ran-scoped : {A : Type 0} {l : Level} (f : Reading → Reading) {p : Parser A} {a : A} {old mid new : View}
-    → Ran l p a (record old { state = entered (f old.state.reading) old.state }) mid → Left l old.state.reading mid new → Ran l (scoped f p) a old (before_look mid new)
+pub ran-scoped : {A : Type 0} {l : Level} (f : Reading → Reading) {p : Parser A} {a : A} {old mid : View}
+    → Ran l p a (record old { state = entered (f old.state.reading) old.state }) mid → Ran l (scoped f p) a old (record mid { state = left old.state.reading mid.state })
 unfolding run
-ran-scoped f {old = old} d e =
+ran-scoped f {old = old} d =
     let h = d.runs in
-    record { runs = record { value = h.value; place = e.place ∙ h.place; state = e.state ∙ ap (left old.state.reading) h.state; nodes = e.nodes ∙ h.nodes; log = h.log } }
+    record { runs = record { value = h.value; place = h.place; state = ap (left old.state.reading) h.state; nodes = h.nodes; log = h.log } }
 
-pub left-looked : {l : Level} {outer : Reading} {v w : View} → Left l outer v w → Fits l v → Looked l (before_look v w) w
-left-looked e c = let d = e.fits c in record { nodes = refl; place = refl; state = refl; log = e.log c; hand = d.hand; looks = d.looks }
+-- ---- what goes into a shape
 
--- ---- what becomes one node
-
-pub ran-wraps : {A : Type 0} {l : Level} {f : A → Shape} {n : ℕ} {p : Parser A} {a : A} {old mid new : View}
+pub ran-wraps : {A : Type 0} {l : Level} {f : A → Shape} {begin : Begin} {p : Parser A} {a : A} {old mid new : View}
     → Sound l → old.state.empties ≤ length old.nodes
-    → Ran l p a old mid → Rewrapped (length old.nodes + n) (f a) mid new → Ran l (wraps f n p) (a, map seen (drop (length old.nodes + n) mid.nodes)) old new
+    → Ran l p a old mid → Rewrapped (length old.nodes + before begin old.state) (f a) mid new → Ran l (wraps f begin p) (a, map seen (drop (length old.nodes + before begin old.state) mid.nodes)) old new
 unfolding run
-ran-wraps {l = d} {f = f} {n = n} {p = p} {a = a} {old = old} {mid = mid} {new = new} sound few did w =
+ran-wraps {l = d} {f = f} {begin = begin} {p = p} {a = a} {old = old} {mid = mid} {new = new} sound few did w =
     let h = did.runs in
+    let n = before begin old.state in
     let o = at d p old in
     let b = (backs-run d sound.backs sound.backs_block p old.place old.state).back in
     let k = length old.nodes + n in
-    let l = length-less o.back old.nodes in
-    let base = less o.back old.nodes in
+    let base = hinted o.hints (less o.back old.nodes) in
+    let l : length base ≡ length old.nodes - o.back = length-hinted o.hints (less o.back old.nodes) ∙ length-less o.back old.nodes in
     let none : k - length base ≡ n + o.back = omega arith in
     let short : length base ≤ k = omega arith in
     let front = ap (take k) h.nodes ∙ take-both k base o.nodes ∙ ap (λ ns. ns ++ take (k - length base) o.nodes) (take-all k base short) ∙ ap (λ j. base ++ take j o.nodes) none in
     let end = ap (drop k) h.nodes ∙ drop-both k base o.nodes ∙ ap (λ ns. ns ++ drop (k - length base) o.nodes) (drop-all k base short) ∙ ap (λ j. drop j o.nodes) none in
-    let inside = drop (n + o.back) o.nodes in
+    let within = inside n o in
+    let value : ◌≡◌ {A = _ × _} (o.value, map seen within) (a, map seen (drop k mid.nodes)) = rw (end, h.value) refl in
     record {
       runs = record {
-        value = rw (end, h.value) refl;
+        value = value;
         place = w.place ∙ h.place;
-        state = w.state ∙ ap (λ ns. after_shape (f a) ns mid.state) end ∙ ap (λ s. after_shape (f a) inside s) h.state ∙ ap (λ v. after_shape (f v) inside o.state) (sym h.value);
+        state = w.state ∙ ap (λ ns. after_shape (f a) ns mid.state) end ∙ ap (λ s. after_shape (f a) within s) h.state ∙ ap (λ v. after_shape (f v) within o.state) (sym h.value);
         log = w.log ∙ h.log;
-        nodes = w.nodes ∙ ap (λ ns. ns ++ shaped (f a) (drop k mid.nodes) ∷ []) front ∙ ap (λ ns. (base ++ take (n + o.back) o.nodes) ++ shaped (f a) ns ∷ []) end
-            ∙ append_assoc base (take (n + o.back) o.nodes) (shaped (f a) inside ∷ [])
-            ∙ ap (λ v. base ++ (take (n + o.back) o.nodes ++ shaped (f v) inside ∷ [])) (sym h.value);
+        nodes = w.nodes ∙ ap (λ ns. ns ++ shaped (f a) (drop k mid.nodes)) front ∙ ap (λ ns. (base ++ take (n + o.back) o.nodes) ++ shaped (f a) ns) end
+            ∙ append_assoc base (take (n + o.back) o.nodes) (shaped (f a) within)
+            ∙ ap (λ v. base ++ (take (n + o.back) o.nodes ++ shaped (f v) within)) (sym h.value);
       };
     }
 
--- ---- a loop: what is left to do, done, is the whole
+-- what asks for the token at hand, where it was asked for already
+pub after-peek : {A : Type 0} {l : Level} {f : AtHand → Parser A} {a : A} {w new : View} → Fits l w → Ran l (next (does hand) f) a w new → Ran l (f (told w.hand)) a w new
+unfolding run
+after-peek {l = l} {f = f} {a = a} {w = w} {new = new} c d =
+    let h = d.runs in
+    let g = hand_of l w.place w.state in
+    let q = run l (f (told g)) w.place (asked g w.state) in
+    let r = run l (f (told w.hand)) w.place w.state in
+    let o : Outcome AtHand = record { value = told g; taken = 0; state = asked g w.state; back = 0; hints = []; nodes = []; asks = hand_asks_of l w.place w.state; met = false } in
+    let e : q ≡ r = ap (λ (x : Hand). run l (f (told x)) w.place (asked x w.state)) (sym c.hand) ∙ ap (λ (s : Point). run l (f (told w.hand)) w.place s) (sym (asked-same l w c)) in
+    let none : 0 + q.taken ≡ q.taken = omega arith in
+    let runs : Runs l.levels q a w new = record {
+      value = h.value;
+      place = h.place ∙ ap (λ n. moved n w.place) none;
+      state = h.state;
+      nodes = h.nodes ∙ standing-joined o q w.nodes ∙ ap (standing q) (sym (no-end w.nodes));
+      log = h.log ∙ asked-then l w c (shift 0 q.asks) ∙ logged-shift l.levels 0 w.place w.log q.asks;
+    } in
+    record { runs = subst (λ (x : Outcome _). Runs l.levels x a w new) e runs }
 
-taken-left : {A : Type 0} (n : ℕ) (o : Outcome A) (a : A) (v w : View) → Runs n o a v w → length w.place.ahead ≡ length v.place.ahead - o.taken
-taken-left n o a v w h = ap (λ (z : Place). length z.ahead) h.place ∙ ahead-left o.taken v.place
+-- ---- a loop: what is left to do, done, is the whole
 
 -- who has fewer bytes left took some, and who has no fewer took none
 taken-some : {A : Type 0} (n : ℕ) (o : Outcome A) (a : A) (v w : View) → Runs n o a v w → bytes_left w.place < bytes_left v.place → 0 < o.taken
@@ -278,6 +327,9 @@ taken-some n o a v w h less_bytes = some-bytes o.taken v.place (let e = ap bytes
 
 taken-none : {A : Type 0} (n : ℕ) (o : Outcome A) (a : A) (v w : View) → Runs n o a v w → o.taken ≤ length v.place.ahead → bytes_left v.place ≤ bytes_left w.place → o.taken ≡ 0
 taken-none n o a v w h most stuck = none-bytes o.taken v.place most (let e = ap bytes_left h.place in omega arith)
+
+bound-after : {A : Type 0} (n : ℕ) (o : Outcome A) (a : A) (v w : View) → Runs n o a v w → bound w.place w.state ≡ bound (moved o.taken v.place) o.state
+bound-after n o a v w h = rw (h.place, h.state) refl
 
 abbrev turn : {A : Type 0} (l : Level) (p : A → Parser (Bool × A)) → A → Meaning (Bool × A)
 turn d p x = run d (p x)
@@ -289,24 +341,76 @@ ran-turn {l = d} {p = p} {x = x} {y = y} {a = a} {v = v} {w = w} {new = new} sou
     let h = did.runs in
     let m = turn d p in
     let o = at d (p x) v in
-    let left = taken-left d.level o (true, y) v w h in
-    let some = taken-some d.level o (true, y) v w h less_bytes in
+    let some = taken-some d.levels o (true, y) v w h less_bytes in
     let most = within-run d sound.within sound.within_block (p x) v.place v.state in
-    let less_left : length w.place.ahead < length v.place.ahead = omega arith in
+    let after = bound-after d.levels o (true, y) v w h in
+    let less_left : bound w.place w.state < bound v.place v.state = omega (arith, most, after, some) in
     let goes_on : (o.value.0 && nat_lt 0 o.taken) ≡ true = rw (h.value, lt-ltb 0 o.taken some) refl in
-    let same = turns-enough m (λ z. within-run d sound.within sound.within_block (p z)) (suc (length w.place.ahead)) (length v.place.ahead) y w.place w.state (omega arith) less_left in
-    record { runs = rw goes_on (runs-followed d.level o (λ u. turns m (length v.place.ahead) u.1) (true, y) a v w new h (subst (λ u. Runs d.level u a w new) same rest.runs)) }
+    let same = turns-enough m (λ z. within-run d sound.within sound.within_block (p z)) (suc (bound w.place w.state)) (bound v.place v.state) y w.place w.state (omega arith) less_left in
+    record { runs = rw goes_on (runs-followed d.levels o (λ u. turns m (bound v.place v.state) u.1) (true, y) a v w new h (subst (λ u. Runs d.levels u a w new) same rest.runs)) }
 
 no_turn : (b : Bool) (n : ℕ) → (b ≡ true → n ≡ 0) → (b && nat_lt 0 n) ≡ false
 no_turn true n h = rw (h refl) refl
 no_turn false n h = refl
 
 pub ran-last : {A : Type 0} {l : Level} {p : A → Parser (Bool × A)} {b : Bool} {x y : A} {v w : View}
-    → Sound l → Ran l (p x) (b, y) v w → (b ≡ true → bytes_left v.place ≤ bytes_left w.place) → Ran l (repeat p x) y v w
+    → Sound l → gap_of v.state.known ≤ length v.place.ahead → Ran l (p x) (b, y) v w → (b ≡ true → bytes_left v.place ≤ bytes_left w.place) → Ran l (repeat p x) y v w
 unfolding run repeated
-ran-last {l = d} {p = p} {b = b} {x = x} {y = y} {v = v} {w = w} sound did stuck =
+ran-last {l = d} {p = p} {b = b} {x = x} {y = y} {v = v} {w = w} sound few did stuck =
     let h = did.runs in
     let o = at d (p x) v in
     let most = within-run d sound.within sound.within_block (p x) v.place v.state in
-    let stops : (o.value.0 && nat_lt 0 o.taken) ≡ false = rw h.value (no_turn b o.taken (λ e. taken-none d.level o (b, y) v w h most (stuck e))) in
+    let there : o.taken ≤ length v.place.ahead = omega (arith, most, few) in
+    let stops : (o.value.0 && nat_lt 0 o.taken) ≡ false = rw h.value (no_turn b o.taken (λ e. taken-none d.levels o (b, y) v w h there (stuck e))) in
     record { runs = rw stops (record { value = ap (λ u. u.1) h.value; place = h.place; state = h.state; nodes = h.nodes; log = h.log }) }
+
+-- ---- what a shape leaves of the token at hand
+
+change-held : (change : Change) (ts : List Tree) (s : Point) → (after_change change ts s).held ≡ s.held
+change-held change [] s = refl
+change-held change (t ∷ []) s = on-error (is_error t.head.kind) (is_error (changed change t).head.kind) (text_of t) s
+  where
+    on-error : (a b : Bool) (text : List ℕ) (s : Point) → (if a then s else after_node b text s).held ≡ s.held
+    on-error true b text s = refl
+    on-error false true text s = refl
+    on-error false false text s = refl
+change-held change (t ∷ u ∷ ts) s = refl
+
+change-known : (change : Change) (ts : List Tree) (s : Point) → (after_change change ts s).known ≡ s.known
+change-known change [] s = refl
+change-known change (t ∷ []) s = on-error (is_error t.head.kind) (is_error (changed change t).head.kind) (text_of t) s
+  where
+    on-error : (a b : Bool) (text : List ℕ) (s : Point) → (if a then s else after_node b text s).known ≡ s.known
+    on-error true b text s = refl
+    on-error false true text s = refl
+    on-error false false text s = refl
+change-known change (t ∷ u ∷ ts) s = refl
+
+shape-held : (shape : Shape) (ts : List Tree) (s : Point) → (after_shape shape ts s).held ≡ s.held
+shape-held (keeps change) ts s = change-held change ts s
+shape-held (holds change kind) ts s = refl
+shape-held (lacks count message kind) ts s = refl
+shape-held (warns kind message hint) ts s = refl
+shape-held (fails message) ts s = refl
+
+shape-known : (shape : Shape) (ts : List Tree) (s : Point) → (after_shape shape ts s).known ≡ s.known
+shape-known (keeps change) ts s = change-known change ts s
+shape-known (holds change kind) ts s = refl
+shape-known (lacks count message kind) ts s = refl
+shape-known (warns kind message hint) ts s = refl
+shape-known (fails message) ts s = refl
+
+pub rewrapped-fits : (l : Level) {from : ℕ} {shape : Shape} {mid new : View} → Rewrapped from shape mid new → Fits l mid → Fits l new
+rewrapped-fits l {from = from} {shape = shape} {mid = mid} {new = new} w c =
+    let ts = drop from mid.nodes in
+    let held : new.state.held ≡ mid.state.held = ap (λ (s : Point). s.held) w.state ∙ shape-held shape ts mid.state in
+    let known : new.state.known ≡ mid.state.known = ap (λ (s : Point). s.known) w.state ∙ shape-known shape ts mid.state in
+    let at : moved new.hand.gap new.place ≡ moved mid.hand.gap mid.place = ap (λ (x : Hand). moved x.gap new.place) w.hand ∙ ap (moved mid.hand.gap) w.place in
+    record {
+      known = known ∙ c.known ∙ ap known_by (sym w.hand);
+      hand = w.hand ∙ c.hand ∙ sym (hand-at l.classes new.state.held mid.state.held new.state.known mid.state.known new.place mid.place held known w.place);
+      own = w.own ∙ own-at l.classes new.state.held mid.state.held (moved new.hand.gap new.place) (moved mid.hand.gap mid.place) mid.own held at c.own;
+      here = w.here ∙ here-at new.state.held mid.state.held new.hand.newlines mid.hand.newlines (moved new.hand.gap new.place) (moved mid.hand.gap mid.place) mid.here new.own mid.own held (ap (λ (x : Hand). x.newlines) w.hand) at w.own c.here;
+      there = rw (w.hand, w.place) c.there;
+      log = rw (w.here, w.log) c.log;
+    }

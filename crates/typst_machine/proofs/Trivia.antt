@@ -1,5 +1,5 @@
 -- Reading trivia one after the other.
-use Rattle.std.proofs.Common.{◌≡◌, ℕ, zero, suc, ◌+◌, ◌-◌, ◌<◌, ◌≤◌, Bool, true, false, ◌&&◌, ◌||◌, nat_lt, List, [], ◌∷◌, ◌++◌, length, reverse, append_assoc, append-nil, refl, ap, sym, ◌∙◌, subst, arith}
+use Rattle.std.proofs.Common.{Option, Some, None, ◌≡◌, ℕ, zero, suc, ◌+◌, ◌-◌, ◌<◌, ◌≤◌, Bool, true, false, ◌&&◌, ◌||◌, nat_lt, List, [], ◌∷◌, ◌++◌, length, reverse, append_assoc, append-nil, refl, ap, sym, ◌∙◌, subst, arith}
 use Rattle.std.proofs.Math.Bool.{or_assoc}
 use borrow.Author.Tests.{ltb-true, lt-ltb}
 use Rattle.std.proofs.lemmas.Str.{chars-nil}
@@ -14,23 +14,22 @@ use Rattle.typst_readers.specs.declared.hull.Hull.{Hull}
 use Rattle.typst_tokens.specs.declared.token.Token.{Token}
 use Rattle.typst_combinators.specs.declared.reading.Newlines.{Newlines}
 use Rattle.typst_combinators.specs.declared.reading.Reading.{Reading}
-use Rattle.typst_combinators.specs.Hand.{Hand, Ahead, text_ahead, is_trivia, token_at, len_at, at_trivia, no_newlines, both_newlines, newlines_of, direct, after_trivia, ahead_by, ahead, column_at, judged, hand_by, hand_at}
-use Rattle.typst_machine.specs.Bytes.{joined_hull, token_hull, tokens_by, tokens_at, column_hull, Looks, looks_at}
+use Rattle.typst_kinds.specs.Kinds.{is_trivia}
+use Rattle.typst_combinators.specs.Point.{Trivia, gap_of, no_newlines}
+use Rattle.typst_combinators.specs.Hand.{Hand, Ahead, text_ahead, token_at, len_at, at_trivia, both_newlines, newlines_of, direct, after_trivia, ahead_by, ahead, column_at, judged, hand_at, known_by}
+use Rattle.typst_machine.specs.Bytes.{joined_hull, token_hull, tokens_by, tokens_at, column_hull, whole_at}
 use Rattle.typst_readers.specs.Reader.{exec, eaten}
 use Rattle.typst_lexer.specs.Tokens.{token}
 use Rattle.typst_readers.proofs.Moves.{exec-moved}
 use Rattle.typst_lines.specs.Scanner.{place}
-use Rattle.typst_machine.specs.declared.ahead.Ahead.{Ahead as Front}
-use Rattle.typst_machine.specs.Cursor.{IsAhead}
+use Rattle.typst_machine.specs.declared.ahead.ReadAhead.{ReadAhead as Front}
+use Rattle.typst_lines.specs.declared.scanner.Scanner.{Scanner}
+use Rattle.typst_machine.specs.Cursor.{IsAhead, distance}
 use Rattle.typst_machine.specs.Bytes.{bytes_left}
 use Rattle.typst_machine.proofs.Bytes.{some-bytes, none-bytes}
 use Rattle.typst_machine.proofs.Hulls.{In, itself-in, second-in, first-in, same-hull}
 use Rattle.typst_combinators.proofs.Places.{moved-sum, moved-min, moved-behind, ahead-left}
 use Rattle.typst_combinators.proofs.Within.{if-same, and-second, on_both, on_if}
-use Rattle.typst_combinators.specs.declared.reading.AtNewline.{AtNewline}
-use Rattle.typst_combinators.specs.declared.reading.State.{State}
-use Rattle.typst_combinators.specs.Shape.{is_nil, after_node}
-use Rattle.typst_combinators.specs.Meaning.{flushed_state}
 
 and-none : (b : Bool) (n : ℕ) → n ≡ 0 → (b && nat_lt 0 n) ≡ false
 and-none true n e = rw e refl
@@ -82,23 +81,23 @@ module _ (k : CharClasses) (m : SyntaxMode) where
   ahead-stop z h = enough (length z.ahead) (suc (length z.ahead)) z (omega arith) (omega arith) ∙ (rw h refl)
 
   -- from one place so many nodes were read, up to another
-  pub record Along (flushed now : Newlines) (ts : List Tree) (from z : Place) : Type 0 where
+  pub record Along (now : Newlines) (ts : List Tree) (from z : Place) : Type 0 where
     pub gap : ℕ
     pub fits : gap ≤ length from.ahead
     pub place : z ≡ moved gap from
     pub trivia : (ahead k m from).trivia ≡ ts ++ (ahead k m z).trivia
     pub gaps : (ahead k m from).gap ≡ gap + (ahead k m z).gap
-    pub newlines : both_newlines flushed (ahead k m from).newlines ≡ both_newlines now (ahead k m z).newlines
+    pub newlines : (ahead k m from).newlines ≡ both_newlines now (ahead k m z).newlines
     pub token : (ahead k m from).token ≡ (ahead k m z).token
     pub len : (ahead k m from).len ≡ (ahead k m z).len
 
-  pub along-start : (flushed : Newlines) (z : Place) → Along flushed flushed [] z z
-  along-start flushed z = record { gap = 0; fits = omega arith; place = refl; trivia = refl; gaps = omega arith; newlines = refl; token = refl; len = refl }
+  pub along-start : (z : Place) → Along no_newlines [] z z
+  along-start z = record { gap = 0; fits = omega arith; place = refl; trivia = refl; gaps = omega arith; newlines = refl; token = refl; len = refl }
 
-  pub along-next : (flushed now : Newlines) (ts : List Tree) (from z w : Place) (node : Tree) → Along flushed now ts from z → at_trivia k m z ≡ true
+  pub along-next : (now : Newlines) (ts : List Tree) (from z w : Place) (node : Tree) → Along now ts from z → at_trivia k m z ≡ true
       → w ≡ moved (len_at k m z) z → node ≡ token_node k (token_at k m z) (text_ahead (len_at k m z) z)
-      → Along flushed (both_newlines now (newlines_of (token_at k m z))) (ts ++ node ∷ []) from w
-  along-next flushed now ts from z w node a h e f =
+      → Along (both_newlines now (newlines_of (token_at k m z))) (ts ++ node ∷ []) from w
+  along-next now ts from z w node a h e f =
       let l = len_at k m z in
       let t = token_at k m z in
       let step : ahead k m z ≡ after_trivia t l node (ahead k m w) = ahead-step z h ∙ (rw (e, f) refl) in
@@ -120,34 +119,23 @@ pub same-hand : (i j : SyntaxKind) (ts us : List Tree) (g h l n : ℕ) (a b : Ne
 same-hand i j ts us g h l n a b t u p q r s v w = rw (p, q, r, s, v, w) refl
 
 -- behind all trivia the hand is whole
-pub along-end : (k : CharClasses) (held : Reading) (flushed now : Newlines) (ts : List Tree) (from z : Place) (a : Along k held.mode flushed now ts from z) → at_trivia k held.mode z ≡ false
-    → record { kind = judged held now (token_at k held.mode z).kind (column_at z); trivia = ts; gap = a.gap; len = len_at k held.mode z; newlines = now; token = token_at k held.mode z } ≡ hand_at k held flushed from
+pub along-end : (k : CharClasses) (held : Reading) (now : Newlines) (ts : List Tree) (from z : Place) (a : Along k held.mode now ts from z) → at_trivia k held.mode z ≡ false
+    → record { kind = judged held now (token_at k held.mode z).kind (column_at z); trivia = ts; gap = a.gap; len = len_at k held.mode z; newlines = now; token = token_at k held.mode z } ≡ hand_at k held None from
 unfolding hand_at
-along-end k held flushed now ts from z a h =
+along-end k held now ts from z a h =
     let m = held.mode in
     let stop = ahead-stop k m z h in
     let f = ahead k m from in
     let token-is : token_at k m z ≡ f.token = sym (a.token ∙ ap (λ (x : Ahead). x.token) stop) in
     let gap-is : a.gap ≡ f.gap = let s : (ahead k m z).gap ≡ 0 = ap (λ (x : Ahead). x.gap) stop in omega (arith, a.gaps, s) in
-    let line-is : now ≡ both_newlines flushed f.newlines = sym (a.newlines ∙ ap (λ (x : Ahead). both_newlines now x.newlines) stop ∙ both-none now) in
+    let line-is : now ≡ f.newlines = sym (a.newlines ∙ ap (λ (x : Ahead). both_newlines now x.newlines) stop ∙ both-none now) in
     let trivia-is : ts ≡ f.trivia = sym (a.trivia ∙ ap (λ (x : Ahead). ts ++ x.trivia) stop ∙ append-nil ts) in
     let column-is : column_at z ≡ column_at (moved f.gap from) = ap column_at (a.place ∙ ap (λ n. moved n from) gap-is) in
     same-hand _ _ _ _ _ _ _ _ _ _ _ _
     (ap (λ (t : Token). judged held now t.kind (column_at z)) token-is ∙ ap (λ c. judged held now f.token.kind c) column-is ∙ ap (λ n. judged held n f.token.kind (column_at (moved f.gap from))) line-is)
     trivia-is gap-is (sym (a.len ∙ ap (λ (x : Ahead). x.len) stop)) line-is token-is
 
--- ---- trivia that became nodes
-
-nil-cons : (t : Tree) (ts : List Tree) → t ∷ ts ≡ [] → ⊥
-nil-cons t ts e = cc
-
-no-gap : (k : CharClasses) (m : SyntaxMode) (n : ℕ) (z : Place) → (ahead_by k m n z).trivia ≡ [] → (ahead_by k m n z).gap ≡ 0
-no-gap k m zero z = λ e. refl
-no-gap k m (suc n) z = on_both (λ (a : Ahead). a.trivia ≡ [] → a.gap ≡ 0) (at_trivia k m z) _ _ (λ e. absurd (nil-cons _ _ e)) (λ e. refl)
-
-pub hand-no-gap : (k : CharClasses) (held : Reading) (flushed : Newlines) (z : Place) → (hand_at k held flushed z).trivia ≡ [] → (hand_at k held flushed z).gap ≡ 0
-unfolding hand_at ahead
-hand-no-gap k held flushed z e = no-gap k held.mode (length z.ahead) z e
+-- ---- what is known of trivia
 
 again-direct : (k : CharClasses) (m : SyntaxMode) (p : ℕ) (z : Place) → at_trivia k m z ≡ false → ahead_by k m p z ≡ direct (token_at k m z) (len_at k m z)
 again-direct k m zero z h = refl
@@ -182,29 +170,38 @@ again k m (suc n) z s = on_if (Again k m z) (at_trivia k m z) _ _
     ap (ahead_by k m p) sum ∙ again k m n w (omega arith) p fits)
     (λ t p h. again-direct k m p z t)
 
--- behind trivia that became nodes the same token is at hand
-pub hand-flushed : (k : CharClasses) (held : Reading) (flushed : Newlines) (z : Place) (h : Hand) → h ≡ hand_at k held flushed z
-    → record h { trivia = []; gap = 0 } ≡ hand_at k held h.newlines (moved h.gap z)
-unfolding hand_at ahead
-hand-flushed k held flushed z h e =
-    let m = held.mode in
-    let a = ahead k m z in
-    let w = moved a.gap z in
-    let same : ahead_by k m (length w.ahead) w ≡ direct a.token a.len = again k m (length z.ahead) z (omega arith) (length w.ahead) (omega arith) in
-    let line = both_newlines flushed a.newlines in
-    let whole : record (hand_at k held flushed z) { trivia = []; gap = 0 } ≡ hand_at k held line w =
-    sym (ap (λ (x : Ahead). hand_by held line (column_at (moved x.gap w)) x) same ∙ ap (λ n. hand_by held n (column_at w) (direct a.token a.len)) refl ∙ same-hand _ _ _ _ _ _ _ _ _ _ _ _ (ap (λ n. judged held n a.token.kind (column_at w)) (both-none line)) refl refl refl (both-none line) refl) in
-    ap (λ (x : Hand). record x { trivia = []; gap = 0 }) e ∙ whole ∙ sym (ap (λ (x : Hand). hand_at k held x.newlines (moved x.gap z)) e)
+-- behind the trivia at a place stands the token after them
+token-behind : (k : CharClasses) (m : SyntaxMode) (z : Place) → direct (token_at k m (moved (ahead k m z).gap z)) (len_at k m (moved (ahead k m z).gap z)) ≡ direct (ahead k m z).token (ahead k m z).len
+unfolding ahead
+token-behind k m z =
+    let n = length z.ahead in
+    let w = moved (ahead_by k m n z).gap z in
+    sym (again-direct k m (length w.ahead) w (again-stop k m n z (omega arith))) ∙ again k m n z (omega arith) (length w.ahead) (omega arith)
 
--- the token at hand by another rule
-pub rejudged : (k : CharClasses) (held : Reading) (rule : AtNewline) (flushed : Newlines) (z : Place) (h : Hand) → h ≡ hand_at k held flushed z
-    → record h { kind = judged (record held { at_newline = rule }) h.newlines h.token.kind (column_at (moved h.gap z)) } ≡ hand_at k (record held { at_newline = rule }) flushed z
+-- where the trivia are known the same token is at hand
+pub hand-known : (k : CharClasses) (held : Reading) (known : Option Trivia) (z : Place) → hand_at k held (known_by (hand_at k held known z)) z ≡ hand_at k held known z
 unfolding hand_at
-rejudged k held rule flushed z h e = ap (λ (x : Hand). record x { kind = judged (record held { at_newline = rule }) x.newlines x.token.kind (column_at (moved x.gap z)) }) e
+hand-known k held None z =
+    let a = ahead k held.mode z in
+    let e = token-behind k held.mode z in
+    let t = ap (λ (x : Ahead). x.token) e in
+    same-hand _ _ _ _ _ _ _ _ _ _ _ _ (ap (λ (u : Token). judged held a.newlines u.kind (column_at (moved a.gap z))) t) refl refl (ap (λ (x : Ahead). x.len) e) refl t
+hand-known k held (Some t) z = refl
 
-pub flushed-some : (ts : List Tree) (h : Hand) (s : State) → is_nil ts ≡ false → h.trivia ≡ ts → flushed_state h s ≡ record (after_node false [] s) { flushed = h.newlines }
-flushed-some [] h s e g = cc
-flushed-some (t ∷ ts) h s e g = rw g refl
+-- no more trivia are known than there are characters
+gap-by : (k : CharClasses) (m : SyntaxMode) (n : ℕ) (z : Place) → (ahead_by k m n z).gap ≤ length z.ahead
+gap-by k m zero z = omega arith
+gap-by k m (suc n) z =
+    let l = len_at k m z in
+    let w = moved l z in
+    let left = ahead-left l z in
+    let rest = gap-by k m n w in
+    on_both (λ (a : Ahead). a.gap ≤ length z.ahead) (at_trivia k m z) _ _ (omega arith) (omega arith)
+
+pub gap-there : (k : CharClasses) (held : Reading) (known : Option Trivia) (z : Place) → gap_of known ≤ length z.ahead → (hand_at k held known z).gap ≤ length z.ahead
+unfolding hand_at ahead
+gap-there k held None z h = gap-by k held.mode (length z.ahead) z
+gap-there k held (Some t) z h = h
 
 -- ---- what the lexer of the code says
 
@@ -295,54 +292,12 @@ looking-next k m from z w tokens h t e =
 pub looking-end : (k : CharClasses) (m : SyntaxMode) (from z : Place) (tokens : Hull) → Looking k m from z tokens → at_trivia k m z ≡ false → tokens_at k m from ≡ tokens
 looking-end k m from z tokens h t = h.all ∙ ap (joined_hull tokens) (tokens-stop k m z t) ∙ same-hull _ _ _ _ (omega (arith, h.last.reach)) (omega (arith, h.last.least))
 
-pub same-looks : (t u o p h i : Hull) → t ≡ u → o ≡ p → h ≡ i → ◌≡◌ {A = Looks} (record { tokens = t; own = o; here = h }) (record { tokens = u; own = p; here = i })
-same-looks t u o p h i e f g = rw (e, f, g) refl
-
--- behind all trivia
-looks-end : (k : CharClasses) (held : Reading) (flushed now : Newlines) (ts : List Tree) (from z : Place) (tokens own here : Hull) → Along k held.mode flushed now ts from z → at_trivia k held.mode z ≡ false
-    → Looking k held.mode from z tokens → own ≡ token_hull k held.mode z → here ≡ column_hull held now z own
-    → record { tokens = tokens; own = own; here = here } ≡ looks_at k held flushed from
-unfolding looks_at
-looks-end k held flushed now ts from z tokens own here a h l o e =
-    let m = held.mode in
-    let stop = ahead-stop k m z h in
-    let f = ahead k m from in
-    let gap-is : a.gap ≡ f.gap = let s : (ahead k m z).gap ≡ 0 = ap (λ (x : Ahead). x.gap) stop in omega (arith, a.gaps, s) in
-    let line-is : now ≡ both_newlines flushed f.newlines = sym (a.newlines ∙ ap (λ (x : Ahead). both_newlines now x.newlines) stop ∙ both-none now) in
-    let place-is : z ≡ moved f.gap from = a.place ∙ ap (λ n. moved n from) gap-is in
-    same-looks _ _ _ _ _ _ (sym (looking-end k m from z tokens l h)) (o ∙ ap (token_hull k m) place-is)
-    (e ∙ ap (column_hull held now z) o ∙ ap (λ n. column_hull held n z (token_hull k m z)) line-is ∙ ap (λ p. column_hull held (both_newlines flushed f.newlines) p (token_hull k m p)) place-is)
-
--- behind trivia that became nodes the same was looked at
-pub looks-flushed : (k : CharClasses) (held : Reading) (flushed : Newlines) (z : Place) (h : Hand) (l : Looks) → h ≡ hand_at k held flushed z → l ≡ looks_at k held flushed z
-    → record l { tokens = l.own } ≡ looks_at k held h.newlines (moved h.gap z)
-unfolding hand_at looks_at ahead
-looks-flushed k held flushed z h l e g =
-    let m = held.mode in
-    let a = ahead k m z in
-    let w = moved a.gap z in
-    let line = both_newlines flushed a.newlines in
-    let same : ahead_by k m (length w.ahead) w ≡ direct a.token a.len = again k m (length z.ahead) z (omega arith) (length w.ahead) (omega arith) in
-    let stops : tokens_at k m w ≡ token_hull k m w = tokens-stop k m w (again-stop k m (length z.ahead) z (omega arith)) in
-    let whole : record (looks_at k held flushed z) { tokens = (looks_at k held flushed z).own } ≡ looks_at k held line w =
-    sym (ap (λ (x : Ahead). record { tokens = tokens_at k m w; own = token_hull k m (moved x.gap w); here = column_hull held (both_newlines line x.newlines) (moved x.gap w) (token_hull k m (moved x.gap w)) }) same
-    ∙ same-looks _ _ _ _ _ _ stops refl (ap (λ n. column_hull held n w (token_hull k m w)) (both-none line))) in
-    ap (λ (x : Looks). record x { tokens = x.own }) g ∙ whole ∙ sym (ap (λ (x : Hand). looks_at k held x.newlines (moved x.gap z)) e)
-
--- the column by another rule
-pub looks-judged : (k : CharClasses) (held : Reading) (rule : AtNewline) (flushed : Newlines) (z : Place) (h : Hand) (l : Looks) → h ≡ hand_at k held flushed z → l ≡ looks_at k held flushed z
-    → record l { here = column_hull (record held { at_newline = rule }) h.newlines (moved h.gap z) l.own } ≡ looks_at k (record held { at_newline = rule }) flushed z
-unfolding hand_at looks_at
-looks-judged k held rule flushed z h l e g =
-    ap (λ (x : Hand). record l { here = column_hull (record held { at_newline = rule }) x.newlines (moved x.gap z) l.own }) e
-    ∙ ap (λ (x : Looks). record x { here = column_hull (record held { at_newline = rule }) (hand_at k held flushed z).newlines (moved (hand_at k held flushed z).gap z) x.own }) g
-
-pub is-ahead : (k : CharClasses) (held : Reading) (flushed : Newlines) (a : Front) → Looking k held.mode (place a.before) (place a.start) a.tokens
-    → a.own ≡ token_hull k held.mode (place a.start) → a.here ≡ column_hull held a.newlines (place a.start) a.own → Along k held.mode flushed a.newlines a.trivia.items (place a.before) (place a.start)
+pub is-ahead : (k : CharClasses) (held : Reading) (from : Scanner) (a : Front) → a.before ≡ from → a.is_read ≡ true
+    → a.own ≡ token_hull k held.mode (place a.start) → a.here ≡ column_hull held a.newlines (place a.start) a.own → Along k held.mode a.newlines a.trivia.items (place a.before) (place a.start)
     → at_trivia k held.mode (place a.start) ≡ false → exec (token k held.mode) (place a.start) ≡ (a.token, place a.after)
     → a.kind ≡ judged held a.newlines a.token.kind (column_at (place a.start)) → a.start.text.now ≡ a.before.text.now → a.after.text.now ≡ a.start.text.now
-    → IsAhead k held flushed a.before a
-is-ahead k held flushed a looks own-is here-is along stop read kind-is one two =
+    → IsAhead k held from a
+is-ahead k held begin a same is_read own-is here-is along stop read kind-is one two =
     let m = held.mode in
     let from = place a.before in
     let z = place a.start in
@@ -350,12 +305,30 @@ is-ahead k held flushed a looks own-is here-is along stop read kind-is one two =
     let after-is = read-place k m z (place a.after) a.token read in
     let gap-is = distance-is from z along.gap along.fits along.place in
     let len-is = distance-is z (place a.after) (len_at k m z) (len-most k m z) after-is in
+    let start-at = along.place ∙ ap (λ n. moved n from) (sym gap-is) in
     record {
-      before = refl;
-      stands = record { start = along.place ∙ ap (λ n. moved n from) (sym gap-is); after = after-is ∙ ap (λ n. moved n z) (sym len-is); start_text = one; after_text = two };
-      hand = same-hand _ _ _ _ _ _ _ _ _ _ _ _ (kind-is ∙ ap (λ (u : Token). judged held a.newlines u.kind (column_at z)) (sym t)) refl gap-is len-is refl (sym t) ∙ along-end k held flushed a.newlines a.trivia.items from z along stop;
-      looks = looks-end k held flushed a.newlines a.trivia.items from z a.tokens a.own a.here along stop looks own-is here-is;
+      before = same;
+      is_read = is_read;
+      stands = record { start = start-at; after = after-is ∙ ap (λ n. moved n z) (sym len-is); start_text = one; after_text = two };
+      hand = same-hand _ _ _ _ _ _ _ _ _ _ _ _ (kind-is ∙ ap (λ (u : Token). judged held a.newlines u.kind (column_at z)) (sym t)) refl gap-is len-is refl (sym t) ∙ along-end k held a.newlines a.trivia.items from z along stop ∙ ap (λ (s : Scanner). hand_at k held None (place s)) same;
+      own = own-is ∙ ap (token_hull k m) start-at ∙ ap (λ (s : Scanner). token_hull k m (moved (distance a.before a.start) (place s))) same;
+      here = here-is ∙ ap (λ (p : Place). column_hull held a.newlines p a.own) start-at ∙ ap (λ (s : Scanner). column_hull held a.newlines (moved (distance a.before a.start) (place s)) a.own) same;
     }
+
+-- all that was looked at for it
+pub whole-is : (k : CharClasses) (held : Reading) (now : Newlines) (ts : List Tree) (from z : Place) (tokens : Hull) → Along k held.mode now ts from z → at_trivia k held.mode z ≡ false
+    → Looking k held.mode from z tokens → joined_hull tokens (column_hull held now z (token_hull k held.mode z)) ≡ whole_at k held from
+unfolding whole_at
+whole-is k held now ts from z tokens a h l =
+    let m = held.mode in
+    let stop = ahead-stop k m z h in
+    let f = ahead k m from in
+    let gap-is : a.gap ≡ f.gap = let s : (ahead k m z).gap ≡ 0 = ap (λ (x : Ahead). x.gap) stop in omega (arith, a.gaps, s) in
+    let line-is : now ≡ f.newlines = sym (a.newlines ∙ ap (λ (x : Ahead). both_newlines now x.newlines) stop ∙ both-none now) in
+    let place-is : z ≡ moved f.gap from = a.place ∙ ap (λ n. moved n from) gap-is in
+    ap (λ u. joined_hull u (column_hull held now z (token_hull k m z))) (sym (looking-end k m from z tokens l h))
+    ∙ ap (λ n. joined_hull (tokens_at k m from) (column_hull held n z (token_hull k m z))) line-is
+    ∙ ap (λ p. joined_hull (tokens_at k m from) (column_hull held f.newlines p (token_hull k m p))) place-is
 
 pub start-is : (text : List ℕ) → place_at text 0 ≡ record { behind = []; ahead = chars text }
 unfolding place_at

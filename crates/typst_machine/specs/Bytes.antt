@@ -9,7 +9,7 @@ use Rattle.typst_readers.specs.declared.hull.Hull.{Hull}
 use Rattle.typst_lexer.specs.Tokens.{token}
 use Rattle.typst_combinators.specs.declared.reading.Newlines.{Newlines}
 use Rattle.typst_combinators.specs.declared.reading.Reading.{Reading}
-use Rattle.typst_combinators.specs.Hand.{len_at, at_trivia, ahead, both_newlines, asks_column, column_look}
+use Rattle.typst_combinators.specs.Hand.{len_at, at_trivia, ahead, asks_column, column_look}
 
 -- how many bytes the characters ahead take
 abbrev pub bytes_left : Place → ℕ
@@ -35,19 +35,9 @@ tokens_at k m z = tokens_by k m (length z.ahead) z
 abbrev pub column_hull : Reading → Newlines → Place → Hull → Hull
 column_hull held newlines z h = if asks_column held newlines then joined_hull h (hull_of (column_look z) z) else h
 
--- what was looked at for the trivia and the token, for the token alone, and for it and its column
-pub record Looks : Type 0 where
-  pub tokens : Hull
-  pub own : Hull
-  pub here : Hull
-
--- all of it
-abbrev pub whole : Looks → Hull
-whole l = joined_hull l.tokens l.here
-
--- what was looked at for the token at hand
-unfoldable pub looks_at : CharClasses → Reading → Newlines → Place → Looks
-looks_at k held flushed z =
+-- all that was looked at for the token at hand and the trivia before it
+unfoldable pub whole_at : CharClasses → Reading → Place → Hull
+whole_at k held z =
     let a = ahead k held.mode z in
     let w = moved a.gap z in
-    record { tokens = tokens_at k held.mode z; own = token_hull k held.mode w; here = column_hull held (both_newlines flushed a.newlines) w (token_hull k held.mode w) }
+    joined_hull (tokens_at k held.mode z) (column_hull held a.newlines w (token_hull k held.mode w))

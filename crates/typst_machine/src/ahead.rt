@@ -6,6 +6,7 @@ ghost use Rattle.typst_token_nodes.specs.Nodes.{token_node};
 ghost use Rattle.typst_kinds.specs.Kinds.{is_error};
 ghost use Rattle.typst_lines.specs.Scanner.{place};
 ghost use Rattle.typst_combinators.specs.Hand as spec;
+ghost use Rattle.typst_combinators.specs.Point as point;
 ghost use Rattle.typst_machine.specs.Bytes as bytes;
 ghost use Rattle.typst_machine.specs.Bytes.{bytes_left};
 ghost use Rattle.typst_readers.specs.Reader.{exec};
@@ -13,6 +14,7 @@ ghost use Rattle.typst_readers.specs.Sight.{hull_of};
 ghost use Rattle.typst_lexer.specs.Tokens.{token};
 ghost use Rattle.typst_machine.specs.Cursor.{IsAhead, Stands};
 
+use crate::log::joined;
 use std::alloc::{AllocError, Global};
 use typst_classes::Classes;
 use typst_combinators::{AtNewline, Newlines, Reading};
@@ -25,7 +27,9 @@ use typst_token_nodes::{is_leaf, leaf_node, make_node};
 
 /// The token at hand, with the trivia before it.
 #[derive(Drop)]
-pub struct Ahead<'s> {
+pub struct ReadAhead<'s> {
+    /// Whether the token was asked for. If not, it stands for nothing.
+    pub(crate) is_read: bool,
     /// Where the trivia begin.
     pub(crate) before: Scanner<'s>,
     /// Where the token begins.
@@ -39,59 +43,64 @@ pub struct Ahead<'s> {
     pub(crate) token: Token,
     /// The token's kind, or the end where the newline rule stops.
     pub(crate) kind: SyntaxKind,
-    /// What was looked at for the trivia and the token.
-    pub(crate) tokens: Hull,
-    /// What was looked at for the token alone.
+    /// What was looked at for the token.
     pub(crate) own: Hull,
     /// The same, with its column where the newline rule asks for it.
     pub(crate) here: Hull,
 }
 
-impl<'s> Ahead<'s> {
-    ghost use Rattle.typst_machine.specs.Cursor.{looks_of_ahead};
+impl<'s> ReadAhead<'s> {
+    ghost use Rattle.std.specs.Prelude.{false};
 
     /// Nothing, at a place.
-    pub(crate) fn none(alloc: Global, at: Scanner<'s>) -> Ahead<'s>
+    pub(crate) fn none(alloc: Global, at: Scanner<'s>) -> ReadAhead<'s>
         ensures stands { Stands result }
-        ensures trivia { result.trivia.items ≡ [] }
+        ensures before { result.before ≡ at.entry }
+        ensures unread { result.is_read ≡ false }
     {
         let nothing = Hull { reach: 0, least: 0 };
-        Ahead {
+        ReadAhead {
+            is_read: false,
             before: at,
             start: at,
             after: at,
             trivia: Vec::new(alloc),
-            newlines: Newlines {
-                any: false,
-                parbreak: false,
-            },
+            newlines: no_newlines(),
             token: Token {
                 kind: SyntaxKind::End,
                 newline: false,
                 fault: None,
             },
             kind: SyntaxKind::End,
-            tokens: nothing,
             own: nothing,
             here: nothing,
         }
     }
 
-    /// Reads trivia and a token from a place on. The trivia so far have become nodes.
+    /// Passes the token. What comes behind it wasn't asked for.
+    #[inline(always)]
+    pub(crate) fn pass(&mut self)
+        ensures { self.new ≡ record self.old { is_read = false; before = self.old.after; start = self.old.after } }
+    {
+        self.is_read = false;
+        self.before = self.after;
+        self.start = self.after;
+    }
+
+    /// Reads trivia and a token, and answers all that was looked at for them.
     pub(crate) fn read<C: Classes>(
         &mut self,
         alloc: Global,
-        before: Scanner<'s>,
         held: Reading,
-        flushed: Newlines,
         classes: &C,
-    ) -> Result<(), AllocError>
-        requires { self.old.trivia.items ≡ [] }
-        ensures read { OnOk result (IsAhead (C.classes classes.now) held flushed before.entry self.new) }
+    ) -> Result<Hull, AllocError>
+        ensures read { OnOk result (IsAhead (C.classes classes.now) held self.old.before self.new) }
+        ensures hull { IfOk result (λ u. u ≡ bytes.whole_at (C.classes classes.now) held (place self.old.before)) }
         ensures refused { OnErr result (Stands self.old → Stands self.new) }
     {
-        let mut newlines = flushed;
-        let mut start = before;
+        self.trivia.clear();
+        let mut newlines = no_newlines();
+        let mut start = self.before;
         let mut tokens = Hull {
             reach: 0,
             least: usize::MAX,
@@ -99,31 +108,23 @@ impl<'s> Ahead<'s> {
         'tokens: loop {
             let next = read_token(alloc, start, held.mode, classes)?;
             tokens = joined(tokens, next.hull);
-            if !is_trivia(next.token.kind) || left(&start) <= left(&next.after) {
+            if !next.token.kind.is_trivia() || left(&start) <= left(&next.after) {
                 let (kind, here) = judged(held, newlines, next.token.kind, &start, next.hull);
-                self.before = before;
+                self.is_read = true;
                 self.start = start;
                 self.after = next.after;
                 self.newlines = newlines;
                 self.token = next.token;
                 self.kind = kind;
-                self.tokens = tokens;
                 self.own = next.hull;
                 self.here = here;
-                return Ok(());
+                return Ok(joined(tokens, here));
             }
             let text = next.after.since(&start);
             push_node(&mut self.trivia, alloc, next.token, text, classes)?;
             newlines = with_token(newlines, next.token);
             start = next.after;
         }
-    }
-
-    /// All that was looked at for it.
-    pub(crate) fn whole(&self) -> Hull
-        ensures { result ≡ bytes.whole (looks_of_ahead self.now) }
-    {
-        joined(self.tokens, self.here)
     }
 }
 
@@ -174,16 +175,6 @@ fn read_token<'s, C: Classes>(
     Ok(Read { token, after, hull })
 }
 
-/// Both stretches, and what lies between them.
-fn joined(a: Hull, b: Hull) -> Hull
-    ensures { result ≡ bytes.joined_hull a b }
-{
-    Hull {
-        reach: a.reach.max(b.reach),
-        least: a.least.min(b.least),
-    }
-}
-
 /// How many bytes are ahead.
 pub(crate) fn left(s: &Scanner<'_>) -> usize
     ensures { result ≡ bytes_left (place s.now) }
@@ -191,17 +182,14 @@ pub(crate) fn left(s: &Scanner<'_>) -> usize
     s.after().len()
 }
 
-/// Whether tokens of this kind mean nothing to the grammar.
-fn is_trivia(kind: SyntaxKind) -> bool
-    ensures { result ≡ spec.is_trivia kind }
+/// No newlines were passed.
+pub(crate) fn no_newlines() -> Newlines
+    ensures { result ≡ point.no_newlines }
 {
-    matches!(
-        kind,
-        SyntaxKind::Space
-            | SyntaxKind::Parbreak
-            | SyntaxKind::LineComment
-            | SyntaxKind::BlockComment
-    )
+    Newlines {
+        any: false,
+        parbreak: false,
+    }
 }
 
 /// With the newlines of a trivia token.

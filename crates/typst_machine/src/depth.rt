@@ -1,23 +1,42 @@
 //! The limit of depth, and what stands in place of what lies deeper.
 
-ghost use Rattle.std.specs.Prelude.{◌≡◌, ◌<◌, refl};
+ghost use Rattle.std.specs.Prelude.{◌≡◌, ◌<◌, ℕ, Bool, refl};
+ghost use Rattle.typst_kinds.specs.declared.kind.SyntaxKind.{SyntaxKind as Kind};
 ghost use Rattle.typst_combinators.specs.Depth as spec;
-ghost use Rattle.typst_combinators.specs.Meaning.{Level};
-ghost use Rattle.typst_combinators.specs.Sound.{Sound};
 ghost use Rattle.typst_combinators.specs.Syntax.Parser.{repeat};
-ghost use Rattle.typst_machine.specs.View.{MayNest, Means, Reads, given};
+ghost use Rattle.typst_machine.specs.View.{MayNest, Means, MeansAs, given, said};
+ghost use Rattle.typst_combinators.specs.Calls.{Answer};
+ghost use Rattle.typst_machine.specs.declared.depth.Answered.TheVariants.{Brackets};
 
 use crate::parser::Parser;
 use std::alloc::AllocError;
 use typst_classes::{Classes, MathClass};
-use typst_combinators::{AtNewline, Call, Stop, is_end};
+use typst_combinators::{AtNewline, Call};
 use typst_kinds::SyntaxKind;
+
+/// What a call answered.
+#[derive(Debug, Clone, Copy, PartialEq, Eq)]
+pub enum Answered {
+    /// In how many brackets what comes behind an expression of markup stands.
+    Brackets(usize),
+}
+
+impl Answered {
+    /// In how many brackets what comes behind stands.
+    pub fn brackets(self) -> usize
+        ensures { (n : ℕ) → self ≡ Brackets n → result ≡ n }
+    {
+        match self {
+            Answered::Brackets(nesting) => nesting,
+        }
+    }
+}
 
 /// How calls are made: by which classes of characters, how deep they may still nest, and by which function.
 #[derive(Clone, Copy)]
 pub struct Grammar<'g, C, F> {
     pub classes: &'g C,
-    pub depth: usize,
+    pub levels: usize,
     pub call: F,
 }
 
@@ -32,33 +51,33 @@ pub trait Levels: Classes {
     ghost may_call: { Self → Type 0 };
 
     /// How many levels are left.
-    fn depth(&self) -> usize
-        ensures { result ≡ (frame self.now).depth };
+    fn levels(&self) -> usize
+        ensures { result ≡ (frame self.now).levels };
 
     /// Reads one level deeper, where one is left.
-    fn call(&self, p: &mut Parser<'_>, call: Call) -> Result<usize, AllocError>
+    fn call(&self, p: &mut Parser<'_>, call: Call) -> Result<Answered, AllocError>
         requires may { may_call self.now }
-        requires above { 0 < (frame self.now).depth }
+        requires above { 0 < (frame self.now).levels }
         ensures { (frame self.now).gives call p.old result p.new };
 
     // the calls are made by the same classes
     ghost same: { (s : Self) → (frame s).classes ≡ Self.Classes.classes s };
 }
 
-impl<'g, C: Classes, F: Fn(&C, &mut Parser<'_>, usize, Call) -> Result<usize, AllocError>> Levels
+impl<'g, C: Classes, F: Fn(&C, &mut Parser<'_>, usize, Call) -> Result<Answered, AllocError>> Levels
     for Grammar<'g, C, F> {
-    ghost frame = { λ g. record { classes = C.classes g.classes.now; depth = g.depth; gives = given (F.post g.call g.classes) g.depth } };
+    ghost frame = { λ g. record { classes = C.classes g.classes.now; levels = g.levels; gives = given (F.post g.call g.classes) g.levels } };
 
     ghost same = { λ g. refl };
 
-    ghost may_call = { λ g. MayNest g.depth (F.pre g.call g.classes) };
+    ghost may_call = { λ g. MayNest g.levels (F.pre g.call g.classes) };
 
-    fn depth(&self) -> usize {
-        self.depth
+    fn levels(&self) -> usize {
+        self.levels
     }
 
-    fn call(&self, p: &mut Parser<'_>, call: Call) -> Result<usize, AllocError> {
-        (self.call)(self.classes, p, self.depth, call)
+    fn call(&self, p: &mut Parser<'_>, call: Call) -> Result<Answered, AllocError> {
+        (self.call)(self.classes, p, self.levels, call)
     }
 }
 
@@ -100,50 +119,64 @@ impl<'g, C: Classes, F> Classes for Grammar<'g, C, F> {
     }
 }
 
+/// Where a sequence stops.
+pub trait Stops {
+    // the kinds of tokens at which it does
+    ghost at: { Self → Kind → Bool };
+
+    /// Whether it stops at such a token.
+    fn has(&self, kind: SyntaxKind) -> bool
+        ensures { result ≡ at self.now kind };
+}
+
+/// At every token.
+#[derive(Clone, Copy)]
+pub struct Anywhere;
+
+impl Stops for Anywhere {
+    ghost at = { λ s. spec.anywhere };
+
+    fn has(&self, _kind: SyntaxKind) -> bool {
+        true
+    }
+}
+
 /// Reads one level deeper. What lies too deep is skipped, and the answer is the one handed in.
 pub fn deeper<L: Levels>(
     g: &L,
     p: &mut Parser<'_>,
     call: Call,
-    answer: usize,
-) -> Result<usize, AllocError>
+    answer: Answered,
+) -> Result<Answered, AllocError>
     requires { L.may_call g.now }
-    ensures { Means (L.frame g.now) (spec.deeper call answer) p.old result p.new }
+    ensures { (x : Answer call) → answer ≡ said call x → MeansAs (L.frame g.now) call (spec.deeper call x) p.old result p.new }
 {
-    if g.depth() == 0 {
-        too_deep(p, None, g)?;
+    if g.levels() == 0 {
+        too_deep(g, p, &Anywhere)?;
         return Ok(answer);
     }
     Ok(g.call(p, call)?)
 }
 
 /// Makes one error of what lies too deep.
-pub fn too_deep<C: Classes>(
-    p: &mut Parser<'_>,
-    stop: Option<Stop>,
-    classes: &C,
-) -> Result<(), AllocError>
-    ensures { (l : Level) → l.classes ≡ C.classes classes.now → Sound l → Reads l (spec.too_deep stop) p.old result p.new }
+pub fn too_deep<L: Levels, S: Stops>(g: &L, p: &mut Parser<'_>, stops: &S) -> Result<(), AllocError>
+    ensures { Means (L.frame g.now) (spec.too_deep (S.at stops.now)) p.old result p.new }
 {
     let from = p.marker();
     let outer = p.enter_rule(AtNewline::Continue);
-    skip(p, stop, classes)?;
-    p.leave(outer, classes)?;
+    skip(g, p, stops)?;
+    p.leave(outer, g)?;
     p.wrap_error(from, "maximum parsing depth exceeded")?;
     Ok(())
 }
 
-fn skip<C: Classes>(
-    p: &mut Parser<'_>,
-    stop: Option<Stop>,
-    classes: &C,
-) -> Result<usize, AllocError>
-    ensures { (l : Level) → l.classes ≡ C.classes classes.now → Sound l → Reads l (repeat (spec.skip_one stop) 0) p.old result p.new }
+fn skip<L: Levels, S: Stops>(g: &L, p: &mut Parser<'_>, stops: &S) -> Result<usize, AllocError>
+    ensures { Means (L.frame g.now) (repeat (spec.skip_one (S.at stops.now)) 0) p.old result p.new }
 {
     let mut count = 0;
     'turns: loop {
         let before = p.left();
-        let (more, next) = skip_one(p, stop, count, classes)?;
+        let (more, next) = skip_one(g, p, stops, count)?;
         count = next;
         if !more || p.left() >= before {
             return Ok(next);
@@ -151,17 +184,17 @@ fn skip<C: Classes>(
     }
 }
 
-fn skip_one<C: Classes>(
+fn skip_one<L: Levels, S: Stops>(
+    g: &L,
     p: &mut Parser<'_>,
-    stop: Option<Stop>,
+    stops: &S,
     count: usize,
-    classes: &C,
 ) -> Result<(bool, usize), AllocError>
-    ensures { (l : Level) → l.classes ≡ C.classes classes.now → Reads l (spec.skip_one stop count) p.old result p.new }
+    ensures { Means (L.frame g.now) (spec.skip_one (S.at stops.now) count) p.old result p.new }
 {
     let count = balance(p.current(), count);
-    p.eat(classes)?;
-    Ok((skips(stop, count, p.current()), count))
+    p.eat(g)?;
+    Ok((skips(stops, count, p.current()), count))
 }
 
 /// How many delimiters are open behind a token.
@@ -179,17 +212,15 @@ fn balance(kind: SyntaxKind, count: usize) -> usize
     }
 }
 
-fn skips(stop: Option<Stop>, count: usize, kind: SyntaxKind) -> bool
-    ensures { result ≡ spec.skips stop count kind }
+fn skips<S: Stops>(stops: &S, count: usize, kind: SyntaxKind) -> bool
+    ensures { result ≡ spec.skips (S.at stops.now) count kind }
 {
-    !((count == 0 && stops_or(stop, kind)) || is_end(kind))
+    !((count == 0 && stops.has(kind)) || is_end(kind))
 }
 
-fn stops_or(stop: Option<Stop>, kind: SyntaxKind) -> bool
-    ensures { result ≡ spec.stops_or stop kind }
+/// Whether this is the end of what may be read.
+pub fn is_end(kind: SyntaxKind) -> bool
+    ensures { result ≡ spec.is_end kind }
 {
-    match stop {
-        None => true,
-        Some(stop) => stop.has(kind),
-    }
+    matches!(kind, SyntaxKind::End)
 }

@@ -3,8 +3,9 @@
 
 mod ahead;
 mod depth;
+mod log;
 mod parser;
 
-pub use ahead::Ahead;
-pub use depth::{Grammar, Levels, deeper, too_deep};
+pub use ahead::ReadAhead;
+pub use depth::{Answered, Anywhere, Grammar, Levels, Stops, deeper, is_end, too_deep};
 pub use parser::Parser;

@@ -1,29 +1,32 @@
 //! A parser that has read one token ahead.
 
-ghost use Rattle.std.specs.Prelude.{Bool, if◌then◌else◌, ◌≡◌, ℕ, ◌+◌, ◌-◌, ◌^◌, ◌≤◌, ◌==◌, [], ◌∷◌, ◌++◌, List, take, drop, length, map, OnOk, OnErr, IfOk, IfSome, Ok, true, false, not};
-ghost use Rattle.typst_combinators.specs.Log.{added};
+ghost use Rattle.std.specs.Prelude.{Bool, if◌then◌else◌, ◌≡◌, ◌+◌, ◌≤◌, [], ◌∷◌, ◌++◌, codes, take, drop, length, OnOk, OnErr, IfOk, false, true, not};
 ghost use Rattle.typst_kinds.specs.Kinds.{is_error};
 ghost use Rattle.typst_kinds.specs.declared.kind.SyntaxKind.{SyntaxKind as Kind};
 ghost use Rattle.typst_lines.specs.Place.{moved};
-ghost use Rattle.typst_node.specs.Tree.{forest, text_of};
+ghost use Rattle.typst_node.specs.Tree.{made_error, text_of};
 ghost use Rattle.typst_classes.specs.Classes.{CharClasses};
 ghost use Rattle.typst_token_nodes.specs.Nodes.{is_leaf, token_node};
 ghost use Rattle.typst_combinators.specs.Hand.{column_at, text_ahead};
 ghost use Rattle.typst_machine.specs.Bytes.{bytes_left};
 ghost use Rattle.typst_machine.specs.Cursor.{IsStart};
-ghost use Rattle.typst_combinators.specs.Shape.{Making, is_nil, count_empty, first_failed};
-ghost use Rattle.typst_combinators.specs.Shape.Shape.{becomes, unclosed, warns, fails};
-ghost use Rattle.typst_combinators.specs.Meaning.{Level, less, entered, taken_node, same_mode, same_rule};
+ghost use Rattle.typst_combinators.specs.Shape.{Making, after_node, becomes, count_empty, on_first, unclosed};
+ghost use Rattle.typst_combinators.specs.Point.{is_nil};
+ghost use Rattle.typst_combinators.specs.Shape.Making.{itself};
+ghost use Rattle.typst_combinators.specs.Shape.Shape.{fails, warns};
+ghost use Rattle.typst_combinators.specs.Meaning.{Level, less, entered, left as outside, taken_node, same_mode, same_rule};
 ghost use Rattle.typst_combinators.specs.Steps as spec;
-ghost use Rattle.typst_combinators.specs.Syntax.Op.{column};
+ghost use Rattle.typst_combinators.specs.Syntax.Op.{column, takes};
 ghost use Rattle.typst_combinators.specs.Syntax.Parser.{does};
-ghost use Rattle.typst_machine.specs.View.{Does, Reads, Left, Rewrapped, Noted, with_pushed};
+ghost use Rattle.typst_machine.specs.View.{Bare, Closed, Does, Fills, Fits, Flushed, GoesIf, Left, Looked, Means, MeansLast, Opened, Reads, Rewrapped, listed, noted_here, unasked};
 
-use crate::ahead::{Ahead, column, judged, left};
+use crate::ahead::{ReadAhead, column, judged, left};
+use crate::depth::Levels;
+use crate::log::Log;
 use std::alloc::{AllocError, Global};
 use std::marker::Model;
 use typst_classes::Classes;
-use typst_combinators::{AtNewline, Mark, Newlines, Note, Reading, State};
+use typst_combinators::{AtNewline, Block, Mark, Note, Reading, State};
 use typst_kinds::{SyntaxKind, SyntaxMode};
 use typst_lexer::Hull;
 use typst_lines::Scanner;
@@ -34,20 +37,16 @@ use typst_token_nodes::{is_leaf, leaf_node, make_node};
 const BYTES_OF_A_NODE: usize = 32;
 
 /// A parser of a text: the nodes so far, the token at hand, and how to go on.
+///
+/// After an error of memory it stands somewhere between: it can only be dropped.
 #[derive(Drop)]
 pub struct Parser<'s> {
     alloc: Global,
     /// Without the trivia before the token at hand.
     nodes: Vec<SyntaxNode>,
-    ahead: Ahead<'s>,
+    ahead: ReadAhead<'s>,
     state: State,
-    /// Where all looks end, in bytes from the text's start.
-    reach: usize,
-    /// Where the looks since the last note begin, in bytes from the mark before the text.
-    least: usize,
-    keeps_notes: bool,
-    /// What was noted, in order, where notes are kept.
-    notes: Vec<Note>,
+    log: Log,
 }
 
 impl<'s> Model for Parser<'s> {
@@ -66,60 +65,39 @@ impl<'s> Model for Parser<'s> {
 }
 
 impl<'s> Parser<'s> {
-    /// A parser at the start of a text, where so many levels are left. Where notes are kept, what
-    /// begins there is noted before the first look.
-    pub fn new<C: Classes>(
+    /// A parser at the start of a text, before anything was asked, which keeps notes or doesn't.
+    pub fn new(
         alloc: Global,
         text: &'s str,
         reading: Reading,
-        depth: usize,
-        mark: Mark,
         keeps_notes: bool,
-        classes: &C,
     ) -> Result<Self, AllocError>
-        ensures { IfOk result (λ p. IsStart (C.classes classes.now) text.now reading depth mark keeps_notes p) }
+        ensures { IfOk result (λ p. IsStart text.now reading keeps_notes p) }
     {
-        let flushed = Newlines {
-            any: false,
-            parbreak: false,
-        };
         let state = State {
             reading,
             held: reading,
-            flushed,
             empties: 0,
             is_after_error: false,
         };
-        let mut notes = Vec::new(alloc);
-        keep(&mut notes, keeps_notes, first_note(mark, depth, state))?;
-        let before = Scanner::new(text);
-        let mut ahead = Ahead::none(alloc, before);
-        ahead.read(alloc, before, reading, flushed, classes)?;
-        let whole = ahead.whole();
         Ok(Parser {
             alloc,
             nodes: Vec::with_capacity(alloc, text.len() / BYTES_OF_A_NODE)?,
-            ahead,
+            ahead: ReadAhead::none(alloc, Scanner::new(text)),
             state,
-            reach: whole.reach,
-            least: usize::MAX.min(whole.least),
-            keeps_notes,
-            notes,
+            log: Log::new(alloc, keeps_notes),
         })
     }
 
-    /// The nodes that were read, what was noted, and what was looked at: in all, and since the last
-    /// note.
+    /// The nodes that were read; what was noted, nothing where no notes are kept; and what was looked
+    /// at: where all looks end, and where those since the last note begin.
     pub fn finish(self) -> (Vec<SyntaxNode>, Vec<Note>, Hull)
         ensures nodes { result.0.items ≡ self.entry.nodes }
-        ensures notes { IfSome self.entry.log.notes (λ ns. result.1.items ≡ ns) }
+        ensures notes { result.1.items ≡ listed self.entry.log.notes }
         ensures hull { result.2 ≡ record { reach = self.entry.log.reach; least = self.entry.log.least } }
     {
-        let hull = Hull {
-            reach: self.reach,
-            least: self.least,
-        };
-        (self.nodes, self.notes, hull)
+        let (notes, hull) = self.log.finish(self.alloc);
+        (self.nodes, notes, hull)
     }
 
     /// The kind of the token at hand.
@@ -155,45 +133,46 @@ impl<'s> Parser<'s> {
         ensures { (l : Level) → Does l (does column) result self.old self.new }
     {
         let (column, hull) = column(&self.ahead.start);
-        self.reach = self.reach.max(hull.reach);
-        self.least = self.least.min(hull.least);
+        self.log.look(hull);
         column
     }
 
-    /// Notes what begins or ends at the token at hand, where so many levels are left.
-    pub fn note(&mut self, mark: Mark, depth: usize) -> Result<(), AllocError>
-        ensures { (l : Level) → l.level ≡ depth → Reads l (spec.note mark) self.old result self.new }
+    /// Asks for the token to come, with the trivia before it.
+    #[inline(always)]
+    pub fn look<L: Levels>(&mut self, g: &L) -> Result<(), AllocError>
+        ensures { (l : Level) → Fills l (L.frame g.now) → OnOk result (Looked l (unasked self.old) self.new) }
     {
+        self.read(g)?;
+        Ok(())
+    }
+
+    /// The same.
+    #[inline(always)]
+    fn read<C: Classes>(&mut self, classes: &C) -> Result<(), AllocError>
+        ensures { (l : Level) → l.classes ≡ C.classes classes.now → OnOk result (Looked l (unasked self.old) self.new) }
+    {
+        let hull = self.ahead.read(self.alloc, self.state.held, classes)?;
+        self.log.look(hull);
+        Ok(())
+    }
+
+    /// Notes what begins or ends at the token at hand.
+    pub fn note<L: Levels>(&mut self, mark: Mark, g: &L) -> Result<(), AllocError>
+        ensures { Means (L.frame g.now) (spec.note mark) self.old result self.new }
+    {
+        let before = self.ahead.before.cursor();
         let start = self.ahead.start.cursor();
-        self.push_note(mark, depth, start)?;
+        self.log.note(mark, before, start, g.levels(), self.state)?;
+        self.log.look(self.ahead.here);
         Ok(())
     }
 
-    /// Notes what begins or ends before the pending trivia, where so many levels are left.
-    pub fn note_before(&mut self, mark: Mark, depth: usize) -> Result<(), AllocError>
-        ensures { (l : Level) → OnOk result (Noted l depth mark self.old self.new) }
+    /// Notes what begins or ends here, where no token was asked for.
+    pub fn note_here<L: Levels>(&mut self, mark: Mark, g: &L) -> Result<(), AllocError>
+        ensures { OnOk result (self.new ≡ noted_here (L.frame g.now).levels mark self.old) }
     {
-        let start = self.ahead.before.cursor();
-        self.push_note(mark, depth, start)?;
-        Ok(())
-    }
-
-    /// Notes what begins or ends at a place, in bytes from the text's start.
-    fn push_note(&mut self, mark: Mark, depth: usize, start: usize) -> Result<(), AllocError>
-        ensures { OnOk result (self.new ≡ with_pushed mark depth start self.old) }
-    {
-        let note = Note {
-            mark,
-            before: self.ahead.before.cursor(),
-            start,
-            depth,
-            state: self.state,
-            reach: self.reach,
-            least: self.least,
-        };
-        let keeps = self.keeps_notes;
-        keep(&mut self.notes, keeps, note)?;
-        self.least = usize::MAX.min(self.ahead.whole().least);
+        let here = self.ahead.before.cursor();
+        self.log.note(mark, here, here, g.levels(), self.state)?;
         Ok(())
     }
 
@@ -235,28 +214,16 @@ impl<'s> Parser<'s> {
 
     /// Reads the tokens to come in the outer way again. Behind another mode the token at hand is
     /// read again, behind another rule it is judged again.
-    pub fn leave<C: Classes>(&mut self, outer: Reading, classes: &C) -> Result<(), AllocError>
-        ensures { (l : Level) → l.classes ≡ C.classes classes.now → OnOk result (Left l outer self.old self.new) }
+    pub fn leave<L: Levels>(&mut self, outer: Reading, g: &L) -> Result<(), AllocError>
+        ensures { (l : Level) → Fills l (L.frame g.now) → OnOk result (Left l outer self.old self.new) }
     {
         let inner = self.state.reading;
+        self.state.reading = outer;
         if !same_mode(inner.mode, outer.mode) {
-            let flushed = Newlines {
-                any: false,
-                parbreak: false,
-            };
-            let before = self.ahead.before;
-            self.ahead.trivia.clear();
-            self.ahead
-                .read(self.alloc, before, outer, flushed, classes)?;
-            let whole = self.ahead.whole();
-            self.reach = self.reach.max(whole.reach);
-            self.least = self.least.min(whole.least);
-            self.state.reading = outer;
             self.state.held = outer;
-            self.state.flushed = flushed;
+            self.read(g)?;
             return Ok(());
         }
-        self.state.reading = outer;
         if same_rule(inner.at_newline, outer.at_newline) {
             return Ok(());
         }
@@ -270,10 +237,24 @@ impl<'s> Parser<'s> {
         );
         self.ahead.kind = kind;
         self.ahead.here = here;
-        let whole = self.ahead.whole();
-        self.reach = self.reach.max(whole.reach);
-        self.least = self.least.min(whole.least);
+        self.log.look(here);
         Ok(())
+    }
+
+    /// The same, where no token is asked for.
+    pub fn leave_unasked(&mut self, outer: Reading)
+        ensures { self.new ≡ record self.old { state = outside outer self.old.state } }
+    {
+        let inner = self.state.reading;
+        self.state.reading = outer;
+        if !same_mode(inner.mode, outer.mode) {
+            self.state.held = outer;
+            self.ahead.is_read = false;
+            return;
+        }
+        if !same_rule(inner.at_newline, outer.at_newline) {
+            self.state.held.at_newline = outer.at_newline;
+        }
     }
 
     /// Whether the node of the token at hand is a leaf of its kind.
@@ -299,7 +280,7 @@ impl<'s> Parser<'s> {
 
     /// The node of the token at hand.
     fn node<C: Classes>(&self, classes: &C) -> Result<SyntaxNode, AllocError>
-        ensures { IfOk result (λ t. t ≡ token_node (C.classes classes.now) self.now.hand.token (text_ahead self.now.hand.len (moved self.now.hand.gap self.now.place))) }
+        ensures { (k : CharClasses) → k ≡ C.classes classes.now → IfOk result (λ t. t ≡ token_node k self.now.hand.token (text_ahead self.now.hand.len (moved self.now.hand.gap self.now.place))) }
     {
         make_node(
             self.alloc,
@@ -309,41 +290,33 @@ impl<'s> Parser<'s> {
         )
     }
 
-    /// Takes the token at hand as this node.
+    /// Takes the token at hand as this node. What comes behind it isn't asked for.
     #[inline(always)]
-    fn take<C: Classes>(
+    fn take(&mut self, trims: bool, node: SyntaxNode) -> Result<(), AllocError>
+        ensures { (l : Level) (making : Making) → node ≡ taken_node l.classes making self.old.hand self.old.place → GoesIf l (Fits l) Bare (does (takes trims making)) self.old result self.new }
+    {
+        let count = if trims { self.state.empties } else { 0 };
+        self.state.empties = 0;
+        trim(&mut self.nodes, count);
+        push_all(&mut self.nodes, &mut self.ahead.trivia)?;
+        give(&mut self.nodes, &mut self.state, node)?;
+        self.state.held = self.state.reading;
+        self.ahead.pass();
+        Ok(())
+    }
+
+    /// Takes the token at hand as this node, and asks for the one behind it.
+    #[inline(always)]
+    fn take_on<C: Classes>(
         &mut self,
         trims: bool,
         node: SyntaxNode,
         classes: &C,
     ) -> Result<(), AllocError>
-        ensures { (l : Level) (making : Making) → l.classes ≡ C.classes classes.now → node ≡ taken_node (C.classes classes.now) making self.old.hand self.old.place → Reads l (spec.eat_making trims making) self.old result self.new }
+        ensures { (l : Level) (making : Making) → l.classes ≡ C.classes classes.now → node ≡ taken_node l.classes making self.old.hand self.old.place → Reads l (spec.eat_making trims making) self.old result self.new }
     {
-        let flushed = Newlines {
-            any: false,
-            parbreak: false,
-        };
-        let reading = self.state.reading;
-        let is_after_error = node.kind().is_error();
-        let empties = empty_errors(&node);
-        let count = if trims { self.state.empties } else { 0 };
-        self.state.empties = 0;
-        trim(&mut self.nodes, count);
-        push_all(&mut self.nodes, &mut self.ahead.trivia)?;
-        self.nodes.push(node)?;
-        let after = self.ahead.after;
-        self.ahead
-            .read(self.alloc, after, reading, flushed, classes)?;
-        let whole = self.ahead.whole();
-        self.reach = self.reach.max(whole.reach);
-        self.least = self.least.min(whole.least);
-        self.state = State {
-            reading,
-            held: reading,
-            flushed,
-            empties,
-            is_after_error,
-        };
+        self.take(trims, node)?;
+        self.read(classes)?;
         Ok(())
     }
 
@@ -355,94 +328,105 @@ impl<'s> Parser<'s> {
         node: SyntaxNode,
         classes: &C,
     ) -> Result<(), AllocError>
-        ensures { (l : Level) (making : Making) → l.classes ≡ C.classes classes.now → node ≡ taken_node (C.classes classes.now) making self.old.hand self.old.place → Reads l (spec.eat_making trims making) self.old result self.new }
+        ensures { (l : Level) (making : Making) → l.classes ≡ C.classes classes.now → node ≡ taken_node l.classes making self.old.hand self.old.place → Reads l (spec.eat_making trims making) self.old result self.new }
     {
-        self.take(trims, node, classes)?;
+        self.take_on(trims, node, classes)?;
+        Ok(())
+    }
+
+    /// Takes the token at hand. What comes behind it isn't asked for.
+    pub fn pass<L: Levels>(&mut self, g: &L) -> Result<(), AllocError>
+        ensures { (l : Level) → Fills l (L.frame g.now) → GoesIf l (Fits l) Bare (does (takes false itself)) self.old result self.new }
+    {
+        let node = self.node(g)?;
+        self.take(false, node)?;
         Ok(())
     }
 
     /// Takes the token at hand.
     #[inline(never)]
-    pub fn eat<C: Classes>(&mut self, classes: &C) -> Result<(), AllocError>
-        ensures { (l : Level) → l.classes ≡ C.classes classes.now → Reads l spec.eat self.old result self.new }
+    pub fn eat<L: Levels>(&mut self, g: &L) -> Result<(), AllocError>
+        ensures { Means (L.frame g.now) spec.eat self.old result self.new }
     {
         if self.has_leaf() {
             let leaf = self.leaf()?;
-            self.take(false, leaf, classes)?;
+            self.take_on(false, leaf, g)?;
             return Ok(());
         }
-        let node = self.node(classes)?;
-        self.take_apart(false, node, classes)?;
+        let node = self.node(g)?;
+        self.take_apart(false, node, g)?;
         Ok(())
     }
 
     /// Takes the token at hand as another kind.
     #[inline(never)]
-    pub fn convert_and_eat<C: Classes>(
-        &mut self,
-        kind: SyntaxKind,
-        classes: &C,
-    ) -> Result<(), AllocError>
+    pub fn convert_and_eat<L: Levels>(&mut self, kind: SyntaxKind, g: &L) -> Result<(), AllocError>
         requires { is_error kind ≡ false }
-        ensures { (l : Level) → l.classes ≡ C.classes classes.now → Reads l (spec.convert_and_eat kind) self.old result self.new }
+        ensures { Means (L.frame g.now) (spec.convert_and_eat kind) self.old result self.new }
     {
         if self.has_leaf() {
             let mut leaf = self.leaf()?;
             leaf.convert_to_kind(kind);
-            self.take(false, leaf, classes)?;
+            self.take_on(false, leaf, g)?;
             return Ok(());
         }
-        let mut node = self.node(classes)?;
+        let mut node = self.node(g)?;
         node.convert_to_kind(kind);
-        self.take_apart(false, node, classes)?;
+        self.take_apart(false, node, g)?;
         Ok(())
     }
 
     /// Takes the token at hand if it is such a one.
-    pub fn eat_if<C: Classes>(&mut self, is: bool, classes: &C) -> Result<bool, AllocError>
-        ensures { (l : Level) (kinds : Kind → Bool) → l.classes ≡ C.classes classes.now → is ≡ kinds self.old.hand.kind → Reads l (spec.eat_if kinds) self.old result self.new }
+    pub fn eat_if<L: Levels>(&mut self, is: bool, g: &L) -> Result<bool, AllocError>
+        ensures { (kinds : Kind → Bool) → is ≡ kinds self.old.hand.kind → Means (L.frame g.now) (spec.eat_if kinds) self.old result self.new }
     {
         if is {
-            self.eat(classes)?;
+            self.eat(g)?;
+        }
+        Ok(is)
+    }
+
+    /// Takes the token at hand if it is such a one. What comes behind it isn't asked for.
+    pub fn close_if<L: Levels>(&mut self, is: bool, g: &L) -> Result<bool, AllocError>
+        ensures { (kinds : Kind → Bool) → is ≡ kinds self.old.hand.kind → MeansLast (L.frame g.now) (spec.close_if kinds) self.old result self.new }
+    {
+        if is {
+            self.pass(g)?;
         }
         Ok(is)
     }
 
     /// Takes the token at hand as an error that it was not expected.
     #[cold]
-    pub fn unexpected<C: Classes>(&mut self, classes: &C) -> Result<(), AllocError>
-        ensures { (l : Level) → l.classes ≡ C.classes classes.now → Reads l (spec.unexpected []) self.old result self.new }
+    pub fn unexpected<L: Levels>(&mut self, g: &L) -> Result<(), AllocError>
+        ensures { Means (L.frame g.now) (spec.unexpected []) self.old result self.new }
     {
-        let mut node = self.node(classes)?;
+        let mut node = self.node(g)?;
         node.unexpected()?;
-        self.take_apart(true, node, classes)?;
+        self.take_apart(true, node, g)?;
         Ok(())
     }
 
     /// The same with a hint.
     #[cold]
-    pub fn unexpected_with_hint<C: Classes>(
-        &mut self,
-        hint: &str,
-        classes: &C,
-    ) -> Result<(), AllocError>
-        ensures { (l : Level) → l.classes ≡ C.classes classes.now → Reads l (spec.unexpected (hint.now ∷ [])) self.old result self.new }
+    pub fn unexpected_with_hint<L: Levels>(&mut self, hint: &str, g: &L) -> Result<(), AllocError>
+        ensures { Means (L.frame g.now) (spec.unexpected (hint.now ∷ [])) self.old result self.new }
     {
-        let mut node = self.node(classes)?;
+        let mut node = self.node(g)?;
         node.unexpected()?;
         node.hint(hint)?;
-        self.take_apart(true, node, classes)?;
+        self.take_apart(true, node, g)?;
         Ok(())
     }
 
     /// Says that something was expected here, unless an error stands here. An erroneous token is
     /// taken instead.
-    pub fn expected<C: Classes>(&mut self, thing: &str, classes: &C) -> Result<(), AllocError>
-        ensures { (l : Level) → l.classes ≡ C.classes classes.now → Reads l (spec.expected thing.now) self.old result self.new }
+    pub fn expected<L: Levels>(&mut self, thing: &str, g: &L) -> Result<(), AllocError>
+        ensures { Means (L.frame g.now) (spec.expected thing.now) self.old result self.new }
     {
         if self.ahead.kind.is_error() {
-            let node = self.node(classes)?;
-            self.take_apart(true, node, classes)?;
+            let node = self.node(g)?;
+            self.take_apart(true, node, g)?;
             return Ok(());
         }
         if self.state.is_after_error {
@@ -458,18 +442,13 @@ impl<'s> Parser<'s> {
     }
 
     /// Takes the token at hand if it is such a one, or says that this was expected.
-    pub fn expect<C: Classes>(
-        &mut self,
-        is: bool,
-        thing: &str,
-        classes: &C,
-    ) -> Result<(), AllocError>
-        ensures { (l : Level) (kinds : Kind → Bool) → l.classes ≡ C.classes classes.now → is ≡ kinds self.old.hand.kind → Reads l (spec.expect kinds thing.now) self.old result self.new }
+    pub fn expect<L: Levels>(&mut self, is: bool, thing: &str, g: &L) -> Result<(), AllocError>
+        ensures { (kinds : Kind → Bool) → is ≡ kinds self.old.hand.kind → Means (L.frame g.now) (spec.expect kinds thing.now) self.old result self.new }
     {
         if is {
-            self.eat(classes)?;
+            self.eat(g)?;
         } else {
-            self.expected(thing, classes)?;
+            self.expected(thing, g)?;
         }
         Ok(())
     }
@@ -478,15 +457,41 @@ impl<'s> Parser<'s> {
     pub fn flush_trivia(&mut self) -> Result<(), AllocError>
         ensures { (l : Level) → Reads l spec.flush_trivia self.old result self.new }
     {
+        self.flush()?;
+        Ok(())
+    }
+
+    /// The same.
+    fn flush(&mut self) -> Result<(), AllocError>
+        ensures { (l : Level) → OnOk result (Fits l self.old → Flushed self.old self.new) }
+    {
+        self.ahead.before = self.ahead.start;
         if is_none(self.ahead.trivia.as_slice()) {
             return Ok(());
         }
         self.state.empties = 0;
         self.state.is_after_error = false;
         push_all(&mut self.nodes, &mut self.ahead.trivia)?;
-        self.state.flushed = self.ahead.newlines;
-        self.ahead.before = self.ahead.start;
-        self.ahead.tokens = self.ahead.own;
+        Ok(())
+    }
+
+    /// Gives the pending trivia, and notes where a block begins, which begins with nothing known of
+    /// them.
+    pub fn open_block<L: Levels>(&mut self, block: Block, g: &L) -> Result<(), AllocError>
+        ensures { (l : Level) → Fills l (L.frame g.now) → OnOk result (Opened l block self.old self.new) }
+    {
+        self.flush()?;
+        self.note_here(Mark::Opens(block), g)?;
+        self.read(g)?;
+        Ok(())
+    }
+
+    /// Notes where a block ends, and asks for the token behind it.
+    pub fn close_block<L: Levels>(&mut self, g: &L) -> Result<(), AllocError>
+        ensures { (l : Level) → Fills l (L.frame g.now) → OnOk result (Closed l self.old self.new) }
+    {
+        self.note_here(Mark::Closes, g)?;
+        self.read(g)?;
         Ok(())
     }
 
@@ -496,11 +501,9 @@ impl<'s> Parser<'s> {
         ensures wrapped { OnOk result (Rewrapped from (becomes kind) self.old self.new) }
         ensures empty { IfOk result (λ b. b ≡ is_nil (drop from self.old.nodes)) }
     {
-        self.state.empties = 0;
-        self.state.is_after_error = false;
-        let nodes = cut_off(&mut self.nodes, from)?;
+        let nodes = self.cut_off(from)?;
         let is_empty = nodes.is_empty();
-        self.nodes.push(SyntaxNode::inner(kind, nodes))?;
+        self.give(SyntaxNode::inner(kind, nodes))?;
         Ok(is_empty)
     }
 
@@ -510,11 +513,9 @@ impl<'s> Parser<'s> {
         requires { is_error kind ≡ false }
         ensures { OnOk result (Rewrapped from (unclosed kind) self.old self.new) }
     {
-        self.state.empties = 0;
-        self.state.is_after_error = false;
-        let mut nodes = cut_off(&mut self.nodes, from)?;
+        let mut nodes = self.cut_off(from)?;
         fail_first(&mut nodes)?;
-        self.nodes.push(SyntaxNode::inner(kind, nodes))?;
+        self.give(SyntaxNode::inner(kind, nodes))?;
         Ok(())
     }
 
@@ -530,13 +531,11 @@ impl<'s> Parser<'s> {
         requires { is_error kind ≡ false }
         ensures { OnOk result (Rewrapped from (warns kind message.now hint.now) self.old self.new) }
     {
-        self.state.empties = 0;
-        self.state.is_after_error = false;
-        let nodes = cut_off(&mut self.nodes, from)?;
+        let nodes = self.cut_off(from)?;
         let mut node = SyntaxNode::inner(kind, nodes);
         node.warn(message)?;
         node.hint(hint)?;
-        self.nodes.push(node)?;
+        self.give(node)?;
         Ok(())
     }
 
@@ -545,32 +544,47 @@ impl<'s> Parser<'s> {
     pub fn wrap_error(&mut self, from: usize, message: &str) -> Result<(), AllocError>
         ensures { OnOk result (Rewrapped from (fails message.now) self.old self.new) }
     {
-        self.state.empties = 0;
-        self.state.is_after_error = false;
-        let nodes = cut_off(&mut self.nodes, from)?;
+        let nodes = self.cut_off(from)?;
         let mut node = SyntaxNode::inner(SyntaxKind::Markup, nodes);
         node.convert_to_error(message)?;
-        let is_empty = node.is_empty();
-        self.nodes.push(node)?;
-        self.state.empties = usize::from(is_empty);
-        self.state.is_after_error = true;
+        self.give(node)?;
+        Ok(())
+    }
+
+    /// Takes the nodes from a number on.
+    fn cut_off(&mut self, from: usize) -> Result<Vec<SyntaxNode>, AllocError>
+        ensures rest { OnOk result (self.new ≡ record self.old { nodes = take from self.old.nodes; state = record self.old.state { empties = 0 } }) }
+        ensures cut { IfOk result (λ found. found.items ≡ drop from self.old.nodes) }
+    {
+        self.state.empties = 0;
+        let at = from.min(self.nodes.len());
+        let nodes = self.nodes.split_off(at)?;
+        Ok(nodes)
+    }
+
+    /// Adds a node.
+    fn give(&mut self, node: SyntaxNode) -> Result<(), AllocError>
+        ensures { OnOk result (self.new ≡ record self.old { nodes = self.old.nodes ++ node ∷ []; state = after_node (is_error node.head.kind) (text_of node) self.old.state }) }
+    {
+        give(&mut self.nodes, &mut self.state, node)?;
         Ok(())
     }
 }
 
-/// What is noted at a text's start, where so many levels are left.
-fn first_note(mark: Mark, depth: usize, state: State) -> Note
-    ensures { result ≡ record { mark = mark; before = 0; start = 0; depth = depth; state = state; reach = 0; least = 2 ^ 64 - 1 } }
+/// Adds a node, and tells whether it is an error.
+#[inline(always)]
+fn give(nodes: &mut Vec<SyntaxNode>, state: &mut State, node: SyntaxNode) -> Result<(), AllocError>
+    ensures nodes { OnOk result (nodes.new.items ≡ nodes.old.items ++ node ∷ []) }
+    ensures state { OnOk result (state.new ≡ record state.old { empties = if is_error node.head.kind then count_empty (text_of node) else 0; is_after_error = is_error node.head.kind }) }
+    ensures refused { OnErr result (state.new.empties ≡ 0) }
 {
-    Note {
-        mark,
-        before: 0,
-        start: 0,
-        depth,
-        state,
-        reach: 0,
-        least: usize::MAX,
-    }
+    let is_after_error = node.kind().is_error();
+    let empties = empty_errors(&node);
+    state.empties = 0;
+    nodes.push(node)?;
+    state.empties = empties;
+    state.is_after_error = is_after_error;
+    Ok(())
 }
 
 fn same_mode(a: SyntaxMode, b: SyntaxMode) -> bool
@@ -604,16 +618,6 @@ fn is_none(nodes: &[SyntaxNode]) -> bool
     nodes.is_empty()
 }
 
-/// Adds a note, where notes are kept.
-fn keep(notes: &mut Vec<Note>, keeps: bool, note: Note) -> Result<(), AllocError>
-    ensures { OnOk result (notes.new.items ≡ added keeps note notes.old.items) }
-{
-    if keeps {
-        notes.push(note)?;
-    }
-    Ok(())
-}
-
 /// How many empty errors stand behind a node.
 fn empty_errors(node: &SyntaxNode) -> usize
     ensures { result ≡ (if is_error node.now.head.kind then count_empty (text_of node.now) else 0) }
@@ -645,19 +649,9 @@ fn push_all(nodes: &mut Vec<SyntaxNode>, more: &mut Vec<SyntaxNode>) -> Result<(
     Ok(())
 }
 
-/// Takes the nodes from a number on.
-fn cut_off(nodes: &mut Vec<SyntaxNode>, from: usize) -> Result<Vec<SyntaxNode>, AllocError>
-    ensures rest { OnOk result (nodes.new.items ≡ take from nodes.old.items) }
-    ensures cut { IfOk result (λ found. found.items ≡ drop from nodes.old.items) }
-    ensures err { OnErr result (nodes.new.items ≡ nodes.old.items) }
-{
-    let at = from.min(nodes.len());
-    Ok(nodes.split_off(at)?)
-}
-
 /// The first node becomes the error that it was not closed.
 fn fail_first(nodes: &mut Vec<SyntaxNode>) -> Result<(), AllocError>
-    ensures { OnOk result (nodes.new.items ≡ first_failed nodes.old.items) }
+    ensures { OnOk result (nodes.new.items ≡ on_first (made_error (codes "unclosed delimiter")) nodes.old.items) }
 {
     if nodes.is_empty() {
         return Ok(());

@@ -1,14 +1,10 @@
 -- How the code of markup composes.
 use Rattle.std.proofs.Common.{◌≡◌, ℕ, sym, subst}
-use denote.Ref.{MutBor}
-use Rattle.std.specs.Prelude.{Result}
-use Rattle.std.specs.declared.alloc.AllocError.{AllocError}
-use Rattle.typst_combinators.specs.declared.reading.Call.{Call}
 use Rattle.typst_combinators.specs.declared.reading.Reading.{Reading}
 use Rattle.typst_combinators.specs.Meaning.{Level, entered}
 use Rattle.typst_combinators.specs.Syntax.{Parser}
 use Rattle.typst_combinators.specs.Steps.{within}
-use Rattle.typst_machine.specs.View.{View, Does, Left}
+use Rattle.typst_machine.specs.View.{View, Goes, Does, Left}
 use Rattle.typst_machine.proofs.Steps.{does-within}
 use Rattle.typst_markup.specs.declared.head.MarkupHead.{MarkupHead}
 use Rattle.typst_markup.specs.Markup.{markup_by}
@@ -16,8 +12,8 @@ use Rattle.typst_markup.specs.Markup.{markup_by}
 pub at-head : {l : Level} (n : ℕ) (h i : MarkupHead) {a : ℕ} {old new : View} → h ≡ i → Does l (markup_by n i) a old new → Does l (markup_by n h) a old new
 at-head {l = l} n h i {a = a} {old = old} {new = new} e d = subst (λ (x : MarkupHead). Does l (markup_by n x) a old new) (sym e) d
 
-pub does-value : {A : Type 0} {l : Level} {p : Parser A} {a b : A} {old new : View} → b ≡ a → Does l p a old new → Does l p b old new
-does-value {A = A} {l = l} {p = p} {old = old} {new = new} e d = subst (λ (x : A). Does l p x old new) (sym e) d
+pub does-value : {A : Type 0} {l : Level} {P Q : View → Type 0} {p : Parser A} {a b : A} {old new : View} → b ≡ a → Goes l P Q p a old new → Goes l P Q p b old new
+does-value {A = A} {l = l} {P = P} {Q = Q} {p = p} {old = old} {new = new} e d = subst (λ (x : A). Goes l P Q p x old new) (sym e) d
 
 -- the code entered a reading, and left it
 pub does-entered : {A : Type 0} {l : Level} (f : Reading → Reading) {p : Parser A} {a : A} {outer : Reading} {old inner mid new : View}

@@ -1,5 +1,6 @@
 -- The productions of markup.
 use Rattle.std.specs.Prelude.{ℕ, ◌-◌, Bool, true, false, not, ◌||◌, ◌&&◌, if◌then◌else◌, ◌==◌, List, [], ◌∷◌, codes}
+use Rattle.typst_kinds.specs.Kinds.{same}
 use Rattle.typst_kinds.specs.declared.kind.SyntaxKind.{SyntaxKind}
 use Rattle.typst_kinds.specs.declared.kind.SyntaxKind.TheVariants as kind
 use Rattle.typst_combinators.specs.declared.reading.AtNewline.{AtNewline}
@@ -24,50 +25,30 @@ use Rattle.typst_markup.specs.declared.head.MarkupHead.TheVariants as head
 
 -- ---- where sequences stop
 
-abbrev pub is_right_bracket : SyntaxKind → Bool
-is_right_bracket kind.RightBracket = true
-is_right_bracket _ = false
-
-abbrev pub is_colon : SyntaxKind → Bool
-is_colon kind.Colon = true
-is_colon _ = false
-
-abbrev pub is_label : SyntaxKind → Bool
-is_label kind.Label = true
-is_label _ = false
-
-abbrev pub is_star : SyntaxKind → Bool
-is_star kind.Star = true
-is_star _ = false
-
-abbrev pub is_underscore : SyntaxKind → Bool
-is_underscore kind.Underscore = true
-is_underscore _ = false
-
 -- a content block and an item stop at a bracket
 abbrev pub ends_block : SyntaxKind → Bool
-ends_block k = is_right_bracket k || is_end k
+ends_block k = same kind.RightBracket k || is_end k
 
 -- a term also at a colon
 abbrev pub ends_term : SyntaxKind → Bool
-ends_term k = is_colon k || ends_block k
+ends_term k = same kind.Colon k || ends_block k
 
 -- a heading also at a label
 abbrev pub ends_heading : SyntaxKind → Bool
-ends_heading k = is_label k || ends_block k
+ends_heading k = same kind.Label k || ends_block k
 
 -- what stands between stars or underscores also at these
 abbrev pub ends_strong : SyntaxKind → Bool
-ends_strong k = is_star k || ends_block k
+ends_strong k = same kind.Star k || ends_block k
 
 abbrev pub ends_emph : SyntaxKind → Bool
-ends_emph k = is_underscore k || ends_block k
+ends_emph k = same kind.Underscore k || ends_block k
 
 -- ---- sequences
 
 -- a sequence ends at a stop, but not at a bracket that closes one of its own
 abbrev pub ends : (SyntaxKind → Bool) → ℕ → SyntaxKind → Bool
-ends stops nesting k = if is_right_bracket k then stops k && nesting == 0 else stops k
+ends stops nesting k = if same kind.RightBracket k then stops k && nesting == 0 else stops k
 
 -- the expressions of a run are noted
 unfoldable pub note_piece : Bool → Bool → ℕ → Parser (Unit {0})
@@ -96,7 +77,7 @@ markup_exprs at_start stops = do
 unfoldable pub markup_run : (SyntaxKind → Bool) → Parser (Unit {0})
 markup_run stops = do
   is_deep ← does is_deepest
-  pick is_deep (too_deep stops) (do
+  pick is_deep (peek >> too_deep stops) (do
     noted ← does (marks (mark.Piece true 0))
     ahead ← peek
     x ← repeat (markup_turn true stops) (true, 0)
@@ -121,43 +102,33 @@ at_newline rule r = record r { at_newline = rule }
 abbrev pub emphasized : SyntaxKind → List ℕ → List ℕ → Bool × Bool → Shape
 emphasized k warning hint x = if x.0 then (if x.1 then warns k warning hint else becomes k) else unclosed k
 
--- `*..*`, which doesn't go past a parbreak
-unfoldable pub strong : Parser (Unit {0})
-strong = within (at_newline newline.StopParBreak) (do
-  x ← node (emphasized kind.Strong (codes "no text within stars") (codes "using multiple consecutive stars (e.g. **) has no additional effect")) (do
-    star ← eat
-    is_empty ← markup_is_empty (markup_exprs false ends_strong)
-    closed ← eat_if is_star
+-- what stands between two tokens of a kind, which doesn't go past a parbreak
+unfoldable pub delimited : SyntaxKind → (SyntaxKind → Bool) → SyntaxKind → List ℕ → List ℕ → Parser (Unit {0})
+delimited k stops delimiter warning hint = within (at_newline newline.StopParBreak) (do
+  x ← node (emphasized k warning hint) (do
+    first ← eat
+    is_empty ← markup_is_empty (markup_exprs false stops)
+    closed ← eat_if (same delimiter)
     gives (closed, is_empty))
   gives tt)
 
--- `_.._`, which doesn't go past a parbreak
-unfoldable pub emph : Parser (Unit {0})
-emph = within (at_newline newline.StopParBreak) (do
-  x ← node (emphasized kind.Emph (codes "no text within underscores") (codes "using multiple consecutive underscores (e.g. __) has no additional effect")) (do
-    underscore ← eat
-    is_empty ← markup_is_empty (markup_exprs false ends_emph)
-    closed ← eat_if is_underscore
-    gives (closed, is_empty))
-  gives tt)
+-- `*..*`
+abbrev pub strong : Parser (Unit {0})
+strong = delimited kind.Strong ends_strong kind.Star (codes "no text within stars") (codes "using multiple consecutive stars (e.g. **) has no additional effect")
+
+-- `_.._`
+abbrev pub emph : Parser (Unit {0})
+emph = delimited kind.Emph ends_emph kind.Underscore (codes "no text within underscores") (codes "using multiple consecutive underscores (e.g. __) has no additional effect")
 
 -- a marker and the rest of its line, up to a label
 unfoldable pub heading : Parser (Unit {0})
 heading = within (at_newline newline.Stop) (node (λ _. becomes kind.Heading) (eat >> markup false ends_heading))
 
--- a marker, and what stands in a greater column than it
-abbrev pub item : SyntaxKind → Parser (Unit {0})
+-- `- ..`, `+ ..` or `1. ..`: a marker, and what stands in a greater column than it
+unfoldable pub item : SyntaxKind → Parser (Unit {0})
 item k = do
   here ← does column
   within (at_newline (newline.RequireColumn here)) (node (λ _. becomes k) (eat >> markup true ends_block))
-
--- `- ..`
-unfoldable pub list_item : Parser (Unit {0})
-list_item = item kind.ListItem
-
--- `+ ..` and `1. ..`
-unfoldable pub enum_item : Parser (Unit {0})
-enum_item = item kind.EnumItem
 
 -- a marker with the rest of its line up to a colon, and behind the colon what stands in a greater column than the marker
 unfoldable pub term_item : Parser (Unit {0})
@@ -165,7 +136,7 @@ term_item = do
   here ← does column
   within (at_newline (newline.RequireColumn here)) (node (λ _. becomes kind.TermItem) (do
     term ← within (at_newline newline.Stop) (eat >> markup false ends_term)
-    colon ← expect is_colon (codes "colon")
+    colon ← expect (same kind.Colon) (codes "colon")
     markup true ends_block))
 
 -- `[ .. ]`, which is markup whatever stands around it: where the second bracket is missing the first is an error
@@ -181,16 +152,12 @@ content_block = do
   closed ← node bracketed (scoped (λ _. markup_reading) (do
     bracket ← does (takes false itself)
     is_empty ← markup_is_empty (markup_run ends_block)
-    close_if is_right_bracket))
+    close_if (same kind.RightBracket)))
   gives tt
-
-abbrev pub is_left_bracket : SyntaxKind → Bool
-is_left_bracket kind.LeftBracket = true
-is_left_bracket _ = false
 
 -- a content block begins directly here, without trivia before it
 abbrev pub opens_directly : AtHand → Bool
-opens_directly h = is_left_bracket h.kind && not h.has_trivia
+opens_directly h = same kind.LeftBracket h.kind && not h.has_trivia
 
 -- a content block, if one begins directly here
 unfoldable pub direct_content : Parser (Unit {0})
@@ -234,8 +201,8 @@ markup_by nesting head.Stray = unexpected (codes "try using a backslash escape: 
 markup_by nesting head.Strong = strong >> gives nesting
 markup_by nesting head.Emph = emph >> gives nesting
 markup_by nesting head.Heading = heading >> gives nesting
-markup_by nesting head.ListItem = list_item >> gives nesting
-markup_by nesting head.EnumItem = enum_item >> gives nesting
+markup_by nesting head.ListItem = item kind.ListItem >> gives nesting
+markup_by nesting head.EnumItem = item kind.EnumItem >> gives nesting
 markup_by nesting head.TermItem = term_item >> gives nesting
 markup_by nesting head.Reference = reference >> gives nesting
 markup_by nesting head.Plain = convert_and_eat kind.Text >> gives nesting

@@ -5,57 +5,71 @@ ghost use Rattle.typst_kinds.specs.Kinds.{is_error};
 ghost use Rattle.typst_machine.specs.View.{Means, Rewrapped};
 ghost use Rattle.typst_markup.specs.Markup as spec;
 ghost use Rattle.typst_markup.specs.Outside.{MeansOutside};
+ghost use Rattle.typst_markup.specs.Stops.{stops_at};
 
 use crate::head::{MarkupHead, markup_head};
 use crate::references::reference;
 use crate::sequences::{markup, markup_with_trivia};
+use crate::stops::Stop;
 use std::alloc::AllocError;
-use typst_combinators::{AtNewline, Block, Stop, is_colon, is_star, is_underscore};
+use typst_combinators::AtNewline;
 use typst_kinds::SyntaxKind;
 use typst_machine::{Levels, Parser};
 
 /// `*..*`
 pub fn strong<L: Levels>(g: &L, p: &mut Parser<'_>) -> Result<(), AllocError>
     requires { L.may_call g.now }
-    ensures { Means (L.frame g.now) (spec.strong) p.old result p.new }
+    ensures { Means (L.frame g.now) spec.strong p.old result p.new }
 {
-    let outer = p.enter_rule(AtNewline::StopParBreak);
-    let from = p.marker();
-    p.eat(g)?;
-    let is_empty = markup_with_trivia(g, p, false, Stop::Strong)?;
-    let closed = p.eat_if(is_star(p.current()), g)?;
-    wrap_emphasized(
+    delimited(
+        g,
         p,
-        from,
         SyntaxKind::Strong,
-        closed,
-        is_empty,
+        Stop::Strong,
+        SyntaxKind::Star,
         "no text within stars",
         "using multiple consecutive stars (e.g. **) has no additional effect",
     )?;
-    p.leave(outer, g)?;
     Ok(())
 }
 
 /// `_.._`
 pub fn emph<L: Levels>(g: &L, p: &mut Parser<'_>) -> Result<(), AllocError>
     requires { L.may_call g.now }
-    ensures { Means (L.frame g.now) (spec.emph) p.old result p.new }
+    ensures { Means (L.frame g.now) spec.emph p.old result p.new }
+{
+    delimited(
+        g,
+        p,
+        SyntaxKind::Emph,
+        Stop::Emph,
+        SyntaxKind::Underscore,
+        "no text within underscores",
+        "using multiple consecutive underscores (e.g. __) has no additional effect",
+    )?;
+    Ok(())
+}
+
+/// What stands between two tokens of a kind.
+fn delimited<L: Levels>(
+    g: &L,
+    p: &mut Parser<'_>,
+    kind: SyntaxKind,
+    stop: Stop,
+    delimiter: SyntaxKind,
+    warning: &str,
+    hint: &str,
+) -> Result<(), AllocError>
+    requires may { L.may_call g.now }
+    requires fine { is_error kind ≡ false }
+    ensures { Means (L.frame g.now) (spec.delimited kind (stops_at stop) delimiter warning.now hint.now) p.old result p.new }
 {
     let outer = p.enter_rule(AtNewline::StopParBreak);
     let from = p.marker();
     p.eat(g)?;
-    let is_empty = markup_with_trivia(g, p, false, Stop::Emph)?;
-    let closed = p.eat_if(is_underscore(p.current()), g)?;
-    wrap_emphasized(
-        p,
-        from,
-        SyntaxKind::Emph,
-        closed,
-        is_empty,
-        "no text within underscores",
-        "using multiple consecutive underscores (e.g. __) has no additional effect",
-    )?;
+    let is_empty = markup_with_trivia(g, p, false, stop)?;
+    let closed = p.eat_if(p.current() == delimiter, g)?;
+    wrap_emphasized(p, from, kind, closed, is_empty, warning, hint)?;
     p.leave(outer, g)?;
     Ok(())
 }
@@ -88,7 +102,7 @@ fn wrap_emphasized(
 /// `= ..`
 pub fn heading<L: Levels>(g: &L, p: &mut Parser<'_>) -> Result<(), AllocError>
     requires { L.may_call g.now }
-    ensures { Means (L.frame g.now) (spec.heading) p.old result p.new }
+    ensures { Means (L.frame g.now) spec.heading p.old result p.new }
 {
     let outer = p.enter_rule(AtNewline::Stop);
     let from = p.marker();
@@ -99,32 +113,18 @@ pub fn heading<L: Levels>(g: &L, p: &mut Parser<'_>) -> Result<(), AllocError>
     Ok(())
 }
 
-/// `- ..`
-pub fn list_item<L: Levels>(g: &L, p: &mut Parser<'_>) -> Result<(), AllocError>
-    requires { L.may_call g.now }
-    ensures { Means (L.frame g.now) (spec.list_item) p.old result p.new }
+/// `- ..`, `+ ..` or `1. ..`
+pub fn item<L: Levels>(g: &L, p: &mut Parser<'_>, kind: SyntaxKind) -> Result<(), AllocError>
+    requires may { L.may_call g.now }
+    requires fine { is_error kind ≡ false }
+    ensures { Means (L.frame g.now) (spec.item kind) p.old result p.new }
 {
     let column = p.current_column();
     let outer = p.enter_rule(AtNewline::RequireColumn(column));
     let from = p.marker();
     p.eat(g)?;
-    markup(g, p, true, Stop::Item)?;
-    p.wrap(from, SyntaxKind::ListItem)?;
-    p.leave(outer, g)?;
-    Ok(())
-}
-
-/// `+ ..` or `1. ..`
-pub fn enum_item<L: Levels>(g: &L, p: &mut Parser<'_>) -> Result<(), AllocError>
-    requires { L.may_call g.now }
-    ensures { Means (L.frame g.now) (spec.enum_item) p.old result p.new }
-{
-    let column = p.current_column();
-    let outer = p.enter_rule(AtNewline::RequireColumn(column));
-    let from = p.marker();
-    p.eat(g)?;
-    markup(g, p, true, Stop::Item)?;
-    p.wrap(from, SyntaxKind::EnumItem)?;
+    markup(g, p, true, Stop::Block)?;
+    p.wrap(from, kind)?;
     p.leave(outer, g)?;
     Ok(())
 }
@@ -132,7 +132,7 @@ pub fn enum_item<L: Levels>(g: &L, p: &mut Parser<'_>) -> Result<(), AllocError>
 /// `/ Term: ..`
 pub fn term_item<L: Levels>(g: &L, p: &mut Parser<'_>) -> Result<(), AllocError>
     requires { L.may_call g.now }
-    ensures { Means (L.frame g.now) (spec.term_item) p.old result p.new }
+    ensures { Means (L.frame g.now) spec.term_item p.old result p.new }
 {
     let column = p.current_column();
     let outer = p.enter_rule(AtNewline::RequireColumn(column));
@@ -141,8 +141,8 @@ pub fn term_item<L: Levels>(g: &L, p: &mut Parser<'_>) -> Result<(), AllocError>
     p.eat(g)?;
     markup(g, p, false, Stop::Term)?;
     p.leave(item, g)?;
-    p.expect(is_colon(p.current()), "colon", g)?;
-    markup(g, p, true, Stop::Item)?;
+    p.expect(p.current() == SyntaxKind::Colon, "colon", g)?;
+    markup(g, p, true, Stop::Block)?;
     p.wrap(from, SyntaxKind::TermItem)?;
     p.leave(outer, g)?;
     Ok(())
@@ -175,8 +175,8 @@ pub fn markup_expr<L: Levels>(
         MarkupHead::Strong => strong(g, p)?,
         MarkupHead::Emph => emph(g, p)?,
         MarkupHead::Heading => heading(g, p)?,
-        MarkupHead::ListItem => list_item(g, p)?,
-        MarkupHead::EnumItem => enum_item(g, p)?,
+        MarkupHead::ListItem => item(g, p, SyntaxKind::ListItem)?,
+        MarkupHead::EnumItem => item(g, p, SyntaxKind::EnumItem)?,
         MarkupHead::TermItem => term_item(g, p)?,
         MarkupHead::Reference => reference(g, p)?,
         MarkupHead::Plain => p.convert_and_eat(SyntaxKind::Text, g)?,

@@ -5,8 +5,10 @@ mod expressions;
 mod head;
 mod references;
 mod sequences;
+mod stops;
 
-pub use expressions::{emph, enum_item, heading, list_item, markup_expr, strong, term_item};
+pub use expressions::{emph, heading, item, markup_expr, strong, term_item};
 pub use head::MarkupHead;
 pub use references::{content_block, reference};
-pub use sequences::{markup_exprs, markup_turn, markup_with_trivia};
+pub use sequences::{markup, markup_exprs, markup_run, markup_turn, markup_with_trivia};
+pub use stops::Stop;

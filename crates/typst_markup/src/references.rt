@@ -2,31 +2,33 @@
 
 ghost use Rattle.std.specs.Prelude.{◌≡◌, ◌<◌, OnOk};
 ghost use Rattle.typst_combinators.specs.Steps.{read_block};
-ghost use Rattle.typst_machine.specs.View.{Means, Rewrapped};
+ghost use Rattle.typst_combinators.specs.Hand.{told};
+ghost use Rattle.typst_machine.specs.View.{MeansLast, Rewrapped};
 ghost use Rattle.typst_markup.specs.Markup as spec;
 ghost use Rattle.typst_markup.specs.Outside.{MeansOutside};
 
-use crate::sequences::{is_right_bracket, markup_with_trivia};
+use crate::sequences::run_with_trivia;
+use crate::stops::Stop;
 use std::alloc::AllocError;
-use typst_combinators::{AtNewline, Block, Mark, Reading, Stop};
+use typst_combinators::{AtNewline, Block, Reading};
 use typst_kinds::{SyntaxKind, SyntaxMode};
 use typst_machine::{Levels, Parser};
 
-/// `[ .. ]`, read as markup whatever stands around it.
+/// `[ .. ]`, read as markup whatever stands around it. What comes behind it isn't asked for.
 pub fn content_block<L: Levels>(g: &L, p: &mut Parser<'_>) -> Result<(), AllocError>
     requires { L.may_call g.now }
-    ensures { Means (L.frame g.now) spec.content_block p.old result p.new }
+    ensures { MeansLast (L.frame g.now) spec.content_block p.old result p.new }
 {
+    let from = p.marker();
     let outer = p.enter(Reading {
         mode: SyntaxMode::Markup,
         at_newline: AtNewline::Continue,
     });
-    let from = p.marker();
-    p.eat(g)?;
-    markup_with_trivia(g, p, true, Stop::Content)?;
-    let closed = p.eat_if(is_right_bracket(p.current()), g)?;
+    p.pass(g)?;
+    run_with_trivia(g, p, Stop::Block)?;
+    let closed = p.close_if(p.current() == SyntaxKind::RightBracket, g)?;
+    p.leave_unasked(outer);
     wrap_bracketed(p, from, closed)?;
-    p.leave(outer, g)?;
     Ok(())
 }
 
@@ -47,10 +49,9 @@ fn read_content<L: Levels>(g: &L, p: &mut Parser<'_>) -> Result<(), AllocError>
     requires { L.may_call g.now }
     ensures { MeansOutside (L.frame g.now) (read_block Block.Content) p.old result p.new }
 {
-    let depth = g.depth();
-    p.note_before(Mark::Opens(Block::Content), depth)?;
+    p.open_block(Block::Content, g)?;
     content_block(g, p)?;
-    p.note_before(Mark::Closes, depth)?;
+    p.close_block(g)?;
     Ok(())
 }
 
@@ -79,13 +80,7 @@ pub fn reference<L: Levels>(g: &L, p: &mut Parser<'_>) -> Result<(), AllocError>
 
 /// Whether a content block begins at the token at hand, without trivia before it.
 fn opens_directly(p: &Parser<'_>) -> bool
-    ensures { result ≡ spec.opens_directly p.now.hand }
+    ensures { result ≡ spec.opens_directly (told p.now.hand) }
 {
-    is_left_bracket(p.current()) && !p.had_trivia()
-}
-
-fn is_left_bracket(kind: SyntaxKind) -> bool
-    ensures { result ≡ spec.is_left_bracket kind }
-{
-    matches!(kind, SyntaxKind::LeftBracket)
+    p.current() == SyntaxKind::LeftBracket && !p.had_trivia()
 }

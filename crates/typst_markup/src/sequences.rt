@@ -1,14 +1,16 @@
 //! Sequences of markup.
 
-ghost use Rattle.std.specs.Prelude.{◌≡◌, ◌<◌, IfOk, Ok};
-ghost use Rattle.typst_combinators.specs.Meaning.{Level};
-ghost use Rattle.typst_machine.specs.View.{Means, Reads};
+ghost use Rattle.std.specs.Prelude.{◌≡◌};
+ghost use Rattle.typst_combinators.specs.Syntax.Parser.{repeat};
+ghost use Rattle.typst_machine.specs.View.{Means, MeansFirst};
 ghost use Rattle.typst_markup.specs.Markup as spec;
+ghost use Rattle.typst_markup.specs.Stops.{stops_at};
 
+use crate::stops::Stop;
 use std::alloc::AllocError;
-use typst_combinators::{Call, Mark, Stop};
+use typst_combinators::{Call, Mark};
 use typst_kinds::SyntaxKind;
-use typst_machine::{Levels, Parser, deeper, too_deep};
+use typst_machine::{Answered, Levels, Parser, Stops, deeper, too_deep};
 
 /// Reads expressions up to a stop.
 pub fn markup_exprs<L: Levels>(
@@ -18,21 +20,53 @@ pub fn markup_exprs<L: Levels>(
     stop: Stop,
 ) -> Result<(), AllocError>
     requires { L.may_call g.now }
-    ensures { Means (L.frame g.now) (spec.markup_exprs at_start stop) p.old result p.new }
+    ensures { Means (L.frame g.now) (spec.markup_exprs at_start (stops_at stop)) p.old result p.new }
 {
-    if g.depth() == 0 {
-        too_deep(p, Some(stop), g)?;
+    if g.levels() == 0 {
+        too_deep(g, p, &stop)?;
         return Ok(());
     }
-    let mut at_start = at_start | p.had_newline();
-    let mut nesting = 0usize;
+    let at_start = at_start | p.had_newline();
+    markup_turns(g, p, false, stop, at_start)?;
+    Ok(())
+}
+
+/// Reads the expressions of a text or of a content block, at the start of a line, up to a stop. Its
+/// first piece is noted before anything is asked.
+pub fn markup_run<L: Levels>(g: &L, p: &mut Parser<'_>, stop: Stop) -> Result<(), AllocError>
+    requires { L.may_call g.now }
+    ensures { MeansFirst (L.frame g.now) (spec.markup_run (stops_at stop)) p.old result p.new }
+{
+    if g.levels() == 0 {
+        p.look(g)?;
+        too_deep(g, p, &stop)?;
+        return Ok(());
+    }
+    p.note_here(Mark::Piece(true, 0), g)?;
+    p.look(g)?;
+    markup_turns(g, p, true, stop, true)?;
+    Ok(())
+}
+
+/// Reads expressions up to a stop, which are noted in a run; answers whether a newline was passed
+/// behind the last, and how many brackets are open then.
+fn markup_turns<L: Levels>(
+    g: &L,
+    p: &mut Parser<'_>,
+    is_run: bool,
+    stop: Stop,
+    at_start: bool,
+) -> Result<(bool, usize), AllocError>
+    requires { L.may_call g.now }
+    ensures { Means (L.frame g.now) (repeat (spec.markup_turn is_run (stops_at stop)) (at_start, 0)) p.old result p.new }
+{
+    let mut state = (at_start, 0usize);
     'turns: loop {
         let before = p.left();
-        let (more, next) = markup_turn(g, p, stop, at_start, nesting)?;
-        at_start = next.0;
-        nesting = next.1;
+        let (more, next) = markup_turn(g, p, is_run, stop, state)?;
+        state = next;
         if !more || p.left() >= before {
-            return Ok(());
+            return Ok(next);
         }
     }
 }
@@ -42,43 +76,39 @@ pub fn markup_exprs<L: Levels>(
 pub fn markup_turn<L: Levels>(
     g: &L,
     p: &mut Parser<'_>,
+    is_run: bool,
     stop: Stop,
-    at_start: bool,
-    nesting: usize,
+    state: (bool, usize),
 ) -> Result<(bool, (bool, usize)), AllocError>
     requires { L.may_call g.now }
-    ensures { Means (L.frame g.now) (spec.markup_turn stop (at_start, nesting)) p.old result p.new }
+    ensures { Means (L.frame g.now) (spec.markup_turn is_run (stops_at stop) state) p.old result p.new }
 {
+    let (at_start, nesting) = state;
     if ends(stop, nesting, p.current()) {
-        return Ok((false, (at_start, nesting)));
+        return Ok((false, state));
     }
-    let nesting = deeper(g, p, Call::MarkupExpr(at_start, nesting), nesting)?;
+    let call = Call::MarkupExpr(at_start, nesting);
+    let answered = deeper(g, p, call, Answered::Brackets(nesting))?;
+    let nesting = answered.brackets();
     let has_newline = p.had_newline();
-    note_piece(p, stop, has_newline, nesting, g.depth())?;
+    note_piece(g, p, is_run, has_newline, nesting)?;
     Ok((true, (has_newline, nesting)))
 }
 
 /// Notes that an expression of a run ended, and what comes next may begin one.
-fn note_piece(
+fn note_piece<L: Levels>(
+    g: &L,
     p: &mut Parser<'_>,
-    stop: Stop,
+    is_run: bool,
     at_start: bool,
     nesting: usize,
-    depth: usize,
 ) -> Result<(), AllocError>
-    ensures { (l : Level) → l.level ≡ depth → Reads l (spec.note_piece stop at_start nesting) p.old result p.new }
+    ensures { Means (L.frame g.now) (spec.note_piece is_run at_start nesting) p.old result p.new }
 {
-    if is_run(stop) {
-        p.note(Mark::Piece(at_start, nesting), depth)?;
+    if is_run {
+        p.note(Mark::Piece(at_start, nesting), g)?;
     }
     Ok(())
-}
-
-/// Whether the expressions up to this stop are noted.
-fn is_run(stop: Stop) -> bool
-    ensures { result ≡ spec.is_run stop }
-{
-    matches!(stop, Stop::End | Stop::Content)
 }
 
 /// Reads a sequence as one node, which begins at its first token.
@@ -89,7 +119,7 @@ pub fn markup<L: Levels>(
     stop: Stop,
 ) -> Result<(), AllocError>
     requires { L.may_call g.now }
-    ensures { Means (L.frame g.now) (spec.markup at_start stop) p.old result p.new }
+    ensures { Means (L.frame g.now) (spec.markup at_start (stops_at stop)) p.old result p.new }
 {
     let from = p.marker();
     markup_exprs(g, p, at_start, stop)?;
@@ -105,7 +135,7 @@ pub fn markup_with_trivia<L: Levels>(
     stop: Stop,
 ) -> Result<bool, AllocError>
     requires { L.may_call g.now }
-    ensures { Means (L.frame g.now) (spec.markup_is_empty at_start stop) p.old result p.new }
+    ensures { Means (L.frame g.now) (spec.markup_is_empty (spec.markup_exprs at_start (stops_at stop))) p.old result p.new }
 {
     let from = p.before_trivia();
     markup_exprs(g, p, at_start, stop)?;
@@ -113,19 +143,24 @@ pub fn markup_with_trivia<L: Levels>(
     Ok(p.wrap(from, SyntaxKind::Markup)?)
 }
 
+/// The same of a run, before which nothing was asked.
+pub fn run_with_trivia<L: Levels>(g: &L, p: &mut Parser<'_>, stop: Stop) -> Result<bool, AllocError>
+    requires { L.may_call g.now }
+    ensures { MeansFirst (L.frame g.now) (spec.markup_is_empty (spec.markup_run (stops_at stop))) p.old result p.new }
+{
+    let from = p.before_trivia();
+    markup_run(g, p, stop)?;
+    p.flush_trivia()?;
+    Ok(p.wrap(from, SyntaxKind::Markup)?)
+}
+
 /// Whether a sequence ends at this token. It goes on past a bracket that closes one of its own.
 fn ends(stop: Stop, nesting: usize, kind: SyntaxKind) -> bool
-    ensures { result ≡ spec.ends stop nesting kind }
+    ensures { result ≡ spec.ends (stops_at stop) nesting kind }
 {
-    if is_right_bracket(kind) {
+    if kind == SyntaxKind::RightBracket {
         stop.has(kind) && nesting == 0
     } else {
         stop.has(kind)
     }
-}
-
-pub(crate) fn is_right_bracket(kind: SyntaxKind) -> bool
-    ensures { result ≡ spec.is_right_bracket kind }
-{
-    matches!(kind, SyntaxKind::RightBracket)
 }

@@ -1,5 +1,11 @@
+-- Which lemma gives which clause:
+--   Reads text, regard text_step          Texts
+--   PlainText.has                         Tables
+--   Reads link, laws.LinkIsPrefix         Links.link-is, Links.link-prefix-is
+--   Reads ref_marker                      References
+--   goes_on (typst_lexer)                 Eats.markup-eats
 pub mod Eats
-pub mod LinkLemmas
-pub mod NameLemmas
-pub mod TableLemmas
-pub mod TextLemmas
+pub mod Links
+pub mod References
+pub mod Tables
+pub mod Texts

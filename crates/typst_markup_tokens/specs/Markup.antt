@@ -4,7 +4,8 @@ use Rattle.std.specs.Char.{is_ascii_digit, is_whitespace}
 use Rattle.typst_kinds.specs.declared.kind.SyntaxKind.{SyntaxKind}
 use Rattle.typst_kinds.specs.declared.kind.SyntaxKind.TheVariants as kind
 use Rattle.typst_lines.specs.Place.{passes}
-use Rattle.typst_tokens.specs.Characters.{among, is_u64}
+use Rattle.typst_classes.specs.Sets.{among}
+use Rattle.typst_tokens.specs.Characters.{is_u64}
 use Rattle.typst_classes.specs.Classes.{CharClasses}
 use Rattle.typst_readers.specs.Reader.{Reader, if_next, at_word}
 use Rattle.typst_readers.specs.Reader.Reader.{answer, peek, glance, eat, skip, eat_run}
@@ -51,7 +52,7 @@ minus k = eat (hyphen k)
 
 -- A star or an underscore comes next: between two characters of words it is text.
 unfoldable pub emphasis : CharClasses → SyntaxKind → Reader Memory Token
-emphasis k kind = glance (λ before.
+emphasis k kind = glance 0 (λ before.
     if passes k.word before then peek 1 (λ after. if passes k.word after then text_from k else sign kind)
     else sign kind)
 

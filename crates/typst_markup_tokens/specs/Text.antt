@@ -3,7 +3,7 @@ use Rattle.std.specs.Prelude.{ℕ, Bool, true, false, not, ◌||◌, if◌then�
 use Rattle.std.specs.Char.{is_whitespace}
 use Rattle.typst_kinds.specs.declared.kind.SyntaxKind.TheVariants as kind
 use Rattle.typst_lines.specs.Place.{passes}
-use Rattle.typst_tokens.specs.Characters.{among}
+use Rattle.typst_classes.specs.Sets.{among}
 use Rattle.typst_classes.specs.Classes.{CharClasses}
 use Rattle.typst_links.specs.Labels.{is_name}
 use Rattle.typst_readers.specs.Reader.{Reader, Machine, Step, Turn, eat_span, see_word}

@@ -1,7 +1,7 @@
 //! What is text in any case.
 ghost use Rattle.std.specs.Prelude.{◌≡◌, not, codes};
 ghost use Rattle.typst_markup_tokens.specs.Text.{may_stop};
-ghost use Rattle.typst_tokens.specs.Characters.{among};
+ghost use Rattle.typst_classes.specs.Sets.{among};
 
 use typst_lines::CharSet;
 

@@ -1,6 +1,8 @@
-//! Tests of `typst_node` through its public calls.
+//! Tests of `typst_kinds`, `typst_node` and `typst_tree` through their public calls.
 #![tactic(auto)]
 
+#[cfg(test)]
+mod kinds;
 #[cfg(test)]
 mod nodes;
 #[cfg(test)]
@@ -9,3 +11,5 @@ mod numbers;
 mod refusals;
 #[cfg(test)]
 mod trees;
+#[cfg(test)]
+mod walks;

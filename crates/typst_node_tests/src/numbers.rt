@@ -1,123 +1,143 @@
-use crate::trees::{END, has_numbers, leaf, number, numbers, replace, tree};
+use crate::trees::{END, Row, has_numbers, leaves, number, numbers, replace, tree};
+use std::alloc::{AllocError, Global};
 use std::test::Fail;
 use typst_kinds::{SourceError, SyntaxKind};
 use typst_node::SyntaxNode;
 
+const A_UNDER_MARKUP: [Row; 2] = [
+    (SyntaxKind::Text, "a", None),
+    (SyntaxKind::Markup, "", Some(1)),
+];
+
+// A range of numbers, what `numberize` answers, and the numbers then.
+const RANGES: [(u64, u64, Result<(), SourceError>, [u64; 2]); 3] = [
+    (2, 3, Err(SourceError::SpanNumbers), [0, 0]),
+    (2, 4, Ok(()), [2, 3]),
+    (2, END, Ok(()), [17592186044417, 52776558133248]),
+];
+
 #[test]
 fn a_leaf_under_markup(rt: HostRuntime) -> Result<(), Fail> {
-    let alloc = rt.alloc();
-    let rows = [
-        (SyntaxKind::Text, "a", None),
-        (SyntaxKind::Markup, "", Some(1)),
-    ];
-    let mut node = tree(alloc, &rows)?;
-    assert_eq!(rt; number(&mut node, 2, 3), Err(SourceError::SpanNumbers));
-    has_numbers(&rt, alloc, &node, &[0, 0])?;
-    assert_eq!(rt; number(&mut node, 2, 4), Ok(()));
-    has_numbers(&rt, alloc, &node, &[2, 3])?;
-    let mut two = Vec::new(alloc);
-    two.push(leaf(alloc, SyntaxKind::Text, "b")?)?;
-    two.push(leaf(alloc, SyntaxKind::Shorthand, "~")?)?;
-    assert_eq!(rt;
-        replace(&mut node, &[], 0, 1, two),
-        Err(SourceError::SpanNumbers)
-    );
-    has_numbers(&rt, alloc, &node, &[2, 3])?;
-    assert_eq!(rt; node.len(), 1);
-    let mut one = Vec::new(alloc);
-    one.push(leaf(alloc, SyntaxKind::Text, "b")?)?;
-    assert_eq!(rt; replace(&mut node, &[], 0, 1, one), Ok(()));
-    has_numbers(&rt, alloc, &node, &[2, 3])?;
-    assert_eq!(rt; number(&mut node, 2, END), Ok(()));
-    has_numbers(&rt, alloc, &node, &[17592186044417, 52776558133248])?;
+    for (start, end, answer, want) in RANGES {
+        let mut node = tree(rt.alloc(), &A_UNDER_MARKUP)?;
+        assert!(rt; number(&mut node, start, end) == answer, "below {end}");
+        assert!(rt; has_numbers(rt.alloc(), &node, &want)?, "below {end}");
+    }
+    Ok(())
+}
+
+/// Whether replacing the only leaf by leaves of these kinds is answered so, where two nodes have
+/// two numbers.
+fn answers(
+    alloc: Global,
+    kinds: &[SyntaxKind],
+    answer: Result<(), SourceError>,
+) -> Result<bool, AllocError> {
+    let mut node = tree(alloc, &A_UNDER_MARKUP)?;
+    let numbered = number(&mut node, 2, 4).is_ok();
+    let new = leaves(alloc, kinds)?;
+    let answered = replace(&mut node, &[], 0, 1, new) == answer;
+    Ok(numbered && answered && has_numbers(alloc, &node, &[2, 3])?)
+}
+
+#[test]
+fn two_numbers_are_enough_for_two_nodes(rt: HostRuntime) -> Result<(), Fail> {
+    let one = [SyntaxKind::Space];
+    assert!(rt; answers(rt.alloc(), &one, Ok(()))?);
+    let two = [SyntaxKind::Space, SyntaxKind::Shorthand];
+    assert!(rt; answers(rt.alloc(), &two, Err(SourceError::SpanNumbers))?);
     Ok(())
 }
 
 // `a *b* c`, as the Rust original numbers it.
+const ORIGINAL: [Row; 10] = [
+    (SyntaxKind::Text, "a", None),
+    (SyntaxKind::Space, " ", None),
+    (SyntaxKind::Star, "*", None),
+    (SyntaxKind::Text, "b", None),
+    (SyntaxKind::Markup, "", Some(1)),
+    (SyntaxKind::Star, "*", None),
+    (SyntaxKind::Strong, "", Some(3)),
+    (SyntaxKind::Space, " ", None),
+    (SyntaxKind::Text, "c", None),
+    (SyntaxKind::Markup, "", Some(5)),
+];
+
+const ORIGINAL_NUMBERS: [u64; 10] = [
+    3518437208885,
+    10555311626651,
+    17592186044417,
+    22869841857741,
+    26388279066624,
+    29027106973286,
+    30786325577727,
+    36943590693273,
+    59813432551013,
+    66850306968779,
+];
+
 #[test]
 fn numbers_of_the_original(rt: HostRuntime) -> Result<(), Fail> {
-    let alloc = rt.alloc();
-    let rows = [
-        (SyntaxKind::Text, "a", None),
-        (SyntaxKind::Space, " ", None),
-        (SyntaxKind::Star, "*", None),
-        (SyntaxKind::Text, "b", None),
-        (SyntaxKind::Markup, "", Some(1)),
-        (SyntaxKind::Star, "*", None),
-        (SyntaxKind::Strong, "", Some(3)),
-        (SyntaxKind::Space, " ", None),
-        (SyntaxKind::Text, "c", None),
-        (SyntaxKind::Markup, "", Some(5)),
-    ];
-    let mut node = tree(alloc, &rows)?;
-    assert_eq!(rt; number(&mut node, 2, END), Ok(()));
-    let want = [
-        3518437208885,
-        10555311626651,
-        17592186044417,
-        22869841857741,
-        26388279066624,
-        29027106973286,
-        30786325577727,
-        36943590693273,
-        59813432551013,
-        66850306968779,
-    ];
-    has_numbers(&rt, alloc, &node, &want)?;
+    let mut node = tree(rt.alloc(), &ORIGINAL)?;
+    assert!(rt; number(&mut node, 2, END).is_ok());
+    assert!(rt; has_numbers(rt.alloc(), &node, &ORIGINAL_NUMBERS)?);
     Ok(())
+}
+
+const OLD: [SyntaxKind; 5] = [
+    SyntaxKind::Text,
+    SyntaxKind::Space,
+    SyntaxKind::Star,
+    SyntaxKind::Comma,
+    SyntaxKind::Text,
+];
+
+const NEW: [SyntaxKind; 3] = [SyntaxKind::Space, SyntaxKind::Hash, SyntaxKind::Comma];
+
+/// Whether only the number at that place differs.
+fn differ_at(place: usize, old: &[u64], new: &[u64]) -> bool {
+    let agrees = |(i, (a, b)): (usize, (&u64, &u64))| (a == b) == (i != place);
+    old.len() == new.len() && old.iter().zip(new).enumerate().all(agrees)
 }
 
 #[test]
 fn what_stays_keeps_its_number(rt: HostRuntime) -> Result<(), Fail> {
     let alloc = rt.alloc();
-    let texts = ["a", "b", "c", "d", "e"];
-    let mut kids = Vec::new(alloc);
-    for text in texts {
-        kids.push(leaf(alloc, SyntaxKind::Text, text)?)?;
-    }
-    let mut node = SyntaxNode::inner(SyntaxKind::Markup, kids);
-    assert_eq!(rt; number(&mut node, 2, END), Ok(()));
-    let mut old = Vec::new(alloc);
-    numbers(alloc, &node, &mut old)?;
-    let mut new = Vec::new(alloc);
-    for text in ["b", "x", "d"] {
-        new.push(leaf(alloc, SyntaxKind::Text, text)?)?;
-    }
-    assert_eq!(rt; replace(&mut node, &[], 1, 4, new), Ok(()));
-    let mut now = Vec::new(alloc);
-    numbers(alloc, &node, &mut now)?;
-    assert_eq!(rt; now.len(), old.len());
-    for (i, (a, b)) in old.iter().zip(now.iter()).enumerate() {
-        assert_eq!(rt; i == 3 || a == b, true, "child {i}");
-    }
+    let mut node = SyntaxNode::inner(SyntaxKind::Markup, leaves(alloc, &OLD)?);
+    assert!(rt; number(&mut node, 2, END).is_ok());
+    let old = numbers(alloc, &node)?;
+    let new = leaves(alloc, &NEW)?;
+    assert!(rt; replace(&mut node, &[], 1, 4, new).is_ok());
+    let now = numbers(alloc, &node)?;
+    assert!(rt; differ_at(3, old.as_slice(), now.as_slice()));
     Ok(())
+}
+
+fn are_in_order(all: &[u64], end: u64) -> bool {
+    all.windows(2).all(|pair| pair.first() < pair.last()) && all.last() < Some(&end)
+}
+
+/// Puts two leaves in place of one in the middle, and says whether all numbers are in order and
+/// below the end.
+fn grows(alloc: Global, node: &mut SyntaxNode, end: u64) -> Result<bool, AllocError> {
+    let middle = node.children().len() / 2;
+    let two = leaves(alloc, &[SyntaxKind::Shorthand, SyntaxKind::Text])?;
+    let replaced = replace(node, &[], middle, middle + 1, two).is_ok();
+    Ok(replaced && are_in_order(numbers(alloc, node)?.as_slice(), end))
 }
 
 // Few numbers are free, so that neighbours have to be numbered anew again and again.
 #[test]
 fn two_hundred_replacements(rt: HostRuntime) -> Result<(), Fail> {
     let alloc = rt.alloc();
-    let mut kids = Vec::new(alloc);
-    for _ in 0..400 {
-        kids.push(leaf(alloc, SyntaxKind::Text, "a")?)?;
-    }
-    let mut node = SyntaxNode::inner(SyntaxKind::Markup, kids);
-    assert_eq!(rt; number(&mut node, 2, 1000), Ok(()));
+    let mut node = SyntaxNode::inner(
+        SyntaxKind::Markup,
+        leaves(alloc, &[SyntaxKind::Space; 400])?,
+    );
+    assert!(rt; number(&mut node, 2, 1000).is_ok());
     for turn in 0..200 {
-        let at = node.children().len() / 2;
-        let mut two = Vec::new(alloc);
-        two.push(leaf(alloc, SyntaxKind::Shorthand, "~")?)?;
-        two.push(leaf(alloc, SyntaxKind::Text, "b")?)?;
-        assert_eq!(rt; replace(&mut node, &[], at, at + 1, two), Ok(()));
-        let mut all = Vec::new(alloc);
-        numbers(alloc, &node, &mut all)?;
-        assert_eq!(rt; all.len(), turn + 402);
-        assert!(rt;
-            all.windows(2).all(|pair| pair.first() < pair.last()),
-            "turn {turn}"
-        );
-        assert!(rt; all.last() < Some(&1000), "turn {turn}");
+        assert!(rt; grows(alloc, &mut node, 1000)?, "turn {turn}");
     }
-    assert_eq!(rt; node.len(), 600);
+    assert!(rt; node.len() == 600);
     Ok(())
 }

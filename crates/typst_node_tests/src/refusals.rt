@@ -1,21 +1,18 @@
-use crate::trees::{END, number, replace, same, sample, tree};
+use crate::trees::{END, Row, number, replace, same, sample, tree};
 use std::alloc::{AllocError, Global};
-use std::process::Abort;
 use std::test::Fail;
 use typst_kinds::{SourceError, SubRange, SyntaxKind};
 use typst_node::SyntaxNode;
 
 // These tests pass whichever request for memory is refused: `rt try --test --fail-alloc N`.
 
-/// `sample`, numbered, or nothing where memory was refused.
-fn numbered_sample(alloc: Global) -> Option<SyntaxNode> {
-    let Ok(mut node) = sample(alloc) else {
-        return None;
-    };
-    if number(&mut node, 2, END).is_err() {
-        return None;
-    }
-    Some(node)
+/// `sample`, numbered, and a copy, or nothing where memory was refused.
+fn samples(alloc: Global) -> Option<(SyntaxNode, SyntaxNode)> {
+    let mut node = sample(alloc).ok()?;
+    number(&mut node, 2, END).ok()?;
+    node.warn("first").ok()?;
+    let before = node.try_clone().ok()?;
+    Some((node, before))
 }
 
 /// Makes the change that `call` stands for.
@@ -31,150 +28,105 @@ fn change(node: &mut SyntaxNode, call: usize, range: SubRange) -> Result<(), All
     }
 }
 
+/// Whether the change is made, or the node stays as it is.
+fn changes_or_stays(alloc: Global, call: usize, range: SubRange) -> bool {
+    let Some((mut node, before)) = samples(alloc) else {
+        return true;
+    };
+    match change(&mut node, call, range) {
+        Ok(()) => !node.spanless_eq(&before),
+        Err(_) => same(alloc, &node, &before),
+    }
+}
+
 #[test]
 fn a_refused_change_changes_nothing(rt: HostRuntime) -> Result<(), Fail> {
-    let alloc = rt.alloc();
     let range = SubRange::new(0, 1).ok_or("range")?;
     for call in 0..7 {
-        let Some(mut node) = numbered_sample(alloc) else {
-            return Ok(());
-        };
-        if node.warn("first").is_err() {
-            return Ok(());
-        }
-        let Ok(before) = node.try_clone() else {
-            return Ok(());
-        };
-        assert!(rt; same(&rt, alloc, &node, &before), "call {call}");
-        if change(&mut node, call, range).is_err() {
-            assert!(rt; same(&rt, alloc, &node, &before), "call {call}");
-            return Ok(());
-        }
-        assert!(rt; !node.spanless_eq(&before), "call {call}");
+        assert!(rt; changes_or_stays(rt.alloc(), call, range), "call {call}");
     }
     Ok(())
 }
 
+/// Whether a keyword becomes an error, or stays where memory was refused.
+fn keyword_becomes_an_error(alloc: Global) -> bool {
+    let Ok(mut node) = SyntaxNode::leaf(alloc, SyntaxKind::Let, "let") else {
+        return true;
+    };
+    match node.expected("pattern") {
+        Ok(()) => node.kind() == SyntaxKind::Error && node.diagnostics().len() == 1,
+        Err(_) => node.kind() == SyntaxKind::Let && node.diagnostics().is_empty(),
+    }
+}
+
 #[test]
 fn a_keyword_stays_where_its_error_is_refused(rt: HostRuntime) {
-    let alloc = rt.alloc();
-    let Ok(mut node) = SyntaxNode::leaf(alloc, SyntaxKind::Let, "let") else {
-        return;
-    };
-    if node.expected("pattern").is_err() {
-        assert_eq!(rt; node.kind(), SyntaxKind::Let);
-        assert_eq!(rt; node.leaf_text(), "let");
-        assert_eq!(rt; node.diagnostics().len(), 0);
-        return;
-    }
-    assert_eq!(rt; node.kind(), SyntaxKind::Error);
-    assert_eq!(rt; node.diagnostics().len(), 1);
+    assert!(rt; keyword_becomes_an_error(rt.alloc()));
 }
 
-#[test]
-fn a_refused_leaf_is_none(rt: HostRuntime) {
-    let alloc = rt.alloc();
-    let text = "four and twenty blackbirds baked in a pie";
-    let Ok(leaf) = SyntaxNode::leaf(alloc, SyntaxKind::Text, text) else {
-        return;
-    };
-    assert_eq!(rt; leaf.leaf_text(), text);
-    let Ok(error) = SyntaxNode::error(alloc, "wrong", text) else {
-        assert_eq!(rt; leaf.leaf_text(), text);
-        return;
-    };
-    assert_eq!(rt; error.leaf_text(), text);
-    assert_eq!(rt; error.diagnostics().len(), 1);
+/// The leaves a and b three levels down.
+const DEEP: [Row; 6] = [
+    (SyntaxKind::Text, "a", None),
+    (SyntaxKind::Text, "b", None),
+    (SyntaxKind::Markup, "", Some(2)),
+    (SyntaxKind::Strong, "", Some(1)),
+    (SyntaxKind::Emph, "", Some(1)),
+    (SyntaxKind::Markup, "", Some(1)),
+];
+
+/// ` c` within a Strong.
+const FRESH: [Row; 3] = [
+    (SyntaxKind::Space, " ", None),
+    (SyntaxKind::Text, "c", None),
+    (SyntaxKind::Strong, "", Some(2)),
+];
+
+/// `DEEP`, numbered within `2..end`, and a copy, or nothing where memory was refused.
+fn deep(alloc: Global, end: u64) -> Option<(SyntaxNode, SyntaxNode)> {
+    let mut node = tree(alloc, &DEEP).ok()?;
+    number(&mut node, 2, end).ok()?;
+    let before = node.try_clone().ok()?;
+    Some((node, before))
 }
 
-/// The leaves a and b three levels down, numbered within `2..end`, or nothing where memory was
-/// refused.
-fn deep(alloc: Global, end: u64) -> Option<SyntaxNode> {
-    let rows = [
-        (SyntaxKind::Text, "a", None),
-        (SyntaxKind::Text, "b", None),
-        (SyntaxKind::Markup, "", Some(2)),
-        (SyntaxKind::Strong, "", Some(1)),
-        (SyntaxKind::Emph, "", Some(1)),
-        (SyntaxKind::Markup, "", Some(1)),
-    ];
-    let Ok(mut node) = tree(alloc, &rows) else {
-        return None;
-    };
-    if number(&mut node, 2, end).is_err() {
-        return None;
-    }
-    Some(node)
-}
-
-/// ` c` within a Strong, or nothing where memory was refused.
 fn fresh(alloc: Global) -> Option<Vec<SyntaxNode>> {
-    let rows = [
-        (SyntaxKind::Space, " ", None),
-        (SyntaxKind::Text, "c", None),
-        (SyntaxKind::Strong, "", Some(2)),
-    ];
-    let Ok(node) = tree(alloc, &rows) else {
-        return None;
-    };
     let mut nodes = Vec::new(alloc);
-    if nodes.push(node).is_err() {
-        return None;
-    }
+    nodes.push(tree(alloc, &FRESH).ok()?).ok()?;
     Some(nodes)
 }
 
-/// Replaces a leaf three levels down, with numbers below `end`. Where that is refused, the
-/// tree has to be as before.
-fn replaces_deep(
-    rt: &impl Abort,
-    alloc: Global,
-    end: u64,
-    from: usize,
-    to: usize,
-) -> Option<SyntaxNode> {
-    let mut node = deep(alloc, end)?;
-    let Ok(before) = node.try_clone() else {
-        return None;
+/// Whether replacing a leaf three levels down, with numbers below `end`, is answered so, or refused
+/// for want of memory; and a refusal leaves the tree as before.
+fn replaces_or_stays(alloc: Global, end: u64, at: usize, answer: Result<(), SourceError>) -> bool {
+    let Some((mut node, before)) = deep(alloc, end) else {
+        return true;
     };
-    let nodes = fresh(alloc)?;
-    if let Err(error) = replace(&mut node, &[0, 0, 0], from, to, nodes) {
-        assert_eq!(rt; error, SourceError::OutOfMemory);
-        assert!(rt; same(rt, alloc, &node, &before));
-        return None;
+    let Some(nodes) = fresh(alloc) else {
+        return true;
+    };
+    let answered = replace(&mut node, &[0, 0, 0], at, at.saturating_add(1), nodes);
+    if answered.is_ok() {
+        return answer.is_ok() && node.descendants() == 8;
     }
-    Some(node)
+    let allowed = answered == answer || answered == Err(SourceError::OutOfMemory);
+    allowed && same(alloc, &node, &before)
 }
 
+// Among all numbers, where the neighbour has to be numbered anew, and where numbers are too few.
 #[test]
 fn a_refusal_at_depth_three_changes_nothing(rt: HostRuntime) {
     let alloc = rt.alloc();
-    // among all numbers, and where the neighbour has to be numbered anew
-    for end in [END, 130] {
-        for (from, to) in [(0, 1), (1, 2)] {
-            if let Some(node) = replaces_deep(&rt, alloc, end, from, to) {
-                assert_eq!(rt; node.len(), 3, "child {from} below {end}");
-                assert_eq!(rt; node.descendants(), 8, "child {from} below {end}");
-            }
+    let rows = [
+        (END, Ok(())),
+        (130, Ok(())),
+        (8, Err(SourceError::SpanNumbers)),
+    ];
+    for (end, answer) in rows {
+        for at in 0..2 {
+            assert!(rt;
+                replaces_or_stays(alloc, end, at, answer),
+                "child {at} below {end}"
+            );
         }
     }
-}
-
-#[test]
-fn too_few_numbers_at_depth_three_change_nothing(rt: HostRuntime) {
-    let alloc = rt.alloc();
-    let Some(mut node) = deep(alloc, 8) else {
-        return;
-    };
-    let Ok(before) = node.try_clone() else {
-        return;
-    };
-    let Some(nodes) = fresh(alloc) else {
-        return;
-    };
-    assert_eq!(rt;
-        replace(&mut node, &[0, 0, 0], 0, 1, nodes),
-        Err(SourceError::SpanNumbers)
-    );
-    assert!(rt; same(&rt, alloc, &node, &before));
 }

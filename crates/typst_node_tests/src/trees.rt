@@ -1,5 +1,4 @@
 use std::alloc::{AllocError, Global};
-use std::process::Abort;
 use typst_kinds::{FileId, SourceError, SyntaxKind};
 use typst_node::SyntaxNode;
 
@@ -32,11 +31,11 @@ pub(crate) fn gather(
     Ok(SyntaxNode::inner(kind, kids))
 }
 
-/// A tree from its nodes, each after its children: kind, text, and how many children.
-pub(crate) fn tree(
-    alloc: Global,
-    rows: &[(SyntaxKind, &str, Option<usize>)],
-) -> Result<SyntaxNode, AllocError> {
+/// A node of a tree: kind, text, and how many children it is over, where it is an inner node.
+pub(crate) type Row = (SyntaxKind, &'static str, Option<usize>);
+
+/// A tree from its nodes, each after its children.
+pub(crate) fn tree(alloc: Global, rows: &[Row]) -> Result<SyntaxNode, AllocError> {
     let mut stack = Vec::new(alloc);
     for (kind, text, kids) in rows {
         let node = match kids {
@@ -78,39 +77,37 @@ pub(crate) fn sample(alloc: Global) -> Result<SyntaxNode, AllocError> {
     Ok(SyntaxNode::inner(SyntaxKind::ContentBlock, kids))
 }
 
-/// Adds the numbers of the first thousand nodes to `all`, each before its children's, 0 for a
-/// detached one.
-pub(crate) fn numbers(
-    alloc: Global,
-    root: &SyntaxNode,
-    all: &mut Vec<u64>,
-) -> Result<(), AllocError> {
+/// Leaves of these kinds, each with the text `x`.
+pub(crate) fn leaves(alloc: Global, kinds: &[SyntaxKind]) -> Result<Vec<SyntaxNode>, AllocError> {
+    let mut all = Vec::new(alloc);
+    for kind in kinds {
+        all.push(leaf(alloc, *kind, "x")?)?;
+    }
+    Ok(all)
+}
+
+/// The numbers of the first thousand nodes, each before its children's, 0 for a detached one.
+pub(crate) fn numbers(alloc: Global, root: &SyntaxNode) -> Result<Vec<u64>, AllocError> {
+    let mut all = Vec::new(alloc);
     let mut left = Vec::new(alloc);
     left.push(root)?;
     for _ in 0..1000 {
         let Some(node) = left.pop() else { break };
-        let number = match node.span().number() {
-            None => 0,
-            Some(number) => number.get(),
-        };
-        all.push(number)?;
+        all.push(node.span().number_or_zero())?;
         for kid in node.children().iter().rev() {
             left.push(kid)?;
         }
     }
-    Ok(())
+    Ok(all)
 }
 
+/// Whether these are the numbers of the tree's nodes.
 pub(crate) fn has_numbers(
-    rt: &impl Abort,
     alloc: Global,
     node: &SyntaxNode,
     want: &[u64],
-) -> Result<(), AllocError> {
-    let mut all = Vec::new(alloc);
-    numbers(alloc, node, &mut all)?;
-    assert_eq!(rt; all.as_slice(), want);
-    Ok(())
+) -> Result<bool, AllocError> {
+    Ok(numbers(alloc, node)?.as_slice() == want)
 }
 
 /// Numbers a tree within `start..end`, both within all numbers.
@@ -136,12 +133,10 @@ pub(crate) fn replace(
     }
 }
 
-/// Whether both are the same, spans too.
-pub(crate) fn same(rt: &impl Abort, alloc: Global, a: &SyntaxNode, b: &SyntaxNode) -> bool {
-    let (mut one, mut other) = (Vec::new(alloc), Vec::new(alloc));
-    if numbers(alloc, a, &mut one).is_err() || numbers(alloc, b, &mut other).is_err() {
+/// Whether both are the same, spans too, or memory was refused.
+pub(crate) fn same(alloc: Global, a: &SyntaxNode, b: &SyntaxNode) -> bool {
+    let (Ok(one), Ok(other)) = (numbers(alloc, a), numbers(alloc, b)) else {
         return true;
-    }
-    assert_eq!(rt; one.as_slice(), other.as_slice());
-    a.spanless_eq(b)
+    };
+    one.as_slice() == other.as_slice() && a.spanless_eq(b)
 }

@@ -1,5 +1,8 @@
 //! Escapes in rows: characters that don't show, by their names between `‹` and `›`.
 
+ghost use Rattle.std.specs.Prelude.{◌≡◌, IfSome, Some};
+ghost use Rattle.typst_probe.specs.Escapes.{character_named};
+
 use std::alloc::AllocError;
 
 /// Writes a line of a row with each escape put back into the character that it names. Gives false
@@ -23,7 +26,9 @@ pub fn push_decoded(out: &mut String, line: &str) -> Result<bool, AllocError> {
 }
 
 /// The character that an escape names.
-fn named(name: &str) -> Option<char> {
+fn named(name: &str) -> Option<char>
+    ensures { IfSome (character_named name.now) (λ c. result ≡ Some c) }
+{
     match name {
         "LF" => Some('\n'),
         "CR" => Some('\r'),

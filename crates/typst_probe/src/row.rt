@@ -1,5 +1,7 @@
 //! A row: a text, and what is wanted of it.
 
+ghost use Rattle.std.specs.Prelude.{◌≡◌, ◌≢◌, MatchOption, string_bytes};
+
 use crate::word::Word;
 use std::alloc::{AllocError, Global};
 
@@ -22,9 +24,16 @@ impl Row {
     /// The answer, where it isn't what is wanted.
     pub fn differing(&self, alloc: Global) -> Result<Option<String>, AllocError> {
         let answer = self.word.answer(alloc, self.text.as_str())?;
-        if answer.as_str() == self.wanted.as_str() {
-            return Ok(None);
-        }
-        Ok(Some(answer))
+        Ok(unless_equal(answer, self.wanted.as_str()))
     }
+}
+
+/// The answer, unless it is what is wanted.
+fn unless_equal(answer: String, wanted: &str) -> Option<String>
+    ensures { MatchOption result (string_bytes answer ≡ wanted.now) (λ other. (other ≡ answer) × (string_bytes answer ≢ wanted.now)) }
+{
+    if answer.as_str() == wanted {
+        return None;
+    }
+    Some(answer)
 }

@@ -2,10 +2,9 @@
 
 use std::alloc::{AllocError, Global};
 use typst_cli::tree::{print_head, variant_name};
-
 use typst_lexer::{Lexer, Token};
-use typst_token_nodes::make_node;
 use typst_parser::{SyntaxMode, UnicodeClasses};
+use typst_token_nodes::make_node;
 
 /// The tokens of the text as markup. Each has a line with its kind, its range in bytes and, for an
 /// error, its message; below an error stand its hints, two spaces deeper.
@@ -33,7 +32,7 @@ fn print_token(
 ) -> Result<(), AllocError> {
     if token.fault.is_some() {
         let node = make_node(alloc, token, taken, &UnicodeClasses)?;
-        return print_head(printed, &node, "", "  ", start);
+        return print_head(printed, &node, "", "  ", start..end);
     }
     let name = variant_name(token.kind);
     writeln!(printed, "{name} {start}..{end}")

@@ -1,5 +1,8 @@
 //! The words that name what can be asked about a text.
 
+ghost use Rattle.std.specs.Prelude.{◌≡◌, IfOk, IfSome, string_bytes};
+ghost use Rattle.typst_probe.specs.Words.{printed_by, word_named};
+
 use crate::tokens;
 use std::alloc::{AllocError, Global};
 use typst_cli::Command;
@@ -17,7 +20,9 @@ pub enum Word {
 
 impl Word {
     /// The word of that name.
-    pub fn from_name(name: &str) -> Option<Word> {
+    pub fn from_name(name: &str) -> Option<Word>
+        ensures { result ≡ word_named name.now }
+    {
         match name {
             "tree" => Some(Word::Tree),
             "tokens" => Some(Word::Tokens),
@@ -27,7 +32,9 @@ impl Word {
     }
 
     /// The whole answer about a text.
-    pub fn answer(self, alloc: Global, text: &str) -> Result<String, AllocError> {
+    pub fn answer(self, alloc: Global, text: &str) -> Result<String, AllocError>
+        ensures { IfOk result (λ answer. IfSome (printed_by self text.now) (λ printed. string_bytes answer ≡ printed)) }
+    {
         match self {
             Word::Tree => Command::Tree.answer(alloc, text),
             Word::Tokens => tokens::answer(alloc, text),

@@ -9,8 +9,9 @@ ghost use Rattle.typst_lines.specs.Scanner.{place};
 ghost use Rattle.typst_raw.specs.LastLine.{IsLastLine};
 ghost use Rattle.typst_raw.specs.Lines as spec;
 
-use crate::sets::{InLine, Whitespace};
+use crate::sets::Whitespace;
 use std::alloc::AllocError;
+use typst_classes::sets::InLine;
 use typst_kinds::SyntaxKind;
 use typst_lines::{Scanner, ScannerExt};
 use typst_node::SyntaxNode;

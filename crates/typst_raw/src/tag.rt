@@ -4,9 +4,10 @@ ghost use Rattle.std.specs.Str.{chars};
 ghost use Rattle.typst_lines.specs.Scanner.{place};
 ghost use Rattle.typst_raw.specs.Tag as spec;
 
-use crate::sets::{IdContinue, IdStart, InNextTag};
+use crate::sets::InNextTag;
 use std::alloc::{AllocError, Global};
 use typst_classes::Classes;
+use typst_classes::sets::{IdContinue, IdStart};
 use typst_kinds::SubRange;
 use typst_lines::Scanner;
 use typst_node::SyntaxNode;

@@ -7,7 +7,7 @@ use Rattle.typst_lines.specs.Place.{Place, bytes_ahead, moved, moved_from, scout
 use Rattle.typst_readers.specs.Reader.{place}
 use Rattle.typst_readers.specs.Sight.{position, far, Sight, saw, went}
 use Rattle.typst_readers.proofs.Sights.{far-none, far-on, same-sight, peeked}
-use Rattle.typst_readers.proofs.WordLemmas.{moved-moved, scout-on}
+use Rattle.typst_readers.proofs.Words.{moved-moved, scout-on}
 
 -- where n characters ahead end, where there are so many
 far-whole : (n : ℕ) (b a : List ℕ) → n ≡ length (take n a) → far n (place b a) ≡ position (moved_from n b a)

@@ -76,8 +76,8 @@ narrowed back front l p q g = agree-second (record { back = back; front = front 
 scout-same : (n : ℕ) (l : Look) (p q : Place) → Agree (widened 0 (suc n) l) p q → scout n p ≡ scout n q
 scout-same n l p q g = scout-agree n _ _ (take-shorter (suc n) (max (suc n) l.front) _ _ (omega arith) g.ahead)
 
-behind-same : (l : Look) (p q : Place) → Agree (widened 1 0 l) p q → slice_get p.behind 0 ≡ slice_get q.behind 0
-behind-same l p q g = scout-agree 0 _ _ (take-shorter 1 (max 1 l.back) _ _ (omega arith) g.behind)
+behind-same : (n : ℕ) (l : Look) (p q : Place) → Agree (widened (suc n) 0 l) p q → slice_get p.behind n ≡ slice_get q.behind n
+behind-same n l p q g = scout-agree n _ _ (take-shorter (suc n) (max (suc n) l.back) _ _ (omega arith) g.behind)
 
 -- ---- questions at one place
 
@@ -95,7 +95,7 @@ step-frame (see n k) p q g =
       looks = ap (widened 0 (suc n)) (rest.looks ∙ ap (λ o. glimpse (k o) q) same);
     }
 step-frame (see_behind k) p q g =
-    let same = behind-same (glimpse (k (slice_get p.behind 0)) p) p q g in
+    let same = behind-same 0 (glimpse (k (slice_get p.behind 0)) p) p q g in
     let rest = step-frame (k (slice_get p.behind 0)) p q (narrowed 1 0 _ p q g) in
     record {
       answers = rest.answers ∙ ap (λ o. ask (k o) q) same;
@@ -111,7 +111,8 @@ record SameSpan {M : Type 0} (m : Machine M) (state : M) (pb pa qb qa : List ℕ
 abbrev pub turned : {M : Type 0} → Machine M → M → List ℕ → ℕ → List ℕ → Turn M → List ℕ × M
 turned m state behind c ahead t = elim t [ leave ↦ ([], state) | last after ↦ (c ∷ [], after) | go after ↦ (let r = spanned m after (c ∷ behind) ahead in (c ∷ r.0, r.1)) ]
 
-abbrev turn_look : {M : Type 0} → Machine M → List ℕ → ℕ → List ℕ → Turn M → Look
+-- what is looked at behind the turn at a character
+abbrev pub turn_look : {M : Type 0} → Machine M → List ℕ → ℕ → List ℕ → Turn M → Look
 turn_look m behind c ahead t = elim t [ leave ↦ no_look | last after ↦ no_look | go after ↦ from_before (c ∷ ahead) (span_look m after (c ∷ behind) ahead) ]
 
 turn-agree : {M : Type 0} (m : Machine M) (state : M) (c : ℕ) (pb pa qb qa : List ℕ) (t : Turn M)
@@ -214,13 +215,13 @@ frame (peek n k) p q g =
       lengths = rest.lengths ∙ ap (λ o. eaten (k o) q) same;
       looks = ap (widened 0 (suc n)) (rest.looks ∙ ap (λ o. look (k o) q) same);
     }
-frame (glance k) p q g =
-    let same = behind-same (look (k (slice_get p.behind 0)) p) p q g in
-    let rest = frame (k (slice_get p.behind 0)) p q (narrowed 1 0 _ p q g) in
+frame (glance n k) p q g =
+    let same = behind-same n (look (k (slice_get p.behind n)) p) p q g in
+    let rest = frame (k (slice_get p.behind n)) p q (narrowed (suc n) 0 _ p q g) in
     record {
       answers = rest.answers ∙ ap (λ o. (exec (k o) q).0) same;
       lengths = rest.lengths ∙ ap (λ o. eaten (k o) q) same;
-      looks = ap (widened 1 0) (rest.looks ∙ ap (λ o. look (k o) q) same);
+      looks = ap (widened (suc n) 0) (rest.looks ∙ ap (λ o. look (k o) q) same);
     }
 frame (span m state k) p q g =
     let r = spanned m state p.behind p.ahead in

@@ -22,7 +22,7 @@ moved-min (suc n) xs (c ∷ ys) = let e : min (suc n) (suc (length ys)) ≡ suc 
 pub exec-moved : {M A : Type 0} (r : Reader M A) (p : Place) → (exec r p).1 ≡ moved (eaten r p) p
 exec-moved (answer a) p = refl
 exec-moved (peek n k) p = exec-moved (k (scout n p)) p
-exec-moved (glance k) p = exec-moved (k (slice_get p.behind 0)) p
+exec-moved (glance n k) p = exec-moved (k (slice_get p.behind n)) p
 exec-moved (span m state k) p = let r = spanned m state p.behind p.ahead in exec-moved (k r.0 r.1) p
 exec-moved (eat r) p =
     let e : 1 + eaten r (moved 1 p) ≡ suc (eaten r (moved 1 p)) = omega arith in

@@ -142,8 +142,8 @@ same-sight z w r s l m e f g = rw (e, f, g) refl
 pub covers-saw : (n : ℕ) (v : Sight) → Covers v → Covers (saw n v)
 covers-saw n v h = record { reach = omega (arith, h.reach); least = h.least }
 
-pub covers-saw_behind : (v : Sight) → Covers v → Covers (saw_behind v)
-covers-saw_behind v h = record { reach = h.reach; least = omega (arith, h.least) }
+pub covers-saw_behind : (n : ℕ) (v : Sight) → Covers v → Covers (saw_behind n v)
+covers-saw_behind n v h = record { reach = h.reach; least = omega (arith, h.least) }
 
 pub covers-saw_by : (l : Look) (v : Sight) → Covers v → Covers (saw_by l v)
 covers-saw_by l v h = record { reach = omega (arith, h.reach); least = omega (arith, h.least) }
@@ -177,8 +177,8 @@ went-nowhere v h = same-sight _ _ _ _ _ _ refl (omega (arith, far-none v.place, 
 pub saw-ahead : (n : ℕ) (v : Sight) → Covers v → saw_by (record { back = 0; front = n }) v ≡ saw n v
 saw-ahead n v h = same-sight _ _ _ _ _ _ refl refl (omega (arith, near-none v.place, h.least))
 
-pub saw-back : (v : Sight) → Covers v → saw_by (record { back = 1; front = 0 }) v ≡ saw_behind v
-saw-back v h = same-sight _ _ _ _ _ _ refl (omega (arith, far-none v.place, h.reach)) refl
+pub saw-back : (n : ℕ) (v : Sight) → Covers v → saw_by (record { back = n; front = 0 }) v ≡ saw_behind n v
+saw-back n v h = same-sight _ _ _ _ _ _ refl (omega (arith, far-none v.place, h.reach)) refl
 
 -- the same stretch, from one character before, and from several
 abbrev as_place : Place → Sight → Sight
@@ -246,8 +246,8 @@ regard-is (see n k) v h =
     ∙ ap (λ w. (ask rest v.place, w)) (sym (saw-both (record { back = 0; front = suc n }) (glimpse rest v.place) v))
 regard-is (see_behind k) v h =
     let rest = k (slice_get v.place.behind 0) in
-    regard-is (k (slice_get v.place.behind 0)) (saw_behind v) (covers-saw_behind v h)
-    ∙ ap (λ w. (ask rest v.place, saw_by (glimpse rest v.place) w)) (sym (saw-back v h))
+    regard-is (k (slice_get v.place.behind 0)) (saw_behind 1 v) (covers-saw_behind 1 v h)
+    ∙ ap (λ w. (ask rest v.place, saw_by (glimpse rest v.place) w)) (sym (saw-back 1 v h))
     ∙ ap (λ w. (ask rest v.place, w)) (sym (saw-both (record { back = 1; front = 0 }) (glimpse rest v.place) v))
 
 -- what a reader answers, where, and what it looked at on the way
@@ -259,12 +259,12 @@ sight-is (peek n k) v h =
     sight-is (k (scout n v.place)) (saw (suc n) v) (covers-saw (suc n) v h)
     ∙ ap (λ w. (e.0, as_place e.1 (saw_by (look rest v.place) w))) (sym (saw-ahead (suc n) v h))
     ∙ ap (λ w. (e.0, as_place e.1 w)) (sym (saw-both (record { back = 0; front = suc n }) (look rest v.place) v))
-sight-is (glance k) v h =
-    let rest = k (slice_get v.place.behind 0) in
+sight-is (glance n k) v h =
+    let rest = k (slice_get v.place.behind n) in
     let e = exec rest v.place in
-    sight-is (k (slice_get v.place.behind 0)) (saw_behind v) (covers-saw_behind v h)
-    ∙ ap (λ w. (e.0, as_place e.1 (saw_by (look rest v.place) w))) (sym (saw-back v h))
-    ∙ ap (λ w. (e.0, as_place e.1 w)) (sym (saw-both (record { back = 1; front = 0 }) (look rest v.place) v))
+    sight-is (k (slice_get v.place.behind n)) (saw_behind (suc n) v) (covers-saw_behind (suc n) v h)
+    ∙ ap (λ w. (e.0, as_place e.1 (saw_by (look rest v.place) w))) (sym (saw-back (suc n) v h))
+    ∙ ap (λ w. (e.0, as_place e.1 w)) (sym (saw-both (record { back = suc n; front = 0 }) (look rest v.place) v))
 sight-is (span m state k) v h =
     let r = spanned m state v.place.behind v.place.ahead in
     let l = span_look m state v.place.behind v.place.ahead in
@@ -331,10 +331,10 @@ ate n z y o r l m e g f p h = same-sight _ _ _ _ _ _ p (g ∙ ap (max r) (far-re
 pub far-next : (n : ℕ) (z : Place) → far n z ≤ far (suc n) z
 far-next n z = let e : max n (suc n) ≡ suc n = omega arith in omega (arith, far-max n (suc n) z, ap (λ k. far k z) e)
 
-pub ran : (test : ℕ → Bool) (z y w : Place) (o : Option ℕ) (r l m e : ℕ) → m ≡ max r e → e ≡ position w + (if is_none o then 1 else 0) → w ≡ moved 1 y → o ≡ scout 0 y → y ≡ past test z
-    → ◌≡◌ {A = Sight} (record { place = y; reach = m; least = l }) (went_past test (record { place = z; reach = r; least = l }))
-ran test z y w o r l m e g f p h q =
-    let n = prefix_len test z.ahead in
+-- a run and what ends it were looked at, and the run was eaten
+pub ran : (n : ℕ) (z y w : Place) (o : Option ℕ) (r l m e : ℕ) → m ≡ max r e → e ≡ position w + (if is_none o then 1 else 0) → w ≡ moved 1 y → o ≡ scout 0 y → y ≡ moved n z
+    → ◌≡◌ {A = Sight} (record { place = y; reach = m; least = l }) (went n (saw (suc n) (record { place = z; reach = r; least = l })))
+ran n z y w o r l m e g f p h q =
     let up : suc (0 + n) ≡ suc n = omega arith in
     let one = far-read 0 y w o e f p h ∙ ap (far 1) q ∙ far-moved 0 n z.behind z.ahead ∙ ap (λ k. far k z) up in
     same-sight _ _ _ _ _ _ q (omega (arith, g, one, far-next n z)) refl
@@ -349,8 +349,26 @@ two-scout z y o e f = f ∙ ap (scout 0) e ∙ second z.behind z.ahead
     second b [] = refl
     second b (c ∷ a) = refl
 
-pub glanced : (z : Place) (r l m s : ℕ) → m ≡ min l s → s ≡ near 1 z → ◌≡◌ {A = Sight} (record { place = z; reach = r; least = m }) (saw_behind (record { place = z; reach = r; least = l }))
-glanced z r l m s g f = same-sight _ _ _ _ _ _ refl refl (g ∙ ap (min l) f)
+-- where a look begins that read a character last
+pub start-is : (z y : Place) (o : Option ℕ) (e : ℕ) → e ≡ (if is_none o then 0 else position y + 1) → y ≡ moved_back z → o ≡ slice_get z.behind 0 → e ≡ near 1 z
+start-is z y None e f g h = f ∙ near-start z h
+start-is z y (Some c) e f g h = let one : position y + 1 ≡ suc (position y) = omega arith in f ∙ one ∙ ap (λ w. suc (position w)) g ∙ near-some z c h
+
+-- and one that read the character before the one behind
+back-one : (z y : Place) → y ≡ moved_back z → (slice_get y.behind 0 ≡ slice_get z.behind 1) × (near 1 y ≡ near 2 z)
+unfolding near stretch position width
+back-one z y e = rw e (by z.behind z.ahead)
+  where
+    by : (b a : List ℕ) → (slice_get (back_from b a).behind 0 ≡ slice_get b 1) × (near 1 (back_from b a) ≡ near 2 (place b a))
+    by [] a = (refl, refl)
+    by (c ∷ b) a = (refl, omega arith)
+
+pub second-start-is : (z y x : Place) (o : Option ℕ) (e : ℕ) → e ≡ (if is_none o then 0 else position x + 1) → y ≡ moved_back z → x ≡ moved_back y → o ≡ slice_get y.behind 0
+    → (o ≡ slice_get z.behind 1) × (e ≡ near 2 z)
+second-start-is z y x o e f g h k = let b = back-one z y g in (k ∙ b.0, start-is y x o e f h k ∙ b.1)
+
+pub glanced : (n : ℕ) (z : Place) (r l m s : ℕ) → m ≡ min l s → s ≡ near n z → ◌≡◌ {A = Sight} (record { place = z; reach = r; least = m }) (saw_behind n (record { place = z; reach = r; least = l }))
+glanced n z r l m s g f = same-sight _ _ _ _ _ _ refl refl (g ∙ ap (min l) f)
 
 -- ---- the text around a place
 

@@ -4,11 +4,8 @@ use Rattle.typst_lines.specs.Place.{Place, moved_from}
 use Rattle.typst_readers.specs.Reader.{place, both, no_look, widened, from_before, Look, ask, glimpse, Machine, Turn, spanned, span_look, Reader, eat_span}
 use Rattle.typst_readers.specs.Reader.Turn.{leave, last, go}
 use Rattle.typst_readers.specs.Sight.{far, Sight, Covers, saw, saw_by, went, sight}
-use Rattle.typst_readers.proofs.Frame.{turned}
+use Rattle.typst_readers.proofs.Frame.{turned, turn_look}
 use Rattle.typst_readers.proofs.Sights.{far-none, far-le, far-on, same-sight, covers-saw, covers-saw_by, saw-both, saw-nothing, saw-ahead, saw-before, went-nowhere}
-
-abbrev turn_look : {M : Type 0} → Machine M → List ℕ → ℕ → List ℕ → Turn M → Look
-turn_look m behind c ahead t = elim t [ leave ↦ no_look | last after ↦ no_look | go after ↦ from_before (c ∷ ahead) (span_look m after (c ∷ behind) ahead) ]
 
 -- what is read behind the turn at a character
 abbrev pub turned_sight : {A M : Type 0} → Machine M → M → (M → Reader M A) → Sight → Turn M → A × Sight

@@ -98,8 +98,8 @@ pub data Reader (M A : Type 0) : Type 0 where
   answer : A → Reader M A
   -- the character n places ahead
   peek : ℕ → (Option ℕ → Reader M A) → Reader M A
-  -- the character behind
-  glance : (Option ℕ → Reader M A) → Reader M A
+  -- the character n places behind
+  glance : ℕ → (Option ℕ → Reader M A) → Reader M A
   -- the characters that a machine takes, which stay ahead, and its memory at the end
   span : Machine M → M → (List ℕ → M → Reader M A) → Reader M A
   -- goes past a character
@@ -115,7 +115,7 @@ pub data Reader (M A : Type 0) : Type 0 where
 abbrev pub exec : {M A : Type 0} → Reader M A → Place → A × Place
 exec (answer a) p = (a, p)
 exec (peek n k) p = exec (k (scout n p)) p
-exec (glance k) p = exec (k (slice_get p.behind 0)) p
+exec (glance n k) p = exec (k (slice_get p.behind n)) p
 exec (span m state k) p = let r = spanned m state p.behind p.ahead in exec (k r.0 r.1) p
 exec (eat r) p = exec r (moved 1 p)
 exec (see_run test k) p = exec (k (run test p)) p
@@ -126,7 +126,7 @@ exec (eat_run test k) p = exec (k (run test p)) (past test p)
 abbrev pub eaten : {M A : Type 0} → Reader M A → Place → ℕ
 eaten (answer a) p = 0
 eaten (peek n k) p = eaten (k (scout n p)) p
-eaten (glance k) p = eaten (k (slice_get p.behind 0)) p
+eaten (glance n k) p = eaten (k (slice_get p.behind n)) p
 eaten (span m state k) p = let r = spanned m state p.behind p.ahead in eaten (k r.0 r.1) p
 eaten (eat r) p = suc (eaten r (moved 1 p))
 eaten (see_run test k) p = eaten (k (run test p)) p
@@ -136,7 +136,7 @@ eaten (eat_run test k) p = prefix_len test p.ahead + eaten (k (run test p)) (pas
 abbrev pub look : {M A : Type 0} → Reader M A → Place → Look
 look (answer a) p = no_look
 look (peek n k) p = widened 0 (suc n) (look (k (scout n p)) p)
-look (glance k) p = widened 1 0 (look (k (slice_get p.behind 0)) p)
+look (glance n k) p = widened (suc n) 0 (look (k (slice_get p.behind n)) p)
 look (span m state k) p = let r = spanned m state p.behind p.ahead in both (span_look m state p.behind p.ahead) (look (k r.0 r.1) p)
 look (eat r) p = from_before p.ahead (look r (moved 1 p))
 look (see_run test k) p = widened 0 (suc (prefix_len test p.ahead)) (look (k (run test p)) p)

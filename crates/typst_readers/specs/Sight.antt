@@ -61,9 +61,9 @@ fresh z = record { place = z; reach = position z; least = suc (position z) }
 abbrev pub saw : ℕ → Sight → Sight
 saw n v = record v { reach = max v.reach (far n v.place) }
 
--- the place behind was looked at
-abbrev pub saw_behind : Sight → Sight
-saw_behind v = record v { least = min v.least (near 1 v.place) }
+-- n places behind were looked at
+abbrev pub saw_behind : ℕ → Sight → Sight
+saw_behind n v = record v { least = min v.least (near n v.place) }
 
 abbrev pub saw_by : Look → Sight → Sight
 saw_by l v = record v { reach = max v.reach (far l.front v.place); least = min v.least (near l.back v.place) }
@@ -88,13 +88,13 @@ saw_word n word v = record v { reach = word_reach n word v.place v.reach }
 abbrev pub regard : {A : Type 0} → Step A → Sight → A × Sight
 regard (turn a) v = (a, v)
 regard (see n k) v = regard (k (scout n v.place)) (saw (suc n) v)
-regard (see_behind k) v = regard (k (slice_get v.place.behind 0)) (saw_behind v)
+regard (see_behind k) v = regard (k (slice_get v.place.behind 0)) (saw_behind 1 v)
 
 -- the answer of a reader, where it was given, and what was looked at for it
 abbrev pub sight : {M A : Type 0} → Reader M A → Sight → A × Sight
 sight (answer a) v = (a, v)
 sight (peek n k) v = sight (k (scout n v.place)) (saw (suc n) v)
-sight (glance k) v = sight (k (slice_get v.place.behind 0)) (saw_behind v)
+sight (glance n k) v = sight (k (slice_get v.place.behind n)) (saw_behind (suc n) v)
 sight (span m state k) v =
     let r = spanned m state v.place.behind v.place.ahead in
     sight (k r.0 r.1) (saw_by (span_look m state v.place.behind v.place.ahead) v)

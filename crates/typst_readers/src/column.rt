@@ -1,32 +1,28 @@
 //! Columns.
-ghost use Rattle.std.specs.Prelude.{◌≡◌, reverse};
-ghost use Rattle.std.specs.List.{prefix_len};
-ghost use Rattle.std.specs.Str.{chars};
-ghost use Rattle.typst_classes.specs.Classes.{in_line};
+ghost use Rattle.std.specs.Prelude.{◌≡◌};
 ghost use Rattle.typst_lines.specs.Scanner.{place};
 ghost use Rattle.typst_readers.specs.Column as spec;
+ghost use Rattle.typst_readers.specs.Sight.{hull_of};
 
+use crate::hull::Hull;
 use typst_lines::{Scanner, is_newline};
 
-/// How many characters stand behind, up to a newline character or the text's start.
-pub fn column(s: &Scanner<'_>) -> usize
-    ensures { result ≡ spec.column (place s.now) }
+/// How many characters stand between the last newline character behind, or the text's start, and
+/// here; and what was looked at for it.
+#[inline(never)]
+pub fn column(s: &Scanner<'_>) -> (usize, Hull)
+    ensures column { result.0 ≡ spec.column (place s.now) }
+    ensures hull { result.1 ≡ hull_of (spec.column_look (place s.now)) (place s.now) }
 {
-    last_line_len(s.before())
-}
-
-/// How many characters stand at the text's end without a newline character.
-fn last_line_len(text: &str) -> usize
-    ensures { result ≡ prefix_len in_line (reverse (chars text.now)) }
-{
-    let mut s = Scanner::new(text);
-    s.jump(text.len());
-    let mut len = 0usize;
-    while let Some(c) = s.uneat() {
+    let reach = s.cursor();
+    let mut behind = *s;
+    let mut count = 0usize;
+    'back: while let Some(c) = behind.uneat() {
         if is_newline(c) {
-            return len;
+            let least = behind.cursor() + 1;
+            return (count, Hull { reach, least });
         }
-        len += 1;
+        count = count.saturating_add(1);
     }
-    len
+    (count, Hull { reach, least: 0 })
 }

@@ -90,15 +90,24 @@ impl<'a> Cursor<'a> {
     #[inline]
     pub fn last(&mut self) -> Option<char>
         ensures last { result ≡ slice_get self.old.place.behind 0 }
-        ensures sight { self.new ≡ spec.saw_behind self.old }
+        ensures sight { self.new ≡ spec.saw_behind 1 self.old }
     {
         let mut behind = self.s;
         let c = behind.uneat();
-        let start = match c {
-            Some(_) => behind.cursor() + 1,
-            None => 0,
-        };
-        self.least = self.least.min(start);
+        self.least = self.least.min(start_of(&behind, c));
+        c
+    }
+
+    /// The character before the one behind.
+    #[inline]
+    pub fn second_last(&mut self) -> Option<char>
+        ensures second_last { result ≡ slice_get self.old.place.behind 1 }
+        ensures sight { self.new ≡ spec.saw_behind 2 self.old }
+    {
+        let mut behind = self.s;
+        behind.uneat();
+        let c = behind.uneat();
+        self.least = self.least.min(start_of(&behind, c));
         c
     }
 
@@ -242,6 +251,17 @@ fn end_of(s: &Scanner<'_>, c: Option<char>) -> usize
     match c {
         Some(_) => s.cursor(),
         None => s.cursor() + 1,
+    }
+}
+
+/// Where a look begins that read this character last, or the mark before the text.
+#[inline(always)]
+fn start_of(s: &Scanner<'_>, c: Option<char>) -> usize
+    ensures { result ≡ (if is_none c then 0 else spec.position (place s.now) + 1) }
+{
+    match c {
+        Some(_) => s.cursor() + 1,
+        None => 0,
     }
 }
 

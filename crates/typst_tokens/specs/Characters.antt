@@ -7,12 +7,6 @@ use Rattle.typst_kinds.specs.declared.mode.SyntaxMode.TheVariants.{Markup, Math,
 use Rattle.typst_lines.specs.Newline.{is_newline}
 use Rattle.typst_lines.specs.Place.{passes}
 
--- A character is one of the signs.
-abbrev pub among : List ℕ → ℕ → Bool
-among [] c = false
-among (d ∷ []) c = c == d
-among (d ∷ signs) c = c == d || among signs c
-
 -- Whitespace is spaces, tabs and newline characters in markup, and White_Space elsewhere.
 abbrev pub is_space : SyntaxMode → ℕ → Bool
 is_space Markup c = c == 32 || c == 9 || is_newline c

@@ -5,8 +5,9 @@ ghost use Rattle.typst_tokens.specs.Common as spec;
 ghost use Rattle.typst_readers.specs.Reads.{Reads};
 ghost use Rattle.typst_tokens.specs.declared.token.Token.{Token};
 
-use crate::sets::{InLine, Whitespace};
+use crate::sets::Whitespace;
 use crate::token::{Fault, Token};
+use typst_classes::sets::InLine;
 use typst_kinds::{SyntaxKind, SyntaxMode};
 use typst_lines::{Scanner, is_newline};
 use typst_readers::Cursor;

@@ -2,7 +2,6 @@
 ghost use Rattle.std.specs.Prelude.{◌≡◌, ◌≤◌};
 ghost use Rattle.std.specs.Str.{chars};
 ghost use Rattle.typst_tokens.specs.Characters as spec;
-ghost use Rattle.typst_classes.specs.Classes.{in_line};
 
 use typst_kinds::SyntaxMode;
 use typst_lines::{CharSet, Scanner, is_newline};
@@ -17,19 +16,6 @@ impl CharSet for Whitespace {
     #[inline]
     fn has(&self, c: char) -> bool {
         is_space(c, self.0)
-    }
-}
-
-/// What stays on a line.
-#[derive(Clone, Copy)]
-pub struct InLine;
-
-impl CharSet for InLine {
-    ghost members = { λ _. in_line };
-
-    #[inline]
-    fn has(&self, c: char) -> bool {
-        !is_newline(c)
     }
 }
 

@@ -1,8 +1,17 @@
-pub mod Finding
-pub mod LastLeaves
-pub mod Passing
-pub mod Places
-pub mod Rising
+-- Where the clauses are proved. A function that isn't named here needs no lemma.
+--   get, range, children                 NodesOfStretch: node_here, stands_row; WalksInPreorder: length_places
+--   LinkedChildren::next                 NodesOfStretch: row, stands_same
+--   next_sibling                         Siblings: find_past, find_here, next_of
+--   next_leaf, leftmost_leaf, leaf_at    WalksInPreorder: found_here, found_below, found_next, turn; PassesOver
+--   prev_leaf                            LastLeaf: last_here, last_next, last_within; PassesOver: place_found
+--   find: a node finds itself            FindsOwnSpan: finds_own; SingleNodes: same_span
+--   find, find_number from `ordered`     RisingNumbers: none_past, none_in_first, found_only
+--   is_ordered                           RisingNumbers: climb_on, climb_fails, decided
+pub mod FindsOwnSpan
+pub mod LastLeaf
+pub mod NodesOfStretch
+pub mod PassesOver
+pub mod RisingNumbers
 pub mod Siblings
-pub mod Standing
-pub mod Walking
+pub mod SingleNodes
+pub mod WalksInPreorder

@@ -301,6 +301,3 @@ impl<'a> Iterator for LinkedChildren<'a> {
         Some(child)
     }
 }
-
-#[cfg(test)]
-mod tests;

@@ -12,12 +12,12 @@ use Rattle.typst_combinators.specs.Knot.{meaning_of}
 use Rattle.typst_combinators.specs.Meaning.{less, repeated, run}
 use Rattle.typst_combinators.specs.Steps.{eat_making, eat, convert_and_eat, eat_if, close_if, unexpected, expected, expect, flush_trivia, within, node, node_with_trivia, note}
 use Rattle.typst_combinators.specs.Depth.{deeper}
-use Rattle.typst_markup.specs.Markup.{note_piece, markup_turn, markup_exprs, markup_run, markup, markup_is_empty, strong, emph, heading, list_item, term_item, markup_expr}
+use Rattle.typst_markup.specs.Markup.{note_piece, markup_turn, markup_exprs, markup_run, markup, markup_is_empty, delimited, heading, item, term_item, markup_expr}
 use Rattle.typst_grammar.specs.Grammar.{whole, tree}
 use Rattle.typst_grammar.proofs.laws.trees_of_texts.Goals as goal
 
 pub returns : goal.returns
-unfolding tree whole meaning_of note_piece markup_turn markup_exprs markup_run markup markup_is_empty strong emph heading list_item term_item markup_expr deeper eat_making eat convert_and_eat eat_if close_if unexpected expected expect flush_trivia within node node_with_trivia note less repeated run ahead ahead_asks column_at hand_at hand_asks of_mode hash slash star token text_token markup_token heading_token sign text_from code_point backslash dot marker_or_text marker hyphen minus emphasis numbering line_ends whitespace shebang line_comment block_comment comment_end number_after encode
+unfolding tree whole meaning_of note_piece markup_turn markup_exprs markup_run markup markup_is_empty delimited heading item term_item markup_expr deeper eat_making eat convert_and_eat eat_if close_if unexpected expected expect flush_trivia within node node_with_trivia note less repeated run ahead ahead_asks column_at hand_at hand_asks of_mode hash slash star token text_token markup_token heading_token sign text_from code_point backslash dot marker_or_text marker hyphen minus emphasis numbering line_ends whitespace shebang line_comment block_comment comment_end number_after encode
 returns c = λ beyond. record {
   empty = refl;
   plain = refl;

@@ -1,5 +1,5 @@
 use Rattle.std.proofs.Common.{◌≡◌, ◌∙◌, ◌∷◌, ◌-◌, ap, sym, Some, length, slice_get, refl}
-use Rattle.typst_lines.proofs.CommonLemmas.{shares-none, shares-more, common-back, differ-heads, differ-end, not-next, is-next, behind-step, behind-none, behind-all}
+use Rattle.typst_lines.proofs.CommonEnds.{shares-none, shares-more, common-back, differ-heads, differ-end, not-next, is-next, behind-step, behind-none, behind-all}
 use Rattle.typst_lines.specs.Place.{place_at}
 use Rattle.typst_lines.specs.Scanner.{place}
 use Rattle.typst_lines.proofs.lines.common_end_len.Goals as goal

@@ -1,6 +1,6 @@
 use Rattle.std.proofs.Common.{◌≡◌, ◌∙◌, ◌∷◌, ap, sym, subst, Some}
-use Rattle.typst_lines.proofs.CommonLemmas.{shares-none, shares-more, IsCommonFront-at, differ-heads, differ-end, not-next, is-next, ahead-step}
-use Rattle.typst_lines.proofs.LineLemmas.{ahead-text, place-end}
+use Rattle.typst_lines.proofs.CommonEnds.{shares-none, shares-more, IsCommonFront-at, differ-heads, differ-end, not-next, is-next, ahead-step}
+use Rattle.typst_lines.proofs.LineTable.{ahead-text, place-end}
 use Rattle.typst_lines.specs.Lines.{IsCommonFront}
 use Rattle.typst_lines.specs.Place.{scout}
 use Rattle.typst_lines.specs.Scanner.{place}

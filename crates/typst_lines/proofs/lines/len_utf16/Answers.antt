@@ -1,7 +1,7 @@
 use Rattle.std.proofs.Common.{arith, ap, ◌∙◌}
 use Rattle.typst_lines.specs.Scanner.{place}
 use Rattle.typst_lines.specs.Lines.{units, bytes}
-use Rattle.typst_lines.proofs.LineLemmas.{units-le, ahead-text, units-step, bytes-step, place-end, bytes-text}
+use Rattle.typst_lines.proofs.LineTable.{units-le, ahead-text, units-step, bytes-step, place-end, bytes-text}
 use Rattle.typst_lines.proofs.lines.len_utf16.Goals as goal
 
 pub loop-c-init : goal.loop-c-init

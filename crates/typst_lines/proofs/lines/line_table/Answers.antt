@@ -1,6 +1,6 @@
 use Rattle.std.proofs.Common.{◌∙◌, sym, ap, ◌++◌, ◌∷◌, [], append_assoc, append-nil}
 use Rattle.std.proofs.lemmas.Str.{IsCharBoundary-start}
-use Rattle.typst_lines.proofs.AfterLemmas.{table-after, none-before}
+use Rattle.typst_lines.proofs.LinesFromLaw.{table-after, none-before}
 use Rattle.typst_lines.specs.LinesLeft.{lines_left}
 use Rattle.typst_lines.proofs.lines.line_table.Goals as goal
 

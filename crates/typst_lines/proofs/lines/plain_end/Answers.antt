@@ -1,5 +1,5 @@
 use Rattle.std.proofs.Common.{ap, arith, refl, length, get_or}
-use Rattle.typst_lines.proofs.AfterLemmas.{plain-step, plain-start}
+use Rattle.typst_lines.proofs.LinesFromLaw.{plain-step, plain-start}
 use Rattle.typst_lines.proofs.lines.plain_end.Goals as goal
 
 pub loop-at-init : goal.loop-at-init

@@ -1,7 +1,7 @@
 use Rattle.std.proofs.Common.{◌∙◌, ◌++◌, [], ap, sym, length}
 use Rattle.std.specs.Str.{chars}
-use Rattle.typst_lines.proofs.CommonLemmas.{glued, since-none, since-more, glued-none, glued-plain, stretches-more, stretches-all, put-back, none-inside, texts_of}
-use Rattle.typst_lines.proofs.LineLemmas.{ahead-text}
+use Rattle.typst_lines.proofs.SplitLaw.{glued, since-none, since-more, glued-none, glued-plain, stretches-more, stretches-all, put-back, none-inside, texts_of}
+use Rattle.typst_lines.proofs.LineTable.{ahead-text}
 use Rattle.typst_lines.specs.Newline.{stretches, line_ends, woven, all_lack_newlines}
 use Rattle.typst_lines.specs.Scanner.{place}
 use Rattle.typst_lines.proofs.newline.split_newlines.Goals as goal

@@ -1,8 +1,8 @@
 use Rattle.std.proofs.Common.{◌≡◌, reverse, sym, ap, ◌∙◌}
 use Rattle.std.specs.Str.{chars}
-use Rattle.typst_lines.proofs.CommonLemmas.{behind-all}
+use Rattle.typst_lines.proofs.CommonEnds.{behind-all}
 use Rattle.typst_lines.specs.Scanner.{place}
-use Rattle.typst_links.proofs.EndLemmas.{stripped, strip-step, strip-stop}
+use Rattle.typst_links.proofs.Trimmed.{stripped, strip-step, strip-stop}
 use Rattle.typst_links.proofs.ends.without_last.Goals as goal
 
 pub loop-c-init : goal.loop-c-init

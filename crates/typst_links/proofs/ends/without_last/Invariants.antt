@@ -1,7 +1,7 @@
 use Rattle.std.proofs.Common.{◌≡◌, length, reverse}
 use Rattle.std.specs.Str.{chars}
 use Rattle.typst_lines.specs.Scanner.{place}
-use Rattle.typst_links.proofs.EndLemmas.{stripped}
+use Rattle.typst_links.proofs.Trimmed.{stripped}
 use Rattle.typst_links.proofs.ends.without_last.Given as goal
 
 abbrev pub invariant-loop-c : goal.invariant-loop-c

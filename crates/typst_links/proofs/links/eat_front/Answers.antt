@@ -1,6 +1,6 @@
 use Rattle.std.proofs.Common.{◌==◌, Some, None, length, ap, ◌∙◌, if◌then◌else◌}
 use Rattle.typst_lines.specs.Scanner.{place}
-use Rattle.typst_links.proofs.LinkLemmas.{left-step, left-stop, left-end}
+use Rattle.typst_links.proofs.Fronts.{left-step, left-stop, left-end}
 use Rattle.typst_links.proofs.links.eat_front.Goals as goal
 
 pub loop-c-preserved : goal.loop-c-preserved

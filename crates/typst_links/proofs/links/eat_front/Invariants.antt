@@ -1,6 +1,6 @@
 use Rattle.std.proofs.Common.{◌≡◌, length}
 use Rattle.typst_lines.specs.Scanner.{place}
-use Rattle.typst_links.proofs.LinkLemmas.{Left}
+use Rattle.typst_links.proofs.Fronts.{Left}
 use Rattle.typst_links.proofs.links.eat_front.Given as goal
 
 abbrev pub invariant-loop-c : goal.invariant-loop-c

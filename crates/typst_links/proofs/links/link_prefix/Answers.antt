@@ -2,7 +2,7 @@ use Rattle.std.proofs.Common.{◌==◌, [], length, ap, ◌∙◌}
 use Rattle.std.specs.Str.{chars}
 use Rattle.typst_lines.specs.Scanner.{place}
 use Rattle.typst_links.specs.Links.{front, without_last_signs}
-use Rattle.typst_links.proofs.LinkLemmas.{front-behind, front-of, link-is}
+use Rattle.typst_links.proofs.Fronts.{front-behind, front-of, link-is}
 use Rattle.typst_links.proofs.links.link_prefix.Goals as goal
 
 pub returns : goal.returns

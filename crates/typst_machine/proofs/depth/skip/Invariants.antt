@@ -1,13 +1,13 @@
 use Rattle.std.proofs.Common.{◌≡◌}
-use Rattle.typst_machine.specs.Bytes.{bytes_left}
 use Rattle.typst_combinators.specs.Meaning.{Level}
 use Rattle.typst_combinators.specs.Depth.{skip_one}
-use Rattle.typst_combinators.specs.Sound.{Sound}
+use Rattle.typst_machine.specs.Bytes.{bytes_left}
+use Rattle.typst_machine.specs.View.{Fills}
 use Rattle.typst_machine.proofs.Steps.{Turning}
 use Rattle.typst_machine.proofs.depth.skip.Given as goal
 
 abbrev pub invariant-turns : goal.invariant-turns
-invariant-turns g l = (v : Level) → v.classes ≡ g.C.Classes.classes l.classes → Sound v → Turning v (skip_one l.stop) 0 l.fn.p l.count l.p
+invariant-turns g l = (v : Level) → Fills v (g.L.Levels.frame l.g) → Turning v (skip_one (g.S.Stops.at l.stops)) 0 l.fn.p l.count l.p
 
 abbrev pub decreases-turns : goal.decreases-turns
 decreases-turns g l = bytes_left l.p.place

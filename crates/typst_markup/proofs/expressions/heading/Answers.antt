@@ -1,6 +1,5 @@
-use Rattle.std.proofs.Common.{sym, ◌∙◌}
 use Rattle.typst_kinds.specs.declared.kind.SyntaxKind.TheVariants as kind
-use Rattle.typst_combinators.specs.Shape.Shape.{becomes}
+use Rattle.typst_combinators.specs.Shape.{becomes}
 use Rattle.typst_combinators.specs.declared.reading.AtNewline.TheVariants as newline
 use Rattle.typst_markup.specs.Markup.{heading, at_newline}
 use Rattle.typst_machine.proofs.Steps.{does-next, does-node}
@@ -11,5 +10,5 @@ pub returns : goal.returns
 unfolding heading
 returns g c l h =
     does-entered (at_newline newline.Stop) c.enter_rule-outer.ensures.view
-    (does-node (λ _. becomes kind.Heading) h.sound c.marker-from.ensures.few c.marker-from.ensures.marker (does-next (c.in_ok-eat.ensures l (h.classes ∙ g.met.L.Levels.same _)) (c.in_ok-markup.ensures l h)) c.in_ok-wrap.ensures.wrapped)
-    c.enter_rule-outer.ensures.outer (c.in_ok-leave.ensures l (h.classes ∙ g.met.L.Levels.same _))
+    (does-node (λ _. becomes kind.Heading) h.sound c.marker-from.ensures.few c.marker-from.ensures.marker (does-next (c.in_ok-eat.ensures l h) (c.in_ok-markup.ensures l h)) c.in_ok-wrap.ensures.wrapped)
+    c.enter_rule-outer.ensures.outer (c.in_ok-leave.ensures l h)

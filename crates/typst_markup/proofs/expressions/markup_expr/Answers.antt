@@ -7,11 +7,11 @@ use Rattle.typst_markup.proofs.expressions.markup_expr.Goals as goal
 
 pub returns-in_ok-eat-in-Itself : goal.returns-in_ok-eat-in-Itself
 unfolding markup_expr
-returns-in_ok-eat-in-Itself g c l h b = does-next (does-peek _) (at-head c.args.nesting _ head.Itself (ap (markup_head c.args.at_start c.args.nesting) (sym c.current.ensures) ∙ sym c.markup_head.ensures ∙ c.in-Itself.is) (does-next (c.in_ok-eat-in-Itself.ensures l (h.classes ∙ g.met.L.Levels.same _)) does-gives))
+returns-in_ok-eat-in-Itself g c l h b = does-next (does-peek _) (at-head c.args.nesting _ head.Itself (ap (markup_head c.args.at_start c.args.nesting) (sym c.current.ensures) ∙ sym c.markup_head.ensures ∙ c.in-Itself.is) (does-next (c.in_ok-eat-in-Itself.ensures l h) does-gives))
 
 pub returns-in_ok-unexpected_with_hint-in-Stray : goal.returns-in_ok-unexpected_with_hint-in-Stray
 unfolding markup_expr
-returns-in_ok-unexpected_with_hint-in-Stray g c l h b = does-next (does-peek _) (at-head c.args.nesting _ head.Stray (ap (markup_head c.args.at_start c.args.nesting) (sym c.current.ensures) ∙ sym c.markup_head.ensures ∙ c.in-Stray.is) (does-next (c.in_ok-unexpected_with_hint-in-Stray.ensures l (h.classes ∙ g.met.L.Levels.same _)) does-gives))
+returns-in_ok-unexpected_with_hint-in-Stray g c l h b = does-next (does-peek _) (at-head c.args.nesting _ head.Stray (ap (markup_head c.args.at_start c.args.nesting) (sym c.current.ensures) ∙ sym c.markup_head.ensures ∙ c.in-Stray.is) (does-next (c.in_ok-unexpected_with_hint-in-Stray.ensures l h) does-gives))
 
 pub returns-in_ok-strong-in-Strong : goal.returns-in_ok-strong-in-Strong
 unfolding markup_expr
@@ -25,13 +25,13 @@ pub returns-in_ok-heading-in-Heading : goal.returns-in_ok-heading-in-Heading
 unfolding markup_expr
 returns-in_ok-heading-in-Heading g c l h b = does-next (does-peek _) (at-head c.args.nesting _ head.Heading (ap (markup_head c.args.at_start c.args.nesting) (sym c.current.ensures) ∙ sym c.markup_head.ensures ∙ c.in-Heading.is) (does-next (c.in_ok-heading-in-Heading.ensures l h) does-gives))
 
-pub returns-in_ok-list_item-in-ListItem : goal.returns-in_ok-list_item-in-ListItem
+pub returns-in_ok-item-in-ListItem : goal.returns-in_ok-item-in-ListItem
 unfolding markup_expr
-returns-in_ok-list_item-in-ListItem g c l h b = does-next (does-peek _) (at-head c.args.nesting _ head.ListItem (ap (markup_head c.args.at_start c.args.nesting) (sym c.current.ensures) ∙ sym c.markup_head.ensures ∙ c.in-ListItem.is) (does-next (c.in_ok-list_item-in-ListItem.ensures l h) does-gives))
+returns-in_ok-item-in-ListItem g c l h b = does-next (does-peek _) (at-head c.args.nesting _ head.ListItem (ap (markup_head c.args.at_start c.args.nesting) (sym c.current.ensures) ∙ sym c.markup_head.ensures ∙ c.in-ListItem.is) (does-next (c.in_ok-item-in-ListItem.ensures l h) does-gives))
 
-pub returns-in_ok-enum_item-in-EnumItem : goal.returns-in_ok-enum_item-in-EnumItem
+pub returns-in_ok-item-in-EnumItem : goal.returns-in_ok-item-in-EnumItem
 unfolding markup_expr
-returns-in_ok-enum_item-in-EnumItem g c l h b = does-next (does-peek _) (at-head c.args.nesting _ head.EnumItem (ap (markup_head c.args.at_start c.args.nesting) (sym c.current.ensures) ∙ sym c.markup_head.ensures ∙ c.in-EnumItem.is) (does-next (c.in_ok-enum_item-in-EnumItem.ensures l h) does-gives))
+returns-in_ok-item-in-EnumItem g c l h b = does-next (does-peek _) (at-head c.args.nesting _ head.EnumItem (ap (markup_head c.args.at_start c.args.nesting) (sym c.current.ensures) ∙ sym c.markup_head.ensures ∙ c.in-EnumItem.is) (does-next (c.in_ok-item-in-EnumItem.ensures l h) does-gives))
 
 pub returns-in_ok-term_item-in-TermItem : goal.returns-in_ok-term_item-in-TermItem
 unfolding markup_expr
@@ -39,19 +39,19 @@ returns-in_ok-term_item-in-TermItem g c l h b = does-next (does-peek _) (at-head
 
 pub returns-in_ok-convert_and_eat-in-Plain : goal.returns-in_ok-convert_and_eat-in-Plain
 unfolding markup_expr
-returns-in_ok-convert_and_eat-in-Plain g c l h b = does-next (does-peek _) (at-head c.args.nesting _ head.Plain (ap (markup_head c.args.at_start c.args.nesting) (sym c.current.ensures) ∙ sym c.markup_head.ensures ∙ c.in-Plain.is) (does-next (c.in_ok-convert_and_eat-in-Plain.ensures l (h.classes ∙ g.met.L.Levels.same _)) does-gives))
+returns-in_ok-convert_and_eat-in-Plain g c l h b = does-next (does-peek _) (at-head c.args.nesting _ head.Plain (ap (markup_head c.args.at_start c.args.nesting) (sym c.current.ensures) ∙ sym c.markup_head.ensures ∙ c.in-Plain.is) (does-next (c.in_ok-convert_and_eat-in-Plain.ensures l h) does-gives))
 
 pub returns-in_ok-unexpected-in-Unexpected : goal.returns-in_ok-unexpected-in-Unexpected
 unfolding markup_expr
-returns-in_ok-unexpected-in-Unexpected g c l h b = does-next (does-peek _) (at-head c.args.nesting _ head.Unexpected (ap (markup_head c.args.at_start c.args.nesting) (sym c.current.ensures) ∙ sym c.markup_head.ensures ∙ c.in-Unexpected.is) (does-next (c.in_ok-unexpected-in-Unexpected.ensures l (h.classes ∙ g.met.L.Levels.same _)) does-gives))
+returns-in_ok-unexpected-in-Unexpected g c l h b = does-next (does-peek _) (at-head c.args.nesting _ head.Unexpected (ap (markup_head c.args.at_start c.args.nesting) (sym c.current.ensures) ∙ sym c.markup_head.ensures ∙ c.in-Unexpected.is) (does-next (c.in_ok-unexpected-in-Unexpected.ensures l h) does-gives))
 
 pub returns-in-Opening : goal.returns-in-Opening
 unfolding markup_expr
-returns-in-Opening g c l h b = does-next (does-peek _) (at-head c.args.nesting _ head.Opening (ap (markup_head c.args.at_start c.args.nesting) (sym c.current.ensures) ∙ sym c.markup_head.ensures ∙ c.in-Opening.is) (does-value c.saturating_add.ensures (does-next (c.in_ok-convert_and_eat-in-Opening.ensures l (h.classes ∙ g.met.L.Levels.same _)) does-gives)))
+returns-in-Opening g c l h b = does-next (does-peek _) (at-head c.args.nesting _ head.Opening (ap (markup_head c.args.at_start c.args.nesting) (sym c.current.ensures) ∙ sym c.markup_head.ensures ∙ c.in-Opening.is) (does-value c.saturating_add.ensures (does-next (c.in_ok-convert_and_eat-in-Opening.ensures l h) does-gives)))
 
 pub returns-in-Closing : goal.returns-in-Closing
 unfolding markup_expr
-returns-in-Closing g c l h b = does-next (does-peek _) (at-head c.args.nesting _ head.Closing (ap (markup_head c.args.at_start c.args.nesting) (sym c.current.ensures) ∙ sym c.markup_head.ensures ∙ c.in-Closing.is) (does-value c.saturating_sub.ensures (does-next (c.in_ok-convert_and_eat-in-Closing.ensures l (h.classes ∙ g.met.L.Levels.same _)) does-gives)))
+returns-in-Closing g c l h b = does-next (does-peek _) (at-head c.args.nesting _ head.Closing (ap (markup_head c.args.at_start c.args.nesting) (sym c.current.ensures) ∙ sym c.markup_head.ensures ∙ c.in-Closing.is) (does-value c.saturating_sub.ensures (does-next (c.in_ok-convert_and_eat-in-Closing.ensures l h) does-gives)))
 
 pub returns-in_ok-reference-in-Reference : goal.returns-in_ok-reference-in-Reference
 unfolding markup_expr

@@ -1,17 +1,4 @@
-use Rattle.std.proofs.Common.{◌∙◌, codes, ap, sym}
-use Rattle.typst_kinds.specs.declared.kind.SyntaxKind.TheVariants as kind
-use Rattle.typst_combinators.specs.declared.reading.AtNewline.TheVariants as newline
-use Rattle.typst_combinators.specs.Depth.{is_star}
-use Rattle.typst_markup.specs.Markup.{strong, at_newline, emphasized}
-use Rattle.typst_machine.proofs.Steps.{does-next, does-gives, does-node}
-use Rattle.typst_markup.proofs.Heads.{does-entered}
 use Rattle.typst_markup.proofs.expressions.strong.Goals as goal
 
 pub returns : goal.returns
-unfolding strong
-returns g c l h =
-    does-entered (at_newline newline.StopParBreak) c.enter_rule-outer.ensures.view
-    (does-next (does-node (emphasized kind.Strong (codes "no text within stars") (codes "using multiple consecutive stars (e.g. **) has no additional effect")) h.sound c.marker-from.ensures.few c.marker-from.ensures.marker
-    (does-next (c.in_ok-eat.ensures l (h.classes ∙ g.met.L.Levels.same _)) (does-next (c.in_ok-is_empty.ensures l h) (does-next (c.in_ok-closed.ensures l is_star (h.classes ∙ g.met.L.Levels.same _) (c.is_star.ensures ∙ ap is_star c.current.ensures)) does-gives)))
-    c.in_ok-wrap_emphasized.ensures) does-gives)
-    c.enter_rule-outer.ensures.outer (c.in_ok-leave.ensures l (h.classes ∙ g.met.L.Levels.same _))
+returns g c = c.in_ok-delimited.ensures

@@ -1,8 +1,8 @@
-use Rattle.std.proofs.Common.{◌∙◌, ap, sym}
+use Rattle.std.proofs.Common.{◌∙◌, ap}
+use Rattle.typst_kinds.specs.Kinds.{same}
 use Rattle.typst_kinds.specs.declared.kind.SyntaxKind.TheVariants as kind
-use Rattle.typst_combinators.specs.Shape.Shape.{becomes}
+use Rattle.typst_combinators.specs.Shape.{becomes}
 use Rattle.typst_combinators.specs.declared.reading.AtNewline.TheVariants as newline
-use Rattle.typst_combinators.specs.Depth.{is_colon}
 use Rattle.typst_markup.specs.Markup.{term_item, at_newline}
 use Rattle.typst_machine.proofs.Steps.{does-next, does-node}
 use Rattle.typst_markup.proofs.Heads.{does-entered}
@@ -11,9 +11,9 @@ use Rattle.typst_markup.proofs.expressions.term_item.Goals as goal
 pub returns : goal.returns
 unfolding term_item
 returns g c l h =
-    let term = does-entered (at_newline newline.Stop) c.enter_rule-item.ensures.view (does-next (c.in_ok-eat.ensures l (h.classes ∙ g.met.L.Levels.same _)) (c.in_ok-markup.ensures l h)) c.enter_rule-item.ensures.outer (c.in_ok-leave.ensures l (h.classes ∙ g.met.L.Levels.same _)) in
+    let term = does-entered (at_newline newline.Stop) c.enter_rule-item.ensures.view (does-next (c.in_ok-eat.ensures l h) (c.in_ok-markup.ensures l h)) c.enter_rule-item.ensures.outer (c.in_ok-leave.ensures l h) in
     does-next (c.current_column-column.ensures l)
     (does-entered (at_newline (newline.RequireColumn c.current_column-column.result)) c.enter_rule-outer.ensures.view
     (does-node (λ _. becomes kind.TermItem) h.sound c.marker-from.ensures.few c.marker-from.ensures.marker
-    (does-next term (does-next (c.in_ok-expect.ensures l is_colon (h.classes ∙ g.met.L.Levels.same _) (c.is_colon.ensures ∙ ap is_colon c.current.ensures)) (c.in_ok-markup-2.ensures l h))) c.in_ok-wrap.ensures.wrapped)
-    c.enter_rule-outer.ensures.outer (c.in_ok-leave-2.ensures l (h.classes ∙ g.met.L.Levels.same _)))
+    (does-next term (does-next (c.in_ok-expect.ensures (same kind.Colon) (c.eq.ensures ∙ ap (same kind.Colon) c.current.ensures) l h) (c.in_ok-markup-2.ensures l h))) c.in_ok-wrap.ensures.wrapped)
+    c.enter_rule-outer.ensures.outer (c.in_ok-leave-2.ensures l h))

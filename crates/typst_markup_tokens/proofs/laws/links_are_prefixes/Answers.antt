@@ -1,4 +1,4 @@
-use Rattle.typst_markup_tokens.proofs.LinkLemmas.{link-prefix-is}
+use Rattle.typst_markup_tokens.proofs.Links.{link-prefix-is}
 use Rattle.typst_markup_tokens.proofs.laws.links_are_prefixes.Goals as goal
 
 pub returns : goal.returns

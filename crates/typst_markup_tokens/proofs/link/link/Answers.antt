@@ -1,7 +1,7 @@
 use Rattle.std.proofs.Common.{sym, ap, ◌∙◌}
 use Rattle.std.specs.Str.{chars}
 use Rattle.typst_lines.specs.Scanner.{place}
-use Rattle.typst_markup_tokens.proofs.LinkLemmas.{ended, link-is}
+use Rattle.typst_markup_tokens.proofs.Links.{ended, link-is}
 use Rattle.typst_markup_tokens.proofs.link.link.Goals as goal
 
 pub returns-then-is_balanced : goal.returns-then-is_balanced

@@ -1,7 +1,7 @@
 use Rattle.std.proofs.Common.{◌≡◌, length, take, sym, subst}
 use Rattle.std.specs.Str.{chars}
 use Rattle.typst_links.specs.Labels.{is_name}
-use Rattle.typst_markup_tokens.proofs.NameLemmas.{name-ahead}
+use Rattle.typst_markup_tokens.proofs.References.{name-ahead}
 use Rattle.typst_readers.specs.Sight.{Sight}
 use Rattle.typst_markup_tokens.proofs.names.ref_marker.Goals as goal
 

@@ -1,7 +1,7 @@
 use Rattle.std.proofs.Common.{◌∙◌, ap, sym, codes}
 use Rattle.typst_readers.specs.Sight.{regard}
 use Rattle.typst_markup_tokens.specs.Text.{text_step}
-use Rattle.typst_markup_tokens.proofs.TextLemmas.{two-words}
+use Rattle.typst_markup_tokens.proofs.Texts.{two-words}
 use Rattle.typst_markup_tokens.proofs.text.goes_on.Goals as goal
 
 pub returns-then-not-word_after : goal.returns-then-not-word_after

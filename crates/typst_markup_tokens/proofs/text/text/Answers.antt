@@ -4,9 +4,9 @@ use Rattle.typst_tokens.specs.Memory.Memory.{blank}
 use Rattle.typst_readers.specs.Reader.Turn.{go}
 use Rattle.typst_readers.specs.Sight.{Covers, Sight, saw, sight, went}
 use Rattle.typst_readers.specs.Pairs.{went_past_pairs}
-use Rattle.typst_readers.proofs.PairLemmas.{covers-pairs, pairs-seen}
+use Rattle.typst_readers.proofs.PairRuns.{covers-pairs, pairs-seen}
 use Rattle.typst_readers.proofs.Sights.{covers-went}
-use Rattle.typst_markup_tokens.proofs.TextLemmas.{flowing, rest, rest-past, rest-on, rest-off, rest-end, rest-text, rest-place, rest-covers, rest-shortens}
+use Rattle.typst_markup_tokens.proofs.Texts.{flowing, rest, rest-past, rest-on, rest-off, rest-end, rest-text, rest-place, rest-covers, rest-shortens}
 use Rattle.typst_markup_tokens.proofs.text.text.Goals as goal
 
 pub loop-next-init : goal.loop-next-init

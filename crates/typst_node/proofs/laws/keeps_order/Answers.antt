@@ -1,4 +1,4 @@
-use Rattle.typst_node.proofs.Ranks.{keeps_order}
+use Rattle.typst_node.proofs.KeepsOrder.{keeps_order}
 use Rattle.typst_node.proofs.laws.keeps_order.Goals as goal
 
 pub returns : goal.returns

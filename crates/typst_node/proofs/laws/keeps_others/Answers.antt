@@ -1,6 +1,6 @@
 use Rattle.typst_node.specs.Laws.{touched, Keeps}
-use Rattle.typst_node.proofs.Kept.{replaced_keeps}
-use Rattle.typst_node.proofs.Steps.{along}
+use Rattle.typst_node.proofs.KeepsOthers.{replaced_keeps}
+use Rattle.typst_node.proofs.AlongPath.{along}
 use Rattle.typst_node.proofs.laws.keeps_others.Goals as goal
 
 pub returns : goal.returns

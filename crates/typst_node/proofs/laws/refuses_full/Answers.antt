@@ -1,6 +1,6 @@
 use Rattle.typst_node.specs.Laws.{IsFull}
-use Rattle.typst_node.proofs.Rooms.{replaced_full}
-use Rattle.typst_node.proofs.Steps.{refused_along}
+use Rattle.typst_node.proofs.RefusesFull.{replaced_full}
+use Rattle.typst_node.proofs.AlongPath.{refused_along}
 use Rattle.typst_node.proofs.laws.refuses_full.Goals as goal
 
 pub returns : goal.returns

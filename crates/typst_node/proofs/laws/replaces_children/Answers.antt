@@ -1,4 +1,4 @@
-use Rattle.typst_node.proofs.Puts.{replaces_children}
+use Rattle.typst_node.proofs.ReplacesChildren.{replaces_children}
 use Rattle.typst_node.proofs.laws.replaces_children.Goals as goal
 
 pub returns : goal.returns

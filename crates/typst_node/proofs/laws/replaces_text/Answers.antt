@@ -1,4 +1,4 @@
-use Rattle.typst_node.proofs.Puts.{replaces_text}
+use Rattle.typst_node.proofs.ReplacesChildren.{replaces_text}
 use Rattle.typst_node.proofs.laws.replaces_text.Goals as goal
 
 pub returns : goal.returns

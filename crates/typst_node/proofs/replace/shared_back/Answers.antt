@@ -1,6 +1,6 @@
 use Rattle.std.proofs.Common.{arith, refl, reverse, sym, ◌∙◌}
 use Rattle.std.proofs.lemmas.List.{get_or-reverse, length-reverse}
-use Rattle.typst_node.proofs.Sames.{front_more, front_none, front_end, not_same, same_from_bare}
+use Rattle.typst_node.proofs.SameTree.{front_more, front_none, front_end, not_same, same_from_bare}
 use Rattle.typst_node.proofs.replace.shared_back.Goals as goal
 
 pub returns-then-not-spanless_eq : goal.returns-then-not-spanless_eq

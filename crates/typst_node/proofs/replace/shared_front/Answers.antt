@@ -1,5 +1,5 @@
 use Rattle.std.proofs.Common.{arith, refl}
-use Rattle.typst_node.proofs.Sames.{front_more, front_none, front_end, not_same, same_from_bare}
+use Rattle.typst_node.proofs.SameTree.{front_more, front_none, front_end, not_same, same_from_bare}
 use Rattle.typst_node.proofs.replace.shared_front.Goals as goal
 
 pub returns-then-not-spanless_eq : goal.returns-then-not-spanless_eq

@@ -1,6 +1,6 @@
 use Rattle.std.proofs.Common.{arith}
-use Rattle.typst_node.proofs.Sums.{one_more}
-use Rattle.typst_node.proofs.Wholes.{whole_more}
+use Rattle.typst_node.proofs.AddedChildren.{one_more}
+use Rattle.typst_node.proofs.ChildlessLeaves.{whole_more}
 use Rattle.typst_node.proofs.replace.totals.Goals as goal
 
 pub loop-kid-preserved : goal.loop-kid-preserved

@@ -1,6 +1,6 @@
 use Rattle.std.proofs.Common.{arith}
 use Rattle.typst_node_data.specs.Diagnostic.{hinted}
-use Rattle.typst_node_data.proofs.Lasts.{at_last-set}
+use Rattle.typst_node_data.proofs.LastElement.{at_last-set}
 use Rattle.typst_node_data.proofs.own.push_last.Goals as goal
 
 pub returns-clause-ok : goal.returns-clause-ok

@@ -2,9 +2,9 @@ use Rattle.std.proofs.Common.{refl, sym, ap, ◌∙◌, min}
 use Rattle.std.specs.Str.{chars}
 use Rattle.typst_lines.specs.Scanner.{place}
 use Rattle.typst_raw.specs.Lines.{least_indent, later_rows}
-use Rattle.typst_raw.proofs.MoveLemmas.{later-first, past-end, line-shorter, nothing-left}
-use Rattle.typst_raw.proofs.LoopLemmas.{least-step}
-use Rattle.typst_raw.proofs.RowLemmas.{later-none}
+use Rattle.typst_raw.proofs.Moves.{later-first, past-end, line-shorter, nothing-left}
+use Rattle.typst_raw.proofs.Loops.{least-step}
+use Rattle.typst_raw.proofs.Rows.{later-none}
 use Rattle.typst_raw.proofs.lines.dedent.Goals as goal
 
 pub loop-s-init : goal.loop-s-init

@@ -2,10 +2,10 @@ use Rattle.std.proofs.Common.{◌≡◌, ◌==◌, reverse, sym, ap, ◌∙◌, 
 use Rattle.std.specs.Char.{is_whitespace}
 use Rattle.std.specs.Prelude.{find}
 use Rattle.std.specs.Str.{chars}
-use Rattle.typst_lines.proofs.CommonLemmas.{behind-all}
+use Rattle.typst_lines.proofs.CommonEnds.{behind-all}
 use Rattle.typst_lines.specs.Place.{passes}
 use Rattle.typst_lines.specs.Scanner.{place}
-use Rattle.typst_raw.proofs.LoopLemmas.{spare-no, spare-found}
+use Rattle.typst_raw.proofs.Loops.{spare-no, spare-found}
 use Rattle.typst_raw.proofs.lines.has_spare_space.Goals as goal
 
 pub returns-then-not-is_after : goal.returns-then-not-is_after

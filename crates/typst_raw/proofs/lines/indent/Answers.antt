@@ -1,7 +1,7 @@
 use Rattle.std.proofs.Common.{ap, length, arith, ◌∙◌}
 use Rattle.std.specs.Char.{is_whitespace}
 use Rattle.std.specs.List.{prefix_len}
-use Rattle.typst_raw.proofs.MoveLemmas.{start-ahead, chars-fit}
+use Rattle.typst_raw.proofs.Moves.{start-ahead, chars-fit}
 use Rattle.typst_raw.proofs.lines.indent.Goals as goal
 
 pub loop-s-init : goal.loop-s-init

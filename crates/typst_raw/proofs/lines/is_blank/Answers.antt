@@ -3,7 +3,7 @@ use Rattle.std.specs.Char.{is_whitespace}
 use Rattle.std.specs.List.{prefix_len}
 use Rattle.std.specs.Str.{chars}
 use Rattle.typst_lines.specs.Scanner.{place}
-use Rattle.typst_raw.proofs.MoveLemmas.{start-ahead, moved-ahead, blank-is}
+use Rattle.typst_raw.proofs.Moves.{start-ahead, moved-ahead, blank-is}
 use Rattle.typst_raw.proofs.lines.is_blank.Goals as goal
 
 pub returns : goal.returns

@@ -1,8 +1,8 @@
 use Rattle.std.proofs.Common.{sym, ap, ◌∙◌}
 use Rattle.std.specs.Str.{chars}
 use Rattle.typst_lines.specs.Scanner.{place}
-use Rattle.typst_raw.proofs.MoveLemmas.{start-ahead, start-behind, end-next, line-shorter}
-use Rattle.typst_raw.proofs.LoopLemmas.{row-first, row-step, last-line}
+use Rattle.typst_raw.proofs.Moves.{start-ahead, start-behind, end-next, line-shorter}
+use Rattle.typst_raw.proofs.Loops.{row-first, row-step, last-line}
 use Rattle.typst_raw.proofs.lines.last_line.Goals as goal
 
 pub loop-start-init : goal.loop-start-init

@@ -1,7 +1,7 @@
 use Rattle.std.proofs.Common.{length}
 use Rattle.std.specs.Str.{chars}
 use Rattle.typst_lines.specs.Scanner.{place}
-use Rattle.typst_raw.proofs.LoopLemmas.{IsAtRow}
+use Rattle.typst_raw.proofs.Loops.{IsAtRow}
 use denote.Shadow.{shadow}
 use denote.Text.{Utf8}
 use Rattle.typst_raw.proofs.lines.last_line.Given as goal

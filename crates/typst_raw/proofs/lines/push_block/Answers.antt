@@ -2,8 +2,8 @@ use Rattle.std.proofs.Common.{refl, sym, ap, ◌∙◌}
 use Rattle.std.specs.Str.{chars}
 use Rattle.typst_lines.specs.Scanner.{place}
 use Rattle.typst_raw.specs.Lines.{closing}
-use Rattle.typst_raw.proofs.MoveLemmas.{start-ahead, past-end}
-use Rattle.typst_raw.proofs.LoopLemmas.{block-first, block-held, block-blank, dedent-is}
+use Rattle.typst_raw.proofs.Moves.{start-ahead, past-end}
+use Rattle.typst_raw.proofs.Loops.{block-first, block-held, block-blank, dedent-is}
 use Rattle.typst_raw.proofs.lines.push_block.Goals as goal
 
 pub push_lines-requires-clause-at_end : goal.push_lines-requires-clause-at_end

@@ -4,8 +4,8 @@ use Rattle.typst_kinds.specs.declared.kind.SyntaxKind.TheVariants as kind
 use Rattle.typst_lines.specs.Place.{passes}
 use Rattle.typst_lines.specs.Scanner.{place}
 use Rattle.typst_raw.specs.Lines.{leaf}
-use Rattle.typst_raw.proofs.MoveLemmas.{start-ahead, start-behind, moved-ahead, moved-behind}
-use Rattle.typst_raw.proofs.LoopLemmas.{lead-none, lead-one, pushed-two}
+use Rattle.typst_raw.proofs.Moves.{start-ahead, start-behind, moved-ahead, moved-behind}
+use Rattle.typst_raw.proofs.Loops.{lead-none, lead-one, pushed-two}
 use Rattle.typst_raw.proofs.lines.push_first.Goals as goal
 
 pub returns-then-not-eat_if : goal.returns-then-not-eat_if

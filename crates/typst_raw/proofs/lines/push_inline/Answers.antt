@@ -1,8 +1,8 @@
 use Rattle.std.proofs.Common.{ap, ◌∙◌}
 use Rattle.std.specs.Str.{chars}
 use Rattle.typst_lines.specs.Scanner.{place}
-use Rattle.typst_raw.proofs.MoveLemmas.{start-ahead, past-end}
-use Rattle.typst_raw.proofs.LoopLemmas.{inline-is}
+use Rattle.typst_raw.proofs.Moves.{start-ahead, past-end}
+use Rattle.typst_raw.proofs.Loops.{inline-is}
 use Rattle.typst_raw.proofs.lines.push_inline.Goals as goal
 
 pub push_lines-requires-clause-at_end : goal.push_lines-requires-clause-at_end

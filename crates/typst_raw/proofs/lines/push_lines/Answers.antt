@@ -5,8 +5,8 @@ use Rattle.typst_classes.specs.Classes.{in_line}
 use Rattle.typst_lines.specs.Newline.{line_end_len}
 use Rattle.typst_lines.specs.Place.{moved}
 use Rattle.typst_lines.specs.Scanner.{place}
-use Rattle.typst_raw.proofs.MoveLemmas.{moved-more, skipped-shorter}
-use Rattle.typst_raw.proofs.LoopLemmas.{way-step, way-end}
+use Rattle.typst_raw.proofs.Moves.{moved-more, skipped-shorter}
+use Rattle.typst_raw.proofs.Loops.{way-step, way-end}
 use Rattle.typst_raw.proofs.lines.push_lines.Goals as goal
 
 pub since-requires-clause-after : goal.since-requires-clause-after

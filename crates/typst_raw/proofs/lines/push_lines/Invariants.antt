@@ -1,6 +1,6 @@
 use Rattle.std.proofs.Common.{◌≡◌, length}
 use Rattle.typst_lines.specs.Scanner.{place}
-use Rattle.typst_raw.proofs.LoopLemmas.{IsOnWay}
+use Rattle.typst_raw.proofs.Loops.{IsOnWay}
 use Rattle.typst_raw.proofs.lines.push_lines.Given as goal
 
 abbrev pub invariant-loop-s : goal.invariant-loop-s

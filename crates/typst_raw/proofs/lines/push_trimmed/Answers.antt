@@ -1,5 +1,5 @@
 use Rattle.std.proofs.Common.{◌++◌, append-nil, sym, ap, ◌∙◌}
-use Rattle.typst_raw.proofs.LoopLemmas.{trimmed-none, trimmed-some}
+use Rattle.typst_raw.proofs.Loops.{trimmed-none, trimmed-some}
 use Rattle.typst_raw.proofs.lines.push_trimmed.Goals as goal
 
 pub returns-in_ok-push_leaf : goal.returns-in_ok-push_leaf

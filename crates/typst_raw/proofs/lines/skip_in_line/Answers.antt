@@ -1,7 +1,7 @@
 use Rattle.std.proofs.Common.{sym, ap, ◌∙◌, arith, if◌then◌else◌}
 use Rattle.typst_lines.specs.Place.{moved}
 use Rattle.typst_lines.specs.Scanner.{place}
-use Rattle.typst_raw.proofs.MoveLemmas.{skip-step}
+use Rattle.typst_raw.proofs.Moves.{skip-step}
 use Rattle.typst_raw.proofs.lines.skip_in_line.Goals as goal
 
 pub loop-i-preserved : goal.loop-i-preserved

@@ -1,9 +1,9 @@
 use Rattle.std.proofs.Common.{◌≡◌, ◌-◌, reverse, sym, ap, ◌∙◌, arith}
 use Rattle.std.specs.Str.{chars}
-use Rattle.typst_lines.proofs.CommonLemmas.{behind-all}
+use Rattle.typst_lines.proofs.CommonEnds.{behind-all}
 use Rattle.typst_lines.specs.Scanner.{place}
 use Rattle.typst_raw.specs.Raw.{past_ticks}
-use Rattle.typst_raw.proofs.TagLemmas.{ticks-step}
+use Rattle.typst_raw.proofs.Tags.{ticks-step}
 use Rattle.typst_raw.proofs.raw.before_ticks.Goals as goal
 
 pub loop-i-init : goal.loop-i-init

@@ -1,5 +1,5 @@
 use Rattle.std.proofs.Common.{◌++◌, append-nil, sym, ap, ◌∙◌}
-use Rattle.typst_raw.proofs.TagLemmas.{tag_leaves-none, tag_leaves-some}
+use Rattle.typst_raw.proofs.Tags.{tag_leaves-none, tag_leaves-some}
 use Rattle.typst_raw.proofs.raw.push_tag.Goals as goal
 
 pub returns-in_ok-push_leaf : goal.returns-in_ok-push_leaf

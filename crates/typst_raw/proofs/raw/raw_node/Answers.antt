@@ -4,7 +4,7 @@ use Rattle.std.specs.Prelude.{codes}
 use Rattle.std.specs.Str.{chars}
 use Rattle.typst_lines.specs.Scanner.{place}
 use Rattle.typst_node.specs.Tree.{error_of}
-use Rattle.typst_raw.proofs.TagLemmas.{split-is, node-pair, node-open, node-closed}
+use Rattle.typst_raw.proofs.Tags.{split-is, node-pair, node-open, node-closed}
 use Rattle.typst_raw.proofs.raw.raw_node.Goals as goal
 
 pub is_pair-requires : goal.is_pair-requires

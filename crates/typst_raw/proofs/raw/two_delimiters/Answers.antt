@@ -2,8 +2,8 @@ use Rattle.std.proofs.Common.{◌++◌, ◌∷◌, [], ap, ◌∙◌}
 use Rattle.typst_kinds.specs.declared.kind.SyntaxKind.TheVariants as kind
 use Rattle.typst_node.specs.Tree.{forest, inner_of}
 use Rattle.typst_raw.specs.Lines.{leaf}
-use Rattle.typst_raw.proofs.LoopLemmas.{pushed-two}
-use Rattle.typst_raw.proofs.TagLemmas.{tick-chars}
+use Rattle.typst_raw.proofs.Loops.{pushed-two}
+use Rattle.typst_raw.proofs.Tags.{tick-chars}
 use Rattle.typst_raw.proofs.raw.two_delimiters.Goals as goal
 
 pub returns : goal.returns

@@ -1,7 +1,7 @@
 use Rattle.std.proofs.Common.{take, ap, ◌∙◌}
 use Rattle.std.specs.List.{prefix_len}
 use Rattle.typst_raw.specs.Tag.{in_next_tag, next_tag}
-use Rattle.typst_raw.proofs.MoveLemmas.{start-ahead}
+use Rattle.typst_raw.proofs.Moves.{start-ahead}
 use Rattle.typst_raw.proofs.tag.next_tag.Goals as goal
 
 pub returns : goal.returns

@@ -1,8 +1,8 @@
 use Rattle.std.proofs.Common.{sym, ap, ◌∙◌, reverse}
 use Rattle.std.specs.Str.{chars}
 use Rattle.typst_lines.specs.Scanner.{place}
-use Rattle.typst_raw.proofs.MoveLemmas.{start-ahead, start-behind}
-use Rattle.typst_raw.proofs.TagLemmas.{tag-taken, tag-none}
+use Rattle.typst_raw.proofs.Moves.{start-ahead, start-behind}
+use Rattle.typst_raw.proofs.Tags.{tag-taken, tag-none}
 use Rattle.typst_raw.proofs.tag.split_tag.Goals as goal
 
 pub returns-then-eat_set-clause-tag : goal.returns-then-eat_set-clause-tag

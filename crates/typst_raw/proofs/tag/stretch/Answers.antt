@@ -1,6 +1,6 @@
 use Rattle.std.proofs.Common.{sym, ap, ◌∙◌, ◌+◌, ℕ}
 use Rattle.typst_kinds.specs.Span.{Bytes}
-use Rattle.typst_raw.proofs.TagLemmas.{width-is}
+use Rattle.typst_raw.proofs.Tags.{width-is}
 use Rattle.typst_raw.proofs.tag.stretch.Goals as goal
 
 abbrev from : ℕ → ℕ → Bytes

@@ -1,6 +1,6 @@
 use Rattle.std.proofs.Common.{sym, ◌∙◌, true, false}
 use Rattle.std.specs.Str.{chars}
-use Rattle.typst_raw.proofs.TagLemmas.{warned-no, warned-cut, warned-only, warned-not, some-text}
+use Rattle.typst_raw.proofs.Tags.{warned-no, warned-cut, warned-only, warned-not, some-text}
 use Rattle.typst_raw.proofs.tag.warn.Goals as goal
 
 pub returns-then-is_empty : goal.returns-then-is_empty

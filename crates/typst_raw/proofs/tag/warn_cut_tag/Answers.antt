@@ -1,6 +1,6 @@
 use Rattle.std.proofs.Common.{◌∙◌}
 use Rattle.std.specs.Str.{chars}
-use Rattle.typst_raw.proofs.TagLemmas.{cut_tag-is}
+use Rattle.typst_raw.proofs.Tags.{cut_tag-is}
 use Rattle.typst_raw.proofs.tag.warn_cut_tag.Goals as goal
 
 pub returns : goal.returns

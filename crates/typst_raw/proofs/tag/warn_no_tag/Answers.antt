@@ -1,5 +1,5 @@
 use Rattle.std.specs.Str.{chars}
-use Rattle.typst_raw.proofs.TagLemmas.{no_tag-is}
+use Rattle.typst_raw.proofs.Tags.{no_tag-is}
 use Rattle.typst_raw.proofs.tag.warn_no_tag.Goals as goal
 
 pub returns : goal.returns

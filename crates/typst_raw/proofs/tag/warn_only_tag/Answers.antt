@@ -1,6 +1,6 @@
 use Rattle.std.proofs.Common.{◌∙◌}
 use Rattle.std.specs.Str.{chars}
-use Rattle.typst_raw.proofs.TagLemmas.{only_tag-is}
+use Rattle.typst_raw.proofs.Tags.{only_tag-is}
 use Rattle.typst_raw.proofs.tag.warn_only_tag.Goals as goal
 
 pub returns : goal.returns

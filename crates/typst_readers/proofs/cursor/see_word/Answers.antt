@@ -1,7 +1,7 @@
 use Rattle.std.proofs.Common.{◌+◌, ◌∙◌, max, refl, sym, ap, subst, arith}
 use Rattle.typst_lines.specs.Scanner.{place}
 use Rattle.typst_readers.proofs.Sights.{far-read}
-use Rattle.typst_readers.proofs.WordLemmas.{Looking, looking-on, looking-off}
+use Rattle.typst_readers.proofs.Words.{Looking, looking-on, looking-off}
 use Rattle.typst_readers.proofs.cursor.see_word.Goals as goal
 
 pub loop-b-init : goal.loop-b-init

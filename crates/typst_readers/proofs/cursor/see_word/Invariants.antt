@@ -1,5 +1,5 @@
 use Rattle.typst_lines.specs.Scanner.{place}
-use Rattle.typst_readers.proofs.WordLemmas.{Looking}
+use Rattle.typst_readers.proofs.Words.{Looking}
 use Rattle.typst_readers.proofs.cursor.see_word.Given as goal
 
 abbrev pub invariant-loop-b : goal.invariant-loop-b

@@ -1,4 +1,4 @@
-use Rattle.typst_readers.proofs.ColumnLemmas.{column-frame}
+use Rattle.typst_readers.proofs.Columns.{column-frame}
 use Rattle.typst_readers.proofs.laws.column_frame_law.Goals as goal
 
 pub returns : goal.returns

@@ -2,7 +2,7 @@ use Rattle.std.proofs.Common.{◌≡◌, ◌∙◌, ap, sym, false}
 use Rattle.typst_lines.specs.Place.{passes, scout}
 use Rattle.typst_lines.specs.Scanner.{place}
 use Rattle.typst_readers.specs.Pairs.{either, past_pairs}
-use Rattle.typst_readers.proofs.PairLemmas.{pairs-past, past-stops, run-ends, run-on, run-shortens}
+use Rattle.typst_readers.proofs.PairRuns.{pairs-past, past-stops, run-ends, run-on, run-shortens}
 use Rattle.typst_readers.proofs.pairs.past_pairs.Goals as goal
 
 pub returns-then-not-passes-clause-moved : goal.returns-then-not-passes-clause-moved

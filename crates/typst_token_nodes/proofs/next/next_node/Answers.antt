@@ -2,7 +2,7 @@ use Rattle.std.proofs.Common.{ap, ◌∙◌}
 use Rattle.std.specs.Str.{chars}
 use Rattle.typst_lexer.specs.Lexer.{place}
 use Rattle.typst_lexer.specs.Tokens.{token}
-use Rattle.typst_token_nodes.proofs.NodeLemmas.{is-read}
+use Rattle.typst_token_nodes.proofs.TokenTexts.{is-read}
 use Rattle.typst_token_nodes.proofs.next.next_node.Goals as goal
 use Rattle.typst_token_nodes.specs.Nodes.{token_node}
 

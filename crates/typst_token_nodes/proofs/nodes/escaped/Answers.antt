@@ -1,7 +1,7 @@
 use Rattle.std.proofs.Common.{ap, ◌∙◌}
 use Rattle.std.specs.Char.{is_ascii_alphanumeric}
 use Rattle.typst_lines.specs.Place.{moved, run}
-use Rattle.typst_token_nodes.proofs.NodeLemmas.{thrice}
+use Rattle.typst_token_nodes.proofs.TokenTexts.{thrice}
 use Rattle.typst_token_nodes.proofs.nodes.escaped.Goals as goal
 
 pub returns : goal.returns

@@ -3,7 +3,7 @@ use Rattle.std.proofs.lemmas.Str.{encodes-chars}
 use Rattle.std.specs.Result.{IfOk}
 use Rattle.std.specs.Str.{chars}
 use Rattle.typst_node.specs.Tree.{Tree, leaf_of}
-use Rattle.typst_token_nodes.proofs.NodeLemmas.{leaf-is}
+use Rattle.typst_token_nodes.proofs.TokenTexts.{leaf-is}
 use Rattle.typst_token_nodes.proofs.nodes.leaf_node.Goals as goal
 
 pub returns : goal.returns

@@ -1,7 +1,7 @@
 use Rattle.std.proofs.Common.{◌≡◌, ◌≤◌, length}
 use Rattle.typst_tokens.specs.Common.{block_comment}
 use Rattle.typst_readers.specs.Sight.{Covers, position, sight}
-use Rattle.typst_tokens.proofs.CommentLemmas.{rest}
+use Rattle.typst_tokens.proofs.Comments.{rest}
 use Rattle.typst_tokens.proofs.common.block_comment.Given as goal
 
 abbrev pub invariant-loop-c : goal.invariant-loop-c

@@ -2,7 +2,7 @@ use Rattle.std.proofs.Common.{◌∙◌, ap, false, arith, ◌==◌}
 use Rattle.typst_lines.specs.Scanner.{place}
 use Rattle.std.proofs.lemmas.Grind.{common_steps}
 use Rattle.typst_tokens.specs.Common.{line_ends}
-use Rattle.typst_tokens.proofs.TokenLemmas.{line_ends-start, line_ends-step, line_ends-stop, line_ends-fit}
+use Rattle.typst_tokens.proofs.LineEnds.{line_ends-start, line_ends-step, line_ends-stop, line_ends-fit}
 use Rattle.typst_tokens.proofs.common.count_newlines.Goals as goal
 
 pub loop-c-init : goal.loop-c-init

@@ -1,5 +1,5 @@
 use Rattle.std.proofs.Common.{◌+◌, length, sym, ap, ◌∙◌, arith}
-use Rattle.typst_tokens.proofs.RawLemmas.{ticks-long, turn-none, turn-last, turn-more, raw-on, raw-stop, raw-open, raw-two, raw-more}
+use Rattle.typst_tokens.proofs.RawTexts.{ticks-long, turn-none, turn-last, turn-more, raw-on, raw-stop, raw-open, raw-two, raw-more}
 use Rattle.typst_readers.proofs.Steps.{step-grows}
 use Rattle.typst_tokens.proofs.raw.raw.Goals as goal
 

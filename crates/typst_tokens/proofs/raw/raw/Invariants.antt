@@ -1,7 +1,7 @@
 use Rattle.std.proofs.Common.{◌≡◌, ◌≤◌, length}
 use Rattle.typst_tokens.specs.Raw.{raw}
 use Rattle.typst_readers.specs.Sight.{Covers, position, sight}
-use Rattle.typst_tokens.proofs.RawLemmas.{rest}
+use Rattle.typst_tokens.proofs.RawTexts.{rest}
 use Rattle.typst_tokens.proofs.raw.raw.Given as goal
 
 abbrev pub invariant-loop-c : goal.invariant-loop-c

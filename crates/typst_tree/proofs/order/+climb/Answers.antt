@@ -1,8 +1,8 @@
 use Rattle.std.proofs.Common.{ap, sym, ◌∙◌, arith}
 use Rattle.typst_node.specs.Tree.{forest, preorder}
 use Rattle.typst_tree.specs.Ordered.{climb}
-use Rattle.typst_tree.proofs.Rising.{climb_on, climb_fails}
-use Rattle.typst_tree.proofs.Walking.{turn}
+use Rattle.typst_tree.proofs.RisingNumbers.{climb_on, climb_fails}
+use Rattle.typst_tree.proofs.WalksInPreorder.{turn}
 use Rattle.typst_tree.proofs.order.+climb.Goals as goal
 
 pub returns-in_err-next-clause-value : goal.returns-in_err-next-clause-value

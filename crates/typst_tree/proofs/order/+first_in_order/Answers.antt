@@ -3,8 +3,8 @@ use Rattle.typst_kinds.specs.Span.{number_of}
 use Rattle.typst_node.specs.Tree.{forest, nodes, places, preorder, saturated, text_of, count}
 use Rattle.typst_tree.specs.Walks.{first_at, Within}
 use Rattle.typst_tree.specs.Wanted.{wanted}
-use Rattle.typst_tree.proofs.Rising.{Rising, none_past, none_in_first, found_only, rising_rest, rising_below, in_order_first, if_some}
-use Rattle.typst_tree.proofs.Walking.{within_self, within_in, within_first, within_rest, within_children, within_same, found_below, found_next}
+use Rattle.typst_tree.proofs.RisingNumbers.{Rising, none_past, none_in_first, found_only, rising_rest, rising_below, in_order_first, if_some}
+use Rattle.typst_tree.proofs.WalksInPreorder.{within_self, within_in, within_first, within_rest, within_children, within_same, found_below, found_next}
 use Rattle.typst_tree.proofs.order.+first_in_order.Goals as goal
 
 pub returns-then-key-number_or_zero-clause-first : goal.returns-then-key-number_or_zero-clause-first

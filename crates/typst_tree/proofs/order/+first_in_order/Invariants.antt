@@ -2,7 +2,7 @@ use Rattle.std.proofs.Common.{◌≡◌, ◌+◌, ◌-◌, ◌^◌, ◌<◌, len
 use Rattle.typst_node.specs.Tree.{forest, count, nodes, places, preorder}
 use Rattle.typst_tree.specs.Walks.{first_at, Within}
 use Rattle.typst_tree.specs.Wanted.{wanted}
-use Rattle.typst_tree.proofs.Rising.{Rising}
+use Rattle.typst_tree.proofs.RisingNumbers.{Rising}
 use Rattle.typst_tree.proofs.order.+first_in_order.Given as goal
 
 abbrev pub decreases-first_in_order : goal.decreases-first_in_order

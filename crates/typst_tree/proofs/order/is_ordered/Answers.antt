@@ -1,6 +1,6 @@
 use Rattle.std.proofs.Common.{ap, ◌∙◌}
 use Rattle.std.specs.Prelude.{is_some}
-use Rattle.typst_tree.proofs.Rising.{decided}
+use Rattle.typst_tree.proofs.RisingNumbers.{decided}
 use Rattle.typst_tree.proofs.order.is_ordered.Goals as goal
 
 pub returns : goal.returns

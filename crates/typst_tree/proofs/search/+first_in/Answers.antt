@@ -2,7 +2,7 @@ use Rattle.std.proofs.Common.{◌≡◌, ◌+◌, ◌<◌, ◌^◌, ap, sym, ◌
 use Rattle.typst_node.specs.Tree.{forest, nodes, places, preorder, saturated, text_of, count}
 use Rattle.typst_tree.specs.Walks.{first_at}
 use Rattle.typst_tree.specs.Wanted.{wanted}
-use Rattle.typst_tree.proofs.Walking.{within_self, within_in, within_first, within_rest, within_children, within_same, found_below, found_here, found_next, turn}
+use Rattle.typst_tree.proofs.WalksInPreorder.{within_self, within_in, within_first, within_rest, within_children, within_same, found_below, found_here, found_next, turn}
 use Rattle.typst_tree.proofs.search.+first_in.Goals as goal
 
 pub returns-then-wants-clause-spot : goal.returns-then-wants-clause-spot

@@ -1,6 +1,6 @@
 use Rattle.std.proofs.Common.{ap, sym, ◌∙◌}
 use Rattle.typst_tree.specs.Walks.{is_childless}
-use Rattle.typst_tree.proofs.Places.{childless_forest}
+use Rattle.typst_tree.proofs.SingleNodes.{childless_forest}
 use Rattle.typst_tree.proofs.search.is_childless.Goals as goal
 
 pub returns : goal.returns

@@ -1,6 +1,6 @@
 use Rattle.std.proofs.Common.{◌∙◌, ap, refl}
 use Rattle.std.specs.Str.{IsCharBoundary}
-use Rattle.typst_lines.proofs.PositionLemmas.{line-boundary, column-at, boundary-at, column-back}
+use Rattle.typst_lines.proofs.RoundTrip.{line-boundary, column-at, boundary-at, column-back}
 use Rattle.typst_lines.specs.Lines.{byte_at, line_of}
 use Rattle.typst_lines.proofs.lines.Lines.byte_to_line_column.Goals as goal
 

@@ -1,6 +1,6 @@
 use Rattle.std.proofs.Common.{◌∙◌, ap, arith, refl}
 use Rattle.std.specs.Str.{IsCharBoundary}
-use Rattle.typst_lines.proofs.PositionLemmas.{line-boundary, units-at, units-small, boundary-at, utf16-back}
+use Rattle.typst_lines.proofs.RoundTrip.{line-boundary, units-at, units-small, boundary-at, utf16-back}
 use Rattle.typst_lines.specs.Lines.{byte_at_utf16}
 use Rattle.typst_lines.proofs.lines.Lines.byte_to_utf16.Goals as goal
 

@@ -1,5 +1,5 @@
 use Rattle.std.proofs.Common.{arith, ap, ◌∙◌, length}
-use Rattle.typst_lines.proofs.TableLemmas.{IsLineOf-read}
+use Rattle.typst_lines.proofs.TableOrder.{IsLineOf-read}
 use Rattle.typst_lines.specs.Lines.{line_table}
 use Rattle.typst_lines.proofs.lines.Lines.line_before.Goals as goal
 

@@ -1,7 +1,7 @@
 use Rattle.std.proofs.Common.{◌≡◌, arith, rules, ap, sym, subst, ◌∙◌, length, nat_le, refl}
 use Rattle.std.proofs.lemmas.List.Sorted.{IsPartitionPoint-from_clause, IsPartitionedBy-leb}
 use Rattle.std.specs.List.Sorted.{IsNonDecreasingBy}
-use Rattle.typst_lines.proofs.TableLemmas.{IsLineUpTo-read, units-ordered, table-some}
+use Rattle.typst_lines.proofs.TableOrder.{IsLineUpTo-read, units-ordered, table-some}
 use Rattle.typst_lines.specs.Lines.{line_table}
 use Rattle.typst_lines.specs.declared.lines.Line.{Line}
 use Rattle.typst_lines.proofs.lines.Lines.line_before_utf16.Goals as goal

@@ -1,8 +1,8 @@
 use Rattle.std.proofs.Common.{◌≡◌, ◌∙◌, ◌+◌, ap, sym, subst, arith, Some, refl, length, slice_range, List, ℕ}
 use Rattle.std.specs.Str.{IsUtf8, chars}
 use Rattle.std.specs.declared.ops.Range.{Range}
-use Rattle.typst_lines.proofs.LineLemmas.{ahead-text}
-use Rattle.typst_lines.proofs.PositionLemmas.{IsSoundRange, line_range-sound, HasPassed, HasPassed-none, HasPassed-more, byte_at-short, byte_at-found, byte_at-none}
+use Rattle.typst_lines.proofs.LineTable.{ahead-text}
+use Rattle.typst_lines.proofs.RoundTrip.{IsSoundRange, line_range-sound, HasPassed, HasPassed-none, HasPassed-more, byte_at-short, byte_at-found, byte_at-none}
 use Rattle.typst_lines.specs.Scanner.{place}
 use Rattle.typst_lines.proofs.lines.Lines.line_column_to_byte.Goals as goal
 

@@ -1,7 +1,7 @@
 use Rattle.std.proofs.Common.{◌≡◌, ◌-◌, arith, rules, sym, ap, ◌∙◌, subst, nat_le, length, count_by}
 use Rattle.std.proofs.lemmas.List.Sorted.{IsPartitionPoint-from_clause, IsPartitionedBy-leb}
 use Rattle.std.specs.List.Sorted.{IsNonDecreasingBy}
-use Rattle.typst_lines.proofs.TableLemmas.{count_by-point, bytes-ordered, table-some}
+use Rattle.typst_lines.proofs.TableOrder.{count_by-point, bytes-ordered, table-some}
 use Rattle.typst_lines.specs.Lines.{line_table, line_of}
 use Rattle.typst_lines.specs.declared.lines.Line.{Line}
 use Rattle.typst_lines.proofs.lines.Lines.line_holding.Goals as goal

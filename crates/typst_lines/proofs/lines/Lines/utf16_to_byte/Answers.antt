@@ -1,7 +1,7 @@
 use Rattle.std.proofs.Common.{◌≡◌, ◌-◌, ◌∙◌, ap, sym, arith, subst, None, Some, false}
 use Rattle.std.specs.Str.{IsCharBoundary}
 use Rattle.std.proofs.lemmas.Str.{IsUtf8-had}
-use Rattle.typst_lines.proofs.PositionLemmas.{reach, overshot, upto-boundary, upto-reach, upto-units, upto-before, utf16-found, utf16-short, utf16-over, reach-on, units-moved, none-from, overshot-some, overshot-low}
+use Rattle.typst_lines.proofs.RoundTrip.{reach, overshot, upto-boundary, upto-reach, upto-units, upto-before, utf16-found, utf16-short, utf16-over, reach-on, units-moved, none-from, overshot-some, overshot-low}
 use Rattle.typst_lines.specs.Lines.{units, least_place, byte_at_utf16}
 use Rattle.typst_lines.specs.Place.{place_at, scout}
 use Rattle.typst_lines.specs.Scanner.{place}

@@ -1,7 +1,7 @@
 use Rattle.std.proofs.Common.{◌≡◌, ◌∙◌, ◌+◌, ◌∷◌, ap, sym, arith, length}
 use Rattle.std.proofs.lemmas.Str.{IsUtf8-had}
-use Rattle.typst_lines.proofs.AfterLemmas.{after-line, after-on, after-end, units-next}
-use Rattle.typst_lines.proofs.LineLemmas.{line_at, units-front}
+use Rattle.typst_lines.proofs.LinesFromLaw.{after-line, after-on, after-end, units-next}
+use Rattle.typst_lines.proofs.LineTable.{line_at, units-front}
 use Rattle.typst_lines.specs.Lines.{lines_after, utf16_before}
 use Rattle.typst_lines.proofs.lines.LinesFromIterator.next.Goals as goal
 

@@ -1,20 +1,31 @@
-use Rattle.std.proofs.Common.{◌∙◌, max, min, refl, sym, ap}
+use Rattle.std.proofs.Common.{Bool, None, if◌then◌else◌, ◌∙◌, refl, sym, ap}
 use Rattle.typst_lines.specs.Place.{Place}
-use Rattle.typst_combinators.specs.Hand.{judged, column_at}
-use Rattle.typst_machine.specs.Bytes.{column_hull}
 use Rattle.typst_readers.specs.declared.hull.Hull.{Hull}
-use Rattle.typst_combinators.specs.Log.{kept}
-use Rattle.typst_machine.proofs.Logs.{same-log}
-use Rattle.typst_machine.proofs.Ready.{left-judged}
+use Rattle.typst_combinators.specs.Point.{Point}
+use Rattle.typst_combinators.specs.Hand.{judged, column_at, known_by}
+use Rattle.typst_combinators.specs.Log.{with_hull}
+use Rattle.typst_machine.specs.Bytes.{column_hull}
+use Rattle.typst_machine.proofs.Ready.{left-again, left-kept, left-judged, was-read}
+use Rattle.typst_machine.specs.Cursor.{hand_of_ahead}
 use Rattle.typst_machine.proofs.Trivia.{same-hand}
 use Rattle.typst_machine.proofs.parser.Parser.leave.Goals as goal
 
+pub returns-then-not-same_mode : goal.returns-then-not-same_mode
+returns-then-not-same_mode g c l h =
+    rw (sym c.self.view_is) (left-again l c.args.outer _ _ (sym c.same_mode.ensures ∙ c.if-not-same_mode.true) (c.in_ok-read.ensures l (h.classes ∙ g.met.L.Levels.same _)))
+
+pub returns-then-same_rule : goal.returns-then-same_rule
+returns-then-same_rule g c l h =
+    rw (sym c.self.view_is) (left-kept l c.args.outer _ _ (sym c.same_mode.ensures ∙ c.if-not-same_mode.false) (sym c.same_rule.ensures ∙ c.if-same_rule.true) refl)
+
 pub returns : goal.returns
-returns g c l k =
+returns g c l h =
     let i = c.self.inside in
-    rw (sym c.self.view_is) (left-judged l c.args.outer _ _ (sym c.same_mode.ensures ∙ c.if-not-same_mode.false) (sym c.same_rule.ensures ∙ c.if-same_rule.false) refl refl refl
-    (same-hand _ _ _ _ _ _ _ _ _ _ _ _
-    (c.judged-kind.ensures.kind ∙ ap (λ (z : Place). judged (record i.state.held { at_newline = c.args.outer.at_newline }) i.ahead.newlines i.ahead.token.kind (column_at z)) c.self.invariant.stands.start)
-    refl refl refl refl refl)
-    (ap (λ h. record { tokens = i.ahead.tokens; own = i.ahead.own; here = h }) (c.judged-kind.ensures.here ∙ ap (λ (z : Place). column_hull (record i.state.held { at_newline = c.args.outer.at_newline }) i.ahead.newlines z i.ahead.own) c.self.invariant.stands.start))
-    (same-log _ _ _ _ (kept i.keeps_notes i.notes.items) (c.max-self-inside-2.ensures ∙ ap (λ (u : Hull). max i.reach u.reach) c.whole-whole-2.ensures) (c.min-self-inside-2.ensures ∙ ap (λ (u : Hull). min i.least u.least) c.whole-whole-2.ensures)))
+    let z = c.self.invariant.stands.start in
+    let held = record i.state.held { at_newline = c.args.outer.at_newline } in
+    let here = c.judged-kind.ensures.here ∙ ap (λ (p : Place). column_hull held i.ahead.newlines p i.ahead.own) z in
+    rw (sym c.self.view_is)
+    (λ f. left-judged l c.args.outer _ _ (sym c.same_mode.ensures ∙ c.if-not-same_mode.false) (sym c.same_rule.ensures ∙ c.if-same_rule.false) refl refl
+    (ap (λ (r : Bool). record { reading = c.args.outer; held = held; empties = i.state.empties; is_after_error = i.state.is_after_error; known = if r then known_by (record (hand_of_ahead i.ahead) { kind = c.judged-kind.result.0 }) else None }) (was-read i f))
+    (same-hand _ _ _ _ _ _ _ _ _ _ _ _ (c.judged-kind.ensures.kind ∙ ap (λ (p : Place). judged held i.ahead.newlines i.ahead.token.kind (column_at p)) z) refl refl refl refl refl)
+    refl here c.look.ensures f)

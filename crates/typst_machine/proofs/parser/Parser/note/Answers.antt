@@ -1,14 +1,23 @@
-use Rattle.std.proofs.Common.{◌∙◌, ap}
+use Rattle.std.proofs.Common.{◌∙◌, ap, sym}
 use Rattle.std.proofs.lemmas.Str.{IsUtf8-had}
-use Rattle.typst_lines.specs.Place.{moved}
-use Rattle.typst_machine.specs.View.{View}
 use Rattle.typst_readers.specs.Sight.{position}
 use Rattle.typst_readers.proofs.Sights.{offset-is}
+use Rattle.typst_combinators.specs.Log.{Log, with_hull}
+use Rattle.typst_machine.specs.Cursor.{view_of}
+use Rattle.typst_machine.specs.View.{with_noted}
 use Rattle.typst_machine.proofs.Ready.{noted-is}
 use Rattle.typst_machine.proofs.parser.Parser.note.Goals as goal
 
 pub returns : goal.returns
-returns c l d =
-    let s = c.self.inside.ahead.start in
-    noted-is l c.args.mark c.args.depth c.cursor-start.result _ _ d
-    (c.cursor-start.ensures ∙ offset-is s.text.now s.cursor (IsUtf8-had _ s.utf8) s.boundary ∙ ap position c.self.invariant.stands.start ∙ ap (λ (v : View). position (moved v.hand.gap v.place)) c.self.view_is) c.in_ok-push_note.ensures
+returns g c l h =
+    let i = c.self.inside in
+    let b = i.ahead.before in
+    let s = i.ahead.start in
+    let first = c.cursor-before.result in
+    let second = c.cursor-start.result in
+    rw (sym c.self.view_is)
+    (noted-is l c.args.mark _ first second _ _ h.levels
+    (c.cursor-before.ensures ∙ offset-is b.text.now b.cursor (IsUtf8-had _ b.utf8) b.boundary)
+    (c.cursor-start.ensures ∙ offset-is s.text.now s.cursor (IsUtf8-had _ s.utf8) s.boundary ∙ ap position c.self.invariant.stands.start)
+    (ap (λ (x : Log). record (view_of i) { log = x })
+    (c.look.ensures ∙ ap (with_hull i.ahead.here) (c.in_ok-note.ensures ∙ ap (λ n. with_noted c.args.mark first second n i.state i.log) c.levels.ensures))))

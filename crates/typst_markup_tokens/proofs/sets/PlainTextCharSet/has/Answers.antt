@@ -1,5 +1,5 @@
 use Rattle.std.proofs.Common.{not}
-use Rattle.typst_markup_tokens.proofs.TableLemmas.{below, tabulated-from_zero}
+use Rattle.typst_markup_tokens.proofs.Tables.{below, tabulated-from_zero}
 use Rattle.typst_markup_tokens.proofs.sets.PlainTextCharSet.has.Goals as goal
 use Rattle.typst_markup_tokens.specs.Text.{may_stop}
 

@@ -2,7 +2,7 @@ use Rattle.std.proofs.Common.{◌≡◌, ◌+◌, ◌*◌, ◌≤◌, get_or, ar
 use Rattle.std.proofs.Math.ListN.{length-set}
 use Rattle.typst_node.specs.Tree.{Tree, nodes, forest, count}
 use Rattle.typst_node.proofs.Numbering.{Next, next_fits, numbered_more, numbered_vec, forest_numbered, nodes_numbered, text_numbered, numbered_bare, later}
-use Rattle.typst_node.proofs.Wholes.{whole_same_tree}
+use Rattle.typst_node.proofs.ChildlessLeaves.{whole_same_tree}
 use Rattle.typst_node.specs.Numbers.{numbered}
 use Rattle.typst_node.proofs.node.SyntaxNode.+number.Goals as goal
 use Rattle.typst_node.proofs.node.SyntaxNode.+number.Goals.{After-descendants-in-loop-kid}

@@ -1,6 +1,6 @@
 use Rattle.std.proofs.Common.{◌≤◌, Some, length, ap, sym, ◌∙◌, arith}
 use Rattle.std.proofs.lemmas.Bool.Decides.{nat_tests}
-use Rattle.typst_node.proofs.Paths.{reached_by, reached_kid, not_reached, slice_get_is}
+use Rattle.typst_node.proofs.StepDown.{reached_by, reached_kid, not_reached, slice_get_is}
 use Rattle.typst_node.proofs.node.SyntaxNode.+reaches.Goals as goal
 
 pub returns-in-Some-get : goal.returns-in-Some-get

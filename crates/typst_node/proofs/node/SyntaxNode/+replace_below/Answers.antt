@@ -1,6 +1,6 @@
 use Rattle.std.proofs.Common.{arith}
 use Rattle.typst_node.proofs.Numbering.{some_nodes}
-use Rattle.typst_node.proofs.Paths.{reached, replaced_on, replaced_at_not}
+use Rattle.typst_node.proofs.StepDown.{reached, replaced_on, replaced_at_not}
 use Rattle.typst_node.proofs.node.SyntaxNode.+replace_below.Goals as goal
 
 pub index_mut-kid-requires : goal.index_mut-kid-requires

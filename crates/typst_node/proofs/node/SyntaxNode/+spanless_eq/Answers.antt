@@ -1,5 +1,5 @@
 use Rattle.std.proofs.Common.{arith, refl}
-use Rattle.typst_node.proofs.Bares.{parts_from_bare, bare_from_parts, lengths_from_bare, same_at, same_all}
+use Rattle.typst_node.proofs.SpansAside.{parts_from_bare, bare_from_parts, lengths_from_bare, same_at, same_all}
 use Rattle.typst_node.proofs.node.SyntaxNode.+spanless_eq.Goals as goal
 
 pub returns-then-not-same_bare : goal.returns-then-not-same_bare

@@ -1,8 +1,8 @@
 use Rattle.std.proofs.Common.{arith, rules, refl}
 use Rattle.std.proofs.lemmas.List.Edits.{map_over_more}
 use Rattle.typst_node.specs.Tree.{synthesized, forest}
-use Rattle.typst_node.proofs.Wholes.{whole_synthesized}
-use Rattle.typst_node.proofs.Trees.{mapped_vec, joined_spanned, count_with_each, forest_synthesized}
+use Rattle.typst_node.proofs.ChildlessLeaves.{whole_synthesized}
+use Rattle.typst_node.proofs.Forests.{mapped_vec, joined_spanned, count_with_each, forest_synthesized}
 use Rattle.typst_node.proofs.node.SyntaxNode.+synthesize_as.Goals as goal
 
 pub loop-kid-preserved : goal.loop-kid-preserved

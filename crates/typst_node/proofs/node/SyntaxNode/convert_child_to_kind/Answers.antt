@@ -1,7 +1,7 @@
 use Rattle.std.proofs.Common.{arith, refl, ap}
 use Rattle.typst_node.specs.Tree.{with_kind, at_tree, forest}
-use Rattle.typst_node.proofs.Wholes.{whole_kind}
-use Rattle.typst_node.proofs.Trees.{forest_set, at_tree_past, joined_kind, count_kind}
+use Rattle.typst_node.proofs.ChildlessLeaves.{whole_kind}
+use Rattle.typst_node.proofs.Forests.{forest_set, at_tree_past, joined_kind, count_kind}
 use Rattle.typst_node.proofs.node.SyntaxNode.convert_child_to_kind.Goals as goal
 
 pub invariant_of-self : goal.invariant_of-self

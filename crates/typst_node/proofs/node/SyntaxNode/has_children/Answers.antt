@@ -1,6 +1,6 @@
 use Rattle.std.proofs.Common.{◌≤◌, IsTrue, length, arith, rules}
 use Rattle.std.proofs.lemmas.Bool.Decides.{nat_tests}
-use Rattle.typst_node.proofs.Bares.{trees_forest}
+use Rattle.typst_node.proofs.SpansAside.{trees_forest}
 use Rattle.typst_node.proofs.node.SyntaxNode.has_children.Goals as goal
 
 pub returns : goal.returns

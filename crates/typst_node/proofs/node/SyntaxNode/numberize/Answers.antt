@@ -1,7 +1,7 @@
 use Rattle.std.proofs.Common.{◌≤◌, arith, sym, subst}
 use Rattle.typst_node.specs.Tree.{Tree, nodes}
 use Rattle.typst_node.specs.Order.{IsNumbered}
-use Rattle.typst_node.proofs.Orders.{numbered_is, numbers_in_order}
+use Rattle.typst_node.proofs.NumbersInOrder.{numbered_is, numbers_in_order}
 use Rattle.typst_node.proofs.node.SyntaxNode.numberize.Goals as goal
 
 pub returns-clause-ordered : goal.returns-clause-ordered

@@ -1,6 +1,6 @@
 use Rattle.std.proofs.Common.{arith, sym, ◌∙◌}
-use Rattle.typst_node.proofs.Bares.{trees_forest}
-use Rattle.typst_node.proofs.Paths.{replaced_is, replaced_not}
+use Rattle.typst_node.proofs.SpansAside.{trees_forest}
+use Rattle.typst_node.proofs.StepDown.{replaced_is, replaced_not}
 use Rattle.typst_node.proofs.node.SyntaxNode.replace.Goals as goal
 
 pub swap_children-requires-clause-within : goal.swap_children-requires-clause-within

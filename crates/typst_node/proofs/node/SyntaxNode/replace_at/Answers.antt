@@ -1,4 +1,4 @@
-use Rattle.typst_node.proofs.Ranks.{keeps_order}
+use Rattle.typst_node.proofs.KeepsOrder.{keeps_order}
 use Rattle.typst_node.proofs.node.SyntaxNode.replace_at.Goals as goal
 
 pub returns-clause-ordered : goal.returns-clause-ordered

@@ -1,5 +1,5 @@
 use Rattle.typst_lines.specs.Scanner.{place}
-use Rattle.typst_raw.proofs.LoopLemmas.{trim-blank, trim-none, trim-spare}
+use Rattle.typst_raw.proofs.Loops.{trim-blank, trim-none, trim-spare}
 use Rattle.typst_raw.proofs.lines.LastLine.trimmed_from.Goals as goal
 
 pub returns-then-is_blank-clause-front : goal.returns-then-is_blank-clause-front

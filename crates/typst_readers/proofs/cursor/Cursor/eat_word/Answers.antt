@@ -3,7 +3,7 @@ use Rattle.typst_lines.specs.Scanner.{place}
 use Rattle.typst_readers.specs.Cursor.{sight_of}
 use Rattle.typst_readers.specs.Sight.{Sight, Covers, saw_word, went}
 use Rattle.typst_readers.proofs.Sights.{covers-went}
-use Rattle.typst_readers.proofs.WordLemmas.{covers-word, word-eaten}
+use Rattle.typst_readers.proofs.Words.{covers-word, word-eaten}
 use Rattle.typst_readers.proofs.cursor.Cursor.eat_word.Goals as goal
 
 pub invariant_of-self : goal.invariant_of-self

@@ -1,9 +1,10 @@
 use Rattle.std.proofs.Common.{◌∙◌, ap, sym, subst}
 use Rattle.typst_lines.specs.Scanner.{place}
 use Rattle.typst_readers.specs.Cursor.{sight_of}
-use Rattle.typst_readers.specs.Pairs.{either, went_past_pairs}
+use Rattle.typst_readers.specs.Pairs.{either, pairs_len, went_past_pairs}
 use Rattle.typst_readers.specs.Sight.{Covers}
-use Rattle.typst_readers.proofs.PairLemmas.{covers-pairs, ran-pairs}
+use Rattle.typst_readers.proofs.PairRuns.{covers-pairs}
+use Rattle.typst_readers.proofs.Sights.{ran}
 use Rattle.typst_readers.proofs.cursor.Cursor.go_past.Goals as goal
 
 pub invariant_of-self : goal.invariant_of-self
@@ -11,12 +12,12 @@ invariant_of-self g c =
     let i = c.self.inside in
     let p = c.past_pairs-c in
     let test = either (g.S.CharSet.members c.args.alone.now) (g.P.PairSet.members c.args.pairs.now) in
-    subst Covers (sym (ran-pairs test (place i.s) (place p.new.s) (place p.result.0) p.result.1 i.reach i.least c.max-self-inside.result c.end_of.result c.max-self-inside.ensures c.end_of.ensures p.ensures.behind p.ensures.next p.ensures.moved)) (covers-pairs test (sight_of i) c.self.invariant)
+    subst Covers (sym (ran (pairs_len test (place i.s).ahead) (place i.s) (place p.new.s) (place p.result.0) p.result.1 i.reach i.least c.max-self-inside.result c.end_of.result c.max-self-inside.ensures c.end_of.ensures p.ensures.behind p.ensures.next p.ensures.moved)) (covers-pairs test (sight_of i) c.self.invariant)
 
 pub returns-clause-sight : goal.returns-clause-sight
 returns-clause-sight g c =
     let i = c.self.inside in
     let p = c.past_pairs-c in
     let test = either (g.S.CharSet.members c.args.alone.now) (g.P.PairSet.members c.args.pairs.now) in
-    ran-pairs test (place i.s) (place p.new.s) (place p.result.0) p.result.1 i.reach i.least c.max-self-inside.result c.end_of.result c.max-self-inside.ensures c.end_of.ensures p.ensures.behind p.ensures.next p.ensures.moved
+    ran (pairs_len test (place i.s).ahead) (place i.s) (place p.new.s) (place p.result.0) p.result.1 i.reach i.least c.max-self-inside.result c.end_of.result c.max-self-inside.ensures c.end_of.ensures p.ensures.behind p.ensures.next p.ensures.moved
     ∙ ap (went_past_pairs test) c.self.view_is

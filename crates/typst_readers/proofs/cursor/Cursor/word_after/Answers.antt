@@ -4,7 +4,7 @@ use Rattle.typst_lines.specs.Scanner.{place}
 use Rattle.typst_readers.specs.Cursor.{sight_of}
 use Rattle.typst_readers.specs.Sight.{Sight, Covers, saw_word, word_reach}
 use Rattle.typst_readers.proofs.Sights.{same-sight}
-use Rattle.typst_readers.proofs.WordLemmas.{covers-word, word_at-moved, word_reach-moved}
+use Rattle.typst_readers.proofs.Words.{covers-word, word_at-moved, word_reach-moved}
 use Rattle.typst_readers.proofs.cursor.Cursor.word_after.Goals as goal
 
 pub invariant_of-self : goal.invariant_of-self

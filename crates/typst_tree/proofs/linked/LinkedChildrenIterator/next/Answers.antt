@@ -2,8 +2,8 @@ use Rattle.std.proofs.Common.{◌≡◌, ◌+◌, ◌∷◌, ap, ◌∙◌, arit
 use Rattle.typst_node.specs.Tree.{forest, places, count}
 use Rattle.typst_tree.specs.Steps.{at}
 use Rattle.typst_tree.specs.Walks.{numbers}
-use Rattle.typst_tree.proofs.Standing.{row, stands_same}
-use Rattle.typst_tree.proofs.Walking.{length_places}
+use Rattle.typst_tree.proofs.NodesOfStretch.{row, stands_same}
+use Rattle.typst_tree.proofs.WalksInPreorder.{length_places}
 use Rattle.typst_tree.proofs.linked.LinkedChildrenIterator.next.Goals as goal
 
 pub overflow_add-self : goal.overflow_add-self

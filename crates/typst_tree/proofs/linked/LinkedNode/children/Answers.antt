@@ -2,8 +2,8 @@ use Rattle.std.proofs.Common.{◌≡◌, ◌+◌, ap, sym, ◌∙◌, arith, len
 use Rattle.typst_node.specs.Tree.{places, saturated}
 use Rattle.typst_tree.specs.Steps.{at}
 use Rattle.typst_tree.specs.Walks.{numbers}
-use Rattle.typst_tree.proofs.Standing.{node_here, stands_row}
-use Rattle.typst_tree.proofs.Walking.{length_places, within_children}
+use Rattle.typst_tree.proofs.NodesOfStretch.{node_here, stands_row}
+use Rattle.typst_tree.proofs.WalksInPreorder.{length_places, within_children}
 use Rattle.typst_tree.proofs.linked.LinkedNode.children.Goals as goal
 
 pub overflow_add-result : goal.overflow_add-result

@@ -1,6 +1,6 @@
 use Rattle.std.proofs.Common.{◌∙◌}
 use Rattle.typst_tree.specs.Linked.{linked}
-use Rattle.typst_tree.proofs.Finding.{finds_own}
+use Rattle.typst_tree.proofs.FindsOwnSpan.{finds_own}
 use Rattle.typst_tree.proofs.linked.LinkedNode.find.Goals as goal
 
 pub returns-clause-own : goal.returns-clause-own

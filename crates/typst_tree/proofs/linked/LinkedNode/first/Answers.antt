@@ -3,9 +3,9 @@ use Rattle.std.specs.Option.{option_map}
 use Rattle.typst_node.specs.Tree.{places}
 use Rattle.typst_tree.specs.Steps.{at}
 use Rattle.typst_tree.specs.Wanted.{wanted}
-use Rattle.typst_tree.proofs.Standing.{first_here, stands_row}
-use Rattle.typst_tree.proofs.Rising.{in_order_here}
-use Rattle.typst_tree.proofs.Walking.{length_places}
+use Rattle.typst_tree.proofs.NodesOfStretch.{first_here, stands_row}
+use Rattle.typst_tree.proofs.RisingNumbers.{in_order_here}
+use Rattle.typst_tree.proofs.WalksInPreorder.{length_places}
 use Rattle.typst_tree.proofs.linked.LinkedNode.first.Goals as goal
 
 pub find_in-requires-clause-counted : goal.find_in-requires-clause-counted

@@ -1,5 +1,5 @@
 use Rattle.std.proofs.Common.{sym}
-use Rattle.typst_tree.proofs.Standing.{node_here}
+use Rattle.typst_tree.proofs.NodesOfStretch.{node_here}
 use Rattle.typst_tree.proofs.linked.LinkedNode.get.Goals as goal
 
 pub returns : goal.returns

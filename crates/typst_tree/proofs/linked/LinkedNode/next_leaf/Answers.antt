@@ -3,8 +3,8 @@ use Rattle.typst_node.specs.Tree.{nodes}
 use Rattle.typst_tree.specs.Linked.{linked}
 use Rattle.typst_tree.specs.Steps.{node_of, first_below, first_of_all}
 use Rattle.typst_tree.specs.Walks.{is_leaf_from}
-use Rattle.typst_tree.proofs.Standing.{node_here}
-use Rattle.typst_tree.proofs.Walking.{length_places}
+use Rattle.typst_tree.proofs.NodesOfStretch.{node_here}
+use Rattle.typst_tree.proofs.WalksInPreorder.{length_places}
 use Rattle.typst_tree.proofs.linked.LinkedNode.next_leaf.Goals as goal
 
 pub overflow_add-end : goal.overflow_add-end

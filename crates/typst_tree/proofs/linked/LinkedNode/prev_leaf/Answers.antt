@@ -3,8 +3,8 @@ use Rattle.std.specs.Option.{option_map}
 use Rattle.typst_node.specs.Tree.{places}
 use Rattle.typst_tree.specs.Steps.{at, first_below}
 use Rattle.typst_tree.specs.Walks.{has_place}
-use Rattle.typst_tree.proofs.LastLeaves.{last_within}
-use Rattle.typst_tree.proofs.Passing.{place_found}
+use Rattle.typst_tree.proofs.LastLeaf.{last_within}
+use Rattle.typst_tree.proofs.PassesOver.{place_found}
 use Rattle.typst_tree.proofs.linked.LinkedNode.prev_leaf.Goals as goal
 
 pub returns : goal.returns

@@ -4,7 +4,7 @@ use Rattle.typst_node.specs.Tree.{Tree, places}
 use Rattle.typst_tree.specs.Walks.{first_at}
 use Rattle.typst_tree.specs.Wanted.{wanted}
 use Rattle.typst_tree.specs.declared.search.Search.{Search}
-use Rattle.typst_tree.proofs.Passing.{no_place_before, no_place_after, no_leaf, no_child_before, no_child_after, no_byte_before, no_byte_after}
+use Rattle.typst_tree.proofs.PassesOver.{no_place_before, no_place_after, no_leaf, no_child_before, no_child_after, no_byte_before, no_byte_after}
 use Rattle.typst_tree.proofs.search.Search.passes_over.Goals as goal
 
 asked : (n a : ℕ) (t : Tree) {s r : Search} → s ≡ r → first_at (wanted s) n a (places t) ≡ first_at (wanted r) n a (places t)

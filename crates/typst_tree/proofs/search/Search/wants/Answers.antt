@@ -1,7 +1,7 @@
 use Rattle.std.proofs.Common.{ap, sym, ◌∙◌}
 use Rattle.typst_tree.specs.Walks.{same_place}
 use Rattle.typst_tree.specs.Wanted.{wanted}
-use Rattle.typst_tree.proofs.Places.{same_span}
+use Rattle.typst_tree.proofs.SingleNodes.{same_span}
 use Rattle.typst_tree.proofs.search.Search.wants.Goals as goal
 
 pub returns-in-Spanned : goal.returns-in-Spanned

@@ -1,0 +1,224 @@
+-- What a walk carries along is what the tree's list of nodes says.
+use Rattle.std.proofs.Common.{◌≡◌, ℕ, suc, zero, ◌+◌, ◌<◌, Bool, true, false, List, [], ◌∷◌, ◌++◌, length, Option, None, Some, refl, ap, sym, ◌∙◌, arith, cond, append-nil}
+use Rattle.std.specs.Prelude.{option_and_then}
+use Rattle.std.specs.Option.{option_map}
+use Rattle.typst_node_data.specs.Head.{Head}
+use Rattle.typst_node.specs.Tree.{Forest, none, more, Tree, count, places, preorder, text_of}
+use Rattle.typst_tree.specs.Walks.{is_leaf}
+use Rattle.typst_tree.specs.Steps.{At, at, node_of, kind_of, offset_of, end_of, parent, prev_leaf, next_leaf}
+use Rattle.typst_tree.proofs.LastLeaves.{last_none}
+use Rattle.typst_tree.proofs.Walking.{length_places}
+use Rattle.typst_highlight.specs.declared.tags.Tag.{Tag}
+use Rattle.typst_highlight.specs.declared.context.Outer.{Outer}
+use Rattle.typst_highlight.specs.declared.context.Trail.{Trail}
+use Rattle.typst_highlight.specs.declared.context.Context.{Context}
+use Rattle.typst_highlight.specs.Rules.{is_name, is_dot, is_field_access}
+use Rattle.typst_highlight.specs.Names.{first_tag, name_alone}
+use Rattle.typst_highlight.specs.Nodes.{kind_if, kind_before, described, access, from_or, outermost, surroundings, named, name_before, earlier_name, name_tag}
+use Rattle.typst_highlight.specs.Walk.{tree_of, first_ahead, first_leaf, next_leaf as leaf_behind, around, lead, end, within, past, seen, name, step, dotted, behind_dot, passed_row, passed}
+use Rattle.typst_highlight.proofs.Cases.{bool_cases}
+use Rattle.typst_highlight.proofs.Bounds.{parent_below, prev_below}
+use Rattle.typst_highlight.proofs.Chains.{same_outer, same_name, name_once}
+use Rattle.typst_highlight.proofs.Rows.{Stand, here, below, behind, parent_here}
+use Rattle.typst_highlight.proofs.Leaves.{ahead_at, ahead_is, own_name, trail_at, kind_up, first_law, next_law, offset_below, offset_behind, prev_here, prev_later}
+
+abbrev pub outer_of : Tree → ℕ → Outer
+outer_of root m = record { around = kind_if (parent (outermost m (at root m))); lead = kind_before (outermost m (at root m)) }
+
+-- what is round the outermost of the field accesses above the children of a node
+abbrev pub outer_at : Tree → Option ℕ → Option Outer
+outer_at root None = None
+outer_at root (Some m) = cond (is_field_access (kind_of (at root m))) (Some (outer_of root m)) None
+
+-- the context of trees that stand side by side
+pub record Fits (root : Tree) (k : ℕ) (f : Forest) (up : Option ℕ) (c : Context) : Type 0 where
+  pub parent : c.parent ≡ kind_up root up
+  pub outer : c.outer ≡ outer_at root up
+  pub offset : c.offset ≡ offset_of (at root k)
+  pub trail : c.trail ≡ trail_at root k
+  pub ahead : c.ahead ≡ ahead_at root (k + count f)
+
+-- the first leaf behind the first of the trees
+pub next_fits : (root : Tree) (k : ℕ) (h : Head) (ks r : Forest) (front back : List Tree) (up : Option ℕ) (c : Context) → Stand root k (more h ks r) front back up → Fits root k (more h ks r) up c → leaf_behind c (tree_of h ks) r ≡ ahead_at root (k + (1 + count ks))
+next_fits root k h ks r front back up c s w =
+    let total : k + count (more h ks r) ≡ k + (1 + count ks) + count r = omega arith in
+    ap (first_ahead (first_leaf c.parent (end c (tree_of h ks)) r)) (w.ahead ∙ ap (ahead_at root) total)
+    ∙ (first_law root (k + (1 + count ks)) (end c (tree_of h ks)) r (front ++ places (tree_of h ks)) back up c.parent (behind root k h ks r front back up s) w.parent (offset_behind root k c.offset h ks r front back up s w.offset))
+
+-- what the first of the trees, or the outermost of the field accesses above it, stands in
+pub record Outside (root : Tree) (k : ℕ) (c : Context) : Type 0 where
+  pub around : around c ≡ kind_if (parent (outermost k (at root k)))
+  pub lead : lead c ≡ kind_before (outermost k (at root k))
+
+no_access : (root : Tree) (k : ℕ) (o : Option At) → parent (at root k) ≡ o → access o ≡ None → outermost k (at root k) ≡ at root k
+no_access root zero o e f = refl
+no_access root (suc n) o e f = ap (from_or (at root (suc n)) (outermost n)) (ap access e ∙ f)
+
+one_access : (root : Tree) (k m : ℕ) → parent (at root k) ≡ Some (at root m) → access (Some (at root m)) ≡ Some (at root m) → outermost k (at root k) ≡ outermost m (at root m)
+one_access root zero m e f = let less : m < zero = parent_below (at root zero) (at root m) e in absurd (omega (arith, less))
+one_access root (suc n) m e f =
+    let less : m < suc n = parent_below (at root (suc n)) (at root m) e in
+    ap (from_or (at root (suc n)) (outermost n)) (ap access e ∙ f) ∙ same_outer n m (at root m) (omega (arith, less)) (omega arith)
+
+outside_of : (root : Tree) (k : ℕ) (c : Context) (up : Option ℕ) → parent (at root k) ≡ option_map (at root) up → c.parent ≡ kind_up root up → c.trail ≡ trail_at root k → c.outer ≡ outer_at root up → Outside root k c
+outside_of root k c None p kind trail outer =
+    let same = no_access root k None p refl in
+    record {
+      around = rw outer (kind ∙ sym (ap (λ a. kind_if (parent a)) same ∙ ap kind_if p));
+      lead = rw outer (ap (λ t. t.before) trail ∙ sym (ap kind_before same));
+    }
+outside_of root k c (Some m) p kind trail outer =
+    bool_cases (is_field_access (kind_of (at root m)))
+    (λ is_so.
+    let same = one_access root k m p (rw is_so refl) in
+    let known : c.outer ≡ Some (outer_of root m) = outer ∙ rw is_so refl in
+    record {
+      around = rw known (sym (ap (λ a. kind_if (parent a)) same));
+      lead = rw known (sym (ap kind_before same));
+    })
+    (λ not_so.
+    let same = no_access root k (Some (at root m)) p (rw not_so refl) in
+    let known : c.outer ≡ None = outer ∙ rw not_so refl in
+    record {
+      around = rw known (kind ∙ sym (ap (λ a. kind_if (parent a)) same ∙ ap kind_if p));
+      lead = rw known (ap (λ t. t.before) trail ∙ sym (ap kind_before same));
+    })
+
+pub outside : (root : Tree) (k : ℕ) (h : Head) (ks r : Forest) (front back : List Tree) (up : Option ℕ) (c : Context) → Stand root k (more h ks r) front back up → Fits root k (more h ks r) up c → Outside root k c
+outside root k h ks r front back up c s w =
+    outside_of root k c up (parent_here root k h ks r front back up s) w.parent w.trail w.outer
+
+-- the trail doesn't change over a node that is no leaf
+trail_later : (root : Tree) (k : ℕ) → prev_leaf (at root (k + 1)) ≡ prev_leaf (at root k) → trail_at root (k + 1) ≡ trail_at root k
+trail_later root k e =
+    ap (λ (o : Option At). let t : Trail = record { before = kind_if o; name = option_and_then own_name o; earlier = option_and_then own_name (option_and_then prev_leaf o) } in t) e
+
+outer_within : (root : Tree) (k : ℕ) (h : Head) (c : Context) → kind_of (at root k) ≡ h.kind → Outside root k c → cond (is_field_access h.kind) (Some (record { around = around c; lead = lead c })) None ≡ outer_at root (Some k)
+outer_within root k h c kind o =
+    let same : record { around = around c; lead = lead c } ≡ outer_of root k = (λ i. record { around = o.around i; lead = o.lead i }) in
+    ap (λ x. cond (is_field_access h.kind) (Some x) None) same ∙ ap (λ q. cond (is_field_access q) (Some (outer_of root k)) None) (sym kind)
+
+-- the children of the first of the trees
+pub fits_below : (root : Tree) (k : ℕ) (h : Head) (ks r : Forest) (front back : List Tree) (up : Option ℕ) (c : Context) → Stand root k (more h ks r) front back up → Fits root k (more h ks r) up c → is_leaf (tree_of h ks) ≡ false → Fits root (k + 1) ks (Some k) (within c (tree_of h ks) r)
+fits_below root k h ks r front back up c s w not_so =
+    let t : Tree = tree_of h ks in
+    let kind : kind_of (at root k) ≡ h.kind = ap (λ u. u.head.kind) (here root k t front _ s.whole s.number) in
+    let row : k + 1 + count ks ≡ k + (1 + count ks) = omega arith in
+    record {
+      parent = ap (λ x. Some x) (sym kind);
+      outer = outer_within root k h c kind (outside root k h ks r front back up c s w);
+      offset = offset_below root k c.offset h ks r front back up s w.offset;
+      trail = w.trail ∙ sym (trail_later root k (prev_later root k t front _ s.whole s.number not_so));
+      ahead = next_fits root k h ks r front back up c s w ∙ sym (ap (ahead_at root) row);
+    }
+
+-- the trees behind the first
+pub fits_behind : (root : Tree) (k : ℕ) (h : Head) (ks r : Forest) (front back : List Tree) (up : Option ℕ) (c : Context) (trail : Trail) → Stand root k (more h ks r) front back up → Fits root k (more h ks r) up c → trail ≡ trail_at root (k + (1 + count ks)) → Fits root (k + (1 + count ks)) r up (past c (tree_of h ks) trail)
+fits_behind root k h ks r front back up c trail s w e =
+    let total : k + count (more h ks r) ≡ k + (1 + count ks) + count r = omega arith in
+    record {
+      parent = w.parent;
+      outer = w.outer;
+      offset = offset_behind root k c.offset h ks r front back up s w.offset;
+      trail = e;
+      ahead = w.ahead ∙ ap (ahead_at root) total;
+    }
+
+own_same : (k : ℕ) (b : At) → b.number < k → own_name b ≡ option_and_then (name_tag k) (named b)
+own_same k b h =
+    let same : name_tag (b.number + 1) b ≡ name_tag k b = same_name (b.number + 1) k b (omega arith) h in
+    elim (is_name (kind_of b)) as (λ x. cond x (name_tag (b.number + 1) b) None ≡ option_and_then (name_tag k) (cond x (Some b) None)) [ true ↦ same | false ↦ refl ]
+
+then_same : (k : ℕ) (d : At) (o : Option At) → prev_leaf d ≡ o → d.number < k → option_and_then own_name o ≡ option_and_then (name_tag k) (option_and_then named o)
+then_same k d None e h = refl
+then_same k d (Some b) e h = own_same k b (let less = prev_below d b e in omega (arith, less, h))
+
+dot_same : (k : ℕ) (d : At) → d.number < k → dotted (Some (kind_of d)) (option_and_then own_name (prev_leaf d)) ≡ option_and_then (name_tag k) (name_before d)
+dot_same k d h =
+    let same = then_same k d (prev_leaf d) refl h in
+    elim (is_dot (kind_of d)) as (λ x. cond x (option_and_then own_name (prev_leaf d)) None ≡ option_and_then (name_tag k) (cond x (option_and_then named (prev_leaf d)) None)) [ true ↦ same | false ↦ refl ]
+
+earlier_same : (root : Tree) (k : ℕ) (o : Option At) → prev_leaf (at root k) ≡ o → dotted (kind_if o) (option_and_then own_name (option_and_then prev_leaf o)) ≡ option_and_then (name_tag k) (option_and_then name_before o)
+earlier_same root k None e = refl
+earlier_same root k (Some d) e = dot_same k d (prev_below (at root k) d e)
+
+-- what is round the first of the trees, as a name sees it
+seen_law : (root : Tree) (k : ℕ) (h : Head) (ks r : Forest) (front back : List Tree) (up : Option ℕ) (c : Context) → Stand root k (more h ks r) front back up → Fits root k (more h ks r) up c → seen c (tree_of h ks) r ≡ surroundings (at root k)
+seen_law root k h ks r front back up c s w =
+    let t : Tree = tree_of h ks in
+    let node : node_of (at root k) ≡ t = here root k t front _ s.whole s.number in
+    let o = outside root k h ks r front back up c s w in
+    let ends : end c t ≡ end_of (at root k) = omega (arith, w.offset, ap (λ u. length (text_of u)) node) in
+    let next : leaf_behind c t r ≡ option_map described (next_leaf (at root k)) = next_fits root k h ks r front back up c s w ∙ sym (next_law root k h ks r front back up s) in
+    let before : c.trail.before ≡ kind_before (at root k) = ap (λ x. x.before) w.trail in
+    λ i. record {
+      kind = sym (ap (λ u. u.head.kind) node) i;
+      end = ends i;
+      next = next i;
+      around = o.around i;
+      lead = o.lead i;
+      before = before i;
+    }
+
+-- the tag of the first of the trees, if it is a name
+pub name_law : (root : Tree) (k : ℕ) (h : Head) (ks r : Forest) (front back : List Tree) (up : Option ℕ) (c : Context) → Stand root k (more h ks r) front back up → Fits root k (more h ks r) up c → name c (tree_of h ks) r ≡ name_tag (k + 1) (at root k)
+name_law root k h ks r front back up c s w =
+    let mine = ap name_alone (seen_law root k h ks r front back up c s w) in
+    let earlier : behind_dot c.trail ≡ option_and_then (name_tag k) (earlier_name (at root k)) = ap behind_dot w.trail ∙ earlier_same root k (prev_leaf (at root k)) refl in
+    ap (λ x. first_tag x (behind_dot c.trail)) mine ∙ (ap (first_tag (name_alone (surroundings (at root k)))) earlier ∙ sym (name_once (at root k)))
+
+step_name : (root : Tree) (k : ℕ) (h : Head) (n : Option Tag) → kind_of (at root k) ≡ h.kind → n ≡ name_tag (k + 1) (at root k) → cond (is_name h.kind) n None ≡ own_name (at root k)
+step_name root k h n kind e =
+    ap (λ q. cond (is_name q) n None) (sym kind) ∙ ap (λ x. cond (is_name (kind_of (at root k))) x None) e
+
+-- the last leaves behind a leaf
+step_law : (root : Tree) (k : ℕ) (h : Head) (ks r : Forest) (front back : List Tree) (up : Option ℕ) (c : Context) → Stand root k (more h ks r) front back up → Fits root k (more h ks r) up c → is_leaf (tree_of h ks) ≡ true → step c (tree_of h ks) r ≡ trail_at root (k + 1)
+step_law root k h ks r front back up c s w is_so =
+    let t : Tree = tree_of h ks in
+    let prev : prev_leaf (at root (k + 1)) ≡ Some (at root k) = prev_here root k t front _ s.whole s.number is_so in
+    let kind : kind_of (at root k) ≡ h.kind = ap (λ u. u.head.kind) (here root k t front _ s.whole s.number) in
+    let own : cond (is_name h.kind) (name c t r) None ≡ own_name (at root k) = step_name root k h (name c t r) kind (name_law root k h ks r front back up c s w) in
+    let last : c.trail.name ≡ option_and_then own_name (prev_leaf (at root k)) = ap (λ x. x.name) w.trail in
+    let now : step c t r ≡ (let q : Trail = record { before = kind_if (Some (at root k)); name = option_and_then own_name (Some (at root k)); earlier = option_and_then own_name (option_and_then prev_leaf (Some (at root k))) } in q) = (λ i. record { before = Some (sym kind i); name = own i; earlier = last i }) in
+    now ∙ sym (ap (λ (o : Option At). let q : Trail = record { before = kind_if o; name = option_and_then own_name o; earlier = option_and_then own_name (option_and_then prev_leaf o) } in q) prev)
+
+childless : (h : Head) (ks : Forest) → is_leaf (tree_of h ks) ≡ true → count ks ≡ 0
+childless h none e = refl
+childless h (more g is r) e = absurd (cc)
+
+passed_one : (root : Tree) (k : ℕ) (h : Head) (ks r : Forest) (front back : List Tree) (up : Option ℕ) (c : Context) → Stand root k (more h ks r) front back up → Fits root k (more h ks r) up c → (is_leaf (tree_of h ks) ≡ false → passed_row (within c (tree_of h ks) r) ks ≡ trail_at root (k + 1 + count ks)) → passed c (tree_of h ks) r ≡ trail_at root (k + (1 + count ks))
+passed_one root k h ks r front back up c s w inner =
+    let row : k + 1 + count ks ≡ k + (1 + count ks) = omega arith in
+    let t : Tree = tree_of h ks in
+    let choice : Bool → Trail = λ b. cond b (step c t r) (passed_row (within c t r) ks) in
+    bool_cases (is_leaf t)
+    (λ is_so. ap choice is_so ∙ (step_law root k h ks r front back up c s w is_so ∙ ap (trail_at root) (omega (arith, childless h ks is_so))))
+    (λ not_so. ap choice not_so ∙ (inner not_so ∙ ap (trail_at root) row))
+
+-- the last leaves behind the trees
+pub passed_law : (root : Tree) (k : ℕ) (f : Forest) (front back : List Tree) (up : Option ℕ) (c : Context) → Stand root k f front back up → Fits root k f up c → passed_row c f ≡ trail_at root (k + count f)
+passed_law root k none front back up c s w = w.trail ∙ ap (trail_at root) (omega arith)
+passed_law root k (more h ks r) front back up c s w =
+    let t : Tree = tree_of h ks in
+    let total : k + (1 + count ks) + count r ≡ k + count (more h ks r) = omega arith in
+    let one : passed c t r ≡ trail_at root (k + (1 + count ks)) = passed_one root k h ks r front back up c s w (λ not_so. passed_law root (k + 1) ks (front ++ t ∷ []) (preorder r ++ back) (Some k) (within c t r) (below root k h ks r front back up s) (fits_below root k h ks r front back up c s w not_so)) in
+    passed_law root (k + (1 + count ks)) r (front ++ places t) back up (past c t (passed c t r)) (behind root k h ks r front back up s) (fits_behind root k h ks r front back up c (passed c t r) s w one)
+    ∙ ap (trail_at root) total
+
+-- the last leaves behind the first of the trees
+pub passed_here : (root : Tree) (k : ℕ) (h : Head) (ks r : Forest) (front back : List Tree) (up : Option ℕ) (c : Context) → Stand root k (more h ks r) front back up → Fits root k (more h ks r) up c → passed c (tree_of h ks) r ≡ trail_at root (k + (1 + count ks))
+passed_here root k h ks r front back up c s w =
+    passed_one root k h ks r front back up c s w
+    (λ not_so. passed_law root (k + 1) ks (front ++ tree_of h ks ∷ []) (preorder r ++ back) (Some k) (within c (tree_of h ks) r) (below root k h ks r front back up s) (fits_below root k h ks r front back up c s w not_so))
+
+-- the root's context
+pub fits_root : (root : Tree) (c : Context) → c.parent ≡ None → c.outer ≡ None → c.offset ≡ 0 → c.trail ≡ record { before = None; name = None; earlier = None } → c.ahead ≡ None → Fits root 0 (more root.head root.kids none) None c
+fits_root root c p o a t h =
+    let nothing : prev_leaf (at root 0) ≡ None = ap (option_map (at root)) (last_none 0 0 (places root) (omega arith)) in
+    record {
+      parent = p;
+      outer = o;
+      offset = a;
+      trail = t ∙ sym (ap (λ (x : Option At). let q : Trail = record { before = kind_if x; name = option_and_then own_name x; earlier = option_and_then own_name (option_and_then prev_leaf x) } in q) nothing);
+      ahead = h ∙ sym (ahead_is root (0 + count (more root.head root.kids none)) (places root) [] (sym (append-nil (places root))) (omega (arith, length_places root)));
+    }

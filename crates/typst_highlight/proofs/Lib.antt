@@ -1,0 +1,9 @@
+pub mod Bounds
+pub mod Cases
+pub mod Chains
+pub mod Contexts
+pub mod Escapes
+pub mod Leaves
+pub mod Reading
+pub mod Rows
+pub mod Trees

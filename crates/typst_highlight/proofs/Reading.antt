@@ -1,0 +1,92 @@
+-- A reader of the HTML of a tree sees its text.
+use Rattle.std.proofs.Common.{◌≡◌, ℕ, ◌+◌, ◌==◌, true, List, [], ◌∷◌, ◌++◌, Option, None, Some, refl, ap, sym, subst, ◌∙◌, arith, append_assoc, append-nil}
+use Rattle.std.specs.Prelude.{codes}
+use Rattle.std.proofs.lemmas.Bool.Decides.{nat_tests}
+use Rattle.typst_node.specs.Tree.{Forest, none, more, Tree, count, joined, text_of}
+use Rattle.typst_tree.specs.Steps.{at}
+use Rattle.typst_highlight.specs.declared.tags.Tag.{Tag}
+use Rattle.typst_highlight.specs.declared.tags.Tag.TheVariants as tag
+use Rattle.typst_highlight.specs.Nodes.{tag_of}
+use Rattle.typst_highlight.specs.Html.{escaped_byte, escaped, opening, spanned, span_start, span_end, row_html, html_of, plain, read}
+use Rattle.typst_highlight.proofs.Cases.{bool_cases}
+
+-- in HTML that begins with xs, a reader sees s first, and stands in text behind it
+record Reads (xs s : List ℕ) : Type 0 where
+  seen : (rest : List ℕ) → read plain (xs ++ rest) ≡ s ++ read plain rest
+
+nothing : Reads [] []
+nothing = record { seen = λ rest. refl }
+
+then : (xs s ys u : List ℕ) → Reads xs s → Reads ys u → Reads (xs ++ ys) (s ++ u)
+then xs s ys u a b =
+    record { seen = λ rest. ap (read plain) (append_assoc xs ys rest) ∙ (a.seen (ys ++ rest) ∙ (ap (λ bs. s ++ bs) (b.seen rest) ∙ sym (append_assoc s u (read plain rest)))) }
+
+same : (xs s u : List ℕ) → s ≡ u → Reads xs s → Reads xs u
+same xs s u e a = subst (Reads xs) e a
+
+is_byte : (b n : ℕ) → (b == n) ≡ true → n ≡ b
+is_byte b n e = grind (arith, nat_tests, e)
+
+reads_byte : (b : ℕ) → Reads (escaped_byte b) (b ∷ [])
+reads_byte b =
+    bool_cases (b == 38) (λ e. subst (λ n. Reads (escaped_byte n) (n ∷ [])) (is_byte b 38 e) (record { seen = λ rest. refl })) (λ e1.
+    bool_cases (b == 60) (λ e. subst (λ n. Reads (escaped_byte n) (n ∷ [])) (is_byte b 60 e) (record { seen = λ rest. refl })) (λ e2.
+    bool_cases (b == 62) (λ e. subst (λ n. Reads (escaped_byte n) (n ∷ [])) (is_byte b 62 e) (record { seen = λ rest. refl })) (λ e3.
+    bool_cases (b == 39) (λ e. subst (λ n. Reads (escaped_byte n) (n ∷ [])) (is_byte b 39 e) (record { seen = λ rest. refl })) (λ e4.
+    bool_cases (b == 34) (λ e. subst (λ n. Reads (escaped_byte n) (n ∷ [])) (is_byte b 34 e) (record { seen = λ rest. refl })) (λ e5.
+    record { seen = λ rest. rw (e1, e2, e3, e4, e5) (rw (e2, e1) refl) })))))
+
+reads_text : (s : List ℕ) → Reads (escaped s) s
+reads_text [] = nothing
+reads_text (b ∷ s) = then (escaped_byte b) (b ∷ []) (escaped s) s (reads_byte b) (reads_text s)
+
+reads_opening : (t : Tag) → Reads (opening t) []
+reads_opening tag.Comment = record { seen = λ rest. refl }
+reads_opening tag.Punctuation = record { seen = λ rest. refl }
+reads_opening tag.Escape = record { seen = λ rest. refl }
+reads_opening tag.Strong = record { seen = λ rest. refl }
+reads_opening tag.Emph = record { seen = λ rest. refl }
+reads_opening tag.Link = record { seen = λ rest. refl }
+reads_opening tag.Raw = record { seen = λ rest. refl }
+reads_opening tag.Label = record { seen = λ rest. refl }
+reads_opening tag.Ref = record { seen = λ rest. refl }
+reads_opening tag.Heading = record { seen = λ rest. refl }
+reads_opening tag.ListMarker = record { seen = λ rest. refl }
+reads_opening tag.ListTerm = record { seen = λ rest. refl }
+reads_opening tag.MathDelimiter = record { seen = λ rest. refl }
+reads_opening tag.MathOperator = record { seen = λ rest. refl }
+reads_opening tag.MathGroupingParens = record { seen = λ rest. refl }
+reads_opening tag.Keyword = record { seen = λ rest. refl }
+reads_opening tag.Operator = record { seen = λ rest. refl }
+reads_opening tag.Number = record { seen = λ rest. refl }
+reads_opening tag.String = record { seen = λ rest. refl }
+reads_opening tag.Function = record { seen = λ rest. refl }
+reads_opening tag.Interpolated = record { seen = λ rest. refl }
+reads_opening tag.Error = record { seen = λ rest. refl }
+
+reads_start : (t : Option Tag) → Reads (span_start t) []
+reads_start None = nothing
+reads_start (Some t) = reads_opening t
+
+reads_end : (t : Option Tag) → Reads (span_end t) []
+reads_end None = nothing
+reads_end (Some t) = record { seen = λ rest. refl }
+
+reads_row : (root : Tree) (n : ℕ) (f : Forest) → Reads (row_html root n f) (joined f)
+reads_row root n none = nothing
+reads_row root n (more h ks r) =
+    let t : Option Tag = spanned (tag_of (at root n)) in
+    let inner = then (row_html root (n + 1) ks) (joined ks) (span_end t) [] (reads_row root (n + 1) ks) (reads_end t) in
+    let own = then (escaped h.text) h.text _ _ (reads_text h.text) inner in
+    let node = then (span_start t) [] _ _ (reads_start t) own in
+    same _ _ _ (rw append-nil (append_assoc h.text (joined ks) (joined r)))
+    (then _ _ (row_html root (n + (1 + count ks)) r) (joined r) node (reads_row root (n + (1 + count ks)) r))
+
+-- tags removed and entities read back, the HTML of a tree is its text
+pub text_read : (root : Tree) → read plain (html_of root) ≡ text_of root
+text_read root =
+    let open_code : Reads (codes "<code>") [] = record { seen = λ rest. refl } in
+    let close_code : Reads (codes "</code>") [] = record { seen = λ rest. refl } in
+    let rows = reads_row root 0 (more root.head root.kids none) in
+    let whole = then (codes "<code>") [] _ _ open_code (then (row_html root 0 (more root.head root.kids none)) (joined (more root.head root.kids none)) (codes "</code>") [] rows close_code) in
+    ap (read plain) (sym (append-nil (html_of root))) ∙ (whole.seen [] ∙ simp append-nil refl)

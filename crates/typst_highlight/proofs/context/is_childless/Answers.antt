@@ -1,0 +1,7 @@
+use Rattle.std.proofs.Common.{ap, sym, ◌∙◌}
+use Rattle.typst_tree.specs.Walks.{is_childless}
+use Rattle.typst_tree.proofs.Places.{childless_forest}
+use Rattle.typst_highlight.proofs.context.is_childless.Goals as goal
+
+pub returns : goal.returns
+returns c = c.is_empty.ensures ∙ (sym (childless_forest c.children.result.now) ∙ ap is_childless c.children.ensures)

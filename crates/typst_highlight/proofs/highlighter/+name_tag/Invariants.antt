@@ -1,0 +1,4 @@
+use Rattle.typst_highlight.proofs.highlighter.+name_tag.Given as goal
+
+abbrev pub decreases-name_tag : goal.decreases-name_tag
+decreases-name_tag l = l.name.number

@@ -1,0 +1,18 @@
+use Rattle.std.proofs.Common.{◌≡◌, ◌++◌, ◌<◌, length, string_bytes}
+use Rattle.typst_node.specs.Tree.{forest, count, nodes}
+use Rattle.typst_highlight.specs.Html.{span_end}
+use Rattle.typst_highlight.specs.Walk.{forest_html, node_html, passed_row, within}
+use Rattle.typst_highlight.proofs.html.+write_node.Given as goal
+
+abbrev pub decreases-write_node : goal.decreases-write_node
+decreases-write_node l = nodes l.node.now
+
+abbrev pub invariant-loop-kid : goal.invariant-loop-kid
+invariant-loop-kid l = record {
+  written : string_bytes l.html ++ (forest_html l.inner (forest l.rest) ++ span_end l.tag) ≡ string_bytes l.fn.html ++ node_html l.context l.node (forest l.later);
+  left : passed_row (within l.context l.node (forest l.later)) l.node.kids ≡ passed_row l.inner (forest l.rest);
+  smaller : count (forest l.rest) < nodes l.node;
+}
+
+abbrev pub decreases-loop-kid : goal.decreases-loop-kid
+decreases-loop-kid l = length l.rest

@@ -1,0 +1,6 @@
+pub mod Html
+pub mod Names
+pub mod Nodes
+pub mod Rules
+pub mod Tags
+pub mod Walk

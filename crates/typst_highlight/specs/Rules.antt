@@ -1,0 +1,231 @@
+-- What the tag of a node depends on, by its kind.
+use Rattle.std.specs.Prelude.{Bool, true, false, Option, None, Some}
+use Rattle.typst_kinds.specs.declared.kind.SyntaxKind.{SyntaxKind}
+use Rattle.typst_kinds.specs.declared.kind.SyntaxKind.TheVariants as kind
+use Rattle.typst_highlight.specs.declared.tags.Tag.{Tag}
+use Rattle.typst_highlight.specs.declared.tags.Tag.TheVariants as tag
+use Rattle.typst_highlight.specs.declared.rules.Rule.{Rule}
+use Rattle.typst_highlight.specs.declared.rules.Rule.TheVariants as rule
+
+-- what the tag of a node of each kind depends on
+abbrev pub rule_of : SyntaxKind → Rule
+rule_of kind.End = rule.Always None
+rule_of kind.Error = rule.Always (Some tag.Error)
+rule_of kind.Shebang = rule.Always (Some tag.Comment)
+rule_of kind.LineComment = rule.Always (Some tag.Comment)
+rule_of kind.BlockComment = rule.Always (Some tag.Comment)
+rule_of kind.Markup = rule.Term
+rule_of kind.Text = rule.Always None
+rule_of kind.Space = rule.Always None
+rule_of kind.Linebreak = rule.Always (Some tag.Escape)
+rule_of kind.Parbreak = rule.Always None
+rule_of kind.Escape = rule.Always (Some tag.Escape)
+rule_of kind.Shorthand = rule.Always (Some tag.Escape)
+rule_of kind.SmartQuote = rule.Always None
+rule_of kind.Strong = rule.Always (Some tag.Strong)
+rule_of kind.Emph = rule.Always (Some tag.Emph)
+rule_of kind.Raw = rule.Always (Some tag.Raw)
+rule_of kind.RawLang = rule.Always None
+rule_of kind.RawDelim = rule.Always None
+rule_of kind.RawTrimmed = rule.Always None
+rule_of kind.Link = rule.Always (Some tag.Link)
+rule_of kind.Label = rule.Always (Some tag.Label)
+rule_of kind.Ref = rule.Always (Some tag.Ref)
+rule_of kind.RefMarker = rule.Always None
+rule_of kind.Heading = rule.Always (Some tag.Heading)
+rule_of kind.HeadingMarker = rule.Always None
+rule_of kind.ListItem = rule.Always None
+rule_of kind.ListMarker = rule.Always (Some tag.ListMarker)
+rule_of kind.EnumItem = rule.Always None
+rule_of kind.EnumMarker = rule.Always (Some tag.ListMarker)
+rule_of kind.TermItem = rule.Always None
+rule_of kind.TermMarker = rule.Always (Some tag.ListMarker)
+rule_of kind.Equation = rule.Always None
+rule_of kind.Math = rule.Always None
+rule_of kind.MathText = rule.Always None
+rule_of kind.MathIdent = rule.Name
+rule_of kind.MathFieldAccess = rule.Always None
+rule_of kind.MathShorthand = rule.Always (Some tag.Escape)
+rule_of kind.MathAlignPoint = rule.Always (Some tag.MathOperator)
+rule_of kind.MathCall = rule.Always None
+rule_of kind.MathArgs = rule.Always None
+rule_of kind.MathDelimited = rule.Always None
+rule_of kind.MathAttach = rule.Always None
+rule_of kind.MathPrimes = rule.Always (Some tag.MathOperator)
+rule_of kind.MathFrac = rule.Always None
+rule_of kind.MathRoot = rule.Always None
+rule_of kind.Hash = rule.Expression
+rule_of kind.LeftBrace = rule.Always (Some tag.Punctuation)
+rule_of kind.RightBrace = rule.Always (Some tag.Punctuation)
+rule_of kind.LeftBracket = rule.Always (Some tag.Punctuation)
+rule_of kind.RightBracket = rule.Always (Some tag.Punctuation)
+rule_of kind.LeftParen = rule.Paren
+rule_of kind.RightParen = rule.Paren
+rule_of kind.Comma = rule.Always (Some tag.Punctuation)
+rule_of kind.Semicolon = rule.Always (Some tag.Punctuation)
+rule_of kind.Colon = rule.Always (Some tag.Punctuation)
+rule_of kind.Star = rule.Star
+rule_of kind.Underscore = rule.Underscore
+rule_of kind.Dollar = rule.Always (Some tag.MathDelimiter)
+rule_of kind.Plus = rule.Always (Some tag.Operator)
+rule_of kind.Minus = rule.Always (Some tag.Operator)
+rule_of kind.Slash = rule.Slash
+rule_of kind.Hat = rule.Always (Some tag.MathOperator)
+rule_of kind.Dot = rule.Always (Some tag.Punctuation)
+rule_of kind.Bang = rule.Always None
+rule_of kind.Eq = rule.Equals
+rule_of kind.EqEq = rule.Always (Some tag.Operator)
+rule_of kind.ExclEq = rule.Always (Some tag.Operator)
+rule_of kind.Lt = rule.Always (Some tag.Operator)
+rule_of kind.LtEq = rule.Always (Some tag.Operator)
+rule_of kind.Gt = rule.Always (Some tag.Operator)
+rule_of kind.GtEq = rule.Always (Some tag.Operator)
+rule_of kind.PlusEq = rule.Always (Some tag.Operator)
+rule_of kind.HyphEq = rule.Always (Some tag.Operator)
+rule_of kind.StarEq = rule.Always (Some tag.Operator)
+rule_of kind.SlashEq = rule.Always (Some tag.Operator)
+rule_of kind.Dots = rule.Always (Some tag.Operator)
+rule_of kind.Arrow = rule.Always (Some tag.Operator)
+rule_of kind.Root = rule.Always (Some tag.MathOperator)
+rule_of kind.Not = rule.Always (Some tag.Keyword)
+rule_of kind.And = rule.Always (Some tag.Keyword)
+rule_of kind.Or = rule.Always (Some tag.Keyword)
+rule_of kind.None = rule.Always (Some tag.Keyword)
+rule_of kind.Auto = rule.Always (Some tag.Keyword)
+rule_of kind.Let = rule.Always (Some tag.Keyword)
+rule_of kind.Set = rule.Always (Some tag.Keyword)
+rule_of kind.Show = rule.Always (Some tag.Keyword)
+rule_of kind.Context = rule.Always (Some tag.Keyword)
+rule_of kind.If = rule.Always (Some tag.Keyword)
+rule_of kind.Else = rule.Always (Some tag.Keyword)
+rule_of kind.For = rule.Always (Some tag.Keyword)
+rule_of kind.In = rule.Always (Some tag.Keyword)
+rule_of kind.While = rule.Always (Some tag.Keyword)
+rule_of kind.Break = rule.Always (Some tag.Keyword)
+rule_of kind.Continue = rule.Always (Some tag.Keyword)
+rule_of kind.Return = rule.Always (Some tag.Keyword)
+rule_of kind.Import = rule.Always (Some tag.Keyword)
+rule_of kind.Include = rule.Always (Some tag.Keyword)
+rule_of kind.As = rule.Always (Some tag.Keyword)
+rule_of kind.Code = rule.Always None
+rule_of kind.Ident = rule.Name
+rule_of kind.Bool = rule.Always (Some tag.Keyword)
+rule_of kind.Int = rule.Always (Some tag.Number)
+rule_of kind.Float = rule.Always (Some tag.Number)
+rule_of kind.Numeric = rule.Always (Some tag.Number)
+rule_of kind.Str = rule.Always (Some tag.String)
+rule_of kind.CodeBlock = rule.Always None
+rule_of kind.ContentBlock = rule.Always None
+rule_of kind.Parenthesized = rule.Always None
+rule_of kind.Array = rule.Always None
+rule_of kind.Dict = rule.Always None
+rule_of kind.Named = rule.Always None
+rule_of kind.Keyed = rule.Always None
+rule_of kind.Unary = rule.Always None
+rule_of kind.Binary = rule.Always None
+rule_of kind.FieldAccess = rule.Always None
+rule_of kind.FuncCall = rule.Always None
+rule_of kind.Args = rule.Always None
+rule_of kind.Spread = rule.Always None
+rule_of kind.Closure = rule.Always None
+rule_of kind.Params = rule.Always None
+rule_of kind.LetBinding = rule.Always None
+rule_of kind.SetRule = rule.Always None
+rule_of kind.ShowRule = rule.Always None
+rule_of kind.Contextual = rule.Always None
+rule_of kind.Conditional = rule.Always None
+rule_of kind.WhileLoop = rule.Always None
+rule_of kind.ForLoop = rule.Always None
+rule_of kind.ModuleImport = rule.Always None
+rule_of kind.ImportItems = rule.Always None
+rule_of kind.ImportItemPath = rule.Always None
+rule_of kind.RenamedImportItem = rule.Always None
+rule_of kind.ModuleInclude = rule.Always None
+rule_of kind.LoopBreak = rule.Always None
+rule_of kind.LoopContinue = rule.Always None
+rule_of kind.FuncReturn = rule.Always None
+rule_of kind.Destructuring = rule.Always None
+rule_of kind.DestructAssignment = rule.Always None
+
+-- the tag of a parenthesis, by its parent's kind
+abbrev pub paren_tag : Option SyntaxKind → Option Tag
+paren_tag (Some kind.Math) = Some tag.MathGroupingParens
+paren_tag _ = Some tag.Punctuation
+
+-- the tag of a star, by its parent's kind
+abbrev pub star_tag : Option SyntaxKind → Option Tag
+star_tag (Some kind.Strong) = None
+star_tag _ = Some tag.Operator
+
+-- the tag of an underscore, by its parent's kind
+abbrev pub underscore_tag : Option SyntaxKind → Option Tag
+underscore_tag (Some kind.MathAttach) = Some tag.MathOperator
+underscore_tag _ = None
+
+-- the tag of a slash, by its parent's kind
+abbrev pub slash_tag : Option SyntaxKind → Option Tag
+slash_tag (Some kind.MathFrac) = Some tag.MathOperator
+slash_tag _ = Some tag.Operator
+
+-- the tag of an equals sign, by its parent's kind
+abbrev pub equals_tag : Option SyntaxKind → Option Tag
+equals_tag (Some kind.Heading) = None
+equals_tag _ = Some tag.Operator
+
+-- the tag of what stands in an item of a term list, by the kind of its next sibling
+abbrev pub colon_tag : Option SyntaxKind → Option Tag
+colon_tag (Some kind.Colon) = Some tag.ListTerm
+colon_tag _ = None
+
+-- the tag of markup, by the kinds of its parent and of its next sibling
+abbrev pub term_tag : Option SyntaxKind → Option SyntaxKind → Option Tag
+term_tag (Some kind.TermItem) next = colon_tag next
+term_tag _ next = None
+
+-- the kinds of names
+abbrev pub is_name : SyntaxKind → Bool
+is_name kind.Ident = true
+is_name kind.MathIdent = true
+is_name _ = false
+
+abbrev pub is_field_access : SyntaxKind → Bool
+is_field_access kind.FieldAccess = true
+is_field_access _ = false
+
+abbrev pub is_dot : SyntaxKind → Bool
+is_dot kind.Dot = true
+is_dot _ = false
+
+abbrev pub is_math_name : SyntaxKind → Bool
+is_math_name kind.MathIdent = true
+is_math_name _ = false
+
+abbrev pub is_show_rule : Option SyntaxKind → Bool
+is_show_rule (Some kind.ShowRule) = true
+is_show_rule _ = false
+
+abbrev pub is_colon : Option SyntaxKind → Bool
+is_colon (Some kind.Colon) = true
+is_colon _ = false
+
+abbrev pub is_hash : Option SyntaxKind → Bool
+is_hash (Some kind.Hash) = true
+is_hash _ = false
+
+-- the parents of a parenthesis behind a function's name
+abbrev pub is_arguments : Option SyntaxKind → Bool
+is_arguments (Some kind.Args) = true
+is_arguments (Some kind.MathArgs) = true
+is_arguments (Some kind.Params) = true
+is_arguments _ = false
+
+-- the parent of a bracket behind a function's name
+abbrev pub is_content : Option SyntaxKind → Bool
+is_content (Some kind.ContentBlock) = true
+is_content _ = false
+
+-- a leaf that begins what a function is called with, by its own kind and its parent's
+abbrev pub begins_arguments : SyntaxKind → Option SyntaxKind → Bool
+begins_arguments kind.LeftParen parent = is_arguments parent
+begins_arguments kind.LeftBracket parent = is_content parent
+begins_arguments _ parent = false

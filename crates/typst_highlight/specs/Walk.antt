@@ -1,0 +1,175 @@
+-- What a walk through a tree carries along. Public clauses name none of it.
+use Rattle.std.specs.Prelude.{ℕ, ◌+◌, List, [], ◌++◌, Option, None, Some, length, if◌then◌else◌}
+use Rattle.typst_kinds.specs.declared.kind.SyntaxKind.{SyntaxKind}
+use Rattle.typst_kinds.specs.Kinds.{is_trivia, is_hash_expr}
+use Rattle.typst_node_data.specs.Head.{Head}
+use Rattle.typst_node.specs.Tree.{Forest, none, more, Tree, text_of, saturated}
+use Rattle.typst_tree.specs.Walks.{is_leaf}
+use Rattle.typst_highlight.specs.declared.tags.Tag.{Tag}
+use Rattle.typst_highlight.specs.declared.rules.Rule.{Rule}
+use Rattle.typst_highlight.specs.declared.rules.Rule.TheVariants as rule
+use Rattle.typst_highlight.specs.declared.context.Ahead.{Ahead}
+use Rattle.typst_highlight.specs.declared.context.Surroundings.{Surroundings}
+use Rattle.typst_highlight.specs.declared.context.Trail.{Trail}
+use Rattle.typst_highlight.specs.declared.context.Outer.{Outer}
+use Rattle.typst_highlight.specs.declared.context.Context.{Context}
+use Rattle.typst_highlight.specs.Rules.{rule_of, paren_tag, star_tag, underscore_tag, slash_tag, equals_tag, term_tag, is_name, is_field_access, is_dot}
+use Rattle.typst_highlight.specs.Names.{first_tag, name_alone}
+use Rattle.typst_highlight.specs.Html.{escaped, spanned, span_start, span_end}
+
+abbrev pub tree_of : Head → Forest → Tree
+tree_of h ks = record { head = h; kids = ks }
+
+abbrev pub first_ahead : Option Ahead → Option Ahead → Option Ahead
+first_ahead None y = y
+first_ahead (Some x) y = Some x
+
+-- the first leaf of trees that stand side by side from a byte on, under a parent of this kind
+abbrev pub first_leaf : Option SyntaxKind → ℕ → Forest → Option Ahead
+first_leaf p a none = None
+first_leaf p a (more h ks r) =
+    if is_leaf (tree_of h ks) then Some (record { kind = h.kind; parent = p; offset = a }) else
+    first_ahead (first_leaf (Some h.kind) (saturated (a + length h.text)) ks) (first_leaf p (saturated (a + length (text_of (tree_of h ks)))) r)
+
+abbrev pub outer_around : Option Outer → Option SyntaxKind → Option SyntaxKind
+outer_around None k = k
+outer_around (Some o) k = o.around
+
+abbrev pub outer_lead : Option Outer → Option SyntaxKind → Option SyntaxKind
+outer_lead None k = k
+outer_lead (Some o) k = o.lead
+
+abbrev pub around : Context → Option SyntaxKind
+around c = outer_around c.outer c.parent
+
+abbrev pub lead : Context → Option SyntaxKind
+lead c = outer_lead c.outer c.trail.before
+
+-- where a node ends
+abbrev pub end : Context → Tree → ℕ
+end c t = saturated (c.offset + length (text_of t))
+
+-- the first leaf behind a node that the trees r follow
+abbrev pub next_leaf : Context → Tree → Forest → Option Ahead
+next_leaf c t r = first_ahead (first_leaf c.parent (end c t) r) c.ahead
+
+-- what is round a node's first child
+abbrev pub within : Context → Tree → Forest → Context
+within c t r = record {
+  parent = Some t.head.kind;
+  outer = if is_field_access t.head.kind then Some (record { around = around c; lead = lead c }) else None;
+  offset = saturated (c.offset + length t.head.text);
+  trail = c.trail;
+  ahead = next_leaf c t r;
+}
+
+-- what is round the tree behind a tree
+abbrev pub past : Context → Tree → Trail → Context
+past c t trail = record c { offset = end c t; trail = trail }
+
+abbrev pub dotted : Option SyntaxKind → Option Tag → Option Tag
+dotted None t = None
+dotted (Some k) t = if is_dot k then t else None
+
+abbrev pub behind_dot : Trail → Option Tag
+behind_dot t = dotted t.before t.earlier
+
+-- what is round a node, as a name sees it
+abbrev pub seen : Context → Tree → Forest → Surroundings
+seen c t r = record {
+  kind = t.head.kind;
+  end = end c t;
+  next = next_leaf c t r;
+  around = around c;
+  lead = lead c;
+  before = c.trail.before;
+}
+
+abbrev pub name : Context → Tree → Forest → Option Tag
+name c t r = first_tag (name_alone (seen c t r)) (behind_dot c.trail)
+
+-- the last leaves behind a leaf
+abbrev pub step : Context → Tree → Forest → Trail
+step c t r = record {
+  before = Some t.head.kind;
+  name = if is_name t.head.kind then name c t r else None;
+  earlier = c.trail.name;
+}
+
+-- the last leaves behind trees that stand side by side
+abbrev pub passed_row : Context → Forest → Trail
+passed_row c none = c.trail
+passed_row c (more h ks r) =
+    passed_row (past c (tree_of h ks) (if is_leaf (tree_of h ks) then step c (tree_of h ks) r else passed_row (within c (tree_of h ks) r) ks)) r
+
+-- the last leaves behind a node
+abbrev pub passed : Context → Tree → Forest → Trail
+passed c t r = if is_leaf t then step c t r else passed_row (within c t r) t.kids
+
+-- the first sibling that is no trivia
+abbrev pub next_kind : Forest → Option SyntaxKind
+next_kind none = None
+next_kind (more h ks r) = if is_trivia h.kind then next_kind r else Some h.kind
+
+-- the tag of a node by its rule and by the tag of the expression behind it
+abbrev pub tag_here : Rule → Context → Tree → Forest → Option Tag → Option Tag
+tag_here (rule.Always tag) c t r e = tag
+tag_here rule.Paren c t r e = paren_tag c.parent
+tag_here rule.Star c t r e = star_tag c.parent
+tag_here rule.Underscore c t r e = underscore_tag c.parent
+tag_here rule.Slash c t r e = slash_tag c.parent
+tag_here rule.Equals c t r e = equals_tag c.parent
+tag_here rule.Term c t r e = term_tag c.parent (next_kind r)
+tag_here rule.Name c t r e = name c t r
+tag_here rule.Expression c t r e = e
+
+abbrev pub if_found : Option (Option Tag) → Option (Option Tag) → Option (Option Tag)
+if_found None y = y
+if_found (Some x) y = Some x
+
+abbrev pub flat : Option (Option Tag) → Option Tag
+flat None = None
+flat (Some t) = t
+
+-- what is found in trees that stand side by side
+pub record Found : Type 0 where
+  -- the tag of the first tree's first leaf
+  pub own : Option (Option Tag)
+  -- the tag of the first leaf
+  pub leaf : Option (Option Tag)
+  -- the tag that a hash before the trees has
+  pub expression : Option Tag
+
+-- of a first tree and those after it, where those in it and those after it are known
+abbrev pub found_more : Context → Tree → Forest → Found → Found → Found
+found_more c t r inner later =
+    let own : Option (Option Tag) = if is_leaf t then Some (tag_here (rule_of t.head.kind) c t r later.expression) else inner.leaf in
+    record {
+      own = own;
+      leaf = if_found own later.leaf;
+      expression = if is_trivia t.head.kind then later.expression else if is_hash_expr t.head.kind then flat own else None;
+    }
+
+abbrev pub found : Context → Forest → Found
+found c none = record { own = None; leaf = None; expression = None }
+found c (more h ks r) =
+    found_more c (tree_of h ks) r (found (within c (tree_of h ks) r) ks) (found (past c (tree_of h ks) (passed c (tree_of h ks) r)) r)
+
+-- the tag of a node that the trees r follow
+abbrev pub tag : Context → Tree → Forest → Option Tag
+tag c t r = tag_here (rule_of t.head.kind) c t r (found (past c t (passed c t r)) r).expression
+
+-- the tag of a node's first leaf, where the trees r follow the node
+abbrev pub own : Context → Tree → Forest → Option (Option Tag)
+own c t r = if is_leaf t then Some (tag c t r) else (found (within c t r) t.kids).leaf
+
+-- trees that stand side by side, as HTML
+abbrev pub forest_html : Context → Forest → List ℕ
+forest_html c none = []
+forest_html c (more h ks r) =
+    let t : Tree = tree_of h ks in
+    (span_start (spanned (tag c t r)) ++ (escaped h.text ++ (forest_html (within c t r) ks ++ span_end (spanned (tag c t r))))) ++ forest_html (past c t (passed c t r)) r
+
+-- a node as HTML
+abbrev pub node_html : Context → Tree → Forest → List ℕ
+node_html c t r = span_start (spanned (tag c t r)) ++ (escaped t.head.text ++ (forest_html (within c t r) t.kids ++ span_end (spanned (tag c t r))))

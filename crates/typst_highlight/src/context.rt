@@ -1,0 +1,290 @@
+//! What a walk knows of a node that it has come to.
+
+ghost use Rattle.std.specs.Prelude.{◌≡◌};
+ghost use Rattle.typst_node.specs.Tree.{forest};
+ghost use Rattle.typst_tree.specs.Walks.{is_childless, is_leaf};
+ghost use Rattle.typst_highlight.specs.Names.{is_called, is_shown, kind_ahead, name_alone};
+ghost use Rattle.typst_highlight.specs.Walk as walk;
+
+use crate::rules::{
+    begins_arguments, is_colon, is_dot, is_field_access, is_hash, is_math_name, is_name,
+    is_show_rule,
+};
+use crate::tags::Tag;
+use typst_kinds::SyntaxKind;
+use typst_node::SyntaxNode;
+
+/// A leaf as the name before it sees it: its kind, its parent's, and where it begins, in bytes.
+#[derive(Clone, Copy)]
+pub struct Ahead {
+    pub kind: SyntaxKind,
+    pub parent: Option<SyntaxKind>,
+    pub offset: usize,
+}
+
+/// What is round a name.
+#[derive(Clone, Copy)]
+pub struct Surroundings {
+    /// The name's own kind.
+    pub kind: SyntaxKind,
+    /// Where it ends, in bytes.
+    pub end: usize,
+    /// The next leaf.
+    pub next: Option<Ahead>,
+    /// What the name, or the outermost of the field accesses above it, stands in.
+    pub around: Option<SyntaxKind>,
+    /// The leaf before the name, or before the outermost of the field accesses above it.
+    pub lead: Option<SyntaxKind>,
+    /// The leaf before the name.
+    pub before: Option<SyntaxKind>,
+}
+
+/// The last leaves before a node.
+#[derive(Clone, Copy)]
+pub struct Trail {
+    /// The kind of the last one.
+    pub before: Option<SyntaxKind>,
+    /// Its tag, if it is a name.
+    pub name: Option<Tag>,
+    /// The tag of the one before it, if that is a name.
+    pub earlier: Option<Tag>,
+}
+
+/// What is round the outermost of the field accesses above a node.
+#[derive(Clone, Copy)]
+pub struct Outer {
+    /// The kind of what it stands in.
+    pub around: Option<SyntaxKind>,
+    /// The kind of the leaf before it.
+    pub lead: Option<SyntaxKind>,
+}
+
+/// What is round a node: what is behind it is known from the nodes that follow it under its parent.
+#[derive(Clone, Copy)]
+pub struct Context {
+    /// The parent's kind.
+    pub parent: Option<SyntaxKind>,
+    /// Where the parent is a field access, what is round the outermost one.
+    pub outer: Option<Outer>,
+    /// Where the node begins, in bytes.
+    pub offset: usize,
+    /// The leaves before the node.
+    pub trail: Trail,
+    /// The first leaf behind the parent.
+    pub ahead: Option<Ahead>,
+}
+
+/// Whether the node has no children.
+fn is_childless(node: &SyntaxNode) -> bool
+    ensures { result ≡ is_childless node.now.kids }
+{
+    node.children().is_empty()
+}
+
+/// Whether the node is a leaf that is neither trivia nor an error.
+pub fn is_leaf(node: &SyntaxNode) -> bool
+    ensures { result ≡ is_leaf node.now }
+{
+    let kind = node.kind();
+    is_childless(node) && !kind.is_trivia() && !kind.is_error()
+}
+
+/// The first leaf of nodes that stand side by side from a byte on, under a parent of this kind.
+fn first_leaf(nodes: &[SyntaxNode], parent: Option<SyntaxKind>, offset: usize) -> Option<Ahead>
+    ensures { result ≡ walk.first_leaf parent offset (forest nodes.now) }
+{
+    let mut rest = nodes;
+    let mut begin = offset;
+    while let Some((node, later)) = rest.split_first() {
+        let kind = node.kind();
+        if is_leaf(node) {
+            return Some(Ahead {
+                kind,
+                parent,
+                offset: begin,
+            });
+        }
+        let inner = begin.saturating_add(node.leaf_text().len());
+        if let Some(leaf) = first_leaf(node.children(), Some(kind), inner) {
+            return Some(leaf);
+        }
+        begin = begin.saturating_add(node.len());
+        rest = later;
+    }
+    None
+}
+
+impl Surroundings {
+    /// Whether arguments or content begin where the name ends.
+    fn is_called(self) -> bool
+        ensures { result ≡ is_called self.end self.next }
+    {
+        match self.next {
+            None => false,
+            Some(leaf) => leaf.offset == self.end && begins_arguments(leaf.kind, leaf.parent),
+        }
+    }
+
+    /// The kind of the next leaf.
+    fn after(self) -> Option<SyntaxKind>
+        ensures { result ≡ kind_ahead self.next }
+    {
+        match self.next {
+            None => None,
+            Some(leaf) => Some(leaf.kind),
+        }
+    }
+
+    /// Whether the name stands in a show rule, directly before or behind its colon.
+    fn is_shown(self) -> bool
+        ensures { result ≡ is_shown self }
+    {
+        is_show_rule(self.around) && (is_colon(self.after()) || is_colon(self.before))
+    }
+
+    /// The name's tag, unless only a name before it can tell.
+    pub fn tag(self) -> Option<Tag>
+        ensures { result ≡ name_alone self }
+    {
+        if self.is_called() {
+            Some(Tag::Function)
+        } else if is_math_name(self.kind) {
+            Some(Tag::Interpolated)
+        } else if self.is_shown() {
+            Some(Tag::Function)
+        } else if is_hash(self.lead) {
+            Some(Tag::Interpolated)
+        } else {
+            None
+        }
+    }
+}
+
+impl Context {
+    ghost use Rattle.std.specs.Prelude.{◌≡◌};
+    ghost use Rattle.typst_node.specs.Tree.{forest};
+    ghost use Rattle.typst_highlight.specs.Walk as walk;
+
+    /// What is round the root of a tree.
+    pub const ROOT: Context = Context {
+        parent: None,
+        outer: None,
+        offset: 0,
+        trail: Trail {
+            before: None,
+            name: None,
+            earlier: None,
+        },
+        ahead: None,
+    };
+
+    /// The kind of what the node, or the outermost of the field accesses above it, stands in.
+    fn around(self) -> Option<SyntaxKind>
+        ensures { result ≡ walk.around self }
+    {
+        match self.outer {
+            None => self.parent,
+            Some(outer) => outer.around,
+        }
+    }
+
+    /// The kind of the leaf before the node, or before the outermost of the field accesses above it.
+    fn lead(self) -> Option<SyntaxKind>
+        ensures { result ≡ walk.lead self }
+    {
+        match self.outer {
+            None => self.trail.before,
+            Some(outer) => outer.lead,
+        }
+    }
+
+    /// The first leaf behind the node.
+    fn next_leaf(self, node: &SyntaxNode, later: &[SyntaxNode]) -> Option<Ahead>
+        ensures { result ≡ walk.next_leaf self node.now (forest later.now) }
+    {
+        let end = self.offset.saturating_add(node.len());
+        match first_leaf(later, self.parent, end) {
+            None => self.ahead,
+            found => found,
+        }
+    }
+
+    /// What is round the node's first child.
+    pub fn within(self, node: &SyntaxNode, later: &[SyntaxNode]) -> Context
+        ensures { result ≡ walk.within self node.now (forest later.now) }
+    {
+        let kind = node.kind();
+        let outer = if is_field_access(kind) {
+            Some(Outer {
+                around: self.around(),
+                lead: self.lead(),
+            })
+        } else {
+            None
+        };
+        Context {
+            parent: Some(kind),
+            outer,
+            offset: self.offset.saturating_add(node.leaf_text().len()),
+            trail: self.trail,
+            ahead: self.next_leaf(node, later),
+        }
+    }
+
+    /// What is round the next sibling, where the last leaves before it are known.
+    pub fn past(self, node: &SyntaxNode, trail: Trail) -> Context
+        ensures { result ≡ walk.past self node.now trail }
+    {
+        Context {
+            offset: self.offset.saturating_add(node.len()),
+            trail,
+            ..self
+        }
+    }
+
+    /// The tag of the node if it is a name.
+    pub fn name(self, node: &SyntaxNode, later: &[SyntaxNode]) -> Option<Tag>
+        ensures { result ≡ walk.name self node.now (forest later.now) }
+    {
+        let surroundings = Surroundings {
+            kind: node.kind(),
+            end: self.offset.saturating_add(node.len()),
+            next: self.next_leaf(node, later),
+            around: self.around(),
+            lead: self.lead(),
+            before: self.trail.before,
+        };
+        match surroundings.tag() {
+            None => self.trail.behind_dot(),
+            found => found,
+        }
+    }
+
+    /// The last leaves before what is behind the node, which is a leaf.
+    pub fn step(self, node: &SyntaxNode, later: &[SyntaxNode]) -> Trail
+        ensures { result ≡ walk.step self node.now (forest later.now) }
+    {
+        let kind = node.kind();
+        Trail {
+            before: Some(kind),
+            name: if is_name(kind) {
+                self.name(node, later)
+            } else {
+                None
+            },
+            earlier: self.trail.name,
+        }
+    }
+}
+
+impl Trail {
+    /// The tag of the name before the dot that the last leaf is.
+    fn behind_dot(self) -> Option<Tag>
+        ensures { result ≡ walk.behind_dot self }
+    {
+        match self.before {
+            Some(kind) if is_dot(kind) => self.earlier,
+            _ => None,
+        }
+    }
+}

@@ -1,0 +1,148 @@
+//! The tag of a node, found from the root of its tree.
+
+ghost use Rattle.std.specs.Prelude.{◌≡◌, ◌+◌, None};
+ghost use Rattle.std.specs.Option.{option_map};
+ghost use Rattle.typst_tree.specs.Linked.{linked};
+ghost use Rattle.typst_tree.specs.Steps.{next_leaf, kind_of};
+ghost use Rattle.typst_highlight.specs.Rules.{rule_of};
+ghost use Rattle.typst_highlight.specs.Nodes as spec;
+
+use crate::context::{Ahead, Surroundings};
+use crate::rules::{
+    Rule, equals_tag, is_dot, is_field_access, is_name, paren_tag, rule_of, slash_tag, star_tag,
+    term_tag, underscore_tag,
+};
+use crate::tags::Tag;
+use typst_kinds::SyntaxKind;
+use typst_tree::LinkedNode;
+
+/// The tag of a node, or `None` if it has none of its own.
+///
+/// Takes no memory. What it asks for beside the node is looked for from the root of the tree, so
+/// to go through all nodes of a tree `highlight_html` is the faster way.
+pub fn highlight(node: &LinkedNode) -> Option<Tag>
+    ensures { result ≡ spec.tag_of (linked node.now) }
+{
+    let mut bearer = *node;
+    while let Rule::Expression = rule_of(bearer.kind()) {
+        let leaf = expression_leaf(bearer)?;
+        bearer = leaf;
+    }
+    tag_by_rule(bearer)
+}
+
+/// The leaf whose tag a hash has: the first one of the expression behind it.
+fn expression_leaf<'a>(hash: LinkedNode<'a>) -> Option<LinkedNode<'a>>
+    ensures { option_map linked result ≡ spec.expression_leaf (linked hash.entry) }
+{
+    let expression = hash.next_sibling()?;
+    if expression.hash_expr() {
+        expression.leftmost_leaf()
+    } else {
+        None
+    }
+}
+
+/// The tag of a node that is no hash.
+fn tag_by_rule(node: LinkedNode) -> Option<Tag>
+    ensures { result ≡ spec.tag_by (rule_of (kind_of (linked node.entry))) (linked node.entry) None }
+{
+    match rule_of(node.kind()) {
+        Rule::Always(tag) => tag,
+        Rule::Paren => paren_tag(node.parent_kind()),
+        Rule::Star => star_tag(node.parent_kind()),
+        Rule::Underscore => underscore_tag(node.parent_kind()),
+        Rule::Slash => slash_tag(node.parent_kind()),
+        Rule::Equals => equals_tag(node.parent_kind()),
+        Rule::Term => term_tag(node.parent_kind(), node.next_sibling_kind()),
+        Rule::Name => name_tag(node),
+        Rule::Expression => None,
+    }
+}
+
+/// The tag of a name: its own, or that of the name before the dot before it.
+fn name_tag(name: LinkedNode) -> Option<Tag>
+    ensures { result ≡ spec.name_tag ((linked name.entry).number + 1) (linked name.entry) }
+{
+    match surroundings(name).tag() {
+        Some(tag) => Some(tag),
+        None => {
+            let earlier = earlier_name(name)?;
+            name_tag(earlier)
+        }
+    }
+}
+
+/// The name before the dot before a name.
+fn earlier_name<'a>(name: LinkedNode<'a>) -> Option<LinkedNode<'a>>
+    ensures { option_map linked result ≡ spec.earlier_name (linked name.entry) }
+{
+    let dot = name.prev_leaf()?;
+    name_before(dot)
+}
+
+/// The name before a dot.
+fn name_before<'a>(dot: LinkedNode<'a>) -> Option<LinkedNode<'a>>
+    ensures { option_map linked result ≡ spec.name_before (linked dot.entry) }
+{
+    if !is_dot(dot.kind()) {
+        return None;
+    }
+    let name = dot.prev_leaf()?;
+    if is_name(name.kind()) {
+        Some(name)
+    } else {
+        None
+    }
+}
+
+/// What is round a name.
+fn surroundings(name: LinkedNode) -> Surroundings
+    ensures { result ≡ spec.surroundings (linked name.entry) }
+{
+    let outer = outermost(name);
+    Surroundings {
+        kind: name.kind(),
+        end: name.range().end,
+        next: next_leaf(name),
+        around: outer.parent_kind(),
+        lead: leaf_before(outer),
+        before: leaf_before(name),
+    }
+}
+
+/// The first leaf behind a node, as a name sees it.
+fn next_leaf(node: LinkedNode) -> Option<Ahead>
+    ensures { result ≡ option_map spec.described (next_leaf (linked node.entry)) }
+{
+    let leaf = node.next_leaf()?;
+    Some(Ahead {
+        kind: leaf.kind(),
+        parent: leaf.parent_kind(),
+        offset: leaf.offset(),
+    })
+}
+
+/// The kind of the last leaf before a node.
+fn leaf_before(node: LinkedNode) -> Option<SyntaxKind>
+    ensures { result ≡ spec.kind_before (linked node.entry) }
+{
+    let leaf = node.prev_leaf()?;
+    Some(leaf.kind())
+}
+
+/// The node, or the outermost of the field accesses above it.
+fn outermost<'a>(node: LinkedNode<'a>) -> LinkedNode<'a>
+    ensures { linked result ≡ spec.outermost (linked node.entry).number (linked node.entry) }
+{
+    match node.parent() {
+        None => node,
+        Some(parent) => {
+            if is_field_access(parent.kind()) {
+                outermost(parent)
+            } else {
+                node
+            }
+        }
+    }
+}

@@ -1,0 +1,118 @@
+//! A tree's text as HTML.
+
+ghost use Rattle.std.specs.Prelude.{◌≡◌, ◌^◌, ◌<◌, ◌-◌, ◌++◌, IfOk, OnOk, encode_utf8, string_bytes};
+ghost use Rattle.typst_node.specs.Tree.{nodes, text_of, forest};
+ghost use Rattle.typst_highlight.specs.Html as spec;
+ghost use Rattle.typst_highlight.specs.Walk as walk;
+
+use crate::context::{Context, Trail, is_leaf};
+use crate::tags::Tag;
+use crate::walk::tag_here;
+use std::alloc::{AllocError, Global};
+use typst_node::SyntaxNode;
+
+/// The text of a tree as HTML: an element `code`, in which each node that has a tag, unless it is
+/// an error, stands in a `span` of the tag's class.
+///
+/// The characters `& < > ' "` of the text are written as entities. It goes through the tree once.
+pub fn highlight_html(alloc: Global, root: &SyntaxNode) -> Result<String, AllocError>
+    requires { nodes root.now < 2 ^ 64 - 1 }
+    ensures html { IfOk result (λ html. string_bytes html ≡ spec.html_of root.now) }
+    ensures shown { IfOk result (λ html. spec.read spec.plain (string_bytes html) ≡ text_of root.now) }
+{
+    let mut html = String::new(alloc);
+    html.push_str("<code>")?;
+    write_node(&mut html, root, &[], Context::ROOT)?;
+    html.push_str("</code>")?;
+    Ok(html)
+}
+
+/// Writes a node that other nodes follow under the same parent, and gives the last leaves behind it.
+fn write_node(
+    html: &mut String,
+    node: &SyntaxNode,
+    later: &[SyntaxNode],
+    context: Context,
+) -> Result<Trail, AllocError>
+    ensures written { OnOk result (string_bytes html.new ≡ string_bytes html.old ++ walk.node_html context node.now (forest later.now)) }
+    ensures trail { IfOk result (λ trail. trail ≡ walk.passed context node.now (forest later.now)) }
+{
+    let tag = spanned(tag_here(node, later, context));
+    write_start(html, tag)?;
+    write_escaped(html, node.leaf_text())?;
+    let mut inner = context.within(node, later);
+    let mut rest = node.children();
+    while let Some((kid, behind)) = rest.split_first() {
+        let trail = write_node(html, kid, behind, inner)?;
+        inner = inner.past(kid, trail);
+        rest = behind;
+    }
+    write_end(html, tag)?;
+    if is_leaf(node) {
+        Ok(context.step(node, later))
+    } else {
+        Ok(inner.trail)
+    }
+}
+
+/// The tag of the span that a node stands in: an error has none.
+fn spanned(tag: Option<Tag>) -> Option<Tag>
+    ensures { result ≡ spec.spanned tag }
+{
+    match tag {
+        Some(Tag::Error) => None,
+        other => other,
+    }
+}
+
+/// Writes the beginning of the span of a tag.
+fn write_start(html: &mut String, tag: Option<Tag>) -> Result<(), AllocError>
+    ensures { OnOk result (string_bytes html.new ≡ string_bytes html.old ++ spec.span_start tag) }
+{
+    if let Some(tag) = tag {
+        html.push_str("<span class=\"")?;
+        html.push_str(tag.css_class())?;
+        html.push_str("\">")?;
+    }
+    Ok(())
+}
+
+/// Writes the end of the span of a tag.
+fn write_end(html: &mut String, tag: Option<Tag>) -> Result<(), AllocError>
+    ensures { OnOk result (string_bytes html.new ≡ string_bytes html.old ++ spec.span_end tag) }
+{
+    if tag.is_some() {
+        html.push_str("</span>")?;
+    }
+    Ok(())
+}
+
+/// Writes a text with an entity for each of `& < > ' "`.
+fn write_escaped(html: &mut String, text: &str) -> Result<(), AllocError>
+    ensures { OnOk result (string_bytes html.new ≡ string_bytes html.old ++ spec.escaped text.now) }
+{
+    for c in text.chars() {
+        write_char(html, c)?;
+    }
+    Ok(())
+}
+
+/// Writes a character, as an entity if it is one of `& < > ' "`.
+fn write_char(html: &mut String, c: char) -> Result<(), AllocError>
+    ensures { OnOk result (string_bytes html.new ≡ string_bytes html.old ++ spec.escaped (encode_utf8 c)) }
+{
+    if c == '&' {
+        html.push_str("&amp;")?;
+    } else if c == '<' {
+        html.push_str("&lt;")?;
+    } else if c == '>' {
+        html.push_str("&gt;")?;
+    } else if c == '\'' {
+        html.push_str("&#39;")?;
+    } else if c == '"' {
+        html.push_str("&quot;")?;
+    } else {
+        html.push(c)?;
+    }
+    Ok(())
+}

@@ -1,0 +1,146 @@
+//! Highlight tags.
+
+ghost use Rattle.std.specs.Prelude.{◌≡◌};
+ghost use Rattle.typst_highlight.specs.Tags.{scope_of, class_of, all_tags};
+
+/// How a node of a syntax tree is to be shown.
+#[derive(Debug, Clone, Copy, PartialEq, Eq, Hash)]
+pub enum Tag {
+    /// A comment, also a shebang.
+    Comment,
+    /// Brackets, commas, colons, semicolons and dots of code.
+    Punctuation,
+    /// An escape sequence, a shorthand or a line break.
+    Escape,
+    /// Strong markup.
+    Strong,
+    /// Emphasized markup.
+    Emph,
+    /// An address.
+    Link,
+    /// Raw text.
+    Raw,
+    /// A label.
+    Label,
+    /// A reference.
+    Ref,
+    /// A heading.
+    Heading,
+    /// What begins an item of a list, an enumeration or a term list.
+    ListMarker,
+    /// The term of an item of a term list.
+    ListTerm,
+    /// The dollar signs of an equation.
+    MathDelimiter,
+    /// An operator of an equation, as `^`.
+    MathOperator,
+    /// Parentheses that only group in an equation.
+    MathGroupingParens,
+    /// A keyword, `true` or `false`.
+    Keyword,
+    /// An operator of code.
+    Operator,
+    /// A number, also with a unit.
+    Number,
+    /// A string.
+    String,
+    /// The name of a function where it is called, defined or shown.
+    Function,
+    /// A name of code in markup or in an equation, with its hash.
+    Interpolated,
+    /// Text that is no syntax.
+    Error,
+}
+
+impl Tag {
+    /// All tags, each at the place of its definition.
+    pub const LIST: &'static [Tag] = &[
+        Tag::Comment,
+        Tag::Punctuation,
+        Tag::Escape,
+        Tag::Strong,
+        Tag::Emph,
+        Tag::Link,
+        Tag::Raw,
+        Tag::Label,
+        Tag::Ref,
+        Tag::Heading,
+        Tag::ListMarker,
+        Tag::ListTerm,
+        Tag::MathDelimiter,
+        Tag::MathOperator,
+        Tag::MathGroupingParens,
+        Tag::Keyword,
+        Tag::Operator,
+        Tag::Number,
+        Tag::String,
+        Tag::Function,
+        Tag::Interpolated,
+        Tag::Error,
+    ];
+
+    /// The TextMate scope that editors know the tag by.
+    pub fn tm_scope(&self) -> &'static str
+        ensures { result.now ≡ scope_of self.now }
+    {
+        match self {
+            Tag::Comment => "comment.typst",
+            Tag::Punctuation => "punctuation.typst",
+            Tag::Escape => "constant.character.escape.typst",
+            Tag::Strong => "markup.bold.typst",
+            Tag::Emph => "markup.italic.typst",
+            Tag::Link => "markup.underline.link.typst",
+            Tag::Raw => "markup.raw.typst",
+            Tag::Label => "entity.name.label.typst",
+            Tag::Ref => "markup.other.reference.typst",
+            Tag::Heading => "markup.heading.typst",
+            Tag::ListMarker => "punctuation.definition.list.typst",
+            Tag::ListTerm => "markup.list.term.typst",
+            Tag::MathDelimiter => "punctuation.definition.math.typst",
+            Tag::MathOperator => "keyword.operator.math.typst",
+            Tag::MathGroupingParens => "punctuation.math.typst",
+            Tag::Keyword => "keyword.typst",
+            Tag::Operator => "keyword.operator.typst",
+            Tag::Number => "constant.numeric.typst",
+            Tag::String => "string.quoted.double.typst",
+            Tag::Function => "entity.name.function.typst",
+            Tag::Interpolated => "meta.interpolation.typst",
+            Tag::Error => "invalid.typst",
+        }
+    }
+
+    /// The class of the tag's spans in HTML.
+    pub fn css_class(self) -> &'static str
+        ensures { result.now ≡ class_of self }
+    {
+        match self {
+            Tag::Comment => "typ-comment",
+            Tag::Punctuation => "typ-punct",
+            Tag::Escape => "typ-escape",
+            Tag::Strong => "typ-strong",
+            Tag::Emph => "typ-emph",
+            Tag::Link => "typ-link",
+            Tag::Raw => "typ-raw",
+            Tag::Label => "typ-label",
+            Tag::Ref => "typ-ref",
+            Tag::Heading => "typ-heading",
+            Tag::ListMarker => "typ-marker",
+            Tag::ListTerm => "typ-term",
+            Tag::MathDelimiter => "typ-math-delim",
+            Tag::MathOperator => "typ-math-op",
+            Tag::MathGroupingParens => "typ-math-group",
+            Tag::Keyword => "typ-key",
+            Tag::Operator => "typ-op",
+            Tag::Number => "typ-num",
+            Tag::String => "typ-str",
+            Tag::Function => "typ-func",
+            Tag::Interpolated => "typ-pol",
+            Tag::Error => "typ-error",
+        }
+    }
+}
+
+/// `Tag::LIST` is the list of all tags.
+pub fn list_law()
+    ensures { Tag.LIST.now ≡ all_tags }
+{}

@@ -1,0 +1,107 @@
+//! The tag of a node that a walk has come to, found from what the walk knows.
+
+ghost use Rattle.std.specs.Prelude.{◌≡◌};
+ghost use Rattle.typst_node.specs.Tree.{forest};
+ghost use Rattle.typst_highlight.specs.Walk as walk;
+
+use crate::context::{Context, Trail, is_leaf};
+use crate::rules::{
+    Rule, equals_tag, paren_tag, rule_of, slash_tag, star_tag, term_tag, underscore_tag,
+};
+use crate::tags::Tag;
+use typst_kinds::SyntaxKind;
+use typst_node::SyntaxNode;
+
+/// The last leaves behind a node.
+fn passed(node: &SyntaxNode, later: &[SyntaxNode], context: Context) -> Trail
+    ensures { result ≡ walk.passed context node.now (forest later.now) }
+{
+    if is_leaf(node) {
+        return context.step(node, later);
+    }
+    let mut inner = context.within(node, later);
+    let mut rest = node.children();
+    while let Some((kid, behind)) = rest.split_first() {
+        inner = inner.past(kid, passed(kid, behind, inner));
+        rest = behind;
+    }
+    inner.trail
+}
+
+/// The kind of the first node that is no trivia.
+fn next_kind(nodes: &[SyntaxNode]) -> Option<SyntaxKind>
+    ensures { result ≡ walk.next_kind (forest nodes.now) }
+{
+    let mut rest = nodes;
+    while let Some((node, later)) = rest.split_first() {
+        let kind = node.kind();
+        if !kind.is_trivia() {
+            return Some(kind);
+        }
+        rest = later;
+    }
+    None
+}
+
+/// The tag of a node that other nodes follow under the same parent.
+#[cycle(tags)]
+pub fn tag_here(node: &SyntaxNode, later: &[SyntaxNode], context: Context) -> Option<Tag>
+    ensures { result ≡ walk.tag context node.now (forest later.now) }
+{
+    match rule_of(node.kind()) {
+        Rule::Always(tag) => tag,
+        Rule::Paren => paren_tag(context.parent),
+        Rule::Star => star_tag(context.parent),
+        Rule::Underscore => underscore_tag(context.parent),
+        Rule::Slash => slash_tag(context.parent),
+        Rule::Equals => equals_tag(context.parent),
+        Rule::Term => term_tag(context.parent, next_kind(later)),
+        Rule::Name => context.name(node, later),
+        Rule::Expression => {
+            let behind = context.past(node, passed(node, later, context));
+            expression_tag(later, behind)
+        }
+    }
+}
+
+/// The tag of a hash that these nodes follow.
+#[cycle(tags)]
+fn expression_tag(nodes: &[SyntaxNode], context: Context) -> Option<Tag>
+    ensures { result ≡ (walk.found context (forest nodes.now)).expression }
+{
+    let mut at = context;
+    let mut rest = nodes;
+    while let Some((node, later)) = rest.split_first() {
+        let kind = node.kind();
+        if !kind.is_trivia() {
+            if kind.is_hash_expr() {
+                return leaf_tag(node, later, at)?;
+            }
+            return None;
+        }
+        at = at.past(node, passed(node, later, at));
+        rest = later;
+    }
+    None
+}
+
+/// The tag of the first leaf of a node, if there is a leaf.
+#[cycle(tags)]
+fn leaf_tag(node: &SyntaxNode, later: &[SyntaxNode], context: Context) -> Option<Option<Tag>>
+    ensures { result ≡ walk.own context node.now (forest later.now) }
+{
+    if is_leaf(node) {
+        return Some(tag_here(node, later, context));
+    }
+    let mut inner = context.within(node, later);
+    let mut rest = node.children();
+    while let Some((kid, behind)) = rest.split_first() {
+        let found = leaf_tag(kid, behind, inner);
+        if found.is_some() {
+            return found;
+        }
+        inner = inner.past(kid, passed(kid, behind, inner));
+        rest = behind;
+    }
+    None
+}

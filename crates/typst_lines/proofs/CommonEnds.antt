@@ -1,0 +1,148 @@
+-- What two texts have in common at the front and at the end.
+use Rattle.std.proofs.Common.{◌≡◌, length, ℕ, ◌+◌, ◌-◌, ◌==◌, List, [], ◌∷◌, ◌++◌, slice_get, Option, Some, None, refl, sym, ap, subst, ◌∙◌, true, false, arith, take, drop, reverse, append_assoc, append-nil, drop_at, nat_eq}
+use Rattle.std.proofs.lemmas.Bool.Decides.{nat_tests}
+use Rattle.std.proofs.lemmas.List.{take-append-drop}
+use Rattle.std.proofs.lemmas.Str.{IsCharBoundary-end}
+use Rattle.std.specs.Cmp.Lexicographic.{pointwise}
+use Rattle.std.specs.Str.{chars, IsUtf8, IsCharBoundary}
+use Rattle.typst_lines.proofs.LineTable.{bytes-append, bytes-text, bytes-front, chars-split}
+use Rattle.typst_lines.proofs.PlaceLemmas.{head-splits}
+use Rattle.typst_lines.proofs.RoundTrip.{bytes-behind}
+use Rattle.typst_lines.specs.Lines.{bytes, common_front, common_ends, IsCommonFront}
+use Rattle.typst_lines.specs.Place.{Place, place_at, moved, moved_back, scout, passes}
+
+-- two lists that begin alike and then differ, or end
+pub record Shares (cs ds us vs : List ℕ) : Type 0 where
+  pub front : List ℕ
+  pub first : cs ≡ front ++ us
+  pub second : ds ≡ front ++ vs
+
+pub shares-none : (cs ds us vs : List ℕ) → us ≡ cs → vs ≡ ds → Shares cs ds us vs
+shares-none cs ds us vs e f = record { front = []; first = sym e; second = sym f }
+
+pub shares-more : (cs ds us vs rest left : List ℕ) (c : ℕ) → Shares cs ds us vs → us ≡ c ∷ rest → vs ≡ c ∷ left → Shares cs ds rest left
+shares-more cs ds us vs rest left c h e f =
+    record {
+      front = h.front ++ c ∷ [];
+      first = h.first ∙ ap (λ t. h.front ++ t) e ∙ sym (append_assoc h.front (c ∷ []) rest);
+      second = h.second ∙ ap (λ t. h.front ++ t) f ∙ sym (append_assoc h.front (c ∷ []) left);
+    }
+
+same-test : (c : ℕ) → (c == c) ≡ true
+same-test c = grind (arith, nat_tests)
+
+front-append : (xs us vs : List ℕ) → common_front (xs ++ us) (xs ++ vs) ≡ xs ++ common_front us vs
+front-append [] us vs = refl
+front-append (c ∷ xs) us vs = rw (same-test c) (ap (λ t. c ∷ t) (front-append xs us vs))
+
+-- the heads of two lists differ
+abbrev pub Differ : List ℕ → List ℕ → Type 0
+Differ us vs = common_front us vs ≡ []
+
+other-test : (c d : ℕ) → (c ≡ d → ⊥) → (c == d) ≡ false
+other-test c d n = grind (arith, nat_tests)
+
+pub differ-heads : (us vs : List ℕ) (c : ℕ) → slice_get us 0 ≡ Some c → (slice_get vs 0 ≡ Some c → ⊥) → Differ us vs
+differ-heads [] vs c e n = refl
+differ-heads (a ∷ us) [] c e n = refl
+differ-heads (a ∷ us) (b ∷ vs) c e n =
+    let here : a ≡ c = cc in
+    rw (other-test a b (λ f. n (ap Some (sym f ∙ here)))) refl
+
+pub differ-end : (us vs : List ℕ) → us ≡ [] → Differ us vs
+differ-end us vs e = rw e refl
+
+pub shares-is : (cs ds us vs : List ℕ) (h : Shares cs ds us vs) → Differ us vs → common_front cs ds ≡ h.front
+shares-is cs ds us vs h d = ap (λ t. common_front t ds) h.first ∙ ap (common_front (h.front ++ us)) h.second ∙ front-append h.front us vs ∙ ap (λ t. h.front ++ t) d ∙ append-nil h.front
+
+rest-is : (cs front us : List ℕ) → cs ≡ front ++ us → us ≡ drop (length front) cs
+rest-is cs front us e = sym (ap (drop (length front)) e ∙ drop_at front us (length front) refl)
+
+ahead-is : (s : List ℕ) (i : ℕ) → (place_at s i).ahead ≡ chars (drop i s)
+unfolding place_at
+ahead-is s i = refl
+
+drop-all : (s : List ℕ) → drop (length s) s ≡ []
+drop-all s = ap (drop (length s)) (sym (append-nil s)) ∙ drop_at s [] (length s) refl
+
+pub take-all : (s : List ℕ) → take (length s) s ≡ s
+take-all s = sym (append-nil (take (length s) s)) ∙ ap (λ t. take (length s) s ++ t) (sym (drop-all s)) ∙ take-append-drop (length s) s
+
+behind-end : (s : List ℕ) → (place_at s (length s)).behind ≡ reverse (chars s)
+unfolding place_at
+behind-end s = ap (λ t. reverse (chars t)) (take-all s)
+
+-- the bytes of what was passed going back
+pub passed-back : (s : List ℕ) → IsUtf8 s → (i : ℕ) → IsCharBoundary s i → (xs : List ℕ) → reverse (chars s) ≡ xs ++ (place_at s i).behind → length s - i ≡ bytes xs
+passed-back s u i at xs e =
+    omega (arith, ap bytes (behind-end s), ap bytes e, bytes-append xs (place_at s i).behind, bytes-behind s u i at, bytes-behind s u (length s) (IsCharBoundary-end s), at.0)
+
+bytes-ahead : (s : List ℕ) → IsUtf8 s → (i : ℕ) → IsCharBoundary s i → i + bytes (place_at s i).ahead ≡ length s
+bytes-ahead s u i at =
+    omega (arith, ap bytes (ahead-is s i), bytes-text s u, ap bytes (chars-split s u i at), bytes-append (chars (take i s)) (chars (drop i s)), bytes-front s u i at)
+
+common-at : (old new : List ℕ) → IsUtf8 old → IsUtf8 new → (i j : ℕ) → IsCharBoundary old i → IsCharBoundary new j
+    → Shares (chars old) (chars new) (place_at old i).ahead (place_at new j).ahead → Differ (place_at old i).ahead (place_at new j).ahead
+    → IsCommonFront old new i
+common-at old new u v i j at there h d =
+    let front = shares-is (chars old) (chars new) (place_at old i).ahead (place_at new j).ahead h d in
+    let size : i ≡ bytes h.front = omega (arith, bytes-ahead old u i at, bytes-text old u, ap bytes h.first, bytes-append h.front (place_at old i).ahead) in
+    let same : j ≡ i = omega (arith, size, bytes-ahead new v j there, bytes-text new v, ap bytes h.second, bytes-append h.front (place_at new j).ahead) in
+    record {
+      size = size ∙ ap bytes (sym front);
+      old_boundary = at;
+      new_boundary = subst (IsCharBoundary new) same there;
+      old_rest = sym (ahead-is old i) ∙ rest-is (chars old) h.front (place_at old i).ahead h.first ∙ ap (λ t. drop (length t) (chars old)) (sym front);
+      new_rest = ap (λ n. chars (drop n new)) (sym same) ∙ sym (ahead-is new j) ∙ rest-is (chars new) h.front (place_at new j).ahead h.second ∙ ap (λ t. drop (length t) (chars new)) (sym front);
+    }
+
+-- two cursors that have passed the same characters, before ones that differ
+pub IsCommonFront-at : (old new t w : List ℕ) → IsUtf8 old → IsUtf8 new → t ≡ old → w ≡ new → (i j : ℕ) → IsCharBoundary t i → IsCharBoundary w j
+    → Shares (chars old) (chars new) (place_at t i).ahead (place_at w j).ahead → Differ (place_at t i).ahead (place_at w j).ahead
+    → IsCommonFront old new i
+IsCommonFront-at old new t w u v e f i j =
+    subst (λ x. IsCharBoundary x i → IsCharBoundary w j → Shares (chars old) (chars new) (place_at x i).ahead (place_at w j).ahead → Differ (place_at x i).ahead (place_at w j).ahead → IsCommonFront old new i) (sym e)
+    (subst (λ y. IsCharBoundary old i → IsCharBoundary y j → Shares (chars old) (chars new) (place_at old i).ahead (place_at y j).ahead → Differ (place_at old i).ahead (place_at y j).ahead → IsCommonFront old new i) (sym f)
+    (common-at old new u v i j))
+
+-- the characters passed going back
+pub common-back : (old new t : List ℕ) → IsUtf8 old → t ≡ old → (i : ℕ) (us vs : List ℕ) → IsCharBoundary t i → us ≡ (place_at t i).behind
+    → Shares (reverse (chars old)) (reverse (chars new)) us vs → Differ us vs → length old - i ≡ bytes (common_front (reverse (chars old)) (reverse (chars new)))
+common-back old new t u e i us vs at is h d =
+    passed-back old u i (subst (λ x. IsCharBoundary x i) e at) h.front (h.first ∙ ap (λ x. h.front ++ x) (is ∙ ap (λ x. (place_at x i).behind) e)) ∙ ap bytes (sym (shares-is (reverse (chars old)) (reverse (chars new)) us vs h d))
+
+-- the next character isn't the one that is asked for
+pub not-next : (c : ℕ) (o : Option ℕ) → passes (λ d. d == c) o ≡ false → o ≡ Some c → ⊥
+not-next c None e f = cc
+not-next c (Some d) e f = let same : d ≡ c = cc in absurd (grind (arith, nat_tests))
+
+pub is-next : (c : ℕ) (o : Option ℕ) → passes (λ d. d == c) o ≡ true → Some c ≡ o
+is-next c None e = absurd (cc)
+is-next c (Some d) e = let same : c ≡ d = grind (arith, nat_tests) in ap Some same
+
+pub ahead-step : (p : Place) (c : ℕ) → Some c ≡ scout 0 p → p.ahead ≡ c ∷ (moved 1 p).ahead
+ahead-step p c e = let t = head-splits p.ahead c (sym e) in rw t.1 refl
+
+pub behind-step : (p : Place) (c : ℕ) → Some c ≡ slice_get p.behind 0 → p.behind ≡ c ∷ (moved_back p).behind
+behind-step p c e = let t = head-splits p.behind c (sym e) in rw t.1 refl
+
+none-behind : (cs : List ℕ) → slice_get cs 0 ≡ None → cs ≡ []
+none-behind [] e = refl
+none-behind (c ∷ cs) e = absurd (cc)
+
+pub behind-none : (p : Place) → None ≡ slice_get p.behind 0 → p.behind ≡ []
+behind-none p e = none-behind p.behind (sym e)
+
+pub behind-all : (s : List ℕ) → (place_at s (length s)).behind ≡ reverse (chars s)
+behind-all s = behind-end s
+
+pub common_ends-at : (old new t a b : List ℕ) (n m : ℕ) → t ≡ old → IsCommonFront t new n → a ≡ drop n t → b ≡ drop n new → m ≡ bytes (common_front (reverse (chars a)) (reverse (chars b))) → (n, m) ≡ common_ends old new
+unfolding common_ends
+common_ends-at old new t a b n m same front e f is =
+    ap (λ k. (k, m)) front.size
+    ∙ ap (λ k. (bytes (common_front (chars t) (chars new)), k)) (is ∙ ap (λ x. bytes (common_front (reverse x) (reverse (chars b)))) (ap chars e ∙ front.old_rest) ∙ ap (λ x. bytes (common_front (reverse (drop (length (common_front (chars t) (chars new))) (chars t))) (reverse x))) (ap chars f ∙ front.new_rest))
+    ∙ ap (λ x. common_ends x new) same
+
+pub pointwise-same : (xs : List ℕ) → pointwise nat_eq xs xs ≡ true
+pointwise-same [] = refl
+pointwise-same (x ∷ xs) = rw (same-test x) (pointwise-same xs)

@@ -1,0 +1,112 @@
+-- Facts on the lines that start after a place.
+use Rattle.std.proofs.Common.{◌≡◌, ◌≤◌, ◌<◌, Bool, length, ℕ, ◌+◌, List, [], ◌∷◌, ◌++◌, slice_get, Option, Some, None, refl, sym, ap, ◌∙◌, true, false, arith, take, drop, filter, nat_lt, get_or}
+use Rattle.std.proofs.lemmas.Bool.Decides.{nat_tests}
+use Rattle.std.proofs.lemmas.Str.{chars-nil, IsCharBoundary-start}
+use Rattle.std.specs.Str.{chars, IsUtf8, IsCharBoundary}
+use Rattle.typst_lines.proofs.LineTable.{line_at, onto_if, starts_from, line_table-starts, width-positive, chars-split, bytes-front, place-end, ahead-text}
+use Rattle.typst_lines.proofs.PlaceLemmas.{head-splits, IsStep-from_ascii}
+use Rattle.typst_lines.proofs.RoundTrip.{units-behind, units-moved}
+use Rattle.typst_lines.specs.Newline.{is_newline, ends_line}
+use Rattle.typst_lines.specs.Place.{Place, place_at, moved, scout, char_width, IsStep}
+use Rattle.typst_lines.specs.Lines.{utf16_len, units, bytes, line_table, lines_after, utf16_before, IsPlainRun}
+use Rattle.typst_lines.specs.declared.lines.Line.{Line}
+
+module _ (k : ℕ) where
+  abbrev after : Line → Bool
+  after l = nat_lt k l.byte_idx
+
+  later-line : (n : ℕ) → k < n → nat_lt k n ≡ true
+  later-line n lt = grind (arith, nat_tests)
+
+  earlier-line : (n : ℕ) → n ≤ k → nat_lt k n ≡ false
+  earlier-line n le = grind (arith, nat_tests)
+
+  kept : (t : Bool) (x : Line) (xs : List Line) → nat_lt k x.byte_idx ≡ true → filter after xs ≡ xs → filter after (onto_if t x xs) ≡ onto_if t x xs
+  kept true x xs e rest = rw e (ap (λ ys. x ∷ ys) rest)
+  kept false x xs e rest = rest
+
+  left-out : (t : Bool) (x : Line) (xs : List Line) → nat_lt k x.byte_idx ≡ false → filter after (onto_if t x xs) ≡ filter after xs
+  left-out true x xs e = rw e refl
+  left-out false x xs e = refl
+
+  all-after : (b u : ℕ) (cs : List ℕ) → k ≤ b → filter after (starts_from b u cs) ≡ starts_from b u cs
+  all-after b u [] le = refl
+  all-after b u (c ∷ cs) le =
+      let wide = width-positive c in
+      kept (ends_line c (slice_get cs 0)) (line_at (char_width c + b) (utf16_len c + u)) _ (later-line (char_width c + b) (omega arith)) (all-after (char_width c + b) (utf16_len c + u) cs (omega arith))
+
+  past-front : (xs ys : List ℕ) (b u : ℕ) → k ≡ bytes xs + b → filter after (starts_from b u (xs ++ ys)) ≡ starts_from k (units xs + u) ys
+  past-front [] ys b u e =
+      let here : b ≡ k = omega arith in
+      let none : u ≡ 0 + u = omega arith in
+      all-after b u ys (omega arith) ∙ ap (λ n. starts_from n u ys) here ∙ ap (λ n. starts_from k n ys) none
+  past-front (c ∷ xs) ys b u e =
+      left-out (ends_line c (slice_get (xs ++ ys) 0)) (line_at (char_width c + b) (utf16_len c + u)) _ (earlier-line (char_width c + b) (omega arith))
+      ∙ past-front xs ys (char_width c + b) (utf16_len c + u) (omega arith) ∙ ap (λ n. starts_from k n ys) (let e : units xs + (utf16_len c + u) ≡ utf16_len c + units xs + u = omega arith in e)
+
+module _ (s : List ℕ) (v : IsUtf8 s) (i : ℕ) (at : IsCharBoundary s i) where
+  pub after-starts : lines_after s i ≡ starts_from i (utf16_before s i) (place_at s i).ahead
+  unfolding lines_after place_at
+  after-starts =
+      let front : i ≡ bytes (chars (take i s)) + 0 = omega (arith, bytes-front s v i at) in
+      let sum : units (chars (take i s)) + 0 ≡ utf16_before s i = omega arith in
+      ap (filter (after i)) (line_table-starts s ∙ ap (λ cs. line_at 0 0 ∷ starts_from 0 0 cs) (chars-split s v i at))
+      ∙ left-out i true (line_at 0 0) _ (earlier-line i 0 (omega arith))
+      ∙ past-front i (chars (take i s)) (chars (drop i s)) 0 0 front ∙ ap (λ n. starts_from i n (chars (drop i s))) sum
+
+starts-step : (b u : ℕ) (p : Place) (c : ℕ) → Some c ≡ scout 0 p
+    → starts_from b u p.ahead ≡ onto_if (ends_line c (scout 0 (moved 1 p))) (line_at (char_width c + b) (utf16_len c + u)) (starts_from (char_width c + b) (utf16_len c + u) (moved 1 p).ahead)
+starts-step b u p c e = let t = head-splits p.ahead c (sym e) in rw t.1 refl
+
+-- one step of a loop from a place to the next
+module _ (s : List ℕ) (v : IsUtf8 s) (i : ℕ) (at : IsCharBoundary s i) (c j : ℕ) (there : IsStep s i c j) where
+  pub units-next : utf16_before s j ≡ utf16_before s i + utf16_len c
+  units-next = omega (arith, units-behind s i, units-behind s j, ap (λ p. units p.behind) there.moves, units-moved (place_at s i) c (sym there.next))
+
+  step : lines_after s i ≡ onto_if (ends_line c (scout 0 (place_at s j))) (line_at j (utf16_before s j)) (lines_after s j)
+  step =
+      let far : char_width c + i ≡ j = omega (arith, there.width) in
+      let more : utf16_len c + utf16_before s i ≡ utf16_before s j = omega (arith, units-next) in
+      after-starts s v i at ∙ starts-step i (utf16_before s i) (place_at s i) c (sym there.next)
+      ∙ ap (λ p. onto_if (ends_line c (scout 0 p)) (line_at (char_width c + i) (utf16_len c + utf16_before s i)) (starts_from (char_width c + i) (utf16_len c + utf16_before s i) p.ahead)) (sym there.moves)
+      ∙ ap (λ n. onto_if (ends_line c (scout 0 (place_at s j))) (line_at n (utf16_len c + utf16_before s i)) (starts_from n (utf16_len c + utf16_before s i) (place_at s j).ahead)) far
+      ∙ ap (λ n. onto_if (ends_line c (scout 0 (place_at s j))) (line_at j n) (starts_from j n (place_at s j).ahead)) more
+      ∙ ap (onto_if (ends_line c (scout 0 (place_at s j))) (line_at j (utf16_before s j))) (sym (after-starts s v j there.boundary))
+
+  pub after-line : ends_line c (scout 0 (place_at s j)) ≡ true → lines_after s i ≡ line_at j (utf16_before s j) ∷ lines_after s j
+  after-line e = step ∙ rw e refl
+
+  pub after-on : ends_line c (scout 0 (place_at s j)) ≡ false → lines_after s i ≡ lines_after s j
+  after-on e = step ∙ rw e refl
+
+no-end : (c : ℕ) (next : Option ℕ) → is_newline c ≡ false → ends_line c next ≡ false
+no-end c next e = rw e refl
+
+-- over a plain byte
+pub plain-step : (s : List ℕ) → IsUtf8 s → (start i b : ℕ) → IsPlainRun s start i → i < length s → b ≡ get_or s i 0 → b < 128 → is_newline b ≡ false → IsPlainRun s start (i + 1)
+plain-step s v start i b run lt is small plain =
+    let there = IsStep-from_ascii s v i b run.boundary lt is small in
+    let one : utf16_len b ≡ 1 = grind (arith, nat_tests) in
+    let more = units-next s v i run.boundary b (i + 1) there in
+    record {
+      grows = omega (arith, run.grows);
+      boundary = there.boundary;
+      none_inside = run.none_inside ∙ after-on s v i run.boundary b (i + 1) there (no-end b (scout 0 (place_at s (i + 1))) plain);
+      counted = omega (arith, run.counted, more, one);
+    }
+
+pub plain-start : (s : List ℕ) (i : ℕ) → IsCharBoundary s i → IsPlainRun s i i
+plain-start s i at = record { grows = omega arith; boundary = at; none_inside = refl; counted = refl }
+
+pub after-end : (s : List ℕ) → IsUtf8 s → (i : ℕ) → IsCharBoundary s i → None ≡ scout 0 (place_at s i) → lines_after s i ≡ []
+after-end s v i at e = after-starts s v i at ∙ ap (starts_from i (utf16_before s i)) (place-end (place_at s i) e)
+
+pub none-before : (s : List ℕ) → 0 ≡ utf16_before s 0
+none-before s = sym (ap units chars-nil)
+
+-- the first line, and those after it
+pub table-after : (s : List ℕ) → IsUtf8 s → line_table s ≡ line_at 0 0 ∷ lines_after s 0
+table-after s v =
+    line_table-starts s
+    ∙ ap (λ xs. line_at 0 0 ∷ xs)
+    (sym (after-starts s v 0 (IsCharBoundary-start s v) ∙ ap (λ n. starts_from 0 n (place_at s 0).ahead) (sym (none-before s)) ∙ ap (starts_from 0 0) (ahead-text s)))

@@ -1,0 +1,109 @@
+//! What was looked at and noted.
+
+ghost use Rattle.std.specs.Prelude.{◌≡◌, OnOk};
+ghost use Rattle.typst_combinators.specs.Log.{blank_log, with_hull};
+ghost use Rattle.typst_machine.specs.Bytes.{joined_hull};
+ghost use Rattle.typst_machine.specs.View.{listed, with_noted};
+
+use std::alloc::{AllocError, Global};
+use std::marker::Model;
+use typst_combinators::{Mark, Note, State};
+use typst_lexer::Hull;
+
+/// What was looked at and noted so far.
+#[derive(Drop)]
+pub(crate) struct Log {
+    /// Where all looks end, and where those since the last note begin.
+    hull: Hull,
+    /// What was noted, in order, where notes are kept.
+    notes: Option<Vec<Note>>,
+}
+
+impl Model for Log {
+    ghost use Rattle.std.specs.Prelude.{option_map};
+    ghost use Rattle.typst_combinators.specs.Log.{Log as Logged};
+    ghost use Rattle.typst_machine.specs.Codes.{log_code};
+
+    ghost Value = { Logged };
+
+    ghost coded = { log_code };
+
+    ghost view = { λ l. record { reach = l.hull.reach; least = l.hull.least; notes = option_map (λ ns. ns.items) l.notes } };
+}
+
+impl Log {
+    /// Nothing.
+    pub(crate) fn new(alloc: Global, keeps_notes: bool) -> Log
+        ensures { result ≡ blank_log keeps_notes }
+    {
+        let hull = Hull {
+            reach: 0,
+            least: usize::MAX,
+        };
+        let notes = if keeps_notes {
+            Some(Vec::new(alloc))
+        } else {
+            None
+        };
+        Log { hull, notes }
+    }
+
+    /// This was looked at.
+    #[inline(always)]
+    pub(crate) fn look(&mut self, hull: Hull)
+        ensures { self.new ≡ with_hull hull self.old }
+    {
+        self.hull = joined(self.hull, hull);
+    }
+
+    /// Something begins or ends: the trivia before it at one place, and the token at another, in
+    /// bytes from the text's start.
+    pub(crate) fn note(
+        &mut self,
+        mark: Mark,
+        before: usize,
+        start: usize,
+        levels: usize,
+        state: State,
+    ) -> Result<(), AllocError>
+        ensures { OnOk result (self.new ≡ with_noted mark before start levels state self.old) }
+    {
+        let note = Note {
+            mark,
+            before,
+            start,
+            levels,
+            state,
+            reach: self.hull.reach,
+            least: self.hull.least,
+        };
+        if let Some(notes) = &mut self.notes {
+            notes.push(note)?;
+        }
+        self.hull.least = usize::MAX;
+        Ok(())
+    }
+
+    /// What was noted, none where no notes are kept; where all looks end, and where those since the
+    /// last note begin.
+    pub(crate) fn finish(self, alloc: Global) -> (Vec<Note>, Hull)
+        ensures notes { result.0.items ≡ listed self.notes }
+        ensures hull { result.1 ≡ record { reach = self.reach; least = self.least } }
+    {
+        let Log { hull, notes } = self;
+        match notes {
+            Some(notes) => (notes, hull),
+            None => (Vec::new(alloc), hull),
+        }
+    }
+}
+
+/// Both stretches, and what lies between them.
+pub(crate) fn joined(a: Hull, b: Hull) -> Hull
+    ensures { result ≡ joined_hull a b }
+{
+    Hull {
+        reach: a.reach.max(b.reach),
+        least: a.least.min(b.least),
+    }
+}

@@ -1,0 +1,73 @@
+-- Facts on the texts of error tokens.
+use Rattle.std.proofs.Common.{◌≡◌, ℕ, Bool, true, false, not, ◌&&◌, if◌then◌else◌, List, [], ◌∷◌, append-nil, encode_utf8_all, take, refl, ap, sym, ◌∙◌, Option, Some, None}
+use Rattle.std.specs.Str.{chars}
+use Rattle.typst_lines.proofs.Tests.{on}
+use Rattle.typst_lines.specs.Place.{Place, place_at, moved}
+use Rattle.typst_readers.proofs.Moves.{moved-more}
+use Rattle.typst_token_nodes.specs.Nodes.{IsRead, is_leaf, token_node, plain_node, fault_node, is_raw, with_hints, hints, message}
+use Rattle.typst_readers.specs.Reader.{Reader, exec, eaten, place}
+use Rattle.typst_tokens.specs.declared.token.Token.{Token}
+use Rattle.typst_tokens.specs.declared.token.Fault.{Fault}
+use Rattle.typst_raw.proofs.Leaves.{raw-leaves}
+use Rattle.typst_raw.specs.Raw.{raw_node}
+use Rattle.typst_kinds.specs.Kinds.{is_error}
+use Rattle.typst_node.specs.Diagnostic.{hint_with}
+use Rattle.typst_classes.specs.Classes.{CharClasses}
+use Rattle.typst_node.specs.Tree.{Tree, text_of, leaf_of, error_of, advised}
+use Rattle.typst_tokens.specs.Memory.{Memory}
+
+start-of : (text : List ℕ) → place_at text 0 ≡ place [] (chars text)
+unfolding place_at chars
+start-of text = refl
+
+-- three characters on from a text's start
+pub thrice : (text : List ℕ) → moved 1 (moved 1 (moved 1 (place_at text 0))) ≡ moved 3 (place [] (chars text))
+thrice text =
+    ap (λ p. moved 1 (moved 1 (moved 1 p))) (start-of text)
+    ∙ ap (moved 1) (moved-more 1 1 [] (chars text))
+    ∙ moved-more 2 1 [] (chars text)
+
+-- a token that was read, with the node that was made of its characters
+pub is-read : (k : CharClasses) (r : Reader Memory Token) (p q : Place) (t : Token) (node : Tree) (taken : List ℕ) → exec r p ≡ (t, q) → node ≡ token_node k t taken → taken ≡ take (eaten r p) p.ahead → IsRead k r p q t.kind node
+is-read k r p q t node taken e made same = record {
+  kind_is = sym (ap (λ x. x.0.kind) e);
+  node_is = made ∙ ap (token_node k t) same ∙ sym (ap (λ x. token_node k x.0 (take (eaten r p) p.ahead)) e);
+  place_is = sym (ap (λ x. x.1) e);
+}
+
+-- ---- the text of a node
+
+text-hints : (more : List (List ℕ)) (t : Tree) → text_of (with_hints more t) ≡ text_of t
+text-hints [] t = refl
+text-hints (hint ∷ more) t = text-hints more (advised (hint_with None hint) t)
+
+text-fault : (f : Fault) (taken : List ℕ) → text_of (fault_node f taken) ≡ encode_utf8_all taken
+text-fault f taken = text-hints (hints f) (error_of (message f taken) (encode_utf8_all taken)) ∙ append-nil (encode_utf8_all taken)
+
+text-plain : (k : CharClasses) (t : Token) (taken : List ℕ) → text_of (plain_node k t taken) ≡ encode_utf8_all taken
+text-plain k t taken =
+    let Is = λ (u : Tree). text_of u ≡ encode_utf8_all taken in
+    let leaf = leaf_of t.kind (encode_utf8_all taken) in
+    on Is (is_error t.kind) (error_of [] (encode_utf8_all taken)) (if is_raw t.kind then raw_node k taken else leaf) (append-nil (encode_utf8_all taken))
+    (on Is (is_raw t.kind) (raw_node k taken) leaf (raw-leaves k taken) (append-nil (encode_utf8_all taken)))
+
+-- a token's node has the text of the characters that it took
+pub text-token : (k : CharClasses) (t : Token) (taken : List ℕ) → text_of (token_node k t taken) ≡ encode_utf8_all taken
+text-token k t taken = elim t.fault as (λ o. text_of (elim o as (λ _. Tree) [ None ↦ plain_node k t taken | Some f ↦ fault_node f taken ]) ≡ encode_utf8_all taken) [
+  | None ↦ text-plain k t taken
+  | Some f ↦ text-fault f taken
+]
+
+-- what is a leaf of its kind
+pub leaf-is : (k : CharClasses) (t : Token) (taken : List ℕ) → is_leaf t ≡ true → token_node k t taken ≡ leaf_of t.kind (encode_utf8_all taken)
+leaf-is k t taken h = by t.fault h
+  where
+    plain : (e r : Bool) → (not e && not r) ≡ true → (if e then error_of [] (encode_utf8_all taken) else (if r then raw_node k taken else leaf_of t.kind (encode_utf8_all taken))) ≡ leaf_of t.kind (encode_utf8_all taken)
+    plain true r h = absurd (cc)
+    plain false true h = absurd (cc)
+    plain false false h = refl
+
+    by : (f : Option Fault) → (elim f [ None ↦ not (is_error t.kind) && not (is_raw t.kind) | Some g ↦ false ]) ≡ true
+        → (elim f [ None ↦ plain_node k t taken | Some g ↦ fault_node g taken ]) ≡ leaf_of t.kind (encode_utf8_all taken)
+    by None h = plain (is_error t.kind) (is_raw t.kind) h
+    by (Some g) h = absurd (cc)

@@ -1,0 +1,41 @@
+-- Line ends in whitespace, character by character.
+use Rattle.std.proofs.Common.{◌≡◌, ◌≤◌, ℕ, suc, Bool, true, false, not, ◌&&◌, ◌==◌, if◌then◌else◌, List, [], ◌∷◌, length, refl, sym, ap, arith, slice_get, Some, None}
+use Rattle.std.proofs.lemmas.Str.{length-le-encodes, encodes-chars}
+use Rattle.std.specs.Str.{chars, IsUtf8}
+use Rattle.typst_lines.proofs.LineTable.{place-end}
+use Rattle.typst_lines.proofs.PlaceLemmas.{head-splits}
+use Rattle.typst_lines.specs.Place.{Place, place_at, moved, scout}
+use Rattle.typst_lines.specs.Newline.{is_newline}
+use Rattle.typst_tokens.specs.Common.{line_ends}
+
+pub line_ends-nil : (b : Bool) → line_ends b [] ≡ 0
+unfolding line_ends
+line_ends-nil b = refl
+
+pub line_ends-cons : (b : Bool) (c : ℕ) (cs : List ℕ) → line_ends b (c ∷ cs) ≡ (if is_newline c && not (b && c == 10) then suc (line_ends (c == 13) cs) else line_ends (c == 13) cs)
+unfolding line_ends
+line_ends-cons b c cs = refl
+
+pub line_ends-le : (b : Bool) (cs : List ℕ) → line_ends b cs ≤ length cs
+unfolding line_ends
+line_ends-le b [] = omega arith
+line_ends-le b (c ∷ cs) =
+    let rest = line_ends-le (c == 13) cs in
+    elim (is_newline c && not (b && c == 10)) as (λ t. (if t then suc (line_ends (c == 13) cs) else line_ends (c == 13) cs) ≤ suc (length cs)) [ true ↦ omega arith | false ↦ omega arith ]
+
+-- the line ends ahead, as the next character shows them
+pub line_ends-step : (b : Bool) (p : Place) (c : ℕ) → Some c ≡ scout 0 p
+    → line_ends b p.ahead ≡ (if is_newline c && not (b && c == 10) then suc (line_ends (c == 13) (moved 1 p).ahead) else line_ends (c == 13) (moved 1 p).ahead)
+unfolding line_ends
+line_ends-step b p c e = let s = head-splits p.ahead c (sym e) in rw s.1 refl
+
+pub line_ends-stop : (b : Bool) (p : Place) → None ≡ scout 0 p → line_ends b p.ahead ≡ 0
+unfolding line_ends
+line_ends-stop b p e = rw (place-end p e) refl
+
+pub line_ends-start : (text : List ℕ) → line_ends false (place_at text 0).ahead ≡ line_ends false (chars text)
+unfolding place_at
+line_ends-start text = refl
+
+pub line_ends-fit : (text : List ℕ) → IsUtf8 text → line_ends false (chars text) ≤ length text
+line_ends-fit text u = omega (arith, line_ends-le false (chars text), length-le-encodes (chars text), ap length (encodes-chars text u))

@@ -1,0 +1,73 @@
+-- The laws of the last leaf.
+use Rattle.std.proofs.Common.{◌≡◌, ℕ, suc, ◌+◌, ◌<◌, ◌≤◌, List, [], ◌∷◌, ◌++◌, length, take, Option, Some, None, refl, ap, sym, ◌∙◌, arith, get_or, append_assoc, append-nil, length-append, Bool, true, false, ◌&&◌}
+use Rattle.std.specs.Prelude.{nat_lt, if◌then◌else◌}
+use Rattle.std.proofs.lemmas.List.{take_more}
+use Rattle.std.proofs.lemmas.Bool.Decides.{nat_tests}
+use Rattle.std.proofs.lemmas.Option.{same_Some, none-some}
+use native.Mathlib.Numerals.{unary_clauses}
+use Rattle.typst_node.specs.Tree.{Tree, forest, nodes, count, places, preorder}
+use Rattle.typst_tree.specs.Walks.{last_leaf, if_none, is_leaf}
+use Rattle.typst_tree.proofs.WalksInPreorder.{length_preorder}
+
+if_none_assoc : (x y z : Option ℕ) → if_none (if_none x y) z ≡ if_none x (if_none y z)
+if_none_assoc None y z = refl
+if_none_assoc (Some n) y z = refl
+
+pub if_none_nothing : (x : Option ℕ) → if_none x None ≡ x
+if_none_nothing None = refl
+if_none_nothing (Some n) = refl
+
+pub last_append : (b n : ℕ) (xs ys : List Tree) → last_leaf b n (xs ++ ys) ≡ if_none (last_leaf b (n + length xs) ys) (last_leaf b n xs)
+last_append b n [] ys = simp unary_clauses (sym (if_none_nothing (last_leaf b n ys)))
+last_append b n (x ∷ xs) ys =
+    let number : n + 1 + length xs ≡ n + suc (length xs) = omega arith in
+    rw (last_append b (n + 1) xs ys, number) (if_none_assoc (last_leaf b (n + suc (length xs)) ys) (last_leaf b (n + 1) xs) (if nat_lt n b && is_leaf x then Some n else None))
+
+pub last_none : (b n : ℕ) (xs : List Tree) → b ≤ n → last_leaf b n xs ≡ None
+last_none b n [] h = refl
+last_none b n (x ∷ xs) h =
+    let fails : nat_lt n b ≡ false = grind (arith, nat_tests, h) in
+    rw (fails, last_none b (n + 1) xs (omega (arith, h))) refl
+
+pub preorder_append : (xs ys : List Tree) → preorder (forest (xs ++ ys)) ≡ preorder (forest xs) ++ preorder (forest ys)
+preorder_append [] ys = refl
+preorder_append (x ∷ xs) ys = ap (λ zs. x ∷ zs) (rw (preorder_append xs ys) (sym (append_assoc (preorder x.kids) (preorder (forest xs)) (preorder (forest ys)))))
+
+-- a loop from the back has k children left, of which the last is x
+pub record Back (b n : ℕ) (t : Tree) (xs : List Tree) (k i : ℕ) (x : Tree) : Type 0 where
+  pub counted : count (forest (take k xs)) ≡ count (forest (take i xs)) + nodes x
+  pub last : last_leaf b n (t ∷ preorder (forest (take k xs))) ≡ if_none (last_leaf b (n + 1 + count (forest (take i xs))) (places x)) (last_leaf b n (t ∷ preorder (forest (take i xs))))
+
+pub back : (b n : ℕ) (t : Tree) (xs : List Tree) (k i : ℕ) (x : Tree) → k ≡ i + 1 → x ≡ get_or xs i x → i < length xs → Back b n t xs k i x
+back b n t xs k i x next e h =
+    let more : take k xs ≡ take i xs ++ x ∷ [] = ap (λ m. take m xs) next ∙ (take_more xs i x h ∙ ap (λ y. take i xs ++ y ∷ []) (sym e)) in
+    let all : preorder (forest (take k xs)) ≡ preorder (forest (take i xs)) ++ places x = ap (λ ys. preorder (forest ys)) more ∙ (preorder_append (take i xs) (x ∷ []) ∙ ap (λ zs. preorder (forest (take i xs)) ++ zs) (append-nil (places x))) in
+    let number : n + length (t ∷ preorder (forest (take i xs))) ≡ n + 1 + count (forest (take i xs)) = omega (arith, length_preorder (forest (take i xs))) in
+    record {
+      counted = omega (arith, ap length all, length_preorder (forest (take k xs)), length_preorder (forest (take i xs)), length_preorder x.kids, length-append (preorder (forest (take i xs))) (places x));
+      last = ap (λ zs. last_leaf b n (t ∷ zs)) all ∙ (last_append b n (t ∷ preorder (forest (take i xs))) (places x) ∙ ap (λ m. if_none (last_leaf b m (places x)) (last_leaf b n (t ∷ preorder (forest (take i xs))))) number);
+    }
+
+pub last_here : (b n : ℕ) (t : Tree) (xs : List Tree) (k i : ℕ) (x : Tree) (m f : ℕ) → Back b n t xs k i x → m ≡ n + 1 + count (forest (take i xs)) → Some f ≡ last_leaf b m (places x) → Some f ≡ last_leaf b n (t ∷ preorder (forest (take k xs)))
+last_here b n t xs k i x m f w e found =
+    sym (w.last ∙ ap (λ o. if_none o (last_leaf b n (t ∷ preorder (forest (take i xs))))) (ap (λ j. last_leaf b j (places x)) (sym e) ∙ sym found))
+
+pub last_next : (b n : ℕ) (t : Tree) (xs : List Tree) (k i : ℕ) (x : Tree) (m : ℕ) → Back b n t xs k i x → m ≡ n + 1 + count (forest (take i xs)) → None ≡ last_leaf b m (places x) → last_leaf b n (t ∷ preorder (forest (take k xs))) ≡ last_leaf b n (t ∷ preorder (forest (take i xs)))
+last_next b n t xs k i x m w e nothing =
+    w.last ∙ ap (λ o. if_none o (last_leaf b n (t ∷ preorder (forest (take i xs))))) (ap (λ j. last_leaf b j (places x)) (sym e) ∙ sym nothing)
+
+pub last_alone : (b n : ℕ) (t : Tree) (xs : List Tree) (i : ℕ) → n < b → i ≡ 0 → last_leaf b n (t ∷ preorder (forest (take i xs))) ≡ (if is_leaf t then Some n else None)
+last_alone b n t xs i h e =
+    let below : nat_lt n b ≡ true = grind (arith, nat_tests, h) in
+    rw (e, below) refl
+
+-- the last leaf is one of the nodes
+last_case : (o : Option ℕ) (x : Bool) (n k m : ℕ) → if_none o (if x then Some n else None) ≡ Some k → (o ≡ Some k → (n + 1 ≤ k) × (k < n + 1 + m)) → (n ≤ k) × (k < n + suc m)
+last_case None true n k m e f = let same : n ≡ k = same_Some n k e in (omega (arith, same), omega (arith, same))
+last_case None false n k m e f = absurd (none-some k e)
+last_case (Some i) x n k m e f = let r = f e in (omega (arith, r.0), omega (arith, r.1))
+
+pub last_within : (b n k : ℕ) (xs : List Tree) → last_leaf b n xs ≡ Some k → (n ≤ k) × (k < n + length xs)
+last_within b n k [] e = absurd (none-some k e)
+last_within b n k (x ∷ xs) e =
+    last_case (last_leaf b (n + 1) xs) (nat_lt n b && is_leaf x) n k (length xs) e (λ f. last_within b (n + 1) k xs f)

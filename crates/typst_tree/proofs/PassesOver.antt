@@ -1,0 +1,98 @@
+-- Where a walk finds nothing for sure.
+use Rattle.std.proofs.Common.{◌≡◌, ℕ, ◌+◌, ◌<◌, ◌≤◌, ◌==◌, Bool, true, false, ◌&&◌, List, [], ◌∷◌, ◌++◌, length, None, Some, refl, inl, inr, eq-eqb, ap, ◌∙◌, arith, length-append}
+use Rattle.std.specs.Prelude.{nat_le, nat_lt}
+use Rattle.std.specs.List.{list_any}
+use Rattle.std.proofs.lemmas.Bool.{cases_eq}
+use Rattle.std.proofs.lemmas.Bool.Decides.{nat_tests}
+use Rattle.typst_node.specs.Tree.{Forest, none, more, Tree, count, nodes, joined, text_of, preorder, places, saturated}
+use Rattle.typst_tree.specs.Walks.{numbers, texts, first_at, has_place, has_child, is_leaf_from, holds_byte, is_childless}
+use Rattle.typst_tree.proofs.WalksInPreorder.{length_preorder, length_places, texts_preorder, first_append, none_between}
+
+pub no_place_before : (k n a : ℕ) (t : Tree) → k < n → first_at (has_place k) n a (places t) ≡ None
+no_place_before k n a t h =
+    none_between (has_place k) n a (places t) (λ m b u l e. grind (arith, nat_tests, h, l))
+
+pub no_place_after : (k n a : ℕ) (t : Tree) → n + nodes t ≤ k → first_at (has_place k) n a (places t) ≡ None
+no_place_after k n a t h =
+    none_between (has_place k) n a (places t) (λ m b u l e. let below : m < k = omega (arith, h, e, length_places t) in grind (arith, nat_tests, below))
+
+pub no_leaf : (k n a : ℕ) (t : Tree) → n + nodes t ≤ k → first_at (is_leaf_from k) n a (places t) ≡ None
+no_leaf k n a t h =
+    none_between (is_leaf_from k) n a (places t) (λ m b u l e.
+    let below : m < k = omega (arith, h, e, length_places t) in
+    let fails : nat_le k m ≡ false = grind (arith, nat_tests, below) in
+    rw fails refl)
+
+no_number_below : (k n : ℕ) (f : Forest) → k < n → list_any (λ m. m == k) (numbers n f) ≡ false
+no_number_below k n none h = refl
+no_number_below k n (more g ks r) h =
+    let fails : (n == k) ≡ false = grind (arith, nat_tests, h) in
+    rw (fails, no_number_below k (n + 1 + count ks) r (omega (arith, h))) refl
+
+no_number_above : (k n : ℕ) (f : Forest) → n + count f ≤ k → list_any (λ m. m == k) (numbers n f) ≡ false
+no_number_above k n none h = refl
+no_number_above k n (more g ks r) h =
+    let below : n < k = omega (arith, h) in
+    let fails : (n == k) ≡ false = grind (arith, nat_tests, below) in
+    rw (fails, no_number_above k (n + 1 + count ks) r (omega (arith, h))) refl
+
+pub no_child_before : (k n a : ℕ) (t : Tree) → k ≤ n → first_at (has_child k) n a (places t) ≡ None
+no_child_before k n a t h =
+    none_between (has_child k) n a (places t) (λ m b u l e. no_number_below k (m + 1) u.kids (omega (arith, h, l)))
+
+no_child_above : (k n a : ℕ) (f : Forest) → n + count f ≤ k → first_at (has_child k) n a (preorder f) ≡ None
+no_child_above k n a none h = refl
+no_child_above k n a (more g ks r) h =
+    let here : list_any (λ m. m == k) (numbers (n + 1) ks) ≡ false = no_number_above k (n + 1) ks (omega (arith, h)) in
+    let below : first_at (has_child k) (n + 1) (a + length g.text) (preorder ks) ≡ None = no_child_above k (n + 1) (a + length g.text) ks (omega (arith, h)) in
+    rw (here, first_append (has_child k) (n + 1) (a + length g.text) (preorder ks) (preorder r), below)
+    (no_child_above k (n + 1 + length (preorder ks)) (a + length g.text + length (texts (preorder ks))) r (omega (arith, h, length_preorder ks)))
+
+pub no_child_after : (k n a : ℕ) (t : Tree) → n + nodes t ≤ k → first_at (has_child k) n a (places t) ≡ None
+no_child_after k n a t h =
+    let here : list_any (λ m. m == k) (numbers (n + 1) t.kids) ≡ false = no_number_above k (n + 1) t.kids (omega (arith, h)) in
+    rw here (no_child_above k (n + 1) (a + length t.head.text) t.kids (omega (arith, h)))
+
+and_false : (x y : Bool) → (x && (y && false)) ≡ false
+and_false true true = refl
+and_false true false = refl
+and_false false y = refl
+
+never : (x : Bool) → (x && false) ≡ false
+never true = refl
+never false = refl
+
+pub no_byte_before : (b n a : ℕ) (xs : List Tree) → b < saturated a → first_at (holds_byte b) n a xs ≡ None
+no_byte_before b n a [] h = refl
+no_byte_before b n a (x ∷ xs) h =
+    let fails : nat_le (saturated a) b ≡ false = grind (arith, nat_tests, h) in
+    let here : holds_byte b n (saturated a) x ≡ false = rw fails (never (is_childless x.kids)) in
+    rw (here, no_byte_before b (n + 1) (a + length x.head.text) xs (omega (arith, h))) refl
+
+-- a node that ends by the byte b doesn't hold it
+ended : (b n a : ℕ) (t : Tree) → saturated (a + length (text_of t)) ≤ b → holds_byte b n (saturated a) t ≡ false
+ended b n a t h =
+    let reach : b < saturated (saturated a + length (text_of t)) → ⊥ = λ l. omega (arith, h, l) in
+    let fails : nat_lt b (saturated (saturated a + length (text_of t))) ≡ false = grind (arith, nat_tests, reach) in
+    rw fails (and_false (is_childless t.kids) (nat_le (saturated a) b))
+
+no_byte_above : (b n a : ℕ) (f : Forest) → saturated (a + length (joined f)) ≤ b → first_at (holds_byte b) n a (preorder f) ≡ None
+no_byte_above b n a none h = refl
+no_byte_above b n a (more g ks r) h =
+    let whole : length (g.text ++ (joined ks ++ joined r)) ≡ length g.text + (length (joined ks) + length (joined r)) = length-append g.text (joined ks ++ joined r) ∙ ap (λ n. length g.text + n) (length-append (joined ks) (joined r)) in
+    let own : length (g.text ++ joined ks) ≡ length g.text + length (joined ks) = length-append g.text (joined ks) in
+    let here : holds_byte b n (saturated a) (record { head = g; kids = ks }) ≡ false = ended b n a (record { head = g; kids = ks }) (omega (arith, h, whole, own)) in
+    let below : first_at (holds_byte b) (n + 1) (a + length g.text) (preorder ks) ≡ None = no_byte_above b (n + 1) (a + length g.text) ks (omega (arith, h, whole)) in
+    rw (here, first_append (holds_byte b) (n + 1) (a + length g.text) (preorder ks) (preorder r), below)
+    (no_byte_above b (n + 1 + length (preorder ks)) (a + length g.text + length (texts (preorder ks))) r (omega (arith, h, whole, ap length (texts_preorder ks))))
+
+pub no_byte_after : (b n a : ℕ) (t : Tree) → saturated (a + length (text_of t)) ≤ b → first_at (holds_byte b) n a (places t) ≡ None
+no_byte_after b n a t h =
+    let own : length (t.head.text ++ joined t.kids) ≡ length t.head.text + length (joined t.kids) = length-append t.head.text (joined t.kids) in
+    rw (ended b n a t h) (no_byte_above b (n + 1) (a + length t.head.text) t.kids (omega (arith, h, own)))
+
+-- the node with a number is found
+pub place_found : (k n a : ℕ) (xs : List Tree) → n ≤ k → k < n + length xs → first_at (has_place k) n a xs ≡ Some k
+place_found k n a [] l h = absurd (omega (arith, l, h))
+place_found k n a (x ∷ xs) l h =
+    elim (cases_eq n k) [ inl same ↦ (let holds : (n == k) ≡ true = eq-eqb n k same in rw holds (ap (λ m. Some m) same)) | inr other ↦ (let fails : (n == k) ≡ false = grind (arith, nat_tests, other) in rw fails (place_found k (n + 1) (a + length x.head.text) xs (omega (arith, l, other)) (omega (arith, h)))) ]
