@@ -70,7 +70,7 @@ changed-long (renamed kind) ts = on_first-long _ ts
 changed-long unparened ts = on_first-long _ ts
 
 -- behind what several nodes became there stand no more empty errors than before it, or than one where a node was given
-Counts : Shape → List Tree → Point → Type 0
+abbrev pub Counts : Shape → List Tree → Point → Type 0
 Counts shape ts s = ((after_shape shape ts s).empties + length ts ≤ s.empties + length (shaped shape ts)) ⊎ (((after_shape shape ts s).empties ≤ 1) × (0 < length (shaped shape ts)))
 
 change-counts : (b c : Bool) (text : List ℕ) (s : Point) → ((if b then s else after_node c text s).empties + 1 ≤ s.empties + 1) ⊎ (((if b then s else after_node c text s).empties ≤ 1) × (0 < 1))
@@ -80,8 +80,7 @@ change-counts false c text s = inr (after_node-le c text s, omega arith)
 one-long : (change : Change) (t : Tree) → length (first_changed change (t ∷ [])) ≡ 1
 one-long change t = changed-long change (t ∷ [])
 
-shape-counts : (shape : Shape) (ts : List Tree) (s : Point) → Counts shape ts s
-unfolding Counts
+pub shape-counts : (shape : Shape) (ts : List Tree) (s : Point) → Counts shape ts s
 shape-counts (keeps change) [] s = inl (omega (arith, changed-long change []))
 shape-counts (keeps change) (t ∷ []) s = elim (change-counts (is_error t.head.kind) (is_error (changed change t).head.kind) (text_of t) s) [
   | inl a ↦ inl (omega (arith, a, one-long change t))
@@ -94,7 +93,6 @@ shape-counts (warns kind message hint) ts s = inr (omega arith, omega arith)
 shape-counts (fails message) ts s = inr (count-le (text_joined (forest ts)), omega arith)
 
 tidy-reshaped : {A : Type 0} (s : Point) (shape : Shape) (n : ℕ) (o : Outcome A) → Tidy s o → Tidy s (reshaped shape n o)
-unfolding Counts
 tidy-reshaped s shape n o h =
     let m = n + o.back in
     let ts = inside n o in
@@ -135,7 +133,7 @@ tidy-nestings f begin m h (suc n) x z s =
     tidy-reshaped s (f q.value) (before begin s) q
     (backs-if s b (joined o p) (as_last o) (backs-joined s o p (h x z s) (tidy-nestings f begin m h n o.value.1 (moved o.taken z) o.state)) (record { back = (h x z s).back; left = (h x z s).left }))
 
-left-empties : (outer : _) (s : Point) → (left outer s).empties ≡ s.empties
+pub left-empties : (outer : _) (s : Point) → (left outer s).empties ≡ s.empties
 left-empties outer s = on_both (λ (t : Point). t.empties ≡ s.empties) (same_mode s.reading.mode outer.mode) _ _ (omega arith) (omega arith)
 
 flushed-le : (h : Hand) (s : Point) → (flushed_state h s).empties ≤ s.empties

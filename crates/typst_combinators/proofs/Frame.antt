@@ -239,7 +239,7 @@ first_asks : {A : Type 0} (b : Bool) (x u : Outcome A) (ls : List Ask) (z w : Pl
 first_asks true x u ls z w f g h = f h
 first_asks false x u ls z w f g h = g h
 
-framed-turns : {A : Type 0} (m : A → Meaning (Bool × A)) → ((x : A) → Framed (m x)) → (n : ℕ) (x : A) → Framed (turns m n x)
+pub framed-turns : {A : Type 0} (m : A → Meaning (Bool × A)) → ((x : A) → Framed (m x)) → (n : ℕ) (x : A) → Framed (turns m n x)
 framed-turns m f zero x z w s h = refl
 framed-turns m f (suc n) x z w s h =
     let o = m x z s in
@@ -257,14 +257,14 @@ framed-repeated m w f x z v s h =
     there ∙ framed-turns m f k x z v s (subst (λ o. SameIn o.asks z v) here h) ∙ sym here
 
 -- what grows asked first what it began with
-grown-asks : {A : Type 0} (n : ℕ) (shape : Option Shape) (o : Outcome A) → (grown n shape o).asks ≡ o.asks
+pub grown-asks : {A : Type 0} (n : ℕ) (shape : Option Shape) (o : Outcome A) → (grown n shape o).asks ≡ o.asks
 grown-asks n None o = refl
 grown-asks n (Some shape) o = refl
 
-grew-asks : {A : Type 0} (n : ℕ) (o : Outcome A) (p : Outcome (Option Shape × A)) (z w : Place) → SameIn (grew n o p).asks z w → SameIn (o.asks ++ shift o.taken p.asks) z w
+pub grew-asks : {A : Type 0} (n : ℕ) (o : Outcome A) (p : Outcome (Option Shape × A)) (z w : Place) → SameIn (grew n o p).asks z w → SameIn (o.asks ++ shift o.taken p.asks) z w
 grew-asks n o p z w h = subst (λ ls. SameIn ls z w) (grown-asks n p.value.0 (answered p.value.1 (joined o p))) h
 
-growths-asks : {A : Type 0} (m : A → Meaning (Option Shape × A)) (n k : ℕ) (o : Outcome A) (z w : Place) → SameIn (growths m n k o z).asks z w → SameIn o.asks z w
+pub growths-asks : {A : Type 0} (m : A → Meaning (Option Shape × A)) (n k : ℕ) (o : Outcome A) (z w : Place) → SameIn (growths m n k o z).asks z w → SameIn o.asks z w
 growths-asks m n zero o z w h = h
 growths-asks m n (suc k) o z w h =
     let p = m o.value (moved o.taken z) o.state in
@@ -297,7 +297,7 @@ framed-growing m first n b c f g z w s h =
     let e = g z w s (growths-asks m (n s) k (first z s) z w l) in
     there ∙ ap (λ o. growths m (n s) k o w) e ∙ framed-growths m f (n s) k (first z s) z w l ∙ sym here
 
-framed-nestings : {A : Type 0} (f : A → Shape) (begin : Begin) (m : A → Meaning (Bool × A)) → ((x : A) → Framed (m x)) → (n : ℕ) (x : A) → Framed (nestings f begin m n x)
+pub framed-nestings : {A : Type 0} (f : A → Shape) (begin : Begin) (m : A → Meaning (Bool × A)) → ((x : A) → Framed (m x)) → (n : ℕ) (x : A) → Framed (nestings f begin m n x)
 framed-nestings f begin m g zero x z w s h = refl
 framed-nestings f begin m g (suc n) x z w s h =
     let o = m x z s in
@@ -356,7 +356,7 @@ module _ (l : Level) where
   at_hand : (z w : Place) (s : Point) → SameIn (hand_asks_of l z s) z w → Same_hand (hand_of l z s) (hand_of l w s) (hand_asks_of l z s) (hand_asks_of l w s) z w
   at_hand z w s h = hand-frame l.classes s.held s.known z w h
 
-  framed-done : {A : Type 0} (o : Op A) → Framed (done l o)
+  pub framed-done : {A : Type 0} (o : Op A) → Framed (done l o)
   framed-done hand z w s h =
       let e = at_hand z w s h in
       ap (shown s (hand_asks_of l w s)) e.hand ∙ ap (λ ls. shown s ls (hand_of l z s)) e.asks

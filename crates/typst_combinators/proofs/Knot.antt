@@ -35,7 +35,7 @@ sane-run l d e p = record {
   rests = rests-run l (λ c. (d c).rests) (λ b. (e b).rests) p;
 }
 
-sane-plain : {A : Type 0} (a : A) → Sane (λ z s. plain a s)
+pub sane-plain : {A : Type 0} (a : A) → Sane (λ z s. plain a s)
 sane-plain a = record {
   framed = λ z w s h. refl;
   kept = λ z s h. record { text = refl; known = h; blank = blank-nil s.empties };

@@ -46,7 +46,7 @@ ahead-short k m (suc n) z =
 -- ---- no more is taken than there is
 
 -- so many characters were taken, behind which so much is known
-abbrev Room : Place → ℕ → ℕ → ℕ → Type 0
+abbrev pub Room : Place → ℕ → ℕ → ℕ → Type 0
 Room z known taken gap = taken + max gap (length (moved taken z).ahead) ≤ max known (length z.ahead)
 
 -- the token at hand, or another one at its place, is there
@@ -86,7 +86,7 @@ so-fits k held known z r =
     omega (arith, trivia-short k held known z, ahead-left g z, ahead-left (g + len_by r (moved g z)) z)
 
 -- what is known behind a part of a parser
-abbrev Enough : {A : Type 0} → Place → ℕ → Outcome A → Type 0
+abbrev pub Enough : {A : Type 0} → Place → ℕ → Outcome A → Type 0
 Enough z known o = Room z known o.taken (gap_of o.state.known)
 
 enough-plain : {A : Type 0} (a : A) (z : Place) (s : Point) → Enough z (gap_of s.known) (plain a s)
@@ -164,7 +164,7 @@ enough-grown : {A : Type 0} (z : Place) (known n : ℕ) (shape : Option Shape) (
 enough-grown z known n None o h = h
 enough-grown z known n (Some shape) o h = enough-reshaped z known shape n o h
 
-enough-grew : {A : Type 0} (z : Place) (known n : ℕ) (o : Outcome A) (p : Outcome (Option Shape × A)) → Enough z known o → Enough (moved o.taken z) (gap_of o.state.known) p → Enough z known (grew n o p)
+pub enough-grew : {A : Type 0} (z : Place) (known n : ℕ) (o : Outcome A) (p : Outcome (Option Shape × A)) → Enough z known o → Enough (moved o.taken z) (gap_of o.state.known) p → Enough z known (grew n o p)
 enough-grew z known n o p h k = enough-grown z known n p.value.0 (answered p.value.1 (joined o p)) (enough-joined z known o p h k)
 
 enough-growths : {A : Type 0} (m : A → Meaning (Option Shape × A)) → ((x : A) → Within (m x)) → (n k : ℕ) (z : Place) (known : ℕ) (o : Outcome A) → Enough z known o → Enough z known (growths m n k o z)
@@ -174,7 +174,7 @@ enough-growths m w n (suc k) z known o h =
     let e = enough-grew z known n o p h (w o.value (moved o.taken z) o.state) in
     on_both (Enough z known) (is_more p.value.0 && nat_lt 0 p.taken) _ _ (enough-growths m w n k z known (grew n o p) e) e
 
-grown-taken : {A : Type 0} (n : ℕ) (shape : Option Shape) (o : Outcome A) → (grown n shape o).taken ≡ o.taken
+pub grown-taken : {A : Type 0} (n : ℕ) (shape : Option Shape) (o : Outcome A) → (grown n shape o).taken ≡ o.taken
 grown-taken n None o = refl
 grown-taken n (Some shape) o = refl
 

@@ -1,0 +1,106 @@
+-- Each block of the grammar ends in its node.
+use Rattle.std.proofs.Common.{◌≡◌, ℕ, ◌+◌, ◌-◌, Bool, true, false, if◌then◌else◌, List, [], ◌∷◌, ◌++◌, length, take, drop, append-nil, append_assoc, refl, ap, sym, ◌∙◌, subst, arith}
+use Rattle.typst_kinds.specs.declared.kind.SyntaxKind.TheVariants as kind
+use Rattle.typst_node.specs.Tree.{Tree, forest, inner_of}
+use Rattle.typst_lines.specs.Place.{Place, moved}
+use Rattle.typst_classes.specs.Classes.{CharClasses}
+use Rattle.typst_combinators.specs.declared.calls.Block.{Block}
+use Rattle.typst_combinators.specs.declared.calls.Block.TheVariants as block
+use Rattle.typst_combinators.specs.Point.{Point}
+use Rattle.typst_combinators.specs.Shape.{hinted, Shape, shaped}
+use Rattle.typst_combinators.specs.Steps.{peek, node}
+use Rattle.typst_combinators.specs.Syntax.{Parser, ◌>>=◌, ◌>>◌}
+use Rattle.typst_combinators.specs.Syntax.Begin.{at_token}
+use Rattle.typst_combinators.specs.Syntax.Parser.{gives, next, wraps}
+use Rattle.typst_combinators.specs.Knot.{blocks_of, meaning_of}
+use Rattle.typst_combinators.specs.Meaning.{Outcome, Level, plain, less, joined, answered, before, inside, wrapped, blockless, run}
+use Rattle.typst_combinators.proofs.Places.{less-append, less-none}
+use Rattle.typst_markup.specs.Markup.{bracketed, content_block}
+use Rattle.typst_grammar.specs.Grammar.{rules, has}
+use Rattle.typst_reuse.specs.Spot.{block_head, last_node}
+use Rattle.typst_reuse.proofs.Law.{Ends}
+
+-- what is given ends in an inner node of the block's kind
+record EndsIn {A : Type 0} (b : Block) (o : Outcome A) : Type 0 where
+  front : List Tree
+  node : Tree
+  nodes : o.nodes ≡ front ++ node ∷ []
+  head : node.head ≡ block_head b
+  empties : o.state.empties ≡ 0
+
+last-is : (front : List Tree) (x : Tree) → last_node (front ++ x ∷ []) ≡ x
+last-is [] x = refl
+last-is (t ∷ []) x = refl
+last-is (t ∷ u ∷ ts) x = last-is (u ∷ ts) x
+
+less-one : (x : Tree) → less 1 (x ∷ []) ≡ []
+unfolding less
+less-one x = refl
+
+less-last : (front : List Tree) (x : Tree) → less 1 (front ++ x ∷ []) ≡ front
+less-last front x = less-append 1 front (x ∷ []) ∙ ap (λ u. less 0 front ++ u) (less-one x) ∙ append-nil (less 0 front) ∙ less-none front
+
+ends-of : (b : Block) (o : Outcome (Unit {0})) → EndsIn b o → Ends b o
+ends-of b o e = record {
+  nodes = e.nodes ∙ sym (ap (λ u. less 1 u ++ last_node u ∷ []) e.nodes ∙ ap (λ u. u ++ last_node (e.front ++ e.node ∷ []) ∷ []) (less-last e.front e.node) ∙ ap (λ u. e.front ++ u ∷ []) (last-is e.front e.node));
+  head = ap (λ u. (last_node u).head) e.nodes ∙ ap (λ (t : Tree). t.head) (last-is e.front e.node) ∙ e.head;
+  empties = e.empties;
+}
+
+ends-joined : {A B : Type 0} (b : Block) (o : Outcome B) (p : Outcome A) → EndsIn b p → EndsIn b (joined o p)
+ends-joined b o p e = record {
+  front = hinted p.hints (less p.back o.nodes) ++ e.front;
+  node = e.node;
+  nodes = ap (λ u. hinted p.hints (less p.back o.nodes) ++ u) e.nodes ∙ sym (append_assoc (hinted p.hints (less p.back o.nodes)) e.front (e.node ∷ []));
+  head = e.head;
+  empties = e.empties;
+}
+
+ends-plain : {A B : Type 0} (b : Block) (a : A) (o : Outcome B) → EndsIn b o → EndsIn b (joined o (plain a o.state))
+ends-plain b a o e = record {
+  front = e.front;
+  node = e.node;
+  nodes = append-nil (less 0 o.nodes) ∙ less-none o.nodes ∙ e.nodes;
+  head = e.head;
+  empties = e.empties;
+}
+
+-- what is bracketed becomes one node
+ends-bracketed : (n : ℕ) (closed : Bool) (o : Outcome Bool) → o.value ≡ closed → EndsIn block.Content (wrapped bracketed n o)
+ends-bracketed n true o e = record {
+  front = take (n + o.back) o.nodes;
+  node = _;
+  nodes = ap (λ c. take (n + o.back) o.nodes ++ shaped (bracketed c) (inside n o)) e;
+  head = refl;
+  empties = ap (λ c. (wrapped (λ v. bracketed c) n o).state.empties) e;
+}
+ends-bracketed n false o e = record {
+  front = take (n + o.back) o.nodes;
+  node = _;
+  nodes = ap (λ c. take (n + o.back) o.nodes ++ shaped (bracketed c) (inside n o)) e;
+  head = refl;
+  empties = ap (λ c. (wrapped (λ v. bracketed c) n o).state.empties) e;
+}
+
+ends-node : (l : Level) (p : Parser Bool) (z : Place) (s : Point) → EndsIn block.Content (run l (node bracketed p) z s)
+unfolding run node
+ends-node l p z s =
+    let o = run l peek z s in
+    let w = moved o.taken z in
+    let q = run l p w o.state in
+    let n = before at_token o.state in
+    ends-joined block.Content o _ (ends-plain block.Content q.value (wrapped bracketed n q) (ends-bracketed n q.value q refl))
+
+ends-content : (l : Level) (z : Place) (s : Point) → EndsIn block.Content (run l (peek >> content_block) z s)
+unfolding run content_block
+ends-content l z s =
+    let o = run l peek z s in
+    let w = moved o.taken z in
+    ends-joined block.Content o _ (ends-plain block.Content tt (run l (node bracketed _) w o.state) (ends-node l _ w o.state))
+
+no-block : {P : Type 0} → false ≡ true → P
+no-block h = cc
+
+pub ends : (k : CharClasses) (levels : ℕ) (b : Block) → has b ≡ true → (z : Place) (s : Point) → Ends b (blocks_of rules k levels (meaning_of rules k levels) b z s)
+ends k levels block.Content h z s = ends-of block.Content _ (ends-content (blockless k levels (meaning_of rules k levels)) z s)
+ends k levels block.Code h z s = no-block h

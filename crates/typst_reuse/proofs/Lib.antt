@@ -1,0 +1,10 @@
+pub mod Every
+pub mod Outcomes
+pub mod Wrap
+pub mod Inside
+pub mod Spots
+pub mod Grows
+pub mod Law
+pub mod Edit
+pub mod Blocks
+pub mod Text

@@ -1,0 +1,21 @@
+-- The block law of a whole text.
+use Rattle.std.proofs.Common.{◌≡◌, ℕ, List, ◌++◌, refl, ap, ◌∙◌}
+use Rattle.typst_kinds.specs.declared.kind.SyntaxKind.TheVariants as kind
+use Rattle.typst_node.specs.Tree.{forest, inner_of}
+use Rattle.typst_combinators.specs.Meaning.{start_point}
+use Rattle.typst_markup.specs.Markup.{markup_reading}
+use Rattle.typst_grammar.specs.Grammar.{rules, max_depth, start_of, whole, parsed, tree}
+use Rattle.typst_reuse.specs.Edit.{text_with}
+use Rattle.typst_reuse.specs.Laws.{blocks_of_text, BlockLaw, Kept}
+use Rattle.typst_reuse.proofs.Blocks.{ends}
+use Rattle.typst_reuse.proofs.Law.{inside-level}
+use Rattle.typst_reuse.proofs.Edit.{edited}
+
+pub block-law : BlockLaw
+unfolding blocks_of_text tree
+block-law k front old new rest c past x i h =
+    let o = parsed k max_depth (front ++ (old ++ rest)) in
+    let n = parsed k max_depth (front ++ (new ++ rest)) in
+    let laws = inside-level rules k (ends k) max_depth whole (text_with front old rest) (text_with front new rest) (start_point markup_reading) in
+    let e = edited front old new rest o n _ laws c past x i h in
+    record { reading = e; tree = ap (λ ts. inner_of kind.Markup (forest ts)) e.nodes }

@@ -1,0 +1,27 @@
+-- Laws of edits of a text.
+use Rattle.std.specs.Prelude.{◌≡◌, ℕ, List, []}
+use Rattle.typst_node.specs.Tree.{Tree, forest, inner_of}
+use Rattle.typst_kinds.specs.declared.kind.SyntaxKind.TheVariants as kind
+use Rattle.typst_classes.specs.Classes.{CharClasses}
+use Rattle.typst_combinators.specs.Meaning.{start_point}
+use Rattle.typst_markup.specs.Markup.{markup_reading}
+use Rattle.typst_grammar.specs.Grammar.{rules, max_depth, start_of, whole, parsed, tree}
+use Rattle.std.specs.Prelude.{◌++◌}
+use Rattle.typst_reuse.specs.Hole.{path_of}
+use Rattle.typst_reuse.specs.Spot.{Spot, unit_at}
+use Rattle.typst_reuse.specs.Occurrences.{level_spots}
+use Rattle.typst_reuse.specs.Edit.{Among, text_with, Passes, replaced, Edited}
+
+-- the blocks of a text, each with what stands around it
+unfoldable pub blocks_of_text : CharClasses → List ℕ → List (Spot (Unit {0}))
+blocks_of_text k text = level_spots rules k max_depth whole (start_of text) (start_point markup_reading)
+
+-- What the reading and the tree of the new text are, where an edit inside a block passes the test.
+pub record Kept (k : CharClasses) (front old new rest : List ℕ) (c : Spot (Unit {0})) (x : Tree) : Type 0 where
+  pub reading : Edited (parsed k max_depth (front ++ (old ++ rest))) (parsed k max_depth (front ++ (new ++ rest))) c (unit_at c (text_with front old rest)) (unit_at c (text_with front new rest)) x
+  pub tree : tree k (front ++ (new ++ rest)) ≡ inner_of kind.Markup (forest (replaced (path_of c.hole) x (parsed k max_depth (front ++ (old ++ rest))).nodes))
+
+-- The block law: where an edit inside a block passes the test, the reading of the new text is the old one with the block's node and its part of the log exchanged.
+abbrev pub BlockLaw : Type 0
+BlockLaw = (k : CharClasses) (front old new rest : List ℕ) (c : Spot (Unit {0})) (past : ℕ) (x : Tree)
+    → Among c (blocks_of_text k (front ++ (old ++ rest))) → Passes front old new rest c past x → Kept k front old new rest c x

@@ -1,0 +1,6 @@
+pub mod Hole
+pub mod Spot
+pub mod Occurrences
+pub mod Edit
+pub mod Laws
+pub mod Examples

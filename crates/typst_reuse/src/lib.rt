@@ -1,0 +1,6 @@
+//! What an edit may keep of a tree.
+#![tactic(auto)]
+
+mod laws;
+
+pub use laws::{block_law, blocks_of_texts};
