@@ -97,7 +97,7 @@ replaced-plug h x y = alter-at (put (path_in h.deep) x) h.left (fill h.deep y) h
 
 -- ---- the law
 
-among : {X : Type 0} (P : X → Type 0) (x : X) (xs : List X) → Among x xs → Every P xs → P x
+pub among : {X : Type 0} (P : X → Type 0) (x : X) (xs : List X) → Among x xs → Every P xs → P x
 among P x ys (this xs) h = h.0
 among P x ys (that y xs i) h = among P x xs i h.1
 

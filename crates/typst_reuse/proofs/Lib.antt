@@ -8,3 +8,4 @@ pub mod Law
 pub mod Edit
 pub mod Blocks
 pub mod Text
+pub mod Names

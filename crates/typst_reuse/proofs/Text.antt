@@ -6,10 +6,12 @@ use Rattle.typst_combinators.specs.Meaning.{start_point}
 use Rattle.typst_markup.specs.Markup.{markup_reading}
 use Rattle.typst_grammar.specs.Grammar.{rules, max_depth, start_of, whole, parsed, tree}
 use Rattle.typst_reuse.specs.Edit.{text_with}
-use Rattle.typst_reuse.specs.Laws.{blocks_of_text, BlockLaw, Kept}
+use Rattle.typst_reuse.specs.Laws.{blocks_of_text, BlockLaw, Kept, NamesLaw, block_at}
+use Rattle.typst_reuse.specs.Named.{Named}
 use Rattle.typst_reuse.proofs.Blocks.{ends}
 use Rattle.typst_reuse.proofs.Law.{inside-level}
-use Rattle.typst_reuse.proofs.Edit.{edited}
+use Rattle.typst_reuse.proofs.Edit.{among, edited}
+use Rattle.typst_reuse.proofs.Names.{named-level}
 
 pub block-law : BlockLaw
 unfolding blocks_of_text tree
@@ -19,3 +21,7 @@ block-law k front old new rest c past x i h =
     let laws = inside-level rules k (ends k) max_depth whole (text_with front old rest) (text_with front new rest) (start_point markup_reading) in
     let e = edited front old new rest o n _ laws c past x i h in
     record { reading = e; tree = ap (λ ts. inner_of kind.Markup (forest ts)) e.nodes }
+
+pub names-law : NamesLaw
+unfolding blocks_of_text
+names-law k text c i = among (Named (block_at k) max_depth) c _ i (named-level rules k max_depth whole (start_of text) (start_point markup_reading))

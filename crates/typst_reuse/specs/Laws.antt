@@ -3,11 +3,14 @@ use Rattle.std.specs.Prelude.{◌≡◌, ℕ, List, []}
 use Rattle.typst_node.specs.Tree.{Tree, forest, inner_of}
 use Rattle.typst_kinds.specs.declared.kind.SyntaxKind.TheVariants as kind
 use Rattle.typst_classes.specs.Classes.{CharClasses}
-use Rattle.typst_combinators.specs.Meaning.{start_point}
+use Rattle.typst_combinators.specs.declared.calls.Block.{Block}
+use Rattle.typst_combinators.specs.Knot.{blocks_of, meaning_of}
+use Rattle.typst_combinators.specs.Meaning.{Meaning, start_point}
 use Rattle.typst_markup.specs.Markup.{markup_reading}
 use Rattle.typst_grammar.specs.Grammar.{rules, max_depth, start_of, whole, parsed, tree}
 use Rattle.std.specs.Prelude.{◌++◌}
 use Rattle.typst_reuse.specs.Hole.{path_of}
+use Rattle.typst_reuse.specs.Named.{Named}
 use Rattle.typst_reuse.specs.Spot.{Spot, unit_at}
 use Rattle.typst_reuse.specs.Occurrences.{level_spots}
 use Rattle.typst_reuse.specs.Edit.{Among, text_with, Passes, replaced, Edited}
@@ -25,3 +28,11 @@ pub record Kept (k : CharClasses) (front old new rest : List ℕ) (c : Spot (Uni
 abbrev pub BlockLaw : Type 0
 BlockLaw = (k : CharClasses) (front old new rest : List ℕ) (c : Spot (Unit {0})) (past : ℕ) (x : Tree)
     → Among c (blocks_of_text k (front ++ (old ++ rest))) → Passes front old new rest c past x → Kept k front old new rest c x
+
+-- what a block reads, where so many levels are left
+abbrev pub block_at : CharClasses → ℕ → Block → Meaning (Unit {0})
+block_at k levels b = blocks_of rules k levels (meaning_of rules k levels) b
+
+-- Each block of a text is read as its name, its level and its state say, and its two marks stand in the log directly around what it asked.
+abbrev pub NamesLaw : Type 0
+NamesLaw = (k : CharClasses) (text : List ℕ) (c : Spot (Unit {0})) → Among c (blocks_of_text k text) → Named (block_at k) max_depth c
