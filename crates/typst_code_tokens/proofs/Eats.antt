@@ -1,5 +1,5 @@
 -- A token of code takes at least one character.
-use Rattle.std.proofs.Common.{◌≡◌, ◌≤◌, ℕ, Bool, true, slice_get, ◌==◌, ◌||◌, arith, Some}
+use Rattle.std.proofs.Common.{◌≡◌, ◌≤◌, ℕ, true, slice_get, ◌==◌, ◌||◌, arith, Some}
 use Rattle.std.specs.Char.{is_ascii_digit}
 use Rattle.typst_classes.specs.Classes.{CharClasses}
 use Rattle.typst_classes.specs.Identifiers.{is_id_continue, is_id_start}

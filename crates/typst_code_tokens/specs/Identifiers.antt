@@ -1,5 +1,5 @@
 -- Identifiers and keywords.
-use Rattle.std.specs.Prelude.{ℕ, Bool, ◌&&◌, if◌then◌else◌, ◌==◌, List, [], ◌∷◌, length, Option, Some, None, codes, encode_utf8_all}
+use Rattle.std.specs.Prelude.{ℕ, if◌then◌else◌, ◌==◌, List, ◌∷◌, length, Option, Some, None, codes, encode_utf8_all}
 use Rattle.std.specs.Str.{bytes_eq}
 use Rattle.typst_classes.specs.Classes.{CharClasses}
 use Rattle.typst_classes.specs.Identifiers.{is_id_continue}

@@ -1,10 +1,10 @@
 -- Facts on tags, and on what is warned of.
-use Rattle.std.proofs.Common.{◌≡◌, ◌≤◌, ◌<◌, ℕ, suc, ◌+◌, ◌-◌, Bool, true, false, not, ◌==◌, List, [], ◌∷◌, length, take, drop, reverse, slice_get, Some, None, refl, sym, ap, ◌∙◌, arith, length-append, length-take-le}
+use Rattle.std.proofs.Common.{◌≡◌, ◌≤◌, ◌<◌, ℕ, suc, ◌+◌, ◌-◌, Bool, true, false, not, ◌==◌, List, [], ◌∷◌, length, take, drop, reverse, slice_get, Some, None, refl, sym, ap, ◌∙◌, arith, length-take-le}
 use Rattle.std.proofs.lemmas.Bool.Decides.{nat_tests}
 use Rattle.std.proofs.lemmas.List.Sums.{prefix_len-le-length}
-use Rattle.std.proofs.lemmas.Str.{chars-nil, encodes-chars, encode_ascii}
+use Rattle.std.proofs.lemmas.Str.{chars-nil, encodes-chars}
 use Rattle.std.specs.List.{prefix_len}
-use Rattle.std.specs.Prelude.{codes, encode_utf8, encode_utf8_all}
+use Rattle.std.specs.Prelude.{codes, encode_utf8_all}
 use Rattle.std.specs.Str.{chars, IsUtf8}
 use Rattle.typst_classes.proofs.AsciiRuns.{run-width}
 use Rattle.typst_classes.specs.Classes.{CharClasses}

@@ -1,4 +1,4 @@
-use Rattle.std.proofs.Common.{◌≡◌, ap, sym, ◌∙◌}
+use Rattle.std.proofs.Common.{ap, sym, ◌∙◌}
 use Rattle.std.specs.Str.{chars}
 use Rattle.typst_code_tokens.proofs.Digits.{none-is, none-based, based-is}
 use Rattle.typst_code_tokens.proofs.numbers.based.Goals as goal

@@ -1,4 +1,3 @@
-use Rattle.std.proofs.Common.{sym}
 use Rattle.typst_code_tokens.proofs.Digits.{suffixed-is}
 use Rattle.typst_code_tokens.proofs.numbers.suffixed.Goals as goal
 

@@ -1,4 +1,4 @@
-use Rattle.std.proofs.Common.{◌==◌, false, sym, ap, refl, ◌∙◌, arith}
+use Rattle.std.proofs.Common.{◌==◌, false, sym, ap, refl, ◌∙◌}
 use Rattle.typst_readers.specs.Sight.{sight}
 use Rattle.typst_code_tokens.proofs.StringSteps.{rest, turn-escaped, turn-last, turn-on, string-on, string-stop, string-open, string-begins}
 use Rattle.typst_code_tokens.proofs.strings.string.Goals as goal

@@ -1,7 +1,6 @@
 use Rattle.std.proofs.Common.{ap, sym, ◌∙◌, ◌++◌, codes}
 use Rattle.std.proofs.lemmas.Str.{encodes-chars}
 use Rattle.std.specs.Str.{chars}
-use Rattle.typst_node.specs.Tree.{Tree}
 use Rattle.typst_token_nodes.proofs.TokenTexts.{fault-is}
 use Rattle.typst_token_nodes.proofs.faults.operator_node.Goals as goal
 use Rattle.typst_token_nodes.specs.Faults.{operator_hints}
