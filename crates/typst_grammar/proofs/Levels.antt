@@ -13,7 +13,7 @@ use Rattle.typst_combinators.specs.Point.{Point}
 use Rattle.typst_combinators.specs.Ask.{Ask}
 use Rattle.typst_combinators.specs.Ask.Ask.{looked, marked}
 use Rattle.typst_combinators.specs.Depth.{is_end}
-use Rattle.typst_combinators.specs.Log.{Log, no_log, blank_log, with_more, with_hull, with_note, logged}
+use Rattle.typst_combinators.specs.Log.{Log, no_log, with_more, with_hull, with_note, logged}
 use Rattle.typst_combinators.specs.Knot.{meaning_of}
 use Rattle.typst_combinators.specs.Meaning.{less, standing}
 use Rattle.typst_combinators.specs.Shape.{hinted}
@@ -23,7 +23,7 @@ use Rattle.typst_combinators.specs.Syntax.{◌>>◌}
 use Rattle.typst_combinators.proofs.Knot.{sound-level}
 use Rattle.typst_machine.specs.declared.depth.Answered.{Answered}
 use Rattle.typst_machine.specs.Cursor.{IsStart}
-use Rattle.typst_machine.specs.View.{View, Runs, ReadsBlock, Goes, Makes, Called, Answers, Fits, Bare, at, listed}
+use Rattle.typst_machine.specs.View.{View, Runs, ReadsBlock, Goes, Called, Answers, Fits, Bare, at, listed}
 use Rattle.typst_markup.specs.Markup.{content_block, markup_run, markup_reading}
 use Rattle.typst_grammar.specs.Grammar.{rules, production, meaning, level_at, max_depth, start_of, whole, parsed, log}
 use Rattle.typst_grammar.specs.Read.{IsParsed}

@@ -1,5 +1,5 @@
 -- What is noted of short texts, as it follows from the definitions.
-use Rattle.std.specs.Prelude.{◌≡◌, ℕ, ◌-◌, ◌^◌, List, [], ◌∷◌, Option, Some, None, codes, map, Bool, true, false}
+use Rattle.std.specs.Prelude.{◌≡◌, ℕ, ◌-◌, ◌^◌, List, [], ◌∷◌, Some, None, codes, map, Bool, true, false}
 use Rattle.typst_classes.specs.Classes.{CharClasses, by_law}
 use Rattle.typst_combinators.specs.declared.calls.Mark.{Mark}
 use Rattle.typst_combinators.specs.declared.calls.Mark.TheVariants as mark

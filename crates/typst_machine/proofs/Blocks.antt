@@ -1,13 +1,11 @@
 -- Blocks, which are noted as units, and the calls that code makes.
-use Rattle.std.proofs.Common.{◌≡◌, ℕ, ◌-◌, ◌≤◌, [], ◌∷◌, ◌++◌, length, refl, ap, sym, subst, ◌∙◌, arith}
+use Rattle.std.proofs.Common.{◌≡◌, ℕ, ◌-◌, [], ◌∷◌, ◌++◌, refl, ap, sym, subst, ◌∙◌, arith}
 use Rattle.std.specs.Prelude.{Result, Ok, Err}
 use Rattle.std.specs.declared.alloc.AllocError.{AllocError}
 use Rattle.typst_lines.specs.Place.{moved}
 use Rattle.typst_combinators.specs.declared.calls.Block.{Block}
 use Rattle.typst_combinators.specs.declared.calls.Call.{Call}
-use Rattle.typst_combinators.specs.declared.calls.Mark.{Mark}
 use Rattle.typst_combinators.specs.declared.calls.Mark.TheVariants.{Opens, Closes}
-use Rattle.typst_combinators.specs.declared.reading.State.{State}
 use Rattle.typst_combinators.specs.Ask.Ask.{marked}
 use Rattle.typst_combinators.specs.Point.{Point, forgot, state_of}
 use Rattle.typst_combinators.specs.Log.{logged, with_note}

@@ -1,5 +1,5 @@
 -- What the parser of the code does to the token at hand.
-use Rattle.std.proofs.Common.{Option, Some, None, ◌≡◌, ℕ, ◌+◌, ◌-◌, ◌^◌, Bool, true, false, if◌then◌else◌, List, [], ◌∷◌, ◌++◌, take, drop, append-nil, refl, ap, sym, ◌∙◌, arith}
+use Rattle.std.proofs.Common.{Option, Some, None, ◌≡◌, ℕ, ◌+◌, Bool, true, false, if◌then◌else◌, List, [], ◌∷◌, ◌++◌, take, drop, refl, ap, sym, ◌∙◌}
 use Rattle.typst_kinds.specs.Kinds.{is_error}
 use Rattle.typst_lines.specs.Place.{Place, moved}
 use Rattle.typst_node.specs.Tree.{Tree, text_of}
@@ -9,22 +9,21 @@ use Rattle.typst_readers.specs.declared.hull.Hull.{Hull}
 use Rattle.typst_combinators.specs.declared.calls.Mark.{Mark}
 use Rattle.typst_combinators.specs.declared.reading.AtNewline.{AtNewline}
 use Rattle.typst_combinators.specs.declared.reading.Reading.{Reading}
-use Rattle.typst_combinators.specs.declared.reading.State.{State}
 use Rattle.typst_combinators.specs.Point.{Point, Trivia, gap_of, is_nil, state_of}
 use Rattle.typst_combinators.specs.Hand.{Hand, column_at, judged, hand_at, hand_asks, known_by}
-use Rattle.typst_combinators.specs.Log.{Log, with_hull, logged}
+use Rattle.typst_combinators.specs.Log.{with_hull, logged}
 use Rattle.typst_combinators.specs.Shape.{Making, Shape, shaped, count_empty, after_node, after_shape}
-use Rattle.typst_combinators.specs.Steps.{flush_trivia, note}
+use Rattle.typst_combinators.specs.Steps.{note}
 use Rattle.typst_combinators.specs.Syntax.Op.{column, takes}
 use Rattle.typst_combinators.specs.Syntax.Parser.{does}
-use Rattle.typst_combinators.specs.Meaning.{Level, asked, flushed_state, hand_of, hand_asks_of, left, less, same_mode, same_rule, renewed, taken_node}
+use Rattle.typst_combinators.specs.Meaning.{Level, flushed_state, less, same_mode, same_rule, renewed, taken_node}
 use Rattle.typst_machine.specs.declared.parser.Parser.TheInside.{Inside}
 use Rattle.typst_machine.specs.Bytes.{column_hull, token_hull, whole_at}
 use Rattle.typst_machine.specs.Cursor.{hand_of_ahead, view_of}
-use Rattle.typst_machine.specs.View.{View, Goes, Does, Fits, Bare, Looked, Left, Flushed, Rewrapped, unasked, noted_here, with_noted}
+use Rattle.typst_machine.specs.View.{View, Goes, Does, Fits, Bare, Looked, Left, Rewrapped, unasked, noted_here, with_noted}
 use Rattle.typst_machine.proofs.Logs.{logged-none, logged-some}
 use Rattle.typst_machine.proofs.Runs.{column_seen, fits-looked, asked-log}
-use Rattle.typst_machine.proofs.Steps.{does-flush, does-note, does-column, does-takes}
+use Rattle.typst_machine.proofs.Steps.{does-note, does-column, does-takes}
 
 pub count-some : (text : List ℕ) → (text ≡ [] → ⊥) → 0 ≡ count_empty text
 count-some [] h = absurd (h refl)

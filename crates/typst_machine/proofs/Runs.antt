@@ -1,5 +1,5 @@
 -- How runs of the code compose.
-use Rattle.std.proofs.Common.{Option, Some, None, ◌≡◌, ℕ, suc, ◌+◌, ◌-◌, ◌<◌, ◌≤◌, ◌==◌, max, Bool, true, false, ◌&&◌, nat_lt, if◌then◌else◌, List, [], ◌∷◌, ◌++◌, length, map, take, drop, append_assoc, refl, ap, sym, ◌∙◌, subst, arith}
+use Rattle.std.proofs.Common.{Option, Some, ◌≡◌, ℕ, suc, ◌+◌, ◌-◌, ◌<◌, ◌≤◌, ◌==◌, Bool, true, false, ◌&&◌, nat_lt, if◌then◌else◌, List, [], ◌∷◌, ◌++◌, length, map, take, drop, append_assoc, refl, ap, sym, ◌∙◌, subst, arith}
 use borrow.Author.Tests.{lt-ltb}
 use Rattle.typst_kinds.specs.Kinds.{is_error}
 use Rattle.typst_lines.specs.Place.{Place, moved}
@@ -12,20 +12,19 @@ use Rattle.typst_combinators.specs.declared.calls.Mark.{Mark}
 use Rattle.typst_combinators.specs.declared.reading.Newlines.{Newlines}
 use Rattle.typst_combinators.specs.declared.reading.Reading.{Reading}
 use Rattle.typst_combinators.specs.Calls.{Answer}
-use Rattle.typst_combinators.specs.Point.{Point, Trivia, gap_of, pending, state_of}
+use Rattle.typst_combinators.specs.Point.{Point, Trivia, gap_of, state_of}
 use Rattle.typst_combinators.specs.Ask.{Ask, shift}
-use Rattle.typst_combinators.specs.Hand.{Hand, AtHand, told, known_by, hand_at, hand_asks, column_at, column_look, token_at, len_at, judged}
+use Rattle.typst_combinators.specs.Hand.{Hand, AtHand, told, known_by, hand_at, hand_asks, column_at, column_look}
 use Rattle.typst_combinators.specs.Log.{Log, logged, with_hull, with_note}
 use Rattle.typst_combinators.specs.Shape.{Making, Shape, Change, shaped, after_node, after_change, after_shape, changed, hinted, seen}
 use Rattle.typst_combinators.specs.Shape.Shape.{keeps, holds, lacks, warns, fails}
 use Rattle.typst_combinators.specs.Sound.{Sound}
 use Rattle.typst_combinators.specs.Syntax.{Parser, Begin}
-use Rattle.typst_combinators.specs.Syntax.Begin.{at_token, at_trivia}
 use Rattle.typst_combinators.specs.Syntax.Op.{hand, column, erred, takes, flushes, complains, marks, is_deepest}
 use Rattle.typst_combinators.specs.Syntax.Parser.{gives, does, next, pick, repeat, wraps, scoped, calls}
-use Rattle.typst_combinators.specs.Meaning.{Outcome, Meaning, Level, asked, before, bound, plain, less, followed, standing, turns, repeated, inside, entered, left, same_mode, same_rule, renewed, flushed_state, taken_node, hand_of, hand_asks_of, run}
+use Rattle.typst_combinators.specs.Meaning.{Outcome, Meaning, Level, asked, before, bound, plain, less, followed, standing, turns, repeated, inside, entered, left, renewed, flushed_state, taken_node, hand_of, hand_asks_of, run}
 use Rattle.typst_machine.specs.Bytes.{bytes_left, token_hull, column_hull}
-use Rattle.typst_machine.specs.View.{View, Runs, Ran, at, Fits, Bare, Looked, Flushed, Rewrapped, unasked}
+use Rattle.typst_machine.specs.View.{View, Runs, Ran, at, Fits, Bare, Looked, Flushed, Rewrapped}
 use Rattle.typst_combinators.proofs.Places.{moved-sum, take-both, drop-both, take-all, drop-all, less-none, length-less, no-end}
 use Rattle.typst_combinators.proofs.Hints.{standing-joined, length-hinted}
 use Rattle.typst_combinators.proofs.Within.{turns-enough, within-run}

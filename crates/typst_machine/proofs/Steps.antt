@@ -1,8 +1,7 @@
 -- How steps of the code compose, most of which begin and end with the right token at hand.
-use Rattle.std.proofs.Common.{Option, None, Some, ◌≡◌, ℕ, ◌+◌, ◌<◌, ◌≤◌, ◌==◌, Bool, true, false, List, [], ◌∷◌, ◌++◌, length, map, drop, refl, ap, sym, ◌∙◌, subst, arith}
+use Rattle.std.proofs.Common.{Option, ◌≡◌, ℕ, ◌+◌, ◌<◌, ◌≤◌, ◌==◌, Bool, true, false, List, [], ◌∷◌, ◌++◌, length, map, drop, refl, ap, sym, ◌∙◌, subst, arith}
 use Rattle.typst_kinds.specs.declared.kind.SyntaxKind.{SyntaxKind}
-use Rattle.typst_kinds.specs.declared.mode.SyntaxMode.{SyntaxMode}
-use Rattle.typst_lines.specs.Place.{Place, moved}
+use Rattle.typst_lines.specs.Place.{moved}
 use Rattle.typst_node.specs.Tree.{Tree, error_of}
 use Rattle.typst_combinators.specs.declared.calls.Call.{Call}
 use Rattle.typst_combinators.specs.declared.calls.Mark.{Mark}
@@ -14,7 +13,6 @@ use Rattle.typst_combinators.specs.Hand.{AtHand, told, column_at}
 use Rattle.typst_combinators.specs.Shape.{Making, Shape, becomes, seen}
 use Rattle.typst_combinators.specs.Sound.{Sound}
 use Rattle.typst_combinators.specs.Syntax.{Parser, Begin}
-use Rattle.typst_combinators.specs.Syntax.Begin.{at_token, at_trivia}
 use Rattle.typst_combinators.specs.Syntax.Op.{hand, column, erred, takes, complains, marks, is_deepest}
 use Rattle.typst_combinators.specs.Syntax.Parser.{gives, does, next, pick, repeat, wraps, scoped, calls}
 use Rattle.typst_combinators.specs.Steps.{peek, eat_making, flush_trivia, within, node, node_with_trivia, note}

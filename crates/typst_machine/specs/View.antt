@@ -1,5 +1,5 @@
 -- What a parser of the code shows, and what it ensures.
-use Rattle.std.specs.Prelude.{◌≡◌, ℕ, ◌-◌, ◌<◌, ◌≤◌, ◌^◌, length, true, List, ◌∷◌, ◌++◌, [], take, drop, Option, Some, None, Result, Ok, Err}
+use Rattle.std.specs.Prelude.{◌≡◌, ℕ, ◌-◌, ◌<◌, ◌≤◌, ◌^◌, length, true, List, ◌++◌, [], take, drop, Option, Some, None, Result, Ok, Err}
 use Rattle.std.specs.declared.alloc.AllocError.{AllocError}
 use denote.Ref.{MutBor}
 use Rattle.typst_lines.specs.Place.{Place, moved}
@@ -21,7 +21,7 @@ use Rattle.typst_combinators.specs.Log.{Log, logged, with_hull, with_more, with_
 use Rattle.typst_combinators.specs.Shape.{Shape, shaped, after_shape}
 use Rattle.typst_combinators.specs.Sound.{Sound}
 use Rattle.typst_combinators.specs.Syntax.{Parser, ◌>>◌}
-use Rattle.typst_combinators.specs.Meaning.{Outcome, Meaning, Level, apart, asked, flushed_state, hand_of, hand_asks_of, left, standing, run}
+use Rattle.typst_combinators.specs.Meaning.{Outcome, Level, apart, asked, flushed_state, hand_of, hand_asks_of, left, standing, run}
 use Rattle.typst_combinators.specs.Steps.{peek}
 use Rattle.typst_machine.specs.declared.depth.Answered.{Answered}
 use Rattle.typst_machine.specs.declared.depth.Answered.TheVariants.{Brackets}

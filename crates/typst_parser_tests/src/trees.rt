@@ -84,14 +84,60 @@ fn asks_for_identifiers(rt: HostRuntime) -> Result<(), Fail> {
     Ok(())
 }
 
-/// The text's start, where the block opens, behind `c`, where it closes, behind the reference, and
-/// behind `d`.
+/// Asserts where what is noted of a text begins, with the trivia before it, and how many levels are
+/// left there; and that no look behind the last but one note and none behind the last begins before
+/// these bytes.
+fn expect_notes(
+    rt: &impl Abort,
+    alloc: Global,
+    text: &str,
+    notes: &[(usize, usize, usize)],
+    (last, end): (usize, usize),
+) -> Result<(), AllocError> {
+    let noted = parse_noted(alloc, text, &UnicodeClasses)?;
+    let root = parse(alloc, text, &UnicodeClasses)?;
+    assert!(rt; noted.tree.spanless_eq(&root));
+    assert_eq!(rt; noted.notes.len(), notes.len(), "at {text:?}");
+    for (note, wanted) in noted.notes.iter().zip(notes) {
+        assert_eq!(rt; note.before, wanted.0, "at {text:?}");
+        assert_eq!(rt; note.start, wanted.1, "at {text:?}");
+        assert_eq!(rt; note.levels, wanted.2, "at {text:?}");
+    }
+    match noted.notes.last() {
+        Some(note) => assert!(rt; note.least > last, "at {text:?}"),
+        None => assert!(rt; false, "nothing is noted of {text:?}"),
+    }
+    assert!(rt; noted.hull.least > end, "at {text:?}");
+    Ok(())
+}
+
+/// A run is noted where it begins and behind each of its expressions, a block where it begins and
+/// ends, and what is known of trivia isn't looked at again.
 #[test]
 fn notes_pieces_and_blocks(rt: HostRuntime) -> Result<(), Fail> {
-    let noted = parse_noted(rt.alloc(), "@b[c] d", &UnicodeClasses)?;
-    let root = parse(rt.alloc(), "@b[c] d", &UnicodeClasses)?;
-    assert!(rt; noted.tree.spanless_eq(&root));
-    assert_eq!(rt; noted.notes.len(), 6);
+    let alloc = rt.alloc();
+    expect_notes(&rt, alloc, "", &[(0, 0, 256)], (0, 0))?;
+    let three = [(0, 0, 256), (1, 7, 256), (8, 8, 256)];
+    expect_notes(&rt, alloc, "a //cc\nb", &three, (7, 8))?;
+    let lines = [(0, 0, 256), (1, 2, 256), (3, 4, 256)];
+    expect_notes(&rt, alloc, "a\nb\n", &lines, (2, 4))?;
+    let block = [
+        (0, 0, 256),
+        (2, 2, 255),
+        (3, 3, 255),
+        (5, 7, 255),
+        (8, 8, 255),
+        (8, 8, 256),
+    ];
+    expect_notes(&rt, alloc, "@x[ab  ]", &block, (8, 8))?;
+    let empty = [
+        (0, 0, 256),
+        (2, 2, 255),
+        (3, 3, 255),
+        (6, 6, 255),
+        (6, 6, 256),
+    ];
+    expect_notes(&rt, alloc, "@x[  ]", &empty, (6, 6))?;
     Ok(())
 }
 

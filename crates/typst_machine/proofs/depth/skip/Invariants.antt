@@ -1,4 +1,3 @@
-use Rattle.std.proofs.Common.{◌≡◌}
 use Rattle.typst_combinators.specs.Meaning.{Level}
 use Rattle.typst_combinators.specs.Depth.{skip_one}
 use Rattle.typst_machine.specs.Bytes.{bytes_left}

@@ -6,7 +6,6 @@ use Rattle.typst_machine.specs.View.{View, Does}
 use Rattle.typst_markup.specs.Markup.{markup_turn, note_piece, ends}
 use Rattle.typst_markup.specs.Stops.{stops_at}
 use Rattle.typst_machine.proofs.Steps.{does-next, does-gives, does-peek, does-pick, does-other}
-use Rattle.typst_markup.proofs.Heads.{does-value}
 use Rattle.typst_markup.proofs.sequences.markup_turn.Goals as goal
 
 -- what comes behind an expression was noted with the newlines that were passed

@@ -1,16 +1,15 @@
-use Rattle.std.proofs.Common.{◌≡◌, ◌≤◌, ◌<◌, ◌-◌, ◌∙◌, ◌^◌, ◌++◌, ◌∷◌, [], false, List, length, ap, sym, refl, subst, arith}
+use Rattle.std.proofs.Common.{◌≡◌, ◌≤◌, ◌<◌, ◌-◌, ◌∙◌, ◌^◌, ◌++◌, ◌∷◌, [], false, length, ap, sym, refl, subst, arith}
 use Rattle.typst_lines.specs.Place.{Place, moved}
 use Rattle.typst_lines.specs.Scanner.{place}
 use Rattle.typst_lines.specs.declared.scanner.Scanner.{Scanner}
 use Rattle.typst_node.specs.Tree.{Tree}
 use Rattle.typst_readers.specs.declared.hull.Hull.{Hull}
 use Rattle.typst_token_nodes.specs.Nodes.{token_node}
-use Rattle.typst_combinators.specs.Point.{no_newlines}
 use Rattle.typst_combinators.specs.Hand.{at_trivia, len_at, text_ahead}
 use Rattle.typst_machine.specs.Bytes.{bytes_left, joined_hull, token_hull, column_hull, whole_at}
 use Rattle.typst_machine.proofs.Bytes.{some-bytes}
 use Rattle.typst_combinators.proofs.Places.{ahead-left}
-use Rattle.typst_machine.proofs.Trivia.{Along, read-place, len-most, no-trivia, no-more, some-trivia, along-start, along-next, is-ahead, whole-is, Looking, looking-first, looking-next}
+use Rattle.typst_machine.proofs.Trivia.{read-place, len-most, no-trivia, no-more, some-trivia, along-start, along-next, is-ahead, whole-is, Looking, looking-first, looking-next}
 use Rattle.typst_machine.proofs.ahead.ReadAhead.read.Goals.{then-not-is_trivia-via-then-not-is_trivia, then-not-is_trivia-via-else-not-is_trivia+then-left}
 use Rattle.typst_machine.proofs.ahead.ReadAhead.read.Goals as goal
 

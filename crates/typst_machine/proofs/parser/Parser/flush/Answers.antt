@@ -1,9 +1,8 @@
-use Rattle.std.proofs.Common.{◌≡◌, ℕ, ◌-◌, ◌∙◌, Bool, false, Some, None, [], if◌then◌else◌, append-nil, length, refl, sym, ap, arith}
+use Rattle.std.proofs.Common.{◌≡◌, ℕ, ◌-◌, ◌∙◌, Bool, false, None, if◌then◌else◌, append-nil, length, refl, sym, ap, arith}
 use Rattle.typst_lines.specs.Scanner.{place}
-use Rattle.typst_combinators.specs.Point.{Point, is_nil}
+use Rattle.typst_combinators.specs.Point.{is_nil}
 use Rattle.typst_combinators.specs.Hand.{Hand, known_by}
 use Rattle.typst_machine.specs.Cursor.{hand_of_ahead, view_of}
-use Rattle.typst_machine.specs.View.{View}
 use Rattle.typst_machine.proofs.Ready.{nil-is, flushed-none, flushed-some, was-read}
 use Rattle.typst_machine.proofs.Trivia.{same-hand}
 use Rattle.typst_machine.proofs.parser.Parser.flush.Goals as goal

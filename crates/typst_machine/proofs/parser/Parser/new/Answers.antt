@@ -1,7 +1,6 @@
-use Rattle.std.proofs.Common.{Bool, false, None, if◌then◌else◌, ◌∙◌, refl, ap}
+use Rattle.std.proofs.Common.{Bool, false, None, if◌then◌else◌, ◌∙◌, ap}
 use Rattle.typst_lines.specs.Scanner.{place}
 use Rattle.typst_lines.specs.declared.scanner.Scanner.{Scanner}
-use Rattle.typst_combinators.specs.Point.{Point}
 use Rattle.typst_combinators.specs.Hand.{known_by}
 use Rattle.typst_machine.specs.Cursor.{hand_of_ahead}
 use Rattle.typst_machine.proofs.Trivia.{start-is}

@@ -1,10 +1,9 @@
 use Rattle.std.proofs.Common.{Bool, None, if◌then◌else◌, ◌∙◌, refl, sym, ap}
-use Rattle.typst_lines.specs.Place.{Place, moved}
+use Rattle.typst_lines.specs.Place.{moved}
 use Rattle.typst_lines.specs.Scanner.{place}
 use Rattle.typst_lines.specs.declared.scanner.Scanner.{Scanner}
 use Rattle.typst_classes.specs.Classes.{CharClasses}
 use Rattle.typst_readers.specs.declared.hull.Hull.{Hull}
-use Rattle.typst_combinators.specs.Point.{Point}
 use Rattle.typst_combinators.specs.Hand.{hand_at, known_by}
 use Rattle.typst_combinators.specs.Log.{with_hull}
 use Rattle.typst_machine.specs.Bytes.{token_hull, whole_at}

@@ -1,4 +1,4 @@
-use Rattle.std.proofs.Common.{◌≡◌, ◌∙◌, ◌++◌, ◌∷◌, [], Bool, None, List, if◌then◌else◌, append_assoc, refl, sym, ap}
+use Rattle.std.proofs.Common.{◌≡◌, ◌∙◌, ◌++◌, ◌∷◌, [], None, List, if◌then◌else◌, append_assoc, refl, sym, ap}
 use Rattle.typst_lines.specs.Place.{moved}
 use Rattle.typst_lines.specs.Scanner.{place}
 use Rattle.typst_kinds.specs.Kinds.{is_error}
