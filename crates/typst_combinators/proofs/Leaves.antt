@@ -12,11 +12,11 @@ use Rattle.typst_kinds.specs.declared.kind.SyntaxKind.TheVariants as kind
 use Rattle.typst_node.specs.Messages.{made_unexpected, made_expected, expected_error, expected_message, unexpected_message, is_lost_name, keyword_hint}
 use Rattle.typst_node.specs.Diagnostic.{hint_with}
 use Rattle.typst_kinds.specs.Names.{name_of}
-use Rattle.std.specs.Prelude.{codes, None}
+use Rattle.std.specs.Prelude.{None}
 use Rattle.typst_combinators.specs.declared.calls.Block.{Block}
 use Rattle.typst_combinators.specs.declared.calls.Call.{Call}
-use Rattle.typst_combinators.specs.Point.{Trivia, Point, forgot}
-use Rattle.typst_combinators.specs.Shape.{Making, made, all_advised, hinted_error, hinted_last, hinted, Change, changed, on_first, first_changed, is_delimited, in_parens, renamed_last, parens_renamed, without_parens, Shape, shaped, count_empty, after_node, after_change, after_shape}
+use Rattle.typst_combinators.specs.Point.{Trivia, Point}
+use Rattle.typst_combinators.specs.Shape.{Making, made, all_advised, hinted_error, hinted_last, hinted, Change, changed, first_changed, is_delimited, in_parens, renamed_last, parens_renamed, without_parens, Shape, shaped, count_empty, after_node, after_change, after_shape}
 use Rattle.typst_combinators.specs.Shape.Change.{stays, turns_wrong, is_not, renamed, unparened}
 use Rattle.typst_combinators.specs.Shape.Making.{itself, of_kind, surprise, wanted}
 use Rattle.typst_combinators.specs.Shape.Shape.{keeps, holds, lacks, warns, fails}
@@ -24,21 +24,19 @@ use Rattle.typst_combinators.specs.declared.reading.Reading.{Reading}
 use Rattle.typst_classes.specs.Classes.{CharClasses}
 use Rattle.typst_token_nodes.specs.Nodes.{token_node}
 use Rattle.typst_lexer.specs.Tokens.{token}
-use Rattle.typst_combinators.specs.Hand.{Hand, utf8_ahead, token_at, len_at, token_by, len_by, at_trivia, Ahead, after_trivia, direct, ahead_by, ahead, hand_at, told, column_at}
+use Rattle.typst_combinators.specs.Hand.{utf8_ahead, token_at, len_at, token_by, len_by, at_trivia, Ahead, after_trivia, direct, ahead_by, ahead, hand_at, told, column_at}
 use Rattle.typst_combinators.specs.Syntax.{Op, Begin, Parser}
 use Rattle.typst_combinators.specs.Syntax.Op.{hand, so, further, column, erred, takes, takes_so, flushes, complains, advises, marks, is_deepest}
 use Rattle.typst_combinators.specs.Syntax.Parser.{gives, does, next, pick, repeat, wraps, grows, nests, scoped, sees, either, calls, block}
-use Rattle.typst_combinators.specs.Meaning.{Outcome, Meaning, Level, less, joined, answered, followed, turns, as_last, bound, repeated, before, inside, reshaped, wrapped, grown, is_more, growths, growing, nestings, nesting, closed, bounded, given_up, plain, same_mode, entered, left, taken_node, node_by, reader_so, gave, hand_of, hand_asks_of, asked, done, run}
+use Rattle.typst_combinators.specs.Meaning.{Outcome, Meaning, Level, less, joined, answered, turns, as_last, bound, repeated, before, inside, reshaped, grown, is_more, growths, growing, nestings, nesting, bounded, given_up, plain, same_mode, entered, left, taken_node, node_by, reader_so, gave, hand_of, hand_asks_of, asked, done, run}
 use Rattle.typst_combinators.specs.Sound.{Tidy, Backs, Stands}
-use Rattle.typst_combinators.specs.Calls.{Answer}
 use Rattle.typst_combinators.specs.Ask.{Ask}
 use Rattle.typst_combinators.specs.Ask.Ask.{looked}
 use Rattle.typst_readers.specs.Reader.{look}
 use Rattle.typst_combinators.proofs.Within.{grew}
-use Rattle.typst_combinators.proofs.Hints.{length-hinted}
 use Rattle.typst_combinators.proofs.Backs.{backs-turns, tidy-nestings, backs-run}
 use Rattle.typst_combinators.proofs.Tokens.{text-token}
-use Rattle.typst_combinators.proofs.Places.{moved-sum, less-append, less-twice, less-none, length-less, moved-ahead}
+use Rattle.typst_combinators.proofs.Places.{moved-sum, less-append, less-twice, less-none, moved-ahead}
 
 -- ---- texts of nodes
 
