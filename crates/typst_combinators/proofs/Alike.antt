@@ -1,5 +1,5 @@
 -- The law of depth, for whatever the language can say.
-use Rattle.std.proofs.Common.{None, Some, ◌≡◌, ℕ, zero, suc, Bool, true, false, ◌&&◌, ◌||◌, if◌then◌else◌, nat_lt, length, refl, ap, sym, ◌∙◌, subst, Option, Some}
+use Rattle.std.proofs.Common.{None, Some, ◌≡◌, ℕ, zero, suc, Bool, true, false, ◌&&◌, ◌||◌, if◌then◌else◌, nat_lt, refl, ap, sym, ◌∙◌, subst, Option, Some}
 use Rattle.typst_lines.specs.Place.{Place, moved}
 use Rattle.typst_classes.specs.Classes.{CharClasses}
 use Rattle.typst_combinators.specs.declared.calls.Block.{Block}

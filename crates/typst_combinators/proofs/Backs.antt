@@ -1,5 +1,5 @@
 -- No more nodes are taken back than empty errors stand there.
-use Rattle.std.proofs.Common.{◌≡◌, ℕ, zero, suc, ◌+◌, ◌≤◌, Bool, true, false, ◌&&◌, if◌then◌else◌, nat_lt, List, [], ◌∷◌, ◌++◌, length, take, drop, length-append, length-take, length-drop, refl, ◌<◌, ◌⊎◌, inl, inr, Option, Some, None, arith}
+use Rattle.std.proofs.Common.{◌≡◌, ℕ, zero, suc, ◌+◌, ◌≤◌, Bool, true, false, ◌&&◌, if◌then◌else◌, nat_lt, List, [], ◌∷◌, ◌++◌, length, take, length-append, length-take, length-drop, refl, ◌<◌, ◌⊎◌, inl, inr, Option, Some, None, arith}
 use Rattle.typst_lines.specs.Place.{Place, moved}
 use Rattle.typst_kinds.specs.Kinds.{is_error}
 use Rattle.typst_node.specs.Tree.{Tree, forest, joined as text_joined, text_of}
@@ -9,9 +9,8 @@ use Rattle.typst_combinators.specs.Point.{Point}
 use Rattle.typst_combinators.specs.Hand.{Hand, len_by, token_by}
 use Rattle.typst_combinators.specs.Ask.Ask.{looked}
 use Rattle.typst_readers.specs.Reader.{look}
-use Rattle.typst_combinators.specs.Calls.{Answer}
 use Rattle.typst_combinators.proofs.Hints.{length-hinted}
-use Rattle.typst_combinators.specs.Shape.{Change, Shape, hinted, changed, on_first, first_changed, shaped, count_empty, after_node, after_change, after_shape}
+use Rattle.typst_combinators.specs.Shape.{Change, Shape, hinted, changed, on_first, first_changed, shaped, count_empty, after_node, after_shape}
 use Rattle.typst_combinators.specs.Shape.Change.{stays, turns_wrong, is_not, renamed, unparened}
 use Rattle.typst_combinators.specs.Shape.Shape.{keeps, holds, lacks, warns, fails}
 use Rattle.typst_combinators.specs.Syntax.{Op, Begin, Parser}

@@ -31,9 +31,8 @@ use Rattle.typst_lexer.proofs.TokenEats.{token-eats}
 use Rattle.typst_combinators.specs.Depth.{is_end}
 use Rattle.typst_token_nodes.specs.Nodes.{token_node}
 use Rattle.typst_combinators.specs.declared.reading.AtNewline.TheVariants.{Continue}
-use Rattle.typst_combinators.specs.declared.reading.Newlines.{Newlines}
 use Rattle.typst_combinators.specs.declared.reading.Reading.{Reading}
-use Rattle.typst_combinators.specs.Hand.{token_at, len_at, at_trivia, Ahead, after_trivia, direct, both_newlines, ahead_by, ahead, ahead_of, column_at, stops, known_by, hand_by, hand_at}
+use Rattle.typst_combinators.specs.Hand.{token_at, len_at, at_trivia, Ahead, after_trivia, direct, ahead_by, ahead, ahead_of, column_at, stops, known_by, hand_by, hand_at}
 use Rattle.typst_combinators.specs.Point.{Trivia}
 use Rattle.typst_combinators.proofs.Places.{moved-sum}
 use Rattle.typst_tokens.specs.Memory.{Memory}

@@ -25,14 +25,12 @@ use Rattle.typst_combinators.specs.Syntax.{Op, Begin, Parser}
 use Rattle.typst_combinators.specs.Syntax.Op.{hand, so, further, column, erred, takes, takes_so, flushes, complains, advises, marks, is_deepest}
 use Rattle.typst_combinators.specs.Syntax.Parser.{gives, does, next, pick, repeat, wraps, grows, nests, scoped, sees, either, calls, block}
 use Rattle.typst_kinds.specs.Kinds.{is_trivia}
-use Rattle.typst_node.specs.Tree.{text_of}
 use Rattle.typst_combinators.specs.Shape.{Making, made}
-use Rattle.typst_combinators.specs.Meaning.{Outcome, Meaning, Level, joined, answered, followed, turns, as_last, bound, repeated, before, wrapped, grown, is_more, growths, growing, nestings, nesting, with_seen, closed, bounded, deeper_by_one, given_up, chosen, entered, left_to, plain, hand_of, hand_asks_of, asked, renewed, flushed_state, reader_so, node_by, gave, done, run}
+use Rattle.typst_combinators.specs.Meaning.{Outcome, Meaning, Level, joined, answered, followed, turns, as_last, bound, repeated, before, wrapped, grown, is_more, growths, growing, nestings, nesting, with_seen, closed, bounded, deeper_by_one, given_up, chosen, entered, left_to, plain, hand_of, hand_asks_of, asked, flushed_state, reader_so, gave, done, run}
 use Rattle.typst_combinators.specs.Sound.{Framed, Within}
-use Rattle.typst_combinators.specs.Calls.{Answer}
 use Rattle.typst_combinators.proofs.Places.{ahead-left}
 use Rattle.typst_combinators.proofs.Within.{grew, nest, turns-enough, growths-enough, nestings-enough, within-run}
-use Rattle.typst_combinators.proofs.Looks.{same_in-shift, same_in-first, same_in-second, same_in-only, same_in-sunk, SameToken, token-same, column-same}
+use Rattle.typst_combinators.proofs.Looks.{same_in-shift, same_in-first, same_in-second, same_in-only, same_in-sunk, token-same, column-same}
 
 -- ---- the token at hand
 

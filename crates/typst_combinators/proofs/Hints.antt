@@ -1,5 +1,5 @@
 -- Hints for an error that was given, and the nodes that stand behind one outcome and the next.
-use Rattle.std.proofs.Common.{◌≡◌, ℕ, zero, suc, ◌+◌, ◌-◌, ◌<◌, ◌≤◌, Bool, true, false, if◌then◌else◌, nat_lt, List, [], ◌∷◌, ◌++◌, length, take, drop, length-append, append_assoc, append-nil, inl, inr, refl, ap, sym, ◌∙◌, subst, arith}
+use Rattle.std.proofs.Common.{◌≡◌, ℕ, zero, suc, ◌+◌, ◌-◌, ◌<◌, ◌≤◌, Bool, true, false, if◌then◌else◌, nat_lt, List, [], ◌∷◌, ◌++◌, length, take, append_assoc, append-nil, inl, inr, refl, ap, sym, ◌∙◌, arith}
 use Rattle.std.proofs.lemmas.Bool.{cases_lt}
 use borrow.Author.Tests.{lt-ltb, le-ltb}
 use Rattle.std.specs.Prelude.{None}
@@ -7,7 +7,7 @@ use Rattle.typst_kinds.specs.Kinds.{is_error}
 use Rattle.typst_node.specs.Diagnostic.{hint_with}
 use Rattle.typst_node.specs.Tree.{Tree, advised}
 use Rattle.typst_combinators.specs.Shape.{all_advised, hinted_error, hinted_last, hinted}
-use Rattle.typst_combinators.specs.Meaning.{Outcome, less, standing, hints_before, joined}
+use Rattle.typst_combinators.specs.Meaning.{Outcome, less, standing, joined}
 use Rattle.typst_combinators.proofs.Places.{less-append, less-twice, less-none, length-less}
 
 length-last : (hs : List (List ℕ)) (ts : List Tree) → length (hinted_last hs ts) ≡ length ts

@@ -4,12 +4,11 @@ use Rattle.typst_classes.specs.Classes.{CharClasses}
 use Rattle.typst_combinators.specs.declared.calls.Block.{Block}
 use Rattle.typst_combinators.specs.declared.calls.Call.{Call}
 use Rattle.typst_combinators.specs.Calls.{Answer, no_answer}
-use Rattle.typst_combinators.specs.Point.{Point}
 use Rattle.typst_combinators.specs.Steps.{peek}
 use Rattle.typst_combinators.specs.Syntax.{Parser, ◌>>◌}
 use Rattle.typst_combinators.specs.Meaning.{Meaning, Level, plain, blockless, run}
 use Rattle.typst_combinators.specs.Knot.{Rules, blocks_of, level_by, meaning_of, level_of}
-use Rattle.typst_combinators.specs.Sound.{Within, Backs, Framed, Alike, KeepsText, Lawful, Sound}
+use Rattle.typst_combinators.specs.Sound.{Within, Backs, Framed, Alike, Lawful, Sound}
 use Rattle.typst_combinators.proofs.Alike.{alike-run}
 use Rattle.typst_combinators.proofs.Backs.{backs-run}
 use Rattle.typst_combinators.proofs.Frame.{framed-run}

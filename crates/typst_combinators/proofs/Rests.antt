@@ -1,5 +1,5 @@
 -- Behind a parser the reading is the one before it, and the token at hand is read in it or as before.
-use Rattle.std.proofs.Common.{◌≡◌, ◌⊎◌, inl, inr, ℕ, zero, suc, Bool, true, false, ◌&&◌, if◌then◌else◌, nat_lt, List, [], ◌∷◌, ◌++◌, Option, Some, None, length, refl, ap, sym, ◌∙◌}
+use Rattle.std.proofs.Common.{◌≡◌, ◌⊎◌, inl, inr, ℕ, zero, suc, Bool, true, false, ◌&&◌, if◌then◌else◌, nat_lt, List, [], ◌∷◌, ◌++◌, Option, Some, None, refl, ap, sym, ◌∙◌}
 use Rattle.std.proofs.lemmas.Bool.Decides.{nat_tests}
 use Rattle.std.proofs.Common.{arith}
 use Rattle.typst_kinds.specs.declared.mode.SyntaxMode.{SyntaxMode}
@@ -11,10 +11,9 @@ use Rattle.typst_combinators.specs.declared.reading.AtNewline.{AtNewline}
 use Rattle.typst_combinators.specs.declared.reading.AtNewline.TheVariants.{Continue, Stop, ContextualContinue, StopParBreak, RequireColumn}
 use Rattle.typst_combinators.specs.declared.calls.Block.{Block}
 use Rattle.typst_combinators.specs.declared.calls.Call.{Call}
-use Rattle.typst_combinators.specs.declared.reading.Newlines.{Newlines}
 use Rattle.typst_combinators.specs.declared.reading.Reading.{Reading}
 use Rattle.typst_combinators.specs.Point.{Point}
-use Rattle.typst_combinators.specs.Shape.{Change, Shape, changed, after_node, after_change, after_shape}
+use Rattle.typst_combinators.specs.Shape.{Shape, changed, after_node, after_shape}
 use Rattle.typst_combinators.specs.Shape.Shape.{keeps, holds, lacks, warns, fails}
 use Rattle.typst_combinators.specs.Syntax.{Op, Begin, Parser}
 use Rattle.typst_combinators.specs.Syntax.Op.{hand, so, further, column, erred, takes, takes_so, flushes, complains, advises, marks, is_deepest}
@@ -23,9 +22,8 @@ use Rattle.typst_combinators.specs.Hand.{Hand, len_by, token_by}
 use Rattle.typst_combinators.specs.Ask.{Ask}
 use Rattle.typst_combinators.specs.Ask.Ask.{looked}
 use Rattle.typst_readers.specs.Reader.{look}
-use Rattle.typst_combinators.specs.Calls.{Answer}
 use Rattle.typst_combinators.proofs.Within.{grew}
-use Rattle.typst_combinators.specs.Meaning.{Outcome, Meaning, Level, joined, answered, turns, as_last, bound, repeated, before, inside, reshaped, wrapped, grown, is_more, growths, growing, nestings, nesting, given_up, bounded, followed, plain, same_mode, same_rule, entered, left, flushed_state, hand_of, hand_asks_of, gave, taken_node, reader_so, node_by, done, run}
+use Rattle.typst_combinators.specs.Meaning.{Outcome, Meaning, Level, joined, answered, turns, as_last, bound, repeated, before, inside, grown, is_more, growths, growing, nestings, nesting, given_up, bounded, plain, same_mode, same_rule, entered, left, hand_of, hand_asks_of, gave, taken_node, reader_so, node_by, done, run}
 
 pub record Rests (r h : Reading) (s : Point) : Type 0 where
   pub reading : s.reading ≡ r

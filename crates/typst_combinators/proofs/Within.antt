@@ -7,18 +7,17 @@ use Rattle.typst_classes.specs.Classes.{CharClasses}
 use Rattle.typst_combinators.specs.declared.calls.Block.{Block}
 use Rattle.typst_combinators.specs.declared.calls.Call.{Call}
 use Rattle.typst_combinators.specs.Point.{Trivia, Point, gap_of}
-use Rattle.typst_combinators.specs.Shape.{Shape, after_node, after_change, after_shape}
+use Rattle.typst_combinators.specs.Shape.{Shape, after_node, after_shape}
 use Rattle.typst_combinators.specs.Shape.Shape.{keeps, holds, lacks, warns, fails}
 use Rattle.typst_combinators.specs.declared.reading.Reading.{Reading}
 use Rattle.typst_readers.specs.Reader.{Reader}
 use Rattle.typst_tokens.specs.declared.token.Token.{Token}
 use Rattle.typst_tokens.specs.Memory.{Memory}
-use Rattle.typst_combinators.specs.Calls.{Answer}
 use Rattle.typst_combinators.specs.Hand.{Ahead, len_at, len_by, at_trivia, ahead_by, ahead, hand_at}
 use Rattle.typst_combinators.specs.Syntax.{Op, Begin, Parser}
 use Rattle.typst_combinators.specs.Syntax.Op.{hand, so, further, column, erred, takes, takes_so, flushes, complains, advises, marks, is_deepest}
 use Rattle.typst_combinators.specs.Syntax.Parser.{gives, does, next, pick, repeat, wraps, grows, nests, scoped, sees, either, calls, block}
-use Rattle.typst_combinators.specs.Meaning.{Outcome, Meaning, Level, plain, joined, answered, followed, turns, as_last, bound, repeated, before, inside, reshaped, wrapped, grown, is_more, growths, growing, nestings, nesting, given_up, bounded, entered, left, same_mode, flushed_state, hand_of, reader_so, done, run}
+use Rattle.typst_combinators.specs.Meaning.{Outcome, Meaning, Level, plain, joined, answered, followed, turns, as_last, bound, repeated, before, inside, reshaped, grown, is_more, growths, growing, nestings, nesting, given_up, bounded, entered, left, same_mode, flushed_state, reader_so, done, run}
 use Rattle.typst_combinators.specs.Sound.{Within}
 use Rattle.typst_kinds.specs.Kinds.{is_error}
 use Rattle.typst_node.specs.Tree.{Tree}

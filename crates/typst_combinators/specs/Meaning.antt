@@ -1,6 +1,5 @@
 -- What a parser gives from a place and a point.
 use Rattle.std.specs.Prelude.{ℕ, zero, suc, ◌+◌, ◌-◌, max, Bool, true, false, ◌||◌, ◌&&◌, if◌then◌else◌, ◌==◌, nat_lt, List, [], ◌∷◌, ◌++◌, length, map, take, drop, Option, Some, None}
-use Rattle.typst_kinds.specs.declared.kind.SyntaxKind.{SyntaxKind}
 use Rattle.typst_kinds.specs.declared.mode.SyntaxMode.{SyntaxMode}
 use Rattle.typst_kinds.specs.declared.mode.SyntaxMode.TheVariants as mode
 use Rattle.typst_lines.specs.Place.{Place, moved}
@@ -22,8 +21,8 @@ use Rattle.typst_combinators.specs.declared.reading.Reading.{Reading}
 use Rattle.typst_combinators.specs.Ask.{Ask, shift, sunk, only_looks}
 use Rattle.typst_combinators.specs.Ask.Ask.{looked, marked}
 use Rattle.typst_combinators.specs.Calls.{Answer, token_so}
-use Rattle.typst_combinators.specs.Point.{Trivia, Point, state_of, forgot, pending, gap_of}
-use Rattle.typst_combinators.specs.Hand.{Hand, AtHand, told, known_by, hand_at, hand_asks, text_ahead, token_by, len_by, column_at, column_look}
+use Rattle.typst_combinators.specs.Point.{Point, state_of, forgot, pending, gap_of}
+use Rattle.typst_combinators.specs.Hand.{Hand, told, known_by, hand_at, hand_asks, text_ahead, token_by, len_by, column_at, column_look}
 use Rattle.typst_combinators.specs.Shape.{Making, made, hinted, Shape, shaped, after_node, after_shape, Seen, seen}
 use Rattle.typst_combinators.specs.Syntax.{Op, Begin, Parser}
 use Rattle.typst_combinators.specs.Syntax.Begin.{at_token, at_trivia}

@@ -1,5 +1,5 @@
 -- What the words of the language give for short texts.
-use Rattle.std.specs.Prelude.{◌≡◌, ℕ, Bool, true, false, not, ◌||◌, List, [], ◌∷◌, length, Option, Some, None, codes}
+use Rattle.std.specs.Prelude.{◌≡◌, ℕ, Bool, true, false, not, List, [], ◌∷◌, length, Option, Some, None, codes}
 use Rattle.typst_kinds.specs.declared.kind.SyntaxKind.{SyntaxKind}
 use Rattle.typst_kinds.specs.declared.kind.SyntaxKind.TheVariants as kind
 use Rattle.typst_kinds.specs.declared.mode.SyntaxMode.TheVariants as mode
@@ -9,14 +9,14 @@ use Rattle.typst_classes.specs.Classes.{CharClasses, by_law}
 use Rattle.typst_combinators.specs.declared.reading.AtNewline.TheVariants as newline
 use Rattle.typst_combinators.specs.declared.reading.Reading.{Reading}
 use Rattle.typst_combinators.specs.Calls.{no_answer}
-use Rattle.typst_combinators.specs.Shape.{Shape, becomes, unclosed}
-use Rattle.typst_combinators.specs.Shape.Change.{stays, turns_wrong, is_not, renamed}
-use Rattle.typst_combinators.specs.Shape.Shape.{keeps, holds, lacks, fails}
+use Rattle.typst_combinators.specs.Shape.{Shape, becomes}
+use Rattle.typst_combinators.specs.Shape.Change.{turns_wrong, is_not, renamed}
+use Rattle.typst_combinators.specs.Shape.Shape.{keeps, holds, lacks}
 use Rattle.typst_combinators.specs.Syntax.{Parser, ◌>>=◌, ◌>>◌}
-use Rattle.typst_combinators.specs.Syntax.Begin.{at_token, at_trivia}
-use Rattle.typst_combinators.specs.Syntax.Op.{further, complains, advises}
-use Rattle.typst_combinators.specs.Syntax.Parser.{gives, does, pick, wraps, scoped, either}
-use Rattle.typst_combinators.specs.Steps.{peek, eat, close_if, unexpected, expected, grow, nest}
+use Rattle.typst_combinators.specs.Syntax.Begin.{at_token}
+use Rattle.typst_combinators.specs.Syntax.Op.{further, advises}
+use Rattle.typst_combinators.specs.Syntax.Parser.{gives, does, pick, wraps, either}
+use Rattle.typst_combinators.specs.Steps.{peek, eat, close_if, expected, grow, nest}
 use Rattle.typst_combinators.specs.Meaning.{Outcome, Level, plain, blockless, start_point, run}
 
 abbrev pub as_markup : Reading
