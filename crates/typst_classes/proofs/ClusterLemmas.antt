@@ -8,7 +8,7 @@ use Rattle.std.specs.List.{list_all}
 use Rattle.std.specs.Prelude.{encode_utf8, encode_utf8_all, slice_index}
 use Rattle.std.specs.Str.{chars, IsUtf8, IsAscii, IsNotAscii}
 use Rattle.typst_classes.specs.Classes.{kept_cluster}
-use Rattle.typst_lines.proofs.Tests.{and-first, and-second}
+use Rattle.typst_lines.proofs.Bools.{and-first, and-second}
 
 IsAscii-chars : (cs : List ℕ) → list_all is_ascii cs ≡ true → IsAscii cs
 IsAscii-chars [] e = IsAscii-nil

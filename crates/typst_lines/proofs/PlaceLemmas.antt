@@ -11,7 +11,7 @@ use Rattle.std.specs.List.{prefix_len}
 use Rattle.std.specs.Char.{IsScalar}
 use Rattle.std.specs.Str.{chars, IsUtf8, IsCharBoundary}
 use Rattle.typst_lines.specs.Place.{bytes_ahead, char_width, Place, place_at, moved, scout, moved_from, passes, past, word_at, IsStep, IsStepBack, IsFirst, IsLast, moved_back}
-use Rattle.typst_lines.proofs.Tests.{and-first, and-second}
+use Rattle.typst_lines.proofs.Bools.{and-first, and-second}
 
 pub encode_utf8_nonempty : (c : ℕ) → 0 < length (encode_utf8 c)
 encode_utf8_nonempty c = let bounds = len_utf8_bounds c in omega (arith, length-encode c)

@@ -4,7 +4,7 @@ use Rattle.std.proofs.lemmas.Bool.Decides.{nat_tests}
 use Rattle.std.specs.Str.{chars}
 use Rattle.typst_lines.proofs.LineTable.{place-end}
 use Rattle.typst_lines.proofs.PlaceLemmas.{moved-step}
-use Rattle.typst_lines.proofs.Tests.{and-second}
+use Rattle.typst_lines.proofs.Bools.{and-second}
 use Rattle.typst_lines.specs.Newline.{is_newline, ends_line, line_end_len, stretches, line_ends, onto_first, woven, all_lack_newlines}
 use Rattle.typst_lines.specs.Place.{Place, moved, moved_from, scout, passes}
 use Rattle.typst_lines.proofs.CommonEnds.{ahead-step}

@@ -10,7 +10,7 @@ use Rattle.typst_lines.specs.Newline.{is_newline, line_end_len}
 use Rattle.typst_lines.specs.Place.{Place, place_at, moved, moved_from, scout, passes, past}
 use Rattle.typst_raw.specs.Lines.{first_line, later_rows, between}
 use Rattle.typst_raw.proofs.Rows.{row, crlf, later-plain, later-lone, later-both}
-use Rattle.typst_lines.proofs.Tests.{and-second}
+use Rattle.typst_lines.proofs.Bools.{and-second}
 
 abbrev pub at : List ℕ → List ℕ → Place
 at behind ahead = record { behind = behind; ahead = ahead }

@@ -7,7 +7,7 @@ use Rattle.typst_classes.specs.Classes.{in_line}
 use Rattle.typst_lines.specs.Newline.{is_newline, stretches, line_ends, onto_first}
 use Rattle.typst_lines.specs.Place.{passes}
 use Rattle.typst_raw.specs.Lines.{Row, paired, first_line, later_rows, last_of, last_row, is_blank, has_spare_space, end_of, closing, front}
-use Rattle.typst_lines.proofs.Tests.{and-second}
+use Rattle.typst_lines.proofs.Bools.{and-second}
 
 abbrev pub row : List ℕ → List ℕ → Row
 row ending line = record { ending = ending; line = line }

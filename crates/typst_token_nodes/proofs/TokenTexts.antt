@@ -1,7 +1,7 @@
 -- Facts on the texts of error tokens.
 use Rattle.std.proofs.Common.{◌≡◌, ℕ, Bool, true, false, not, ◌&&◌, if◌then◌else◌, List, [], ◌∷◌, append-nil, encode_utf8_all, take, refl, ap, sym, ◌∙◌, Option, Some, None}
 use Rattle.std.specs.Str.{chars}
-use Rattle.typst_lines.proofs.Tests.{on}
+use Rattle.typst_lines.proofs.Bools.{on}
 use Rattle.typst_lines.specs.Place.{Place, place_at, moved}
 use Rattle.typst_readers.proofs.Moves.{moved-more}
 use Rattle.typst_token_nodes.specs.Nodes.{IsRead, is_leaf, token_node, plain_node, fault_node, is_raw, with_hints}
