@@ -1,3 +1,10 @@
+-- From what a contract promises to the lemma behind it:
+--   words_of_the_language        computed (laws/words_of_the_language)
+--   the frame law                Frame: framed-run; Looks: what shows the same; Ends, Eats: tokens
+--   the depth law                Alike: alike-run; Knot: alike-at
+--   the leaves law               Leaves: kept-run
+--   no more than there is        Within: within-run; Backs: backs-run; Rests: what the reading is behind a parser
+--   all of them at once          Knot: lawful-parser, sound-level
 pub mod Places
 pub mod Hints
 pub mod Looks

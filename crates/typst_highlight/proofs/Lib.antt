@@ -1,3 +1,7 @@
+-- From what a contract promises to the lemma behind it:
+--   highlight                    Bounds: steps stay in the tree; Chains, Cases: up and along chains
+--   highlight_html: html         Trees: the walk makes the tags; Contexts, Leaves, Rows: what it carries along
+--   highlight_html: shown        Reading: a reader of the HTML; Escapes: escaped texts
 pub mod Bounds
 pub mod Cases
 pub mod Chains

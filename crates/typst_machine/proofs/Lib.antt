@@ -1,3 +1,7 @@
+-- From what a contract promises to the lemma behind it:
+--   a step did what it says      Runs: how runs compose; Steps: how steps compose; Blocks: calls and blocks
+--   the token at hand            Ready: what it becomes; Trivia: reading ahead; Columns: its column
+--   what was looked at, noted    Hulls, Logs: in bytes; Bytes: bytes and characters
 pub mod Hulls
 pub mod Logs
 pub mod Bytes

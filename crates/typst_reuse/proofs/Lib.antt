@@ -1,3 +1,6 @@
+-- From what a contract promises to the lemma behind it:
+--   block_law: edit              Text: of a whole text; Law: for every parser; Inside, Spots, Grows, Wrap, Outcomes: word by word; Blocks: each block's node; Edit: looks
+--   block_law: names             Names: each block is the one of its name, between its marks
 pub mod Every
 pub mod Outcomes
 pub mod Wrap
