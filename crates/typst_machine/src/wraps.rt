@@ -47,7 +47,7 @@ impl<'s> Parser<'s> {
         change: Change<'_>,
         kind: SyntaxKind,
     ) -> Result<(), AllocError>
-        requires change { IsFine change.entry }
+        requires change { IsFine change }
         requires fine { is_error kind ≡ false }
         ensures { OnOk result (Rewrapped from (holds (meant change.entry) kind) self.old self.new) }
     {
@@ -92,7 +92,7 @@ impl<'s> Parser<'s> {
 
     /// Changes the first of the nodes from a number on, if there is one.
     pub fn change(&mut self, from: usize, change: Change<'_>) -> Result<(), AllocError>
-        requires { IsFine change.entry }
+        requires { IsFine change }
         ensures { OnOk result (Rewrapped from (keeps (meant change.entry)) self.old self.new) }
     {
         if from >= self.nodes.len() {

@@ -26,7 +26,7 @@ pub enum Change<'a> {
 
 /// Changes a node.
 pub fn change_node(node: &mut SyntaxNode, change: Change<'_>) -> Result<(), AllocError>
-    requires { IsFine change.entry }
+    requires { IsFine change }
     ensures { OnOk result (node.new ≡ changed (meant change.entry) node.old) }
 {
     match change {
@@ -41,7 +41,7 @@ pub fn change_node(node: &mut SyntaxNode, change: Change<'_>) -> Result<(), Allo
 
 /// Changes the first of several nodes, if there is one.
 pub fn change_first(nodes: &mut Vec<SyntaxNode>, change: Change<'_>) -> Result<(), AllocError>
-    requires { IsFine change.entry }
+    requires { IsFine change }
     ensures changed { OnOk result (nodes.new.items ≡ first_changed (meant change.entry) nodes.old.items) }
     ensures as_many { length nodes.new.items ≡ length nodes.old.items }
 {
