@@ -272,7 +272,8 @@ impl<'s> Parser<'s> {
             self.eat_wanted(true, "identifier", g)?;
             return Ok(false);
         }
-        Ok(self.expects(self.ahead.kind == SyntaxKind::Ident, "identifier", g)?)
+        let is = self.ahead.kind == SyntaxKind::Ident;
+        Ok(self.expects(is, "identifier", g)?)
     }
 
     /// Adds a hint to the node before the pending trivia, where that is an error.
