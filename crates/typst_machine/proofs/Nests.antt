@@ -21,10 +21,17 @@ use Rattle.typst_machine.proofs.Grows.{from-token}
 pub rewrapped-is : (from : ℕ) (shape : Shape) (v : View) → Rewrapped from shape v (rewrapped from shape v)
 rewrapped-is from shape v = record { place = refl; state = refl; nodes = refl; hand = refl; own = refl; here = refl; log = refl }
 
+pub rewrapped-same : {from : ℕ} {shape : Shape} {v w : View} → Rewrapped from shape v w → w ≡ rewrapped from shape v
+rewrapped-same r = λ i. record { nodes = r.nodes i; place = r.place i; state = r.state i; hand = r.hand i; own = r.own i; here = r.here i; log = r.log i }
+
 -- the last of the numbers comes first
 pub each-last : (froms : List ℕ) (from : ℕ) (shape : Shape) (v : View) → rewrapped_each (froms ++ from ∷ []) shape v ≡ rewrapped_each froms shape (rewrapped from shape v)
 each-last [] from shape v = refl
 each-last (k ∷ froms) from shape v = ap (rewrapped k shape) (each-last froms from shape v)
+
+-- the nodes from the last of the numbers on were wrapped
+pub each-popped : (froms rest : List ℕ) (from : ℕ) (shape : Shape) (v w : View) → froms ≡ rest ++ from ∷ [] → Rewrapped from shape v w → rewrapped_each rest shape w ≡ rewrapped_each froms shape v
+each-popped froms rest from shape v w e r = ap (rewrapped_each rest shape) (rewrapped-same r) ∙ sym (each-last rest from shape v) ∙ ap (λ (ns : List ℕ). rewrapped_each ns shape v) (sym e)
 
 module _ {A : Type 0} (l : Level) (shape : A → Shape) (begin : Begin) (p : A → Parser (Bool × A)) (sound : Sound l) (x y : A) (v w : View) (few : v.state.empties ≤ length v.nodes) where
   abbrev k : ℕ
@@ -35,7 +42,7 @@ module _ {A : Type 0} (l : Level) (shape : A → Shape) (begin : Begin) (p : A �
   unfolding run nesting
   ran-nested a new did less_bytes rest =
       let h = did.runs in
-      let m = λ u. run l (p u) in
+      let m = λ (u : A). run l (p u) in
       let o = at l (p x) v in
       let n = bound v.place v.state in
       let q = nestings shape begin m n o.value.1 (moved o.taken v.place) o.state in
@@ -76,8 +83,8 @@ pub record Nests {A : Type 0} (l : Level) (shape : A → Shape) (p : A → Parse
 pub nests-init : {A : Type 0} {l : Level} {shape : A → Shape} {p : A → Parser (Bool × A)} {x : A} {v : View} → Nests l shape p x v [] x v
 nests-init = record { rest = λ a new d. d }
 
-wraps-here : {l : Level} {shape : Shape} {from : ℕ} {v : View} (new : View) → Fits l v → from ≡ length v.nodes + length v.hand.trivia → rewrapped (length v.nodes + before at_token v.state) shape new ≡ rewrapped from shape new
-wraps-here {shape = shape} new c e = ap (λ n. rewrapped n shape new) (sym (from-token c e))
+wraps-here : {l : Level} {from : ℕ} {v : View} (shape : Shape) (new : View) → Fits l v → from ≡ length v.nodes + length v.hand.trivia → rewrapped (length v.nodes + before at_token v.state) shape new ≡ rewrapped from shape new
+wraps-here shape new c e = ap (λ n. rewrapped n shape new) (sym (from-token c e))
 
 -- a turn that says that more come, and took something
 pub nests-next : {A : Type 0} {l : Level} {shape : A → Shape} {p : A → Parser (Bool × A)} {start x y : A} {froms : List ℕ} {from : ℕ} {old v w : View}
@@ -86,7 +93,7 @@ pub nests-next : {A : Type 0} {l : Level} {shape : A → Shape} {p : A → Parse
 nests-next {l = l} {shape = shape} {p = p} {start = start} {x = x} {y = y} {froms = froms} {from = from} {old = old} {v = v} {w = w} sound n few e did less_bytes = record {
   rest = λ a new d.
       (let whole : Does l (nests shape at_token p x) a v (rewrapped from (shape a) new) = record {
-        ran = λ c. subst (λ (u : View). Ran l (nests shape at_token p x) a v u) (wraps-here new c e) (ran-nested l shape at_token p sound x y v w few a new (did.ran c) less_bytes (d.ran (did.ready c)));
+        ran = λ c. subst (λ (u : View). Ran l (nests shape at_token p x) a v u) (wraps-here (shape a) new c e) (ran-nested l shape at_token p sound x y v w few a new (did.ran c) less_bytes (d.ran (did.ready c)));
         ready = λ c. rewrapped-fits l (rewrapped-is from (shape a) new) (d.ready (did.ready c));
       } in
       subst (λ (u : View). Does l (nests shape at_token p start) a old u) (sym (each-last froms from (shape a) new)) (n.rest a (rewrapped from (shape a) new) whole));
@@ -99,7 +106,7 @@ pub nests-last : {A : Type 0} {l : Level} {shape : A → Shape} {p : A → Parse
 unfolding nest
 nests-last {l = l} {shape = shape} {p = p} {b = b} {start = start} {x = x} {y = y} {froms = froms} {from = from} {old = old} {v = v} {w = w} sound n few e did stuck =
     let whole : Does l (nests shape at_token p x) y v (rewrapped from (shape y) w) = record {
-      ran = λ c. subst (λ (u : View). Ran l (nests shape at_token p x) y v u) (wraps-here w c e) (ran-innermost l shape at_token p sound x y v w few b (known-few c) (did.ran c) stuck);
+      ran = λ c. subst (λ (u : View). Ran l (nests shape at_token p x) y v u) (wraps-here (shape y) w c e) (ran-innermost l shape at_token p sound x y v w few b (known-few c) (did.ran c) stuck);
       ready = λ c. rewrapped-fits l (rewrapped-is from (shape y) w) (did.ready c);
     } in
     does-next (does-peek old) (subst (λ (u : View). Does l (nests shape at_token p start) y old u) (sym (each-last froms from (shape y) w)) (n.rest y (rewrapped from (shape y) w) whole))

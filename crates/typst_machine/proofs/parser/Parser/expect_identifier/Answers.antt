@@ -14,4 +14,4 @@ pub returns : goal.returns
 unfolding expect_identifier
 returns g c l h =
     does-next (does-peek _) (does-other (ap (λ (v : View). is_keyword v.hand.kind) (sym c.self.view_is) ∙ sym c.is_keyword.ensures ∙ c.if-is_keyword.false)
-    (c.in_ok-expects.ensures (same kind.Ident) (c.eq.ensures ∙ ap (λ (v : View). same kind.Ident v.hand.kind) c.self.view_is) l h))
+    (c.in_ok-expects.ensures (same kind.Ident) (c.eq-is.ensures ∙ ap (λ (v : View). same kind.Ident v.hand.kind) c.self.view_is) l h))
