@@ -3,7 +3,7 @@ use Rattle.typst_node.specs.Diagnostic.{hint_with}
 use Rattle.typst_node.specs.Messages.{made_unexpected}
 use Rattle.typst_node.specs.Tree.{advised}
 use Rattle.typst_combinators.specs.Shape.Making.{surprise}
-use Rattle.typst_machine.proofs.parser.Parser.eat_unexpected.Goals as goal
+use Rattle.typst_machine.proofs.parser.Parser.eat_surprise.Goals as goal
 
 pub returns : goal.returns
 returns g c l h =
