@@ -322,7 +322,7 @@ impl<C: Classes> Source<C> {
     pub fn replace(&mut self, new: &str) -> Result<Range<usize>, SourceError>
         ensures text { OnOk result (self.new.text ≡ new.now) }
         ensures same { self.old.text ≡ new.now → (result ≡ Ok (record { start = 0; end = 0 })) × (self.new ≡ self.old) }
-        ensures headline { OnOk result ((self.old.text ≡ new.now → ⊥) → Headline (C.classes self.new.classes) self.new) }
+        ensures headline { OnOk result (self.new.has_records ≡ true → Headline (C.classes self.new.classes) self.new) }
         ensures kept { OnOk result ((self.new.id ≡ self.old.id) × (self.new.classes ≡ self.old.classes) × (file_of self.new.root ≡ file_of self.old.root)) }
         ensures records { OnOk result ((self.old.text ≡ new.now → ⊥) → self.new.has_records ≡ true) }
         ensures within { IfOk result (λ range. (range.start ≤ range.end) × (range.end ≤ length self.new.text)) }
@@ -330,6 +330,7 @@ impl<C: Classes> Source<C> {
         ensures refused { result ≡ Err SourceError.SpanNumbers → numbered_in (file_of self.old.root) (tree (C.classes self.old.classes) (chars new.now)) ≡ None }
     {
         let Some((front, end)) = self.lines.replacement_range(new) else {
+            self.keeps_headline();
             return Ok(0..0);
         };
         let replaced = front..self.lines.len_bytes() - end;
