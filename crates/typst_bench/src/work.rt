@@ -3,7 +3,7 @@ ghost use Rattle.std.specs.Prelude.{◌≡◌};
 ghost use Rattle.typst_bench.specs.Words.{word_of, work_named};
 
 use std::alloc::{AllocError, Global};
-use typst_parser::{Lines, UnicodeClasses, parse};
+use typst_parser::{Lines, SyntaxNode, UnicodeClasses, highlight_html, parse};
 
 /// A kind of work on a text.
 #[derive(Debug, Clone, Copy, PartialEq, Eq)]
@@ -12,6 +12,8 @@ pub enum Work {
     Lines,
     /// Makes the syntax tree.
     Parse,
+    /// Writes the syntax tree as HTML.
+    Html,
 }
 
 impl Work {
@@ -22,6 +24,7 @@ impl Work {
         match word {
             "lines" => Some(Work::Lines),
             "parse" => Some(Work::Parse),
+            "html" => Some(Work::Html),
             _ => None,
         }
     }
@@ -33,14 +36,16 @@ impl Work {
         match self {
             Work::Lines => "lines",
             Work::Parse => "parse",
+            Work::Html => "html",
         }
     }
 
-    /// Does the work once, and sums up what came out.
-    pub fn round(self, alloc: Global, text: &str) -> Result<u64, AllocError> {
+    /// Does the work once on a text and its syntax tree, and sums up what came out.
+    pub fn round(self, alloc: Global, text: &str, root: &SyntaxNode) -> Result<u64, AllocError> {
         match self {
             Work::Lines => lines(alloc, text),
             Work::Parse => tree(alloc, text),
+            Work::Html => html(alloc, root),
         }
     }
 }
@@ -63,4 +68,9 @@ fn lines(alloc: Global, text: &str) -> Result<u64, AllocError> {
 fn tree(alloc: Global, text: &str) -> Result<u64, AllocError> {
     let root = parse(alloc, text, &UnicodeClasses)?;
     Ok((root.len() as u64).wrapping_add(root.descendants() as u64))
+}
+
+/// The length of the tree's text as HTML.
+fn html(alloc: Global, root: &SyntaxNode) -> Result<u64, AllocError> {
+    Ok(highlight_html(alloc, root)?.len() as u64)
 }

@@ -1,4 +1,5 @@
 pub mod Faults
 pub mod Printed
+pub mod PrintedHtml
 pub mod PrintedTree
 pub mod Variants

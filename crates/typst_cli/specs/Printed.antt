@@ -5,13 +5,14 @@ use Rattle.std.specs.Str.{chars, bytes_eq}
 use Rattle.typst_lines.specs.Lines.{line_table, units}
 use Rattle.typst_lines.specs.declared.lines.Line.{Line}
 use Rattle.typst_cli.specs.declared.command.Command.{Command}
-use Rattle.typst_cli.specs.declared.command.Command.TheVariants.{Lines, Tree}
+use Rattle.typst_cli.specs.declared.command.Command.TheVariants.{Lines, Tree, Html}
 use Rattle.typst_classes.specs.UnicodeTables.{unicode_classes}
+use Rattle.typst_cli.specs.PrintedHtml.{html_printed}
 use Rattle.typst_cli.specs.PrintedTree.{tree_printed}
 
 -- the command that is named by one word
 abbrev pub command_named : List ℕ → Option Command
-command_named word = if bytes_eq word (codes "lines") then Some Lines else (if bytes_eq word (codes "tree") then Some Tree else None)
+command_named word = if bytes_eq word (codes "lines") then Some Lines else (if bytes_eq word (codes "tree") then Some Tree else (if bytes_eq word (codes "html") then Some Html else None))
 
 -- the command that words name
 abbrev pub command_of : List (List ℕ) → Option Command
@@ -42,3 +43,4 @@ lines_printed text = rows 0 (line_table text) ++ totals text
 abbrev pub printed : Command → List ℕ → List ℕ
 printed Lines text = lines_printed text
 printed Tree text = tree_printed unicode_classes text
+printed Html text = html_printed unicode_classes text

@@ -3,7 +3,7 @@ ghost use Rattle.std.specs.Prelude.{◌≡◌, IfOk, map};
 ghost use Rattle.std.specs.String.{string_bytes};
 ghost use Rattle.typst_cli.specs.Printed.{command_named, command_of, printed};
 
-use crate::{lines, tree};
+use crate::{html, lines, tree};
 use std::alloc::{AllocError, Global};
 use typst_parser::UnicodeClasses;
 
@@ -14,6 +14,8 @@ pub enum Command {
     Lines,
     /// The syntax tree of the text.
     Tree,
+    /// The text as HTML.
+    Html,
 }
 
 impl Command {
@@ -33,6 +35,7 @@ impl Command {
         match word {
             "lines" => Some(Command::Lines),
             "tree" => Some(Command::Tree),
+            "html" => Some(Command::Html),
             _ => None,
         }
     }
@@ -44,6 +47,7 @@ impl Command {
         match self {
             Command::Lines => lines::answer(alloc, text),
             Command::Tree => tree::answer(alloc, text, &UnicodeClasses),
+            Command::Html => html::answer(alloc, text, &UnicodeClasses),
         }
     }
 }

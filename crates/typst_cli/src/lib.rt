@@ -3,6 +3,7 @@
 
 pub mod command;
 pub mod failure;
+mod html;
 mod lines;
 pub mod program;
 pub mod streams;

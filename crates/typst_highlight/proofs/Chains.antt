@@ -1,10 +1,8 @@
 -- How many steps are allowed makes no difference where they are enough.
 use Rattle.std.proofs.Common.{◌≡◌, ℕ, suc, zero, ◌+◌, ◌<◌, ◌≤◌, Option, None, Some, refl, ap, sym, ◌∙◌, arith}
 use Rattle.std.specs.Prelude.{option_and_then}
-use Rattle.typst_node.specs.Tree.{Tree, nodes, places}
-use Rattle.typst_tree.specs.Walks.{Stands}
+use Rattle.typst_node.specs.Tree.{nodes}
 use Rattle.typst_tree.specs.Steps.{At, kind_of, parent}
-use Rattle.typst_tree.proofs.WalksInPreorder.{length_places}
 use Rattle.typst_highlight.specs.declared.tags.Tag.{Tag}
 use Rattle.typst_highlight.specs.declared.rules.Rule.{Rule}
 use Rattle.typst_highlight.specs.declared.rules.Rule.TheVariants as rule
@@ -78,9 +76,6 @@ name_ends a e = ap (option_and_then (name_tag a.number)) e
 pub name_goes : (a b : At) → Some b ≡ earlier_name a → name_tag (b.number + 1) b ≡ option_and_then (name_tag a.number) (earlier_name a)
 name_goes a b e =
     same_name (b.number + 1) a.number b (omega arith) (name_below a b (sym e)) ∙ ap (option_and_then (name_tag a.number)) e
-
-pub in_tree : (root t : Tree) (k b : ℕ) → Stands (places root) k b (places t) → k < nodes root
-in_tree root t k b s = omega (arith, s.within, length_places t, length_places root)
 
 -- a hash has the tag of the leaf that it leads to
 pub hash_step : (n : ℕ) (a b : At) → a.number < nodes a.root → nodes a.root ≤ n + a.number → rule.Expression ≡ rule_of (kind_of a) → Some b ≡ expression_leaf a → (m : ℕ) × ((tag_within n a ≡ tag_within m b) × (nodes b.root ≤ m + b.number))

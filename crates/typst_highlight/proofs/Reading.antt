@@ -82,11 +82,15 @@ reads_row root n (more h ks r) =
     same _ _ _ (rw append-nil (append_assoc h.text (joined ks) (joined r)))
     (then _ _ (row_html root (n + (1 + count ks)) r) (joined r) node (reads_row root (n + (1 + count ks)) r))
 
--- tags removed and entities read back, the HTML of a tree is its text
-pub text_read : (root : Tree) → read plain (html_of root) ≡ text_of root
-text_read root =
+-- tags removed and entities read back, the HTML of a tree is its text, whatever stands behind it
+pub text_first : (root : Tree) (rest : List ℕ) → read plain (html_of root ++ rest) ≡ text_of root ++ read plain rest
+text_first root rest =
     let open_code : Reads (codes "<code>") [] = record { seen = λ rest. refl } in
     let close_code : Reads (codes "</code>") [] = record { seen = λ rest. refl } in
     let rows = reads_row root 0 (more root.head root.kids none) in
     let whole = then (codes "<code>") [] _ _ open_code (then (row_html root 0 (more root.head root.kids none)) (joined (more root.head root.kids none)) (codes "</code>") [] rows close_code) in
-    ap (read plain) (sym (append-nil (html_of root))) ∙ (whole.seen [] ∙ simp append-nil refl)
+    whole.seen rest ∙ simp append-nil refl
+
+pub text_read : (root : Tree) → read plain (html_of root) ≡ text_of root
+text_read root =
+    ap (read plain) (sym (append-nil (html_of root))) ∙ (text_first root [] ∙ append-nil (text_of root))

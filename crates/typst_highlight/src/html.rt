@@ -1,7 +1,7 @@
 //! A tree's text as HTML.
 
-ghost use Rattle.std.specs.Prelude.{◌≡◌, ◌^◌, ◌<◌, ◌-◌, ◌++◌, IfOk, OnOk, encode_utf8, string_bytes};
-ghost use Rattle.typst_node.specs.Tree.{nodes, text_of, forest};
+ghost use Rattle.std.specs.Prelude.{◌≡◌, ◌++◌, IfOk, OnOk, encode_utf8, string_bytes};
+ghost use Rattle.typst_node.specs.Tree.{text_of, forest};
 ghost use Rattle.typst_highlight.specs.Html as spec;
 ghost use Rattle.typst_highlight.specs.Walk as walk;
 
@@ -16,7 +16,6 @@ use typst_node::SyntaxNode;
 ///
 /// The characters `& < > ' "` of the text are written as entities. It goes through the tree once.
 pub fn highlight_html(alloc: Global, root: &SyntaxNode) -> Result<String, AllocError>
-    requires { nodes root.now < 2 ^ 64 - 1 }
     ensures html { IfOk result (λ html. string_bytes html ≡ spec.html_of root.now) }
     ensures shown { IfOk result (λ html. spec.read spec.plain (string_bytes html) ≡ text_of root.now) }
 {

@@ -4,6 +4,10 @@
 //!   stand in the tree, and its leaves joined are the text.
 //! - A tree is a [`SyntaxNode`] of some [`SyntaxKind`], with its [`Diagnostic`]s and its [`Span`];
 //!   [`LinkedNode`] is a node with what stands round it.
+//! - [`highlight`] tells the [`Tag`] that a node is shown by, and [`highlight_html`] writes a tree's text
+//!   as HTML.
+//! - A [`Source`] holds a text with its lines and its numbered tree from edit to edit, finds nodes by
+//!   their spans and tells which bytes they stand for; [`SourceError`] is why one can't be made or edited.
 //! - What characters are letters, digits and word characters is asked of a value of [`Classes`];
 //!   [`UnicodeClasses`] answers by Unicode. [`is_id_start`], [`is_id_continue`] and [`is_ident`] tell by
 //!   such a value what an identifier is, and [`is_valid_label_literal_id`] what a label can be named.
@@ -16,9 +20,11 @@
 #![tactic(auto)]
 
 pub use typst_grammar::parse;
+pub use typst_highlight::{Tag, highlight, highlight_html};
 pub use typst_lexer::{Classes, MathClass, UnicodeClasses, is_id_continue, is_id_start, is_ident};
 pub use typst_lines::{Line, Lines, Text, is_newline, split_newlines};
 pub use typst_links::{is_valid_label_literal_id, link_prefix};
+pub use typst_source::Source;
 pub use typst_tree::{
     Assoc, BinOp, Diagnostic, FileId, Hint, LinkedChildren, LinkedNode, Severity, SourceError,
     Span, SpanNumber, SubRange, SyntaxKind, SyntaxMode, SyntaxNode, SyntaxSet, UnOp, is_ordered,

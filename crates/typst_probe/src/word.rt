@@ -3,7 +3,7 @@
 ghost use Rattle.std.specs.Prelude.{◌≡◌, IfOk, IfSome, string_bytes};
 ghost use Rattle.typst_probe.specs.Words.{printed_by, word_named};
 
-use crate::tokens;
+use crate::{tags, tokens};
 use std::alloc::{AllocError, Global};
 use typst_cli::Command;
 
@@ -16,6 +16,10 @@ pub enum Word {
     Tokens,
     /// Where the lines of the text start.
     Lines,
+    /// The tags of the nodes of the text's tree.
+    Tags,
+    /// The text as HTML.
+    Html,
 }
 
 impl Word {
@@ -27,6 +31,8 @@ impl Word {
             "tree" => Some(Word::Tree),
             "tokens" => Some(Word::Tokens),
             "lines" => Some(Word::Lines),
+            "tags" => Some(Word::Tags),
+            "html" => Some(Word::Html),
             _ => None,
         }
     }
@@ -39,6 +45,8 @@ impl Word {
             Word::Tree => Command::Tree.answer(alloc, text),
             Word::Tokens => tokens::answer(alloc, text),
             Word::Lines => Command::Lines.answer(alloc, text),
+            Word::Tags => tags::answer(alloc, text),
+            Word::Html => Command::Html.answer(alloc, text),
         }
     }
 }

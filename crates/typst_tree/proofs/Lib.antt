@@ -7,7 +7,9 @@
 --   find: a node finds itself            FindsOwnSpan: finds_own; SingleNodes: same_span
 --   find, find_number from `ordered`     RisingNumbers: none_past, none_in_first, found_only
 --   is_ordered                           RisingNumbers: climb_on, climb_fails, decided
+-- For crates above: Inside.
 pub mod FindsOwnSpan
+pub mod Inside
 pub mod LastLeaf
 pub mod NodesOfStretch
 pub mod PassesOver

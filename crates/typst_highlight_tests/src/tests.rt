@@ -1,0 +1,109 @@
+//! Tags and HTML of trees made by hand.
+
+use crate::{cases, texts};
+use std::alloc::{AllocError, Global};
+use std::process::Abort;
+use std::test::Fail;
+use typst_highlight::{Tag, highlight, highlight_html};
+use typst_tree::{LinkedNode, SyntaxKind, SyntaxNode};
+
+/// A node in a list of a tree's nodes in preorder: how many nodes are above it, its kind, and its
+/// text, which is empty for an inner node.
+type Row = (u8, SyntaxKind, &'static str);
+
+/// A tree, a line with the range and the tag of each node that has one, and the HTML.
+pub struct Case {
+    pub text: &'static str,
+    pub rows: &'static [Row],
+    pub tags: &'static str,
+    pub html: &'static str,
+}
+
+/// A node of a row and the children that were made for it.
+fn node(alloc: Global, row: &Row, kids: Vec<SyntaxNode>) -> Result<SyntaxNode, AllocError> {
+    let (_, kind, text) = *row;
+    if kind.is_error() {
+        SyntaxNode::error(alloc, "wrong", text)
+    } else if text.is_empty() {
+        Ok(SyntaxNode::inner(kind, kids))
+    } else {
+        SyntaxNode::leaf(alloc, kind, text)
+    }
+}
+
+/// The tree of a list of its nodes in preorder.
+fn build(alloc: Global, rows: &[Row]) -> Result<SyntaxNode, Fail> {
+    let mut pending: Vec<(u8, SyntaxNode)> = Vec::new(alloc);
+    for row in rows.iter().rev() {
+        let mut kids = Vec::new(alloc);
+        for _ in 0..rows.len() {
+            match pending.pop() {
+                Some((depth, kid)) if depth > row.0 => kids.push(kid)?,
+                Some(other) => {
+                    pending.push(other)?;
+                    break;
+                }
+                None => break,
+            }
+        }
+        pending.push((row.0, node(alloc, row, kids)?))?;
+    }
+    match pending.pop() {
+        Some((_, node)) => Ok(node),
+        None => Err(Fail::from("no rows")),
+    }
+}
+
+/// Lists the ranges and tags of a node and all below it, down to a depth.
+fn list_tags(list: &mut String, node: LinkedNode, depth: u8) -> Result<(), AllocError> {
+    if depth == 0 {
+        return Ok(());
+    }
+    if let Some(tag) = highlight(&node) {
+        let range = node.range();
+        write!(list, "{}..{} {:?}\n", range.start, range.end, tag)?;
+    }
+    for child in node.children() {
+        list_tags(list, child, depth - 1)?;
+    }
+    Ok(())
+}
+
+/// Compares the tags and the HTML of the case's tree.
+fn agrees(rt: &(impl AllocGlobal + Abort), case: &Case) -> Result<(), Fail> {
+    let root = build(rt.alloc(), case.rows)?;
+    if root.descendants() == usize::MAX {
+        return Err(Fail::from("counts"));
+    }
+    let mut list = String::new(rt.alloc());
+    list_tags(&mut list, LinkedNode::new(&root), 20)?;
+    assert_eq!(rt; list.as_str(), case.tags, "tags of {}", case.text);
+    let html = highlight_html(rt.alloc(), &root)?;
+    assert_eq!(rt; html.as_str(), case.html, "HTML of {}", case.text);
+    Ok(())
+}
+
+#[test]
+fn tags_and_html(rt: HostRuntime) -> Result<(), Fail> {
+    for case in cases::CASES {
+        agrees(&rt, case)?;
+    }
+    Ok(())
+}
+
+#[test]
+fn tags_and_html_of_texts(rt: HostRuntime) -> Result<(), Fail> {
+    for case in texts::CASES {
+        agrees(&rt, case)?;
+    }
+    Ok(())
+}
+
+#[test]
+fn classes_and_scopes(rt: HostRuntime) {
+    assert_eq!(rt; Tag::LIST.len(), 22);
+    assert_eq!(rt; Tag::LIST.first().copied(), Some(Tag::Comment));
+    assert_eq!(rt; Tag::MathGroupingParens.css_class(), "typ-math-group");
+    assert_eq!(rt; Tag::String.tm_scope(), "string.quoted.double.typst");
+    assert!(rt; Tag::Emph == Tag::Emph && Tag::Emph != Tag::Strong);
+}

@@ -1,0 +1,6 @@
+-- From what a contract promises to the lemma behind it:
+--   the headline's tree, leaves and numbers   Fresh: fresh-bare, fresh-text, fresh-file, fresh-numbers
+--   a node is found by its own span           Own: finds-own
+--   a node's bytes by its own number          Own: gives-own
+pub mod Fresh
+pub mod Own

@@ -1,0 +1,4 @@
+pub mod Held
+pub mod Headline
+pub mod Find
+pub mod Found
