@@ -12,3 +12,8 @@ pub mod Edit
 pub mod Blocks
 pub mod Text
 pub mod Names
+pub mod Reached
+pub mod Clear
+pub mod Enclosed
+pub mod Content
+pub mod Fitting
