@@ -65,10 +65,10 @@ past-is : (d : ℕ) (front mid rest : List ℕ) → moved ((length front + lengt
 past-is d front mid rest =
     moved-sum (length front + length mid) d _ ∙ ap (moved d) (moved-sum (length front) (length mid) _ ∙ ap (moved (length mid)) (moved-over front (mid ++ rest) []) ∙ moved-over mid rest (onto front []))
 
-same_in-to : (asks : List Ask) (z y w v : Place) → z ≡ y → w ≡ v → SameIn asks y v → SameIn asks z w
+pub same_in-to : (asks : List Ask) (z y w v : Place) → z ≡ y → w ≡ v → SameIn asks y v → SameIn asks z w
 same_in-to asks z y w v e f h = rw (e, f) h
 
-after-same : (asks : List Ask) (d m k : ℕ) (front old new rest : List ℕ) → m ≡ (length front + length old) + d → k ≡ (length front + length new) + d → AllBeginIn d rest asks
+pub after-same : (asks : List Ask) (d m k : ℕ) (front old new rest : List ℕ) → m ≡ (length front + length old) + d → k ≡ (length front + length new) + d → AllBeginIn d rest asks
     → SameIn asks (moved m (text_with front old rest)) (moved k (text_with front new rest))
 after-same asks d m k front old new rest e f h =
     same_in-to asks _ _ _ _ (ap (λ n. moved n (text_with front old rest)) e ∙ past-is d front old rest) (ap (λ n. moved n (text_with front new rest)) f ∙ past-is d front new rest)

@@ -17,3 +17,5 @@ pub mod Clear
 pub mod Enclosed
 pub mod Content
 pub mod Fitting
+pub mod Runs
+pub mod Root
