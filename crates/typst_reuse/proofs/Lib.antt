@@ -12,3 +12,10 @@ pub mod Edit
 pub mod Blocks
 pub mod Text
 pub mod Names
+pub mod Reached
+pub mod Clear
+pub mod Enclosed
+pub mod Content
+pub mod Fitting
+pub mod Runs
+pub mod Root

@@ -131,7 +131,7 @@ looks-after os bs ls ks t m k =
     let e : shift t (shift m ls ++ shift (m + k) ks) ≡ shift (t + m) ls ++ shift ((t + m) + k) ks = map-append (shift_one t) (shift m ls) (shift (m + k) ks) ∙ ap (λ u. u ++ shift t (shift (m + k) ks)) (shift-twice t m ls) ∙ ap (λ u. shift (t + m) ls ++ u) (shift-twice t (m + k) ks ∙ ap (λ j. shift j ks) f) in
     ap (λ u. os ++ u) (map-append (shift_one t) bs (shift m ls ++ shift (m + k) ks)) ∙ sym (append_assoc os (shift t bs) (shift t (shift m ls ++ shift (m + k) ks))) ∙ ap (λ u. (os ++ shift t bs) ++ u) e
 
-hints-first : {A B : Type 0} (o : Outcome B) (q : Outcome A) → q.back < length o.nodes → hints_before o q ≡ o.hints
+pub hints-first : {A B : Type 0} (o : Outcome B) (q : Outcome A) → q.back < length o.nodes → hints_before o q ≡ o.hints
 hints-first o q h = rw (lt-ltb q.back (length o.nodes) h) refl
 
 pub then-around : {A B : Type 0} (c : Spot B) (b : Outcome (Unit {0})) (x : Tree) (q : Outcome A) → q.back ≤ length c.hole.right → is_error (fill c.hole.deep x).head.kind ≡ false
