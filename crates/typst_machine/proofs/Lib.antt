@@ -11,3 +11,4 @@ pub mod Trivia
 pub mod Runs
 pub mod Steps
 pub mod Ready
+pub mod ReadSo

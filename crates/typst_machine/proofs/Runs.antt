@@ -140,10 +140,10 @@ asked-log l v h c =
 pub asked-again : (l : Level) (v : View) → Fits l v → logged l.levels v.place v.log (hand_asks_of l v.place v.state) ≡ v.log
 asked-again l v c = asked-log l v v.log c ∙ c.log
 
-asked-then : (l : Level) (v : View) → Fits l v → (asks : List Ask) → logged l.levels v.place v.log (hand_asks_of l v.place v.state ++ asks) ≡ logged l.levels v.place v.log asks
+pub asked-then : (l : Level) (v : View) → Fits l v → (asks : List Ask) → logged l.levels v.place v.log (hand_asks_of l v.place v.state ++ asks) ≡ logged l.levels v.place v.log asks
 asked-then l v c asks = logged-append l.levels v.place v.log (hand_asks_of l v.place v.state) asks ∙ ap (λ x. logged l.levels v.place x asks) (asked-again l v c)
 
-asked-same : (l : Level) (v : View) → Fits l v → v.state ≡ asked v.hand v.state
+pub asked-same : (l : Level) (v : View) → Fits l v → v.state ≡ asked v.hand v.state
 asked-same l v c = ap (λ (x : Option Trivia). record v.state { known = x }) c.known
 
 pub fits-looked : {l : Level} {v : View} → Fits l v → Looked l v v

@@ -17,7 +17,7 @@ use Rattle.typst_combinators.specs.declared.reading.State.{State}
 use Rattle.typst_combinators.specs.Calls.{Answer}
 use Rattle.typst_combinators.specs.Point.{Point, forgot, state_of}
 use Rattle.typst_combinators.specs.Hand.{Hand, known_by}
-use Rattle.typst_combinators.specs.Log.{Log, logged, with_hull, with_more, with_note}
+use Rattle.typst_combinators.specs.Log.{Log, logged, least_behind, with_hull, with_more, with_note}
 use Rattle.typst_combinators.specs.Shape.{Shape, shaped, after_shape}
 use Rattle.typst_combinators.specs.Sound.{Sound}
 use Rattle.typst_combinators.specs.Syntax.{Parser, ◌>>◌}
@@ -161,7 +161,7 @@ pub record Rewrapped (from : ℕ) (shape : Shape) (mid new : View) : Type 0 wher
 abbrev pub with_noted : Mark → ℕ → ℕ → ℕ → State → Log → Log
 with_noted mark before start levels s h = record {
   reach = h.reach;
-  least = 2 ^ 64 - 1;
+  least = least_behind h.notes h.least;
   notes = with_more (record { mark = mark; before = before; start = start; levels = levels; state = s; reach = h.reach; least = h.least }) h.notes;
 }
 

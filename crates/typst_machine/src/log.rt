@@ -1,8 +1,10 @@
 //! What was looked at and noted.
 
-ghost use Rattle.std.specs.Prelude.{◌≡◌, OnOk};
+ghost use Rattle.std.specs.Prelude.{◌≡◌, ◌≤◌, ◌-◌, ◌^◌, OnOk, length};
 ghost use Rattle.typst_combinators.specs.Log.{blank_log, with_hull};
 ghost use Rattle.typst_machine.specs.Bytes.{joined_hull};
+ghost use Rattle.typst_machine.specs.Checkpoint as spec;
+ghost use Rattle.typst_machine.specs.Checkpoint.{unnoted};
 ghost use Rattle.typst_machine.specs.View.{listed, with_noted};
 
 use std::alloc::{AllocError, Global};
@@ -13,7 +15,7 @@ use typst_lexer::Hull;
 /// What was looked at and noted so far.
 #[derive(Drop)]
 pub(crate) struct Log {
-    /// Where all looks end, and where those since the last note begin.
+    /// Where all looks end, and where those since the last note begin; all, where no notes are kept.
     hull: Hull,
     /// What was noted, in order, where notes are kept.
     notes: Option<Vec<Note>>,
@@ -79,9 +81,33 @@ impl Log {
         };
         if let Some(notes) = &mut self.notes {
             notes.push(note)?;
+            self.hull.least = usize::MAX;
         }
-        self.hull.least = usize::MAX;
         Ok(())
+    }
+
+    /// How many notes are kept.
+    pub(crate) fn count(&self) -> usize
+        ensures count { result ≡ length (listed self.now.notes) }
+        ensures least { self.now.least ≤ 2 ^ 64 - 1 }
+    {
+        let _least = self.hull.least;
+        match &self.notes {
+            Some(notes) => notes.len(),
+            None => 0,
+        }
+    }
+
+    /// Keeps the first so many notes alone. What was looked at before the others counts as looked at
+    /// since the last of these.
+    pub(crate) fn drop_notes(&mut self, count: usize)
+        ensures { self.new ≡ unnoted count self.old }
+    {
+        if let Some(notes) = &mut self.notes {
+            let at = count.min(notes.len());
+            self.hull.least = least_of(self.hull.least, &notes[at..]);
+            notes.truncate(at);
+        }
     }
 
     /// What was noted, none where no notes are kept; where all looks end, and where those since the
@@ -96,6 +122,17 @@ impl Log {
             None => (Vec::new(alloc), hull),
         }
     }
+}
+
+/// Where the looks begin before which these were noted, and those since.
+fn least_of(since: usize, notes: &[Note]) -> usize
+    ensures { result ≡ spec.least_of since notes.now }
+{
+    let mut least = since;
+    for note in notes {
+        least = least.min(note.least);
+    }
+    least
 }
 
 /// Both stretches, and what lies between them.

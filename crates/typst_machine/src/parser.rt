@@ -41,12 +41,12 @@ const BYTES_OF_A_NODE: usize = 32;
 /// After an error of memory it stands somewhere between: it can only be dropped.
 #[derive(Drop)]
 pub struct Parser<'s> {
-    alloc: Global,
+    pub(crate) alloc: Global,
     /// Without the trivia before the token at hand.
-    nodes: Vec<SyntaxNode>,
-    ahead: ReadAhead<'s>,
-    state: State,
-    log: Log,
+    pub(crate) nodes: Vec<SyntaxNode>,
+    pub(crate) ahead: ReadAhead<'s>,
+    pub(crate) state: State,
+    pub(crate) log: Log,
 }
 
 impl<'s> Model for Parser<'s> {
@@ -148,7 +148,7 @@ impl<'s> Parser<'s> {
 
     /// The same.
     #[inline(always)]
-    fn read<C: Classes>(&mut self, classes: &C) -> Result<(), AllocError>
+    pub(crate) fn read<C: Classes>(&mut self, classes: &C) -> Result<(), AllocError>
         ensures { (l : Level) → l.classes ≡ C.classes classes.now → OnOk result (Looked l (unasked self.old) self.new) }
     {
         let hull = self.ahead.read(self.alloc, self.state.held, classes)?;
@@ -573,7 +573,7 @@ impl<'s> Parser<'s> {
 
 /// Adds a node, and tells whether it is an error.
 #[inline(always)]
-fn give(nodes: &mut Vec<SyntaxNode>, state: &mut State, node: SyntaxNode) -> Result<(), AllocError>
+pub(crate) fn give(nodes: &mut Vec<SyntaxNode>, state: &mut State, node: SyntaxNode) -> Result<(), AllocError>
     ensures nodes { OnOk result (nodes.new.items ≡ nodes.old.items ++ node ∷ []) }
     ensures state { OnOk result (state.new ≡ record state.old { empties = if is_error node.head.kind then count_empty (text_of node) else 0; is_after_error = is_error node.head.kind }) }
     ensures refused { OnErr result (state.new.empties ≡ 0) }
@@ -640,7 +640,7 @@ fn trim(nodes: &mut Vec<SyntaxNode>, count: usize)
 }
 
 /// Moves all nodes behind the others.
-fn push_all(nodes: &mut Vec<SyntaxNode>, more: &mut Vec<SyntaxNode>) -> Result<(), AllocError>
+pub(crate) fn push_all(nodes: &mut Vec<SyntaxNode>, more: &mut Vec<SyntaxNode>) -> Result<(), AllocError>
     ensures ok { OnOk result (nodes.new.items ≡ nodes.old.items ++ more.old.items) }
     ensures err { OnErr result (nodes.new.items ≡ nodes.old.items) }
     ensures none { OnOk result (more.new.items ≡ []) }
