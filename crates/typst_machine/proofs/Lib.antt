@@ -12,3 +12,4 @@ pub mod Runs
 pub mod Steps
 pub mod Ready
 pub mod ReadSo
+pub mod Checkpoints

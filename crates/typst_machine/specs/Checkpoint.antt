@@ -62,11 +62,13 @@ saved v = record {
 
 -- ---- what stands behind going back
 
--- the nodes of the trivia at hand: the first that were given since, or those at hand, where fewer were given
+-- the first so many of what was given since, or what is at hand, where fewer were given
+abbrev pub first_of : ℕ → List Tree → List Tree → List Tree
+first_of count given held = let first = take count given in if length first == count then first else held
+
+-- the nodes of the trivia at hand
 abbrev pub trivia_back : Saved → View → List Tree
-trivia_back c v =
-    let given = take c.trivia (drop c.nodes v.nodes) in
-    if length given == c.trivia then given else v.hand.trivia
+trivia_back c v = first_of c.trivia (drop c.nodes v.nodes) v.hand.trivia
 
 abbrev pub hand_back : Saved → View → Hand
 hand_back c v = record c.hand { trivia = trivia_back c v }

@@ -1,7 +1,7 @@
 //! A place to go back to.
 
 ghost use Rattle.std.specs.Prelude.{◌≡◌, ◌≤◌, ◌-◌, ◌^◌, OnOk, length};
-ghost use Rattle.typst_machine.specs.Checkpoint.{AreBehind, forgot_notes, saved, went_back};
+ghost use Rattle.typst_machine.specs.Checkpoint.{AreBehind, first_of, forgot_notes, saved, went_back};
 
 use crate::parser::Parser;
 use std::alloc::AllocError;
@@ -9,6 +9,7 @@ use typst_combinators::{Newlines, State};
 use typst_kinds::SyntaxKind;
 use typst_lexer::{Hull, Token};
 use typst_lines::Scanner;
+use typst_node::SyntaxNode;
 
 /// Where a parser stood: how many nodes and notes there were, and the token at hand. It keeps no
 /// node and no text.
@@ -67,11 +68,8 @@ impl<'s> Parser<'s> {
     {
         self.state.empties = 0;
         let at = to.nodes.min(self.nodes.len());
-        let mut given = self.nodes.split_off(at)?;
-        given.truncate(to.trivia);
-        if given.len() == to.trivia {
-            self.ahead.trivia = given;
-        }
+        let given = self.nodes.split_off(at)?;
+        put_back(&mut self.ahead.trivia, given, to.trivia);
         self.ahead.is_read = to.is_read;
         self.ahead.before = to.before;
         self.ahead.start = to.start;
@@ -93,5 +91,15 @@ impl<'s> Parser<'s> {
         ensures { self.new ≡ forgot_notes (saved_by since.entry) self.old }
     {
         self.log.drop_notes(since.notes);
+    }
+}
+
+/// The first so many nodes are at hand again, where so many were given.
+fn put_back(held: &mut Vec<SyntaxNode>, mut given: Vec<SyntaxNode>, count: usize)
+    ensures { held.new.items ≡ first_of count given.items held.old.items }
+{
+    given.truncate(count);
+    if given.len() == count {
+        *held = given;
     }
 }
