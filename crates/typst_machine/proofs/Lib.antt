@@ -13,3 +13,4 @@ pub mod Steps
 pub mod Ready
 pub mod ReadSo
 pub mod Checkpoints
+pub mod Either

@@ -91,6 +91,11 @@ went_back c v = record {
   log = unnoted c.notes v.log;
 }
 
+-- a reading left what stood before it, and the trivia that were at hand are what it gave first, or are at hand still
+pub record Leaves (old mid : View) : Type 0 where
+  pub nodes : take (length old.nodes) mid.nodes ≡ old.nodes
+  pub trivia : trivia_back (saved old) mid ≡ old.hand.trivia
+
 -- what was noted since is dropped
 abbrev pub forgot_notes : Saved → View → View
 forgot_notes c v = record v { log = unnoted c.notes v.log }
