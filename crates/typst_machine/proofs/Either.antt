@@ -14,7 +14,7 @@ use Rattle.typst_combinators.specs.Syntax.{Parser}
 use Rattle.typst_combinators.specs.Syntax.Parser.{either}
 use Rattle.typst_combinators.specs.Meaning.{Level, given_up, standing, run}
 use Rattle.typst_machine.specs.View.{View, Runs, Ran, Goes, Does, Fits, at, listed}
-use Rattle.typst_machine.specs.Checkpoint.{Leaves, forgot_notes, is_some, least_of, saved, trivia_back, unnoted, went_back}
+use Rattle.typst_machine.specs.Checkpoint.{Leaves, Saved, forgot_notes, is_some, least_of, saved, trivia_back, unnoted, went_back}
 use Rattle.typst_combinators.proofs.Places.{take-both, drop-both, take-all, drop-all}
 use Rattle.typst_machine.proofs.Logs.{Among, among-is, is-among, logged-append, same-log}
 
@@ -197,15 +197,17 @@ pub does-chosen : {A : Type 0} {l : Level} {P Q : View → Type 0} {p q : Parser
 does-chosen e d = record { ran = λ c. ran-chosen e (d.ran c); ready = d.ready }
 
 -- the first reading turned out wrong: the code went back to where it began, read in the second way, and dropped what was noted
-pub does-either : {A : Type 0} {l : Level} {Q : View → Type 0} {p q : Parser A} {is_wrong : A → Bool} {a b : A} {old mid last : View}
-    → is_wrong a ≡ true → old.state.empties ≤ length old.nodes → old.log.least ≤ 2 ^ 64 - 1 → (Fits l old → Leaves old mid)
-    → Goes l (Fits l) Q p a old mid → Does l q b (went_back (saved old) mid) last → Does l (either p is_wrong q) b old (forgot_notes (saved old) last)
-does-either {l = l} {q = q} {b = b} {old = old} {mid = mid} {last = last} e few least leaves d k = record {
-  ran = λ c. ran-given_up e least (d.ran c) (subst (λ v. Ran l q b v last) (same c) (k.ran (begins c)));
-  ready = λ c. unnoted-fits (length (listed old.log.notes)) (k.ready (begins c));
-}
+pub does-either : {A : Type 0} {l : Level} {Q : View → Type 0} {p q : Parser A} {is_wrong : A → Bool} {a b : A} {c : Saved} {old mid back last new : View}
+    → c ≡ saved old → old.state.empties ≤ length old.nodes → old.log.least ≤ 2 ^ 64 - 1 → (Fits l old → Leaves old mid)
+    → Goes l (Fits l) Q p a old mid → is_wrong a ≡ true → back ≡ went_back c mid → Does l q b back last → new ≡ forgot_notes c last → Does l (either p is_wrong q) b old new
+does-either {l = l} {p = p} {q = q} {is_wrong = is_wrong} {a = a} {b = b} {c = c} {old = old} {mid = mid} {back = back} {last = last} {new = new} at few least leaves d e went k gone =
+    let end : new ≡ forgot_notes (saved old) last = gone ∙ ap (λ (x : Saved). forgot_notes x last) at in
+    record {
+      ran = λ f. subst (λ (v : View). Ran l (either p is_wrong q) b old v) (sym end) (ran-given_up e least (d.ran f) (subst (λ (v : View). Ran l q b v last) (same f) (k.ran (begins f))));
+      ready = λ f. subst (λ (v : View). Fits l v) (sym end) (unnoted-fits (length (listed old.log.notes)) (k.ready (begins f)));
+    }
   where
-    same : Fits l old → went_back (saved old) mid ≡ record old { log = unnoted (length (listed old.log.notes)) mid.log }
-    same c = back-stands old mid c few (leaves c)
-    begins : Fits l old → Fits l (went_back (saved old) mid)
-    begins c = subst (λ v. Fits l v) (sym (same c)) (back-fits least c (d.ran c))
+    same : Fits l old → back ≡ record old { log = unnoted (length (listed old.log.notes)) mid.log }
+    same f = went ∙ ap (λ (x : Saved). went_back x mid) at ∙ back-stands old mid f few (leaves f)
+    begins : Fits l old → Fits l back
+    begins f = subst (λ (v : View). Fits l v) (sym (same f)) (back-fits least f (d.ran f))

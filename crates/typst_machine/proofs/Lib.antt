@@ -14,3 +14,4 @@ pub mod Ready
 pub mod ReadSo
 pub mod Checkpoints
 pub mod Either
+pub mod Begins
