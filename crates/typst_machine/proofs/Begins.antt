@@ -59,7 +59,7 @@ begins-leaves {l = l} {p = p} {old = old} {mid = mid} e r =
     let o = at l p old in
     let ts = old.hand.trivia in
     let all : mid.nodes ≡ old.nodes ++ (ts ++ b.rest) =
-        r.runs.nodes ∙ ap (λ hs. hinted hs (less o.back old.nodes) ++ o.nodes) b.hints ∙ ap (λ n. less n old.nodes ++ o.nodes) b.back ∙ ap (λ ns. ns ++ o.nodes) (less-none old.nodes) ∙ ap (λ ns. old.nodes ++ ns) b.nodes in
+    r.runs.nodes ∙ ap (λ hs. hinted hs (less o.back old.nodes) ++ o.nodes) b.hints ∙ ap (λ n. less n old.nodes ++ o.nodes) b.back ∙ ap (λ ns. ns ++ o.nodes) (less-none old.nodes) ∙ ap (λ ns. old.nodes ++ ns) b.nodes in
     record {
       nodes = ap (take (length old.nodes)) all ∙ front-of old.nodes (ts ++ b.rest);
       trivia = ap (λ ns. first_of (length ts) (drop (length old.nodes) ns) mid.hand.trivia) all ∙ ap (λ ns. first_of (length ts) ns mid.hand.trivia) (back-of old.nodes (ts ++ b.rest)) ∙ first-is ts b.rest mid.hand.trivia;

@@ -107,20 +107,20 @@ looks-least levels z h (marked at gap fewer mark s ∷ asks) = looks-least level
 
 same-back : (v : View) (ns ts : List Tree) (e : ℕ) (k : Bool) (h : Log) → ns ≡ v.nodes → ts ≡ v.hand.trivia → e ≡ v.state.empties → k ≡ true → known_by v.hand ≡ v.state.known
     → ◌≡◌ {A = View} (record {
-        nodes = ns;
-        place = v.place;
-        state = record {
-          reading = v.state.reading;
-          held = v.state.held;
-          empties = e;
-          is_after_error = v.state.is_after_error;
-          known = if k then known_by (record v.hand { trivia = ts }) else None;
-        };
-        hand = record v.hand { trivia = ts };
-        own = v.own;
-        here = v.here;
-        log = h;
-      }) (record v { log = h })
+      nodes = ns;
+      place = v.place;
+      state = record {
+        reading = v.state.reading;
+        held = v.state.held;
+        empties = e;
+        is_after_error = v.state.is_after_error;
+        known = if k then known_by (record v.hand { trivia = ts }) else None;
+      };
+      hand = record v.hand { trivia = ts };
+      own = v.own;
+      here = v.here;
+      log = h;
+    }) (record v { log = h })
 same-back v ns ts e k h a b f g i = rw (a, b, f, g) (ap (λ (x : Option Trivia). record v { state = record v.state { known = x }; log = h }) i)
 
 -- all but what was looked at stands there as at the checkpoint
@@ -209,5 +209,6 @@ does-either {l = l} {p = p} {q = q} {is_wrong = is_wrong} {a = a} {b = b} {c = c
   where
     same : Fits l old → back ≡ record old { log = unnoted (length (listed old.log.notes)) mid.log }
     same f = went ∙ ap (λ (x : Saved). went_back x mid) at ∙ back-stands old mid f few (leaves f)
+
     begins : Fits l old → Fits l back
     begins f = subst (λ (v : View). Fits l v) (sym (same f)) (back-fits least f (d.ran f))

@@ -573,7 +573,11 @@ impl<'s> Parser<'s> {
 
 /// Adds a node, and tells whether it is an error.
 #[inline(always)]
-pub(crate) fn give(nodes: &mut Vec<SyntaxNode>, state: &mut State, node: SyntaxNode) -> Result<(), AllocError>
+pub(crate) fn give(
+    nodes: &mut Vec<SyntaxNode>,
+    state: &mut State,
+    node: SyntaxNode,
+) -> Result<(), AllocError>
     ensures nodes { OnOk result (nodes.new.items ≡ nodes.old.items ++ node ∷ []) }
     ensures state { OnOk result (state.new ≡ record state.old { empties = if is_error node.head.kind then count_empty (text_of node) else 0; is_after_error = is_error node.head.kind }) }
     ensures refused { OnErr result (state.new.empties ≡ 0) }
@@ -640,7 +644,10 @@ fn trim(nodes: &mut Vec<SyntaxNode>, count: usize)
 }
 
 /// Moves all nodes behind the others.
-pub(crate) fn push_all(nodes: &mut Vec<SyntaxNode>, more: &mut Vec<SyntaxNode>) -> Result<(), AllocError>
+pub(crate) fn push_all(
+    nodes: &mut Vec<SyntaxNode>,
+    more: &mut Vec<SyntaxNode>,
+) -> Result<(), AllocError>
     ensures ok { OnOk result (nodes.new.items ≡ nodes.old.items ++ more.old.items) }
     ensures err { OnErr result (nodes.new.items ≡ nodes.old.items) }
     ensures none { OnOk result (more.new.items ≡ []) }

@@ -3,7 +3,7 @@
 ghost use Rattle.std.specs.Prelude.{◌≡◌, IfOk, IfSome, string_bytes};
 ghost use Rattle.typst_probe.specs.Words.{printed_by, word_named};
 
-use crate::tokens;
+use crate::{notes, tokens};
 use std::alloc::{AllocError, Global};
 use typst_cli::Command;
 
@@ -16,6 +16,8 @@ pub enum Word {
     Tokens,
     /// Where the lines of the text start.
     Lines,
+    /// What is noted in reading the text as markup.
+    Notes,
 }
 
 impl Word {
@@ -27,6 +29,7 @@ impl Word {
             "tree" => Some(Word::Tree),
             "tokens" => Some(Word::Tokens),
             "lines" => Some(Word::Lines),
+            "notes" => Some(Word::Notes),
             _ => None,
         }
     }
@@ -39,6 +42,7 @@ impl Word {
             Word::Tree => Command::Tree.answer(alloc, text),
             Word::Tokens => tokens::answer(alloc, text),
             Word::Lines => Command::Lines.answer(alloc, text),
+            Word::Notes => notes::answer(alloc, text),
         }
     }
 }

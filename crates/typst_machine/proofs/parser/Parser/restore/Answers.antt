@@ -8,7 +8,6 @@ use Rattle.typst_machine.proofs.Checkpoints.{back-is}
 use Rattle.typst_machine.proofs.parser.Parser.restore.Goals as goal
 
 pub returns : goal.returns
-
 returns c =
     let i = c.self.inside in
     let to = c.args.to in
