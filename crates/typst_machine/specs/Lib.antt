@@ -5,3 +5,4 @@ pub mod Cursor
 pub mod Checkpoint
 pub mod Saved
 pub mod Ways
+pub mod Expected

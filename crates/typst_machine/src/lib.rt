@@ -4,11 +4,15 @@
 mod ahead;
 mod checkpoint;
 mod depth;
+mod eats;
 mod log;
+mod nodes;
 mod parser;
 mod ways;
+mod wraps;
 
 pub use ahead::ReadAhead;
 pub use checkpoint::Checkpoint;
 pub use depth::{Answered, Anywhere, Grammar, Levels, Stops, deeper, is_end, too_deep};
 pub use parser::Parser;
+pub use typst_shapes::Change;

@@ -14,7 +14,8 @@ ghost use Rattle.typst_machine.specs.Ways.{GaveUpTo};
 
 use crate::ahead::{Read, read_token};
 use crate::depth::Levels;
-use crate::parser::{Parser, give, push_all};
+use crate::nodes::{give, push_all};
+use crate::parser::Parser;
 use std::alloc::{AllocError, Global};
 use typst_classes::Classes;
 use typst_combinators::Way;
