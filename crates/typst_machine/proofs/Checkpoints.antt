@@ -4,7 +4,8 @@ use Rattle.typst_node.specs.Tree.{Tree}
 use Rattle.typst_combinators.specs.Hand.{known_by}
 use Rattle.typst_combinators.specs.Log.{Log}
 use Rattle.typst_machine.specs.View.{View}
-use Rattle.typst_machine.specs.Checkpoint.{Saved, trivia_back, unnoted, went_back}
+use Rattle.typst_machine.specs.Checkpoint.{Saved, trivia_back, went_back}
+use Rattle.typst_ahead.specs.Noted.{unnoted}
 
 -- what the code set is what stood at the checkpoint
 pub back-is : (c : Saved) (v : View) (ns ts : List Tree) (e : ℕ) (h : Log) → ns ≡ take c.nodes v.nodes → ts ≡ trivia_back c v → e ≡ min c.state.empties (length ns) → h ≡ unnoted c.notes v.log

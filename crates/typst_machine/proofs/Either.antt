@@ -13,10 +13,12 @@ use Rattle.typst_combinators.specs.Log.{Log, least_behind, logged, with_hull, wi
 use Rattle.typst_combinators.specs.Syntax.{Parser}
 use Rattle.typst_combinators.specs.Syntax.Parser.{either}
 use Rattle.typst_combinators.specs.Meaning.{Level, given_up, standing, run}
-use Rattle.typst_machine.specs.View.{View, Runs, Ran, Goes, Does, Fits, at, listed}
-use Rattle.typst_machine.specs.Checkpoint.{Leaves, Saved, forgot_notes, is_some, least_of, saved, trivia_back, unnoted, went_back}
+use Rattle.typst_machine.specs.View.{View, Runs, Ran, Goes, Does, Fits, at}
+use Rattle.typst_ahead.specs.Noted.{listed}
+use Rattle.typst_machine.specs.Checkpoint.{Leaves, Saved, forgot_notes, is_some, saved, trivia_back, went_back}
+use Rattle.typst_ahead.specs.Noted.{least_of, unnoted}
 use Rattle.typst_combinators.proofs.Places.{take-both, drop-both, take-all, drop-all}
-use Rattle.typst_machine.proofs.Logs.{Among, among-is, is-among, logged-append, same-log}
+use Rattle.typst_ahead.proofs.Logs.{Among, among-is, is-among, logged-append, same-log}
 
 -- ---- notes that are dropped
 

@@ -10,22 +10,8 @@ use Rattle.typst_combinators.specs.declared.reading.State.{State}
 use Rattle.typst_combinators.specs.Point.{Trivia, state_of}
 use Rattle.typst_combinators.specs.Hand.{Hand, known_by}
 use Rattle.typst_combinators.specs.Log.{Log}
-use Rattle.typst_machine.specs.View.{View, listed}
-
--- ---- what was noted
-
--- where the looks before these notes begin, and those since
-abbrev pub least_of : ℕ → List Note → ℕ
-least_of least [] = least
-least_of least (note ∷ notes) = least_of (min least note.least) notes
-
--- the first so many notes alone: the looks before the others count since the last of these
-abbrev pub unnoted : ℕ → Log → Log
-unnoted count h = record {
-  reach = h.reach;
-  least = least_of h.least (drop count (listed h.notes));
-  notes = option_map (take count) h.notes;
-}
+use Rattle.typst_ahead.specs.Noted.{listed, unnoted}
+use Rattle.typst_machine.specs.View.{View}
 
 -- ---- what a checkpoint keeps
 

@@ -1,4 +1,3 @@
-pub mod Bytes
 pub mod View
 pub mod Codes
 pub mod Cursor

@@ -3,7 +3,7 @@ use Rattle.std.specs.Prelude.{[]}
 use Rattle.typst_lines.specs.Scanner.{place}
 use Rattle.typst_machine.specs.declared.checkpoint.Checkpoint.{Checkpoint}
 use Rattle.typst_machine.specs.Checkpoint.{Saved}
-use Rattle.typst_machine.specs.Cursor.{distance}
+use Rattle.typst_ahead.specs.Cursor.{distance}
 
 abbrev pub saved_by : Checkpoint → Saved
 saved_by c = record {

@@ -12,11 +12,11 @@ ghost use Rattle.typst_combinators.specs.Syntax.Parser.{does};
 ghost use Rattle.typst_machine.specs.View.{Means};
 ghost use Rattle.typst_machine.specs.Ways.{GaveUpTo};
 
-use crate::ahead::{Read, read_token};
 use crate::depth::Levels;
 use crate::nodes::{give, push_all};
 use crate::parser::Parser;
 use std::alloc::{AllocError, Global};
+use typst_ahead::{Read, read_token};
 use typst_classes::Classes;
 use typst_combinators::Way;
 use typst_kinds::SyntaxKind;

@@ -7,8 +7,9 @@ use Rattle.typst_combinators.specs.Point.{Point}
 use Rattle.typst_combinators.specs.Hand.{known_by}
 use Rattle.typst_combinators.specs.Meaning.{renewed}
 use Rattle.typst_combinators.specs.Shape.{count_empty}
-use Rattle.typst_machine.specs.declared.ahead.ReadAhead.{ReadAhead}
-use Rattle.typst_machine.specs.Cursor.{hand_of_ahead, known_of, view_of}
+use Rattle.typst_ahead.specs.declared.ahead.ReadAhead.{ReadAhead}
+use Rattle.typst_machine.specs.Cursor.{known_of, view_of}
+use Rattle.typst_ahead.specs.Cursor.{hand_of_ahead}
 use Rattle.typst_machine.proofs.Ready.{told-node}
 use Rattle.typst_machine.proofs.parser.Parser.take_so.Goals as goal
 

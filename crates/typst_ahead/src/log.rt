@@ -2,10 +2,10 @@
 
 ghost use Rattle.std.specs.Prelude.{◌≡◌, ◌≤◌, ◌-◌, ◌^◌, OnOk, length};
 ghost use Rattle.typst_combinators.specs.Log.{blank_log, with_hull};
-ghost use Rattle.typst_machine.specs.Bytes.{joined_hull};
-ghost use Rattle.typst_machine.specs.Checkpoint as spec;
-ghost use Rattle.typst_machine.specs.Checkpoint.{unnoted};
-ghost use Rattle.typst_machine.specs.View.{listed, with_noted};
+ghost use Rattle.typst_ahead.specs.Bytes.{joined_hull};
+ghost use Rattle.typst_ahead.specs.Noted as spec;
+ghost use Rattle.typst_ahead.specs.Noted.{unnoted};
+ghost use Rattle.typst_ahead.specs.Noted.{listed, with_noted};
 
 use std::alloc::{AllocError, Global};
 use std::marker::Model;
@@ -14,7 +14,7 @@ use typst_lexer::Hull;
 
 /// What was looked at and noted so far.
 #[derive(Drop)]
-pub(crate) struct Log {
+pub struct Log {
     /// Where all looks end, and where those since the last note begin; all, where no notes are kept.
     hull: Hull,
     /// What was noted, in order, where notes are kept.
@@ -24,7 +24,7 @@ pub(crate) struct Log {
 impl Model for Log {
     ghost use Rattle.std.specs.Prelude.{option_map};
     ghost use Rattle.typst_combinators.specs.Log.{Log as Logged};
-    ghost use Rattle.typst_machine.specs.Codes.{log_code};
+    ghost use Rattle.typst_ahead.specs.Codes.{log_code};
 
     ghost Value = { Logged };
 
@@ -35,7 +35,7 @@ impl Model for Log {
 
 impl Log {
     /// Nothing.
-    pub(crate) fn new(alloc: Global, keeps_notes: bool) -> Log
+    pub fn new(alloc: Global, keeps_notes: bool) -> Log
         ensures { result ≡ blank_log keeps_notes }
     {
         let hull = Hull {
@@ -52,7 +52,7 @@ impl Log {
 
     /// This was looked at.
     #[inline(always)]
-    pub(crate) fn look(&mut self, hull: Hull)
+    pub fn look(&mut self, hull: Hull)
         ensures { self.new ≡ with_hull hull self.old }
     {
         self.hull = joined(self.hull, hull);
@@ -60,7 +60,7 @@ impl Log {
 
     /// Something begins or ends: the trivia before it at one place, and the token at another, in
     /// bytes from the text's start.
-    pub(crate) fn note(
+    pub fn note(
         &mut self,
         mark: Mark,
         before: usize,
@@ -87,7 +87,7 @@ impl Log {
     }
 
     /// How many notes are kept.
-    pub(crate) fn count(&self) -> usize
+    pub fn count(&self) -> usize
         ensures count { result ≡ length (listed self.now.notes) }
         ensures least { self.now.least ≤ 2 ^ 64 - 1 }
     {
@@ -100,7 +100,7 @@ impl Log {
 
     /// Keeps the first so many notes alone. What was looked at before the others counts as looked at
     /// since the last of these.
-    pub(crate) fn drop_notes(&mut self, count: usize)
+    pub fn drop_notes(&mut self, count: usize)
         ensures { self.new ≡ unnoted count self.old }
     {
         if let Some(notes) = &mut self.notes {
@@ -112,7 +112,7 @@ impl Log {
 
     /// What was noted, none where no notes are kept; where all looks end, and where those since the
     /// last note begin.
-    pub(crate) fn finish(self, alloc: Global) -> (Vec<Note>, Hull)
+    pub fn finish(self, alloc: Global) -> (Vec<Note>, Hull)
         ensures notes { result.0.items ≡ listed self.notes }
         ensures hull { result.1 ≡ record { reach = self.reach; least = self.least } }
     {
