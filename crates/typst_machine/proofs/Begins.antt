@@ -3,14 +3,17 @@ use Rattle.std.proofs.Common.{Option, ◌≡◌, ℕ, suc, ◌+◌, ◌-◌, ◌
 use borrow.Author.Tests.{lt-ltb}
 use Rattle.std.proofs.Math.Seq.{take-length}
 use Rattle.typst_lines.specs.Place.{moved}
-use Rattle.typst_node.specs.Tree.{Tree}
+use Rattle.typst_kinds.specs.Kinds.{is_error}
+use Rattle.typst_node.specs.Tree.{Tree, text_of}
 use Rattle.typst_combinators.specs.declared.reading.Reading.{Reading}
 use Rattle.typst_combinators.specs.Point.{Point, Trivia, pending}
 use Rattle.typst_combinators.specs.Hand.{AtHand, Hand, told}
-use Rattle.typst_combinators.specs.Shape.{Change, Making, Shape, first_changed, hinted, shaped}
+use Rattle.typst_combinators.specs.Shape.{Change, Making, Shape, after_node, first_changed, hinted, shaped}
 use Rattle.typst_combinators.specs.Shape.Change.{stays, turns_wrong, is_not, renamed, unparened}
 use Rattle.typst_combinators.specs.Shape.Shape.{keeps, holds, lacks, warns, fails}
+use Rattle.typst_combinators.specs.Shape.Making.{itself}
 use Rattle.typst_combinators.specs.Sound.{Sound}
+use Rattle.typst_combinators.specs.Steps.{eat, eat_making}
 use Rattle.typst_combinators.specs.Syntax.{Parser}
 use Rattle.typst_combinators.specs.Syntax.Begin.{at_token}
 use Rattle.typst_combinators.specs.Syntax.Op.{hand, takes}
@@ -92,6 +95,11 @@ gives-next ts o r b zero =
       more = omega (arith, length-append (hinted r.hints b.rest) r.nodes, length-hinted r.hints b.rest, b.more);
     }
 
+-- more may come that takes nothing back
+pub begins-then : {A B : Type 0} {l : Level} {p : Parser B} {f : B → Parser A} {v : View} → Begins l p v → (let o = at l p v in (run l (f o.value) (moved o.taken v.place) o.state).back) ≡ 0 → Begins l (next p f) v
+unfolding run
+begins-then {l = l} {p = p} {f = f} {v = v} b zero = let o = at l p v in record { gives = gives-next v.hand.trivia o (run l (f o.value) (moved o.taken v.place) o.state) b.gives zero }
+
 -- more may come, where no empty error was taken first
 pub begins-next : {A B : Type 0} {l : Level} {p : Parser B} {f : B → Parser A} {v : View} → Sound l → Begins l p v → (at l p v).state.empties ≡ 0 → Begins l (next p f) v
 unfolding run
@@ -100,6 +108,21 @@ begins-next {l = l} {p = p} {f = f} {v = v} sound b none =
     let w = moved o.taken v.place in
     let t = (backs-run l sound.backs sound.backs_block (f o.value) w o.state).back in
     record { gives = gives-next v.hand.trivia o (run l (f o.value) w o.state) b.gives (omega arith) }
+
+-- the token may be taken by itself
+pub begins-eat : {l : Level} {v : View} → Fits l v → Begins l eat v
+unfolding run eat eat_making
+begins-eat {l = l} {v = v} c =
+    let b = begins-takes {l = l} {making = itself} v c in
+    record { gives = gives-next v.hand.trivia (at l (does (takes false itself)) v) _ b.gives (omega arith) }
+
+-- behind a token that is no error no empty error stands
+pub eaten-none : {l : Level} {v : View} → Fits l v → is_error (taken_node l.classes itself v.hand v.place).head.kind ≡ false → (at l eat v).state.empties ≡ 0
+unfolding run eat eat_making
+eaten-none {l = l} {v = v} c e =
+    let node = taken_node l.classes itself (hand_of l v.place v.state) v.place in
+    let same : is_error node.head.kind ≡ false = ap (λ (h : Hand). is_error (taken_node l.classes itself h v.place).head.kind) (sym c.hand) ∙ e in
+    ap (λ b. (after_node b (text_of node) v.state).empties) same
 
 no-hints : (a b : Bool) (hs : List (List ℕ)) → hs ≡ [] → ◌≡◌ {A = List (List ℕ)} (if a then [] else (if b then hs else [] ++ hs)) []
 no-hints true b hs e = refl
