@@ -12,7 +12,7 @@ use Rattle.typst_combinators.specs.Steps.{grow}
 use Rattle.typst_combinators.specs.Meaning.{Outcome, Meaning, Level, answered, joined, bound, before, grown, growths, growing, is_more, run}
 use Rattle.typst_combinators.proofs.Within.{grew, within-run}
 use Rattle.typst_combinators.proofs.Backs.{backs-run, backs-joined, tidy-grew}
-use Rattle.typst_machine.specs.Bytes.{bytes_left}
+use Rattle.typst_ahead.specs.Bytes.{bytes_left}
 use Rattle.typst_machine.specs.View.{View, Runs, Ran, Does, Fits, Rewrapped, at}
 use Rattle.typst_machine.proofs.Runs.{runs-followed, runs-reshaped, rewrapped-fits, shape-known, taken-some, taken-none, bound-after}
 use Rattle.typst_machine.proofs.Steps.{does-next, does-peek, known-few}

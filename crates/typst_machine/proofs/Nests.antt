@@ -12,7 +12,7 @@ use Rattle.typst_combinators.specs.Steps.{nest}
 use Rattle.typst_combinators.specs.Meaning.{Outcome, Level, as_last, bound, before, joined, nestings, nesting, reshaped, run}
 use Rattle.typst_combinators.proofs.Within.{nestings-enough, within-run}
 use Rattle.typst_combinators.proofs.Backs.{backs-run, backs-joined, tidy-nestings}
-use Rattle.typst_machine.specs.Bytes.{bytes_left}
+use Rattle.typst_ahead.specs.Bytes.{bytes_left}
 use Rattle.typst_machine.specs.View.{View, Runs, Ran, Does, Fits, Rewrapped, at, rewrapped, rewrapped_each}
 use Rattle.typst_machine.proofs.Runs.{runs-followed, runs-reshaped, rewrapped-fits, taken-some, taken-none, bound-after, no_turn}
 use Rattle.typst_machine.proofs.Steps.{does-next, does-peek, known-few}

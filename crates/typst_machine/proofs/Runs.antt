@@ -23,15 +23,15 @@ use Rattle.typst_combinators.specs.Syntax.{Parser, Begin}
 use Rattle.typst_combinators.specs.Syntax.Op.{hand, column, erred, takes, flushes, complains, marks, is_deepest}
 use Rattle.typst_combinators.specs.Syntax.Parser.{gives, does, next, pick, repeat, wraps, scoped, calls}
 use Rattle.typst_combinators.specs.Meaning.{Outcome, Meaning, Level, asked, before, bound, plain, less, followed, standing, turns, repeated, inside, reshaped, entered, left, renewed, flushed_state, taken_node, hand_of, hand_asks_of, run}
-use Rattle.typst_machine.specs.Bytes.{bytes_left, token_hull, column_hull}
+use Rattle.typst_ahead.specs.Bytes.{bytes_left, token_hull, column_hull}
 use Rattle.typst_machine.specs.View.{View, Runs, Ran, at, Fits, Bare, Looked, Flushed, Rewrapped}
 use Rattle.typst_combinators.proofs.Places.{moved-sum, take-both, drop-both, take-all, drop-all, less-none, length-less, no-end}
 use Rattle.typst_combinators.proofs.Hints.{standing-joined, length-hinted}
 use Rattle.typst_combinators.proofs.Within.{turns-enough, within-run}
 use Rattle.typst_combinators.proofs.Backs.{backs-run}
-use Rattle.typst_machine.proofs.Bytes.{some-bytes, none-bytes}
-use Rattle.typst_machine.proofs.Logs.{logged-append, logged-shift, logged-sunk, logged-some, hand-among, Among, among-is, is-among}
-use Rattle.typst_machine.proofs.Trivia.{hand-known, gap-there}
+use Rattle.typst_ahead.proofs.Bytes.{some-bytes, none-bytes}
+use Rattle.typst_ahead.proofs.Logs.{logged-append, logged-shift, logged-sunk, logged-some, hand-among, Among, among-is, is-among}
+use Rattle.typst_ahead.proofs.Trivia.{hand-known, gap-there}
 
 pub runs-plain : {A : Type 0} (n : ℕ) (a b : A) (v : View) → a ≡ b → Runs n (plain a v.state) b v v
 runs-plain n a b v e = record { value = e; place = refl; state = refl; nodes = no-end v.nodes; log = refl }

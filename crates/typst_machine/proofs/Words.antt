@@ -9,7 +9,7 @@ use Rattle.typst_combinators.specs.Shape.{hinted, hinted_last}
 use Rattle.typst_combinators.specs.Syntax.Op.{further, advises}
 use Rattle.typst_combinators.specs.Syntax.Parser.{does}
 use Rattle.typst_combinators.specs.Meaning.{Level, asked, run}
-use Rattle.typst_machine.specs.Bytes.{token_hull}
+use Rattle.typst_ahead.specs.Bytes.{token_hull}
 use Rattle.typst_machine.specs.View.{View, Ran, Does, Fits}
 use Rattle.typst_combinators.proofs.Places.{less-none, no-end}
 use Rattle.typst_machine.proofs.Runs.{asked-same, asked-then, fits-more}

@@ -18,7 +18,7 @@ use Rattle.typst_combinators.specs.declared.reading.State.{State}
 use Rattle.typst_combinators.specs.Calls.{Answer}
 use Rattle.typst_combinators.specs.Point.{Point, forgot, state_of}
 use Rattle.typst_combinators.specs.Hand.{Hand, known_by}
-use Rattle.typst_combinators.specs.Log.{Log, logged, with_hull, with_more, with_note}
+use Rattle.typst_combinators.specs.Log.{Log, logged, least_behind, with_hull, with_more, with_note}
 use Rattle.typst_combinators.specs.Shape.{Shape, becomes, shaped, after_shape}
 use Rattle.typst_combinators.specs.Sound.{Sound}
 use Rattle.typst_combinators.specs.Syntax.{Parser, ◌>>◌}
@@ -26,7 +26,7 @@ use Rattle.typst_combinators.specs.Meaning.{Outcome, Level, apart, asked, flushe
 use Rattle.typst_combinators.specs.Steps.{peek}
 use Rattle.typst_machine.specs.declared.depth.Answered.{Answered}
 use Rattle.typst_machine.specs.declared.depth.Answered.TheVariants.{Brackets}
-use Rattle.typst_machine.specs.Bytes.{token_hull, column_hull}
+use Rattle.typst_ahead.specs.Bytes.{token_hull, column_hull}
 
 pub record View : Type 0 where
   -- the nodes before the pending trivia
@@ -167,14 +167,6 @@ abbrev pub rewrapped_each : List ℕ → Shape → View → View
 rewrapped_each [] shape v = v
 rewrapped_each (from ∷ froms) shape v = rewrapped from shape (rewrapped_each froms shape v)
 
--- something was noted, between two byte offsets of which the first is that of the trivia before it
-abbrev pub with_noted : Mark → ℕ → ℕ → ℕ → State → Log → Log
-with_noted mark before start levels s h = record {
-  reach = h.reach;
-  least = 2 ^ 64 - 1;
-  notes = with_more (record { mark = mark; before = before; start = start; levels = levels; state = s; reach = h.reach; least = h.least }) h.notes;
-}
-
 -- this was noted before the pending trivia
 abbrev pub noted_here : ℕ → Mark → View → View
 noted_here levels mark v = record v { log = with_note 0 levels mark (state_of v.state) v.place v.log }
@@ -188,11 +180,6 @@ pub record Opened (l : Level) (b : Block) (v w : View) : Type 0 where
 -- the end of a block was noted, and the token behind it was asked for
 abbrev pub Closed : Level → View → View → Type 0
 Closed l v w = Looked l (noted_here l.levels Closes (unasked v)) w
-
--- what was noted, nothing where no notes are kept
-abbrev pub listed : Option (List Note) → List Note
-listed None = []
-listed (Some ns) = ns
 
 -- the block may be read, by this parser, which begins with the token at hand
 pub record ReadsBlock (l : Level) (b : Block) (p : Parser (Unit {0})) : Type 0 where

@@ -16,11 +16,11 @@ ghost use Rattle.typst_combinators.specs.Syntax.Parser.{does};
 ghost use Rattle.typst_machine.specs.Expected as expected;
 ghost use Rattle.typst_machine.specs.View.{Bare, Fills, Fits, Flushed, GoesIf, Means, MeansLast, Reads};
 
-use crate::ahead::read_token;
 use crate::depth::Levels;
 use crate::nodes::{give, is_none, push_all, trim};
 use crate::parser::Parser;
 use std::alloc::AllocError;
+use typst_ahead::read_token;
 use typst_classes::Classes;
 use typst_kinds::SyntaxKind;
 use typst_node::SyntaxNode;

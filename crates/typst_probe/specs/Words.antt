@@ -4,11 +4,11 @@ use Rattle.std.specs.Str.{bytes_eq}
 use Rattle.typst_cli.specs.Printed.{printed}
 use Rattle.typst_cli.specs.declared.command.Command.TheVariants as command
 use Rattle.typst_probe.specs.declared.word.Word.{Word}
-use Rattle.typst_probe.specs.declared.word.Word.TheVariants.{Tree, Tokens, Lines, Tags, Html}
+use Rattle.typst_probe.specs.declared.word.Word.TheVariants.{Tree, Tokens, Lines, Notes, Tags, Html}
 
 -- the word that a name stands for
 abbrev pub word_named : List ℕ → Option Word
-word_named name = if bytes_eq name (codes "tree") then Some Tree else (if bytes_eq name (codes "tokens") then Some Tokens else (if bytes_eq name (codes "lines") then Some Lines else (if bytes_eq name (codes "tags") then Some Tags else (if bytes_eq name (codes "html") then Some Html else None))))
+word_named name = if bytes_eq name (codes "tree") then Some Tree else (if bytes_eq name (codes "tokens") then Some Tokens else (if bytes_eq name (codes "lines") then Some Lines else (if bytes_eq name (codes "tags") then Some Tags else (if bytes_eq name (codes "html") then Some Html else (if bytes_eq name (codes "notes") then Some Notes else None)))))
 
 -- all that a word of the program typst_syn prints about a text, which this program's word answers too
 abbrev pub printed_by : Word → List ℕ → Option (List ℕ)
@@ -17,3 +17,4 @@ printed_by Lines text = Some (printed command.Lines text)
 printed_by Html text = Some (printed command.Html text)
 printed_by Tokens text = None
 printed_by Tags text = None
+printed_by Notes text = None

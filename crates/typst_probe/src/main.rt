@@ -2,6 +2,7 @@
 #![tactic(auto)]
 
 mod escapes;
+mod notes;
 mod reading;
 mod row;
 mod tags;
@@ -15,7 +16,7 @@ use std::process::ExitCode;
 use std::{env, fs, io};
 use word::Word;
 
-const USAGE: &str = "usage: typst_probe rows FILE.. | tree | tokens | lines | tags | html";
+const USAGE: &str = "usage: typst_probe rows FILE.. | tree | tokens | lines | notes | tags | html";
 
 /// `rows FILE..` compares all rows of the files, and any other word answers about the text on
 /// standard input. Ends with status 1 where a row disagrees or something fails, and with status 2

@@ -3,7 +3,7 @@
 ghost use Rattle.std.specs.Prelude.{◌≡◌, IfOk, IfSome, string_bytes};
 ghost use Rattle.typst_probe.specs.Words.{printed_by, word_named};
 
-use crate::{tags, tokens};
+use crate::{notes, tags, tokens};
 use std::alloc::{AllocError, Global};
 use typst_cli::Command;
 
@@ -20,6 +20,8 @@ pub enum Word {
     Tags,
     /// The text as HTML.
     Html,
+    /// What is noted in reading the text as markup.
+    Notes,
 }
 
 impl Word {
@@ -33,6 +35,7 @@ impl Word {
             "lines" => Some(Word::Lines),
             "tags" => Some(Word::Tags),
             "html" => Some(Word::Html),
+            "notes" => Some(Word::Notes),
             _ => None,
         }
     }
@@ -47,6 +50,7 @@ impl Word {
             Word::Lines => Command::Lines.answer(alloc, text),
             Word::Tags => tags::answer(alloc, text),
             Word::Html => Command::Html.answer(alloc, text),
+            Word::Notes => notes::answer(alloc, text),
         }
     }
 }

@@ -6,8 +6,9 @@ use Rattle.typst_readers.specs.declared.hull.Hull.{Hull}
 use Rattle.typst_combinators.specs.Hand.{token_at}
 use Rattle.typst_combinators.specs.Log.{Log, with_hull}
 use Rattle.typst_combinators.proofs.Places.{moved-sum}
-use Rattle.typst_machine.specs.Bytes.{token_hull}
-use Rattle.typst_machine.specs.Cursor.{distance, view_of}
+use Rattle.typst_ahead.specs.Bytes.{token_hull}
+use Rattle.typst_machine.specs.Cursor.{view_of}
+use Rattle.typst_ahead.specs.Cursor.{distance}
 use Rattle.typst_machine.proofs.Words.{further-is}
 use Rattle.typst_machine.proofs.parser.Parser.further.Goals as goal
 

@@ -17,17 +17,17 @@ use Rattle.typst_combinators.specs.declared.reading.Reading.{Reading}
 use Rattle.typst_kinds.specs.Kinds.{is_trivia}
 use Rattle.typst_combinators.specs.Point.{Trivia, gap_of, no_newlines}
 use Rattle.typst_combinators.specs.Hand.{Hand, Ahead, text_ahead, token_at, len_at, at_trivia, both_newlines, newlines_of, direct, after_trivia, ahead_by, ahead, column_at, judged, hand_at, known_by}
-use Rattle.typst_machine.specs.Bytes.{joined_hull, token_hull, tokens_by, tokens_at, column_hull, whole_at}
+use Rattle.typst_ahead.specs.Bytes.{joined_hull, token_hull, tokens_by, tokens_at, column_hull, whole_at}
 use Rattle.typst_readers.specs.Reader.{exec, eaten}
 use Rattle.typst_lexer.specs.Tokens.{token}
 use Rattle.typst_readers.proofs.Moves.{exec-moved}
 use Rattle.typst_lines.specs.Scanner.{place}
-use Rattle.typst_machine.specs.declared.ahead.ReadAhead.{ReadAhead as Front}
+use Rattle.typst_ahead.specs.declared.ahead.ReadAhead.{ReadAhead as Front}
 use Rattle.typst_lines.specs.declared.scanner.Scanner.{Scanner}
-use Rattle.typst_machine.specs.Cursor.{IsAhead, distance}
-use Rattle.typst_machine.specs.Bytes.{bytes_left}
-use Rattle.typst_machine.proofs.Bytes.{some-bytes, none-bytes}
-use Rattle.typst_machine.proofs.Hulls.{In, itself-in, second-in, first-in, same-hull}
+use Rattle.typst_ahead.specs.Cursor.{IsAhead, distance}
+use Rattle.typst_ahead.specs.Bytes.{bytes_left}
+use Rattle.typst_ahead.proofs.Bytes.{some-bytes, none-bytes}
+use Rattle.typst_ahead.proofs.Hulls.{In, itself-in, second-in, first-in, same-hull}
 use Rattle.typst_combinators.proofs.Places.{moved-sum, moved-min, moved-behind, ahead-left}
 use Rattle.typst_combinators.proofs.Within.{if-same, and-second, on_both, on_if}
 

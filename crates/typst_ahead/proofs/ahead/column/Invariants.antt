@@ -3,8 +3,8 @@ use Rattle.std.specs.List.{prefix_len}
 use Rattle.typst_lines.specs.Scanner.{place}
 use Rattle.typst_readers.specs.Sight.{near, position}
 use Rattle.typst_combinators.specs.Hand.{column_at}
-use Rattle.typst_machine.proofs.Columns.{in_line}
-use Rattle.typst_machine.proofs.ahead.column.Given as goal
+use Rattle.typst_ahead.proofs.Columns.{in_line}
+use Rattle.typst_ahead.proofs.ahead.column.Given as goal
 
 abbrev pub invariant-back : goal.invariant-back
 invariant-back l = record {

@@ -6,12 +6,12 @@ use Rattle.typst_node.specs.Tree.{Tree}
 use Rattle.typst_readers.specs.declared.hull.Hull.{Hull}
 use Rattle.typst_token_nodes.specs.Nodes.{token_node}
 use Rattle.typst_combinators.specs.Hand.{at_trivia, len_at, text_ahead}
-use Rattle.typst_machine.specs.Bytes.{bytes_left, joined_hull, token_hull, column_hull, whole_at}
-use Rattle.typst_machine.proofs.Bytes.{some-bytes}
+use Rattle.typst_ahead.specs.Bytes.{bytes_left, joined_hull, token_hull, column_hull, whole_at}
+use Rattle.typst_ahead.proofs.Bytes.{some-bytes}
 use Rattle.typst_combinators.proofs.Places.{ahead-left}
-use Rattle.typst_machine.proofs.Trivia.{read-place, len-most, no-trivia, no-more, some-trivia, along-start, along-next, is-ahead, whole-is, Looking, looking-first, looking-next}
-use Rattle.typst_machine.proofs.ahead.ReadAhead.read.Goals.{then-not-is_trivia-via-then-not-is_trivia, then-not-is_trivia-via-else-not-is_trivia+then-left}
-use Rattle.typst_machine.proofs.ahead.ReadAhead.read.Goals as goal
+use Rattle.typst_ahead.proofs.Trivia.{read-place, len-most, no-trivia, no-more, some-trivia, along-start, along-next, is-ahead, whole-is, Looking, looking-first, looking-next}
+use Rattle.typst_ahead.proofs.ahead.ReadAhead.read.Goals.{then-not-is_trivia-via-then-not-is_trivia, then-not-is_trivia-via-else-not-is_trivia+then-left}
+use Rattle.typst_ahead.proofs.ahead.ReadAhead.read.Goals as goal
 
 pub tokens-init : goal.tokens-init
 tokens-init g c =

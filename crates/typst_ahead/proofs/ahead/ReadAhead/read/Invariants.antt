@@ -1,9 +1,9 @@
 use Rattle.std.proofs.Common.{◌≡◌, ◌≤◌, ◌-◌, ◌^◌, length}
 use Rattle.typst_lines.specs.Scanner.{place}
-use Rattle.typst_machine.specs.Cursor.{Stands}
-use Rattle.typst_machine.specs.Bytes.{joined_hull, token_hull}
-use Rattle.typst_machine.proofs.Trivia.{Along, Looking}
-use Rattle.typst_machine.proofs.ahead.ReadAhead.read.Given as goal
+use Rattle.typst_ahead.specs.Cursor.{Stands}
+use Rattle.typst_ahead.specs.Bytes.{joined_hull, token_hull}
+use Rattle.typst_ahead.proofs.Trivia.{Along, Looking}
+use Rattle.typst_ahead.proofs.ahead.ReadAhead.read.Given as goal
 
 abbrev pub invariant-tokens : goal.invariant-tokens
 invariant-tokens g l =

@@ -1,9 +1,11 @@
 //! What was looked at and noted.
 
-ghost use Rattle.std.specs.Prelude.{◌≡◌, OnOk};
+ghost use Rattle.std.specs.Prelude.{◌≡◌, ◌≤◌, ◌-◌, ◌^◌, OnOk, length};
 ghost use Rattle.typst_combinators.specs.Log.{blank_log, with_hull};
-ghost use Rattle.typst_machine.specs.Bytes.{joined_hull};
-ghost use Rattle.typst_machine.specs.View.{listed, with_noted};
+ghost use Rattle.typst_ahead.specs.Bytes.{joined_hull};
+ghost use Rattle.typst_ahead.specs.Noted as spec;
+ghost use Rattle.typst_ahead.specs.Noted.{unnoted};
+ghost use Rattle.typst_ahead.specs.Noted.{listed, with_noted};
 
 use std::alloc::{AllocError, Global};
 use std::marker::Model;
@@ -12,8 +14,8 @@ use typst_lexer::Hull;
 
 /// What was looked at and noted so far.
 #[derive(Drop)]
-pub(crate) struct Log {
-    /// Where all looks end, and where those since the last note begin.
+pub struct Log {
+    /// Where all looks end, and where those since the last note begin; all, where no notes are kept.
     hull: Hull,
     /// What was noted, in order, where notes are kept.
     notes: Option<Vec<Note>>,
@@ -22,7 +24,7 @@ pub(crate) struct Log {
 impl Model for Log {
     ghost use Rattle.std.specs.Prelude.{option_map};
     ghost use Rattle.typst_combinators.specs.Log.{Log as Logged};
-    ghost use Rattle.typst_machine.specs.Codes.{log_code};
+    ghost use Rattle.typst_ahead.specs.Codes.{log_code};
 
     ghost Value = { Logged };
 
@@ -33,7 +35,7 @@ impl Model for Log {
 
 impl Log {
     /// Nothing.
-    pub(crate) fn new(alloc: Global, keeps_notes: bool) -> Log
+    pub fn new(alloc: Global, keeps_notes: bool) -> Log
         ensures { result ≡ blank_log keeps_notes }
     {
         let hull = Hull {
@@ -50,7 +52,7 @@ impl Log {
 
     /// This was looked at.
     #[inline(always)]
-    pub(crate) fn look(&mut self, hull: Hull)
+    pub fn look(&mut self, hull: Hull)
         ensures { self.new ≡ with_hull hull self.old }
     {
         self.hull = joined(self.hull, hull);
@@ -58,7 +60,7 @@ impl Log {
 
     /// Something begins or ends: the trivia before it at one place, and the token at another, in
     /// bytes from the text's start.
-    pub(crate) fn note(
+    pub fn note(
         &mut self,
         mark: Mark,
         before: usize,
@@ -79,14 +81,38 @@ impl Log {
         };
         if let Some(notes) = &mut self.notes {
             notes.push(note)?;
+            self.hull.least = usize::MAX;
         }
-        self.hull.least = usize::MAX;
         Ok(())
+    }
+
+    /// How many notes are kept.
+    pub fn count(&self) -> usize
+        ensures count { result ≡ length (listed self.now.notes) }
+        ensures least { self.now.least ≤ 2 ^ 64 - 1 }
+    {
+        let _least = self.hull.least;
+        match &self.notes {
+            Some(notes) => notes.len(),
+            None => 0,
+        }
+    }
+
+    /// Keeps the first so many notes alone. What was looked at before the others counts as looked at
+    /// since the last of these.
+    pub fn drop_notes(&mut self, count: usize)
+        ensures { self.new ≡ unnoted count self.old }
+    {
+        if let Some(notes) = &mut self.notes {
+            let at = count.min(notes.len());
+            self.hull.least = least_of(self.hull.least, &notes[at..]);
+            notes.truncate(at);
+        }
     }
 
     /// What was noted, none where no notes are kept; where all looks end, and where those since the
     /// last note begin.
-    pub(crate) fn finish(self, alloc: Global) -> (Vec<Note>, Hull)
+    pub fn finish(self, alloc: Global) -> (Vec<Note>, Hull)
         ensures notes { result.0.items ≡ listed self.notes }
         ensures hull { result.1 ≡ record { reach = self.reach; least = self.least } }
     {
@@ -96,6 +122,17 @@ impl Log {
             None => (Vec::new(alloc), hull),
         }
     }
+}
+
+/// Where the looks begin before which these were noted, and those since.
+fn least_of(since: usize, notes: &[Note]) -> usize
+    ensures { result ≡ spec.least_of since notes.now }
+{
+    let mut least = since;
+    for note in notes {
+        least = least.min(note.least);
+    }
+    least
 }
 
 /// Both stretches, and what lies between them.

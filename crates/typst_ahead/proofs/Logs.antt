@@ -11,9 +11,9 @@ use Rattle.typst_combinators.specs.Ask.{Ask, shift, sunk}
 use Rattle.typst_combinators.specs.Ask.Ask.{looked, marked}
 use Rattle.typst_combinators.specs.Point.{Trivia}
 use Rattle.typst_combinators.specs.Hand.{ahead, ahead_by, len_at, at_trivia, asks_by, ahead_asks, column_look, column_asks, asks_column, hand_at, hand_asks}
-use Rattle.typst_machine.specs.Bytes.{joined_hull, token_hull, tokens_by, tokens_at, column_hull, whole_at}
+use Rattle.typst_ahead.specs.Bytes.{joined_hull, token_hull, tokens_by, tokens_at, column_hull, whole_at}
 use Rattle.typst_combinators.specs.Log.{Log, with_hull, with_note, logged_one, logged}
-use Rattle.typst_machine.proofs.Hulls.{In, own-in, second-in}
+use Rattle.typst_ahead.proofs.Hulls.{In, own-in, second-in}
 use Rattle.typst_combinators.proofs.Places.{moved-sum}
 
 -- ---- logs

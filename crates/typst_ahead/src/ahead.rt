@@ -7,12 +7,12 @@ ghost use Rattle.typst_kinds.specs.Kinds.{is_error};
 ghost use Rattle.typst_lines.specs.Scanner.{place};
 ghost use Rattle.typst_combinators.specs.Hand as spec;
 ghost use Rattle.typst_combinators.specs.Point as point;
-ghost use Rattle.typst_machine.specs.Bytes as bytes;
-ghost use Rattle.typst_machine.specs.Bytes.{bytes_left};
+ghost use Rattle.typst_ahead.specs.Bytes as bytes;
+ghost use Rattle.typst_ahead.specs.Bytes.{bytes_left};
 ghost use Rattle.typst_readers.specs.Reader.{exec};
 ghost use Rattle.typst_readers.specs.Sight.{hull_of};
 ghost use Rattle.typst_lexer.specs.Tokens.{token};
-ghost use Rattle.typst_machine.specs.Cursor.{IsAhead, Stands};
+ghost use Rattle.typst_ahead.specs.Cursor.{IsAhead, Stands};
 
 use crate::log::joined;
 use std::alloc::{AllocError, Global};
@@ -29,31 +29,31 @@ use typst_token_nodes::{is_leaf, leaf_node, make_node};
 #[derive(Drop)]
 pub struct ReadAhead<'s> {
     /// Whether the token was asked for. If not, it stands for nothing.
-    pub(crate) is_read: bool,
+    pub is_read: bool,
     /// Where the trivia begin.
-    pub(crate) before: Scanner<'s>,
+    pub before: Scanner<'s>,
     /// Where the token begins.
-    pub(crate) start: Scanner<'s>,
+    pub start: Scanner<'s>,
     /// Where it ends.
-    pub(crate) after: Scanner<'s>,
+    pub after: Scanner<'s>,
     /// The nodes of the trivia.
-    pub(crate) trivia: Vec<SyntaxNode>,
+    pub trivia: Vec<SyntaxNode>,
     /// The newlines before the token, also those that became nodes already.
-    pub(crate) newlines: Newlines,
-    pub(crate) token: Token,
+    pub newlines: Newlines,
+    pub token: Token,
     /// The token's kind, or the end where the newline rule stops.
-    pub(crate) kind: SyntaxKind,
+    pub kind: SyntaxKind,
     /// What was looked at for the token.
-    pub(crate) own: Hull,
+    pub own: Hull,
     /// The same, with its column where the newline rule asks for it.
-    pub(crate) here: Hull,
+    pub here: Hull,
 }
 
 impl<'s> ReadAhead<'s> {
     ghost use Rattle.std.specs.Prelude.{false};
 
     /// Nothing, at a place.
-    pub(crate) fn none(alloc: Global, at: Scanner<'s>) -> ReadAhead<'s>
+    pub fn none(alloc: Global, at: Scanner<'s>) -> ReadAhead<'s>
         ensures stands { Stands result }
         ensures before { result.before ≡ at.entry }
         ensures unread { result.is_read ≡ false }
@@ -79,7 +79,7 @@ impl<'s> ReadAhead<'s> {
 
     /// Passes the token. What comes behind it wasn't asked for.
     #[inline(always)]
-    pub(crate) fn pass(&mut self)
+    pub fn pass(&mut self)
         ensures { self.new ≡ record self.old { is_read = false; before = self.old.after; start = self.old.after } }
     {
         self.is_read = false;
@@ -88,7 +88,7 @@ impl<'s> ReadAhead<'s> {
     }
 
     /// Reads trivia and a token, and answers all that was looked at for them.
-    pub(crate) fn read<C: Classes>(
+    pub fn read<C: Classes>(
         &mut self,
         alloc: Global,
         held: Reading,
@@ -151,15 +151,15 @@ fn push_node<C: Classes>(
 
 /// A token that was read, where it ends, and what was looked at for it.
 #[derive(Clone, Copy)]
-pub(crate) struct Read<'s> {
-    pub(crate) token: Token,
-    pub(crate) after: Scanner<'s>,
-    pub(crate) hull: Hull,
+pub struct Read<'s> {
+    pub token: Token,
+    pub after: Scanner<'s>,
+    pub hull: Hull,
 }
 
 /// Reads one token.
 #[inline(always)]
-pub(crate) fn read_token<'s, C: Classes>(
+pub fn read_token<'s, C: Classes>(
     alloc: Global,
     start: Scanner<'s>,
     mode: SyntaxMode,
@@ -176,14 +176,14 @@ pub(crate) fn read_token<'s, C: Classes>(
 }
 
 /// How many bytes are ahead.
-pub(crate) fn left(s: &Scanner<'_>) -> usize
+pub fn left(s: &Scanner<'_>) -> usize
     ensures { result ≡ bytes_left (place s.now) }
 {
     s.after().len()
 }
 
 /// No newlines were passed.
-pub(crate) fn no_newlines() -> Newlines
+pub fn no_newlines() -> Newlines
     ensures { result ≡ point.no_newlines }
 {
     Newlines {
@@ -211,7 +211,7 @@ fn is_parbreak(kind: SyntaxKind) -> bool
 /// The kind of a token, or the end where the newline rule stops; and what was looked at for the
 /// token, with its column where the rule asks for it.
 #[inline(always)]
-pub(crate) fn judged(
+pub fn judged(
     held: Reading,
     newlines: Newlines,
     kind: SyntaxKind,
@@ -273,7 +273,7 @@ fn is_markup(mode: SyntaxMode) -> bool
 /// How many characters stand between the last newline character, or the text's start, and here; and
 /// what was looked at for it.
 #[inline(never)]
-pub(crate) fn column(s: &Scanner<'_>) -> (usize, Hull)
+pub fn column(s: &Scanner<'_>) -> (usize, Hull)
     ensures column { result.0 ≡ spec.column_at (place s.now) }
     ensures hull { result.1 ≡ hull_of (spec.column_look (place s.now)) (place s.now) }
 {

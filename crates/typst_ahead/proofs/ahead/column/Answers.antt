@@ -4,11 +4,11 @@ use Rattle.std.specs.List.{prefix_len}
 use Rattle.typst_lines.specs.Place.{Place}
 use Rattle.typst_lines.specs.Scanner.{place}
 use Rattle.typst_combinators.specs.Hand.{column_at}
-use Rattle.typst_machine.proofs.Columns.{in_line, behind-most, some-behind, back-is, line-more, column-back, column-least, column-start, back-smaller}
+use Rattle.typst_ahead.proofs.Columns.{in_line, behind-most, some-behind, back-is, line-more, column-back, column-least, column-start, back-smaller}
 use Rattle.typst_readers.specs.Sight.{position}
 use Rattle.typst_readers.proofs.Sights.{offset-is, far-none}
-use Rattle.typst_machine.proofs.Hulls.{same-hull}
-use Rattle.typst_machine.proofs.ahead.column.Goals as goal
+use Rattle.typst_ahead.proofs.Hulls.{same-hull}
+use Rattle.typst_ahead.proofs.ahead.column.Goals as goal
 
 pub back-init : goal.back-init
 unfolding column_at

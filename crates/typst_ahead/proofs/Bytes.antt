@@ -3,7 +3,7 @@ use Rattle.std.proofs.Common.{◌≡◌, ℕ, zero, suc, ◌<◌, ◌≤◌, Lis
 use Rattle.typst_lines.specs.Place.{Place, moved}
 use Rattle.typst_lines.proofs.PlaceLemmas.{encode_utf8_nonempty}
 use Rattle.std.specs.Char.{encode_utf8}
-use Rattle.typst_machine.specs.Bytes.{bytes_left}
+use Rattle.typst_ahead.specs.Bytes.{bytes_left}
 use Rattle.typst_combinators.proofs.Places.{moved-ahead}
 
 abbrev size : List ℕ → ℕ

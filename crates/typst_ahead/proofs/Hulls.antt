@@ -5,7 +5,7 @@ use Rattle.typst_lines.specs.Place.{Place, moved}
 use Rattle.typst_classes.specs.Classes.{CharClasses}
 use Rattle.typst_readers.specs.declared.hull.Hull.{Hull}
 use Rattle.typst_combinators.specs.Hand.{Ahead, ahead_by, len_at, at_trivia}
-use Rattle.typst_machine.specs.Bytes.{joined_hull, token_hull, tokens_by}
+use Rattle.typst_ahead.specs.Bytes.{joined_hull, token_hull, tokens_by}
 use Rattle.typst_combinators.proofs.Places.{moved-sum}
 use Rattle.typst_combinators.proofs.Within.{on_both}
 
