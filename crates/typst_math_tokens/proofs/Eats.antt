@@ -1,5 +1,5 @@
 -- A token of a formula takes at least one character.
-use Rattle.std.proofs.Common.{◌≡◌, ◌≤◌, ◌<◌, ℕ, suc, min, max, Bool, true, slice_get, ◌==◌, ◌||◌, ◌&&◌, List, [], ◌∷◌, length, nat_lt, arith, subst, sym, refl, Option, Some, None, ltb-true}
+use Rattle.std.proofs.Common.{◌≡◌, ◌≤◌, ◌<◌, ℕ, suc, min, max, Bool, true, slice_get, ◌==◌, ◌||◌, ◌&&◌, List, [], ◌∷◌, length, nat_lt, codes, arith, subst, sym, refl, Option, Some, None, ltb-true}
 use Rattle.std.specs.List.{list_all}
 use Rattle.typst_classes.specs.Classes.{CharClasses, in_line}
 use Rattle.typst_classes.specs.declared.classes.MathClass.{MathClass}
@@ -86,30 +86,70 @@ module _ (k : CharClasses) (c : ℕ) (p : Place) (e : scout 0 p ≡ Some c) wher
       (either (c == 41) _ _ p (λ _. sign-eats _)
       (either (c == 8730 || c == 8731 || c == 8732) _ _ p (λ _. sign-eats _) (class-eats (k.math c)))))))))))))
 
+  hyphen-eats : 1 ≤ eaten hyphen p
+  unfolding hyphen
+  hyphen-eats = any-eats kind.MathShorthand (codes "->>" ∷ codes "-->" ∷ codes "->" ∷ []) (sign kind.MathShorthand) p some refl (sign-eats kind.MathShorthand)
+
+  tilde-eats : 1 ≤ eaten tilde p
+  unfolding tilde
+  tilde-eats = any-eats kind.MathShorthand (codes "~~>" ∷ codes "~>" ∷ []) (sign kind.MathShorthand) p some refl (sign-eats kind.MathShorthand)
+
+  colon-eats : 1 ≤ eaten (colon k) p
+  unfolding colon
+  colon-eats = any-eats kind.MathShorthand (codes "::=" ∷ codes ":=" ∷ []) (cluster k) p some refl cluster-eats
+
+  equals-eats : 1 ≤ eaten (equals k) p
+  unfolding equals
+  equals-eats = any-eats kind.MathShorthand (codes "==>" ∷ codes "=>" ∷ codes "=:" ∷ []) (cluster k) p some refl cluster-eats
+
+  greater-eats : 1 ≤ eaten (greater k) p
+  unfolding greater
+  greater-eats = any-eats kind.MathShorthand (codes ">->" ∷ codes ">>>" ∷ codes ">=" ∷ codes ">>" ∷ []) (cluster k) p some refl cluster-eats
+
+  short-eats : 1 ≤ eaten (less_short k) p
+  unfolding less_short
+  short-eats = any-eats kind.MathShorthand (codes "<=" ∷ codes "<<" ∷ codes "<-" ∷ codes "<~" ∷ []) (cluster k) p some refl cluster-eats
+
+  middle-eats : 1 ≤ eaten (less_middle k) p
+  unfolding less_middle
+  middle-eats = any-eats kind.MathShorthand (codes "<--" ∷ codes "<-<" ∷ codes "<->" ∷ codes "<<-" ∷ codes "<<<" ∷ codes "<=>" ∷ codes "<==" ∷ codes "<~~" ∷ []) (less_short k) p some refl short-eats
+
   less-eats : 1 ≤ eaten (less k) p
-  unfolding less less_middle less_short
-  less-eats = any-eats _ _ _ p some refl (any-eats _ _ _ p some refl (any-eats _ _ _ p some refl cluster-eats))
+  unfolding less
+  less-eats = any-eats kind.MathShorthand (codes "<==>" ∷ codes "<-->" ∷ []) (less_middle k) p some refl middle-eats
+
+  bar-eats : 1 ≤ eaten (bar k) p
+  unfolding bar
+  bar-eats = any-eats kind.MathShorthand (codes "|->" ∷ codes "|=>" ∷ codes "||" ∷ []) (any_word kind.RightBrace (codes "|]" ∷ []) (cluster k)) p some refl (any-eats kind.RightBrace (codes "|]" ∷ []) (cluster k) p some refl cluster-eats)
+
+  bang-eats : 1 ≤ eaten bang p
+  unfolding bang
+  bang-eats = any-eats kind.MathShorthand (codes "!=" ∷ []) (sign kind.Bang) p some refl (sign-eats kind.Bang)
+
+  dot-eats : 1 ≤ eaten dot p
+  unfolding dot
+  dot-eats = any-eats kind.MathShorthand (codes "..." ∷ []) (sign kind.Dot) p some refl (sign-eats kind.Dot)
 
   several-eats : (other : Reader Memory Token) → 1 ≤ eaten other p → 1 ≤ eaten (several k c other) p
-  unfolding several hyphen tilde colon equals greater bar bracket bang dot
+  unfolding several bracket
   several-eats other o =
-      either (c == 45) _ _ p (λ _. any-eats _ _ _ p some refl (sign-eats _))
-      (either (c == 126) _ _ p (λ _. any-eats _ _ _ p some refl (sign-eats _))
-      (either (c == 58) _ _ p (λ _. any-eats _ _ _ p some refl cluster-eats)
-      (either (c == 61) _ _ p (λ _. any-eats _ _ _ p some refl cluster-eats)
-      (either (c == 62) _ _ p (λ _. any-eats _ _ _ p some refl cluster-eats)
+      either (c == 45) _ _ p (λ _. hyphen-eats)
+      (either (c == 126) _ _ p (λ _. tilde-eats)
+      (either (c == 58) _ _ p (λ _. colon-eats)
+      (either (c == 61) _ _ p (λ _. equals-eats)
+      (either (c == 62) _ _ p (λ _. greater-eats)
       (either (c == 60) _ _ p (λ _. less-eats)
-      (either (c == 124) _ _ p (λ _. any-eats _ _ _ p some refl (any-eats _ _ _ p some refl cluster-eats))
+      (either (c == 124) _ _ p (λ _. bar-eats)
       (either (c == 91) _ _ p (λ _. omega arith)
-      (either (c == 33) _ _ p (λ _. any-eats _ _ _ p some refl (sign-eats _))
-      (either (c == 46) _ _ p (λ _. any-eats _ _ _ p some refl (sign-eats _)) o)))))))))
+      (either (c == 33) _ _ p (λ _. bang-eats)
+      (either (c == 46) _ _ p (λ _. dot-eats) o)))))))))
 
   from-eats : 1 ≤ eaten (math_from k c) p
   unfolding math_from backslash string primes
   from-eats =
       either (c == 92) _ _ p (λ _. omega arith)
       (either (c == 34) _ _ p (λ _. omega arith)
-      (either (c == 39) _ _ p (λ t. omega (arith, line-eats (λ d. d == 39) c 39 p e t refl)) (several-eats _ single-eats)))
+      (either (c == 39) _ _ p (λ t. omega (arith, line-eats (λ d. d == 39) c 39 p e t refl)) (several-eats (single k c) single-eats)))
 
 abbrev at_next : CharClasses → Option ℕ → Reader Memory Token
 at_next k o = elim o [ None ↦ answer (plain kind.End) | Some c ↦ math_from k c ]

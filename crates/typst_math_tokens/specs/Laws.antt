@@ -46,7 +46,7 @@ pub record MathLooks (beyond : CharClasses) : Type 0 where
   pub name : Shows (math (by_law beyond)) (codes "ab c d") (ahead 4) (plain kind.MathIdent) 2
   pub name_before_dot : Shows (math (by_law beyond)) (codes "ab.1 c") (ahead 4) (plain kind.MathIdent) 2
   pub field : Shows (math (by_law beyond)) (codes "ab.c d e") (ahead 6) (plain kind.MathFieldAccess) 4
-  pub fields : Shows (math (by_law beyond)) (codes "ab.c.de") (ahead 9) (plain kind.MathFieldAccess) 7
+  pub fields : Shows (math (by_law beyond)) (codes "ab.c.de") (ahead 8) (plain kind.MathFieldAccess) 7
   -- a dot is a number's before a digit
   pub number : Shows (math (by_law beyond)) (codes "12.5x") (ahead 5) (plain kind.MathText) 4
   pub number_before_dot : Shows (math (by_law beyond)) (codes "1.x") (ahead 3) (plain kind.MathText) 1
