@@ -34,7 +34,7 @@ before-same (marked at gap fewer mark s ∷ asks) front old new rest h = (tt, be
 
 -- ---- after it
 
-abbrev onto : List ℕ → List ℕ → List ℕ
+abbrev pub onto : List ℕ → List ℕ → List ℕ
 onto [] behind = behind
 onto (c ∷ cs) behind = onto cs (c ∷ behind)
 
@@ -61,7 +61,7 @@ after-looks (looked at look ∷ asks) d bs cs rest h = (after-look at look d bs 
 after-looks (marked at gap fewer mark s ∷ asks) d bs cs rest h = (tt, after-looks asks d bs cs rest h)
 
 -- so many characters past the edit
-past-is : (d : ℕ) (front mid rest : List ℕ) → moved ((length front + length mid) + d) (text_with front mid rest) ≡ moved d (record { behind = onto mid (onto front []); ahead = rest })
+pub past-is : (d : ℕ) (front mid rest : List ℕ) → moved ((length front + length mid) + d) (text_with front mid rest) ≡ moved d (record { behind = onto mid (onto front []); ahead = rest })
 past-is d front mid rest =
     moved-sum (length front + length mid) d _ ∙ ap (moved d) (moved-sum (length front) (length mid) _ ∙ ap (moved (length mid)) (moved-over front (mid ++ rest) []) ∙ moved-over mid rest (onto front []))
 

@@ -19,3 +19,6 @@ pub mod Content
 pub mod Fitting
 pub mod Runs
 pub mod Root
+pub mod Within
+pub mod Widths
+pub mod Bytes

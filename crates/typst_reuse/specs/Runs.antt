@@ -116,6 +116,23 @@ pub record KeptRun (k : CharClasses) (front old new rest : List ℕ) (i n m past
       let r = chain (pieces k i z) (chain (pieces_from k i n z) (rest_from k i n z)) in
       parsed k max_depth (front ++ (new ++ rest)) ≡ whole_of (lead k w) (chain (pieces k i z) (chain (pieces_from k i m w) (rest_from k i n z))) (tail k r.taken r.state z))
 
+-- what is read behind the first n pieces
+abbrev pub behind_pieces : CharClasses → ℕ → Place → Outcome (Bool × ℕ)
+behind_pieces k n z = let e = end_at k n z in repeated (piece_at k) e.value (moved e.taken z) e.state
+
+-- What the reading of the new text is where nothing is kept behind the first i pieces.
+pub record KeptStart (k : CharClasses) (front old new rest : List ℕ) (i : ℕ) : Type 0 where
+  pub first : pieces k i (text_with front new rest) ≡ pieces k i (text_with front old rest)
+  pub lead_same : 0 < i → lead k (text_with front new rest) ≡ lead k (text_with front old rest)
+  pub now : (let w = text_with front new rest in
+      let r = chain (pieces k i (text_with front old rest)) (behind_pieces k i w) in
+      parsed k max_depth (front ++ (new ++ rest)) ≡ whole_of (lead k w) r (tail k r.taken r.state w))
+
+-- The law of a run's start: where what was looked at before the first i pieces end ends at the stretch or before it, the reading of the new text begins with them.
+abbrev pub StartLaw : Type 0
+StartLaw = (k : CharClasses) (front old new rest : List ℕ) (i : ℕ) → AllGo (pieces k i (text_with front old rest))
+    → (0 < i → AllEndBy (length front) ((lead k (text_with front old rest)).asks ++ asks_of (pieces k i (text_with front old rest)))) → KeptStart k front old new rest i
+
 -- The run law: where an edit inside some pieces of a text's run passes the test, the reading of the new text has the new pieces in their place, and is the same before and behind them.
 abbrev pub RunLaw : Type 0
 RunLaw = (k : CharClasses) (front old new rest : List ℕ) (i n m past : ℕ) → PassesRun k front old new rest i n m past → KeptRun k front old new rest i n m past
