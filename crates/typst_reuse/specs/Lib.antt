@@ -7,3 +7,4 @@ pub mod Runs
 pub mod Bytes
 pub mod Laws
 pub mod Examples
+pub mod RunExamples

@@ -3,6 +3,7 @@
 ghost use Rattle.typst_classes.specs.Classes.{CharClasses};
 ghost use Rattle.typst_reuse.specs.Bytes.{DecisionLaw};
 ghost use Rattle.typst_reuse.specs.Examples.{Blocks};
+ghost use Rattle.typst_reuse.specs.RunExamples.{Runs};
 ghost use Rattle.typst_reuse.specs.Laws.{BlockLaw, NamesLaw};
 ghost use Rattle.typst_reuse.specs.Runs.{RunLaw, StartLaw};
 
@@ -38,4 +39,9 @@ pub fn decision_law()
 /// Where the blocks of short texts stand, and what is looked at around them.
 pub fn blocks_of_texts()
     ensures { (beyond : CharClasses) → Blocks beyond }
+{}
+
+/// Edits inside pieces of short texts, and what of the test fails where the trees differ.
+pub fn runs_of_texts()
+    ensures { (beyond : CharClasses) → Runs beyond }
 {}
