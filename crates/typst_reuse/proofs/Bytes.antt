@@ -1,9 +1,7 @@
 -- The test of an edit in bytes, by the notes of a reading.
-use Rattle.std.proofs.Common.{◌≡◌, ℕ, zero, suc, ◌+◌, ◌-◌, ◌<◌, ◌≤◌, ◌^◌, max, min, List, [], ◌∷◌, ◌++◌, length, take, length-append, append_assoc, append-nil, Option, Some, None, refl, ap, sym, ◌∙◌, subst, arith}
-use Rattle.std.specs.Prelude.{option_map}
-use Rattle.typst_lines.specs.Place.{Place, moved, moved_from}
+use Rattle.std.proofs.Common.{◌≡◌, ℕ, ◌+◌, ◌-◌, ◌<◌, ◌≤◌, max, min, List, [], ◌∷◌, ◌++◌, length, length-append, append_assoc, append-nil, Option, Some, refl, ap, sym, ◌∙◌, subst, arith}
+use Rattle.typst_lines.specs.Place.{Place, moved}
 use Rattle.typst_classes.specs.Classes.{CharClasses}
-use Rattle.typst_readers.specs.Reader.{Look}
 use Rattle.typst_readers.specs.Sight.{width, position, far, near, hull_of}
 use Rattle.typst_combinators.specs.declared.calls.Mark.{Mark}
 use Rattle.typst_combinators.specs.declared.calls.Mark.TheVariants as mark
@@ -12,7 +10,7 @@ use Rattle.typst_combinators.specs.declared.reading.State.{State}
 use Rattle.typst_combinators.specs.Ask.{Ask, shift}
 use Rattle.typst_combinators.specs.Ask.Ask.{looked, marked}
 use Rattle.typst_combinators.specs.Log.{Log, no_log, with_more, with_hull, with_note, logged_one, logged}
-use Rattle.typst_combinators.specs.Meaning.{Outcome, start_point}
+use Rattle.typst_combinators.specs.Meaning.{start_point}
 use Rattle.typst_combinators.specs.Point.{state_of}
 use Rattle.typst_markup.specs.Markup.{markup_reading}
 use Rattle.typst_grammar.specs.Grammar.{rules, max_depth, start_of, whole, parsed, log}

@@ -1,8 +1,7 @@
 -- Places in characters and in bytes.
-use Rattle.std.proofs.Common.{◌≡◌, ℕ, zero, suc, ◌+◌, ◌-◌, ◌<◌, ◌≤◌, List, [], ◌∷◌, ◌++◌, length, take, length-append, append_assoc, refl, ap, sym, ◌∙◌, subst, arith}
-use Rattle.typst_lines.specs.Place.{Place, moved, moved_from, char_width}
+use Rattle.std.proofs.Common.{◌≡◌, ℕ, zero, suc, ◌+◌, ◌<◌, ◌≤◌, List, [], ◌∷◌, ◌++◌, length, take, length-append, append_assoc, refl, sym, ◌∙◌, subst, arith}
+use Rattle.typst_lines.specs.Place.{moved, moved_from}
 use Rattle.typst_lines.proofs.LineTable.{width-positive}
-use Rattle.typst_readers.specs.Reader.{Look}
 use Rattle.typst_readers.specs.Sight.{width, position, stretch, far, near}
 use Rattle.typst_reuse.proofs.Edit.{onto}
 

@@ -1,5 +1,5 @@
 -- The test of an edit in bytes, by the notes of a reading.
-use Rattle.std.specs.Prelude.{◌≡◌, ℕ, ◌+◌, ◌-◌, ◌<◌, ◌≤◌, min, List, [], ◌∷◌, ◌++◌, length, take, Option, Some}
+use Rattle.std.specs.Prelude.{◌≡◌, ℕ, ◌+◌, ◌-◌, ◌<◌, ◌≤◌, min, List, [], ◌∷◌, ◌++◌, length, take, Some}
 use Rattle.typst_classes.specs.Classes.{CharClasses}
 use Rattle.typst_readers.specs.Sight.{width}
 use Rattle.typst_combinators.specs.declared.calls.Mark.TheVariants as mark

@@ -1,15 +1,13 @@
 -- Edits inside pieces of short texts, as they follow from the definitions.
-use Rattle.std.specs.Prelude.{◌≡◌, ℕ, ◌+◌, ◌-◌, max, Bool, true, false, List, [], ◌∷◌, codes, length, map}
+use Rattle.std.specs.Prelude.{◌≡◌, ℕ, Bool, true, false, List, [], ◌∷◌, codes, map}
 use Rattle.typst_kinds.specs.declared.kind.SyntaxKind.TheVariants as kind
 use Rattle.typst_node.specs.Tree.{leaf_of}
-use Rattle.typst_lines.specs.Place.{Place}
 use Rattle.typst_classes.specs.Classes.{CharClasses, by_law}
 use Rattle.typst_combinators.specs.Meaning.{Outcome}
-use Rattle.typst_combinators.specs.Point.{Point}
 use Rattle.typst_grammar.specs.Grammar.{start_of, tree}
 use Rattle.typst_grammar.specs.Examples.{markup, branch, text, unclosed}
 use Rattle.typst_reuse.specs.Examples.{most, least}
-use Rattle.typst_reuse.specs.Runs.{End, pieces, pieces_from, end_from, rest_from, lead, asks_of}
+use Rattle.typst_reuse.specs.Runs.{pieces, pieces_from, end_from, rest_from, lead, asks_of}
 
 -- how much the turns that go on take, one by one
 abbrev pub lengths : List (Outcome (Bool × (Bool × ℕ))) → List ℕ

@@ -1,7 +1,5 @@
 -- A stretch of a text replaced, inside some pieces of its run.
 use Rattle.std.specs.Prelude.{◌≡◌, ℕ, zero, suc, ◌+◌, ◌<◌, Bool, true, false, List, [], ◌∷◌, ◌++◌, length}
-use Rattle.typst_kinds.specs.declared.kind.SyntaxKind.TheVariants as kind
-use Rattle.typst_node.specs.Tree.{Tree, forest, inner_of}
 use Rattle.typst_lines.specs.Place.{Place, moved}
 use Rattle.typst_classes.specs.Classes.{CharClasses}
 use Rattle.typst_combinators.specs.declared.calls.Mark.TheVariants as mark
@@ -13,7 +11,7 @@ use Rattle.typst_combinators.specs.Point.{Point, state_of}
 use Rattle.typst_combinators.specs.Steps.{peek, flush_trivia}
 use Rattle.typst_combinators.specs.Meaning.{Outcome, Meaning, plain, joined, repeated, start_point, run}
 use Rattle.typst_markup.specs.Markup.{markup_turn, markup_reading}
-use Rattle.typst_grammar.specs.Grammar.{level_at, max_depth, start_of, parsed, tree}
+use Rattle.typst_grammar.specs.Grammar.{level_at, max_depth, parsed}
 use Rattle.typst_reuse.specs.Edit.{text_with, AllEndBy, AllBeginIn}
 use Rattle.typst_reuse.specs.Occurrences.{goes}
 
