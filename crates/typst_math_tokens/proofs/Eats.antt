@@ -1,5 +1,5 @@
 -- A token of a formula takes at least one character.
-use Rattle.std.proofs.Common.{◌≡◌, ◌≤◌, ◌<◌, ℕ, suc, min, max, Bool, true, slice_get, ◌==◌, ◌||◌, ◌&&◌, List, [], ◌∷◌, length, nat_lt, codes, arith, subst, sym, refl, Option, Some, None, ltb-true}
+use Rattle.std.proofs.Common.{◌≡◌, ◌≤◌, ◌<◌, ℕ, suc, Bool, true, ◌==◌, ◌||◌, List, [], ◌∷◌, length, nat_lt, codes, arith, subst, sym, refl, Option, Some, None, ltb-true}
 use Rattle.std.specs.List.{list_all}
 use Rattle.typst_classes.specs.Classes.{CharClasses, in_line}
 use Rattle.typst_classes.specs.declared.classes.MathClass.{MathClass}

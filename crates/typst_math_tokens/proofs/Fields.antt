@@ -1,14 +1,14 @@
 -- Names and their fields, in one piece.
-use Rattle.std.proofs.Common.{◌≡◌, ◌≤◌, ◌<◌, ◌+◌, ◌==◌, ℕ, zero, suc, max, Bool, true, false, ◌&&◌, if◌then◌else◌, List, [], ◌∷◌, length, slice_get, refl, sym, ap, subst, ◌∙◌, arith, Option, Some, None}
+use Rattle.std.proofs.Common.{◌≡◌, ◌≤◌, ◌<◌, ◌+◌, ◌==◌, ℕ, suc, Bool, true, false, ◌&&◌, if◌then◌else◌, List, [], ◌∷◌, length, slice_get, refl, ap, ◌∙◌, arith, Some}
 use Rattle.std.specs.List.{prefix_len}
 use Rattle.typst_classes.specs.Classes.{CharClasses}
 use Rattle.typst_kinds.specs.declared.kind.SyntaxKind.TheVariants as kind
-use Rattle.typst_lines.specs.Place.{Place, moved, moved_from, passes, past, scout}
+use Rattle.typst_lines.specs.Place.{moved, moved_from, passes, scout}
 use Rattle.typst_math_tokens.specs.Names.{continues, is_field, in_fields, behind_name}
 use Rattle.typst_readers.proofs.PairRuns.{sight-pairs, past-stops, moved-less}
 use Rattle.typst_readers.proofs.Sights.{covers-saw, covers-went, far-end, far-next, far-on, same-sight, saw-ahead}
-use Rattle.typst_readers.proofs.Spans.{sight-turn, sight-end, turned_sight}
-use Rattle.typst_readers.specs.Pairs.{pairs_len, went_past_pairs}
+use Rattle.typst_readers.proofs.Spans.{sight-turn, sight-end}
+use Rattle.typst_readers.specs.Pairs.{pairs_len}
 use Rattle.typst_readers.specs.Reader.{place, ask, glimpse, widened, Step, Turn, Reader, eat_span}
 use Rattle.typst_readers.specs.Reader.Reader.{answer, skip}
 use Rattle.typst_readers.specs.Reader.Step.{turn, see}

@@ -1,5 +1,5 @@
 -- A name's own text.
-use Rattle.std.proofs.Common.{◌≡◌, ◌≤◌, ◌<◌, ◌+◌, ◌++◌, ◌&&◌, ◌==◌, ℕ, zero, suc, Bool, true, false, not, List, [], ◌∷◌, length, reverse, slice_get, take, refl, sym, ap, subst, ◌∙◌, arith, Option, Some, None, encode_utf8_all, if◌then◌else◌}
+use Rattle.std.proofs.Common.{◌≡◌, ◌<◌, ◌+◌, ◌++◌, ◌&&◌, ◌==◌, ℕ, suc, Bool, true, false, not, List, [], ◌∷◌, length, reverse, slice_get, take, refl, sym, ap, subst, ◌∙◌, arith, Some, encode_utf8_all, if◌then◌else◌}
 use Rattle.std.proofs.lemmas.Bool.Decides.{nat_tests}
 use Rattle.std.proofs.lemmas.Str.{scalars-chars}
 use Rattle.std.specs.Char.{IsScalar, is_whitespace}
@@ -10,7 +10,7 @@ use Rattle.typst_math_tokens.proofs.Clusters.{all-run}
 use Rattle.typst_classes.specs.Classes.{CharClasses, IsLawful, in_line}
 use Rattle.typst_kinds.specs.declared.kind.SyntaxKind.TheVariants as kind
 use Rattle.typst_lines.specs.Newline.{is_newline}
-use Rattle.typst_lines.specs.Place.{Place, IsAfter, moved, moved_from, passes, past, run, scout}
+use Rattle.typst_lines.specs.Place.{Place, moved, moved_from, passes, past, run, scout}
 use Rattle.typst_math_tokens.specs.Atoms.{text}
 use Rattle.typst_math_tokens.specs.Names.{continues, named, name, behind_name}
 use Rattle.typst_readers.proofs.Moves.{moved-more}

@@ -1,5 +1,5 @@
 -- Numbers, and clusters, which stand for one character.
-use Rattle.std.specs.Prelude.{ℕ, max, if◌then◌else◌, ◌==◌, List, [], ◌∷◌}
+use Rattle.std.specs.Prelude.{ℕ, max, if◌then◌else◌, ◌==◌, List, []}
 use Rattle.typst_classes.specs.Classes.{CharClasses, in_line}
 use Rattle.typst_kinds.specs.declared.kind.SyntaxKind.TheVariants as kind
 use Rattle.typst_lines.specs.Place.{passes}

@@ -1,12 +1,12 @@
 -- A block of a reading begins at a token that is no trivia, in each text that shows the same before it.
-use Rattle.std.proofs.Common.{◌≡◌, ℕ, zero, suc, ◌+◌, ◌-◌, Bool, true, false, ◌&&◌, if◌then◌else◌, nat_lt, Option, Some, None, List, [], ◌∷◌, ◌++◌, length, map, refl, ap, sym, ◌∙◌, subst, arith}
+use Rattle.std.proofs.Common.{◌≡◌, ℕ, zero, suc, ◌+◌, Bool, true, false, ◌&&◌, nat_lt, Option, Some, None, List, [], map, ap, ◌∙◌, arith}
 use Rattle.std.specs.List.{flat_map}
 use Rattle.typst_lines.specs.Place.{Place, moved}
 use Rattle.typst_classes.specs.Classes.{CharClasses}
 use Rattle.typst_combinators.specs.declared.calls.Block.{Block}
 use Rattle.typst_combinators.specs.declared.calls.Call.{Call}
 use Rattle.typst_combinators.specs.declared.reading.Reading.{Reading}
-use Rattle.typst_combinators.specs.Ask.{Ask, SameIn, shift}
+use Rattle.typst_combinators.specs.Ask.{SameIn}
 use Rattle.typst_combinators.specs.Calls.{Answer}
 use Rattle.typst_combinators.specs.Hand.{at_trivia, hand_at}
 use Rattle.typst_combinators.specs.Point.{Point, forgot}
@@ -19,9 +19,9 @@ use Rattle.typst_combinators.specs.Knot.{Rules, meaning_of, level_of}
 use Rattle.typst_combinators.specs.Meaning.{Outcome, Meaning, Level, blockless, answered, joined, bound, before, grown, is_more, turns, nestings, entered, done, run}
 use Rattle.typst_combinators.proofs.Looks.{same_in-shift, same_in-first, same_in-second, same_in-sunk}
 use Rattle.typst_combinators.proofs.Places.{moved-sum}
-use Rattle.typst_reuse.specs.Hole.{Hole, wrap_hole}
+use Rattle.typst_reuse.specs.Hole.{wrap_hole}
 use Rattle.typst_reuse.specs.Spot.{Spot, block_head, valued, then_spot, after_spot, rehole, sunk_spot, closed_spot, here_spot}
-use Rattle.typst_reuse.specs.Occurrences.{Spots, joined_spots, goes, last_spot, turns_spots, repeated_spots, reshaped_spot, wrapped_spot, grown_spot, growths_spots, growing_spots, nestings_spots, nesting_spots, scoped_spot, seen_spot, bounded_spots, spots, call_spots, block_spots, level_spots}
+use Rattle.typst_reuse.specs.Occurrences.{Spots, joined_spots, goes, last_spot, turns_spots, repeated_spots, reshaped_spot, wrapped_spot, grown_spot, growths_spots, growing_spots, nestings_spots, nesting_spots, scoped_spot, seen_spot, spots, call_spots, block_spots, level_spots}
 use Rattle.typst_reuse.proofs.Every.{Every, every-any, every-append, every-map, every-flat, every-if}
 use Rattle.typst_reuse.proofs.Reached.{Reached, Reaches, reached-run, reached-meaning, hand-stops-there, flushed-held, reached-joined, reached-grown}
 

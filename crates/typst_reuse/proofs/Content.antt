@@ -1,24 +1,20 @@
 -- A content block gives one node alone, and the state behind it follows from the reading before it.
-use Rattle.std.proofs.Common.{◌≡◌, ℕ, zero, suc, ◌+◌, ◌<◌, ◌≤◌, max, min, Bool, true, false, List, [], ◌∷◌, ◌++◌, length, take, drop, Option, Some, None, refl, ap, sym, ◌∙◌, subst, arith}
-use Rattle.typst_lines.specs.Place.{Place, moved}
+use Rattle.std.proofs.Common.{◌≡◌, ℕ, ◌+◌, ◌<◌, ◌≤◌, max, Bool, true, false, List, [], ◌++◌, length, take, drop, Option, None, refl, ap, sym, ◌∙◌, subst, arith}
+use Rattle.typst_lines.specs.Place.{Place}
 use Rattle.typst_node.specs.Tree.{Tree}
-use Rattle.typst_classes.specs.Classes.{CharClasses}
-use Rattle.typst_kinds.specs.declared.kind.SyntaxKind.TheVariants as kind
 use Rattle.typst_combinators.specs.declared.calls.Block.{Block}
 use Rattle.typst_combinators.specs.declared.calls.Call.{Call}
-use Rattle.typst_combinators.specs.declared.reading.Reading.{Reading}
 use Rattle.typst_combinators.specs.Depth.{is_end}
-use Rattle.typst_combinators.specs.Hand.{Hand, token_at, len_at, at_trivia, hand_at, known_by}
-use Rattle.typst_combinators.specs.Point.{Trivia, Point, forgot, pending, gap_of}
-use Rattle.typst_combinators.specs.Shape.{Shape, shaped, after_node, after_shape}
-use Rattle.typst_combinators.specs.Steps.{peek, node, close_if}
-use Rattle.typst_combinators.specs.Syntax.{Parser, ◌>>=◌, ◌>>◌}
+use Rattle.typst_combinators.specs.Hand.{Hand, token_at, at_trivia, hand_at}
+use Rattle.typst_combinators.specs.Point.{Trivia, Point, forgot, gap_of}
+use Rattle.typst_combinators.specs.Shape.{shaped, after_node, after_shape}
+use Rattle.typst_combinators.specs.Steps.{peek, node}
+use Rattle.typst_combinators.specs.Syntax.{Parser, ◌>>◌}
 use Rattle.typst_combinators.specs.Syntax.Begin.{at_token}
-use Rattle.typst_combinators.specs.Meaning.{Outcome, Level, plain, joined, before, inside, wrapped, left, left_to, entered, bound, hand_of, asked, done, run}
+use Rattle.typst_combinators.specs.Meaning.{Outcome, Level, before, inside, wrapped, bound, hand_of, asked, run}
 use Rattle.typst_combinators.proofs.Ends.{hand-again, token-ends, token-takes}
 use Rattle.typst_combinators.proofs.Knot.{Sane, sane-run}
-use Rattle.typst_kinds.specs.Kinds.{same}
-use Rattle.typst_markup.specs.Markup.{bracketed, content_block, markup_reading, markup_is_empty, markup_run, ends_block}
+use Rattle.typst_markup.specs.Markup.{bracketed, content_block, markup_reading}
 use Rattle.typst_reuse.proofs.Enclosed.{state_from, state-left, Direct, hand-direct, Alone, Apart, alone-after, alone-plain, enclosed, apart-enclosed, alike-enclosed}
 
 zero-back : {A : Type 0} (o : Outcome A) (n : ℕ) → n ≡ 0 → o.back ≡ 0 → n + o.back ≡ 0

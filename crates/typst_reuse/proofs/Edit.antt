@@ -1,7 +1,7 @@
 -- A stretch of a text replaced: what ends before it and what begins after it shows the same.
-use Rattle.std.proofs.Common.{◌≡◌, ℕ, zero, suc, ◌+◌, ◌-◌, ◌<◌, ◌≤◌, List, [], ◌∷◌, ◌++◌, length, take, Option, Some, None, append_assoc, length-append, refl, ap, sym, ◌∙◌, subst, arith}
-use Rattle.typst_node.specs.Tree.{Tree, Forest, forest, trees}
-use Rattle.typst_lines.specs.Place.{Place, moved, moved_from}
+use Rattle.std.proofs.Common.{◌≡◌, ℕ, zero, suc, ◌+◌, ◌≤◌, List, [], ◌∷◌, ◌++◌, length, take, Some, refl, ap, sym, ◌∙◌, arith}
+use Rattle.typst_node.specs.Tree.{Tree, forest, trees}
+use Rattle.typst_lines.specs.Place.{Place, moved}
 use Rattle.typst_readers.specs.Reader.{Look, Agree, marked as ended_by_mark}
 use Rattle.typst_combinators.specs.Ask.{Ask, SameIn}
 use Rattle.typst_combinators.specs.Ask.Ask.{looked, marked}
@@ -9,7 +9,7 @@ use Rattle.typst_combinators.specs.Meaning.{Outcome}
 use Rattle.typst_combinators.proofs.Places.{moved-sum}
 use Rattle.typst_reuse.specs.Hole.{Deep, fill, Hole, plug, path_in, path_of}
 use Rattle.typst_reuse.specs.Hole.Deep.{bare, under}
-use Rattle.typst_reuse.specs.Spot.{Spot, around, Fits, unit_at}
+use Rattle.typst_reuse.specs.Spot.{Spot, Fits, unit_at}
 use Rattle.typst_reuse.specs.Edit.{Among, text_with, AllEndBy, AllBeginIn, Passes, alter, put, replaced, Edited}
 use Rattle.typst_reuse.specs.Edit.Among.{this, that}
 use Rattle.typst_reuse.proofs.Every.{Every}
@@ -34,7 +34,7 @@ before-same (marked at gap fewer mark s ∷ asks) front old new rest h = (tt, be
 
 -- ---- after it
 
-abbrev onto : List ℕ → List ℕ → List ℕ
+abbrev pub onto : List ℕ → List ℕ → List ℕ
 onto [] behind = behind
 onto (c ∷ cs) behind = onto cs (c ∷ behind)
 
@@ -61,7 +61,7 @@ after-looks (looked at look ∷ asks) d bs cs rest h = (after-look at look d bs 
 after-looks (marked at gap fewer mark s ∷ asks) d bs cs rest h = (tt, after-looks asks d bs cs rest h)
 
 -- so many characters past the edit
-past-is : (d : ℕ) (front mid rest : List ℕ) → moved ((length front + length mid) + d) (text_with front mid rest) ≡ moved d (record { behind = onto mid (onto front []); ahead = rest })
+pub past-is : (d : ℕ) (front mid rest : List ℕ) → moved ((length front + length mid) + d) (text_with front mid rest) ≡ moved d (record { behind = onto mid (onto front []); ahead = rest })
 past-is d front mid rest =
     moved-sum (length front + length mid) d _ ∙ ap (moved d) (moved-sum (length front) (length mid) _ ∙ ap (moved (length mid)) (moved-over front (mid ++ rest) []) ∙ moved-over mid rest (onto front []))
 

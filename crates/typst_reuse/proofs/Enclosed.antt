@@ -1,5 +1,5 @@
 -- What is read between two brackets gives one node alone, and the state behind it follows from the reading before it.
-use Rattle.std.proofs.Common.{◌≡◌, ◌⊎◌, inl, inr, ℕ, zero, suc, ◌+◌, ◌-◌, ◌<◌, ◌≤◌, max, min, Bool, true, false, ◌&&◌, if◌then◌else◌, ◌==◌, nat_lt, List, [], ◌∷◌, ◌++◌, length, take, drop, length-append, length-take, append-nil, encode_utf8_all, Option, Some, None, refl, ap, sym, ◌∙◌, subst, arith}
+use Rattle.std.proofs.Common.{◌≡◌, ◌⊎◌, inl, inr, ℕ, ◌+◌, ◌-◌, ◌<◌, ◌≤◌, Bool, true, false, if◌then◌else◌, nat_lt, List, [], ◌∷◌, ◌++◌, length, take, length-append, length-take, append-nil, encode_utf8_all, None, refl, ap, sym, ◌∙◌, subst, arith}
 use Rattle.std.proofs.lemmas.Bool.Decides.{nat_tests}
 use Rattle.std.proofs.lemmas.Str.{length-le-encodes}
 use Rattle.typst_kinds.specs.declared.mode.SyntaxMode.{SyntaxMode}
@@ -8,26 +8,20 @@ use Rattle.typst_kinds.specs.Kinds.{is_error}
 use Rattle.typst_lines.specs.Place.{Place, moved}
 use Rattle.typst_node.specs.Tree.{Tree, text_of}
 use Rattle.typst_classes.specs.Classes.{CharClasses}
-use Rattle.typst_token_nodes.specs.Nodes.{token_node}
 use Rattle.typst_token_nodes.proofs.TokenTexts.{text-token}
 use Rattle.typst_combinators.specs.declared.calls.Block.{Block}
 use Rattle.typst_combinators.specs.declared.calls.Call.{Call}
 use Rattle.typst_combinators.specs.declared.reading.AtNewline.{AtNewline}
 use Rattle.typst_combinators.specs.declared.reading.AtNewline.TheVariants.{Continue, Stop, ContextualContinue, StopParBreak, RequireColumn}
 use Rattle.typst_combinators.specs.declared.reading.Reading.{Reading}
-use Rattle.typst_combinators.specs.Depth.{is_end}
-use Rattle.typst_combinators.specs.Hand.{Hand, Ahead, direct, ahead, token_at, len_at, at_trivia, hand_at, known_by, text_ahead}
-use Rattle.typst_combinators.specs.Point.{Point, forgot, is_nil, pending}
-use Rattle.typst_combinators.specs.Shape.{Shape, shaped, hinted, count_empty, after_node, after_shape}
+use Rattle.typst_combinators.specs.Hand.{Hand, Ahead, len_at, at_trivia, hand_at, text_ahead}
+use Rattle.typst_combinators.specs.Point.{Point, forgot}
+use Rattle.typst_combinators.specs.Shape.{hinted, count_empty, after_node}
 use Rattle.typst_combinators.specs.Shape.Making.{itself}
-use Rattle.typst_combinators.specs.Steps.{peek, node}
-use Rattle.typst_combinators.specs.Syntax.{Op, Parser, ◌>>=◌, ◌>>◌}
-use Rattle.typst_combinators.specs.Syntax.Begin.{at_token}
+use Rattle.typst_combinators.specs.Syntax.{Parser}
 use Rattle.typst_combinators.specs.Syntax.Op.{takes}
-use Rattle.typst_combinators.specs.Syntax.Parser.{gives, does, next, scoped}
-use Rattle.typst_combinators.specs.Meaning.{Outcome, Meaning, Level, plain, less, hints_before, joined, before, inside, wrapped, same_mode, same_rule, left, left_to, entered, bound, hand_of, asked, taken_node, done, run}
-use Rattle.typst_combinators.proofs.Backs.{backs-run}
-use Rattle.typst_combinators.proofs.Ends.{hand-again, token-ends, token-takes}
+use Rattle.typst_combinators.specs.Syntax.Parser.{does, next, scoped}
+use Rattle.typst_combinators.specs.Meaning.{Outcome, Level, plain, less, joined, same_mode, same_rule, left, entered, hand_of, taken_node, done, run}
 use Rattle.typst_combinators.proofs.Knot.{Sane, sane-run}
 use Rattle.typst_combinators.proofs.Places.{less-none}
 use Rattle.typst_combinators.proofs.Rests.{Rests}

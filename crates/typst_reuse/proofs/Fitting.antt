@@ -1,5 +1,5 @@
 -- A block that ends at the shifted end may stand where it stood: it leaves the state that it left, and gives one node of its kind.
-use Rattle.std.proofs.Common.{◌≡◌, ℕ, ◌-◌, ◌<◌, Bool, true, false, List, [], ◌∷◌, ◌++◌, Some, None, refl, ap, sym, ◌∙◌, subst}
+use Rattle.std.proofs.Common.{◌≡◌, ℕ, ◌-◌, ◌<◌, true, false, List, [], ◌∷◌, ◌++◌, None, refl, ap, sym, ◌∙◌, subst}
 use Rattle.typst_lines.specs.Place.{Place, moved}
 use Rattle.typst_node.specs.Tree.{Tree}
 use Rattle.typst_classes.specs.Classes.{CharClasses}
@@ -11,10 +11,7 @@ use Rattle.typst_combinators.specs.Hand.{at_trivia}
 use Rattle.typst_combinators.specs.Knot.{meaning_of}
 use Rattle.typst_combinators.specs.Meaning.{Outcome, blockless, less, run}
 use Rattle.typst_combinators.specs.Point.{Point, point_of, forgot}
-use Rattle.typst_combinators.specs.Steps.{peek}
-use Rattle.typst_combinators.specs.Syntax.{◌>>◌}
 use Rattle.typst_combinators.proofs.Knot.{sane-meaning, sane-plain}
-use Rattle.typst_markup.specs.Markup.{content_block}
 use Rattle.typst_grammar.specs.Grammar.{rules}
 use Rattle.typst_reuse.specs.Named.{Named}
 use Rattle.typst_reuse.specs.Spot.{Spot, Fits, block_head, ended, last_node, unit_at}

@@ -1,5 +1,5 @@
 -- A block in a larger whole.
-use Rattle.std.proofs.Common.{◌≡◌, ℕ, zero, suc, ◌+◌, ◌-◌, ◌<◌, ◌≤◌, Bool, true, false, ◌||◌, if◌then◌else◌, nat_lt, List, [], ◌∷◌, ◌++◌, length, map, take, drop, length-append, append_assoc, append-nil, refl, ap, sym, ◌∙◌, subst, arith}
+use Rattle.std.proofs.Common.{◌≡◌, ℕ, suc, ◌+◌, ◌-◌, ◌<◌, ◌≤◌, Bool, true, false, ◌||◌, List, [], ◌∷◌, ◌++◌, length, map, take, length-append, append_assoc, refl, ap, sym, ◌∙◌, arith}
 use Rattle.std.proofs.lemmas.List.{map-append}
 use borrow.Author.Tests.{lt-ltb}
 use Rattle.typst_kinds.specs.Kinds.{is_error}
@@ -8,8 +8,8 @@ use Rattle.typst_node.specs.Tree.{Tree}
 use Rattle.typst_combinators.specs.Ask.{Ask, shift, shift_one, sunk, sink_one}
 use Rattle.typst_combinators.specs.Ask.Ask.{looked, marked}
 use Rattle.typst_combinators.specs.Point.{Point}
-use Rattle.typst_combinators.specs.Shape.{all_advised, hinted_error, hinted_last, hinted, Seen, seen}
-use Rattle.typst_combinators.specs.Meaning.{Outcome, Meaning, less, hints_before, joined}
+use Rattle.typst_combinators.specs.Shape.{hinted_error, hinted_last, hinted, seen}
+use Rattle.typst_combinators.specs.Meaning.{Outcome, less, hints_before, joined}
 use Rattle.typst_reuse.specs.Hole.{Deep, fill, top, Hole, plug}
 use Rattle.typst_reuse.specs.Hole.Deep.{bare, under}
 use Rattle.typst_reuse.specs.Spot.{Spot, around, then_spot, after_spot, lower, lowered}

@@ -1,30 +1,26 @@
 -- Behind the trivia at hand stands a token that is no trivia.
-use Rattle.std.proofs.Common.{◌≡◌, ℕ, zero, suc, ◌+◌, ◌-◌, ◌<◌, ◌≤◌, Bool, true, false, ◌&&◌, if◌then◌else◌, nat_lt, List, [], ◌∷◌, length, Option, Some, None, refl, ap, sym, ◌∙◌, subst, arith}
+use Rattle.std.proofs.Common.{◌≡◌, ℕ, zero, suc, ◌<◌, ◌≤◌, Bool, true, false, ◌&&◌, if◌then◌else◌, nat_lt, List, [], ◌∷◌, length, Option, Some, None, refl, ap, sym, ◌∙◌, subst, arith}
 use borrow.Author.Tests.{ltb-true}
 use Rattle.typst_kinds.specs.declared.mode.SyntaxMode.{SyntaxMode}
 use Rattle.typst_kinds.specs.Kinds.{is_error, is_trivia}
 use Rattle.typst_lines.specs.Place.{Place, moved}
 use Rattle.typst_node.specs.Tree.{Tree, text_of}
 use Rattle.typst_classes.specs.Classes.{CharClasses}
-use Rattle.typst_readers.specs.Reader.{look}
 use Rattle.typst_lexer.specs.Tokens.{token}
-use Rattle.typst_combinators.specs.declared.calls.Block.{Block}
 use Rattle.typst_combinators.specs.declared.calls.Call.{Call}
 use Rattle.typst_combinators.specs.declared.reading.Reading.{Reading}
-use Rattle.typst_combinators.specs.Ask.{Ask, SameIn}
-use Rattle.typst_combinators.specs.Calls.{Answer, no_answer}
-use Rattle.typst_combinators.specs.Hand.{Hand, token_at, len_at, at_trivia, Ahead, direct, after_trivia, ahead_by, ahead, ahead_of, hand_at, hand_asks, known_by, text_ahead}
-use Rattle.typst_combinators.specs.Knot.{Rules, meaning_of, level_of, blocks_of}
-use Rattle.typst_combinators.specs.Point.{Trivia, Point, forgot}
+use Rattle.typst_combinators.specs.Ask.{SameIn}
+use Rattle.typst_combinators.specs.Hand.{Hand, token_at, len_at, at_trivia, Ahead, direct, after_trivia, ahead_by, ahead, hand_at, hand_asks}
+use Rattle.typst_combinators.specs.Knot.{Rules, meaning_of, level_of}
+use Rattle.typst_combinators.specs.Point.{Trivia, Point}
 use Rattle.typst_combinators.specs.Shape.{Shape, changed, after_node, after_shape}
 use Rattle.typst_combinators.specs.Shape.Shape.{keeps, holds, lacks, warns, fails}
-use Rattle.typst_combinators.specs.Steps.{peek}
-use Rattle.typst_combinators.specs.Syntax.{Op, Begin, Parser, ◌>>◌}
+use Rattle.typst_combinators.specs.Syntax.{Op, Begin, Parser}
 use Rattle.typst_combinators.specs.Syntax.Op.{hand, so, further, column, erred, takes, takes_so, flushes, complains, advises, marks, is_deepest}
 use Rattle.typst_combinators.specs.Syntax.Parser.{gives, does, next, pick, repeat, wraps, grows, nests, scoped, sees, either, calls, block}
-use Rattle.typst_combinators.specs.Meaning.{Outcome, Meaning, Level, plain, joined, answered, turns, as_last, bound, repeated, before, inside, reshaped, grown, is_more, growths, growing, nestings, nesting, given_up, bounded, blockless, same_mode, left, entered, flushed_state, done, run}
+use Rattle.typst_combinators.specs.Meaning.{Outcome, Meaning, Level, plain, joined, answered, turns, as_last, bound, repeated, before, inside, reshaped, grown, is_more, growths, growing, nestings, nesting, given_up, bounded, same_mode, left, entered, flushed_state, done, run}
 use Rattle.typst_combinators.proofs.Frame.{hand-frame}
-use Rattle.typst_combinators.proofs.Looks.{same_in-first, token-same}
+use Rattle.typst_combinators.proofs.Looks.{token-same}
 use Rattle.typst_combinators.proofs.Places.{moved-sum, ahead-left}
 use Rattle.typst_combinators.proofs.Within.{on_both, grew, and-second}
 

@@ -1,22 +1,22 @@
 -- The law of an edit inside some pieces of a text's run.
-use Rattle.std.proofs.Common.{◌≡◌, ℕ, zero, suc, ◌+◌, ◌<◌, Bool, true, false, List, [], ◌∷◌, ◌++◌, length, refl, ap, sym, ◌∙◌, subst, arith}
+use Rattle.std.proofs.Common.{◌≡◌, ℕ, zero, suc, ◌+◌, ◌<◌, Bool, true, List, ◌++◌, length, refl, ap, sym, ◌∙◌, subst, arith}
 use Rattle.typst_lines.specs.Place.{Place, moved}
 use Rattle.typst_classes.specs.Classes.{CharClasses}
-use Rattle.typst_combinators.specs.Ask.{Ask, SameIn, shift}
+use Rattle.typst_combinators.specs.Ask.{SameIn}
 use Rattle.typst_combinators.specs.Depth.{is_end}
 use Rattle.typst_combinators.specs.Hand.{AtHand}
 use Rattle.typst_combinators.specs.Point.{Point}
 use Rattle.typst_combinators.specs.Steps.{peek, flush_trivia}
 use Rattle.typst_combinators.specs.Syntax.Parser.{repeat}
-use Rattle.typst_combinators.specs.Meaning.{Outcome, Meaning, joined, repeated, run}
+use Rattle.typst_combinators.specs.Meaning.{Outcome, repeated, run}
 use Rattle.typst_combinators.specs.Sound.{Framed, Within}
 use Rattle.typst_combinators.proofs.Knot.{sane-at}
 use Rattle.typst_combinators.proofs.Looks.{same_in-shift, same_in-first, same_in-second}
 use Rattle.typst_combinators.proofs.Places.{moved-sum}
 use Rattle.typst_markup.specs.Markup.{markup_run, markup_turn}
-use Rattle.typst_grammar.specs.Grammar.{rules, level_at, max_depth, start_of, whole, parsed}
+use Rattle.typst_grammar.specs.Grammar.{rules, max_depth, start_of, whole, parsed}
 use Rattle.typst_reuse.specs.Edit.{text_with}
-use Rattle.typst_reuse.specs.Runs.{made, AllGo, End, end_of, asks_of, chain, piece_at, start, lead, pieces, end_at, pieces_from, end_from, rest_from, tail, whole_of, PassesRun, KeptRun, RunLaw}
+use Rattle.typst_reuse.specs.Runs.{made, AllGo, End, asks_of, chain, piece_at, start, lead, pieces, end_at, pieces_from, end_from, rest_from, tail, whole_of, RunLaw, behind_pieces, StartLaw}
 use Rattle.typst_reuse.proofs.Edit.{before-same, after-same, same_in-to}
 use Rattle.typst_reuse.proofs.Runs.{repeated-chain, made-same, chain-state, chain-taken}
 
@@ -116,4 +116,18 @@ run-law k front old new rest i n m past h =
           ∙ ap (λ b. whole_of (lead k w) q b) (new_tail ∙ sym old_tail)
           ∙ ap (λ os. whole_of (lead k w) (chain os (chain (pieces_from k i m w) (rest_from k i m w))) (tail k r.taken r.state z)) f.pieces_same
           ∙ ap (λ o. whole_of (lead k w) (chain (pieces k i z) (chain (pieces_from k i m w) o)) (tail k r.taken r.state z)) rest_is;
+    }
+
+pub start-law : StartLaw
+start-law k front old new rest i g before =
+    let z = text_with front old rest in
+    let w = text_with front new rest in
+    let f = first-same k i z w (λ l. before-same _ front old new rest (before l)) in
+    let r = chain (pieces k i w) (behind_pieces k i w) in
+    let e = repeated-chain (piece_at k) (within k) i (true, 0) w (lead k w).state (subst (λ os. AllGo os) (sym f.pieces_same) g) in
+    record {
+      first = f.pieces_same;
+      lead_same = f.lead_same;
+      now = whole-is k (front ++ (new ++ rest)) ∙ ap (λ o. whole_of (lead k w) o (tail k o.taken o.state w)) e
+          ∙ ap (λ os. (let o = chain os (behind_pieces k i w) in whole_of (lead k w) o (tail k o.taken o.state w))) f.pieces_same;
     }

@@ -1,10 +1,9 @@
 -- A stretch of a text replaced, inside a block of its reading.
 use Rattle.std.specs.Prelude.{◌≡◌, ℕ, zero, suc, ◌+◌, ◌<◌, ◌≤◌, List, [], ◌∷◌, ◌++◌, length}
 use Rattle.typst_node.specs.Tree.{Tree, forest, trees}
-use Rattle.typst_lines.specs.Place.{Place, moved}
+use Rattle.typst_lines.specs.Place.{Place}
 use Rattle.typst_combinators.specs.Ask.{Ask, shift}
 use Rattle.typst_combinators.specs.Ask.Ask.{looked, marked}
-use Rattle.typst_combinators.specs.Point.{Point}
 use Rattle.typst_combinators.specs.Meaning.{Outcome}
 use Rattle.typst_reuse.specs.Hole.{path_of}
 use Rattle.typst_reuse.specs.Spot.{Spot, unit_at, lowered}

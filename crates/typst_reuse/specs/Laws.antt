@@ -1,5 +1,5 @@
 -- Laws of edits of a text.
-use Rattle.std.specs.Prelude.{◌≡◌, ℕ, List, []}
+use Rattle.std.specs.Prelude.{◌≡◌, ℕ, List}
 use Rattle.typst_node.specs.Tree.{Tree, forest, inner_of}
 use Rattle.typst_kinds.specs.declared.kind.SyntaxKind.TheVariants as kind
 use Rattle.typst_classes.specs.Classes.{CharClasses}

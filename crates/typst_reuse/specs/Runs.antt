@@ -1,7 +1,5 @@
 -- A stretch of a text replaced, inside some pieces of its run.
 use Rattle.std.specs.Prelude.{◌≡◌, ℕ, zero, suc, ◌+◌, ◌<◌, Bool, true, false, List, [], ◌∷◌, ◌++◌, length}
-use Rattle.typst_kinds.specs.declared.kind.SyntaxKind.TheVariants as kind
-use Rattle.typst_node.specs.Tree.{Tree, forest, inner_of}
 use Rattle.typst_lines.specs.Place.{Place, moved}
 use Rattle.typst_classes.specs.Classes.{CharClasses}
 use Rattle.typst_combinators.specs.declared.calls.Mark.TheVariants as mark
@@ -13,7 +11,7 @@ use Rattle.typst_combinators.specs.Point.{Point, state_of}
 use Rattle.typst_combinators.specs.Steps.{peek, flush_trivia}
 use Rattle.typst_combinators.specs.Meaning.{Outcome, Meaning, plain, joined, repeated, start_point, run}
 use Rattle.typst_markup.specs.Markup.{markup_turn, markup_reading}
-use Rattle.typst_grammar.specs.Grammar.{level_at, max_depth, start_of, parsed, tree}
+use Rattle.typst_grammar.specs.Grammar.{level_at, max_depth, parsed}
 use Rattle.typst_reuse.specs.Edit.{text_with, AllEndBy, AllBeginIn}
 use Rattle.typst_reuse.specs.Occurrences.{goes}
 
@@ -115,6 +113,23 @@ pub record KeptRun (k : CharClasses) (front old new rest : List ℕ) (i n m past
       let w = text_with front new rest in
       let r = chain (pieces k i z) (chain (pieces_from k i n z) (rest_from k i n z)) in
       parsed k max_depth (front ++ (new ++ rest)) ≡ whole_of (lead k w) (chain (pieces k i z) (chain (pieces_from k i m w) (rest_from k i n z))) (tail k r.taken r.state z))
+
+-- what is read behind the first n pieces
+abbrev pub behind_pieces : CharClasses → ℕ → Place → Outcome (Bool × ℕ)
+behind_pieces k n z = let e = end_at k n z in repeated (piece_at k) e.value (moved e.taken z) e.state
+
+-- What the reading of the new text is where nothing is kept behind the first i pieces.
+pub record KeptStart (k : CharClasses) (front old new rest : List ℕ) (i : ℕ) : Type 0 where
+  pub first : pieces k i (text_with front new rest) ≡ pieces k i (text_with front old rest)
+  pub lead_same : 0 < i → lead k (text_with front new rest) ≡ lead k (text_with front old rest)
+  pub now : (let w = text_with front new rest in
+      let r = chain (pieces k i (text_with front old rest)) (behind_pieces k i w) in
+      parsed k max_depth (front ++ (new ++ rest)) ≡ whole_of (lead k w) r (tail k r.taken r.state w))
+
+-- The law of a run's start: where what was looked at before the first i pieces end ends at the stretch or before it, the reading of the new text begins with them.
+abbrev pub StartLaw : Type 0
+StartLaw = (k : CharClasses) (front old new rest : List ℕ) (i : ℕ) → AllGo (pieces k i (text_with front old rest))
+    → (0 < i → AllEndBy (length front) ((lead k (text_with front old rest)).asks ++ asks_of (pieces k i (text_with front old rest)))) → KeptStart k front old new rest i
 
 -- The run law: where an edit inside some pieces of a text's run passes the test, the reading of the new text has the new pieces in their place, and is the same before and behind them.
 abbrev pub RunLaw : Type 0

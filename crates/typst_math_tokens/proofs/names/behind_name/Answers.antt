@@ -1,8 +1,7 @@
-use Rattle.std.proofs.Common.{sym, ap, subst, ◌∙◌}
+use Rattle.std.proofs.Common.{sym, ap, ◌∙◌}
 use Rattle.typst_math_tokens.proofs.Fields.{rest, rest-run, rest-field, rest-end, name-alone, name-field, stops, field-shortens}
 use Rattle.typst_math_tokens.specs.Names.{continues}
-use Rattle.typst_readers.proofs.Sights.{covers-saw, covers-went}
-use Rattle.typst_readers.specs.Sight.{Covers, saw, sight, went, went_past}
+use Rattle.typst_readers.specs.Sight.{saw, sight, went, went_past}
 use Rattle.typst_math_tokens.proofs.names.behind_name.Goals as goal
 
 pub returns-then-not-field_follows : goal.returns-then-not-field_follows

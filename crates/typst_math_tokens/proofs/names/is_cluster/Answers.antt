@@ -1,4 +1,3 @@
-use Rattle.std.proofs.lemmas.Str.{scalars-chars}
 use Rattle.typst_math_tokens.proofs.Clusters.{is-cluster, line-is}
 use Rattle.typst_math_tokens.proofs.names.is_cluster.Goals as goal
 

@@ -1,4 +1,4 @@
-use Rattle.std.proofs.Common.{◌≡◌, true, take, sym, ap, ◌∙◌}
+use Rattle.std.proofs.Common.{take, sym, ap, ◌∙◌}
 use Rattle.std.specs.Str.{chars}
 use Rattle.typst_lines.specs.Place.{Place, moved, passes}
 use Rattle.typst_math_tokens.proofs.OwnNames.{size, behind-is, text-stays, own-is, own-some, own-inside, name-cluster, name-ident}
