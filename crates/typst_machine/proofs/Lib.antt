@@ -2,7 +2,7 @@
 --   a step did what it says      Runs: how runs compose; Steps: how steps compose; Blocks: calls and blocks
 --   a loop that grows or nests   Grows, Nests: how the code's loops compose
 --   the token further on, hints  Words
---   the first node changed       Changes
+--   the first node changed, seen Changes
 --   the token at hand            Ready: what it becomes; Trivia: reading ahead; Columns: its column
 --   what was looked at, noted    Hulls, Logs: in bytes; Bytes: bytes and characters
 pub mod Hulls
