@@ -1,14 +1,23 @@
 -- What the first of the nodes from a number on becomes, in its place.
-use Rattle.std.proofs.Common.{◌≡◌, ℕ, zero, suc, ◌+◌, ◌<◌, ◌≤◌, Bool, true, false, if◌then◌else◌, List, [], ◌∷◌, ◌++◌, length, take, drop, get_or, refl, ap, sym, ◌∙◌, arith}
+use Rattle.std.proofs.Common.{Option, ◌≡◌, ℕ, zero, suc, ◌+◌, ◌<◌, ◌≤◌, Bool, true, false, if◌then◌else◌, List, [], ◌∷◌, ◌++◌, length, map, take, drop, get_or, refl, ap, sym, ◌∙◌, subst, arith}
+use Rattle.std.proofs.lemmas.List.{take-append-drop}
 use Rattle.std.proofs.Math.ListN.{set}
 use Rattle.typst_kinds.specs.Kinds.{is_error}
 use Rattle.typst_node.specs.Tree.{Tree, text_of}
-use Rattle.typst_combinators.specs.Point.{Point}
-use Rattle.typst_combinators.specs.Shape.{Change, changed, first_changed, count_empty, after_node, after_change}
+use Rattle.typst_combinators.specs.Point.{Point, Trivia, pending}
+use Rattle.typst_combinators.specs.Shape.{Change, changed, first_changed, count_empty, after_node, after_change, seen}
 use Rattle.typst_combinators.specs.Shape.Change.{stays, turns_wrong, is_not, renamed, unparened}
 use Rattle.typst_combinators.specs.Shape.Shape.{keeps}
 use Rattle.typst_combinators.proofs.Leaves.{text-changed}
-use Rattle.typst_machine.specs.View.{View, Rewrapped}
+use Rattle.typst_combinators.specs.Meaning.{Level}
+use Rattle.typst_combinators.specs.Sound.{Sound}
+use Rattle.typst_combinators.specs.Syntax.{Parser}
+use Rattle.typst_combinators.specs.Syntax.Begin.{at_token}
+use Rattle.typst_combinators.specs.Syntax.Parser.{wraps}
+use Rattle.typst_machine.specs.Expected.{seeing}
+use Rattle.typst_machine.specs.View.{View, Does, Rewrapped}
+use Rattle.typst_machine.proofs.Runs.{rewrapped-fits}
+use Rattle.typst_machine.proofs.Steps.{does-next, does-peek, does-wraps}
 use Rattle.typst_machine.proofs.Ready.{told-node}
 
 first-is : (change : Change) (t : Tree) (ts : List Tree) → first_changed change (t ∷ ts) ≡ changed change t ∷ ts
@@ -82,3 +91,17 @@ changed-first change from t u v w more at is e = rw e (record {
   here = refl;
   log = refl;
 })
+
+-- ---- what is seen of nodes
+
+kept-nodes : {from : ℕ} {v w : View} → Rewrapped from (keeps stays) v w → w.nodes ≡ v.nodes
+kept-nodes {from = from} {v = v} r = r.nodes ∙ take-append-drop from v.nodes
+
+-- what was given since the token at hand was looked at, and stays
+pub does-seeing : {A : Type 0} {l : Level} {from : ℕ} {p : Parser A} {a : A} {old mid new : View}
+    → Sound l → old.state.empties ≤ length old.nodes → from ≡ length old.nodes + length old.hand.trivia → Does l p a old mid → Rewrapped from (keeps stays) mid new → Does l (seeing p) (a, map seen (drop from new.nodes)) old new
+unfolding seeing
+does-seeing {A = A} {l = l} {from = from} {p = p} {a = a} {old = old} {mid = mid} {new = new} sound few e did r =
+    let whole : Does l (wraps (λ _. keeps stays) at_token p) (a, map seen (drop from mid.nodes)) old new =
+    does-wraps sound few (λ c. e ∙ ap (λ (x : Option Trivia). length old.nodes + length (pending x)) (sym c.known)) (rewrapped-fits l r) did r in
+    does-next (does-peek old) (subst (λ (ts : List Tree). Does l (wraps (λ _. keeps stays) at_token p) (a, map seen (drop from ts)) old new) (sym (kept-nodes r)) whole)

@@ -2,7 +2,7 @@
 --   a step did what it says      Runs: how runs compose; Steps: how steps compose; Blocks: calls and blocks
 --   a loop that grows or nests   Grows, Nests: how the code's loops compose
 --   the token further on, hints  Words
---   the first node changed       Changes
+--   the first node changed, seen Changes
 --   the token at hand            Ready: what it becomes; ReadSo: read in another way
 --   a reading that is given up   Checkpoints: going back; Either: the law; Begins: what leaves what stood before
 pub mod Blocks
