@@ -17,7 +17,7 @@ use Rattle.typst_combinators.specs.Steps.{eat, eat_making}
 use Rattle.typst_combinators.specs.Syntax.{Parser}
 use Rattle.typst_combinators.specs.Syntax.Begin.{at_token}
 use Rattle.typst_combinators.specs.Syntax.Op.{hand, takes}
-use Rattle.typst_combinators.specs.Syntax.Parser.{does, next, scoped, wraps}
+use Rattle.typst_combinators.specs.Syntax.Parser.{does, gives, next, scoped, wraps}
 use Rattle.typst_combinators.specs.Meaning.{Level, Outcome, asked, entered, hand_of, joined, less, run, taken_node}
 use Rattle.typst_machine.specs.View.{View, Ran, Fits, at}
 use Rattle.typst_machine.specs.Checkpoint.{Leaves, first_of}
@@ -114,7 +114,8 @@ pub begins-eat : {l : Level} {v : View} → Fits l v → Begins l eat v
 unfolding run eat eat_making
 begins-eat {l = l} {v = v} c =
     let b = begins-takes {l = l} {making = itself} v c in
-    record { gives = gives-next v.hand.trivia (at l (does (takes false itself)) v) _ b.gives (omega arith) }
+    let o = at l (does (takes false itself)) v in
+    record { gives = gives-next v.hand.trivia o (run l (next (does hand) (λ _. gives tt)) (moved o.taken v.place) o.state) b.gives (omega arith) }
 
 -- behind a token that is no error no empty error stands
 pub eaten-none : {l : Level} {v : View} → Fits l v → is_error (taken_node l.classes itself v.hand v.place).head.kind ≡ false → (at l eat v).state.empties ≡ 0
@@ -123,6 +124,11 @@ eaten-none {l = l} {v = v} c e =
     let node = taken_node l.classes itself (hand_of l v.place v.state) v.place in
     let same : is_error node.head.kind ≡ false = ap (λ (h : Hand). is_error (taken_node l.classes itself h v.place).head.kind) (sym c.hand) ∙ e in
     ap (λ b. (after_node b (text_of node) v.state).empties) same
+
+-- and an answer
+pub begins-gives : {A B : Type 0} {l : Level} {p : Parser B} {f : B → A} {v : View} → Begins l p v → Begins l (next p (λ b. gives (f b))) v
+unfolding run
+begins-gives {l = l} {p = p} {f = f} {v = v} b = let o = at l p v in record { gives = gives-next v.hand.trivia o (run l (gives (f o.value)) (moved o.taken v.place) o.state) b.gives refl }
 
 no-hints : (a b : Bool) (hs : List (List ℕ)) → hs ≡ [] → ◌≡◌ {A = List (List ℕ)} (if a then [] else (if b then hs else [] ++ hs)) []
 no-hints true b hs e = refl
