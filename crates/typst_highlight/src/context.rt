@@ -277,6 +277,25 @@ impl Context {
     }
 }
 
+impl Context {
+    ghost use Rattle.std.specs.Prelude.{◌≡◌, true};
+    ghost use Rattle.typst_node.specs.Tree.{forest};
+    ghost use Rattle.typst_tree.specs.Walks.{is_childless};
+    ghost use Rattle.typst_highlight.specs.Walk as walk;
+
+    /// The last leaves behind the node, which has no children.
+    pub fn behind(self, node: &SyntaxNode, later: &[SyntaxNode]) -> Trail
+        requires { is_childless node.now.kids ≡ true }
+        ensures { result ≡ walk.passed self node.now (forest later.now) }
+    {
+        if is_leaf(node) {
+            self.step(node, later)
+        } else {
+            self.trail
+        }
+    }
+}
+
 impl Trail {
     /// The tag of the name before the dot that the last leaf is.
     fn behind_dot(self) -> Option<Tag>

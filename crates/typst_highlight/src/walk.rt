@@ -16,11 +16,8 @@ use typst_node::SyntaxNode;
 pub fn passed(node: &SyntaxNode, later: &[SyntaxNode], context: Context) -> Trail
     ensures { result ≡ walk.passed context node.now (forest later.now) }
 {
-    if is_leaf(node) {
-        return context.step(node, later);
-    }
     if is_childless(node) {
-        return context.trail;
+        return context.behind(node, later);
     }
     let mut inner = context.within(node, later);
     let mut rest = node.children();
