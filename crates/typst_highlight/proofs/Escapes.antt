@@ -32,7 +32,7 @@ entity_more xs html all mid next a b m x h l e k p q i w =
     let parts : drop a xs ≡ slice_range xs a b ++ drop b xs = drop_split xs a b h in
     let first : drop b xs ≡ x ∷ drop m xs = drop_more xs b 0 l ∙ ap (λ y. y ∷ drop (b + 1) xs) (sym e) ∙ ap (λ n. x ∷ drop n xs) (sym k) in
     let behind : escaped (drop a xs) ≡ slice_range xs a b ++ (escaped_byte x ++ escaped (drop m xs)) =
-        ap escaped parts ∙ escaped_append (slice_range xs a b) (drop b xs) ∙ ap (λ ys. ys ++ escaped (drop b xs)) i ∙ ap (λ ys. slice_range xs a b ++ escaped ys) first in
+    ap escaped parts ∙ escaped_append (slice_range xs a b) (drop b xs) ∙ ap (λ ys. ys ++ escaped (drop b xs)) i ∙ ap (λ ys. slice_range xs a b ++ escaped ys) first in
     ap (λ ys. ys ++ escaped (drop m xs)) q ∙ append_assoc mid (escaped_byte x) (escaped (drop m xs))
     ∙ ap (λ ys. ys ++ (escaped_byte x ++ escaped (drop m xs))) p ∙ append_assoc html (slice_range xs a b) (escaped_byte x ++ escaped (drop m xs))
     ∙ ap (λ ys. html ++ ys) (sym behind)

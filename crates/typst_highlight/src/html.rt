@@ -5,7 +5,7 @@ ghost use Rattle.typst_node.specs.Tree.{text_of, forest};
 ghost use Rattle.typst_highlight.specs.Html as spec;
 ghost use Rattle.typst_highlight.specs.Walk as walk;
 
-use crate::context::{Context, Trail, is_childless};
+use crate::context::{Context, is_childless};
 use crate::tags::Tag;
 use crate::walk::tag_here;
 use std::alloc::{AllocError, Global};
@@ -21,37 +21,39 @@ pub fn highlight_html(alloc: Global, root: &SyntaxNode) -> Result<String, AllocE
 {
     let mut html = String::new(alloc);
     html.push_str("<code>")?;
-    write_node(&mut html, root, &[], Context::ROOT)?;
+    let mut context = Context::ROOT;
+    write_node(&mut html, root, &[], &mut context)?;
     html.push_str("</code>")?;
     Ok(html)
 }
 
-/// Writes a node that other nodes follow under the same parent, and gives the last leaves behind it.
+/// Writes a node that other nodes follow under the same parent, and goes past it.
 fn write_node(
     html: &mut String,
     node: &SyntaxNode,
     later: &[SyntaxNode],
-    context: Context,
-) -> Result<Trail, AllocError>
-    ensures written { OnOk result (string_bytes html.new ≡ string_bytes html.old ++ walk.node_html context node.now (forest later.now)) }
-    ensures trail { IfOk result (λ trail. trail ≡ walk.passed context node.now (forest later.now)) }
+    context: &mut Context,
+) -> Result<(), AllocError>
+    ensures written { OnOk result (string_bytes html.new ≡ string_bytes html.old ++ walk.node_html context.old node.now (forest later.now)) }
+    ensures passed { OnOk result (context.new ≡ walk.past context.old node.now (walk.passed context.old node.now (forest later.now))) }
 {
     let tag = spanned(tag_here(node, later, context));
     write_start(html, tag)?;
     write_escaped(html, node.leaf_text())?;
     if is_childless(node) {
         write_end(html, tag)?;
-        return Ok(context.behind(node, later));
+        context.pass(node, later);
+        return Ok(());
     }
     let mut inner = context.within(node, later);
     let mut rest = node.children();
     while let Some((kid, behind)) = rest.split_first() {
-        let trail = write_node(html, kid, behind, inner)?;
-        inner = inner.past(kid, trail);
+        write_node(html, kid, behind, &mut inner)?;
         rest = behind;
     }
     write_end(html, tag)?;
-    Ok(inner.trail)
+    context.leave(node, inner.trail);
+    Ok(())
 }
 
 /// The tag of the span that a node stands in: an error has none.
