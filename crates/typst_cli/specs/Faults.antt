@@ -1,14 +1,21 @@
 -- What the program says where it fails, and what it leaves.
-use Rattle.std.specs.Prelude.{◌≡◌, ◌≢◌, ⊤, ℕ, List, take, codes, Option, None, Some, IsSome, IfSome}
+use Rattle.std.specs.Prelude.{◌≡◌, ◌≢◌, ◌⊎◌, ⊤, ℕ, List, take, codes, Option, None, Some, IsSome, IfSome}
 use Rattle.std.specs.Io.KnownBytes.{Appends, Keeps}
 use Rattle.std.specs.IoError.{error_kind}
 use Rattle.std.specs.declared.io.Error.{Error}
 use Rattle.std.specs.declared.io.ErrorKind.TheVariants as kind
 use Rattle.std.specs.Str.{IsUtf8}
-use Rattle.typst_cli.specs.Printed.{command_of, printed}
-use Rattle.typst_cli.specs.declared.command.Command.{Command}
+use Rattle.std.specs.declared.ops.Range.{Range}
+use Rattle.typst_kinds.specs.declared.error.SourceError.{SourceError}
+use Rattle.typst_kinds.specs.declared.error.SourceError.TheVariants as source_error
+use Rattle.typst_classes.specs.UnicodeTables.{unicode_classes}
+use Rattle.std.specs.Str.{chars}
+use Rattle.typst_grammar.specs.Grammar.{tree}
+use Rattle.typst_source.specs.Headline.{edited, numbered_in}
+use Rattle.typst_cli.specs.Asked.{Asked, about, edits}
+use Rattle.typst_cli.specs.PrintedEdit.{IsRange, Prints}
 use Rattle.typst_cli.specs.declared.failure.Failure.{Failure}
-use Rattle.typst_cli.specs.declared.failure.Failure.TheVariants.{Usage, NotRead, NotUtf8, OutOfMemory, NotWritten}
+use Rattle.typst_cli.specs.declared.failure.Failure.TheVariants.{Usage, NotRead, NotUtf8, BadRange, OutOfSpanNumbers, OutOfMemory, NotWritten}
 use Rattle.typst_cli.specs.declared.streams.Unread.{Unread}
 use Rattle.typst_cli.specs.declared.streams.Unread.TheVariants as unread
 
@@ -22,6 +29,8 @@ abbrev pub line_of : Failure → List ℕ
 line_of Usage = codes "usage: typst_syn lines | tree | html | edit START END TEXT\n"
 line_of NotRead = codes "read failed\n"
 line_of NotUtf8 = codes "not UTF-8\n"
+line_of BadRange = codes "bad range\n"
+line_of OutOfSpanNumbers = codes "out of span numbers\n"
 line_of OutOfMemory = codes "out of memory\n"
 line_of NotWritten = codes "write failed\n"
 
@@ -29,11 +38,31 @@ line_of NotWritten = codes "write failed\n"
 abbrev pub Begins : Option (List ℕ) → Option (List ℕ) → List ℕ → Type 0
 Begins old new bs = (n : ℕ) × Appends old new (take n bs)
 
+-- the text or the edited text has more nodes than there are span numbers
+abbrev pub LacksNumbers : Range ℕ → List ℕ → List ℕ → Type 0
+LacksNumbers range with_text text =
+    (numbered_in (Some 1) (tree unicode_classes (chars text)) ≡ None)
+    ⊎ (numbered_in (Some 1) (tree unicode_classes (chars (edited text range with_text))) ≡ None)
+
+-- why a text has no answer: memory was refused or, of an edit, the range isn't one of the text, or it is one and numbers lack
+abbrev pub IsAnswerFault : Failure → Asked → List ℕ → Type 0
+IsAnswerFault OutOfMemory asked text = ⊤
+IsAnswerFault BadRange (edits range with_text) text = ¬ (IsRange range text)
+IsAnswerFault OutOfSpanNumbers (edits range with_text) text = IsRange range text × LacksNumbers range with_text text
+IsAnswerFault _ asked text = ⊥
+
+-- what a failure tells of what is asked and of the input
+abbrev pub TellsOf : Failure → Asked → Option (List ℕ) → Type 0
+TellsOf Usage asked input = ⊥
+TellsOf NotUtf8 asked input = IfSome input (λ bytes. ¬ (IsUtf8 bytes))
+TellsOf BadRange asked input = IfSome input (λ text. IsUtf8 text × IsAnswerFault BadRange asked text)
+TellsOf OutOfSpanNumbers asked input = IfSome input (λ text. IsUtf8 text × IsAnswerFault OutOfSpanNumbers asked text)
+TellsOf _ asked input = ⊤
+
 -- what a failure tells of the words and of the input
-abbrev pub Tells : Failure → Option Command → Option (List ℕ) → Type 0
-Tells Usage command input = command ≡ None
-Tells NotUtf8 command input = IsSome command × IfSome input (λ bytes. ¬ (IsUtf8 bytes))
-Tells _ command input = IsSome command
+abbrev pub Tells : Failure → Option Asked → Option (List ℕ) → Type 0
+Tells failure None input = failure ≡ Usage
+Tells failure (Some asked) input = TellsOf failure asked input
 
 -- a failure of reading: the input could not be read, isn't UTF-8, or memory was refused
 abbrev pub IsReadFault : Failure → Option (List ℕ) → Type 0
@@ -56,11 +85,26 @@ abbrev pub failure_of : Unread → Failure
 failure_of (unread.Failed e) = NotRead
 failure_of unread.OutOfMemory = OutOfMemory
 
--- the words name a command, and the output grew by all that it prints about the input
-abbrev pub IsAnswered : Option Command → Option (List ℕ) → Option (List ℕ) → Option (List ℕ) → Type 0
-IsAnswered command input old new = (c : Command) × (command ≡ Some c) × IfSome input (λ text. IsUtf8 text × Appends old new (printed c text))
+-- what an error of a source is told as
+abbrev pub failure_from : SourceError → Failure
+failure_from source_error.OutOfMemory = OutOfMemory
+failure_from source_error.SpanNumbers = OutOfSpanNumbers
+
+-- the output grew by a whole answer about a text
+abbrev pub Gives : Asked → List ℕ → Option (List ℕ) → Option (List ℕ) → Type 0
+Gives asked text old new = (answer : List ℕ) × Prints asked text answer × Appends old new answer
+
+-- the words ask for something, and the output grew by a whole answer about the input
+abbrev pub IsAnswered : Option Asked → Option (List ℕ) → Option (List ℕ) → Option (List ℕ) → Type 0
+IsAnswered None input old new = ⊥
+IsAnswered (Some asked) input old new = IfSome input (λ text. IsUtf8 text × Gives asked text old new)
+
+-- the output is as it was, or grew by a beginning of an answer about the input
+abbrev pub Leaves : Option Asked → Option (List ℕ) → Option (List ℕ) → Option (List ℕ) → Type 0
+Leaves None input old new = Keeps old new
+Leaves (Some asked) input old new = IfSome input (λ text. Keeps old new ⊎ ((answer : List ℕ) × Prints asked text answer × Begins old new answer))
 
 -- what a failure tells holds, and only a failed write leaves anything in the output
-pub record IsFault (failure : Failure) (command : Option Command) (input old new : Option (List ℕ)) : Type 0 where
-  pub tells : Tells failure command input
+pub record IsFault (failure : Failure) (asked : Option Asked) (input old new : Option (List ℕ)) : Type 0 where
+  pub tells : Tells failure asked input
   pub kept : failure ≢ NotWritten → Keeps old new

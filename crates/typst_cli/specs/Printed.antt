@@ -14,12 +14,6 @@ use Rattle.typst_cli.specs.PrintedTree.{tree_printed}
 abbrev pub command_named : List ℕ → Option Command
 command_named word = if bytes_eq word (codes "lines") then Some Lines else (if bytes_eq word (codes "tree") then Some Tree else (if bytes_eq word (codes "html") then Some Html else None))
 
--- the command that words name
-abbrev pub command_of : List (List ℕ) → Option Command
-command_of [] = None
-command_of (word ∷ []) = command_named word
-command_of (word ∷ other ∷ words) = None
-
 -- the row of a line: its number, its start in bytes, its start in UTF-16 units
 abbrev pub row : ℕ → Line → List ℕ
 row number line =

@@ -1,13 +1,13 @@
-//! What the program is asked for.
-ghost use Rattle.std.specs.Prelude.{◌≡◌, IfOk, map};
+//! What the program is asked about a text.
+ghost use Rattle.std.specs.Prelude.{◌≡◌, IfOk};
 ghost use Rattle.std.specs.String.{string_bytes};
-ghost use Rattle.typst_cli.specs.Printed.{command_named, command_of, printed};
+ghost use Rattle.typst_cli.specs.Printed.{command_named, printed};
 
 use crate::{html, lines, tree};
 use std::alloc::{AllocError, Global};
 use typst_parser::UnicodeClasses;
 
-/// What the program is asked for.
+/// What the program is asked about a text.
 #[derive(Debug, Clone, Copy, PartialEq, Eq)]
 pub enum Command {
     /// Where the lines of the text start.
@@ -19,17 +19,8 @@ pub enum Command {
 }
 
 impl Command {
-    /// The command that the words name.
-    pub fn from_words(words: &[&str]) -> Option<Command>
-        ensures { result ≡ command_of (map (λ word. word.now) words.now) }
-    {
-        match words {
-            [word] => Command::from_word(word),
-            _ => None,
-        }
-    }
-
-    fn from_word(word: &str) -> Option<Command>
+    /// The command that a word names.
+    pub fn from_word(word: &str) -> Option<Command>
         ensures { result ≡ command_named word.now }
     {
         match word {

@@ -1,12 +1,13 @@
 //! Why the program failed.
 ghost use Rattle.std.specs.Prelude.{◌≡◌, OnOk};
 ghost use Rattle.std.specs.Io.KnownBytes.{Appends};
-ghost use Rattle.typst_cli.specs.Faults.{Begins, failure_of, line_of, status_of};
+ghost use Rattle.typst_cli.specs.Faults.{Begins, failure_from, failure_of, line_of, status_of};
 ghost use Rattle.typst_cli.specs.declared.failure.Failure.TheVariants as failure;
 
 use crate::streams::{Delivered, Unread, deliver};
 use std::alloc::{AllocError, AllocFailed};
 use std::io::{self, Write};
+use typst_parser::SourceError;
 
 /// What went wrong, in the order in which it is looked for; want of memory is met anywhere.
 #[derive(Debug, Clone, Copy, PartialEq, Eq)]
@@ -17,6 +18,10 @@ pub enum Failure {
     NotRead,
     /// The text isn't UTF-8.
     NotUtf8,
+    /// The range isn't one of the text.
+    BadRange,
+    /// The tree has more nodes than there are span numbers.
+    OutOfSpanNumbers,
     /// A request for memory was refused.
     OutOfMemory,
     /// The answer couldn't be written.
@@ -50,6 +55,17 @@ impl From<Unread> for Failure {
     }
 }
 
+impl From<SourceError> for Failure {
+    ghost from_gives = { λ error made. made ≡ failure_from error };
+
+    fn from(error: SourceError) -> Failure {
+        match error {
+            SourceError::OutOfMemory => Failure::OutOfMemory,
+            SourceError::SpanNumbers => Failure::OutOfSpanNumbers,
+        }
+    }
+}
+
 impl Failure {
     /// The program's exit status.
     pub fn status(self) -> u8
@@ -69,6 +85,8 @@ impl Failure {
             Failure::Usage => "usage: typst_syn lines | tree | html | edit START END TEXT\n",
             Failure::NotRead => "read failed\n",
             Failure::NotUtf8 => "not UTF-8\n",
+            Failure::BadRange => "bad range\n",
+            Failure::OutOfSpanNumbers => "out of span numbers\n",
             Failure::OutOfMemory => "out of memory\n",
             Failure::NotWritten => "write failed\n",
         }

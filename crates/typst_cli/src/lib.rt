@@ -2,10 +2,12 @@
 #![tactic(auto)]
 
 pub mod command;
+mod edit;
 pub mod failure;
 mod html;
 mod lines;
 pub mod program;
+mod request;
 pub mod streams;
 pub mod tree;
 mod variants;

@@ -22,7 +22,7 @@ pub fn answer<C: Classes>(alloc: Global, text: &str, classes: &C) -> Result<Stri
 }
 
 /// Prints a node that begins at a byte, and all below it.
-fn print_node(
+pub fn print_node(
     alloc: Global,
     printed: &mut String,
     node: &SyntaxNode,
@@ -73,8 +73,8 @@ fn print_own_line(
     Ok(())
 }
 
-/// Prints the messages of the errors.
-fn print_errors(printed: &mut String, diagnostics: &[Diagnostic]) -> Result<(), AllocError>
+/// Prints the messages of the errors, each behind a space.
+pub fn print_errors(printed: &mut String, diagnostics: &[Diagnostic]) -> Result<(), AllocError>
     ensures { OnOk result (string_bytes printed.new ≡ string_bytes printed.old ++ spec.errors diagnostics.now) }
 {
     for diagnostic in diagnostics {
@@ -90,7 +90,7 @@ fn print_errors(printed: &mut String, diagnostics: &[Diagnostic]) -> Result<(), 
 }
 
 /// Prints a line for each warning and each hint.
-fn print_remarks(
+pub fn print_remarks(
     printed: &mut String,
     diagnostics: &[Diagnostic],
     indent: &str,
