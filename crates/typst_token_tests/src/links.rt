@@ -1,37 +1,10 @@
-//! How far links go, and names of labels.
+//! The brackets of links, and names of labels.
 use std::alloc::{AllocError, Global};
 use std::process::Abort;
 use std::test::Fail;
-use typst_parser::{UnicodeClasses, is_valid_label_literal_id, link_prefix};
+use typst_classes::UnicodeClasses;
+use typst_links::{is_valid_label_literal_id, link_prefix};
 use typst_test_classes::{Narrow, Wide};
-
-/// Texts, the links that they begin with, and whether these are balanced.
-const LINKS: [(&str, &str, bool); 14] = [
-    ("", "", true),
-    ("(]", "(", false),
-    ("a.b.", "a.b", true),
-    ("a.b''''''", "a.b", true),
-    ("(a", "(a", false),
-    ("a(b)c d", "a(b)c", true),
-    ("a)b", "a", true),
-    ("a([b)]", "a([b", false),
-    ("a/?b=c#d&e;", "a/?b=c#d&e", true),
-    ("a!,.:;?'", "a", true),
-    ("a!b", "a!b", true),
-    ("a\"b", "a", true),
-    ("é", "", true),
-    ("~user/%20_$*+-@x", "~user/%20_$*+-@x", true),
-];
-
-#[test]
-fn goes_as_far_as_a_link(rt: HostRuntime) -> Result<(), Fail> {
-    for (text, link, balanced) in LINKS {
-        let (got, closed) = link_prefix(rt.alloc(), text)?;
-        assert_eq!(rt; got, link, "at {text:?}");
-        assert_eq!(rt; closed, balanced, "at {text:?}");
-    }
-    Ok(())
-}
 
 /// What is left of some brackets where pairs are taken out again and again.
 fn without_pairs(alloc: Global, brackets: &str) -> Result<String, AllocError> {
@@ -101,44 +74,52 @@ fn closes_brackets(rt: HostRuntime) -> Result<(), Fail> {
             let brackets = written(alloc, count, number)?;
             let (link, balanced) = link_prefix(alloc, brackets.as_str())?;
             let (len, closed) = longest(alloc, brackets.as_str())?;
-            assert_eq!(rt; link.len(), len, "at {brackets:?}");
-            assert_eq!(rt; balanced, closed, "at {brackets:?}");
+            assert!(rt; link.len() == len && balanced == closed);
         }
         ways = ways.saturating_mul(4);
     }
     Ok(())
 }
 
-/// Reads again where memory was refused. `rt try --test --fail-alloc N` refuses the Nth request.
-#[test]
-fn reads_again_where_memory_is_refused(rt: HostRuntime) -> Result<(), Fail> {
-    for (text, link, balanced) in LINKS {
-        let first = link_prefix(rt.alloc(), text);
-        let again = link_prefix(rt.alloc(), text);
-        if first.is_err() && again.is_err() {
-            assert!(rt; false, "two refusals at {text:?}");
-        }
-        if let Ok((got, closed)) = again {
-            assert_eq!(rt; got, link);
-            assert_eq!(rt; closed, balanced);
-        }
+/// Asserts that a text begins with this link, whose brackets are balanced, also where memory was
+/// refused once.
+fn expect_again(rt: &impl Abort, alloc: Global, text: &str, link: &str) {
+    let first = link_prefix(alloc, text);
+    let again = link_prefix(alloc, text);
+    assert!(rt; first.is_ok() || again.is_ok());
+    if let Ok((got, is_balanced)) = again {
+        assert!(rt; got == link && is_balanced);
     }
-    Ok(())
 }
 
-fn expect_names(rt: &impl Abort, id: &str, unicode: bool, wide: bool, narrow: bool) {
-    assert_eq!(rt; is_valid_label_literal_id(id, &UnicodeClasses), unicode);
-    assert_eq!(rt; is_valid_label_literal_id(id, &Wide), wide);
-    assert_eq!(rt; is_valid_label_literal_id(id, &Narrow), narrow);
+/// `rt try --test --fail-alloc N` refuses the Nth request.
+#[test]
+fn reads_again_where_memory_is_refused(rt: HostRuntime) {
+    expect_again(&rt, rt.alloc(), "a(b)c d", "a(b)c");
+    expect_again(&rt, rt.alloc(), "a.b", "a.b");
+    expect_again(&rt, rt.alloc(), "é", "");
+}
+
+/// Whether a label can have this name by Unicode, where nearly all are letters, and where only ASCII is.
+fn by_all(id: &str) -> [bool; 3] {
+    [
+        is_valid_label_literal_id(id, &UnicodeClasses),
+        is_valid_label_literal_id(id, &Wide),
+        is_valid_label_literal_id(id, &Narrow),
+    ]
 }
 
 #[test]
 fn knows_names_of_labels(rt: HostRuntime) {
-    expect_names(&rt, "", false, false, false);
-    expect_names(&rt, ":a", true, true, true);
-    expect_names(&rt, "a-b_1.c:d", true, true, true);
-    expect_names(&rt, "é", true, true, false);
-    expect_names(&rt, "a b", false, false, false);
-    expect_names(&rt, "a>", false, false, false);
-    expect_names(&rt, "->", false, false, false);
+    assert!(rt; by_all(":a") == [true, true, true]);
+    assert!(rt; by_all("a-b_1.c:d") == [true, true, true]);
+    assert!(rt; by_all("é") == [true, true, false]);
+}
+
+#[test]
+fn refuses_names_of_labels(rt: HostRuntime) {
+    assert!(rt; by_all("") == [false, false, false]);
+    assert!(rt; by_all("a b") == [false, false, false]);
+    assert!(rt; by_all("a>") == [false, false, false]);
+    assert!(rt; by_all("->") == [false, false, false]);
 }
