@@ -3,9 +3,11 @@
 ghost use Rattle.std.specs.Prelude.{◌≡◌, IfOk, IfSome, string_bytes};
 ghost use Rattle.typst_probe.specs.Words.{printed_by, word_named};
 
-use crate::tokens;
+use crate::{links, stretches, tokens};
 use std::alloc::{AllocError, Global};
-use typst_cli::Command;
+use typst_cli::{Command, tree};
+use typst_parser::UnicodeClasses;
+use typst_test_classes::{Narrow, Wide};
 
 /// What can be asked about a text.
 #[derive(Debug, Clone, Copy, PartialEq, Eq)]
@@ -16,6 +18,18 @@ pub enum Word {
     Tokens,
     /// Where the lines of the text start.
     Lines,
+    /// The syntax tree, where nearly all characters past ASCII are letters.
+    TreeWide,
+    /// The syntax tree, where no character past ASCII has a class.
+    TreeNarrow,
+    /// The tokens, where nearly all characters past ASCII are letters.
+    TokensWide,
+    /// The tokens, where no character past ASCII has a class.
+    TokensNarrow,
+    /// The link that the text begins with.
+    Link,
+    /// Which part of the raw text its warnings are about.
+    Stretches,
 }
 
 impl Word {
@@ -27,6 +41,12 @@ impl Word {
             "tree" => Some(Word::Tree),
             "tokens" => Some(Word::Tokens),
             "lines" => Some(Word::Lines),
+            "tree-wide" => Some(Word::TreeWide),
+            "tree-narrow" => Some(Word::TreeNarrow),
+            "tokens-wide" => Some(Word::TokensWide),
+            "tokens-narrow" => Some(Word::TokensNarrow),
+            "link" => Some(Word::Link),
+            "stretches" => Some(Word::Stretches),
             _ => None,
         }
     }
@@ -37,8 +57,14 @@ impl Word {
     {
         match self {
             Word::Tree => Command::Tree.answer(alloc, text),
-            Word::Tokens => tokens::answer(alloc, text),
+            Word::Tokens => tokens::answer(alloc, text, &UnicodeClasses),
             Word::Lines => Command::Lines.answer(alloc, text),
+            Word::TreeWide => tree::answer(alloc, text, &Wide),
+            Word::TreeNarrow => tree::answer(alloc, text, &Narrow),
+            Word::TokensWide => tokens::answer(alloc, text, &Wide),
+            Word::TokensNarrow => tokens::answer(alloc, text, &Narrow),
+            Word::Link => links::answer(alloc, text),
+            Word::Stretches => stretches::answer(alloc, text),
         }
     }
 }
