@@ -7,7 +7,7 @@ use Rattle.std.specs.Prelude.{[]}
 use Rattle.std.specs.Str.{chars}
 use Rattle.std.specs.declared.ops.Range.{Range}
 use Rattle.typst_classes.specs.UnicodeTables.{unicode_classes}
-use Rattle.typst_grammar.specs.Grammar.{tree}
+use Rattle.typst_parser.specs.Grammar.{tree}
 use Rattle.typst_cli.specs.PrintedEdit.{range_line, edit_printed}
 use Rattle.typst_cli.specs.PrintedTree.{lines, node_lines, deeper, tree_printed}
 

@@ -1,6 +1,6 @@
 use Rattle.std.proofs.Common.{◌≡◌, ◌≤◌, length, ap, subst, ◌∙◌, refl}
 use Rattle.std.specs.String.{string_bytes}
-use Rattle.typst_source.specs.Headline.{edited}
+use Rattle.typst_parser.specs.Headline.{edited}
 use Rattle.typst_cli.specs.Asked.{range_in}
 use Rattle.typst_cli.specs.PrintedEdit.{IsRange}
 use Rattle.typst_cli.proofs.SpansAside.{whole-answer}
