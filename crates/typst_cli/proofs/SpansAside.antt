@@ -7,7 +7,7 @@ use Rattle.std.specs.Prelude.{[]}
 use Rattle.std.specs.Str.{chars}
 use Rattle.std.specs.declared.ops.Range.{Range}
 use Rattle.typst_classes.specs.UnicodeTables.{unicode_classes}
-use Rattle.typst_grammar.specs.Grammar.{tree}
+use Rattle.typst_parser.specs.Grammar.{tree}
 use Rattle.typst_cli.specs.PrintedEdit.{range_line, edit_printed}
 use Rattle.typst_cli.specs.PrintedTree.{lines, node_lines, deeper, tree_printed}
 
@@ -28,5 +28,5 @@ pub whole-answer : (parsed : Range ℕ) (new wanted b0 b1 b2 : List ℕ) (shown 
     → b0 ≡ [] → b1 ≡ b0 ++ range_line parsed → b2 ≡ b1 ++ node_lines [] 0 shown → b2 ≡ edit_printed parsed wanted
 whole-answer parsed new wanted b0 b1 b2 shown root e same is empty line node =
     let tail : node_lines [] 0 shown ≡ tree_printed unicode_classes wanted =
-        ap (node_lines [] 0) is ∙ same-printed [] 0 root (tree unicode_classes (chars new)) same ∙ ap (tree_printed unicode_classes) e in
+    ap (node_lines [] 0) is ∙ same-printed [] 0 root (tree unicode_classes (chars new)) same ∙ ap (tree_printed unicode_classes) e in
     node ∙ ap (λ x. x ++ node_lines [] 0 shown) (line ∙ ap (λ x. x ++ range_line parsed) empty) ∙ ap (λ x. range_line parsed ++ x) tail

@@ -10,8 +10,8 @@ use Rattle.typst_kinds.specs.declared.error.SourceError.{SourceError}
 use Rattle.typst_kinds.specs.declared.error.SourceError.TheVariants as source_error
 use Rattle.typst_classes.specs.UnicodeTables.{unicode_classes}
 use Rattle.std.specs.Str.{chars}
-use Rattle.typst_grammar.specs.Grammar.{tree}
-use Rattle.typst_source.specs.Headline.{edited, numbered_in}
+use Rattle.typst_parser.specs.Grammar.{tree}
+use Rattle.typst_parser.specs.Headline.{edited, numbered_in}
 use Rattle.typst_cli.specs.Asked.{Asked, about, edits}
 use Rattle.typst_cli.specs.PrintedEdit.{IsRange, Prints}
 use Rattle.typst_cli.specs.declared.failure.Failure.{Failure}

@@ -2,7 +2,7 @@
 use Rattle.std.specs.Prelude.{ℕ, List, ◌++◌, codes}
 use Rattle.std.specs.Str.{chars}
 use Rattle.typst_classes.specs.Classes.{CharClasses}
-use Rattle.typst_grammar.specs.Grammar.{tree}
+use Rattle.typst_parser.specs.Grammar.{tree}
 use Rattle.typst_highlight.specs.Html.{html_of}
 
 -- the HTML of a text's tree, by some classes of characters, as it is printed

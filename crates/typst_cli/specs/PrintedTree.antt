@@ -9,7 +9,7 @@ use Rattle.typst_node.specs.Diagnostic.{Diagnostic, Hint}
 use Rattle.typst_node_data.specs.Head.{Head}
 use Rattle.typst_node.specs.Tree.{Forest, none, more, Tree, joined, text_of}
 use Rattle.typst_classes.specs.Classes.{CharClasses}
-use Rattle.typst_grammar.specs.Grammar.{tree}
+use Rattle.typst_parser.specs.Grammar.{tree}
 use Rattle.typst_cli.specs.Variants.{variant_name}
 
 -- characters as bytes, with a space for each newline character

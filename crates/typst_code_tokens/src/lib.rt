@@ -6,4 +6,4 @@ mod identifiers;
 mod invalid;
 pub mod laws;
 pub mod numbers;
-mod strings;
+pub mod strings;

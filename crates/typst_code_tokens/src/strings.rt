@@ -7,7 +7,7 @@ use typst_readers::Cursor;
 use typst_tokens::{Fault, Token};
 
 /// A string, from one quotation mark to another. A backslash takes the next character with it.
-pub(crate) fn string(s: &mut Cursor<'_>) -> Token
+pub fn string(s: &mut Cursor<'_>) -> Token
     ensures { Reads spec.string s.old result s.new }
 {
     s.eat();

@@ -12,7 +12,7 @@ use Rattle.typst_combinators.specs.Ask.Ask.{looked, marked}
 pub record Log : Type 0 where
   -- where all looks end
   pub reach : ℕ
-  -- where the looks since the last note begin
+  -- where the looks since the last note begin; all looks, where no notes are kept
   pub least : ℕ
   -- what was noted, in order, where notes are kept
   pub notes : Option (List Note)
@@ -37,6 +37,11 @@ with_more note notes = option_map (λ (ns : List Note). ns ++ note ∷ []) notes
 abbrev pub added : Bool → Note → List Note → List Note
 added keeps note notes = if keeps then notes ++ note ∷ [] else notes
 
+-- where the looks since the last note begin, behind one note more; where no notes are kept there is none to begin behind
+abbrev pub least_behind : Option (List Note) → ℕ → ℕ
+least_behind None least = least
+least_behind (Some notes) least = 2 ^ 64 - 1
+
 -- this was looked at too
 abbrev pub with_hull : Hull → Log → Log
 with_hull u h = record h { reach = max h.reach u.reach; least = min h.least u.least }
@@ -45,7 +50,7 @@ with_hull u h = record h { reach = max h.reach u.reach; least = min h.least u.le
 abbrev pub with_note : ℕ → ℕ → Mark → State → Place → Log → Log
 with_note gap levels mark s z h = record {
   reach = h.reach;
-  least = 2 ^ 64 - 1;
+  least = least_behind h.notes h.least;
   notes = with_more (record { mark = mark; before = position z; start = position (moved gap z); levels = levels; state = s; reach = h.reach; least = h.least }) h.notes;
 }
 

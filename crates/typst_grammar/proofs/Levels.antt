@@ -23,7 +23,8 @@ use Rattle.typst_combinators.specs.Syntax.{◌>>◌}
 use Rattle.typst_combinators.proofs.Knot.{sound-level}
 use Rattle.typst_machine.specs.declared.depth.Answered.{Answered}
 use Rattle.typst_machine.specs.Cursor.{IsStart}
-use Rattle.typst_machine.specs.View.{View, Runs, ReadsBlock, Goes, Called, Answers, Fits, Bare, at, listed}
+use Rattle.typst_machine.specs.View.{View, Runs, ReadsBlock, Goes, Called, Answers, Fits, Bare, at}
+use Rattle.typst_ahead.specs.Noted.{listed}
 use Rattle.typst_markup.specs.Markup.{content_block, markup_run, markup_reading}
 use Rattle.typst_grammar.specs.Grammar.{rules, production, meaning, level_at, max_depth, start_of, whole, parsed, log}
 use Rattle.typst_grammar.specs.Read.{IsParsed}

@@ -1,53 +1,51 @@
--- Escaped texts, and what a reader sees of them.
-use Rattle.std.proofs.Common.{◌≡◌, ℕ, suc, ◌+◌, ◌<◌, ◌==◌, false, List, [], ◌∷◌, ◌++◌, length, drop, get_or, refl, ap, sym, ◌∙◌, arith, append_assoc, append-nil}
-use Rattle.std.specs.Prelude.{encode_utf8, encode_utf8_all}
-use Rattle.std.proofs.lemmas.Str.{inside_one}
-use Rattle.std.proofs.lemmas.List.{at_drop_more}
-use Rattle.std.proofs.lemmas.Bool.Decides.{nat_tests}
+-- Texts in which characters that have no entity stand between those that have one.
+use Rattle.std.proofs.Common.{◌≡◌, ℕ, ◌+◌, ◌-◌, ◌<◌, ◌≤◌, List, [], ◌∷◌, ◌++◌, length, take, drop, get_or, refl, ap, sym, ◌∙◌, arith, append_assoc, append-nil, length-drop}
+use Rattle.std.specs.List.{slice_range}
+use Rattle.std.proofs.lemmas.List.{take_more, drop_more, get_or-drop}
+use Rattle.std.proofs.Math.ListN.{drop_of_length-le}
+use Rattle.std.proofs.lemmas.List.Folds.{drop_split}
 use Rattle.typst_highlight.specs.Html.{escaped_byte, escaped}
 
 pub escaped_append : (xs ys : List ℕ) → escaped (xs ++ ys) ≡ escaped xs ++ escaped ys
 escaped_append [] ys = refl
 escaped_append (x ∷ xs) ys = rw (escaped_append xs ys) (sym (append_assoc (escaped_byte x) (escaped xs) (escaped ys)))
 
--- a character without an entity
-pub record Plain (c : ℕ) : Type 0 where
-  pub amp : c ≡ 38 → ⊥
-  pub less : c ≡ 60 → ⊥
-  pub greater : c ≡ 62 → ⊥
-  pub apostrophe : c ≡ 39 → ⊥
-  pub quote : c ≡ 34 → ⊥
+slice_more : (xs : List ℕ) (a b : ℕ) → a ≤ b → b < length xs → slice_range xs a (b + 1) ≡ slice_range xs a b ++ get_or xs b 0 ∷ []
+slice_more xs a b h l =
+    let count : b + 1 - a ≡ (b - a) + 1 = omega arith in
+    let there : a + (b - a) ≡ b = omega arith in
+    ap (λ n. take n (drop a xs)) count
+    ∙ take_more (drop a xs) (b - a) 0 (omega (arith, length-drop a xs))
+    ∙ ap (λ y. slice_range xs a b ++ y ∷ []) (get_or-drop a xs (b - a) 0 ∙ ap (λ n. get_or xs n 0) there)
 
-pub plain_byte : (b c : ℕ) → Plain c → (b < 128 → c ≡ b) → escaped_byte b ≡ b ∷ []
-plain_byte b c p same =
-    let no : (n : ℕ) → n < 128 → (c ≡ n → ⊥) → b ≡ n → ⊥ = λ n l f e. f (same (omega (arith, l, e)) ∙ e) in
-    let one : (b == 38) ≡ false = grind (arith, nat_tests, no 38 (omega arith) p.amp) in
-    let two : (b == 60) ≡ false = grind (arith, nat_tests, no 60 (omega arith) p.less) in
-    let three : (b == 62) ≡ false = grind (arith, nat_tests, no 62 (omega arith) p.greater) in
-    let four : (b == 39) ≡ false = grind (arith, nat_tests, no 39 (omega arith) p.apostrophe) in
-    let five : (b == 34) ≡ false = grind (arith, nat_tests, no 34 (omega arith) p.quote) in
-    rw (one, two, three, four, five) refl
+-- one byte more that has no entity
+pub plain_more : (xs : List ℕ) (a b m x : ℕ) → a ≤ b → b < length xs → x ≡ get_or xs b 0 → m ≡ b + 1 → escaped_byte x ≡ x ∷ [] → escaped (slice_range xs a b) ≡ slice_range xs a b → escaped (slice_range xs a m) ≡ slice_range xs a m
+plain_more xs a b m x h l e k p i =
+    let more : slice_range xs a m ≡ slice_range xs a b ++ x ∷ [] = ap (slice_range xs a) k ∙ slice_more xs a b h l ∙ ap (λ y. slice_range xs a b ++ y ∷ []) (sym e) in
+    ap escaped more ∙ escaped_append (slice_range xs a b) (x ∷ [])
+    ∙ (ap (λ ys. ys ++ escaped (x ∷ [])) i ∙ ap (λ ys. slice_range xs a b ++ ys) (append-nil (escaped_byte x) ∙ p))
+    ∙ sym more
 
-plain_text : (xs : List ℕ) → ((k : ℕ) → k < length xs → escaped_byte (get_or xs k 0) ≡ get_or xs k 0 ∷ []) → escaped xs ≡ xs
-plain_text [] h = refl
-plain_text (x ∷ xs) h =
-    rw (h 0 (omega arith), plain_text xs (λ k l. h (suc k) (omega (arith, l)))) refl
+-- what has no entity goes out as it is, and then the entity of the byte behind it
+pub entity_more : (xs html all mid next : List ℕ) (a b m x : ℕ) → a ≤ b → b < length xs → x ≡ get_or xs b 0 → m ≡ b + 1 → mid ≡ html ++ slice_range xs a b → next ≡ mid ++ escaped_byte x → escaped (slice_range xs a b) ≡ slice_range xs a b → html ++ escaped (drop a xs) ≡ all → next ++ escaped (drop m xs) ≡ all
+entity_more xs html all mid next a b m x h l e k p q i w =
+    let parts : drop a xs ≡ slice_range xs a b ++ drop b xs = drop_split xs a b h in
+    let first : drop b xs ≡ x ∷ drop m xs = drop_more xs b 0 l ∙ ap (λ y. y ∷ drop (b + 1) xs) (sym e) ∙ ap (λ n. x ∷ drop n xs) (sym k) in
+    let behind : escaped (drop a xs) ≡ slice_range xs a b ++ (escaped_byte x ++ escaped (drop m xs)) =
+    ap escaped parts ∙ escaped_append (slice_range xs a b) (drop b xs) ∙ ap (λ ys. ys ++ escaped (drop b xs)) i ∙ ap (λ ys. slice_range xs a b ++ escaped ys) first in
+    ap (λ ys. ys ++ escaped (drop m xs)) q ∙ append_assoc mid (escaped_byte x) (escaped (drop m xs))
+    ∙ ap (λ ys. ys ++ (escaped_byte x ++ escaped (drop m xs))) p ∙ append_assoc html (slice_range xs a b) (escaped_byte x ++ escaped (drop m xs))
+    ∙ ap (λ ys. html ++ ys) (sym behind)
+    ∙ w
 
--- a character without an entity stays
-pub plain_char : (c : ℕ) → Plain c → escaped (encode_utf8 c) ≡ encode_utf8 c
-plain_char c p =
-    plain_text (encode_utf8 c) (λ k l. plain_byte (get_or (encode_utf8 c) k 0) c p (λ small. inside_one c [] (encode_utf8 c) k (sym (append-nil (encode_utf8 c))) l small))
+-- the rest has no entity
+pub plain_rest : (xs html all next : List ℕ) (a b : ℕ) → a ≤ b → length xs ≤ b → next ≡ html ++ drop a xs → escaped (slice_range xs a b) ≡ slice_range xs a b → html ++ escaped (drop a xs) ≡ all → next ≡ all
+plain_rest xs html all next a b h l p i w =
+    let rest : slice_range xs a b ≡ drop a xs = sym (drop_split xs a b h ∙ ap (λ ys. slice_range xs a b ++ ys) (drop_of_length-le xs l) ∙ append-nil (slice_range xs a b)) in
+    p ∙ ap (λ ys. html ++ ys) (sym rest ∙ sym i ∙ ap escaped rest) ∙ w
 
-escaped_at : (cs : List ℕ) (n c : ℕ) → n < length cs → c ≡ get_or cs n c → escaped (encode_utf8_all (drop n cs)) ≡ escaped (encode_utf8 c) ++ escaped (encode_utf8_all (drop (n + 1) cs))
-escaped_at cs n c h e =
-    at_drop_more (λ ds. escaped (encode_utf8_all ds)) cs n c h
-    ∙ (ap (λ x. escaped (encode_utf8 x ++ encode_utf8_all (drop (n + 1) cs))) (sym e)
-    ∙ escaped_append (encode_utf8 c) (encode_utf8_all (drop (n + 1) cs)))
-
--- one character more
-pub escaped_more : (cs before all after : List ℕ) (n m c : ℕ) → (n < length cs) × (c ≡ get_or cs n c) → m ≡ n + 1 → after ≡ before ++ escaped (encode_utf8 c) → before ++ escaped (encode_utf8_all (drop n cs)) ≡ all → after ++ escaped (encode_utf8_all (drop m cs)) ≡ all
-escaped_more cs before all after n m c h k p i =
-    ap (λ bs. bs ++ escaped (encode_utf8_all (drop m cs))) p ∙ append_assoc before (escaped (encode_utf8 c)) (escaped (encode_utf8_all (drop m cs)))
-    ∙ ap (λ j. before ++ (escaped (encode_utf8 c) ++ escaped (encode_utf8_all (drop j cs)))) k
-    ∙ ap (λ ys. before ++ ys) (sym (escaped_at cs n c h.0 h.1))
-    ∙ i
+-- nothing is left of a stretch that ends where it begins
+pub plain_none : (xs : List ℕ) (a b : ℕ) → a ≡ b → escaped (slice_range xs a b) ≡ slice_range xs a b
+plain_none xs a b e =
+    let none : b - a ≡ 0 = omega (arith, e) in
+    rw none refl

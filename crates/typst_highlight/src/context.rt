@@ -179,8 +179,8 @@ impl Context {
     };
 
     /// The kind of what the node, or the outermost of the field accesses above it, stands in.
-    fn around(self) -> Option<SyntaxKind>
-        ensures { result ≡ walk.around self }
+    fn around(&self) -> Option<SyntaxKind>
+        ensures { result ≡ walk.around self.now }
     {
         match self.outer {
             None => self.parent,
@@ -189,8 +189,8 @@ impl Context {
     }
 
     /// The kind of the leaf before the node, or before the outermost of the field accesses above it.
-    fn lead(self) -> Option<SyntaxKind>
-        ensures { result ≡ walk.lead self }
+    fn lead(&self) -> Option<SyntaxKind>
+        ensures { result ≡ walk.lead self.now }
     {
         match self.outer {
             None => self.trail.before,
@@ -199,8 +199,8 @@ impl Context {
     }
 
     /// The first leaf behind the node.
-    fn next_leaf(self, node: &SyntaxNode, later: &[SyntaxNode]) -> Option<Ahead>
-        ensures { result ≡ walk.next_leaf self node.now (forest later.now) }
+    fn next_leaf(&self, node: &SyntaxNode, later: &[SyntaxNode]) -> Option<Ahead>
+        ensures { result ≡ walk.next_leaf self.now node.now (forest later.now) }
     {
         let end = self.offset.saturating_add(node.len());
         match first_leaf(later, self.parent, end) {
@@ -210,8 +210,8 @@ impl Context {
     }
 
     /// What is round the node's first child.
-    pub fn within(self, node: &SyntaxNode, later: &[SyntaxNode]) -> Context
-        ensures { result ≡ walk.within self node.now (forest later.now) }
+    pub fn within(&self, node: &SyntaxNode, later: &[SyntaxNode]) -> Context
+        ensures { result ≡ walk.within self.now node.now (forest later.now) }
     {
         let kind = node.kind();
         let outer = if is_field_access(kind) {
@@ -232,19 +232,19 @@ impl Context {
     }
 
     /// What is round the next sibling, where the last leaves before it are known.
-    pub fn past(self, node: &SyntaxNode, trail: Trail) -> Context
-        ensures { result ≡ walk.past self node.now trail }
+    pub fn past(&self, node: &SyntaxNode, trail: Trail) -> Context
+        ensures { result ≡ walk.past self.now node.now trail }
     {
         Context {
             offset: self.offset.saturating_add(node.len()),
             trail,
-            ..self
+            ..*self
         }
     }
 
     /// The tag of the node if it is a name.
-    pub fn name(self, node: &SyntaxNode, later: &[SyntaxNode]) -> Option<Tag>
-        ensures { result ≡ walk.name self node.now (forest later.now) }
+    pub fn name(&self, node: &SyntaxNode, later: &[SyntaxNode]) -> Option<Tag>
+        ensures { result ≡ walk.name self.now node.now (forest later.now) }
     {
         let surroundings = Surroundings {
             kind: node.kind(),
@@ -261,8 +261,8 @@ impl Context {
     }
 
     /// The last leaves before what is behind the node, which is a leaf.
-    pub fn step(self, node: &SyntaxNode, later: &[SyntaxNode]) -> Trail
-        ensures { result ≡ walk.step self node.now (forest later.now) }
+    pub fn step(&self, node: &SyntaxNode, later: &[SyntaxNode]) -> Trail
+        ensures { result ≡ walk.step self.now node.now (forest later.now) }
     {
         let kind = node.kind();
         Trail {
@@ -274,6 +274,42 @@ impl Context {
             },
             earlier: self.trail.name,
         }
+    }
+}
+
+impl Context {
+    ghost use Rattle.std.specs.Prelude.{◌≡◌, true};
+    ghost use Rattle.typst_node.specs.Tree.{forest};
+    ghost use Rattle.typst_tree.specs.Walks.{is_childless};
+    ghost use Rattle.typst_highlight.specs.Walk as walk;
+
+    /// The last leaves behind the node, which has no children.
+    pub fn behind(&self, node: &SyntaxNode, later: &[SyntaxNode]) -> Trail
+        requires { is_childless node.now.kids ≡ true }
+        ensures { result ≡ walk.passed self.now node.now (forest later.now) }
+    {
+        if is_leaf(node) {
+            self.step(node, later)
+        } else {
+            self.trail
+        }
+    }
+
+    /// Goes past the node, which has no children.
+    pub fn pass(&mut self, node: &SyntaxNode, later: &[SyntaxNode])
+        requires { is_childless node.now.kids ≡ true }
+        ensures { self.new ≡ walk.past self.old node.now (walk.passed self.old node.now (forest later.now)) }
+    {
+        let trail = self.behind(node, later);
+        self.leave(node, trail);
+    }
+
+    /// Goes past the node, where the last leaves before what follows it are known.
+    pub fn leave(&mut self, node: &SyntaxNode, trail: Trail)
+        ensures { self.new ≡ walk.past self.old node.now trail }
+    {
+        self.offset = self.offset.saturating_add(node.len());
+        self.trail = trail;
     }
 }
 

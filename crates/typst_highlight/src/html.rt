@@ -1,13 +1,13 @@
 //! A tree's text as HTML.
 
-ghost use Rattle.std.specs.Prelude.{◌≡◌, ◌++◌, IfOk, OnOk, encode_utf8, string_bytes};
+ghost use Rattle.std.specs.Prelude.{◌≡◌, ◌<◌, [], ◌∷◌, ◌++◌, IfOk, OnOk, MatchOption, string_bytes};
 ghost use Rattle.typst_node.specs.Tree.{text_of, forest};
 ghost use Rattle.typst_highlight.specs.Html as spec;
 ghost use Rattle.typst_highlight.specs.Walk as walk;
 
-use crate::context::{Context, Trail, is_childless};
+use crate::context::{Context, is_childless};
 use crate::tags::Tag;
-use crate::walk::{passed, tag_here};
+use crate::walk::tag_here;
 use std::alloc::{AllocError, Global};
 use typst_node::SyntaxNode;
 
@@ -21,37 +21,39 @@ pub fn highlight_html(alloc: Global, root: &SyntaxNode) -> Result<String, AllocE
 {
     let mut html = String::new(alloc);
     html.push_str("<code>")?;
-    write_node(&mut html, root, &[], Context::ROOT)?;
+    let mut context = Context::ROOT;
+    write_node(&mut html, root, &[], &mut context)?;
     html.push_str("</code>")?;
     Ok(html)
 }
 
-/// Writes a node that other nodes follow under the same parent, and gives the last leaves behind it.
+/// Writes a node that other nodes follow under the same parent, and goes past it.
 fn write_node(
     html: &mut String,
     node: &SyntaxNode,
     later: &[SyntaxNode],
-    context: Context,
-) -> Result<Trail, AllocError>
-    ensures written { OnOk result (string_bytes html.new ≡ string_bytes html.old ++ walk.node_html context node.now (forest later.now)) }
-    ensures trail { IfOk result (λ trail. trail ≡ walk.passed context node.now (forest later.now)) }
+    context: &mut Context,
+) -> Result<(), AllocError>
+    ensures written { OnOk result (string_bytes html.new ≡ string_bytes html.old ++ walk.node_html context.old node.now (forest later.now)) }
+    ensures passed { OnOk result (context.new ≡ walk.past context.old node.now (walk.passed context.old node.now (forest later.now))) }
 {
     let tag = spanned(tag_here(node, later, context));
     write_start(html, tag)?;
     write_escaped(html, node.leaf_text())?;
     if is_childless(node) {
         write_end(html, tag)?;
-        return Ok(passed(node, later, context));
+        context.pass(node, later);
+        return Ok(());
     }
     let mut inner = context.within(node, later);
     let mut rest = node.children();
     while let Some((kid, behind)) = rest.split_first() {
-        let trail = write_node(html, kid, behind, inner)?;
-        inner = inner.past(kid, trail);
+        write_node(html, kid, behind, &mut inner)?;
         rest = behind;
     }
     write_end(html, tag)?;
-    Ok(inner.trail)
+    context.leave(node, inner.trail);
+    Ok(())
 }
 
 /// The tag of the span that a node stands in: an error has none.
@@ -90,28 +92,29 @@ fn write_end(html: &mut String, tag: Option<Tag>) -> Result<(), AllocError>
 fn write_escaped(html: &mut String, text: &str) -> Result<(), AllocError>
     ensures { OnOk result (string_bytes html.new ≡ string_bytes html.old ++ spec.escaped text.now) }
 {
-    for c in text.chars() {
-        write_char(html, c)?;
+    let bytes = text.as_bytes();
+    let mut done = 0;
+    for at in 0..bytes.len() {
+        if let Some(entity) = entity(bytes[at]) {
+            html.push_str(&text[done..at])?;
+            html.push_str(entity)?;
+            done = at + 1;
+        }
     }
+    html.push_str(&text[done..])?;
     Ok(())
 }
 
-/// Writes a character, as an entity if it is one of `& < > ' "`.
-fn write_char(html: &mut String, c: char) -> Result<(), AllocError>
-    ensures { OnOk result (string_bytes html.new ≡ string_bytes html.old ++ spec.escaped (encode_utf8 c)) }
+/// The entity of a byte, which `& < > ' "` have.
+fn entity(byte: u8) -> Option<&'static str>
+    ensures { MatchOption result (spec.escaped_byte byte ≡ byte ∷ []) (λ entity. (entity.now ≡ spec.escaped_byte byte) × byte < 128) }
 {
-    if c == '&' {
-        html.push_str("&amp;")?;
-    } else if c == '<' {
-        html.push_str("&lt;")?;
-    } else if c == '>' {
-        html.push_str("&gt;")?;
-    } else if c == '\'' {
-        html.push_str("&#39;")?;
-    } else if c == '"' {
-        html.push_str("&quot;")?;
-    } else {
-        html.push(c)?;
+    match byte {
+        b'&' => Some("&amp;"),
+        b'<' => Some("&lt;"),
+        b'>' => Some("&gt;"),
+        b'\'' => Some("&#39;"),
+        b'"' => Some("&quot;"),
+        _ => None,
     }
-    Ok(())
 }

@@ -16,11 +16,8 @@ use typst_node::SyntaxNode;
 pub fn passed(node: &SyntaxNode, later: &[SyntaxNode], context: Context) -> Trail
     ensures { result ≡ walk.passed context node.now (forest later.now) }
 {
-    if is_leaf(node) {
-        return context.step(node, later);
-    }
     if is_childless(node) {
-        return context.trail;
+        return context.behind(node, later);
     }
     let mut inner = context.within(node, later);
     let mut rest = node.children();
@@ -48,8 +45,8 @@ fn next_kind(nodes: &[SyntaxNode]) -> Option<SyntaxKind>
 
 /// The tag of a node that other nodes follow under the same parent.
 #[cycle(tags)]
-pub fn tag_here(node: &SyntaxNode, later: &[SyntaxNode], context: Context) -> Option<Tag>
-    ensures { result ≡ walk.tag context node.now (forest later.now) }
+pub fn tag_here(node: &SyntaxNode, later: &[SyntaxNode], context: &Context) -> Option<Tag>
+    ensures { result ≡ walk.tag context.now node.now (forest later.now) }
 {
     match rule_of(node.kind()) {
         Rule::Always(tag) => tag,
@@ -61,24 +58,24 @@ pub fn tag_here(node: &SyntaxNode, later: &[SyntaxNode], context: Context) -> Op
         Rule::Term => term_tag(context.parent, next_kind(later)),
         Rule::Name => context.name(node, later),
         Rule::Expression => {
-            let behind = context.past(node, passed(node, later, context));
-            expression_tag(later, behind)
+            let behind = context.past(node, passed(node, later, *context));
+            expression_tag(later, &behind)
         }
     }
 }
 
 /// The tag of a hash that these nodes follow.
 #[cycle(tags)]
-fn expression_tag(nodes: &[SyntaxNode], context: Context) -> Option<Tag>
-    ensures { result ≡ (walk.found context (forest nodes.now)).expression }
+fn expression_tag(nodes: &[SyntaxNode], context: &Context) -> Option<Tag>
+    ensures { result ≡ (walk.found context.now (forest nodes.now)).expression }
 {
-    let mut at = context;
+    let mut at = *context;
     let mut rest = nodes;
     while let Some((node, later)) = rest.split_first() {
         let kind = node.kind();
         if !kind.is_trivia() {
             if kind.is_hash_expr() {
-                return leaf_tag(node, later, at)?;
+                return leaf_tag(node, later, &at)?;
             }
             return None;
         }
@@ -90,8 +87,8 @@ fn expression_tag(nodes: &[SyntaxNode], context: Context) -> Option<Tag>
 
 /// The tag of the first leaf of a node, if there is a leaf.
 #[cycle(tags)]
-fn leaf_tag(node: &SyntaxNode, later: &[SyntaxNode], context: Context) -> Option<Option<Tag>>
-    ensures { result ≡ walk.own context node.now (forest later.now) }
+fn leaf_tag(node: &SyntaxNode, later: &[SyntaxNode], context: &Context) -> Option<Option<Tag>>
+    ensures { result ≡ walk.own context.now node.now (forest later.now) }
 {
     if is_leaf(node) {
         return Some(tag_here(node, later, context));
@@ -102,7 +99,7 @@ fn leaf_tag(node: &SyntaxNode, later: &[SyntaxNode], context: Context) -> Option
     let mut inner = context.within(node, later);
     let mut rest = node.children();
     while let Some((kid, behind)) = rest.split_first() {
-        let found = leaf_tag(kid, behind, inner);
+        let found = leaf_tag(kid, behind, &inner);
         if found.is_some() {
             return found;
         }

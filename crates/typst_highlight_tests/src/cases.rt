@@ -1,30 +1,9 @@
-//! Trees with their tags and their HTML, by the rules.
+//! Trees with their tags, by the rules.
 
 use crate::tests::Case;
 use typst_tree::SyntaxKind;
 
 pub static CASES: &[Case] = &[
-    Case {
-        text: "less",
-        rows: &[(0, SyntaxKind::Markup, ""), (1, SyntaxKind::Text, "<")],
-        tags: "",
-        html: "<code>&lt;</code>",
-    },
-    Case {
-        text: "stray bracket",
-        rows: &[(0, SyntaxKind::Markup, ""), (1, SyntaxKind::Error, "]")],
-        tags: "0..1 Error\n",
-        html: "<code>]</code>",
-    },
-    Case {
-        text: "all entities",
-        rows: &[
-            (0, SyntaxKind::Markup, ""),
-            (1, SyntaxKind::Text, "&<>'\"é"),
-        ],
-        tags: "",
-        html: "<code>&amp;&lt;&gt;&#39;&quot;é</code>",
-    },
     Case {
         text: "#f[x]",
         rows: &[
@@ -40,7 +19,6 @@ pub static CASES: &[Case] = &[
             (4, SyntaxKind::RightBracket, "]"),
         ],
         tags: "0..1 Function\n1..2 Function\n2..3 Punctuation\n4..5 Punctuation\n",
-        html: "<code><span class=\"typ-func\">#</span><span class=\"typ-func\">f</span><span class=\"typ-punct\">[</span>x<span class=\"typ-punct\">]</span></code>",
     },
     Case {
         text: "f (x): a space before the arguments",
@@ -53,7 +31,6 @@ pub static CASES: &[Case] = &[
             (2, SyntaxKind::RightParen, ")"),
         ],
         tags: "2..3 Punctuation\n3..4 Punctuation\n",
-        html: "<code>f <span class=\"typ-punct\">(</span><span class=\"typ-punct\">)</span></code>",
     },
     Case {
         text: "an empty node before the arguments",
@@ -65,7 +42,6 @@ pub static CASES: &[Case] = &[
             (2, SyntaxKind::LeftParen, "("),
         ],
         tags: "1..2 Punctuation\n",
-        html: "<code>f<span class=\"typ-punct\">(</span></code>",
     },
     Case {
         text: "f(: a parenthesis of a group",
@@ -77,7 +53,6 @@ pub static CASES: &[Case] = &[
             (2, SyntaxKind::RightParen, ")"),
         ],
         tags: "1..2 Punctuation\n2..3 Punctuation\n",
-        html: "<code>f<span class=\"typ-punct\">(</span><span class=\"typ-punct\">)</span></code>",
     },
     Case {
         text: "#a.b.c",
@@ -93,7 +68,6 @@ pub static CASES: &[Case] = &[
             (2, SyntaxKind::Ident, "c"),
         ],
         tags: "0..1 Interpolated\n1..2 Interpolated\n2..3 Punctuation\n3..4 Interpolated\n4..5 Punctuation\n5..6 Interpolated\n",
-        html: "<code><span class=\"typ-pol\">#</span><span class=\"typ-pol\">a</span><span class=\"typ-punct\">.</span><span class=\"typ-pol\">b</span><span class=\"typ-punct\">.</span><span class=\"typ-pol\">c</span></code>",
     },
     Case {
         text: "#a.b(c.d)",
@@ -114,7 +88,6 @@ pub static CASES: &[Case] = &[
             (3, SyntaxKind::RightParen, ")"),
         ],
         tags: "0..1 Interpolated\n1..2 Interpolated\n2..3 Punctuation\n3..4 Function\n4..5 Punctuation\n6..7 Punctuation\n8..9 Punctuation\n",
-        html: "<code><span class=\"typ-pol\">#</span><span class=\"typ-pol\">a</span><span class=\"typ-punct\">.</span><span class=\"typ-func\">b</span><span class=\"typ-punct\">(</span>c<span class=\"typ-punct\">.</span>d<span class=\"typ-punct\">)</span></code>",
     },
     Case {
         text: "#(a + b).c: a name behind a dot behind no name",
@@ -129,7 +102,6 @@ pub static CASES: &[Case] = &[
             (2, SyntaxKind::Ident, "c"),
         ],
         tags: "0..1 Punctuation\n2..3 Punctuation\n3..4 Punctuation\n",
-        html: "<code><span class=\"typ-punct\">(</span>a<span class=\"typ-punct\">)</span><span class=\"typ-punct\">.</span>c</code>",
     },
     Case {
         text: "#show a: b",
@@ -145,7 +117,6 @@ pub static CASES: &[Case] = &[
             (2, SyntaxKind::Ident, "b"),
         ],
         tags: "0..1 Keyword\n1..5 Keyword\n6..7 Function\n7..8 Punctuation\n9..10 Function\n",
-        html: "<code><span class=\"typ-key\">#</span><span class=\"typ-key\">show</span> <span class=\"typ-func\">a</span><span class=\"typ-punct\">:</span> <span class=\"typ-func\">b</span></code>",
     },
     Case {
         text: "show a.b: c.d",
@@ -166,7 +137,6 @@ pub static CASES: &[Case] = &[
             (3, SyntaxKind::Ident, "d"),
         ],
         tags: "0..4 Keyword\n6..7 Punctuation\n7..8 Function\n8..9 Punctuation\n10..11 Function\n11..12 Punctuation\n12..13 Function\n",
-        html: "<code><span class=\"typ-key\">show</span> a<span class=\"typ-punct\">.</span><span class=\"typ-func\">b</span><span class=\"typ-punct\">:</span> <span class=\"typ-func\">c</span><span class=\"typ-punct\">.</span><span class=\"typ-func\">d</span></code>",
     },
     Case {
         text: "show a(: c without a colon",
@@ -179,7 +149,6 @@ pub static CASES: &[Case] = &[
             (1, SyntaxKind::Colon, ":"),
         ],
         tags: "0..4 Keyword\n5..6 Function\n6..7 Punctuation\n",
-        html: "<code><span class=\"typ-key\">show</span>a<span class=\"typ-func\">c</span><span class=\"typ-punct\">:</span></code>",
     },
     Case {
         text: "a hash before what may not follow it",
@@ -189,7 +158,6 @@ pub static CASES: &[Case] = &[
             (1, SyntaxKind::Text, "x"),
         ],
         tags: "",
-        html: "<code>#x</code>",
     },
     Case {
         text: "a hash before an error",
@@ -199,13 +167,11 @@ pub static CASES: &[Case] = &[
             (1, SyntaxKind::Error, "x"),
         ],
         tags: "1..2 Error\n",
-        html: "<code>#x</code>",
     },
     Case {
         text: "a hash at the end",
         rows: &[(0, SyntaxKind::Markup, ""), (1, SyntaxKind::Hash, "#")],
         tags: "",
-        html: "<code>#</code>",
     },
     Case {
         text: "a hash before an expression without leaves",
@@ -216,7 +182,6 @@ pub static CASES: &[Case] = &[
             (2, SyntaxKind::Space, " "),
         ],
         tags: "",
-        html: "<code># </code>",
     },
     Case {
         text: "a hash before a call whose arguments are hashed",
@@ -231,7 +196,6 @@ pub static CASES: &[Case] = &[
             (2, SyntaxKind::Int, "1"),
         ],
         tags: "0..1 Number\n3..4 Number\n4..6 Comment\n6..7 Number\n",
-        html: "<code><span class=\"typ-num\">#</span>  <span class=\"typ-num\">#</span><span class=\"typ-comment\">//</span><span class=\"typ-num\">1</span></code>",
     },
     Case {
         text: "a row of hashes",
@@ -247,25 +211,6 @@ pub static CASES: &[Case] = &[
             (1, SyntaxKind::None, "none"),
         ],
         tags: "0..1 Interpolated\n1..2 Interpolated\n3..4 String\n4..6 String\n7..8 Keyword\n8..12 Keyword\n",
-        html: "<code><span class=\"typ-pol\">#</span><span class=\"typ-pol\">a</span> <span class=\"typ-str\">#</span><span class=\"typ-str\">&quot;&quot;</span> <span class=\"typ-key\">#</span><span class=\"typ-key\">none</span></code>",
-    },
-    Case {
-        text: "a term",
-        rows: &[
-            (0, SyntaxKind::Markup, ""),
-            (1, SyntaxKind::TermItem, ""),
-            (2, SyntaxKind::TermMarker, "/"),
-            (2, SyntaxKind::Space, " "),
-            (2, SyntaxKind::Markup, ""),
-            (3, SyntaxKind::Text, "A"),
-            (2, SyntaxKind::Space, " "),
-            (2, SyntaxKind::Colon, ":"),
-            (2, SyntaxKind::Space, " "),
-            (2, SyntaxKind::Markup, ""),
-            (3, SyntaxKind::Text, "B"),
-        ],
-        tags: "0..1 ListMarker\n2..3 ListTerm\n4..5 Punctuation\n",
-        html: "<code><span class=\"typ-marker\">/</span> <span class=\"typ-term\">A</span> <span class=\"typ-punct\">:</span> B</code>",
     },
     Case {
         text: "markup before a colon outside of a term",
@@ -278,38 +223,6 @@ pub static CASES: &[Case] = &[
             (2, SyntaxKind::Colon, ":"),
         ],
         tags: "0..1 ListMarker\n2..3 Punctuation\n",
-        html: "<code><span class=\"typ-marker\">-</span>A<span class=\"typ-punct\">:</span></code>",
-    },
-    Case {
-        text: "lists",
-        rows: &[
-            (0, SyntaxKind::Markup, ""),
-            (1, SyntaxKind::EnumItem, ""),
-            (2, SyntaxKind::EnumMarker, "1."),
-            (2, SyntaxKind::Space, " "),
-            (2, SyntaxKind::Markup, ""),
-            (3, SyntaxKind::Text, "x"),
-            (1, SyntaxKind::Parbreak, "\n\n"),
-            (1, SyntaxKind::SmartQuote, "\""),
-            (1, SyntaxKind::Linebreak, "\\"),
-            (1, SyntaxKind::Escape, "\\#"),
-            (1, SyntaxKind::Shorthand, "~"),
-            (1, SyntaxKind::Link, "https://a.b"),
-            (1, SyntaxKind::Label, "<a>"),
-            (1, SyntaxKind::Ref, ""),
-            (2, SyntaxKind::RefMarker, "@a"),
-            (1, SyntaxKind::Raw, ""),
-            (2, SyntaxKind::RawDelim, "`"),
-            (2, SyntaxKind::Text, "x"),
-            (2, SyntaxKind::RawDelim, "`"),
-            (1, SyntaxKind::Emph, ""),
-            (2, SyntaxKind::Underscore, "_"),
-            (2, SyntaxKind::Markup, ""),
-            (3, SyntaxKind::Text, "x"),
-            (2, SyntaxKind::Underscore, "_"),
-        ],
-        tags: "0..2 ListMarker\n7..8 Escape\n8..10 Escape\n10..11 Escape\n11..22 Link\n22..25 Label\n25..27 Ref\n27..30 Raw\n30..33 Emph\n",
-        html: "<code><span class=\"typ-marker\">1.</span> x\n\n&quot;<span class=\"typ-escape\">\\</span><span class=\"typ-escape\">\\#</span><span class=\"typ-escape\">~</span><span class=\"typ-link\">https://a.b</span><span class=\"typ-label\">&lt;a&gt;</span><span class=\"typ-ref\">@a</span><span class=\"typ-raw\">`x`</span><span class=\"typ-emph\">_x_</span></code>",
     },
     Case {
         text: "an equation",
@@ -352,7 +265,6 @@ pub static CASES: &[Case] = &[
             (2, SyntaxKind::Dollar, "$"),
         ],
         tags: "0..1 MathDelimiter\n1..3 Interpolated\n3..4 MathOperator\n5..6 MathOperator\n9..10 MathOperator\n11..12 MathOperator\n12..14 Escape\n14..15 MathGroupingParens\n15..16 MathGroupingParens\n16..19 Function\n19..20 Punctuation\n21..22 Punctuation\n22..25 MathOperator\n27..28 MathOperator\n29..30 Interpolated\n30..31 Punctuation\n31..32 Interpolated\n32..33 MathDelimiter\n",
-        html: "<code><span class=\"typ-math-delim\">$</span><span class=\"typ-pol\">pi</span><span class=\"typ-math-op\">_</span>1<span class=\"typ-math-op\">^</span>2 1<span class=\"typ-math-op\">/</span>2<span class=\"typ-math-op\">&amp;</span><span class=\"typ-escape\">=&gt;</span><span class=\"typ-math-group\">(</span><span class=\"typ-math-group\">)</span><span class=\"typ-func\">sin</span><span class=\"typ-punct\">(</span>x<span class=\"typ-punct\">)</span><span class=\"typ-math-op\">√</span>xx<span class=\"typ-math-op\">&#39;</span>!<span class=\"typ-pol\">a</span><span class=\"typ-punct\">.</span><span class=\"typ-pol\">b</span><span class=\"typ-math-delim\">$</span></code>",
     },
     Case {
         text: "operators of code",
@@ -377,7 +289,6 @@ pub static CASES: &[Case] = &[
             (1, SyntaxKind::RightBrace, "}"),
         ],
         tags: "0..2 Comment\n2..6 Comment\n6..7 Operator\n7..8 Operator\n8..9 Operator\n10..11 Operator\n11..13 Operator\n13..15 Operator\n15..19 Keyword\n19..22 Number\n22..25 Number\n25..28 Keyword\n28..29 Punctuation\n29..30 Punctuation\n30..31 Punctuation\n31..32 Punctuation\n",
-        html: "<code><span class=\"typ-comment\">#!</span><span class=\"typ-comment\">/**/</span><span class=\"typ-op\">*</span><span class=\"typ-op\">/</span><span class=\"typ-op\">=</span>_<span class=\"typ-op\">-</span><span class=\"typ-op\">..</span><span class=\"typ-op\">=&gt;</span><span class=\"typ-key\">true</span><span class=\"typ-num\">1.5</span><span class=\"typ-num\">1pt</span><span class=\"typ-key\">and</span><span class=\"typ-punct\">;</span><span class=\"typ-punct\">,</span><span class=\"typ-punct\">{</span><span class=\"typ-punct\">}</span></code>",
     },
     Case {
         text: "an equals sign of a heading",
@@ -387,7 +298,6 @@ pub static CASES: &[Case] = &[
             (1, SyntaxKind::Star, "*"),
         ],
         tags: "0..2 Heading\n1..2 Operator\n",
-        html: "<code><span class=\"typ-heading\">=<span class=\"typ-op\">*</span></span></code>",
     },
     Case {
         text: "trivia that holds leaves",
@@ -399,6 +309,5 @@ pub static CASES: &[Case] = &[
             (1, SyntaxKind::Ident, "x"),
         ],
         tags: "1..2 Punctuation\n",
-        html: "<code>#<span class=\"typ-punct\">.</span>x</code>",
     },
 ];

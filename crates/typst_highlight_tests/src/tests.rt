@@ -1,4 +1,4 @@
-//! Tags and HTML of trees made by hand.
+//! Tags and HTML of trees made by hand: of code and formulas, and of trees that no text has.
 
 use crate::{cases, texts};
 use std::alloc::{AllocError, Global};
@@ -11,12 +11,11 @@ use typst_tree::{LinkedNode, SyntaxKind, SyntaxNode};
 /// text, which is empty for an inner node.
 type Row = (u8, SyntaxKind, &'static str);
 
-/// A tree, a line with the range and the tag of each node that has one, and the HTML.
+/// A tree, and a line with the range and the tag of each node that has one.
 pub struct Case {
     pub text: &'static str,
     pub rows: &'static [Row],
     pub tags: &'static str,
-    pub html: &'static str,
 }
 
 /// A node of a row and the children that were made for it.
@@ -69,33 +68,37 @@ fn list_tags(list: &mut String, node: LinkedNode, depth: u8) -> Result<(), Alloc
     Ok(())
 }
 
-/// Compares the tags and the HTML of the case's tree.
-fn agrees(rt: &(impl AllocGlobal + Abort), case: &Case) -> Result<(), Fail> {
-    let root = build(rt.alloc(), case.rows)?;
-    if root.descendants() == usize::MAX {
-        return Err(Fail::from("counts"));
-    }
-    let mut list = String::new(rt.alloc());
-    list_tags(&mut list, LinkedNode::new(&root), 20)?;
-    assert_eq!(rt; list.as_str(), case.tags, "tags of {}", case.text);
-    let html = highlight_html(rt.alloc(), &root)?;
-    assert_eq!(rt; html.as_str(), case.html, "HTML of {}", case.text);
-    Ok(())
-}
-
-#[test]
-fn tags_and_html(rt: HostRuntime) -> Result<(), Fail> {
-    for case in cases::CASES {
-        agrees(&rt, case)?;
+/// Compares the tags of the cases' trees.
+fn compare_tags(rt: &(impl AllocGlobal + Abort), cases: &[Case]) -> Result<(), Fail> {
+    for case in cases {
+        let root = build(rt.alloc(), case.rows)?;
+        if root.descendants() == usize::MAX {
+            return Err(Fail::from("counts"));
+        }
+        let mut list = String::new(rt.alloc());
+        list_tags(&mut list, LinkedNode::new(&root), 20)?;
+        assert_eq!(rt; list.as_str(), case.tags, "tags of {}", case.text);
     }
     Ok(())
 }
 
 #[test]
-fn tags_and_html_of_texts(rt: HostRuntime) -> Result<(), Fail> {
-    for case in texts::CASES {
-        agrees(&rt, case)?;
-    }
+fn tags(rt: HostRuntime) -> Result<(), Fail> {
+    compare_tags(&rt, cases::CASES)?;
+    compare_tags(&rt, texts::CASES)
+}
+
+#[test]
+fn html(rt: HostRuntime) -> Result<(), Fail> {
+    let rows = [
+        (0, SyntaxKind::Markup, ""),
+        (1, SyntaxKind::Hash, "#"),
+        (1, SyntaxKind::Ident, "x"),
+    ];
+    let html = highlight_html(rt.alloc(), &build(rt.alloc(), &rows)?)?;
+    let span = "<span class=\"typ-pol\">";
+    let wanted = format!(in rt.alloc(); "<code>{span}#</span>{span}x</span></code>")?;
+    assert_eq!(rt; html.as_str(), wanted.as_str());
     Ok(())
 }
 

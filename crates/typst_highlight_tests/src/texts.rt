@@ -1,21 +1,9 @@
-//! Trees of texts with their tags and their HTML, as the Rust crate has them.
+//! Trees of texts with their tags, as the Rust crate has them.
 
 use crate::tests::Case;
 use typst_tree::SyntaxKind;
 
 pub static CASES: &[Case] = &[
-    Case {
-        text: "<",
-        rows: &[(0, SyntaxKind::Markup, ""), (1, SyntaxKind::Text, "<")],
-        tags: "",
-        html: "<code>&lt;</code>",
-    },
-    Case {
-        text: "]",
-        rows: &[(0, SyntaxKind::Markup, ""), (1, SyntaxKind::Error, "]")],
-        tags: "0..1 Error\n",
-        html: "<code>]</code>",
-    },
     Case {
         text: "#x",
         rows: &[
@@ -24,7 +12,6 @@ pub static CASES: &[Case] = &[
             (1, SyntaxKind::Ident, "x"),
         ],
         tags: "0..1 Interpolated\n1..2 Interpolated\n",
-        html: "<code><span class=\"typ-pol\">#</span><span class=\"typ-pol\">x</span></code>",
     },
     Case {
         text: "#f(x + 1)",
@@ -44,7 +31,6 @@ pub static CASES: &[Case] = &[
             (3, SyntaxKind::RightParen, ")"),
         ],
         tags: "0..1 Function\n1..2 Function\n2..3 Punctuation\n5..6 Operator\n7..8 Number\n8..9 Punctuation\n",
-        html: "<code><span class=\"typ-func\">#</span><span class=\"typ-func\">f</span><span class=\"typ-punct\">(</span>x <span class=\"typ-op\">+</span> <span class=\"typ-num\">1</span><span class=\"typ-punct\">)</span></code>",
     },
     Case {
         text: "#let f(x) = x",
@@ -66,24 +52,6 @@ pub static CASES: &[Case] = &[
             (3, SyntaxKind::Ident, "x"),
         ],
         tags: "0..1 Keyword\n1..4 Keyword\n5..6 Function\n6..7 Punctuation\n8..9 Punctuation\n10..11 Operator\n",
-        html: "<code><span class=\"typ-key\">#</span><span class=\"typ-key\">let</span> <span class=\"typ-func\">f</span><span class=\"typ-punct\">(</span>x<span class=\"typ-punct\">)</span> <span class=\"typ-op\">=</span> x</code>",
-    },
-    Case {
-        text: "= *AB*",
-        rows: &[
-            (0, SyntaxKind::Markup, ""),
-            (1, SyntaxKind::Heading, ""),
-            (2, SyntaxKind::HeadingMarker, "="),
-            (2, SyntaxKind::Space, " "),
-            (2, SyntaxKind::Markup, ""),
-            (3, SyntaxKind::Strong, ""),
-            (4, SyntaxKind::Star, "*"),
-            (4, SyntaxKind::Markup, ""),
-            (5, SyntaxKind::Text, "AB"),
-            (4, SyntaxKind::Star, "*"),
-        ],
-        tags: "0..6 Heading\n2..6 Strong\n",
-        html: "<code><span class=\"typ-heading\">= <span class=\"typ-strong\">*AB*</span></span></code>",
     },
     Case {
         text: "#a.b(c.d)[e]",
@@ -109,7 +77,6 @@ pub static CASES: &[Case] = &[
             (4, SyntaxKind::RightBracket, "]"),
         ],
         tags: "0..1 Interpolated\n1..2 Interpolated\n2..3 Punctuation\n3..4 Function\n4..5 Punctuation\n6..7 Punctuation\n8..9 Punctuation\n9..10 Punctuation\n11..12 Punctuation\n",
-        html: "<code><span class=\"typ-pol\">#</span><span class=\"typ-pol\">a</span><span class=\"typ-punct\">.</span><span class=\"typ-func\">b</span><span class=\"typ-punct\">(</span>c<span class=\"typ-punct\">.</span>d<span class=\"typ-punct\">)</span><span class=\"typ-punct\">[</span>e<span class=\"typ-punct\">]</span></code>",
     },
     Case {
         text: "#show heading.where(level: 1): it => strong(it.body)",
@@ -151,29 +118,6 @@ pub static CASES: &[Case] = &[
             (5, SyntaxKind::RightParen, ")"),
         ],
         tags: "0..1 Keyword\n1..5 Keyword\n13..14 Punctuation\n14..19 Function\n19..20 Punctuation\n25..26 Punctuation\n27..28 Number\n28..29 Punctuation\n29..30 Punctuation\n34..36 Operator\n37..43 Function\n43..44 Punctuation\n46..47 Punctuation\n51..52 Punctuation\n",
-        html: "<code><span class=\"typ-key\">#</span><span class=\"typ-key\">show</span> heading<span class=\"typ-punct\">.</span><span class=\"typ-func\">where</span><span class=\"typ-punct\">(</span>level<span class=\"typ-punct\">:</span> <span class=\"typ-num\">1</span><span class=\"typ-punct\">)</span><span class=\"typ-punct\">:</span> it <span class=\"typ-op\">=&gt;</span> <span class=\"typ-func\">strong</span><span class=\"typ-punct\">(</span>it<span class=\"typ-punct\">.</span>body<span class=\"typ-punct\">)</span></code>",
-    },
-    Case {
-        text: "/ Term: text <a> @b",
-        rows: &[
-            (0, SyntaxKind::Markup, ""),
-            (1, SyntaxKind::TermItem, ""),
-            (2, SyntaxKind::TermMarker, "/"),
-            (2, SyntaxKind::Space, " "),
-            (2, SyntaxKind::Markup, ""),
-            (3, SyntaxKind::Text, "Term"),
-            (2, SyntaxKind::Colon, ":"),
-            (2, SyntaxKind::Space, " "),
-            (2, SyntaxKind::Markup, ""),
-            (3, SyntaxKind::Text, "text"),
-            (3, SyntaxKind::Space, " "),
-            (3, SyntaxKind::Label, "<a>"),
-            (3, SyntaxKind::Space, " "),
-            (3, SyntaxKind::Ref, ""),
-            (4, SyntaxKind::RefMarker, "@b"),
-        ],
-        tags: "0..1 ListMarker\n2..6 ListTerm\n6..7 Punctuation\n13..16 Label\n17..19 Ref\n",
-        html: "<code><span class=\"typ-marker\">/</span> <span class=\"typ-term\">Term</span><span class=\"typ-punct\">:</span> text <span class=\"typ-label\">&lt;a&gt;</span> <span class=\"typ-ref\">@b</span></code>",
     },
     Case {
         text: "#import \"a.typ\": b as c, d.e",
@@ -202,7 +146,6 @@ pub static CASES: &[Case] = &[
             (4, SyntaxKind::Ident, "e"),
         ],
         tags: "0..1 Keyword\n1..7 Keyword\n8..15 String\n15..16 Punctuation\n19..21 Keyword\n23..24 Punctuation\n26..27 Punctuation\n",
-        html: "<code><span class=\"typ-key\">#</span><span class=\"typ-key\">import</span> <span class=\"typ-str\">&quot;a.typ&quot;</span><span class=\"typ-punct\">:</span> b <span class=\"typ-key\">as</span> c<span class=\"typ-punct\">,</span> d<span class=\"typ-punct\">.</span>e</code>",
     },
     Case {
         text: "$ sum_(i=1)^n x/2 &= sin(pi) a.b #c $",
@@ -250,7 +193,6 @@ pub static CASES: &[Case] = &[
             (2, SyntaxKind::Dollar, "$"),
         ],
         tags: "0..1 MathDelimiter\n2..5 Interpolated\n5..6 MathOperator\n6..7 MathGroupingParens\n10..11 MathGroupingParens\n11..12 MathOperator\n15..16 MathOperator\n18..19 MathOperator\n21..24 Function\n24..25 Punctuation\n25..27 Interpolated\n27..28 Punctuation\n33..34 Interpolated\n34..35 Interpolated\n36..37 MathDelimiter\n",
-        html: "<code><span class=\"typ-math-delim\">$</span> <span class=\"typ-pol\">sum</span><span class=\"typ-math-op\">_</span><span class=\"typ-math-group\">(</span>i=1<span class=\"typ-math-group\">)</span><span class=\"typ-math-op\">^</span>n x<span class=\"typ-math-op\">/</span>2 <span class=\"typ-math-op\">&amp;</span>= <span class=\"typ-func\">sin</span><span class=\"typ-punct\">(</span><span class=\"typ-pol\">pi</span><span class=\"typ-punct\">)</span> a.b <span class=\"typ-pol\">#</span><span class=\"typ-pol\">c</span> <span class=\"typ-math-delim\">$</span></code>",
     },
     Case {
         text: "#{ let x = (1pt, none); for i in range(2) [*#i*] }",
@@ -305,7 +247,6 @@ pub static CASES: &[Case] = &[
             (2, SyntaxKind::RightBrace, "}"),
         ],
         tags: "0..1 Punctuation\n1..2 Punctuation\n3..6 Keyword\n9..10 Operator\n11..12 Punctuation\n12..15 Number\n15..16 Punctuation\n17..21 Keyword\n21..22 Punctuation\n22..23 Punctuation\n24..27 Keyword\n30..32 Keyword\n33..38 Function\n38..39 Punctuation\n39..40 Number\n40..41 Punctuation\n42..43 Punctuation\n43..47 Strong\n44..45 Interpolated\n45..46 Interpolated\n47..48 Punctuation\n49..50 Punctuation\n",
-        html: "<code><span class=\"typ-punct\">#</span><span class=\"typ-punct\">{</span> <span class=\"typ-key\">let</span> x <span class=\"typ-op\">=</span> <span class=\"typ-punct\">(</span><span class=\"typ-num\">1pt</span><span class=\"typ-punct\">,</span> <span class=\"typ-key\">none</span><span class=\"typ-punct\">)</span><span class=\"typ-punct\">;</span> <span class=\"typ-key\">for</span> i <span class=\"typ-key\">in</span> <span class=\"typ-func\">range</span><span class=\"typ-punct\">(</span><span class=\"typ-num\">2</span><span class=\"typ-punct\">)</span> <span class=\"typ-punct\">[</span><span class=\"typ-strong\">*<span class=\"typ-pol\">#</span><span class=\"typ-pol\">i</span>*</span><span class=\"typ-punct\">]</span> <span class=\"typ-punct\">}</span></code>",
     },
     Case {
         text: "#f(x) #g [y] #(z) #\"&\" #1.5em",
@@ -339,44 +280,6 @@ pub static CASES: &[Case] = &[
             (1, SyntaxKind::Numeric, "1.5em"),
         ],
         tags: "0..1 Function\n1..2 Function\n2..3 Punctuation\n4..5 Punctuation\n6..7 Interpolated\n7..8 Interpolated\n13..14 Punctuation\n14..15 Punctuation\n16..17 Punctuation\n18..19 String\n19..22 String\n23..24 Number\n24..29 Number\n",
-        html: "<code><span class=\"typ-func\">#</span><span class=\"typ-func\">f</span><span class=\"typ-punct\">(</span>x<span class=\"typ-punct\">)</span> <span class=\"typ-pol\">#</span><span class=\"typ-pol\">g</span> [y] <span class=\"typ-punct\">#</span><span class=\"typ-punct\">(</span>z<span class=\"typ-punct\">)</span> <span class=\"typ-str\">#</span><span class=\"typ-str\">&quot;&amp;&quot;</span> <span class=\"typ-num\">#</span><span class=\"typ-num\">1.5em</span></code>",
-    },
-    Case {
-        text: "- a\n+ b\n  - c `d` ~ \\# https://e.f\n",
-        rows: &[
-            (0, SyntaxKind::Markup, ""),
-            (1, SyntaxKind::ListItem, ""),
-            (2, SyntaxKind::ListMarker, "-"),
-            (2, SyntaxKind::Space, " "),
-            (2, SyntaxKind::Markup, ""),
-            (3, SyntaxKind::Text, "a"),
-            (1, SyntaxKind::Space, "\n"),
-            (1, SyntaxKind::EnumItem, ""),
-            (2, SyntaxKind::EnumMarker, "+"),
-            (2, SyntaxKind::Space, " "),
-            (2, SyntaxKind::Markup, ""),
-            (3, SyntaxKind::Text, "b"),
-            (3, SyntaxKind::Space, "\n  "),
-            (3, SyntaxKind::ListItem, ""),
-            (4, SyntaxKind::ListMarker, "-"),
-            (4, SyntaxKind::Space, " "),
-            (4, SyntaxKind::Markup, ""),
-            (5, SyntaxKind::Text, "c"),
-            (5, SyntaxKind::Space, " "),
-            (5, SyntaxKind::Raw, ""),
-            (6, SyntaxKind::RawDelim, "`"),
-            (6, SyntaxKind::Text, "d"),
-            (6, SyntaxKind::RawDelim, "`"),
-            (5, SyntaxKind::Space, " "),
-            (5, SyntaxKind::Shorthand, "~"),
-            (5, SyntaxKind::Space, " "),
-            (5, SyntaxKind::Escape, "\\#"),
-            (5, SyntaxKind::Space, " "),
-            (5, SyntaxKind::Link, "https://e.f"),
-            (1, SyntaxKind::Space, "\n"),
-        ],
-        tags: "0..1 ListMarker\n4..5 ListMarker\n10..11 ListMarker\n14..17 Raw\n18..19 Escape\n20..22 Escape\n23..34 Link\n",
-        html: "<code><span class=\"typ-marker\">-</span> a\n<span class=\"typ-marker\">+</span> b\n  <span class=\"typ-marker\">-</span> c <span class=\"typ-raw\">`d`</span> <span class=\"typ-escape\">~</span> <span class=\"typ-escape\">\\#</span> <span class=\"typ-link\">https://e.f</span>\n</code>",
     },
     Case {
         text: "#set text(font: \"a\", 1pt); #context x.y // end",
@@ -412,7 +315,6 @@ pub static CASES: &[Case] = &[
             (1, SyntaxKind::LineComment, "// end"),
         ],
         tags: "0..1 Keyword\n1..4 Keyword\n5..9 Function\n9..10 Punctuation\n14..15 Punctuation\n16..19 String\n19..20 Punctuation\n21..24 Number\n24..25 Punctuation\n25..26 Punctuation\n27..28 Keyword\n28..35 Keyword\n37..38 Punctuation\n40..46 Comment\n",
-        html: "<code><span class=\"typ-key\">#</span><span class=\"typ-key\">set</span> <span class=\"typ-func\">text</span><span class=\"typ-punct\">(</span>font<span class=\"typ-punct\">:</span> <span class=\"typ-str\">&quot;a&quot;</span><span class=\"typ-punct\">,</span> <span class=\"typ-num\">1pt</span><span class=\"typ-punct\">)</span><span class=\"typ-punct\">;</span> <span class=\"typ-key\">#</span><span class=\"typ-key\">context</span> x<span class=\"typ-punct\">.</span>y <span class=\"typ-comment\">// end</span></code>",
     },
     Case {
         text: "#if not a == b { return } else [c] #while true { break }",
@@ -465,7 +367,6 @@ pub static CASES: &[Case] = &[
             (3, SyntaxKind::RightBrace, "}"),
         ],
         tags: "0..1 Keyword\n1..3 Keyword\n4..7 Keyword\n10..12 Operator\n15..16 Punctuation\n17..23 Keyword\n24..25 Punctuation\n26..30 Keyword\n31..32 Punctuation\n33..34 Punctuation\n35..36 Keyword\n36..41 Keyword\n42..46 Keyword\n47..48 Punctuation\n49..54 Keyword\n55..56 Punctuation\n",
-        html: "<code><span class=\"typ-key\">#</span><span class=\"typ-key\">if</span> <span class=\"typ-key\">not</span> a <span class=\"typ-op\">==</span> b <span class=\"typ-punct\">{</span> <span class=\"typ-key\">return</span> <span class=\"typ-punct\">}</span> <span class=\"typ-key\">else</span> <span class=\"typ-punct\">[</span>c<span class=\"typ-punct\">]</span> <span class=\"typ-key\">#</span><span class=\"typ-key\">while</span> <span class=\"typ-key\">true</span> <span class=\"typ-punct\">{</span> <span class=\"typ-key\">break</span> <span class=\"typ-punct\">}</span></code>",
     },
     Case {
         text: "#unclosed( ] *stray",
@@ -485,7 +386,6 @@ pub static CASES: &[Case] = &[
             (3, SyntaxKind::Text, "stray"),
         ],
         tags: "0..1 Interpolated\n1..9 Interpolated\n9..10 Error\n11..12 Error\n13..19 Strong\n13..14 Error\n",
-        html: "<code><span class=\"typ-pol\">#</span><span class=\"typ-pol\">unclosed</span>( ] <span class=\"typ-strong\">*stray</span></code>",
     },
     Case {
         text: "#let (a, ..b) = (1, 2); #((a: 1).a) #-x",
@@ -537,21 +437,6 @@ pub static CASES: &[Case] = &[
             (1, SyntaxKind::Text, "x"),
         ],
         tags: "0..1 Keyword\n1..4 Keyword\n5..6 Punctuation\n7..8 Punctuation\n9..11 Operator\n12..13 Punctuation\n14..15 Operator\n16..17 Punctuation\n17..18 Number\n18..19 Punctuation\n20..21 Number\n21..22 Punctuation\n22..23 Punctuation\n24..25 Punctuation\n25..26 Punctuation\n26..27 Punctuation\n28..29 Punctuation\n30..31 Number\n31..32 Punctuation\n32..33 Punctuation\n34..35 Punctuation\n37..38 Error\n",
-        html: "<code><span class=\"typ-key\">#</span><span class=\"typ-key\">let</span> <span class=\"typ-punct\">(</span>a<span class=\"typ-punct\">,</span> <span class=\"typ-op\">..</span>b<span class=\"typ-punct\">)</span> <span class=\"typ-op\">=</span> <span class=\"typ-punct\">(</span><span class=\"typ-num\">1</span><span class=\"typ-punct\">,</span> <span class=\"typ-num\">2</span><span class=\"typ-punct\">)</span><span class=\"typ-punct\">;</span> <span class=\"typ-punct\">#</span><span class=\"typ-punct\">(</span><span class=\"typ-punct\">(</span>a<span class=\"typ-punct\">:</span> <span class=\"typ-num\">1</span><span class=\"typ-punct\">)</span><span class=\"typ-punct\">.</span>a<span class=\"typ-punct\">)</span> #-x</code>",
-    },
-    Case {
-        text: "```rust fn```",
-        rows: &[
-            (0, SyntaxKind::Markup, ""),
-            (1, SyntaxKind::Raw, ""),
-            (2, SyntaxKind::RawDelim, "```"),
-            (2, SyntaxKind::RawLang, "rust"),
-            (2, SyntaxKind::RawTrimmed, " "),
-            (2, SyntaxKind::Text, "fn"),
-            (2, SyntaxKind::RawDelim, "```"),
-        ],
-        tags: "0..13 Raw\n",
-        html: "<code><span class=\"typ-raw\">```rust fn```</span></code>",
     },
     Case {
         text: "#x.y.z.u #x.y.z() #show a: b",
@@ -592,6 +477,5 @@ pub static CASES: &[Case] = &[
             (2, SyntaxKind::Ident, "b"),
         ],
         tags: "0..1 Interpolated\n1..2 Interpolated\n2..3 Punctuation\n3..4 Interpolated\n4..5 Punctuation\n5..6 Interpolated\n6..7 Punctuation\n7..8 Interpolated\n9..10 Interpolated\n10..11 Interpolated\n11..12 Punctuation\n12..13 Interpolated\n13..14 Punctuation\n14..15 Function\n15..16 Punctuation\n16..17 Punctuation\n18..19 Keyword\n19..23 Keyword\n24..25 Function\n25..26 Punctuation\n27..28 Function\n",
-        html: "<code><span class=\"typ-pol\">#</span><span class=\"typ-pol\">x</span><span class=\"typ-punct\">.</span><span class=\"typ-pol\">y</span><span class=\"typ-punct\">.</span><span class=\"typ-pol\">z</span><span class=\"typ-punct\">.</span><span class=\"typ-pol\">u</span> <span class=\"typ-pol\">#</span><span class=\"typ-pol\">x</span><span class=\"typ-punct\">.</span><span class=\"typ-pol\">y</span><span class=\"typ-punct\">.</span><span class=\"typ-func\">z</span><span class=\"typ-punct\">(</span><span class=\"typ-punct\">)</span> <span class=\"typ-key\">#</span><span class=\"typ-key\">show</span> <span class=\"typ-func\">a</span><span class=\"typ-punct\">:</span> <span class=\"typ-func\">b</span></code>",
     },
 ];

@@ -17,7 +17,7 @@ use Rattle.typst_combinators.specs.Steps.{peek, read_block}
 use Rattle.typst_combinators.specs.Meaning.{Outcome, Level, apart, bounded, done, run}
 use Rattle.typst_machine.specs.declared.depth.Answered.{Answered}
 use Rattle.typst_machine.specs.View.{View, Runs, Ran, Goes, Does, Calls, Frame, Fills, Fits, Loose, Looked, Opened, Closed, ReadsBlock, noted_here, unasked}
-use Rattle.typst_machine.proofs.Logs.{logged-append}
+use Rattle.typst_ahead.proofs.Logs.{logged-append}
 use Rattle.typst_machine.proofs.Runs.{runs-followed, ran-next, ran-gives, ran-look, ran-flushes, looked-fits}
 
 -- what holds of a level holds of the same where no block may be read

@@ -18,10 +18,12 @@ use Rattle.typst_combinators.specs.Syntax.Op.{column, takes}
 use Rattle.typst_combinators.specs.Syntax.Parser.{does}
 use Rattle.typst_combinators.specs.Meaning.{Level, flushed_state, less, same_mode, same_rule, renewed, taken_node}
 use Rattle.typst_machine.specs.declared.parser.Parser.TheInside.{Inside}
-use Rattle.typst_machine.specs.Bytes.{column_hull, token_hull, whole_at}
-use Rattle.typst_machine.specs.Cursor.{hand_of_ahead, view_of}
-use Rattle.typst_machine.specs.View.{View, Goes, Does, Fits, Bare, Looked, Left, Rewrapped, unasked, noted_here, with_noted}
-use Rattle.typst_machine.proofs.Logs.{logged-none, logged-some}
+use Rattle.typst_ahead.specs.Bytes.{column_hull, token_hull, whole_at}
+use Rattle.typst_machine.specs.Cursor.{view_of}
+use Rattle.typst_ahead.specs.Cursor.{hand_of_ahead}
+use Rattle.typst_machine.specs.View.{View, Goes, Does, Fits, Bare, Looked, Left, Rewrapped, unasked, noted_here}
+use Rattle.typst_ahead.specs.Noted.{with_noted}
+use Rattle.typst_ahead.proofs.Logs.{logged-none, logged-some}
 use Rattle.typst_machine.proofs.Runs.{column_seen, fits-looked, asked-log}
 use Rattle.typst_machine.proofs.Steps.{does-note, does-column, does-takes}
 

@@ -17,7 +17,7 @@ use Rattle.typst_combinators.specs.Syntax.Op.{hand, column, erred, takes, compla
 use Rattle.typst_combinators.specs.Syntax.Parser.{gives, does, next, pick, repeat, wraps, scoped, calls}
 use Rattle.typst_combinators.specs.Steps.{peek, eat_making, flush_trivia, within, node, node_with_trivia, note}
 use Rattle.typst_combinators.specs.Meaning.{Level, before, entered, left, same_mode}
-use Rattle.typst_machine.specs.Bytes.{bytes_left}
+use Rattle.typst_ahead.specs.Bytes.{bytes_left}
 use Rattle.typst_machine.specs.View.{View, Ran, Goes, Does, Makes, Fits, Bare, Loose, Looked, Left, Flushed, Rewrapped, unasked, noted_here}
 use Rattle.typst_machine.proofs.Runs.{ran-next, ran-gives, ran-calls, ran-pick, ran-other, ran-hand, ran-column, ran-erred, ran-deepest, ran-marks, Eaten, ran-takes, eaten-bare, ran-flushes, flushed-fits, ran-complains, ran-scoped, ran-wraps, rewrapped-fits, ran-turn, ran-last, looked-fits, ran-look, after-peek, column_seen, fits-more, noted}
 
@@ -71,7 +71,7 @@ pub does-deepest : {l : Level} {P : View → Type 0} (v : View) → Goes l P P (
 does-deepest v = record { ran = λ c. ran-deepest v; ready = λ c. c }
 
 -- no more trivia are known than there are characters
-known-few : {l : Level} {v : View} → Fits l v → gap_of v.state.known ≤ length v.place.ahead
+pub known-few : {l : Level} {v : View} → Fits l v → gap_of v.state.known ≤ length v.place.ahead
 known-few {v = v} c = let e = ap gap_of c.known in let h = c.there in omega arith
 
 -- this was noted, and the token at hand was looked at again

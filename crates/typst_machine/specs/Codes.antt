@@ -18,6 +18,7 @@ use Rattle.typst_combinators.specs.contracts.reading.Reading.{the_row as reading
 use Rattle.typst_combinators.specs.Point.{Point, Trivia}
 use Rattle.typst_combinators.specs.Hand.{Hand}
 use Rattle.typst_combinators.specs.Log.{Log}
+use Rattle.typst_ahead.specs.Codes.{log_code}
 use Rattle.typst_machine.specs.View.{View}
 
 abbrev pub hand_code : Coded Hand
@@ -40,11 +41,6 @@ point_code =
     (λ s. (s.reading, (s.held, (s.empties, (s.is_after_error, s.known)))))
     (λ p. record { reading = p.0; held = p.1.0; empties = p.1.1.0; is_after_error = p.1.1.1.0; known = p.1.1.1.1 })
     (λ _. refl)
-
-abbrev pub log_code : Coded Log
-log_code =
-    code_by (ℕ × (ℕ × Option (List Note))) (coded× coded_ℕ (coded× coded_ℕ (coded_option (coded_list note_row.coded))))
-    (λ l. (l.reach, (l.least, l.notes))) (λ p. record { reach = p.0; least = p.1.0; notes = p.1.1 }) (λ _. refl)
 
 abbrev pub view_code : Coded View
 view_code =

@@ -1,4 +1,7 @@
-pub mod Bytes
 pub mod View
 pub mod Codes
 pub mod Cursor
+pub mod Checkpoint
+pub mod Saved
+pub mod Ways
+pub mod Expected

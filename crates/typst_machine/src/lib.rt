@@ -1,11 +1,15 @@
 //! The parser that follows the language of parsers, with one token read ahead.
 #![tactic(auto)]
 
-mod ahead;
+mod checkpoint;
 mod depth;
-mod log;
+mod eats;
+mod nodes;
 mod parser;
+mod ways;
+mod wraps;
 
-pub use ahead::ReadAhead;
+pub use checkpoint::Checkpoint;
 pub use depth::{Answered, Anywhere, Grammar, Levels, Stops, deeper, is_end, too_deep};
 pub use parser::Parser;
+pub use typst_shapes::Change;

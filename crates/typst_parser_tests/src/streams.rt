@@ -17,7 +17,7 @@ pub enum Pace {
 }
 
 /// Gives its bytes, and then fails or ends.
-#[derive(Drop)]
+#[derive(Clone, Copy)]
 pub struct Reader<'a> {
     pub bytes: &'a [u8],
     pub pace: Pace,
@@ -95,21 +95,37 @@ pub struct Writer {
     /// What was passed on.
     pub passed: Vec<u8>,
     held: Vec<u8>,
-    room: usize,
-    pace: Pace,
-    flush: Flush,
+    room: Room,
     is_resumed: bool,
 }
 
+/// What a writer takes.
+#[derive(Debug, Clone, Copy)]
+pub struct Room {
+    /// How many bytes it has room for.
+    pub bytes: usize,
+    pub pace: Pace,
+    pub flush: Flush,
+}
+
+impl Room {
+    /// Room for all that is written here.
+    pub fn ample(pace: Pace) -> Room {
+        Room {
+            bytes: 1000,
+            pace,
+            flush: Flush::Passes,
+        }
+    }
+}
+
 impl Writer {
-    /// A writer with room for so many bytes.
-    pub fn new(alloc: Global, room: usize, pace: Pace, flush: Flush) -> Writer {
+    /// A writer with this room.
+    pub fn new(alloc: Global, room: Room) -> Writer {
         Writer {
             passed: Vec::new(alloc),
             held: Vec::new(alloc),
             room,
-            pace,
-            flush,
             is_resumed: false,
         }
     }
@@ -117,23 +133,23 @@ impl Writer {
 
 impl Write for Writer {
     fn write(&mut self, buf: &[u8]) -> io::Result<usize> {
-        if interrupts(self.pace, &mut self.is_resumed) {
+        if interrupts(self.room.pace, &mut self.is_resumed) {
             return Err(io::Error::from(ErrorKind::Interrupted));
         }
-        if self.room == 0 && !buf.is_empty() {
+        if self.room.bytes == 0 && !buf.is_empty() {
             return Err(io::Error::from(ErrorKind::BrokenPipe));
         }
-        let count = at_once(self.pace, buf.len().min(self.room));
+        let count = at_once(self.room.pace, buf.len().min(self.room.bytes));
         self.held.extend_from_slice(&buf[..count])?;
-        self.room -= count;
+        self.room.bytes -= count;
         Ok(count)
     }
 
     fn flush(&mut self) -> io::Result<()> {
-        if interrupts(self.pace, &mut self.is_resumed) {
+        if interrupts(self.room.pace, &mut self.is_resumed) {
             return Err(io::Error::from(ErrorKind::Interrupted));
         }
-        if self.flush == Flush::Fails {
+        if self.room.flush == Flush::Fails {
             return Err(io::Error::from(ErrorKind::BrokenPipe));
         }
         self.passed.extend_from_slice(self.held.as_slice())?;

@@ -1,86 +1,21 @@
-//! What of trees needs code: class values, notes, depth, long texts, refused memory.
+//! What of trees needs code: calls of classes, notes, depth, long texts, refused memory.
 
 use std::alloc::{AllocError, Global};
 use std::cell::Cell;
 use std::process::Abort;
 use std::test::Fail;
-use typst_cli::tree;
 use typst_grammar::parse_noted;
-use typst_parser::{Classes, SyntaxNode, UnicodeClasses, parse};
-use typst_test_classes::{Counting, Narrow, Wide};
+use typst_parser::{SyntaxNode, UnicodeClasses, parse};
+use typst_test_classes::Counting;
 
-/// Asserts that a text has the tree that is printed so.
-fn expect_tree<C: Classes>(
-    rt: &impl Abort,
-    alloc: Global,
-    text: &str,
-    printed: &str,
-    classes: &C,
-) -> Result<(), AllocError> {
-    let got = tree::answer(alloc, text, classes)?;
-    assert_eq!(rt; got.as_str(), printed, "at {text:?}");
-    Ok(())
-}
-
-/// The tree of `é*é*é` where é is a letter.
-const PLAIN: &str = "\
-Markup 0..8
-  Text 0..2
-  Text 2..5
-  Text 5..8
-";
-
-/// The same where it isn't.
-const STRONG: &str = "\
-Markup 0..8
-  Text 0..2
-  Strong 2..6
-    Star 2..3
-    Markup 3..5
-      Text 3..5
-    Star 5..6
-  Text 6..8
-";
-
-/// A raw text whose tag is `é`.
-const TAGGED: &str = "\
-Markup 0..10
-  Raw 0..10
-    RawDelim 0..3
-    RawLang 3..5
-    RawTrimmed 5..6
-    Text 6..7
-    RawDelim 7..10
-";
-
-/// The same text where é begins no tag.
-const UNTAGGED: &str = "\
-Markup 0..10
-  Raw 0..10
-    warning: no whitespace before raw text
-    hint: in the next version of Typst, this text will be treated as the language tag for this element
-    hint: to avoid this, add a space after the initial backticks
-    RawDelim 0..3
-    Text 3..7
-    RawDelim 7..10
-";
-
-/// A star between two letters is text, and else a delimiter.
+/// A class value that counts is asked, and answers what Unicode does.
 #[test]
-fn asks_for_letters(rt: HostRuntime) -> Result<(), Fail> {
-    let (alloc, calls) = (rt.alloc(), Cell::new(0));
-    expect_tree(&rt, alloc, "é*é*é", PLAIN, &Wide)?;
-    expect_tree(&rt, alloc, "é*é*é", STRONG, &Narrow)?;
-    expect_tree(&rt, alloc, "é*é*é", PLAIN, &Counting { calls: &calls })?;
+fn asks_the_classes(rt: HostRuntime) -> Result<(), Fail> {
+    let calls = Cell::new(0);
+    let counted = parse(rt.alloc(), "é*é*é", &Counting { calls: &calls })?;
     assert!(rt; calls.get() > 0);
-    Ok(())
-}
-
-/// A letter begins a language tag.
-#[test]
-fn asks_for_identifiers(rt: HostRuntime) -> Result<(), Fail> {
-    expect_tree(&rt, rt.alloc(), "```é x```", TAGGED, &Wide)?;
-    expect_tree(&rt, rt.alloc(), "```é x```", UNTAGGED, &Narrow)?;
+    let root = parse(rt.alloc(), "é*é*é", &UnicodeClasses)?;
+    assert!(rt; counted.spanless_eq(&root));
     Ok(())
 }
 
@@ -97,30 +32,34 @@ fn expect_notes(
     let noted = parse_noted(alloc, text, &UnicodeClasses)?;
     let root = parse(alloc, text, &UnicodeClasses)?;
     assert!(rt; noted.tree.spanless_eq(&root));
-    assert_eq!(rt; noted.notes.len(), notes.len(), "at {text:?}");
+    assert!(rt; noted.notes.len() == notes.len());
     for (note, wanted) in noted.notes.iter().zip(notes) {
-        assert_eq!(rt; note.before, wanted.0, "at {text:?}");
-        assert_eq!(rt; note.start, wanted.1, "at {text:?}");
-        assert_eq!(rt; note.levels, wanted.2, "at {text:?}");
+        assert!(rt; (note.before, note.start, note.levels) == *wanted);
     }
     match noted.notes.last() {
-        Some(note) => assert!(rt; note.least > last, "at {text:?}"),
-        None => assert!(rt; false, "nothing is noted of {text:?}"),
+        Some(note) => assert!(rt; note.least > last),
+        None => assert!(rt; false),
     }
-    assert!(rt; noted.hull.least > end, "at {text:?}");
+    assert!(rt; noted.hull.least > end);
     Ok(())
 }
 
 /// A run is noted where it begins and behind each of its expressions, a block where it begins and
 /// ends, and what is known of trivia isn't looked at again.
 #[test]
-fn notes_pieces_and_blocks(rt: HostRuntime) -> Result<(), Fail> {
+fn notes_pieces(rt: HostRuntime) -> Result<(), Fail> {
     let alloc = rt.alloc();
     expect_notes(&rt, alloc, "", &[(0, 0, 256)], (0, 0))?;
     let three = [(0, 0, 256), (1, 7, 256), (8, 8, 256)];
     expect_notes(&rt, alloc, "a //cc\nb", &three, (7, 8))?;
     let lines = [(0, 0, 256), (1, 2, 256), (3, 4, 256)];
     expect_notes(&rt, alloc, "a\nb\n", &lines, (2, 4))?;
+    Ok(())
+}
+
+#[test]
+fn notes_blocks(rt: HostRuntime) -> Result<(), Fail> {
+    let alloc = rt.alloc();
     let block = [
         (0, 0, 256),
         (2, 2, 255),
@@ -153,27 +92,31 @@ fn lowest(root: &SyntaxNode) -> (usize, &SyntaxNode) {
     (10_000, node)
 }
 
-/// Asserts that the text of so many times `part` and then `rest` has the error of too great a depth
-/// at its lowest node, and how deep that lies and which text it has.
+/// A text of 256 times `part`, and then `rest`.
+fn deep(alloc: Global, part: &str, rest: &str) -> Result<String, AllocError> {
+    let mut text = String::new(alloc);
+    for _ in 0..256 {
+        text.push_str(part)?;
+    }
+    text.push_str(rest)?;
+    Ok(text)
+}
+
+/// Asserts that the text has the error of too great a depth at its lowest node, and how deep that
+/// lies and which text it has.
 fn expect_depth(
     rt: &impl Abort,
     alloc: Global,
-    part: &str,
-    rest: &str,
+    all: &str,
     (steps, text): (usize, &str),
 ) -> Result<(), AllocError> {
-    let mut all = String::new(alloc);
-    for _ in 0..256 {
-        all.push_str(part)?;
-    }
-    all.push_str(rest)?;
-    let root = parse(alloc, all.as_str(), &UnicodeClasses)?;
+    let root = parse(alloc, all, &UnicodeClasses)?;
     let (got, node) = lowest(&root);
-    assert_eq!(rt; got, steps);
-    assert_eq!(rt; node.leaf_text(), text);
+    assert!(rt; got == steps);
+    assert!(rt; node.leaf_text() == text);
     match node.diagnostics() {
-        [error] => assert_eq!(rt; error.message(), "maximum parsing depth exceeded"),
-        _ => assert!(rt; false, "the depth of {part:?}"),
+        [error] => assert!(rt; error.message() == "maximum parsing depth exceeded"),
+        _ => assert!(rt; false),
     }
     Ok(())
 }
@@ -181,74 +124,88 @@ fn expect_depth(
 #[test]
 fn stops_at_a_depth(rt: HostRuntime) -> Result<(), Fail> {
     let alloc = rt.alloc();
-    expect_depth(&rt, alloc, "- ", "- - a", (513, "- - a"))?;
-    expect_depth(&rt, alloc, "- ", "[a b] c\nd", (513, "[a b] c\nd"))?;
+    let items = deep(alloc, "- ", "- - a")?;
+    expect_depth(&rt, alloc, items.as_str(), (513, "- - a"))?;
+    let lines = deep(alloc, "- ", "[a b] c\nd")?;
+    expect_depth(&rt, alloc, lines.as_str(), (513, "[a b] c\nd"))?;
     Ok(())
+}
+
+/// Asserts the texts of the three pieces of a tree, of the first that of its lowest node.
+fn expect_pieces(
+    rt: &impl Abort,
+    root: &SyntaxNode,
+    (steps, first, second, third): (usize, &str, &str, &str),
+) {
+    match root.children() {
+        [long, middle, last] => {
+            let (got, node) = lowest(long);
+            assert!(rt; got == steps && node.leaf_text() == first);
+            assert!(rt; middle.leaf_text() == second);
+            assert!(rt; last.leaf_text() == third);
+        }
+        _ => assert!(rt; false),
+    }
 }
 
 /// Brackets in what lies too deep are skipped in pairs, and the stop behind them ends it.
 #[test]
 fn skips_brackets_too_deep(rt: HostRuntime) -> Result<(), Fail> {
-    let alloc = rt.alloc();
-    let mut all = String::new(alloc);
+    let mut all = String::new(rt.alloc());
     for _ in 0..128 {
         all.push_str("*_")?;
     }
     all.push_str("[a]b]c")?;
-    let root = parse(alloc, all.as_str(), &UnicodeClasses)?;
-    let kids = root.children();
-    assert_eq!(rt; kids.len(), 3);
-    let (steps, node) = lowest(&kids[0]);
-    assert_eq!(rt; steps, 512);
-    assert_eq!(rt; node.leaf_text(), "[a]b");
-    assert_eq!(rt; kids[1].leaf_text(), "]");
-    assert_eq!(rt; kids[2].leaf_text(), "c");
+    let root = parse(rt.alloc(), all.as_str(), &UnicodeClasses)?;
+    expect_pieces(&rt, &root, (512, "[a]b", "]", "c"));
     Ok(())
 }
 
-/// Long texts of one part again and again, and how many nodes their trees have.
-const LONG: [(&str, usize); 4] = [
-    ("[", 10_001),
-    ("\n", 2),
-    ("a\n\n", 20_001),
-    ("- a\n", 60_001),
-];
+/// Asserts how many nodes the tree of 10,000 times one part has.
+fn expect_long(rt: &impl Abort, alloc: Global, part: &str, nodes: usize) -> Result<(), AllocError> {
+    let mut text = String::new(alloc);
+    for _ in 0..10_000 {
+        text.push_str(part)?;
+    }
+    let root = parse(alloc, text.as_str(), &UnicodeClasses)?;
+    assert!(rt; root.descendants() == nodes);
+    assert!(rt; root.len() == text.len());
+    Ok(())
+}
 
 #[test]
 fn reads_long_texts(rt: HostRuntime) -> Result<(), Fail> {
-    for (part, nodes) in LONG {
-        let mut text = String::new(rt.alloc());
-        for _ in 0..10_000 {
-            text.push_str(part)?;
-        }
-        let root = parse(rt.alloc(), text.as_str(), &UnicodeClasses)?;
-        assert_eq!(rt; root.descendants(), nodes, "of {part:?}");
-        assert_eq!(rt; root.len(), text.len());
-    }
+    let alloc = rt.alloc();
+    expect_long(&rt, alloc, "[", 10_001)?;
+    expect_long(&rt, alloc, "\n", 2)?;
+    expect_long(&rt, alloc, "a\n\n", 20_001)?;
+    expect_long(&rt, alloc, "- a\n", 60_001)?;
     Ok(())
 }
 
-/// Five texts, whose parsing takes memory in different places.
-const REFUSALS: [&str; 5] = [
-    "",
-    "- a\n  - b\n\n= c *d* and more than fits a short text",
-    "**]",
-    "*a _b /* c */\n\n",
-    "/ A",
-];
+/// Asserts that where memory was refused once, parsing again gives the tree.
+fn expect_again(rt: &impl Abort, alloc: Global, text: &str) {
+    let first = parse(alloc, text, &UnicodeClasses);
+    let again = parse(alloc, text, &UnicodeClasses);
+    match (first, again) {
+        (Ok(first), Ok(again)) => assert!(rt; first.spanless_eq(&again)),
+        (Ok(root), Err(_)) | (Err(_), Ok(root)) => assert!(rt; root.len() == text.len()),
+        (Err(_), Err(_)) => assert!(rt; false),
+    }
+}
 
-/// Where memory was refused once, parsing again gives the tree. `rt try --test --fail-alloc N` refuses
+/// Five texts, whose parsing takes memory in different places. `rt try --test --fail-alloc N` refuses
 /// the Nth request.
 #[test]
-fn parses_again_where_memory_is_refused(rt: HostRuntime) -> Result<(), Fail> {
-    for text in REFUSALS {
-        let first = parse(rt.alloc(), text, &UnicodeClasses);
-        let again = parse(rt.alloc(), text, &UnicodeClasses);
-        match (first, again) {
-            (Ok(first), Ok(again)) => assert!(rt; first.spanless_eq(&again)),
-            (Ok(root), Err(_)) | (Err(_), Ok(root)) => assert_eq!(rt; root.len(), text.len()),
-            (Err(_), Err(_)) => assert!(rt; false, "two refusals at {text:?}"),
-        }
-    }
-    Ok(())
+fn parses_again_where_memory_is_refused(rt: HostRuntime) {
+    let alloc = rt.alloc();
+    expect_again(&rt, alloc, "");
+    expect_again(
+        &rt,
+        alloc,
+        "- a\n  - b\n\n= c *d* and more than fits a short text",
+    );
+    expect_again(&rt, alloc, "**]");
+    expect_again(&rt, alloc, "*a _b /* c */\n\n");
+    expect_again(&rt, alloc, "/ A");
 }

@@ -4,16 +4,36 @@ use Rattle.std.specs.Str.{bytes_eq}
 use Rattle.typst_cli.specs.Printed.{printed}
 use Rattle.typst_cli.specs.declared.command.Command.TheVariants as command
 use Rattle.typst_probe.specs.declared.word.Word.{Word}
-use Rattle.typst_probe.specs.declared.word.Word.TheVariants.{Tree, Tokens, Lines, Tags, Html}
+use Rattle.typst_probe.specs.declared.word.Word.TheVariants.{Tree, TreeWide, TreeNarrow, Tokens, TokensWide, TokensNarrow, Lines, Link, Stretches, Notes, Tags, Html}
 
 -- the word that a name stands for
 abbrev pub word_named : List ℕ → Option Word
-word_named name = if bytes_eq name (codes "tree") then Some Tree else (if bytes_eq name (codes "tokens") then Some Tokens else (if bytes_eq name (codes "lines") then Some Lines else (if bytes_eq name (codes "tags") then Some Tags else (if bytes_eq name (codes "html") then Some Html else None))))
+word_named name =
+    if bytes_eq name (codes "tree") then Some Tree
+    else (if bytes_eq name (codes "tree-wide") then Some TreeWide
+    else (if bytes_eq name (codes "tree-narrow") then Some TreeNarrow
+    else (if bytes_eq name (codes "tokens") then Some Tokens
+    else (if bytes_eq name (codes "tokens-wide") then Some TokensWide
+    else (if bytes_eq name (codes "tokens-narrow") then Some TokensNarrow
+    else (if bytes_eq name (codes "lines") then Some Lines
+    else (if bytes_eq name (codes "link") then Some Link
+    else (if bytes_eq name (codes "stretches") then Some Stretches
+    else (if bytes_eq name (codes "notes") then Some Notes
+    else (if bytes_eq name (codes "tags") then Some Tags
+    else (if bytes_eq name (codes "html") then Some Html
+    else None)))))))))))
 
 -- all that a word of the program typst_syn prints about a text, which this program's word answers too
 abbrev pub printed_by : Word → List ℕ → Option (List ℕ)
 printed_by Tree text = Some (printed command.Tree text)
-printed_by Lines text = Some (printed command.Lines text)
-printed_by Html text = Some (printed command.Html text)
+printed_by TreeWide text = None
+printed_by TreeNarrow text = None
 printed_by Tokens text = None
+printed_by TokensWide text = None
+printed_by TokensNarrow text = None
+printed_by Lines text = Some (printed command.Lines text)
+printed_by Link text = None
+printed_by Stretches text = None
+printed_by Notes text = None
 printed_by Tags text = None
+printed_by Html text = Some (printed command.Html text)

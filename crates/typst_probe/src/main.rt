@@ -2,8 +2,11 @@
 #![tactic(auto)]
 
 mod escapes;
+mod links;
+mod notes;
 mod reading;
 mod row;
+mod stretches;
 mod tags;
 mod tokens;
 mod word;
@@ -15,7 +18,8 @@ use std::process::ExitCode;
 use std::{env, fs, io};
 use word::Word;
 
-const USAGE: &str = "usage: typst_probe rows FILE.. | tree | tokens | lines | tags | html";
+const USAGE: &str =
+    "usage: typst_probe rows FILE.. | tree | tree-wide | tree-narrow | tokens | tokens-wide | tokens-narrow |\n    lines | link | stretches | notes | tags | html";
 
 /// `rows FILE..` compares all rows of the files, and any other word answers about the text on
 /// standard input. Ends with status 1 where a row disagrees or something fails, and with status 2

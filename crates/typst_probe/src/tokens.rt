@@ -3,13 +3,13 @@
 use std::alloc::{AllocError, Global};
 use typst_cli::tree::{print_head, variant_name};
 use typst_lexer::{Lexer, Token};
-use typst_parser::{SyntaxMode, UnicodeClasses};
+use typst_parser::{Classes, SyntaxMode, UnicodeClasses};
 use typst_token_nodes::make_node;
 
 /// The tokens of the text as markup. Each has a line with its kind, its range in bytes and, for an
 /// error, its message; below an error stand its hints, two spaces deeper.
-pub fn answer(alloc: Global, text: &str) -> Result<String, AllocError> {
-    let mut lexer = Lexer::new(text, SyntaxMode::Markup, &UnicodeClasses);
+pub fn answer<C: Classes>(alloc: Global, text: &str, classes: &C) -> Result<String, AllocError> {
+    let mut lexer = Lexer::new(text, SyntaxMode::Markup, classes);
     let mut printed = String::new(alloc);
     for _ in text.as_bytes() {
         let start = lexer.cursor();

@@ -3,19 +3,35 @@
 ghost use Rattle.std.specs.Prelude.{◌≡◌, IfOk, IfSome, string_bytes};
 ghost use Rattle.typst_probe.specs.Words.{printed_by, word_named};
 
-use crate::{tags, tokens};
+use crate::{links, notes, stretches, tags, tokens};
 use std::alloc::{AllocError, Global};
-use typst_cli::Command;
+use typst_cli::{Command, tree};
+use typst_parser::UnicodeClasses;
+use typst_test_classes::{Narrow, Wide};
 
 /// What can be asked about a text.
 #[derive(Debug, Clone, Copy, PartialEq, Eq)]
 pub enum Word {
     /// The syntax tree of the text as markup.
     Tree,
+    /// The syntax tree, where nearly all characters past ASCII are letters.
+    TreeWide,
+    /// The syntax tree, where no character past ASCII has a class.
+    TreeNarrow,
     /// The tokens of the text as markup.
     Tokens,
+    /// The tokens, where nearly all characters past ASCII are letters.
+    TokensWide,
+    /// The tokens, where no character past ASCII has a class.
+    TokensNarrow,
     /// Where the lines of the text start.
     Lines,
+    /// The link that the text begins with.
+    Link,
+    /// Which part of the raw text its warnings are about.
+    Stretches,
+    /// What is noted in reading the text as markup.
+    Notes,
     /// The tags of the nodes of the text's tree.
     Tags,
     /// The text as HTML.
@@ -29,8 +45,15 @@ impl Word {
     {
         match name {
             "tree" => Some(Word::Tree),
+            "tree-wide" => Some(Word::TreeWide),
+            "tree-narrow" => Some(Word::TreeNarrow),
             "tokens" => Some(Word::Tokens),
+            "tokens-wide" => Some(Word::TokensWide),
+            "tokens-narrow" => Some(Word::TokensNarrow),
             "lines" => Some(Word::Lines),
+            "link" => Some(Word::Link),
+            "stretches" => Some(Word::Stretches),
+            "notes" => Some(Word::Notes),
             "tags" => Some(Word::Tags),
             "html" => Some(Word::Html),
             _ => None,
@@ -43,8 +66,15 @@ impl Word {
     {
         match self {
             Word::Tree => Command::Tree.answer(alloc, text),
-            Word::Tokens => tokens::answer(alloc, text),
+            Word::TreeWide => tree::answer(alloc, text, &Wide),
+            Word::TreeNarrow => tree::answer(alloc, text, &Narrow),
+            Word::Tokens => tokens::answer(alloc, text, &UnicodeClasses),
+            Word::TokensWide => tokens::answer(alloc, text, &Wide),
+            Word::TokensNarrow => tokens::answer(alloc, text, &Narrow),
             Word::Lines => Command::Lines.answer(alloc, text),
+            Word::Link => links::answer(alloc, text),
+            Word::Stretches => stretches::answer(alloc, text),
+            Word::Notes => notes::answer(alloc, text),
             Word::Tags => tags::answer(alloc, text),
             Word::Html => Command::Html.answer(alloc, text),
         }

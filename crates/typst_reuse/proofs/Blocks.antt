@@ -1,19 +1,17 @@
 -- Each block of the grammar ends in its node.
-use Rattle.std.proofs.Common.{◌≡◌, ℕ, ◌+◌, ◌-◌, Bool, true, false, if◌then◌else◌, List, [], ◌∷◌, ◌++◌, length, take, drop, append-nil, append_assoc, refl, ap, sym, ◌∙◌, subst, arith}
-use Rattle.typst_kinds.specs.declared.kind.SyntaxKind.TheVariants as kind
-use Rattle.typst_node.specs.Tree.{Tree, forest, inner_of}
+use Rattle.std.proofs.Common.{◌≡◌, ℕ, ◌+◌, Bool, true, false, List, [], ◌∷◌, ◌++◌, take, append-nil, append_assoc, refl, ap, sym, ◌∙◌}
+use Rattle.typst_node.specs.Tree.{Tree}
 use Rattle.typst_lines.specs.Place.{Place, moved}
 use Rattle.typst_classes.specs.Classes.{CharClasses}
 use Rattle.typst_combinators.specs.declared.calls.Block.{Block}
 use Rattle.typst_combinators.specs.declared.calls.Block.TheVariants as block
 use Rattle.typst_combinators.specs.Point.{Point}
-use Rattle.typst_combinators.specs.Shape.{hinted, Shape, shaped}
+use Rattle.typst_combinators.specs.Shape.{hinted, shaped}
 use Rattle.typst_combinators.specs.Steps.{peek, node}
-use Rattle.typst_combinators.specs.Syntax.{Parser, ◌>>=◌, ◌>>◌}
+use Rattle.typst_combinators.specs.Syntax.{Parser, ◌>>◌}
 use Rattle.typst_combinators.specs.Syntax.Begin.{at_token}
-use Rattle.typst_combinators.specs.Syntax.Parser.{gives, next, wraps}
 use Rattle.typst_combinators.specs.Knot.{blocks_of, meaning_of}
-use Rattle.typst_combinators.specs.Meaning.{Outcome, Level, plain, less, joined, answered, before, inside, wrapped, blockless, run}
+use Rattle.typst_combinators.specs.Meaning.{Outcome, Level, plain, less, joined, before, inside, wrapped, blockless, run}
 use Rattle.typst_combinators.proofs.Places.{less-append, less-none}
 use Rattle.typst_markup.specs.Markup.{bracketed, content_block}
 use Rattle.typst_grammar.specs.Grammar.{rules, has}

@@ -1,7 +1,7 @@
 -- A stretch of a text replaced: what ends before it and what begins after it shows the same.
-use Rattle.std.proofs.Common.{◌≡◌, ℕ, zero, suc, ◌+◌, ◌-◌, ◌<◌, ◌≤◌, List, [], ◌∷◌, ◌++◌, length, take, Option, Some, None, append_assoc, length-append, refl, ap, sym, ◌∙◌, subst, arith}
-use Rattle.typst_node.specs.Tree.{Tree, Forest, forest, trees}
-use Rattle.typst_lines.specs.Place.{Place, moved, moved_from}
+use Rattle.std.proofs.Common.{◌≡◌, ℕ, zero, suc, ◌+◌, ◌≤◌, List, [], ◌∷◌, ◌++◌, length, take, Some, refl, ap, sym, ◌∙◌, arith}
+use Rattle.typst_node.specs.Tree.{Tree, forest, trees}
+use Rattle.typst_lines.specs.Place.{Place, moved}
 use Rattle.typst_readers.specs.Reader.{Look, Agree, marked as ended_by_mark}
 use Rattle.typst_combinators.specs.Ask.{Ask, SameIn}
 use Rattle.typst_combinators.specs.Ask.Ask.{looked, marked}
@@ -9,7 +9,7 @@ use Rattle.typst_combinators.specs.Meaning.{Outcome}
 use Rattle.typst_combinators.proofs.Places.{moved-sum}
 use Rattle.typst_reuse.specs.Hole.{Deep, fill, Hole, plug, path_in, path_of}
 use Rattle.typst_reuse.specs.Hole.Deep.{bare, under}
-use Rattle.typst_reuse.specs.Spot.{Spot, around, Fits, unit_at}
+use Rattle.typst_reuse.specs.Spot.{Spot, Fits, unit_at}
 use Rattle.typst_reuse.specs.Edit.{Among, text_with, AllEndBy, AllBeginIn, Passes, alter, put, replaced, Edited}
 use Rattle.typst_reuse.specs.Edit.Among.{this, that}
 use Rattle.typst_reuse.proofs.Every.{Every}
@@ -27,14 +27,14 @@ same-before zero look behind front ys zs h = record { behind = refl; ahead = tak
 same-before (suc n) look behind [] ys zs h = absurd (omega arith)
 same-before (suc n) look behind (c ∷ front) ys zs h = same-before n look (c ∷ behind) front ys zs (omega arith)
 
-before-same : (asks : List Ask) (front old new rest : List ℕ) → AllEndBy (length front) asks → SameIn asks (text_with front old rest) (text_with front new rest)
+pub before-same : (asks : List Ask) (front old new rest : List ℕ) → AllEndBy (length front) asks → SameIn asks (text_with front old rest) (text_with front new rest)
 before-same [] front old new rest h = tt
 before-same (looked at look ∷ asks) front old new rest h = (same-before at look [] front (old ++ rest) (new ++ rest) h.0, before-same asks front old new rest h.1)
 before-same (marked at gap fewer mark s ∷ asks) front old new rest h = (tt, before-same asks front old new rest h)
 
 -- ---- after it
 
-abbrev onto : List ℕ → List ℕ → List ℕ
+abbrev pub onto : List ℕ → List ℕ → List ℕ
 onto [] behind = behind
 onto (c ∷ cs) behind = onto cs (c ∷ behind)
 
@@ -61,14 +61,14 @@ after-looks (looked at look ∷ asks) d bs cs rest h = (after-look at look d bs 
 after-looks (marked at gap fewer mark s ∷ asks) d bs cs rest h = (tt, after-looks asks d bs cs rest h)
 
 -- so many characters past the edit
-past-is : (d : ℕ) (front mid rest : List ℕ) → moved ((length front + length mid) + d) (text_with front mid rest) ≡ moved d (record { behind = onto mid (onto front []); ahead = rest })
+pub past-is : (d : ℕ) (front mid rest : List ℕ) → moved ((length front + length mid) + d) (text_with front mid rest) ≡ moved d (record { behind = onto mid (onto front []); ahead = rest })
 past-is d front mid rest =
     moved-sum (length front + length mid) d _ ∙ ap (moved d) (moved-sum (length front) (length mid) _ ∙ ap (moved (length mid)) (moved-over front (mid ++ rest) []) ∙ moved-over mid rest (onto front []))
 
-same_in-to : (asks : List Ask) (z y w v : Place) → z ≡ y → w ≡ v → SameIn asks y v → SameIn asks z w
+pub same_in-to : (asks : List Ask) (z y w v : Place) → z ≡ y → w ≡ v → SameIn asks y v → SameIn asks z w
 same_in-to asks z y w v e f h = rw (e, f) h
 
-after-same : (asks : List Ask) (d m k : ℕ) (front old new rest : List ℕ) → m ≡ (length front + length old) + d → k ≡ (length front + length new) + d → AllBeginIn d rest asks
+pub after-same : (asks : List Ask) (d m k : ℕ) (front old new rest : List ℕ) → m ≡ (length front + length old) + d → k ≡ (length front + length new) + d → AllBeginIn d rest asks
     → SameIn asks (moved m (text_with front old rest)) (moved k (text_with front new rest))
 after-same asks d m k front old new rest e f h =
     same_in-to asks _ _ _ _ (ap (λ n. moved n (text_with front old rest)) e ∙ past-is d front old rest) (ap (λ n. moved n (text_with front new rest)) f ∙ past-is d front new rest)
@@ -102,8 +102,8 @@ among P x ys (this xs) h = h.0
 among P x ys (that y xs i) h = among P x xs i h.1
 
 pub edited : {A : Type 0} (front old new rest : List ℕ) (o n : Outcome A) (cs : List (Spot A)) → Every (Lawful (text_with front old rest) (text_with front new rest) o n) cs
-    → (c : Spot A) (past : ℕ) (x : Tree) → Among c cs → Passes front old new rest c past x → Edited o n c (unit_at c (text_with front old rest)) (unit_at c (text_with front new rest)) x
-edited front old new rest o n cs laws c past x i h =
+    → (c : Spot A) (past : ℕ) (x : Tree) → Among c cs → Passes front old new rest c past → Fits c (unit_at c (text_with front new rest)) x → Edited o n c (unit_at c (text_with front old rest)) (unit_at c (text_with front new rest)) x
+edited front old new rest o n cs laws c past x i h fits =
     let z = text_with front old rest in
     let w = text_with front new rest in
     let l = among (Lawful z w o n) c cs i laws in
@@ -113,7 +113,7 @@ edited front old new rest o n cs laws c past x i h =
     let g = h.goes_on in
     let e : Edits z w c x = record {
       before = before-same c.before front old new rest h.before;
-      fits = h.fits;
+      fits = fits;
       covers = omega arith;
       some = omega arith;
       after = after-same c.after past (c.at + (unit_at c z).taken) (c.at + (unit_at c w).taken) front old new rest (omega arith) (omega arith) h.after;

@@ -1,22 +1,21 @@
 -- A block in what grows.
-use Rattle.std.proofs.Common.{◌≡◌, ℕ, zero, suc, ◌+◌, ◌<◌, ◌≤◌, max, Bool, true, false, ◌&&◌, if◌then◌else◌, nat_lt, Option, Some, None, List, [], ◌∷◌, ◌++◌, length, map, refl, ap, sym, ◌∙◌, subst, arith}
+use Rattle.std.proofs.Common.{◌≡◌, ℕ, zero, suc, ◌+◌, ◌<◌, max, Bool, ◌&&◌, if◌then◌else◌, nat_lt, Option, Some, None, List, [], ◌∷◌, length, map, refl, ap, sym, ◌∙◌, subst, arith}
 use Rattle.std.specs.List.{flat_map}
 use borrow.Author.Tests.{ltb-true}
 use Rattle.typst_node.specs.Tree.{Tree}
 use Rattle.typst_lines.specs.Place.{Place, moved}
-use Rattle.typst_combinators.specs.Ask.{SameIn, shift}
+use Rattle.typst_combinators.specs.Ask.{SameIn}
 use Rattle.typst_combinators.specs.Point.{Point, gap_of}
 use Rattle.typst_combinators.specs.Shape.{Shape}
-use Rattle.typst_combinators.specs.Meaning.{Outcome, Meaning, answered, joined, followed, bound, before, reshaped, grown, is_more, growths, growing}
+use Rattle.typst_combinators.specs.Meaning.{Outcome, Meaning, answered, joined, bound, reshaped, grown, is_more, growths, growing}
 use Rattle.typst_combinators.specs.Sound.{Framed, Within, Backs}
 use Rattle.typst_combinators.proofs.Looks.{same_in-shift, same_in-first, same_in-second}
 use Rattle.typst_combinators.proofs.Within.{if-same, and-second, grew, growths-enough, Enough, enough-grew, grown-taken}
 use Rattle.typst_combinators.proofs.Frame.{grew-asks}
-use Rattle.typst_reuse.specs.Hole.{Hole, wrap_hole, plug}
+use Rattle.typst_reuse.specs.Hole.{Hole, wrap_hole}
 use Rattle.typst_reuse.specs.Spot.{Spot, block_head, then_spot, after_spot, rehole}
-use Rattle.typst_reuse.specs.Occurrences.{Spots, joined_spots, last_spot, reshaped_spot, grown_spot, growths_spots, growing_spots}
+use Rattle.typst_reuse.specs.Occurrences.{Spots, joined_spots, last_spot, grown_spot, growths_spots, growing_spots}
 use Rattle.typst_reuse.proofs.Every.{Every, every-any, every-append, every-map, every-flat, every-if}
-use Rattle.typst_reuse.proofs.Wrap.{every-weaker}
 use Rattle.typst_reuse.proofs.Inside.{Edits, Lawful, edits-then, edits-after, rest-same}
 use Rattle.typst_reuse.proofs.Spots.{Inside, if-true, if-false, lawful-same, every-same, joined-inside, edits-last, lawful-last, took-same, value-same, edits-rehole, every-reshaped}
 

@@ -1,18 +1,18 @@
 -- The law of an edit inside a block, for a block that something follows, and for one after something.
-use Rattle.std.proofs.Common.{◌≡◌, ℕ, zero, suc, ◌+◌, ◌-◌, ◌<◌, ◌≤◌, Bool, true, false, ◌||◌, List, [], ◌∷◌, ◌++◌, length, length-append, refl, ap, sym, ◌∙◌, subst, arith}
+use Rattle.std.proofs.Common.{◌≡◌, ℕ, ◌+◌, ◌<◌, ◌≤◌, false, List, length, length-append, ap, sym, ◌∙◌, subst, arith}
 use Rattle.typst_kinds.specs.Kinds.{is_error}
 use Rattle.typst_node_data.specs.Head.{Head}
 use Rattle.typst_node.specs.Tree.{Tree}
 use Rattle.typst_lines.specs.Place.{Place, moved}
-use Rattle.typst_combinators.specs.Ask.{Ask, SameIn, shift}
+use Rattle.typst_combinators.specs.Ask.{Ask, SameIn}
 use Rattle.typst_combinators.specs.Point.{Point, point_of}
 use Rattle.typst_combinators.specs.Shape.{hinted}
 use Rattle.typst_combinators.specs.Meaning.{Outcome, Meaning, less, joined, followed}
-use Rattle.typst_combinators.specs.Sound.{Framed, Tidy, Backs}
+use Rattle.typst_combinators.specs.Sound.{Framed, Backs}
 use Rattle.typst_combinators.proofs.Looks.{same_in-shift, same_in-first, same_in-second}
 use Rattle.typst_combinators.proofs.Places.{moved-sum, length-less}
 use Rattle.typst_combinators.proofs.Hints.{length-hinted}
-use Rattle.typst_reuse.specs.Hole.{Hole, fill, plug, top}
+use Rattle.typst_reuse.specs.Hole.{fill}
 use Rattle.typst_reuse.specs.Spot.{Spot, around, Fits, unit_at, block_head, then_spot, after_spot}
 use Rattle.typst_reuse.proofs.Outcomes.{head-fill, then-around, after-around}
 use Rattle.typst_reuse.proofs.Wrap.{Solid}

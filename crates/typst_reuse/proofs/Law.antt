@@ -1,7 +1,6 @@
 -- The law of an edit inside a block, for every parser of the language.
-use Rattle.std.proofs.Common.{◌≡◌, ℕ, zero, suc, ◌+◌, ◌-◌, ◌≤◌, Bool, true, false, ◌||◌, if◌then◌else◌, List, [], ◌∷◌, ◌++◌, length, map, append-nil, append_assoc, refl, ap, sym, ◌∙◌, subst, arith}
+use Rattle.std.proofs.Common.{◌≡◌, ℕ, zero, suc, ◌+◌, Bool, true, false, if◌then◌else◌, List, [], ◌∷◌, ◌++◌, map, append_assoc, refl, ap, sym, ◌∙◌, arith}
 use Rattle.std.proofs.lemmas.List.{map-append}
-use Rattle.std.specs.List.{flat_map}
 use Rattle.typst_kinds.specs.Kinds.{is_error}
 use Rattle.typst_node.specs.Tree.{Tree}
 use Rattle.typst_lines.specs.Place.{Place, moved}
@@ -11,26 +10,25 @@ use Rattle.typst_combinators.specs.declared.calls.Block.TheVariants as block_kin
 use Rattle.typst_combinators.specs.declared.calls.Call.{Call}
 use Rattle.typst_combinators.specs.declared.calls.Mark.TheVariants as mark
 use Rattle.typst_combinators.specs.declared.reading.Reading.{Reading}
-use Rattle.typst_combinators.specs.Ask.{Ask, SameIn, shift, shift_one, sunk, sink_one}
-use Rattle.typst_combinators.specs.Ask.Ask.{looked, marked}
+use Rattle.typst_combinators.specs.Ask.{shift, shift_one, sunk, sink_one}
+use Rattle.typst_combinators.specs.Ask.Ask.{marked}
 use Rattle.typst_combinators.specs.Calls.{Answer}
 use Rattle.typst_combinators.specs.Point.{Point, state_of, forgot}
-use Rattle.typst_combinators.specs.Shape.{Seen, seen}
+use Rattle.typst_combinators.specs.Shape.{seen}
 use Rattle.typst_combinators.specs.Steps.{peek}
 use Rattle.typst_combinators.specs.Syntax.{Parser, ◌>>◌}
 use Rattle.typst_combinators.specs.Syntax.Op.{flushes}
 use Rattle.typst_combinators.specs.Syntax.Parser.{gives, does, next, pick, repeat, wraps, grows, nests, scoped, sees, either, calls, block}
 use Rattle.typst_combinators.specs.Knot.{Rules, blocks_of, meaning_of, level_of}
-use Rattle.typst_combinators.specs.Meaning.{Outcome, Meaning, Level, blockless, plain, less, answered, joined, followed, before, closed, bounded, with_seen, deeper_by_one, given_up, chosen, entered, left, left_to, done, run}
-use Rattle.typst_combinators.specs.Sound.{Framed}
+use Rattle.typst_combinators.specs.Meaning.{Outcome, Meaning, Level, blockless, plain, less, answered, followed, before, closed, bounded, with_seen, deeper_by_one, chosen, entered, left_to, done, run}
 use Rattle.typst_combinators.proofs.Looks.{same_in-first, same_in-sunk}
 use Rattle.typst_combinators.proofs.Frame.{framed-done}
 use Rattle.typst_combinators.proofs.Backs.{left-empties}
 use Rattle.typst_combinators.proofs.Knot.{Sane, sane-run, sane-plain, sane-meaning, sane-block}
-use Rattle.typst_reuse.specs.Hole.{Hole, plug}
-use Rattle.typst_reuse.specs.Spot.{Spot, around, Fits, unit_at, block_head, lowered, valued, after_spot, sunk_spot, closed_spot, ended, last_node, here_spot}
-use Rattle.typst_reuse.specs.Occurrences.{Spots, joined_spots, scoped_spot, seen_spot, bounded_spots, spots, call_spots, block_spots, level_spots}
-use Rattle.typst_reuse.proofs.Every.{Every, every-append, every-map, every-if}
+use Rattle.typst_reuse.specs.Hole.{plug}
+use Rattle.typst_reuse.specs.Spot.{Spot, around, Fits, unit_at, block_head, lowered, after_spot, sunk_spot, closed_spot, ended, last_node, here_spot}
+use Rattle.typst_reuse.specs.Occurrences.{Spots, scoped_spot, seen_spot, bounded_spots, spots, call_spots, block_spots, level_spots}
+use Rattle.typst_reuse.proofs.Every.{Every, every-map, every-if}
 use Rattle.typst_reuse.proofs.Outcomes.{same-outcome, shift-zero, lowered-zero, sunk-lowered, sunk-shift, or-false, seen-plug}
 use Rattle.typst_reuse.proofs.Inside.{Edits, Lawful, lawful-after}
 use Rattle.typst_reuse.proofs.Spots.{Inside, if-true, if-false, lawful-same, joined-inside, value-same, inside-repeated, inside-wrapped, inside-nesting}

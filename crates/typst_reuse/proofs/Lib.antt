@@ -1,6 +1,10 @@
 -- From what a contract promises to the lemma behind it:
 --   block_law: edit              Text: of a whole text; Law: for every parser; Inside, Spots, Grows, Wrap, Outcomes: word by word; Blocks: each block's node; Edit: looks
+--     that the block fits        Fitting; Content: a content block; Enclosed: what stands between brackets; Clear: a block begins at no trivia; Reached: what is known of trivia is all of them
 --   block_law: names             Names: each block is the one of its name, between its marks
+--   run_law                      Root: of a whole text; Runs: of any loop
+--   decision_law                 Bytes: the log; Widths: characters and bytes; Within: looks are at places of the text
+--   blocks_of_texts, runs_of_texts      computed (laws)
 pub mod Every
 pub mod Outcomes
 pub mod Wrap
@@ -12,3 +16,13 @@ pub mod Edit
 pub mod Blocks
 pub mod Text
 pub mod Names
+pub mod Reached
+pub mod Clear
+pub mod Enclosed
+pub mod Content
+pub mod Fitting
+pub mod Runs
+pub mod Root
+pub mod Within
+pub mod Widths
+pub mod Bytes

@@ -1,5 +1,5 @@
 -- Each block of a reading is the one of its name, and its marks stand in the log.
-use Rattle.std.proofs.Common.{◌≡◌, ℕ, zero, suc, ◌+◌, ◌-◌, Bool, true, false, ◌&&◌, if◌then◌else◌, nat_lt, Option, Some, None, List, [], ◌∷◌, ◌++◌, length, map, append_assoc, refl, ap, sym, ◌∙◌, subst, arith}
+use Rattle.std.proofs.Common.{◌≡◌, ℕ, zero, suc, ◌+◌, ◌-◌, Bool, true, false, ◌&&◌, nat_lt, Option, Some, None, List, [], ◌∷◌, ◌++◌, map, append_assoc, refl, ap, sym, ◌∙◌, subst, arith}
 use Rattle.std.proofs.lemmas.List.{map-append}
 use Rattle.std.specs.List.{flat_map}
 use Rattle.typst_lines.specs.Place.{Place, moved}
@@ -7,8 +7,8 @@ use Rattle.typst_classes.specs.Classes.{CharClasses}
 use Rattle.typst_combinators.specs.declared.calls.Block.{Block}
 use Rattle.typst_combinators.specs.declared.calls.Call.{Call}
 use Rattle.typst_combinators.specs.declared.calls.Mark.TheVariants as mark
-use Rattle.typst_combinators.specs.Ask.{Ask, shift, shift_one, sunk, sink_one}
-use Rattle.typst_combinators.specs.Ask.Ask.{looked, marked}
+use Rattle.typst_combinators.specs.Ask.{shift, shift_one, sunk, sink_one}
+use Rattle.typst_combinators.specs.Ask.Ask.{marked}
 use Rattle.typst_combinators.specs.Calls.{Answer}
 use Rattle.typst_combinators.specs.Point.{Point, state_of, forgot}
 use Rattle.typst_combinators.specs.Shape.{Shape}

@@ -1,5 +1,5 @@
 -- A block in a larger whole.
-use Rattle.std.proofs.Common.{◌≡◌, ℕ, zero, suc, ◌+◌, ◌-◌, ◌<◌, ◌≤◌, Bool, true, false, ◌||◌, if◌then◌else◌, nat_lt, List, [], ◌∷◌, ◌++◌, length, map, take, drop, length-append, append_assoc, append-nil, refl, ap, sym, ◌∙◌, subst, arith}
+use Rattle.std.proofs.Common.{◌≡◌, ℕ, suc, ◌+◌, ◌-◌, ◌<◌, ◌≤◌, Bool, true, false, ◌||◌, List, [], ◌∷◌, ◌++◌, length, map, take, length-append, append_assoc, refl, ap, sym, ◌∙◌, arith}
 use Rattle.std.proofs.lemmas.List.{map-append}
 use borrow.Author.Tests.{lt-ltb}
 use Rattle.typst_kinds.specs.Kinds.{is_error}
@@ -8,8 +8,8 @@ use Rattle.typst_node.specs.Tree.{Tree}
 use Rattle.typst_combinators.specs.Ask.{Ask, shift, shift_one, sunk, sink_one}
 use Rattle.typst_combinators.specs.Ask.Ask.{looked, marked}
 use Rattle.typst_combinators.specs.Point.{Point}
-use Rattle.typst_combinators.specs.Shape.{all_advised, hinted_error, hinted_last, hinted, Seen, seen}
-use Rattle.typst_combinators.specs.Meaning.{Outcome, Meaning, less, hints_before, joined}
+use Rattle.typst_combinators.specs.Shape.{hinted_error, hinted_last, hinted, seen}
+use Rattle.typst_combinators.specs.Meaning.{Outcome, less, hints_before, joined}
 use Rattle.typst_reuse.specs.Hole.{Deep, fill, top, Hole, plug}
 use Rattle.typst_reuse.specs.Hole.Deep.{bare, under}
 use Rattle.typst_reuse.specs.Spot.{Spot, around, then_spot, after_spot, lower, lowered}
@@ -131,7 +131,7 @@ looks-after os bs ls ks t m k =
     let e : shift t (shift m ls ++ shift (m + k) ks) ≡ shift (t + m) ls ++ shift ((t + m) + k) ks = map-append (shift_one t) (shift m ls) (shift (m + k) ks) ∙ ap (λ u. u ++ shift t (shift (m + k) ks)) (shift-twice t m ls) ∙ ap (λ u. shift (t + m) ls ++ u) (shift-twice t (m + k) ks ∙ ap (λ j. shift j ks) f) in
     ap (λ u. os ++ u) (map-append (shift_one t) bs (shift m ls ++ shift (m + k) ks)) ∙ sym (append_assoc os (shift t bs) (shift t (shift m ls ++ shift (m + k) ks))) ∙ ap (λ u. (os ++ shift t bs) ++ u) e
 
-hints-first : {A B : Type 0} (o : Outcome B) (q : Outcome A) → q.back < length o.nodes → hints_before o q ≡ o.hints
+pub hints-first : {A B : Type 0} (o : Outcome B) (q : Outcome A) → q.back < length o.nodes → hints_before o q ≡ o.hints
 hints-first o q h = rw (lt-ltb q.back (length o.nodes) h) refl
 
 pub then-around : {A B : Type 0} (c : Spot B) (b : Outcome (Unit {0})) (x : Tree) (q : Outcome A) → q.back ≤ length c.hole.right → is_error (fill c.hole.deep x).head.kind ≡ false

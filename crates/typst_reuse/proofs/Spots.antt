@@ -1,39 +1,27 @@
 -- The law of an edit inside a block, for whatever the language can say.
-use Rattle.std.proofs.Common.{◌≡◌, ℕ, zero, suc, ◌+◌, ◌-◌, ◌<◌, ◌≤◌, max, Bool, true, false, ◌&&◌, ◌||◌, if◌then◌else◌, nat_lt, Option, Some, None, List, [], ◌∷◌, ◌++◌, length, map, take, drop, append-nil, append_assoc, refl, ap, sym, ◌∙◌, subst, arith}
-use Rattle.std.proofs.lemmas.List.{map-append}
+use Rattle.std.proofs.Common.{◌≡◌, ℕ, zero, suc, ◌+◌, ◌<◌, max, Bool, true, false, ◌&&◌, if◌then◌else◌, nat_lt, List, [], ◌∷◌, map, drop, refl, ap, sym, ◌∙◌, subst, arith}
 use Rattle.std.proofs.lemmas.Bool.Decides.{nat_tests}
 use Rattle.std.specs.List.{flat_map}
 use borrow.Author.Tests.{ltb-true}
-use Rattle.typst_kinds.specs.Kinds.{is_error}
 use Rattle.typst_node.specs.Tree.{Tree}
 use Rattle.typst_lines.specs.Place.{Place, moved}
-use Rattle.typst_combinators.specs.declared.calls.Block.{Block}
-use Rattle.typst_combinators.specs.declared.calls.Call.{Call}
-use Rattle.typst_combinators.specs.declared.calls.Mark.TheVariants as mark
-use Rattle.typst_combinators.specs.declared.reading.Reading.{Reading}
-use Rattle.typst_combinators.specs.Ask.{Ask, SameIn, shift, shift_one, sunk, sink_one}
-use Rattle.typst_combinators.specs.Ask.Ask.{looked, marked}
-use Rattle.typst_combinators.specs.Calls.{Answer}
-use Rattle.typst_combinators.specs.Point.{Point, state_of, forgot}
-use Rattle.typst_combinators.specs.Shape.{Shape, shaped, after_shape, Seen, seen}
-use Rattle.typst_combinators.specs.Syntax.{Parser, Begin}
-use Rattle.typst_combinators.specs.Syntax.Op.{flushes}
-use Rattle.typst_combinators.specs.Syntax.Parser.{gives, does, next, pick, repeat, wraps, grows, nests, scoped, sees, either, calls, block}
-use Rattle.typst_combinators.specs.Meaning.{Outcome, Meaning, Level, plain, less, answered, joined, followed, turns, as_last, bound, repeated, before, inside, reshaped, wrapped, grown, is_more, growths, growing, nestings, nesting, closed, bounded, with_seen, deeper_by_one, given_up, chosen, entered, left, left_to, done, run}
-use Rattle.typst_combinators.specs.Sound.{Framed, Within, Tidy, Backs}
-use Rattle.typst_combinators.proofs.Looks.{same_in-shift, same_in-first, same_in-second, same_in-sunk}
-use Rattle.typst_combinators.proofs.Within.{if-same, and-second, grew, nest, turns-enough, growths-enough, nestings-enough}
+use Rattle.typst_combinators.specs.Ask.{SameIn}
+use Rattle.typst_combinators.specs.Point.{Point}
+use Rattle.typst_combinators.specs.Shape.{Shape, after_shape, Seen, seen}
+use Rattle.typst_combinators.specs.Syntax.{Begin}
+use Rattle.typst_combinators.specs.Meaning.{Outcome, Meaning, answered, followed, turns, as_last, bound, repeated, before, reshaped, wrapped, nestings, nesting}
+use Rattle.typst_combinators.specs.Sound.{Framed, Within, Backs}
+use Rattle.typst_combinators.proofs.Looks.{same_in-first}
+use Rattle.typst_combinators.proofs.Within.{if-same, and-second, nest, turns-enough, nestings-enough}
 use Rattle.typst_combinators.proofs.Frame.{framed-turns, framed-nestings}
 use Rattle.typst_combinators.proofs.Backs.{backs-turns, tidy-nestings}
-use Rattle.typst_combinators.proofs.Knot.{Sane, sane-run}
-use Rattle.typst_reuse.specs.Hole.{Deep, Hole, fill, plug, top, wrap_hole}
-use Rattle.typst_reuse.specs.Hole.Deep.{bare, under}
-use Rattle.typst_reuse.specs.Spot.{Spot, around, Fits, unit_at, block_head, lowered, valued, then_spot, after_spot, rehole, sunk_spot, closed_spot, last_node, here_spot}
-use Rattle.typst_reuse.specs.Occurrences.{Spots, joined_spots, goes, last_spot, turns_spots, repeated_spots, reshaped_spot, wrapped_spot, grown_spot, growths_spots, growing_spots, nestings_spots, nesting_spots, scoped_spot, seen_spot, bounded_spots, spots}
+use Rattle.typst_reuse.specs.Hole.{Hole, plug, wrap_hole}
+use Rattle.typst_reuse.specs.Spot.{Spot, around, unit_at, block_head, valued, then_spot, after_spot, rehole}
+use Rattle.typst_reuse.specs.Occurrences.{Spots, joined_spots, goes, last_spot, turns_spots, repeated_spots, reshaped_spot, wrapped_spot, nestings_spots, nesting_spots}
 use Rattle.typst_reuse.proofs.Every.{Every, every-append, every-map, every-flat, every-if}
-use Rattle.typst_reuse.proofs.Outcomes.{same-outcome, shift-zero, lowered-zero, sunk-lowered, sunk-shift, or-false, seen-plug}
-use Rattle.typst_reuse.proofs.Wrap.{wrap_nodes, Wraps, wraps-hole, Solid}
-use Rattle.typst_reuse.proofs.Inside.{Edits, Lawful, edits-then, edits-after, rest-same, lawful-then, lawful-after}
+use Rattle.typst_reuse.proofs.Outcomes.{same-outcome, seen-plug}
+use Rattle.typst_reuse.proofs.Wrap.{Wraps, wraps-hole}
+use Rattle.typst_reuse.proofs.Inside.{Edits, Lawful, edits-then, lawful-then, lawful-after}
 
 -- for each block of a reading, what an edit inside it gives
 abbrev pub Inside : {A : Type 0} → Meaning A → Spots A → Type 0

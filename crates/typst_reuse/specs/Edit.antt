@@ -1,13 +1,12 @@
 -- A stretch of a text replaced, inside a block of its reading.
 use Rattle.std.specs.Prelude.{◌≡◌, ℕ, zero, suc, ◌+◌, ◌<◌, ◌≤◌, List, [], ◌∷◌, ◌++◌, length}
 use Rattle.typst_node.specs.Tree.{Tree, forest, trees}
-use Rattle.typst_lines.specs.Place.{Place, moved}
+use Rattle.typst_lines.specs.Place.{Place}
 use Rattle.typst_combinators.specs.Ask.{Ask, shift}
 use Rattle.typst_combinators.specs.Ask.Ask.{looked, marked}
-use Rattle.typst_combinators.specs.Point.{Point}
 use Rattle.typst_combinators.specs.Meaning.{Outcome}
 use Rattle.typst_reuse.specs.Hole.{path_of}
-use Rattle.typst_reuse.specs.Spot.{Spot, around, Fits, unit_at, lowered}
+use Rattle.typst_reuse.specs.Spot.{Spot, unit_at, lowered}
 
 -- one of several
 pub data Among {X : Type 0} (x : X) : List X → Type 0 where
@@ -30,8 +29,8 @@ AllBeginIn past rest [] = Unit {0}
 AllBeginIn past rest (looked at look ∷ asks) = (look.back ≤ past + at) × (past + at ≤ length rest) × AllBeginIn past rest asks
 AllBeginIn past rest (marked at gap fewer mark s ∷ asks) = AllBeginIn past rest asks
 
--- The test: a block that goes on so many characters past a stretch `old`, which becomes `new`, and the block's node in the new text.
-pub record Passes {A : Type 0} (front old new rest : List ℕ) (c : Spot A) (past : ℕ) (x : Tree) : Type 0 where
+-- The test: a block that goes on so many characters past a stretch `old`, which becomes `new`.
+pub record Passes {A : Type 0} (front old new rest : List ℕ) (c : Spot A) (past : ℕ) : Type 0 where
   -- the block covers the stretch strictly
   pub starts : c.at < length front
   pub ends : (unit_at c (text_with front old rest)).taken + c.at ≡ (length front + length old) + past
@@ -40,9 +39,8 @@ pub record Passes {A : Type 0} (front old new rest : List ℕ) (c : Spot A) (pas
   pub before : AllEndBy (length front) c.before
   -- what was looked at after the block begins at the stretch's end or behind it
   pub after : AllBeginIn past rest c.after
-  -- read on the new text from its state, the block ends at the shifted end, in the same state, with a node of its kind
+  -- read on the new text from its state, the block ends at the shifted end
   pub shifted : (unit_at c (text_with front new rest)).taken + c.at ≡ (length front + length new) + past
-  pub fits : Fits c (unit_at c (text_with front new rest)) x
 
 -- one of several nodes changed, by its index
 abbrev pub alter : ℕ → (Tree → Tree) → List Tree → List Tree

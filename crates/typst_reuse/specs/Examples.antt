@@ -4,7 +4,6 @@ use Rattle.typst_classes.specs.Classes.{CharClasses, by_law}
 use Rattle.typst_combinators.specs.Ask.{Ask}
 use Rattle.typst_combinators.specs.Ask.Ask.{looked, marked}
 use Rattle.typst_reuse.specs.Hole.{path_of}
-use Rattle.typst_reuse.specs.Spot.{Spot}
 use Rattle.typst_reuse.specs.Laws.{blocks_of_text}
 
 -- where looks end, and how far before the place that they are counted from they begin

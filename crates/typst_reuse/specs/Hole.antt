@@ -1,5 +1,5 @@
 -- Nodes with a hole for one of them, at any depth.
-use Rattle.std.specs.Prelude.{ℕ, suc, ◌-◌, Bool, true, false, if◌then◌else◌, nat_le, List, [], ◌∷◌, ◌++◌, length, map, take, drop, None}
+use Rattle.std.specs.Prelude.{ℕ, suc, ◌-◌, if◌then◌else◌, nat_le, List, [], ◌∷◌, ◌++◌, length, take, drop, None}
 use Rattle.typst_kinds.specs.declared.kind.SyntaxKind.{SyntaxKind}
 use Rattle.typst_kinds.specs.Kinds.{is_error}
 use Rattle.typst_node_data.specs.Head.{Head, inner_head}

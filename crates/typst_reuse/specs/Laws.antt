@@ -1,5 +1,5 @@
 -- Laws of edits of a text.
-use Rattle.std.specs.Prelude.{◌≡◌, ℕ, List, []}
+use Rattle.std.specs.Prelude.{◌≡◌, ℕ, List}
 use Rattle.typst_node.specs.Tree.{Tree, forest, inner_of}
 use Rattle.typst_kinds.specs.declared.kind.SyntaxKind.TheVariants as kind
 use Rattle.typst_classes.specs.Classes.{CharClasses}
@@ -11,7 +11,7 @@ use Rattle.typst_grammar.specs.Grammar.{rules, max_depth, start_of, whole, parse
 use Rattle.std.specs.Prelude.{◌++◌}
 use Rattle.typst_reuse.specs.Hole.{path_of}
 use Rattle.typst_reuse.specs.Named.{Named}
-use Rattle.typst_reuse.specs.Spot.{Spot, unit_at}
+use Rattle.typst_reuse.specs.Spot.{Spot, Fits, unit_at, last_node}
 use Rattle.typst_reuse.specs.Occurrences.{level_spots}
 use Rattle.typst_reuse.specs.Edit.{Among, text_with, Passes, replaced, Edited}
 
@@ -19,15 +19,17 @@ use Rattle.typst_reuse.specs.Edit.{Among, text_with, Passes, replaced, Edited}
 unfoldable pub blocks_of_text : CharClasses → List ℕ → List (Spot (Unit {0}))
 blocks_of_text k text = level_spots rules k max_depth whole (start_of text) (start_point markup_reading)
 
--- What the reading and the tree of the new text are, where an edit inside a block passes the test.
+-- What the reading and the tree of the new text are, where an edit inside a block passes the test, and the block's node is this one.
 pub record Kept (k : CharClasses) (front old new rest : List ℕ) (c : Spot (Unit {0})) (x : Tree) : Type 0 where
+  -- the block leaves the state that it left, and gives this node of its kind where it gave its node
+  pub fits : Fits c (unit_at c (text_with front new rest)) x
   pub reading : Edited (parsed k max_depth (front ++ (old ++ rest))) (parsed k max_depth (front ++ (new ++ rest))) c (unit_at c (text_with front old rest)) (unit_at c (text_with front new rest)) x
   pub tree : tree k (front ++ (new ++ rest)) ≡ inner_of kind.Markup (forest (replaced (path_of c.hole) x (parsed k max_depth (front ++ (old ++ rest))).nodes))
 
 -- The block law: where an edit inside a block passes the test, the reading of the new text is the old one with the block's node and its part of the log exchanged.
 abbrev pub BlockLaw : Type 0
-BlockLaw = (k : CharClasses) (front old new rest : List ℕ) (c : Spot (Unit {0})) (past : ℕ) (x : Tree)
-    → Among c (blocks_of_text k (front ++ (old ++ rest))) → Passes front old new rest c past x → Kept k front old new rest c x
+BlockLaw = (k : CharClasses) (front old new rest : List ℕ) (c : Spot (Unit {0})) (past : ℕ)
+    → Among c (blocks_of_text k (front ++ (old ++ rest))) → Passes front old new rest c past → Kept k front old new rest c (last_node (unit_at c (text_with front new rest)).nodes)
 
 -- what a block reads, where so many levels are left
 abbrev pub block_at : CharClasses → ℕ → Block → Meaning (Unit {0})

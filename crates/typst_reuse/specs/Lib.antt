@@ -3,5 +3,8 @@ pub mod Spot
 pub mod Occurrences
 pub mod Edit
 pub mod Named
+pub mod Runs
+pub mod Bytes
 pub mod Laws
 pub mod Examples
+pub mod RunExamples

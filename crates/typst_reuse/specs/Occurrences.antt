@@ -14,8 +14,8 @@ use Rattle.typst_combinators.specs.Steps.{peek}
 use Rattle.typst_combinators.specs.Syntax.{Parser, Begin, ◌>>◌}
 use Rattle.typst_combinators.specs.Syntax.Op.{flushes}
 use Rattle.typst_combinators.specs.Syntax.Parser.{gives, does, next, pick, repeat, wraps, grows, nests, scoped, sees, either, calls, block}
-use Rattle.typst_combinators.specs.Meaning.{Outcome, Meaning, Level, answered, joined, turns, as_last, bound, before, blockless, inside, reshaped, grown, is_more, nestings, entered, left, done, run}
-use Rattle.typst_reuse.specs.Hole.{Hole, plug, wrap_hole}
+use Rattle.typst_combinators.specs.Meaning.{Outcome, Meaning, Level, answered, joined, turns, bound, before, blockless, grown, is_more, nestings, entered, left, done, run}
+use Rattle.typst_reuse.specs.Hole.{plug, wrap_hole}
 use Rattle.typst_reuse.specs.Spot.{Spot, block_head, valued, then_spot, after_spot, rehole, sunk_spot, closed_spot, here_spot}
 use Rattle.std.specs.Prelude.{drop}
 

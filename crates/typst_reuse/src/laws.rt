@@ -1,13 +1,16 @@
 //! Laws of edits.
 
 ghost use Rattle.typst_classes.specs.Classes.{CharClasses};
+ghost use Rattle.typst_reuse.specs.Bytes.{DecisionLaw};
 ghost use Rattle.typst_reuse.specs.Examples.{Blocks};
+ghost use Rattle.typst_reuse.specs.RunExamples.{Runs};
 ghost use Rattle.typst_reuse.specs.Laws.{BlockLaw, NamesLaw};
+ghost use Rattle.typst_reuse.specs.Runs.{RunLaw, StartLaw};
 
 /// An edit inside a block of a text: where all that was looked at before the block ends at the
 /// replaced stretch or before it, all that was looked at behind the block begins at the stretch's
 /// end or behind it, and the block, read on the new text from its state, ends at the shifted end,
-/// the reading of the new text is the old one with the block's node and its part of the log
+/// the block leaves the state that it left and gives one node of its kind, and the reading of the new text is the old one with the block's node and its part of the log
 /// exchanged. Each block is read as its name, its level and its state say, and its two marks
 /// stand in the log directly around what it asked.
 pub fn block_law()
@@ -15,7 +18,30 @@ pub fn block_law()
     ensures names { NamesLaw }
 {}
 
+/// An edit inside some pieces of a text's run: where all that was looked at before these pieces
+/// ends at the replaced stretch or before it, all that was looked at behind them begins at the
+/// stretch's end or behind it, and as many pieces as are read of the new text from where they began
+/// end at the shifted end, with what was carried there and in the same state, the reading of the
+/// new text has these in their place, and is the same before and behind them. Where nothing is kept
+/// behind them, as at the end of the run, the pieces before are kept by the first of these alone.
+pub fn run_law()
+    ensures pieces { RunLaw }
+    ensures start { StartLaw }
+{}
+
+/// Each block of a text has two notes in its log, where it begins and where it ends. Two numbers
+/// decide of them what the block law asks of looks: where all looks before the first end, and where
+/// those behind the second begin, in bytes beside the ends of the replaced stretch.
+pub fn decision_law()
+    ensures { DecisionLaw }
+{}
+
 /// Where the blocks of short texts stand, and what is looked at around them.
 pub fn blocks_of_texts()
     ensures { (beyond : CharClasses) → Blocks beyond }
+{}
+
+/// Edits inside pieces of short texts, and what of the test fails where the trees differ.
+pub fn runs_of_texts()
+    ensures { (beyond : CharClasses) → Runs beyond }
 {}

@@ -4,6 +4,7 @@
 mod source;
 
 pub use source::Source;
+pub use typst_grammar::parse;
 
 #[cfg(test)]
 mod tests;

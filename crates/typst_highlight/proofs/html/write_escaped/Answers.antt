@@ -1,24 +1,42 @@
-use Rattle.std.proofs.Common.{◌≡◌, ◌++◌, [], drop, length, sym, ap, ◌∙◌, append-nil, arith, string_bytes}
-use Rattle.std.specs.Prelude.{encode_utf8_all}
-use Rattle.std.proofs.lemmas.Iterator.{YieldsList-from_chars}
-use Rattle.std.proofs.lemmas.Iterator.Consumers.{YieldsList-turn, YieldsList-end}
-use Rattle.std.proofs.lemmas.List.{length_push, at_drop_all}
-use Rattle.std.proofs.lemmas.Str.{encodes-chars}
-use Rattle.std.specs.Str.{chars}
-use Rattle.typst_highlight.specs.Html.{escaped}
-use Rattle.typst_highlight.proofs.Escapes.{escaped_more}
+use Rattle.std.proofs.Common.{◌≡◌, ◌+◌, ◌<◌, ◌≤◌, ◌++◌, ◌∙◌, refl, ap, arith, length, get_or, string_bytes}
+use Rattle.std.proofs.lemmas.Str.{IsCharBoundary-start, IsCharBoundary-after_ascii}
+use Rattle.typst_highlight.proofs.Escapes.{plain_more, plain_none, entity_more, plain_rest}
 use Rattle.typst_highlight.proofs.html.write_escaped.Goals as goal
+use Rattle.typst_highlight.proofs.html.write_escaped.Goals.{in-Some+in_ok-push_str+in_ok-push_str-2, in_default}
 
-pub loop-c-init : goal.loop-c-init
-loop-c-init c = ap (λ bs. string_bytes c.args.html.now ++ escaped bs) (encodes-chars c.args.text.now c.utf8.text)
+pub loop-at-init : goal.loop-at-init
+loop-at-init c = record { written = refl; plain = refl; before = omega arith; boundary = IsCharBoundary-start c.args.text.now c.utf8.text }
 
-pub loop-c-preserved : goal.loop-c-preserved
-loop-c-preserved c =
-    let t = YieldsList-turn (YieldsList-from_chars c.args.text.now c.utf8.text cc) c.loop-c.yielded _ c.loop-c.yielded_by _ _ c.in-Some.c c.in-Some.is c.next.ensures.steps in
-    escaped_more (chars c.args.text.now) (string_bytes c.loop-c.html) _ _ (length c.loop-c.yielded) _ c.in-Some.c t (length_push c.loop-c.yielded c.in-Some.c) c.in_ok-write_char.ensures c.loop-c.invariant
+pub loop-at-preserved : goal.loop-at-preserved
+loop-at-preserved c =
+    let text = c.args.text.now in
+    let at = c.loop-at.at in
+    let bytes = c.as_bytes-bytes.result.now in
+    let same : bytes ≡ text = c.as_bytes-bytes.ensures.value in
+    let byte : get_or bytes at 0 ≡ get_or text at 0 = ap (λ t. get_or t at 0) same in
+    let within : at < length text = omega (arith, ap length same) in
+    let so_far = c.loop-at.invariant in elim c.match-entity.branch [
+      | in-Some+in_ok-push_str+in_ok-push_str-2 w ↦
+          let front = w.in_ok-push_str.ensures.bytes ∙ ap (λ bs. string_bytes c.loop-at.html ++ bs) w.range.ensures.value in
+          let behind = ap string_bytes w.html-is ∙ w.in_ok-push_str-2.ensures.bytes ∙ ap (λ bs. string_bytes w.push_str.new.self ++ bs) w.in-Some.ensures.0 in
+          record {
+            written = entity_more text (string_bytes c.loop-at.html) _ _ (string_bytes c.match-entity.html) c.loop-at.done at c.match-entity.done (get_or bytes at 0) so_far.before within byte w.done-is front behind so_far.plain so_far.written;
+            plain = plain_none text c.match-entity.done (at + 1) w.done-is;
+            before = omega (arith, w.done-is);
+            boundary = rw w.done-is (IsCharBoundary-after_ascii text at c.utf8.text within (omega (arith, byte, w.in-Some.ensures.1)));
+          }
+      | in_default w ↦
+          record {
+            written = rw (w.html-is, w.done-is) so_far.written;
+            plain = rw w.done-is (plain_more text c.loop-at.done at (at + 1) (get_or bytes at 0) so_far.before within byte refl w.in_default.ensures so_far.plain);
+            before = omega (arith, w.done-is);
+            boundary = rw w.done-is so_far.boundary;
+          }
+    ]
 
 pub returns : goal.returns
 returns c =
-    let t = YieldsList-end (YieldsList-from_chars c.args.text.now c.utf8.text cc) c.loop-c.yielded _ c.loop-c.yielded_by _ _ c.in-None.is c.next.ensures.steps in
-    let none : escaped (encode_utf8_all (drop (length c.loop-c.yielded) (chars c.args.text.now))) ≡ [] = at_drop_all (λ cs. escaped (encode_utf8_all cs)) (chars c.args.text.now) (length c.loop-c.yielded) (omega (arith, t.1)) in
-    sym (append-nil (string_bytes c.loop-c.html)) ∙ ap (λ ys. string_bytes c.loop-c.html ++ ys) (sym none) ∙ c.loop-c.invariant
+    let so_far = c.loop-at.invariant in
+    let end : length c.args.text.now ≤ c.loop-at.at = omega (arith, ap length c.as_bytes-bytes.ensures.value) in
+    let rest = c.in_ok-push_str-3.ensures.bytes ∙ ap (λ bs. string_bytes c.loop-at.html ++ bs) c.range_from.ensures.value in
+    plain_rest c.args.text.now (string_bytes c.loop-at.html) _ _ c.loop-at.done c.loop-at.at so_far.before end rest so_far.plain so_far.written

@@ -1,8 +1,13 @@
-use Rattle.std.proofs.Common.{◌≡◌, ◌++◌, length, drop, string_bytes}
-use Rattle.std.specs.Prelude.{encode_utf8_all}
-use Rattle.std.specs.Str.{chars}
+use Rattle.std.proofs.Common.{◌≡◌, ◌≤◌, ◌++◌, drop, string_bytes}
+use Rattle.std.specs.Str.{IsCharBoundary}
+use Rattle.std.specs.List.{slice_range}
 use Rattle.typst_highlight.specs.Html.{escaped}
 use Rattle.typst_highlight.proofs.html.write_escaped.Given as goal
 
-abbrev pub invariant-loop-c : goal.invariant-loop-c
-invariant-loop-c l = string_bytes l.html ++ escaped (encode_utf8_all (drop (length l.yielded) (chars l.text))) ≡ string_bytes l.fn.html ++ escaped l.text
+abbrev pub invariant-loop-at : goal.invariant-loop-at
+invariant-loop-at l = record {
+  written : string_bytes l.html ++ escaped (drop l.done l.text) ≡ string_bytes l.fn.html ++ escaped l.text;
+  plain : escaped (slice_range l.text l.done l.at) ≡ slice_range l.text l.done l.at;
+  before : l.done ≤ l.at;
+  boundary : IsCharBoundary l.text l.done;
+}

@@ -1,6 +1,6 @@
 use Rattle.typst_combinators.specs.Meaning.{Level}
 use Rattle.typst_combinators.specs.Depth.{skip_one}
-use Rattle.typst_machine.specs.Bytes.{bytes_left}
+use Rattle.typst_ahead.specs.Bytes.{bytes_left}
 use Rattle.typst_machine.specs.View.{Fills}
 use Rattle.typst_machine.proofs.Steps.{Turning}
 use Rattle.typst_machine.proofs.depth.skip.Given as goal

@@ -1,6 +1,6 @@
 use Rattle.std.proofs.Common.{◌≡◌, ◌≤◌, length, ap, subst, ◌∙◌, refl}
 use Rattle.std.specs.String.{string_bytes}
-use Rattle.typst_source.specs.Headline.{edited}
+use Rattle.typst_parser.specs.Headline.{edited}
 use Rattle.typst_cli.specs.Asked.{range_in}
 use Rattle.typst_cli.specs.PrintedEdit.{IsRange}
 use Rattle.typst_cli.proofs.SpansAside.{whole-answer}
@@ -17,6 +17,6 @@ returns-clause-printed c =
       ordered = c.in_ok-parsed.ensures.within.0;
       within = subst (λ t. c.in_ok-parsed.parsed.end ≤ length t) new c.in_ok-parsed.ensures.within.1;
       printed =
-        whole-answer c.in_ok-parsed.parsed c.edit.new.self.text wanted _ _ _ _ c.edit.new.self.root new c.in_ok-parsed.ensures.headline.tree c.root.ensures.value
-        c.new-printed.ensures.bytes c.in_ok-push_range.ensures c.in_ok-print_node.ensures;
+          whole-answer c.in_ok-parsed.parsed c.edit.new.self.text wanted _ _ _ _ c.edit.new.self.root new c.in_ok-parsed.ensures.headline.tree c.root.ensures.value
+          c.new-printed.ensures.bytes c.in_ok-push_range.ensures c.in_ok-print_node.ensures;
     }

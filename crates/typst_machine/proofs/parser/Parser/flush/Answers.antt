@@ -2,9 +2,10 @@ use Rattle.std.proofs.Common.{◌≡◌, ℕ, ◌-◌, ◌∙◌, Bool, false, N
 use Rattle.typst_lines.specs.Scanner.{place}
 use Rattle.typst_combinators.specs.Point.{is_nil}
 use Rattle.typst_combinators.specs.Hand.{Hand, known_by}
-use Rattle.typst_machine.specs.Cursor.{hand_of_ahead, view_of}
+use Rattle.typst_machine.specs.Cursor.{view_of}
+use Rattle.typst_ahead.specs.Cursor.{hand_of_ahead}
 use Rattle.typst_machine.proofs.Ready.{nil-is, flushed-none, flushed-some, was-read}
-use Rattle.typst_machine.proofs.Trivia.{same-hand}
+use Rattle.typst_ahead.proofs.Trivia.{same-hand}
 use Rattle.typst_machine.proofs.parser.Parser.flush.Goals as goal
 
 none : (n : ℕ) → n - n ≡ 0

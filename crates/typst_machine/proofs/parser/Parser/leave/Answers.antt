@@ -1,10 +1,10 @@
 use Rattle.std.proofs.Common.{Bool, None, if◌then◌else◌, ◌∙◌, refl, sym, ap}
 use Rattle.typst_lines.specs.Place.{Place}
 use Rattle.typst_combinators.specs.Hand.{judged, column_at, known_by}
-use Rattle.typst_machine.specs.Bytes.{column_hull}
+use Rattle.typst_ahead.specs.Bytes.{column_hull}
 use Rattle.typst_machine.proofs.Ready.{left-again, left-kept, left-judged, was-read}
-use Rattle.typst_machine.specs.Cursor.{hand_of_ahead}
-use Rattle.typst_machine.proofs.Trivia.{same-hand}
+use Rattle.typst_ahead.specs.Cursor.{hand_of_ahead}
+use Rattle.typst_ahead.proofs.Trivia.{same-hand}
 use Rattle.typst_machine.proofs.parser.Parser.leave.Goals as goal
 
 pub returns-then-not-same_mode : goal.returns-then-not-same_mode

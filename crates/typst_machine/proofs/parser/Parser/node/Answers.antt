@@ -5,7 +5,7 @@ use Rattle.typst_lines.specs.Place.{moved}
 use Rattle.typst_classes.specs.Classes.{CharClasses}
 use Rattle.typst_token_nodes.specs.Nodes.{token_node}
 use Rattle.typst_combinators.specs.Hand.{text_ahead}
-use Rattle.typst_machine.specs.Cursor.{distance}
+use Rattle.typst_ahead.specs.Cursor.{distance}
 use Rattle.typst_machine.specs.View.{View}
 use Rattle.typst_machine.proofs.parser.Parser.node.Goals as goal
 

@@ -3,7 +3,7 @@ use Rattle.std.proofs.lemmas.Str.{IsUtf8-had}
 use Rattle.typst_readers.proofs.Sights.{offset-is}
 use Rattle.typst_combinators.specs.Log.{Log}
 use Rattle.typst_machine.specs.Cursor.{view_of}
-use Rattle.typst_machine.specs.View.{with_noted}
+use Rattle.typst_ahead.specs.Noted.{with_noted}
 use Rattle.typst_machine.proofs.Ready.{noted-here}
 use Rattle.typst_machine.proofs.parser.Parser.note_here.Goals as goal
 

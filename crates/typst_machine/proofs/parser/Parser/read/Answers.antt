@@ -6,8 +6,9 @@ use Rattle.typst_classes.specs.Classes.{CharClasses}
 use Rattle.typst_readers.specs.declared.hull.Hull.{Hull}
 use Rattle.typst_combinators.specs.Hand.{hand_at, known_by}
 use Rattle.typst_combinators.specs.Log.{with_hull}
-use Rattle.typst_machine.specs.Bytes.{token_hull, whole_at}
-use Rattle.typst_machine.specs.Cursor.{hand_of_ahead, view_of}
+use Rattle.typst_ahead.specs.Bytes.{token_hull, whole_at}
+use Rattle.typst_machine.specs.Cursor.{view_of}
+use Rattle.typst_ahead.specs.Cursor.{hand_of_ahead}
 use Rattle.typst_machine.proofs.Ready.{looked-is}
 use Rattle.typst_machine.proofs.parser.Parser.read.Goals as goal
 

@@ -8,8 +8,9 @@ use Rattle.typst_combinators.specs.Point.{Point}
 use Rattle.typst_combinators.specs.Hand.{known_by}
 use Rattle.typst_combinators.specs.Meaning.{less, taken_node}
 use Rattle.typst_combinators.specs.Shape.{count_empty}
-use Rattle.typst_machine.specs.declared.ahead.ReadAhead.{ReadAhead}
-use Rattle.typst_machine.specs.Cursor.{distance, hand_of_ahead, known_of}
+use Rattle.typst_ahead.specs.declared.ahead.ReadAhead.{ReadAhead}
+use Rattle.typst_machine.specs.Cursor.{known_of}
+use Rattle.typst_ahead.specs.Cursor.{distance, hand_of_ahead}
 use Rattle.typst_machine.specs.View.{View}
 use Rattle.typst_combinators.proofs.Places.{moved-sum}
 use Rattle.typst_machine.proofs.Ready.{taken-is}

@@ -1,0 +1,4 @@
+pub mod Bytes
+pub mod Noted
+pub mod Codes
+pub mod Cursor

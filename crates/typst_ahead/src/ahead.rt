@@ -1,0 +1,291 @@
+//! The token that is read ahead.
+
+ghost use Rattle.std.specs.Prelude.{◌≡◌, ◌≤◌, ◌<◌, ◌^◌, ◌++◌, ◌∷◌, [], IfOk, OnOk, OnErr};
+ghost use Rattle.std.specs.Str.{chars};
+ghost use Rattle.typst_token_nodes.specs.Nodes.{token_node};
+ghost use Rattle.typst_kinds.specs.Kinds.{is_error};
+ghost use Rattle.typst_lines.specs.Scanner.{place};
+ghost use Rattle.typst_combinators.specs.Hand as spec;
+ghost use Rattle.typst_combinators.specs.Point as point;
+ghost use Rattle.typst_ahead.specs.Bytes as bytes;
+ghost use Rattle.typst_ahead.specs.Bytes.{bytes_left};
+ghost use Rattle.typst_readers.specs.Reader.{exec};
+ghost use Rattle.typst_readers.specs.Sight.{hull_of};
+ghost use Rattle.typst_lexer.specs.Tokens.{token};
+ghost use Rattle.typst_ahead.specs.Cursor.{IsAhead, Stands};
+
+use crate::log::joined;
+use std::alloc::{AllocError, Global};
+use typst_classes::Classes;
+use typst_combinators::{AtNewline, Newlines, Reading};
+use typst_kinds::{SyntaxKind, SyntaxMode};
+use typst_lexer::lexer::token;
+use typst_lexer::{Hull, Token};
+use typst_lines::{Scanner, is_newline};
+use typst_node::SyntaxNode;
+use typst_token_nodes::{is_leaf, leaf_node, make_node};
+
+/// The token at hand, with the trivia before it.
+#[derive(Drop)]
+pub struct ReadAhead<'s> {
+    /// Whether the token was asked for. If not, it stands for nothing.
+    pub is_read: bool,
+    /// Where the trivia begin.
+    pub before: Scanner<'s>,
+    /// Where the token begins.
+    pub start: Scanner<'s>,
+    /// Where it ends.
+    pub after: Scanner<'s>,
+    /// The nodes of the trivia.
+    pub trivia: Vec<SyntaxNode>,
+    /// The newlines before the token, also those that became nodes already.
+    pub newlines: Newlines,
+    pub token: Token,
+    /// The token's kind, or the end where the newline rule stops.
+    pub kind: SyntaxKind,
+    /// What was looked at for the token.
+    pub own: Hull,
+    /// The same, with its column where the newline rule asks for it.
+    pub here: Hull,
+}
+
+impl<'s> ReadAhead<'s> {
+    ghost use Rattle.std.specs.Prelude.{false};
+
+    /// Nothing, at a place.
+    pub fn none(alloc: Global, at: Scanner<'s>) -> ReadAhead<'s>
+        ensures stands { Stands result }
+        ensures before { result.before ≡ at.entry }
+        ensures unread { result.is_read ≡ false }
+    {
+        let nothing = Hull { reach: 0, least: 0 };
+        ReadAhead {
+            is_read: false,
+            before: at,
+            start: at,
+            after: at,
+            trivia: Vec::new(alloc),
+            newlines: no_newlines(),
+            token: Token {
+                kind: SyntaxKind::End,
+                newline: false,
+                fault: None,
+            },
+            kind: SyntaxKind::End,
+            own: nothing,
+            here: nothing,
+        }
+    }
+
+    /// Passes the token. What comes behind it wasn't asked for.
+    #[inline(always)]
+    pub fn pass(&mut self)
+        ensures { self.new ≡ record self.old { is_read = false; before = self.old.after; start = self.old.after } }
+    {
+        self.is_read = false;
+        self.before = self.after;
+        self.start = self.after;
+    }
+
+    /// Reads trivia and a token, and answers all that was looked at for them.
+    pub fn read<C: Classes>(
+        &mut self,
+        alloc: Global,
+        held: Reading,
+        classes: &C,
+    ) -> Result<Hull, AllocError>
+        ensures read { OnOk result (IsAhead (C.classes classes.now) held self.old.before self.new) }
+        ensures hull { IfOk result (λ u. u ≡ bytes.whole_at (C.classes classes.now) held (place self.old.before)) }
+        ensures refused { OnErr result (Stands self.old → Stands self.new) }
+    {
+        self.trivia.clear();
+        let mut newlines = no_newlines();
+        let mut start = self.before;
+        let mut tokens = Hull {
+            reach: 0,
+            least: usize::MAX,
+        };
+        'tokens: loop {
+            let next = read_token(alloc, start, held.mode, classes)?;
+            tokens = joined(tokens, next.hull);
+            if !next.token.kind.is_trivia() || left(&start) <= left(&next.after) {
+                let (kind, here) = judged(held, newlines, next.token.kind, &start, next.hull);
+                self.is_read = true;
+                self.start = start;
+                self.after = next.after;
+                self.newlines = newlines;
+                self.token = next.token;
+                self.kind = kind;
+                self.own = next.hull;
+                self.here = here;
+                return Ok(joined(tokens, here));
+            }
+            let text = next.after.since(&start);
+            push_node(&mut self.trivia, alloc, next.token, text, classes)?;
+            newlines = with_token(newlines, next.token);
+            start = next.after;
+        }
+    }
+}
+
+/// Adds the node of a token that took the text behind the others.
+#[inline(always)]
+fn push_node<C: Classes>(
+    nodes: &mut Vec<SyntaxNode>,
+    alloc: Global,
+    token: Token,
+    text: &str,
+    classes: &C,
+) -> Result<(), AllocError>
+    ensures { OnOk result (nodes.new.items ≡ nodes.old.items ++ token_node (C.classes classes.now) token (chars text.now) ∷ []) }
+{
+    if is_leaf(token) {
+        let node = leaf_node(alloc, token, text)?;
+        nodes.push(node)?;
+        return Ok(());
+    }
+    let node = make_node(alloc, token, text, classes)?;
+    nodes.push(node)?;
+    Ok(())
+}
+
+/// A token that was read, where it ends, and what was looked at for it.
+#[derive(Clone, Copy)]
+pub struct Read<'s> {
+    pub token: Token,
+    pub after: Scanner<'s>,
+    pub hull: Hull,
+}
+
+/// Reads one token.
+#[inline(always)]
+pub fn read_token<'s, C: Classes>(
+    alloc: Global,
+    start: Scanner<'s>,
+    mode: SyntaxMode,
+    classes: &C,
+) -> Result<Read<'s>, AllocError>
+    ensures reads { IfOk result (λ r. exec (token (C.classes classes.now) mode) (place start.entry) ≡ (r.token, place r.after)) }
+    ensures hull { IfOk result (λ r. r.hull ≡ bytes.token_hull (C.classes classes.now) mode (place start.entry)) }
+    ensures fits { IfOk result (λ r. r.hull.least < 2 ^ 64) }
+    ensures same_text { IfOk result (λ r. r.after.text.now ≡ start.entry.text.now) }
+{
+    let mut after = start;
+    let (token, hull) = token(alloc, &mut after, mode, classes)?;
+    Ok(Read { token, after, hull })
+}
+
+/// How many bytes are ahead.
+pub fn left(s: &Scanner<'_>) -> usize
+    ensures { result ≡ bytes_left (place s.now) }
+{
+    s.after().len()
+}
+
+/// No newlines were passed.
+pub fn no_newlines() -> Newlines
+    ensures { result ≡ point.no_newlines }
+{
+    Newlines {
+        any: false,
+        parbreak: false,
+    }
+}
+
+/// With the newlines of a trivia token.
+fn with_token(newlines: Newlines, token: Token) -> Newlines
+    ensures { result ≡ spec.both_newlines newlines (spec.newlines_of token) }
+{
+    Newlines {
+        any: newlines.any | token.newline,
+        parbreak: newlines.parbreak | is_parbreak(token.kind),
+    }
+}
+
+fn is_parbreak(kind: SyntaxKind) -> bool
+    ensures { result ≡ spec.is_parbreak kind }
+{
+    matches!(kind, SyntaxKind::Parbreak)
+}
+
+/// The kind of a token, or the end where the newline rule stops; and what was looked at for the
+/// token, with its column where the rule asks for it.
+#[inline(always)]
+pub fn judged(
+    held: Reading,
+    newlines: Newlines,
+    kind: SyntaxKind,
+    start: &Scanner<'_>,
+    own: Hull,
+) -> (SyntaxKind, Hull)
+    ensures kind { result.0 ≡ spec.judged held newlines kind (spec.column_at (place start.now)) }
+    ensures here { result.1 ≡ bytes.column_hull held newlines (place start.now) own }
+{
+    let (stops, here) = stops(held, newlines, kind, start, own);
+    if stops {
+        (SyntaxKind::End, here)
+    } else {
+        (kind, here)
+    }
+}
+
+#[inline(always)]
+fn stops(
+    held: Reading,
+    newlines: Newlines,
+    kind: SyntaxKind,
+    start: &Scanner<'_>,
+    own: Hull,
+) -> (bool, Hull)
+    ensures stops { result.0 ≡ spec.stops held newlines kind (spec.column_at (place start.now)) }
+    ensures here { result.1 ≡ bytes.column_hull held newlines (place start.now) own }
+{
+    if !newlines.any {
+        return (false, own);
+    }
+    match held.at_newline {
+        AtNewline::Continue => (false, own),
+        AtNewline::Stop => (true, own),
+        AtNewline::ContextualContinue => (!goes_on(kind), own),
+        AtNewline::StopParBreak => (newlines.parbreak, own),
+        AtNewline::RequireColumn(least) => {
+            if !is_markup(held.mode) {
+                return (false, own);
+            }
+            let (column, line) = column(start);
+            (column <= least, joined(own, line))
+        }
+    }
+}
+
+fn goes_on(kind: SyntaxKind) -> bool
+    ensures { result ≡ spec.goes_on kind }
+{
+    matches!(kind, SyntaxKind::Else | SyntaxKind::Dot)
+}
+
+fn is_markup(mode: SyntaxMode) -> bool
+    ensures { result ≡ spec.is_markup mode }
+{
+    matches!(mode, SyntaxMode::Markup)
+}
+
+/// How many characters stand between the last newline character, or the text's start, and here; and
+/// what was looked at for it.
+#[inline(never)]
+pub fn column(s: &Scanner<'_>) -> (usize, Hull)
+    ensures column { result.0 ≡ spec.column_at (place s.now) }
+    ensures hull { result.1 ≡ hull_of (spec.column_look (place s.now)) (place s.now) }
+{
+    let reach = s.cursor();
+    let mut behind = *s;
+    let mut count = 0usize;
+    'back: while let Some(c) = behind.uneat() {
+        if is_newline(c) {
+            let least = behind.cursor() + 1;
+            return (count, Hull { reach, least });
+        }
+        count = count.saturating_add(1);
+    }
+    (count, Hull { reach, least: 0 })
+}

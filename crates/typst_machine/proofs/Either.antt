@@ -1,0 +1,216 @@
+-- Two readings of one place, of which the first may be given up.
+use Rattle.std.proofs.Common.{Option, Some, None, ◌≡◌, ℕ, zero, suc, ◌+◌, ◌-◌, ◌^◌, ◌<◌, ◌≤◌, min, Bool, true, false, if◌then◌else◌, List, [], ◌∷◌, ◌++◌, length, take, drop, append-nil, length-append, refl, ap, sym, ◌∙◌, subst, arith}
+use Rattle.typst_lines.specs.Place.{Place, moved}
+use Rattle.typst_node.specs.Tree.{Tree}
+use Rattle.typst_readers.specs.Sight.{hull_of}
+use Rattle.typst_readers.specs.declared.hull.Hull.{Hull}
+use Rattle.typst_combinators.specs.declared.calls.Note.{Note}
+use Rattle.typst_combinators.specs.Ask.{Ask, only_looks}
+use Rattle.typst_combinators.specs.Ask.Ask.{looked, marked}
+use Rattle.typst_combinators.specs.Point.{Trivia}
+use Rattle.typst_combinators.specs.Hand.{known_by}
+use Rattle.typst_combinators.specs.Log.{Log, least_behind, logged, with_hull, with_more, with_note}
+use Rattle.typst_combinators.specs.Syntax.{Parser}
+use Rattle.typst_combinators.specs.Syntax.Parser.{either}
+use Rattle.typst_combinators.specs.Meaning.{Level, given_up, standing, run}
+use Rattle.typst_machine.specs.View.{View, Runs, Ran, Goes, Does, Fits, at}
+use Rattle.typst_ahead.specs.Noted.{listed}
+use Rattle.typst_machine.specs.Checkpoint.{Leaves, Saved, forgot_notes, is_some, saved, trivia_back, went_back}
+use Rattle.typst_ahead.specs.Noted.{least_of, unnoted}
+use Rattle.typst_combinators.proofs.Places.{take-both, drop-both, take-all, drop-all}
+use Rattle.typst_ahead.proofs.Logs.{Among, among-is, is-among, logged-append, same-log}
+
+-- ---- notes that are dropped
+
+least-min : (m n : ℕ) (notes : List Note) → least_of (min m n) notes ≡ min (least_of m notes) n
+least-min m n [] = refl
+least-min m n (note ∷ notes) = let e : min (min m n) note.least ≡ min (min m note.least) n = omega arith in ap (λ k. least_of k notes) e ∙ least-min (min m note.least) n notes
+
+least-last : (n : ℕ) (notes : List Note) (note : Note) → least_of n (notes ++ note ∷ []) ≡ min (least_of n notes) note.least
+least-last n [] note = refl
+least-last n (first ∷ notes) note = least-last (min n first.least) notes note
+
+least-most : (n : ℕ) (notes : List Note) → least_of n notes ≤ n
+least-most n [] = omega arith
+least-most n (note ∷ notes) = let h = least-most (min n note.least) notes in omega arith
+
+same-log-of : (r : ℕ) (l m : ℕ) (ns us : Option (List Note)) → l ≡ m → ns ≡ us → ◌≡◌ {A = Log} (record { reach = r; least = l; notes = ns }) (record { reach = r; least = m; notes = us })
+same-log-of r l m ns us e f = rw (e, f) refl
+
+-- a look stays
+unnoted-hull : (c : ℕ) (u : Hull) (h : Log) → unnoted c (with_hull u h) ≡ with_hull u (unnoted c h)
+unnoted-hull c u h = same-log _ _ _ _ _ refl (least-min h.least u.least (drop c (listed h.notes)))
+
+-- a note behind the first ones goes
+note-gone : (c r l : ℕ) (note : Note) (ns : Option (List Note)) → c ≤ length (listed ns) → l ≤ 2 ^ 64 - 1 → note.least ≡ l
+    → unnoted c (record { reach = r; least = least_behind ns l; notes = with_more note ns }) ≡ unnoted c (record { reach = r; least = l; notes = ns })
+note-gone c r l note None h b e = refl
+note-gone c r l note (Some xs) h b e =
+    let none : c - length xs ≡ 0 = omega arith in
+    let some : min (2 ^ 64 - 1) l ≡ l = omega arith in
+    same-log-of r _ _ _ _
+    (ap (least_of (2 ^ 64 - 1)) (drop-both c xs (note ∷ []) ∙ ap (λ n. drop c xs ++ drop n (note ∷ [])) none)
+    ∙ least-last (2 ^ 64 - 1) (drop c xs) note ∙ ap (min (least_of (2 ^ 64 - 1) (drop c xs))) e
+    ∙ sym (least-min (2 ^ 64 - 1) l (drop c xs)) ∙ ap (λ n. least_of n (drop c xs)) some)
+    (ap Some (take-both c xs (note ∷ []) ∙ ap (λ n. take c xs ++ take n (note ∷ [])) none ∙ append-nil (take c xs)))
+
+more-notes : (c : ℕ) (note : Note) (ns : Option (List Note)) → c ≤ length (listed ns) → c ≤ length (listed (with_more note ns))
+more-notes c note None h = h
+more-notes c note (Some xs) h = omega (arith, length-append xs (note ∷ []))
+
+behind-most : (ns : Option (List Note)) (l : ℕ) → l ≤ 2 ^ 64 - 1 → least_behind ns l ≤ 2 ^ 64 - 1
+behind-most None l h = h
+behind-most (Some xs) l h = omega arith
+
+-- without its notes a log is that of the looks alone
+unnoted-logged : (levels : ℕ) (z : Place) (c : ℕ) (h : Log) (asks : List Ask) → c ≤ length (listed h.notes) → h.least ≤ 2 ^ 64 - 1
+    → unnoted c (logged levels z h asks) ≡ logged levels z (unnoted c h) (only_looks asks)
+unnoted-logged levels z c h [] a b = refl
+unnoted-logged levels z c h (looked at look ∷ asks) a b =
+    let u = hull_of look (moved at z) in
+    unnoted-logged levels z c (with_hull u h) asks a (omega arith) ∙ ap (λ x. logged levels z x (only_looks asks)) (unnoted-hull c u h)
+unnoted-logged levels z c h (marked at gap fewer mark s ∷ asks) a b =
+    let x = with_note gap (levels - fewer) mark s (moved at z) h in
+    unnoted-logged levels z c x asks (more-notes c _ h.notes a) (behind-most h.notes h.least b)
+    ∙ ap (λ y. logged levels z y (only_looks asks)) (note-gone c h.reach h.least _ h.notes a b refl)
+
+all-notes : (c r l : ℕ) (ns : Option (List Note)) → length (listed ns) ≤ c → unnoted c (record { reach = r; least = l; notes = ns }) ≡ record { reach = r; least = l; notes = ns }
+all-notes c r l None h = same-log-of r _ _ _ _ (ap (least_of l) (drop-all c [] h)) refl
+all-notes c r l (Some xs) h = same-log-of r _ _ _ _ (ap (least_of l) (drop-all c xs h)) (ap Some (take-all c xs h))
+
+-- where there are no more notes all stays
+unnoted-same : (c : ℕ) (h : Log) → length (listed h.notes) ≤ c → unnoted c h ≡ h
+unnoted-same c h e = all-notes c h.reach h.least h.notes e
+
+only-append : (xs ys : List Ask) → only_looks (xs ++ ys) ≡ only_looks xs ++ only_looks ys
+only-append [] ys = refl
+only-append (looked at look ∷ xs) ys = ap (λ asks. looked at look ∷ asks) (only-append xs ys)
+only-append (marked at gap fewer mark s ∷ xs) ys = only-append xs ys
+
+-- looks leave the notes, and begin no later
+looks-notes : (levels : ℕ) (z : Place) (h : Log) (asks : List Ask) → (logged levels z h (only_looks asks)).notes ≡ h.notes
+looks-notes levels z h [] = refl
+looks-notes levels z h (looked at look ∷ asks) = looks-notes levels z (with_hull (hull_of look (moved at z)) h) asks
+looks-notes levels z h (marked at gap fewer mark s ∷ asks) = looks-notes levels z h asks
+
+looks-among : (u : Hull) (levels : ℕ) (z : Place) (h : Log) (asks : List Ask) → Among u h → Among u (logged levels z h (only_looks asks))
+looks-among u levels z h [] a = a
+looks-among u levels z h (looked at look ∷ asks) a =
+    let w = hull_of look (moved at z) in
+    looks-among u levels z (with_hull w h) asks (record { reach = let r = a.reach in omega arith; least = let l = a.least in omega arith })
+looks-among u levels z h (marked at gap fewer mark s ∷ asks) a = looks-among u levels z h asks a
+
+looks-least : (levels : ℕ) (z : Place) (h : Log) (asks : List Ask) → (logged levels z h (only_looks asks)).least ≤ h.least
+looks-least levels z h [] = omega arith
+looks-least levels z h (looked at look ∷ asks) = let e = looks-least levels z (with_hull (hull_of look (moved at z)) h) asks in omega arith
+looks-least levels z h (marked at gap fewer mark s ∷ asks) = looks-least levels z h asks
+
+-- ---- what stands behind going back
+
+same-back : (v : View) (ns ts : List Tree) (e : ℕ) (k : Bool) (h : Log) → ns ≡ v.nodes → ts ≡ v.hand.trivia → e ≡ v.state.empties → k ≡ true → known_by v.hand ≡ v.state.known
+    → ◌≡◌ {A = View} (record {
+      nodes = ns;
+      place = v.place;
+      state = record {
+        reading = v.state.reading;
+        held = v.state.held;
+        empties = e;
+        is_after_error = v.state.is_after_error;
+        known = if k then known_by (record v.hand { trivia = ts }) else None;
+      };
+      hand = record v.hand { trivia = ts };
+      own = v.own;
+      here = v.here;
+      log = h;
+    }) (record v { log = h })
+same-back v ns ts e k h a b f g i = rw (a, b, f, g) (ap (λ (x : Option Trivia). record v { state = record v.state { known = x }; log = h }) i)
+
+-- all but what was looked at stands there as at the checkpoint
+pub back-stands : {l : Level} (old mid : View) → Fits l old → old.state.empties ≤ length old.nodes → Leaves old mid
+    → went_back (saved old) mid ≡ record old { log = unnoted (length (listed old.log.notes)) mid.log }
+back-stands old mid c few e =
+    let all = ap length e.nodes in
+    let empties : min old.state.empties (length (take (length old.nodes) mid.nodes)) ≡ old.state.empties = omega arith in
+    same-back old _ _ _ _ _ e.nodes e.trivia empties (ap is_some c.known) (sym c.known)
+
+-- ---- the two readings
+
+pub ran-chosen : {A : Type 0} {l : Level} {p q : Parser A} {is_wrong : A → Bool} {a : A} {old mid : View} → is_wrong a ≡ false → Ran l p a old mid → Ran l (either p is_wrong q) a old mid
+unfolding run
+ran-chosen {l = l} {p = p} {q = q} {is_wrong = is_wrong} {a = a} {old = old} {mid = mid} e h =
+    let o = at l p old in
+    record { runs = subst (λ b. Runs l.levels (if b then given_up o (at l q old) else o) a old mid) (sym (ap is_wrong h.runs.value ∙ e)) h.runs }
+
+-- what the log is behind going back: the looks of the first reading stay
+back-log : (levels : ℕ) (z : Place) (h : Log) (asks : List Ask) → h.least ≤ 2 ^ 64 - 1 → unnoted (length (listed h.notes)) (logged levels z h asks) ≡ logged levels z h (only_looks asks)
+back-log levels z h asks b =
+    let c = length (listed h.notes) in
+    unnoted-logged levels z c h asks (omega arith) b ∙ ap (λ x. logged levels z x (only_looks asks)) (unnoted-same c h (omega arith))
+
+-- and behind the second: those of both
+both-log : (levels : ℕ) (z : Place) (h : Log) (xs ys : List Ask) → h.least ≤ 2 ^ 64 - 1
+    → unnoted (length (listed h.notes)) (logged levels z (logged levels z h (only_looks xs)) ys) ≡ logged levels z h (only_looks (xs ++ ys))
+both-log levels z h xs ys b =
+    let c = length (listed h.notes) in
+    let g = logged levels z h (only_looks xs) in
+    let count : length (listed g.notes) ≡ c = ap (λ ns. length (listed ns)) (looks-notes levels z h xs) in
+    let least = looks-least levels z h xs in
+    unnoted-logged levels z c g ys (omega arith) (omega arith) ∙ ap (λ x. logged levels z x (only_looks ys)) (unnoted-same c g (omega arith))
+    ∙ sym (ap (logged levels z h) (only-append xs ys) ∙ logged-append levels z h (only_looks xs) (only_looks ys))
+
+pub ran-given_up : {A : Type 0} {l : Level} {p q : Parser A} {is_wrong : A → Bool} {a b : A} {old mid last : View}
+    → is_wrong a ≡ true → old.log.least ≤ 2 ^ 64 - 1 → Ran l p a old mid → Ran l q b (record old { log = unnoted (length (listed old.log.notes)) mid.log }) last
+    → Ran l (either p is_wrong q) b old (forgot_notes (saved old) last)
+unfolding run
+ran-given_up {l = l} {p = p} {q = q} {is_wrong = is_wrong} {a = a} {b = b} {old = old} {mid = mid} {last = last} e least h k =
+    let o = at l p old in
+    let r = at l q old in
+    let z = old.place in
+    let c = length (listed old.log.notes) in
+    let n = l.levels in
+    let back = ap (unnoted c) h.runs.log ∙ back-log n z old.log o.asks least in
+    let runs : Runs n (given_up o r) b old (forgot_notes (saved old) last) = record {
+      value = k.runs.value;
+      place = k.runs.place;
+      state = k.runs.state;
+      nodes = k.runs.nodes;
+      log = ap (unnoted c) (k.runs.log ∙ ap (λ x. logged n z x r.asks) back) ∙ both-log n z old.log o.asks r.asks least;
+    } in
+    record { runs = subst (λ t. Runs n (if t then given_up o r else o) b old (forgot_notes (saved old) last)) (sym (ap is_wrong h.runs.value ∙ e)) runs }
+
+-- the token at hand is the same behind going back
+back-fits : {A : Type 0} {l : Level} {p : Parser A} {a : A} {old mid : View} → old.log.least ≤ 2 ^ 64 - 1 → Fits l old → Ran l p a old mid → Fits l (record old { log = unnoted (length (listed old.log.notes)) mid.log })
+back-fits {l = l} {p = p} {old = old} least f h =
+    let c = length (listed old.log.notes) in
+    let o = at l p old in
+    let back = ap (unnoted c) h.runs.log ∙ back-log l.levels old.place old.log o.asks least in
+    let among = looks-among old.here l.levels old.place old.log o.asks (among-is old.here old.log f.log) in
+    record { known = f.known; hand = f.hand; own = f.own; here = f.here; there = f.there; log = subst (λ (x : Log). with_hull old.here x ≡ x) (sym back) (is-among old.here _ among) }
+
+unnoted-fits : {l : Level} {v : View} (c : ℕ) → Fits l v → Fits l (record v { log = unnoted c v.log })
+unnoted-fits {v = v} c f =
+    let a = among-is v.here v.log f.log in
+    let most = least-most v.log.least (drop c (listed v.log.notes)) in
+    record { known = f.known; hand = f.hand; own = f.own; here = f.here; there = f.there; log = is-among v.here _ (record { reach = a.reach; least = let e = a.least in omega arith }) }
+
+-- the first reading turned out right
+pub does-chosen : {A : Type 0} {l : Level} {P Q : View → Type 0} {p q : Parser A} {is_wrong : A → Bool} {a : A} {old mid : View}
+    → is_wrong a ≡ false → Goes l P Q p a old mid → Goes l P Q (either p is_wrong q) a old mid
+does-chosen e d = record { ran = λ c. ran-chosen e (d.ran c); ready = d.ready }
+
+-- the first reading turned out wrong: the code went back to where it began, read in the second way, and dropped what was noted
+pub does-either : {A : Type 0} {l : Level} {Q : View → Type 0} {p q : Parser A} {is_wrong : A → Bool} {a b : A} {c : Saved} {old mid back last new : View}
+    → c ≡ saved old → old.state.empties ≤ length old.nodes → old.log.least ≤ 2 ^ 64 - 1 → (Fits l old → Leaves old mid)
+    → Goes l (Fits l) Q p a old mid → is_wrong a ≡ true → back ≡ went_back c mid → Does l q b back last → new ≡ forgot_notes c last → Does l (either p is_wrong q) b old new
+does-either {l = l} {p = p} {q = q} {is_wrong = is_wrong} {a = a} {b = b} {c = c} {old = old} {mid = mid} {back = back} {last = last} {new = new} at few least leaves d e went k gone =
+    let end : new ≡ forgot_notes (saved old) last = gone ∙ ap (λ (x : Saved). forgot_notes x last) at in
+    record {
+      ran = λ f. subst (λ (v : View). Ran l (either p is_wrong q) b old v) (sym end) (ran-given_up e least (d.ran f) (subst (λ (v : View). Ran l q b v last) (same f) (k.ran (begins f))));
+      ready = λ f. subst (λ (v : View). Fits l v) (sym end) (unnoted-fits (length (listed old.log.notes)) (k.ready (begins f)));
+    }
+  where
+    same : Fits l old → back ≡ record old { log = unnoted (length (listed old.log.notes)) mid.log }
+    same f = went ∙ ap (λ (x : Saved). went_back x mid) at ∙ back-stands old mid f few (leaves f)
+
+    begins : Fits l old → Fits l back
+    begins f = subst (λ (v : View). Fits l v) (sym (same f)) (back-fits least f (d.ran f))

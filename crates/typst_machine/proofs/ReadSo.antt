@@ -1,0 +1,126 @@
+-- The token at hand, read from its start in another way.
+use Rattle.std.proofs.Common.{◌≡◌, ℕ, ◌+◌, List, [], ◌∷◌, ◌++◌, length, refl, ap, sym, ◌∙◌}
+use Rattle.typst_kinds.specs.Kinds.{is_error}
+use Rattle.typst_lines.specs.Place.{Place, moved}
+use Rattle.typst_node.specs.Tree.{Tree, text_of}
+use Rattle.typst_readers.specs.Reader.{exec, eaten, look}
+use Rattle.typst_readers.specs.Sight.{hull_of}
+use Rattle.typst_readers.specs.declared.hull.Hull.{Hull}
+use Rattle.typst_readers.proofs.Moves.{exec-moved}
+use Rattle.typst_classes.specs.Classes.{CharClasses}
+use Rattle.typst_token_nodes.specs.Nodes.{token_node}
+use Rattle.typst_tokens.specs.declared.token.Token.{Token}
+use Rattle.typst_combinators.specs.declared.calls.Way.{Way}
+use Rattle.typst_combinators.specs.Calls.{token_so}
+use Rattle.typst_combinators.specs.Point.{Point}
+use Rattle.typst_combinators.specs.Hand.{Hand, text_ahead, token_by, len_by}
+use Rattle.typst_combinators.specs.Log.{Log, with_hull}
+use Rattle.typst_combinators.specs.Shape.{Making, after_node}
+use Rattle.typst_combinators.specs.Shape.Making.{itself}
+use Rattle.typst_combinators.specs.Steps.{eat_so}
+use Rattle.typst_combinators.specs.Syntax.Op.{so, takes_so}
+use Rattle.typst_combinators.specs.Syntax.Parser.{does}
+use Rattle.typst_combinators.specs.Meaning.{Level, asked, hand_of, node_by, reader_so, renewed, run}
+use Rattle.typst_machine.specs.View.{View, Ran, Goes, Does, Fits, Bare, Looked, unasked}
+use Rattle.typst_machine.specs.Ways.{GaveUpTo}
+use Rattle.typst_combinators.proofs.Places.{moved-sum, moved-min, less-none, no-end}
+use Rattle.typst_machine.proofs.Runs.{asked-same, asked-then, fits-more}
+use Rattle.typst_machine.proofs.Steps.{does-next, does-gives, does-look}
+
+-- where the token at hand begins
+abbrev pub start_of : Hand → Place → Place
+start_of h z = moved h.gap z
+
+-- what was looked at for the token that is found there in another way, how long it is, and what it becomes
+abbrev pub hull_so : Level → Way → Hand → Place → Hull
+hull_so l way h z = hull_of (look (reader_so l way) (start_of h z)) (start_of h z)
+
+abbrev pub len_so : Level → Way → Hand → Place → ℕ
+len_so l way h z = len_by (reader_so l way) (start_of h z)
+
+abbrev pub node_so : Level → Way → Making → Hand → Place → Tree
+node_so l way making h z = node_by l.classes making (token_by (reader_so l way) (start_of h z)) (len_so l way h z) (start_of h z)
+
+-- ---- its kind
+
+-- it was looked at
+abbrev pub looked_so : Level → Way → View → View
+looked_so l way v = record v { log = with_hull (hull_so l way v.hand v.place) v.log }
+
+pub ran-so : {l : Level} (way : Way) (v : View) → Fits l v → Ran l (does (so way)) (token_by (reader_so l way) (start_of v.hand v.place)).kind v (looked_so l way v)
+unfolding run
+ran-so {l = l} way v c =
+    record {
+      runs = record {
+        value = ap (λ (h : Hand). (token_by (reader_so l way) (start_of h v.place)).kind) (sym c.hand);
+        place = refl;
+        state = asked-same l v c ∙ ap (λ (h : Hand). asked h v.state) c.hand;
+        nodes = no-end v.nodes;
+        log = ap (λ (h : Hand). with_hull (hull_so l way h v.place) v.log) c.hand ∙ sym (asked-then l v c _);
+      };
+    }
+
+pub does-so : {l : Level} (way : Way) (v : View) → Does l (does (so way)) (token_by (reader_so l way) (start_of v.hand v.place)).kind v (looked_so l way v)
+does-so way v = record { ran = λ c. ran-so way v c; ready = λ c. fits-more _ c }
+
+-- the code read it by the same classes, at the same place
+pub read-so : (k q : CharClasses) (way : Way) (from z w : Place) (t : Token) → k ≡ q → from ≡ z → exec (token_so q way) from ≡ (t, w) → exec (token_so k way) z ≡ (t, w)
+read-so k q way from z w t e f h = ap (λ y. exec (token_so k way) y) (sym f) ∙ ap (λ c. exec (token_so c way) from) e ∙ h
+
+pub hull-so : (k q : CharClasses) (way : Way) (from z : Place) (u : Hull) → k ≡ q → from ≡ z → u ≡ hull_of (look (token_so q way) from) from → u ≡ hull_of (look (token_so k way) z) z
+hull-so k q way from z u e f h = h ∙ ap (λ c. hull_of (look (token_so c way) from) from) (sym e) ∙ ap (λ y. hull_of (look (token_so k way) y) y) f
+
+-- what the code found there, and looked at
+pub so-is : (l : Level) (way : Way) (v w : View) (t : Token) (end : Place) (u : Hull) → exec (reader_so l way) (start_of v.hand v.place) ≡ (t, end) → u ≡ hull_so l way v.hand v.place
+    → w ≡ record v { log = with_hull u v.log } → Does l (does (so way)) t.kind v w
+so-is l way v w t end u e h f =
+    let k = ap (λ (p : Token × Place). p.0.kind) e in
+    rw (f, h, sym k) (does-so way v)
+
+-- ---- taking it
+
+-- it was taken, with the trivia before it
+pub record EatenSo (l : Level) (way : Way) (making : Making) (v w : View) : Type 0 where
+  pub nodes : w.nodes ≡ v.nodes ++ (v.hand.trivia ++ node_so l way making v.hand v.place ∷ [])
+  pub place : w.place ≡ moved (v.hand.gap + len_so l way v.hand v.place) v.place
+  pub state : w.state ≡ renewed (after_node (is_error (node_so l way making v.hand v.place).head.kind) (text_of (node_so l way making v.hand v.place)) v.state)
+  pub log : w.log ≡ with_hull (hull_so l way v.hand v.place) v.log
+
+pub ran-takes_so : {l : Level} {way : Way} {making : Making} {v w : View} → EatenSo l way making v w → Fits l v → Ran l (does (takes_so way making)) tt v w
+unfolding run
+ran-takes_so {l = l} {way = way} {making = making} {v = v} {w = w} h c =
+    record {
+      runs = record {
+        value = refl;
+        place = h.place ∙ ap (λ (x : Hand). moved (x.gap + len_so l way x v.place) v.place) c.hand;
+        state = h.state ∙ ap (λ (x : Hand). renewed (after_node (is_error (node_so l way making x v.place).head.kind) (text_of (node_so l way making x v.place)) v.state)) c.hand;
+        nodes = h.nodes ∙ ap (λ (x : Hand). v.nodes ++ (x.trivia ++ node_so l way making x v.place ∷ [])) c.hand
+            ∙ (let x = hand_of l v.place v.state in ap (λ ns. ns ++ (x.trivia ++ node_so l way making x v.place ∷ [])) (sym (less-none v.nodes)));
+        log = h.log ∙ ap (λ (x : Hand). with_hull (hull_so l way x v.place) v.log) c.hand ∙ sym (asked-then l v c _);
+      };
+    }
+
+pub does-takes_so : {l : Level} {way : Way} {making : Making} {v w : View} → EatenSo l way making v w → Goes l (Fits l) Bare (does (takes_so way making)) tt v w
+does-takes_so h = record { ran = λ c. ran-takes_so h c; ready = λ c. record { known = ap (λ (s : Point). s.known) h.state } }
+
+pub does-eat_so : {l : Level} {way : Way} {making : Making} {v mid w : View} → EatenSo l way making v mid → Looked l (unasked mid) w → Does l (eat_so way making) tt v w
+unfolding eat_so
+does-eat_so h k = does-next (does-takes_so h) (does-next (does-look k) does-gives)
+
+-- where the code ends that read it
+pub end-so : (k : CharClasses) (way : Way) (z w : Place) (t : Token) → exec (token_so k way) z ≡ (t, w) → w ≡ moved (len_by (token_so k way) z) z
+end-so k way z w t e = sym (ap (λ (p : Token × Place). p.1) e) ∙ exec-moved (token_so k way) z ∙ sym (moved-min (eaten (token_so k way) z) z)
+
+-- the code took what it found there
+pub eaten-so : (l : Level) (way : Way) (v w : View) (t : Token) (end : Place) (u : Hull) (node : Tree) → exec (reader_so l way) (start_of v.hand v.place) ≡ (t, end)
+    → u ≡ hull_so l way v.hand v.place → node ≡ token_node l.classes t (text_ahead (len_so l way v.hand v.place) (start_of v.hand v.place))
+    → GaveUpTo end node (record v { log = with_hull u v.log }) w → EatenSo l way itself v w
+eaten-so l way v w t end u node e h n g =
+    let z = start_of v.hand v.place in
+    let same : node ≡ node_so l way itself v.hand v.place = n ∙ ap (λ (p : Token × Place). token_node l.classes p.0 (text_ahead (len_so l way v.hand v.place) z)) (sym e) in
+    record {
+      nodes = g.nodes ∙ ap (λ (x : Tree). v.nodes ++ (v.hand.trivia ++ x ∷ [])) same;
+      place = g.place ∙ end-so l.classes way z end t e ∙ sym (moved-sum v.hand.gap (len_so l way v.hand v.place) v.place);
+      state = g.state ∙ ap (λ (x : Tree). renewed (after_node (is_error x.head.kind) (text_of x) v.state)) same;
+      log = g.log ∙ ap (λ (x : Hull). with_hull x v.log) h;
+    }

@@ -1,0 +1,30 @@
+use Rattle.std.proofs.Common.{◌≡◌, ◌∙◌, ◌++◌, ◌∷◌, [], None, List, if◌then◌else◌, append_assoc, refl, sym, ap}
+use Rattle.typst_lines.specs.Scanner.{place}
+use Rattle.typst_kinds.specs.Kinds.{is_error}
+use Rattle.typst_node.specs.Tree.{Tree, text_of}
+use Rattle.typst_combinators.specs.declared.reading.State.{State}
+use Rattle.typst_combinators.specs.Point.{Point}
+use Rattle.typst_combinators.specs.Hand.{known_by}
+use Rattle.typst_combinators.specs.Meaning.{renewed}
+use Rattle.typst_combinators.specs.Shape.{count_empty}
+use Rattle.typst_ahead.specs.declared.ahead.ReadAhead.{ReadAhead}
+use Rattle.typst_machine.specs.Cursor.{known_of, view_of}
+use Rattle.typst_ahead.specs.Cursor.{hand_of_ahead}
+use Rattle.typst_machine.proofs.Ready.{told-node}
+use Rattle.typst_machine.proofs.parser.Parser.take_so.Goals as goal
+
+pub returns : goal.returns
+returns c =
+    let i = c.self.inside in
+    let node = c.args.node in
+    let b = c.pass.new.self in
+    let state-is : ◌≡◌ {A = Point} (record { reading = c.give.new.state.reading; held = c.give.new.state.reading; empties = c.give.new.state.empties; is_after_error = c.give.new.state.is_after_error; known = known_of b }) _ =
+    ap (λ (u : State). record { reading = u.reading; held = u.reading; empties = u.empties; is_after_error = u.is_after_error; known = known_of b }) c.in_ok-give.ensures.state
+    ∙ ap (λ (r : ReadAhead). record { reading = i.state.reading; held = i.state.reading; empties = if is_error node.head.kind then count_empty (text_of node) else 0; is_after_error = is_error node.head.kind; known = if r.is_read then known_by (hand_of_ahead b) else None }) c.pass.ensures in
+    rw (sym c.self.view_is)
+    (record {
+      nodes = c.in_ok-give.ensures.nodes ∙ ap (λ (ns : List Tree). ns ++ node ∷ []) c.in_ok-push_all.ensures.ok ∙ append_assoc i.nodes.items i.ahead.trivia.items (node ∷ []);
+      place = ap (λ (x : ReadAhead). place x.before) c.pass.ensures;
+      state = state-is ∙ ap renewed (told-node (is_error node.head.kind) (text_of node) (view_of i).state);
+      log = refl;
+    })

@@ -1,0 +1,79 @@
+//! The token at hand, read from its start in another way.
+
+ghost use Rattle.std.specs.Prelude.{◌≡◌, IfOk, OnOk};
+ghost use Rattle.typst_lines.specs.Scanner.{place};
+ghost use Rattle.typst_readers.specs.Reader.{exec, look};
+ghost use Rattle.typst_readers.specs.Sight.{hull_of};
+ghost use Rattle.typst_combinators.specs.Calls.{token_so};
+ghost use Rattle.typst_combinators.specs.Shape.Making.{itself};
+ghost use Rattle.typst_combinators.specs.Steps as spec;
+ghost use Rattle.typst_combinators.specs.Syntax.Op.{so};
+ghost use Rattle.typst_combinators.specs.Syntax.Parser.{does};
+ghost use Rattle.typst_machine.specs.View.{Means};
+ghost use Rattle.typst_machine.specs.Ways.{GaveUpTo};
+
+use crate::depth::Levels;
+use crate::nodes::{give, push_all};
+use crate::parser::Parser;
+use std::alloc::{AllocError, Global};
+use typst_ahead::{Read, read_token};
+use typst_classes::Classes;
+use typst_combinators::Way;
+use typst_kinds::SyntaxKind;
+use typst_lines::Scanner;
+use typst_node::SyntaxNode;
+use typst_token_nodes::make_node;
+
+impl<'s> Parser<'s> {
+    /// Which kind the token at hand has where it is read from its start in another way.
+    pub fn kind_so<L: Levels>(&mut self, way: Way, g: &L) -> Result<SyntaxKind, AllocError>
+        ensures { Means (L.frame g.now) (does (so way)) self.old result self.new }
+    {
+        let found = read_so(self.alloc, self.ahead.start, way, g)?;
+        self.log.look(found.hull);
+        Ok(found.token.kind)
+    }
+
+    /// Takes the token that is found in another way.
+    pub fn eat_so<L: Levels>(&mut self, way: Way, g: &L) -> Result<(), AllocError>
+        ensures { Means (L.frame g.now) (spec.eat_so way itself) self.old result self.new }
+    {
+        let found = read_so(self.alloc, self.ahead.start, way, g)?;
+        self.log.look(found.hull);
+        let text = found.after.since(&self.ahead.start);
+        let node = make_node(self.alloc, found.token, text, g)?;
+        self.take_so(found.after, node)?;
+        self.read(g)?;
+        Ok(())
+    }
+
+    /// Takes what goes from the start of the token at hand up to a place as this node.
+    fn take_so(&mut self, after: Scanner<'s>, node: SyntaxNode) -> Result<(), AllocError>
+        ensures { OnOk result (GaveUpTo (place after.entry) node self.old self.new) }
+    {
+        self.state.empties = 0;
+        push_all(&mut self.nodes, &mut self.ahead.trivia)?;
+        give(&mut self.nodes, &mut self.state, node)?;
+        self.state.held = self.state.reading;
+        self.ahead.after = after;
+        self.ahead.pass();
+        Ok(())
+    }
+}
+
+/// Reads one token in another way.
+fn read_so<'s, C: Classes>(
+    alloc: Global,
+    start: Scanner<'s>,
+    way: Way,
+    classes: &C,
+) -> Result<Read<'s>, AllocError>
+    ensures reads { IfOk result (λ r. exec (token_so (C.classes classes.now) way) (place start.entry) ≡ (r.token, place r.after)) }
+    ensures hull { IfOk result (λ r. r.hull ≡ hull_of (look (token_so (C.classes classes.now) way) (place start.entry)) (place start.entry)) }
+    ensures same_text { IfOk result (λ r. r.after.text.now ≡ start.entry.text.now) }
+{
+    let found = match way {
+        Way::InMode(mode) => read_token(alloc, start, mode, classes)?,
+    };
+    Ok(found)
+}

@@ -1,0 +1,1 @@
+-- Each production's clause is proved by its own answers, from the lemmas of typst_machine: Steps, Grows, Nests, Changes.

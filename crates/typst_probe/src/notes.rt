@@ -1,0 +1,49 @@
+//! The word `notes`.
+
+use std::alloc::{AllocError, Global};
+use typst_combinators::{Block, Mark, Note};
+use typst_grammar::parse_noted;
+use typst_parser::UnicodeClasses;
+
+/// What is noted in reading the text as markup. Each note has a line: what begins or ends, the bytes
+/// at which the trivia before it begin and end, how many levels are left, where all looks before it
+/// end, and where those since the note before it begin. A last line has the same two of the whole
+/// text.
+pub fn answer(alloc: Global, text: &str) -> Result<String, AllocError> {
+    let noted = parse_noted(alloc, text, &UnicodeClasses)?;
+    let mut printed = String::new(alloc);
+    for note in &noted.notes {
+        print_note(&mut printed, note)?;
+    }
+    printed.push_str("End")?;
+    print_looks(&mut printed, noted.hull.reach, noted.hull.least)?;
+    Ok(printed)
+}
+
+/// Prints the line of a note.
+fn print_note(printed: &mut String, note: &Note) -> Result<(), AllocError> {
+    print_mark(printed, note.mark)?;
+    let (before, start, levels) = (note.before, note.start, note.levels);
+    write!(printed, " {before}..{start} levels {levels}")?;
+    print_looks(printed, note.reach, note.least)
+}
+
+/// Prints what begins or ends: of a piece also whether a line starts there, and in how many brackets
+/// it stands.
+fn print_mark(printed: &mut String, mark: Mark) -> Result<(), AllocError> {
+    match mark {
+        Mark::Piece(true, brackets) => write!(printed, "Piece line {brackets}"),
+        Mark::Piece(false, brackets) => write!(printed, "Piece inline {brackets}"),
+        Mark::Opens(Block::Code) => printed.push_str("Opens Code"),
+        Mark::Opens(Block::Content) => printed.push_str("Opens Content"),
+        Mark::Closes => printed.push_str("Closes"),
+    }
+}
+
+/// Prints the end of a line: where looks end and where they begin, if there are any.
+fn print_looks(printed: &mut String, reach: usize, least: usize) -> Result<(), AllocError> {
+    if least == usize::MAX {
+        return writeln!(printed, " reach {reach} least none");
+    }
+    writeln!(printed, " reach {reach} least {least}")
+}

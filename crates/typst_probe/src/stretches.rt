@@ -1,0 +1,33 @@
+//! The word `stretches`.
+
+use std::alloc::{AllocError, Global};
+use typst_parser::{SubRange, UnicodeClasses};
+use typst_raw::raw_node;
+
+/// A line for each warning of the raw text, and for each of its hints behind it: the bytes that it is
+/// about, or `all` where it is about the whole text.
+pub fn answer(alloc: Global, text: &str) -> Result<String, AllocError> {
+    let node = raw_node(alloc, text, &UnicodeClasses)?;
+    let mut printed = String::new(alloc);
+    for warning in node.diagnostics() {
+        print_stretch(&mut printed, "warning", warning.sub_range())?;
+        for hint in warning.hints() {
+            print_stretch(&mut printed, "hint", hint.sub_range())?;
+        }
+    }
+    Ok(printed)
+}
+
+fn print_stretch(
+    printed: &mut String,
+    word: &str,
+    stretch: Option<SubRange>,
+) -> Result<(), AllocError> {
+    match stretch {
+        None => writeln!(printed, "{word} all"),
+        Some(range) => {
+            let (start, end) = (range.start(), range.end());
+            writeln!(printed, "{word} {start}..{end}")
+        }
+    }
+}

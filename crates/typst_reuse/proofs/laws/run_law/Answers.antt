@@ -1,0 +1,8 @@
+use Rattle.typst_reuse.proofs.Root.{run-law, start-law}
+use Rattle.typst_reuse.proofs.laws.run_law.Goals as goal
+
+pub returns-clause-pieces : goal.returns-clause-pieces
+returns-clause-pieces c = run-law
+
+pub returns-clause-start : goal.returns-clause-start
+returns-clause-start c = start-law
