@@ -2,6 +2,7 @@
 ghost use Rattle.std.specs.Prelude.{◌≡◌};
 ghost use Rattle.typst_bench.specs.Words.{word_of, work_named};
 
+use crate::edited::Edited;
 use std::alloc::{AllocError, Global};
 use typst_parser::{Lines, SyntaxNode, UnicodeClasses, highlight_html, parse};
 
@@ -14,6 +15,21 @@ pub enum Work {
     Parse,
     /// Writes the syntax tree as HTML.
     Html,
+    /// Puts a letter into the middle of a source, or takes it out.
+    Edit,
+}
+
+/// What a kind of work is done on.
+#[derive(Drop)]
+pub enum Subject {
+    /// A text, whose lines are found.
+    Lines(String),
+    /// A text, whose tree is made.
+    Text(String),
+    /// A syntax tree, which is written as HTML.
+    Tree(SyntaxNode),
+    /// A source, which is edited.
+    Source(Edited),
 }
 
 impl Work {
@@ -25,6 +41,7 @@ impl Work {
             "lines" => Some(Work::Lines),
             "parse" => Some(Work::Parse),
             "html" => Some(Work::Html),
+            "edit" => Some(Work::Edit),
             _ => None,
         }
     }
@@ -37,16 +54,30 @@ impl Work {
             Work::Lines => "lines",
             Work::Parse => "parse",
             Work::Html => "html",
+            Work::Edit => "edit",
         }
     }
 
-    /// Does the work once on a text and its syntax tree, and sums up what came out.
-    pub fn round(self, alloc: Global, text: &str, root: &SyntaxNode) -> Result<u64, AllocError> {
-        match self {
-            Work::Lines => lines(alloc, text),
-            Work::Parse => tree(alloc, text),
-            Work::Html => html(alloc, root),
-        }
+    /// What it is done on, made from a text.
+    pub fn subject(self, alloc: Global, text: String) -> anyhow::Result<Subject> {
+        Ok(match self {
+            Work::Lines => Subject::Lines(text),
+            Work::Parse => Subject::Text(text),
+            Work::Html => Subject::Tree(parse(alloc, text.as_str(), &UnicodeClasses)?),
+            Work::Edit => Subject::Source(Edited::new(alloc, text)?),
+        })
+    }
+}
+
+impl Subject {
+    /// Does the work once, and sums up what came out.
+    pub fn round(&mut self, alloc: Global) -> anyhow::Result<u64> {
+        Ok(match self {
+            Subject::Lines(text) => lines(alloc, text.as_str())?,
+            Subject::Text(text) => tree(alloc, text.as_str())?,
+            Subject::Tree(root) => html(alloc, root)?,
+            Subject::Source(edited) => edited.round()?,
+        })
     }
 }
 

@@ -3,9 +3,7 @@
 #![tactic(auto)]
 
 use std::io;
-use typst_classes::UnicodeClasses;
-use typst_node::{Severity, SyntaxNode};
-use typst_source::Source;
+use typst_parser::{Severity, Source, SyntaxNode, UnicodeClasses};
 
 fn main(rt: HostRuntime) -> anyhow::Result<()> {
     let alloc = rt.alloc();
