@@ -5,6 +5,3 @@ mod source;
 
 pub use source::Source;
 pub use typst_grammar::parse;
-
-#[cfg(test)]
-mod tests;
