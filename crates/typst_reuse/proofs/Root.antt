@@ -21,7 +21,7 @@ use Rattle.typst_reuse.proofs.Edit.{before-same, after-same, same_in-to}
 use Rattle.typst_reuse.proofs.Runs.{repeated-chain, made-same, chain-state, chain-taken}
 
 -- a text's reading is that of its pieces and the trivia behind them
-whole-is : (k : CharClasses) (text : List ℕ) → (let z = start_of text in let r = repeated (piece_at k) (true, 0) z (lead k z).state in parsed k max_depth text ≡ whole_of (lead k z) r (tail k r.taken r.state z))
+pub whole-is : (k : CharClasses) (text : List ℕ) → (let z = start_of text in let r = repeated (piece_at k) (true, 0) z (lead k z).state in parsed k max_depth text ≡ whole_of (lead k z) r (tail k r.taken r.state z))
 unfolding run whole markup_run
 whole-is k text =
     let z = start_of text in
@@ -37,7 +37,7 @@ module _ (k : CharClasses) where
   framed x = (sane-at rules k max_depth (markup_turn true is_end x)).framed
 
   -- the pieces of a text, and the rest
-  split-at : (i n : ℕ) (z : Place) → AllGo (pieces k i z) → AllGo (pieces_from k i n z) → repeated (piece_at k) (true, 0) z (lead k z).state ≡ chain (pieces k i z) (chain (pieces_from k i n z) (rest_from k i n z))
+  pub split-at : (i n : ℕ) (z : Place) → AllGo (pieces k i z) → AllGo (pieces_from k i n z) → repeated (piece_at k) (true, 0) z (lead k z).state ≡ chain (pieces k i z) (chain (pieces_from k i n z) (rest_from k i n z))
   split-at i n z g h =
       let e = end_at k i z in
       repeated-chain (piece_at k) within i (true, 0) z (lead k z).state g ∙ ap (chain (pieces k i z)) (repeated-chain (piece_at k) within n e.value (moved e.taken z) e.state h)
@@ -51,11 +51,11 @@ module _ (k : CharClasses) where
       omega (arith, a, b)
 
   -- the pieces before are the same
-  record First (i : ℕ) (z w : Place) : Type 0 where
-    pieces_same : pieces k i w ≡ pieces k i z
-    lead_same : 0 < i → lead k w ≡ lead k z
+  pub record First (i : ℕ) (z w : Place) : Type 0 where
+    pub pieces_same : pieces k i w ≡ pieces k i z
+    pub lead_same : 0 < i → lead k w ≡ lead k z
 
-  first-same : (i : ℕ) (z w : Place) → (0 < i → SameIn ((lead k z).asks ++ asks_of (pieces k i z)) z w) → First i z w
+  pub first-same : (i : ℕ) (z w : Place) → (0 < i → SameIn ((lead k z).asks ++ asks_of (pieces k i z)) z w) → First i z w
   first-same zero z w h = record { pieces_same = refl; lead_same = λ l. absurd (omega (arith, l)) }
   first-same (suc i) z w h =
       let same = h (omega arith) in

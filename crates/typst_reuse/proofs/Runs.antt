@@ -47,3 +47,11 @@ chain-state (o ∷ os) q = chain-state os q
 pub chain-taken : {A B : Type 0} (x : A) (s : Point) (os : List (Outcome (Bool × A))) (q : Outcome B) → (chain os q).taken ≡ (end_of x s os).taken + q.taken
 chain-taken x s [] q = omega arith
 chain-taken x s (o ∷ os) q = let e = chain-taken o.value.1 o.state os q in omega (arith, e)
+
+-- ---- places
+
+pub moved-four : (a b d e : ℕ) (z : Place) → moved e (moved d (moved b (moved a z))) ≡ moved ((a + b) + (d + e)) z
+moved-four a b d e z = ap (λ u. moved e (moved d u)) (sym (moved-sum a b z)) ∙ sym (moved-sum d e (moved (a + b) z)) ∙ sym (moved-sum (a + b) (d + e) z)
+
+pub moved-three : (a b d : ℕ) (z : Place) → moved ((a + b) + d) z ≡ moved d (moved b (moved a z))
+moved-three a b d z = moved-sum (a + b) d z ∙ ap (moved d) (moved-sum a b z)

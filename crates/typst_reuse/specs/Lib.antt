@@ -4,7 +4,10 @@ pub mod Occurrences
 pub mod Edit
 pub mod Named
 pub mod Runs
+pub mod Sequence
 pub mod Bytes
 pub mod Laws
+pub mod BlockRuns
+pub mod Joint
 pub mod Examples
 pub mod RunExamples

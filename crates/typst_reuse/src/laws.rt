@@ -1,9 +1,11 @@
 //! Laws of edits.
 
 ghost use Rattle.typst_classes.specs.Classes.{CharClasses};
+ghost use Rattle.typst_reuse.specs.BlockRuns.{InnerLaw};
 ghost use Rattle.typst_reuse.specs.Bytes.{DecisionLaw};
 ghost use Rattle.typst_reuse.specs.Examples.{Blocks};
 ghost use Rattle.typst_reuse.specs.RunExamples.{Runs};
+ghost use Rattle.typst_reuse.specs.Joint.{JointLaw};
 ghost use Rattle.typst_reuse.specs.Laws.{BlockLaw, NamesLaw};
 ghost use Rattle.typst_reuse.specs.Runs.{RunLaw, StartLaw};
 
@@ -24,9 +26,19 @@ pub fn block_law()
 /// end at the shifted end, with what was carried there and in the same state, the reading of the
 /// new text has these in their place, and is the same before and behind them. Where nothing is kept
 /// behind them, as at the end of the run, the pieces before are kept by the first of these alone.
+/// The same holds of pieces of a content block's run, and then the edit passes the test of the block.
 pub fn run_law()
     ensures pieces { RunLaw }
     ensures start { StartLaw }
+    ensures inner { InnerLaw }
+{}
+
+/// The same where the new pieces end before other trivia, or behind other errors: where trivia
+/// stand there in both texts or in none, with the same newlines, all behind the pieces is what it
+/// was, with the new trivia before it. The number of empty errors matters only where the next
+/// expression wasn't expected and takes them back.
+pub fn joint_law()
+    ensures { JointLaw }
 {}
 
 /// Each block of a text has two notes in its log, where it begins and where it ends. Two numbers

@@ -1,3 +1,4 @@
+use Rattle.typst_reuse.proofs.BlockRuns.{inner-law}
 use Rattle.typst_reuse.proofs.Root.{run-law, start-law}
 use Rattle.typst_reuse.proofs.laws.run_law.Goals as goal
 
@@ -6,3 +7,6 @@ returns-clause-pieces c = run-law
 
 pub returns-clause-start : goal.returns-clause-start
 returns-clause-start c = start-law
+
+pub returns-clause-inner : goal.returns-clause-inner
+returns-clause-inner c = inner-law
