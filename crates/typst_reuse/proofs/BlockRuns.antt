@@ -1,5 +1,5 @@
 -- The law of an edit inside some pieces of a content block's run.
-use Rattle.std.proofs.Common.{◌≡◌, ℕ, zero, suc, ◌+◌, ◌-◌, ◌<◌, ◌==◌, if◌then◌else◌, ne_eqb, Bool, true, false, List, [], ◌∷◌, ◌++◌, length, refl, ap, sym, ◌∙◌, subst, arith}
+use Rattle.std.proofs.Common.{◌≡◌, ℕ, zero, suc, ◌+◌, ◌-◌, ◌<◌, ◌==◌, if◌then◌else◌, ne_eqb, Bool, true, false, [], ◌∷◌, ◌++◌, length, refl, ap, sym, ◌∙◌, subst, arith}
 use Rattle.typst_kinds.specs.declared.kind.SyntaxKind.TheVariants as kind
 use Rattle.typst_kinds.specs.Kinds.{same}
 use Rattle.typst_lines.specs.Place.{Place, moved}
@@ -29,7 +29,7 @@ use Rattle.typst_reuse.specs.Laws.{block_at}
 use Rattle.typst_reuse.specs.Runs.{AllGo, End, asks_of, chain, made}
 use Rattle.typst_reuse.specs.Sequence.{Sequence, turn_of, first_of, first_end, then_of, then_end, then_place, rest_of}
 use Rattle.typst_reuse.specs.Spot.{ended, unit_at}
-use Rattle.typst_reuse.specs.BlockRuns.{inner, look_first, look_again, bracket, inner_lead, inner_run, inner_tail, inner_close, run_of, body_of, content_of, content_with, run_at, opened_at, tail_at, close_at, left_at, InnerLaw}
+use Rattle.typst_reuse.specs.BlockRuns.{inner, look_first, look_again, bracket, inner_lead, inner_run, inner_tail, inner_close, run_of, body_of, content_of, content_with, run_at, tail_at, close_at, left_at, InnerLaw}
 use Rattle.typst_reuse.proofs.Edit.{before-same, after-same, same_in-to}
 use Rattle.typst_reuse.proofs.Runs.{repeated-chain, made-same, chain-state, chain-taken, moved-three, moved-four}
 use Rattle.typst_reuse.proofs.Text.{block-law, names-law}
