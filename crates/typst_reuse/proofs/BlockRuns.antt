@@ -1,5 +1,5 @@
 -- The law of an edit inside some pieces of a content block's run.
-use Rattle.std.proofs.Common.{◌≡◌, ℕ, zero, suc, ◌+◌, ◌-◌, ◌<◌, ◌==◌, if◌then◌else◌, ne_eqb, Bool, true, false, List, [], ◌∷◌, ◌++◌, length, refl, ap, sym, ◌∙◌, subst, arith}
+use Rattle.std.proofs.Common.{◌≡◌, ℕ, zero, suc, ◌+◌, ◌-◌, ◌<◌, ◌==◌, if◌then◌else◌, ne_eqb, Bool, true, false, [], ◌∷◌, ◌++◌, length, refl, ap, sym, ◌∙◌, subst, arith}
 use Rattle.typst_kinds.specs.declared.kind.SyntaxKind.TheVariants as kind
 use Rattle.typst_kinds.specs.Kinds.{same}
 use Rattle.typst_lines.specs.Place.{Place, moved}
@@ -29,7 +29,7 @@ use Rattle.typst_reuse.specs.Laws.{block_at}
 use Rattle.typst_reuse.specs.Runs.{AllGo, End, asks_of, chain, made}
 use Rattle.typst_reuse.specs.Sequence.{Sequence, turn_of, first_of, first_end, then_of, then_end, then_place, rest_of}
 use Rattle.typst_reuse.specs.Spot.{ended, unit_at}
-use Rattle.typst_reuse.specs.BlockRuns.{inner, look_first, look_again, bracket, inner_lead, inner_run, inner_tail, inner_close, run_of, body_of, content_of, content_with, run_at, opened_at, tail_at, close_at, left_at, InnerLaw}
+use Rattle.typst_reuse.specs.BlockRuns.{inner, look_first, look_again, bracket, inner_lead, inner_run, inner_tail, inner_close, run_of, body_of, content_of, content_with, run_at, tail_at, close_at, left_at, InnerLaw}
 use Rattle.typst_reuse.proofs.Edit.{before-same, after-same, same_in-to}
 use Rattle.typst_reuse.proofs.Runs.{repeated-chain, made-same, chain-state, chain-taken, moved-three, moved-four}
 use Rattle.typst_reuse.proofs.Text.{block-law, names-law}
@@ -184,7 +184,7 @@ inner-law k levels front old new rest c i n m past among h =
     let d = bracket k levels w s in
     let opened : d ≡ b = bracket-same k levels z w s (same_in-shift c.at _ z0 w0 (before-same _ front old new rest h.opens)) in
     let shown : 0 < i → SameIn ((inner_lead k levels z s).asks ++ asks_of (first_of i r)) (moved b.taken z) (moved b.taken w) = λ l.
-        same_in-to _ _ _ _ _ (sym (moved-sum c.at b.taken z0)) (sym (moved-sum c.at b.taken w0)) (same_in-shift (c.at + b.taken) _ z0 w0 (before-same _ front old new rest (h.before_run l))) in
+    same_in-to _ _ _ _ _ (sym (moved-sum c.at b.taken z0)) (sym (moved-sum c.at b.taken w0)) (same_in-shift (c.at + b.taken) _ z0 w0 (before-same _ front old new rest (h.before_run l))) in
     let first_is : first_of i q ≡ first_of i r = ap (λ o. first_of i (seq_by k levels o w)) opened ∙ first-by k levels i b z w shown in
     let new_first : AllGo (first_of i q) = subst (λ os. AllGo os) (sym first_is) h.first_go in
     let e = first_end i r in
@@ -210,35 +210,35 @@ inner-law k levels front old new rest c i n m past among h =
     let v1_is : moved ((f.taken + j.taken) + u.taken) q.place ≡ v1 = moved-three f.taken j.taken u.taken q.place ∙ ap (λ (o : Outcome (Bool × ℕ)). moved o.taken v) rest_is in
     let tail_old : tail ≡ flush_at k levels y1 t.state = ap (λ a. flush_at k levels a t.state) y1_is in
     let tail_is : tail_at k levels i m c w0 ≡ tail =
-        ap (λ a. flush_at k levels a u.state) v1_is ∙ ap (λ (o : Outcome (Bool × ℕ)). flush_at k levels v1 o.state) rest_is
-        ∙ (sane k levels flush_trivia).framed y1 v1 t.state (subst (λ (o : Outcome (Unit {0})). SameIn o.asks y1 v1) tail_old (same_in-first tail.asks _ y1 v1 behind)) ∙ sym tail_old in
+    ap (λ a. flush_at k levels a u.state) v1_is ∙ ap (λ (o : Outcome (Bool × ℕ)). flush_at k levels v1 o.state) rest_is
+    ∙ (sane k levels flush_trivia).framed y1 v1 t.state (subst (λ (o : Outcome (Unit {0})). SameIn o.asks y1 v1) tail_old (same_in-first tail.asks _ y1 v1 behind)) ∙ sym tail_old in
     let y2 = moved tail.taken y1 in
     let v2 = moved tail.taken v1 in
     let y2_is : moved (((e.taken + g.taken) + t.taken) + tail.taken) r.place ≡ y2 = moved-sum ((e.taken + g.taken) + t.taken) tail.taken r.place ∙ ap (moved tail.taken) y1_is in
     let v2_is : moved (((f.taken + j.taken) + u.taken) + (tail_at k levels i m c w0).taken) q.place ≡ v2 =
-        moved-sum ((f.taken + j.taken) + u.taken) (tail_at k levels i m c w0).taken q.place ∙ ap (moved (tail_at k levels i m c w0).taken) v1_is ∙ ap (λ (o : Outcome (Unit {0})). moved o.taken v1) tail_is in
+    moved-sum ((f.taken + j.taken) + u.taken) (tail_at k levels i m c w0).taken q.place ∙ ap (moved (tail_at k levels i m c w0).taken) v1_is ∙ ap (λ (o : Outcome (Unit {0})). moved o.taken v1) tail_is in
     let close_old : close ≡ shut_at k levels y2 tail.state = ap (λ a. shut_at k levels a tail.state) y2_is in
     let last = same_in-shift tail.taken _ y1 v1 (same_in-second tail.asks _ y1 v1 behind) in
     let close_is : close_at k levels i m c w0 ≡ close =
-        ap (λ a. shut_at k levels a (tail_at k levels i m c w0).state) v2_is ∙ ap (λ (o : Outcome (Unit {0})). shut_at k levels v2 o.state) tail_is
-        ∙ (sane k levels (close_if (same kind.RightBracket))).framed y2 v2 (after_node false [] tail.state) (subst (λ (o : Outcome Bool). SameIn o.asks y2 v2) close_old last) ∙ sym close_old in
+    ap (λ a. shut_at k levels a (tail_at k levels i m c w0).state) v2_is ∙ ap (λ (o : Outcome (Unit {0})). shut_at k levels v2 o.state) tail_is
+    ∙ (sane k levels (close_if (same kind.RightBracket))).framed y2 v2 (after_node false [] tail.state) (subst (λ (o : Outcome Bool). SameIn o.asks y2 v2) close_old last) ∙ sym close_old in
     let named = names-law k (front ++ (old ++ rest)) c among in
     let reads : (a : Place) → unit_at c a ≡ ended (block_at k (suc levels) block.Content (moved c.at a) s) = λ a.
-        ap (λ o. o (moved c.at a) s) named.reads ∙ ap (λ l. ended (block_at k l c.name (moved c.at a) s)) h.level ∙ ap (λ x. ended (block_at k (suc levels) x (moved c.at a) s)) h.name in
+    ap (λ o. o (moved c.at a) s) named.reads ∙ ap (λ l. ended (block_at k l c.name (moved c.at a) s)) h.level ∙ ap (λ x. ended (block_at k (suc levels) x (moved c.at a) s)) h.name in
     let ended_of = λ (o : Outcome (Unit {0})). ended o in
     let was = reads z0 ∙ ap ended_of (content-split k levels z s i n h.first_go h.old_go) in
     let now = reads w0 ∙ ap ended_of (content-split k levels w s i m new_first h.new_go)
-        ∙ ap (λ os. content_with k levels w s (chain os (chain (then_of i m q) u)) (tail_at k levels i m c w0) (close_at k levels i m c w0)) first_is
-        ∙ ap (λ o. content_with k levels w s (chain (first_of i r) (chain (then_of i m q) o)) (tail_at k levels i m c w0) (close_at k levels i m c w0)) rest_is
-        ∙ ap (λ o. content_with k levels w s (chain (first_of i r) (chain (then_of i m q) t)) o (close_at k levels i m c w0)) tail_is
-        ∙ ap (λ o. content_with k levels w s (chain (first_of i r) (chain (then_of i m q) t)) tail o) close_is in
+    ∙ ap (λ os. content_with k levels w s (chain os (chain (then_of i m q) u)) (tail_at k levels i m c w0) (close_at k levels i m c w0)) first_is
+    ∙ ap (λ o. content_with k levels w s (chain (first_of i r) (chain (then_of i m q) o)) (tail_at k levels i m c w0) (close_at k levels i m c w0)) rest_is
+    ∙ ap (λ o. content_with k levels w s (chain (first_of i r) (chain (then_of i m q) t)) o (close_at k levels i m c w0)) tail_is
+    ∙ ap (λ o. content_with k levels w s (chain (first_of i r) (chain (then_of i m q) t)) tail o) close_is in
     let old_taken : (unit_at c z0).taken ≡ b.taken + (((e.taken + g.taken) + t.taken) + (tail.taken + close.taken)) =
-        ap (λ (o : Outcome (Unit {0})). o.taken) was ∙ content-taken k levels z s (chain (first_of i r) (chain (then_of i n r) t)) tail close ∙ ap (λ a. b.taken + (a + (tail.taken + close.taken))) (split-taken r i n) in
+    ap (λ (o : Outcome (Unit {0})). o.taken) was ∙ content-taken k levels z s (chain (first_of i r) (chain (then_of i n r) t)) tail close ∙ ap (λ a. b.taken + (a + (tail.taken + close.taken))) (split-taken r i n) in
     let p = chain (first_of i q) (chain (then_of i m q) u) in
     let new_chain : (chain (first_of i r) (chain (then_of i m q) t)).taken ≡ p.taken = sym (ap (λ os. (chain os (chain (then_of i m q) u)).taken) first_is ∙ ap (λ o. (chain (first_of i r) (chain (then_of i m q) o)).taken) rest_is) in
     let same_rest : u.taken ≡ t.taken = ap (λ (o : Outcome (Bool × ℕ)). o.taken) rest_is in
     let new_taken : (unit_at c w0).taken ≡ d.taken + (p.taken + (tail.taken + close.taken)) =
-        ap (λ (o : Outcome (Unit {0})). o.taken) now ∙ content-taken k levels w s (chain (first_of i r) (chain (then_of i m q) t)) tail close ∙ ap (λ a. d.taken + (a + (tail.taken + close.taken))) new_chain in
+    ap (λ (o : Outcome (Unit {0})). o.taken) now ∙ content-taken k levels w s (chain (first_of i r) (chain (then_of i m q) t)) tail close ∙ ap (λ a. d.taken + (a + (tail.taken + close.taken))) new_chain in
     let ends = h.ends in
     let shifted = h.shifted in
     let many = split-taken q i m in

@@ -1,5 +1,5 @@
 -- The law of an edit inside some pieces of a text's run that leaves other trivia or other errors behind them.
-use Rattle.std.proofs.Common.{◌≡◌, ℕ, zero, suc, ◌+◌, ◌<◌, Bool, true, false, List, ◌++◌, length, drop, Some, refl, ap, sym, ◌∙◌, subst, arith}
+use Rattle.std.proofs.Common.{◌≡◌, ℕ, suc, ◌+◌, ◌<◌, Bool, true, List, ◌++◌, length, drop, Some, refl, ap, sym, ◌∙◌, subst, arith}
 use Rattle.typst_lines.specs.Place.{Place, moved}
 use Rattle.typst_node.specs.Tree.{Tree}
 use Rattle.typst_classes.specs.Classes.{CharClasses}

@@ -1,8 +1,7 @@
 -- What begins by taking the token at hand: of the trivia before it, and of the errors before these, it gives the trivia and asks nothing else.
-use Rattle.std.proofs.Common.{◌≡◌, ℕ, zero, suc, ◌+◌, ◌-◌, ◌<◌, ◌≤◌, Bool, true, false, not, ◌||◌, if◌then◌else◌, nat_lt, List, [], ◌∷◌, ◌++◌, length, take, drop, map, length-append, append_assoc, encode_utf8_all, Some, None, refl, ap, sym, ◌∙◌, subst, arith}
+use Rattle.std.proofs.Common.{◌≡◌, ℕ, zero, suc, ◌+◌, ◌-◌, ◌<◌, ◌≤◌, Bool, true, false, not, ◌||◌, if◌then◌else◌, nat_lt, List, [], ◌∷◌, ◌++◌, length, take, drop, map, length-append, length-take, append_assoc, encode_utf8_all, Some, refl, ap, sym, ◌∙◌, subst, arith}
 use Rattle.std.proofs.lemmas.List.{map-append}
 use Rattle.std.proofs.lemmas.Str.{length-le-encodes}
-use Rattle.std.proofs.Common.{length-take}
 use Rattle.typst_kinds.specs.Kinds.{is_error}
 use Rattle.typst_lines.specs.Place.{Place, moved}
 use Rattle.typst_node.specs.Tree.{Tree, text_of}
@@ -13,16 +12,15 @@ use Rattle.typst_combinators.specs.declared.calls.Call.{Call}
 use Rattle.typst_combinators.specs.declared.reading.Reading.{Reading}
 use Rattle.typst_combinators.specs.Ask.{Ask, shift, shift_one, sunk}
 use Rattle.typst_combinators.specs.Ask.Ask.{looked}
-use Rattle.typst_combinators.specs.Calls.{Answer}
-use Rattle.typst_combinators.specs.Hand.{AtHand, Hand, told, len_at, text_ahead, hand_at, hand_asks, asks_column, column_look, column_at}
+use Rattle.typst_combinators.specs.Hand.{AtHand, told, len_at, text_ahead, hand_at, hand_asks, asks_column, column_look, column_at}
 use Rattle.typst_combinators.specs.Point.{Trivia, Point, is_nil}
-use Rattle.typst_combinators.specs.Shape.{Making, made, hinted, Shape, shaped, after_shape, after_node, count_empty, seen, Seen}
-use Rattle.typst_combinators.specs.Steps.{peek, eat_making, node, within}
+use Rattle.typst_combinators.specs.Shape.{Making, hinted, Shape, shaped, after_shape, after_node, count_empty, seen}
+use Rattle.typst_combinators.specs.Steps.{peek, within}
 use Rattle.typst_combinators.specs.Syntax.{Parser}
 use Rattle.typst_combinators.specs.Syntax.Begin.{at_token}
-use Rattle.typst_combinators.specs.Syntax.Op.{hand, column, takes}
-use Rattle.typst_combinators.specs.Syntax.Parser.{gives, does, next, wraps, scoped, calls}
-use Rattle.typst_combinators.specs.Meaning.{Outcome, Meaning, Level, plain, less, standing, hints_before, joined, followed, before, inside, wrapped, renewed, entered, left, left_to, deeper_by_one, taken_node, done, run}
+use Rattle.typst_combinators.specs.Syntax.Op.{column, takes}
+use Rattle.typst_combinators.specs.Syntax.Parser.{does, next, wraps, scoped, calls}
+use Rattle.typst_combinators.specs.Meaning.{Outcome, Meaning, Level, plain, less, standing, joined, followed, inside, wrapped, renewed, left, taken_node, run}
 use Rattle.typst_combinators.specs.Sound.{Tidy, Backs}
 use Rattle.typst_combinators.proofs.Backs.{left-empties}
 use Rattle.typst_combinators.proofs.Hints.{length-hinted, hinted-append}

@@ -1,5 +1,5 @@
 -- Every expression of markup begins by taking the token at hand, so all behind some pieces is the same, but for the trivia before it.
-use Rattle.std.proofs.Common.{◌≡◌, ℕ, zero, suc, ◌+◌, ◌-◌, ◌<◌, Bool, true, false, ◌&&◌, ◌||◌, ◌==◌, if◌then◌else◌, nat_lt, List, [], ◌∷◌, ◌++◌, length, Some, refl, ap, sym, ◌∙◌, subst, arith}
+use Rattle.std.proofs.Common.{◌≡◌, ℕ, ◌+◌, ◌-◌, ◌<◌, Bool, true, false, ◌&&◌, ◌==◌, nat_lt, List, [], ◌++◌, length, Some, refl, ap, sym, ◌∙◌, subst, arith}
 use Rattle.std.proofs.lemmas.List.{map-append}
 use borrow.Author.Tests.{lt-ltb}
 use Rattle.typst_kinds.specs.declared.kind.SyntaxKind.{SyntaxKind}
@@ -16,11 +16,10 @@ use Rattle.typst_combinators.specs.Hand.{AtHand, told, len_at, hand_at, hand_ask
 use Rattle.typst_combinators.specs.Point.{Trivia, Point, is_nil}
 use Rattle.typst_combinators.specs.Shape.{Making, hinted, Shape, becomes}
 use Rattle.typst_combinators.specs.Shape.Making.{itself, of_kind, surprise}
-use Rattle.typst_combinators.specs.Steps.{peek, eat_making, eat, convert_and_eat, unexpected, flush_trivia, node, within}
+use Rattle.typst_combinators.specs.Steps.{eat_making, eat, convert_and_eat, unexpected, flush_trivia, node, within}
 use Rattle.typst_combinators.specs.Syntax.{Parser, ◌>>=◌, ◌>>◌}
 use Rattle.typst_combinators.specs.Syntax.Begin.{at_token}
-use Rattle.typst_combinators.specs.Syntax.Op.{column}
-use Rattle.typst_combinators.specs.Syntax.Parser.{gives, does, next, pick, repeat, wraps, scoped, calls}
+use Rattle.typst_combinators.specs.Syntax.Parser.{gives, next, pick, repeat, wraps, scoped, calls}
 use Rattle.typst_combinators.specs.Meaning.{Outcome, Meaning, Level, plain, less, as_last, joined, followed, repeated, hand_of, hand_asks_of, asked, flushed_state, run}
 use Rattle.typst_combinators.specs.Sound.{Within, Backs}
 use Rattle.typst_combinators.proofs.Ends.{hand-takes}
@@ -31,7 +30,7 @@ use Rattle.typst_markup.specs.declared.head.MarkupHead.TheVariants as head
 use Rattle.typst_markup.specs.Markup.{ends, markup_turn, markup_head, markup_by, markup_expr, delimited, emphasized, heading, item, term_item, reference, strong, emph}
 use Rattle.typst_reuse.specs.Joint.{minds}
 use Rattle.typst_reuse.specs.Occurrences.{goes}
-use Rattle.typst_reuse.proofs.Led.{trivia_with, before_trivia, none-less, none-of, Led, led-then, led-asked, Counts_less, Takes, asks-behind, told-behind, takes-token, takes-next, takes-peek, takes-column, takes-scoped, takes-wraps, takes-calls}
+use Rattle.typst_reuse.proofs.Led.{trivia_with, before_trivia, none-less, none-of, Led, led-then, led-asked, Counts_less, Takes, asks-behind, takes-token, takes-next, takes-peek, takes-column, takes-scoped, takes-wraps, takes-calls}
 use Rattle.typst_reuse.proofs.Runs.{repeated-chain}
 use Rattle.typst_reuse.proofs.Outcomes.{shift-zero}
 use Rattle.typst_reuse.proofs.Reached.{flushed-held}

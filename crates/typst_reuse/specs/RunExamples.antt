@@ -1,17 +1,25 @@
 -- Edits inside pieces of short texts, as they follow from the definitions.
 use Rattle.std.specs.Prelude.{◌≡◌, ℕ, Bool, true, false, List, [], ◌∷◌, codes, map}
 use Rattle.typst_kinds.specs.declared.kind.SyntaxKind.TheVariants as kind
-use Rattle.typst_node.specs.Tree.{leaf_of}
+use Rattle.typst_node.specs.Tree.{Tree, leaf_of}
 use Rattle.typst_classes.specs.Classes.{CharClasses, by_law}
 use Rattle.typst_combinators.specs.Meaning.{Outcome}
+use Rattle.typst_combinators.specs.Point.{gap_of}
 use Rattle.typst_grammar.specs.Grammar.{start_of, tree}
 use Rattle.typst_grammar.specs.Examples.{markup, branch, text, unclosed}
 use Rattle.typst_reuse.specs.Examples.{most, least}
+use Rattle.typst_reuse.specs.Joint.{onwards_from}
 use Rattle.typst_reuse.specs.Runs.{pieces, pieces_from, end_from, rest_from, lead, asks_of}
 
 -- how much the turns that go on take, one by one
 abbrev pub lengths : List (Outcome (Bool × (Bool × ℕ))) → List ℕ
 lengths os = map (λ o. o.taken) os
+
+abbrev pub space : List ℕ → Tree
+space s = leaf_of kind.Space s
+
+abbrev pub comment : List ℕ → Tree
+comment s = leaf_of kind.LineComment s
 
 pub record Runs (beyond : CharClasses) : Type 0 where
   -- `a~b`, and two hyphens in place of the tilde: the second piece is read again, and ends one further on
@@ -40,5 +48,9 @@ pub record Runs (beyond : CharClasses) : Type 0 where
   pub comment_lengths : lengths (pieces_from (by_law beyond) 0 2 (start_of (codes "a //dc\nb"))) ≡ 1 ∷ 7 ∷ []
   pub comment_value : (end_from (by_law beyond) 0 2 (start_of (codes "a //dc\nb"))).value ≡ (end_from (by_law beyond) 0 2 (start_of (codes "a //cc\nb"))).value
   pub comment_state : (end_from (by_law beyond) 0 2 (start_of (codes "a //dc\nb"))).state ≡ (end_from (by_law beyond) 0 2 (start_of (codes "a //cc\nb"))).state
+  -- behind the first piece alone all is the same but for the comment
+  pub joint_old : (onwards_from (by_law beyond) 0 1 (start_of (codes "a //cc\nb"))).nodes ≡ space (codes " ") ∷ comment (codes "//cc") ∷ space (codes "\n") ∷ text (codes "b") ∷ []
+  pub joint_new : (onwards_from (by_law beyond) 0 1 (start_of (codes "a //dc\nb"))).nodes ≡ space (codes " ") ∷ comment (codes "//dc") ∷ space (codes "\n") ∷ text (codes "b") ∷ []
+  pub joint_gaps : map (λ t. gap_of (end_from (by_law beyond) 0 1 (start_of t)).state.known) (codes "a //cc\nb" ∷ codes "a //dc\nb" ∷ []) ≡ 6 ∷ 6 ∷ []
   -- four lines, and a letter behind the last newline: what the first two, three and four pieces look at ends so far on
   pub lines : map (λ n. most (asks_of (pieces (by_law beyond) n (start_of (codes "a\nb\nc\nd\n"))))) (2 ∷ 3 ∷ 4 ∷ []) ≡ 6 ∷ 8 ∷ 9 ∷ []

@@ -46,5 +46,8 @@ returns c = λ beyond. record {
   comment_lengths = refl;
   comment_value = refl;
   comment_state = refl;
+  joint_old = refl;
+  joint_new = refl;
+  joint_gaps = refl;
   lines = refl;
 }
