@@ -37,10 +37,12 @@ impl Edited {
         let parsed = self.source.edit(start..end, with).map_err(told)?;
         self.has_letter = !self.has_letter;
         let root = self.source.root();
-        Ok((root.len() as u64)
-            .wrapping_add(root.descendants() as u64)
-            .wrapping_add(parsed.start as u64)
-            .wrapping_add(parsed.end as u64))
+        Ok(
+            (root.len() as u64)
+                .wrapping_add(root.descendants() as u64)
+                .wrapping_add(parsed.start as u64)
+                .wrapping_add(parsed.end as u64),
+        )
     }
 }
 

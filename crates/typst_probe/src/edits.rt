@@ -40,7 +40,8 @@ impl<'a> Edit<'a> {
             return Err(SourceError::OutOfMemory);
         };
         let mut source = Source::detached(alloc, text, UnicodeClasses)?;
-        if !source.text().is_char_boundary(self.start) || !source.text().is_char_boundary(self.end)
+        if !source.text().is_char_boundary(self.start)
+            || !source.text().is_char_boundary(self.end)
         {
             return Ok(None);
         }
