@@ -2,3 +2,4 @@ pub mod Bytes
 pub mod View
 pub mod Codes
 pub mod Cursor
+pub mod Expected

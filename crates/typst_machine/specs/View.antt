@@ -1,8 +1,9 @@
 -- What a parser of the code shows, and what it ensures.
-use Rattle.std.specs.Prelude.{◌≡◌, ℕ, ◌-◌, ◌<◌, ◌≤◌, ◌^◌, length, true, List, ◌++◌, [], take, drop, Option, Some, None, Result, Ok, Err}
+use Rattle.std.specs.Prelude.{◌≡◌, ℕ, ◌-◌, ◌<◌, ◌≤◌, ◌^◌, length, true, List, ◌++◌, [], ◌∷◌, take, drop, Option, Some, None, option_map, Result, Ok, Err}
 use Rattle.std.specs.declared.alloc.AllocError.{AllocError}
 use denote.Ref.{MutBor}
 use Rattle.typst_lines.specs.Place.{Place, moved}
+use Rattle.typst_kinds.specs.declared.kind.SyntaxKind.{SyntaxKind}
 use Rattle.typst_classes.specs.Classes.{CharClasses}
 use Rattle.typst_node.specs.Tree.{Tree}
 use Rattle.typst_readers.specs.declared.hull.Hull.{Hull}
@@ -18,7 +19,7 @@ use Rattle.typst_combinators.specs.Calls.{Answer}
 use Rattle.typst_combinators.specs.Point.{Point, forgot, state_of}
 use Rattle.typst_combinators.specs.Hand.{Hand, known_by}
 use Rattle.typst_combinators.specs.Log.{Log, logged, with_hull, with_more, with_note}
-use Rattle.typst_combinators.specs.Shape.{Shape, shaped, after_shape}
+use Rattle.typst_combinators.specs.Shape.{Shape, becomes, shaped, after_shape}
 use Rattle.typst_combinators.specs.Sound.{Sound}
 use Rattle.typst_combinators.specs.Syntax.{Parser, ◌>>◌}
 use Rattle.typst_combinators.specs.Meaning.{Outcome, Level, apart, asked, flushed_state, hand_of, hand_asks_of, left, standing, run}
@@ -157,6 +158,15 @@ pub record Rewrapped (from : ℕ) (shape : Shape) (mid new : View) : Type 0 wher
   pub here : new.here ≡ mid.here
   pub log : new.log ≡ mid.log
 
+-- the same view with the nodes from a number on in a shape
+abbrev pub rewrapped : ℕ → Shape → View → View
+rewrapped from shape v = record v { nodes = take from v.nodes ++ shaped shape (drop from v.nodes); state = after_shape shape (drop from v.nodes) v.state }
+
+-- the same from each of these numbers on, beginning with the last
+abbrev pub rewrapped_each : List ℕ → Shape → View → View
+rewrapped_each [] shape v = v
+rewrapped_each (from ∷ froms) shape v = rewrapped from shape (rewrapped_each froms shape v)
+
 -- something was noted, between two byte offsets of which the first is that of the trivia before it
 abbrev pub with_noted : Mark → ℕ → ℕ → ℕ → State → Log → Log
 with_noted mark before start levels s h = record {
@@ -207,6 +217,22 @@ pub record Fills (l : Level) (f : Frame) : Type 0 where
 -- what the code reads wherever such calls are made
 abbrev pub Means : {A : Type 0} → Frame → Parser A → View → Result A AllocError → View → Type 0
 Means f q old r new = (l : Level) → Fills l f → Reads l q old r new
+
+-- the same where the code answers in its own terms, of which this is the answer
+abbrev pub ReadsBy : {A B : Type 0} → Level → (B → A) → Parser A → View → Result B AllocError → View → Type 0
+ReadsBy l told p old (Ok b) new = Does l p (told b) old new
+ReadsBy l told p old (Err e) new = Unit {0}
+
+abbrev pub MeansBy : {A B : Type 0} → Frame → (B → A) → Parser A → View → Result B AllocError → View → Type 0
+MeansBy f told q old r new = (l : Level) → Fills l f → ReadsBy l told q old r new
+
+-- a turn of what grows, of which the code says the kind of the node that all goes into
+abbrev pub growth : {A : Type 0} → Option SyntaxKind × A → Option Shape × A
+growth x = (option_map becomes x.0, x.1)
+
+-- the same where it says no more
+abbrev pub bare_growth : Option SyntaxKind → Option Shape × Unit {0}
+bare_growth kind = (option_map becomes kind, tt)
 
 -- the same of what answers as a call
 abbrev pub MeansAs : Frame → (call : Call) → Parser (Answer call) → View → Result Answered AllocError → View → Type 0

@@ -151,15 +151,15 @@ fn push_node<C: Classes>(
 
 /// A token that was read, where it ends, and what was looked at for it.
 #[derive(Clone, Copy)]
-struct Read<'s> {
-    token: Token,
-    after: Scanner<'s>,
-    hull: Hull,
+pub(crate) struct Read<'s> {
+    pub(crate) token: Token,
+    pub(crate) after: Scanner<'s>,
+    pub(crate) hull: Hull,
 }
 
 /// Reads one token.
 #[inline(always)]
-fn read_token<'s, C: Classes>(
+pub(crate) fn read_token<'s, C: Classes>(
     alloc: Global,
     start: Scanner<'s>,
     mode: SyntaxMode,

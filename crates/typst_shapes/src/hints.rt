@@ -1,0 +1,22 @@
+//! Hints for an error that was given.
+
+ghost use Rattle.std.specs.Prelude.{◌≡◌, ◌∷◌, [], length, OnOk};
+ghost use Rattle.typst_combinators.specs.Shape.{hinted_last};
+
+use std::alloc::AllocError;
+use typst_node::SyntaxNode;
+
+/// Adds a hint to the last of several nodes, where it is an error.
+pub fn hint_last(nodes: &mut Vec<SyntaxNode>, hint: &str) -> Result<(), AllocError>
+    ensures hinted { OnOk result (nodes.new.items ≡ hinted_last (hint.now ∷ []) nodes.old.items) }
+    ensures as_many { length nodes.new.items ≡ length nodes.old.items }
+{
+    if nodes.is_empty() {
+        return Ok(());
+    }
+    let last = nodes.len() - 1;
+    if nodes[last].kind().is_error() {
+        nodes[last].hint(hint)?;
+    }
+    Ok(())
+}
