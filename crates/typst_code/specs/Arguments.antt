@@ -5,8 +5,7 @@ use Rattle.typst_kinds.specs.declared.kind.SyntaxKind.{SyntaxKind}
 use Rattle.typst_kinds.specs.declared.kind.SyntaxKind.TheVariants as kind
 use Rattle.typst_combinators.specs.declared.calls.Block.TheVariants as block
 use Rattle.typst_combinators.specs.declared.reading.AtNewline.TheVariants as newline
-use Rattle.typst_combinators.specs.Hand.{AtHand}
-use Rattle.typst_combinators.specs.Shape.{Change, Shape, Seen, becomes, unclosed}
+use Rattle.typst_combinators.specs.Shape.{Change, Shape, becomes, unclosed}
 use Rattle.typst_combinators.specs.Shape.Change.{stays, turns_wrong, is_not}
 use Rattle.typst_combinators.specs.Shape.Shape.{keeps, holds}
 use Rattle.typst_combinators.specs.Syntax.{Parser, ◌>>=◌, ◌>>◌}
@@ -14,37 +13,43 @@ use Rattle.typst_combinators.specs.Syntax.Op.{advises}
 use Rattle.typst_combinators.specs.Syntax.Parser.{gives, does, pick, repeat}
 use Rattle.typst_combinators.specs.Steps.{peek, eat, eat_if, unexpected, expected, within, node, read_block}
 use Rattle.typst_markup.specs.Markup.{at_newline, opens_directly}
-use Rattle.typst_code.specs.Keys.{has_name, name_of, of_first}
-use Rattle.typst_code.specs.Groups.{begins_item, spread, pair, separator, with_key}
+use Rattle.typst_code.specs.declared.keys.Key.{Key}
+use Rattle.typst_code.specs.declared.keys.Key.TheVariants as key
+use Rattle.typst_code.specs.Keys.{has_name, with_name}
+use Rattle.typst_code.specs.Groups.{begins_item, spread, pair, separator}
 
 -- arguments begin with a paren or a bracket
 abbrev pub opens_arguments : SyntaxKind → Bool
 opens_arguments k = same kind.LeftParen k || same kind.LeftBracket k
 
 -- and directly behind what is called
-abbrev pub calls_directly : AtHand → Bool
-calls_directly h = opens_arguments h.kind && not h.has_trivia
+abbrev pub calls_directly : SyntaxKind → Bool → Bool
+calls_directly k has_trivia = opens_arguments k && not has_trivia
 
 -- what stands before a colon has to be a name that wasn't seen
-abbrev pub name_change : List (List ℕ) → List Seen → Change
-name_change names first = elim (of_first name_of first) [
-  | None ↦ is_not (codes "identifier")
-  | Some name ↦ if has_name names name then turns_wrong (codes "duplicate argument: " ++ name) else stays
-]
+abbrev pub when_named : List (List ℕ) → List ℕ → Change
+when_named names name = if has_name names name then turns_wrong (codes "duplicate argument: " ++ name) else stays
 
-abbrev pub argument_shape : List (List ℕ) → Bool × List Seen → Shape
-argument_shape names x = if x.0 then holds (name_change names x.1) kind.Named else keeps stays
+abbrev pub name_change : List (List ℕ) → Key → Change
+name_change names (key.Name name) = when_named names name
+name_change names (key.Str text) = is_not (codes "identifier")
+name_change names key.Other = is_not (codes "identifier")
 
-abbrev pub with_argument : List (List ℕ) → Bool × List Seen → List (List ℕ)
-with_argument names x = if x.0 then with_key names (of_first name_of x.1) else names
+abbrev pub argument_shape : List (List ℕ) → Option Key → Shape
+argument_shape names None = keeps stays
+argument_shape names (Some key) = holds (name_change names key) kind.Named
+
+abbrev pub with_argument : List (List ℕ) → Option Key → List (List ℕ)
+with_argument names (Some (key.Name name)) = with_name names name
+with_argument names _ = names
 
 -- one argument; answers the names that were seen
 unfoldable pub argument : List (List ℕ) → Parser (List (List ℕ))
 argument names = do
   ahead ← peek
   pick (same kind.Dots ahead.kind) (spread >> gives names) (do
-    x ← node (argument_shape names) pair
-    gives (with_argument names x))
+    key ← node (argument_shape names) pair
+    gives (with_argument names key))
 
 -- an argument and what separates it from the next, unless the list ends
 unfoldable pub argument_turn : List (List ℕ) → Parser (Bool × List (List ℕ))
@@ -62,6 +67,12 @@ argument_list = within (at_newline newline.Continue) (do
   paren ← eat
   names ← repeat argument_turn []
   eat_if (same kind.RightParen))
+
+-- the same, if a paren begins it
+unfoldable pub listed_arguments : Parser Bool
+listed_arguments = do
+  ahead ← peek
+  pick (same kind.LeftParen ahead.kind) argument_list (gives true)
 
 -- a content block, if one begins directly here
 unfoldable pub content_turn : Unit {0} → Parser (Bool × Unit {0})
@@ -84,10 +95,9 @@ missing_arguments = do
 unfoldable pub arguments : Parser (Unit {0})
 arguments = do
   ahead ← peek
-  first ← pick (calls_directly ahead) (gives tt) missing_arguments
+  first ← pick (calls_directly ahead.kind ahead.has_trivia) (gives tt) missing_arguments
   closed ← node arguments_shape (do
-    begin ← peek
-    closed ← pick (same kind.LeftParen begin.kind) argument_list (gives true)
+    closed ← listed_arguments
     blocks ← repeat content_turn tt
     gives closed)
   gives tt

@@ -1,5 +1,5 @@
 -- Expressions of code.
-use Rattle.std.specs.Prelude.{ℕ, suc, Bool, true, false, not, ◌&&◌, if◌then◌else◌, nat_lt, nat_le, List, [], ◌∷◌, Option, Some, None, codes}
+use Rattle.std.specs.Prelude.{ℕ, suc, Bool, true, false, not, ◌&&◌, if◌then◌else◌, nat_lt, List, [], ◌∷◌, Option, Some, None, codes}
 use Rattle.typst_kinds.specs.Kinds.{same}
 use Rattle.typst_kinds.specs.Operators.{binary_of, unary_precedence, binary_precedence, assoc_of}
 use Rattle.typst_kinds.specs.declared.kind.SyntaxKind.{SyntaxKind}
@@ -11,7 +11,6 @@ use Rattle.typst_kinds.specs.declared.operator.UnOp.{UnOp}
 use Rattle.typst_kinds.specs.declared.operator.UnOp.TheVariants as unary
 use Rattle.typst_combinators.specs.declared.calls.Block.TheVariants as block
 use Rattle.typst_combinators.specs.declared.calls.Call.TheVariants.{CodeExpr}
-use Rattle.typst_combinators.specs.Hand.{AtHand}
 use Rattle.typst_combinators.specs.Shape.{Shape, becomes}
 use Rattle.typst_combinators.specs.Shape.Making.{wanted}
 use Rattle.typst_combinators.specs.Syntax.{Parser, ◌>>=◌, ◌>>◌}
@@ -95,8 +94,8 @@ code_primary atomic = do
 -- ---- what stands behind it
 
 -- a dot stands directly behind it
-abbrev pub dots_directly : AtHand → Bool
-dots_directly h = same kind.Dot h.kind && not h.has_trivia
+abbrev pub dots_directly : SyntaxKind → Bool → Bool
+dots_directly k has_trivia = same kind.Dot k && not has_trivia
 
 -- an operator that binds less tightly than this is left to what stands around
 abbrev pub binary_tail : ℕ → Option BinOp → CodeTail
@@ -106,15 +105,15 @@ binary_tail least (Some op) = if nat_lt (binary_precedence op) least then tail.N
 abbrev pub operator_tail : ℕ → SyntaxKind → CodeTail
 operator_tail least k =
     if same kind.Dot k then tail.Field
-    else (if same kind.Not k then (if nat_le least (binary_precedence binary.NotIn) then tail.NotIn else tail.Nothing)
+    else (if same kind.Not k then (if nat_lt (binary_precedence binary.NotIn) least then tail.Nothing else tail.NotIn)
     else binary_tail least (binary_of k))
 
 -- what takes an expression into its node: an atomic one only what stands directly behind it
-abbrev pub code_tail : Bool → ℕ → AtHand → CodeTail
-code_tail atomic least h =
-    if calls_directly h then tail.Call
-    else (if atomic then (if dots_directly h then tail.DirectField else tail.Nothing)
-    else operator_tail least h.kind)
+abbrev pub code_tail : Bool → ℕ → SyntaxKind → Bool → CodeTail
+code_tail atomic least k has_trivia =
+    if calls_directly k has_trivia then tail.Call
+    else (if atomic then (if dots_directly k has_trivia then tail.DirectField else tail.Nothing)
+    else operator_tail least k)
 
 -- how tightly a right operand binds at least: as tightly as its operator where that is taken from the right, else more tightly
 abbrev pub operand_least : BinOp → ℕ
@@ -140,9 +139,13 @@ direct_field = do
   behind ← does further
   pick (same kind.Ident behind) field (gives (None, tt))
 
+-- arguments take what is called into their call
+unfoldable pub call_tail : Parser (Option Shape × Unit {0})
+call_tail = arguments >> gives (Some (becomes kind.FuncCall), tt)
+
 -- what is read there
 abbrev pub tail_by : CodeTail → Parser (Option Shape × Unit {0})
-tail_by tail.Call = arguments >> gives (Some (becomes kind.FuncCall), tt)
+tail_by tail.Call = call_tail
 tail_by tail.Field = field
 tail_by tail.DirectField = direct_field
 tail_by tail.NotIn = not_in
@@ -152,7 +155,7 @@ tail_by tail.Nothing = gives (None, tt)
 unfoldable pub code_tail_turn : Bool → ℕ → Unit {0} → Parser (Option Shape × Unit {0})
 code_tail_turn atomic least x = do
   ahead ← peek
-  tail_by (code_tail atomic least ahead)
+  tail_by (code_tail atomic least ahead.kind ahead.has_trivia)
 
 -- an expression, atomic or not, of operators that bind at least so tightly
 unfoldable pub code_expr : Bool → ℕ → Parser (Unit {0})

@@ -4,7 +4,7 @@ use Rattle.typst_kinds.specs.Kinds.{same, is_terminator}
 use Rattle.typst_kinds.specs.declared.kind.SyntaxKind.{SyntaxKind}
 use Rattle.typst_kinds.specs.declared.kind.SyntaxKind.TheVariants as kind
 use Rattle.typst_combinators.specs.declared.reading.AtNewline.TheVariants as newline
-use Rattle.typst_combinators.specs.Shape.{Change, Shape, Seen, becomes, unclosed}
+use Rattle.typst_combinators.specs.Shape.{Change, Shape, becomes, unclosed}
 use Rattle.typst_combinators.specs.Shape.Change.{stays, turns_wrong, is_not}
 use Rattle.typst_combinators.specs.Shape.Shape.{keeps, holds}
 use Rattle.typst_combinators.specs.Syntax.{Parser, ◌>>=◌, ◌>>◌}
@@ -13,8 +13,10 @@ use Rattle.typst_combinators.specs.Steps.{peek, eat, eat_if, unexpected, within,
 use Rattle.typst_machine.specs.Expected.{expects, seeing}
 use Rattle.typst_markup.specs.Markup.{at_newline}
 use Rattle.typst_markup.specs.Starts.{begins_code}
-use Rattle.typst_code.specs.declared.groups.Items.{Items}
-use Rattle.typst_code.specs.Keys.{has_name, with_name, name_of, key_of, of_first}
+use Rattle.typst_code.specs.declared.items.Items.{Items}
+use Rattle.typst_code.specs.declared.keys.Key.{Key}
+use Rattle.typst_code.specs.declared.keys.Key.TheVariants as key
+use Rattle.typst_code.specs.Keys.{has_name, with_name, key_of}
 use Rattle.typst_code.specs.Sequences.{code_expression}
 
 -- ---- what lists have in common
@@ -27,13 +29,12 @@ begins_item k = same kind.Dots k || begins_code k
 unfoldable pub spread : Parser (Unit {0})
 spread = node (λ _. becomes kind.Spread) (eat >> code_expression)
 
--- an expression, and behind a colon another one; answers whether a colon came, and what is seen of the first
-unfoldable pub pair : Parser (Bool × List Seen)
+-- an expression, and behind a colon another one, which makes them a pair; answers what the first is as its key
+unfoldable pub pair : Parser (Option Key)
 pair = do
   first ← seeing code_expression
-  colon ← eat_if (same kind.Colon)
-  value ← pick colon code_expression (gives tt)
-  gives (colon, first.1)
+  ahead ← peek
+  pick (same kind.Colon ahead.kind) (eat >> code_expression >> gives (Some (key_of first.1))) (gives None)
 
 -- a comma stands between two items; answers whether one came
 unfoldable pub separator : Parser Bool
@@ -44,38 +45,50 @@ separator = do
 -- ---- items of arrays and dictionaries
 
 -- a key that was seen becomes an error
-abbrev pub key_change : List (List ℕ) → List Seen → Change
-key_change keys first = elim (of_first key_of first) [
-  | None ↦ stays
-  | Some key ↦ if has_name keys key then turns_wrong (codes "duplicate key: " ++ key) else stays
-]
+abbrev pub when_seen : List (List ℕ) → List ℕ → Change
+when_seen keys key = if has_name keys key then turns_wrong (codes "duplicate key: " ++ key) else stays
+
+abbrev pub key_change : List (List ℕ) → Key → Change
+key_change keys (key.Name name) = when_seen keys name
+key_change keys (key.Str text) = when_seen keys text
+key_change keys key.Other = stays
 
 -- behind a colon an item is a pair, with a name or another key
-abbrev pub pair_kind : List Seen → SyntaxKind
-pair_kind first = if is_some (of_first name_of first) then kind.Named else kind.Keyed
+abbrev pub pair_kind : Key → SyntaxKind
+pair_kind (key.Name name) = kind.Named
+pair_kind (key.Str text) = kind.Keyed
+pair_kind key.Other = kind.Keyed
 
-abbrev pub item_shape : Items → Bool × List Seen → Shape
-item_shape items x = if x.0 then holds (key_change items.keys x.1) (pair_kind x.1) else keeps stays
+abbrev pub item_shape : Items → Option Key → Shape
+item_shape items None = keeps stays
+item_shape items (Some key) = holds (key_change items.keys key) (pair_kind key)
 
 -- a pair in an array becomes an error, and what is no pair in a dictionary
-abbrev pub misfit : Items → Bool → Change
-misfit items is_pair = elim items.are_pairs [
-  | None ↦ stays
-  | Some true ↦ if is_pair then stays else is_not (codes "named or keyed pair")
-  | Some false ↦ if is_pair then is_not (codes "expression") else stays
-]
+abbrev pub misfit : Option Bool → Bool → Change
+misfit None is_pair = stays
+misfit (Some true) is_pair = if is_pair then stays else is_not (codes "named or keyed pair")
+misfit (Some false) is_pair = if is_pair then is_not (codes "expression") else stays
 
-abbrev pub with_key : List (List ℕ) → Option (List ℕ) → List (List ℕ)
-with_key keys None = keys
-with_key keys (Some key) = with_name keys key
+abbrev pub with_key : List (List ℕ) → Key → List (List ℕ)
+with_key keys (key.Name name) = with_name keys name
+with_key keys (key.Str text) = with_name keys text
+with_key keys key.Other = keys
+
+abbrev pub with_pair : List (List ℕ) → Option Key → List (List ℕ)
+with_pair keys None = keys
+with_pair keys (Some key) = with_key keys key
 
 -- the first item that is no spread decides between array and dictionary, unless that is decided
-abbrev pub with_item : Items → Bool × List Seen → Items
-with_item items x = record {
+abbrev pub decided : Option Bool → Bool → Option Bool
+decided None is_pair = Some is_pair
+decided (Some pairs) is_pair = Some pairs
+
+abbrev pub with_item : Items → Option Key → Items
+with_item items key = record {
   any = true;
-  is_plain = items.is_plain && not items.any && not x.0;
-  are_pairs = elim items.are_pairs [ None ↦ Some x.0 | Some pairs ↦ Some pairs ];
-  keys = if x.0 then with_key items.keys (of_first key_of x.1) else items.keys;
+  is_plain = items.is_plain && not items.any && not (is_some key);
+  are_pairs = decided items.are_pairs (is_some key);
+  keys = with_pair items.keys key;
 }
 
 abbrev pub with_spread : Items → Items
@@ -89,8 +102,8 @@ unfoldable pub item : Items → Parser Items
 item items = do
   ahead ← peek
   pick (same kind.Dots ahead.kind) (spread >> gives (with_spread items)) (do
-    x ← node (λ x. keeps (misfit items x.0)) (node (item_shape items) pair)
-    gives (with_item items x))
+    key ← node (λ key. keeps (misfit items.are_pairs (is_some key))) (node (item_shape items) pair)
+    gives (with_item items key))
 
 -- an item and what separates it from the next, unless the list ends
 unfoldable pub group_turn : Items → Parser (Bool × Items)
@@ -106,11 +119,15 @@ group_turn items = do
 abbrev pub no_items : Bool → Items
 no_items colon = record { any = false; is_plain = true; are_pairs = if colon then Some true else None; keys = [] }
 
+-- what lists of pairs and of others are; without an item or with spreads alone it is an array
+abbrev pub list_kind : Option Bool → SyntaxKind
+list_kind None = kind.Array
+list_kind (Some true) = kind.Dict
+list_kind (Some false) = kind.Array
+
 -- one item alone is an expression in parens
 abbrev pub group_kind : Items → SyntaxKind
-group_kind items =
-    if items.any && items.is_plain then kind.Parenthesized
-    else elim items.are_pairs [ None ↦ kind.Array | Some pairs ↦ if pairs then kind.Dict else kind.Array ]
+group_kind items = if items.any && items.is_plain then kind.Parenthesized else list_kind items.are_pairs
 
 -- where the second paren is missing the first is an error
 abbrev pub group_shape : Bool × SyntaxKind → Shape

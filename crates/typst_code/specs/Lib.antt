@@ -6,3 +6,4 @@ pub mod Statements
 pub mod Imports
 pub mod Expressions
 pub mod Outside
+pub mod Stops

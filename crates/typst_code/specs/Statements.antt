@@ -1,5 +1,5 @@
 -- Statements, and what else a keyword begins.
-use Rattle.std.specs.Prelude.{Bool, true, false, if◌then◌else◌, Option, Some, None, codes}
+use Rattle.std.specs.Prelude.{Bool, true, false, not, if◌then◌else◌, Option, Some, None, codes}
 use Rattle.typst_kinds.specs.Kinds.{same}
 use Rattle.typst_kinds.specs.declared.kind.SyntaxKind.{SyntaxKind}
 use Rattle.typst_kinds.specs.declared.kind.SyntaxKind.TheVariants as kind
@@ -61,7 +61,7 @@ show_rule = do
   colon ← node show_shape (do
     keyword ← eat
     ahead ← peek
-    shown ← pick (same kind.Colon ahead.kind) (gives tt) code_expression
+    shown ← expression_if (not (same kind.Colon ahead.kind))
     colon ← eat_if (same kind.Colon)
     transform ← expression_if colon
     gives colon)

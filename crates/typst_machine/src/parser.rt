@@ -79,6 +79,11 @@ impl<'s> Parser<'s> {
         })
     }
 
+    /// Where its memory comes from.
+    pub fn alloc(&self) -> Global {
+        self.alloc
+    }
+
     /// The nodes that were read; what was noted, nothing where no notes are kept; and what was looked
     /// at: where all looks end, and where those since the last note begin.
     pub fn finish(self) -> (Vec<SyntaxNode>, Vec<Note>, Hull)

@@ -19,8 +19,8 @@ abbrev pub embedded_reading : Reading
 embedded_reading = record { mode = mode.Code; at_newline = newline.Stop }
 
 -- a statement takes a semicolon where one comes, and another expression only directly
-abbrev pub takes_semicolon : Bool → AtHand → Bool
-takes_semicolon is_statement h = same kind.Semicolon h.kind && (is_statement || not h.has_trivia)
+abbrev pub takes_semicolon : Bool → SyntaxKind → Bool → Bool
+takes_semicolon is_statement k has_trivia = same kind.Semicolon k && (is_statement || not has_trivia)
 
 -- nothing else may follow a statement on its line but a bracket
 abbrev pub is_followed : Bool → SyntaxKind → Bool
@@ -30,7 +30,7 @@ is_followed is_statement k = is_statement && not (same kind.RightBracket k || is
 unfoldable pub embedded_end : Bool → Parser (Unit {0})
 embedded_end is_statement = do
   ahead ← peek
-  pick (takes_semicolon is_statement ahead) eat
+  pick (takes_semicolon is_statement ahead.kind ahead.has_trivia) eat
     (pick (is_followed is_statement ahead.kind) (expected (codes "semicolon or line break")) (gives tt))
 
 -- nothing stands directly behind a hash

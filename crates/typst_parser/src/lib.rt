@@ -1,7 +1,7 @@
 //! The parser layer of Typst, as programs use it.
 //!
 //! - [`parse`] makes the syntax tree of a text of markup. Any text has one; errors, warnings and hints
-//!   stand in the tree, and its leaves joined are the text.
+//!   stand in the tree, and its leaves joined are the text. [`parse_code`] does the same of code.
 //! - A tree is a [`SyntaxNode`] of some [`SyntaxKind`], with its [`Diagnostic`]s and its [`Span`];
 //!   [`LinkedNode`] is a node with what stands round it.
 //! - What characters are letters, digits and word characters is asked of a value of [`Classes`];
@@ -15,7 +15,7 @@
 //! `AllocError` where memory is refused.
 #![tactic(auto)]
 
-pub use typst_grammar::parse;
+pub use typst_grammar::{parse, parse_code};
 pub use typst_lexer::{Classes, MathClass, UnicodeClasses, is_id_continue, is_id_start, is_ident};
 pub use typst_lines::{Line, Lines, Text, is_newline, split_newlines};
 pub use typst_links::{is_valid_label_literal_id, link_prefix};
