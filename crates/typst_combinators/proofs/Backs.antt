@@ -24,7 +24,7 @@ use Rattle.typst_combinators.proofs.Within.{on_both, grew}
 length-one : {A : Type 0} (xs : List A) (x : A) → length (xs ++ x ∷ []) ≡ length xs + 1
 length-one xs x = omega (arith, length-append xs (x ∷ []))
 
-backs-joined : {A B : Type 0} (s : Point) (o : Outcome B) (p : Outcome A) → Tidy s o → Tidy o.state p → Tidy s (joined o p)
+pub backs-joined : {A B : Type 0} (s : Point) (o : Outcome B) (p : Outcome A) → Tidy s o → Tidy o.state p → Tidy s (joined o p)
 backs-joined s o p h k =
     let one = length-append (hinted p.hints (less p.back o.nodes)) p.nodes in
     let two = length-less p.back o.nodes in
@@ -91,7 +91,7 @@ shape-counts (lacks count message kind) ts s = inr (omega arith, omega arith)
 shape-counts (warns kind message hint) ts s = inr (omega arith, omega arith)
 shape-counts (fails message) ts s = inr (count-le (text_joined (forest ts)), omega arith)
 
-tidy-reshaped : {A : Type 0} (s : Point) (shape : Shape) (n : ℕ) (o : Outcome A) → Tidy s o → Tidy s (reshaped shape n o)
+pub tidy-reshaped : {A : Type 0} (s : Point) (shape : Shape) (n : ℕ) (o : Outcome A) → Tidy s o → Tidy s (reshaped shape n o)
 tidy-reshaped s shape n o h =
     let m = n + o.back in
     let ts = inside n o in
@@ -112,7 +112,7 @@ tidy-grown : {A : Type 0} (s : Point) (n : ℕ) (shape : Option Shape) (o : Outc
 tidy-grown s n None o h = h
 tidy-grown s n (Some shape) o h = tidy-reshaped s shape n o h
 
-tidy-grew : {A : Type 0} (s : Point) (n : ℕ) (o : Outcome A) (p : Outcome (Option Shape × A)) → Tidy s o → Tidy o.state p → Tidy s (grew n o p)
+pub tidy-grew : {A : Type 0} (s : Point) (n : ℕ) (o : Outcome A) (p : Outcome (Option Shape × A)) → Tidy s o → Tidy o.state p → Tidy s (grew n o p)
 tidy-grew s n o p h k = let t = backs-joined s o p h k in tidy-grown s n p.value.0 (answered p.value.1 (joined o p)) (record { back = t.back; left = t.left })
 
 tidy-growths : {A : Type 0} (m : A → Meaning (Option Shape × A)) → ((x : A) → Backs (m x)) → (s : Point) (n k : ℕ) (o : Outcome A) (z : Place) → Tidy s o → Tidy s (growths m n k o z)

@@ -22,7 +22,7 @@ use Rattle.typst_combinators.specs.Sound.{Sound}
 use Rattle.typst_combinators.specs.Syntax.{Parser, Begin}
 use Rattle.typst_combinators.specs.Syntax.Op.{hand, column, erred, takes, flushes, complains, marks, is_deepest}
 use Rattle.typst_combinators.specs.Syntax.Parser.{gives, does, next, pick, repeat, wraps, scoped, calls}
-use Rattle.typst_combinators.specs.Meaning.{Outcome, Meaning, Level, asked, before, bound, plain, less, followed, standing, turns, repeated, inside, entered, left, renewed, flushed_state, taken_node, hand_of, hand_asks_of, run}
+use Rattle.typst_combinators.specs.Meaning.{Outcome, Meaning, Level, asked, before, bound, plain, less, followed, standing, turns, repeated, inside, reshaped, entered, left, renewed, flushed_state, taken_node, hand_of, hand_asks_of, run}
 use Rattle.typst_machine.specs.Bytes.{bytes_left, token_hull, column_hull}
 use Rattle.typst_machine.specs.View.{View, Runs, Ran, at, Fits, Bare, Looked, Flushed, Rewrapped}
 use Rattle.typst_combinators.proofs.Places.{moved-sum, take-both, drop-both, take-all, drop-all, less-none, length-less, no-end}
@@ -140,10 +140,10 @@ asked-log l v h c =
 pub asked-again : (l : Level) (v : View) → Fits l v → logged l.levels v.place v.log (hand_asks_of l v.place v.state) ≡ v.log
 asked-again l v c = asked-log l v v.log c ∙ c.log
 
-asked-then : (l : Level) (v : View) → Fits l v → (asks : List Ask) → logged l.levels v.place v.log (hand_asks_of l v.place v.state ++ asks) ≡ logged l.levels v.place v.log asks
+pub asked-then : (l : Level) (v : View) → Fits l v → (asks : List Ask) → logged l.levels v.place v.log (hand_asks_of l v.place v.state ++ asks) ≡ logged l.levels v.place v.log asks
 asked-then l v c asks = logged-append l.levels v.place v.log (hand_asks_of l v.place v.state) asks ∙ ap (λ x. logged l.levels v.place x asks) (asked-again l v c)
 
-asked-same : (l : Level) (v : View) → Fits l v → v.state ≡ asked v.hand v.state
+pub asked-same : (l : Level) (v : View) → Fits l v → v.state ≡ asked v.hand v.state
 asked-same l v c = ap (λ (x : Option Trivia). record v.state { known = x }) c.known
 
 pub fits-looked : {l : Level} {v : View} → Fits l v → Looked l v v
@@ -268,6 +268,43 @@ ran-scoped f {old = old} d =
 
 -- ---- what goes into a shape
 
+-- the nodes before a number and from it on, where no more were taken back than stood there
+module _ {A : Type 0} (levels n : ℕ) (o : Outcome A) (a : A) (old mid : View) (few : o.back ≤ length old.nodes) (h : Runs levels o a old mid) where
+  abbrev base : List Tree
+  base = hinted o.hints (less o.back old.nodes)
+
+  long : length base ≡ length old.nodes - o.back
+  long = length-hinted o.hints (less o.back old.nodes) ∙ length-less o.back old.nodes
+
+  rest : (length old.nodes + n) - length base ≡ n + o.back
+  rest = omega (arith, long)
+
+  short : length base ≤ length old.nodes + n
+  short = omega (arith, long)
+
+  front-is : take (length old.nodes + n) mid.nodes ≡ base ++ take (n + o.back) o.nodes
+  front-is =
+      let k = length old.nodes + n in
+      ap (take k) h.nodes ∙ take-both k base o.nodes ∙ ap (λ ns. ns ++ take (k - length base) o.nodes) (take-all k base short) ∙ ap (λ j. base ++ take j o.nodes) rest
+
+  pub inside-is : drop (length old.nodes + n) mid.nodes ≡ inside n o
+  inside-is =
+      let k = length old.nodes + n in
+      ap (drop k) h.nodes ∙ drop-both k base o.nodes ∙ ap (λ ns. ns ++ drop (k - length base) o.nodes) (drop-all k base short) ∙ ap (λ j. drop j o.nodes) rest
+
+  pub runs-reshaped : (shape : Shape) (new : View) → Rewrapped (length old.nodes + n) shape mid new → Runs levels (reshaped shape n o) a old new
+  runs-reshaped shape new w =
+      let k = length old.nodes + n in
+      let within = inside n o in
+      record {
+        value = h.value;
+        place = w.place ∙ h.place;
+        state = w.state ∙ ap (λ ns. after_shape shape ns mid.state) inside-is ∙ ap (λ s. after_shape shape within s) h.state;
+        log = w.log ∙ h.log;
+        nodes = w.nodes ∙ ap (λ ns. ns ++ shaped shape (drop k mid.nodes)) front-is ∙ ap (λ ns. (base ++ take (n + o.back) o.nodes) ++ shaped shape ns) inside-is
+            ∙ append_assoc base (take (n + o.back) o.nodes) (shaped shape within);
+      }
+
 pub ran-wraps : {A : Type 0} {l : Level} {f : A → Shape} {begin : Begin} {p : Parser A} {a : A} {old mid new : View}
     → Sound l → old.state.empties ≤ length old.nodes
     → Ran l p a old mid → Rewrapped (length old.nodes + before begin old.state) (f a) mid new → Ran l (wraps f begin p) (a, map seen (drop (length old.nodes + before begin old.state) mid.nodes)) old new
@@ -276,27 +313,12 @@ ran-wraps {l = d} {f = f} {begin = begin} {p = p} {a = a} {old = old} {mid = mid
     let h = did.runs in
     let n = before begin old.state in
     let o = at d p old in
-    let b = (backs-run d sound.backs sound.backs_block p old.place old.state).back in
     let k = length old.nodes + n in
-    let base = hinted o.hints (less o.back old.nodes) in
-    let l : length base ≡ length old.nodes - o.back = length-hinted o.hints (less o.back old.nodes) ∙ length-less o.back old.nodes in
-    let none : k - length base ≡ n + o.back = omega arith in
-    let short : length base ≤ k = omega arith in
-    let front = ap (take k) h.nodes ∙ take-both k base o.nodes ∙ ap (λ ns. ns ++ take (k - length base) o.nodes) (take-all k base short) ∙ ap (λ j. base ++ take j o.nodes) none in
-    let end = ap (drop k) h.nodes ∙ drop-both k base o.nodes ∙ ap (λ ns. ns ++ drop (k - length base) o.nodes) (drop-all k base short) ∙ ap (λ j. drop j o.nodes) none in
-    let within = inside n o in
-    let value : ◌≡◌ {A = _ × _} (o.value, map seen within) (a, map seen (drop k mid.nodes)) = rw (end, h.value) refl in
-    record {
-      runs = record {
-        value = value;
-        place = w.place ∙ h.place;
-        state = w.state ∙ ap (λ ns. after_shape (f a) ns mid.state) end ∙ ap (λ s. after_shape (f a) within s) h.state ∙ ap (λ v. after_shape (f v) within o.state) (sym h.value);
-        log = w.log ∙ h.log;
-        nodes = w.nodes ∙ ap (λ ns. ns ++ shaped (f a) (drop k mid.nodes)) front ∙ ap (λ ns. (base ++ take (n + o.back) o.nodes) ++ shaped (f a) ns) end
-            ∙ append_assoc base (take (n + o.back) o.nodes) (shaped (f a) within)
-            ∙ ap (λ v. base ++ (take (n + o.back) o.nodes ++ shaped (f v) within)) (sym h.value);
-      };
-    }
+    let b = (backs-run d sound.backs sound.backs_block p old.place old.state).back in
+    let back : o.back ≤ length old.nodes = omega arith in
+    let r = runs-reshaped d.levels n o a old mid back h (f o.value) new (subst (λ v. Rewrapped k (f v) mid new) (sym h.value) w) in
+    let value : ◌≡◌ {A = _ × _} (o.value, map seen (inside n o)) (a, map seen (drop k mid.nodes)) = rw (inside-is d.levels n o a old mid back h, h.value) refl in
+    record { runs = record { value = value; place = r.place; state = r.state; nodes = r.nodes; log = r.log } }
 
 -- what asks for the token at hand, where it was asked for already
 pub after-peek : {A : Type 0} {l : Level} {f : AtHand → Parser A} {a : A} {w new : View} → Fits l w → Ran l (next (does hand) f) a w new → Ran l (f (told w.hand)) a w new
@@ -321,13 +343,13 @@ after-peek {l = l} {f = f} {a = a} {w = w} {new = new} c d =
 -- ---- a loop: what is left to do, done, is the whole
 
 -- who has fewer bytes left took some, and who has no fewer took none
-taken-some : {A : Type 0} (n : ℕ) (o : Outcome A) (a : A) (v w : View) → Runs n o a v w → bytes_left w.place < bytes_left v.place → 0 < o.taken
+pub taken-some : {A : Type 0} (n : ℕ) (o : Outcome A) (a : A) (v w : View) → Runs n o a v w → bytes_left w.place < bytes_left v.place → 0 < o.taken
 taken-some n o a v w h less_bytes = some-bytes o.taken v.place (let e = ap bytes_left h.place in omega arith)
 
-taken-none : {A : Type 0} (n : ℕ) (o : Outcome A) (a : A) (v w : View) → Runs n o a v w → o.taken ≤ length v.place.ahead → bytes_left v.place ≤ bytes_left w.place → o.taken ≡ 0
+pub taken-none : {A : Type 0} (n : ℕ) (o : Outcome A) (a : A) (v w : View) → Runs n o a v w → o.taken ≤ length v.place.ahead → bytes_left v.place ≤ bytes_left w.place → o.taken ≡ 0
 taken-none n o a v w h most stuck = none-bytes o.taken v.place most (let e = ap bytes_left h.place in omega arith)
 
-bound-after : {A : Type 0} (n : ℕ) (o : Outcome A) (a : A) (v w : View) → Runs n o a v w → bound w.place w.state ≡ bound (moved o.taken v.place) o.state
+pub bound-after : {A : Type 0} (n : ℕ) (o : Outcome A) (a : A) (v w : View) → Runs n o a v w → bound w.place w.state ≡ bound (moved o.taken v.place) o.state
 bound-after n o a v w h = rw (h.place, h.state) refl
 
 abbrev turn : {A : Type 0} (l : Level) (p : A → Parser (Bool × A)) → A → Meaning (Bool × A)
@@ -348,7 +370,7 @@ ran-turn {l = d} {p = p} {x = x} {y = y} {a = a} {v = v} {w = w} {new = new} sou
     let same = turns-enough m (λ z. within-run d sound.within sound.within_block (p z)) (suc (bound w.place w.state)) (bound v.place v.state) y w.place w.state (omega arith) less_left in
     record { runs = rw goes_on (runs-followed d.levels o (λ u. turns m (bound v.place v.state) u.1) (true, y) a v w new h (subst (λ u. Runs d.levels u a w new) same rest.runs)) }
 
-no_turn : (b : Bool) (n : ℕ) → (b ≡ true → n ≡ 0) → (b && nat_lt 0 n) ≡ false
+pub no_turn : (b : Bool) (n : ℕ) → (b ≡ true → n ≡ 0) → (b && nat_lt 0 n) ≡ false
 no_turn true n h = rw (h refl) refl
 no_turn false n h = refl
 
@@ -392,7 +414,7 @@ shape-held (lacks count message kind) ts s = refl
 shape-held (warns kind message hint) ts s = refl
 shape-held (fails message) ts s = refl
 
-shape-known : (shape : Shape) (ts : List Tree) (s : Point) → (after_shape shape ts s).known ≡ s.known
+pub shape-known : (shape : Shape) (ts : List Tree) (s : Point) → (after_shape shape ts s).known ≡ s.known
 shape-known (keeps change) ts s = change-known change ts s
 shape-known (holds change kind) ts s = refl
 shape-known (lacks count message kind) ts s = refl

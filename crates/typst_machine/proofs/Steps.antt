@@ -71,7 +71,7 @@ pub does-deepest : {l : Level} {P : View → Type 0} (v : View) → Goes l P P (
 does-deepest v = record { ran = λ c. ran-deepest v; ready = λ c. c }
 
 -- no more trivia are known than there are characters
-known-few : {l : Level} {v : View} → Fits l v → gap_of v.state.known ≤ length v.place.ahead
+pub known-few : {l : Level} {v : View} → Fits l v → gap_of v.state.known ≤ length v.place.ahead
 known-few {v = v} c = let e = ap gap_of c.known in let h = c.there in omega arith
 
 -- this was noted, and the token at hand was looked at again

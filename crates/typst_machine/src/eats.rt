@@ -179,14 +179,29 @@ impl<'s> Parser<'s> {
     }
 
     /// The same with a hint.
-    #[cold]
     pub fn unexpected_with_hint<L: Levels>(&mut self, hint: &str, g: &L) -> Result<(), AllocError>
         ensures { Means (L.frame g.now) (spec.unexpected (hint.now ∷ [])) self.old result self.new }
+    {
+        self.eat_surprise(true, hint, g)?;
+        Ok(())
+    }
+
+    /// The same, where the empty errors before it stay.
+    pub fn eat_unexpected<L: Levels>(&mut self, hint: &str, g: &L) -> Result<(), AllocError>
+        ensures { Means (L.frame g.now) (spec.eat_making false (surprise (hint.now ∷ []))) self.old result self.new }
+    {
+        self.eat_surprise(false, hint, g)?;
+        Ok(())
+    }
+
+    #[cold]
+    fn eat_surprise<L: Levels>(&mut self, trims: bool, hint: &str, g: &L) -> Result<(), AllocError>
+        ensures { Means (L.frame g.now) (spec.eat_making trims (surprise (hint.now ∷ []))) self.old result self.new }
     {
         let mut node = self.node(g)?;
         node.unexpected()?;
         node.hint(hint)?;
-        self.take_apart(true, node, g)?;
+        self.take_apart(trims, node, g)?;
         Ok(())
     }
 
@@ -221,19 +236,6 @@ impl<'s> Parser<'s> {
         } else {
             self.expected(thing, g)?;
         }
-        Ok(())
-    }
-
-    /// Takes the token at hand as an error that it was not expected, with a hint. The empty errors
-    /// before it stay.
-    #[cold]
-    pub fn eat_unexpected<L: Levels>(&mut self, hint: &str, g: &L) -> Result<(), AllocError>
-        ensures { Means (L.frame g.now) (spec.eat_making false (surprise (hint.now ∷ []))) self.old result self.new }
-    {
-        let mut node = self.node(g)?;
-        node.unexpected()?;
-        node.hint(hint)?;
-        self.take_apart(false, node, g)?;
         Ok(())
     }
 
@@ -272,7 +274,8 @@ impl<'s> Parser<'s> {
             self.eat_wanted(true, "identifier", g)?;
             return Ok(false);
         }
-        Ok(self.expects(self.ahead.kind == SyntaxKind::Ident, "identifier", g)?)
+        let is = self.ahead.kind == SyntaxKind::Ident;
+        Ok(self.expects(is, "identifier", g)?)
     }
 
     /// Adds a hint to the node before the pending trivia, where that is an error.

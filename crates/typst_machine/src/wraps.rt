@@ -30,16 +30,6 @@ impl<'s> Parser<'s> {
         Ok(is_empty)
     }
 
-    /// The same, where the first of them becomes the error that it was not closed.
-    #[cold]
-    pub fn wrap_unclosed(&mut self, from: usize, kind: SyntaxKind) -> Result<(), AllocError>
-        requires { is_error kind ≡ false }
-        ensures { OnOk result (Rewrapped from (unclosed kind) self.old self.new) }
-    {
-        self.wrap_changed(from, Change::TurnsWrong("unclosed delimiter"), kind)?;
-        Ok(())
-    }
-
     /// The same, where the first of them is changed.
     pub fn wrap_changed(
         &mut self,
@@ -54,6 +44,16 @@ impl<'s> Parser<'s> {
         let mut nodes = self.cut_off(from)?;
         change_first(&mut nodes, change)?;
         self.give(SyntaxNode::inner(kind, nodes))?;
+        Ok(())
+    }
+
+    /// The same, where the first of them becomes the error that it was not closed.
+    #[cold]
+    pub fn wrap_unclosed(&mut self, from: usize, kind: SyntaxKind) -> Result<(), AllocError>
+        requires { is_error kind ≡ false }
+        ensures { OnOk result (Rewrapped from (unclosed kind) self.old self.new) }
+    {
+        self.wrap_changed(from, Change::TurnsWrong("unclosed delimiter"), kind)?;
         Ok(())
     }
 
@@ -75,43 +75,6 @@ impl<'s> Parser<'s> {
         nodes.insert(at, error)?;
         self.give(SyntaxNode::inner(kind, nodes))?;
         Ok(())
-    }
-
-    /// Makes nodes of a kind, each of the nodes from a number on: from the last of these numbers to
-    /// the first, so that each node holds the one made before it.
-    pub fn wrap_nested(&mut self, froms: Vec<usize>, kind: SyntaxKind) -> Result<(), AllocError>
-        requires { is_error kind ≡ false }
-        ensures { OnOk result (self.new ≡ rewrapped_each froms.entry.items (becomes kind) self.old) }
-    {
-        let mut froms = froms;
-        'froms: while let Some(from) = froms.pop() {
-            self.wrap(from, kind)?;
-        }
-        Ok(())
-    }
-
-    /// Changes the first of the nodes from a number on, if there is one.
-    pub fn change(&mut self, from: usize, change: Change<'_>) -> Result<(), AllocError>
-        requires { IsFine change }
-        ensures { OnOk result (Rewrapped from (keeps (meant change.entry)) self.old self.new) }
-    {
-        if from >= self.nodes.len() {
-            return Ok(());
-        }
-        let was_error = self.nodes[from].kind().is_error();
-        change_node(&mut self.nodes[from], change)?;
-        if from + 1 == self.nodes.len() && !was_error {
-            self.state.empties = empty_errors(&self.nodes[from]);
-            self.state.is_after_error = self.nodes[from].kind().is_error();
-        }
-        Ok(())
-    }
-
-    /// The nodes from a number on.
-    pub fn given_since(&self, from: usize) -> &[SyntaxNode]
-        ensures { result.now ≡ drop from self.now.nodes }
-    {
-        &self.nodes.as_slice()[from.min(self.nodes.len())..]
     }
 
     /// The same, with a warning and its hint on the node.
@@ -144,6 +107,45 @@ impl<'s> Parser<'s> {
         node.convert_to_error(message)?;
         self.give(node)?;
         Ok(())
+    }
+
+    /// Makes nodes of a kind, each of the nodes from a number on: from the last of these numbers to
+    /// the first, so that each node holds the one made before it.
+    pub fn wrap_nested(&mut self, froms: Vec<usize>, kind: SyntaxKind) -> Result<(), AllocError>
+        requires { is_error kind ≡ false }
+        ensures { OnOk result (self.new ≡ rewrapped_each froms.items (becomes kind) self.old) }
+    {
+        let mut froms = froms;
+        'froms: while let Some(from) = froms.pop() {
+            self.wrap(from, kind)?;
+        }
+        Ok(())
+    }
+
+    /// Changes the first of the nodes from a number on, if there is one.
+    pub fn change(&mut self, from: usize, change: Change<'_>) -> Result<(), AllocError>
+        requires { IsFine change }
+        ensures { OnOk result (Rewrapped from (keeps (meant change.entry)) self.old self.new) }
+    {
+        if from >= self.nodes.len() {
+            return Ok(());
+        }
+        let is_alone = from + 1 == self.nodes.len();
+        let node = &mut self.nodes[from];
+        let was_error = node.kind().is_error();
+        change_node(node, change)?;
+        if is_alone && !was_error {
+            self.state.empties = empty_errors(node);
+            self.state.is_after_error = node.kind().is_error();
+        }
+        Ok(())
+    }
+
+    /// The nodes from a number on.
+    pub fn given_since(&self, from: usize) -> &[SyntaxNode]
+        ensures { result.now ≡ drop from self.now.nodes }
+    {
+        &self.nodes.as_slice()[from.min(self.nodes.len())..]
     }
 
     /// Takes the nodes from a number on.

@@ -1,6 +1,7 @@
 //! What the first of several nodes becomes.
 
-ghost use Rattle.std.specs.Prelude.{◌≡◌, length, OnOk, OnErr};
+ghost use Rattle.std.specs.Prelude.{◌≡◌, true, false, length, OnOk};
+ghost use Rattle.typst_kinds.specs.Kinds.{is_error};
 ghost use Rattle.typst_combinators.specs.Shape as spec;
 ghost use Rattle.typst_combinators.specs.Shape.{changed, first_changed, without_parens};
 ghost use Rattle.typst_shapes.specs.Changes.{IsFine, meant};
@@ -57,13 +58,21 @@ pub fn change_first(nodes: &mut Vec<SyntaxNode>, change: Change<'_>) -> Result<(
 pub fn unparen(node: &mut SyntaxNode)
     ensures { node.new ≡ without_parens node.old }
 {
-    if node.kind() != SyntaxKind::MathDelimited || !in_parens(node.children()) {
+    if !is_delimited(node.kind()) || !in_parens(node.children()) {
         return;
     }
     let last = node.children().len() - 1;
     node.convert_child_to_kind(0, SyntaxKind::LeftParen);
     node.convert_child_to_kind(last, SyntaxKind::RightParen);
     node.convert_to_kind(SyntaxKind::Math);
+}
+
+/// Whether nodes of this kind have delimiters in math.
+fn is_delimited(kind: SyntaxKind) -> bool
+    ensures is { result ≡ spec.is_delimited kind }
+    ensures fine { result ≡ true → is_error kind ≡ false }
+{
+    matches!(kind, SyntaxKind::MathDelimited)
 }
 
 /// Whether the first and the last of at least two nodes are parens.

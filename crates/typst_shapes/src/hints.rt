@@ -14,9 +14,10 @@ pub fn hint_last(nodes: &mut Vec<SyntaxNode>, hint: &str) -> Result<(), AllocErr
     if nodes.is_empty() {
         return Ok(());
     }
-    let last = nodes.len() - 1;
-    if nodes[last].kind().is_error() {
-        nodes[last].hint(hint)?;
+    let at = nodes.len() - 1;
+    let last = &mut nodes[at];
+    if last.kind().is_error() {
+        last.hint(hint)?;
     }
     Ok(())
 }

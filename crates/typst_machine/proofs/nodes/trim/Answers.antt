@@ -1,6 +1,6 @@
 use Rattle.std.proofs.Common.{rules}
 use Rattle.typst_combinators.specs.Meaning.{less}
-use Rattle.typst_machine.proofs.parser.trim.Goals as goal
+use Rattle.typst_machine.proofs.nodes.trim.Goals as goal
 
 pub returns : goal.returns
 unfolding less
