@@ -91,11 +91,15 @@ missing_arguments = do
   ahead ← peek
   pick (opens_arguments ahead.kind) (does (advises (codes "there may not be any spaces before the argument list"))) (gives tt)
 
+unfoldable pub begin_arguments : Parser (Unit {0})
+begin_arguments = do
+  ahead ← peek
+  pick (calls_directly ahead.kind ahead.has_trivia) (gives tt) missing_arguments
+
 -- a list in parens, and content blocks directly behind it
 unfoldable pub arguments : Parser (Unit {0})
 arguments = do
-  ahead ← peek
-  first ← pick (calls_directly ahead.kind ahead.has_trivia) (gives tt) missing_arguments
+  begun ← begin_arguments
   closed ← node arguments_shape (do
     closed ← listed_arguments
     blocks ← repeat content_turn tt

@@ -59,9 +59,9 @@ pair_kind (key.Name name) = kind.Named
 pair_kind (key.Str text) = kind.Keyed
 pair_kind key.Other = kind.Keyed
 
-abbrev pub item_shape : Items → Option Key → Shape
-item_shape items None = keeps stays
-item_shape items (Some key) = holds (key_change items.keys key) (pair_kind key)
+abbrev pub item_shape : List (List ℕ) → Option Key → Shape
+item_shape keys None = keeps stays
+item_shape keys (Some key) = holds (key_change keys key) (pair_kind key)
 
 -- a pair in an array becomes an error, and what is no pair in a dictionary
 abbrev pub misfit : Option Bool → Bool → Change
@@ -102,7 +102,7 @@ unfoldable pub item : Items → Parser Items
 item items = do
   ahead ← peek
   pick (same kind.Dots ahead.kind) (spread >> gives (with_spread items)) (do
-    key ← node (λ key. keeps (misfit items.are_pairs (is_some key))) (node (item_shape items) pair)
+    key ← node (λ key. keeps (misfit items.are_pairs (is_some key))) (node (item_shape items.keys) pair)
     gives (with_item items key))
 
 -- an item and what separates it from the next, unless the list ends

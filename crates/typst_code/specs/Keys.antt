@@ -1,6 +1,7 @@
 -- Names of arguments, and keys of pairs.
 use Rattle.std.specs.Prelude.{ℕ, Bool, true, false, ◌||◌, if◌then◌else◌, ◌==◌, List, [], ◌∷◌, ◌++◌, drop, codes, encode_utf8_all}
 use Rattle.std.specs.Char.{is_ascii_hexdigit}
+use Rattle.std.specs.List.{list_any}
 use Rattle.std.specs.Str.{bytes_eq, chars}
 use Rattle.typst_kinds.specs.Kinds.{same}
 use Rattle.typst_kinds.specs.declared.kind.SyntaxKind.TheVariants as kind
@@ -74,8 +75,7 @@ string_key text = encode_utf8_all (key_from plain (without_last (drop 1 (chars t
 -- ---- names that were seen
 
 abbrev pub has_name : List (List ℕ) → List ℕ → Bool
-has_name [] name = false
-has_name (n ∷ names) name = bytes_eq n name || has_name names name
+has_name names name = list_any (λ n. bytes_eq n name) names
 
 abbrev pub with_name : List (List ℕ) → List ℕ → List (List ℕ)
 with_name names name = if has_name names name then names else names ++ name ∷ []

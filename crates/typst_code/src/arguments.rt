@@ -9,13 +9,14 @@ ghost use Rattle.typst_code.specs.Arguments as spec;
 ghost use Rattle.typst_code.specs.Outside.{MeansAround, MeansAroundBy};
 
 use crate::groups::{begins_item, pair, separator, spread};
-use crate::heads::opens_arguments;
+use crate::heads::{calls_directly, opens_arguments};
 use crate::keys::{Key, Names};
 use crate::sequences::read_content;
 use std::alloc::AllocError;
 use typst_combinators::AtNewline;
 use typst_kinds::SyntaxKind;
 use typst_machine::{Change, Levels, Parser};
+use typst_markup::opens_directly;
 
 /// Makes a named argument of an argument that has a key, which has to be a name that wasn't seen.
 fn wrap_argument(
@@ -136,7 +137,7 @@ fn content_turn<L: Levels>(g: &L, p: &mut Parser<'_>) -> Result<bool, AllocError
     requires { L.may_call g.now }
     ensures { MeansAroundBy (L.frame g.now) (λ more. (more, tt)) (spec.content_turn tt) p.old result p.new }
 {
-    if p.current() != SyntaxKind::LeftBracket || p.had_trivia() {
+    if !opens_directly(p) {
         return Ok(false);
     }
     read_content(g, p)?;
@@ -174,13 +175,21 @@ pub(crate) fn arguments<L: Levels>(g: &L, p: &mut Parser<'_>) -> Result<(), Allo
     requires { L.may_call g.now }
     ensures { MeansAround (L.frame g.now) spec.arguments p.old result p.new }
 {
-    if !opens_arguments(p.current()) || p.had_trivia() {
-        missing_arguments(g, p)?;
-    }
+    begin_arguments(g, p)?;
     let from = p.marker();
     let closed = listed_arguments(g, p)?;
     content_turns(g, p)?;
     wrap_arguments(p, from, closed)?;
+    Ok(())
+}
+
+/// Says so where arguments don't begin directly here.
+fn begin_arguments<L: Levels>(g: &L, p: &mut Parser<'_>) -> Result<(), AllocError>
+    ensures { Means (L.frame g.now) spec.begin_arguments p.old result p.new }
+{
+    if !calls_directly(p.current(), p.had_trivia()) {
+        missing_arguments(g, p)?;
+    }
     Ok(())
 }
 

@@ -70,7 +70,7 @@ fn wrap_item(
     keys: &Names,
     key: &Option<Key>,
 ) -> Result<(), AllocError>
-    ensures { (items : Items) → items.keys ≡ keys.now → OnOk result (Rewrapped from (spec.item_shape items key.now) p.old p.new) }
+    ensures { OnOk result (Rewrapped from (spec.item_shape keys.now key.now) p.old p.new) }
 {
     match key {
         None => p.change(from, Change::Stays),

@@ -116,16 +116,30 @@ pub(crate) fn opens_arguments(kind: SyntaxKind) -> bool
 pub(crate) fn code_tail(atomic: bool, least: u8, kind: SyntaxKind, has_trivia: bool) -> CodeTail
     ensures { result ≡ spec.code_tail atomic least kind has_trivia }
 {
-    if opens_arguments(kind) && !has_trivia {
+    if calls_directly(kind, has_trivia) {
         return CodeTail::Call;
     }
     if !atomic {
         return operator_tail(least, kind);
     }
-    if kind == SyntaxKind::Dot && !has_trivia {
+    if dots_directly(kind, has_trivia) {
         return CodeTail::DirectField;
     }
     CodeTail::Nothing
+}
+
+/// Whether arguments begin directly behind an expression.
+pub(crate) fn calls_directly(kind: SyntaxKind, has_trivia: bool) -> bool
+    ensures { result ≡ arguments.calls_directly kind has_trivia }
+{
+    opens_arguments(kind) && !has_trivia
+}
+
+/// Whether a dot stands directly behind it.
+fn dots_directly(kind: SyntaxKind, has_trivia: bool) -> bool
+    ensures { result ≡ spec.dots_directly kind has_trivia }
+{
+    kind == SyntaxKind::Dot && !has_trivia
 }
 
 /// What takes an expression into its node that isn't atomic.

@@ -37,6 +37,14 @@ pub fn code_exprs<L: Levels>(
         too_deep(g, p, &stop)?;
         return Ok(());
     }
+    code_turns(g, p, stop)?;
+    Ok(())
+}
+
+fn code_turns<L: Levels>(g: &L, p: &mut Parser<'_>, stop: CodeStop) -> Result<(), AllocError>
+    requires { L.may_call g.now }
+    ensures { Means (L.frame g.now) (repeat (spec.code_turn (stops_at stop)) tt) p.old result p.new }
+{
     'turns: loop {
         let before = p.left();
         let more = code_turn(g, p, stop)?;

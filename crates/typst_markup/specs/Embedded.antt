@@ -7,7 +7,6 @@ use Rattle.typst_kinds.specs.declared.mode.SyntaxMode.TheVariants as mode
 use Rattle.typst_combinators.specs.declared.calls.Call.TheVariants.{CodeExpr}
 use Rattle.typst_combinators.specs.declared.reading.AtNewline.TheVariants as newline
 use Rattle.typst_combinators.specs.declared.reading.Reading.{Reading}
-use Rattle.typst_combinators.specs.Hand.{AtHand}
 use Rattle.typst_combinators.specs.Syntax.{Parser, ◌>>=◌, ◌>>◌}
 use Rattle.typst_combinators.specs.Syntax.Parser.{gives, pick}
 use Rattle.typst_combinators.specs.Steps.{peek, eat, expected, within}
@@ -34,14 +33,14 @@ embedded_end is_statement = do
     (pick (is_followed is_statement ahead.kind) (expected (codes "semicolon or line break")) (gives tt))
 
 -- nothing stands directly behind a hash
-abbrev pub is_bare : AtHand → Bool
-is_bare h = h.has_trivia || is_end h.kind
+abbrev pub is_bare : SyntaxKind → Bool → Bool
+is_bare k has_trivia = has_trivia || is_end k
 
 -- what comes behind a hash: an atomic expression
 unfoldable pub embedded_expr : Parser (Unit {0})
 embedded_expr = do
   ahead ← peek
-  pick (is_bare ahead) (expected (codes "expression")) (do
+  pick (is_bare ahead.kind ahead.has_trivia) (expected (codes "expression")) (do
     read ← deeper (CodeExpr true 0) tt
     embedded_end (begins_statement ahead.kind))
 

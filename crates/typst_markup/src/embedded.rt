@@ -30,7 +30,7 @@ fn embedded_expr<L: Levels>(g: &L, p: &mut Parser<'_>) -> Result<(), AllocError>
     requires { L.may_call g.now }
     ensures { Means (L.frame g.now) spec.embedded_expr p.old result p.new }
 {
-    if p.had_trivia() || is_end(p.current()) {
+    if is_bare(p.current(), p.had_trivia()) {
         p.expected("expression", g)?;
         return Ok(());
     }
@@ -56,6 +56,13 @@ fn embedded_end<L: Levels>(
         p.expected("semicolon or line break", g)?;
     }
     Ok(())
+}
+
+/// Whether nothing stands directly behind a hash.
+fn is_bare(kind: SyntaxKind, has_trivia: bool) -> bool
+    ensures { result ≡ spec.is_bare kind has_trivia }
+{
+    has_trivia || is_end(kind)
 }
 
 /// Whether a semicolon belongs to the expression, which may stand behind trivia for a statement.

@@ -9,6 +9,7 @@ use typst_kinds::{SyntaxKind, set};
 pub fn begins_code(kind: SyntaxKind) -> bool
     ensures { result ≡ spec.begins_code kind }
 {
+    set::named_sets();
     set::CODE_EXPR.contains(kind) && !comes_later(kind)
 }
 
@@ -16,6 +17,7 @@ pub fn begins_code(kind: SyntaxKind) -> bool
 pub fn begins_statement(kind: SyntaxKind) -> bool
     ensures { result ≡ spec.begins_statement kind }
 {
+    set::named_sets();
     set::STMT.contains(kind) && !comes_later(kind)
 }
 
