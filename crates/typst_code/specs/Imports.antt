@@ -21,12 +21,15 @@ path_turn x = do
   name ← pick dot expect_identifier (gives false)
   gives (dot, tt)
 
+-- a name; what stands in its place is unexpected
+unfoldable pub import_name : Parser (Unit {0})
+import_name = do
+  ahead ← peek
+  pick (same kind.Ident ahead.kind) eat (unexpected [])
+
 -- a name, and names behind dots
 unfoldable pub import_path : Parser (Unit {0})
-import_path = node (λ _. becomes kind.ImportItemPath) (do
-  ahead ← peek
-  first ← pick (same kind.Ident ahead.kind) eat (unexpected [])
-  repeat path_turn tt)
+import_path = node (λ _. becomes kind.ImportItemPath) (import_name >> repeat path_turn tt)
 
 -- `as` and a name; answers whether they came
 unfoldable pub renaming : Parser Bool
@@ -69,6 +72,9 @@ imported = do
   ahead ← peek
   pick (same kind.LeftParen ahead.kind) import_parens (pick (same kind.Star ahead.kind) eat import_items)
 
+abbrev pub imported_if : Bool → Parser (Unit {0})
+imported_if colon = pick colon imported (gives tt)
+
 -- `import .. as name: ..`
 unfoldable pub module_import : Parser (Unit {0})
 module_import = node (λ _. becomes kind.ModuleImport) (do
@@ -76,4 +82,4 @@ module_import = node (λ _. becomes kind.ModuleImport) (do
   source ← code_expression
   renamed ← renaming
   colon ← eat_if (same kind.Colon)
-  pick colon imported (gives tt))
+  imported_if colon)

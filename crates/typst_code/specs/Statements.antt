@@ -71,6 +71,12 @@ show_rule = do
 unfoldable pub contextual : Bool → Parser (Unit {0})
 contextual atomic = node (λ _. becomes kind.Contextual) (eat >> deeper (CodeExpr atomic 0) tt)
 
+-- what comes behind `else`, unless it is another `if`; answers whether that comes
+unfoldable pub other_branch : Parser (Bool × Unit {0})
+other_branch = do
+  ahead ← peek
+  pick (same kind.If ahead.kind) (gives (true, tt)) (any_block >> gives (false, tt))
+
 -- `if .. { .. }`; answers whether `else if` came, of which `else` is taken
 unfoldable pub conditional_turn : Unit {0} → Parser (Bool × Unit {0})
 conditional_turn x = do
@@ -78,8 +84,7 @@ conditional_turn x = do
   condition ← code_expression
   body ← any_block
   other ← eat_if (same kind.Else)
-  ahead ← peek
-  pick other (pick (same kind.If ahead.kind) (gives (true, tt)) (any_block >> gives (false, tt))) (gives (false, tt))
+  pick other other_branch (gives (false, tt))
 
 -- `if .. { .. } else if .. { .. } else { .. }`, each within the one before it
 unfoldable pub conditional : Parser (Unit {0})

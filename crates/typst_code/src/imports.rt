@@ -16,11 +16,11 @@ use typst_machine::{Change, Levels, Parser};
 fn path_turn<L: Levels>(g: &L, p: &mut Parser<'_>) -> Result<bool, AllocError>
     ensures { MeansBy (L.frame g.now) (λ more. (more, tt)) (spec.path_turn tt) p.old result p.new }
 {
-    if !p.eat_if(p.current() == SyntaxKind::Dot, g)? {
-        return Ok(false);
+    let dot = p.eat_if(p.current() == SyntaxKind::Dot, g)?;
+    if dot {
+        p.expect_identifier(g)?;
     }
-    p.expect_identifier(g)?;
-    Ok(true)
+    Ok(dot)
 }
 
 fn path_turns<L: Levels>(g: &L, p: &mut Parser<'_>) -> Result<(), AllocError>
@@ -35,16 +35,24 @@ fn path_turns<L: Levels>(g: &L, p: &mut Parser<'_>) -> Result<(), AllocError>
     }
 }
 
+/// A name; what stands in its place is unexpected.
+fn import_name<L: Levels>(g: &L, p: &mut Parser<'_>) -> Result<(), AllocError>
+    ensures { Means (L.frame g.now) spec.import_name p.old result p.new }
+{
+    if p.current() == SyntaxKind::Ident {
+        p.eat(g)?;
+        return Ok(());
+    }
+    p.unexpected(g)?;
+    Ok(())
+}
+
 /// A name, and names behind dots.
 fn import_path<L: Levels>(g: &L, p: &mut Parser<'_>) -> Result<(), AllocError>
     ensures { Means (L.frame g.now) spec.import_path p.old result p.new }
 {
     let from = p.marker();
-    if p.current() == SyntaxKind::Ident {
-        p.eat(g)?;
-    } else {
-        p.unexpected(g)?;
-    }
+    import_name(g, p)?;
     path_turns(g, p)?;
     p.wrap(from, SyntaxKind::ImportItemPath)?;
     Ok(())
@@ -54,11 +62,11 @@ fn import_path<L: Levels>(g: &L, p: &mut Parser<'_>) -> Result<(), AllocError>
 fn renaming<L: Levels>(g: &L, p: &mut Parser<'_>) -> Result<bool, AllocError>
     ensures { Means (L.frame g.now) spec.renaming p.old result p.new }
 {
-    if !p.eat_if(p.current() == SyntaxKind::As, g)? {
-        return Ok(false);
+    let renamed = p.eat_if(p.current() == SyntaxKind::As, g)?;
+    if renamed {
+        p.expect_identifier(g)?;
     }
-    p.expect_identifier(g)?;
-    Ok(true)
+    Ok(renamed)
 }
 
 /// Reads an item and what separates it from the next, unless the items end; answers whether it did.
@@ -152,6 +160,16 @@ fn imported<L: Levels>(g: &L, p: &mut Parser<'_>) -> Result<(), AllocError>
     Ok(())
 }
 
+/// The same, if a colon was taken.
+fn imported_if<L: Levels>(g: &L, p: &mut Parser<'_>, colon: bool) -> Result<(), AllocError>
+    ensures { Means (L.frame g.now) (spec.imported_if colon) p.old result p.new }
+{
+    if colon {
+        imported(g, p)?;
+    }
+    Ok(())
+}
+
 /// `import ..`
 pub(crate) fn module_import<L: Levels>(g: &L, p: &mut Parser<'_>) -> Result<(), AllocError>
     requires { L.may_call g.now }
@@ -161,9 +179,8 @@ pub(crate) fn module_import<L: Levels>(g: &L, p: &mut Parser<'_>) -> Result<(), 
     p.eat(g)?;
     code_expression(g, p)?;
     renaming(g, p)?;
-    if p.eat_if(p.current() == SyntaxKind::Colon, g)? {
-        imported(g, p)?;
-    }
+    let colon = p.eat_if(p.current() == SyntaxKind::Colon, g)?;
+    imported_if(g, p, colon)?;
     p.wrap(from, SyntaxKind::ModuleImport)?;
     Ok(())
 }

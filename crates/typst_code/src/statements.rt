@@ -152,9 +152,18 @@ fn conditional_turn<L: Levels>(g: &L, p: &mut Parser<'_>) -> Result<bool, AllocE
     p.eat(g)?;
     code_expression(g, p)?;
     any_block(g, p)?;
-    if !p.eat_if(p.current() == SyntaxKind::Else, g)? {
+    let other = p.eat_if(p.current() == SyntaxKind::Else, g)?;
+    if !other {
         return Ok(false);
     }
+    Ok(other_branch(g, p)?)
+}
+
+/// Reads what comes behind `else`, unless it is another `if`; answers whether that comes.
+fn other_branch<L: Levels>(g: &L, p: &mut Parser<'_>) -> Result<bool, AllocError>
+    requires { L.may_call g.now }
+    ensures { MeansAroundBy (L.frame g.now) (λ more. (more, tt)) spec.other_branch p.old result p.new }
+{
     if p.current() == SyntaxKind::If {
         return Ok(true);
     }

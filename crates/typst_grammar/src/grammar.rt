@@ -1,6 +1,6 @@
 //! The knot: what is read one level deeper, and whole texts.
 
-ghost use Rattle.std.specs.Prelude.{◌≡◌, ◌<◌, IfOk, Some};
+ghost use Rattle.std.specs.Prelude.{◌≡◌, ◌<◌, IfOk, Some, false};
 ghost use Rattle.std.specs.Str.{chars};
 ghost use Rattle.typst_node.specs.Tree.{text_of};
 ghost use Rattle.typst_machine.specs.View.{Calls};
@@ -112,7 +112,7 @@ fn read_whole<'s, C: Classes>(
     keeps_notes: bool,
     classes: &C,
 ) -> Result<Parser<'s>, AllocError>
-    ensures { IfOk result (λ p. IsParsed (C.classes classes.now) keeps_notes (chars text.now) p) }
+    ensures { IfOk result (λ p. IsParsed keeps_notes (chars text.now) (spec.parsed (C.classes classes.now) spec.max_depth (chars text.now)) p) }
 {
     let reading = Reading {
         mode: SyntaxMode::Markup,
@@ -135,7 +135,7 @@ fn read_whole_code<'s, C: Classes>(
     text: &'s str,
     classes: &C,
 ) -> Result<Parser<'s>, AllocError>
-    ensures { IfOk result (λ p. p.nodes ≡ (spec.parsed_code (C.classes classes.now) spec.max_depth (chars text.now)).nodes) }
+    ensures { IfOk result (λ p. IsParsed false (chars text.now) (spec.parsed_code (C.classes classes.now) spec.max_depth (chars text.now)) p) }
 {
     let reading = Reading {
         mode: SyntaxMode::Code,
