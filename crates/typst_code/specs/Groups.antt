@@ -13,7 +13,7 @@ use Rattle.typst_combinators.specs.Steps.{peek, eat, eat_if, unexpected, within,
 use Rattle.typst_machine.specs.Expected.{expects, seeing}
 use Rattle.typst_markup.specs.Markup.{at_newline}
 use Rattle.typst_markup.specs.Starts.{begins_code}
-use Rattle.typst_code.specs.declared.items.Items.{Items}
+use Rattle.typst_code.specs.declared.listing.Items.{Items}
 use Rattle.typst_code.specs.declared.keys.Key.{Key}
 use Rattle.typst_code.specs.declared.keys.Key.TheVariants as key
 use Rattle.typst_code.specs.Keys.{has_name, with_name, key_of}

@@ -8,7 +8,7 @@ ghost use Rattle.typst_shapes.specs.Changes.{IsFine, meant};
 ghost use Rattle.typst_machine.specs.View.{Means, Rewrapped};
 ghost use Rattle.typst_code.specs.Groups as spec;
 
-use crate::items::Items;
+use crate::listing::Items;
 use crate::keys::{Key, Names, key_of};
 use crate::sequences::code_expression;
 use std::alloc::AllocError;

@@ -2,19 +2,21 @@
 #![tactic(auto)]
 
 mod arguments;
+mod escapes;
 mod expressions;
 mod groups;
 mod heads;
 mod imports;
-mod items;
 mod keys;
+mod listing;
 mod sequences;
 mod statements;
 mod stops;
 
+pub use escapes::{Escape, string_key};
 pub use expressions::code_expr;
 pub use heads::{CodeHead, CodeTail};
-pub use items::Items;
-pub use keys::{Key, Names, string_key};
+pub use keys::{Key, Names};
+pub use listing::Items;
 pub use sequences::{code_block, code_exprs};
 pub use stops::CodeStop;

@@ -7,7 +7,7 @@ ghost use Rattle.typst_markup.specs.Markup as spec;
 ghost use Rattle.typst_markup.specs.Outside.{MeansOutside};
 ghost use Rattle.typst_markup.specs.Stops.{stops_at};
 
-use crate::embedded::embedded;
+use crate::embedding::embedded;
 use crate::head::{MarkupHead, markup_head};
 use crate::references::reference;
 use crate::sequences::{markup, markup_with_trivia};

@@ -1,7 +1,7 @@
 //! The productions of markup.
 #![tactic(auto)]
 
-mod embedded;
+mod embedding;
 mod expressions;
 mod head;
 mod references;
@@ -9,7 +9,7 @@ mod sequences;
 mod starts;
 mod stops;
 
-pub use embedded::embedded;
+pub use embedding::embedded;
 pub use expressions::{emph, heading, item, markup_expr, strong, term_item};
 pub use head::MarkupHead;
 pub use references::{content_block, opens_directly, reference};

@@ -4,7 +4,7 @@ use Rattle.typst_machine.specs.View.{Does}
 use Rattle.typst_markup.specs.Embedded.{embedded_expr, embedded_end, is_bare}
 use Rattle.typst_markup.specs.Starts.{begins_statement}
 use Rattle.typst_machine.proofs.Steps.{does-next, does-peek, does-pick, does-other}
-use Rattle.typst_markup.proofs.embedded.embedded_expr.Goals as goal
+use Rattle.typst_markup.proofs.embedding.embedded_expr.Goals as goal
 
 pub returns-then-is_bare : goal.returns-then-is_bare
 unfolding embedded_expr
