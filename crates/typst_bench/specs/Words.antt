@@ -2,13 +2,14 @@
 use Rattle.std.specs.Prelude.{ℕ, List, codes, Option, None, Some, if◌then◌else◌}
 use Rattle.std.specs.Str.{bytes_eq}
 use Rattle.typst_bench.specs.declared.work.Work.{Work}
-use Rattle.typst_bench.specs.declared.work.Work.TheVariants.{Lines, Parse}
+use Rattle.typst_bench.specs.declared.work.Work.TheVariants.{Lines, Parse, ParseCode}
 
 -- the work that a word names
 abbrev pub work_named : List ℕ → Option Work
-work_named word = if bytes_eq word (codes "lines") then Some Lines else (if bytes_eq word (codes "parse") then Some Parse else None)
+work_named word = if bytes_eq word (codes "lines") then Some Lines else (if bytes_eq word (codes "parse") then Some Parse else (if bytes_eq word (codes "parse-code") then Some ParseCode else None))
 
 -- the word that names the work
 abbrev pub word_of : Work → List ℕ
 word_of Lines = codes "lines"
 word_of Parse = codes "parse"
+word_of ParseCode = codes "parse-code"

@@ -3,7 +3,7 @@ ghost use Rattle.std.specs.Prelude.{◌≡◌};
 ghost use Rattle.typst_bench.specs.Words.{word_of, work_named};
 
 use std::alloc::{AllocError, Global};
-use typst_parser::{Lines, UnicodeClasses, parse};
+use typst_parser::{Lines, SyntaxNode, UnicodeClasses, parse, parse_code};
 
 /// A kind of work on a text.
 #[derive(Debug, Clone, Copy, PartialEq, Eq)]
@@ -12,6 +12,8 @@ pub enum Work {
     Lines,
     /// Makes the syntax tree.
     Parse,
+    /// Makes the syntax tree of code.
+    ParseCode,
 }
 
 impl Work {
@@ -22,6 +24,7 @@ impl Work {
         match word {
             "lines" => Some(Work::Lines),
             "parse" => Some(Work::Parse),
+            "parse-code" => Some(Work::ParseCode),
             _ => None,
         }
     }
@@ -33,6 +36,7 @@ impl Work {
         match self {
             Work::Lines => "lines",
             Work::Parse => "parse",
+            Work::ParseCode => "parse-code",
         }
     }
 
@@ -40,7 +44,8 @@ impl Work {
     pub fn round(self, alloc: Global, text: &str) -> Result<u64, AllocError> {
         match self {
             Work::Lines => lines(alloc, text),
-            Work::Parse => tree(alloc, text),
+            Work::Parse => Ok(size(&parse(alloc, text, &UnicodeClasses)?)),
+            Work::ParseCode => Ok(size(&parse_code(alloc, text, &UnicodeClasses)?)),
         }
     }
 }
@@ -59,8 +64,7 @@ fn lines(alloc: Global, text: &str) -> Result<u64, AllocError> {
     Ok(sum)
 }
 
-/// The length of the text's tree and the number of its nodes, added up.
-fn tree(alloc: Global, text: &str) -> Result<u64, AllocError> {
-    let root = parse(alloc, text, &UnicodeClasses)?;
-    Ok((root.len() as u64).wrapping_add(root.descendants() as u64))
+/// The length of a tree's text and the number of its nodes, added up.
+fn size(root: &SyntaxNode) -> u64 {
+    (root.len() as u64).wrapping_add(root.descendants() as u64)
 }
