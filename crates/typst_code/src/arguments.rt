@@ -28,10 +28,11 @@ fn wrap_argument(
     ensures { OnOk result (Rewrapped from (spec.argument_shape names.now key.now) p.old p.new) }
 {
     match key {
-        None => p.change(from, Change::Stays),
-        Some(Key::Name(name)) => Ok(wrap_named(p, from, names, name.as_str())?),
-        Some(_) => p.wrap_changed(from, Change::IsNot("identifier"), SyntaxKind::Named),
+        None => p.change(from, Change::Stays)?,
+        Some(Key::Name(name)) => wrap_named(p, from, names, name.as_str())?,
+        Some(_) => p.wrap_changed(from, Change::IsNot("identifier"), SyntaxKind::Named)?,
     }
+    Ok(())
 }
 
 /// The same, of a name.

@@ -169,9 +169,10 @@ fn end(key: &mut String, escape: Escape) -> Result<(), AllocError>
     ensures { OnOk result (string_bytes key.new ≡ string_bytes key.old ++ spec.key_end escape) }
 {
     match escape {
-        Escape::None => Ok(()),
-        Escape::Begun => Ok(key.push('\\')?),
-        Escape::Unicode => Ok(key.push_str("\\u")?),
-        Escape::Digits(digits) => Ok(push_code_point(key, digits.as_str(), "")?),
+        Escape::None => {}
+        Escape::Begun => key.push('\\')?,
+        Escape::Unicode => key.push_str("\\u")?,
+        Escape::Digits(digits) => push_code_point(key, digits.as_str(), "")?,
     }
+    Ok(())
 }

@@ -73,11 +73,12 @@ fn wrap_item(
     ensures { OnOk result (Rewrapped from (spec.item_shape keys.now key.now) p.old p.new) }
 {
     match key {
-        None => p.change(from, Change::Stays),
-        Some(Key::Name(name)) => Ok(wrap_pair(p, from, keys, name.as_str(), SyntaxKind::Named)?),
-        Some(Key::Str(text)) => Ok(wrap_pair(p, from, keys, text.as_str(), SyntaxKind::Keyed)?),
-        Some(Key::Other) => p.wrap_changed(from, Change::Stays, SyntaxKind::Keyed),
+        None => p.change(from, Change::Stays)?,
+        Some(Key::Name(name)) => wrap_pair(p, from, keys, name.as_str(), SyntaxKind::Named)?,
+        Some(Key::Str(text)) => wrap_pair(p, from, keys, text.as_str(), SyntaxKind::Keyed)?,
+        Some(Key::Other) => p.wrap_changed(from, Change::Stays, SyntaxKind::Keyed)?,
     }
+    Ok(())
 }
 
 /// Makes a pair, of which the first is an error where its key was seen.

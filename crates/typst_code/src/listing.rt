@@ -89,8 +89,9 @@ fn add_key(keys: &mut Names, key: &Key) -> Result<(), AllocError>
     ensures { OnOk result (keys.new ≡ spec.with_key keys.old key.now) }
 {
     match key {
-        Key::Name(name) => Ok(keys.add(name.as_str())?),
-        Key::Str(text) => Ok(keys.add(text.as_str())?),
-        Key::Other => Ok(()),
+        Key::Name(name) => keys.add(name.as_str())?,
+        Key::Str(text) => keys.add(text.as_str())?,
+        Key::Other => {}
     }
+    Ok(())
 }
