@@ -59,7 +59,7 @@ argument_turn names = do
     more ← argument names
     comma ← separator
     gives (true, more))
-    (unexpected [] >> gives (true, names)))
+      (unexpected [] >> gives (true, names)))
 
 -- `( .. )`; answers whether it was closed
 unfoldable pub argument_list : Parser Bool

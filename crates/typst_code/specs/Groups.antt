@@ -113,7 +113,7 @@ group_turn items = do
     more ← item items
     comma ← separator
     gives (true, with_comma comma more))
-    (unexpected [] >> gives (true, items)))
+      (unexpected [] >> gives (true, items)))
 
 -- no items; a colon first makes them a dictionary's
 abbrev pub no_items : Bool → Items

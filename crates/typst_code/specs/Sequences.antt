@@ -32,7 +32,7 @@ missing_break = do
   pick (same kind.Label ahead.kind) (do
     hint ← does (advises (codes "labels can only be applied in markup mode"))
     does (advises (codes "try wrapping your code in a markup block (`[ ]`)")))
-    (gives tt)
+      (gives tt)
 
 -- a statement ends at a semicolon, or where the sequence stops
 unfoldable pub statement_end : (SyntaxKind → Bool) → Parser (Unit {0})

@@ -25,7 +25,7 @@ unfoldable pub any_block : Parser (Unit {0})
 any_block = do
   ahead ← peek
   pick (same kind.LeftBracket ahead.kind) (read_block block.Content)
-    (pick (same kind.LeftBrace ahead.kind) (read_block block.Code) (expected (codes "block")))
+      (pick (same kind.LeftBrace ahead.kind) (read_block block.Code) (expected (codes "block")))
 
 -- a dot and a name behind it take what stands to their left into a field access
 unfoldable pub field : Parser (Option Shape × Unit {0})

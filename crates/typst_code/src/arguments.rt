@@ -36,12 +36,7 @@ fn wrap_argument(
 }
 
 /// The same, of a name.
-fn wrap_named(
-    p: &mut Parser<'_>,
-    from: usize,
-    names: &Names,
-    name: &str,
-) -> Result<(), AllocError>
+fn wrap_named(p: &mut Parser<'_>, from: usize, names: &Names, name: &str) -> Result<(), AllocError>
     ensures { OnOk result (Rewrapped from (holds (spec.when_named names.now name.now) kind.Named) p.old p.new) }
 {
     if !names.has(name) {

@@ -51,12 +51,7 @@ fn unquoted(text: &str) -> &str
 }
 
 /// Reads a character; answers which escape has begun behind it.
-fn read(
-    alloc: Global,
-    key: &mut String,
-    escape: Escape,
-    c: char,
-) -> Result<Escape, AllocError>
+fn read(alloc: Global, key: &mut String, escape: Escape, c: char) -> Result<Escape, AllocError>
     ensures value { IfOk result (λ next. next ≡ (spec.key_step escape c).1) }
     ensures key { OnOk result (string_bytes key.new ≡ string_bytes key.old ++ (spec.key_step escape c).0) }
 {

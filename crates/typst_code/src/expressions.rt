@@ -106,10 +106,7 @@ fn not_in<L: Levels>(g: &L, p: &mut Parser<'_>) -> Result<Option<SyntaxKind>, Al
 }
 
 /// A field access, if an identifier stands directly behind the dot.
-fn direct_field<L: Levels>(
-    g: &L,
-    p: &mut Parser<'_>,
-) -> Result<Option<SyntaxKind>, AllocError>
+fn direct_field<L: Levels>(g: &L, p: &mut Parser<'_>) -> Result<Option<SyntaxKind>, AllocError>
     ensures means { MeansBy (L.frame g.now) bare_growth spec.direct_field p.old result p.new }
     ensures fine { IfOk result (λ kind. IfSome kind (λ k. is_error k ≡ false)) }
 {
@@ -120,10 +117,7 @@ fn direct_field<L: Levels>(
 }
 
 /// Arguments.
-fn call_tail<L: Levels>(
-    g: &L,
-    p: &mut Parser<'_>,
-) -> Result<Option<SyntaxKind>, AllocError>
+fn call_tail<L: Levels>(g: &L, p: &mut Parser<'_>) -> Result<Option<SyntaxKind>, AllocError>
     requires { L.may_call g.now }
     ensures means { MeansAroundBy (L.frame g.now) bare_growth spec.call_tail p.old result p.new }
     ensures fine { IfOk result (λ kind. IfSome kind (λ k. is_error k ≡ false)) }

@@ -8,8 +8,8 @@ ghost use Rattle.typst_shapes.specs.Changes.{IsFine, meant};
 ghost use Rattle.typst_machine.specs.View.{Means, Rewrapped};
 ghost use Rattle.typst_code.specs.Groups as spec;
 
-use crate::listing::Items;
 use crate::keys::{Key, Names, key_of};
+use crate::listing::Items;
 use crate::sequences::code_expression;
 use std::alloc::AllocError;
 use typst_combinators::AtNewline;

@@ -25,11 +25,7 @@ pub(crate) fn code_expression<L: Levels>(g: &L, p: &mut Parser<'_>) -> Result<()
 }
 
 /// Reads statements up to a stop.
-pub fn code_exprs<L: Levels>(
-    g: &L,
-    p: &mut Parser<'_>,
-    stop: CodeStop,
-) -> Result<(), AllocError>
+pub fn code_exprs<L: Levels>(g: &L, p: &mut Parser<'_>, stop: CodeStop) -> Result<(), AllocError>
     requires { L.may_call g.now }
     ensures { Means (L.frame g.now) (spec.code_exprs (stops_at stop)) p.old result p.new }
 {

@@ -44,10 +44,7 @@ fn any_block<L: Levels>(g: &L, p: &mut Parser<'_>) -> Result<(), AllocError>
 }
 
 /// A dot and a name, which take what stands to their left into a field access.
-pub(crate) fn field<L: Levels>(
-    g: &L,
-    p: &mut Parser<'_>,
-) -> Result<Option<SyntaxKind>, AllocError>
+pub(crate) fn field<L: Levels>(g: &L, p: &mut Parser<'_>) -> Result<Option<SyntaxKind>, AllocError>
     ensures means { MeansBy (L.frame g.now) bare_growth spec.field p.old result p.new }
     ensures fine { IfOk result (λ kind. IfSome kind (λ k. is_error k ≡ false)) }
 {
@@ -56,10 +53,7 @@ pub(crate) fn field<L: Levels>(
     Ok(Some(SyntaxKind::FieldAccess))
 }
 
-fn target_turn<L: Levels>(
-    g: &L,
-    p: &mut Parser<'_>,
-) -> Result<Option<SyntaxKind>, AllocError>
+fn target_turn<L: Levels>(g: &L, p: &mut Parser<'_>) -> Result<Option<SyntaxKind>, AllocError>
     ensures means { MeansBy (L.frame g.now) bare_growth (spec.target_turn tt) p.old result p.new }
     ensures fine { IfOk result (λ kind. IfSome kind (λ k. is_error k ≡ false)) }
 {
@@ -214,11 +208,7 @@ pub(crate) fn module_include<L: Levels>(g: &L, p: &mut Parser<'_>) -> Result<(),
 }
 
 /// `break` or `continue`
-pub(crate) fn jump<L: Levels>(
-    g: &L,
-    p: &mut Parser<'_>,
-    kind: SyntaxKind,
-) -> Result<(), AllocError>
+pub(crate) fn jump<L: Levels>(g: &L, p: &mut Parser<'_>, kind: SyntaxKind) -> Result<(), AllocError>
     requires { is_error kind ≡ false }
     ensures { Means (L.frame g.now) (spec.jump kind) p.old result p.new }
 {

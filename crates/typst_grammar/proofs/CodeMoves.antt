@@ -255,13 +255,91 @@ module _ (k : CharClasses) (levels : ℕ) where
   e = moves-eat here
 
   each-begins : Each Begins code_kinds
-  each-begins =
-      ((λ _. moves-making here false (wanted _)), ((λ _. e), ((λ _. moves-block k levels block.Code), ((λ _. moves-block k levels block.Content),
-      ((λ _. moves-group here), ((λ f. absurd (cc)), ((λ f. absurd (cc)), ((λ _. moves-set here), ((λ _. moves-show here),
-      ((λ _. moves-context here false), ((λ _. moves-conditional here), ((λ _. moves-while here), ((λ f. absurd (cc)), ((λ _. moves-import here),
-      ((λ _. moves-include here), ((λ _. moves-jump here kind.LoopBreak), ((λ _. moves-jump here kind.LoopContinue), ((λ _. moves-return here),
-      ((λ _. e), ((λ _. e), ((λ _. e), ((λ _. e), ((λ _. e), ((λ _. e), ((λ _. e), ((λ _. e), ((λ _. e), ((λ _. moves-unary here _),
-      ((λ _. moves-unary here _), ((λ _. moves-unary here _), tt))))))))))))))))))))))))))))))
+  each-begins = (
+    (λ _. moves-making here false (wanted _)),
+    (
+      (λ _. e),
+      (
+        (λ _. moves-block k levels block.Code),
+        (
+          (λ _. moves-block k levels block.Content),
+          (
+            (λ _. moves-group here),
+            (
+              (λ f. absurd (cc)),
+              (
+                (λ f. absurd (cc)),
+                (
+                  (λ _. moves-set here),
+                  (
+                    (λ _. moves-show here),
+                    (
+                      (λ _. moves-context here false),
+                      (
+                        (λ _. moves-conditional here),
+                        (
+                          (λ _. moves-while here),
+                          (
+                            (λ f. absurd (cc)),
+                            (
+                              (λ _. moves-import here),
+                              (
+                                (λ _. moves-include here),
+                                (
+                                  (λ _. moves-jump here kind.LoopBreak),
+                                  (
+                                    (λ _. moves-jump here kind.LoopContinue),
+                                    (
+                                      (λ _. moves-return here),
+                                      (
+                                        (λ _. e),
+                                        (
+                                          (λ _. e),
+                                          (
+                                            (λ _. e),
+                                            (
+                                              (λ _. e),
+                                              (
+                                                (λ _. e),
+                                                (
+                                                  (λ _. e),
+                                                  (
+                                                    (λ _. e),
+                                                    (
+                                                      (λ _. e),
+                                                      (
+                                                        (λ _. e),
+                                                        (
+                                                          (λ _. moves-unary here _),
+                                                          ((λ _. moves-unary here _), ((λ _. moves-unary here _), tt)),
+                                                        ),
+                                                      ),
+                                                    ),
+                                                  ),
+                                                ),
+                                              ),
+                                            ),
+                                          ),
+                                        ),
+                                      ),
+                                    ),
+                                  ),
+                                ),
+                              ),
+                            ),
+                          ),
+                        ),
+                      ),
+                    ),
+                  ),
+                ),
+              ),
+            ),
+          ),
+        ),
+      ),
+    ),
+  )
 
   moves-begun : (i : SyntaxKind) → begins_code i ≡ true → Moves here (code_by false (code_head false i))
   moves-begun i h = of-each Begins code_kinds each-begins i (both-true (among code_kinds i) (not (comes_later i)) h).0 (is-not (comes_later i) (both-true (among code_kinds i) (not (comes_later i)) h).1)

@@ -30,7 +30,7 @@ unfoldable pub embedded_end : Bool → Parser (Unit {0})
 embedded_end is_statement = do
   ahead ← peek
   pick (takes_semicolon is_statement ahead.kind ahead.has_trivia) eat
-    (pick (is_followed is_statement ahead.kind) (expected (codes "semicolon or line break")) (gives tt))
+      (pick (is_followed is_statement ahead.kind) (expected (codes "semicolon or line break")) (gives tt))
 
 -- nothing stands directly behind a hash
 abbrev pub is_bare : SyntaxKind → Bool → Bool

@@ -41,11 +41,7 @@ fn embedded_expr<L: Levels>(g: &L, p: &mut Parser<'_>) -> Result<(), AllocError>
 }
 
 /// Ends an expression or a statement.
-fn embedded_end<L: Levels>(
-    g: &L,
-    p: &mut Parser<'_>,
-    is_statement: bool,
-) -> Result<(), AllocError>
+fn embedded_end<L: Levels>(g: &L, p: &mut Parser<'_>, is_statement: bool) -> Result<(), AllocError>
     ensures { Means (L.frame g.now) (spec.embedded_end is_statement) p.old result p.new }
 {
     if takes_semicolon(is_statement, p.current(), p.had_trivia()) {

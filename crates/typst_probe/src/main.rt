@@ -14,7 +14,8 @@ use std::process::ExitCode;
 use std::{env, fs, io};
 use word::Word;
 
-const USAGE: &str = "usage: typst_probe rows FILE.. | tree | tree-code | tokens | tokens-code | lines";
+const USAGE: &str =
+    "usage: typst_probe rows FILE.. | tree | tree-code | tokens | tokens-code | lines";
 
 /// `rows FILE..` compares all rows of the files, and any other word answers about the text on
 /// standard input. Ends with status 1 where a row disagrees or something fails, and with status 2

@@ -24,7 +24,6 @@ use Rattle.typst_raw.specs.Lines.{later_rows, inline_leaves}
 use Rattle.typst_raw.specs.Raw.{raw_node}
 use Rattle.typst_combinators.specs.Steps.{read_block}
 use Rattle.typst_markup.specs.Markup.{content_block, direct_content, reference}
-
 use Rattle.typst_code_tokens.specs.Code.{code as code_token, single, less as less_token, with_equals, dots, dot as code_dot, equals, bang}
 use Rattle.typst_code_tokens.specs.Identifiers.{keyword_or_name, ident}
 use Rattle.typst_code_tokens.specs.Invalid.{foreign, invalid}
