@@ -1,6 +1,6 @@
 //! The keys of strings.
 
-ghost use Rattle.std.specs.Prelude.{◌≡◌, ◌++◌, [], IfOk, OnOk, drop, string_bytes};
+ghost use Rattle.std.specs.Prelude.{◌≡◌, ◌++◌, IfOk, OnOk, drop, encode_utf8, string_bytes};
 ghost use Rattle.std.specs.Str.{chars};
 ghost use Rattle.typst_code.specs.Keys as spec;
 

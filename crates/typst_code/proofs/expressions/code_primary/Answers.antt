@@ -2,7 +2,7 @@ use Rattle.std.proofs.Common.{sym, ap, ◌∙◌}
 use Rattle.typst_machine.proofs.Steps.{does-next, does-peek}
 use Rattle.typst_code.specs.Expressions.{code_primary, code_head}
 use Rattle.typst_code.specs.declared.heads.CodeHead.TheVariants as head
-use Rattle.typst_code.proofs.Heads.{at-head}
+use Rattle.typst_code.proofs.Begins.{at-head}
 use Rattle.typst_code.proofs.expressions.code_primary.Goals as goal
 
 pub returns-in_ok-eat-in-Itself : goal.returns-in_ok-eat-in-Itself

@@ -2,7 +2,7 @@ use Rattle.std.proofs.Common.{sym, ap, ◌∙◌}
 use Rattle.typst_machine.proofs.Steps.{does-next, does-peek, does-gives}
 use Rattle.typst_code.specs.Expressions.{code_tail_turn, code_tail}
 use Rattle.typst_code.specs.declared.heads.CodeTail.TheVariants as tail
-use Rattle.typst_code.proofs.Heads.{at-tail}
+use Rattle.typst_code.proofs.Begins.{at-tail}
 use Rattle.typst_code.proofs.expressions.code_tail_turn.Goals as goal
 
 pub returns-in_ok-call_tail-in-Call-clause-means : goal.returns-in_ok-call_tail-in-Call-clause-means
