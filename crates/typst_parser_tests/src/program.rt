@@ -6,12 +6,12 @@ use std::process::Abort;
 use std::test::Fail;
 use typst_cli::{Failure, run};
 
-const USAGE: &str = "usage: typst_syn lines | tree | html | edit START END TEXT\n";
+pub const USAGE: &str = "usage: typst_syn lines | tree | html | edit START END TEXT\n";
 
 const PACES: [Pace; 3] = [Pace::Whole, Pace::Bytes, Pace::Interrupted];
 
 /// Asserts the status of a run, and what it passed on to both writers.
-fn expect_run(
+pub fn expect_run(
     rt: &(impl AllocGlobal + Abort),
     words: &[&str],
     mut input: Reader<'_>,
@@ -74,7 +74,7 @@ fn refuses_words_of_others(rt: HostRuntime) {
 }
 
 /// A writer that takes nothing.
-const FULL: Room = Room {
+pub const FULL: Room = Room {
     bytes: 0,
     pace: Pace::Whole,
     flush: Flush::Passes,
@@ -182,6 +182,8 @@ fn reports_each_failure(rt: HostRuntime) {
     expect_line(&rt, Failure::Usage, 2, USAGE);
     expect_line(&rt, Failure::NotRead, 1, "read failed\n");
     expect_line(&rt, Failure::NotUtf8, 1, "not UTF-8\n");
+    expect_line(&rt, Failure::BadRange, 1, "bad range\n");
+    expect_line(&rt, Failure::OutOfSpanNumbers, 1, "out of span numbers\n");
     expect_line(&rt, Failure::OutOfMemory, 1, "out of memory\n");
     expect_line(&rt, Failure::NotWritten, 1, "write failed\n");
 }

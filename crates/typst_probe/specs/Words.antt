@@ -4,7 +4,7 @@ use Rattle.std.specs.Str.{bytes_eq}
 use Rattle.typst_cli.specs.Printed.{printed}
 use Rattle.typst_cli.specs.declared.command.Command.TheVariants as command
 use Rattle.typst_probe.specs.declared.word.Word.{Word}
-use Rattle.typst_probe.specs.declared.word.Word.TheVariants.{Tree, TreeWide, TreeNarrow, Tokens, TokensWide, TokensNarrow, Lines, Link, Stretches, Notes, Tags, Html}
+use Rattle.typst_probe.specs.declared.word.Word.TheVariants.{Tree, TreeWide, TreeNarrow, Tokens, TokensWide, TokensNarrow, Lines, Link, Stretches, Notes, Tags, Html, Spans, Edit}
 
 -- the word that a name stands for
 abbrev pub word_named : List ℕ → Option Word
@@ -21,7 +21,9 @@ word_named name =
     else (if bytes_eq name (codes "notes") then Some Notes
     else (if bytes_eq name (codes "tags") then Some Tags
     else (if bytes_eq name (codes "html") then Some Html
-    else None)))))))))))
+    else (if bytes_eq name (codes "spans") then Some Spans
+    else (if bytes_eq name (codes "edit") then Some Edit
+    else None)))))))))))))
 
 -- all that a word of the program typst_syn prints about a text, which this program's word answers too
 abbrev pub printed_by : Word → List ℕ → Option (List ℕ)
@@ -37,3 +39,5 @@ printed_by Stretches text = None
 printed_by Notes text = None
 printed_by Tags text = None
 printed_by Html text = Some (printed command.Html text)
+printed_by Spans text = None
+printed_by Edit text = None

@@ -1,17 +1,20 @@
 //! Shows what the parser layer answers about a text, and compares that with rows of wanted answers.
 #![tactic(auto)]
 
+mod edits;
 mod escapes;
 mod links;
 mod notes;
 mod reading;
 mod row;
+mod spans;
 mod stretches;
 mod tags;
 mod tokens;
 mod word;
 
 use anyhow::Context;
+use edits::Edit;
 use row::Row;
 use std::alloc::Global;
 use std::process::ExitCode;
@@ -19,7 +22,7 @@ use std::{env, fs, io};
 use word::Word;
 
 const USAGE: &str =
-    "usage: typst_probe rows FILE.. | tree | tree-wide | tree-narrow | tokens | tokens-wide | tokens-narrow |\n    lines | link | stretches | notes | tags | html";
+    "usage: typst_probe rows FILE.. | tree | tree-wide | tree-narrow | tokens | tokens-wide | tokens-narrow |\n    lines | link | stretches | notes | tags | html | spans | edit |\n    edit-spans START END TEXT";
 
 /// `rows FILE..` compares all rows of the files, and any other word answers about the text on
 /// standard input. Ends with status 1 where a row disagrees or something fails, and with status 2
@@ -38,6 +41,12 @@ fn run(rt: &HostRuntime, alloc: Global) -> anyhow::Result<u8> {
     let words = words(rt, alloc)?;
     match words.as_slice() {
         [rows, files @ ..] if rows.as_str() == "rows" => compare(rt, alloc, files),
+        [word, start, end, with] if word.as_str() == "edit-spans" => {
+            match Edit::from_words(start.as_str(), end.as_str(), with.as_str()) {
+                Some(edit) => show_edit(rt, alloc, edit),
+                None => usage(rt),
+            }
+        }
         [name] => match Word::from_name(name.as_str()) {
             Some(word) => show(rt, alloc, word),
             None => usage(rt),
@@ -64,6 +73,14 @@ fn words(rt: &HostRuntime, alloc: Global) -> anyhow::Result<Vec<String>> {
 fn show(rt: &HostRuntime, alloc: Global, word: Word) -> anyhow::Result<u8> {
     let text = io::read_to_string(alloc, rt.reader())?;
     let answer = word.answer(alloc, text.as_str())?;
+    print!(rt; "{answer}")?;
+    Ok(0)
+}
+
+/// Prints the tree of the text on standard input after an edit.
+fn show_edit(rt: &HostRuntime, alloc: Global, edit: Edit<'_>) -> anyhow::Result<u8> {
+    let text = io::read_to_string(alloc, rt.reader())?;
+    let answer = edit.spans(alloc, text.as_str())?;
     print!(rt; "{answer}")?;
     Ok(0)
 }

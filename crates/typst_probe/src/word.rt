@@ -3,7 +3,7 @@
 ghost use Rattle.std.specs.Prelude.{◌≡◌, IfOk, IfSome, string_bytes};
 ghost use Rattle.typst_probe.specs.Words.{printed_by, word_named};
 
-use crate::{links, notes, stretches, tags, tokens};
+use crate::{edits, links, notes, spans, stretches, tags, tokens};
 use std::alloc::{AllocError, Global};
 use typst_cli::{Command, tree};
 use typst_parser::UnicodeClasses;
@@ -36,6 +36,10 @@ pub enum Word {
     Tags,
     /// The text as HTML.
     Html,
+    /// The syntax tree of the text as markup, with the number of each node.
+    Spans,
+    /// The syntax tree of a text after an edit.
+    Edit,
 }
 
 impl Word {
@@ -56,6 +60,8 @@ impl Word {
             "notes" => Some(Word::Notes),
             "tags" => Some(Word::Tags),
             "html" => Some(Word::Html),
+            "spans" => Some(Word::Spans),
+            "edit" => Some(Word::Edit),
             _ => None,
         }
     }
@@ -77,6 +83,8 @@ impl Word {
             Word::Notes => notes::answer(alloc, text),
             Word::Tags => tags::answer(alloc, text),
             Word::Html => Command::Html.answer(alloc, text),
+            Word::Spans => spans::answer(alloc, text),
+            Word::Edit => edits::row_answer(alloc, text),
         }
     }
 }

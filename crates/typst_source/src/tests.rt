@@ -295,22 +295,82 @@ fn many_edits(rt: HostRuntime) -> Result<(), Fail> {
     Ok(())
 }
 
-/// Whether what a refused edit leaves is what was there, and the next edit is as if it never was.
+/// Whether two trees have the same spans, node by node.
+fn has_spans(node: &SyntaxNode, other: &SyntaxNode) -> bool {
+    let others = other.children();
+    let mut at: usize = 0;
+    for kid in node.children() {
+        let Some(other) = others.get(at) else {
+            return false;
+        };
+        if !has_spans(kid, other) {
+            return false;
+        }
+        at = at.saturating_add(1);
+    }
+    node.span() == other.span() && at == others.len()
+}
+
+/// Whether two sources have the same file, text, table, tree and spans.
+fn is_same(alloc: Global, source: &Unicode, other: &Unicode) -> Result<bool, AllocError> {
+    let lines = Lines::new(alloc, other.text())?;
+    Ok(source.id() == other.id()
+        && source.text() == other.text()
+        && has_table(source.lines(), &lines)
+        && source.root().spanless_eq(other.root())
+        && has_spans(source.root(), other.root()))
+}
+
+/// Whether a refused edit leaves all as it was, and a refused replacement too, and the next ones
+/// answer as if they never were.
 fn keeps_all(rt: &impl Abort, alloc: Global) -> Result<bool, SourceError> {
     let mut source = detached(alloc, "*a* é\n= b")?;
     let before = source.try_clone().map_err(|_| OUT_OF_MEMORY)?;
-    if edit(rt, &mut source, 3, 4, "\n").is_ok() && source.replace("_c_").is_ok() {
-        return Ok(source.text() == "_c_");
+    if edit(rt, &mut source, 3, 4, "\n").is_err() {
+        let same = is_same(alloc, &source, &before).map_err(|_| OUT_OF_MEMORY)?;
+        let answer = edit(rt, &mut source, 3, 4, "\n")?;
+        let sound = is_sound(alloc, &source).map_err(|_| OUT_OF_MEMORY)?;
+        return Ok(same && sound && answer.end <= source.text().len());
     }
-    let same_text = source.text() == before.text() || source.text() == "*a*\né\n= b";
-    let sound = is_sound(alloc, &source).map_err(|_| OUT_OF_MEMORY)?;
-    edit(rt, &mut source, 0, 0, "x")?;
-    Ok(same_text && sound && is_sound(alloc, &source).map_err(|_| OUT_OF_MEMORY)?)
+    let before = source.try_clone().map_err(|_| OUT_OF_MEMORY)?;
+    if source.replace("_c_ é").is_err() {
+        let same = is_same(alloc, &source, &before).map_err(|_| OUT_OF_MEMORY)?;
+        source.replace("_c_ é")?;
+        let sound = is_sound(alloc, &source).map_err(|_| OUT_OF_MEMORY)?;
+        return Ok(same && sound && source.text() == "_c_ é");
+    }
+    Ok(source.text() == "_c_ é")
 }
 
+/// Whether a refused clone leaves the source as it was, and a refused source is made anew.
+fn lends_all(alloc: Global) -> Result<bool, SourceError> {
+    let source = detached(alloc, "= a\n/* b")?;
+    let Ok(clone) = source.try_clone() else {
+        let sound = is_sound(alloc, &source).map_err(|_| OUT_OF_MEMORY)?;
+        return Ok(sound && source.text() == "= a\n/* b");
+    };
+    let Ok(text) = String::from_str(alloc, "= a\n/* b") else {
+        return Err(OUT_OF_MEMORY);
+    };
+    let root = clone.root().try_clone().map_err(|_| OUT_OF_MEMORY)?;
+    match Source::with_root(alloc, source.id(), text, root, UnicodeClasses) {
+        Ok(other) => is_same(alloc, &other, &source).map_err(|_| OUT_OF_MEMORY),
+        Err(_) => is_same(alloc, &clone, &source).map_err(|_| OUT_OF_MEMORY),
+    }
+}
+
+/// Run with each request for memory refused in turn.
 #[test]
 fn refusals(rt: HostRuntime) {
     match keeps_all(&rt, rt.alloc()) {
+        Ok(kept) => assert!(rt; kept),
+        Err(e) => assert!(rt; e == OUT_OF_MEMORY),
+    }
+}
+
+#[test]
+fn refused_clones(rt: HostRuntime) {
+    match lends_all(rt.alloc()) {
         Ok(kept) => assert!(rt; kept),
         Err(e) => assert!(rt; e == OUT_OF_MEMORY),
     }
