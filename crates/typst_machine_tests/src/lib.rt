@@ -3,3 +3,5 @@
 #![tactic(auto)]
 
 pub mod signs;
+#[cfg(test)]
+mod tests;
