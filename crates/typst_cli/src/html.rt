@@ -14,6 +14,6 @@ pub fn answer<C: Classes>(alloc: Global, text: &str, classes: &C) -> Result<Stri
 {
     let root = parse(alloc, text, classes)?;
     let mut printed = highlight_html(alloc, &root)?;
-    printed.push_str("")?;
+    printed.push_str("\n")?;
     Ok(printed)
 }
