@@ -146,12 +146,16 @@ fn dots_directly(kind: SyntaxKind, has_trivia: bool) -> bool
 fn operator_tail(least: u8, kind: SyntaxKind) -> CodeTail
     ensures { result ≡ spec.operator_tail least kind }
 {
-    match kind {
-        SyntaxKind::Dot => CodeTail::Field,
-        SyntaxKind::Not if BinOp::NotIn.precedence() < least => CodeTail::Nothing,
-        SyntaxKind::Not => CodeTail::NotIn,
-        _ => binary_tail(least, BinOp::from_kind(kind)),
+    if kind == SyntaxKind::Dot {
+        return CodeTail::Field;
     }
+    if kind != SyntaxKind::Not {
+        return binary_tail(least, BinOp::from_kind(kind));
+    }
+    if BinOp::NotIn.precedence() < least {
+        return CodeTail::Nothing;
+    }
+    CodeTail::NotIn
 }
 
 /// An operator that binds at least so tightly, if it is one.
