@@ -3,3 +3,4 @@
 --   pairs                        Seeing: what is seen of what was read
 pub mod Begins
 pub mod Seeing
+pub mod Nots
