@@ -4,7 +4,7 @@ ghost use Rattle.typst_bench.specs.Words.{word_of, work_named};
 
 use crate::edited::Edited;
 use std::alloc::{AllocError, Global};
-use typst_parser::{Lines, SyntaxNode, UnicodeClasses, highlight_html, parse};
+use typst_parser::{Lines, SyntaxNode, UnicodeClasses, highlight_html, parse, parse_code};
 
 /// A kind of work on a text.
 #[derive(Debug, Clone, Copy, PartialEq, Eq)]
@@ -13,6 +13,8 @@ pub enum Work {
     Lines,
     /// Makes the syntax tree.
     Parse,
+    /// Makes the syntax tree of code.
+    ParseCode,
     /// Writes the syntax tree as HTML.
     Html,
     /// Puts a letter into the middle of a source, or takes it out.
@@ -26,6 +28,8 @@ pub enum Subject {
     Lines(String),
     /// A text, whose tree is made.
     Text(String),
+    /// A text of code, whose tree is made.
+    Code(String),
     /// A syntax tree, which is written as HTML.
     Tree(SyntaxNode),
     /// A source, which is edited.
@@ -40,6 +44,7 @@ impl Work {
         match word {
             "lines" => Some(Work::Lines),
             "parse" => Some(Work::Parse),
+            "parse-code" => Some(Work::ParseCode),
             "html" => Some(Work::Html),
             "edit" => Some(Work::Edit),
             _ => None,
@@ -53,6 +58,7 @@ impl Work {
         match self {
             Work::Lines => "lines",
             Work::Parse => "parse",
+            Work::ParseCode => "parse-code",
             Work::Html => "html",
             Work::Edit => "edit",
         }
@@ -63,6 +69,7 @@ impl Work {
         Ok(match self {
             Work::Lines => Subject::Lines(text),
             Work::Parse => Subject::Text(text),
+            Work::ParseCode => Subject::Code(text),
             Work::Html => Subject::Tree(parse(alloc, text.as_str(), &UnicodeClasses)?),
             Work::Edit => Subject::Source(Edited::new(alloc, text)?),
         })
@@ -74,7 +81,8 @@ impl Subject {
     pub fn round(&mut self, alloc: Global) -> anyhow::Result<u64> {
         Ok(match self {
             Subject::Lines(text) => lines(alloc, text.as_str())?,
-            Subject::Text(text) => tree(alloc, text.as_str())?,
+            Subject::Text(text) => size(&parse(alloc, text.as_str(), &UnicodeClasses)?),
+            Subject::Code(text) => size(&parse_code(alloc, text.as_str(), &UnicodeClasses)?),
             Subject::Tree(root) => html(alloc, root)?,
             Subject::Source(edited) => edited.round()?,
         })
@@ -95,10 +103,9 @@ fn lines(alloc: Global, text: &str) -> Result<u64, AllocError> {
     Ok(sum)
 }
 
-/// The length of the text's tree and the number of its nodes, added up.
-fn tree(alloc: Global, text: &str) -> Result<u64, AllocError> {
-    let root = parse(alloc, text, &UnicodeClasses)?;
-    Ok((root.len() as u64).wrapping_add(root.descendants() as u64))
+/// The length of a tree's text and the number of its nodes, added up.
+fn size(root: &SyntaxNode) -> u64 {
+    (root.len() as u64).wrapping_add(root.descendants() as u64)
 }
 
 /// The length of the tree's text as HTML.

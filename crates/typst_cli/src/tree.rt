@@ -7,7 +7,9 @@ ghost use Rattle.typst_cli.specs.PrintedTree as spec;
 pub use crate::variants::variant_name;
 use std::alloc::{AllocError, Global};
 use std::ops::Range;
-use typst_parser::{Classes, Diagnostic, Hint, Severity, SyntaxNode, is_newline, parse};
+use typst_parser::{
+    Classes, Diagnostic, Hint, Severity, SyntaxNode, is_newline, parse, parse_code,
+};
 
 /// The syntax tree of the text. Each node has a line with its kind, its range in bytes and, for an
 /// error, its message, two spaces deeper than its parent; below it stand its warnings and hints, and
@@ -16,6 +18,16 @@ pub fn answer<C: Classes>(alloc: Global, text: &str, classes: &C) -> Result<Stri
     ensures { IfOk result (λ printed. string_bytes printed ≡ spec.tree_printed (C.classes classes.now) text.now) }
 {
     let root = parse(alloc, text, classes)?;
+    let mut printed = String::new(alloc);
+    print_node(alloc, &mut printed, &root, "", 0)?;
+    Ok(printed)
+}
+
+/// The same of a text of code.
+pub fn answer_code<C: Classes>(alloc: Global, text: &str, classes: &C) -> Result<String, AllocError>
+    ensures { IfOk result (λ printed. string_bytes printed ≡ spec.code_tree_printed (C.classes classes.now) text.now) }
+{
+    let root = parse_code(alloc, text, classes)?;
     let mut printed = String::new(alloc);
     print_node(alloc, &mut printed, &root, "", 0)?;
     Ok(printed)

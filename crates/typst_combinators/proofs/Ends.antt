@@ -35,23 +35,9 @@ use Rattle.typst_combinators.specs.declared.reading.Reading.{Reading}
 use Rattle.typst_combinators.specs.Hand.{token_at, len_at, at_trivia, Ahead, after_trivia, direct, ahead_by, ahead, ahead_of, column_at, stops, known_by, hand_by, hand_at}
 use Rattle.typst_combinators.specs.Point.{Trivia}
 use Rattle.typst_combinators.proofs.Places.{moved-sum}
+use Rattle.typst_combinators.proofs.Goes.{Goes, goes-if, kind-if, token-if, word-goes}
+use Rattle.typst_combinators.proofs.CodeEnds.{code-goes}
 use Rattle.typst_tokens.specs.Memory.{Memory}
-
--- what is read there isn't the end
-abbrev Goes : Reader Memory Token → Place → Type 0
-Goes r p = is_end (exec r p).0.kind ≡ false
-
-goes-if : (b : Bool) (x y : Reader Memory Token) (p : Place) → Goes x p → Goes y p → Goes (if b then x else y) p
-goes-if true x y p h i = h
-goes-if false x y p h i = i
-
-kind-if : (b : Bool) (x y : SyntaxKind) → is_end x ≡ false → is_end y ≡ false → is_end (if b then x else y) ≡ false
-kind-if true x y h i = h
-kind-if false x y h i = i
-
-token-if : (b : Bool) (x y : Token) → is_end x.kind ≡ false → is_end y.kind ≡ false → is_end (if b then x else y).kind ≡ false
-token-if true x y h i = h
-token-if false x y h i = i
 
 text-goes : (k : CharClasses) (p : Place) → Goes (text k) p
 unfolding text
@@ -117,10 +103,6 @@ numbering-goes k p =
     goes-if (passes (λ c. c == 46) (scout 0 q)) _ _ q
     (goes-if (is_u64 (run is_ascii_digit p)) _ _ (moved 1 q) (marker-goes k kind.EnumMarker (moved 1 q) refl) (text-goes k (moved 1 q))) (text-goes k q)
 
-word-goes : (n : ℕ) (word : List ℕ) (x y : Reader Memory Token) (p : Place) → Goes x p → Goes y p → Goes (at_word n word x y) p
-word-goes n [] x y p h i = h
-word-goes n (c ∷ word) x y p h i = goes-if (passes (λ d. d == c) (scout n p)) (at_word (suc n) word x y) y p (word-goes (suc n) word x y p h i) i
-
 link-end-goes : (m : Memory) → is_end (link_end m).kind ≡ false
 link-end-goes blank = refl
 link-end-goes (comment a b) = refl
@@ -175,6 +157,7 @@ markup-goes k c p =
     (goes-if (c == 45) _ _ p (minus-goes k p)
     (goes-if (c == 42) _ _ p (emphasis-goes k kind.Star p refl)
     (goes-if (c == 95) _ _ p (emphasis-goes k kind.Underscore p refl)
+    (goes-if (c == 35) _ _ p refl
     (goes-if (c == 91) _ _ p refl
     (goes-if (c == 93) _ _ p refl
     (goes-if (c == 39 || c == 34) _ _ p refl
@@ -184,13 +167,13 @@ markup-goes k c p =
     (goes-if (c == 43) _ _ p (marker-goes k kind.EnumMarker (moved 1 p) refl)
     (goes-if (c == 47) _ _ p (marker-goes k kind.TermMarker (moved 1 p) refl)
     (goes-if (is_ascii_digit c) _ _ p (numbering-goes k p)
-    (text-goes k (moved 1 p))))))))))))))))))
+    (text-goes k (moved 1 p)))))))))))))))))))
 
 mode-goes : (k : CharClasses) (m : SyntaxMode) (c : ℕ) (p : Place) → Goes (of_mode k m c) p
 unfolding of_mode text_from
 mode-goes k Markup c p = markup-goes k c p
 mode-goes k Math c p = text-goes k (moved 1 p)
-mode-goes k Code c p = text-goes k (moved 1 p)
+mode-goes k Code c p = code-goes k c p
 
 hash-goes : (k : CharClasses) (m : SyntaxMode) (p : Place) → Goes (hash k m) p
 unfolding hash shebang

@@ -11,6 +11,8 @@ pub mod Looks
 pub mod Within
 pub mod Backs
 pub mod Rests
+pub mod Goes
+pub mod CodeEnds
 pub mod Ends
 pub mod Eats
 pub mod Alike

@@ -6,17 +6,19 @@ use Rattle.typst_tokens.specs.declared.token.Token.{Token}
 use Rattle.typst_tokens.specs.Memory.{Memory}
 use Rattle.typst_lexer.specs.Tokens.{token}
 use Rattle.typst_combinators.specs.declared.calls.Call.{Call}
-use Rattle.typst_combinators.specs.declared.calls.Call.TheVariants.{MarkupExpr}
+use Rattle.typst_combinators.specs.declared.calls.Call.TheVariants.{MarkupExpr, CodeExpr}
 use Rattle.typst_combinators.specs.declared.calls.Way.{Way}
 use Rattle.typst_combinators.specs.declared.calls.Way.TheVariants.{InMode}
 
--- what a call answers: of an expression of markup in how many brackets what comes after it stands
+-- what a call answers: of an expression of markup in how many brackets what comes after it stands, of one of code nothing
 abbrev pub Answer : Call → Type 0
 Answer (MarkupExpr at_start nesting) = ℕ
+Answer (CodeExpr atomic least) = Unit {0}
 
 -- what stands for an answer where no call is made
 abbrev pub no_answer : (call : Call) → Answer call
 no_answer (MarkupExpr at_start nesting) = 0
+no_answer (CodeExpr atomic least) = tt
 
 -- the token that another way of reading finds at a place
 abbrev pub token_so : CharClasses → Way → Reader Memory Token

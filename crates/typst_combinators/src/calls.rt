@@ -9,6 +9,9 @@ pub enum Call {
     /// An expression of markup, whether at the start of a line, and in how many brackets. It
     /// answers in how many brackets what comes after it stands.
     MarkupExpr(bool, usize),
+    /// An expression of code, whether atomic, and how tightly its operators bind at least. It answers
+    /// nothing.
+    CodeExpr(bool, u8),
 }
 
 /// What is noted as one block.

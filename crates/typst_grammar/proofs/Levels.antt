@@ -6,35 +6,33 @@ use Rattle.typst_lines.specs.Place.{Place, moved}
 use Rattle.typst_readers.specs.Sight.{hull_of}
 use Rattle.typst_node.specs.Tree.{Tree}
 use Rattle.typst_classes.specs.Classes.{CharClasses}
-use Rattle.typst_combinators.specs.declared.calls.Block.TheVariants as block
 use Rattle.typst_combinators.specs.declared.calls.Call.{Call}
 use Rattle.typst_combinators.specs.declared.calls.Note.{Note}
 use Rattle.typst_combinators.specs.Point.{Point}
 use Rattle.typst_combinators.specs.Ask.{Ask}
 use Rattle.typst_combinators.specs.Ask.Ask.{looked, marked}
-use Rattle.typst_combinators.specs.Depth.{is_end}
+use Rattle.typst_combinators.specs.declared.reading.Reading.{Reading}
 use Rattle.typst_combinators.specs.Log.{Log, no_log, with_more, with_hull, with_note, logged}
 use Rattle.typst_combinators.specs.Knot.{meaning_of}
-use Rattle.typst_combinators.specs.Meaning.{less, standing}
+use Rattle.typst_combinators.specs.Meaning.{less, standing, start_point, run}
 use Rattle.typst_combinators.specs.Shape.{hinted}
 use Rattle.typst_combinators.specs.Sound.{Sound}
-use Rattle.typst_combinators.specs.Steps.{flush_trivia}
-use Rattle.typst_combinators.specs.Syntax.{◌>>◌}
+use Rattle.typst_combinators.specs.Syntax.{Parser}
 use Rattle.typst_combinators.proofs.Knot.{sound-level}
 use Rattle.typst_machine.specs.declared.depth.Answered.{Answered}
 use Rattle.typst_machine.specs.Cursor.{IsStart}
-use Rattle.typst_machine.specs.View.{View, Runs, ReadsBlock, Goes, Called, Answers, Fits, Bare, at}
+use Rattle.typst_machine.specs.View.{View, Runs, Goes, Called, Answers, Fits, Bare, at}
 use Rattle.typst_ahead.specs.Noted.{listed}
-use Rattle.typst_markup.specs.Markup.{content_block, markup_run, markup_reading}
-use Rattle.typst_grammar.specs.Grammar.{rules, production, meaning, level_at, max_depth, start_of, whole, parsed, log}
+use Rattle.typst_code.specs.Outside.{Blocks}
+use Rattle.typst_grammar.specs.Grammar.{rules, production, meaning, level_at, max_depth, start_of, parsed, log}
 use Rattle.typst_grammar.specs.Read.{IsParsed}
 
 pub sound-at : (k : CharClasses) (levels : ℕ) → Sound (level_at k levels)
 sound-at k levels = sound-level rules k levels
 
--- content blocks may be read there
-pub reads-content : (k : CharClasses) (levels : ℕ) → ReadsBlock (level_at k levels) block.Content content_block
-reads-content k levels = record { has = refl; same = λ z s. refl }
+-- each block may be read there
+pub blocks-at : (k : CharClasses) (levels : ℕ) → Blocks (level_at k levels)
+blocks-at k levels = record { content = record { has = refl; same = λ z s. refl }; code = record { has = refl; same = λ z s. refl } }
 
 -- what is at hand doesn't depend on the level
 fits-level : (k : CharClasses) (i j : ℕ) {v : View} → Fits (level_at k i) v → Fits (level_at k j) v
@@ -62,15 +60,14 @@ hinted-nil [] = refl
 hinted-nil (h ∷ hs) = refl
 
 -- what the code read and noted from the start is what is read and noted of the text
-pub parsed-is : (k : CharClasses) (keeps : Bool) (text : List ℕ) (v w : View) → IsStart text markup_reading keeps v
-    → Goes (level_at k max_depth) Bare (Fits (level_at k max_depth)) (markup_run is_end >> flush_trivia) tt v w → IsParsed k keeps (chars text) w
-unfolding whole
-parsed-is k keeps text v w h d =
+pub parsed-is : (k : CharClasses) (keeps : Bool) (text : List ℕ) (reading : Reading) (p : Parser (Unit {0})) (v w : View) → IsStart text reading keeps v
+    → Goes (level_at k max_depth) Bare (Fits (level_at k max_depth)) p tt v w → IsParsed keeps (chars text) (run (level_at k max_depth) p (start_of (chars text)) (start_point reading)) w
+parsed-is k keeps text reading p v w h d =
     let l = level_at k max_depth in
     let bare : Bare v = record { known = ap (λ (s : Point). s.known) h.state } in
-    let r : Runs max_depth (at l whole v) tt v w = (d.ran bare).runs in
-    let o = parsed k max_depth (chars text) in
-    let same : at l whole v ≡ o = rw (h.place, h.state) refl in
+    let r : Runs max_depth (at l p v) tt v w = (d.ran bare).runs in
+    let o = run l p (start_of (chars text)) (start_point reading) in
+    let same : at l p v ≡ o = rw (h.place, h.state) refl in
     let q = subst (λ u. Runs max_depth u tt v w) same r in
     record {
       nodes = q.nodes ∙ ap (standing o) h.nodes ∙ ap (λ (ns : List Tree). hinted o.hints ns ++ o.nodes) (less-nil o.back) ∙ ap (λ (ns : List Tree). ns ++ o.nodes) (hinted-nil o.hints);
@@ -91,7 +88,7 @@ log-is : (r l : ℕ) (ns : List Note) (notes : Option (List Note)) → IsSome no
 log-is r l ns None i e = absurd (cc)
 log-is r l ns (Some ms) i e = rw e refl
 
-pub noted-log : (k : CharClasses) (text : List ℕ) (w : View) (ns : List Note) → IsParsed k true text w → ns ≡ listed w.log.notes
+pub noted-log : (k : CharClasses) (text : List ℕ) (w : View) (ns : List Note) → IsParsed true text (parsed k max_depth text) w → ns ≡ listed w.log.notes
     → ◌≡◌ {A = Log} (record { reach = w.log.reach; least = w.log.least; notes = Some ns }) (log k text)
 unfolding log
 noted-log k text w ns p e =

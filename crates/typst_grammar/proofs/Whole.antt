@@ -25,6 +25,7 @@ use Rattle.typst_combinators.proofs.Eats.{Eats, eats-next, eats-peek, eats-colum
 use Rattle.typst_combinators.proofs.Rests.{Rests}
 use Rattle.typst_markup.specs.declared.head.MarkupHead.{MarkupHead}
 use Rattle.typst_markup.specs.declared.head.MarkupHead.TheVariants as head
+use Rattle.typst_markup.specs.Embedded.{embedded}
 use Rattle.typst_markup.specs.Markup.{ends, note_piece, markup_turn, markup_run, delimited, strong, emph, heading, item, term_item, reference, markup_head, markup_by, markup_expr, markup_reading}
 use Rattle.typst_grammar.specs.Grammar.{rules, level_at, max_depth, start_of, whole, parsed, tree}
 
@@ -63,6 +64,10 @@ module _ (l : Level) where
   unfolding reference
   eats-reference = eats-node l _ _ (eats-next l eat _ eats-eat)
 
+  eats-embedded : Eats l embedded
+  unfolding embedded
+  eats-embedded = eats-within l _ _ (eats-next l eat _ eats-eat)
+
   eats-by : (nesting : ℕ) (h : MarkupHead) → Eats l (markup_by nesting h)
   eats-by nesting head.Itself = eats-next l eat _ eats-eat
   eats-by nesting head.Opening = eats-next l (convert_and_eat kind.Text) _ eats-text
@@ -75,6 +80,7 @@ module _ (l : Level) where
   eats-by nesting head.EnumItem = eats-next l (item kind.EnumItem) _ (eats-item kind.EnumItem)
   eats-by nesting head.TermItem = eats-next l term_item _ eats-term
   eats-by nesting head.Reference = eats-next l reference _ eats-reference
+  eats-by nesting head.Embedded = eats-next l embedded _ eats-embedded
   eats-by nesting head.Plain = eats-next l (convert_and_eat kind.Text) _ eats-text
   eats-by nesting head.Unexpected = eats-next l (unexpected _) _ (eats-unexpected _)
 

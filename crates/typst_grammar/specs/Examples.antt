@@ -5,7 +5,7 @@ use Rattle.typst_kinds.specs.declared.kind.SyntaxKind.TheVariants as kind
 use Rattle.typst_node.specs.Diagnostic.{warning_with, hint_with}
 use Rattle.typst_node.specs.Tree.{Tree, forest, leaf_of, inner_of, error_of, remarked, advised}
 use Rattle.typst_classes.specs.Classes.{CharClasses, by_law}
-use Rattle.typst_grammar.specs.Grammar.{tree}
+use Rattle.typst_grammar.specs.Grammar.{tree, tree_code}
 
 -- an inner node
 abbrev pub branch : SyntaxKind → List Tree → Tree
@@ -82,3 +82,46 @@ pub record NamedTrees (beyond : CharClasses) : Type 0 where
   pub unclosed_label : tree (by_law beyond) (codes "<a") ≡ markup (error_of (codes "unclosed label") (codes "<a") ∷ [])
   -- a label ends a heading
   pub labelled : tree (by_law beyond) (codes "= a <b>") ≡ markup (branch kind.Heading (leaf_of kind.HeadingMarker (codes "=") ∷ space (codes " ") ∷ markup (text (codes "a") ∷ []) ∷ []) ∷ space (codes " ") ∷ leaf_of kind.Label (codes "<b>") ∷ [])
+
+abbrev pub ident : List ℕ → Tree
+ident s = leaf_of kind.Ident s
+
+abbrev pub int : List ℕ → Tree
+int s = leaf_of kind.Int s
+
+-- a tree of code
+abbrev pub code : List Tree → Tree
+code kids = branch kind.Code kids
+
+-- two operands with spaces round their operator
+abbrev pub binary : Tree → Tree → Tree → Tree
+binary left sign right = branch kind.Binary (left ∷ space (codes " ") ∷ sign ∷ space (codes " ") ∷ right ∷ [])
+
+abbrev pub hash : Tree
+hash = leaf_of kind.Hash (codes "#")
+
+-- Trees of short texts of code, and of text with code embedded in it.
+pub record CodeTrees (beyond : CharClasses) : Type 0 where
+  -- operators take their operands by how tightly they bind
+  pub products : tree_code (by_law beyond) (codes "a * b + c") ≡ code (binary (binary (ident (codes "a")) (leaf_of kind.Star (codes "*")) (ident (codes "b"))) (leaf_of kind.Plus (codes "+")) (ident (codes "c")) ∷ [])
+  pub sums : tree_code (by_law beyond) (codes "a + b * c") ≡ code (binary (ident (codes "a")) (leaf_of kind.Plus (codes "+")) (binary (ident (codes "b")) (leaf_of kind.Star (codes "*")) (ident (codes "c"))) ∷ [])
+  pub assignments : tree_code (by_law beyond) (codes "a = b = c") ≡ code (binary (ident (codes "a")) (leaf_of kind.Eq (codes "=")) (binary (ident (codes "b")) (leaf_of kind.Eq (codes "=")) (ident (codes "c"))) ∷ [])
+  pub signs : tree_code (by_law beyond) (codes "-a + b") ≡ code (binary (branch kind.Unary (leaf_of kind.Minus (codes "-") ∷ ident (codes "a") ∷ [])) (leaf_of kind.Plus (codes "+")) (ident (codes "b")) ∷ [])
+  pub negation : tree_code (by_law beyond) (codes "not a in b") ≡ code (branch kind.Unary (leaf_of kind.Not (codes "not") ∷ space (codes " ") ∷ binary (ident (codes "a")) (leaf_of kind.In (codes "in")) (ident (codes "b")) ∷ []) ∷ [])
+  -- one item alone is no array
+  pub group : tree_code (by_law beyond) (codes "(a)") ≡ code (branch kind.Parenthesized (leaf_of kind.LeftParen (codes "(") ∷ ident (codes "a") ∷ leaf_of kind.RightParen (codes ")") ∷ []) ∷ [])
+  pub array : tree_code (by_law beyond) (codes "(a,)") ≡ code (branch kind.Array (leaf_of kind.LeftParen (codes "(") ∷ ident (codes "a") ∷ leaf_of kind.Comma (codes ",") ∷ leaf_of kind.RightParen (codes ")") ∷ []) ∷ [])
+  -- a key that was seen is an error
+  pub duplicate : tree (by_law beyond) (codes "#(\"a\":1,a:2)") ≡
+      markup (hash ∷ branch kind.Dict (leaf_of kind.LeftParen (codes "(")
+      ∷ branch kind.Keyed (leaf_of kind.Str (codes "\"a\"") ∷ leaf_of kind.Colon (codes ":") ∷ int (codes "1") ∷ []) ∷ leaf_of kind.Comma (codes ",")
+      ∷ branch kind.Named (error_of (codes "duplicate key: a") (codes "a") ∷ leaf_of kind.Colon (codes ":") ∷ int (codes "2") ∷ []) ∷ leaf_of kind.RightParen (codes ")") ∷ []) ∷ [])
+  -- arguments stand directly behind what is called
+  pub call : tree_code (by_law beyond) (codes "f(a)[]") ≡ code (branch kind.FuncCall (ident (codes "f") ∷ branch kind.Args (leaf_of kind.LeftParen (codes "(") ∷ ident (codes "a") ∷ leaf_of kind.RightParen (codes ")") ∷ branch kind.ContentBlock (leaf_of kind.LeftBracket (codes "[") ∷ markup [] ∷ leaf_of kind.RightBracket (codes "]") ∷ []) ∷ []) ∷ []) ∷ [])
+  -- an atomic expression takes no operator, and behind a block no string begins
+  pub atomic : tree (by_law beyond) (codes "#a+b") ≡ markup (hash ∷ ident (codes "a") ∷ text (codes "+b") ∷ [])
+  pub quote : tree (by_law beyond) (codes "#{}\"") ≡ markup (hash ∷ branch kind.CodeBlock (leaf_of kind.LeftBrace (codes "{") ∷ code [] ∷ leaf_of kind.RightBrace (codes "}") ∷ []) ∷ leaf_of kind.SmartQuote (codes "\"") ∷ [])
+  -- behind a newline the false end is taken
+  pub context : tree (by_law beyond) (codes "#context\nx") ≡ markup (hash ∷ branch kind.Contextual (leaf_of kind.Context (codes "context") ∷ space (codes "\n") ∷ error_of (codes "unexpected identifier") (codes "x") ∷ []) ∷ [])
+  -- a colon has to come right behind `show`
+  pub show : tree_code (by_law beyond) (codes "show a") ≡ code (branch kind.ShowRule (leaf_of kind.Show (codes "show") ∷ error_of (codes "expected colon") [] ∷ space (codes " ") ∷ ident (codes "a") ∷ []) ∷ [])

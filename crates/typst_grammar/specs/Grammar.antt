@@ -1,5 +1,5 @@
 -- The whole grammar: what is read one level deeper, and the tree of a text.
-use Rattle.std.specs.Prelude.{ℕ, Bool, true, false, List, []}
+use Rattle.std.specs.Prelude.{ℕ, Bool, true, List, []}
 use Rattle.typst_kinds.specs.declared.kind.SyntaxKind.TheVariants as kind
 use Rattle.typst_lines.specs.Place.{Place}
 use Rattle.typst_node.specs.Tree.{Tree, forest, inner_of}
@@ -7,30 +7,31 @@ use Rattle.typst_classes.specs.Classes.{CharClasses}
 use Rattle.typst_combinators.specs.declared.calls.Block.{Block}
 use Rattle.typst_combinators.specs.declared.calls.Block.TheVariants as block
 use Rattle.typst_combinators.specs.declared.calls.Call.{Call}
-use Rattle.typst_combinators.specs.declared.calls.Call.TheVariants.{MarkupExpr}
+use Rattle.typst_combinators.specs.declared.calls.Call.TheVariants.{MarkupExpr, CodeExpr}
 use Rattle.typst_combinators.specs.Calls.{Answer}
 use Rattle.typst_combinators.specs.Syntax.{Parser, ◌>>◌}
-use Rattle.typst_combinators.specs.Syntax.Parser.{gives}
-use Rattle.typst_combinators.specs.Steps.{flush_trivia}
+use Rattle.typst_combinators.specs.Steps.{peek, flush_trivia}
 use Rattle.typst_combinators.specs.Depth.{is_end}
 use Rattle.typst_combinators.specs.Log.{Log, no_log, logged}
 use Rattle.typst_combinators.specs.Meaning.{Outcome, Meaning, Level, start_point, run}
 use Rattle.typst_combinators.specs.Knot.{Rules, meaning_of, level_of}
 use Rattle.typst_markup.specs.Markup.{content_block, markup_expr, markup_run, markup_reading}
+use Rattle.typst_code.specs.Sequences.{code_block, code_exprs, code_reading}
+use Rattle.typst_code.specs.Expressions.{code_expr}
 
 -- what a call reads
 abbrev pub production : (call : Call) → Parser (Answer call)
 production (MarkupExpr at_start nesting) = markup_expr at_start nesting
+production (CodeExpr atomic least) = code_expr atomic least
 
--- content blocks may be read; LATER, code blocks
+-- each block may be read
 abbrev pub has : Block → Bool
-has block.Content = true
-has block.Code = false
+has b = true
 
 -- what a block reads, from the token at hand on
 abbrev pub block_production : Block → Parser (Unit {0})
 block_production block.Content = content_block
-block_production block.Code = gives tt
+block_production block.Code = code_block
 
 abbrev pub rules : Rules
 rules = record { production = production; has = has; block_production = block_production }
@@ -65,3 +66,15 @@ log k text = logged max_depth (start_of text) no_log (parsed k max_depth text).a
 -- the tree of the characters of a text
 unfoldable pub tree : CharClasses → List ℕ → Tree
 tree k text = inner_of kind.Markup (forest (parsed k max_depth text).nodes)
+
+-- the statements of a whole text of code, with all trivia
+unfoldable pub whole_code : Parser (Unit {0})
+whole_code = peek >> code_exprs is_end >> flush_trivia
+
+-- what is read of the characters of a text of code, where so many levels are left
+abbrev pub parsed_code : CharClasses → ℕ → List ℕ → Outcome (Unit {0})
+parsed_code k levels text = run (level_at k levels) whole_code (start_of text) (start_point code_reading)
+
+-- the tree of the characters of a text of code
+unfoldable pub tree_code : CharClasses → List ℕ → Tree
+tree_code k text = inner_of kind.Code (forest (parsed_code k max_depth text).nodes)

@@ -1,16 +1,16 @@
 //! The knot: what is read one level deeper, and whole texts.
 
-ghost use Rattle.std.specs.Prelude.{◌≡◌, ◌<◌, IfOk, Some};
+ghost use Rattle.std.specs.Prelude.{◌≡◌, ◌<◌, IfOk, Some, false};
 ghost use Rattle.std.specs.Str.{chars};
 ghost use Rattle.typst_node.specs.Tree.{text_of};
-ghost use Rattle.typst_combinators.specs.declared.calls.Call.TheVariants.{MarkupExpr};
 ghost use Rattle.typst_machine.specs.View.{Calls};
-ghost use Rattle.typst_markup.specs.Outside.{MeansOutsideAs};
+ghost use Rattle.typst_code.specs.Outside.{MeansAroundAs};
 ghost use Rattle.typst_grammar.specs.Grammar as spec;
 ghost use Rattle.typst_grammar.specs.Read.{IsParsed};
 
 use std::alloc::{AllocError, Global};
 use typst_classes::Classes;
+use typst_code::{CodeStop, code_expr, code_exprs};
 use typst_combinators::{AtNewline, Call, Note, Reading};
 use typst_kinds::{SyntaxKind, SyntaxMode};
 use typst_lexer::Hull;
@@ -24,20 +24,17 @@ const MAX_DEPTH: usize = 256;
 /// Reads what a call asks for.
 pub fn production<L: Levels>(g: &L, p: &mut Parser<'_>, call: Call) -> Result<Answered, AllocError>
     requires { L.may_call g.now }
-    ensures { MeansOutsideAs (L.frame g.now) call (spec.production call) p.old result p.new }
-{
-    let parts = markup_of(call);
-    let nesting = markup_expr(g, p, parts.0, parts.1)?;
-    Ok(Answered::Brackets(nesting))
-}
-
-/// Whether the expression that a call asks for stands at the start of a line, and in how many
-/// brackets.
-fn markup_of(call: Call) -> (bool, usize)
-    ensures { call ≡ MarkupExpr result.0 result.1 }
+    ensures { MeansAroundAs (L.frame g.now) call (spec.production call) p.old result p.new }
 {
     match call {
-        Call::MarkupExpr(at_start, nesting) => (at_start, nesting),
+        Call::MarkupExpr(at_start, nesting) => {
+            let nesting = markup_expr(g, p, at_start, nesting)?;
+            Ok(Answered::Brackets(nesting))
+        }
+        Call::CodeExpr(atomic, least) => {
+            code_expr(g, p, atomic, least)?;
+            Ok(Answered::Nothing)
+        }
     }
 }
 
@@ -67,6 +64,20 @@ pub fn parse<C: Classes>(alloc: Global, text: &str, classes: &C) -> Result<Synta
 {
     let (nodes, _notes, _hull) = read_whole(alloc, text, false, classes)?.finish();
     Ok(SyntaxNode::inner(SyntaxKind::Markup, nodes))
+}
+
+/// The syntax tree of a text of code, with detached spans. Any text has one; its leaves joined are the
+/// text. It refuses only for want of memory.
+pub fn parse_code<C: Classes>(
+    alloc: Global,
+    text: &str,
+    classes: &C,
+) -> Result<SyntaxNode, AllocError>
+    ensures tree { IfOk result (λ t. t ≡ spec.tree_code (C.classes classes.now) (chars text.now)) }
+    ensures leaves { IfOk result (λ t. text_of t ≡ text.now) }
+{
+    let (nodes, _notes, _hull) = read_whole_code(alloc, text, classes)?.finish();
+    Ok(SyntaxNode::inner(SyntaxKind::Code, nodes))
 }
 
 /// A syntax tree with what was looked at and noted in parsing it.
@@ -101,7 +112,7 @@ fn read_whole<'s, C: Classes>(
     keeps_notes: bool,
     classes: &C,
 ) -> Result<Parser<'s>, AllocError>
-    ensures { IfOk result (λ p. IsParsed (C.classes classes.now) keeps_notes (chars text.now) p) }
+    ensures { IfOk result (λ p. IsParsed keeps_notes (chars text.now) (spec.parsed (C.classes classes.now) spec.max_depth (chars text.now)) p) }
 {
     let reading = Reading {
         mode: SyntaxMode::Markup,
@@ -114,6 +125,30 @@ fn read_whole<'s, C: Classes>(
         call: make_call::<C>,
     };
     markup_run(&g, &mut p, Stop::End)?;
+    p.flush_trivia()?;
+    Ok(p)
+}
+
+/// The same, of a text of code.
+fn read_whole_code<'s, C: Classes>(
+    alloc: Global,
+    text: &'s str,
+    classes: &C,
+) -> Result<Parser<'s>, AllocError>
+    ensures { IfOk result (λ p. IsParsed false (chars text.now) (spec.parsed_code (C.classes classes.now) spec.max_depth (chars text.now)) p) }
+{
+    let reading = Reading {
+        mode: SyntaxMode::Code,
+        at_newline: AtNewline::Continue,
+    };
+    let mut p = Parser::new(alloc, text, reading, false)?;
+    let g = Grammar {
+        classes,
+        levels: MAX_DEPTH,
+        call: make_call::<C>,
+    };
+    p.look(&g)?;
+    code_exprs(&g, &mut p, CodeStop::End)?;
     p.flush_trivia()?;
     Ok(p)
 }

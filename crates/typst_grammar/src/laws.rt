@@ -1,7 +1,7 @@
 //! Laws of the grammar.
 
 ghost use Rattle.typst_classes.specs.Classes.{CharClasses};
-ghost use Rattle.typst_grammar.specs.Examples.{NamedTrees, Trees};
+ghost use Rattle.typst_grammar.specs.Examples.{CodeTrees, NamedTrees, Trees};
 ghost use Rattle.typst_grammar.specs.Laws.{CallLaws, LeavesLaw, PieceLaws, RunLaws, SequenceLaws};
 ghost use Rattle.typst_grammar.specs.Notes.{Notes};
 
@@ -30,6 +30,11 @@ pub fn trees_of_texts()
 /// The same of texts with raw texts, links, labels and references.
 pub fn trees_of_names()
     ensures { (beyond : CharClasses) → NamedTrees beyond }
+{}
+
+/// The same of texts with code.
+pub fn trees_of_code()
+    ensures { (beyond : CharClasses) → CodeTrees beyond }
 {}
 
 /// What is noted of short texts.

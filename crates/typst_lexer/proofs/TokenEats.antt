@@ -24,6 +24,7 @@ use Rattle.typst_tokens.specs.Labels.{label}
 use Rattle.typst_tokens.specs.Raw.{raw}
 use Rattle.typst_markup_tokens.specs.Text.{text_from}
 use Rattle.typst_tokens.specs.Token.{plain}
+use Rattle.typst_code_tokens.proofs.Eats.{code-eats}
 use Rattle.typst_markup_tokens.proofs.Eats.{markup-eats}
 use Rattle.typst_tokens.proofs.Eats.{either, some-ahead, run-ahead, line-eats}
 use Rattle.typst_lexer.specs.Tokens.{of_mode, hash, slash, star, backtick, token}
@@ -34,7 +35,7 @@ mode-eats : (c : ℕ) (p : Place) (e : scout 0 p ≡ Some c) (k : CharClasses) (
 unfolding of_mode text_from
 mode-eats c p e k Markup = markup-eats c p e k
 mode-eats c p e k Math = omega arith
-mode-eats c p e k Code = omega arith
+mode-eats c p e k Code = code-eats k c p e
 
 -- the mode's own token at a character that is known
 own-eats : (k : CharClasses) (mode : SyntaxMode) (c d : ℕ) (p : Place) → scout 0 p ≡ Some c → (c == d) ≡ true → 1 ≤ eaten (of_mode k mode d) p

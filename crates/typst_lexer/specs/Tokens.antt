@@ -7,6 +7,7 @@ use Rattle.typst_lines.specs.Place.{passes}
 use Rattle.typst_tokens.specs.Characters.{is_space}
 use Rattle.typst_classes.specs.Classes.{CharClasses}
 use Rattle.typst_tokens.specs.Common.{whitespace, shebang, line_comment, block_comment, comment_end}
+use Rattle.typst_code_tokens.specs.Code.{code}
 use Rattle.typst_markup_tokens.specs.Markup.{markup}
 use Rattle.typst_tokens.specs.Raw.{raw}
 use Rattle.typst_markup_tokens.specs.Text.{text_from}
@@ -19,9 +20,9 @@ use Rattle.typst_tokens.specs.Memory.{Memory}
 -- A token that only one mode has, at the character that comes next.
 unfoldable pub of_mode : CharClasses → SyntaxMode → ℕ → Reader Memory Token
 of_mode k Markup c = markup k c
--- LATER, formulas and code: until then any character begins a text
+-- LATER, formulas: until then any character begins a text
 of_mode k Math c = text_from k
-of_mode k Code c = text_from k
+of_mode k Code c = code k c
 
 -- A hash comes next: at the text's start `#!` begins a shebang.
 unfoldable pub hash : CharClasses → SyntaxMode → Reader Memory Token

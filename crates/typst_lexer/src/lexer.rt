@@ -9,6 +9,7 @@ ghost use Rattle.typst_lines.specs.Place.{place_at, scout};
 
 use std::alloc::{AllocError, Global};
 use typst_classes::classes::Classes;
+use typst_code_tokens::code::code;
 use typst_kinds::{SyntaxKind, SyntaxMode};
 use typst_lines::Scanner;
 use typst_markup_tokens::markup::markup;
@@ -187,7 +188,7 @@ fn of_mode<C: Classes>(
     match mode {
         SyntaxMode::Markup => Ok(markup(alloc, s, c, classes)?),
         SyntaxMode::Math => Ok(text_from(s, classes)),
-        SyntaxMode::Code => Ok(text_from(s, classes)),
+        SyntaxMode::Code => Ok(code(s, c, classes)),
     }
 }
 

@@ -19,6 +19,8 @@ use typst_kinds::SyntaxKind;
 pub enum Answered {
     /// In how many brackets what comes behind an expression of markup stands.
     Brackets(usize),
+    /// Nothing.
+    Nothing,
 }
 
 impl Answered {
@@ -28,6 +30,7 @@ impl Answered {
     {
         match self {
             Answered::Brackets(nesting) => nesting,
+            Answered::Nothing => 0,
         }
     }
 }

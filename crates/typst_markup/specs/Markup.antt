@@ -22,6 +22,7 @@ use Rattle.typst_combinators.specs.Steps.{peek, eat, convert_and_eat, eat_if, cl
 use Rattle.typst_combinators.specs.Depth.{is_end, one_more, too_deep, deeper}
 use Rattle.typst_markup.specs.declared.head.MarkupHead.{MarkupHead}
 use Rattle.typst_markup.specs.declared.head.MarkupHead.TheVariants as head
+use Rattle.typst_markup.specs.Embedded.{embedded}
 
 -- ---- where sequences stop
 
@@ -183,6 +184,7 @@ markup_head at_start nesting kind.Link = head.Itself
 markup_head at_start nesting kind.Label = head.Itself
 markup_head at_start nesting kind.Raw = head.Itself
 markup_head at_start nesting kind.RefMarker = head.Reference
+markup_head at_start nesting kind.Hash = head.Embedded
 markup_head at_start nesting kind.Star = head.Strong
 markup_head at_start nesting kind.Underscore = head.Emph
 markup_head at_start nesting kind.HeadingMarker = if at_start then head.Heading else head.Plain
@@ -205,6 +207,7 @@ markup_by nesting head.ListItem = item kind.ListItem >> gives nesting
 markup_by nesting head.EnumItem = item kind.EnumItem >> gives nesting
 markup_by nesting head.TermItem = term_item >> gives nesting
 markup_by nesting head.Reference = reference >> gives nesting
+markup_by nesting head.Embedded = embedded >> gives nesting
 markup_by nesting head.Plain = convert_and_eat kind.Text >> gives nesting
 markup_by nesting head.Unexpected = unexpected [] >> gives nesting
 

@@ -7,6 +7,7 @@ ghost use Rattle.typst_markup.specs.Markup as spec;
 ghost use Rattle.typst_markup.specs.Outside.{MeansOutside};
 ghost use Rattle.typst_markup.specs.Stops.{stops_at};
 
+use crate::embedding::embedded;
 use crate::head::{MarkupHead, markup_head};
 use crate::references::reference;
 use crate::sequences::{markup, markup_with_trivia};
@@ -179,6 +180,7 @@ pub fn markup_expr<L: Levels>(
         MarkupHead::EnumItem => item(g, p, SyntaxKind::EnumItem)?,
         MarkupHead::TermItem => term_item(g, p)?,
         MarkupHead::Reference => reference(g, p)?,
+        MarkupHead::Embedded => embedded(g, p)?,
         MarkupHead::Plain => p.convert_and_eat(SyntaxKind::Text, g)?,
         MarkupHead::Unexpected => p.unexpected(g)?,
     }

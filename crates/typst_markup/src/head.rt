@@ -30,6 +30,8 @@ pub enum MarkupHead {
     TermItem,
     /// `@name`, and a content block directly after it.
     Reference,
+    /// `#` and an expression of code.
+    Embedded,
     /// Text, since a marker means nothing here.
     Plain,
     /// Nothing that may stand here.
@@ -54,6 +56,7 @@ pub(crate) fn markup_head(at_start: bool, nesting: usize, kind: SyntaxKind) -> M
         | SyntaxKind::Label
         | SyntaxKind::Raw => MarkupHead::Itself,
         SyntaxKind::RefMarker => MarkupHead::Reference,
+        SyntaxKind::Hash => MarkupHead::Embedded,
         SyntaxKind::Star => MarkupHead::Strong,
         SyntaxKind::Underscore => MarkupHead::Emph,
         SyntaxKind::HeadingMarker if at_start => MarkupHead::Heading,

@@ -1,14 +1,18 @@
 //! The productions of markup.
 #![tactic(auto)]
 
+mod embedding;
 mod expressions;
 mod head;
 mod references;
 mod sequences;
+mod starts;
 mod stops;
 
+pub use embedding::embedded;
 pub use expressions::{emph, heading, item, markup_expr, strong, term_item};
 pub use head::MarkupHead;
-pub use references::{content_block, reference};
+pub use references::{content_block, opens_directly, reference};
 pub use sequences::{markup, markup_exprs, markup_run, markup_turn, markup_with_trivia};
+pub use starts::{begins_code, begins_statement};
 pub use stops::Stop;

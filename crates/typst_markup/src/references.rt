@@ -79,7 +79,7 @@ pub fn reference<L: Levels>(g: &L, p: &mut Parser<'_>) -> Result<(), AllocError>
 }
 
 /// Whether a content block begins at the token at hand, without trivia before it.
-fn opens_directly(p: &Parser<'_>) -> bool
+pub fn opens_directly(p: &Parser<'_>) -> bool
     ensures { result ≡ spec.opens_directly (told p.now.hand) }
 {
     p.current() == SyntaxKind::LeftBracket && !p.had_trivia()

@@ -32,6 +32,7 @@ markup-eats c p e k =
     (either (c == 45) _ _ p (λ _. omega arith)
     (either (c == 42) _ _ p (λ _. emphasis-eats k kind.Star p)
     (either (c == 95) _ _ p (λ _. emphasis-eats k kind.Underscore p)
+    (either (c == 35) _ _ p (λ _. omega arith)
     (either (c == 91) _ _ p (λ _. omega arith)
     (either (c == 93) _ _ p (λ _. omega arith)
     (either (c == 39 || c == 34) _ _ p (λ _. omega arith)
@@ -41,4 +42,4 @@ markup-eats c p e k =
     (either (c == 43) _ _ p (λ _. omega arith)
     (either (c == 47) _ _ p (λ _. omega arith)
     (either (is_ascii_digit c) _ _ p (λ t. omega (arith, run-ahead is_ascii_digit c p.ahead e t))
-    (omega arith)))))))))))))))))
+    (omega arith))))))))))))))))))

@@ -78,7 +78,7 @@ markup k c =
     else (if c == 45 then minus k
     else (if c == 42 then emphasis k kind.Star
     else (if c == 95 then emphasis k kind.Underscore
-    -- LATER, code: `#`
+    else (if c == 35 then sign kind.Hash
     else (if c == 91 then sign kind.LeftBracket
     else (if c == 93 then sign kind.RightBracket
     else (if c == 39 || c == 34 then sign kind.SmartQuote
@@ -89,4 +89,4 @@ markup k c =
     else (if c == 43 then marker k kind.EnumMarker
     else (if c == 47 then marker k kind.TermMarker
     else (if is_ascii_digit c then numbering k
-    else text_from k))))))))))))))))
+    else text_from k)))))))))))))))))

@@ -39,6 +39,7 @@ pub fn markup<C: Classes>(
         '-' => Ok(minus(s, classes)),
         '*' => Ok(emphasis(s, SyntaxKind::Star, classes)),
         '_' => Ok(emphasis(s, SyntaxKind::Underscore, classes)),
+        '#' => Ok(sign(s, SyntaxKind::Hash)),
         '[' => Ok(sign(s, SyntaxKind::LeftBracket)),
         ']' => Ok(sign(s, SyntaxKind::RightBracket)),
         '\'' | '"' => Ok(sign(s, SyntaxKind::SmartQuote)),

@@ -1,7 +1,7 @@
 //! The parser layer of Typst, as programs use it.
 //!
 //! - [`parse`] makes the syntax tree of a text of markup. Any text has one; errors, warnings and hints
-//!   stand in the tree, and its leaves joined are the text.
+//!   stand in the tree, and its leaves joined are the text. [`parse_code`] does the same of code.
 //! - A tree is a [`SyntaxNode`] of some [`SyntaxKind`], with its [`Diagnostic`]s and its [`Span`];
 //!   [`LinkedNode`] is a node with what stands round it.
 //! - [`highlight`] tells the [`Tag`] that a node is shown by, and [`highlight_html`] writes a tree's text

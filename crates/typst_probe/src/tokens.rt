@@ -1,4 +1,4 @@
-//! The word `tokens`.
+//! The words `tokens` and `tokens-code`.
 
 use std::alloc::{AllocError, Global};
 use typst_cli::tree::{print_head, variant_name};
@@ -6,10 +6,15 @@ use typst_lexer::{Lexer, Token};
 use typst_parser::{Classes, SyntaxMode, UnicodeClasses};
 use typst_token_nodes::make_node;
 
-/// The tokens of the text as markup. Each has a line with its kind, its range in bytes and, for an
+/// The tokens of the text in a mode. Each has a line with its kind, its range in bytes and, for an
 /// error, its message; below an error stand its hints, two spaces deeper.
-pub fn answer<C: Classes>(alloc: Global, text: &str, classes: &C) -> Result<String, AllocError> {
-    let mut lexer = Lexer::new(text, SyntaxMode::Markup, classes);
+pub fn answer<C: Classes>(
+    alloc: Global,
+    text: &str,
+    mode: SyntaxMode,
+    classes: &C,
+) -> Result<String, AllocError> {
+    let mut lexer = Lexer::new(text, mode, classes);
     let mut printed = String::new(alloc);
     for _ in text.as_bytes() {
         let start = lexer.cursor();

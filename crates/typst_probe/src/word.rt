@@ -6,7 +6,7 @@ ghost use Rattle.typst_probe.specs.Words.{printed_by, word_named};
 use crate::{edits, links, notes, spans, stretches, tags, tokens};
 use std::alloc::{AllocError, Global};
 use typst_cli::{Command, tree};
-use typst_parser::UnicodeClasses;
+use typst_parser::{SyntaxMode, UnicodeClasses};
 use typst_test_classes::{Narrow, Wide};
 
 /// What can be asked about a text.
@@ -18,12 +18,16 @@ pub enum Word {
     TreeWide,
     /// The syntax tree, where no character past ASCII has a class.
     TreeNarrow,
+    /// The syntax tree of the text as code.
+    TreeCode,
     /// The tokens of the text as markup.
     Tokens,
     /// The tokens, where nearly all characters past ASCII are letters.
     TokensWide,
     /// The tokens, where no character past ASCII has a class.
     TokensNarrow,
+    /// The tokens of the text as code.
+    TokensCode,
     /// Where the lines of the text start.
     Lines,
     /// The link that the text begins with.
@@ -51,9 +55,11 @@ impl Word {
             "tree" => Some(Word::Tree),
             "tree-wide" => Some(Word::TreeWide),
             "tree-narrow" => Some(Word::TreeNarrow),
+            "tree-code" => Some(Word::TreeCode),
             "tokens" => Some(Word::Tokens),
             "tokens-wide" => Some(Word::TokensWide),
             "tokens-narrow" => Some(Word::TokensNarrow),
+            "tokens-code" => Some(Word::TokensCode),
             "lines" => Some(Word::Lines),
             "link" => Some(Word::Link),
             "stretches" => Some(Word::Stretches),
@@ -74,9 +80,11 @@ impl Word {
             Word::Tree => Command::Tree.answer(alloc, text),
             Word::TreeWide => tree::answer(alloc, text, &Wide),
             Word::TreeNarrow => tree::answer(alloc, text, &Narrow),
-            Word::Tokens => tokens::answer(alloc, text, &UnicodeClasses),
-            Word::TokensWide => tokens::answer(alloc, text, &Wide),
-            Word::TokensNarrow => tokens::answer(alloc, text, &Narrow),
+            Word::TreeCode => tree::answer_code(alloc, text, &UnicodeClasses),
+            Word::Tokens => tokens::answer(alloc, text, SyntaxMode::Markup, &UnicodeClasses),
+            Word::TokensWide => tokens::answer(alloc, text, SyntaxMode::Markup, &Wide),
+            Word::TokensNarrow => tokens::answer(alloc, text, SyntaxMode::Markup, &Narrow),
+            Word::TokensCode => tokens::answer(alloc, text, SyntaxMode::Code, &UnicodeClasses),
             Word::Lines => Command::Lines.answer(alloc, text),
             Word::Link => links::answer(alloc, text),
             Word::Stretches => stretches::answer(alloc, text),

@@ -56,3 +56,7 @@ returns-in-Closing g c l h b = does-next (does-peek _) (at-head c.args.nesting _
 pub returns-in_ok-reference-in-Reference : goal.returns-in_ok-reference-in-Reference
 unfolding markup_expr
 returns-in_ok-reference-in-Reference g c l h b = does-next (does-peek _) (at-head c.args.nesting _ head.Reference (ap (markup_head c.args.at_start c.args.nesting) (sym c.current.ensures) ∙ sym c.markup_head.ensures ∙ c.in-Reference.is) (does-next (c.in_ok-reference-in-Reference.ensures l h b) does-gives))
+
+pub returns-in_ok-embedded-in-Embedded : goal.returns-in_ok-embedded-in-Embedded
+unfolding markup_expr
+returns-in_ok-embedded-in-Embedded g c l h b = does-next (does-peek _) (at-head c.args.nesting _ head.Embedded (ap (markup_head c.args.at_start c.args.nesting) (sym c.current.ensures) ∙ sym c.markup_head.ensures ∙ c.in-Embedded.is) (does-next (c.in_ok-embedded-in-Embedded.ensures l h) does-gives))

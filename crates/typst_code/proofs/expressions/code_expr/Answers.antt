@@ -1,0 +1,18 @@
+use Rattle.std.proofs.Common.{arith}
+use Rattle.typst_machine.proofs.Grows.{grows-init, grows-next, grows-stuck, grows-last}
+use Rattle.typst_code.specs.Expressions.{code_expr}
+use Rattle.typst_code.proofs.expressions.code_expr.Goals as goal
+
+pub turns-init : goal.turns-init
+turns-init g c l h b = grows-init h.sound c.marker-from.ensures.few c.marker-from.ensures.marker (c.in_ok-code_primary.ensures l h b)
+
+pub turns-preserved : goal.turns-preserved
+turns-preserved g c l h b = grows-next h.sound (c.turns.invariant l h b) (rw c.in-Some.is at (c.in_ok-kind.ensures.means l h b)) c.in_ok-wrap.ensures.wrapped (omega arith)
+
+pub returns-then-left-before : goal.returns-then-left-before
+unfolding code_expr
+returns-then-left-before g c l h b = grows-stuck h.sound (c.turns.invariant l h b) (rw c.in-Some.is at (c.in_ok-kind.ensures.means l h b)) c.in_ok-wrap.ensures.wrapped (omega arith)
+
+pub returns-in_default : goal.returns-in_default
+unfolding code_expr
+returns-in_default g c l h b = grows-last h.sound (c.turns.invariant l h b) (rw c.in_default.is at (c.in_ok-kind.ensures.means l h b))

@@ -1,0 +1,12 @@
+use Rattle.std.proofs.Common.{refl, sym}
+use Rattle.typst_kinds.specs.declared.kind.SyntaxKind.TheVariants as kind
+use Rattle.typst_combinators.specs.Shape.{becomes}
+use Rattle.typst_machine.proofs.Steps.{does-next, does-node}
+use Rattle.typst_code.specs.Expressions.{unary_expr}
+use Rattle.typst_code.proofs.expressions.unary_expr.Goals as goal
+
+pub returns : goal.returns
+unfolding unary_expr
+returns g c l h =
+    does-node (λ _. becomes kind.Unary) h.sound c.marker-from.ensures.few c.marker-from.ensures.marker
+    (does-next (c.in_ok-eat.ensures l h) (rw (sym c.precedence.ensures) ((c.in_ok-deeper.ensures tt refl l h).does))) c.in_ok-wrap.ensures.wrapped

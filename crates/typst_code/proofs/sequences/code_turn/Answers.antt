@@ -1,0 +1,18 @@
+use Rattle.typst_combinators.specs.declared.reading.AtNewline.TheVariants as newline
+use Rattle.typst_machine.proofs.Steps.{does-next, does-gives}
+use Rattle.typst_markup.specs.Markup.{at_newline}
+use Rattle.typst_markup.proofs.Asks.{asks-yes, asks-no}
+use Rattle.typst_markup.proofs.Heads.{does-entered}
+use Rattle.typst_code.specs.Sequences.{code_turn}
+use Rattle.typst_code.specs.Stops.{stops_at}
+use Rattle.typst_code.proofs.sequences.code_turn.Goals as goal
+
+pub returns-then-has : goal.returns-then-has
+unfolding code_turn
+returns-then-has g c l h = asks-yes (stops_at c.args.stop) c.current.ensures c.has.ensures c.if-has.true does-gives
+
+pub returns : goal.returns
+unfolding code_turn
+returns g c l h =
+    asks-no (stops_at c.args.stop) c.current.ensures c.has.ensures c.if-has.false
+    (does-next (does-entered (at_newline newline.ContextualContinue) c.enter_rule-outer.ensures.view (c.in_ok-statement.ensures l h) c.enter_rule-outer.ensures.outer (c.in_ok-leave.ensures l h)) does-gives)

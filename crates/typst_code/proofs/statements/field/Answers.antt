@@ -1,0 +1,7 @@
+use Rattle.typst_machine.proofs.Steps.{does-next, does-gives}
+use Rattle.typst_code.specs.Statements.{field}
+use Rattle.typst_code.proofs.statements.field.Goals as goal
+
+pub returns-clause-means : goal.returns-clause-means
+unfolding field
+returns-clause-means g c l h = does-next (c.in_ok-eat.ensures l h) (does-next (c.in_ok-expect_identifier.ensures l h) does-gives)

@@ -1,0 +1,12 @@
+use Rattle.typst_kinds.specs.declared.kind.SyntaxKind.TheVariants as kind
+use Rattle.typst_combinators.specs.Shape.{becomes}
+use Rattle.typst_machine.proofs.Steps.{does-next, does-node}
+use Rattle.std.proofs.Common.{◌∙◌, ap}
+use Rattle.typst_machine.proofs.Steps.{does-peek}
+use Rattle.typst_markup.specs.Starts.{begins_code}
+use Rattle.typst_code.specs.Statements.{func_return}
+use Rattle.typst_code.proofs.statements.func_return.Goals as goal
+
+pub returns : goal.returns
+unfolding func_return
+returns g c l h = does-node (λ _. becomes kind.FuncReturn) h.sound c.marker-from.ensures.few c.marker-from.ensures.marker (does-next (c.in_ok-eat.ensures l h) (does-next (does-peek _) (rw (c.begins_code.ensures ∙ ap begins_code c.current.ensures) at c.in_ok-expression_if.ensures l h))) c.in_ok-wrap.ensures.wrapped

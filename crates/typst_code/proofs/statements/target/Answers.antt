@@ -1,0 +1,19 @@
+use Rattle.std.proofs.Common.{arith}
+use Rattle.typst_machine.proofs.Grows.{grows-init, grows-next, grows-stuck, grows-last}
+use Rattle.typst_machine.proofs.Steps.{does-next, does-gives}
+use Rattle.typst_code.specs.Statements.{target}
+use Rattle.typst_code.proofs.statements.target.Goals as goal
+
+pub turns-init : goal.turns-init
+turns-init g c l h = grows-init h.sound c.marker-from.ensures.few c.marker-from.ensures.marker (does-next (c.in_ok-expect_identifier.ensures l h) does-gives)
+
+pub turns-preserved : goal.turns-preserved
+turns-preserved g c l h = grows-next h.sound (c.turns.invariant l h) (rw c.in-Some.is at (c.in_ok-kind.ensures.means l h)) c.in_ok-wrap.ensures.wrapped (omega arith)
+
+pub returns-then-left-before : goal.returns-then-left-before
+unfolding target
+returns-then-left-before g c l h = grows-stuck h.sound (c.turns.invariant l h) (rw c.in-Some.is at (c.in_ok-kind.ensures.means l h)) c.in_ok-wrap.ensures.wrapped (omega arith)
+
+pub returns-in_default : goal.returns-in_default
+unfolding target
+returns-in_default g c l h = grows-last h.sound (c.turns.invariant l h) (rw c.in_default.is at (c.in_ok-kind.ensures.means l h))

@@ -1,0 +1,15 @@
+use Rattle.typst_combinators.specs.Meaning.{Level}
+use Rattle.typst_ahead.specs.Bytes.{bytes_left}
+use Rattle.typst_machine.specs.View.{Fills}
+use Rattle.typst_combinators.specs.Syntax.{◌>>◌}
+use Rattle.typst_combinators.specs.Syntax.Parser.{gives}
+use Rattle.typst_machine.specs.Expected.{expect_identifier}
+use Rattle.typst_machine.proofs.Grows.{Grows}
+use Rattle.typst_code.specs.Statements.{target_turn}
+use Rattle.typst_code.proofs.statements.target.Given as goal
+
+abbrev pub invariant-turns : goal.invariant-turns
+invariant-turns g l = (v : Level) → Fills v (g.L.Levels.frame l.g) → Grows v (expect_identifier >> gives tt) target_turn l.from l.fn.p tt l.p
+
+abbrev pub decreases-turns : goal.decreases-turns
+decreases-turns g l = bytes_left l.p.place

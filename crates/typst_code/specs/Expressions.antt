@@ -1,0 +1,162 @@
+-- Expressions of code.
+use Rattle.std.specs.Prelude.{ℕ, suc, Bool, true, false, not, ◌&&◌, if◌then◌else◌, nat_lt, List, [], ◌∷◌, Option, Some, None, codes}
+use Rattle.typst_kinds.specs.Kinds.{same}
+use Rattle.typst_kinds.specs.Operators.{binary_of, unary_precedence, binary_precedence, assoc_of}
+use Rattle.typst_kinds.specs.declared.kind.SyntaxKind.{SyntaxKind}
+use Rattle.typst_kinds.specs.declared.kind.SyntaxKind.TheVariants as kind
+use Rattle.typst_kinds.specs.declared.operator.Assoc.TheVariants.{Left, Right}
+use Rattle.typst_kinds.specs.declared.operator.BinOp.{BinOp}
+use Rattle.typst_kinds.specs.declared.operator.BinOp.TheVariants as binary
+use Rattle.typst_kinds.specs.declared.operator.UnOp.{UnOp}
+use Rattle.typst_kinds.specs.declared.operator.UnOp.TheVariants as unary
+use Rattle.typst_combinators.specs.declared.calls.Block.TheVariants as block
+use Rattle.typst_combinators.specs.declared.calls.Call.TheVariants.{CodeExpr}
+use Rattle.typst_combinators.specs.Shape.{Shape, becomes}
+use Rattle.typst_combinators.specs.Shape.Making.{wanted}
+use Rattle.typst_combinators.specs.Syntax.{Parser, ◌>>=◌, ◌>>◌}
+use Rattle.typst_combinators.specs.Syntax.Op.{further}
+use Rattle.typst_combinators.specs.Syntax.Parser.{gives, does, pick}
+use Rattle.typst_combinators.specs.Steps.{peek, eat, eat_making, unexpected, expected, node, grow, read_block}
+use Rattle.typst_combinators.specs.Depth.{deeper}
+use Rattle.typst_code.specs.declared.heads.CodeHead.{CodeHead}
+use Rattle.typst_code.specs.declared.heads.CodeHead.TheVariants as head
+use Rattle.typst_code.specs.declared.heads.CodeTail.{CodeTail}
+use Rattle.typst_code.specs.declared.heads.CodeTail.TheVariants as tail
+use Rattle.typst_code.specs.Arguments.{arguments, calls_directly}
+use Rattle.typst_code.specs.Groups.{group}
+use Rattle.typst_code.specs.Imports.{module_import}
+use Rattle.typst_code.specs.Statements.{field, set_rule, show_rule, contextual, conditional, while_loop, module_include, jump, func_return}
+
+-- ---- what an expression begins with
+
+-- what the token at hand begins. LATER, formulas: `$`. LATER, patterns: `let`, `for`, and `=>` or `=` behind a name or an underscore
+abbrev pub code_head : Bool → SyntaxKind → CodeHead
+code_head atomic kind.Plus = if atomic then head.StrayOperator else head.Unary unary.Pos
+code_head atomic kind.Minus = if atomic then head.StrayOperator else head.Unary unary.Neg
+code_head atomic kind.Not = if atomic then head.StrayOperator else head.Unary unary.Not
+code_head atomic kind.Ident = head.Itself
+code_head atomic kind.Raw = head.Itself
+code_head atomic kind.None = head.Itself
+code_head atomic kind.Auto = head.Itself
+code_head atomic kind.Int = head.Itself
+code_head atomic kind.Float = head.Itself
+code_head atomic kind.Bool = head.Itself
+code_head atomic kind.Numeric = head.Itself
+code_head atomic kind.Str = head.Itself
+code_head atomic kind.Label = head.Itself
+code_head atomic kind.LeftBrace = head.CodeBlock
+code_head atomic kind.LeftBracket = head.ContentBlock
+code_head atomic kind.LeftParen = head.Group
+code_head atomic kind.Set = head.Set
+code_head atomic kind.Show = head.Show
+code_head atomic kind.Context = head.Context
+code_head atomic kind.If = head.If
+code_head atomic kind.While = head.While
+code_head atomic kind.Import = head.Import
+code_head atomic kind.Include = head.Include
+code_head atomic kind.Break = head.Break
+code_head atomic kind.Continue = head.Continue
+code_head atomic kind.Return = head.Return
+code_head atomic kind.Underscore = if atomic then head.Unexpected else head.Placeholder
+code_head atomic _ = if atomic then head.Unexpected else head.Missing
+
+-- an operator and its operand, which binds at least as tightly
+unfoldable pub unary_expr : UnOp → Parser (Unit {0})
+unary_expr op = node (λ _. becomes kind.Unary) (eat >> deeper (CodeExpr false (unary_precedence op)) tt)
+
+-- what is read there
+abbrev pub code_by : Bool → CodeHead → Parser (Unit {0})
+code_by atomic (head.Unary op) = unary_expr op
+code_by atomic head.StrayOperator = unexpected (codes "to use a unary operator here, wrap the entire expression in parentheses" ∷ [])
+code_by atomic head.Itself = eat
+code_by atomic head.Placeholder = eat_making false (wanted (codes "expression"))
+code_by atomic head.CodeBlock = read_block block.Code
+code_by atomic head.ContentBlock = read_block block.Content
+code_by atomic head.Group = group
+code_by atomic head.Set = set_rule
+code_by atomic head.Show = show_rule
+code_by atomic head.Context = contextual atomic
+code_by atomic head.If = conditional
+code_by atomic head.While = while_loop
+code_by atomic head.Import = module_import
+code_by atomic head.Include = module_include
+code_by atomic head.Break = jump kind.LoopBreak
+code_by atomic head.Continue = jump kind.LoopContinue
+code_by atomic head.Return = func_return
+code_by atomic head.Unexpected = unexpected []
+code_by atomic head.Missing = expected (codes "expression")
+
+unfoldable pub code_primary : Bool → Parser (Unit {0})
+code_primary atomic = do
+  ahead ← peek
+  code_by atomic (code_head atomic ahead.kind)
+
+-- ---- what stands behind it
+
+-- a dot stands directly behind it
+abbrev pub dots_directly : SyntaxKind → Bool → Bool
+dots_directly k has_trivia = same kind.Dot k && not has_trivia
+
+-- an operator that binds less tightly than this is left to what stands around
+abbrev pub binary_tail : ℕ → Option BinOp → CodeTail
+binary_tail least None = tail.Nothing
+binary_tail least (Some op) = if nat_lt (binary_precedence op) least then tail.Nothing else tail.Binary op
+
+abbrev pub operator_tail : ℕ → SyntaxKind → CodeTail
+operator_tail least k =
+    if same kind.Dot k then tail.Field
+    else (if same kind.Not k then (if nat_lt (binary_precedence binary.NotIn) least then tail.Nothing else tail.NotIn)
+    else binary_tail least (binary_of k))
+
+-- what takes an expression into its node: an atomic one only what stands directly behind it
+abbrev pub code_tail : Bool → ℕ → SyntaxKind → Bool → CodeTail
+code_tail atomic least k has_trivia =
+    if calls_directly k has_trivia then tail.Call
+    else (if atomic then (if dots_directly k has_trivia then tail.DirectField else tail.Nothing)
+    else operator_tail least k)
+
+-- how tightly a right operand binds at least: as tightly as its operator where that is taken from the right, else more tightly
+abbrev pub operand_least : BinOp → ℕ
+operand_least op = elim (assoc_of op) [ Left ↦ suc (binary_precedence op) | Right ↦ binary_precedence op ]
+
+-- the token of an operator, and its right operand
+unfoldable pub binary_expr : BinOp → Parser (Option Shape × Unit {0})
+binary_expr op = do
+  sign ← eat
+  operand ← deeper (CodeExpr false (operand_least op)) tt
+  gives (Some (becomes kind.Binary), tt)
+
+-- `not` is an operator with `in` behind it
+unfoldable pub not_in : Parser (Option Shape × Unit {0})
+not_in = do
+  sign ← eat
+  ahead ← peek
+  pick (same kind.In ahead.kind) (binary_expr binary.NotIn) (expected (codes "keyword `in`") >> gives (None, tt))
+
+-- a dot belongs to an atomic expression only before an identifier
+unfoldable pub direct_field : Parser (Option Shape × Unit {0})
+direct_field = do
+  behind ← does further
+  pick (same kind.Ident behind) field (gives (None, tt))
+
+-- arguments take what is called into their call
+unfoldable pub call_tail : Parser (Option Shape × Unit {0})
+call_tail = arguments >> gives (Some (becomes kind.FuncCall), tt)
+
+-- what is read there
+abbrev pub tail_by : CodeTail → Parser (Option Shape × Unit {0})
+tail_by tail.Call = call_tail
+tail_by tail.Field = field
+tail_by tail.DirectField = direct_field
+tail_by tail.NotIn = not_in
+tail_by (tail.Binary op) = binary_expr op
+tail_by tail.Nothing = gives (None, tt)
+
+unfoldable pub code_tail_turn : Bool → ℕ → Unit {0} → Parser (Option Shape × Unit {0})
+code_tail_turn atomic least x = do
+  ahead ← peek
+  tail_by (code_tail atomic least ahead.kind ahead.has_trivia)
+
+-- an expression, atomic or not, of operators that bind at least so tightly
+unfoldable pub code_expr : Bool → ℕ → Parser (Unit {0})
+code_expr atomic least = grow (code_primary atomic) (code_tail_turn atomic least)

@@ -1,0 +1,85 @@
+-- Imports.
+use Rattle.std.specs.Prelude.{Bool, true, false, if◌then◌else◌, [], codes}
+use Rattle.typst_kinds.specs.Kinds.{same, is_terminator}
+use Rattle.typst_kinds.specs.declared.kind.SyntaxKind.TheVariants as kind
+use Rattle.typst_combinators.specs.declared.reading.AtNewline.TheVariants as newline
+use Rattle.typst_combinators.specs.Shape.{Shape, becomes}
+use Rattle.typst_combinators.specs.Shape.Change.{stays, turns_wrong}
+use Rattle.typst_combinators.specs.Shape.Shape.{keeps}
+use Rattle.typst_combinators.specs.Syntax.{Parser, ◌>>=◌, ◌>>◌}
+use Rattle.typst_combinators.specs.Syntax.Parser.{gives, pick, repeat}
+use Rattle.typst_combinators.specs.Steps.{peek, eat, eat_if, unexpected, within, node}
+use Rattle.typst_machine.specs.Expected.{expect_identifier}
+use Rattle.typst_markup.specs.Markup.{at_newline}
+use Rattle.typst_code.specs.Groups.{separator}
+use Rattle.typst_code.specs.Sequences.{code_expression}
+
+-- a dot and a name
+unfoldable pub path_turn : Unit {0} → Parser (Bool × Unit {0})
+path_turn x = do
+  dot ← eat_if (same kind.Dot)
+  name ← pick dot expect_identifier (gives false)
+  gives (dot, tt)
+
+-- a name; what stands in its place is unexpected
+unfoldable pub import_name : Parser (Unit {0})
+import_name = do
+  ahead ← peek
+  pick (same kind.Ident ahead.kind) eat (unexpected [])
+
+-- a name, and names behind dots
+unfoldable pub import_path : Parser (Unit {0})
+import_path = node (λ _. becomes kind.ImportItemPath) (import_name >> repeat path_turn tt)
+
+-- `as` and a name; answers whether they came
+unfoldable pub renaming : Parser Bool
+renaming = do
+  renamed ← eat_if (same kind.As)
+  name ← pick renamed expect_identifier (gives false)
+  gives renamed
+
+abbrev pub import_shape : Bool → Shape
+import_shape renamed = if renamed then becomes kind.RenamedImportItem else keeps stays
+
+-- one item, and what separates it from the next, unless the items end
+unfoldable pub import_turn : Unit {0} → Parser (Bool × Unit {0})
+import_turn x = do
+  ahead ← peek
+  pick (is_terminator ahead.kind) (gives (false, tt)) (do
+    renamed ← node import_shape (import_path >> renaming)
+    comma ← separator
+    gives (true, tt))
+
+-- the items that are imported
+unfoldable pub import_items : Parser (Unit {0})
+import_items = node (λ _. becomes kind.ImportItems) (repeat import_turn tt)
+
+-- in parens, of which the first is an error where the second is missing
+abbrev pub parens_shape : Bool → Shape
+parens_shape closed = keeps (if closed then stays else turns_wrong (codes "unclosed delimiter"))
+
+unfoldable pub import_parens : Parser (Unit {0})
+import_parens = do
+  closed ← node parens_shape (within (at_newline newline.Continue) (do
+    paren ← eat
+    items ← import_items
+    eat_if (same kind.RightParen)))
+  gives tt
+
+-- what comes behind the colon: items, in parens or not, or a star
+unfoldable pub imported : Parser (Unit {0})
+imported = do
+  ahead ← peek
+  pick (same kind.LeftParen ahead.kind) import_parens (pick (same kind.Star ahead.kind) eat import_items)
+
+abbrev pub imported_if : Bool → Parser (Unit {0})
+imported_if colon = pick colon imported (gives tt)
+
+-- `import .. as name: ..`
+unfoldable pub module_import : Parser (Unit {0})
+module_import = node (λ _. becomes kind.ModuleImport) (do
+  keyword ← eat
+  source ← code_expression
+  renamed ← renaming
+  colon ← eat_if (same kind.Colon)
+  imported_if colon)

@@ -1,0 +1,29 @@
+-- What productions of code read where blocks may be read.
+use Rattle.std.specs.Prelude.{Result}
+use Rattle.std.specs.declared.alloc.AllocError.{AllocError}
+use Rattle.typst_combinators.specs.declared.calls.Block.TheVariants as block
+use Rattle.typst_combinators.specs.declared.calls.Call.{Call}
+use Rattle.typst_combinators.specs.Calls.{Answer}
+use Rattle.typst_combinators.specs.Meaning.{Level}
+use Rattle.typst_combinators.specs.Syntax.{Parser}
+use Rattle.typst_machine.specs.declared.depth.Answered.{Answered}
+use Rattle.typst_machine.specs.View.{View, Frame, Fills, ReadsBlock, Reads, ReadsAs, ReadsBy}
+use Rattle.typst_markup.specs.Markup.{content_block}
+use Rattle.typst_code.specs.Sequences.{code_block}
+
+-- each block may be read there
+pub record Blocks (l : Level) : Type 0 where
+  pub content : ReadsBlock l block.Content content_block
+  pub code : ReadsBlock l block.Code code_block
+
+-- what the code reads where no block is being read
+abbrev pub MeansAround : {A : Type 0} → Frame → Parser A → View → Result A AllocError → View → Type 0
+MeansAround f q old r new = (l : Level) → Fills l f → Blocks l → Reads l q old r new
+
+-- the same where the code answers in its own terms
+abbrev pub MeansAroundBy : {A B : Type 0} → Frame → (B → A) → Parser A → View → Result B AllocError → View → Type 0
+MeansAroundBy f told q old r new = (l : Level) → Fills l f → Blocks l → ReadsBy l told q old r new
+
+-- the same of what answers as a call
+abbrev pub MeansAroundAs : Frame → (call : Call) → Parser (Answer call) → View → Result Answered AllocError → View → Type 0
+MeansAroundAs f call q old r new = (l : Level) → Fills l f → Blocks l → ReadsAs l call q old r new

@@ -1,0 +1,110 @@
+-- Statements, and what else a keyword begins.
+use Rattle.std.specs.Prelude.{Bool, true, false, not, if◌then◌else◌, Option, Some, None, codes}
+use Rattle.typst_kinds.specs.Kinds.{same}
+use Rattle.typst_kinds.specs.declared.kind.SyntaxKind.{SyntaxKind}
+use Rattle.typst_kinds.specs.declared.kind.SyntaxKind.TheVariants as kind
+use Rattle.typst_combinators.specs.declared.calls.Block.TheVariants as block
+use Rattle.typst_combinators.specs.declared.calls.Call.TheVariants.{CodeExpr}
+use Rattle.typst_combinators.specs.Shape.{Shape, becomes}
+use Rattle.typst_combinators.specs.Shape.Shape.{lacks}
+use Rattle.typst_combinators.specs.Syntax.{Parser, ◌>>=◌, ◌>>◌}
+use Rattle.typst_combinators.specs.Syntax.Parser.{gives, pick}
+use Rattle.typst_combinators.specs.Steps.{peek, eat, eat_if, expected, node, grow, nest, read_block}
+use Rattle.typst_combinators.specs.Depth.{deeper}
+use Rattle.typst_machine.specs.Expected.{expect_identifier}
+use Rattle.typst_markup.specs.Starts.{begins_code}
+use Rattle.typst_code.specs.Arguments.{arguments}
+use Rattle.typst_code.specs.Sequences.{code_expression}
+
+-- an expression, where something was taken that asks for one
+abbrev pub expression_if : Bool → Parser (Unit {0})
+expression_if asked = pick asked code_expression (gives tt)
+
+-- `{ .. }` or `[ .. ]`
+unfoldable pub any_block : Parser (Unit {0})
+any_block = do
+  ahead ← peek
+  pick (same kind.LeftBracket ahead.kind) (read_block block.Content)
+      (pick (same kind.LeftBrace ahead.kind) (read_block block.Code) (expected (codes "block")))
+
+-- a dot and a name behind it take what stands to their left into a field access
+unfoldable pub field : Parser (Option Shape × Unit {0})
+field = do
+  dot ← eat
+  name ← expect_identifier
+  gives (Some (becomes kind.FieldAccess), tt)
+
+unfoldable pub target_turn : Unit {0} → Parser (Option Shape × Unit {0})
+target_turn x = do
+  ahead ← peek
+  pick (same kind.Dot ahead.kind) field (gives (None, tt))
+
+-- a name, and names behind dots
+unfoldable pub target : Parser (Unit {0})
+target = grow (expect_identifier >> gives tt) target_turn
+
+-- `set text(..)`, and `if` with a condition behind it
+unfoldable pub set_rule : Parser (Unit {0})
+set_rule = node (λ _. becomes kind.SetRule) (do
+  keyword ← eat
+  name ← target
+  given ← arguments
+  conditional ← eat_if (same kind.If)
+  expression_if conditional)
+
+-- `show .. : ..`, where the colon has to come; what stands before it may be missing
+abbrev pub show_shape : Bool → Shape
+show_shape colon = if colon then becomes kind.ShowRule else lacks 1 (codes "expected colon") kind.ShowRule
+
+unfoldable pub show_rule : Parser (Unit {0})
+show_rule = do
+  colon ← node show_shape (do
+    keyword ← eat
+    ahead ← peek
+    shown ← expression_if (not (same kind.Colon ahead.kind))
+    colon ← eat_if (same kind.Colon)
+    transform ← expression_if colon
+    gives colon)
+  gives tt
+
+-- `context ..`
+unfoldable pub contextual : Bool → Parser (Unit {0})
+contextual atomic = node (λ _. becomes kind.Contextual) (eat >> deeper (CodeExpr atomic 0) tt)
+
+-- what comes behind `else`, unless it is another `if`; answers whether that comes
+unfoldable pub other_branch : Parser (Bool × Unit {0})
+other_branch = do
+  ahead ← peek
+  pick (same kind.If ahead.kind) (gives (true, tt)) (any_block >> gives (false, tt))
+
+-- `if .. { .. }`; answers whether `else if` came, of which `else` is taken
+unfoldable pub conditional_turn : Unit {0} → Parser (Bool × Unit {0})
+conditional_turn x = do
+  keyword ← eat
+  condition ← code_expression
+  body ← any_block
+  other ← eat_if (same kind.Else)
+  pick other other_branch (gives (false, tt))
+
+-- `if .. { .. } else if .. { .. } else { .. }`, each within the one before it
+unfoldable pub conditional : Parser (Unit {0})
+conditional = nest (λ _. becomes kind.Conditional) conditional_turn tt
+
+-- `while .. { .. }`. LATER, patterns: `for .. in .. { .. }`, and `let`
+unfoldable pub while_loop : Parser (Unit {0})
+while_loop = node (λ _. becomes kind.WhileLoop) (eat >> code_expression >> any_block)
+
+-- `include ..`
+unfoldable pub module_include : Parser (Unit {0})
+module_include = node (λ _. becomes kind.ModuleInclude) (eat >> code_expression)
+
+-- `break`, `continue`
+unfoldable pub jump : SyntaxKind → Parser (Unit {0})
+jump k = node (λ _. becomes k) eat
+
+-- `return`, with an expression where one comes
+unfoldable pub func_return : Parser (Unit {0})
+func_return = node (λ _. becomes kind.FuncReturn) (do
+  keyword ← eat
+  ahead ← peek
+  expression_if (begins_code ahead.kind))

@@ -1,0 +1,201 @@
+//! Groups, arrays and dictionaries.
+
+ghost use Rattle.std.specs.Prelude.{◌≡◌, OnOk, false};
+ghost use Rattle.typst_kinds.specs.Kinds.{is_error};
+ghost use Rattle.typst_combinators.specs.Shape.Shape.{holds};
+ghost use Rattle.typst_combinators.specs.Syntax.Parser.{repeat};
+ghost use Rattle.typst_shapes.specs.Changes.{IsFine, meant};
+ghost use Rattle.typst_machine.specs.View.{Means, Rewrapped};
+ghost use Rattle.typst_code.specs.Groups as spec;
+
+use typst_keys::{Key, Names, key_of};
+use crate::listing::Items;
+use crate::sequences::code_expression;
+use std::alloc::AllocError;
+use typst_combinators::AtNewline;
+use typst_kinds::SyntaxKind;
+use typst_machine::{Change, Levels, Parser};
+use typst_markup::begins_code;
+
+/// Whether an item begins at this token.
+pub(crate) fn begins_item(kind: SyntaxKind) -> bool
+    ensures { result ≡ spec.begins_item kind }
+{
+    kind == SyntaxKind::Dots || begins_code(kind)
+}
+
+/// `..` and an expression.
+pub(crate) fn spread<L: Levels>(g: &L, p: &mut Parser<'_>) -> Result<(), AllocError>
+    requires { L.may_call g.now }
+    ensures { Means (L.frame g.now) spec.spread p.old result p.new }
+{
+    let from = p.marker();
+    p.eat(g)?;
+    code_expression(g, p)?;
+    p.wrap(from, SyntaxKind::Spread)?;
+    Ok(())
+}
+
+/// Reads an expression, and behind a colon another one; answers the first as a key where one came.
+pub(crate) fn pair<L: Levels>(g: &L, p: &mut Parser<'_>) -> Result<Option<Key>, AllocError>
+    requires { L.may_call g.now }
+    ensures { Means (L.frame g.now) spec.pair p.old result p.new }
+{
+    let from = p.marker();
+    code_expression(g, p)?;
+    p.change(from, Change::Stays)?;
+    if p.current() != SyntaxKind::Colon {
+        return Ok(None);
+    }
+    let key = key_of(p.alloc(), p.given_since(from))?;
+    p.eat(g)?;
+    code_expression(g, p)?;
+    Ok(Some(key))
+}
+
+/// Reads the comma between two items; answers whether it came.
+pub(crate) fn separator<L: Levels>(g: &L, p: &mut Parser<'_>) -> Result<bool, AllocError>
+    ensures { Means (L.frame g.now) spec.separator p.old result p.new }
+{
+    if p.current().is_terminator() {
+        return Ok(false);
+    }
+    Ok(p.expects(p.current() == SyntaxKind::Comma, "comma", g)?)
+}
+
+/// Makes a pair of an item that has a key.
+fn wrap_item(
+    p: &mut Parser<'_>,
+    from: usize,
+    keys: &Names,
+    key: &Option<Key>,
+) -> Result<(), AllocError>
+    ensures { OnOk result (Rewrapped from (spec.item_shape keys.now key.now) p.old p.new) }
+{
+    match key {
+        None => p.change(from, Change::Stays)?,
+        Some(Key::Name(name)) => wrap_pair(p, from, keys, name.as_str(), SyntaxKind::Named)?,
+        Some(Key::Str(text)) => wrap_pair(p, from, keys, text.as_str(), SyntaxKind::Keyed)?,
+        Some(Key::Other) => p.wrap_changed(from, Change::Stays, SyntaxKind::Keyed)?,
+    }
+    Ok(())
+}
+
+/// Makes a pair, of which the first is an error where its key was seen.
+fn wrap_pair(
+    p: &mut Parser<'_>,
+    from: usize,
+    keys: &Names,
+    key: &str,
+    kind: SyntaxKind,
+) -> Result<(), AllocError>
+    requires { is_error kind ≡ false }
+    ensures { OnOk result (Rewrapped from (holds (spec.when_seen keys.now key.now) kind) p.old p.new) }
+{
+    if !keys.has(key) {
+        p.wrap_changed(from, Change::Stays, kind)?;
+        return Ok(());
+    }
+    let message = format!(in p.alloc(); "duplicate key: {key}")?;
+    p.wrap_changed(from, Change::TurnsWrong(message.as_str()), kind)?;
+    Ok(())
+}
+
+/// What an item becomes that doesn't fit the others.
+fn misfit(are_pairs: Option<bool>, is_pair: bool) -> Change<'static>
+    ensures meant { meant result ≡ spec.misfit are_pairs is_pair }
+    ensures fine { IsFine result }
+{
+    match are_pairs {
+        Some(true) if !is_pair => Change::IsNot("named or keyed pair"),
+        Some(false) if is_pair => Change::IsNot("expression"),
+        _ => Change::Stays,
+    }
+}
+
+/// Reads one item.
+fn item<L: Levels>(g: &L, p: &mut Parser<'_>, items: Items) -> Result<Items, AllocError>
+    requires { L.may_call g.now }
+    ensures { Means (L.frame g.now) (spec.item items) p.old result p.new }
+{
+    if p.current() == SyntaxKind::Dots {
+        spread(g, p)?;
+        return Ok(items.with_spread());
+    }
+    let from = p.marker();
+    let key = pair(g, p)?;
+    wrap_item(p, from, &items.keys, &key)?;
+    p.change(from, misfit(items.are_pairs, key.is_some()))?;
+    Ok(items.with_item(&key)?)
+}
+
+/// Reads an item and what separates it from the next, unless the list ends; answers whether it did.
+fn group_turn<L: Levels>(
+    g: &L,
+    p: &mut Parser<'_>,
+    items: Items,
+) -> Result<(bool, Items), AllocError>
+    requires { L.may_call g.now }
+    ensures { Means (L.frame g.now) (spec.group_turn items) p.old result p.new }
+{
+    if p.current().is_terminator() {
+        return Ok((false, items));
+    }
+    if !begins_item(p.current()) {
+        p.unexpected(g)?;
+        return Ok((true, items));
+    }
+    let more = item(g, p, items)?;
+    let comma = separator(g, p)?;
+    Ok((true, more.with_comma(comma)))
+}
+
+/// Reads the items in parens.
+fn group_items<L: Levels>(g: &L, p: &mut Parser<'_>, items: Items) -> Result<Items, AllocError>
+    requires { L.may_call g.now }
+    ensures { Means (L.frame g.now) (repeat spec.group_turn items) p.old result p.new }
+{
+    let mut items = items;
+    'turns: loop {
+        let before = p.left();
+        let (more, next) = group_turn(g, p, items)?;
+        items = next;
+        if !more || p.left() >= before {
+            return Ok(items);
+        }
+    }
+}
+
+/// `( .. )`
+pub(crate) fn group<L: Levels>(g: &L, p: &mut Parser<'_>) -> Result<(), AllocError>
+    requires { L.may_call g.now }
+    ensures { Means (L.frame g.now) spec.group p.old result p.new }
+{
+    let from = p.marker();
+    let outer = p.enter_rule(AtNewline::Continue);
+    p.eat(g)?;
+    let colon = p.eat_if(p.current() == SyntaxKind::Colon, g)?;
+    let items = group_items(g, p, Items::new(p.alloc(), colon))?;
+    let closed = p.eat_if(p.current() == SyntaxKind::RightParen, g)?;
+    p.leave(outer, g)?;
+    wrap_group(p, from, closed, items.kind())?;
+    Ok(())
+}
+
+/// Makes one node of what stands in parens, where the second may be missing.
+fn wrap_group(
+    p: &mut Parser<'_>,
+    from: usize,
+    closed: bool,
+    kind: SyntaxKind,
+) -> Result<(), AllocError>
+    requires { is_error kind ≡ false }
+    ensures { OnOk result (Rewrapped from (spec.group_shape (closed, kind)) p.old p.new) }
+{
+    if closed {
+        p.wrap(from, kind)?;
+        return Ok(());
+    }
+    p.wrap_unclosed(from, kind)?;
+    Ok(())
+}

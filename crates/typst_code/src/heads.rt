@@ -1,0 +1,170 @@
+//! What a token of code begins, and what it takes into its node.
+
+ghost use Rattle.std.specs.Prelude.{◌≡◌};
+ghost use Rattle.typst_code.specs.Arguments as arguments;
+ghost use Rattle.typst_code.specs.Expressions as spec;
+
+use typst_kinds::{BinOp, SyntaxKind, UnOp};
+
+/// What a token begins where an expression of code is read.
+#[derive(Debug, Clone, Copy, PartialEq, Eq)]
+pub enum CodeHead {
+    /// An operator and its operand.
+    Unary(UnOp),
+    /// An operator, which an atomic expression can't begin with.
+    StrayOperator,
+    /// A node of its own.
+    Itself,
+    /// An underscore, which is no expression.
+    Placeholder,
+    /// `{ .. }`
+    CodeBlock,
+    /// `[ .. ]`
+    ContentBlock,
+    /// `( .. )`
+    Group,
+    /// `set ..`
+    Set,
+    /// `show ..`
+    Show,
+    /// `context ..`
+    Context,
+    /// `if ..`
+    If,
+    /// `while ..`
+    While,
+    /// `import ..`
+    Import,
+    /// `include ..`
+    Include,
+    /// `break`
+    Break,
+    /// `continue`
+    Continue,
+    /// `return ..`
+    Return,
+    /// Nothing, and it is taken.
+    Unexpected,
+    /// Nothing, and it stays.
+    Missing,
+}
+
+/// What a token takes an expression that stands before it into.
+#[derive(Debug, Clone, Copy, PartialEq, Eq)]
+pub enum CodeTail {
+    /// A call, with arguments directly behind it.
+    Call,
+    /// A field access.
+    Field,
+    /// The same, if an identifier stands directly behind the dot.
+    DirectField,
+    /// An operator of two words, if `in` comes behind `not`.
+    NotIn,
+    /// An operator.
+    Binary(BinOp),
+    /// Nothing.
+    Nothing,
+}
+
+/// What the token begins, in an atomic expression or in another.
+pub(crate) fn code_head(atomic: bool, kind: SyntaxKind) -> CodeHead
+    ensures { result ≡ spec.code_head atomic kind }
+{
+    match kind {
+        SyntaxKind::Plus if !atomic => CodeHead::Unary(UnOp::Pos),
+        SyntaxKind::Minus if !atomic => CodeHead::Unary(UnOp::Neg),
+        SyntaxKind::Not if !atomic => CodeHead::Unary(UnOp::Not),
+        SyntaxKind::Plus | SyntaxKind::Minus | SyntaxKind::Not => CodeHead::StrayOperator,
+        SyntaxKind::Ident
+        | SyntaxKind::Raw
+        | SyntaxKind::None
+        | SyntaxKind::Auto
+        | SyntaxKind::Int
+        | SyntaxKind::Float
+        | SyntaxKind::Bool
+        | SyntaxKind::Numeric
+        | SyntaxKind::Str
+        | SyntaxKind::Label => CodeHead::Itself,
+        SyntaxKind::LeftBrace => CodeHead::CodeBlock,
+        SyntaxKind::LeftBracket => CodeHead::ContentBlock,
+        SyntaxKind::LeftParen => CodeHead::Group,
+        SyntaxKind::Set => CodeHead::Set,
+        SyntaxKind::Show => CodeHead::Show,
+        SyntaxKind::Context => CodeHead::Context,
+        SyntaxKind::If => CodeHead::If,
+        SyntaxKind::While => CodeHead::While,
+        SyntaxKind::Import => CodeHead::Import,
+        SyntaxKind::Include => CodeHead::Include,
+        SyntaxKind::Break => CodeHead::Break,
+        SyntaxKind::Continue => CodeHead::Continue,
+        SyntaxKind::Return => CodeHead::Return,
+        SyntaxKind::Underscore if !atomic => CodeHead::Placeholder,
+        _ if atomic => CodeHead::Unexpected,
+        _ => CodeHead::Missing,
+    }
+}
+
+/// Whether arguments begin at this token.
+pub(crate) fn opens_arguments(kind: SyntaxKind) -> bool
+    ensures { result ≡ arguments.opens_arguments kind }
+{
+    kind == SyntaxKind::LeftParen || kind == SyntaxKind::LeftBracket
+}
+
+/// What takes an expression into its node, which is atomic or whose operators bind at least so
+/// tightly: a token behind trivia or directly behind it.
+pub(crate) fn code_tail(atomic: bool, least: u8, kind: SyntaxKind, has_trivia: bool) -> CodeTail
+    ensures { result ≡ spec.code_tail atomic least kind has_trivia }
+{
+    if calls_directly(kind, has_trivia) {
+        return CodeTail::Call;
+    }
+    if !atomic {
+        return operator_tail(least, kind);
+    }
+    if dots_directly(kind, has_trivia) {
+        return CodeTail::DirectField;
+    }
+    CodeTail::Nothing
+}
+
+/// Whether arguments begin directly behind an expression.
+pub(crate) fn calls_directly(kind: SyntaxKind, has_trivia: bool) -> bool
+    ensures { result ≡ arguments.calls_directly kind has_trivia }
+{
+    opens_arguments(kind) && !has_trivia
+}
+
+/// Whether a dot stands directly behind it.
+fn dots_directly(kind: SyntaxKind, has_trivia: bool) -> bool
+    ensures { result ≡ spec.dots_directly kind has_trivia }
+{
+    kind == SyntaxKind::Dot && !has_trivia
+}
+
+/// What takes an expression into its node that isn't atomic.
+fn operator_tail(least: u8, kind: SyntaxKind) -> CodeTail
+    ensures { result ≡ spec.operator_tail least kind }
+{
+    if kind == SyntaxKind::Dot {
+        return CodeTail::Field;
+    }
+    if kind != SyntaxKind::Not {
+        return binary_tail(least, BinOp::from_kind(kind));
+    }
+    if BinOp::NotIn.precedence() < least {
+        return CodeTail::Nothing;
+    }
+    CodeTail::NotIn
+}
+
+/// An operator that binds at least so tightly, if it is one.
+fn binary_tail(least: u8, op: Option<BinOp>) -> CodeTail
+    ensures { result ≡ spec.binary_tail least op }
+{
+    match op {
+        Some(op) if op.precedence() < least => CodeTail::Nothing,
+        Some(op) => CodeTail::Binary(op),
+        None => CodeTail::Nothing,
+    }
+}

@@ -1,0 +1,97 @@
+//! What the items in parens were found to be.
+
+ghost use Rattle.std.specs.Prelude.{◌≡◌, Some, IfOk, OnOk, IsTrue, false};
+ghost use Rattle.typst_kinds.specs.Kinds.{is_error};
+ghost use Rattle.typst_code.specs.Groups as spec;
+
+use typst_keys::{Key, Names};
+use std::alloc::{AllocError, Global};
+use typst_kinds::SyntaxKind;
+
+/// What the items in parens were found to be so far.
+#[derive(Drop)]
+pub struct Items {
+    /// Whether there is any.
+    pub any: bool,
+    /// Whether they may be one expression in parens: no comma, no spread, no pair, no second item.
+    pub is_plain: bool,
+    /// Whether they are pairs, once that is decided.
+    pub are_pairs: Option<bool>,
+    /// The keys that were seen.
+    pub keys: Names,
+}
+
+impl Items {
+    /// No items; a colon first makes them a dictionary's.
+    pub(crate) fn new(alloc: Global, colon: bool) -> Items
+        ensures { result ≡ spec.no_items colon }
+    {
+        Items {
+            any: false,
+            is_plain: true,
+            are_pairs: if colon { Some(true) } else { None },
+            keys: Names::new(alloc),
+        }
+    }
+
+    /// With a spread.
+    pub(crate) fn with_spread(self) -> Items
+        ensures { result ≡ spec.with_spread self }
+    {
+        let mut items = self;
+        items.any = true;
+        items.is_plain = false;
+        items
+    }
+
+    /// With an item, which has a key where it is a pair.
+    pub(crate) fn with_item(self, key: &Option<Key>) -> Result<Items, AllocError>
+        ensures { IfOk result (λ items. items ≡ spec.with_item self key.now) }
+    {
+        let mut items = self;
+        items.is_plain = items.is_plain && !items.any && key.is_none();
+        items.any = true;
+        if items.are_pairs.is_none() {
+            items.are_pairs = Some(key.is_some());
+        }
+        if let Some(key) = key {
+            add_key(&mut items.keys, key)?;
+        }
+        Ok(items)
+    }
+
+    /// With a comma behind the last, if there is one.
+    pub(crate) fn with_comma(self, comma: bool) -> Items
+        ensures { result ≡ spec.with_comma comma self }
+    {
+        let mut items = self;
+        items.is_plain = items.is_plain && !comma;
+        items
+    }
+
+    /// What all of them make.
+    pub(crate) fn kind(&self) -> SyntaxKind
+        ensures kind { result ≡ spec.group_kind self.now }
+        ensures fine { is_error result ≡ false }
+    {
+        if self.any && self.is_plain {
+            return SyntaxKind::Parenthesized;
+        }
+        match self.are_pairs {
+            Some(true) => SyntaxKind::Dict,
+            Some(false) => SyntaxKind::Array,
+            None => SyntaxKind::Array,
+        }
+    }
+}
+
+fn add_key(keys: &mut Names, key: &Key) -> Result<(), AllocError>
+    ensures { OnOk result (keys.new ≡ spec.with_key keys.old key.now) }
+{
+    match key {
+        Key::Name(name) => keys.add(name.as_str())?,
+        Key::Str(text) => keys.add(text.as_str())?,
+        Key::Other => {}
+    }
+    Ok(())
+}

@@ -1,0 +1,38 @@
+//! Where sequences of code stop.
+
+ghost use Rattle.std.specs.Prelude.{◌≡◌};
+ghost use Rattle.typst_code.specs.Sequences as spec;
+ghost use Rattle.typst_code.specs.Stops.{stops_at};
+
+use typst_kinds::SyntaxKind;
+use typst_machine::{Stops, is_end};
+
+/// At which tokens a sequence stops.
+#[derive(Debug, Clone, Copy, PartialEq, Eq)]
+pub enum CodeStop {
+    /// At the end of what may be read.
+    End,
+    /// There, and at what closes a code block or stands around it.
+    Block,
+}
+
+impl Stops for CodeStop {
+    ghost at = { stops_at };
+
+    fn has(&self, kind: SyntaxKind) -> bool {
+        match self {
+            CodeStop::End => is_end(kind),
+            CodeStop::Block => ends_code(kind),
+        }
+    }
+}
+
+/// Whether a code block ends at this token.
+fn ends_code(kind: SyntaxKind) -> bool
+    ensures { result ≡ spec.ends_code kind }
+{
+    kind == SyntaxKind::RightBrace
+        || kind == SyntaxKind::RightBracket
+        || kind == SyntaxKind::RightParen
+        || is_end(kind)
+}

@@ -1,0 +1,94 @@
+//! Names of arguments, and keys of pairs.
+
+ghost use Rattle.std.specs.Prelude.{◌≡◌, [], IfOk, OnOk, map};
+ghost use Rattle.typst_combinators.specs.Shape.{seen};
+ghost use Rattle.typst_keys.specs.Keys as spec;
+
+use crate::escapes::string_key;
+use std::alloc::{AllocError, Global};
+use std::marker::Model;
+use typst_kinds::SyntaxKind;
+use typst_node::SyntaxNode;
+use typst_node_data::Text;
+
+/// What stands before the colon of a pair.
+#[derive(Drop)]
+pub enum Key {
+    /// An identifier of this name.
+    Name(Text),
+    /// A string of this key.
+    Str(Text),
+    /// Nothing that names something.
+    Other,
+}
+
+/// What the first of some nodes is as a key.
+pub fn key_of(alloc: Global, nodes: &[SyntaxNode]) -> Result<Key, AllocError>
+    ensures { IfOk result (λ key. key ≡ spec.key_of (map seen nodes.now)) }
+{
+    if nodes.is_empty() {
+        return Ok(Key::Other);
+    }
+    Ok(key_of_one(alloc, &nodes[0])?)
+}
+
+fn key_of_one(alloc: Global, node: &SyntaxNode) -> Result<Key, AllocError>
+    ensures { IfOk result (λ key. key ≡ spec.key_of_one (seen node.now)) }
+{
+    if node.is_inner() {
+        return Ok(Key::Other);
+    }
+    if node.kind() == SyntaxKind::Ident {
+        return Ok(Key::Name(Text::new(alloc, node.leaf_text())?));
+    }
+    if node.kind() == SyntaxKind::Str {
+        return Ok(Key::Str(string_key(alloc, node.leaf_text())?));
+    }
+    Ok(Key::Other)
+}
+
+/// The names that were seen.
+#[derive(Drop)]
+pub struct Names {
+    alloc: Global,
+    names: Vec<Text>,
+}
+
+impl Model for Names {
+    ghost use Rattle.std.specs.Prelude.{List, ℕ};
+
+    ghost Value = { List (List ℕ) };
+
+    ghost view = { λ n. n.names.items };
+}
+
+impl Names {
+    /// None.
+    pub fn new(alloc: Global) -> Names
+        ensures { result ≡ [] }
+    {
+        Names {
+            alloc,
+            names: Vec::new(alloc),
+        }
+    }
+
+    /// Whether the name is one of them.
+    pub fn has(&self, name: &str) -> bool
+        ensures { result ≡ spec.has_name self.now name.now }
+    {
+        self.names.as_slice().iter().any(|n| n.as_str() == name)
+    }
+
+    /// Adds the name, unless it is one of them.
+    pub fn add(&mut self, name: &str) -> Result<(), AllocError>
+        ensures { OnOk result (self.new ≡ spec.with_name self.old name.now) }
+    {
+        if self.has(name) {
+            return Ok(());
+        }
+        let name = Text::new(self.alloc, name)?;
+        self.names.push(name)?;
+        Ok(())
+    }
+}

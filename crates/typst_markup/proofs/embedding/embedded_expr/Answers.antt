@@ -1,0 +1,18 @@
+use Rattle.std.proofs.Common.{◌∙◌, ap, refl, sym}
+use Rattle.typst_combinators.specs.Meaning.{Level}
+use Rattle.typst_machine.specs.View.{Does}
+use Rattle.typst_markup.specs.Embedded.{embedded_expr, embedded_end, is_bare}
+use Rattle.typst_markup.specs.Starts.{begins_statement}
+use Rattle.typst_machine.proofs.Steps.{does-next, does-peek, does-pick, does-other}
+use Rattle.typst_markup.proofs.embedding.embedded_expr.Goals as goal
+
+pub returns-then-is_bare : goal.returns-then-is_bare
+unfolding embedded_expr
+returns-then-is_bare g c l h =
+    does-next (does-peek _) (does-pick (rw (sym c.current.ensures, sym c.had_trivia.ensures) (sym c.is_bare.ensures ∙ c.if-is_bare.true)) (c.in_ok-expected.ensures l h))
+
+pub returns : goal.returns
+unfolding embedded_expr
+returns g c l h =
+    does-next (does-peek _) (does-other (rw (sym c.current.ensures, sym c.had_trivia.ensures) (sym c.is_bare.ensures ∙ c.if-is_bare.false))
+    (does-next ((c.in_ok-deeper.ensures tt refl l h).does) (rw (sym (c.begins_statement-is_statement.ensures ∙ ap begins_statement c.current-2.ensures)) (c.in_ok-embedded_end.ensures l h))))
