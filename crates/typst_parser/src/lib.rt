@@ -23,7 +23,7 @@ pub use typst_highlight::{Tag, highlight, highlight_html};
 pub use typst_lexer::{Classes, MathClass, UnicodeClasses, is_id_continue, is_id_start, is_ident};
 pub use typst_lines::{Line, Lines, Text, is_newline, split_newlines};
 pub use typst_links::{is_valid_label_literal_id, link_prefix};
-pub use typst_source::{Source, parse};
+pub use typst_source::{Source, parse, parse_code};
 pub use typst_tree::{
     Assoc, BinOp, Diagnostic, FileId, Hint, LinkedChildren, LinkedNode, Severity, SourceError,
     Span, SpanNumber, SubRange, SyntaxKind, SyntaxMode, SyntaxNode, SyntaxSet, UnOp, is_ordered,

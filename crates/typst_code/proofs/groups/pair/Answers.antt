@@ -9,7 +9,7 @@ use Rattle.typst_markup.proofs.Asks.{asks-yes, asks-no}
 use Rattle.typst_markup.proofs.Heads.{does-value}
 use Rattle.typst_code.specs.Groups.{pair}
 use Rattle.typst_keys.specs.Keys.{key_of}
-use Rattle.typst_code.proofs.Seeing.{does-seeing}
+use Rattle.typst_machine.proofs.Changes.{does-seeing}
 use Rattle.typst_code.proofs.groups.pair.Goals as goal
 
 pub returns-then-ne : goal.returns-then-ne
