@@ -1,6 +1,5 @@
-use crate::trees::{END, Row, has_numbers, leaves, number, numbers, replace, tree};
+use crate::trees::{END, Row, has_numbers, leaves, many, number, numbered, numbers, replace, tree};
 use std::alloc::{AllocError, Global};
-use std::test::Fail;
 use typst_kinds::{SourceError, SyntaxKind};
 use typst_node::SyntaxNode;
 
@@ -16,14 +15,25 @@ const RANGES: [(u64, u64, Result<(), SourceError>, [u64; 2]); 3] = [
     (2, END, Ok(()), [17592186044417, 52776558133248]),
 ];
 
+/// Whether numbering a tree within this range is answered so and gives these numbers.
+fn gets_numbers(
+    alloc: Global,
+    rows: &[Row],
+    (start, end): (u64, u64),
+    answer: Result<(), SourceError>,
+    want: &[u64],
+) -> Result<bool, AllocError> {
+    let mut node = tree(alloc, rows)?;
+    let answered = number(&mut node, start, end) == answer;
+    Ok(answered && has_numbers(alloc, &node, want)?)
+}
+
 #[test]
-fn a_leaf_under_markup(rt: HostRuntime) -> Result<(), Fail> {
+fn a_leaf_under_markup(rt: HostRuntime) {
     for (start, end, answer, want) in RANGES {
-        let mut node = tree(rt.alloc(), &A_UNDER_MARKUP)?;
-        assert!(rt; number(&mut node, start, end) == answer, "below {end}");
-        assert!(rt; has_numbers(rt.alloc(), &node, &want)?, "below {end}");
+        let got = gets_numbers(rt.alloc(), &A_UNDER_MARKUP, (start, end), answer, &want);
+        assert!(rt; got == Ok(true));
     }
-    Ok(())
 }
 
 /// Whether replacing the only leaf by leaves of these kinds is answered so, where two nodes have
@@ -33,20 +43,19 @@ fn answers(
     kinds: &[SyntaxKind],
     answer: Result<(), SourceError>,
 ) -> Result<bool, AllocError> {
+    let new = leaves(alloc, kinds)?;
     let mut node = tree(alloc, &A_UNDER_MARKUP)?;
     let numbered = number(&mut node, 2, 4).is_ok();
-    let new = leaves(alloc, kinds)?;
     let answered = replace(&mut node, &[], 0, 1, new) == answer;
     Ok(numbered && answered && has_numbers(alloc, &node, &[2, 3])?)
 }
 
 #[test]
-fn two_numbers_are_enough_for_two_nodes(rt: HostRuntime) -> Result<(), Fail> {
+fn two_numbers_are_enough_for_two_nodes(rt: HostRuntime) {
     let one = [SyntaxKind::Space];
-    assert!(rt; answers(rt.alloc(), &one, Ok(()))?);
+    assert!(rt; answers(rt.alloc(), &one, Ok(())) == Ok(true));
     let two = [SyntaxKind::Space, SyntaxKind::Shorthand];
-    assert!(rt; answers(rt.alloc(), &two, Err(SourceError::SpanNumbers))?);
-    Ok(())
+    assert!(rt; answers(rt.alloc(), &two, Err(SourceError::SpanNumbers)) == Ok(true));
 }
 
 // `a *b* c`, as the Rust original numbers it.
@@ -77,11 +86,9 @@ const ORIGINAL_NUMBERS: [u64; 10] = [
 ];
 
 #[test]
-fn numbers_of_the_original(rt: HostRuntime) -> Result<(), Fail> {
-    let mut node = tree(rt.alloc(), &ORIGINAL)?;
-    assert!(rt; number(&mut node, 2, END).is_ok());
-    assert!(rt; has_numbers(rt.alloc(), &node, &ORIGINAL_NUMBERS)?);
-    Ok(())
+fn numbers_of_the_original(rt: HostRuntime) {
+    let got = gets_numbers(rt.alloc(), &ORIGINAL, (2, END), Ok(()), &ORIGINAL_NUMBERS);
+    assert!(rt; got == Ok(true));
 }
 
 const OLD: [SyntaxKind; 5] = [
@@ -100,17 +107,20 @@ fn differ_at(place: usize, old: &[u64], new: &[u64]) -> bool {
     old.len() == new.len() && old.iter().zip(new).enumerate().all(agrees)
 }
 
+/// Whether only the number of the leaf that is new differs.
+fn keeps_the_others(alloc: Global) -> Option<bool> {
+    let new = leaves(alloc, &NEW).ok()?;
+    let kids = leaves(alloc, &OLD).ok()?;
+    let mut node = numbered(SyntaxNode::inner(SyntaxKind::Markup, kids), END)?;
+    let old = numbers(alloc, &node).ok()?;
+    let replaced = replace(&mut node, &[], 1, 4, new).is_ok();
+    let now = numbers(alloc, &node).ok()?;
+    Some(replaced && differ_at(3, old.as_slice(), now.as_slice()))
+}
+
 #[test]
-fn what_stays_keeps_its_number(rt: HostRuntime) -> Result<(), Fail> {
-    let alloc = rt.alloc();
-    let mut node = SyntaxNode::inner(SyntaxKind::Markup, leaves(alloc, &OLD)?);
-    assert!(rt; number(&mut node, 2, END).is_ok());
-    let old = numbers(alloc, &node)?;
-    let new = leaves(alloc, &NEW)?;
-    assert!(rt; replace(&mut node, &[], 1, 4, new).is_ok());
-    let now = numbers(alloc, &node)?;
-    assert!(rt; differ_at(3, old.as_slice(), now.as_slice()));
-    Ok(())
+fn what_stays_keeps_its_number(rt: HostRuntime) {
+    assert!(rt; keeps_the_others(rt.alloc()) == Some(true));
 }
 
 fn are_in_order(all: &[u64], end: u64) -> bool {
@@ -126,18 +136,25 @@ fn grows(alloc: Global, node: &mut SyntaxNode, end: u64) -> Result<bool, AllocEr
     Ok(replaced && are_in_order(numbers(alloc, node)?.as_slice(), end))
 }
 
+/// The length of a node after so many replacements, or nothing where one went wrong.
+fn grown(alloc: Global, mut node: SyntaxNode, turns: usize) -> Option<usize> {
+    for _ in 0..turns {
+        if grows(alloc, &mut node, 1000) != Ok(true) {
+            return None;
+        }
+    }
+    Some(node.len())
+}
+
+/// The length of 400 leaves after so many replacements, or nothing where one went wrong.
+fn grown_leaves(alloc: Global, turns: usize) -> Option<usize> {
+    let kids = many(alloc, SyntaxKind::Space, 400).ok()?;
+    let node = numbered(SyntaxNode::inner(SyntaxKind::Markup, kids), 1000)?;
+    grown(alloc, node, turns)
+}
+
 // Few numbers are free, so that neighbours have to be numbered anew again and again.
 #[test]
-fn two_hundred_replacements(rt: HostRuntime) -> Result<(), Fail> {
-    let alloc = rt.alloc();
-    let mut node = SyntaxNode::inner(
-        SyntaxKind::Markup,
-        leaves(alloc, &[SyntaxKind::Space; 400])?,
-    );
-    assert!(rt; number(&mut node, 2, 1000).is_ok());
-    for turn in 0..200 {
-        assert!(rt; grows(alloc, &mut node, 1000)?, "turn {turn}");
-    }
-    assert!(rt; node.len() == 600);
-    Ok(())
+fn two_hundred_replacements(rt: HostRuntime) {
+    assert!(rt; grown_leaves(rt.alloc(), 200) == Some(600));
 }

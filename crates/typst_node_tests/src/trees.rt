@@ -86,6 +86,19 @@ pub(crate) fn leaves(alloc: Global, kinds: &[SyntaxKind]) -> Result<Vec<SyntaxNo
     Ok(all)
 }
 
+/// So many leaves of one kind, each with the text `x`.
+pub(crate) fn many(
+    alloc: Global,
+    kind: SyntaxKind,
+    count: usize,
+) -> Result<Vec<SyntaxNode>, AllocError> {
+    let mut all = Vec::new(alloc);
+    for _ in 0..count {
+        all.push(leaf(alloc, kind, "x")?)?;
+    }
+    Ok(all)
+}
+
 /// The numbers of the first thousand nodes, each before its children's, 0 for a detached one.
 pub(crate) fn numbers(alloc: Global, root: &SyntaxNode) -> Result<Vec<u64>, AllocError> {
     let mut all = Vec::new(alloc);
@@ -116,6 +129,12 @@ pub(crate) fn number(node: &mut SyntaxNode, start: u64, end: u64) -> Result<(), 
         Some(file) if 2 <= start && end <= END => node.numberize(file, start..end),
         _ => Err(SourceError::OutOfMemory),
     }
+}
+
+/// The tree with numbers below the end, or nothing where these are too few or memory was refused.
+pub(crate) fn numbered(mut node: SyntaxNode, end: u64) -> Option<SyntaxNode> {
+    number(&mut node, 2, end).ok()?;
+    Some(node)
 }
 
 /// `replace_at` where the path leads to such children, or want of memory.

@@ -1,7 +1,6 @@
-use crate::trees::{END, Row, leaf, number, numbers, tree};
+use crate::trees::{END, Row, leaf, numbered, numbers, tree};
 use std::alloc::{AllocError, Global};
 use std::mem::size_of;
-use std::test::Fail;
 use typst_kinds::{FileId, Span, SpanNumber, SyntaxKind};
 use typst_node::SyntaxNode;
 use typst_tree::{LinkedNode, is_ordered};
@@ -111,22 +110,32 @@ fn has_steps(top: LinkedNode, numbers: &[u64]) -> bool {
 }
 
 /// `TREE` with numbers, or nothing where memory was refused.
-fn numbered(alloc: Global) -> Option<SyntaxNode> {
-    let mut root = tree(alloc, &TREE).ok()?;
-    number(&mut root, 2, END).ok()?;
-    Some(root)
+fn linked(alloc: Global) -> Option<SyntaxNode> {
+    numbered(tree(alloc, &TREE).ok()?, END)
+}
+
+/// Whether the leaves and the steps are those of the lists.
+fn walks_from(top: LinkedNode, numbers: &[u64]) -> bool {
+    has_leaves(top, numbers) && has_steps(top, numbers)
+}
+
+/// Whether the steps are the same where the tree is known to be in order.
+fn walks_both(root: &SyntaxNode, numbers: &[u64]) -> bool {
+    root.descendants() == 10
+        && walks_from(LinkedNode::new(root), numbers)
+        && is_ordered(root)
+        && walks_from(LinkedNode::ordered(root), numbers)
+}
+
+fn walks_tree(alloc: Global) -> Option<bool> {
+    let root = linked(alloc)?;
+    let all = numbers(alloc, &root).ok()?;
+    Some(walks_both(&root, all.as_slice()))
 }
 
 #[test]
-fn walks(rt: HostRuntime) -> Result<(), Fail> {
-    let root = numbered(rt.alloc()).ok_or("tree")?;
-    let all = numbers(rt.alloc(), &root)?;
-    assert!(rt; root.descendants() == 10 && is_ordered(&root));
-    let plain = LinkedNode::new(&root);
-    assert!(rt; has_leaves(plain, all.as_slice()) && has_steps(plain, all.as_slice()));
-    let ordered = LinkedNode::ordered(&root);
-    assert!(rt; has_leaves(ordered, all.as_slice()) && has_steps(ordered, all.as_slice()));
-    Ok(())
+fn walks(rt: HostRuntime) {
+    assert!(rt; walks_tree(rt.alloc()) == Some(true));
 }
 
 /// Whether what is read of the node is what the error of `TREE` has.
@@ -149,12 +158,15 @@ fn count_errors(top: LinkedNode) -> u32 {
     errors
 }
 
+/// Whether `TREE` has its error once.
+fn has_one_error(root: &SyntaxNode) -> bool {
+    root.descendants() == 10 && count_errors(LinkedNode::new(root)) == 1
+}
+
 #[test]
-fn reads_through_the_children(rt: HostRuntime) -> Result<(), Fail> {
-    let root = numbered(rt.alloc()).ok_or("tree")?;
-    assert!(rt; root.descendants() == 10);
-    assert!(rt; count_errors(LinkedNode::new(&root)) == 1);
-    Ok(())
+fn reads_through_the_children(rt: HostRuntime) {
+    let root = linked(rt.alloc());
+    assert!(rt; root.is_some_and(|root| has_one_error(&root)));
 }
 
 /// A leaf with this span.
@@ -178,17 +190,30 @@ fn found(top: LinkedNode, span: Span) -> Option<usize> {
     Some(top.find(span)?.offset())
 }
 
+/// A span of the first file.
+fn span(number: u64) -> Option<Span> {
+    Some(Span::new(FileId::new(1)?, SpanNumber::new(number)?))
+}
+
+/// Whether the first node of each span begins there, of three leaves under a detached node.
+fn begins(top: LinkedNode, three: Span, ten: Span) -> bool {
+    found(top, ten) == Some(0)
+        && found(top, three) == Some(2)
+        && found(top, Span::detached()) == Some(0)
+}
+
+fn finds_first(alloc: Global) -> Option<bool> {
+    let (three, ten) = (span(3)?, span(10)?);
+    let root = unordered(alloc, &[ten, three, ten]).ok()?;
+    if root.descendants() != 4 || is_ordered(&root) {
+        return None;
+    }
+    Some(begins(LinkedNode::new(&root), three, ten))
+}
+
 #[test]
-fn finds_the_first_without_order(rt: HostRuntime) -> Result<(), Fail> {
-    let file = FileId::new(1).ok_or("1")?;
-    let three = Span::new(file, SpanNumber::new(3).ok_or("3")?);
-    let ten = Span::new(file, SpanNumber::new(10).ok_or("10")?);
-    let root = unordered(rt.alloc(), &[ten, three, ten])?;
-    assert!(rt; root.descendants() == 4 && !is_ordered(&root));
-    let top = LinkedNode::new(&root);
-    assert!(rt; found(top, ten) == Some(0) && found(top, three) == Some(2));
-    assert!(rt; found(top, Span::detached()) == Some(0));
-    Ok(())
+fn finds_the_first_without_order(rt: HostRuntime) {
+    assert!(rt; finds_first(rt.alloc()) == Some(true));
 }
 
 #[test]
