@@ -8,6 +8,3 @@ pub mod scanner;
 pub use lines::{Line, Lines, LinesFrom, Text};
 pub use newline::{is_newline, split_newlines};
 pub use scanner::{CharSet, Scanner, ScannerExt};
-
-#[cfg(test)]
-mod tests;

@@ -3,8 +3,6 @@
 
 pub mod counting;
 pub mod narrow;
-#[cfg(test)]
-mod tests;
 pub mod wide;
 
 pub use counting::Counting;

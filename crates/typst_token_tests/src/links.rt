@@ -1,84 +1,87 @@
 //! The brackets of links, and names of labels.
 use std::alloc::{AllocError, Global};
 use std::process::Abort;
-use std::test::Fail;
 use typst_classes::UnicodeClasses;
 use typst_links::{is_valid_label_literal_id, link_prefix};
 use typst_test_classes::{Narrow, Wide};
 
+/// The text without the pairs that stand in it.
+fn without_pairs(alloc: Global, text: &str) -> Result<String, AllocError> {
+    let left = text.replace(alloc, "()", "")?;
+    left.as_str().replace(alloc, "[]", "")
+}
+
 /// What is left of some brackets where pairs are taken out again and again.
-fn without_pairs(alloc: Global, brackets: &str) -> Result<String, AllocError> {
+fn unpaired(alloc: Global, brackets: &str) -> Result<String, AllocError> {
     let mut left = String::from_str(alloc, brackets)?;
     for _ in 0..brackets.len() {
-        let mut next = String::new(alloc);
-        let mut pair = false;
-        let mut waiting = '\0';
-        for c in left.as_str().chars() {
-            let closes = (waiting == '(' && c == ')') || (waiting == '[' && c == ']');
-            if closes && !pair {
-                pair = true;
-                waiting = '\0';
-                continue;
-            }
-            if waiting != '\0' {
-                next.push(waiting)?;
-            }
-            waiting = c;
-        }
-        if waiting != '\0' {
-            next.push(waiting)?;
-        }
-        left = next;
+        left = without_pairs(alloc, left.as_str())?;
     }
     Ok(left)
 }
 
-/// The longest beginning of which nothing but opening brackets is left without its pairs.
+/// Whether nothing but opening brackets is in the text.
+fn only_opens(text: &str) -> bool {
+    text.chars().all(|c| c == '(' || c == '[')
+}
+
+/// Whether all brackets are closed, where nothing but opening brackets is left without the pairs.
+fn closed(alloc: Global, brackets: &str) -> Result<Option<bool>, AllocError> {
+    let left = unpaired(alloc, brackets)?;
+    Ok(only_opens(left.as_str()).then_some(left.is_empty()))
+}
+
+/// The longest beginning of which nothing but opening brackets is left without its pairs, and whether
+/// all its brackets are closed.
 fn longest(alloc: Global, brackets: &str) -> Result<(usize, bool), AllocError> {
     let mut best = (0, true);
-    let mut front = String::new(alloc);
-    for c in brackets.chars() {
-        front.push(c)?;
-        let left = without_pairs(alloc, front.as_str())?;
-        if left.as_str().chars().any(|c| c == ')' || c == ']') {
+    for end in 1..7 {
+        let Some(front) = brackets.get(..end) else {
             return Ok(best);
+        };
+        match closed(alloc, front)? {
+            Some(is_closed) => best = (end, is_closed),
+            None => return Ok(best),
         }
-        best = (front.len(), left.is_empty());
     }
     Ok(best)
 }
+
+const BRACKETS: [char; 4] = ['(', ')', '[', ']'];
 
 /// The brackets that a number writes in base four.
 fn written(alloc: Global, count: usize, number: usize) -> Result<String, AllocError> {
     let mut brackets = String::new(alloc);
     let mut rest = number;
     for _ in 0..count {
-        brackets.push(match rest % 4 {
-            0 => '(',
-            1 => ')',
-            2 => '[',
-            _ => ']',
-        })?;
+        brackets.push(BRACKETS[rest % 4])?;
         rest /= 4;
     }
     Ok(brackets)
 }
 
-/// All ways to write up to six brackets, against what pairs alone say.
+/// Whether the link of up to six brackets is what pairs alone say.
+fn agrees(alloc: Global, brackets: &str) -> Result<bool, AllocError> {
+    let wanted = longest(alloc, brackets)?;
+    let (link, is_balanced) = link_prefix(alloc, brackets)?;
+    Ok((link.len(), is_balanced) == wanted)
+}
+
+fn agrees_on(alloc: Global, count: usize, number: usize) -> Result<bool, AllocError> {
+    let brackets = written(alloc, count, number)?;
+    agrees(alloc, brackets.as_str())
+}
+
+/// All ways to write up to six brackets.
 #[test]
-fn closes_brackets(rt: HostRuntime) -> Result<(), Fail> {
-    let alloc = rt.alloc();
+fn closes_brackets(rt: HostRuntime) {
     let mut ways = 1usize;
     for count in 0..7 {
         for number in 0..ways {
-            let brackets = written(alloc, count, number)?;
-            let (link, balanced) = link_prefix(alloc, brackets.as_str())?;
-            let (len, closed) = longest(alloc, brackets.as_str())?;
-            assert!(rt; link.len() == len && balanced == closed);
+            assert!(rt; agrees_on(rt.alloc(), count, number) == Ok(true));
         }
         ways = ways.saturating_mul(4);
     }
-    Ok(())
 }
 
 /// Asserts that a text begins with this link, whose brackets are balanced, also where memory was
@@ -109,17 +112,19 @@ fn by_all(id: &str) -> [bool; 3] {
     ]
 }
 
-#[test]
-fn knows_names_of_labels(rt: HostRuntime) {
-    assert!(rt; by_all(":a") == [true, true, true]);
-    assert!(rt; by_all("a-b_1.c:d") == [true, true, true]);
-    assert!(rt; by_all("é") == [true, true, false]);
-}
+const NAMES: [(&str, [bool; 3]); 7] = [
+    (":a", [true, true, true]),
+    ("a-b_1.c:d", [true, true, true]),
+    ("é", [true, true, false]),
+    ("", [false, false, false]),
+    ("a b", [false, false, false]),
+    ("a>", [false, false, false]),
+    ("->", [false, false, false]),
+];
 
 #[test]
-fn refuses_names_of_labels(rt: HostRuntime) {
-    assert!(rt; by_all("") == [false, false, false]);
-    assert!(rt; by_all("a b") == [false, false, false]);
-    assert!(rt; by_all("a>") == [false, false, false]);
-    assert!(rt; by_all("->") == [false, false, false]);
+fn knows_names_of_labels(rt: HostRuntime) {
+    for (id, want) in NAMES {
+        assert!(rt; by_all(id) == want);
+    }
 }

@@ -15,12 +15,12 @@ fn expect_again(rt: &impl Abort, alloc: Global, text: &str) {
     }
 }
 
+const TEXTS: [&str; 5] = ["``", "```c++ x```", "```+c\n  a\n```", "```py```", "`a"];
+
 /// `rt try --test --fail-alloc N` refuses the Nth request.
 #[test]
 fn makes_it_again_where_memory_is_refused(rt: HostRuntime) {
-    expect_again(&rt, rt.alloc(), "``");
-    expect_again(&rt, rt.alloc(), "```c++ x```");
-    expect_again(&rt, rt.alloc(), "```+c\n  a\n```");
-    expect_again(&rt, rt.alloc(), "```py```");
-    expect_again(&rt, rt.alloc(), "`a");
+    for text in TEXTS {
+        expect_again(&rt, rt.alloc(), text);
+    }
 }

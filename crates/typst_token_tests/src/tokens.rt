@@ -1,7 +1,6 @@
 //! What of tokens needs code: modes, columns, refused memory, long texts.
 use std::alloc::{AllocError, Global};
 use std::process::Abort;
-use std::test::Fail;
 use typst_kinds::{SyntaxKind, SyntaxMode};
 use typst_lexer::{Lexer, UnicodeClasses};
 
@@ -10,74 +9,58 @@ fn lexer(text: &str) -> Lexer<'_, UnicodeClasses> {
     Lexer::new(text, SyntaxMode::Markup, &UnicodeClasses)
 }
 
-/// Asserts that a text is one token in a mode, and whether that has a newline.
-fn expect_one(
-    rt: &impl Abort,
-    alloc: Global,
-    mode: SyntaxMode,
-    (text, kind, newline): (&str, SyntaxKind, bool),
-) -> Result<(), AllocError> {
+/// A mode, a text that is one token in it, that token's kind, and whether it has a newline.
+type One = (SyntaxMode, &'static str, SyntaxKind, bool);
+
+const ONES: [One; 7] = [
+    (SyntaxMode::Markup, " \t", SyntaxKind::Space, false),
+    (SyntaxMode::Markup, " \r\n", SyntaxKind::Space, true),
+    (SyntaxMode::Markup, "\r\n\u{b}", SyntaxKind::Parbreak, true),
+    (
+        SyntaxMode::Markup,
+        "/*\n*/",
+        SyntaxKind::BlockComment,
+        false,
+    ),
+    (SyntaxMode::Code, "\n\n", SyntaxKind::Space, true),
+    (SyntaxMode::Code, "\u{3000}", SyntaxKind::Space, false),
+    (SyntaxMode::Math, "\u{a0}\u{2028}", SyntaxKind::Space, true),
+];
+
+/// Whether the text is one token so.
+fn is_one(alloc: Global, (mode, text, kind, newline): One) -> Result<bool, AllocError> {
     let mut lexer = Lexer::new(text, mode, &UnicodeClasses);
     let (token, taken) = lexer.scan(alloc)?;
-    assert!(rt; token.kind.same(kind));
-    assert!(rt; taken.len() == text.len());
-    assert!(rt; lexer.newline() == newline);
-    Ok(())
+    let is_whole = token.kind.same(kind) && taken.len() == text.len();
+    Ok(is_whole && lexer.newline() == newline)
 }
 
 #[test]
-fn knows_newlines_of_markup(rt: HostRuntime) -> Result<(), Fail> {
-    let (alloc, mode) = (rt.alloc(), SyntaxMode::Markup);
-    expect_one(&rt, alloc, mode, (" \t", SyntaxKind::Space, false))?;
-    expect_one(&rt, alloc, mode, (" \r\n", SyntaxKind::Space, true))?;
-    expect_one(&rt, alloc, mode, ("\r\n\u{b}", SyntaxKind::Parbreak, true))?;
-    expect_one(
-        &rt,
-        alloc,
-        mode,
-        ("/*\n*/", SyntaxKind::BlockComment, false),
-    )?;
-    Ok(())
+fn knows_newlines_of_modes(rt: HostRuntime) {
+    for one in ONES {
+        assert!(rt; is_one(rt.alloc(), one) == Ok(true));
+    }
 }
 
-#[test]
-fn knows_newlines_of_code_and_math(rt: HostRuntime) -> Result<(), Fail> {
-    let (alloc, code) = (rt.alloc(), SyntaxMode::Code);
-    expect_one(&rt, alloc, code, ("\n\n", SyntaxKind::Space, true))?;
-    expect_one(&rt, alloc, code, ("\u{3000}", SyntaxKind::Space, false))?;
-    let math = SyntaxMode::Math;
-    expect_one(
-        &rt,
-        alloc,
-        math,
-        ("\u{a0}\u{2028}", SyntaxKind::Space, true),
-    )?;
-    Ok(())
-}
-
-/// Asserts where the next token begins, in bytes and in characters of its line, and reads it.
-fn expect_column(
-    rt: &impl Abort,
+/// Whether the next token begins there, in bytes and in characters of its line; reads it.
+fn starts_at(
     alloc: Global,
     lexer: &mut Lexer<'_, UnicodeClasses>,
     (index, column): (usize, usize),
-) -> Result<(), AllocError> {
-    assert!(rt; lexer.cursor() == index);
-    assert!(rt; lexer.column(index) == column);
+) -> Result<bool, AllocError> {
+    let starts = lexer.cursor() == index && lexer.column(index) == column;
     lexer.scan(alloc)?;
-    Ok(())
+    Ok(starts)
 }
 
+const COLUMNS: [(usize, usize); 6] = [(0, 0), (2, 1), (3, 2), (4, 3), (7, 0), (12, 2)];
+
 #[test]
-fn counts_columns(rt: HostRuntime) -> Result<(), Fail> {
+fn counts_columns(rt: HostRuntime) {
     let mut lexer = lexer("ä\tb\u{2028}\u{1f49b}c");
-    expect_column(&rt, rt.alloc(), &mut lexer, (0, 0))?;
-    expect_column(&rt, rt.alloc(), &mut lexer, (2, 1))?;
-    expect_column(&rt, rt.alloc(), &mut lexer, (3, 2))?;
-    expect_column(&rt, rt.alloc(), &mut lexer, (4, 3))?;
-    expect_column(&rt, rt.alloc(), &mut lexer, (7, 0))?;
-    expect_column(&rt, rt.alloc(), &mut lexer, (12, 2))?;
-    Ok(())
+    for place in COLUMNS {
+        assert!(rt; starts_at(rt.alloc(), &mut lexer, place) == Ok(true));
+    }
 }
 
 /// Whether the end is reached. Where memory is refused, the lexer stays where it is.
@@ -120,30 +103,33 @@ fn count(alloc: Global, text: &str, most: usize) -> Result<usize, AllocError> {
     Ok(most)
 }
 
-/// Asserts how many tokens a text of 100,000 times one character has.
-fn expect_run(rt: &impl Abort, alloc: Global, one: char, tokens: usize) -> Result<(), AllocError> {
+/// How many tokens a text of 100,000 times one character has.
+fn count_run(alloc: Global, one: char) -> Result<usize, AllocError> {
     let mut text = String::new(alloc);
     for _ in 0..100_000 {
         text.push(one)?;
     }
-    assert!(rt; count(alloc, text.as_str(), 100_002)? == tokens);
-    Ok(())
+    count(alloc, text.as_str(), 100_002)
 }
 
 #[test]
-fn reads_runs_that_are_one_token(rt: HostRuntime) -> Result<(), Fail> {
+fn reads_runs_that_are_one_token(rt: HostRuntime) {
     for one in "a /\né=0h`@".chars() {
-        expect_run(&rt, rt.alloc(), one, 1)?;
+        assert!(rt; count_run(rt.alloc(), one) == Ok(1));
     }
-    Ok(())
 }
 
+const RUNS: [(char, usize); 5] = [
+    ('-', 33_334),
+    ('*', 100_000),
+    ('[', 100_000),
+    ('\\', 50_000),
+    ('.', 33_334),
+];
+
 #[test]
-fn reads_runs_of_tokens(rt: HostRuntime) -> Result<(), Fail> {
-    expect_run(&rt, rt.alloc(), '-', 33_334)?;
-    expect_run(&rt, rt.alloc(), '*', 100_000)?;
-    expect_run(&rt, rt.alloc(), '[', 100_000)?;
-    expect_run(&rt, rt.alloc(), '\\', 50_000)?;
-    expect_run(&rt, rt.alloc(), '.', 33_334)?;
-    Ok(())
+fn reads_runs_of_tokens(rt: HostRuntime) {
+    for (one, tokens) in RUNS {
+        assert!(rt; count_run(rt.alloc(), one) == Ok(tokens));
+    }
 }
