@@ -1,7 +1,9 @@
-//! Tests of what no clause says and no row can: notes, depth, long texts, refused memory, and
+//! Tests of what no clause says and no row can: depth, long texts, refused memory, and
 //! streams that stop, hold and fail.
 #![tactic(auto)]
 
+#[cfg(test)]
+mod code;
 #[cfg(test)]
 mod program;
 #[cfg(test)]

@@ -1,76 +1,76 @@
 //! Runs over streams of memory.
 
 use crate::streams::{Flush, Pace, Reader, Room, Writer};
-use std::alloc::AllocError;
-use std::process::Abort;
-use std::test::Fail;
+use std::alloc::{AllocError, Global};
 use typst_cli::{Failure, run};
 
 const USAGE: &str = "usage: typst_syn lines | tree | html | edit START END TEXT\n";
 
 const PACES: [Pace; 3] = [Pace::Whole, Pace::Bytes, Pace::Interrupted];
 
-/// Asserts the status of a run, and what it passed on to both writers.
-fn expect_run(
-    rt: &(impl AllocGlobal + Abort),
+/// The status of a run, and what it passes on to both writers.
+type Answer<'a> = (u8, &'a str, &'a str);
+
+/// Whether a run answers so.
+fn answers(
+    alloc: Global,
     words: &[&str],
     mut input: Reader<'_>,
     output: Room,
-    (status, printed, said): (u8, &str, &str),
-) {
-    let mut output = Writer::new(rt.alloc(), output);
-    let mut errors = Writer::new(rt.alloc(), Room::ample(Pace::Interrupted));
-    let got = run(rt.alloc(), words, &mut input, &mut output, &mut errors);
-    assert!(rt; got == status);
-    assert!(rt; output.passed.as_slice() == printed.as_bytes());
-    assert!(rt; errors.passed.as_slice() == said.as_bytes());
+    (status, printed, said): Answer<'_>,
+) -> bool {
+    let mut output = Writer::new(alloc, output);
+    let mut errors = Writer::new(alloc, Room::ample(Pace::Interrupted));
+    let got = run(alloc, words, &mut input, &mut output, &mut errors);
+    got == status
+        && output.passed.as_slice() == printed.as_bytes()
+        && errors.passed.as_slice() == said.as_bytes()
 }
 
-/// Asserts that a run ends with one line that tells of a failure.
-fn expect_failure(
-    rt: &(impl AllocGlobal + Abort),
-    word: &str,
-    input: Reader<'_>,
-    output: Room,
-    line: &str,
-) {
-    expect_run(rt, &[word], input, output, (1, "", line));
+/// Whether a run ends with one line that tells of a failure.
+fn fails(alloc: Global, word: &str, input: Reader<'_>, output: Room, line: &str) -> bool {
+    answers(alloc, &[word], input, output, (1, "", line))
 }
 
 const TEXT: &[u8] = b"a\r\n\xf0\x9f\x92\x9b";
 
 const ANSWER: &str = "0 0 0\n1 3 3\nbytes 7 utf16 5 lines 2\n";
 
+/// Whether the answer is the same where it is written so, however little is read at a time.
+fn answers_written(alloc: Global, writing: Pace) -> bool {
+    for reading in PACES {
+        let (input, output) = (Reader::ending(TEXT, reading), Room::ample(writing));
+        if !answers(alloc, &["lines"], input, output, (0, ANSWER, "")) {
+            return false;
+        }
+    }
+    true
+}
+
 /// However little is read or written at a time, and wherever that is interrupted.
 #[test]
 fn answers_at_each_pace(rt: HostRuntime) {
-    for reading in PACES {
-        for writing in PACES {
-            let (input, output) = (Reader::ending(TEXT, reading), Room::ample(writing));
-            expect_run(&rt, &["lines"], input, output, (0, ANSWER, ""));
-        }
+    for writing in PACES {
+        assert!(rt; answers_written(rt.alloc(), writing));
     }
 }
 
-/// Asserts that the words are none of the program's.
-fn expect_usage(rt: &(impl AllocGlobal + Abort), words: &[&str]) {
+/// Whether the words are none of the program's.
+fn refuses(alloc: Global, words: &[&str]) -> bool {
     let (input, output) = (Reader::ending(b"a", Pace::Whole), Room::ample(Pace::Whole));
-    expect_run(rt, words, input, output, (2, "", USAGE));
+    answers(alloc, words, input, output, (2, "", USAGE))
 }
 
 #[test]
 fn refuses_other_words(rt: HostRuntime) {
-    expect_usage(&rt, &[]);
-    expect_usage(&rt, &["line"]);
-    expect_usage(&rt, &["lines", "lines"]);
-    expect_usage(&rt, &["lines", ""]);
-}
-
-#[test]
-fn refuses_words_of_others(rt: HostRuntime) {
-    expect_usage(&rt, &["trees"]);
-    expect_usage(&rt, &["html", "html"]);
-    expect_usage(&rt, &["edit", "0", "0"]);
+    assert!(rt; refuses(rt.alloc(), &[]));
+    for word in ["line", "trees"] {
+        assert!(rt; refuses(rt.alloc(), &[word]));
+    }
+    for words in [["lines", "lines"], ["lines", ""], ["html", "html"]] {
+        assert!(rt; refuses(rt.alloc(), &words));
+    }
+    assert!(rt; refuses(rt.alloc(), &["edit", "0", "0"]));
 }
 
 /// A writer that takes nothing.
@@ -80,108 +80,116 @@ const FULL: Room = Room {
     flush: Flush::Passes,
 };
 
+/// A word, a text that is no UTF-8 or can't be written, and the line that tells of it.
+const FAULTS: [(&str, &[u8], &str); 3] = [
+    ("lines", b"\xff", "not UTF-8\n"),
+    ("tree", b"ok\n\xc3", "not UTF-8\n"),
+    ("lines", b"a", "write failed\n"),
+];
+
 /// Words are looked at before reading, reading before UTF-8, and UTF-8 before writing.
 #[test]
 fn looks_for_faults_in_order(rt: HostRuntime) {
     let broken = Reader::failing(b"\xff");
-    expect_run(&rt, &["line"], broken, FULL, (2, "", USAGE));
-    expect_failure(&rt, "lines", broken, FULL, "read failed\n");
-    let other = Reader::ending(b"\xff", Pace::Whole);
-    expect_failure(&rt, "lines", other, FULL, "not UTF-8\n");
-    let later = Reader::ending(b"ok\n\xc3", Pace::Whole);
-    expect_failure(&rt, "tree", later, FULL, "not UTF-8\n");
-    let text = Reader::ending(b"a", Pace::Whole);
-    expect_failure(&rt, "lines", text, FULL, "write failed\n");
+    assert!(rt; answers(rt.alloc(), &["line"], broken, FULL, (2, "", USAGE)));
+    assert!(rt; fails(rt.alloc(), "lines", broken, FULL, "read failed\n"));
+    for (word, text, line) in FAULTS {
+        let input = Reader::ending(text, Pace::Whole);
+        assert!(rt; fails(rt.alloc(), word, input, FULL, line));
+    }
 }
 
 #[test]
 fn tells_of_a_read_that_fails(rt: HostRuntime) {
     for given in 0..TEXT.len() + 1 {
-        let input = Reader::failing(&TEXT[..given]);
-        expect_failure(
-            &rt,
-            "lines",
-            input,
-            Room::ample(Pace::Whole),
-            "read failed\n",
-        );
+        let (input, output) = (Reader::failing(&TEXT[..given]), Room::ample(Pace::Whole));
+        assert!(rt; fails(rt.alloc(), "lines", input, output, "read failed\n"));
     }
 }
 
-/// Asserts that a run tells of an answer that such a writer doesn't take.
-fn expect_unwritten(rt: &(impl AllocGlobal + Abort), bytes: usize, flush: Flush) {
+/// Whether a run tells of an answer that such a writer doesn't take.
+fn tells_unwritten(alloc: Global, bytes: usize, flush: Flush) -> bool {
     let (input, pace) = (Reader::ending(TEXT, Pace::Whole), Pace::Interrupted);
     let output = Room { bytes, pace, flush };
-    expect_failure(rt, "lines", input, output, "write failed\n");
+    fails(alloc, "lines", input, output, "write failed\n")
 }
 
 #[test]
 fn tells_of_a_write_that_fails(rt: HostRuntime) {
     for bytes in 0..ANSWER.len() {
-        expect_unwritten(&rt, bytes, Flush::Passes);
+        assert!(rt; tells_unwritten(rt.alloc(), bytes, Flush::Passes));
     }
+    assert!(rt; tells_unwritten(rt.alloc(), 1000, Flush::Fails));
 }
 
-#[test]
-fn tells_of_a_flush_that_fails(rt: HostRuntime) {
-    expect_unwritten(&rt, 1000, Flush::Fails);
-}
-
-/// A text of so many letters, in a reader that fills whole buffers.
-fn expect_long(
-    rt: &(impl AllocGlobal + Abort),
-    count: usize,
-    printed: &str,
-) -> Result<(), AllocError> {
-    let mut text = Vec::new(rt.alloc());
+/// Whether a text of so many letters, in a reader that fills whole buffers, is answered so.
+fn answers_long(alloc: Global, count: usize, printed: &str) -> Result<bool, AllocError> {
+    let mut text = Vec::new(alloc);
     for _ in 0..count {
         text.push(b'a')?;
     }
     let input = Reader::ending(text.as_slice(), Pace::Whole);
     let output = Room::ample(Pace::Whole);
-    expect_run(rt, &["lines"], input, output, (0, printed, ""));
-    Ok(())
+    Ok(answers(alloc, &["lines"], input, output, (0, printed, "")))
 }
+
+const LONG: [(usize, &str); 3] = [
+    (8192, "0 0 0\nbytes 8192 utf16 8192 lines 1\n"),
+    (100_000, "0 0 0\nbytes 100000 utf16 100000 lines 1\n"),
+    (1 << 20, "0 0 0\nbytes 1048576 utf16 1048576 lines 1\n"),
+];
 
 #[test]
-fn reads_long_inputs(rt: HostRuntime) -> Result<(), Fail> {
-    expect_long(&rt, 8192, "0 0 0\nbytes 8192 utf16 8192 lines 1\n")?;
-    expect_long(&rt, 100_000, "0 0 0\nbytes 100000 utf16 100000 lines 1\n")?;
-    expect_long(&rt, 1 << 20, "0 0 0\nbytes 1048576 utf16 1048576 lines 1\n")?;
-    Ok(())
-}
-
-/// Asserts that the whole line of a failure is passed on at each pace; where it can't be, the status
-/// stays.
-fn expect_report(
-    rt: &(impl AllocGlobal + Abort),
-    failure: Failure,
-    room: Room,
-    (status, line): (u8, &str),
-) {
-    let mut errors = Writer::new(rt.alloc(), room);
-    assert!(rt; failure.report(&mut errors) == status);
-    assert!(rt; errors.passed.as_slice() == line.as_bytes());
-}
-
-/// Asserts the status and the line of a failure.
-fn expect_line(rt: &(impl AllocGlobal + Abort), failure: Failure, status: u8, line: &str) {
-    for pace in PACES {
-        expect_report(rt, failure, Room::ample(pace), (status, line));
+fn reads_long_inputs(rt: HostRuntime) {
+    for (count, printed) in LONG {
+        assert!(rt; answers_long(rt.alloc(), count, printed) == Ok(true));
     }
-    let mut short = Room::ample(Pace::Bytes);
-    short.bytes = 3;
-    expect_report(rt, failure, short, (status, ""));
-    let mut broken = Room::ample(Pace::Whole);
-    broken.flush = Flush::Fails;
-    expect_report(rt, failure, broken, (status, ""));
 }
+
+/// Whether the whole line of a failure is passed on; where it can't be, the status stays.
+fn reports(alloc: Global, failure: Failure, room: Room, status: u8, line: &str) -> bool {
+    let mut errors = Writer::new(alloc, room);
+    failure.report(&mut errors) == status && errors.passed.as_slice() == line.as_bytes()
+}
+
+/// Whether the line of a failure is passed on at each pace.
+fn reports_at_each_pace(alloc: Global, failure: Failure, status: u8, line: &str) -> bool {
+    for pace in PACES {
+        if !reports(alloc, failure, Room::ample(pace), status, line) {
+            return false;
+        }
+    }
+    true
+}
+
+/// A writer that has no room for a line.
+const SHORT: Room = Room {
+    bytes: 3,
+    pace: Pace::Bytes,
+    flush: Flush::Passes,
+};
+
+/// A writer that passes nothing on.
+const BROKEN: Room = Room {
+    bytes: 1000,
+    pace: Pace::Whole,
+    flush: Flush::Fails,
+};
+
+/// The failures, with their statuses and their lines.
+const FAILURES: [(Failure, u8, &str); 5] = [
+    (Failure::Usage, 2, USAGE),
+    (Failure::NotRead, 1, "read failed\n"),
+    (Failure::NotUtf8, 1, "not UTF-8\n"),
+    (Failure::OutOfMemory, 1, "out of memory\n"),
+    (Failure::NotWritten, 1, "write failed\n"),
+];
 
 #[test]
 fn reports_each_failure(rt: HostRuntime) {
-    expect_line(&rt, Failure::Usage, 2, USAGE);
-    expect_line(&rt, Failure::NotRead, 1, "read failed\n");
-    expect_line(&rt, Failure::NotUtf8, 1, "not UTF-8\n");
-    expect_line(&rt, Failure::OutOfMemory, 1, "out of memory\n");
-    expect_line(&rt, Failure::NotWritten, 1, "write failed\n");
+    for (failure, status, line) in FAILURES {
+        assert!(rt; reports_at_each_pace(rt.alloc(), failure, status, line));
+        assert!(rt; reports(rt.alloc(), failure, SHORT, status, ""));
+        assert!(rt; reports(rt.alloc(), failure, BROKEN, status, ""));
+    }
 }

@@ -1,87 +1,41 @@
-//! What of trees needs code: calls of classes, notes, depth, long texts, refused memory.
+//! What of trees needs code: calls of classes, the tree beside the notes, depth, long texts, refused
+//! memory.
 
 use std::alloc::{AllocError, Global};
 use std::cell::Cell;
-use std::process::Abort;
-use std::test::Fail;
 use typst_grammar::parse_noted;
 use typst_parser::{SyntaxNode, UnicodeClasses, parse};
 use typst_test_classes::Counting;
 
-/// A class value that counts is asked, and answers what Unicode does.
-#[test]
-fn asks_the_classes(rt: HostRuntime) -> Result<(), Fail> {
+/// Whether a class value that counts is asked, and answers what Unicode does.
+fn asks(alloc: Global, text: &str) -> Result<bool, AllocError> {
     let calls = Cell::new(0);
-    let counted = parse(rt.alloc(), "é*é*é", &Counting { calls: &calls })?;
-    assert!(rt; calls.get() > 0);
-    let root = parse(rt.alloc(), "é*é*é", &UnicodeClasses)?;
-    assert!(rt; counted.spanless_eq(&root));
-    Ok(())
+    let counted = parse(alloc, text, &Counting { calls: &calls })?;
+    let root = parse(alloc, text, &UnicodeClasses)?;
+    Ok(calls.get() > 0 && counted.spanless_eq(&root))
 }
 
-/// Asserts where what is noted of a text begins, with the trivia before it, and how many levels are
-/// left there; and that no look behind the last but one note and none behind the last begins before
-/// these bytes.
-fn expect_notes(
-    rt: &impl Abort,
-    alloc: Global,
-    text: &str,
-    notes: &[(usize, usize, usize)],
-    (last, end): (usize, usize),
-) -> Result<(), AllocError> {
+#[test]
+fn asks_the_classes(rt: HostRuntime) {
+    assert!(rt; asks(rt.alloc(), "é*é*é") == Ok(true));
+}
+
+/// Whether the tree is the one that comes with the notes.
+fn has_notes_beside(alloc: Global, text: &str) -> Result<bool, AllocError> {
     let noted = parse_noted(alloc, text, &UnicodeClasses)?;
     let root = parse(alloc, text, &UnicodeClasses)?;
-    assert!(rt; noted.tree.spanless_eq(&root));
-    assert!(rt; noted.notes.len() == notes.len());
-    for (note, wanted) in noted.notes.iter().zip(notes) {
-        assert!(rt; (note.before, note.start, note.levels) == *wanted);
-    }
-    match noted.notes.last() {
-        Some(note) => assert!(rt; note.least > last),
-        None => assert!(rt; false),
-    }
-    assert!(rt; noted.hull.least > end);
-    Ok(())
-}
-
-/// A run is noted where it begins and behind each of its expressions, a block where it begins and
-/// ends, and what is known of trivia isn't looked at again.
-#[test]
-fn notes_pieces(rt: HostRuntime) -> Result<(), Fail> {
-    let alloc = rt.alloc();
-    expect_notes(&rt, alloc, "", &[(0, 0, 256)], (0, 0))?;
-    let three = [(0, 0, 256), (1, 7, 256), (8, 8, 256)];
-    expect_notes(&rt, alloc, "a //cc\nb", &three, (7, 8))?;
-    let lines = [(0, 0, 256), (1, 2, 256), (3, 4, 256)];
-    expect_notes(&rt, alloc, "a\nb\n", &lines, (2, 4))?;
-    Ok(())
+    Ok(noted.tree.spanless_eq(&root))
 }
 
 #[test]
-fn notes_blocks(rt: HostRuntime) -> Result<(), Fail> {
-    let alloc = rt.alloc();
-    let block = [
-        (0, 0, 256),
-        (2, 2, 255),
-        (3, 3, 255),
-        (5, 7, 255),
-        (8, 8, 255),
-        (8, 8, 256),
-    ];
-    expect_notes(&rt, alloc, "@x[ab  ]", &block, (8, 8))?;
-    let empty = [
-        (0, 0, 256),
-        (2, 2, 255),
-        (3, 3, 255),
-        (6, 6, 255),
-        (6, 6, 256),
-    ];
-    expect_notes(&rt, alloc, "@x[  ]", &empty, (6, 6))?;
-    Ok(())
+fn gives_the_tree_beside_its_notes(rt: HostRuntime) {
+    for text in ["", "a //cc\nb", "a\nb\n", "@x[ab  ]", "@x[  ]"] {
+        assert!(rt; has_notes_beside(rt.alloc(), text) == Ok(true));
+    }
 }
 
 /// Goes down along the last children, and gives the number of steps and the node where it ends.
-fn lowest(root: &SyntaxNode) -> (usize, &SyntaxNode) {
+pub(crate) fn lowest(root: &SyntaxNode) -> (usize, &SyntaxNode) {
     let mut node = root;
     for steps in 0..10_000 {
         match node.children().last() {
@@ -92,120 +46,123 @@ fn lowest(root: &SyntaxNode) -> (usize, &SyntaxNode) {
     (10_000, node)
 }
 
-/// A text of 256 times `part`, and then `rest`.
-fn deep(alloc: Global, part: &str, rest: &str) -> Result<String, AllocError> {
+/// A text of so many times `part`, and then `rest`.
+pub(crate) fn repeated(
+    alloc: Global,
+    part: &str,
+    count: usize,
+    rest: &str,
+) -> Result<String, AllocError> {
     let mut text = String::new(alloc);
-    for _ in 0..256 {
+    for _ in 0..count {
         text.push_str(part)?;
     }
     text.push_str(rest)?;
     Ok(text)
 }
 
-/// Asserts that the text has the error of too great a depth at its lowest node, and how deep that
-/// lies and which text it has.
-fn expect_depth(
-    rt: &impl Abort,
-    alloc: Global,
-    all: &str,
-    (steps, text): (usize, &str),
-) -> Result<(), AllocError> {
-    let root = parse(alloc, all, &UnicodeClasses)?;
-    let (got, node) = lowest(&root);
-    assert!(rt; got == steps);
-    assert!(rt; node.leaf_text() == text);
+/// Whether the node has this text, and one error, which says that it lies too deep.
+pub(crate) fn is_too_deep(node: &SyntaxNode, text: &str) -> bool {
     match node.diagnostics() {
-        [error] => assert!(rt; error.message() == "maximum parsing depth exceeded"),
-        _ => assert!(rt; false),
+        [error] => {
+            node.leaf_text() == text && error.message() == "maximum parsing depth exceeded"
+        }
+        _ => false,
     }
-    Ok(())
+}
+
+/// Whether behind 256 items the rest is one leaf that lies too deep, 513 steps down.
+fn stops_at(alloc: Global, rest: &str) -> Result<bool, AllocError> {
+    let text = repeated(alloc, "- ", 256, rest)?;
+    let root = parse(alloc, text.as_str(), &UnicodeClasses)?;
+    let (steps, node) = lowest(&root);
+    Ok(steps == 513 && is_too_deep(node, rest))
 }
 
 #[test]
-fn stops_at_a_depth(rt: HostRuntime) -> Result<(), Fail> {
-    let alloc = rt.alloc();
-    let items = deep(alloc, "- ", "- - a")?;
-    expect_depth(&rt, alloc, items.as_str(), (513, "- - a"))?;
-    let lines = deep(alloc, "- ", "[a b] c\nd")?;
-    expect_depth(&rt, alloc, lines.as_str(), (513, "[a b] c\nd"))?;
-    Ok(())
+fn stops_at_a_depth(rt: HostRuntime) {
+    assert!(rt; stops_at(rt.alloc(), "- - a") == Ok(true));
+    assert!(rt; stops_at(rt.alloc(), "[a b] c\nd") == Ok(true));
 }
 
-/// Asserts the texts of the three pieces of a tree, of the first that of its lowest node.
-fn expect_pieces(
-    rt: &impl Abort,
-    root: &SyntaxNode,
-    (steps, first, second, third): (usize, &str, &str, &str),
-) {
+/// Whether the texts of the three pieces of a tree are these, of the first that of its lowest node,
+/// 512 steps down.
+fn has_pieces(root: &SyntaxNode, first: &str, second: &str, third: &str) -> bool {
     match root.children() {
         [long, middle, last] => {
-            let (got, node) = lowest(long);
-            assert!(rt; got == steps && node.leaf_text() == first);
-            assert!(rt; middle.leaf_text() == second);
-            assert!(rt; last.leaf_text() == third);
+            let (steps, node) = lowest(long);
+            steps == 512
+                && node.leaf_text() == first
+                && middle.leaf_text() == second
+                && last.leaf_text() == third
         }
-        _ => assert!(rt; false),
+        _ => false,
     }
+}
+
+fn skips_brackets(alloc: Global) -> Result<bool, AllocError> {
+    let text = repeated(alloc, "*_", 128, "[a]b]c")?;
+    let root = parse(alloc, text.as_str(), &UnicodeClasses)?;
+    Ok(has_pieces(&root, "[a]b", "]", "c"))
 }
 
 /// Brackets in what lies too deep are skipped in pairs, and the stop behind them ends it.
 #[test]
-fn skips_brackets_too_deep(rt: HostRuntime) -> Result<(), Fail> {
-    let mut all = String::new(rt.alloc());
-    for _ in 0..128 {
-        all.push_str("*_")?;
-    }
-    all.push_str("[a]b]c")?;
-    let root = parse(rt.alloc(), all.as_str(), &UnicodeClasses)?;
-    expect_pieces(&rt, &root, (512, "[a]b", "]", "c"));
-    Ok(())
+fn skips_brackets_too_deep(rt: HostRuntime) {
+    assert!(rt; skips_brackets(rt.alloc()) == Ok(true));
 }
 
-/// Asserts how many nodes the tree of 10,000 times one part has.
-fn expect_long(rt: &impl Abort, alloc: Global, part: &str, nodes: usize) -> Result<(), AllocError> {
-    let mut text = String::new(alloc);
-    for _ in 0..10_000 {
-        text.push_str(part)?;
-    }
+/// How many nodes the tree of 10,000 times one part has, or 0 where it isn't the text's tree.
+fn count_long(alloc: Global, part: &str) -> Result<usize, AllocError> {
+    let text = repeated(alloc, part, 10_000, "")?;
     let root = parse(alloc, text.as_str(), &UnicodeClasses)?;
-    assert!(rt; root.descendants() == nodes);
-    assert!(rt; root.len() == text.len());
-    Ok(())
+    let is_whole = root.len() == text.len();
+    Ok(if is_whole { root.descendants() } else { 0 })
 }
+
+const LONG: [(&str, usize); 4] = [
+    ("[", 10_001),
+    ("\n", 2),
+    ("a\n\n", 20_001),
+    ("- a\n", 60_001),
+];
 
 #[test]
-fn reads_long_texts(rt: HostRuntime) -> Result<(), Fail> {
-    let alloc = rt.alloc();
-    expect_long(&rt, alloc, "[", 10_001)?;
-    expect_long(&rt, alloc, "\n", 2)?;
-    expect_long(&rt, alloc, "a\n\n", 20_001)?;
-    expect_long(&rt, alloc, "- a\n", 60_001)?;
-    Ok(())
-}
-
-/// Asserts that where memory was refused once, parsing again gives the tree.
-fn expect_again(rt: &impl Abort, alloc: Global, text: &str) {
-    let first = parse(alloc, text, &UnicodeClasses);
-    let again = parse(alloc, text, &UnicodeClasses);
-    match (first, again) {
-        (Ok(first), Ok(again)) => assert!(rt; first.spanless_eq(&again)),
-        (Ok(root), Err(_)) | (Err(_), Ok(root)) => assert!(rt; root.len() == text.len()),
-        (Err(_), Err(_)) => assert!(rt; false),
+fn reads_long_texts(rt: HostRuntime) {
+    for (part, nodes) in LONG {
+        assert!(rt; count_long(rt.alloc(), part) == Ok(nodes));
     }
 }
 
-/// Five texts, whose parsing takes memory in different places. `rt try --test --fail-alloc N` refuses
-/// the Nth request.
+/// Whether two trees are the same, or the only one has this length.
+pub(crate) fn are_one(first: Option<SyntaxNode>, again: Option<SyntaxNode>, len: usize) -> bool {
+    match (first, again) {
+        (Some(first), Some(again)) => first.spanless_eq(&again),
+        (Some(root), None) | (None, Some(root)) => root.len() == len,
+        (None, None) => false,
+    }
+}
+
+/// Whether parsing gives the tree, also where memory was refused once.
+fn gives_again(alloc: Global, text: &str) -> bool {
+    let first = parse(alloc, text, &UnicodeClasses).ok();
+    let again = parse(alloc, text, &UnicodeClasses).ok();
+    are_one(first, again, text.len())
+}
+
+/// Five texts, whose parsing takes memory in different places.
+const TEXTS: [&str; 5] = [
+    "",
+    "- a\n  - b\n\n= c *d* and more than fits a short text",
+    "**]",
+    "*a _b /* c */\n\n",
+    "/ A",
+];
+
+/// `rt try --test --fail-alloc N` refuses the Nth request.
 #[test]
 fn parses_again_where_memory_is_refused(rt: HostRuntime) {
-    let alloc = rt.alloc();
-    expect_again(&rt, alloc, "");
-    expect_again(
-        &rt,
-        alloc,
-        "- a\n  - b\n\n= c *d* and more than fits a short text",
-    );
-    expect_again(&rt, alloc, "**]");
-    expect_again(&rt, alloc, "*a _b /* c */\n\n");
-    expect_again(&rt, alloc, "/ A");
+    for text in TEXTS {
+        assert!(rt; gives_again(rt.alloc(), text));
+    }
 }

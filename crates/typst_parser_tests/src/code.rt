@@ -1,0 +1,76 @@
+//! What of code needs code: depth, refused memory.
+
+use crate::trees::{are_one, is_too_deep, lowest, repeated};
+use std::alloc::{AllocError, Global};
+use typst_parser::{SyntaxNode, UnicodeClasses, parse_code};
+
+/// The tree of so many times one part, and then the rest.
+fn tree(alloc: Global, part: &str, count: usize, rest: &str) -> Result<SyntaxNode, AllocError> {
+    let text = repeated(alloc, part, count, rest)?;
+    parse_code(alloc, text.as_str(), &UnicodeClasses)
+}
+
+/// Whether the node is an `a` without an error.
+fn is_name(node: &SyntaxNode) -> bool {
+    node.leaf_text() == "a" && node.diagnostics().is_empty()
+}
+
+/// Whether an `a` behind 255 such parts is a name, and behind 256 an error of too great a depth.
+fn stops_at_limit(alloc: Global, part: &str) -> Result<bool, AllocError> {
+    let fits = tree(alloc, part, 255, "a")?;
+    let deep = tree(alloc, part, 256, "a")?;
+    let ((_, name), (_, error)) = (lowest(&fits), lowest(&deep));
+    Ok(is_name(name) && is_too_deep(error, "a"))
+}
+
+#[test]
+fn stops_at_a_depth_of_code(rt: HostRuntime) {
+    for part in ["(", "{", "-", "f(", "a="] {
+        assert!(rt; stops_at_limit(rt.alloc(), part) == Ok(true));
+    }
+}
+
+/// How many nodes the tree of 257 parts and the rest has.
+fn count(alloc: Global, part: &str, rest: &str) -> Result<usize, AllocError> {
+    Ok(tree(alloc, part, 257, rest)?.descendants())
+}
+
+const CHAINS: [(&str, &str, usize); 4] = [
+    ("a+", "a", 773),
+    ("a.", "a", 773),
+    ("()", "", 1_028),
+    ("if a {} else ", "{}", 3_089),
+];
+
+/// Operators that are taken from the left, fields, calls and branches are not counted: nothing is too
+/// deep.
+#[test]
+fn counts_no_chains(rt: HostRuntime) {
+    for (part, rest, nodes) in CHAINS {
+        assert!(rt; count(rt.alloc(), part, rest) == Ok(nodes));
+    }
+}
+
+/// Whether parsing gives the tree, also where memory was refused once.
+fn gives_again(alloc: Global, text: &str) -> bool {
+    let first = parse_code(alloc, text, &UnicodeClasses).ok();
+    let again = parse_code(alloc, text, &UnicodeClasses).ok();
+    are_one(first, again, text.len())
+}
+
+/// Five texts of code, whose parsing takes memory in different places.
+const TEXTS: [&str; 5] = [
+    "f(a, b: 1, ..c)[d *e*] + -1.5em",
+    "(a: 1, \"b\\u{41}\": 2, a: 3, 4)",
+    "import \"a\": (b as c, d\nshow e: {f; g}",
+    "if a { 0x } else if b [c] else d",
+    "{ \"a\n 1..2 <b> ]",
+];
+
+/// `rt try --test --fail-alloc N` refuses the Nth request.
+#[test]
+fn parses_code_again_where_memory_is_refused(rt: HostRuntime) {
+    for text in TEXTS {
+        assert!(rt; gives_again(rt.alloc(), text));
+    }
+}
