@@ -10,10 +10,10 @@ ghost use Rattle.typst_code.specs.Outside.{MeansAround, MeansAroundBy};
 
 use crate::groups::{begins_item, pair, separator, spread};
 use crate::heads::{calls_directly, opens_arguments};
-use typst_keys::{Key, Names};
 use crate::sequences::read_content;
 use std::alloc::AllocError;
 use typst_combinators::AtNewline;
+use typst_keys::{Key, Names};
 use typst_kinds::SyntaxKind;
 use typst_machine::{Change, Levels, Parser};
 use typst_markup::opens_directly;

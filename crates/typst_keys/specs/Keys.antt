@@ -1,5 +1,5 @@
 -- Names of arguments, and keys of pairs.
-use Rattle.std.specs.Prelude.{ℕ, Bool, true, false, ◌||◌, if◌then◌else◌, ◌==◌, List, [], ◌∷◌, ◌++◌, drop, codes, encode_utf8}
+use Rattle.std.specs.Prelude.{ℕ, Bool, true, false, ◌||◌, if◌then◌else◌, ◌==◌, List, [], ◌∷◌, ◌++◌, drop, codes, encode_utf8, Option, Some, None}
 use Rattle.std.specs.Char.{is_ascii_hexdigit}
 use Rattle.std.specs.List.{list_any}
 use Rattle.std.specs.Str.{bytes_eq, chars}
@@ -15,9 +15,17 @@ use Rattle.typst_keys.specs.declared.keys.Key.TheVariants as key
 
 -- ---- the key of a string
 
--- the character that these hexadecimal digits name, as bytes; where they name none they stay as they are written
+-- the character that hexadecimal digits name
+abbrev pub character : List ℕ → Option ℕ
+character digits = if is_code_point digits then Some (number_after 16 0 digits) else None
+
+-- that character as bytes; digits that name none stay as they are written, with what comes behind them
+abbrev pub written : List ℕ → List ℕ → Option ℕ → List ℕ
+written ds rest (Some c) = encode_utf8 c
+written ds rest None = codes "\\u{" ++ (ds ++ rest)
+
 abbrev pub code_point : List ℕ → List ℕ → List ℕ
-code_point ds rest = if is_code_point (chars ds) then encode_utf8 (number_after 16 0 (chars ds)) else codes "\\u{" ++ (ds ++ rest)
+code_point ds rest = written ds rest (character (chars ds))
 
 -- behind what was put off
 abbrev pub behind : List ℕ → List ℕ × Escape → List ℕ × Escape

@@ -149,14 +149,17 @@ fn push_code_point(key: &mut String, digits: &str, rest: &str) -> Result<(), All
 }
 
 /// The character that hexadecimal digits name.
-fn character(digits: &str) -> Option<char> {
+fn character(digits: &str) -> Option<char>
+    ensures { result ≡ spec.character (chars digits.now) }
+{
     if digits.is_empty() {
         return None;
     }
-    match number(digits, 16) {
-        Some(number) if number <= 0x10_ffff => char::from_u32(number as u32),
-        _ => None,
+    let number = number(digits, 16)?;
+    if number > 0x10_ffff {
+        return None;
     }
+    char::from_u32(number as u32)
 }
 
 /// Ends the key in an escape.

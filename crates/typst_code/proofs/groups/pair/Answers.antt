@@ -1,6 +1,6 @@
 use Rattle.std.proofs.Common.{refl}
 use Rattle.typst_code.proofs.Nots.{is-not, is-so}
-use Rattle.std.proofs.Common.{◌∙◌, ap, sym, map}
+use Rattle.std.proofs.Common.{◌∙◌, ap, Some, map}
 use Rattle.typst_kinds.specs.Kinds.{same}
 use Rattle.typst_kinds.specs.declared.kind.SyntaxKind.TheVariants as kind
 use Rattle.typst_combinators.specs.Shape.{seen}
@@ -23,4 +23,5 @@ unfolding pair
 returns g c l h =
     does-next (does-seeing h.sound c.marker-from.ensures.few c.marker-from.ensures.marker (c.in_ok-code_expression.ensures l h) c.in_ok-change.ensures)
     (asks-yes (same kind.Colon) c.current.ensures refl (is-so c.ne.ensures c.if-ne.false)
-    (does-next (c.in_ok-eat.ensures l h) (does-next (c.in_ok-code_expression-2.ensures l h) (does-value (ap Some (c.in_ok-key.ensures ∙ ap (λ ts. key_of (map seen ts)) c.given_since.ensures)) does-gives))))
+    (does-next (does-next (c.in_ok-eat.ensures l h) (c.in_ok-code_expression-2.ensures l h))
+    (does-value (ap Some (c.in_ok-key.ensures ∙ ap (λ ts. key_of (map seen ts)) c.given_since.ensures)) does-gives)))
