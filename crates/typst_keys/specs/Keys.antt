@@ -1,78 +1,74 @@
 -- Names of arguments, and keys of pairs.
-use Rattle.std.specs.Prelude.{ℕ, Bool, true, false, ◌||◌, if◌then◌else◌, ◌==◌, List, [], ◌∷◌, ◌++◌, drop, codes, encode_utf8, Option, Some, None}
+use Rattle.std.specs.Prelude.{ℕ, zero, suc, ◌+◌, Bool, if◌then◌else◌, ◌==◌, List, [], ◌∷◌, ◌++◌, take, drop, slice_get, encode_utf8, encode_utf8_all, Option, Some, None}
 use Rattle.std.specs.Char.{is_ascii_hexdigit}
-use Rattle.std.specs.List.{list_any}
+use Rattle.std.specs.List.{list_any, prefix_len}
 use Rattle.std.specs.Str.{bytes_eq, chars}
 use Rattle.typst_kinds.specs.Kinds.{same}
 use Rattle.typst_kinds.specs.declared.kind.SyntaxKind.TheVariants as kind
+use Rattle.typst_lines.specs.Place.{passes}
 use Rattle.typst_tokens.specs.Characters.{is_code_point, number_after}
 use Rattle.typst_combinators.specs.Shape.{Seen}
 use Rattle.typst_combinators.specs.Shape.Seen.{leaf_seen, inner_seen}
-use Rattle.typst_keys.specs.declared.escapes.Escape.{Escape}
-use Rattle.typst_keys.specs.declared.escapes.Escape.TheVariants as escape
 use Rattle.typst_keys.specs.declared.keys.Key.{Key}
 use Rattle.typst_keys.specs.declared.keys.Key.TheVariants as key
 
 -- ---- the key of a string
 
+-- what begins behind a backslash: how many characters belong to it, and the character that they stand for, if they stand for one
+pub record Escape : Type 0 where
+  pub len : ℕ
+  pub stands_for : Option ℕ
+
+abbrev pub one_more : Escape → Escape
+one_more e = record e { len = suc e.len }
+
 -- the character that hexadecimal digits name
 abbrev pub character : List ℕ → Option ℕ
 character digits = if is_code_point digits then Some (number_after 16 0 digits) else None
 
--- that character as bytes; digits that name none stay as they are written, with what comes behind them
-abbrev pub written : List ℕ → List ℕ → Option ℕ → List ℕ
-written ds rest (Some c) = encode_utf8 c
-written ds rest None = codes "\\u{" ++ (ds ++ rest)
+-- hexadecimal digits, and a closing brace where one comes
+abbrev pub in_braces : List ℕ → Escape
+in_braces cs = record {
+  len = if passes (λ c. c == 125) (slice_get cs (prefix_len is_ascii_hexdigit cs)) then prefix_len is_ascii_hexdigit cs + 1 else prefix_len is_ascii_hexdigit cs;
+  stands_for = character (take (prefix_len is_ascii_hexdigit cs) cs);
+}
 
-abbrev pub code_point : List ℕ → List ℕ → List ℕ
-code_point ds rest = written ds rest (character (chars ds))
+-- behind `u`: a character in braces
+abbrev pub code_escape : List ℕ → Escape
+code_escape cs = if passes (λ c. c == 123) (slice_get cs 0) then one_more (in_braces (drop 1 cs)) else record { len = 0; stands_for = None }
 
--- behind what was put off
-abbrev pub behind : List ℕ → List ℕ × Escape → List ℕ × Escape
-behind before step = (before ++ step.0, step.1)
+-- a backslash, a quote, `n`, `r`, `t`
+abbrev pub letter_escape : ℕ → Option ℕ
+letter_escape c =
+    if c == 92 then Some 92
+    else (if c == 34 then Some 34
+    else (if c == 110 then Some 10
+    else (if c == 114 then Some 13
+    else (if c == 116 then Some 9
+    else None))))
 
--- a character that no backslash stands before
-abbrev pub plain_step : ℕ → List ℕ × Escape
-plain_step c = if c == 92 then ([], escape.Begun) else (encode_utf8 c, escape.None)
+-- what begins behind a backslash
+abbrev pub escape : List ℕ → Escape
+escape [] = record { len = 0; stands_for = None }
+escape (c ∷ cs) = if c == 117 then one_more (code_escape cs) else record { len = 1; stands_for = letter_escape c }
 
--- a character behind a backslash: a backslash, a quote, `n`, `r`, `t` or `u`
-abbrev pub escape_step : ℕ → List ℕ × Escape
-escape_step c =
-    if c == 92 then (92 ∷ [], escape.None)
-    else (if c == 34 then (34 ∷ [], escape.None)
-    else (if c == 110 then (10 ∷ [], escape.None)
-    else (if c == 114 then (13 ∷ [], escape.None)
-    else (if c == 116 then (9 ∷ [], escape.None)
-    else (if c == 117 then ([], escape.Unicode)
-    else (92 ∷ encode_utf8 c, escape.None))))))
+-- what is written for it; an escape that stands for nothing stays as it is
+abbrev pub written : List ℕ → Escape → Option ℕ → List ℕ
+written cs e (Some c) = encode_utf8 c
+written cs e None = 92 ∷ encode_utf8_all (take e.len cs)
 
--- behind `u` in a backslash's escape
-abbrev pub unicode_step : ℕ → List ℕ × Escape
-unicode_step c = if c == 123 then ([], escape.Digits []) else behind (codes "\\u") (plain_step c)
+abbrev pub escaped : List ℕ → Escape → List ℕ
+escaped cs e = written cs e e.stands_for
 
--- behind the digits of a character: more of them, a closing brace, or what they end before
-abbrev pub digits_step : List ℕ → ℕ → List ℕ × Escape
-digits_step ds c =
-    if is_ascii_hexdigit c then ([], escape.Digits (ds ++ encode_utf8 c))
-    else (if c == 125 then (code_point ds (codes "}"), escape.None) else behind (code_point ds []) (plain_step c))
+-- what begins with a character: an escape behind a backslash, or that character alone
+abbrev pub begun : ℕ → List ℕ → Escape
+begun c cs = if c == 92 then escape cs else record { len = 0; stands_for = Some c }
 
--- what a character gives to the key, and which escape has begun behind it
-abbrev pub key_step : Escape → ℕ → List ℕ × Escape
-key_step escape.None c = plain_step c
-key_step escape.Begun c = escape_step c
-key_step escape.Unicode c = unicode_step c
-key_step (escape.Digits ds) c = digits_step ds c
-
--- what the end gives
-abbrev pub key_end : Escape → List ℕ
-key_end escape.None = []
-key_end escape.Begun = codes "\\"
-key_end escape.Unicode = codes "\\u"
-key_end (escape.Digits ds) = code_point ds []
-
-abbrev pub key_from : Escape → List ℕ → List ℕ
-key_from e [] = key_end e
-key_from e (c ∷ cs) = (key_step e c).0 ++ key_from (key_step e c).1 cs
+-- what is written for all characters but the first n
+abbrev pub unescaped : ℕ → List ℕ → List ℕ
+unescaped n [] = []
+unescaped (suc n) (c ∷ cs) = unescaped n cs
+unescaped zero (c ∷ cs) = escaped cs (begun c cs) ++ unescaped (begun c cs).len cs
 
 abbrev pub without_last : List ℕ → List ℕ
 without_last [] = []
@@ -81,7 +77,7 @@ without_last (c ∷ d ∷ cs) = c ∷ without_last (d ∷ cs)
 
 -- the text of a string without its quotes, with its escapes read
 unfoldable pub string_key : List ℕ → List ℕ
-string_key text = key_from escape.None (without_last (drop 1 (chars text)))
+string_key text = unescaped 0 (without_last (drop 1 (chars text)))
 
 -- ---- names that were seen
 

@@ -4,5 +4,5 @@
 mod escapes;
 mod keys;
 
-pub use escapes::{Escape, string_key};
+pub use escapes::string_key;
 pub use keys::{Key, Names, key_of};

@@ -1,11 +1,11 @@
-use Rattle.std.proofs.Common.{◌≡◌, ◌++◌, ◌-◌, length}
+use Rattle.std.proofs.Common.{◌≡◌, ◌++◌, length}
 use Rattle.std.specs.String.{string_bytes}
 use Rattle.typst_lines.specs.Scanner.{place}
-use Rattle.typst_keys.specs.Keys.{key_from, string_key}
+use Rattle.typst_keys.specs.Keys.{unescaped, string_key}
 use Rattle.typst_keys.proofs.escapes.string_key.Given as goal
 
 abbrev pub invariant-loop-c : goal.invariant-loop-c
-invariant-loop-c l = string_bytes l.key ++ key_from l.escape (place l.s).ahead ≡ string_key l.fn.text
+invariant-loop-c l = string_bytes l.key ++ unescaped 0 (place l.s).ahead ≡ string_key l.fn.text
 
 abbrev pub decreases-loop-c : goal.decreases-loop-c
-decreases-loop-c l = length l.s.text.now - l.s.cursor
+decreases-loop-c l = length (place l.s).ahead

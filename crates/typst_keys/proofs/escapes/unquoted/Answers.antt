@@ -2,7 +2,7 @@ use Rattle.std.proofs.Common.{◌≡◌, ℕ, List, [], ◌∷◌, ◌++◌, rev
 use Rattle.std.proofs.lemmas.List.{reverse-append, reverse-reverse}
 use Rattle.std.proofs.Math.Seq.{take-length}
 use Rattle.std.specs.Str.{chars}
-use Rattle.typst_lines.specs.Place.{Place, place_at, moved, moved_back, back_from}
+use Rattle.typst_lines.specs.Place.{place_at, moved, moved_back, back_from}
 use Rattle.typst_keys.specs.Keys.{without_last}
 use Rattle.typst_keys.proofs.escapes.unquoted.Goals as goal
 
