@@ -14,8 +14,7 @@ use Rattle.typst_combinators.specs.declared.calls.Block.{Block}
 use Rattle.typst_combinators.specs.declared.calls.Block.TheVariants as block
 use Rattle.typst_combinators.specs.declared.reading.Reading.{Reading}
 use Rattle.typst_combinators.specs.Point.{Point, Trivia, forgot}
-use Rattle.typst_combinators.specs.Hand.{Hand, AtHand, Ahead, told, hand_at, ahead, ahead_by, ahead_of, at_trivia, len_at, token_at, direct}
-use Rattle.typst_combinators.specs.Knot.{meaning_of}
+use Rattle.typst_combinators.specs.Hand.{Hand, AtHand, told, hand_at, ahead, ahead_by, at_trivia, len_at}
 use Rattle.typst_combinators.specs.Shape.{Making, Shape}
 use Rattle.typst_combinators.specs.Shape.Making.{itself, surprise, wanted}
 use Rattle.typst_combinators.specs.Syntax.{Parser}
@@ -27,13 +26,12 @@ use Rattle.typst_combinators.specs.Meaning.{Outcome, Meaning, Level, apart, befo
 use Rattle.typst_combinators.proofs.Ends.{hand-again}
 use Rattle.typst_markup.specs.Markup.{content_block}
 use Rattle.typst_markup.specs.Starts.{comes_later, begins_code}
-use Rattle.typst_code.specs.declared.heads.CodeHead.{CodeHead}
 use Rattle.typst_code.specs.Expressions.{code_head, code_by, unary_expr, code_primary, code_tail_turn, code_expr}
 use Rattle.typst_code.specs.Groups.{group}
 use Rattle.typst_code.specs.Imports.{module_import}
 use Rattle.typst_code.specs.Sequences.{code_block}
 use Rattle.typst_code.specs.Statements.{set_rule, show_rule, contextual, conditional, conditional_turn, while_loop, module_include, jump, func_return}
-use Rattle.typst_grammar.specs.Grammar.{level_at, meaning}
+use Rattle.typst_grammar.specs.Grammar.{level_at}
 
 -- where something is left, trivia or a token, something is taken
 abbrev pub Moves : {A : Type 0} → Level → Parser A → Type 0

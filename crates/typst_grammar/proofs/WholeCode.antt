@@ -1,5 +1,5 @@
 -- The whole text of code is read.
-use Rattle.std.proofs.Common.{◌≡◌, ℕ, zero, suc, ◌+◌, ◌<◌, ◌≤◌, Bool, true, false, ◌&&◌, if◌then◌else◌, nat_lt, List, [], length, encode_utf8_all, inl, inr, refl, ap, sym, subst, ◌∙◌, arith}
+use Rattle.std.proofs.Common.{◌≡◌, ℕ, zero, suc, ◌+◌, ◌<◌, ◌≤◌, Bool, true, false, ◌&&◌, if◌then◌else◌, nat_lt, List, [], length, encode_utf8_all, inl, inr, refl, ap, sym, ◌∙◌, arith}
 use Rattle.std.proofs.lemmas.Bool.Decides.{nat_tests}
 use Rattle.typst_kinds.specs.declared.kind.SyntaxKind.{SyntaxKind}
 use Rattle.typst_lines.specs.Place.{Place, moved}
@@ -8,11 +8,11 @@ use Rattle.typst_classes.specs.Classes.{CharClasses}
 use Rattle.typst_combinators.specs.declared.reading.AtNewline.TheVariants as newline
 use Rattle.typst_combinators.specs.declared.reading.Reading.{Reading}
 use Rattle.typst_combinators.specs.Point.{Point}
-use Rattle.typst_combinators.specs.Hand.{Hand, AtHand, hand_at}
+use Rattle.typst_combinators.specs.Hand.{Hand, hand_at}
 use Rattle.typst_combinators.specs.Knot.{meaning_of}
 use Rattle.typst_combinators.specs.Syntax.{Parser, ◌>>=◌, ◌>>◌}
 use Rattle.typst_combinators.specs.Syntax.Op.{hand}
-use Rattle.typst_combinators.specs.Syntax.Parser.{gives, does, next}
+use Rattle.typst_combinators.specs.Syntax.Parser.{gives, does}
 use Rattle.typst_combinators.specs.Steps.{peek, unexpected, flush_trivia, within}
 use Rattle.typst_combinators.specs.Depth.{is_end, deeper}
 use Rattle.typst_combinators.specs.Meaning.{Outcome, Meaning, Level, joined, turns, as_last, bound, repeated, hand_of, asked, start_point, run}
@@ -22,7 +22,7 @@ use Rattle.typst_combinators.proofs.Knot.{sane-at}
 use Rattle.typst_combinators.proofs.Rests.{Rests}
 use Rattle.typst_markup.specs.Markup.{at_newline}
 use Rattle.typst_markup.specs.Starts.{begins_code}
-use Rattle.typst_code.specs.Sequences.{code_expression, code_reading, code_turn, code_exprs, statement, statement_end}
+use Rattle.typst_code.specs.Sequences.{code_expression, code_reading, code_turn, code_exprs, statement}
 use Rattle.typst_grammar.specs.Grammar.{rules, level_at, max_depth, start_of, whole_code, parsed_code, tree_code}
 use Rattle.typst_grammar.proofs.CodeMoves.{Moves, moves-next, moves-unexpected, moves-within, moves-expr, left-again}
 

@@ -1,5 +1,4 @@
 use Rattle.std.proofs.Common.{refl}
-use Rattle.std.specs.Str.{chars}
 use Rattle.typst_machine.proofs.Steps.{does-next}
 use Rattle.typst_machine.proofs.Blocks.{calls-at}
 use Rattle.typst_markup.specs.Markup.{markup_reading}

@@ -1,4 +1,4 @@
-use Rattle.std.proofs.Common.{◌∙◌, ap, sym}
+use Rattle.std.proofs.Common.{◌∙◌, sym}
 use Rattle.typst_markup.specs.Embedded.{embedded_end, takes_semicolon, is_followed}
 use Rattle.typst_machine.proofs.Steps.{does-next, does-peek, does-pick, does-other, does-gives}
 use Rattle.typst_markup.proofs.Asks.{found}

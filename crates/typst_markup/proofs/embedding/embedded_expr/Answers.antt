@@ -1,7 +1,5 @@
 use Rattle.std.proofs.Common.{◌∙◌, ap, refl, sym}
-use Rattle.typst_combinators.specs.Meaning.{Level}
-use Rattle.typst_machine.specs.View.{Does}
-use Rattle.typst_markup.specs.Embedded.{embedded_expr, embedded_end, is_bare}
+use Rattle.typst_markup.specs.Embedded.{embedded_expr, is_bare}
 use Rattle.typst_markup.specs.Starts.{begins_statement}
 use Rattle.typst_machine.proofs.Steps.{does-next, does-peek, does-pick, does-other}
 use Rattle.typst_markup.proofs.embedding.embedded_expr.Goals as goal
