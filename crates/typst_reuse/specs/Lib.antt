@@ -7,7 +7,9 @@ pub mod Runs
 pub mod Sequence
 pub mod Bytes
 pub mod Laws
+pub mod Walk
 pub mod BlockRuns
 pub mod Joint
+pub mod InnerJoint
 pub mod Examples
 pub mod RunExamples

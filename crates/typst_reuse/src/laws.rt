@@ -5,9 +5,11 @@ ghost use Rattle.typst_reuse.specs.BlockRuns.{InnerLaw};
 ghost use Rattle.typst_reuse.specs.Bytes.{DecisionLaw};
 ghost use Rattle.typst_reuse.specs.Examples.{Blocks};
 ghost use Rattle.typst_reuse.specs.RunExamples.{Runs};
+ghost use Rattle.typst_reuse.specs.InnerJoint.{InnerJointLaw};
 ghost use Rattle.typst_reuse.specs.Joint.{JointLaw};
 ghost use Rattle.typst_reuse.specs.Laws.{BlockLaw, NamesLaw};
 ghost use Rattle.typst_reuse.specs.Runs.{RunLaw, StartLaw};
+ghost use Rattle.typst_reuse.specs.Walk.{WalkLaw};
 
 /// An edit inside a block of a text: where all that was looked at before the block ends at the
 /// replaced stretch or before it, all that was looked at behind the block begins at the stretch's
@@ -36,9 +38,11 @@ pub fn run_law()
 /// The same where the new pieces end before other trivia, or behind other errors: where trivia
 /// stand there in both texts or in none, with the same newlines, all behind the pieces is what it
 /// was, with the new trivia before it. The number of empty errors matters only where the next
-/// expression wasn't expected and takes them back.
+/// expression wasn't expected and takes them back. The same holds in a content block, up to its
+/// closing bracket, and then the edit passes the test of the block.
 pub fn joint_law()
-    ensures { JointLaw }
+    ensures pieces { JointLaw }
+    ensures inner { InnerJointLaw }
 {}
 
 /// Each block of a text has two notes in its log, where it begins and where it ends. Two numbers
@@ -46,6 +50,13 @@ pub fn joint_law()
 /// those behind the second begin, in bytes beside the ends of the replaced stretch.
 pub fn decision_law()
     ensures { DecisionLaw }
+{}
+
+/// From the top of a text's tree the steps to the child that begins before a stretch and ends behind
+/// it lead to each block that covers the stretch strictly: as many steps as its path is long go
+/// along its path, and the last of them leads to its node, which begins and ends where the block does.
+pub fn path_law()
+    ensures { WalkLaw }
 {}
 
 /// Where the blocks of short texts stand, and what is looked at around them.
