@@ -8,6 +8,8 @@ ghost use Rattle.typst_reuse.specs.RunExamples.{Runs};
 ghost use Rattle.typst_reuse.specs.InnerJoint.{InnerJointLaw};
 ghost use Rattle.typst_reuse.specs.Joint.{JointLaw};
 ghost use Rattle.typst_reuse.specs.Laws.{BlockLaw, NamesLaw};
+ghost use Rattle.typst_reuse.specs.RunBytes.{RunDecisionLaw};
+ghost use Rattle.typst_reuse.specs.RunTrees.{RunTreeLaw};
 ghost use Rattle.typst_reuse.specs.Runs.{RunLaw, StartLaw};
 ghost use Rattle.typst_reuse.specs.Walk.{WalkLaw};
 
@@ -29,10 +31,12 @@ pub fn block_law()
 /// new text has these in their place, and is the same before and behind them. Where nothing is kept
 /// behind them, as at the end of the run, the pieces before are kept by the first of these alone.
 /// The same holds of pieces of a content block's run, and then the edit passes the test of the block.
+/// In the tree and in the log of the text the new pieces' part stands in place of the old ones'.
 pub fn run_law()
     ensures pieces { RunLaw }
     ensures start { StartLaw }
     ensures inner { InnerLaw }
+    ensures tree { RunTreeLaw }
 {}
 
 /// The same where the new pieces end before other trivia, or behind other errors: where trivia
@@ -45,11 +49,13 @@ pub fn joint_law()
     ensures inner { InnerJointLaw }
 {}
 
-/// Each block of a text has two notes in its log, where it begins and where it ends. Two numbers
-/// decide of them what the block law asks of looks: where all looks before the first end, and where
-/// those behind the second begin, in bytes beside the ends of the replaced stretch.
+/// Each block of a text has two notes in its log, where it begins and where it ends. Two numbers of
+/// them say exactly whether what the block law asks of looks holds: where all looks before the first
+/// end, and where those behind the second begin, in bytes beside the ends of the replaced stretch. A note stands
+/// where each piece of a text's run begins, too, and decides the same of what the run law asks.
 pub fn decision_law()
-    ensures { DecisionLaw }
+    ensures blocks { DecisionLaw }
+    ensures pieces { RunDecisionLaw }
 {}
 
 /// From the top of a text's tree the steps to the child that begins before a stretch and ends behind
