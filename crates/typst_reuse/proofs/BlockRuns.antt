@@ -1,5 +1,5 @@
 -- The law of an edit inside some pieces of a content block's run.
-use Rattle.std.proofs.Common.{◌≡◌, ℕ, zero, suc, ◌+◌, ◌-◌, ◌<◌, ◌==◌, if◌then◌else◌, ne_eqb, Bool, true, false, [], ◌∷◌, ◌++◌, length, refl, ap, sym, ◌∙◌, subst, arith}
+use Rattle.std.proofs.Common.{◌≡◌, ℕ, zero, suc, ◌+◌, ◌<◌, ◌==◌, if◌then◌else◌, ne_eqb, Bool, true, false, [], ◌∷◌, ◌++◌, length, refl, ap, sym, ◌∙◌, subst, arith}
 use Rattle.typst_kinds.specs.declared.kind.SyntaxKind.TheVariants as kind
 use Rattle.typst_kinds.specs.Kinds.{same}
 use Rattle.typst_lines.specs.Place.{Place, moved}
@@ -57,7 +57,7 @@ module _ (r : Sequence) where
 -- ---- a content block
 
 module _ (k : CharClasses) (levels : ℕ) where
-  sane : {A : Type 0} (p : Parser A) → Sane (run (inner k levels) p)
+  pub sane : {A : Type 0} (p : Parser A) → Sane (run (inner k levels) p)
   sane p = sane-run (inner k levels) (sane-meaning rules k (suc levels)) (λ b. sane-plain tt) p
 
   module _ (z : Place) (s : Point) where
@@ -112,7 +112,7 @@ module _ (k : CharClasses) (levels : ℕ) where
         ∙ ap (λ j. content_by o t (inner_close k levels j t.state r.place)) m
 
     -- by its pieces
-    content-split : (i n : ℕ) → (let r = inner_run k levels z s in AllGo (first_of i r) → AllGo (then_of i n r)
+    pub content-split : (i n : ℕ) → (let r = inner_run k levels z s in AllGo (first_of i r) → AllGo (then_of i n r)
         → block_at k (suc levels) block.Content z s ≡ by_run (chain (first_of i r) (chain (then_of i n r) (rest_of i n r))) (((first_end i r).taken + (then_end i n r).taken) + (rest_of i n r).taken) (rest_of i n r).state)
     content-split i n g h =
         let r = inner_run k levels z s in
@@ -123,7 +123,7 @@ module _ (k : CharClasses) (levels : ℕ) where
         ∙ ap (by_run q (((first_end i r).taken + (then_end i n r).taken) + (rest_of i n r).taken)) (split-state r i n)
 
     -- how much it takes
-    content-taken : (r : Outcome (Bool × ℕ)) (t : Outcome (Unit {0})) (close : Outcome Bool) → (content_by r t close).taken ≡ (bracket k levels z s).taken + (r.taken + (t.taken + close.taken))
+    pub content-taken : (r : Outcome (Bool × ℕ)) (t : Outcome (Unit {0})) (close : Outcome Bool) → (content_by r t close).taken ≡ (bracket k levels z s).taken + (r.taken + (t.taken + close.taken))
     unfolding run
     content-taken r t close = omega arith
 
@@ -131,7 +131,7 @@ module _ (k : CharClasses) (levels : ℕ) where
   abbrev flush_at : Place → Point → Outcome (Unit {0})
   flush_at z s = run (inner k levels) flush_trivia z s
 
-  abbrev shut_at : Place → Point → Outcome Bool
+  abbrev pub shut_at : Place → Point → Outcome Bool
   shut_at z s = run (inner k levels) (close_if (same kind.RightBracket)) z (after_node false [] s)
 
   -- ---- in two texts
@@ -139,7 +139,7 @@ module _ (k : CharClasses) (levels : ℕ) where
   look-same : (z w : Place) (s : Point) → SameIn (look_first k levels z s).asks z w → look_first k levels w s ≡ look_first k levels z s
   look-same z w s h = (sane peek).framed z w s h
 
-  bracket-same : (z w : Place) (s : Point) → SameIn ((look_first k levels z s).asks ++ ((look_again k levels z s).asks ++ (bracket k levels z s).asks)) z w → bracket k levels w s ≡ bracket k levels z s
+  pub bracket-same : (z w : Place) (s : Point) → SameIn ((look_first k levels z s).asks ++ ((look_again k levels z s).asks ++ (bracket k levels z s).asks)) z w → bracket k levels w s ≡ bracket k levels z s
   unfolding run
   bracket-same z w s h =
       let a = same_in-second (look_first k levels z s).asks _ z w h in
@@ -150,10 +150,10 @@ module _ (k : CharClasses) (levels : ℕ) where
       ∙ (sane (does (takes false itself))).framed z w (entered markup_reading (look_again k levels z s).state) (same_in-second (look_again k levels z s).asks _ z w a)
 
   -- the run from its bracket on
-  abbrev seq_by : Outcome (Unit {0}) → Place → Sequence
+  abbrev pub seq_by : Outcome (Unit {0}) → Place → Sequence
   seq_by b z = record { level = inner k levels; stops = ends_block; place = moved b.taken z; point = (run (inner k levels) peek (moved b.taken z) b.state).state }
 
-  first-by : (i : ℕ) (b : Outcome (Unit {0})) (z w : Place) → (0 < i → SameIn ((run (inner k levels) peek (moved b.taken z) b.state).asks ++ asks_of (first_of i (seq_by b z))) (moved b.taken z) (moved b.taken w)) → first_of i (seq_by b w) ≡ first_of i (seq_by b z)
+  pub first-by : (i : ℕ) (b : Outcome (Unit {0})) (z w : Place) → (0 < i → SameIn ((run (inner k levels) peek (moved b.taken z) b.state).asks ++ asks_of (first_of i (seq_by b z))) (moved b.taken z) (moved b.taken w)) → first_of i (seq_by b w) ≡ first_of i (seq_by b z)
   first-by zero b z w h = refl
   first-by (suc i) b z w h =
       let y = moved b.taken z in

@@ -1,21 +1,22 @@
 -- Each block of the grammar ends in its node.
-use Rattle.std.proofs.Common.{◌≡◌, ℕ, ◌+◌, Bool, true, false, List, [], ◌∷◌, ◌++◌, take, append-nil, append_assoc, refl, ap, sym, ◌∙◌}
+use Rattle.std.proofs.Common.{◌≡◌, ℕ, ◌+◌, Bool, true, false, if◌then◌else◌, List, [], ◌∷◌, ◌++◌, take, append-nil, append_assoc, refl, ap, sym, ◌∙◌}
 use Rattle.typst_node.specs.Tree.{Tree}
 use Rattle.typst_lines.specs.Place.{Place, moved}
 use Rattle.typst_classes.specs.Classes.{CharClasses}
 use Rattle.typst_combinators.specs.declared.calls.Block.{Block}
 use Rattle.typst_combinators.specs.declared.calls.Block.TheVariants as block
 use Rattle.typst_combinators.specs.Point.{Point}
-use Rattle.typst_combinators.specs.Shape.{hinted, shaped}
+use Rattle.typst_combinators.specs.Shape.{Shape, hinted, shaped, becomes, unclosed}
 use Rattle.typst_combinators.specs.Steps.{peek, node}
 use Rattle.typst_combinators.specs.Syntax.{Parser, ◌>>◌}
 use Rattle.typst_combinators.specs.Syntax.Begin.{at_token}
 use Rattle.typst_combinators.specs.Knot.{blocks_of, meaning_of}
 use Rattle.typst_combinators.specs.Meaning.{Outcome, Level, plain, less, joined, before, inside, wrapped, blockless, run}
 use Rattle.typst_combinators.proofs.Places.{less-append, less-none}
-use Rattle.typst_markup.specs.Markup.{bracketed, content_block}
-use Rattle.typst_grammar.specs.Grammar.{rules, has}
-use Rattle.typst_reuse.specs.Spot.{block_head, last_node}
+use Rattle.typst_markup.specs.Markup.{content_block}
+use Rattle.typst_code.specs.Sequences.{code_block}
+use Rattle.typst_grammar.specs.Grammar.{rules}
+use Rattle.typst_reuse.specs.Spot.{kind_of, block_head, last_node}
 use Rattle.typst_reuse.proofs.Law.{Ends}
 
 -- what is given ends in an inner node of the block's kind
@@ -63,42 +64,50 @@ ends-plain b a o e = record {
   empties = e.empties;
 }
 
--- what is bracketed becomes one node
-ends-bracketed : (n : ℕ) (closed : Bool) (o : Outcome Bool) → o.value ≡ closed → EndsIn block.Content (wrapped bracketed n o)
-ends-bracketed n true o e = record {
+-- what stands between the delimiters of a block: where the second is missing the first is an error
+abbrev pub enclosing : Block → Bool → Shape
+enclosing b closed = if closed then becomes (kind_of b) else unclosed (kind_of b)
+
+-- it becomes one node
+ends-enclosing : (b : Block) (n : ℕ) (closed : Bool) (o : Outcome Bool) → o.value ≡ closed → EndsIn b (wrapped (enclosing b) n o)
+ends-enclosing b n true o e = record {
   front = take (n + o.back) o.nodes;
   node = _;
-  nodes = ap (λ c. take (n + o.back) o.nodes ++ shaped (bracketed c) (inside n o)) e;
+  nodes = ap (λ c. take (n + o.back) o.nodes ++ shaped (enclosing b c) (inside n o)) e;
   head = refl;
-  empties = ap (λ c. (wrapped (λ v. bracketed c) n o).state.empties) e;
+  empties = ap (λ c. (wrapped (λ v. enclosing b c) n o).state.empties) e;
 }
-ends-bracketed n false o e = record {
+ends-enclosing b n false o e = record {
   front = take (n + o.back) o.nodes;
   node = _;
-  nodes = ap (λ c. take (n + o.back) o.nodes ++ shaped (bracketed c) (inside n o)) e;
+  nodes = ap (λ c. take (n + o.back) o.nodes ++ shaped (enclosing b c) (inside n o)) e;
   head = refl;
-  empties = ap (λ c. (wrapped (λ v. bracketed c) n o).state.empties) e;
+  empties = ap (λ c. (wrapped (λ v. enclosing b c) n o).state.empties) e;
 }
 
-ends-node : (l : Level) (p : Parser Bool) (z : Place) (s : Point) → EndsIn block.Content (run l (node bracketed p) z s)
+ends-node : (b : Block) (l : Level) (p : Parser Bool) (z : Place) (s : Point) → EndsIn b (run l (node (enclosing b) p) z s)
 unfolding run node
-ends-node l p z s =
+ends-node b l p z s =
     let o = run l peek z s in
     let w = moved o.taken z in
     let q = run l p w o.state in
     let n = before at_token o.state in
-    ends-joined block.Content o _ (ends-plain block.Content q.value (wrapped bracketed n q) (ends-bracketed n q.value q refl))
+    ends-joined b o _ (ends-plain b q.value (wrapped (enclosing b) n q) (ends-enclosing b n q.value q refl))
 
 ends-content : (l : Level) (z : Place) (s : Point) → EndsIn block.Content (run l (peek >> content_block) z s)
 unfolding run content_block
 ends-content l z s =
     let o = run l peek z s in
     let w = moved o.taken z in
-    ends-joined block.Content o _ (ends-plain block.Content tt (run l (node bracketed _) w o.state) (ends-node l _ w o.state))
+    ends-joined block.Content o _ (ends-plain block.Content tt (run l (node (enclosing block.Content) _) w o.state) (ends-node block.Content l _ w o.state))
 
-no-block : {P : Type 0} → false ≡ true → P
-no-block h = cc
+ends-code : (l : Level) (z : Place) (s : Point) → EndsIn block.Code (run l (peek >> code_block) z s)
+unfolding run code_block
+ends-code l z s =
+    let o = run l peek z s in
+    let w = moved o.taken z in
+    ends-joined block.Code o _ (ends-plain block.Code tt (run l (node (enclosing block.Code) _) w o.state) (ends-node block.Code l _ w o.state))
 
-pub ends : (k : CharClasses) (levels : ℕ) (b : Block) → has b ≡ true → (z : Place) (s : Point) → Ends b (blocks_of rules k levels (meaning_of rules k levels) b z s)
+pub ends : (k : CharClasses) (levels : ℕ) (b : Block) → rules.has b ≡ true → (z : Place) (s : Point) → Ends b (blocks_of rules k levels (meaning_of rules k levels) b z s)
 ends k levels block.Content h z s = ends-of block.Content _ (ends-content (blockless k levels (meaning_of rules k levels)) z s)
-ends k levels block.Code h z s = no-block h
+ends k levels block.Code h z s = ends-of block.Code _ (ends-code (blockless k levels (meaning_of rules k levels)) z s)

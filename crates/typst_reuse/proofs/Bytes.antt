@@ -1,5 +1,5 @@
 -- The test of an edit in bytes, by the notes of a reading.
-use Rattle.std.proofs.Common.{◌≡◌, ℕ, ◌+◌, ◌-◌, ◌<◌, ◌≤◌, max, min, List, [], ◌∷◌, ◌++◌, length, length-append, append_assoc, append-nil, Option, Some, refl, ap, sym, ◌∙◌, subst, arith}
+use Rattle.std.proofs.Common.{◌≡◌, ℕ, ◌+◌, ◌-◌, ◌<◌, ◌≤◌, ◌^◌, max, min, List, [], ◌∷◌, ◌++◌, length, length-append, append_assoc, append-nil, Option, Some, refl, ap, sym, ◌∙◌, subst, arith}
 use Rattle.typst_lines.specs.Place.{Place, moved}
 use Rattle.typst_classes.specs.Classes.{CharClasses}
 use Rattle.typst_readers.specs.Sight.{width, position, far, near, hull_of}
@@ -9,7 +9,7 @@ use Rattle.typst_combinators.specs.declared.calls.Note.{Note}
 use Rattle.typst_combinators.specs.declared.reading.State.{State}
 use Rattle.typst_combinators.specs.Ask.{Ask, shift}
 use Rattle.typst_combinators.specs.Ask.Ask.{looked, marked}
-use Rattle.typst_combinators.specs.Log.{Log, no_log, with_more, with_hull, with_note, logged_one, logged}
+use Rattle.typst_combinators.specs.Log.{Log, no_log, least_behind, with_more, with_hull, with_note, logged_one, logged}
 use Rattle.typst_combinators.specs.Meaning.{start_point}
 use Rattle.typst_combinators.specs.Point.{state_of}
 use Rattle.typst_markup.specs.Markup.{markup_reading}
@@ -24,24 +24,24 @@ use Rattle.typst_reuse.proofs.Edit.{among, onto, past-is}
 use Rattle.typst_reuse.proofs.Inside.{Lawful}
 use Rattle.typst_reuse.proofs.Law.{inside-level}
 use Rattle.typst_reuse.proofs.Names.{named-level}
-use Rattle.typst_reuse.proofs.Widths.{width-none, width-append, width-onto, width-moved, far-by, near-by}
+use Rattle.typst_reuse.proofs.Widths.{width-none, width-append, width-onto, width-moved, far-by, far-to, near-by, near-to}
 use Rattle.typst_reuse.proofs.Within.{AllAt, at-first, at-second, in-level}
 
 -- ---- the log of asks one behind the other
 
-logged-append : (lv : ℕ) (z : Place) (h : Log) (ls ks : List Ask) → logged lv z h (ls ++ ks) ≡ logged lv z (logged lv z h ls) ks
+pub logged-append : (lv : ℕ) (z : Place) (h : Log) (ls ks : List Ask) → logged lv z h (ls ++ ks) ≡ logged lv z (logged lv z h ls) ks
 logged-append lv z h [] ks = refl
 logged-append lv z h (ask ∷ ls) ks = logged-append lv z (logged_one lv z h ask) ls ks
 
 -- so many notes more
-record Noted (ns : List Note) (h : Log) : Type 0 where
-  more : List Note
-  is : h.notes ≡ Some (ns ++ more)
+pub record Noted (ns : List Note) (h : Log) : Type 0 where
+  pub more : List Note
+  pub is : h.notes ≡ Some (ns ++ more)
 
-noted-more : (note : Note) (o : Option (List Note)) (ns : List Note) → o ≡ Some ns → with_more note o ≡ Some (ns ++ note ∷ [])
+pub noted-more : (note : Note) (o : Option (List Note)) (ns : List Note) → o ≡ Some ns → with_more note o ≡ Some (ns ++ note ∷ [])
 noted-more note o ns e = ap (with_more note) e
 
-noted-by : (lv : ℕ) (z : Place) (asks : List Ask) (h : Log) (ns : List Note) → h.notes ≡ Some ns → Noted ns (logged lv z h asks)
+pub noted-by : (lv : ℕ) (z : Place) (asks : List Ask) (h : Log) (ns : List Note) → h.notes ≡ Some ns → Noted ns (logged lv z h asks)
 noted-by lv z [] h ns e = record { more = []; is = e ∙ ap Some (sym (append-nil ns)) }
 noted-by lv z (looked at look ∷ asks) h ns e = noted-by lv z asks (with_hull (hull_of look (moved at z)) h) ns e
 noted-by lv z (marked at gap fewer m s ∷ asks) h ns e =
@@ -52,16 +52,16 @@ noted-by lv z (marked at gap fewer m s ∷ asks) h ns e =
 
 -- ---- where looks end
 
-abbrev AllReach : ℕ → Place → List Ask → Type 0
+abbrev pub AllReach : ℕ → Place → List Ask → Type 0
 AllReach b z [] = Unit {0}
 AllReach b z (looked at look ∷ asks) = (far look.front (moved at z) ≤ b) × AllReach b z asks
 AllReach b z (marked at gap fewer m s ∷ asks) = AllReach b z asks
 
-record Reach (b : ℕ) (z : Place) (h : Log) (asks : List Ask) : Type 0 where
-  before : h.reach ≤ b
-  all : AllReach b z asks
+pub record Reach (b : ℕ) (z : Place) (h : Log) (asks : List Ask) : Type 0 where
+  pub before : h.reach ≤ b
+  pub all : AllReach b z asks
 
-reach-by : (lv b : ℕ) (z : Place) (asks : List Ask) (h : Log) → (logged lv z h asks).reach ≤ b → Reach b z h asks
+pub reach-by : (lv b : ℕ) (z : Place) (asks : List Ask) (h : Log) → (logged lv z h asks).reach ≤ b → Reach b z h asks
 reach-by lv b z [] h e = record { before = e; all = tt }
 reach-by lv b z (looked at look ∷ asks) h e =
     let i = reach-by lv b z asks (with_hull (hull_of look (moved at z)) h) e in
@@ -70,7 +70,22 @@ reach-by lv b z (marked at gap fewer m s ∷ asks) h e =
     let i = reach-by lv b z asks (with_note gap (lv - fewer) m s (moved at z) h) e in
     record { before = i.before; all = i.all }
 
-end-by : (front more : List ℕ) (asks : List Ask) → AllAt (length (front ++ more)) asks → AllReach (width front) (start_of (front ++ more)) asks → AllEndBy (length front) asks
+reach-to : (lv b : ℕ) (z : Place) (asks : List Ask) (h : Log) → h.reach ≤ b → AllReach b z asks → (logged lv z h asks).reach ≤ b
+reach-to lv b z [] h e a = e
+reach-to lv b z (looked at look ∷ asks) h e a = let d = a.0 in reach-to lv b z asks (with_hull (hull_of look (moved at z)) h) (omega (arith, e, d)) a.1
+reach-to lv b z (marked at gap fewer m s ∷ asks) h e a = reach-to lv b z asks (with_note gap (lv - fewer) m s (moved at z) h) e a
+
+end-to : (front more : List ℕ) (asks : List Ask) → AllEndBy (length front) asks → AllReach (width front) (start_of (front ++ more)) asks
+end-to front more [] a = tt
+end-to front more (looked at look ∷ asks) a = (far-to at look.front front more a.0, end-to front more asks a.1)
+end-to front more (marked at gap fewer m s ∷ asks) a = end-to front more asks a
+
+mark-end : (n : ℕ) (asks : List Ask) (at gap fewer : ℕ) (m : Mark) (s : State) → AllEndBy n (asks ++ marked at gap fewer m s ∷ []) → AllEndBy n asks
+mark-end n [] at gap fewer m s h = tt
+mark-end n (looked i look ∷ asks) at gap fewer m s h = (h.0, mark-end n asks at gap fewer m s h.1)
+mark-end n (marked i g f l t ∷ asks) at gap fewer m s h = mark-end n asks at gap fewer m s h
+
+pub end-by : (front more : List ℕ) (asks : List Ask) → AllAt (length (front ++ more)) asks → AllReach (width front) (start_of (front ++ more)) asks → AllEndBy (length front) asks
 end-by front more [] a r = tt
 end-by front more (looked at look ∷ asks) a r = (far-by at look.front front more a.0 r.0, end-by front more asks a.1 r.1)
 end-by front more (marked at gap fewer m s ∷ asks) a r = end-by front more asks a r
@@ -82,23 +97,31 @@ end-mark n (marked i g f l t ∷ asks) at gap fewer m s h = end-mark n asks at g
 
 -- ---- where looks begin
 
-abbrev AllFrom : ℕ → Place → List Ask → Type 0
+abbrev pub AllFrom : ℕ → Place → List Ask → Type 0
 AllFrom b z [] = Unit {0}
 AllFrom b z (looked at look ∷ asks) = (b < near look.back (moved at z)) × AllFrom b z asks
 AllFrom b z (marked at gap fewer m s ∷ asks) = AllFrom b z asks
 
 -- with the notes since
-record Least (lv b : ℕ) (z : Place) (h : Log) (ns : List Note) (asks : List Ask) : Type 0 where
-  more : List Note
-  is : (logged lv z h asks).notes ≡ Some (ns ++ more)
-  before : b < lowest more (logged lv z h asks).least → b < h.least
-  all : b < lowest more (logged lv z h asks).least → AllFrom b z asks
+pub record Least (lv b : ℕ) (z : Place) (h : Log) (ns : List Note) (asks : List Ask) : Type 0 where
+  pub more : List Note
+  pub is : (logged lv z h asks).notes ≡ Some (ns ++ more)
+  pub before : b < lowest more (logged lv z h asks).least → b < h.least
+  pub all : b < lowest more (logged lv z h asks).least → AllFrom b z asks
+  pub back : b < 2 ^ 64 - 1 → b < h.least → AllFrom b z asks → b < lowest more (logged lv z h asks).least
 
 below : (b m n : ℕ) → b < min m n → (b < m) × (b < n)
 below b m n h = (omega (arith, h), omega (arith, h))
 
+above : (b m n : ℕ) → b < m → b < n → b < min m n
+above b m n h k = omega (arith, h, k)
+
+-- behind a note nothing was looked at yet
+newly : (b : ℕ) (notes : Option (List Note)) (ns : List Note) (least : ℕ) → notes ≡ Some ns → b < 2 ^ 64 - 1 → b < least_behind notes least
+newly b notes ns least e big = subst (λ o. b < least_behind o least) (sym e) big
+
 least-by : (lv b : ℕ) (z : Place) (asks : List Ask) (h : Log) (ns : List Note) → h.notes ≡ Some ns → Least lv b z h ns asks
-least-by lv b z [] h ns e = record { more = []; is = e ∙ ap Some (sym (append-nil ns)); before = λ l. l; all = λ l. tt }
+least-by lv b z [] h ns e = record { more = []; is = e ∙ ap Some (sym (append-nil ns)); before = λ l. l; all = λ l. tt; back = λ big l f. l }
 least-by lv b z (looked at look ∷ asks) h ns e =
     let i = least-by lv b z asks (with_hull (hull_of look (moved at z)) h) ns e in
     record {
@@ -106,6 +129,7 @@ least-by lv b z (looked at look ∷ asks) h ns e =
       is = i.is;
       before = λ l. (below b h.least (near look.back (moved at z)) (i.before l)).0;
       all = λ l. ((below b h.least (near look.back (moved at z)) (i.before l)).1, i.all l);
+      back = λ big l f. i.back big (above b h.least (near look.back (moved at z)) l f.0) f.1;
     }
 least-by lv b z (marked at gap fewer m s ∷ asks) h ns e =
     let k = with_note gap (lv - fewer) m s (moved at z) h in
@@ -117,10 +141,11 @@ least-by lv b z (marked at gap fewer m s ∷ asks) h ns e =
       is = i.is ∙ ap Some (append_assoc ns (note ∷ []) i.more);
       before = λ l. (below b h.least (lowest i.more last) l).0;
       all = λ l. i.all (below b h.least (lowest i.more last) l).1;
+      back = λ big l f. above b h.least (lowest i.more last) l (i.back big (newly b h.notes ns h.least e big) f);
     }
 
 -- behind a stretch
-begin-by : (front old rest : List ℕ) (end past : ℕ) (asks : List Ask) → end ≡ (length front + length old) + past → AllAt (length (front ++ (old ++ rest))) (shift end asks) → AllFrom (width (front ++ old)) (text_with front old rest) (shift end asks)
+pub begin-by : (front old rest : List ℕ) (end past : ℕ) (asks : List Ask) → end ≡ (length front + length old) + past → AllAt (length (front ++ (old ++ rest))) (shift end asks) → AllFrom (width (front ++ old)) (text_with front old rest) (shift end asks)
     → AllBeginIn past rest asks
 begin-by front old rest end past [] e a f = tt
 begin-by front old rest end past (looked at look ∷ asks) e a f =
@@ -134,6 +159,17 @@ begin-by front old rest end past (looked at look ∷ asks) e a f =
     let begins : width (onto old (onto front [])) < near look.back (moved d (record { behind = onto old (onto front []); ahead = rest })) = subst (λ n. n < near look.back (moved d (record { behind = onto old (onto front []); ahead = rest }))) early (subst (λ y. width (front ++ old) < near look.back y) place f.0) in
     (near-by look.back d (onto old (onto front [])) rest room begins, room, begin-by front old rest end past asks e a.1 f.1)
 begin-by front old rest end past (marked at gap fewer m s ∷ asks) e a f = begin-by front old rest end past asks e a f
+
+begin-to : (front old rest : List ℕ) (end past : ℕ) (asks : List Ask) → end ≡ (length front + length old) + past → AllBeginIn past rest asks → AllFrom (width (front ++ old)) (text_with front old rest) (shift end asks)
+begin-to front old rest end past [] e f = tt
+begin-to front old rest end past (looked at look ∷ asks) e f =
+    let d = past + at in
+    let there : end + at ≡ (length front + length old) + d = omega (arith, e) in
+    let place : moved (end + at) (text_with front old rest) ≡ moved d (record { behind = onto old (onto front []); ahead = rest }) = ap (λ n. moved n (text_with front old rest)) there ∙ past-is d front old rest in
+    let early : width (front ++ old) ≡ width (onto old (onto front [])) = omega (arith, width-append front old, width-onto old (onto front []), width-onto front [], width-none) in
+    let begins = near-to look.back d (onto old (onto front [])) rest f.0 f.1 in
+    (subst (λ y. width (front ++ old) < near look.back y) (sym place) (subst (λ n. n < near look.back (moved d (record { behind = onto old (onto front []); ahead = rest }))) (sym early) begins), begin-to front old rest end past asks e f.2)
+begin-to front old rest end past (marked at gap fewer m s ∷ asks) e f = begin-to front old rest end past asks e f
 
 -- ---- the two notes of a block
 
@@ -169,6 +205,7 @@ module _ (lv : ℕ) (z : Place) (first second third : List Ask) (at fewer end ga
     later : List Note
     notes : log_three.notes ≡ Some (earlier ++ note_one ∷ (inner ++ note_two ∷ later))
     all : b < lowest later log_three.least → AllFrom b z third
+    back : b < 2 ^ 64 - 1 → AllFrom b z third → b < lowest later log_three.least
 
   between : (b : ℕ) → Between b
   between b =
@@ -181,6 +218,7 @@ module _ (lv : ℕ) (z : Place) (first second third : List Ask) (at fewer end ga
         later = three.more;
         notes = three.is ∙ ap Some (append_assoc ((one.more ++ note_one ∷ []) ++ two.more) (note_two ∷ []) three.more ∙ append_assoc (one.more ++ note_one ∷ []) two.more (note_two ∷ three.more) ∙ append_assoc one.more (note_one ∷ []) (two.more ++ note_two ∷ three.more));
         all = three.all;
+        back = λ big f. three.back big (newly b log_two.notes _ log_two.least two.is big) f;
       }
 
 asks-are : (os bs es own cs ls : List Ask) (a c : Ask) → os ≡ bs ++ (own ++ cs) → bs ≡ es ++ a ∷ [] → cs ≡ c ∷ ls → os ≡ es ++ (a ∷ (own ++ c ∷ ls))
@@ -223,6 +261,10 @@ decided k front old rest c past o n a e =
       name_end = refl;
       before = λ h. subst (λ ls. AllEndBy (length front) ls) (sym n.opened) (end-mark (length front) n.earlier c.at 0 c.fewer start_mark c.start
           (end-by front (old ++ rest) n.earlier within_before (reach-by max_depth (width front) z n.earlier no_log h).all));
+      before_too = λ h. reach-to max_depth (width front) z n.earlier no_log (omega arith)
+          (end-to front (old ++ rest) n.earlier (mark-end (length front) n.earlier c.at 0 c.fewer start_mark c.start (subst (λ ls. AllEndBy (length front) ls) n.opened h)));
+      after_too = λ big h. subst (λ (l : Log). width (front ++ old) < lowest b.later l.least) (sym split.is)
+          (b.back big (begin-to front old rest end past n.later there (subst (λ ls. AllBeginIn past rest ls) n.closed h)));
       after = λ h. subst (λ ls. AllBeginIn past rest ls) (sym n.closed)
           (begin-by front old rest end past n.later there within_after (b.all (subst (λ (l : Log). width (front ++ old) < lowest b.later l.least) split.is h)));
     }

@@ -76,7 +76,7 @@ after-same asks d m k front old new rest e f h =
 
 -- ---- the path
 
-trees-of : (ts : List Tree) → trees (forest ts) ≡ ts
+pub trees-of : (ts : List Tree) → trees (forest ts) ≡ ts
 trees-of [] = refl
 trees-of (t ∷ ts) = ap (λ l. t ∷ l) (trees-of ts)
 

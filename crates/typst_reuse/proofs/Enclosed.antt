@@ -18,6 +18,7 @@ use Rattle.typst_combinators.specs.Hand.{Hand, Ahead, len_at, at_trivia, hand_at
 use Rattle.typst_combinators.specs.Point.{Point, forgot}
 use Rattle.typst_combinators.specs.Shape.{hinted, count_empty, after_node}
 use Rattle.typst_combinators.specs.Shape.Making.{itself}
+use Rattle.typst_combinators.specs.Steps.{peek, eat_making, eat}
 use Rattle.typst_combinators.specs.Syntax.{Parser}
 use Rattle.typst_combinators.specs.Syntax.Op.{takes}
 use Rattle.typst_combinators.specs.Syntax.Parser.{does, next, scoped}
@@ -159,33 +160,69 @@ alone-plain a o h =
 apart-joined : {A B : Type 0} (o : Outcome B) (p : Outcome A) → o.back ≡ 0 → o.hints ≡ [] → 0 < length o.nodes → p.back ≡ 0 → Apart (joined o p)
 apart-joined o p e f g h = record { back = omega (arith, e, h); hints = hints-first o p (omega (arith, g, h)) ∙ f }
 
-abbrev pub enclosed : {A : Type 0} → Reading → Parser A → Parser A
-enclosed r q = scoped (λ _. r) (next (does (takes false itself)) (λ _. q))
+-- how what is enclosed begins: the token at hand is taken, and no error before it
+pub record Opener (l : Level) (p : Parser (Unit {0})) : Type 0 where
+  pub back : (z : Place) (s : Point) → (run l p z s).back ≡ 0
+  pub hints : (z : Place) (s : Point) → (run l p z s).hints ≡ []
+  pub some : (z : Place) (s : Point) → 0 < length (run l p z s).nodes
+  pub empties : (z : Place) (s : Point) → (hand_of l z s).gap ≡ 0 → 0 < (hand_of l z s).len → (hand_of l z s).len ≤ length z.ahead → (run l p z s).state.empties ≡ 0
+  pub held : (z : Place) (s : Point) → (run l p z s).state.held ≡ (run l p z s).state.reading
 
-module _ (l : Level) (d : (c : Call) → Sane (l.deeper c)) (e : (b : Block) → Sane (l.blocks b)) where
+some-taken : (ts : List Tree) (t : Tree) → 0 < length (ts ++ t ∷ [])
+some-taken ts t = let e = length-append ts (t ∷ []) in omega (arith, e)
+
+-- the token alone, and nothing is asked behind it
+pub opener-takes : (l : Level) → Opener l (does (takes false itself))
+unfolding run
+opener-takes l = record {
+  back = λ z s. refl;
+  hints = λ z s. refl;
+  some = λ z s. some-taken (hand_of l z s).trivia _;
+  empties = λ z s g some room. took-some l.classes (hand_of l z s) z s g some room;
+  held = λ z s. refl;
+}
+
+-- the token, and a look at the one behind it
+pub opener-eat : (l : Level) → Opener l eat
+unfolding run eat eat_making
+opener-eat l = record {
+  back = λ z s. (let e = some-taken (hand_of l z s).trivia (taken_node l.classes itself (hand_of l z s) z) in omega (arith, e));
+  hints = λ z s. (let o = done l (takes false itself) z s in
+      let n = run l peek (moved o.taken z) o.state in
+      let e = some-taken (hand_of l z s).trivia (taken_node l.classes itself (hand_of l z s) z) in
+      hints-first o (joined n (plain (tt {0}) n.state)) (omega (arith, e)));
+  some = λ z s. (let h = hand_of l z s in
+      let ts = h.trivia ++ taken_node l.classes itself h z ∷ [] in
+      let blank : List Tree = [] in
+      let e : less 0 ts ++ (less 0 blank ++ blank) ≡ ts = ap (λ us. less 0 ts ++ us) (append-nil (less 0 blank) ∙ less-none blank) ∙ append-nil (less 0 ts) ∙ less-none ts in
+      subst (λ us. 0 < length us) (sym e) (some-taken h.trivia _));
+  empties = λ z s g some room. took-some l.classes (hand_of l z s) z s g some room;
+  held = λ z s. refl;
+}
+
+abbrev pub enclosed : {A : Type 0} → Reading → Parser (Unit {0}) → Parser A → Parser A
+enclosed r p q = scoped (λ _. r) (next p (λ _. q))
+
+module _ (l : Level) (d : (c : Call) → Sane (l.deeper c)) (e : (b : Block) → Sane (l.blocks b)) (p : Parser (Unit {0})) (begins : Opener l p) where
   -- what stands between brackets, where the token at hand is a bracket directly here
-  pub apart-enclosed : {A : Type 0} (r : Reading) (q : Parser A) (z : Place) (s : Point) → (hand_of l z s).gap ≡ 0 → 0 < (hand_of l z s).len → (hand_of l z s).len ≤ length z.ahead → Apart (run l (enclosed r q) z s)
+  pub apart-enclosed : {A : Type 0} (r : Reading) (q : Parser A) (z : Place) (s : Point) → (hand_of l z s).gap ≡ 0 → 0 < (hand_of l z s).len → (hand_of l z s).len ≤ length z.ahead → Apart (run l (enclosed r p q) z s)
   unfolding run
   apart-enclosed r q z s g some room =
       let t = entered r s in
-      let o = done l (takes false itself) z t in
-      let p = run l q (moved o.taken z) o.state in
-      let none : o.state.empties ≡ 0 = took-some l.classes (hand_of l z s) z t g some room in
+      let o = run l p z t in
+      let n = run l q (moved o.taken z) o.state in
+      let none : o.state.empties ≡ 0 = begins.empties z t g some room in
       let b = ((sane-run l d e q).backs (moved o.taken z) o.state).back in
-      let n = length-append (hand_of l z s).trivia (taken_node l.classes itself (hand_of l z s) z ∷ []) in
-      let a = apart-joined o p refl refl (omega (arith, n)) (omega (arith, b, none)) in
+      let a = apart-joined o n (begins.back z t) (begins.hints z t) (begins.some z t) (omega (arith, b, none)) in
       record { back = a.back; hints = a.hints }
 
   -- and behind it the token at hand is read in its reading
-  pub alike-enclosed : {A : Type 0} (r : Reading) (q : Parser A) (z : Place) (s : Point) → (let t = (run l (next (does (takes false itself)) (λ _. q)) z (entered r s)).state in t.held ≡ t.reading)
+  pub alike-enclosed : {A : Type 0} (r : Reading) (q : Parser A) (z : Place) (s : Point) → (let t = (run l (next p (λ _. q)) z (entered r s)).state in t.held ≡ t.reading)
   unfolding run
   alike-enclosed r q z s =
-      let o = done l (takes false itself) z (entered r s) in
+      let o = run l p z (entered r s) in
       let h = (sane-run l d e q).rests (moved o.taken z) o.state in
-      taken-alike o.state (run l q (moved o.taken z) o.state).state h (took-held z (entered r s))
+      taken-alike o.state (run l q (moved o.taken z) o.state).state h (begins.held z (entered r s))
     where
-      took-held : (z : Place) (s : Point) → (done l (takes false itself) z s).state.held ≡ (done l (takes false itself) z s).state.reading
-      took-held z s = refl
-
       taken-alike : (s t : Point) → Rests s.reading s.held t → s.held ≡ s.reading → t.held ≡ t.reading
       taken-alike s t h e = rests-alike s.reading t (subst (λ u. Rests s.reading u t) e h)

@@ -1,5 +1,5 @@
 -- A block that ends at the shifted end may stand where it stood: it leaves the state that it left, and gives one node of its kind.
-use Rattle.std.proofs.Common.{◌≡◌, ℕ, ◌-◌, ◌<◌, true, false, List, [], ◌∷◌, ◌++◌, None, refl, ap, sym, ◌∙◌, subst}
+use Rattle.std.proofs.Common.{◌≡◌, ℕ, ◌-◌, ◌<◌, false, List, [], ◌∷◌, ◌++◌, None, refl, ap, sym, ◌∙◌, subst}
 use Rattle.typst_lines.specs.Place.{Place, moved}
 use Rattle.typst_node.specs.Tree.{Tree}
 use Rattle.typst_classes.specs.Classes.{CharClasses}
@@ -9,7 +9,7 @@ use Rattle.typst_combinators.specs.Ask.{Ask, SameIn}
 use Rattle.typst_combinators.specs.Ask.Ask.{looked, marked}
 use Rattle.typst_combinators.specs.Hand.{at_trivia}
 use Rattle.typst_combinators.specs.Knot.{meaning_of}
-use Rattle.typst_combinators.specs.Meaning.{Outcome, blockless, less, run}
+use Rattle.typst_combinators.specs.Meaning.{Outcome, blockless}
 use Rattle.typst_combinators.specs.Point.{Point, point_of, forgot}
 use Rattle.typst_combinators.proofs.Knot.{sane-meaning, sane-plain}
 use Rattle.typst_grammar.specs.Grammar.{rules}
@@ -18,7 +18,7 @@ use Rattle.typst_reuse.specs.Spot.{Spot, Fits, block_head, ended, last_node, uni
 use Rattle.typst_reuse.specs.Laws.{block_at}
 use Rattle.typst_reuse.proofs.Blocks.{ends}
 use Rattle.typst_reuse.proofs.Clear.{Clear}
-use Rattle.typst_reuse.proofs.Content.{state-content, content-alone}
+use Rattle.typst_reuse.proofs.Content.{state-content, content-alone, state-code, code-alone}
 use Rattle.typst_reuse.proofs.Enclosed.{Alone, state_from}
 
 -- each place shows the same as itself
@@ -41,24 +41,21 @@ record Left (k : CharClasses) (b : Block) (s : Point) (o : Outcome (Unit {0})) :
   alone : Alone o
   head : (last_node o.nodes).head ≡ block_head b
 
-no-block : {P : Type 0} → false ≡ true → P
-no-block h = cc
-
-left-by : (k : CharClasses) (levels : ℕ) (b : Block) (z : Place) (s : Point) → rules.has b ≡ true → s.known ≡ None → at_trivia k s.held.mode z ≡ false → 0 < (block_at k levels b z s).taken → Left k b s (block_at k levels b z s)
-left-by k levels block.Content z s t e h some =
+left-by : (k : CharClasses) (levels : ℕ) (b : Block) (z : Place) (s : Point) → s.known ≡ None → at_trivia k s.held.mode z ≡ false → 0 < (block_at k levels b z s).taken → Left k b s (block_at k levels b z s)
+left-by k levels block.Content z s e h some =
     let l = blockless k levels (meaning_of rules k levels) in
     record {
       state = state-content l (sane-meaning rules k levels) (λ c. sane-plain tt) z s;
       alone = content-alone l (sane-meaning rules k levels) (λ c. sane-plain tt) z s e h some;
       head = (ends k levels block.Content refl z s).head;
     }
-left-by k levels block.Code z s t e h some = no-block t
-
--- what gives a node is a block of the grammar
-has-by : (k : CharClasses) (levels : ℕ) (b : Block) (z : Place) (s : Point) (front : List Tree) (x : Tree) → (block_at k levels b z s).nodes ≡ front ++ x ∷ [] → rules.has b ≡ true
-unfolding run less
-has-by k levels block.Content z s front x e = refl
-has-by k levels block.Code z s front x e = absurd (tail-none front x (sym e))
+left-by k levels block.Code z s e h some =
+    let l = blockless k levels (meaning_of rules k levels) in
+    record {
+      state = state-code l (sane-meaning rules k levels) (λ c. sane-plain tt) z s;
+      alone = code-alone l (sane-meaning rules k levels) (λ c. sane-plain tt) z s e h some;
+      head = (ends k levels block.Code refl z s).head;
+    }
 
 -- the same of a block of a reading
 record Leaves {A : Type 0} (c : Spot A) (o : Outcome (Unit {0})) : Type 0 where
@@ -69,13 +66,13 @@ record Leaves {A : Type 0} (c : Spot A) (o : Outcome (Unit {0})) : Type 0 where
 leaves-same : {A : Type 0} (c : Spot A) (o p : Outcome (Unit {0})) → o ≡ p → Leaves c p → Leaves c o
 leaves-same c o p e h = subst (λ u. Leaves c u) (sym e) h
 
-leaves-by : {A : Type 0} (k : CharClasses) (levels : ℕ) (c : Spot A) (z : Place) → c.reads ≡ (λ y t. ended (block_at k levels c.name y t)) → rules.has c.name ≡ true
+leaves-by : {A : Type 0} (k : CharClasses) (levels : ℕ) (c : Spot A) (z : Place) → c.reads ≡ (λ y t. ended (block_at k levels c.name y t))
     → at_trivia k c.start.held.mode (moved c.at z) ≡ false → 0 < (unit_at c z).taken → Leaves c (unit_at c z)
-leaves-by k levels c z e t h some =
+leaves-by k levels c z e h some =
     let s = point_of c.start in
     let w = moved c.at z in
     let f : unit_at c z ≡ ended (block_at k levels c.name w s) = ap (λ u. u w s) e in
-    let a = left-by k levels c.name w s t refl h (subst (λ u. 0 < u.taken) f some) in
+    let a = left-by k levels c.name w s refl h (subst (λ u. 0 < u.taken) f some) in
     let i = a.alone in
     leaves-same c _ _ f (record { state = a.state; alone = record { node = i.node; nodes = i.nodes; back = i.back; hints = i.hints }; head = a.head })
 
@@ -92,7 +89,10 @@ fits-left c o n f a b = record {
 pub fitting : {A : Type 0} (k : CharClasses) (levels : ℕ) (c : Spot A) (z w : Place) → Named (block_at k) levels c → Clear k z c → Fits c (unit_at c z) c.node → SameIn c.before z w → 0 < (unit_at c z).taken → 0 < (unit_at c w).taken
     → Fits c (unit_at c w) (last_node (unit_at c w).nodes)
 fitting k levels c z w n clear f same some more =
-    let s = point_of c.start in
-    let e = ap (λ u. u (moved c.at z) s) n.reads in
-    let t = has-by k (levels - c.fewer) c.name (moved c.at z) s c.front c.node (sym (ap (λ o. o.nodes) e) ∙ f.nodes) in
-    fits-left c _ _ f (leaves-by k (levels - c.fewer) c z n.reads t (clear.clear z (same-here c.before z)) some) (leaves-by k (levels - c.fewer) c w n.reads t (clear.clear w same) more)
+    fits-left c _ _ f (leaves-by k (levels - c.fewer) c z n.reads (clear.clear z (same-here c.before z)) some) (leaves-by k (levels - c.fewer) c w n.reads (clear.clear w same) more)
+
+-- before the node of a block that takes something stands nothing of its own
+pub no-front : {A : Type 0} (k : CharClasses) (levels : ℕ) (c : Spot A) (z : Place) → Named (block_at k) levels c → Clear k z c → Fits c (unit_at c z) c.node → 0 < (unit_at c z).taken → c.front ≡ []
+no-front k levels c z n clear f some =
+    let a = leaves-by k (levels - c.fewer) c z n.reads (clear.clear z (same-here c.before z)) some in
+    front-none c.front c.node a.alone.node (sym f.nodes ∙ a.alone.nodes)

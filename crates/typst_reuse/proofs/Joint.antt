@@ -1,5 +1,5 @@
 -- The law of an edit inside some pieces of a text's run that leaves other trivia or other errors behind them.
-use Rattle.std.proofs.Common.{◌≡◌, ℕ, suc, ◌+◌, ◌<◌, Bool, true, List, ◌++◌, length, drop, Some, refl, ap, sym, ◌∙◌, subst, arith}
+use Rattle.std.proofs.Common.{◌≡◌, ℕ, suc, ◌+◌, ◌<◌, Bool, true, List, ◌++◌, length, drop, Some, refl, ap, sym, ◌∙◌, subst}
 use Rattle.typst_lines.specs.Place.{Place, moved}
 use Rattle.typst_node.specs.Tree.{Tree}
 use Rattle.typst_classes.specs.Classes.{CharClasses}
@@ -26,7 +26,7 @@ use Rattle.typst_reuse.proofs.Root.{whole-is, split-at, first-same}
 use Rattle.typst_reuse.proofs.Turns.{takes-expr, Fronted, fronted-behind}
 
 -- both outcomes where the same stands behind the trivia
-exchanged : {A : Type 0} (t u : Trivia) (us : List Tree) (o n c d : Outcome A) → Fronted t us o c → Fronted u us n d → d ≡ c → Exchanged t u o n
+pub exchanged : {A : Type 0} (t u : Trivia) (us : List Tree) (o n c d : Outcome A) → Fronted t us o c → Fronted u us n d → d ≡ c → Exchanged t u o n
 exchanged t u us o n c d f g e =
     let h = subst (λ p. Fronted u us n p) e g in
     let both : us ++ h.rest ≡ us ++ f.rest = sym h.nodes_too ∙ f.nodes_too in
@@ -54,7 +54,7 @@ module _ (k : CharClasses) where
   onward x = run (level_at k max_depth) (repeat (markup_turn true is_end) x >>= λ _. flush_trivia)
 
   -- what a piece reads one level deeper
-  takes-call : (levels : ℕ) (h : Reading) (z : Place) (t : Trivia) (us : List Tree) → is_nil t.nodes ≡ is_nil us → (at_start : Bool) (nesting : ℕ) → 0 < len_at k h.mode (moved t.gap z)
+  pub takes-call : (levels : ℕ) (h : Reading) (z : Place) (t : Trivia) (us : List Tree) → is_nil t.nodes ≡ is_nil us → (at_start : Bool) (nesting : ℕ) → 0 < len_at k h.mode (moved t.gap z)
       → Takes h z t us (minds (markup_head at_start nesting (hand_at k h (Some t) z).kind)) (meaning_of rules k (suc levels) (MarkupExpr at_start nesting))
   unfolding meaning_of
   takes-call levels h z t us nil at_start nesting some = takes-expr (level_at k levels) (sane-meaning rules k levels) (sane-block rules k levels) h z t us nil some at_start nesting
@@ -72,7 +72,7 @@ module _ (k : CharClasses) where
       let r = rest_from k i n z in
       ap (λ p. joined r (run (level_at k max_depth) flush_trivia p r.state)) (moved-three (end_at k i z).taken (end_from k i n z).taken r.taken z)
 
-  known-is : (s : Point) (t : Trivia) → s.known ≡ Some t → s ≡ before_trivia s.reading s.held s.empties s.is_after_error t
+  pub known-is : (s : Point) (t : Trivia) → s.known ≡ Some t → s ≡ before_trivia s.reading s.held s.empties s.is_after_error t
   known-is s t e = ap (λ u. record s { known = u }) e
 
 pub joint-law : JointLaw

@@ -15,7 +15,7 @@ use Rattle.typst_combinators.specs.Ask.Ask.{looked}
 use Rattle.typst_combinators.specs.Hand.{AtHand, told, len_at, text_ahead, hand_at, hand_asks, asks_column, column_look, column_at}
 use Rattle.typst_combinators.specs.Point.{Trivia, Point, is_nil}
 use Rattle.typst_combinators.specs.Shape.{Making, hinted, Shape, shaped, after_shape, after_node, count_empty, seen}
-use Rattle.typst_combinators.specs.Steps.{peek, within}
+use Rattle.typst_combinators.specs.Steps.{peek}
 use Rattle.typst_combinators.specs.Syntax.{Parser}
 use Rattle.typst_combinators.specs.Syntax.Begin.{at_token}
 use Rattle.typst_combinators.specs.Syntax.Op.{column, takes}

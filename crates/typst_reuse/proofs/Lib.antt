@@ -2,9 +2,10 @@
 --   block_law: edit              Text: of a whole text; Law: for every parser; Inside, Spots, Grows, Wrap, Outcomes: word by word; Blocks: each block's node; Edit: looks
 --     that the block fits        Fitting; Content: a content block; Enclosed: what stands between brackets; Clear: a block begins at no trivia; Reached: what is known of trivia is all of them
 --   block_law: names             Names: each block is the one of its name, between its marks
---   run_law                      Root: of a whole text; BlockRuns: of a content block; Runs: of any loop
---   joint_law                    Joint: of a whole text; Turns: each head of markup; Led: each word before a token is taken
---   decision_law                 Bytes: the log; Widths: characters and bytes; Within: looks are at places of the text
+--   run_law                      Root: of a whole text; RunTrees: its tree and log; BlockRuns: of a content block; Runs: of any loop
+--   joint_law                    Joint: of a whole text; InnerJoint: of a content block; Turns: each head of markup; Led: each word before a token is taken
+--   decision_law                 Bytes: the log; RunBytes: of pieces of a run; Widths: characters and bytes; Within: looks are at places of the text
+--   path_law                     Walk: the steps; Placed: what stands before a block; Texts: what nodes hold
 --   blocks_of_texts, runs_of_texts      computed (laws)
 pub mod Every
 pub mod Outcomes
@@ -28,6 +29,12 @@ pub mod BlockRuns
 pub mod Led
 pub mod Turns
 pub mod Joint
+pub mod InnerJoint
 pub mod Within
 pub mod Widths
 pub mod Bytes
+pub mod RunBytes
+pub mod RunTrees
+pub mod Texts
+pub mod Placed
+pub mod Walk

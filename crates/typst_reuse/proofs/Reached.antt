@@ -131,6 +131,13 @@ flushed-mode s (t ∷ ts) = refl
 pub flushed-held : (h : Hand) (s : Point) → (flushed_state h s).held ≡ s.held
 flushed-held h s = flushed-mode s h.trivia
 
+flushed-read : (s : Point) (ts : List Tree) → (elim ts as (λ _. Point) [ [] ↦ s | u ∷ us ↦ after_node false [] s ]).reading ≡ s.reading
+flushed-read s [] = refl
+flushed-read s (t ∷ ts) = refl
+
+pub flushed-reading : (h : Hand) (s : Point) → (flushed_state h s).reading ≡ s.reading
+flushed-reading h s = flushed-read s h.trivia
+
 reached-left : (k : CharClasses) (z : Place) (outer : Reading) (s : Point) → Reached k z s → Reached k z (left outer s)
 reached-left k z outer s h = on_both (λ (t : Point). Reached k z t) (same_mode s.reading.mode outer.mode) _ _ h tt
 

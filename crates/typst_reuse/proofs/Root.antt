@@ -30,7 +30,7 @@ whole-is k text =
     ap (λ t. whole_of (lead k z) r (tail k t r.state z)) n
 
 module _ (k : CharClasses) where
-  within : (x : Bool × ℕ) → Within (piece_at k x)
+  pub within : (x : Bool × ℕ) → Within (piece_at k x)
   within x = (sane-at rules k max_depth (markup_turn true is_end x)).within
 
   framed : (x : Bool × ℕ) → Framed (piece_at k x)
@@ -43,7 +43,7 @@ module _ (k : CharClasses) where
       repeated-chain (piece_at k) within i (true, 0) z (lead k z).state g ∙ ap (chain (pieces k i z)) (repeated-chain (piece_at k) within n e.value (moved e.taken z) e.state h)
 
   -- how much it takes
-  split-taken : (i n : ℕ) (z : Place) → (chain (pieces k i z) (chain (pieces_from k i n z) (rest_from k i n z))).taken ≡ ((end_at k i z).taken + (end_from k i n z).taken) + (rest_from k i n z).taken
+  pub split-taken : (i n : ℕ) (z : Place) → (chain (pieces k i z) (chain (pieces_from k i n z) (rest_from k i n z))).taken ≡ ((end_at k i z).taken + (end_from k i n z).taken) + (rest_from k i n z).taken
   split-taken i n z =
       let e = end_at k i z in
       let a = chain-taken (true, 0) (lead k z).state (pieces k i z) (chain (pieces_from k i n z) (rest_from k i n z)) in

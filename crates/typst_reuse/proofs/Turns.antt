@@ -1,5 +1,5 @@
 -- Every expression of markup begins by taking the token at hand, so all behind some pieces is the same, but for the trivia before it.
-use Rattle.std.proofs.Common.{◌≡◌, ℕ, ◌+◌, ◌-◌, ◌<◌, Bool, true, false, ◌&&◌, ◌==◌, nat_lt, List, [], ◌++◌, length, Some, refl, ap, sym, ◌∙◌, subst, arith}
+use Rattle.std.proofs.Common.{◌≡◌, ℕ, ◌+◌, ◌<◌, Bool, true, false, ◌&&◌, ◌==◌, nat_lt, List, [], ◌++◌, length, Some, refl, ap, sym, ◌∙◌, subst, arith}
 use Rattle.std.proofs.lemmas.List.{map-append}
 use borrow.Author.Tests.{lt-ltb}
 use Rattle.typst_kinds.specs.declared.kind.SyntaxKind.{SyntaxKind}
@@ -14,7 +14,7 @@ use Rattle.typst_combinators.specs.Depth.{anywhere, too_deep, deeper, is_end}
 use Rattle.typst_node.specs.Tree.{Tree}
 use Rattle.typst_combinators.specs.Hand.{AtHand, told, len_at, hand_at, hand_asks}
 use Rattle.typst_combinators.specs.Point.{Trivia, Point, is_nil}
-use Rattle.typst_combinators.specs.Shape.{Making, hinted, Shape, becomes}
+use Rattle.typst_combinators.specs.Shape.{Making, hinted, Shape, becomes, after_node}
 use Rattle.typst_combinators.specs.Shape.Making.{itself, of_kind, surprise}
 use Rattle.typst_combinators.specs.Steps.{eat_making, eat, convert_and_eat, unexpected, flush_trivia, node, within}
 use Rattle.typst_combinators.specs.Syntax.{Parser, ◌>>=◌, ◌>>◌}
@@ -28,12 +28,13 @@ use Rattle.typst_combinators.proofs.Places.{less-none}
 use Rattle.typst_markup.specs.declared.head.MarkupHead.{MarkupHead}
 use Rattle.typst_markup.specs.declared.head.MarkupHead.TheVariants as head
 use Rattle.typst_markup.specs.Markup.{ends, markup_turn, markup_head, markup_by, markup_expr, delimited, emphasized, heading, item, term_item, reference, strong, emph}
+use Rattle.typst_markup.specs.Embedded.{embedded}
 use Rattle.typst_reuse.specs.Joint.{minds}
 use Rattle.typst_reuse.specs.Occurrences.{goes}
 use Rattle.typst_reuse.proofs.Led.{trivia_with, before_trivia, none-less, none-of, Led, led-then, led-asked, Counts_less, Takes, asks-behind, takes-token, takes-next, takes-peek, takes-column, takes-scoped, takes-wraps, takes-calls}
 use Rattle.typst_reuse.proofs.Runs.{repeated-chain}
 use Rattle.typst_reuse.proofs.Outcomes.{shift-zero}
-use Rattle.typst_reuse.proofs.Reached.{flushed-held}
+use Rattle.typst_reuse.proofs.Reached.{flushed-held, flushed-reading}
 use Rattle.typst_reuse.proofs.Spots.{if-true, if-false}
 
 becomes-counts : (k : SyntaxKind) → Counts_less (becomes k)
@@ -103,6 +104,10 @@ module _ (l : Level) (sd : (c : Call) → Sane (l.deeper c)) (sb : (b : Block) �
     unfolding reference
     takes-reference = takes-node _ _ (λ v. becomes-counts kind.Ref) (goes-on false eat _ takes-eat)
 
+    takes-embedded : Takes h z t us false (run l embedded)
+    unfolding embedded
+    takes-embedded = takes-within _ _ (goes-on false eat _ takes-eat)
+
     takes-by : (nesting : ℕ) (x : MarkupHead) → Takes h z t us (minds x) (run l (markup_by nesting x))
     takes-by nesting head.Itself = goes-on false eat _ takes-eat
     takes-by nesting head.Opening = goes-on false _ _ (takes-convert kind.Text)
@@ -115,6 +120,7 @@ module _ (l : Level) (sd : (c : Call) → Sane (l.deeper c)) (sb : (b : Block) �
     takes-by nesting head.EnumItem = goes-on false _ _ (takes-item kind.EnumItem)
     takes-by nesting head.TermItem = goes-on false _ _ takes-term
     takes-by nesting head.Reference = goes-on false _ _ takes-reference
+    takes-by nesting head.Embedded = goes-on false embedded _ takes-embedded
     takes-by nesting head.Plain = goes-on false _ _ (takes-convert kind.Text)
     takes-by nesting head.Unexpected = goes-on true _ _ (takes-unexpected [])
 
@@ -141,6 +147,8 @@ module _ (l : Level) (sd : (c : Call) → Sane (l.deeper c)) (sb : (b : Block) �
 pub record Fronted {A : Type 0} (t : Trivia) (us : List Tree) (o c : Outcome A) : Type 0 where
   pub value : o.value ≡ c.value
   pub taken : o.taken ≡ t.gap + c.taken
+  -- the same state, where no error stands before the trivia
+  pub state : after_node false [] o.state ≡ after_node false [] c.state
   pub back : o.back ≡ c.back
   pub hints : o.hints ≡ []
   pub hints_too : c.hints ≡ []
@@ -154,6 +162,7 @@ fronted-led : {A : Type 0} (t : Trivia) (us : List Tree) (trims : Bool) (o c : O
 fronted-led t us trims o c h = record {
   value = h.value;
   taken = h.taken;
+  state = ap (after_node false []) h.state;
   back = h.back;
   hints = h.hints;
   hints_too = h.hints_too;
@@ -173,6 +182,7 @@ fronted-asked t us v s r ls ks o c e h =
     record {
       value = h.value;
       taken = omega (arith, taken);
+      state = h.state;
       back = omega (arith, back);
       hints = none-of (nat_lt o.back 0) (nat_lt 0 o.back) [] o.hints refl h.hints;
       hints_too = none-of (nat_lt c.back 0) (nat_lt 0 c.back) [] c.hints refl h.hints_too;
@@ -277,10 +287,13 @@ module _ (l : Level) (sd : (c : Call) → Sane (l.deeper c)) (sb : (b : Block) �
         let new = hand_of l w y in
         let none = Some (record { nodes = []; gap = 0; newlines = t.newlines }) in
         let held : (flushed_state old s).held ≡ (flushed_state new y).held = flushed-held old s ∙ sym (flushed-held new y) in
+        let reading : (flushed_state old s).reading ≡ (flushed_state new y).reading = flushed-reading old s ∙ sym (flushed-reading new y) in
         let last = hand_asks l.classes (flushed_state new y).held none w ++ [] in
         record {
           value = refl;
           taken = omega arith;
+          state = ap (λ (g : Reading). record { reading = g; held = (flushed_state old s).held; empties = 0; is_after_error = false; known = none }) reading
+              ∙ ap (λ (g : Reading). record { reading = (flushed_state new y).reading; held = g; empties = 0; is_after_error = false; known = none }) held;
           back = omega arith;
           hints = none-of (nat_lt 0 (length t.nodes)) (nat_lt (length t.nodes) 0) [] [] refl refl;
           hints_too = none-of (nat_lt 0 (length us)) (nat_lt (length us) 0) [] [] refl refl;

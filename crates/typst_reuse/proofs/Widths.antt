@@ -43,6 +43,23 @@ pub far-by : (at n : ℕ) (front more : List ℕ) → at ≤ length (front ++ mo
 unfolding far position width
 far-by at n front more l h = ends-by at n [] front more l (omega (arith, h))
 
+-- and the other way round
+stretch-to : (n : ℕ) (front more : List ℕ) → n ≤ length front → stretch n (front ++ more) ≤ width front
+unfolding stretch width
+stretch-to zero front more h = omega arith
+stretch-to (suc n) [] more h = absurd (omega (arith, h))
+stretch-to (suc n) (c ∷ front) more h = let i = stretch-to n front more (omega (arith, h)) in omega (arith, i)
+
+ends-to : (at n : ℕ) (b front more : List ℕ) → at + n ≤ length front → end_by at n b (front ++ more) ≤ width b + width front
+unfolding width
+ends-to zero n b front more h = let i = stretch-to n front more (omega (arith, h)) in omega (arith, i)
+ends-to (suc at) n b [] more h = absurd (omega (arith, h))
+ends-to (suc at) n b (c ∷ front) more h = let i = ends-to at n (c ∷ b) front more (omega (arith, h)) in omega (arith, i)
+
+pub far-to : (at n : ℕ) (front more : List ℕ) → at + n ≤ length front → far n (moved at (record { behind = []; ahead = front ++ more })) ≤ width front
+unfolding far position width
+far-to at n front more h = let i = ends-to at n [] front more h in omega (arith, i)
+
 -- ---- behind
 
 -- what was passed since
@@ -79,6 +96,19 @@ begins-late n m early rest l h =
 pub near-by : (n m : ℕ) (early rest : List ℕ) → m ≤ length rest → width early < near n (moved m (record { behind = early; ahead = rest })) → n ≤ m
 unfolding near position
 near-by n m early rest l h = begins-late n m early rest l (omega (arith, h))
+
+-- and the other way round
+begins-early : (n m : ℕ) (early rest : List ℕ) → n ≤ m → m ≤ length rest → stretch n (moved_from m early rest).behind + width early ≤ width (moved_from m early rest).behind
+begins-early n m early rest h l =
+    let s = since m early rest l in
+    let i = stretch-to n s.late early (omega (arith, h, s.long)) in
+    let w = width-append s.late early in
+    let both : stretch n (s.late ++ early) + width early ≤ width (s.late ++ early) = omega (arith, i, w) in
+    subst (λ xs. stretch n xs + width early ≤ width xs) (sym s.is) both
+
+pub near-to : (n m : ℕ) (early rest : List ℕ) → n ≤ m → m ≤ length rest → width early < near n (moved m (record { behind = early; ahead = rest }))
+unfolding near position
+near-to n m early rest h l = let i = begins-early n m early rest h l in omega (arith, i)
 
 moved-width : (n : ℕ) (b a : List ℕ) → width (moved_from n b a).behind ≡ width (take n a) + width b
 unfolding width

@@ -1,5 +1,5 @@
 -- The test of an edit in bytes, by the notes of a reading.
-use Rattle.std.specs.Prelude.{◌≡◌, ℕ, ◌+◌, ◌-◌, ◌<◌, ◌≤◌, min, List, [], ◌∷◌, ◌++◌, length, take, Some}
+use Rattle.std.specs.Prelude.{◌≡◌, ℕ, ◌+◌, ◌-◌, ◌<◌, ◌≤◌, ◌^◌, min, List, [], ◌∷◌, ◌++◌, length, take, Some}
 use Rattle.typst_classes.specs.Classes.{CharClasses}
 use Rattle.typst_readers.specs.Sight.{width}
 use Rattle.typst_combinators.specs.declared.calls.Mark.TheVariants as mark
@@ -34,8 +34,11 @@ pub record Decided {A : Type 0} (h : Log) (front old rest : List ℕ) (c : Spot 
   -- the two tests of looks
   pub before : opens.reach ≤ width front → AllEndBy (length front) c.before
   pub after : width (front ++ old) < lowest later h.least → AllBeginIn past rest c.after
+  -- and the other way round, in a text that a machine word counts
+  pub before_too : AllEndBy (length front) c.before → opens.reach ≤ width front
+  pub after_too : width (front ++ old) < 2 ^ 64 - 1 → AllBeginIn past rest c.after → width (front ++ old) < lowest later h.least
 
--- The law of the decision: each block of a text has two notes, whose numbers decide what was looked at before it and behind it.
+-- The law of the decision: each block of a text has two notes, whose numbers say exactly whether what was looked at before it and behind it passes the test.
 abbrev pub DecisionLaw : Type 0
 DecisionLaw = (k : CharClasses) (front old rest : List ℕ) (c : Spot (Unit {0})) (past : ℕ) → Among c (blocks_of_text k (front ++ (old ++ rest)))
     → (unit_at c (text_with front old rest)).taken + c.at ≡ (length front + length old) + past → Decided (log k (front ++ (old ++ rest))) front old rest c past

@@ -6,8 +6,12 @@ pub mod Named
 pub mod Runs
 pub mod Sequence
 pub mod Bytes
+pub mod RunBytes
 pub mod Laws
+pub mod Walk
 pub mod BlockRuns
 pub mod Joint
+pub mod RunTrees
+pub mod InnerJoint
 pub mod Examples
 pub mod RunExamples

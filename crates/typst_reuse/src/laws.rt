@@ -5,9 +5,13 @@ ghost use Rattle.typst_reuse.specs.BlockRuns.{InnerLaw};
 ghost use Rattle.typst_reuse.specs.Bytes.{DecisionLaw};
 ghost use Rattle.typst_reuse.specs.Examples.{Blocks};
 ghost use Rattle.typst_reuse.specs.RunExamples.{Runs};
+ghost use Rattle.typst_reuse.specs.InnerJoint.{InnerJointLaw};
 ghost use Rattle.typst_reuse.specs.Joint.{JointLaw};
 ghost use Rattle.typst_reuse.specs.Laws.{BlockLaw, NamesLaw};
+ghost use Rattle.typst_reuse.specs.RunBytes.{RunDecisionLaw};
+ghost use Rattle.typst_reuse.specs.RunTrees.{RunTreeLaw};
 ghost use Rattle.typst_reuse.specs.Runs.{RunLaw, StartLaw};
+ghost use Rattle.typst_reuse.specs.Walk.{WalkLaw};
 
 /// An edit inside a block of a text: where all that was looked at before the block ends at the
 /// replaced stretch or before it, all that was looked at behind the block begins at the stretch's
@@ -27,25 +31,38 @@ pub fn block_law()
 /// new text has these in their place, and is the same before and behind them. Where nothing is kept
 /// behind them, as at the end of the run, the pieces before are kept by the first of these alone.
 /// The same holds of pieces of a content block's run, and then the edit passes the test of the block.
+/// In the tree and in the log of the text the new pieces' part stands in place of the old ones'.
 pub fn run_law()
     ensures pieces { RunLaw }
     ensures start { StartLaw }
     ensures inner { InnerLaw }
+    ensures tree { RunTreeLaw }
 {}
 
 /// The same where the new pieces end before other trivia, or behind other errors: where trivia
 /// stand there in both texts or in none, with the same newlines, all behind the pieces is what it
 /// was, with the new trivia before it. The number of empty errors matters only where the next
-/// expression wasn't expected and takes them back.
+/// expression wasn't expected and takes them back. The same holds in a content block, up to its
+/// closing bracket, and then the edit passes the test of the block.
 pub fn joint_law()
-    ensures { JointLaw }
+    ensures pieces { JointLaw }
+    ensures inner { InnerJointLaw }
 {}
 
-/// Each block of a text has two notes in its log, where it begins and where it ends. Two numbers
-/// decide of them what the block law asks of looks: where all looks before the first end, and where
-/// those behind the second begin, in bytes beside the ends of the replaced stretch.
+/// Each block of a text has two notes in its log, where it begins and where it ends. Two numbers of
+/// them say exactly whether what the block law asks of looks holds: where all looks before the first
+/// end, and where those behind the second begin, in bytes beside the ends of the replaced stretch. A note stands
+/// where each piece of a text's run begins, too, and decides the same of what the run law asks.
 pub fn decision_law()
-    ensures { DecisionLaw }
+    ensures blocks { DecisionLaw }
+    ensures pieces { RunDecisionLaw }
+{}
+
+/// From the top of a text's tree the steps to the child that begins before a stretch and ends behind
+/// it lead to each block that covers the stretch strictly: as many steps as its path is long go
+/// along its path, and the last of them leads to its node, which begins and ends where the block does.
+pub fn path_law()
+    ensures { WalkLaw }
 {}
 
 /// Where the blocks of short texts stand, and what is looked at around them.

@@ -1,5 +1,9 @@
 use Rattle.typst_reuse.proofs.Bytes.{decision-law}
+use Rattle.typst_reuse.proofs.RunBytes.{run-decision-law}
 use Rattle.typst_reuse.proofs.laws.decision_law.Goals as goal
 
-pub returns : goal.returns
-returns c = decision-law
+pub returns-clause-blocks : goal.returns-clause-blocks
+returns-clause-blocks c = decision-law
+
+pub returns-clause-pieces : goal.returns-clause-pieces
+returns-clause-pieces c = run-decision-law

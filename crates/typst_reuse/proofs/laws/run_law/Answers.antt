@@ -1,5 +1,6 @@
 use Rattle.typst_reuse.proofs.BlockRuns.{inner-law}
 use Rattle.typst_reuse.proofs.Root.{run-law, start-law}
+use Rattle.typst_reuse.proofs.RunTrees.{run-tree-law}
 use Rattle.typst_reuse.proofs.laws.run_law.Goals as goal
 
 pub returns-clause-pieces : goal.returns-clause-pieces
@@ -10,3 +11,6 @@ returns-clause-start c = start-law
 
 pub returns-clause-inner : goal.returns-clause-inner
 returns-clause-inner c = inner-law
+
+pub returns-clause-tree : goal.returns-clause-tree
+returns-clause-tree c = run-tree-law
