@@ -161,13 +161,14 @@ markup-goes k c p =
     (goes-if (c == 91) _ _ p refl
     (goes-if (c == 93) _ _ p refl
     (goes-if (c == 39 || c == 34) _ _ p refl
+    (goes-if (c == 36) _ _ p refl
     (goes-if (c == 126) _ _ p refl
     (goes-if (c == 58) _ _ p refl
     (goes-if (c == 61) _ _ p (heading-goes k p)
     (goes-if (c == 43) _ _ p (marker-goes k kind.EnumMarker (moved 1 p) refl)
     (goes-if (c == 47) _ _ p (marker-goes k kind.TermMarker (moved 1 p) refl)
     (goes-if (is_ascii_digit c) _ _ p (numbering-goes k p)
-    (text-goes k (moved 1 p)))))))))))))))))))
+    (text-goes k (moved 1 p))))))))))))))))))))
 
 mode-goes : (k : CharClasses) (m : SyntaxMode) (c : ℕ) (p : Place) → Goes (of_mode k m c) p
 unfolding of_mode text_from
