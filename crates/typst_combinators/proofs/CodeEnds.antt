@@ -123,7 +123,7 @@ string-end-goes (fence a b) = refl
 string-end-goes (brackets cs) = refl
 string-end-goes (quoted e) = refl
 
-string-goes : (p : Place) → Goes string p
+pub string-goes : (p : Place) → Goes string p
 unfolding string
 string-goes p = string-end-goes (spanned in_string (quoted false) (moved 1 p).behind (moved 1 p).ahead).1
 

@@ -12,8 +12,8 @@ use Rattle.typst_combinators.specs.declared.reading.Reading.{Reading}
 use Rattle.typst_combinators.specs.Shape.{Shape, becomes, unclosed}
 use Rattle.typst_combinators.specs.Syntax.{Parser, ◌>>=◌, ◌>>◌}
 use Rattle.typst_combinators.specs.Syntax.Op.{is_deepest}
-use Rattle.typst_combinators.specs.Syntax.Parser.{gives, does, pick, repeat, scoped}
-use Rattle.typst_combinators.specs.Steps.{peek, eat, close_if, unexpected, node}
+use Rattle.typst_combinators.specs.Syntax.Parser.{gives, does, pick, repeat}
+use Rattle.typst_combinators.specs.Steps.{peek, eat, close_if, unexpected, within, node}
 use Rattle.typst_combinators.specs.Depth.{is_end, one_more, too_deep, deeper}
 
 -- ---- where sequences stop
@@ -83,12 +83,15 @@ math_reading = record { mode = mode.Math; at_newline = newline.Continue }
 abbrev pub in_dollars : Bool → Shape
 in_dollars closed = if closed then becomes kind.Equation else unclosed kind.Equation
 
--- `$ .. $`, which is a formula whatever stands around it; behind the second dollar the token is asked for as it is read around the formula
+-- `$ .. $`, read as a formula whatever stands around it; answers whether the second dollar came, behind which the token is asked for as it is read around the formula
+unfoldable pub between_dollars : Parser Bool
+between_dollars = within (λ _. math_reading) (do
+  dollar ← eat
+  body ← math
+  close_if (same kind.Dollar))
+
+-- the same as one node
 unfoldable pub equation : Parser (Unit {0})
 equation = do
-  closed ← node in_dollars (scoped (λ _. math_reading) (do
-    dollar ← eat
-    body ← math
-    close_if (same kind.Dollar)))
-  ahead ← peek
+  closed ← node in_dollars between_dollars
   gives tt

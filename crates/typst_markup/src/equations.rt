@@ -113,22 +113,35 @@ fn math<L: Levels>(g: &L, p: &mut Parser<'_>) -> Result<(), AllocError>
     Ok(())
 }
 
-/// `$ .. $`
-pub fn equation<L: Levels>(g: &L, p: &mut Parser<'_>) -> Result<(), AllocError>
+/// Reads what stands between dollars, and these; answers whether the second one came.
+fn between_dollars<L: Levels>(g: &L, p: &mut Parser<'_>) -> Result<bool, AllocError>
     requires { L.may_call g.now }
-    ensures { Means (L.frame g.now) spec.equation p.old result p.new }
+    ensures { Means (L.frame g.now) spec.between_dollars p.old result p.new }
 {
-    let from = p.marker();
     let outer = p.enter(Reading {
         mode: SyntaxMode::Math,
         at_newline: AtNewline::Continue,
     });
     p.eat(g)?;
     math(g, p)?;
-    let closed = p.close_if(p.current() == SyntaxKind::Dollar, g)?;
+    if p.current() != SyntaxKind::Dollar {
+        p.leave(outer, g)?;
+        return Ok(false);
+    }
+    p.pass(g)?;
     p.leave_unasked(outer);
-    wrap_in_dollars(p, from, closed)?;
     p.look(g)?;
+    Ok(true)
+}
+
+/// `$ .. $`
+pub fn equation<L: Levels>(g: &L, p: &mut Parser<'_>) -> Result<(), AllocError>
+    requires { L.may_call g.now }
+    ensures { Means (L.frame g.now) spec.equation p.old result p.new }
+{
+    let from = p.marker();
+    let closed = between_dollars(g, p)?;
+    wrap_in_dollars(p, from, closed)?;
     Ok(())
 }
 

@@ -21,10 +21,16 @@ abbrev pub delimiter_kind : List Seen → SyntaxKind
 delimiter_kind (leaf_seen k text ∷ more) = sign_kind text
 delimiter_kind _ = kind.MathText
 
+-- takes a delimiter; answers which kind it is to have
+unfoldable pub delimiter_sign : Parser SyntaxKind
+delimiter_sign = do
+  sign ← seeing eat
+  gives (delimiter_kind sign.1)
+
 -- a delimiter
 unfoldable pub delimiter : Parser (Unit {0})
 delimiter = do
-  seen ← node (λ x. keeps (renamed (delimiter_kind x.1))) (seeing eat)
+  kind ← node (λ k. keeps (renamed k)) delimiter_sign
   gives tt
 
 -- between two delimiters expressions are math

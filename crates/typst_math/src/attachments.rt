@@ -10,16 +10,6 @@ use typst_combinators::{Call, ChainSet};
 use typst_kinds::SyntaxKind;
 use typst_machine::{Answered, Change, Levels, Parser, deeper};
 
-/// Both signs of attachments.
-fn both_signs() -> ChainSet
-    ensures { result ≡ spec.both_signs }
-{
-    ChainSet {
-        hat: true,
-        underscore: true,
-    }
-}
-
 /// Whether a token is one of the signs.
 pub(crate) fn is_in(signs: ChainSet, kind: SyntaxKind) -> bool
     ensures { result ≡ spec.is_in signs kind }
@@ -78,7 +68,10 @@ fn attachment_turns<L: Levels>(g: &L, p: &mut Parser<'_>) -> Result<ChainSet, Al
     requires { L.may_call g.now }
     ensures { Means (L.frame g.now) (repeat spec.attachment_turn spec.both_signs) p.old result p.new }
 {
-    let mut signs = both_signs();
+    let mut signs = ChainSet {
+        hat: true,
+        underscore: true,
+    };
     'turns: loop {
         let before = p.left();
         let (more, next) = attachment_turn(g, p, signs)?;

@@ -1,6 +1,7 @@
 //! Delimiters, and what stands between two of them.
 
-ghost use Rattle.std.specs.Prelude.{◌≡◌, OnOk, map};
+ghost use Rattle.std.specs.Prelude.{◌≡◌, OnOk, IfOk, false, map};
+ghost use Rattle.typst_kinds.specs.Kinds.{is_error};
 ghost use Rattle.typst_combinators.specs.Shape.{seen};
 ghost use Rattle.typst_machine.specs.View.{Means, Rewrapped};
 ghost use Rattle.typst_math.specs.Delimited as spec;
@@ -13,7 +14,8 @@ use typst_node::SyntaxNode;
 
 /// Which kind a delimiter of this text has.
 fn sign_kind(text: &str) -> SyntaxKind
-    ensures { result ≡ spec.sign_kind text.now }
+    ensures is { result ≡ spec.sign_kind text.now }
+    ensures fine { is_error result ≡ false }
 {
     match text {
         "[|" | "|]" => SyntaxKind::MathShorthand,
@@ -23,7 +25,8 @@ fn sign_kind(text: &str) -> SyntaxKind
 
 /// Which kind the first of some nodes has, which is a delimiter.
 fn delimiter_kind(nodes: &[SyntaxNode]) -> SyntaxKind
-    ensures { result ≡ spec.delimiter_kind (map seen nodes.now) }
+    ensures is { result ≡ spec.delimiter_kind (map seen nodes.now) }
+    ensures fine { is_error result ≡ false }
 {
     if nodes.is_empty() || nodes[0].is_inner() {
         return SyntaxKind::MathText;
@@ -31,13 +34,23 @@ fn delimiter_kind(nodes: &[SyntaxNode]) -> SyntaxKind
     sign_kind(nodes[0].leaf_text())
 }
 
+/// Takes a delimiter; answers which kind it is to have.
+fn delimiter_sign<L: Levels>(g: &L, p: &mut Parser<'_>) -> Result<SyntaxKind, AllocError>
+    ensures means { Means (L.frame g.now) spec.delimiter_sign p.old result p.new }
+    ensures fine { IfOk result (λ k. is_error k ≡ false) }
+{
+    let from = p.marker();
+    p.eat(g)?;
+    p.change(from, Change::Stays)?;
+    Ok(delimiter_kind(p.given_since(from)))
+}
+
 /// Reads a delimiter.
 pub(crate) fn delimiter<L: Levels>(g: &L, p: &mut Parser<'_>) -> Result<(), AllocError>
     ensures { Means (L.frame g.now) spec.delimiter p.old result p.new }
 {
     let from = p.marker();
-    p.eat(g)?;
-    let kind = delimiter_kind(p.given_since(from));
+    let kind = delimiter_sign(g, p)?;
     p.change(from, Change::Renamed(kind))?;
     Ok(())
 }
