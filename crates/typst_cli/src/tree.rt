@@ -8,8 +8,7 @@ pub use crate::variants::variant_name;
 use std::alloc::{AllocError, Global};
 use std::ops::Range;
 use typst_parser::{
-    Classes, Diagnostic, Hint, Severity, SyntaxNode, is_newline, parse, parse_code,
-    parse_math,
+    Classes, Diagnostic, Hint, Severity, SyntaxNode, is_newline, parse, parse_code, parse_math,
 };
 
 /// The syntax tree of the text. Each node has a line with its kind, its range in bytes and, for an

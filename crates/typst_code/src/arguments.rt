@@ -10,10 +10,10 @@ ghost use Rattle.typst_code.specs.Outside.{MeansAround, MeansAroundBy};
 
 use crate::groups::{begins_item, pair, separator, spread};
 use crate::heads::{calls_directly, opens_arguments};
-use typst_keys::{Key, Names};
 use crate::sequences::read_content;
 use std::alloc::AllocError;
 use typst_combinators::AtNewline;
+use typst_keys::{Key, Names};
 use typst_kinds::SyntaxKind;
 use typst_machine::{Change, Levels, Parser};
 use typst_markup::opens_directly;
@@ -36,7 +36,12 @@ fn wrap_argument(
 }
 
 /// Makes a named argument of an argument that has a name, which may have been seen.
-pub fn wrap_named(p: &mut Parser<'_>, from: usize, names: &Names, name: &str) -> Result<(), AllocError>
+pub fn wrap_named(
+    p: &mut Parser<'_>,
+    from: usize,
+    names: &Names,
+    name: &str,
+) -> Result<(), AllocError>
     ensures { OnOk result (Rewrapped from (holds (spec.when_named names.now name.now) kind.Named) p.old p.new) }
 {
     if !names.has(name) {

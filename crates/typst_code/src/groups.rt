@@ -8,11 +8,11 @@ ghost use Rattle.typst_shapes.specs.Changes.{IsFine, meant};
 ghost use Rattle.typst_machine.specs.View.{Means, Rewrapped};
 ghost use Rattle.typst_code.specs.Groups as spec;
 
-use typst_keys::{Key, Names, key_of};
 use crate::listing::Items;
 use crate::sequences::code_expression;
 use std::alloc::AllocError;
 use typst_combinators::AtNewline;
+use typst_keys::{Key, Names, key_of};
 use typst_kinds::SyntaxKind;
 use typst_machine::{Change, Levels, Parser};
 use typst_markup::begins_code;

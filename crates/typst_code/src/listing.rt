@@ -4,8 +4,8 @@ ghost use Rattle.std.specs.Prelude.{◌≡◌, Some, IfOk, OnOk, IsTrue, false};
 ghost use Rattle.typst_kinds.specs.Kinds.{is_error};
 ghost use Rattle.typst_code.specs.Groups as spec;
 
-use typst_keys::{Key, Names};
 use std::alloc::{AllocError, Global};
+use typst_keys::{Key, Names};
 use typst_kinds::SyntaxKind;
 
 /// What the items in parens were found to be so far.

@@ -21,9 +21,9 @@ use typst_ahead::{Read, read_token};
 use typst_classes::Classes;
 use typst_combinators::Way;
 use typst_kinds::SyntaxKind;
+use typst_lexer::lexer::{named_argument, spread_argument};
 use typst_lines::Scanner;
 use typst_node::SyntaxNode;
-use typst_lexer::lexer::{named_argument, spread_argument};
 use typst_token_nodes::make_node;
 
 impl<'s> Parser<'s> {

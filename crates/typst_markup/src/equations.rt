@@ -87,11 +87,7 @@ fn math_turns<L: Levels>(g: &L, p: &mut Parser<'_>, stop: MathStop) -> Result<us
 }
 
 /// Reads expressions up to a stop; answers how many there are, of which what is too deep is one.
-pub fn math_exprs<L: Levels>(
-    g: &L,
-    p: &mut Parser<'_>,
-    stop: MathStop,
-) -> Result<usize, AllocError>
+pub fn math_exprs<L: Levels>(g: &L, p: &mut Parser<'_>, stop: MathStop) -> Result<usize, AllocError>
     requires { L.may_call g.now }
     ensures { Means (L.frame g.now) (spec.math_exprs (math_stops_at stop)) p.old result p.new }
 {

@@ -16,11 +16,7 @@ use typst_machine::{Change, Levels, Parser};
 use typst_markup::{MathStop, ends_list, math_exprs, separates};
 
 /// Reads the expressions of an argument, of which a named one has some; answers how many there are.
-fn argument_exprs<L: Levels>(
-    g: &L,
-    p: &mut Parser<'_>,
-    is_named: bool,
-) -> Result<usize, AllocError>
+fn argument_exprs<L: Levels>(g: &L, p: &mut Parser<'_>, is_named: bool) -> Result<usize, AllocError>
     requires { L.may_call g.now }
     ensures { Means (L.frame g.now) (spec.argument_exprs is_named) p.old result p.new }
 {
@@ -61,11 +57,7 @@ fn wrap_value(p: &mut Parser<'_>, from: usize, count: usize) -> Result<(), Alloc
 }
 
 /// Reads a name before a colon, or an underscore, which is no name; answers it as a key.
-fn argument_name<L: Levels>(
-    g: &L,
-    p: &mut Parser<'_>,
-    kind: SyntaxKind,
-) -> Result<Key, AllocError>
+fn argument_name<L: Levels>(g: &L, p: &mut Parser<'_>, kind: SyntaxKind) -> Result<Key, AllocError>
     ensures { Means (L.frame g.now) (spec.argument_name kind) p.old result p.new }
 {
     let from = p.marker();

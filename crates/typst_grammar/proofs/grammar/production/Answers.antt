@@ -6,3 +6,6 @@ returns-in-MarkupExpr g c l h b = rw c.in-MarkupExpr.is (record { answer = c.in_
 
 pub returns-in-CodeExpr : goal.returns-in-CodeExpr
 returns-in-CodeExpr g c l h b = rw c.in-CodeExpr.is (record { answer = tt; is = refl; does = c.in_ok-code_expr-in-CodeExpr.ensures l h b })
+
+pub returns-in-MathExpr : goal.returns-in-MathExpr
+returns-in-MathExpr g c l h b = rw c.in-MathExpr.is (record { answer = tt; is = refl; does = c.in_ok-math_expr-in-MathExpr.ensures l h })
