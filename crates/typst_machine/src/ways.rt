@@ -95,12 +95,14 @@ fn read_so<'s, C: Classes>(
     ensures hull { IfOk result (λ r. r.hull ≡ hull_of (look (token_so (C.classes classes.now) way) (place start.entry)) (place start.entry)) }
     ensures same_text { IfOk result (λ r. r.after.text.now ≡ start.entry.text.now) }
 {
-    let found = match way {
-        Way::InMode(mode) => read_token(alloc, start, mode, classes)?,
-        Way::NamedArgument => read_named(start, classes),
-        Way::SpreadArgument => read_spread(start),
-    };
-    Ok(found)
+    match way {
+        Way::InMode(mode) => {
+            let found = read_token(alloc, start, mode, classes)?;
+            Ok(found)
+        }
+        Way::NamedArgument => Ok(read_named(start, classes)),
+        Way::SpreadArgument => Ok(read_spread(start)),
+    }
 }
 
 /// Reads the name of an argument of a formula.
