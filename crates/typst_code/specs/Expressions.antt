@@ -18,6 +18,7 @@ use Rattle.typst_combinators.specs.Syntax.Op.{further}
 use Rattle.typst_combinators.specs.Syntax.Parser.{gives, does, pick}
 use Rattle.typst_combinators.specs.Steps.{peek, eat, eat_making, unexpected, expected, node, grow, read_block}
 use Rattle.typst_combinators.specs.Depth.{deeper}
+use Rattle.typst_markup.specs.Equations.{equation}
 use Rattle.typst_code.specs.declared.heads.CodeHead.{CodeHead}
 use Rattle.typst_code.specs.declared.heads.CodeHead.TheVariants as head
 use Rattle.typst_code.specs.declared.heads.CodeTail.{CodeTail}
@@ -29,7 +30,7 @@ use Rattle.typst_code.specs.Statements.{field, set_rule, show_rule, contextual, 
 
 -- ---- what an expression begins with
 
--- what the token at hand begins. LATER, formulas: `$`. LATER, patterns: `let`, `for`, and `=>` or `=` behind a name or an underscore
+-- what the token at hand begins. LATER, patterns: `let`, `for`, and `=>` or `=` behind a name or an underscore
 abbrev pub code_head : Bool → SyntaxKind → CodeHead
 code_head atomic kind.Plus = if atomic then head.StrayOperator else head.Unary unary.Pos
 code_head atomic kind.Minus = if atomic then head.StrayOperator else head.Unary unary.Neg
@@ -46,6 +47,7 @@ code_head atomic kind.Str = head.Itself
 code_head atomic kind.Label = head.Itself
 code_head atomic kind.LeftBrace = head.CodeBlock
 code_head atomic kind.LeftBracket = head.ContentBlock
+code_head atomic kind.Dollar = head.Equation
 code_head atomic kind.LeftParen = head.Group
 code_head atomic kind.Set = head.Set
 code_head atomic kind.Show = head.Show
@@ -72,6 +74,7 @@ code_by atomic head.Itself = eat
 code_by atomic head.Placeholder = eat_making false (wanted (codes "expression"))
 code_by atomic head.CodeBlock = read_block block.Code
 code_by atomic head.ContentBlock = read_block block.Content
+code_by atomic head.Equation = equation
 code_by atomic head.Group = group
 code_by atomic head.Set = set_rule
 code_by atomic head.Show = show_rule

@@ -35,8 +35,13 @@ fn wrap_argument(
     Ok(())
 }
 
-/// The same, of a name.
-fn wrap_named(p: &mut Parser<'_>, from: usize, names: &Names, name: &str) -> Result<(), AllocError>
+/// Makes a named argument of an argument that has a name, which may have been seen.
+pub fn wrap_named(
+    p: &mut Parser<'_>,
+    from: usize,
+    names: &Names,
+    name: &str,
+) -> Result<(), AllocError>
     ensures { OnOk result (Rewrapped from (holds (spec.when_named names.now name.now) kind.Named) p.old p.new) }
 {
     if !names.has(name) {
@@ -53,7 +58,7 @@ fn wrap_named(p: &mut Parser<'_>, from: usize, names: &Names, name: &str) -> Res
 }
 
 /// With the name of an argument, if it has one.
-fn with_argument(names: Names, key: &Option<Key>) -> Result<Names, AllocError>
+pub fn with_argument(names: Names, key: &Option<Key>) -> Result<Names, AllocError>
     ensures { IfOk result (λ more. more ≡ spec.with_argument names key.now) }
 {
     let mut names = names;

@@ -19,6 +19,7 @@ use std::alloc::AllocError;
 use typst_combinators::Call;
 use typst_kinds::{Assoc, BinOp, SyntaxKind, UnOp};
 use typst_machine::{Answered, Levels, Parser, deeper};
+use typst_markup::equation;
 
 /// An operator and its operand.
 fn unary_expr<L: Levels>(g: &L, p: &mut Parser<'_>, op: UnOp) -> Result<(), AllocError>
@@ -48,6 +49,7 @@ fn code_primary<L: Levels>(g: &L, p: &mut Parser<'_>, atomic: bool) -> Result<()
         CodeHead::Placeholder => p.eat_wanted(false, "expression", g)?,
         CodeHead::CodeBlock => read_code(g, p)?,
         CodeHead::ContentBlock => read_content(g, p)?,
+        CodeHead::Equation => equation(g, p)?,
         CodeHead::Group => group(g, p)?,
         CodeHead::Set => set_rule(g, p)?,
         CodeHead::Show => show_rule(g, p)?,

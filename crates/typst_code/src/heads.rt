@@ -21,6 +21,8 @@ pub enum CodeHead {
     CodeBlock,
     /// `[ .. ]`
     ContentBlock,
+    /// `$ .. $`
+    Equation,
     /// `( .. )`
     Group,
     /// `set ..`
@@ -87,6 +89,7 @@ pub(crate) fn code_head(atomic: bool, kind: SyntaxKind) -> CodeHead
         | SyntaxKind::Label => CodeHead::Itself,
         SyntaxKind::LeftBrace => CodeHead::CodeBlock,
         SyntaxKind::LeftBracket => CodeHead::ContentBlock,
+        SyntaxKind::Dollar => CodeHead::Equation,
         SyntaxKind::LeftParen => CodeHead::Group,
         SyntaxKind::Set => CodeHead::Set,
         SyntaxKind::Show => CodeHead::Show,

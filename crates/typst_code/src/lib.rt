@@ -11,6 +11,7 @@ mod sequences;
 mod statements;
 mod stops;
 
+pub use arguments::{with_argument, wrap_named};
 pub use expressions::code_expr;
 pub use heads::{CodeHead, CodeTail};
 pub use listing::Items;

@@ -13,6 +13,7 @@ pub mod Backs
 pub mod Rests
 pub mod Goes
 pub mod CodeEnds
+pub mod MathEnds
 pub mod Ends
 pub mod Eats
 pub mod Alike

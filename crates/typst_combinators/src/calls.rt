@@ -12,6 +12,18 @@ pub enum Call {
     /// An expression of code, whether atomic, and how tightly its operators bind at least. It answers
     /// nothing.
     CodeExpr(bool, u8),
+    /// An expression of a formula, how tightly its operators bind at least, and at which signs of
+    /// attachments it ends. It answers nothing.
+    MathExpr(u8, ChainSet),
+}
+
+/// Signs of attachments.
+#[derive(Debug, Clone, Copy, PartialEq, Eq)]
+pub struct ChainSet {
+    /// Whether `^` is one of them.
+    pub hat: bool,
+    /// Whether `_` is one of them.
+    pub underscore: bool,
 }
 
 /// What is noted as one block.
@@ -28,6 +40,10 @@ pub enum Block {
 pub enum Way {
     /// As a token of this mode.
     InMode(SyntaxMode),
+    /// As the name of an argument of a call in a formula, directly before its colon.
+    NamedArgument,
+    /// As the dots before an argument of a call in a formula that is spread.
+    SpreadArgument,
 }
 
 /// What begins or ends at a place.

@@ -28,7 +28,7 @@ use Rattle.typst_grammar.specs.Grammar.{rules, production, meaning, level_at, ma
 use Rattle.typst_grammar.specs.Read.{IsParsed}
 
 pub sound-at : (k : CharClasses) (levels : ℕ) → Sound (level_at k levels)
-sound-at k levels = sound-level rules k levels
+sound-at k levels = sound-level (rules k) k levels
 
 -- each block may be read there
 pub blocks-at : (k : CharClasses) (levels : ℕ) → Blocks (level_at k levels)
@@ -38,7 +38,7 @@ blocks-at k levels = record { content = record { has = refl; same = λ z s. refl
 fits-level : (k : CharClasses) (i j : ℕ) {v : View} → Fits (level_at k i) v → Fits (level_at k j) v
 fits-level k i j c = record { known = c.known; hand = c.hand; own = c.own; here = c.here; there = c.there; log = c.log }
 
-pub makes-production : (k : CharClasses) (levels : ℕ) {call : Call} {a : Answered} {old new : View} → Answers (level_at k levels) call (production call) a old new → Called (level_at k (suc levels)) call a old new
+pub makes-production : (k : CharClasses) (levels : ℕ) {call : Call} {a : Answered} {old new : View} → Answers (level_at k levels) call (production k call) a old new → Called (level_at k (suc levels)) call a old new
 unfolding meaning_of
 makes-production k levels {call = call} {a = a} {old = old} {new = new} h =
     let e : levels ≡ suc levels - 1 = omega arith in

@@ -204,7 +204,7 @@ module _ (k : CharClasses) where
       (λ e.
       let t = turn-goes x z s e in
       let some = t.taken in
-      let most = (sane-at rules k max_depth (markup_turn true is_end x)).within z s in
+      let most = (sane-at (rules k) k max_depth (markup_turn true is_end x)).within z s in
       let fewer : bound (moved o.taken z) o.state < n = omega (arith, some, most) in
       on_true (Ended z) (o.value.0 && nat_lt 0 o.taken) (joined o p) (as_last o) (ap (λ b. b && nat_lt 0 o.taken) t.says ∙ is-less o.taken some)
       (ap (λ w. is_end (kind_at w p.state)) (moved-sum o.taken p.taken z) ∙ loop n o.value.1 (moved o.taken z) o.state fewer))
@@ -224,7 +224,7 @@ module _ (k : CharClasses) where
       let z = start_of text in
       let s = start_point markup_reading in
       let o = run top (markup_run is_end) z s in
-      let t = settled-then s o.state (record { reading = refl; held = refl }) ((sane-at rules k max_depth (markup_run is_end)).rests z s) in
+      let t = settled-then s o.state (record { reading = refl; held = refl }) ((sane-at (rules k) k max_depth (markup_run is_end)).rests z s) in
       let w = moved o.taken z in
       let e = ap (λ r. is_end (hand_at k r o.state.known w).kind) (sym t.held) ∙ run-ends z s in
       let none = ap (λ r. (moved (hand_at k r o.state.known w).gap w).ahead) t.held ∙ hand-ends k markup_reading.mode o.state.known w e in
@@ -238,4 +238,4 @@ pub leaves : (k : CharClasses) (text : List ℕ) → text_of (tree k text) ≡ e
 unfolding tree
 leaves k text =
     let o = parsed k max_depth text in
-    ((sane-at rules k max_depth whole).kept (start_of text) (start_point markup_reading) tt).text ∙ ap encode_utf8_all (take-all o.taken text (whole-taken k text))
+    ((sane-at (rules k) k max_depth whole).kept (start_of text) (start_point markup_reading) tt).text ∙ ap encode_utf8_all (take-all o.taken text (whole-taken k text))

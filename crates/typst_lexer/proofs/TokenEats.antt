@@ -22,19 +22,19 @@ use Rattle.typst_markup_tokens.specs.Link.{link_or_text}
 use Rattle.typst_markup_tokens.specs.Names.{label_or_text, ref_marker, ref_or_text}
 use Rattle.typst_tokens.specs.Labels.{label}
 use Rattle.typst_tokens.specs.Raw.{raw}
-use Rattle.typst_markup_tokens.specs.Text.{text_from}
 use Rattle.typst_tokens.specs.Token.{plain}
 use Rattle.typst_code_tokens.proofs.Eats.{code-eats}
 use Rattle.typst_markup_tokens.proofs.Eats.{markup-eats}
+use Rattle.typst_math_tokens.proofs.Eats.{math-eats}
 use Rattle.typst_tokens.proofs.Eats.{either, some-ahead, run-ahead, line-eats}
 use Rattle.typst_lexer.specs.Tokens.{of_mode, hash, slash, star, backtick, token}
 use Rattle.typst_tokens.specs.declared.token.Token.{Token}
 use Rattle.typst_tokens.specs.Memory.{Memory}
 
 mode-eats : (c : ℕ) (p : Place) (e : scout 0 p ≡ Some c) (k : CharClasses) (mode : SyntaxMode) → 1 ≤ eaten (of_mode k mode c) p
-unfolding of_mode text_from
+unfolding of_mode
 mode-eats c p e k Markup = markup-eats c p e k
-mode-eats c p e k Math = omega arith
+mode-eats c p e k Math = math-eats k c p e
 mode-eats c p e k Code = code-eats k c p e
 
 -- the mode's own token at a character that is known

@@ -5,6 +5,7 @@ ghost use Rattle.typst_readers.specs.Column.{column};
 ghost use Rattle.typst_readers.specs.Reader.{exec, eaten};
 ghost use Rattle.typst_readers.specs.Reads.{Reads, Scans};
 ghost use Rattle.typst_lexer.specs.Tokens as spec;
+ghost use Rattle.typst_math_tokens.specs.Arguments.{named_argument as named, spread_argument as spread};
 ghost use Rattle.typst_lines.specs.Place.{place_at, scout};
 
 use std::alloc::{AllocError, Global};
@@ -13,7 +14,8 @@ use typst_code_tokens::code::code;
 use typst_kinds::{SyntaxKind, SyntaxMode};
 use typst_lines::Scanner;
 use typst_markup_tokens::markup::markup;
-use typst_markup_tokens::text::text_from;
+use typst_math_tokens::arguments;
+use typst_math_tokens::math::math;
 use typst_readers::column::column;
 use typst_readers::{Cursor, Hull};
 use typst_tokens::Token;
@@ -187,7 +189,7 @@ fn of_mode<C: Classes>(
 {
     match mode {
         SyntaxMode::Markup => Ok(markup(alloc, s, c, classes)?),
-        SyntaxMode::Math => Ok(text_from(s, classes)),
+        SyntaxMode::Math => Ok(math(s, classes)),
         SyntaxMode::Code => Ok(code(s, c, classes)),
     }
 }
@@ -252,4 +254,28 @@ fn backtick<C: Classes>(
         SyntaxMode::Math => Ok(of_mode(alloc, s, '`', mode, classes)?),
         SyntaxMode::Code => Ok(raw(s)),
     }
+}
+
+/// The name of a named argument of a formula that begins here, or End where none does, and the bytes
+/// that were looked at for it.
+pub fn named_argument<C: Classes>(s: &mut Scanner<'_>, classes: &C) -> (Token, Hull)
+    ensures { Scans (named (C.classes classes.now)) s.old result.0 result.1 s.new }
+{
+    let mut cursor = Cursor::new(*s);
+    let token = arguments::named_argument(&mut cursor, classes);
+    let (after, hull) = cursor.finish();
+    *s = after;
+    (token, hull)
+}
+
+/// The dots of an argument of a formula that is spread, or End where none begins here, and the bytes
+/// that were looked at for them.
+pub fn spread_argument(s: &mut Scanner<'_>) -> (Token, Hull)
+    ensures { Scans spread s.old result.0 result.1 s.new }
+{
+    let mut cursor = Cursor::new(*s);
+    let token = arguments::spread_argument(&mut cursor);
+    let (after, hull) = cursor.finish();
+    *s = after;
+    (token, hull)
 }

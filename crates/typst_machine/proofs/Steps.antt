@@ -131,6 +131,27 @@ does-scoped {l = l} f {p = p} {a = a} {outer = outer} {old = old} {inner = inner
   ready = λ c. record {};
 }
 
+-- behind another mode nothing is known of a token that wasn't asked for
+left-bare : (outer : Reading) (s : Point) → s.known ≡ None → (left outer s).known ≡ None
+left-bare outer s h = by-mode (same_mode s.reading.mode outer.mode) refl
+  where
+    by-mode : (b : Bool) → same_mode s.reading.mode outer.mode ≡ b → (left outer s).known ≡ None
+    by-mode true e = rw e h
+    by-mode false e = rw e refl
+
+-- the last token was taken in the inner way, and the one behind it is asked for in the outer way
+pub does-closed : {A : Type 0} {l : Level} (f : Reading → Reading) {p : Parser A} {a : A} {outer : Reading} {old inner mid last new : View}
+    → inner ≡ record old { state = entered (f old.state.reading) old.state } → outer ≡ old.state.reading
+    → Goes l (Fits l) Bare p a inner mid → last ≡ record mid { state = left outer mid.state } → Looked l (unasked last) new → Does l (within f p) a old new
+unfolding within
+does-closed {l = l} f {outer = outer} {mid = mid} i o h e k =
+    does-next
+    (record {
+      ran = (does-scoped f i o h e).ran;
+      ready = λ c. (let j = subst (λ (v : View). Fits l v) (sym i) (fits-entered f c) in record { known = ap (λ (v : View). v.state.known) e ∙ left-bare outer mid.state (h.ready j).known });
+    })
+    (does-next (does-look k) does-gives)
+
 pub does-wraps : {A : Type 0} {l : Level} {P Q : View → Type 0} {f : A → Shape} {begin : Begin} {from : ℕ} {p : Parser A} {a : A} {old mid new : View}
     → Sound l → old.state.empties ≤ length old.nodes → (P old → from ≡ length old.nodes + before begin old.state) → (Q mid → Q new)
     → Goes l P Q p a old mid → Rewrapped from (f a) mid new → Goes l P Q (wraps f begin p) (a, map seen (drop from mid.nodes)) old new

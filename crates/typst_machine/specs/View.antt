@@ -9,7 +9,7 @@ use Rattle.typst_node.specs.Tree.{Tree}
 use Rattle.typst_readers.specs.declared.hull.Hull.{Hull}
 use Rattle.typst_combinators.specs.declared.calls.Block.{Block}
 use Rattle.typst_combinators.specs.declared.calls.Call.{Call}
-use Rattle.typst_combinators.specs.declared.calls.Call.TheVariants.{MarkupExpr, CodeExpr}
+use Rattle.typst_combinators.specs.declared.calls.Call.TheVariants.{MarkupExpr, CodeExpr, MathExpr}
 use Rattle.typst_combinators.specs.declared.calls.Mark.{Mark}
 use Rattle.typst_combinators.specs.declared.calls.Mark.TheVariants.{Opens, Closes}
 use Rattle.typst_combinators.specs.declared.calls.Note.{Note}
@@ -100,6 +100,7 @@ Reads l p old r new = GoesIf l (Fits l) (Fits l) p old r new
 abbrev pub said : (call : Call) → Answer call → Answered
 said (MarkupExpr at_start nesting) n = Brackets n
 said (CodeExpr atomic least) x = Nothing
+said (MathExpr least chain) x = Nothing
 
 -- a call was made, and this is what the code says that it answered
 pub record Called (l : Level) (call : Call) (a : Answered) (old new : View) : Type 0 where

@@ -5,12 +5,13 @@ ghost use Rattle.typst_lines.specs.Scanner.{place};
 ghost use Rattle.typst_readers.specs.Reader.{exec, look};
 ghost use Rattle.typst_readers.specs.Sight.{hull_of};
 ghost use Rattle.typst_combinators.specs.Calls.{token_so};
-ghost use Rattle.typst_combinators.specs.Shape.Making.{itself};
+ghost use Rattle.typst_combinators.specs.Shape.Making.{itself, wanted};
 ghost use Rattle.typst_combinators.specs.Steps as spec;
 ghost use Rattle.typst_combinators.specs.Syntax.Op.{so};
 ghost use Rattle.typst_combinators.specs.Syntax.Parser.{does};
 ghost use Rattle.typst_machine.specs.View.{Means};
-ghost use Rattle.typst_machine.specs.Ways.{GaveUpTo};
+ghost use Rattle.typst_classes.specs.Classes.{CharClasses};
+ghost use Rattle.typst_machine.specs.Ways.{GaveUpTo, IsReadBy};
 
 use crate::depth::Levels;
 use crate::nodes::{give, push_all};
@@ -20,6 +21,7 @@ use typst_ahead::{Read, read_token};
 use typst_classes::Classes;
 use typst_combinators::Way;
 use typst_kinds::SyntaxKind;
+use typst_lexer::lexer::{named_argument, spread_argument};
 use typst_lines::Scanner;
 use typst_node::SyntaxNode;
 use typst_token_nodes::make_node;
@@ -42,6 +44,27 @@ impl<'s> Parser<'s> {
         self.log.look(found.hull);
         let text = found.after.since(&self.ahead.start);
         let node = make_node(self.alloc, found.token, text, g)?;
+        self.take_so(found.after, node)?;
+        self.read(g)?;
+        Ok(())
+    }
+
+    /// Takes the token that is found in another way as an error that something else was expected in
+    /// its place.
+    #[cold]
+    pub fn eat_wanted_so<L: Levels>(
+        &mut self,
+        way: Way,
+        thing: &str,
+        g: &L,
+    ) -> Result<(), AllocError>
+        ensures { Means (L.frame g.now) (spec.eat_so way (wanted thing.now)) self.old result self.new }
+    {
+        let found = read_so(self.alloc, self.ahead.start, way, g)?;
+        self.log.look(found.hull);
+        let text = found.after.since(&self.ahead.start);
+        let mut node = make_node(self.alloc, found.token, text, g)?;
+        node.expected(thing)?;
         self.take_so(found.after, node)?;
         self.read(g)?;
         Ok(())
@@ -72,8 +95,30 @@ fn read_so<'s, C: Classes>(
     ensures hull { IfOk result (λ r. r.hull ≡ hull_of (look (token_so (C.classes classes.now) way) (place start.entry)) (place start.entry)) }
     ensures same_text { IfOk result (λ r. r.after.text.now ≡ start.entry.text.now) }
 {
-    let found = match way {
-        Way::InMode(mode) => read_token(alloc, start, mode, classes)?,
-    };
-    Ok(found)
+    match way {
+        Way::InMode(mode) => {
+            let found = read_token(alloc, start, mode, classes)?;
+            Ok(found)
+        }
+        Way::NamedArgument => Ok(read_named(start, classes)),
+        Way::SpreadArgument => Ok(read_spread(start)),
+    }
+}
+
+/// Reads the name of an argument of a formula.
+fn read_named<'s, C: Classes>(start: Scanner<'s>, classes: &C) -> Read<'s>
+    ensures { IsReadBy (token_so (C.classes classes.now) Way.NamedArgument) start.entry result }
+{
+    let mut after = start;
+    let (token, hull) = named_argument(&mut after, classes);
+    Read { token, after, hull }
+}
+
+/// Reads the dots of an argument of a formula.
+fn read_spread(start: Scanner<'_>) -> Read<'_>
+    ensures { (k : CharClasses) → IsReadBy (token_so k Way.SpreadArgument) start.entry result }
+{
+    let mut after = start;
+    let (token, hull) = spread_argument(&mut after);
+    Read { token, after, hull }
 }

@@ -2,3 +2,4 @@
 --   a production's clause        its own answers, by the steps of the machine; Heads: what begins an expression
 pub mod Heads
 pub mod Asks
+pub mod Nots

@@ -23,6 +23,7 @@ use Rattle.typst_combinators.specs.Depth.{is_end, one_more, too_deep, deeper}
 use Rattle.typst_markup.specs.declared.head.MarkupHead.{MarkupHead}
 use Rattle.typst_markup.specs.declared.head.MarkupHead.TheVariants as head
 use Rattle.typst_markup.specs.Embedded.{embedded}
+use Rattle.typst_markup.specs.Equations.{equation}
 
 -- ---- where sequences stop
 
@@ -185,6 +186,7 @@ markup_head at_start nesting kind.Label = head.Itself
 markup_head at_start nesting kind.Raw = head.Itself
 markup_head at_start nesting kind.RefMarker = head.Reference
 markup_head at_start nesting kind.Hash = head.Embedded
+markup_head at_start nesting kind.Dollar = head.Equation
 markup_head at_start nesting kind.Star = head.Strong
 markup_head at_start nesting kind.Underscore = head.Emph
 markup_head at_start nesting kind.HeadingMarker = if at_start then head.Heading else head.Plain
@@ -208,6 +210,7 @@ markup_by nesting head.EnumItem = item kind.EnumItem >> gives nesting
 markup_by nesting head.TermItem = term_item >> gives nesting
 markup_by nesting head.Reference = reference >> gives nesting
 markup_by nesting head.Embedded = embedded >> gives nesting
+markup_by nesting head.Equation = equation >> gives nesting
 markup_by nesting head.Plain = convert_and_eat kind.Text >> gives nesting
 markup_by nesting head.Unexpected = unexpected [] >> gives nesting
 

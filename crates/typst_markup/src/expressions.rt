@@ -8,6 +8,7 @@ ghost use Rattle.typst_markup.specs.Outside.{MeansOutside};
 ghost use Rattle.typst_markup.specs.Stops.{stops_at};
 
 use crate::embedding::embedded;
+use crate::equations::equation;
 use crate::head::{MarkupHead, markup_head};
 use crate::references::reference;
 use crate::sequences::{markup, markup_with_trivia};
@@ -181,6 +182,7 @@ pub fn markup_expr<L: Levels>(
         MarkupHead::TermItem => term_item(g, p)?,
         MarkupHead::Reference => reference(g, p)?,
         MarkupHead::Embedded => embedded(g, p)?,
+        MarkupHead::Equation => equation(g, p)?,
         MarkupHead::Plain => p.convert_and_eat(SyntaxKind::Text, g)?,
         MarkupHead::Unexpected => p.unexpected(g)?,
     }

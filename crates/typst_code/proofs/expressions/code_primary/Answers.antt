@@ -80,3 +80,7 @@ returns-in_ok-unexpected-in-Unexpected g c l h b = does-next (does-peek _) (at-h
 pub returns-in_ok-expected-in-Missing : goal.returns-in_ok-expected-in-Missing
 unfolding code_primary
 returns-in_ok-expected-in-Missing g c l h b = does-next (does-peek _) (at-head c.args.atomic _ head.Missing (ap (code_head c.args.atomic) (sym c.current.ensures) ∙ sym c.code_head.ensures ∙ c.in-Missing.is) (c.in_ok-expected-in-Missing.ensures l h))
+
+pub returns-in_ok-equation-in-Equation : goal.returns-in_ok-equation-in-Equation
+unfolding code_primary
+returns-in_ok-equation-in-Equation g c l h b = does-next (does-peek _) (at-head c.args.atomic _ head.Equation (ap (code_head c.args.atomic) (sym c.current.ensures) ∙ sym c.code_head.ensures ∙ c.in-Equation.is) (c.in_ok-equation-in-Equation.ensures l h))

@@ -6,3 +6,6 @@ returns-in_ok-nesting-in-MarkupExpr g c l h b = rw c.in-MarkupExpr.is (record { 
 
 pub returns-in_ok-code_expr-in-CodeExpr : goal.returns-in_ok-code_expr-in-CodeExpr
 returns-in_ok-code_expr-in-CodeExpr g c l h b = rw c.in-CodeExpr.is (record { answer = tt; is = refl; does = c.in_ok-code_expr-in-CodeExpr.ensures l h b })
+
+pub returns-in_ok-math_expr-in-MathExpr : goal.returns-in_ok-math_expr-in-MathExpr
+returns-in_ok-math_expr-in-MathExpr g c l h b = rw c.in-MathExpr.is (record { answer = tt; is = refl; does = c.in_ok-math_expr-in-MathExpr.ensures l h })

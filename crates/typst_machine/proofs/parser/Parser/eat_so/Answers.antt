@@ -9,6 +9,7 @@ use Rattle.typst_token_nodes.specs.Nodes.{token_node}
 use Rattle.typst_combinators.specs.Calls.{token_so}
 use Rattle.typst_combinators.specs.Hand.{len_by, text_ahead}
 use Rattle.typst_combinators.specs.Log.{Log}
+use Rattle.typst_combinators.specs.Shape.Making.{itself}
 use Rattle.typst_machine.specs.Cursor.{view_of}
 use Rattle.typst_machine.specs.View.{View}
 use Rattle.typst_machine.specs.Ways.{GaveUpTo}
@@ -37,5 +38,5 @@ returns g c l h =
     let node = c.in_ok-node.ensures ∙ ap (λ (q : CharClasses). token_node q found.token (chars c.since-text.result.now)) (sym k) ∙ ap (token_node l.classes found.token) text in
     let log = ap (λ (x : Log). record (view_of i) { log = x }) c.look.ensures in
     rw (sym c.self.view_is)
-    (does-eat_so (eaten-so l way (view_of i) _ found.token (place found.after) found.hull c.in_ok-node.node reads hull node (subst (λ (v : View). GaveUpTo (place found.after) c.in_ok-node.node v c.take_so.new.self) log c.in_ok-take_so.ensures))
+    (does-eat_so (eaten-so l way itself (view_of i) _ found.token (place found.after) found.hull c.in_ok-node.node reads hull node (subst (λ (v : View). GaveUpTo (place found.after) c.in_ok-node.node v c.take_so.new.self) log c.in_ok-take_so.ensures))
     (c.in_ok-read.ensures l k))

@@ -1,0 +1,4 @@
+pub mod Delimited
+pub mod Arguments
+pub mod Attachments
+pub mod Expressions
