@@ -17,6 +17,7 @@ use typst_lexer::Hull;
 use typst_machine::{Answered, Grammar, Levels, Parser};
 use typst_markup::{Stop, markup_expr, markup_run};
 use typst_node::SyntaxNode;
+use typst_patterns::pattern;
 
 /// How deep calls may nest.
 const MAX_DEPTH: usize = 256;
@@ -34,6 +35,10 @@ pub fn production<L: Levels>(g: &L, p: &mut Parser<'_>, call: Call) -> Result<An
         Call::CodeExpr(atomic, least) => {
             code_expr(g, p, atomic, least)?;
             Ok(Answered::Nothing)
+        }
+        Call::Pattern(role, names) => {
+            let seen = pattern(g, p, role, names)?;
+            Ok(Answered::Names(seen))
         }
     }
 }

@@ -5,10 +5,8 @@ use Rattle.typst_kinds.specs.Sets.{code_expr, stmt}
 use Rattle.typst_kinds.specs.declared.kind.SyntaxKind.{SyntaxKind}
 use Rattle.typst_kinds.specs.declared.kind.SyntaxKind.TheVariants as kind
 
--- LATER, patterns: `let` and `for`. LATER, formulas: `$`
+-- LATER, formulas: `$`
 abbrev pub comes_later : SyntaxKind → Bool
-comes_later kind.Let = true
-comes_later kind.For = true
 comes_later kind.Dollar = true
 comes_later _ = false
 

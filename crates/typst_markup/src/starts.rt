@@ -21,9 +21,9 @@ pub fn begins_statement(kind: SyntaxKind) -> bool
     set::STMT.contains(kind) && !comes_later(kind)
 }
 
-/// LATER, patterns: `let` and `for` begin nothing yet. LATER, formulas: nor does `$`.
+/// LATER, formulas: `$` begins nothing yet.
 fn comes_later(kind: SyntaxKind) -> bool
     ensures { result ≡ spec.comes_later kind }
 {
-    matches!(kind, SyntaxKind::Let | SyntaxKind::For | SyntaxKind::Dollar)
+    matches!(kind, SyntaxKind::Dollar)
 }
