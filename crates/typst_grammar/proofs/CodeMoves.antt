@@ -8,6 +8,7 @@ use Rattle.typst_kinds.specs.declared.kind.SyntaxKind.TheVariants as kind
 use Rattle.typst_kinds.specs.declared.mode.SyntaxMode.{SyntaxMode}
 use Rattle.typst_kinds.specs.declared.operator.UnOp.{UnOp}
 use Rattle.typst_lines.specs.Place.{Place, moved}
+use Rattle.typst_node.specs.Tree.{Tree}
 use Rattle.typst_classes.specs.Classes.{CharClasses}
 use Rattle.typst_combinators.specs.declared.calls.Block.{Block}
 use Rattle.typst_combinators.specs.declared.calls.Block.TheVariants as block
@@ -40,7 +41,7 @@ Moves l p = (z : Place) (s : Point) → 0 < (hand_of l z s).gap + (hand_of l z s
 
 module _ (l : Level) where
   -- as much is left once it was asked for
-  left-again : (z : Place) (s : Point) → (hand_of l z (asked (hand_of l z s) s)).gap + (hand_of l z (asked (hand_of l z s) s)).len ≡ (hand_of l z s).gap + (hand_of l z s).len
+  pub left-again : (z : Place) (s : Point) → (hand_of l z (asked (hand_of l z s) s)).gap + (hand_of l z (asked (hand_of l z s) s)).len ≡ (hand_of l z s).gap + (hand_of l z s).len
   left-again z s = ap (λ (h : Hand). h.gap + h.len) (hand-again l.classes s.held s.known z)
 
   pub moves-next : {A B : Type 0} (p : Parser B) (f : B → Parser A) → Moves l p → Moves l (next p f)
@@ -182,14 +183,22 @@ module _ (l : Level) where
 
 -- ---- blocks
 
+flushed-by : (ts : List Tree) (h : Hand) (s : Point) → h.trivia ≡ ts → (flushed_state h s).held ≡ s.held
+flushed-by [] h s e = rw e refl
+flushed-by (t ∷ ts) h s e = rw e refl
+
+-- a flush changes no reading
+flushed-held : (h : Hand) (s : Point) → (flushed_state h s).held ≡ s.held
+flushed-held h s = flushed-by h.trivia h s refl
+
 -- nothing is known of the trivia: they or the token take something
 some-ahead : (k : CharClasses) (m : SyntaxMode) (n : ℕ) (z : Place) → 0 < len_at k m z → 0 < (ahead_by k m n z).gap + (ahead_by k m n z).len
-some-ahead k m zero z h = h
+some-ahead k m zero z h = omega (arith, h)
 some-ahead k m (suc n) z h = by-trivia (at_trivia k m z) refl
   where
     by-trivia : (b : Bool) → at_trivia k m z ≡ b → 0 < (ahead_by k m (suc n) z).gap + (ahead_by k m (suc n) z).len
     by-trivia true e = rw e (omega (arith, h))
-    by-trivia false e = rw e h
+    by-trivia false e = rw e (omega (arith, h))
 
 some-again : (k : CharClasses) (held : Reading) (known : Option Trivia) (z : Place) → (hand_at k held known z).gap ≡ 0 → 0 < (hand_at k held known z).len → 0 < (hand_at k held None z).gap + (hand_at k held None z).len
 unfolding hand_at ahead
@@ -205,10 +214,10 @@ module _ (k : CharClasses) (levels : ℕ) where
   unfolding run
   moves-inside block.Content z s h =
       let t = forgot s in
-      moves-peek (apart l) _ (λ a. moves-content (apart l)) z t h
+      moves-peek (apart l) {A = Unit {0}} (λ _. content_block) (λ a. moves-content (apart l)) z t h
   moves-inside block.Code z s h =
       let t = forgot s in
-      moves-peek (apart l) _ (λ a. moves-code (apart l)) z t h
+      moves-peek (apart l) {A = Unit {0}} (λ _. code_block) (λ a. moves-code (apart l)) z t h
 
   moves-block : (b : Block) → Moves l (read_block b)
   unfolding run read_block
@@ -217,8 +226,12 @@ module _ (k : CharClasses) (levels : ℕ) where
       by-gap : (n : ℕ) → (hand_of l z s).gap ≡ n → 0 < (run l (read_block b) z s).taken
       by-gap (suc n) e = omega (arith, e)
       by-gap zero e =
+          let t = flushed_state (hand_of l z s) s in
           let some = some-again k s.held s.known z e (omega (arith, e, h)) in
-          let inside : 0 < (l.blocks b (moved (hand_of l z s).gap z) (forgot (flushed_state (hand_of l z s) s))).taken = rw e (moves-inside b z s some) in
+          let there : moved (hand_of l z s).gap z ≡ moved 0 z = ap (λ (n : ℕ). moved n z) e in
+          let some-flushed = subst (λ (r : Reading). 0 < (hand_at k r None z).gap + (hand_at k r None z).len) (sym (flushed-held (hand_of l z s) s)) some in
+          let some-there = subst (λ (w : Place). 0 < (hand_at k t.held None w).gap + (hand_at k t.held None w).len) (sym there) some-flushed in
+          let inside = moves-inside b (moved (hand_of l z s).gap z) t some-there in
           omega (arith, inside)
 
 -- ---- an expression that a token begins
@@ -238,11 +251,11 @@ Each P (k ∷ ks) = P k × Each P ks
 
 of-each : (P : SyntaxKind → Type 0) (ks : List SyntaxKind) → Each P ks → (k : SyntaxKind) → among ks k ≡ true → P k
 of-each P [] h k e = absurd (cc)
-of-each P (j ∷ ks) h k e = by-same (same j k) refl
+of-each P (j ∷ ks) h k e = of-first (same j k) refl (λ others. of-each P ks h.1 k others)
   where
-    by-same : (b : Bool) → same j k ≡ b → P k
-    by-same true f = subst P (sym (same-is j k f)) h.0
-    by-same false f = of-each P ks h.1 k (subst (λ b. (b || among ks k) ≡ true) f e)
+    of-first : (b : Bool) → same j k ≡ b → (among ks k ≡ true → P k) → P k
+    of-first true f rest = subst P (sym (same-is j k f)) h.0
+    of-first false f rest = rest (subst (λ b. (b || among ks k) ≡ true) f e)
 
 module _ (k : CharClasses) (levels : ℕ) where
   abbrev here : Level

@@ -112,9 +112,9 @@ pub record CodeTrees (beyond : CharClasses) : Type 0 where
   pub group : tree_code (by_law beyond) (codes "(a)") ≡ code (branch kind.Parenthesized (leaf_of kind.LeftParen (codes "(") ∷ ident (codes "a") ∷ leaf_of kind.RightParen (codes ")") ∷ []) ∷ [])
   pub array : tree_code (by_law beyond) (codes "(a,)") ≡ code (branch kind.Array (leaf_of kind.LeftParen (codes "(") ∷ ident (codes "a") ∷ leaf_of kind.Comma (codes ",") ∷ leaf_of kind.RightParen (codes ")") ∷ []) ∷ [])
   -- a key that was seen is an error
-  pub duplicate : tree (by_law beyond) (codes "#(\"a\":1,a:2)") ≡
+  pub duplicate : tree (by_law beyond) (codes "#(a:1,a:2)") ≡
       markup (hash ∷ branch kind.Dict (leaf_of kind.LeftParen (codes "(")
-      ∷ branch kind.Keyed (leaf_of kind.Str (codes "\"a\"") ∷ leaf_of kind.Colon (codes ":") ∷ int (codes "1") ∷ []) ∷ leaf_of kind.Comma (codes ",")
+      ∷ branch kind.Named (ident (codes "a") ∷ leaf_of kind.Colon (codes ":") ∷ int (codes "1") ∷ []) ∷ leaf_of kind.Comma (codes ",")
       ∷ branch kind.Named (error_of (codes "duplicate key: a") (codes "a") ∷ leaf_of kind.Colon (codes ":") ∷ int (codes "2") ∷ []) ∷ leaf_of kind.RightParen (codes ")") ∷ []) ∷ [])
   -- arguments stand directly behind what is called
   pub call : tree_code (by_law beyond) (codes "f(a)[]") ≡ code (branch kind.FuncCall (ident (codes "f") ∷ branch kind.Args (leaf_of kind.LeftParen (codes "(") ∷ ident (codes "a") ∷ leaf_of kind.RightParen (codes ")") ∷ branch kind.ContentBlock (leaf_of kind.LeftBracket (codes "[") ∷ markup [] ∷ leaf_of kind.RightBracket (codes "]") ∷ []) ∷ []) ∷ []) ∷ [])

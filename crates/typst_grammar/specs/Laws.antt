@@ -7,7 +7,7 @@ use Rattle.typst_combinators.specs.declared.calls.Call.{Call}
 use Rattle.typst_combinators.specs.Meaning.{Meaning, run}
 use Rattle.typst_combinators.specs.Sound.{Lawful}
 use Rattle.typst_markup.specs.Markup.{markup_turn, markup_exprs, markup_run}
-use Rattle.typst_grammar.specs.Grammar.{level_at, meaning, tree}
+use Rattle.typst_grammar.specs.Grammar.{level_at, meaning, tree, tree_code}
 
 -- A piece of a sequence, with whether a line begins there and in how many brackets it stands: an expression with what follows up to the next token.
 abbrev pub piece : CharClasses → Bool → (SyntaxKind → Bool) → Bool → ℕ → ℕ → Meaning (Bool × (Bool × ℕ))
@@ -40,3 +40,7 @@ CallLaws = (k : CharClasses) (call : Call) → Lawful (λ levels. meaning k leve
 -- The law of the leaves: the leaves of the tree of a text, joined, are the text.
 abbrev pub LeavesLaw : Type 0
 LeavesLaw = (k : CharClasses) (text : List ℕ) → text_of (tree k text) ≡ encode_utf8_all text
+
+-- The same of a text of code.
+abbrev pub CodeLeavesLaw : Type 0
+CodeLeavesLaw = (k : CharClasses) (text : List ℕ) → text_of (tree_code k text) ≡ encode_utf8_all text

@@ -2,7 +2,7 @@
 
 ghost use Rattle.typst_classes.specs.Classes.{CharClasses};
 ghost use Rattle.typst_grammar.specs.Examples.{CodeTrees, NamedTrees, Trees};
-ghost use Rattle.typst_grammar.specs.Laws.{CallLaws, LeavesLaw, PieceLaws, RunLaws, SequenceLaws};
+ghost use Rattle.typst_grammar.specs.Laws.{CallLaws, CodeLeavesLaw, LeavesLaw, PieceLaws, RunLaws, SequenceLaws};
 ghost use Rattle.typst_grammar.specs.Notes.{Notes};
 
 /// What holds of every part of the grammar. Where all that was asked shows the same at two places,
@@ -19,7 +19,8 @@ pub fn grammar_laws()
 
 /// The leaves of the tree of a text, joined, are the text.
 pub fn leaves_law()
-    ensures { LeavesLaw }
+    ensures markup { LeavesLaw }
+    ensures code { CodeLeavesLaw }
 {}
 
 /// Trees of short texts, which follow from the definitions.

@@ -1,9 +1,4 @@
-use Rattle.std.proofs.Common.{refl}
 use Rattle.typst_code.proofs.Nots.{is-not, is-so}
-use Rattle.std.proofs.Common.{◌∙◌, ap}
-use Rattle.typst_kinds.specs.Kinds.{same}
-use Rattle.typst_kinds.specs.declared.kind.SyntaxKind.TheVariants as kind
-use Rattle.std.proofs.Common.{sym}
 use Rattle.typst_machine.proofs.Steps.{does-next, does-gives, does-pick, does-other}
 use Rattle.typst_code.specs.Expressions.{direct_field}
 use Rattle.typst_code.proofs.expressions.direct_field.Goals as goal

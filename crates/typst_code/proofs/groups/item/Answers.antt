@@ -1,4 +1,4 @@
-use Rattle.std.proofs.Common.{◌∙◌, ap, sym, subst}
+use Rattle.std.proofs.Common.{◌∙◌, ap, subst}
 use Rattle.std.specs.Prelude.{is_some}
 use Rattle.typst_kinds.specs.Kinds.{same}
 use Rattle.typst_kinds.specs.declared.kind.SyntaxKind.TheVariants as kind
@@ -21,5 +21,5 @@ returns g c l h =
     asks-no (same kind.Dots) c.current.ensures c.eq.ensures c.if-eq.false
     (does-next (does-node (λ key. keeps (misfit c.args.items.are_pairs (is_some key))) h.sound c.marker-from.ensures.few c.marker-from.ensures.marker
     (does-node (item_shape c.args.items.keys) h.sound c.marker-from.ensures.few c.marker-from.ensures.marker (c.in_ok-key.ensures l h) c.in_ok-wrap_item.ensures)
-    (rw (sym c.misfit.ensures.meant, sym c.is_some.ensures) c.in_ok-change.ensures))
+    (subst (λ x. Rewrapped c.marker-from.result (keeps x) c.wrap_item.new.p c.change.new.self) (c.misfit.ensures.meant ∙ ap (misfit c.args.items.are_pairs) c.is_some.ensures) c.in_ok-change.ensures))
     (does-value c.in_ok-with_item.ensures does-gives))

@@ -1,5 +1,4 @@
 use Rattle.typst_machine.proofs.Steps.{does-gives, does-pick, does-other}
-use Rattle.typst_code.specs.Statements.{expression_if}
 use Rattle.typst_code.proofs.statements.expression_if.Goals as goal
 
 pub returns-in_ok-code_expression : goal.returns-in_ok-code_expression

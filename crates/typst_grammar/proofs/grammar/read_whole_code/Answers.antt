@@ -11,6 +11,7 @@ unfolding whole_code
 returns g c =
     let k = g.C.Classes.classes c.args.classes.now in
     let l = level_at k max_depth in
-    let fills = record { classes = refl; sound = sound-at k max_depth; levels = refl; reads = λ old new call r h. calls-at l call r h.2 h.3 h.4.1 } in
-    let d = does-next (does-next (does-look (c.in_ok-look.ensures l fills)) (c.in_ok-code_exprs.ensures l fills)) (c.in_ok-flush_trivia.ensures l) in
+    let first = does-look (c.in_ok-look.ensures l (record { classes = refl; sound = sound-at k max_depth; levels = refl; reads = λ old new call r h. calls-at l call r h.2 h.3 h.4.1 })) in
+    let statements = c.in_ok-code_exprs.ensures l (record { classes = refl; sound = sound-at k max_depth; levels = refl; reads = λ old new call r h. calls-at l call r h.2 h.3 h.4.1 }) in
+    let d = does-next (does-next first statements) (c.in_ok-flush_trivia.ensures l) in
     parsed-is k false c.args.text.now code_reading whole_code _ _ c.in_ok-p.ensures d
