@@ -1,5 +1,5 @@
 -- Parameters of closures.
-use Rattle.std.specs.Prelude.{ℕ, Bool, true, false, if◌then◌else◌, List, [], Option, Some, None, codes}
+use Rattle.std.specs.Prelude.{ℕ, Bool, true, false, if◌then◌else◌, List, [], Option, Some, None, is_some, codes}
 use Rattle.typst_kinds.specs.Kinds.{same, among, is_terminator}
 use Rattle.typst_kinds.specs.Sets as set
 use Rattle.typst_kinds.specs.declared.kind.SyntaxKind.{SyntaxKind}
@@ -11,7 +11,7 @@ use Rattle.typst_combinators.specs.Syntax.Parser.{gives, pick, repeat}
 use Rattle.typst_combinators.specs.Steps.{peek, eat, eat_if, unexpected, within, node}
 use Rattle.typst_machine.specs.Expected.{seeing}
 use Rattle.typst_patterns.specs.Parts.{code_expression, separator, in_parens}
-use Rattle.typst_patterns.specs.Patterns.{deeper_pattern, is_some, name_of, named_shape, sink, sink_shape}
+use Rattle.typst_patterns.specs.Patterns.{deeper_pattern, name_of, named_shape, sink, sink_shape}
 
 -- a pattern, and behind a colon what stands for it where it is not given; answers whether a colon came, and a name stands before it
 unfoldable pub defaulted : List (List ℕ) → Parser (Option Bool × List (List ℕ))

@@ -1,5 +1,5 @@
 -- Patterns: names, what is assigned to, and parens around several of them.
-use Rattle.std.specs.Prelude.{ℕ, Bool, true, false, not, ◌||◌, ◌&&◌, if◌then◌else◌, List, [], ◌∷◌, ◌++◌, Option, Some, None, codes}
+use Rattle.std.specs.Prelude.{ℕ, Bool, true, false, not, ◌||◌, ◌&&◌, if◌then◌else◌, List, [], ◌∷◌, ◌++◌, Option, Some, None, is_some, codes}
 use Rattle.typst_kinds.specs.Kinds.{same, among, is_keyword, is_terminator}
 use Rattle.typst_kinds.specs.Sets as set
 use Rattle.typst_kinds.specs.declared.kind.SyntaxKind.{SyntaxKind}
@@ -76,8 +76,8 @@ unfoldable pub pattern_leaf : Role → List (List ℕ) → Parser (List (List �
 pattern_leaf role names = do
   ahead ← peek
   pick (is_keyword ahead.kind) (eat_making false (wanted (codes "pattern")) >> gives names)
-      (pick (not (begins_leaf ahead.kind)) (expected (codes "pattern") >> gives names)
-      (pick (is_target role) (atomic_expression >> gives names) (bound_name role names)))
+      (pick (begins_leaf ahead.kind) (pick (is_target role) (atomic_expression >> gives names) (bound_name role names))
+      (expected (codes "pattern") >> gives names))
 
 -- ---- several patterns in parens
 
@@ -92,15 +92,18 @@ sink role names = do
 abbrev pub sink_shape : List ℕ → Bool → Shape
 sink_shape message again = if again then fails message else becomes kind.Spread
 
+-- a name; answers whether a colon comes behind it
+unfoldable pub name_and_colon : Parser Bool
+name_and_colon = do
+  name ← eat
+  behind ← peek
+  gives (same kind.Colon behind.kind)
+
 -- a name that stands before a colon; answers whether it was taken. Only the name is given up where no colon comes
 unfoldable pub key : Parser Bool
 key = do
   ahead ← peek
-  pick (same kind.Ident ahead.kind) (either (do
-    name ← eat
-    behind ← peek
-    gives (same kind.Colon behind.kind)) not (gives false))
-      (gives false)
+  pick (same kind.Ident ahead.kind) (either name_and_colon not (gives false)) (gives false)
 
 -- a key or a pattern; answers whether it is a key
 unfoldable pub key_or_pattern : Role → List (List ℕ) → Parser (Bool × List (List ℕ))
@@ -124,10 +127,6 @@ part role names = do
     seen ← deeper_pattern role first.1
     gives (Some first.0, seen))
       (gives (None, first.1))
-
-abbrev pub is_some : {A : Type 0} → Option A → Bool
-is_some None = false
-is_some (Some a) = true
 
 -- what was found of several patterns so far, and the names that were seen
 abbrev pub Found : Type 0

@@ -1,11 +1,11 @@
 //! Parameters of closures.
 
-ghost use Rattle.std.specs.Prelude.{◌≡◌, OnOk, map};
+ghost use Rattle.std.specs.Prelude.{◌≡◌, OnOk, is_some, map};
 ghost use Rattle.typst_combinators.specs.Shape.{seen};
 ghost use Rattle.typst_combinators.specs.Syntax.Parser.{repeat};
 ghost use Rattle.typst_machine.specs.View.{Means, Rewrapped};
 ghost use Rattle.typst_patterns.specs.Params as spec;
-ghost use Rattle.typst_patterns.specs.Patterns.{is_some, name_of};
+ghost use Rattle.typst_patterns.specs.Patterns.{name_of};
 
 use crate::parts::{code_expression, separator};
 use crate::patterns::{deeper_pattern, sink, wrap_named, wrap_sink};

@@ -203,6 +203,14 @@ pub(crate) fn wrap_sink(
     Ok(())
 }
 
+/// Takes a name; answers whether a colon comes behind it.
+fn name_and_colon<L: Levels>(g: &L, p: &mut Parser<'_>) -> Result<bool, AllocError>
+    ensures { Means (L.frame g.now) spec.name_and_colon p.old result p.new }
+{
+    p.eat(g)?;
+    Ok(p.current() == SyntaxKind::Colon)
+}
+
 /// Takes a name that stands before a colon; answers whether it did.
 fn key<L: Levels>(g: &L, p: &mut Parser<'_>) -> Result<bool, AllocError>
     ensures { Means (L.frame g.now) spec.key p.old result p.new }
@@ -211,9 +219,9 @@ fn key<L: Levels>(g: &L, p: &mut Parser<'_>) -> Result<bool, AllocError>
         return Ok(false);
     }
     let place = p.checkpoint();
-    p.eat(g)?;
-    if p.current() == SyntaxKind::Colon {
-        return Ok(true);
+    let is_key = name_and_colon(g, p)?;
+    if is_key {
+        return Ok(is_key);
     }
     p.restore(place)?;
     p.drop_notes(place);
@@ -232,10 +240,10 @@ fn key_or_pattern<L: Levels>(
 {
     let is_key = key(g, p)?;
     if is_key {
-        return Ok((true, names));
+        return Ok((is_key, names));
     }
     let seen = deeper_pattern(g, p, role, names)?;
-    Ok((false, seen))
+    Ok((is_key, seen))
 }
 
 /// Reads a pattern, with a key before it or not; answers whether a colon came and a key stands before
