@@ -5,7 +5,7 @@ use Rattle.typst_kinds.specs.declared.kind.SyntaxKind.{SyntaxKind}
 use Rattle.typst_kinds.specs.declared.kind.SyntaxKind.TheVariants as kind
 use Rattle.typst_combinators.specs.declared.calls.Role.TheVariants as role
 use Rattle.typst_combinators.specs.Syntax.{Parser, ◌>>=◌, ◌>>◌}
-use Rattle.typst_combinators.specs.Syntax.Parser.{gives, either}
+use Rattle.typst_combinators.specs.Syntax.Parser.{gives, pick, either}
 use Rattle.typst_combinators.specs.Steps.{peek, node}
 use Rattle.typst_machine.specs.Expected.{expects}
 use Rattle.typst_patterns.specs.declared.closures.Behind.{Behind}
@@ -40,8 +40,14 @@ is_eq behind.Eq = true
 is_eq behind.Nothing = false
 
 -- a first reading, which is given up where what comes behind it asks for a second one
+abbrev pub either_reading : Parser Behind
+either_reading = either (either as_group is_arrow (params >> gives behind.Arrow)) is_eq (destructuring role.Target [] >> gives behind.Eq)
+
+-- only parens are read twice
 unfoldable pub readings : Parser Behind
-readings = either (either as_group is_arrow (params >> gives behind.Arrow)) is_eq (destructuring role.Target [] >> gives behind.Eq)
+readings = do
+  ahead ← peek
+  pick (same kind.LeftParen ahead.kind) either_reading as_group
 
 -- what comes in place of a sign that doesn't come
 abbrev pub behind_if : Bool → Behind → Behind

@@ -40,6 +40,9 @@ fn readings<L: Levels>(g: &L, p: &mut Parser<'_>) -> Result<Behind, AllocError>
     requires { L.may_call g.now }
     ensures { Means (L.frame g.now) spec.readings p.old result p.new }
 {
+    if p.current() != SyntaxKind::LeftParen {
+        return Ok(as_group(g, p)?);
+    }
     let place = p.checkpoint();
     let behind = as_group(g, p)?;
     match behind {
