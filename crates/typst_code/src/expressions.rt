@@ -13,8 +13,8 @@ use crate::imports::module_import;
 use crate::parens::parens;
 use crate::sequences::{read_code, read_content};
 use crate::statements::{
-    conditional, contextual, field, for_loop, func_return, jump, module_include, set_rule, show_rule,
-    while_loop,
+    conditional, contextual, field, for_loop, func_return, jump, module_include, set_rule,
+    show_rule, while_loop,
 };
 use std::alloc::AllocError;
 use typst_combinators::Call;

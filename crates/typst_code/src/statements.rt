@@ -196,11 +196,7 @@ fn begins_pattern(kind: SyntaxKind) -> bool
 
 /// Reads a second pattern behind a comma, which isn't to stand there, where these names were seen.
 #[cold]
-fn second_pattern<L: Levels>(
-    g: &L,
-    p: &mut Parser<'_>,
-    names: Names,
-) -> Result<(), AllocError>
+fn second_pattern<L: Levels>(g: &L, p: &mut Parser<'_>, names: Names) -> Result<(), AllocError>
     requires { L.may_call g.now }
     ensures { Means (L.frame g.now) (spec.second_pattern names) p.old result p.new }
 {

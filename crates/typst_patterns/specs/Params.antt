@@ -27,8 +27,8 @@ param so_far = do
   pick (same kind.Dots ahead.kind) (do
     names ← node (λ names. sink_shape (codes "only one argument sink is allowed") so_far.0) (sink role.Parameter so_far.1)
     gives (true, names)) (do
-    x ← node (λ x. named_shape x.0) (defaulted so_far.1)
-    gives (so_far.0, x.1))
+      x ← node (λ x. named_shape x.0) (defaulted so_far.1)
+      gives (so_far.0, x.1))
 
 -- a token that begins a parameter
 abbrev pub begins_param : SyntaxKind → Bool

@@ -151,8 +151,8 @@ destructuring_item role found = do
   pick (same kind.Dots ahead.kind) (do
     names ← node (λ names. sink_shape (codes "only one destructuring sink is allowed") found.0.has_sink) (sink role found.1)
     gives (with_sink found.0, names)) (do
-    x ← node (λ x. named_shape x.0) (part role found.1)
-    gives (with_part (is_some x.0) found.0, x.1))
+      x ← node (λ x. named_shape x.0) (part role found.1)
+      gives (with_part (is_some x.0) found.0, x.1))
 
 -- a token that begins one of several patterns
 abbrev pub begins_part : SyntaxKind → Bool

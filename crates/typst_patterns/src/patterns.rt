@@ -296,7 +296,12 @@ fn destructuring_item<L: Levels>(
     let from = p.marker();
     if p.current() == SyntaxKind::Dots {
         let seen = sink(g, p, role, names)?;
-        wrap_sink(p, from, "only one destructuring sink is allowed", parts.has_sink)?;
+        wrap_sink(
+            p,
+            from,
+            "only one destructuring sink is allowed",
+            parts.has_sink,
+        )?;
         return Ok((parts.with_sink(), seen));
     }
     let (is_named, seen) = part(g, p, role, names)?;
@@ -381,8 +386,7 @@ pub fn destructuring<L: Levels>(
     let from = p.marker();
     let outer = p.enter_rule(AtNewline::Continue);
     p.eat(g)?;
-    let (parts, seen) =
-        destructuring_items(g, p, role_below(role), (Parts::none(), names))?;
+    let (parts, seen) = destructuring_items(g, p, role_below(role), (Parts::none(), names))?;
     let closed = p.eat_if(p.current() == SyntaxKind::RightParen, g)?;
     p.leave(outer, g)?;
     wrap_parts(p, from, closed, parts)?;
@@ -390,12 +394,7 @@ pub fn destructuring<L: Levels>(
 }
 
 /// Makes one node of patterns in parens, where the second paren may be missing.
-fn wrap_parts(
-    p: &mut Parser<'_>,
-    from: usize,
-    closed: bool,
-    parts: Parts,
-) -> Result<(), AllocError>
+fn wrap_parts(p: &mut Parser<'_>, from: usize, closed: bool, parts: Parts) -> Result<(), AllocError>
     ensures { OnOk result (Rewrapped from (spec.parts_shape closed parts) p.old p.new) }
 {
     if closed {
