@@ -1,4 +1,3 @@
 -- From what a contract promises to the lemma behind it:
 --   a production's clause        its own answers, by the steps of the machine; Begins: what a token begins
 pub mod Begins
-pub mod Nots

@@ -15,8 +15,9 @@ use Rattle.typst_combinators.specs.Steps.{peek, eat, eat_if, unexpected, expecte
 use Rattle.typst_markup.specs.Markup.{at_newline, opens_directly}
 use Rattle.typst_keys.specs.declared.keys.Key.{Key}
 use Rattle.typst_keys.specs.declared.keys.Key.TheVariants as key
-use Rattle.typst_keys.specs.Keys.{has_name, with_name}
-use Rattle.typst_code.specs.Groups.{begins_item, spread, pair, separator}
+use Rattle.typst_names.specs.Names.{has_name, with_name}
+use Rattle.typst_patterns.specs.Parts.{separator}
+use Rattle.typst_code.specs.Groups.{begins_item, spread, pair}
 
 -- arguments begin with a paren or a bracket
 abbrev pub opens_arguments : SyntaxKind → Bool

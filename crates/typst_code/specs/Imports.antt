@@ -11,8 +11,7 @@ use Rattle.typst_combinators.specs.Syntax.Parser.{gives, pick, repeat}
 use Rattle.typst_combinators.specs.Steps.{peek, eat, eat_if, unexpected, within, node}
 use Rattle.typst_machine.specs.Expected.{expect_identifier}
 use Rattle.typst_markup.specs.Markup.{at_newline}
-use Rattle.typst_code.specs.Groups.{separator}
-use Rattle.typst_code.specs.Sequences.{code_expression}
+use Rattle.typst_patterns.specs.Parts.{code_expression, separator}
 
 -- a dot and a name
 unfoldable pub path_turn : Unit {0} → Parser (Bool × Unit {0})

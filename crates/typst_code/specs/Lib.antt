@@ -1,5 +1,6 @@
 pub mod Sequences
 pub mod Groups
+pub mod Parens
 pub mod Arguments
 pub mod Statements
 pub mod Imports

@@ -8,15 +8,17 @@ ghost use Rattle.typst_machine.specs.View.{Means, MeansBy, Rewrapped};
 ghost use Rattle.typst_code.specs.Arguments as spec;
 ghost use Rattle.typst_code.specs.Outside.{MeansAround, MeansAroundBy};
 
-use crate::groups::{begins_item, pair, separator, spread};
+use crate::groups::{begins_item, pair, spread};
 use crate::heads::{calls_directly, opens_arguments};
 use crate::sequences::read_content;
 use std::alloc::AllocError;
 use typst_combinators::AtNewline;
-use typst_keys::{Key, Names};
+use typst_keys::Key;
 use typst_kinds::SyntaxKind;
 use typst_machine::{Change, Levels, Parser};
 use typst_markup::opens_directly;
+use typst_names::Names;
+use typst_patterns::separator;
 
 /// Makes a named argument of an argument that has a key, which has to be a name that wasn't seen.
 fn wrap_argument(

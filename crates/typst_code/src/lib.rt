@@ -7,6 +7,7 @@ mod groups;
 mod heads;
 mod imports;
 mod listing;
+mod parens;
 mod sequences;
 mod statements;
 mod stops;

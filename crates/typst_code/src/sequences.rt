@@ -10,19 +10,11 @@ ghost use Rattle.typst_code.specs.Stops.{stops_at};
 
 use crate::stops::CodeStop;
 use std::alloc::AllocError;
-use typst_combinators::{AtNewline, Block, Call, Reading};
+use typst_combinators::{AtNewline, Block, Reading};
 use typst_kinds::{SyntaxKind, SyntaxMode};
-use typst_machine::{Answered, Levels, Parser, Stops, deeper, too_deep};
+use typst_machine::{Levels, Parser, Stops, too_deep};
 use typst_markup::{begins_code, content_block};
-
-/// Reads an expression with all its operators.
-pub(crate) fn code_expression<L: Levels>(g: &L, p: &mut Parser<'_>) -> Result<(), AllocError>
-    requires { L.may_call g.now }
-    ensures { Means (L.frame g.now) spec.code_expression p.old result p.new }
-{
-    deeper(g, p, Call::CodeExpr(false, 0), Answered::Nothing)?;
-    Ok(())
-}
+use typst_patterns::code_expression;
 
 /// Reads statements up to a stop.
 pub fn code_exprs<L: Levels>(g: &L, p: &mut Parser<'_>, stop: CodeStop) -> Result<(), AllocError>

@@ -5,6 +5,6 @@ mod calls;
 mod laws;
 mod reading;
 
-pub use calls::{Block, Call, ChainSet, Mark, Note, Way};
+pub use calls::{Block, Call, ChainSet, Mark, Note, Role, Way};
 pub use laws::words_of_the_language;
 pub use reading::{AtNewline, Newlines, Reading, State};

@@ -22,7 +22,8 @@ use Rattle.typst_combinators.proofs.Knot.{sane-at}
 use Rattle.typst_combinators.proofs.Rests.{Rests}
 use Rattle.typst_markup.specs.Markup.{at_newline}
 use Rattle.typst_markup.specs.Starts.{begins_code}
-use Rattle.typst_code.specs.Sequences.{code_expression, code_reading, code_turn, code_exprs, statement}
+use Rattle.typst_patterns.specs.Parts.{code_expression}
+use Rattle.typst_code.specs.Sequences.{code_reading, code_turn, code_exprs, statement}
 use Rattle.typst_grammar.specs.Grammar.{rules, level_at, max_depth, start_of, whole_code, parsed_code, tree_code}
 use Rattle.typst_grammar.proofs.CodeMoves.{Moves, moves-next, moves-unexpected, moves-within, moves-expr, left-again}
 

@@ -7,7 +7,7 @@ use Rattle.typst_classes.specs.Classes.{CharClasses}
 use Rattle.typst_combinators.specs.declared.calls.Block.{Block}
 use Rattle.typst_combinators.specs.declared.calls.Block.TheVariants as block
 use Rattle.typst_combinators.specs.declared.calls.Call.{Call}
-use Rattle.typst_combinators.specs.declared.calls.Call.TheVariants.{MarkupExpr, CodeExpr, MathExpr}
+use Rattle.typst_combinators.specs.declared.calls.Call.TheVariants.{MarkupExpr, CodeExpr, MathExpr, Pattern}
 use Rattle.typst_combinators.specs.Calls.{Answer}
 use Rattle.typst_combinators.specs.Syntax.{Parser, ◌>>◌}
 use Rattle.typst_combinators.specs.Steps.{peek, flush_trivia}
@@ -16,6 +16,7 @@ use Rattle.typst_combinators.specs.Log.{Log, no_log, logged}
 use Rattle.typst_combinators.specs.Meaning.{Outcome, Meaning, Level, start_point, run}
 use Rattle.typst_combinators.specs.Knot.{Rules, meaning_of, level_of}
 use Rattle.typst_markup.specs.Markup.{content_block, markup_expr, markup_run, markup_reading}
+use Rattle.typst_patterns.specs.Patterns.{pattern}
 use Rattle.typst_code.specs.Sequences.{code_block, code_exprs, code_reading}
 use Rattle.typst_code.specs.Expressions.{code_expr}
 use Rattle.typst_markup.specs.Equations.{math_exprs, math_reading}
@@ -26,6 +27,7 @@ abbrev pub production : CharClasses → (call : Call) → Parser (Answer call)
 production k (MarkupExpr at_start nesting) = markup_expr at_start nesting
 production k (CodeExpr atomic least) = code_expr atomic least
 production k (MathExpr least stops) = math_expr k least stops
+production k (Pattern role names) = pattern role names
 
 -- each block may be read
 abbrev pub has : Block → Bool

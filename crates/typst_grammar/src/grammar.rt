@@ -18,6 +18,7 @@ use typst_machine::{Answered, Grammar, Levels, Parser};
 use typst_markup::{MathStop, Stop, markup_expr, markup_run, math_exprs};
 use typst_math::math_expr;
 use typst_node::SyntaxNode;
+use typst_patterns::pattern;
 
 /// How deep calls may nest.
 const MAX_DEPTH: usize = 256;
@@ -39,6 +40,10 @@ pub fn production<L: Levels>(g: &L, p: &mut Parser<'_>, call: Call) -> Result<An
         Call::MathExpr(least, stops) => {
             math_expr(g, p, least, stops)?;
             Ok(Answered::Nothing)
+        }
+        Call::Pattern(role, names) => {
+            let seen = pattern(g, p, role, names)?;
+            Ok(Answered::Names(seen))
         }
     }
 }

@@ -1,6 +1,7 @@
 -- From what a contract promises to the lemma behind it:
 --   a step did what it says      Runs: how runs compose; Steps: how steps compose; Blocks: calls and blocks
 --   a loop that grows or nests   Grows, Nests: how the code's loops compose
+--   a production                 Asks, Nots: what it does by the token at hand; Values: its answer, and its reading
 --   the token further on, hints  Words
 --   the first node changed, seen Changes
 --   the token at hand            Ready: what it becomes; ReadSo: read in another way
@@ -17,3 +18,6 @@ pub mod Checkpoints
 pub mod Either
 pub mod Begins
 pub mod Changes
+pub mod Asks
+pub mod Values
+pub mod Nots

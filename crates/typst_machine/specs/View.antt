@@ -9,7 +9,7 @@ use Rattle.typst_node.specs.Tree.{Tree}
 use Rattle.typst_readers.specs.declared.hull.Hull.{Hull}
 use Rattle.typst_combinators.specs.declared.calls.Block.{Block}
 use Rattle.typst_combinators.specs.declared.calls.Call.{Call}
-use Rattle.typst_combinators.specs.declared.calls.Call.TheVariants.{MarkupExpr, CodeExpr, MathExpr}
+use Rattle.typst_combinators.specs.declared.calls.Call.TheVariants.{MarkupExpr, CodeExpr, MathExpr, Pattern}
 use Rattle.typst_combinators.specs.declared.calls.Mark.{Mark}
 use Rattle.typst_combinators.specs.declared.calls.Mark.TheVariants.{Opens, Closes}
 use Rattle.typst_combinators.specs.declared.calls.Note.{Note}
@@ -25,7 +25,7 @@ use Rattle.typst_combinators.specs.Syntax.{Parser, ◌>>◌}
 use Rattle.typst_combinators.specs.Meaning.{Outcome, Level, apart, asked, flushed_state, hand_of, hand_asks_of, left, standing, run}
 use Rattle.typst_combinators.specs.Steps.{peek}
 use Rattle.typst_machine.specs.declared.depth.Answered.{Answered}
-use Rattle.typst_machine.specs.declared.depth.Answered.TheVariants.{Brackets, Nothing}
+use Rattle.typst_machine.specs.declared.depth.Answered.TheVariants.{Brackets, Nothing, Names}
 use Rattle.typst_ahead.specs.Bytes.{token_hull, column_hull}
 
 pub record View : Type 0 where
@@ -101,6 +101,7 @@ abbrev pub said : (call : Call) → Answer call → Answered
 said (MarkupExpr at_start nesting) n = Brackets n
 said (CodeExpr atomic least) x = Nothing
 said (MathExpr least chain) x = Nothing
+said (Pattern role names) seen = Names seen
 
 -- a call was made, and this is what the code says that it answered
 pub record Called (l : Level) (call : Call) (a : Answered) (old new : View) : Type 0 where

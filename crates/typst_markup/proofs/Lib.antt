@@ -1,5 +1,3 @@
 -- From what a contract promises to the lemma behind it:
 --   a production's clause        its own answers, by the steps of the machine; Heads: what begins an expression
 pub mod Heads
-pub mod Asks
-pub mod Nots

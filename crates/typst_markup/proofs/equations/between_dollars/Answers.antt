@@ -4,9 +4,9 @@ use Rattle.typst_kinds.specs.declared.kind.SyntaxKind.TheVariants as kind
 use Rattle.typst_combinators.specs.Steps.{close_if}
 use Rattle.typst_machine.proofs.Steps.{does-next, does-gives, does-closed}
 use Rattle.typst_markup.specs.Equations.{between_dollars, math_reading}
-use Rattle.typst_markup.proofs.Asks.{asks-yes, asks-no}
-use Rattle.typst_markup.proofs.Heads.{does-entered}
-use Rattle.typst_markup.proofs.Nots.{is-not, is-so}
+use Rattle.typst_machine.proofs.Asks.{asks-yes, asks-no}
+use Rattle.typst_machine.proofs.Values.{does-entered}
+use Rattle.typst_machine.proofs.Nots.{is-not, is-so}
 use Rattle.typst_markup.proofs.equations.between_dollars.Goals as goal
 
 pub returns-then-ne : goal.returns-then-ne

@@ -3,7 +3,7 @@ use Rattle.typst_kinds.specs.Kinds.{same}
 use Rattle.typst_combinators.specs.declared.reading.AtNewline.TheVariants as newline
 use Rattle.typst_markup.specs.Markup.{delimited, at_newline, emphasized}
 use Rattle.typst_machine.proofs.Steps.{does-next, does-gives, does-node}
-use Rattle.typst_markup.proofs.Heads.{does-entered}
+use Rattle.typst_machine.proofs.Values.{does-entered}
 use Rattle.typst_markup.proofs.expressions.delimited.Goals as goal
 
 pub returns : goal.returns

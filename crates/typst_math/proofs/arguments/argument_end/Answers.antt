@@ -1,6 +1,6 @@
 use Rattle.typst_machine.proofs.Steps.{does-gives, does-pick, does-other}
 use Rattle.typst_markup.specs.Equations.{separates, ends_list}
-use Rattle.typst_markup.proofs.Asks.{found, asks-yes, asks-no}
+use Rattle.typst_machine.proofs.Asks.{found, asks-yes, asks-no}
 use Rattle.typst_math.specs.Arguments.{argument_end}
 use Rattle.typst_math.proofs.arguments.argument_end.Goals as goal
 

@@ -2,9 +2,9 @@ use Rattle.std.proofs.Common.{◌∙◌, ap}
 use Rattle.typst_kinds.specs.Kinds.{same, is_terminator}
 use Rattle.typst_kinds.specs.declared.kind.SyntaxKind.TheVariants as kind
 use Rattle.typst_machine.proofs.Steps.{does-gives}
-use Rattle.typst_markup.proofs.Asks.{asks-yes, asks-no}
-use Rattle.typst_code.specs.Groups.{separator}
-use Rattle.typst_code.proofs.groups.separator.Goals as goal
+use Rattle.typst_machine.proofs.Asks.{asks-yes, asks-no}
+use Rattle.typst_patterns.specs.Parts.{separator}
+use Rattle.typst_patterns.proofs.parts.separator.Goals as goal
 
 pub returns-then-is_terminator : goal.returns-then-is_terminator
 unfolding separator
