@@ -12,6 +12,7 @@ use Rattle.typst_node.specs.Tree.{Tree}
 use Rattle.typst_classes.specs.Classes.{CharClasses}
 use Rattle.typst_combinators.specs.declared.calls.Block.{Block}
 use Rattle.typst_combinators.specs.declared.calls.Block.TheVariants as block
+use Rattle.typst_combinators.specs.declared.calls.Role.{Role}
 use Rattle.typst_combinators.specs.declared.reading.Reading.{Reading}
 use Rattle.typst_combinators.specs.Point.{Point, Trivia, forgot}
 use Rattle.typst_combinators.specs.Hand.{Hand, AtHand, told, hand_at, ahead, ahead_by, at_trivia, len_at}
@@ -20,17 +21,24 @@ use Rattle.typst_combinators.specs.Shape.Making.{itself, surprise, wanted}
 use Rattle.typst_combinators.specs.Syntax.{Parser}
 use Rattle.typst_combinators.specs.Syntax.Begin.{at_token}
 use Rattle.typst_combinators.specs.Syntax.Op.{hand, takes}
-use Rattle.typst_combinators.specs.Syntax.Parser.{does, next, scoped}
+use Rattle.typst_combinators.specs.Syntax.Parser.{does, either, next, pick, scoped}
 use Rattle.typst_combinators.specs.Steps.{eat, eat_making, unexpected, within, node, grow, nest, read_block}
-use Rattle.typst_combinators.specs.Meaning.{Outcome, Meaning, Level, apart, before, entered, hand_of, asked, answered, joined, followed, as_last, bound, flushed_state, grown, growths, growing, is_more, nestings, nesting, run}
+use Rattle.typst_combinators.specs.Meaning.{Outcome, Meaning, Level, apart, given_up, before, entered, hand_of, asked, answered, joined, followed, as_last, bound, flushed_state, grown, growths, growing, is_more, nestings, nesting, run}
 use Rattle.typst_combinators.proofs.Ends.{hand-again}
 use Rattle.typst_markup.specs.Markup.{content_block}
-use Rattle.typst_markup.specs.Starts.{comes_later, begins_code}
+use Rattle.typst_markup.specs.Starts.{begins_code}
+use Rattle.typst_markup.specs.Equations.{between_dollars, equation}
+use Rattle.typst_patterns.specs.declared.closures.Behind.{Behind}
+use Rattle.typst_patterns.specs.Bindings.{let_binding}
+use Rattle.typst_patterns.specs.Closures.{behind_name, behind_underscore, headed, name_shape, named, placeholder, underscore_shape}
+use Rattle.typst_patterns.specs.Params.{params}
+use Rattle.typst_patterns.specs.Patterns.{destructuring}
+use Rattle.typst_code.specs.Parens.{as_group, either_reading, parens, readings}
 use Rattle.typst_code.specs.Expressions.{code_head, code_by, unary_expr, code_primary, code_tail_turn, code_expr}
 use Rattle.typst_code.specs.Groups.{group}
 use Rattle.typst_code.specs.Imports.{module_import}
 use Rattle.typst_code.specs.Sequences.{code_block}
-use Rattle.typst_code.specs.Statements.{set_rule, show_rule, contextual, conditional, conditional_turn, while_loop, module_include, jump, func_return}
+use Rattle.typst_code.specs.Statements.{set_rule, show_rule, contextual, conditional, conditional_turn, while_loop, for_loop, module_include, jump, func_return}
 use Rattle.typst_grammar.specs.Grammar.{level_at}
 
 -- where something is left, trivia or a token, something is taken
@@ -121,6 +129,21 @@ module _ (l : Level) where
       let more = nested-more shape (λ y. run l (turn y)) (bound (moved 0 z) t) x (moved 0 z) t in
       omega (arith, inside, more)
 
+-- of two readings the one that stands takes something
+taken-either : {A : Type 0} (b : Bool) (o p : Outcome A) → 0 < o.taken → 0 < p.taken → 0 < (if b then given_up o p else o).taken
+taken-either true o p h i = i
+taken-either false o p h i = h
+
+module _ (l : Level) where
+  pub moves-either : {A : Type 0} (p : Parser A) (is_wrong : A → Bool) (q : Parser A) → Moves l p → Moves l q → Moves l (either p is_wrong q)
+  unfolding run
+  moves-either p is_wrong q e f z s h = taken-either (is_wrong (run l p z s).value) (run l p z s) (run l q z s) (e z s h) (f z s h)
+
+  pub moves-pick : {A : Type 0} (b : Bool) (p q : Parser A) → Moves l p → Moves l q → Moves l (pick b p q)
+  unfolding run
+  moves-pick true p q e f z s h = e z s h
+  moves-pick false p q e f z s h = f z s h
+
 -- ---- what code begins with takes something
 
 module _ (l : Level) where
@@ -138,6 +161,52 @@ module _ (l : Level) where
   moves-group : Moves l group
   unfolding group
   moves-group = moves-next l _ _ (moves-node l _ _ (moves-within l _ _ (eats-first _)))
+
+  moves-params : Moves l params
+  unfolding params
+  moves-params = moves-next l _ _ (moves-node l _ _ (moves-within l _ _ (eats-first _)))
+
+  moves-destructuring : (role : Role) (names : List (List ℕ)) → Moves l (destructuring role names)
+  unfolding destructuring
+  moves-destructuring role names = moves-next l _ _ (moves-node l _ _ (moves-within l _ _ (eats-first _)))
+
+  moves-as-group : Moves l as_group
+  unfolding as_group
+  moves-as-group = moves-next l group _ moves-group
+
+  moves-readings : Moves l readings
+  unfolding readings
+  moves-readings =
+      moves-peek l _ (λ a. moves-pick l _ either_reading as_group
+      (moves-either l _ _ _ (moves-either l as_group _ _ moves-as-group (moves-next l params _ moves-params)) (moves-next l _ _ (moves-destructuring _ [])))
+      moves-as-group)
+
+  moves-parens : Moves l parens
+  unfolding parens
+  moves-parens = moves-next l _ _ (moves-node l _ _ (moves-next l readings _ moves-readings))
+
+  moves-headed : (what : SyntaxKind → Behind) (shape : Behind → Shape) → Moves l (headed what shape)
+  moves-headed what shape = moves-next l _ _ (moves-node l _ _ (moves-next l _ _ (moves-node l _ _ (eats-first _))))
+
+  moves-named : Moves l named
+  unfolding named
+  moves-named = moves-headed behind_name name_shape
+
+  moves-placeholder : Moves l placeholder
+  unfolding placeholder
+  moves-placeholder = moves-headed behind_underscore underscore_shape
+
+  moves-let : Moves l let_binding
+  unfolding let_binding
+  moves-let = moves-node l _ _ (eats-first _)
+
+  moves-for : Moves l for_loop
+  unfolding for_loop
+  moves-for = moves-node l _ _ (moves-next l _ _ (moves-next l _ _ (moves-next l _ _ (eats-first _))))
+
+  moves-equation : Moves l equation
+  unfolding equation between_dollars
+  moves-equation = moves-next l _ _ (moves-node l _ _ (moves-within l _ _ (eats-first _)))
 
   moves-set : Moves l set_rule
   unfolding set_rule
@@ -234,14 +303,6 @@ module _ (k : CharClasses) (levels : ℕ) where
 
 -- ---- an expression that a token begins
 
-both-true : (a b : Bool) → (a && b) ≡ true → (a ≡ true) × (b ≡ true)
-both-true true b h = (refl, h)
-both-true false b h = absurd (cc)
-
-is-not : (b : Bool) → not b ≡ true → b ≡ false
-is-not true h = absurd (cc)
-is-not false h = refl
-
 -- what holds of each of some kinds holds of those among them
 abbrev Each : (SyntaxKind → Type 0) → List SyntaxKind → Type 0
 Each P [] = Unit {0}
@@ -260,69 +321,69 @@ module _ (k : CharClasses) (levels : ℕ) where
   here = level_at k levels
 
   abbrev Begins : SyntaxKind → Type 0
-  Begins i = comes_later i ≡ false → Moves here (code_by false (code_head false i))
+  Begins i = Moves here (code_by false (code_head false i))
 
   abbrev e : Moves here eat
   e = moves-eat here
 
   each-begins : Each Begins code_kinds
   each-begins = (
-    (λ _. moves-making here false (wanted _)),
+    moves-placeholder here,
     (
-      (λ _. e),
+      moves-named here,
       (
-        (λ _. moves-block k levels block.Code),
+        moves-block k levels block.Code,
         (
-          (λ _. moves-block k levels block.Content),
+          moves-block k levels block.Content,
           (
-            (λ _. moves-group here),
+            moves-parens here,
             (
-              (λ f. absurd (cc)),
+              moves-equation here,
               (
-                (λ f. absurd (cc)),
+                moves-let here,
                 (
-                  (λ _. moves-set here),
+                  moves-set here,
                   (
-                    (λ _. moves-show here),
+                    moves-show here,
                     (
-                      (λ _. moves-context here false),
+                      moves-context here false,
                       (
-                        (λ _. moves-conditional here),
+                        moves-conditional here,
                         (
-                          (λ _. moves-while here),
+                          moves-while here,
                           (
-                            (λ f. absurd (cc)),
+                            moves-for here,
                             (
-                              (λ _. moves-import here),
+                              moves-import here,
                               (
-                                (λ _. moves-include here),
+                                moves-include here,
                                 (
-                                  (λ _. moves-jump here kind.LoopBreak),
+                                  moves-jump here kind.LoopBreak,
                                   (
-                                    (λ _. moves-jump here kind.LoopContinue),
+                                    moves-jump here kind.LoopContinue,
                                     (
-                                      (λ _. moves-return here),
+                                      moves-return here,
                                       (
-                                        (λ _. e),
+                                        e,
                                         (
-                                          (λ _. e),
+                                          e,
                                           (
-                                            (λ _. e),
+                                            e,
                                             (
-                                              (λ _. e),
+                                              e,
                                               (
-                                                (λ _. e),
+                                                e,
                                                 (
-                                                  (λ _. e),
+                                                  e,
                                                   (
-                                                    (λ _. e),
+                                                    e,
                                                     (
-                                                      (λ _. e),
+                                                      e,
                                                       (
-                                                        (λ _. e),
+                                                        e,
                                                         (
-                                                          (λ _. moves-unary here _),
-                                                          ((λ _. moves-unary here _), ((λ _. moves-unary here _), tt)),
+                                                          moves-unary here _,
+                                                          (moves-unary here _, (moves-unary here _, tt)),
                                                         ),
                                                       ),
                                                     ),
@@ -353,7 +414,7 @@ module _ (k : CharClasses) (levels : ℕ) where
   )
 
   moves-begun : (i : SyntaxKind) → begins_code i ≡ true → Moves here (code_by false (code_head false i))
-  moves-begun i h = of-each Begins code_kinds each-begins i (both-true (among code_kinds i) (not (comes_later i)) h).0 (is-not (comes_later i) (both-true (among code_kinds i) (not (comes_later i)) h).1)
+  moves-begun i h = of-each Begins code_kinds each-begins i h
 
   moves-primary : (z : Place) (s : Point) → begins_code (hand_of here z s).kind ≡ true → 0 < (hand_of here z s).gap + (hand_of here z s).len → 0 < (run here (code_primary false) z s).taken
   unfolding run code_primary
