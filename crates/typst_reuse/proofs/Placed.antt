@@ -30,7 +30,7 @@ use Rattle.typst_reuse.specs.Hole.Deep.{bare, under}
 use Rattle.typst_reuse.specs.Spot.{Spot, block_head, valued, then_spot, after_spot, rehole, sunk_spot, closed_spot, here_spot}
 use Rattle.typst_reuse.specs.Occurrences.{Spots, joined_spots, goes, last_spot, turns_spots, repeated_spots, reshaped_spot, wrapped_spot, grown_spot, growths_spots, growing_spots, nestings_spots, nesting_spots, scoped_spot, seen_spot, spots, call_spots, block_spots, level_spots}
 use Rattle.typst_reuse.proofs.Every.{Every, every-append, every-map, every-flat, every-if}
-use Rattle.typst_reuse.proofs.Texts.{texts-same, same-hinted, kept-joined, kept-grown}
+use Rattle.typst_combinators.proofs.Leaves.{texts-same, same-hinted, kept-joined, kept-grown}
 
 -- what the nodes before a hole hold
 abbrev pub deep_text : Deep → List ℕ
