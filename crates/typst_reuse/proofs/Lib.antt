@@ -5,6 +5,7 @@
 --   run_law                      Root: of a whole text; RunTrees: its tree and log; BlockRuns: of a content block; Runs: of any loop
 --   joint_law                    Joint: of a whole text; InnerJoint: of a content block; Turns: each head of markup; Led: each word before a token is taken
 --   decision_law                 Bytes: the log; RunBytes: of pieces of a run; Widths: characters and bytes; Within: looks are at places of the text
+--   path_law                     Walk: the steps; Placed: what stands before a block
 --   blocks_of_texts, runs_of_texts      computed (laws)
 pub mod Every
 pub mod Outcomes

@@ -24,13 +24,12 @@ use Rattle.typst_combinators.specs.Meaning.{Outcome, Meaning, Level, blockless, 
 use Rattle.typst_combinators.specs.Sound.{Tidy, Backs, Stands}
 use Rattle.typst_combinators.proofs.Backs.{tidy-grew}
 use Rattle.typst_combinators.proofs.Knot.{Sane, sane-run, sane-meaning, sane-block, sane-plain}
-use Rattle.typst_combinators.proofs.Leaves.{texts, texts-append, text-shaped, text-add, Holds, Keeps}
+use Rattle.typst_combinators.proofs.Leaves.{texts, texts-append, texts-same, text-shaped, text-add, same-hinted, kept-joined, kept-grown, Holds, Keeps}
 use Rattle.typst_reuse.specs.Hole.{Deep, top, Hole, change_hole, in_node, in_nodes, behind_nodes, lack_hole, warned_head, wrap_in, wrap_past, wrap_hole}
 use Rattle.typst_reuse.specs.Hole.Deep.{bare, under}
 use Rattle.typst_reuse.specs.Spot.{Spot, block_head, valued, then_spot, after_spot, rehole, sunk_spot, closed_spot, here_spot}
 use Rattle.typst_reuse.specs.Occurrences.{Spots, joined_spots, goes, last_spot, turns_spots, repeated_spots, reshaped_spot, wrapped_spot, grown_spot, growths_spots, growing_spots, nestings_spots, nesting_spots, scoped_spot, seen_spot, spots, call_spots, block_spots, level_spots}
 use Rattle.typst_reuse.proofs.Every.{Every, every-append, every-map, every-flat, every-if}
-use Rattle.typst_combinators.proofs.Leaves.{texts-same, same-hinted, kept-joined, kept-grown}
 
 -- what the nodes before a hole hold
 abbrev pub deep_text : Deep → List ℕ
