@@ -6,7 +6,7 @@
 --   joint_law                    Joint: of a whole text; InnerJoint: of a content block; Turns: each head of markup; Led: each word before a token is taken
 --   decision_law                 Bytes: the log; RunBytes: of pieces of a run; Widths: characters and bytes; Within: looks are at places of the text
 --   path_law                     Walk: the steps; Placed: what stands before a block
---   blocks_of_texts, runs_of_texts      computed (laws)
+--   blocks_of_texts, runs_of_texts, conditions_of_texts      computed (laws)
 pub mod Every
 pub mod Outcomes
 pub mod Wrap
