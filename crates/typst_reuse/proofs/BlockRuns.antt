@@ -58,7 +58,7 @@ module _ (r : Sequence) where
 
 module _ (k : CharClasses) (levels : ℕ) where
   pub sane : {A : Type 0} (p : Parser A) → Sane (run (inner k levels) p)
-  sane p = sane-run (inner k levels) (sane-meaning rules k (suc levels)) (λ b. sane-plain tt) p
+  sane p = sane-run (inner k levels) (sane-meaning (rules k) k (suc levels)) (λ b. sane-plain tt) p
 
   module _ (z : Place) (s : Point) where
     -- the block by its run, and what comes behind so many characters, in a state

@@ -108,6 +108,6 @@ ends-code l z s =
     let w = moved o.taken z in
     ends-joined block.Code o _ (ends-plain block.Code tt (run l (node (enclosing block.Code) _) w o.state) (ends-node block.Code l _ w o.state))
 
-pub ends : (k : CharClasses) (levels : ℕ) (b : Block) → rules.has b ≡ true → (z : Place) (s : Point) → Ends b (blocks_of rules k levels (meaning_of rules k levels) b z s)
-ends k levels block.Content h z s = ends-of block.Content _ (ends-content (blockless k levels (meaning_of rules k levels)) z s)
-ends k levels block.Code h z s = ends-of block.Code _ (ends-code (blockless k levels (meaning_of rules k levels)) z s)
+pub ends : (k : CharClasses) (levels : ℕ) (b : Block) → (rules k).has b ≡ true → (z : Place) (s : Point) → Ends b (blocks_of (rules k) k levels (meaning_of (rules k) k levels) b z s)
+ends k levels block.Content h z s = ends-of block.Content _ (ends-content (blockless k levels (meaning_of (rules k) k levels)) z s)
+ends k levels block.Code h z s = ends-of block.Code _ (ends-code (blockless k levels (meaning_of (rules k) k levels)) z s)

@@ -275,8 +275,8 @@ decision-law k front old rest c past i e =
     let z = text_with front old rest in
     let s = start_point markup_reading in
     let o = parsed k max_depth (front ++ (old ++ rest)) in
-    let l = among (Lawful z z o o) c _ i (inside-level rules k (ends k) max_depth whole z z s) in
-    let n = among (Named (block_at k) max_depth) c _ i (named-level rules k max_depth whole z s) in
+    let l = among (Lawful z z o o) c _ i (inside-level (rules k) k (ends k) max_depth whole z z s) in
+    let n = among (Named (block_at k) max_depth) c _ i (named-level (rules k) k max_depth whole z s) in
     let b : max 0 (length (front ++ (old ++ rest))) ≡ length (front ++ (old ++ rest)) = omega arith in
-    let within = subst (λ n. AllAt n o.asks) b (in-level rules k max_depth whole z s) in
+    let within = subst (λ n. AllAt n o.asks) b (in-level (rules k) k max_depth whole z s) in
     decided k front old rest c past l.old n within e

@@ -43,17 +43,17 @@ record Left (k : CharClasses) (b : Block) (s : Point) (o : Outcome (Unit {0})) :
 
 left-by : (k : CharClasses) (levels : ℕ) (b : Block) (z : Place) (s : Point) → s.known ≡ None → at_trivia k s.held.mode z ≡ false → 0 < (block_at k levels b z s).taken → Left k b s (block_at k levels b z s)
 left-by k levels block.Content z s e h some =
-    let l = blockless k levels (meaning_of rules k levels) in
+    let l = blockless k levels (meaning_of (rules k) k levels) in
     record {
-      state = state-content l (sane-meaning rules k levels) (λ c. sane-plain tt) z s;
-      alone = content-alone l (sane-meaning rules k levels) (λ c. sane-plain tt) z s e h some;
+      state = state-content l (sane-meaning (rules k) k levels) (λ c. sane-plain tt) z s;
+      alone = content-alone l (sane-meaning (rules k) k levels) (λ c. sane-plain tt) z s e h some;
       head = (ends k levels block.Content refl z s).head;
     }
 left-by k levels block.Code z s e h some =
-    let l = blockless k levels (meaning_of rules k levels) in
+    let l = blockless k levels (meaning_of (rules k) k levels) in
     record {
-      state = state-code l (sane-meaning rules k levels) (λ c. sane-plain tt) z s;
-      alone = code-alone l (sane-meaning rules k levels) (λ c. sane-plain tt) z s e h some;
+      state = state-code l (sane-meaning (rules k) k levels) (λ c. sane-plain tt) z s;
+      alone = code-alone l (sane-meaning (rules k) k levels) (λ c. sane-plain tt) z s e h some;
       head = (ends k levels block.Code refl z s).head;
     }
 

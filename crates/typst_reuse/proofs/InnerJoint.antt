@@ -45,7 +45,7 @@ module _ (k : CharClasses) (levels : ℕ) where
       → Fronted t us (onward x z (before_trivia r h e a t)) (onward x (moved t.gap z) (before_trivia r h d b (trivia_with us t)))
   onward-fronted h z t us nil x r e d a b same =
       let deep : (suc levels == 0) ≡ false = ne_eqb (suc levels) 0 (omega arith) in
-      fronted-behind (inner k levels) (sane-meaning rules k (suc levels)) (λ c. sane-plain tt) deep ends_block refl h z t us nil x r e d a b
+      fronted-behind (inner k levels) (sane-meaning (rules k) k (suc levels)) (λ c. sane-plain tt) deep ends_block refl h z t us nil x r e d a b
       (minds (markup_head x.0 x.1 (hand_at k h (Some t) z).kind)) (λ some. takes-call k levels h z t us nil x.0 x.1 some) same
 
 pub inner-joint-law : InnerJointLaw

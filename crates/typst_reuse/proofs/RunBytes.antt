@@ -375,7 +375,7 @@ module _ (k : CharClasses) (text : List ℕ) where
       let b = one-note max_depth z0 c.early (c.late ++ behind) e.taken c.gap what (state_of e.state) in
       let log_is : logged max_depth z0 no_log (parsed k max_depth text).asks ≡ log_all max_depth z0 c.early (c.late ++ behind) e.taken c.gap what (state_of e.state) = ap (logged max_depth z0 no_log) c.is in
       let long : max 0 (length text) ≡ length text = omega arith in
-      let inside = subst (λ n. AllAt n (parsed k max_depth text).asks) long (in-level rules k max_depth whole z0 (start_point markup_reading)) in
+      let inside = subst (λ n. AllAt n (parsed k max_depth text).asks) long (in-level (rules k) k max_depth whole z0 (start_point markup_reading)) in
       let all = subst (λ ls. AllAt (length text) ls) c.is inside in
       record {
         told = record {

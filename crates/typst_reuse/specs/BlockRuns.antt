@@ -28,7 +28,7 @@ use Rattle.typst_reuse.specs.Spot.{Spot, ended, last_node, unit_at}
 
 module _ (k : CharClasses) (levels : ℕ) where
   abbrev pub inner : Level
-  inner = blockless k (suc levels) (meaning_of rules k (suc levels))
+  inner = blockless k (suc levels) (meaning_of (rules k) k (suc levels))
 
   -- the looks at its bracket, and the bracket
   abbrev pub look_first : Place → Point → Outcome AtHand

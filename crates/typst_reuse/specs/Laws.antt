@@ -17,7 +17,7 @@ use Rattle.typst_reuse.specs.Edit.{Among, text_with, Passes, replaced, Edited}
 
 -- the blocks of a text, each with what stands around it
 unfoldable pub blocks_of_text : CharClasses → List ℕ → List (Spot (Unit {0}))
-blocks_of_text k text = level_spots rules k max_depth whole (start_of text) (start_point markup_reading)
+blocks_of_text k text = level_spots (rules k) k max_depth whole (start_of text) (start_point markup_reading)
 
 -- What the reading and the tree of the new text are, where an edit inside a block passes the test, and the block's node is this one.
 pub record Kept (k : CharClasses) (front old new rest : List ℕ) (c : Spot (Unit {0})) (x : Tree) : Type 0 where
@@ -33,7 +33,7 @@ BlockLaw = (k : CharClasses) (front old new rest : List ℕ) (c : Spot (Unit {0}
 
 -- what a block reads, where so many levels are left
 abbrev pub block_at : CharClasses → ℕ → Block → Meaning (Unit {0})
-block_at k levels b = blocks_of rules k levels (meaning_of rules k levels) b
+block_at k levels b = blocks_of (rules k) k levels (meaning_of (rules k) k levels) b
 
 -- Each block of a text is read as its name, its level and its state say, and its two marks stand in the log directly around what it asked.
 abbrev pub NamesLaw : Type 0
