@@ -9,7 +9,7 @@ use Rattle.typst_kinds.specs.declared.kind.SyntaxKind.{SyntaxKind}
 use Rattle.typst_lines.specs.Place.{Place, moved, place_at}
 use Rattle.typst_node.specs.Tree.{Tree}
 use Rattle.typst_classes.specs.Classes.{CharClasses}
-use Rattle.typst_token_nodes.specs.Nodes.{token_node}
+use Rattle.typst_combinators.specs.Nodes.{token_node}
 use Rattle.typst_readers.specs.declared.hull.Hull.{Hull}
 use Rattle.typst_tokens.specs.declared.token.Token.{Token}
 use Rattle.typst_combinators.specs.declared.reading.Newlines.{Newlines}
@@ -19,7 +19,7 @@ use Rattle.typst_combinators.specs.Point.{Trivia, gap_of, no_newlines}
 use Rattle.typst_combinators.specs.Hand.{Hand, Ahead, text_ahead, token_at, len_at, at_trivia, both_newlines, newlines_of, direct, after_trivia, ahead_by, ahead, column_at, judged, hand_at, known_by}
 use Rattle.typst_ahead.specs.Bytes.{joined_hull, token_hull, tokens_by, tokens_at, column_hull, whole_at}
 use Rattle.typst_readers.specs.Reader.{exec, eaten}
-use Rattle.typst_lexer.specs.Tokens.{token}
+use Rattle.typst_combinators.specs.Tokens.{token}
 use Rattle.typst_readers.proofs.Moves.{exec-moved}
 use Rattle.typst_lines.specs.Scanner.{place}
 use Rattle.typst_ahead.specs.declared.ahead.ReadAhead.{ReadAhead as Front}

@@ -2,7 +2,7 @@
 
 ghost use Rattle.std.specs.Prelude.{◌≡◌, ◌≤◌, ◌<◌, ◌^◌, ◌++◌, ◌∷◌, [], IfOk, OnOk, OnErr};
 ghost use Rattle.std.specs.Str.{chars};
-ghost use Rattle.typst_token_nodes.specs.Nodes.{token_node};
+ghost use Rattle.typst_combinators.specs.Nodes.{token_node};
 ghost use Rattle.typst_kinds.specs.Kinds.{is_error};
 ghost use Rattle.typst_lines.specs.Scanner.{place};
 ghost use Rattle.typst_combinators.specs.Hand as spec;
@@ -11,7 +11,7 @@ ghost use Rattle.typst_ahead.specs.Bytes as bytes;
 ghost use Rattle.typst_ahead.specs.Bytes.{bytes_left};
 ghost use Rattle.typst_readers.specs.Reader.{exec};
 ghost use Rattle.typst_readers.specs.Sight.{hull_of};
-ghost use Rattle.typst_lexer.specs.Tokens.{token};
+ghost use Rattle.typst_combinators.specs.Tokens.{token};
 ghost use Rattle.typst_ahead.specs.Cursor.{IsAhead, Stands};
 
 use crate::log::joined;
@@ -19,11 +19,11 @@ use std::alloc::{AllocError, Global};
 use typst_classes::Classes;
 use typst_combinators::{AtNewline, Newlines, Reading};
 use typst_kinds::{SyntaxKind, SyntaxMode};
-use typst_lexer::lexer::token;
-use typst_lexer::{Hull, Token};
+use typst_combinators::token;
+use typst_combinators::{Hull, Token};
 use typst_lines::{Scanner, is_newline};
 use typst_node::SyntaxNode;
-use typst_token_nodes::{is_leaf, leaf_node, make_node};
+use typst_combinators::{is_leaf, leaf_node, make_node};
 
 /// The token at hand, with the trivia before it.
 #[derive(Drop)]

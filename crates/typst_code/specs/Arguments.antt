@@ -3,15 +3,15 @@ use Rattle.std.specs.Prelude.{ℕ, Bool, true, false, not, ◌||◌, ◌&&◌, i
 use Rattle.typst_kinds.specs.Kinds.{same, is_terminator}
 use Rattle.typst_kinds.specs.declared.kind.SyntaxKind.{SyntaxKind}
 use Rattle.typst_kinds.specs.declared.kind.SyntaxKind.TheVariants as kind
-use Rattle.typst_combinators.specs.declared.calls.Block.TheVariants as block
-use Rattle.typst_combinators.specs.declared.reading.AtNewline.TheVariants as newline
-use Rattle.typst_combinators.specs.Shape.{Change, Shape, becomes, unclosed}
-use Rattle.typst_combinators.specs.Shape.Change.{stays, turns_wrong, is_not}
-use Rattle.typst_combinators.specs.Shape.Shape.{keeps, holds}
-use Rattle.typst_combinators.specs.Syntax.{Parser, ◌>>=◌, ◌>>◌}
-use Rattle.typst_combinators.specs.Syntax.Op.{advises}
-use Rattle.typst_combinators.specs.Syntax.Parser.{gives, does, pick, repeat}
-use Rattle.typst_combinators.specs.Steps.{peek, eat, eat_if, unexpected, expected, within, node, read_block}
+use Rattle.typst_markup.specs.calls.Block.TheVariants as block
+use Rattle.typst_markup.specs.reading.AtNewline.TheVariants as newline
+use Rattle.typst_markup.specs.Shape.{Change, Shape, becomes, unclosed}
+use Rattle.typst_markup.specs.Shape.Change.{stays, turns_wrong, is_not}
+use Rattle.typst_markup.specs.Shape.Shape.{keeps, holds}
+use Rattle.typst_markup.specs.Syntax.{Parser, ◌>>=◌, ◌>>◌}
+use Rattle.typst_markup.specs.Syntax.Op.{advises}
+use Rattle.typst_markup.specs.Syntax.Parser.{gives, does, pick, repeat}
+use Rattle.typst_markup.specs.Steps.{peek, eat, eat_if, unexpected, expected, within, node, read_block}
 use Rattle.typst_markup.specs.Markup.{at_newline, opens_directly}
 use Rattle.typst_keys.specs.declared.keys.Key.{Key}
 use Rattle.typst_keys.specs.declared.keys.Key.TheVariants as key

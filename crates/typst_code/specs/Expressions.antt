@@ -9,14 +9,14 @@ use Rattle.typst_kinds.specs.declared.operator.BinOp.{BinOp}
 use Rattle.typst_kinds.specs.declared.operator.BinOp.TheVariants as binary
 use Rattle.typst_kinds.specs.declared.operator.UnOp.{UnOp}
 use Rattle.typst_kinds.specs.declared.operator.UnOp.TheVariants as unary
-use Rattle.typst_combinators.specs.declared.calls.Block.TheVariants as block
-use Rattle.typst_combinators.specs.declared.calls.Call.TheVariants.{CodeExpr}
-use Rattle.typst_combinators.specs.Shape.{Shape, becomes}
-use Rattle.typst_combinators.specs.Syntax.{Parser, ◌>>=◌, ◌>>◌}
-use Rattle.typst_combinators.specs.Syntax.Op.{further}
-use Rattle.typst_combinators.specs.Syntax.Parser.{gives, does, pick}
-use Rattle.typst_combinators.specs.Steps.{peek, eat, unexpected, expected, node, grow, read_block}
-use Rattle.typst_combinators.specs.Depth.{deeper}
+use Rattle.typst_markup.specs.calls.Block.TheVariants as block
+use Rattle.typst_markup.specs.calls.Call.TheVariants.{CodeExpr}
+use Rattle.typst_markup.specs.Shape.{Shape, becomes}
+use Rattle.typst_markup.specs.Syntax.{Parser, ◌>>=◌, ◌>>◌}
+use Rattle.typst_markup.specs.Syntax.Op.{further}
+use Rattle.typst_markup.specs.Syntax.Parser.{gives, does, pick}
+use Rattle.typst_markup.specs.Steps.{peek, eat, unexpected, expected, node, grow, read_block}
+use Rattle.typst_markup.specs.Depth.{deeper}
 use Rattle.typst_markup.specs.Equations.{equation}
 use Rattle.typst_patterns.specs.Bindings.{let_binding}
 use Rattle.typst_patterns.specs.Closures.{named, placeholder}

@@ -3,14 +3,14 @@ use Rattle.std.specs.Prelude.{ℕ, Bool, true, false, not, ◌||◌, ◌&&◌, i
 use Rattle.typst_kinds.specs.Kinds.{same, is_terminator}
 use Rattle.typst_kinds.specs.declared.kind.SyntaxKind.{SyntaxKind}
 use Rattle.typst_kinds.specs.declared.kind.SyntaxKind.TheVariants as kind
-use Rattle.typst_combinators.specs.declared.reading.AtNewline.TheVariants as newline
-use Rattle.typst_combinators.specs.Shape.{Change, Shape, becomes, unclosed}
-use Rattle.typst_combinators.specs.Shape.Change.{stays, turns_wrong, is_not}
-use Rattle.typst_combinators.specs.Shape.Shape.{keeps, holds}
-use Rattle.typst_combinators.specs.Syntax.{Parser, ◌>>=◌, ◌>>◌}
-use Rattle.typst_combinators.specs.Syntax.Parser.{gives, pick, repeat}
-use Rattle.typst_combinators.specs.Steps.{peek, eat, eat_if, unexpected, within, node}
-use Rattle.typst_machine.specs.Expected.{seeing}
+use Rattle.typst_markup.specs.reading.AtNewline.TheVariants as newline
+use Rattle.typst_markup.specs.Shape.{Change, Shape, becomes, unclosed}
+use Rattle.typst_markup.specs.Shape.Change.{stays, turns_wrong, is_not}
+use Rattle.typst_markup.specs.Shape.Shape.{keeps, holds}
+use Rattle.typst_markup.specs.Syntax.{Parser, ◌>>=◌, ◌>>◌}
+use Rattle.typst_markup.specs.Syntax.Parser.{gives, pick, repeat}
+use Rattle.typst_markup.specs.Steps.{peek, eat, eat_if, unexpected, within, node}
+use Rattle.typst_markup.specs.Expected.{seeing}
 use Rattle.typst_markup.specs.Markup.{at_newline}
 use Rattle.typst_markup.specs.Starts.{begins_code}
 use Rattle.typst_code.specs.declared.listing.Items.{Items}

@@ -3,11 +3,11 @@ use Rattle.std.specs.Prelude.{Bool, true, false, not, ◌&&◌, if◌then◌else
 use Rattle.typst_kinds.specs.Kinds.{same}
 use Rattle.typst_kinds.specs.declared.kind.SyntaxKind.{SyntaxKind}
 use Rattle.typst_kinds.specs.declared.kind.SyntaxKind.TheVariants as kind
-use Rattle.typst_combinators.specs.declared.calls.Role.TheVariants as role
-use Rattle.typst_combinators.specs.Syntax.{Parser, ◌>>=◌, ◌>>◌}
-use Rattle.typst_combinators.specs.Syntax.Parser.{gives, pick, either}
-use Rattle.typst_combinators.specs.Steps.{peek, node}
-use Rattle.typst_machine.specs.Expected.{expects}
+use Rattle.typst_markup.specs.calls.Role.TheVariants as role
+use Rattle.typst_markup.specs.Syntax.{Parser, ◌>>=◌, ◌>>◌}
+use Rattle.typst_markup.specs.Syntax.Parser.{gives, pick, either}
+use Rattle.typst_markup.specs.Steps.{peek, node}
+use Rattle.typst_markup.specs.Expected.{expects}
 use Rattle.typst_patterns.specs.declared.closures.Behind.{Behind}
 use Rattle.typst_patterns.specs.declared.closures.Behind.TheVariants as behind
 use Rattle.typst_patterns.specs.Closures.{closure_shape}

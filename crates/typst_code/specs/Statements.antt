@@ -4,17 +4,17 @@ use Rattle.typst_kinds.specs.Kinds.{same, among}
 use Rattle.typst_kinds.specs.Sets as set
 use Rattle.typst_kinds.specs.declared.kind.SyntaxKind.{SyntaxKind}
 use Rattle.typst_kinds.specs.declared.kind.SyntaxKind.TheVariants as kind
-use Rattle.typst_combinators.specs.declared.calls.Block.TheVariants as block
-use Rattle.typst_combinators.specs.declared.calls.Call.TheVariants.{CodeExpr}
-use Rattle.typst_combinators.specs.declared.calls.Role.TheVariants as role
-use Rattle.typst_combinators.specs.Shape.{Shape, becomes}
-use Rattle.typst_combinators.specs.Shape.Making.{surprise}
-use Rattle.typst_combinators.specs.Shape.Shape.{lacks}
-use Rattle.typst_combinators.specs.Syntax.{Parser, ◌>>=◌, ◌>>◌}
-use Rattle.typst_combinators.specs.Syntax.Parser.{gives, pick}
-use Rattle.typst_combinators.specs.Steps.{peek, eat, eat_if, eat_making, expect, expected, node, grow, nest, read_block}
-use Rattle.typst_combinators.specs.Depth.{deeper}
-use Rattle.typst_machine.specs.Expected.{expect_identifier}
+use Rattle.typst_markup.specs.calls.Block.TheVariants as block
+use Rattle.typst_markup.specs.calls.Call.TheVariants.{CodeExpr}
+use Rattle.typst_markup.specs.calls.Role.TheVariants as role
+use Rattle.typst_markup.specs.Shape.{Shape, becomes}
+use Rattle.typst_markup.specs.Shape.Making.{surprise}
+use Rattle.typst_markup.specs.Shape.Shape.{lacks}
+use Rattle.typst_markup.specs.Syntax.{Parser, ◌>>=◌, ◌>>◌}
+use Rattle.typst_markup.specs.Syntax.Parser.{gives, pick}
+use Rattle.typst_markup.specs.Steps.{peek, eat, eat_if, eat_making, expect, expected, node, grow, nest, read_block}
+use Rattle.typst_markup.specs.Depth.{deeper}
+use Rattle.typst_markup.specs.Expected.{expect_identifier}
 use Rattle.typst_markup.specs.Starts.{begins_code}
 use Rattle.typst_code.specs.Arguments.{arguments}
 use Rattle.typst_patterns.specs.Parts.{code_expression, expression_if}

@@ -2,9 +2,9 @@
 
 ghost use Rattle.std.specs.Prelude.{◌≡◌, IfOk, OnOk};
 ghost use Rattle.typst_kinds.specs.declared.kind.SyntaxKind.TheVariants as kind;
-ghost use Rattle.typst_combinators.specs.Shape.Shape.{holds};
-ghost use Rattle.typst_combinators.specs.Syntax.Parser.{repeat};
-ghost use Rattle.typst_machine.specs.View.{Means, MeansBy, Rewrapped};
+ghost use Rattle.typst_markup.specs.Shape.Shape.{holds};
+ghost use Rattle.typst_markup.specs.Syntax.Parser.{repeat};
+ghost use Rattle.typst_markup.specs.View.{Means, MeansBy, Rewrapped};
 ghost use Rattle.typst_code.specs.Arguments as spec;
 ghost use Rattle.typst_code.specs.Outside.{MeansAround, MeansAroundBy};
 
@@ -12,10 +12,10 @@ use crate::groups::{begins_item, pair, spread};
 use crate::heads::{calls_directly, opens_arguments};
 use crate::sequences::read_content;
 use std::alloc::AllocError;
-use typst_combinators::AtNewline;
+use typst_markup::AtNewline;
 use typst_keys::Key;
 use typst_kinds::SyntaxKind;
-use typst_machine::{Change, Levels, Parser};
+use typst_markup::{Change, Levels, Parser};
 use typst_markup::opens_directly;
 use typst_names::Names;
 use typst_patterns::separator;

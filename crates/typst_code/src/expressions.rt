@@ -2,7 +2,7 @@
 
 ghost use Rattle.std.specs.Prelude.{◌≡◌, IfOk, IfSome, false};
 ghost use Rattle.typst_kinds.specs.Kinds.{is_error};
-ghost use Rattle.typst_machine.specs.View.{Means, MeansBy, bare_growth};
+ghost use Rattle.typst_markup.specs.View.{Means, MeansBy, bare_growth};
 ghost use Rattle.typst_code.specs.Expressions as spec;
 ghost use Rattle.typst_code.specs.Outside.{MeansAround, MeansAroundBy};
 
@@ -17,9 +17,9 @@ use crate::statements::{
     show_rule, while_loop,
 };
 use std::alloc::AllocError;
-use typst_combinators::Call;
+use typst_markup::Call;
 use typst_kinds::{Assoc, BinOp, SyntaxKind, UnOp};
-use typst_machine::{Answered, Levels, Parser, deeper};
+use typst_markup::{Answered, Levels, Parser, deeper};
 use typst_markup::equation;
 use typst_patterns::{let_binding, named, placeholder};
 

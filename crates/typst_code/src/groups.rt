@@ -2,18 +2,18 @@
 
 ghost use Rattle.std.specs.Prelude.{◌≡◌, OnOk, false};
 ghost use Rattle.typst_kinds.specs.Kinds.{is_error};
-ghost use Rattle.typst_combinators.specs.Shape.Shape.{holds};
-ghost use Rattle.typst_combinators.specs.Syntax.Parser.{repeat};
-ghost use Rattle.typst_shapes.specs.Changes.{IsFine, meant};
-ghost use Rattle.typst_machine.specs.View.{Means, Rewrapped};
+ghost use Rattle.typst_markup.specs.Shape.Shape.{holds};
+ghost use Rattle.typst_markup.specs.Syntax.Parser.{repeat};
+ghost use Rattle.typst_markup.specs.Changes.{IsFine, meant};
+ghost use Rattle.typst_markup.specs.View.{Means, Rewrapped};
 ghost use Rattle.typst_code.specs.Groups as spec;
 
 use crate::listing::Items;
 use std::alloc::AllocError;
-use typst_combinators::AtNewline;
+use typst_markup::AtNewline;
 use typst_keys::{Key, key_of};
 use typst_kinds::SyntaxKind;
-use typst_machine::{Change, Levels, Parser};
+use typst_markup::{Change, Levels, Parser};
 use typst_markup::begins_code;
 use typst_names::Names;
 use typst_patterns::{code_expression, separator};

@@ -1,14 +1,14 @@
 //! Imports.
 
 ghost use Rattle.std.specs.Prelude.{◌≡◌, OnOk};
-ghost use Rattle.typst_combinators.specs.Syntax.Parser.{repeat};
-ghost use Rattle.typst_machine.specs.View.{Means, MeansBy, Rewrapped};
+ghost use Rattle.typst_markup.specs.Syntax.Parser.{repeat};
+ghost use Rattle.typst_markup.specs.View.{Means, MeansBy, Rewrapped};
 ghost use Rattle.typst_code.specs.Imports as spec;
 
 use std::alloc::AllocError;
-use typst_combinators::AtNewline;
+use typst_markup::AtNewline;
 use typst_kinds::SyntaxKind;
-use typst_machine::{Change, Levels, Parser};
+use typst_markup::{Change, Levels, Parser};
 use typst_patterns::{code_expression, separator};
 
 /// Reads a dot and a name; answers whether they came.

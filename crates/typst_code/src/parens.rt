@@ -1,14 +1,14 @@
 //! What begins with a paren: a group, a closure or an assignment.
 
 ghost use Rattle.std.specs.Prelude.{◌≡◌};
-ghost use Rattle.typst_machine.specs.View.{Means};
+ghost use Rattle.typst_markup.specs.View.{Means};
 ghost use Rattle.typst_code.specs.Parens as spec;
 
 use crate::groups::group;
 use std::alloc::AllocError;
-use typst_combinators::Role;
+use typst_markup::Role;
 use typst_kinds::SyntaxKind;
-use typst_machine::{Levels, Parser};
+use typst_markup::{Levels, Parser};
 use typst_names::Names;
 use typst_patterns::{Behind, destructuring, expression_if, params, wrap_closure};
 

@@ -1,18 +1,18 @@
 //! Sequences of code, and code blocks.
 
 ghost use Rattle.std.specs.Prelude.{◌≡◌, OnOk};
-ghost use Rattle.typst_combinators.specs.Steps.{read_block};
-ghost use Rattle.typst_combinators.specs.Syntax.Parser.{repeat};
-ghost use Rattle.typst_machine.specs.View.{Means, MeansBy, MeansLast, Rewrapped};
+ghost use Rattle.typst_markup.specs.Steps.{read_block};
+ghost use Rattle.typst_markup.specs.Syntax.Parser.{repeat};
+ghost use Rattle.typst_markup.specs.View.{Means, MeansBy, MeansLast, Rewrapped};
 ghost use Rattle.typst_code.specs.Sequences as spec;
 ghost use Rattle.typst_code.specs.Outside.{MeansAround};
 ghost use Rattle.typst_code.specs.Stops.{stops_at};
 
 use crate::stops::CodeStop;
 use std::alloc::AllocError;
-use typst_combinators::{AtNewline, Block, Reading};
+use typst_markup::{AtNewline, Block, Reading};
 use typst_kinds::{SyntaxKind, SyntaxMode};
-use typst_machine::{Levels, Parser, Stops, too_deep};
+use typst_markup::{Levels, Parser, Stops, too_deep};
 use typst_markup::{begins_code, content_block};
 use typst_patterns::code_expression;
 

@@ -2,17 +2,17 @@
 
 ghost use Rattle.std.specs.Prelude.{◌≡◌, OnOk, IfOk, IfSome, false};
 ghost use Rattle.typst_kinds.specs.Kinds.{is_error};
-ghost use Rattle.typst_combinators.specs.Hand.{told};
-ghost use Rattle.typst_machine.specs.View.{Means, MeansBy, Rewrapped, bare_growth};
+ghost use Rattle.typst_markup.specs.Hand.{told};
+ghost use Rattle.typst_markup.specs.View.{Means, MeansBy, Rewrapped, bare_growth};
 ghost use Rattle.typst_code.specs.Statements as spec;
 ghost use Rattle.typst_code.specs.Outside.{MeansAround, MeansAroundBy};
 
 use crate::arguments::arguments;
 use crate::sequences::{read_code, read_content};
 use std::alloc::AllocError;
-use typst_combinators::{Call, Role};
+use typst_markup::{Call, Role};
 use typst_kinds::{SyntaxKind, set};
-use typst_machine::{Answered, Levels, Parser, deeper};
+use typst_markup::{Answered, Levels, Parser, deeper};
 use typst_markup::begins_code;
 use typst_names::Names;
 use typst_patterns::{code_expression, deeper_pattern, expression_if};

@@ -4,23 +4,23 @@ use Rattle.typst_kinds.specs.declared.kind.SyntaxKind.TheVariants as kind
 use Rattle.typst_lines.specs.Place.{Place}
 use Rattle.typst_node.specs.Tree.{Tree, forest, inner_of}
 use Rattle.typst_classes.specs.Classes.{CharClasses}
-use Rattle.typst_combinators.specs.declared.calls.Block.{Block}
-use Rattle.typst_combinators.specs.declared.calls.Block.TheVariants as block
-use Rattle.typst_combinators.specs.declared.calls.Call.{Call}
-use Rattle.typst_combinators.specs.declared.calls.Call.TheVariants.{MarkupExpr, CodeExpr, MathExpr, Pattern}
-use Rattle.typst_combinators.specs.Calls.{Answer}
-use Rattle.typst_combinators.specs.Syntax.{Parser, ◌>>◌}
-use Rattle.typst_combinators.specs.Steps.{peek, flush_trivia}
-use Rattle.typst_combinators.specs.Depth.{is_end}
-use Rattle.typst_combinators.specs.Log.{Log, no_log, logged}
-use Rattle.typst_combinators.specs.Meaning.{Outcome, Meaning, Level, start_point, run}
-use Rattle.typst_combinators.specs.Knot.{Rules, meaning_of, level_of}
-use Rattle.typst_markup.specs.Markup.{content_block, markup_expr, markup_run, markup_reading}
-use Rattle.typst_patterns.specs.Patterns.{pattern}
-use Rattle.typst_code.specs.Sequences.{code_block, code_exprs, code_reading}
-use Rattle.typst_code.specs.Expressions.{code_expr}
-use Rattle.typst_markup.specs.Equations.{math_exprs, math_reading}
-use Rattle.typst_math.specs.Expressions.{math_expr}
+use Rattle.typst_math.specs.calls.Block.{Block}
+use Rattle.typst_math.specs.calls.Block.TheVariants as block
+use Rattle.typst_math.specs.calls.Call.{Call}
+use Rattle.typst_math.specs.calls.Call.TheVariants.{MarkupExpr, CodeExpr, MathExpr, Pattern}
+use Rattle.typst_math.specs.Calls.{Answer}
+use Rattle.typst_math.specs.Syntax.{Parser, ◌>>◌}
+use Rattle.typst_math.specs.Steps.{peek, flush_trivia}
+use Rattle.typst_math.specs.Depth.{is_end}
+use Rattle.typst_math.specs.Log.{Log, no_log, logged}
+use Rattle.typst_math.specs.Meaning.{Outcome, Meaning, Level, start_point, run}
+use Rattle.typst_math.specs.Knot.{Rules, meaning_of, level_of}
+use Rattle.typst_math.specs.Markup.{content_block, markup_expr, markup_run, markup_reading}
+use Rattle.typst_math.specs.Patterns.{pattern}
+use Rattle.typst_math.specs.Sequences.{code_block, code_exprs, code_reading}
+use Rattle.typst_math.specs.Expressions.{code_expr}
+use Rattle.typst_math.specs.Equations.{math_exprs, math_reading}
+use Rattle.typst_math.specs.MathExpressions.{math_expr}
 
 -- what a call reads
 abbrev pub production : CharClasses → (call : Call) → Parser (Answer call)

@@ -3,3 +3,29 @@ pub mod Grammar
 pub mod Laws
 pub mod Notes
 pub mod Read
+
+-- What the crates above name of those below.
+pub use Rattle.typst_math.specs.Arguments
+pub use Rattle.typst_math.specs.Ask
+pub use Rattle.typst_math.specs.Calls
+pub use Rattle.typst_math.specs.Depth
+pub use Rattle.typst_math.specs.Embedded
+pub use Rattle.typst_math.specs.Expected
+pub use Rattle.typst_math.specs.Expressions
+pub use Rattle.typst_math.specs.Hand
+pub use Rattle.typst_math.specs.Knot
+pub use Rattle.typst_math.specs.Log
+pub use Rattle.typst_math.specs.Markup
+pub use Rattle.typst_math.specs.Meaning
+pub use Rattle.typst_math.specs.Nodes
+pub use Rattle.typst_math.specs.Point
+pub use Rattle.typst_math.specs.Sequences
+pub use Rattle.typst_math.specs.Shape
+pub use Rattle.typst_math.specs.Sound
+pub use Rattle.typst_math.specs.Statements
+pub use Rattle.typst_math.specs.Steps
+pub use Rattle.typst_math.specs.Syntax
+pub use Rattle.typst_math.specs.Tokens
+pub use Rattle.typst_math.specs.calls
+pub use Rattle.typst_math.specs.head
+pub use Rattle.typst_math.specs.reading

@@ -3,22 +3,22 @@
 ghost use Rattle.std.specs.Prelude.{◌≡◌, ◌<◌, IfOk, Some, false};
 ghost use Rattle.std.specs.Str.{chars};
 ghost use Rattle.typst_node.specs.Tree.{text_of};
-ghost use Rattle.typst_machine.specs.View.{Calls};
-ghost use Rattle.typst_code.specs.Outside.{MeansAroundAs};
+ghost use Rattle.typst_math.specs.View.{Calls};
+ghost use Rattle.typst_math.specs.Outside.{MeansAroundAs};
 ghost use Rattle.typst_grammar.specs.Grammar as spec;
 ghost use Rattle.typst_grammar.specs.Read.{IsParsed};
 
 use std::alloc::{AllocError, Global};
 use typst_classes::Classes;
-use typst_code::{CodeStop, code_expr, code_exprs};
-use typst_combinators::{AtNewline, Call, Note, Reading};
+use typst_math::{CodeStop, code_expr, code_exprs};
+use typst_math::{AtNewline, Call, Note, Reading};
 use typst_kinds::{SyntaxKind, SyntaxMode};
-use typst_lexer::Hull;
-use typst_machine::{Answered, Grammar, Levels, Parser};
-use typst_markup::{MathStop, Stop, markup_expr, markup_run, math_exprs};
+use typst_math::Hull;
+use typst_math::{Answered, Grammar, Levels, Parser};
+use typst_math::{MathStop, Stop, markup_expr, markup_run, math_exprs};
 use typst_math::math_expr;
 use typst_node::SyntaxNode;
-use typst_patterns::pattern;
+use typst_math::pattern;
 
 /// How deep calls may nest.
 const MAX_DEPTH: usize = 256;

@@ -1,11 +1,11 @@
 -- What the code does by the token at hand.
 use Rattle.std.proofs.Common.{◌≡◌, Bool, true, false, ap, sym, ◌∙◌}
 use Rattle.typst_kinds.specs.declared.kind.SyntaxKind.{SyntaxKind}
-use Rattle.typst_combinators.specs.Hand.{AtHand, told}
-use Rattle.typst_combinators.specs.Meaning.{Level}
-use Rattle.typst_combinators.specs.Syntax.{Parser}
-use Rattle.typst_combinators.specs.Syntax.Parser.{next, pick}
-use Rattle.typst_combinators.specs.Steps.{peek}
+use Rattle.typst_ahead.specs.Hand.{AtHand, told}
+use Rattle.typst_ahead.specs.Meaning.{Level}
+use Rattle.typst_ahead.specs.Syntax.{Parser}
+use Rattle.typst_ahead.specs.Syntax.Parser.{next, pick}
+use Rattle.typst_ahead.specs.Steps.{peek}
 use Rattle.typst_machine.specs.View.{View, Goes, Fits}
 use Rattle.typst_machine.proofs.Steps.{does-next, does-peek, does-pick, does-other}
 

@@ -21,3 +21,17 @@ pub mod Changes
 pub mod Asks
 pub mod Values
 pub mod Nots
+
+-- What the crates above name of those below.
+pub use Rattle.typst_ahead.proofs.Backs
+pub use Rattle.typst_ahead.proofs.Eats
+pub use Rattle.typst_ahead.proofs.Ends
+pub use Rattle.typst_ahead.proofs.Frame
+pub use Rattle.typst_ahead.proofs.Hints
+pub use Rattle.typst_ahead.proofs.Knot
+pub use Rattle.typst_ahead.proofs.Leaves
+pub use Rattle.typst_ahead.proofs.Looks
+pub use Rattle.typst_ahead.proofs.Places
+pub use Rattle.typst_ahead.proofs.Rests
+pub use Rattle.typst_ahead.proofs.TokenTexts
+pub use Rattle.typst_ahead.proofs.Within

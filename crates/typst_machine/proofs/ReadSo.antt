@@ -8,21 +8,21 @@ use Rattle.typst_readers.specs.Sight.{hull_of}
 use Rattle.typst_readers.specs.declared.hull.Hull.{Hull}
 use Rattle.typst_readers.proofs.Moves.{exec-moved}
 use Rattle.typst_classes.specs.Classes.{CharClasses}
-use Rattle.typst_token_nodes.specs.Nodes.{token_node}
+use Rattle.typst_ahead.specs.Nodes.{token_node}
 use Rattle.typst_tokens.specs.declared.token.Token.{Token}
-use Rattle.typst_combinators.specs.declared.calls.Way.{Way}
-use Rattle.typst_combinators.specs.Calls.{token_so}
-use Rattle.typst_combinators.specs.Point.{Point}
-use Rattle.typst_combinators.specs.Hand.{Hand, text_ahead, token_by, len_by}
-use Rattle.typst_combinators.specs.Log.{Log, with_hull}
-use Rattle.typst_combinators.specs.Shape.{Making, made, after_node}
-use Rattle.typst_combinators.specs.Steps.{eat_so}
-use Rattle.typst_combinators.specs.Syntax.Op.{so, takes_so}
-use Rattle.typst_combinators.specs.Syntax.Parser.{does}
-use Rattle.typst_combinators.specs.Meaning.{Level, asked, hand_of, node_by, reader_so, renewed, run}
+use Rattle.typst_ahead.specs.calls.Way.{Way}
+use Rattle.typst_ahead.specs.Calls.{token_so}
+use Rattle.typst_ahead.specs.Point.{Point}
+use Rattle.typst_ahead.specs.Hand.{Hand, text_ahead, token_by, len_by}
+use Rattle.typst_ahead.specs.Log.{Log, with_hull}
+use Rattle.typst_ahead.specs.Shape.{Making, made, after_node}
+use Rattle.typst_ahead.specs.Steps.{eat_so}
+use Rattle.typst_ahead.specs.Syntax.Op.{so, takes_so}
+use Rattle.typst_ahead.specs.Syntax.Parser.{does}
+use Rattle.typst_ahead.specs.Meaning.{Level, asked, hand_of, node_by, reader_so, renewed, run}
 use Rattle.typst_machine.specs.View.{View, Ran, Goes, Does, Fits, Bare, Looked, unasked}
 use Rattle.typst_machine.specs.Ways.{GaveUpTo}
-use Rattle.typst_combinators.proofs.Places.{moved-sum, moved-min, less-none, no-end}
+use Rattle.typst_ahead.proofs.Places.{moved-sum, moved-min, less-none, no-end}
 use Rattle.typst_machine.proofs.Runs.{asked-same, asked-then, fits-more}
 use Rattle.typst_machine.proofs.Steps.{does-next, does-gives, does-look}
 

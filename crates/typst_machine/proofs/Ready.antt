@@ -6,17 +6,17 @@ use Rattle.typst_node.specs.Tree.{Tree, text_of}
 use Rattle.typst_classes.specs.Classes.{CharClasses}
 use Rattle.typst_readers.specs.Sight.{position}
 use Rattle.typst_readers.specs.declared.hull.Hull.{Hull}
-use Rattle.typst_combinators.specs.declared.calls.Mark.{Mark}
-use Rattle.typst_combinators.specs.declared.reading.AtNewline.{AtNewline}
-use Rattle.typst_combinators.specs.declared.reading.Reading.{Reading}
-use Rattle.typst_combinators.specs.Point.{Point, Trivia, gap_of, is_nil, state_of}
-use Rattle.typst_combinators.specs.Hand.{Hand, column_at, judged, hand_at, hand_asks, known_by}
-use Rattle.typst_combinators.specs.Log.{with_hull, logged}
-use Rattle.typst_combinators.specs.Shape.{Making, Shape, shaped, count_empty, after_node, after_shape}
-use Rattle.typst_combinators.specs.Steps.{note}
-use Rattle.typst_combinators.specs.Syntax.Op.{column, takes}
-use Rattle.typst_combinators.specs.Syntax.Parser.{does}
-use Rattle.typst_combinators.specs.Meaning.{Level, flushed_state, less, same_mode, same_rule, renewed, taken_node}
+use Rattle.typst_ahead.specs.calls.Mark.{Mark}
+use Rattle.typst_ahead.specs.reading.AtNewline.{AtNewline}
+use Rattle.typst_ahead.specs.reading.Reading.{Reading}
+use Rattle.typst_ahead.specs.Point.{Point, Trivia, gap_of, is_nil, state_of}
+use Rattle.typst_ahead.specs.Hand.{Hand, column_at, judged, hand_at, hand_asks, known_by}
+use Rattle.typst_ahead.specs.Log.{with_hull, logged}
+use Rattle.typst_ahead.specs.Shape.{Making, Shape, shaped, count_empty, after_node, after_shape}
+use Rattle.typst_ahead.specs.Steps.{note}
+use Rattle.typst_ahead.specs.Syntax.Op.{column, takes}
+use Rattle.typst_ahead.specs.Syntax.Parser.{does}
+use Rattle.typst_ahead.specs.Meaning.{Level, flushed_state, less, same_mode, same_rule, renewed, taken_node}
 use Rattle.typst_machine.specs.declared.parser.Parser.TheInside.{Inside}
 use Rattle.typst_ahead.specs.Bytes.{column_hull, token_hull, whole_at}
 use Rattle.typst_machine.specs.Cursor.{view_of}

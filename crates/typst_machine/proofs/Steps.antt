@@ -3,20 +3,20 @@ use Rattle.std.proofs.Common.{Option, ◌≡◌, ℕ, ◌+◌, ◌<◌, ◌≤�
 use Rattle.typst_kinds.specs.declared.kind.SyntaxKind.{SyntaxKind}
 use Rattle.typst_lines.specs.Place.{moved}
 use Rattle.typst_node.specs.Tree.{Tree, error_of}
-use Rattle.typst_combinators.specs.declared.calls.Call.{Call}
-use Rattle.typst_combinators.specs.declared.calls.Mark.{Mark}
-use Rattle.typst_combinators.specs.declared.reading.Reading.{Reading}
-use Rattle.typst_combinators.specs.Calls.{Answer}
-use Rattle.typst_combinators.specs.Point.{Point, Trivia, gap_of, pending, is_nil, state_of}
-use Rattle.typst_combinators.specs.Log.{with_note}
-use Rattle.typst_combinators.specs.Hand.{AtHand, told, column_at}
-use Rattle.typst_combinators.specs.Shape.{Making, Shape, becomes, seen}
-use Rattle.typst_combinators.specs.Sound.{Sound}
-use Rattle.typst_combinators.specs.Syntax.{Parser, Begin}
-use Rattle.typst_combinators.specs.Syntax.Op.{hand, column, erred, takes, complains, marks, is_deepest}
-use Rattle.typst_combinators.specs.Syntax.Parser.{gives, does, next, pick, repeat, wraps, scoped, calls}
-use Rattle.typst_combinators.specs.Steps.{peek, eat_making, flush_trivia, within, node, node_with_trivia, note}
-use Rattle.typst_combinators.specs.Meaning.{Level, before, entered, left, same_mode}
+use Rattle.typst_ahead.specs.calls.Call.{Call}
+use Rattle.typst_ahead.specs.calls.Mark.{Mark}
+use Rattle.typst_ahead.specs.reading.Reading.{Reading}
+use Rattle.typst_ahead.specs.Calls.{Answer}
+use Rattle.typst_ahead.specs.Point.{Point, Trivia, gap_of, pending, is_nil, state_of}
+use Rattle.typst_ahead.specs.Log.{with_note}
+use Rattle.typst_ahead.specs.Hand.{AtHand, told, column_at}
+use Rattle.typst_ahead.specs.Shape.{Making, Shape, becomes, seen}
+use Rattle.typst_ahead.specs.Sound.{Sound}
+use Rattle.typst_ahead.specs.Syntax.{Parser, Begin}
+use Rattle.typst_ahead.specs.Syntax.Op.{hand, column, erred, takes, complains, marks, is_deepest}
+use Rattle.typst_ahead.specs.Syntax.Parser.{gives, does, next, pick, repeat, wraps, scoped, calls}
+use Rattle.typst_ahead.specs.Steps.{peek, eat_making, flush_trivia, within, node, node_with_trivia, note}
+use Rattle.typst_ahead.specs.Meaning.{Level, before, entered, left, same_mode}
 use Rattle.typst_ahead.specs.Bytes.{bytes_left}
 use Rattle.typst_machine.specs.View.{View, Ran, Goes, Does, Makes, Fits, Bare, Loose, Looked, Left, Flushed, Rewrapped, unasked, noted_here}
 use Rattle.typst_machine.proofs.Runs.{ran-next, ran-gives, ran-calls, ran-pick, ran-other, ran-hand, ran-column, ran-erred, ran-deepest, ran-marks, Eaten, ran-takes, eaten-bare, ran-flushes, flushed-fits, ran-complains, ran-scoped, ran-wraps, rewrapped-fits, ran-turn, ran-last, looked-fits, ran-look, after-peek, column_seen, fits-more, noted}

@@ -1,9 +1,9 @@
 -- How the code of a production composes.
 use Rattle.std.proofs.Common.{◌≡◌, sym, subst}
-use Rattle.typst_combinators.specs.declared.reading.Reading.{Reading}
-use Rattle.typst_combinators.specs.Meaning.{Level, entered}
-use Rattle.typst_combinators.specs.Syntax.{Parser}
-use Rattle.typst_combinators.specs.Steps.{within}
+use Rattle.typst_ahead.specs.reading.Reading.{Reading}
+use Rattle.typst_ahead.specs.Meaning.{Level, entered}
+use Rattle.typst_ahead.specs.Syntax.{Parser}
+use Rattle.typst_ahead.specs.Steps.{within}
 use Rattle.typst_machine.specs.View.{View, Goes, Does, Left}
 use Rattle.typst_machine.proofs.Steps.{does-within}
 

@@ -3,8 +3,8 @@ use Rattle.std.specs.Prelude.{◌≡◌, ℕ, List, [], ◌∷◌, ◌++◌}
 use Rattle.typst_lines.specs.Place.{Place, moved}
 use Rattle.typst_kinds.specs.Kinds.{is_error}
 use Rattle.typst_node.specs.Tree.{Tree, text_of}
-use Rattle.typst_combinators.specs.Shape.{after_node}
-use Rattle.typst_combinators.specs.Meaning.{renewed}
+use Rattle.typst_ahead.specs.Shape.{after_node}
+use Rattle.typst_ahead.specs.Meaning.{renewed}
 use Rattle.typst_machine.specs.View.{View}
 use Rattle.typst_lines.specs.Scanner.{place}
 use Rattle.typst_lines.specs.declared.scanner.Scanner.{Scanner}

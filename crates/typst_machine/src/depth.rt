@@ -2,16 +2,16 @@
 
 ghost use Rattle.std.specs.Prelude.{◌≡◌, ◌<◌, ℕ, Bool, List, refl};
 ghost use Rattle.typst_kinds.specs.declared.kind.SyntaxKind.{SyntaxKind as Kind};
-ghost use Rattle.typst_combinators.specs.Depth as spec;
-ghost use Rattle.typst_combinators.specs.Syntax.Parser.{repeat};
+ghost use Rattle.typst_ahead.specs.Depth as spec;
+ghost use Rattle.typst_ahead.specs.Syntax.Parser.{repeat};
 ghost use Rattle.typst_machine.specs.View.{MayNest, Means, MeansAs, given, said};
-ghost use Rattle.typst_combinators.specs.Calls.{Answer};
+ghost use Rattle.typst_ahead.specs.Calls.{Answer};
 ghost use Rattle.typst_machine.specs.declared.depth.Answered.TheVariants.{Brackets, Names as Seen};
 
 use crate::parser::Parser;
 use std::alloc::{AllocError, Global};
 use typst_classes::{Classes, MathClass};
-use typst_combinators::{AtNewline, Call};
+use typst_ahead::{AtNewline, Call};
 use typst_kinds::SyntaxKind;
 use typst_names::Names;
 

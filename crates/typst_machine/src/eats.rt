@@ -5,14 +5,14 @@ ghost use Rattle.typst_kinds.specs.Kinds.{is_error, same};
 ghost use Rattle.typst_kinds.specs.declared.kind.SyntaxKind.{SyntaxKind as Kind};
 ghost use Rattle.typst_lines.specs.Place.{moved};
 ghost use Rattle.typst_classes.specs.Classes.{CharClasses};
-ghost use Rattle.typst_token_nodes.specs.Nodes.{is_leaf, token_node};
-ghost use Rattle.typst_combinators.specs.Hand.{text_ahead};
-ghost use Rattle.typst_combinators.specs.Shape.{Making};
-ghost use Rattle.typst_combinators.specs.Shape.Making.{itself, surprise, wanted};
-ghost use Rattle.typst_combinators.specs.Meaning.{Level, taken_node};
-ghost use Rattle.typst_combinators.specs.Steps as spec;
-ghost use Rattle.typst_combinators.specs.Syntax.Op.{advises, further, takes};
-ghost use Rattle.typst_combinators.specs.Syntax.Parser.{does};
+ghost use Rattle.typst_ahead.specs.Nodes.{is_leaf, token_node};
+ghost use Rattle.typst_ahead.specs.Hand.{text_ahead};
+ghost use Rattle.typst_ahead.specs.Shape.{Making};
+ghost use Rattle.typst_ahead.specs.Shape.Making.{itself, surprise, wanted};
+ghost use Rattle.typst_ahead.specs.Meaning.{Level, taken_node};
+ghost use Rattle.typst_ahead.specs.Steps as spec;
+ghost use Rattle.typst_ahead.specs.Syntax.Op.{advises, further, takes};
+ghost use Rattle.typst_ahead.specs.Syntax.Parser.{does};
 ghost use Rattle.typst_machine.specs.Expected as expected;
 ghost use Rattle.typst_machine.specs.View.{Bare, Fills, Fits, Flushed, GoesIf, Means, MeansLast, Reads};
 
@@ -25,7 +25,7 @@ use typst_classes::Classes;
 use typst_kinds::SyntaxKind;
 use typst_node::SyntaxNode;
 use typst_shapes::hint_last;
-use typst_token_nodes::{is_leaf, leaf_node, make_node};
+use typst_ahead::{is_leaf, leaf_node, make_node};
 
 impl<'s> Parser<'s> {
     /// Whether the node of the token at hand is a leaf of its kind.

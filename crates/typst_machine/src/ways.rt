@@ -4,11 +4,11 @@ ghost use Rattle.std.specs.Prelude.{◌≡◌, IfOk, OnOk};
 ghost use Rattle.typst_lines.specs.Scanner.{place};
 ghost use Rattle.typst_readers.specs.Reader.{exec, look};
 ghost use Rattle.typst_readers.specs.Sight.{hull_of};
-ghost use Rattle.typst_combinators.specs.Calls.{token_so};
-ghost use Rattle.typst_combinators.specs.Shape.Making.{itself, wanted};
-ghost use Rattle.typst_combinators.specs.Steps as spec;
-ghost use Rattle.typst_combinators.specs.Syntax.Op.{so};
-ghost use Rattle.typst_combinators.specs.Syntax.Parser.{does};
+ghost use Rattle.typst_ahead.specs.Calls.{token_so};
+ghost use Rattle.typst_ahead.specs.Shape.Making.{itself, wanted};
+ghost use Rattle.typst_ahead.specs.Steps as spec;
+ghost use Rattle.typst_ahead.specs.Syntax.Op.{so};
+ghost use Rattle.typst_ahead.specs.Syntax.Parser.{does};
 ghost use Rattle.typst_machine.specs.View.{Means};
 ghost use Rattle.typst_classes.specs.Classes.{CharClasses};
 ghost use Rattle.typst_machine.specs.Ways.{GaveUpTo, IsReadBy};
@@ -19,12 +19,12 @@ use crate::parser::Parser;
 use std::alloc::{AllocError, Global};
 use typst_ahead::{Read, read_token};
 use typst_classes::Classes;
-use typst_combinators::Way;
+use typst_ahead::Way;
 use typst_kinds::SyntaxKind;
-use typst_lexer::lexer::{named_argument, spread_argument};
+use typst_ahead::{named_argument, spread_argument};
 use typst_lines::Scanner;
 use typst_node::SyntaxNode;
-use typst_token_nodes::make_node;
+use typst_ahead::make_node;
 
 impl<'s> Parser<'s> {
     /// Which kind the token at hand has where it is read from its start in another way.

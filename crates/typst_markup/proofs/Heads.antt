@@ -1,6 +1,6 @@
 -- What the code of markup reads by what an expression begins with.
 use Rattle.std.proofs.Common.{◌≡◌, ℕ, sym, subst}
-use Rattle.typst_combinators.specs.Meaning.{Level}
+use Rattle.typst_machine.specs.Meaning.{Level}
 use Rattle.typst_machine.specs.View.{View, Does}
 use Rattle.typst_markup.specs.declared.head.MarkupHead.{MarkupHead}
 use Rattle.typst_markup.specs.Markup.{markup_by}

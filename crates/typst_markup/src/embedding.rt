@@ -6,7 +6,7 @@ ghost use Rattle.typst_markup.specs.Embedded as spec;
 
 use crate::starts::begins_statement;
 use std::alloc::AllocError;
-use typst_combinators::{AtNewline, Call, Reading};
+use typst_machine::{AtNewline, Call, Reading};
 use typst_kinds::{SyntaxKind, SyntaxMode};
 use typst_machine::{Answered, Levels, Parser, deeper, is_end};
 

@@ -3,14 +3,14 @@
 ghost use Rattle.std.specs.Prelude.{◌≡◌, OnOk};
 ghost use Rattle.typst_kinds.specs.Kinds.{among};
 ghost use Rattle.typst_kinds.specs.Sets.{math_expr};
-ghost use Rattle.typst_combinators.specs.Syntax.Parser.{repeat};
+ghost use Rattle.typst_machine.specs.Syntax.Parser.{repeat};
 ghost use Rattle.typst_machine.specs.View.{Means, Rewrapped};
 ghost use Rattle.typst_markup.specs.Equations as spec;
 ghost use Rattle.typst_markup.specs.Stops.{math_stops_at};
 
 use crate::stops::MathStop;
 use std::alloc::AllocError;
-use typst_combinators::{AtNewline, Call, ChainSet, Reading};
+use typst_machine::{AtNewline, Call, ChainSet, Reading};
 use typst_kinds::{SyntaxKind, SyntaxMode, set};
 use typst_machine::{Answered, Levels, Parser, Stops, deeper, too_deep};
 

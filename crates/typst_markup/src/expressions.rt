@@ -14,7 +14,7 @@ use crate::references::reference;
 use crate::sequences::{markup, markup_with_trivia};
 use crate::stops::Stop;
 use std::alloc::AllocError;
-use typst_combinators::AtNewline;
+use typst_machine::AtNewline;
 use typst_kinds::SyntaxKind;
 use typst_machine::{Levels, Parser};
 

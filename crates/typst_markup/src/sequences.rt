@@ -1,14 +1,14 @@
 //! Sequences of markup.
 
 ghost use Rattle.std.specs.Prelude.{◌≡◌};
-ghost use Rattle.typst_combinators.specs.Syntax.Parser.{repeat};
+ghost use Rattle.typst_machine.specs.Syntax.Parser.{repeat};
 ghost use Rattle.typst_machine.specs.View.{Means, MeansFirst};
 ghost use Rattle.typst_markup.specs.Markup as spec;
 ghost use Rattle.typst_markup.specs.Stops.{stops_at};
 
 use crate::stops::Stop;
 use std::alloc::AllocError;
-use typst_combinators::{Call, Mark};
+use typst_machine::{Call, Mark};
 use typst_kinds::SyntaxKind;
 use typst_machine::{Answered, Levels, Parser, Stops, deeper, too_deep};
 

@@ -1,14 +1,14 @@
 -- What the code reads by what a token begins.
 use Rattle.std.proofs.Common.{◌≡◌, Option, sym, subst}
 use Rattle.typst_classes.specs.Classes.{CharClasses}
-use Rattle.typst_combinators.specs.declared.calls.ChainSet.{ChainSet}
-use Rattle.typst_combinators.specs.Meaning.{Level}
-use Rattle.typst_combinators.specs.Shape.{Shape}
-use Rattle.typst_machine.specs.View.{View, Does}
+use Rattle.typst_code.specs.calls.ChainSet.{ChainSet}
+use Rattle.typst_code.specs.Meaning.{Level}
+use Rattle.typst_code.specs.Shape.{Shape}
+use Rattle.typst_code.specs.View.{View, Does}
 use Rattle.typst_math.specs.declared.heads.Callee.{Callee}
 use Rattle.typst_math.specs.declared.heads.MathHead.{MathHead}
 use Rattle.typst_math.specs.declared.heads.MathTail.{MathTail}
-use Rattle.typst_math.specs.Expressions.{math_by, tail_by}
+use Rattle.typst_math.specs.MathExpressions.{math_by, tail_by}
 
 pub at-head : {l : Level} (k : CharClasses) (h i : MathHead) {a : Callee} {old new : View} → h ≡ i → Does l (math_by k i) a old new → Does l (math_by k h) a old new
 at-head {l = l} k h i {a = a} {old = old} {new = new} e d = subst (λ (x : MathHead). Does l (math_by k x) a old new) (sym e) d

@@ -2,19 +2,19 @@
 
 ghost use Rattle.std.specs.Prelude.{◌≡◌, OnOk};
 ghost use Rattle.typst_kinds.specs.declared.kind.SyntaxKind.TheVariants as kind;
-ghost use Rattle.typst_combinators.specs.Shape.Shape.{holds};
-ghost use Rattle.typst_combinators.specs.Syntax.Parser.{repeat};
-ghost use Rattle.typst_machine.specs.View.{Means, Rewrapped};
-ghost use Rattle.typst_math.specs.Arguments as spec;
+ghost use Rattle.typst_code.specs.Shape.Shape.{holds};
+ghost use Rattle.typst_code.specs.Syntax.Parser.{repeat};
+ghost use Rattle.typst_code.specs.View.{Means, Rewrapped};
+ghost use Rattle.typst_math.specs.MathArguments as spec;
 
 use std::alloc::AllocError;
 use typst_code::{with_argument, wrap_named};
-use typst_combinators::Way;
-use typst_keys::{Key, key_of};
+use typst_code::Way;
+use typst_code::{Key, key_of};
 use typst_names::Names;
 use typst_kinds::SyntaxKind;
-use typst_machine::{Change, Levels, Parser};
-use typst_markup::{MathStop, ends_list, math_exprs, separates};
+use typst_code::{Change, Levels, Parser};
+use typst_code::{MathStop, ends_list, math_exprs, separates};
 
 /// Reads the expressions of an argument, of which a named one has some; answers how many there are.
 fn argument_exprs<L: Levels>(g: &L, p: &mut Parser<'_>, is_named: bool) -> Result<usize, AllocError>

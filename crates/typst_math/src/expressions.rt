@@ -2,9 +2,9 @@
 
 ghost use Rattle.std.specs.Prelude.{◌≡◌, OnOk, map};
 ghost use Rattle.std.specs.Str.{chars};
-ghost use Rattle.typst_combinators.specs.Shape.{seen};
-ghost use Rattle.typst_machine.specs.View.{Means, MeansBy, Rewrapped};
-ghost use Rattle.typst_math.specs.Expressions as spec;
+ghost use Rattle.typst_code.specs.Shape.{seen};
+ghost use Rattle.typst_code.specs.View.{Means, MeansBy, Rewrapped};
+ghost use Rattle.typst_math.specs.MathExpressions as spec;
 
 use crate::arguments::math_arguments;
 use crate::attachments::{attachments, operand, primes};
@@ -12,11 +12,11 @@ use crate::delimited::{delimited, delimiter};
 use crate::heads::{Callee, Grown, MathHead, MathTail, math_head, math_tail};
 use std::alloc::AllocError;
 use typst_classes::{Classes, MathClass};
-use typst_combinators::ChainSet;
+use typst_code::ChainSet;
 use typst_kinds::SyntaxKind;
 use typst_lines::Scanner;
-use typst_machine::{Change, Levels, Parser};
-use typst_markup::{embedded, no_signs};
+use typst_code::{Change, Levels, Parser};
+use typst_code::{embedded, no_signs};
 use typst_node::SyntaxNode;
 
 /// Whether a class in math is that of letters.

@@ -1,10 +1,10 @@
 //! What a token of a formula begins, and what it takes into its node.
 
 ghost use Rattle.std.specs.Prelude.{◌≡◌};
-ghost use Rattle.typst_math.specs.Expressions as spec;
+ghost use Rattle.typst_math.specs.MathExpressions as spec;
 
 use crate::attachments::is_in;
-use typst_combinators::ChainSet;
+use typst_code::ChainSet;
 use typst_kinds::SyntaxKind;
 
 /// What a token begins where an expression of a formula is read.

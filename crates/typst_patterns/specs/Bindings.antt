@@ -3,13 +3,13 @@ use Rattle.std.specs.Prelude.{Bool, true, false, not, ◌&&◌, [], codes}
 use Rattle.typst_kinds.specs.Kinds.{same}
 use Rattle.typst_kinds.specs.declared.kind.SyntaxKind.{SyntaxKind}
 use Rattle.typst_kinds.specs.declared.kind.SyntaxKind.TheVariants as kind
-use Rattle.typst_combinators.specs.declared.calls.Role.TheVariants as role
-use Rattle.typst_combinators.specs.Shape.{Shape, becomes}
-use Rattle.typst_combinators.specs.Shape.Change.{stays}
-use Rattle.typst_combinators.specs.Shape.Shape.{keeps}
-use Rattle.typst_combinators.specs.Syntax.{Parser, ◌>>=◌, ◌>>◌}
-use Rattle.typst_combinators.specs.Syntax.Parser.{gives, pick}
-use Rattle.typst_combinators.specs.Steps.{peek, eat, eat_if, node}
+use Rattle.typst_machine.specs.calls.Role.TheVariants as role
+use Rattle.typst_machine.specs.Shape.{Shape, becomes}
+use Rattle.typst_machine.specs.Shape.Change.{stays}
+use Rattle.typst_machine.specs.Shape.Shape.{keeps}
+use Rattle.typst_machine.specs.Syntax.{Parser, ◌>>=◌, ◌>>◌}
+use Rattle.typst_machine.specs.Syntax.Parser.{gives, pick}
+use Rattle.typst_machine.specs.Steps.{peek, eat, eat_if, node}
 use Rattle.typst_machine.specs.Expected.{expects}
 use Rattle.typst_patterns.specs.declared.bindings.Bound.{Bound}
 use Rattle.typst_patterns.specs.declared.bindings.Bound.TheVariants as bound

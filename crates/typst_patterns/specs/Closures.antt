@@ -3,12 +3,12 @@ use Rattle.std.specs.Prelude.{Bool, true, false, if◌then◌else◌, codes}
 use Rattle.typst_kinds.specs.Kinds.{same}
 use Rattle.typst_kinds.specs.declared.kind.SyntaxKind.{SyntaxKind}
 use Rattle.typst_kinds.specs.declared.kind.SyntaxKind.TheVariants as kind
-use Rattle.typst_combinators.specs.Shape.{Shape, becomes}
-use Rattle.typst_combinators.specs.Shape.Change.{stays, is_not}
-use Rattle.typst_combinators.specs.Shape.Shape.{keeps}
-use Rattle.typst_combinators.specs.Syntax.{Parser, ◌>>=◌, ◌>>◌}
-use Rattle.typst_combinators.specs.Syntax.Parser.{gives}
-use Rattle.typst_combinators.specs.Steps.{peek, eat, node}
+use Rattle.typst_machine.specs.Shape.{Shape, becomes}
+use Rattle.typst_machine.specs.Shape.Change.{stays, is_not}
+use Rattle.typst_machine.specs.Shape.Shape.{keeps}
+use Rattle.typst_machine.specs.Syntax.{Parser, ◌>>=◌, ◌>>◌}
+use Rattle.typst_machine.specs.Syntax.Parser.{gives}
+use Rattle.typst_machine.specs.Steps.{peek, eat, node}
 use Rattle.typst_patterns.specs.declared.closures.Behind.{Behind}
 use Rattle.typst_patterns.specs.declared.closures.Behind.TheVariants as behind
 use Rattle.typst_patterns.specs.Parts.{code_expression}

@@ -4,11 +4,11 @@ use Rattle.typst_kinds.specs.Kinds.{same, among, is_terminator}
 use Rattle.typst_kinds.specs.Sets as set
 use Rattle.typst_kinds.specs.declared.kind.SyntaxKind.{SyntaxKind}
 use Rattle.typst_kinds.specs.declared.kind.SyntaxKind.TheVariants as kind
-use Rattle.typst_combinators.specs.declared.calls.Role.TheVariants as role
-use Rattle.typst_combinators.specs.Shape.{Shape, becomes, unclosed}
-use Rattle.typst_combinators.specs.Syntax.{Parser, ◌>>=◌, ◌>>◌}
-use Rattle.typst_combinators.specs.Syntax.Parser.{gives, pick, repeat}
-use Rattle.typst_combinators.specs.Steps.{peek, eat, eat_if, unexpected, within, node}
+use Rattle.typst_machine.specs.calls.Role.TheVariants as role
+use Rattle.typst_machine.specs.Shape.{Shape, becomes, unclosed}
+use Rattle.typst_machine.specs.Syntax.{Parser, ◌>>=◌, ◌>>◌}
+use Rattle.typst_machine.specs.Syntax.Parser.{gives, pick, repeat}
+use Rattle.typst_machine.specs.Steps.{peek, eat, eat_if, unexpected, within, node}
 use Rattle.typst_machine.specs.Expected.{seeing}
 use Rattle.typst_patterns.specs.Parts.{code_expression, separator, in_parens}
 use Rattle.typst_patterns.specs.Patterns.{deeper_pattern, name_of, named_shape, sink, sink_shape}

@@ -2,13 +2,13 @@
 use Rattle.std.specs.Prelude.{Bool, true, false, codes}
 use Rattle.typst_kinds.specs.Kinds.{same, is_terminator}
 use Rattle.typst_kinds.specs.declared.kind.SyntaxKind.TheVariants as kind
-use Rattle.typst_combinators.specs.declared.calls.Call.TheVariants.{CodeExpr}
-use Rattle.typst_combinators.specs.declared.reading.AtNewline.TheVariants.{Continue}
-use Rattle.typst_combinators.specs.declared.reading.Reading.{Reading}
-use Rattle.typst_combinators.specs.Syntax.{Parser, ◌>>=◌}
-use Rattle.typst_combinators.specs.Syntax.Parser.{gives, pick}
-use Rattle.typst_combinators.specs.Steps.{peek}
-use Rattle.typst_combinators.specs.Depth.{deeper}
+use Rattle.typst_machine.specs.calls.Call.TheVariants.{CodeExpr}
+use Rattle.typst_machine.specs.reading.AtNewline.TheVariants.{Continue}
+use Rattle.typst_machine.specs.reading.Reading.{Reading}
+use Rattle.typst_machine.specs.Syntax.{Parser, ◌>>=◌}
+use Rattle.typst_machine.specs.Syntax.Parser.{gives, pick}
+use Rattle.typst_machine.specs.Steps.{peek}
+use Rattle.typst_machine.specs.Depth.{deeper}
 use Rattle.typst_machine.specs.Expected.{expects}
 
 -- an expression with all operators, one level deeper

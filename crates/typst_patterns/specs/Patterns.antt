@@ -5,18 +5,18 @@ use Rattle.typst_kinds.specs.Sets as set
 use Rattle.typst_kinds.specs.declared.kind.SyntaxKind.{SyntaxKind}
 use Rattle.typst_kinds.specs.declared.kind.SyntaxKind.TheVariants as kind
 use Rattle.typst_names.specs.Names.{has_name, with_name}
-use Rattle.typst_combinators.specs.declared.calls.Call.TheVariants.{Pattern}
-use Rattle.typst_combinators.specs.declared.calls.Role.{Role}
-use Rattle.typst_combinators.specs.declared.calls.Role.TheVariants as role
-use Rattle.typst_combinators.specs.Shape.{Change, Shape, Seen, becomes, unclosed}
-use Rattle.typst_combinators.specs.Shape.Change.{stays, turns_wrong, is_not}
-use Rattle.typst_combinators.specs.Shape.Making.{wanted}
-use Rattle.typst_combinators.specs.Shape.Seen.{leaf_seen, inner_seen}
-use Rattle.typst_combinators.specs.Shape.Shape.{keeps, holds, fails}
-use Rattle.typst_combinators.specs.Syntax.{Parser, ◌>>=◌, ◌>>◌}
-use Rattle.typst_combinators.specs.Syntax.Parser.{gives, pick, repeat, either}
-use Rattle.typst_combinators.specs.Steps.{peek, eat, eat_if, eat_making, unexpected, expected, within, node}
-use Rattle.typst_combinators.specs.Depth.{deeper}
+use Rattle.typst_machine.specs.calls.Call.TheVariants.{Pattern}
+use Rattle.typst_machine.specs.calls.Role.{Role}
+use Rattle.typst_machine.specs.calls.Role.TheVariants as role
+use Rattle.typst_machine.specs.Shape.{Change, Shape, Seen, becomes, unclosed}
+use Rattle.typst_machine.specs.Shape.Change.{stays, turns_wrong, is_not}
+use Rattle.typst_machine.specs.Shape.Making.{wanted}
+use Rattle.typst_machine.specs.Shape.Seen.{leaf_seen, inner_seen}
+use Rattle.typst_machine.specs.Shape.Shape.{keeps, holds, fails}
+use Rattle.typst_machine.specs.Syntax.{Parser, ◌>>=◌, ◌>>◌}
+use Rattle.typst_machine.specs.Syntax.Parser.{gives, pick, repeat, either}
+use Rattle.typst_machine.specs.Steps.{peek, eat, eat_if, eat_making, unexpected, expected, within, node}
+use Rattle.typst_machine.specs.Depth.{deeper}
 use Rattle.typst_machine.specs.Expected.{seeing}
 use Rattle.typst_patterns.specs.declared.listing.Parts.{Parts}
 use Rattle.typst_patterns.specs.Parts.{atomic_expression, separator, in_parens}

@@ -8,7 +8,7 @@ use crate::params::params;
 use crate::parts::expression_if;
 use crate::patterns::deeper_pattern;
 use std::alloc::AllocError;
-use typst_combinators::Role;
+use typst_machine::Role;
 use typst_kinds::SyntaxKind;
 use typst_machine::{Change, Levels, Parser};
 use typst_names::Names;

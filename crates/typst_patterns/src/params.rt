@@ -1,8 +1,8 @@
 //! Parameters of closures.
 
 ghost use Rattle.std.specs.Prelude.{◌≡◌, OnOk, is_some, map};
-ghost use Rattle.typst_combinators.specs.Shape.{seen};
-ghost use Rattle.typst_combinators.specs.Syntax.Parser.{repeat};
+ghost use Rattle.typst_machine.specs.Shape.{seen};
+ghost use Rattle.typst_machine.specs.Syntax.Parser.{repeat};
 ghost use Rattle.typst_machine.specs.View.{Means, Rewrapped};
 ghost use Rattle.typst_patterns.specs.Params as spec;
 ghost use Rattle.typst_patterns.specs.Patterns.{name_of};
@@ -10,7 +10,7 @@ ghost use Rattle.typst_patterns.specs.Patterns.{name_of};
 use crate::parts::{code_expression, separator};
 use crate::patterns::{deeper_pattern, sink, wrap_named, wrap_sink};
 use std::alloc::AllocError;
-use typst_combinators::{AtNewline, Role};
+use typst_machine::{AtNewline, Role};
 use typst_kinds::{SyntaxKind, set};
 use typst_machine::{Change, Levels, Parser};
 use typst_names::Names;

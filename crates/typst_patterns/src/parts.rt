@@ -4,7 +4,7 @@ ghost use Rattle.typst_machine.specs.View.{Means};
 ghost use Rattle.typst_patterns.specs.Parts as spec;
 
 use std::alloc::AllocError;
-use typst_combinators::Call;
+use typst_machine::Call;
 use typst_kinds::SyntaxKind;
 use typst_machine::{Answered, Levels, Parser, deeper};
 

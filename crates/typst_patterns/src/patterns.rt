@@ -1,16 +1,16 @@
 //! Patterns: names, what is assigned to, and parens around several of them.
 
 ghost use Rattle.std.specs.Prelude.{◌≡◌, IfOk, OnOk, map};
-ghost use Rattle.typst_combinators.specs.Shape.{seen};
-ghost use Rattle.typst_combinators.specs.Shape.Shape.{keeps};
-ghost use Rattle.typst_combinators.specs.Syntax.Parser.{repeat};
+ghost use Rattle.typst_machine.specs.Shape.{seen};
+ghost use Rattle.typst_machine.specs.Shape.Shape.{keeps};
+ghost use Rattle.typst_machine.specs.Syntax.Parser.{repeat};
 ghost use Rattle.typst_machine.specs.View.{Means, Rewrapped};
 ghost use Rattle.typst_patterns.specs.Patterns as spec;
 
 use crate::listing::Parts;
 use crate::parts::{atomic_expression, separator};
 use std::alloc::{AllocError, Global};
-use typst_combinators::{AtNewline, Call, Role};
+use typst_machine::{AtNewline, Call, Role};
 use typst_kinds::{SyntaxKind, set};
 use typst_machine::{Anywhere, Change, Levels, Parser, too_deep};
 use typst_names::Names;

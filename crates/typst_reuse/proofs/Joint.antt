@@ -3,18 +3,18 @@ use Rattle.std.proofs.Common.{◌≡◌, ℕ, suc, ◌+◌, ◌<◌, Bool, true,
 use Rattle.typst_lines.specs.Place.{Place, moved}
 use Rattle.typst_node.specs.Tree.{Tree}
 use Rattle.typst_classes.specs.Classes.{CharClasses}
-use Rattle.typst_combinators.specs.declared.calls.Call.TheVariants.{MarkupExpr}
-use Rattle.typst_combinators.specs.declared.reading.Reading.{Reading}
-use Rattle.typst_combinators.specs.Depth.{is_end}
-use Rattle.typst_combinators.specs.Hand.{len_at, hand_at}
-use Rattle.typst_combinators.specs.Knot.{meaning_of}
-use Rattle.typst_combinators.specs.Point.{Trivia, Point, is_nil}
-use Rattle.typst_combinators.specs.Steps.{flush_trivia}
-use Rattle.typst_combinators.specs.Syntax.{◌>>=◌}
-use Rattle.typst_combinators.specs.Syntax.Parser.{repeat}
-use Rattle.typst_combinators.specs.Meaning.{Outcome, joined, run}
-use Rattle.typst_combinators.proofs.Knot.{sane-at, sane-meaning, sane-block}
-use Rattle.typst_markup.specs.Markup.{markup_turn, markup_head}
+use Rattle.typst_grammar.specs.calls.Call.TheVariants.{MarkupExpr}
+use Rattle.typst_grammar.specs.reading.Reading.{Reading}
+use Rattle.typst_grammar.specs.Depth.{is_end}
+use Rattle.typst_grammar.specs.Hand.{len_at, hand_at}
+use Rattle.typst_grammar.specs.Knot.{meaning_of}
+use Rattle.typst_grammar.specs.Point.{Trivia, Point, is_nil}
+use Rattle.typst_grammar.specs.Steps.{flush_trivia}
+use Rattle.typst_grammar.specs.Syntax.{◌>>=◌}
+use Rattle.typst_grammar.specs.Syntax.Parser.{repeat}
+use Rattle.typst_grammar.specs.Meaning.{Outcome, joined, run}
+use Rattle.typst_grammar.proofs.Knot.{sane-at, sane-meaning, sane-block}
+use Rattle.typst_grammar.specs.Markup.{markup_turn, markup_head}
 use Rattle.typst_grammar.specs.Grammar.{rules, level_at, max_depth}
 use Rattle.typst_reuse.specs.Edit.{text_with}
 use Rattle.typst_reuse.specs.Joint.{minds, passed, Exchanged, place_from, onwards_from, JointLaw}

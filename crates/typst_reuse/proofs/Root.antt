@@ -2,18 +2,18 @@
 use Rattle.std.proofs.Common.{◌≡◌, ℕ, zero, suc, ◌+◌, ◌<◌, Bool, true, List, ◌++◌, length, refl, ap, sym, ◌∙◌, subst, arith}
 use Rattle.typst_lines.specs.Place.{Place, moved}
 use Rattle.typst_classes.specs.Classes.{CharClasses}
-use Rattle.typst_combinators.specs.Ask.{SameIn}
-use Rattle.typst_combinators.specs.Depth.{is_end}
-use Rattle.typst_combinators.specs.Hand.{AtHand}
-use Rattle.typst_combinators.specs.Point.{Point}
-use Rattle.typst_combinators.specs.Steps.{peek, flush_trivia}
-use Rattle.typst_combinators.specs.Syntax.Parser.{repeat}
-use Rattle.typst_combinators.specs.Meaning.{Outcome, repeated, run}
-use Rattle.typst_combinators.specs.Sound.{Framed, Within}
-use Rattle.typst_combinators.proofs.Knot.{sane-at}
-use Rattle.typst_combinators.proofs.Looks.{same_in-shift, same_in-first, same_in-second}
-use Rattle.typst_combinators.proofs.Places.{moved-sum}
-use Rattle.typst_markup.specs.Markup.{markup_run, markup_turn}
+use Rattle.typst_grammar.specs.Ask.{SameIn}
+use Rattle.typst_grammar.specs.Depth.{is_end}
+use Rattle.typst_grammar.specs.Hand.{AtHand}
+use Rattle.typst_grammar.specs.Point.{Point}
+use Rattle.typst_grammar.specs.Steps.{peek, flush_trivia}
+use Rattle.typst_grammar.specs.Syntax.Parser.{repeat}
+use Rattle.typst_grammar.specs.Meaning.{Outcome, repeated, run}
+use Rattle.typst_grammar.specs.Sound.{Framed, Within}
+use Rattle.typst_grammar.proofs.Knot.{sane-at}
+use Rattle.typst_grammar.proofs.Looks.{same_in-shift, same_in-first, same_in-second}
+use Rattle.typst_grammar.proofs.Places.{moved-sum}
+use Rattle.typst_grammar.specs.Markup.{markup_run, markup_turn}
 use Rattle.typst_grammar.specs.Grammar.{rules, max_depth, start_of, whole, parsed}
 use Rattle.typst_reuse.specs.Edit.{text_with}
 use Rattle.typst_reuse.specs.Runs.{made, AllGo, End, asks_of, chain, piece_at, start, lead, pieces, end_at, pieces_from, end_from, rest_from, tail, whole_of, RunLaw, behind_pieces, StartLaw}

@@ -5,22 +5,22 @@ use Rattle.typst_kinds.specs.declared.kind.SyntaxKind.{SyntaxKind}
 use Rattle.typst_lines.specs.Place.{Place, moved}
 use Rattle.typst_classes.specs.Classes.{CharClasses}
 use Rattle.typst_readers.specs.Sight.{width, position, near, hull_of}
-use Rattle.typst_combinators.specs.declared.calls.Call.TheVariants.{MarkupExpr}
-use Rattle.typst_combinators.specs.declared.calls.Mark.{Mark}
-use Rattle.typst_combinators.specs.declared.calls.Mark.TheVariants as mark
-use Rattle.typst_combinators.specs.declared.calls.Note.{Note}
-use Rattle.typst_combinators.specs.declared.reading.State.{State}
-use Rattle.typst_combinators.specs.Ask.{Ask, shift, shift_one}
-use Rattle.typst_combinators.specs.Ask.Ask.{looked, marked}
-use Rattle.typst_combinators.specs.Depth.{is_end, deeper}
-use Rattle.typst_combinators.specs.Hand.{AtHand, told, known_by}
-use Rattle.typst_combinators.specs.Log.{Log, no_log, with_hull, with_note, logged}
-use Rattle.typst_combinators.specs.Meaning.{Outcome, Meaning, Level, plain, joined, repeated, hand_of, hand_asks_of, asked, start_point, run}
-use Rattle.typst_combinators.specs.Point.{Point, gap_of, state_of}
-use Rattle.typst_combinators.specs.Steps.{peek, note}
-use Rattle.typst_combinators.proofs.Ends.{hand-again}
-use Rattle.typst_combinators.proofs.Places.{moved-sum}
-use Rattle.typst_markup.specs.Markup.{ends, note_piece, markup_turn, markup_reading}
+use Rattle.typst_grammar.specs.calls.Call.TheVariants.{MarkupExpr}
+use Rattle.typst_grammar.specs.calls.Mark.{Mark}
+use Rattle.typst_grammar.specs.calls.Mark.TheVariants as mark
+use Rattle.typst_grammar.specs.calls.Note.{Note}
+use Rattle.typst_grammar.specs.reading.State.{State}
+use Rattle.typst_grammar.specs.Ask.{Ask, shift, shift_one}
+use Rattle.typst_grammar.specs.Ask.Ask.{looked, marked}
+use Rattle.typst_grammar.specs.Depth.{is_end, deeper}
+use Rattle.typst_grammar.specs.Hand.{AtHand, told, known_by}
+use Rattle.typst_grammar.specs.Log.{Log, no_log, with_hull, with_note, logged}
+use Rattle.typst_grammar.specs.Meaning.{Outcome, Meaning, Level, plain, joined, repeated, hand_of, hand_asks_of, asked, start_point, run}
+use Rattle.typst_grammar.specs.Point.{Point, gap_of, state_of}
+use Rattle.typst_grammar.specs.Steps.{peek, note}
+use Rattle.typst_grammar.proofs.Ends.{hand-again}
+use Rattle.typst_grammar.proofs.Places.{moved-sum}
+use Rattle.typst_grammar.specs.Markup.{ends, note_piece, markup_turn, markup_reading}
 use Rattle.typst_grammar.specs.Grammar.{rules, level_at, max_depth, start_of, whole, parsed, log}
 use Rattle.typst_reuse.specs.Bytes.{lowest}
 use Rattle.typst_reuse.specs.Edit.{text_with, AllEndBy, AllBeginIn}

@@ -2,8 +2,8 @@
 use Rattle.std.proofs.Common.{◌<◌, ◌++◌, ap, arith}
 use Rattle.typst_kinds.specs.declared.kind.SyntaxKind.TheVariants as kind
 use Rattle.typst_node.specs.Tree.{forest, inner_of}
-use Rattle.typst_combinators.specs.Meaning.{start_point}
-use Rattle.typst_markup.specs.Markup.{markup_reading}
+use Rattle.typst_grammar.specs.Meaning.{start_point}
+use Rattle.typst_grammar.specs.Markup.{markup_reading}
 use Rattle.typst_grammar.specs.Grammar.{rules, max_depth, start_of, whole, parsed, tree}
 use Rattle.typst_reuse.specs.Edit.{text_with}
 use Rattle.typst_reuse.specs.Laws.{blocks_of_text, BlockLaw, NamesLaw, block_at}

@@ -6,13 +6,13 @@ use Rattle.typst_lines.specs.Place.{Place, char_width, moved}
 use Rattle.typst_lines.proofs.LineTable.{width-positive}
 use Rattle.typst_node.specs.Tree.{Tree, trees, text_of}
 use Rattle.typst_readers.specs.Sight.{width}
-use Rattle.typst_combinators.specs.Hand.{utf8_ahead}
-use Rattle.typst_combinators.specs.Meaning.{Outcome, start_point}
-use Rattle.typst_combinators.specs.Point.{point_of}
-use Rattle.typst_combinators.proofs.Knot.{sane-block}
-use Rattle.typst_combinators.proofs.Leaves.{texts, texts-append, texts-one, texts-first, text-add}
-use Rattle.typst_combinators.proofs.Places.{moved-ahead}
-use Rattle.typst_markup.specs.Markup.{markup_reading}
+use Rattle.typst_grammar.specs.Hand.{utf8_ahead}
+use Rattle.typst_grammar.specs.Meaning.{Outcome, start_point}
+use Rattle.typst_grammar.specs.Point.{point_of}
+use Rattle.typst_grammar.proofs.Knot.{sane-block}
+use Rattle.typst_grammar.proofs.Leaves.{texts, texts-append, texts-one, texts-first, text-add}
+use Rattle.typst_grammar.proofs.Places.{moved-ahead}
+use Rattle.typst_grammar.specs.Markup.{markup_reading}
 use Rattle.typst_grammar.specs.Grammar.{rules, max_depth, whole, parsed}
 use Rattle.typst_reuse.specs.Edit.{text_with}
 use Rattle.typst_reuse.specs.Hole.{Deep, fill, Hole, plug, path_in, path_of}

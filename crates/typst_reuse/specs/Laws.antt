@@ -3,10 +3,10 @@ use Rattle.std.specs.Prelude.{◌≡◌, ℕ, List}
 use Rattle.typst_node.specs.Tree.{Tree, forest, inner_of}
 use Rattle.typst_kinds.specs.declared.kind.SyntaxKind.TheVariants as kind
 use Rattle.typst_classes.specs.Classes.{CharClasses}
-use Rattle.typst_combinators.specs.declared.calls.Block.{Block}
-use Rattle.typst_combinators.specs.Knot.{blocks_of, meaning_of}
-use Rattle.typst_combinators.specs.Meaning.{Meaning, start_point}
-use Rattle.typst_markup.specs.Markup.{markup_reading}
+use Rattle.typst_grammar.specs.calls.Block.{Block}
+use Rattle.typst_grammar.specs.Knot.{blocks_of, meaning_of}
+use Rattle.typst_grammar.specs.Meaning.{Meaning, start_point}
+use Rattle.typst_grammar.specs.Markup.{markup_reading}
 use Rattle.typst_grammar.specs.Grammar.{rules, max_depth, start_of, whole, parsed, tree}
 use Rattle.std.specs.Prelude.{◌++◌}
 use Rattle.typst_reuse.specs.Hole.{path_of}

@@ -1,7 +1,7 @@
 use Rattle.std.proofs.Common.{refl, true, false}
 use Rattle.typst_kinds.specs.Kinds.{same}
 use Rattle.typst_kinds.specs.declared.kind.SyntaxKind.TheVariants as kind
-use Rattle.typst_combinators.specs.Steps.{close_if}
+use Rattle.typst_machine.specs.Steps.{close_if}
 use Rattle.typst_machine.proofs.Steps.{does-next, does-gives, does-closed}
 use Rattle.typst_markup.specs.Equations.{between_dollars, math_reading}
 use Rattle.typst_machine.proofs.Asks.{asks-yes, asks-no}

@@ -1,5 +1,5 @@
-use Rattle.typst_combinators.specs.Shape.{becomes}
-use Rattle.typst_combinators.specs.declared.reading.AtNewline.TheVariants as newline
+use Rattle.typst_machine.specs.Shape.{becomes}
+use Rattle.typst_machine.specs.reading.AtNewline.TheVariants as newline
 use Rattle.typst_markup.specs.Markup.{item, at_newline}
 use Rattle.typst_machine.proofs.Steps.{does-next, does-node}
 use Rattle.typst_machine.proofs.Values.{does-entered}

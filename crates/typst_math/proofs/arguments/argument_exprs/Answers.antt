@@ -1,6 +1,6 @@
 use Rattle.std.proofs.Common.{sym, ◌∙◌}
-use Rattle.typst_machine.proofs.Steps.{does-next, does-gives, does-pick, does-other}
-use Rattle.typst_math.specs.Arguments.{argument_exprs}
+use Rattle.typst_code.proofs.Steps.{does-next, does-gives, does-pick, does-other}
+use Rattle.typst_math.specs.MathArguments.{argument_exprs}
 use Rattle.typst_math.proofs.arguments.argument_exprs.Goals as goal
 
 pub returns-in_ok-expected : goal.returns-in_ok-expected

@@ -1,10 +1,10 @@
 use Rattle.std.proofs.Common.{ap, ◌∙◌, map}
-use Rattle.typst_combinators.specs.Shape.{seen}
-use Rattle.typst_machine.proofs.Changes.{does-seeing}
-use Rattle.typst_machine.proofs.Steps.{does-next, does-gives}
-use Rattle.typst_machine.proofs.Values.{does-value}
-use Rattle.typst_keys.specs.Keys.{key_of}
-use Rattle.typst_math.specs.Arguments.{argument_name}
+use Rattle.typst_code.specs.Shape.{seen}
+use Rattle.typst_code.proofs.Changes.{does-seeing}
+use Rattle.typst_code.proofs.Steps.{does-next, does-gives}
+use Rattle.typst_code.proofs.Values.{does-value}
+use Rattle.typst_code.specs.Keys.{key_of}
+use Rattle.typst_math.specs.MathArguments.{argument_name}
 use Rattle.typst_math.proofs.arguments.argument_name.Goals as goal
 
 pub returns : goal.returns

@@ -1,5 +1,5 @@
-use Rattle.typst_machine.proofs.Steps.{does-next, does-gives, does-node}
-use Rattle.typst_math.specs.Arguments.{argument_value, value_shape}
+use Rattle.typst_code.proofs.Steps.{does-next, does-gives, does-node}
+use Rattle.typst_math.specs.MathArguments.{argument_value, value_shape}
 use Rattle.typst_math.proofs.arguments.argument_value.Goals as goal
 
 pub returns : goal.returns

@@ -1,7 +1,7 @@
-use Rattle.typst_machine.proofs.Steps.{does-next, does-gives}
-use Rattle.typst_markup.specs.Equations.{ends_list}
-use Rattle.typst_machine.proofs.Asks.{asks-yes, asks-no}
-use Rattle.typst_math.specs.Arguments.{math_argument_turn}
+use Rattle.typst_code.proofs.Steps.{does-next, does-gives}
+use Rattle.typst_code.specs.Equations.{ends_list}
+use Rattle.typst_code.proofs.Asks.{asks-yes, asks-no}
+use Rattle.typst_math.specs.MathArguments.{math_argument_turn}
 use Rattle.typst_math.proofs.arguments.math_argument_turn.Goals as goal
 
 pub returns-then-ends_list : goal.returns-then-ends_list

@@ -1,8 +1,8 @@
-use Rattle.typst_combinators.specs.Meaning.{Level}
-use Rattle.typst_math.specs.Arguments.{math_argument_turn}
-use Rattle.typst_ahead.specs.Bytes.{bytes_left}
-use Rattle.typst_machine.specs.View.{Fills}
-use Rattle.typst_machine.proofs.Steps.{Turning}
+use Rattle.typst_code.specs.Meaning.{Level}
+use Rattle.typst_math.specs.MathArguments.{math_argument_turn}
+use Rattle.typst_code.specs.Bytes.{bytes_left}
+use Rattle.typst_code.specs.View.{Fills}
+use Rattle.typst_code.proofs.Steps.{Turning}
 use Rattle.typst_math.proofs.arguments.math_argument_turns.Given as goal
 
 abbrev pub invariant-turns : goal.invariant-turns

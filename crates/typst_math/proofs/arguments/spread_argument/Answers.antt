@@ -1,7 +1,7 @@
 use Rattle.typst_kinds.specs.declared.kind.SyntaxKind.TheVariants as kind
-use Rattle.typst_combinators.specs.Shape.{becomes}
-use Rattle.typst_machine.proofs.Steps.{does-next, does-node}
-use Rattle.typst_math.specs.Arguments.{spread_argument}
+use Rattle.typst_code.specs.Shape.{becomes}
+use Rattle.typst_code.proofs.Steps.{does-next, does-node}
+use Rattle.typst_math.specs.MathArguments.{spread_argument}
 use Rattle.typst_math.proofs.arguments.spread_argument.Goals as goal
 
 pub returns : goal.returns

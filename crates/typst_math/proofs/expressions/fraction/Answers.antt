@@ -1,6 +1,6 @@
 use Rattle.std.proofs.Common.{sym}
-use Rattle.typst_machine.proofs.Steps.{does-next}
-use Rattle.typst_math.specs.Expressions.{fraction}
+use Rattle.typst_code.proofs.Steps.{does-next}
+use Rattle.typst_math.specs.MathExpressions.{fraction}
 use Rattle.typst_math.proofs.expressions.fraction.Goals as goal
 
 pub returns : goal.returns

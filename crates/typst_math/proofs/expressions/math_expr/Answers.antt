@@ -1,5 +1,5 @@
-use Rattle.typst_machine.proofs.Steps.{does-next, does-gives}
-use Rattle.typst_math.specs.Expressions.{math_expr}
+use Rattle.typst_code.proofs.Steps.{does-next, does-gives}
+use Rattle.typst_math.specs.MathExpressions.{math_expr}
 use Rattle.typst_math.proofs.expressions.math_expr.Goals as goal
 
 pub returns : goal.returns

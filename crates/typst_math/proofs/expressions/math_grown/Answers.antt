@@ -1,6 +1,6 @@
 use Rattle.std.proofs.Common.{arith}
-use Rattle.typst_machine.proofs.Grows.{grows-init, grows-next, grows-stuck, grows-last}
-use Rattle.typst_math.specs.Expressions.{math_grown}
+use Rattle.typst_code.proofs.Grows.{grows-init, grows-next, grows-stuck, grows-last}
+use Rattle.typst_math.specs.MathExpressions.{math_grown}
 use Rattle.typst_math.proofs.expressions.math_grown.Goals as goal
 
 pub turns-init : goal.turns-init

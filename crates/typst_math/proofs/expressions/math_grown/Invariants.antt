@@ -1,8 +1,8 @@
-use Rattle.typst_combinators.specs.Meaning.{Level}
-use Rattle.typst_ahead.specs.Bytes.{bytes_left}
-use Rattle.typst_machine.specs.View.{Fills}
-use Rattle.typst_machine.proofs.Grows.{Grows}
-use Rattle.typst_math.specs.Expressions.{math_primary, math_tail_turn}
+use Rattle.typst_code.specs.Meaning.{Level}
+use Rattle.typst_code.specs.Bytes.{bytes_left}
+use Rattle.typst_code.specs.View.{Fills}
+use Rattle.typst_code.proofs.Grows.{Grows}
+use Rattle.typst_math.specs.MathExpressions.{math_primary, math_tail_turn}
 use Rattle.typst_math.proofs.expressions.math_grown.Given as goal
 
 abbrev pub invariant-turns : goal.invariant-turns

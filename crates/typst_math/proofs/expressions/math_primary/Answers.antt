@@ -1,6 +1,6 @@
 use Rattle.std.proofs.Common.{sym, ap, ◌∙◌}
-use Rattle.typst_machine.proofs.Steps.{does-next, does-gives, does-peek}
-use Rattle.typst_math.specs.Expressions.{math_primary, math_head}
+use Rattle.typst_code.proofs.Steps.{does-next, does-gives, does-peek}
+use Rattle.typst_math.specs.MathExpressions.{math_primary, math_head}
 use Rattle.typst_math.specs.declared.heads.MathHead.TheVariants as head
 use Rattle.typst_math.proofs.Begins.{at-head}
 use Rattle.typst_math.proofs.expressions.math_primary.Goals as goal

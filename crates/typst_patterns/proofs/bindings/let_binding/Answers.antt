@@ -1,5 +1,5 @@
 use Rattle.typst_kinds.specs.declared.kind.SyntaxKind.TheVariants as kind
-use Rattle.typst_combinators.specs.Shape.{becomes}
+use Rattle.typst_machine.specs.Shape.{becomes}
 use Rattle.typst_machine.proofs.Steps.{does-next, does-node}
 use Rattle.typst_patterns.specs.Bindings.{let_binding}
 use Rattle.typst_patterns.proofs.bindings.let_binding.Goals as goal

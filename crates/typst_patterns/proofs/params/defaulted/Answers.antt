@@ -2,7 +2,7 @@ use Rattle.std.proofs.Common.{refl, ap, ◌∙◌, Some, map}
 use Rattle.std.specs.Prelude.{is_some}
 use Rattle.typst_kinds.specs.Kinds.{same}
 use Rattle.typst_kinds.specs.declared.kind.SyntaxKind.TheVariants as kind
-use Rattle.typst_combinators.specs.Shape.{seen}
+use Rattle.typst_machine.specs.Shape.{seen}
 use Rattle.typst_machine.proofs.Steps.{does-next, does-gives}
 use Rattle.typst_machine.proofs.Changes.{does-seeing}
 use Rattle.typst_machine.proofs.Asks.{asks-yes, asks-no}

@@ -1,6 +1,6 @@
 use Rattle.std.proofs.Common.{◌∙◌, ap, map}
-use Rattle.typst_combinators.specs.Shape.{seen}
-use Rattle.typst_combinators.specs.Shape.Shape.{keeps}
+use Rattle.typst_machine.specs.Shape.{seen}
+use Rattle.typst_machine.specs.Shape.Shape.{keeps}
 use Rattle.typst_machine.proofs.Steps.{does-next, does-gives, does-node}
 use Rattle.typst_machine.proofs.Changes.{does-seeing}
 use Rattle.typst_machine.proofs.Values.{does-value}

@@ -1,6 +1,6 @@
 use Rattle.std.proofs.Common.{◌∙◌, ◌==◌, ap, sym}
 use Rattle.std.proofs.lemmas.Bool.{ne_eqb}
-use Rattle.typst_combinators.specs.Depth.{deeper}
+use Rattle.typst_machine.specs.Depth.{deeper}
 use Rattle.typst_machine.proofs.Steps.{does-next, does-gives, does-deepest, does-pick, does-other, does-calls}
 use Rattle.typst_machine.proofs.Values.{does-value}
 use Rattle.typst_patterns.proofs.patterns.deeper_pattern.Goals as goal

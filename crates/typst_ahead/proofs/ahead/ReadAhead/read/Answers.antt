@@ -4,7 +4,7 @@ use Rattle.typst_lines.specs.Scanner.{place}
 use Rattle.typst_lines.specs.declared.scanner.Scanner.{Scanner}
 use Rattle.typst_node.specs.Tree.{Tree}
 use Rattle.typst_readers.specs.declared.hull.Hull.{Hull}
-use Rattle.typst_token_nodes.specs.Nodes.{token_node}
+use Rattle.typst_combinators.specs.Nodes.{token_node}
 use Rattle.typst_combinators.specs.Hand.{at_trivia, len_at, text_ahead}
 use Rattle.typst_ahead.specs.Bytes.{bytes_left, joined_hull, token_hull, column_hull, whole_at}
 use Rattle.typst_ahead.proofs.Bytes.{some-bytes}

@@ -5,11 +5,11 @@ use Rattle.typst_lines.specs.Scanner.{place}
 use Rattle.typst_classes.specs.Classes.{CharClasses}
 use Rattle.typst_readers.specs.Reader.{exec, look}
 use Rattle.typst_readers.specs.Sight.{hull_of}
-use Rattle.typst_token_nodes.specs.Nodes.{token_node}
-use Rattle.typst_combinators.specs.Calls.{token_so}
-use Rattle.typst_combinators.specs.Hand.{len_by, text_ahead}
-use Rattle.typst_combinators.specs.Log.{Log}
-use Rattle.typst_combinators.specs.Shape.Making.{wanted}
+use Rattle.typst_ahead.specs.Nodes.{token_node}
+use Rattle.typst_ahead.specs.Calls.{token_so}
+use Rattle.typst_ahead.specs.Hand.{len_by, text_ahead}
+use Rattle.typst_ahead.specs.Log.{Log}
+use Rattle.typst_ahead.specs.Shape.Making.{wanted}
 use Rattle.typst_node.specs.Messages.{made_expected}
 use Rattle.typst_machine.specs.Cursor.{view_of}
 use Rattle.typst_machine.specs.View.{View}

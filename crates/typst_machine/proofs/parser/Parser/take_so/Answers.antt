@@ -2,11 +2,11 @@ use Rattle.std.proofs.Common.{◌≡◌, ◌∙◌, ◌++◌, ◌∷◌, [], Non
 use Rattle.typst_lines.specs.Scanner.{place}
 use Rattle.typst_kinds.specs.Kinds.{is_error}
 use Rattle.typst_node.specs.Tree.{Tree, text_of}
-use Rattle.typst_combinators.specs.declared.reading.State.{State}
-use Rattle.typst_combinators.specs.Point.{Point}
-use Rattle.typst_combinators.specs.Hand.{known_by}
-use Rattle.typst_combinators.specs.Meaning.{renewed}
-use Rattle.typst_combinators.specs.Shape.{count_empty}
+use Rattle.typst_ahead.specs.reading.State.{State}
+use Rattle.typst_ahead.specs.Point.{Point}
+use Rattle.typst_ahead.specs.Hand.{known_by}
+use Rattle.typst_ahead.specs.Meaning.{renewed}
+use Rattle.typst_ahead.specs.Shape.{count_empty}
 use Rattle.typst_ahead.specs.declared.ahead.ReadAhead.{ReadAhead}
 use Rattle.typst_machine.specs.Cursor.{known_of, view_of}
 use Rattle.typst_ahead.specs.Cursor.{hand_of_ahead}
