@@ -6,7 +6,6 @@ pub mod Logs
 pub mod Bytes
 pub mod Columns
 pub mod Trivia
-
 -- What the crates above name of those below.
 pub use Rattle.typst_combinators.proofs.Backs
 pub use Rattle.typst_combinators.proofs.Eats

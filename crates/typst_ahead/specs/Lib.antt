@@ -2,7 +2,6 @@ pub mod Bytes
 pub mod Noted
 pub mod Codes
 pub mod Cursor
-
 -- What the crates above name of those below.
 pub use Rattle.typst_combinators.specs.Ask
 pub use Rattle.typst_combinators.specs.Calls

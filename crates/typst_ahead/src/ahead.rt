@@ -17,13 +17,12 @@ ghost use Rattle.typst_ahead.specs.Cursor.{IsAhead, Stands};
 use crate::log::joined;
 use std::alloc::{AllocError, Global};
 use typst_classes::Classes;
-use typst_combinators::{AtNewline, Newlines, Reading};
+use typst_combinators::{
+    AtNewline, Hull, Newlines, Reading, Token, is_leaf, leaf_node, make_node, token,
+};
 use typst_kinds::{SyntaxKind, SyntaxMode};
-use typst_combinators::token;
-use typst_combinators::{Hull, Token};
 use typst_lines::{Scanner, is_newline};
 use typst_node::SyntaxNode;
-use typst_combinators::{is_leaf, leaf_node, make_node};
 
 /// The token at hand, with the trivia before it.
 #[derive(Drop)]

@@ -7,7 +7,6 @@ pub mod Imports
 pub mod Expressions
 pub mod Outside
 pub mod Stops
-
 -- What the crates above name of those below.
 pub use Rattle.typst_keys.specs.Keys
 pub use Rattle.typst_keys.specs.declared.keys

@@ -12,11 +12,9 @@ use crate::groups::{begins_item, pair, spread};
 use crate::heads::{calls_directly, opens_arguments};
 use crate::sequences::read_content;
 use std::alloc::AllocError;
-use typst_markup::AtNewline;
 use typst_keys::Key;
 use typst_kinds::SyntaxKind;
-use typst_markup::{Change, Levels, Parser};
-use typst_markup::opens_directly;
+use typst_markup::{AtNewline, Change, Levels, Parser, opens_directly};
 use typst_names::Names;
 use typst_patterns::separator;
 

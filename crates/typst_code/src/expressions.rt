@@ -17,10 +17,8 @@ use crate::statements::{
     show_rule, while_loop,
 };
 use std::alloc::AllocError;
-use typst_markup::Call;
 use typst_kinds::{Assoc, BinOp, SyntaxKind, UnOp};
-use typst_markup::{Answered, Levels, Parser, deeper};
-use typst_markup::equation;
+use typst_markup::{Answered, Call, Levels, Parser, deeper, equation};
 use typst_patterns::{let_binding, named, placeholder};
 
 /// An operator and its operand.

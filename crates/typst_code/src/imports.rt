@@ -6,9 +6,8 @@ ghost use Rattle.typst_markup.specs.View.{Means, MeansBy, Rewrapped};
 ghost use Rattle.typst_code.specs.Imports as spec;
 
 use std::alloc::AllocError;
-use typst_markup::AtNewline;
 use typst_kinds::SyntaxKind;
-use typst_markup::{Change, Levels, Parser};
+use typst_markup::{AtNewline, Change, Levels, Parser};
 use typst_patterns::{code_expression, separator};
 
 /// Reads a dot and a name; answers whether they came.

@@ -6,9 +6,8 @@ ghost use Rattle.typst_code.specs.Parens as spec;
 
 use crate::groups::group;
 use std::alloc::AllocError;
-use typst_markup::Role;
 use typst_kinds::SyntaxKind;
-use typst_markup::{Levels, Parser};
+use typst_markup::{Levels, Parser, Role};
 use typst_names::Names;
 use typst_patterns::{Behind, destructuring, expression_if, params, wrap_closure};
 

@@ -10,10 +10,10 @@ ghost use Rattle.typst_code.specs.Stops.{stops_at};
 
 use crate::stops::CodeStop;
 use std::alloc::AllocError;
-use typst_markup::{AtNewline, Block, Reading};
 use typst_kinds::{SyntaxKind, SyntaxMode};
-use typst_markup::{Levels, Parser, Stops, too_deep};
-use typst_markup::{begins_code, content_block};
+use typst_markup::{
+    AtNewline, Block, Levels, Parser, Reading, Stops, begins_code, content_block, too_deep,
+};
 use typst_patterns::code_expression;
 
 /// Reads statements up to a stop.

@@ -10,10 +10,8 @@ ghost use Rattle.typst_code.specs.Outside.{MeansAround, MeansAroundBy};
 use crate::arguments::arguments;
 use crate::sequences::{read_code, read_content};
 use std::alloc::AllocError;
-use typst_markup::{Call, Role};
 use typst_kinds::{SyntaxKind, set};
-use typst_markup::{Answered, Levels, Parser, deeper};
-use typst_markup::begins_code;
+use typst_markup::{Answered, Call, Levels, Parser, Role, begins_code, deeper};
 use typst_names::Names;
 use typst_patterns::{code_expression, deeper_pattern, expression_if};
 

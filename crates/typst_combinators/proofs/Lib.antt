@@ -20,6 +20,5 @@ pub mod Alike
 pub mod Frame
 pub mod Leaves
 pub mod Knot
-
 -- What the crates above name of those below.
 pub use Rattle.typst_token_nodes.proofs.TokenTexts

@@ -3,7 +3,6 @@ pub mod Grammar
 pub mod Laws
 pub mod Notes
 pub mod Read
-
 -- What the crates above name of those below.
 pub use Rattle.typst_math.specs.Arguments
 pub use Rattle.typst_math.specs.Ask

@@ -10,15 +10,12 @@ ghost use Rattle.typst_grammar.specs.Read.{IsParsed};
 
 use std::alloc::{AllocError, Global};
 use typst_classes::Classes;
-use typst_math::{CodeStop, code_expr, code_exprs};
-use typst_math::{AtNewline, Call, Note, Reading};
 use typst_kinds::{SyntaxKind, SyntaxMode};
-use typst_math::Hull;
-use typst_math::{Answered, Grammar, Levels, Parser};
-use typst_math::{MathStop, Stop, markup_expr, markup_run, math_exprs};
-use typst_math::math_expr;
+use typst_math::{
+    Answered, AtNewline, Call, CodeStop, Grammar, Hull, Levels, MathStop, Note, Parser, Reading,
+    Stop, code_expr, code_exprs, markup_expr, markup_run, math_expr, math_exprs, pattern,
+};
 use typst_node::SyntaxNode;
-use typst_math::pattern;
 
 /// How deep calls may nest.
 const MAX_DEPTH: usize = 256;

@@ -21,7 +21,6 @@ pub mod Changes
 pub mod Asks
 pub mod Values
 pub mod Nots
-
 -- What the crates above name of those below.
 pub use Rattle.typst_ahead.proofs.Backs
 pub use Rattle.typst_ahead.proofs.Eats

@@ -5,7 +5,6 @@ pub mod Checkpoint
 pub mod Saved
 pub mod Ways
 pub mod Expected
-
 -- What the crates above name of those below.
 pub use Rattle.typst_ahead.specs.Ask
 pub use Rattle.typst_ahead.specs.Bytes

@@ -5,9 +5,8 @@ ghost use Rattle.typst_machine.specs.Checkpoint.{AreBehind, first_of, forgot_not
 
 use crate::parser::Parser;
 use std::alloc::AllocError;
-use typst_ahead::{Newlines, State};
+use typst_ahead::{Hull, Newlines, State, Token};
 use typst_kinds::SyntaxKind;
-use typst_ahead::{Hull, Token};
 use typst_lines::Scanner;
 use typst_node::SyntaxNode;
 

@@ -10,8 +10,8 @@ ghost use Rattle.typst_machine.specs.declared.depth.Answered.TheVariants.{Bracke
 
 use crate::parser::Parser;
 use std::alloc::{AllocError, Global};
-use typst_classes::{Classes, MathClass};
 use typst_ahead::{AtNewline, Call};
+use typst_classes::{Classes, MathClass};
 use typst_kinds::SyntaxKind;
 use typst_names::Names;
 

@@ -20,12 +20,11 @@ use crate::depth::Levels;
 use crate::nodes::{give, is_none, push_all, trim};
 use crate::parser::Parser;
 use std::alloc::AllocError;
-use typst_ahead::read_token;
+use typst_ahead::{is_leaf, leaf_node, make_node, read_token};
 use typst_classes::Classes;
 use typst_kinds::SyntaxKind;
 use typst_node::SyntaxNode;
 use typst_shapes::hint_last;
-use typst_ahead::{is_leaf, leaf_node, make_node};
 
 impl<'s> Parser<'s> {
     /// Whether the node of the token at hand is a leaf of its kind.

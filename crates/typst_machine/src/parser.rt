@@ -15,11 +15,11 @@ use crate::depth::Levels;
 use crate::nodes::is_none;
 use std::alloc::{AllocError, Global};
 use std::marker::Model;
-use typst_ahead::{Log, ReadAhead, column, judged, left};
+use typst_ahead::{
+    AtNewline, Block, Hull, Log, Mark, Note, ReadAhead, Reading, State, column, judged, left,
+};
 use typst_classes::Classes;
-use typst_ahead::{AtNewline, Block, Mark, Note, Reading, State};
 use typst_kinds::{SyntaxKind, SyntaxMode};
-use typst_ahead::Hull;
 use typst_lines::Scanner;
 use typst_node::SyntaxNode;
 

@@ -17,14 +17,11 @@ use crate::depth::Levels;
 use crate::nodes::{give, push_all};
 use crate::parser::Parser;
 use std::alloc::{AllocError, Global};
-use typst_ahead::{Read, read_token};
+use typst_ahead::{Read, Way, make_node, named_argument, read_token, spread_argument};
 use typst_classes::Classes;
-use typst_ahead::Way;
 use typst_kinds::SyntaxKind;
-use typst_ahead::{named_argument, spread_argument};
 use typst_lines::Scanner;
 use typst_node::SyntaxNode;
-use typst_ahead::make_node;
 
 impl<'s> Parser<'s> {
     /// Which kind the token at hand has where it is read from its start in another way.

@@ -1,7 +1,6 @@
 -- From what a contract promises to the lemma behind it:
 --   a production's clause        its own answers, by the steps of the machine; Heads: what begins an expression
 pub mod Heads
-
 -- What the crates above name of those below.
 pub use Rattle.typst_machine.proofs.Asks
 pub use Rattle.typst_machine.proofs.Backs

@@ -10,9 +10,10 @@ ghost use Rattle.typst_markup.specs.Stops.{math_stops_at};
 
 use crate::stops::MathStop;
 use std::alloc::AllocError;
-use typst_machine::{AtNewline, Call, ChainSet, Reading};
 use typst_kinds::{SyntaxKind, SyntaxMode, set};
-use typst_machine::{Answered, Levels, Parser, Stops, deeper, too_deep};
+use typst_machine::{
+    Answered, AtNewline, Call, ChainSet, Levels, Parser, Reading, Stops, deeper, too_deep,
+};
 
 /// No signs of attachments.
 pub fn no_signs() -> ChainSet

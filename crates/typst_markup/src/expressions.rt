@@ -14,9 +14,8 @@ use crate::references::reference;
 use crate::sequences::{markup, markup_with_trivia};
 use crate::stops::Stop;
 use std::alloc::AllocError;
-use typst_machine::AtNewline;
 use typst_kinds::SyntaxKind;
-use typst_machine::{Levels, Parser};
+use typst_machine::{AtNewline, Levels, Parser};
 
 /// `*..*`
 pub fn strong<L: Levels>(g: &L, p: &mut Parser<'_>) -> Result<(), AllocError>

@@ -8,9 +8,8 @@ ghost use Rattle.typst_markup.specs.Stops.{stops_at};
 
 use crate::stops::Stop;
 use std::alloc::AllocError;
-use typst_machine::{Call, Mark};
 use typst_kinds::SyntaxKind;
-use typst_machine::{Answered, Levels, Parser, Stops, deeper, too_deep};
+use typst_machine::{Answered, Call, Levels, Mark, Parser, Stops, deeper, too_deep};
 
 /// Reads expressions up to a stop.
 pub fn markup_exprs<L: Levels>(

@@ -2,7 +2,6 @@ pub mod Delimited
 pub mod MathArguments
 pub mod Attachments
 pub mod MathExpressions
-
 -- What the crates above name of those below.
 pub use Rattle.typst_code.specs.Arguments
 pub use Rattle.typst_code.specs.Ask

@@ -8,13 +8,12 @@ ghost use Rattle.typst_code.specs.View.{Means, Rewrapped};
 ghost use Rattle.typst_math.specs.MathArguments as spec;
 
 use std::alloc::AllocError;
-use typst_code::{with_argument, wrap_named};
-use typst_code::Way;
-use typst_code::{Key, key_of};
-use typst_names::Names;
+use typst_code::{
+    Change, Key, Levels, MathStop, Parser, Way, ends_list, key_of, math_exprs, separates,
+    with_argument, wrap_named,
+};
 use typst_kinds::SyntaxKind;
-use typst_code::{Change, Levels, Parser};
-use typst_code::{MathStop, ends_list, math_exprs, separates};
+use typst_names::Names;
 
 /// Reads the expressions of an argument, of which a named one has some; answers how many there are.
 fn argument_exprs<L: Levels>(g: &L, p: &mut Parser<'_>, is_named: bool) -> Result<usize, AllocError>

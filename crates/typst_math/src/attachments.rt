@@ -6,9 +6,8 @@ ghost use Rattle.typst_code.specs.View.{Means};
 ghost use Rattle.typst_math.specs.Attachments as spec;
 
 use std::alloc::AllocError;
-use typst_code::{Call, ChainSet};
+use typst_code::{Answered, Call, ChainSet, Change, Levels, Parser, deeper};
 use typst_kinds::SyntaxKind;
-use typst_code::{Answered, Change, Levels, Parser, deeper};
 
 /// Whether a token is one of the signs.
 pub(crate) fn is_in(signs: ChainSet, kind: SyntaxKind) -> bool

@@ -7,9 +7,8 @@ ghost use Rattle.typst_code.specs.View.{Means, Rewrapped};
 ghost use Rattle.typst_math.specs.Delimited as spec;
 
 use std::alloc::AllocError;
+use typst_code::{Change, Levels, MathStop, Parser, is_closer, math_exprs};
 use typst_kinds::SyntaxKind;
-use typst_code::{Change, Levels, Parser};
-use typst_code::{MathStop, is_closer, math_exprs};
 use typst_node::SyntaxNode;
 
 /// Which kind a delimiter of this text has.

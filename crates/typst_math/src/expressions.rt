@@ -12,11 +12,9 @@ use crate::delimited::{delimited, delimiter};
 use crate::heads::{Callee, Grown, MathHead, MathTail, math_head, math_tail};
 use std::alloc::AllocError;
 use typst_classes::{Classes, MathClass};
-use typst_code::ChainSet;
+use typst_code::{ChainSet, Change, Levels, Parser, embedded, no_signs};
 use typst_kinds::SyntaxKind;
 use typst_lines::Scanner;
-use typst_code::{Change, Levels, Parser};
-use typst_code::{embedded, no_signs};
 use typst_node::SyntaxNode;
 
 /// Whether a class in math is that of letters.

@@ -8,9 +8,8 @@ use crate::params::params;
 use crate::parts::expression_if;
 use crate::patterns::deeper_pattern;
 use std::alloc::AllocError;
-use typst_machine::Role;
 use typst_kinds::SyntaxKind;
-use typst_machine::{Change, Levels, Parser};
+use typst_machine::{Change, Levels, Parser, Role};
 use typst_names::Names;
 
 /// What is bound.

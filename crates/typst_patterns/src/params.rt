@@ -10,9 +10,8 @@ ghost use Rattle.typst_patterns.specs.Patterns.{name_of};
 use crate::parts::{code_expression, separator};
 use crate::patterns::{deeper_pattern, sink, wrap_named, wrap_sink};
 use std::alloc::AllocError;
-use typst_machine::{AtNewline, Role};
 use typst_kinds::{SyntaxKind, set};
-use typst_machine::{Change, Levels, Parser};
+use typst_machine::{AtNewline, Change, Levels, Parser, Role};
 use typst_names::Names;
 use typst_node::SyntaxNode;
 

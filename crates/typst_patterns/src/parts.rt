@@ -4,9 +4,8 @@ ghost use Rattle.typst_machine.specs.View.{Means};
 ghost use Rattle.typst_patterns.specs.Parts as spec;
 
 use std::alloc::AllocError;
-use typst_machine::Call;
 use typst_kinds::SyntaxKind;
-use typst_machine::{Answered, Levels, Parser, deeper};
+use typst_machine::{Answered, Call, Levels, Parser, deeper};
 
 /// Reads an expression with all its operators.
 pub fn code_expression<L: Levels>(g: &L, p: &mut Parser<'_>) -> Result<(), AllocError>
