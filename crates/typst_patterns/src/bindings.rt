@@ -4,7 +4,7 @@ ghost use Rattle.std.specs.Prelude.{◌≡◌, OnOk};
 ghost use Rattle.typst_machine.specs.View.{Means, Rewrapped};
 ghost use Rattle.typst_patterns.specs.Bindings as spec;
 
-use crate::params::params;
+use crate::parameters::params;
 use crate::parts::expression_if;
 use crate::patterns::deeper_pattern;
 use std::alloc::AllocError;

@@ -4,13 +4,13 @@
 mod bindings;
 mod closures;
 mod listing;
-mod params;
+mod parameters;
 mod parts;
 mod patterns;
 
 pub use bindings::{Bound, let_binding};
 pub use closures::{Behind, named, placeholder, wrap_closure};
 pub use listing::Parts;
-pub use params::params;
+pub use parameters::params;
 pub use parts::{code_expression, expression_if, separator};
 pub use patterns::{deeper_pattern, destructuring, pattern};
