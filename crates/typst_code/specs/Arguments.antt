@@ -13,9 +13,9 @@ use Rattle.typst_markup.specs.Syntax.Op.{advises}
 use Rattle.typst_markup.specs.Syntax.Parser.{gives, does, pick, repeat}
 use Rattle.typst_markup.specs.Steps.{peek, eat, eat_if, unexpected, expected, within, node, read_block}
 use Rattle.typst_markup.specs.Markup.{at_newline, opens_directly}
-use Rattle.typst_keys.specs.declared.keys.Key.{Key}
-use Rattle.typst_keys.specs.declared.keys.Key.TheVariants as key
-use Rattle.typst_names.specs.Names.{has_name, with_name}
+use Rattle.typst_named.specs.keys.Key.{Key}
+use Rattle.typst_named.specs.keys.Key.TheVariants as key
+use Rattle.typst_named.specs.Named.{when_named, with_argument}
 use Rattle.typst_patterns.specs.Parts.{separator}
 use Rattle.typst_code.specs.Groups.{begins_item, spread, pair}
 
@@ -27,10 +27,7 @@ opens_arguments k = same kind.LeftParen k || same kind.LeftBracket k
 abbrev pub calls_directly : SyntaxKind → Bool → Bool
 calls_directly k has_trivia = opens_arguments k && not has_trivia
 
--- what stands before a colon has to be a name that wasn't seen
-abbrev pub when_named : List (List ℕ) → List ℕ → Change
-when_named names name = if has_name names name then turns_wrong (codes "duplicate argument: " ++ name) else stays
-
+-- what stands before a colon has to be a name
 abbrev pub name_change : List (List ℕ) → Key → Change
 name_change names (key.Name name) = when_named names name
 name_change names (key.Str text) = is_not (codes "identifier")
@@ -39,10 +36,6 @@ name_change names key.Other = is_not (codes "identifier")
 abbrev pub argument_shape : List (List ℕ) → Option Key → Shape
 argument_shape names None = keeps stays
 argument_shape names (Some key) = holds (name_change names key) kind.Named
-
-abbrev pub with_argument : List (List ℕ) → Option Key → List (List ℕ)
-with_argument names (Some (key.Name name)) = with_name names name
-with_argument names _ = names
 
 -- one argument; answers the names that were seen
 unfoldable pub argument : List (List ℕ) → Parser (List (List ℕ))

@@ -14,9 +14,9 @@ use Rattle.typst_markup.specs.Expected.{seeing}
 use Rattle.typst_markup.specs.Markup.{at_newline}
 use Rattle.typst_markup.specs.Starts.{begins_code}
 use Rattle.typst_code.specs.declared.listing.Items.{Items}
-use Rattle.typst_keys.specs.declared.keys.Key.{Key}
-use Rattle.typst_keys.specs.declared.keys.Key.TheVariants as key
-use Rattle.typst_keys.specs.Keys.{key_of}
+use Rattle.typst_named.specs.keys.Key.{Key}
+use Rattle.typst_named.specs.keys.Key.TheVariants as key
+use Rattle.typst_named.specs.Keys.{key_of}
 use Rattle.typst_names.specs.Names.{has_name, with_name}
 use Rattle.typst_patterns.specs.Parts.{code_expression, separator}
 

@@ -8,8 +8,8 @@ pub mod Expressions
 pub mod Outside
 pub mod Stops
 -- What the crates above name of those below.
-pub use Rattle.typst_keys.specs.Keys
-pub use Rattle.typst_keys.specs.declared.keys
+pub use Rattle.typst_named.specs.Keys
+pub use Rattle.typst_named.specs.keys
 pub use Rattle.typst_markup.specs.Ask
 pub use Rattle.typst_markup.specs.Bytes
 pub use Rattle.typst_markup.specs.Calls

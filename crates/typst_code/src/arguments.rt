@@ -12,9 +12,9 @@ use crate::groups::{begins_item, pair, spread};
 use crate::heads::{calls_directly, opens_arguments};
 use crate::sequences::read_content;
 use std::alloc::AllocError;
-use typst_keys::Key;
 use typst_kinds::SyntaxKind;
 use typst_markup::{AtNewline, Change, Levels, Parser, opens_directly};
+use typst_named::{Key, with_argument, wrap_named};
 use typst_names::Names;
 use typst_patterns::separator;
 
@@ -33,39 +33,6 @@ fn wrap_argument(
         Some(_) => p.wrap_changed(from, Change::IsNot("identifier"), SyntaxKind::Named)?,
     }
     Ok(())
-}
-
-/// Makes a named argument of an argument that has a name, which may have been seen.
-pub fn wrap_named(
-    p: &mut Parser<'_>,
-    from: usize,
-    names: &Names,
-    name: &str,
-) -> Result<(), AllocError>
-    ensures { OnOk result (Rewrapped from (holds (spec.when_named names.now name.now) kind.Named) p.old p.new) }
-{
-    if !names.has(name) {
-        p.wrap_changed(from, Change::Stays, SyntaxKind::Named)?;
-        return Ok(());
-    }
-    let message = format!(in p.alloc(); "duplicate argument: {name}")?;
-    p.wrap_changed(
-        from,
-        Change::TurnsWrong(message.as_str()),
-        SyntaxKind::Named,
-    )?;
-    Ok(())
-}
-
-/// With the name of an argument, if it has one.
-pub fn with_argument(names: Names, key: &Option<Key>) -> Result<Names, AllocError>
-    ensures { IfOk result (λ more. more ≡ spec.with_argument names key.now) }
-{
-    let mut names = names;
-    if let Some(Key::Name(name)) = key {
-        names.add(name.as_str())?;
-    }
-    Ok(names)
 }
 
 /// Reads one argument; answers the names that were seen.

@@ -10,9 +10,9 @@ ghost use Rattle.typst_code.specs.Groups as spec;
 
 use crate::listing::Items;
 use std::alloc::AllocError;
-use typst_keys::{Key, key_of};
 use typst_kinds::SyntaxKind;
 use typst_markup::{AtNewline, Change, Levels, Parser, begins_code};
+use typst_named::{Key, key_of};
 use typst_names::Names;
 use typst_patterns::{code_expression, separator};
 

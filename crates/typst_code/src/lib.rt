@@ -12,16 +12,15 @@ mod sequences;
 mod statements;
 mod stops;
 
-pub use arguments::{with_argument, wrap_named};
 pub use expressions::code_expr;
 pub use heads::{CodeHead, CodeTail};
 pub use listing::Items;
 pub use sequences::{code_block, code_exprs};
 pub use stops::CodeStop;
-pub use typst_keys::{Key, key_of};
 pub use typst_markup::{
     Answered, AtNewline, Block, Call, ChainSet, Change, Grammar, Hull, Levels, Mark, MathStop,
     Note, Parser, Reading, Stop, Way, deeper, embedded, ends_list, is_closer, markup_expr,
     markup_run, math_exprs, no_signs, separates,
 };
+pub use typst_named::{Key, key_of};
 pub use typst_patterns::pattern;

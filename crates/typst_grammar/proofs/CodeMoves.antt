@@ -10,35 +10,35 @@ use Rattle.typst_kinds.specs.declared.operator.UnOp.{UnOp}
 use Rattle.typst_lines.specs.Place.{Place, moved}
 use Rattle.typst_node.specs.Tree.{Tree}
 use Rattle.typst_classes.specs.Classes.{CharClasses}
-use Rattle.typst_math.specs.calls.Block.{Block}
-use Rattle.typst_math.specs.calls.Block.TheVariants as block
-use Rattle.typst_math.specs.calls.Role.{Role}
-use Rattle.typst_math.specs.reading.Reading.{Reading}
-use Rattle.typst_math.specs.Point.{Point, Trivia, forgot}
-use Rattle.typst_math.specs.Hand.{Hand, AtHand, told, hand_at, ahead, ahead_by, at_trivia, len_at}
-use Rattle.typst_math.specs.Shape.{Making, Shape}
-use Rattle.typst_math.specs.Shape.Making.{itself, surprise, wanted}
-use Rattle.typst_math.specs.Syntax.{Parser}
-use Rattle.typst_math.specs.Syntax.Begin.{at_token}
-use Rattle.typst_math.specs.Syntax.Op.{hand, takes}
-use Rattle.typst_math.specs.Syntax.Parser.{does, either, next, pick, scoped}
-use Rattle.typst_math.specs.Steps.{eat, eat_making, unexpected, within, node, grow, nest, read_block}
-use Rattle.typst_math.specs.Meaning.{Outcome, Meaning, Level, apart, given_up, before, entered, hand_of, asked, answered, joined, followed, as_last, bound, flushed_state, grown, growths, growing, is_more, nestings, nesting, run}
-use Rattle.typst_math.proofs.Ends.{hand-again}
-use Rattle.typst_math.specs.Markup.{content_block}
-use Rattle.typst_math.specs.Starts.{begins_code}
-use Rattle.typst_math.specs.Equations.{between_dollars, equation}
-use Rattle.typst_math.specs.closures.Behind.{Behind}
-use Rattle.typst_math.specs.Bindings.{let_binding}
-use Rattle.typst_math.specs.Closures.{behind_name, behind_underscore, headed, name_shape, named, placeholder, underscore_shape}
-use Rattle.typst_math.specs.Params.{params}
-use Rattle.typst_math.specs.Patterns.{destructuring}
-use Rattle.typst_math.specs.Parens.{as_group, either_reading, parens, readings}
-use Rattle.typst_math.specs.Expressions.{code_head, code_by, unary_expr, code_primary, code_tail_turn, code_expr}
-use Rattle.typst_math.specs.Groups.{group}
-use Rattle.typst_math.specs.Imports.{module_import}
-use Rattle.typst_math.specs.Sequences.{code_block}
-use Rattle.typst_math.specs.Statements.{set_rule, show_rule, contextual, conditional, conditional_turn, while_loop, for_loop, module_include, jump, func_return}
+use Rattle.typst_code.specs.calls.Block.{Block}
+use Rattle.typst_code.specs.calls.Block.TheVariants as block
+use Rattle.typst_code.specs.calls.Role.{Role}
+use Rattle.typst_code.specs.reading.Reading.{Reading}
+use Rattle.typst_code.specs.Point.{Point, Trivia, forgot}
+use Rattle.typst_code.specs.Hand.{Hand, AtHand, told, hand_at, ahead, ahead_by, at_trivia, len_at}
+use Rattle.typst_code.specs.Shape.{Making, Shape}
+use Rattle.typst_code.specs.Shape.Making.{itself, surprise, wanted}
+use Rattle.typst_code.specs.Syntax.{Parser}
+use Rattle.typst_code.specs.Syntax.Begin.{at_token}
+use Rattle.typst_code.specs.Syntax.Op.{hand, takes}
+use Rattle.typst_code.specs.Syntax.Parser.{does, either, next, pick, scoped}
+use Rattle.typst_code.specs.Steps.{eat, eat_making, unexpected, within, node, grow, nest, read_block}
+use Rattle.typst_code.specs.Meaning.{Outcome, Meaning, Level, apart, given_up, before, entered, hand_of, asked, answered, joined, followed, as_last, bound, flushed_state, grown, growths, growing, is_more, nestings, nesting, run}
+use Rattle.typst_code.proofs.Ends.{hand-again}
+use Rattle.typst_code.specs.Markup.{content_block}
+use Rattle.typst_code.specs.Starts.{begins_code}
+use Rattle.typst_code.specs.Equations.{between_dollars, equation}
+use Rattle.typst_code.specs.closures.Behind.{Behind}
+use Rattle.typst_code.specs.Bindings.{let_binding}
+use Rattle.typst_code.specs.Closures.{behind_name, behind_underscore, headed, name_shape, named, placeholder, underscore_shape}
+use Rattle.typst_code.specs.Params.{params}
+use Rattle.typst_code.specs.Patterns.{destructuring}
+use Rattle.typst_code.specs.Parens.{as_group, either_reading, parens, readings}
+use Rattle.typst_code.specs.Expressions.{code_head, code_by, unary_expr, code_primary, code_tail_turn, code_expr}
+use Rattle.typst_code.specs.Groups.{group}
+use Rattle.typst_code.specs.Imports.{module_import}
+use Rattle.typst_code.specs.Sequences.{code_block}
+use Rattle.typst_code.specs.Statements.{set_rule, show_rule, contextual, conditional, conditional_turn, while_loop, for_loop, module_include, jump, func_return}
 use Rattle.typst_grammar.specs.Grammar.{level_at}
 
 -- where something is left, trivia or a token, something is taken

@@ -6,24 +6,24 @@ use Rattle.typst_lines.specs.Place.{Place, moved}
 use Rattle.typst_readers.specs.Sight.{hull_of}
 use Rattle.typst_node.specs.Tree.{Tree}
 use Rattle.typst_classes.specs.Classes.{CharClasses}
-use Rattle.typst_math.specs.calls.Call.{Call}
-use Rattle.typst_math.specs.calls.Note.{Note}
-use Rattle.typst_math.specs.Point.{Point}
-use Rattle.typst_math.specs.Ask.{Ask}
-use Rattle.typst_math.specs.Ask.Ask.{looked, marked}
-use Rattle.typst_math.specs.reading.Reading.{Reading}
-use Rattle.typst_math.specs.Log.{Log, no_log, with_more, with_hull, with_note, logged}
-use Rattle.typst_math.specs.Knot.{meaning_of}
-use Rattle.typst_math.specs.Meaning.{less, standing, start_point, run}
-use Rattle.typst_math.specs.Shape.{hinted}
-use Rattle.typst_math.specs.Sound.{Sound}
-use Rattle.typst_math.specs.Syntax.{Parser}
-use Rattle.typst_math.proofs.Knot.{sound-level}
-use Rattle.typst_math.specs.depth.Answered.{Answered}
-use Rattle.typst_math.specs.Cursor.{IsStart}
-use Rattle.typst_math.specs.View.{View, Runs, Goes, Called, Answers, Fits, Bare, at}
-use Rattle.typst_math.specs.Noted.{listed}
-use Rattle.typst_math.specs.Outside.{Blocks}
+use Rattle.typst_code.specs.calls.Call.{Call}
+use Rattle.typst_code.specs.calls.Note.{Note}
+use Rattle.typst_code.specs.Point.{Point}
+use Rattle.typst_code.specs.Ask.{Ask}
+use Rattle.typst_code.specs.Ask.Ask.{looked, marked}
+use Rattle.typst_code.specs.reading.Reading.{Reading}
+use Rattle.typst_code.specs.Log.{Log, no_log, with_more, with_hull, with_note, logged}
+use Rattle.typst_code.specs.Knot.{meaning_of}
+use Rattle.typst_code.specs.Meaning.{less, standing, start_point, run}
+use Rattle.typst_code.specs.Shape.{hinted}
+use Rattle.typst_code.specs.Sound.{Sound}
+use Rattle.typst_code.specs.Syntax.{Parser}
+use Rattle.typst_code.proofs.Knot.{sound-level}
+use Rattle.typst_code.specs.depth.Answered.{Answered}
+use Rattle.typst_code.specs.Cursor.{IsStart}
+use Rattle.typst_code.specs.View.{View, Runs, Goes, Called, Answers, Fits, Bare, at}
+use Rattle.typst_code.specs.Noted.{listed}
+use Rattle.typst_code.specs.Outside.{Blocks}
 use Rattle.typst_grammar.specs.Grammar.{rules, production, meaning, level_at, max_depth, start_of, parsed, log}
 use Rattle.typst_grammar.specs.Read.{IsParsed}
 

@@ -6,27 +6,27 @@ use Rattle.typst_kinds.specs.declared.kind.SyntaxKind.TheVariants as kind
 use Rattle.typst_lines.specs.Place.{Place, moved}
 use Rattle.typst_node.specs.Tree.{text_of}
 use Rattle.typst_classes.specs.Classes.{CharClasses}
-use Rattle.typst_math.specs.calls.Call.TheVariants.{MarkupExpr}
-use Rattle.typst_math.specs.reading.Reading.{Reading}
-use Rattle.typst_math.specs.Point.{Point}
-use Rattle.typst_math.specs.Hand.{Hand, hand_at}
-use Rattle.typst_math.specs.Knot.{meaning_of}
-use Rattle.typst_math.specs.Shape.Making.{itself, of_kind, surprise}
-use Rattle.typst_math.specs.Syntax.{Parser, ◌>>=◌}
-use Rattle.typst_math.specs.Syntax.Op.{hand}
-use Rattle.typst_math.specs.Syntax.Parser.{gives, does, next}
-use Rattle.typst_math.specs.Steps.{peek, eat, convert_and_eat, unexpected, flush_trivia}
-use Rattle.typst_math.specs.Depth.{is_end, deeper}
-use Rattle.typst_math.specs.Meaning.{Outcome, Meaning, Level, joined, turns, as_last, bound, repeated, hand_of, asked, start_point, run}
-use Rattle.typst_math.proofs.Places.{moved-sum, ahead-left, take-all}
-use Rattle.typst_math.proofs.Ends.{hand-takes, hand-ends, hand-again}
-use Rattle.typst_math.proofs.Knot.{sane-at}
-use Rattle.typst_math.proofs.Eats.{Eats, eats-next, eats-peek, eats-column, eats-making, eats-within, eats-node}
-use Rattle.typst_math.proofs.Rests.{Rests}
-use Rattle.typst_math.specs.head.MarkupHead.{MarkupHead}
-use Rattle.typst_math.specs.head.MarkupHead.TheVariants as head
-use Rattle.typst_math.specs.Embedded.{embedded}
-use Rattle.typst_math.specs.Markup.{ends, note_piece, markup_turn, markup_run, delimited, strong, emph, heading, item, term_item, reference, markup_head, markup_by, markup_expr, markup_reading}
+use Rattle.typst_code.specs.calls.Call.TheVariants.{MarkupExpr}
+use Rattle.typst_code.specs.reading.Reading.{Reading}
+use Rattle.typst_code.specs.Point.{Point}
+use Rattle.typst_code.specs.Hand.{Hand, hand_at}
+use Rattle.typst_code.specs.Knot.{meaning_of}
+use Rattle.typst_code.specs.Shape.Making.{itself, of_kind, surprise}
+use Rattle.typst_code.specs.Syntax.{Parser, ◌>>=◌}
+use Rattle.typst_code.specs.Syntax.Op.{hand}
+use Rattle.typst_code.specs.Syntax.Parser.{gives, does, next}
+use Rattle.typst_code.specs.Steps.{peek, eat, convert_and_eat, unexpected, flush_trivia}
+use Rattle.typst_code.specs.Depth.{is_end, deeper}
+use Rattle.typst_code.specs.Meaning.{Outcome, Meaning, Level, joined, turns, as_last, bound, repeated, hand_of, asked, start_point, run}
+use Rattle.typst_code.proofs.Places.{moved-sum, ahead-left, take-all}
+use Rattle.typst_code.proofs.Ends.{hand-takes, hand-ends, hand-again}
+use Rattle.typst_code.proofs.Knot.{sane-at}
+use Rattle.typst_code.proofs.Eats.{Eats, eats-next, eats-peek, eats-column, eats-making, eats-within, eats-node}
+use Rattle.typst_code.proofs.Rests.{Rests}
+use Rattle.typst_code.specs.head.MarkupHead.{MarkupHead}
+use Rattle.typst_code.specs.head.MarkupHead.TheVariants as head
+use Rattle.typst_code.specs.Embedded.{embedded}
+use Rattle.typst_code.specs.Markup.{ends, note_piece, markup_turn, markup_run, delimited, strong, emph, heading, item, term_item, reference, markup_head, markup_by, markup_expr, markup_reading}
 use Rattle.typst_grammar.specs.Grammar.{rules, level_at, max_depth, start_of, whole, parsed, tree}
 
 -- ---- each expression takes something

@@ -5,25 +5,25 @@ use Rattle.typst_kinds.specs.declared.kind.SyntaxKind.{SyntaxKind}
 use Rattle.typst_lines.specs.Place.{Place, moved}
 use Rattle.typst_node.specs.Tree.{text_of}
 use Rattle.typst_classes.specs.Classes.{CharClasses}
-use Rattle.typst_math.specs.reading.AtNewline.TheVariants as newline
-use Rattle.typst_math.specs.reading.Reading.{Reading}
-use Rattle.typst_math.specs.Point.{Point}
-use Rattle.typst_math.specs.Hand.{Hand, hand_at}
-use Rattle.typst_math.specs.Knot.{meaning_of}
-use Rattle.typst_math.specs.Syntax.{Parser, ◌>>=◌, ◌>>◌}
-use Rattle.typst_math.specs.Syntax.Op.{hand}
-use Rattle.typst_math.specs.Syntax.Parser.{gives, does}
-use Rattle.typst_math.specs.Steps.{peek, unexpected, flush_trivia, within}
-use Rattle.typst_math.specs.Depth.{is_end, deeper}
-use Rattle.typst_math.specs.Meaning.{Outcome, Meaning, Level, joined, turns, as_last, bound, repeated, hand_of, asked, start_point, run}
-use Rattle.typst_math.proofs.Places.{moved-sum, ahead-left, take-all}
-use Rattle.typst_math.proofs.Ends.{hand-takes, hand-ends, hand-again}
-use Rattle.typst_math.proofs.Knot.{sane-at}
-use Rattle.typst_math.proofs.Rests.{Rests}
-use Rattle.typst_math.specs.Markup.{at_newline}
-use Rattle.typst_math.specs.Starts.{begins_code}
-use Rattle.typst_math.specs.Parts.{code_expression}
-use Rattle.typst_math.specs.Sequences.{code_reading, code_turn, code_exprs, statement}
+use Rattle.typst_code.specs.reading.AtNewline.TheVariants as newline
+use Rattle.typst_code.specs.reading.Reading.{Reading}
+use Rattle.typst_code.specs.Point.{Point}
+use Rattle.typst_code.specs.Hand.{Hand, hand_at}
+use Rattle.typst_code.specs.Knot.{meaning_of}
+use Rattle.typst_code.specs.Syntax.{Parser, ◌>>=◌, ◌>>◌}
+use Rattle.typst_code.specs.Syntax.Op.{hand}
+use Rattle.typst_code.specs.Syntax.Parser.{gives, does}
+use Rattle.typst_code.specs.Steps.{peek, unexpected, flush_trivia, within}
+use Rattle.typst_code.specs.Depth.{is_end, deeper}
+use Rattle.typst_code.specs.Meaning.{Outcome, Meaning, Level, joined, turns, as_last, bound, repeated, hand_of, asked, start_point, run}
+use Rattle.typst_code.proofs.Places.{moved-sum, ahead-left, take-all}
+use Rattle.typst_code.proofs.Ends.{hand-takes, hand-ends, hand-again}
+use Rattle.typst_code.proofs.Knot.{sane-at}
+use Rattle.typst_code.proofs.Rests.{Rests}
+use Rattle.typst_code.specs.Markup.{at_newline}
+use Rattle.typst_code.specs.Starts.{begins_code}
+use Rattle.typst_code.specs.Parts.{code_expression}
+use Rattle.typst_code.specs.Sequences.{code_reading, code_turn, code_exprs, statement}
 use Rattle.typst_grammar.specs.Grammar.{rules, level_at, max_depth, start_of, whole_code, parsed_code, tree_code}
 use Rattle.typst_grammar.proofs.CodeMoves.{Moves, moves-next, moves-unexpected, moves-within, moves-expr, left-again}
 

@@ -4,22 +4,22 @@ use Rattle.typst_kinds.specs.declared.kind.SyntaxKind.TheVariants as kind
 use Rattle.typst_lines.specs.Place.{Place}
 use Rattle.typst_node.specs.Tree.{Tree, forest, inner_of}
 use Rattle.typst_classes.specs.Classes.{CharClasses}
-use Rattle.typst_math.specs.calls.Block.{Block}
-use Rattle.typst_math.specs.calls.Block.TheVariants as block
-use Rattle.typst_math.specs.calls.Call.{Call}
-use Rattle.typst_math.specs.calls.Call.TheVariants.{MarkupExpr, CodeExpr, MathExpr, Pattern}
-use Rattle.typst_math.specs.Calls.{Answer}
-use Rattle.typst_math.specs.Syntax.{Parser, ◌>>◌}
-use Rattle.typst_math.specs.Steps.{peek, flush_trivia}
-use Rattle.typst_math.specs.Depth.{is_end}
-use Rattle.typst_math.specs.Log.{Log, no_log, logged}
-use Rattle.typst_math.specs.Meaning.{Outcome, Meaning, Level, start_point, run}
-use Rattle.typst_math.specs.Knot.{Rules, meaning_of, level_of}
-use Rattle.typst_math.specs.Markup.{content_block, markup_expr, markup_run, markup_reading}
-use Rattle.typst_math.specs.Patterns.{pattern}
-use Rattle.typst_math.specs.Sequences.{code_block, code_exprs, code_reading}
-use Rattle.typst_math.specs.Expressions.{code_expr}
-use Rattle.typst_math.specs.Equations.{math_exprs, math_reading}
+use Rattle.typst_code.specs.calls.Block.{Block}
+use Rattle.typst_code.specs.calls.Block.TheVariants as block
+use Rattle.typst_code.specs.calls.Call.{Call}
+use Rattle.typst_code.specs.calls.Call.TheVariants.{MarkupExpr, CodeExpr, MathExpr, Pattern}
+use Rattle.typst_code.specs.Calls.{Answer}
+use Rattle.typst_code.specs.Syntax.{Parser, ◌>>◌}
+use Rattle.typst_code.specs.Steps.{peek, flush_trivia}
+use Rattle.typst_code.specs.Depth.{is_end}
+use Rattle.typst_code.specs.Log.{Log, no_log, logged}
+use Rattle.typst_code.specs.Meaning.{Outcome, Meaning, Level, start_point, run}
+use Rattle.typst_code.specs.Knot.{Rules, meaning_of, level_of}
+use Rattle.typst_code.specs.Markup.{content_block, markup_expr, markup_run, markup_reading}
+use Rattle.typst_code.specs.Patterns.{pattern}
+use Rattle.typst_code.specs.Sequences.{code_block, code_exprs, code_reading}
+use Rattle.typst_code.specs.Expressions.{code_expr}
+use Rattle.typst_code.specs.Equations.{math_exprs, math_reading}
 use Rattle.typst_math.specs.MathExpressions.{math_expr}
 
 -- what a call reads

@@ -3,10 +3,10 @@ use Rattle.std.specs.Prelude.{◌≡◌, ℕ, Bool, List, encode_utf8_all}
 use Rattle.typst_kinds.specs.declared.kind.SyntaxKind.{SyntaxKind}
 use Rattle.typst_node.specs.Tree.{text_of}
 use Rattle.typst_classes.specs.Classes.{CharClasses}
-use Rattle.typst_math.specs.calls.Call.{Call}
-use Rattle.typst_math.specs.Meaning.{Meaning, run}
-use Rattle.typst_math.specs.Sound.{Lawful}
-use Rattle.typst_math.specs.Markup.{markup_turn, markup_exprs, markup_run}
+use Rattle.typst_code.specs.calls.Call.{Call}
+use Rattle.typst_code.specs.Meaning.{Meaning, run}
+use Rattle.typst_code.specs.Sound.{Lawful}
+use Rattle.typst_code.specs.Markup.{markup_turn, markup_exprs, markup_run}
 use Rattle.typst_grammar.specs.Grammar.{level_at, meaning, tree, tree_code}
 
 -- A piece of a sequence, with whether a line begins there and in how many brackets it stands: an expression with what follows up to the next token.

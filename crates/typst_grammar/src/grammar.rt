@@ -3,18 +3,19 @@
 ghost use Rattle.std.specs.Prelude.{◌≡◌, ◌<◌, IfOk, Some, false};
 ghost use Rattle.std.specs.Str.{chars};
 ghost use Rattle.typst_node.specs.Tree.{text_of};
-ghost use Rattle.typst_math.specs.View.{Calls};
-ghost use Rattle.typst_math.specs.Outside.{MeansAroundAs};
+ghost use Rattle.typst_code.specs.View.{Calls};
+ghost use Rattle.typst_code.specs.Outside.{MeansAroundAs};
 ghost use Rattle.typst_grammar.specs.Grammar as spec;
 ghost use Rattle.typst_grammar.specs.Read.{IsParsed};
 
 use std::alloc::{AllocError, Global};
 use typst_classes::Classes;
-use typst_kinds::{SyntaxKind, SyntaxMode};
-use typst_math::{
+use typst_code::{
     Answered, AtNewline, Call, CodeStop, Grammar, Hull, Levels, MathStop, Note, Parser, Reading,
-    Stop, code_expr, code_exprs, markup_expr, markup_run, math_expr, math_exprs, pattern,
+    Stop, code_expr, code_exprs, markup_expr, markup_run, math_exprs, pattern,
 };
+use typst_kinds::{SyntaxKind, SyntaxMode};
+use typst_math::math_expr;
 use typst_node::SyntaxNode;
 
 /// How deep calls may nest.

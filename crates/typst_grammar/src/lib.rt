@@ -8,4 +8,4 @@ pub use grammar::{Noted, make_call, parse, parse_code, parse_math, parse_noted, 
 pub use laws::{
     grammar_laws, leaves_law, notes_of_texts, trees_of_code, trees_of_names, trees_of_texts,
 };
-pub use typst_math::{Block, Mark, Note};
+pub use typst_code::{Block, Mark, Note};

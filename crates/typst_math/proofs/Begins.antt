@@ -1,10 +1,10 @@
 -- What the code reads by what a token begins.
 use Rattle.std.proofs.Common.{◌≡◌, Option, sym, subst}
 use Rattle.typst_classes.specs.Classes.{CharClasses}
-use Rattle.typst_code.specs.calls.ChainSet.{ChainSet}
-use Rattle.typst_code.specs.Meaning.{Level}
-use Rattle.typst_code.specs.Shape.{Shape}
-use Rattle.typst_code.specs.View.{View, Does}
+use Rattle.typst_markup.specs.calls.ChainSet.{ChainSet}
+use Rattle.typst_markup.specs.Meaning.{Level}
+use Rattle.typst_markup.specs.Shape.{Shape}
+use Rattle.typst_markup.specs.View.{View, Does}
 use Rattle.typst_math.specs.declared.heads.Callee.{Callee}
 use Rattle.typst_math.specs.declared.heads.MathHead.{MathHead}
 use Rattle.typst_math.specs.declared.heads.MathTail.{MathTail}

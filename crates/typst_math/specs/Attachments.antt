@@ -3,14 +3,14 @@ use Rattle.std.specs.Prelude.{ℕ, Bool, true, false, not, ◌||◌, ◌&&◌}
 use Rattle.typst_kinds.specs.Kinds.{same}
 use Rattle.typst_kinds.specs.declared.kind.SyntaxKind.{SyntaxKind}
 use Rattle.typst_kinds.specs.declared.kind.SyntaxKind.TheVariants as kind
-use Rattle.typst_code.specs.calls.Call.TheVariants.{MathExpr}
-use Rattle.typst_code.specs.calls.ChainSet.{ChainSet}
-use Rattle.typst_code.specs.Shape.Change.{unparened}
-use Rattle.typst_code.specs.Shape.Shape.{keeps}
-use Rattle.typst_code.specs.Syntax.{Parser, ◌>>=◌, ◌>>◌}
-use Rattle.typst_code.specs.Syntax.Parser.{gives, pick, repeat}
-use Rattle.typst_code.specs.Steps.{peek, eat, node}
-use Rattle.typst_code.specs.Depth.{deeper}
+use Rattle.typst_markup.specs.calls.Call.TheVariants.{MathExpr}
+use Rattle.typst_markup.specs.calls.ChainSet.{ChainSet}
+use Rattle.typst_markup.specs.Shape.Change.{unparened}
+use Rattle.typst_markup.specs.Shape.Shape.{keeps}
+use Rattle.typst_markup.specs.Syntax.{Parser, ◌>>=◌, ◌>>◌}
+use Rattle.typst_markup.specs.Syntax.Parser.{gives, pick, repeat}
+use Rattle.typst_markup.specs.Steps.{peek, eat, node}
+use Rattle.typst_markup.specs.Depth.{deeper}
 
 -- both signs of attachments
 abbrev pub both_signs : ChainSet

@@ -3,15 +3,15 @@ use Rattle.std.specs.Prelude.{ℕ, Bool, ◌||◌, if◌then◌else◌, List, []
 use Rattle.std.specs.Str.{bytes_eq}
 use Rattle.typst_kinds.specs.declared.kind.SyntaxKind.{SyntaxKind}
 use Rattle.typst_kinds.specs.declared.kind.SyntaxKind.TheVariants as kind
-use Rattle.typst_code.specs.Shape.{Shape, Seen, becomes}
-use Rattle.typst_code.specs.Shape.Change.{stays, renamed}
-use Rattle.typst_code.specs.Shape.Seen.{leaf_seen}
-use Rattle.typst_code.specs.Shape.Shape.{keeps}
-use Rattle.typst_code.specs.Syntax.{Parser, ◌>>=◌, ◌>>◌}
-use Rattle.typst_code.specs.Syntax.Parser.{gives, pick}
-use Rattle.typst_code.specs.Steps.{peek, eat, node}
-use Rattle.typst_code.specs.Expected.{seeing}
-use Rattle.typst_code.specs.Equations.{is_closer, ends_delimited, math_exprs}
+use Rattle.typst_markup.specs.Shape.{Shape, Seen, becomes}
+use Rattle.typst_markup.specs.Shape.Change.{stays, renamed}
+use Rattle.typst_markup.specs.Shape.Seen.{leaf_seen}
+use Rattle.typst_markup.specs.Shape.Shape.{keeps}
+use Rattle.typst_markup.specs.Syntax.{Parser, ◌>>=◌, ◌>>◌}
+use Rattle.typst_markup.specs.Syntax.Parser.{gives, pick}
+use Rattle.typst_markup.specs.Steps.{peek, eat, node}
+use Rattle.typst_markup.specs.Expected.{seeing}
+use Rattle.typst_markup.specs.Equations.{is_closer, ends_delimited, math_exprs}
 
 -- `[|` and `|]` are shorthands, and other delimiters are text
 abbrev pub sign_kind : List ℕ → SyntaxKind

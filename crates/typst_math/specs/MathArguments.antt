@@ -3,21 +3,21 @@ use Rattle.std.specs.Prelude.{ℕ, Bool, true, false, ◌||◌, ◌&&◌, if◌t
 use Rattle.typst_kinds.specs.Kinds.{same}
 use Rattle.typst_kinds.specs.declared.kind.SyntaxKind.{SyntaxKind}
 use Rattle.typst_kinds.specs.declared.kind.SyntaxKind.TheVariants as kind
-use Rattle.typst_code.specs.calls.Way.TheVariants as way
-use Rattle.typst_code.specs.Shape.{Change, Making, Shape, becomes, unclosed}
-use Rattle.typst_code.specs.Shape.Change.{stays}
-use Rattle.typst_code.specs.Shape.Making.{itself, wanted}
-use Rattle.typst_code.specs.Shape.Shape.{keeps, holds}
-use Rattle.typst_code.specs.Syntax.{Parser, ◌>>=◌, ◌>>◌}
-use Rattle.typst_code.specs.Syntax.Op.{so}
-use Rattle.typst_code.specs.Syntax.Parser.{gives, does, pick, repeat}
-use Rattle.typst_code.specs.Steps.{peek, eat, convert_and_eat, eat_if, eat_so, expected, node}
-use Rattle.typst_code.specs.Expected.{seeing}
-use Rattle.typst_code.specs.Equations.{ends_argument, ends_list, separates, math_exprs}
-use Rattle.typst_code.specs.keys.Key.{Key}
-use Rattle.typst_code.specs.keys.Key.TheVariants as key
-use Rattle.typst_code.specs.Keys.{key_of}
-use Rattle.typst_code.specs.Arguments.{when_named, with_argument}
+use Rattle.typst_markup.specs.calls.Way.TheVariants as way
+use Rattle.typst_markup.specs.Shape.{Change, Making, Shape, becomes, unclosed}
+use Rattle.typst_markup.specs.Shape.Change.{stays}
+use Rattle.typst_markup.specs.Shape.Making.{itself, wanted}
+use Rattle.typst_markup.specs.Shape.Shape.{keeps, holds}
+use Rattle.typst_markup.specs.Syntax.{Parser, ◌>>=◌, ◌>>◌}
+use Rattle.typst_markup.specs.Syntax.Op.{so}
+use Rattle.typst_markup.specs.Syntax.Parser.{gives, does, pick, repeat}
+use Rattle.typst_markup.specs.Steps.{peek, eat, convert_and_eat, eat_if, eat_so, expected, node}
+use Rattle.typst_markup.specs.Expected.{seeing}
+use Rattle.typst_markup.specs.Equations.{ends_argument, ends_list, separates, math_exprs}
+use Rattle.typst_named.specs.keys.Key.{Key}
+use Rattle.typst_named.specs.keys.Key.TheVariants as key
+use Rattle.typst_named.specs.Keys.{key_of}
+use Rattle.typst_named.specs.Named.{when_named, with_argument}
 
 -- what isn't one expression is math
 abbrev pub value_shape : ℕ → Shape

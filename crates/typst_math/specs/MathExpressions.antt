@@ -7,17 +7,17 @@ use Rattle.typst_classes.specs.declared.classes.MathClass.{MathClass}
 use Rattle.typst_classes.specs.declared.classes.MathClass.TheVariants.{Alphabetic}
 use Rattle.typst_kinds.specs.declared.kind.SyntaxKind.{SyntaxKind}
 use Rattle.typst_kinds.specs.declared.kind.SyntaxKind.TheVariants as kind
-use Rattle.typst_code.specs.calls.ChainSet.{ChainSet}
-use Rattle.typst_code.specs.Shape.{Shape, Seen, becomes}
-use Rattle.typst_code.specs.Shape.Change.{unparened}
-use Rattle.typst_code.specs.Shape.Seen.{leaf_seen}
-use Rattle.typst_code.specs.Shape.Shape.{holds}
-use Rattle.typst_code.specs.Syntax.{Parser, ◌>>=◌, ◌>>◌}
-use Rattle.typst_code.specs.Syntax.Parser.{gives}
-use Rattle.typst_code.specs.Steps.{peek, eat, convert_and_eat, expected, node, grow}
-use Rattle.typst_code.specs.Expected.{seeing}
-use Rattle.typst_code.specs.Embedded.{embedded}
-use Rattle.typst_code.specs.Equations.{no_signs}
+use Rattle.typst_markup.specs.calls.ChainSet.{ChainSet}
+use Rattle.typst_markup.specs.Shape.{Shape, Seen, becomes}
+use Rattle.typst_markup.specs.Shape.Change.{unparened}
+use Rattle.typst_markup.specs.Shape.Seen.{leaf_seen}
+use Rattle.typst_markup.specs.Shape.Shape.{holds}
+use Rattle.typst_markup.specs.Syntax.{Parser, ◌>>=◌, ◌>>◌}
+use Rattle.typst_markup.specs.Syntax.Parser.{gives}
+use Rattle.typst_markup.specs.Steps.{peek, eat, convert_and_eat, expected, node, grow}
+use Rattle.typst_markup.specs.Expected.{seeing}
+use Rattle.typst_markup.specs.Embedded.{embedded}
+use Rattle.typst_markup.specs.Equations.{no_signs}
 use Rattle.typst_math.specs.declared.heads.Callee.{Callee}
 use Rattle.typst_math.specs.declared.heads.Callee.TheVariants as callee
 use Rattle.typst_math.specs.declared.heads.MathHead.{MathHead}

@@ -2,17 +2,15 @@
 
 ghost use Rattle.std.specs.Prelude.{◌≡◌, OnOk};
 ghost use Rattle.typst_kinds.specs.declared.kind.SyntaxKind.TheVariants as kind;
-ghost use Rattle.typst_code.specs.Shape.Shape.{holds};
-ghost use Rattle.typst_code.specs.Syntax.Parser.{repeat};
-ghost use Rattle.typst_code.specs.View.{Means, Rewrapped};
+ghost use Rattle.typst_markup.specs.Shape.Shape.{holds};
+ghost use Rattle.typst_markup.specs.Syntax.Parser.{repeat};
+ghost use Rattle.typst_markup.specs.View.{Means, Rewrapped};
 ghost use Rattle.typst_math.specs.MathArguments as spec;
 
 use std::alloc::AllocError;
-use typst_code::{
-    Change, Key, Levels, MathStop, Parser, Way, ends_list, key_of, math_exprs, separates,
-    with_argument, wrap_named,
-};
 use typst_kinds::SyntaxKind;
+use typst_markup::{Change, Levels, MathStop, Parser, Way, ends_list, math_exprs, separates};
+use typst_named::{Key, key_of, with_argument, wrap_named};
 use typst_names::Names;
 
 /// Reads the expressions of an argument, of which a named one has some; answers how many there are.

@@ -1,13 +1,13 @@
 //! Operands, and what is attached by `^`, `_` and primes.
 
 ghost use Rattle.std.specs.Prelude.{◌≡◌};
-ghost use Rattle.typst_code.specs.Syntax.Parser.{repeat};
-ghost use Rattle.typst_code.specs.View.{Means};
+ghost use Rattle.typst_markup.specs.Syntax.Parser.{repeat};
+ghost use Rattle.typst_markup.specs.View.{Means};
 ghost use Rattle.typst_math.specs.Attachments as spec;
 
 use std::alloc::AllocError;
-use typst_code::{Answered, Call, ChainSet, Change, Levels, Parser, deeper};
 use typst_kinds::SyntaxKind;
+use typst_markup::{Answered, Call, ChainSet, Change, Levels, Parser, deeper};
 
 /// Whether a token is one of the signs.
 pub(crate) fn is_in(signs: ChainSet, kind: SyntaxKind) -> bool

@@ -2,13 +2,13 @@
 
 ghost use Rattle.std.specs.Prelude.{◌≡◌, OnOk, IfOk, false, map};
 ghost use Rattle.typst_kinds.specs.Kinds.{is_error};
-ghost use Rattle.typst_code.specs.Shape.{seen};
-ghost use Rattle.typst_code.specs.View.{Means, Rewrapped};
+ghost use Rattle.typst_markup.specs.Shape.{seen};
+ghost use Rattle.typst_markup.specs.View.{Means, Rewrapped};
 ghost use Rattle.typst_math.specs.Delimited as spec;
 
 use std::alloc::AllocError;
-use typst_code::{Change, Levels, MathStop, Parser, is_closer, math_exprs};
 use typst_kinds::SyntaxKind;
+use typst_markup::{Change, Levels, MathStop, Parser, is_closer, math_exprs};
 use typst_node::SyntaxNode;
 
 /// Which kind a delimiter of this text has.

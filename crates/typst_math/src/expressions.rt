@@ -2,8 +2,8 @@
 
 ghost use Rattle.std.specs.Prelude.{◌≡◌, OnOk, map};
 ghost use Rattle.std.specs.Str.{chars};
-ghost use Rattle.typst_code.specs.Shape.{seen};
-ghost use Rattle.typst_code.specs.View.{Means, MeansBy, Rewrapped};
+ghost use Rattle.typst_markup.specs.Shape.{seen};
+ghost use Rattle.typst_markup.specs.View.{Means, MeansBy, Rewrapped};
 ghost use Rattle.typst_math.specs.MathExpressions as spec;
 
 use crate::arguments::math_arguments;
@@ -12,9 +12,9 @@ use crate::delimited::{delimited, delimiter};
 use crate::heads::{Callee, Grown, MathHead, MathTail, math_head, math_tail};
 use std::alloc::AllocError;
 use typst_classes::{Classes, MathClass};
-use typst_code::{ChainSet, Change, Levels, Parser, embedded, no_signs};
 use typst_kinds::SyntaxKind;
 use typst_lines::Scanner;
+use typst_markup::{ChainSet, Change, Levels, Parser, embedded, no_signs};
 use typst_node::SyntaxNode;
 
 /// Whether a class in math is that of letters.

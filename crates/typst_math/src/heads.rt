@@ -4,8 +4,8 @@ ghost use Rattle.std.specs.Prelude.{◌≡◌};
 ghost use Rattle.typst_math.specs.MathExpressions as spec;
 
 use crate::attachments::is_in;
-use typst_code::ChainSet;
 use typst_kinds::SyntaxKind;
+use typst_markup::ChainSet;
 
 /// What a token begins where an expression of a formula is read.
 #[derive(Debug, Clone, Copy, PartialEq, Eq)]

@@ -9,7 +9,3 @@ mod heads;
 
 pub use expressions::math_expr;
 pub use heads::{Callee, Grown, MathHead, MathTail};
-pub use typst_code::{
-    Answered, AtNewline, Block, Call, CodeStop, Grammar, Hull, Levels, Mark, MathStop, Note,
-    Parser, Reading, Stop, code_expr, code_exprs, markup_expr, markup_run, math_exprs, pattern,
-};

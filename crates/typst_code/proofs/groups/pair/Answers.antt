@@ -8,7 +8,7 @@ use Rattle.typst_markup.proofs.Steps.{does-next, does-gives}
 use Rattle.typst_markup.proofs.Asks.{asks-yes, asks-no}
 use Rattle.typst_markup.proofs.Values.{does-value}
 use Rattle.typst_code.specs.Groups.{pair}
-use Rattle.typst_keys.specs.Keys.{key_of}
+use Rattle.typst_named.specs.Keys.{key_of}
 use Rattle.typst_markup.proofs.Changes.{does-seeing}
 use Rattle.typst_code.proofs.groups.pair.Goals as goal
 

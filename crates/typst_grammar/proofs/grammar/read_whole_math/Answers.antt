@@ -1,7 +1,7 @@
 use Rattle.std.proofs.Common.{false, refl}
-use Rattle.typst_math.proofs.Steps.{does-next, does-look}
-use Rattle.typst_math.proofs.Blocks.{calls-at}
-use Rattle.typst_math.specs.Equations.{math_reading}
+use Rattle.typst_code.proofs.Steps.{does-next, does-look}
+use Rattle.typst_code.proofs.Blocks.{calls-at}
+use Rattle.typst_code.specs.Equations.{math_reading}
 use Rattle.typst_grammar.specs.Grammar.{level_at, max_depth, whole_math}
 use Rattle.typst_grammar.proofs.Levels.{sound-at, parsed-is}
 use Rattle.typst_grammar.proofs.grammar.read_whole_math.Goals as goal

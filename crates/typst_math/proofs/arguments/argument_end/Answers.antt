@@ -1,6 +1,6 @@
-use Rattle.typst_code.proofs.Steps.{does-gives, does-pick, does-other}
-use Rattle.typst_code.specs.Equations.{separates, ends_list}
-use Rattle.typst_code.proofs.Asks.{found, asks-yes, asks-no}
+use Rattle.typst_markup.proofs.Steps.{does-gives, does-pick, does-other}
+use Rattle.typst_markup.specs.Equations.{separates, ends_list}
+use Rattle.typst_markup.proofs.Asks.{found, asks-yes, asks-no}
 use Rattle.typst_math.specs.MathArguments.{argument_end}
 use Rattle.typst_math.proofs.arguments.argument_end.Goals as goal
 

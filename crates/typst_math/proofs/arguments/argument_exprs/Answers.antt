@@ -1,5 +1,5 @@
 use Rattle.std.proofs.Common.{sym, ◌∙◌}
-use Rattle.typst_code.proofs.Steps.{does-next, does-gives, does-pick, does-other}
+use Rattle.typst_markup.proofs.Steps.{does-next, does-gives, does-pick, does-other}
 use Rattle.typst_math.specs.MathArguments.{argument_exprs}
 use Rattle.typst_math.proofs.arguments.argument_exprs.Goals as goal
 

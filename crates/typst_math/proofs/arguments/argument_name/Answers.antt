@@ -1,9 +1,9 @@
 use Rattle.std.proofs.Common.{ap, ◌∙◌, map}
-use Rattle.typst_code.specs.Shape.{seen}
-use Rattle.typst_code.proofs.Changes.{does-seeing}
-use Rattle.typst_code.proofs.Steps.{does-next, does-gives}
-use Rattle.typst_code.proofs.Values.{does-value}
-use Rattle.typst_code.specs.Keys.{key_of}
+use Rattle.typst_markup.specs.Shape.{seen}
+use Rattle.typst_markup.proofs.Changes.{does-seeing}
+use Rattle.typst_markup.proofs.Steps.{does-next, does-gives}
+use Rattle.typst_markup.proofs.Values.{does-value}
+use Rattle.typst_named.specs.Keys.{key_of}
 use Rattle.typst_math.specs.MathArguments.{argument_name}
 use Rattle.typst_math.proofs.arguments.argument_name.Goals as goal
 

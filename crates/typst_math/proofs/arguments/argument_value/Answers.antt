@@ -1,4 +1,4 @@
-use Rattle.typst_code.proofs.Steps.{does-next, does-gives, does-node}
+use Rattle.typst_markup.proofs.Steps.{does-next, does-gives, does-node}
 use Rattle.typst_math.specs.MathArguments.{argument_value, value_shape}
 use Rattle.typst_math.proofs.arguments.argument_value.Goals as goal
 

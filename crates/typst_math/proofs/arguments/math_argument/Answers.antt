@@ -1,6 +1,6 @@
 use Rattle.std.proofs.Common.{sym, ◌∙◌}
-use Rattle.typst_code.proofs.Steps.{does-next, does-gives, does-peek, does-pick, does-other}
-use Rattle.typst_code.proofs.Values.{does-value}
+use Rattle.typst_markup.proofs.Steps.{does-next, does-gives, does-peek, does-pick, does-other}
+use Rattle.typst_markup.proofs.Values.{does-value}
 use Rattle.typst_math.specs.MathArguments.{math_argument, names_argument}
 use Rattle.typst_math.proofs.arguments.math_argument.Goals as goal
 

@@ -1,6 +1,6 @@
-use Rattle.typst_code.proofs.Steps.{does-next, does-gives}
-use Rattle.typst_code.specs.Equations.{ends_list}
-use Rattle.typst_code.proofs.Asks.{asks-yes, asks-no}
+use Rattle.typst_markup.proofs.Steps.{does-next, does-gives}
+use Rattle.typst_markup.specs.Equations.{ends_list}
+use Rattle.typst_markup.proofs.Asks.{asks-yes, asks-no}
 use Rattle.typst_math.specs.MathArguments.{math_argument_turn}
 use Rattle.typst_math.proofs.arguments.math_argument_turn.Goals as goal
 

@@ -1,8 +1,8 @@
-use Rattle.typst_code.specs.Meaning.{Level}
+use Rattle.typst_markup.specs.Meaning.{Level}
 use Rattle.typst_math.specs.MathArguments.{math_argument_turn}
-use Rattle.typst_code.specs.Bytes.{bytes_left}
-use Rattle.typst_code.specs.View.{Fills}
-use Rattle.typst_code.proofs.Steps.{Turning}
+use Rattle.typst_markup.specs.Bytes.{bytes_left}
+use Rattle.typst_markup.specs.View.{Fills}
+use Rattle.typst_markup.proofs.Steps.{Turning}
 use Rattle.typst_math.proofs.arguments.math_argument_turns.Given as goal
 
 abbrev pub invariant-turns : goal.invariant-turns

@@ -1,7 +1,7 @@
 use Rattle.std.proofs.Common.{ap, ◌∙◌}
 use Rattle.typst_kinds.specs.Kinds.{same}
 use Rattle.typst_kinds.specs.declared.kind.SyntaxKind.TheVariants as kind
-use Rattle.typst_code.proofs.Steps.{does-next, does-gives, does-node}
+use Rattle.typst_markup.proofs.Steps.{does-next, does-gives, does-node}
 use Rattle.typst_math.specs.MathArguments.{math_arguments, list_shape}
 use Rattle.typst_math.proofs.arguments.math_arguments.Goals as goal
 

@@ -1,6 +1,6 @@
 use Rattle.typst_kinds.specs.declared.kind.SyntaxKind.TheVariants as kind
-use Rattle.typst_code.specs.Shape.Shape.{holds}
-use Rattle.typst_code.proofs.Steps.{does-next, does-gives, does-node}
+use Rattle.typst_markup.specs.Shape.Shape.{holds}
+use Rattle.typst_markup.proofs.Steps.{does-next, does-gives, does-node}
 use Rattle.typst_math.specs.MathArguments.{named_argument, name_change}
 use Rattle.typst_math.proofs.arguments.named_argument.Goals as goal
 

@@ -1,6 +1,6 @@
 use Rattle.typst_kinds.specs.declared.kind.SyntaxKind.TheVariants as kind
-use Rattle.typst_code.specs.Shape.{becomes}
-use Rattle.typst_code.proofs.Steps.{does-next, does-node}
+use Rattle.typst_markup.specs.Shape.{becomes}
+use Rattle.typst_markup.proofs.Steps.{does-next, does-node}
 use Rattle.typst_math.specs.MathArguments.{spread_argument}
 use Rattle.typst_math.proofs.arguments.spread_argument.Goals as goal
 

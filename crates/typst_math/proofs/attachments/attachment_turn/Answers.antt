@@ -1,6 +1,6 @@
 use Rattle.std.proofs.Common.{ap, sym, ◌∙◌}
-use Rattle.typst_code.proofs.Steps.{does-next, does-gives}
-use Rattle.typst_code.proofs.Asks.{asks-yes, asks-no}
+use Rattle.typst_markup.proofs.Steps.{does-next, does-gives}
+use Rattle.typst_markup.proofs.Asks.{asks-yes, asks-no}
 use Rattle.typst_math.specs.Attachments.{attachment_turn, is_in, without}
 use Rattle.typst_math.proofs.attachments.attachment_turn.Goals as goal
 

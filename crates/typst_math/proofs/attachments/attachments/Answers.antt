@@ -1,4 +1,4 @@
-use Rattle.typst_code.proofs.Steps.{does-next, does-gives}
+use Rattle.typst_markup.proofs.Steps.{does-next, does-gives}
 use Rattle.typst_math.specs.Attachments.{attachments}
 use Rattle.typst_math.proofs.attachments.attachments.Goals as goal
 

@@ -1,7 +1,7 @@
 use Rattle.std.proofs.Common.{refl}
-use Rattle.typst_code.specs.Shape.Change.{unparened}
-use Rattle.typst_code.specs.Shape.Shape.{keeps}
-use Rattle.typst_code.proofs.Steps.{does-node}
+use Rattle.typst_markup.specs.Shape.Change.{unparened}
+use Rattle.typst_markup.specs.Shape.Shape.{keeps}
+use Rattle.typst_markup.proofs.Steps.{does-node}
 use Rattle.typst_math.specs.Attachments.{operand}
 use Rattle.typst_math.proofs.attachments.operand.Goals as goal
 

@@ -1,5 +1,5 @@
-use Rattle.typst_code.proofs.Steps.{does-next, does-gives}
-use Rattle.typst_code.proofs.Asks.{asks-yes, asks-no}
+use Rattle.typst_markup.proofs.Steps.{does-next, does-gives}
+use Rattle.typst_markup.proofs.Asks.{asks-yes, asks-no}
 use Rattle.typst_math.specs.Attachments.{primes, is_in}
 use Rattle.typst_math.proofs.attachments.primes.Goals as goal
 

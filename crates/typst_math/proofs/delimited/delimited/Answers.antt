@@ -1,4 +1,4 @@
-use Rattle.typst_code.proofs.Steps.{does-next, does-gives, does-node}
+use Rattle.typst_markup.proofs.Steps.{does-next, does-gives, does-node}
 use Rattle.typst_math.specs.Delimited.{delimited, delimited_shape}
 use Rattle.typst_math.proofs.delimited.delimited.Goals as goal
 

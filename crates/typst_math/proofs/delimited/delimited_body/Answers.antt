@@ -1,7 +1,7 @@
 use Rattle.std.proofs.Common.{ap, ◌∙◌}
-use Rattle.typst_code.proofs.Steps.{does-next, does-gives, does-node, does-peek}
-use Rattle.typst_code.specs.Equations.{is_closer}
-use Rattle.typst_code.proofs.Values.{does-value}
+use Rattle.typst_markup.proofs.Steps.{does-next, does-gives, does-node, does-peek}
+use Rattle.typst_markup.specs.Equations.{is_closer}
+use Rattle.typst_markup.proofs.Values.{does-value}
 use Rattle.typst_math.specs.Delimited.{delimited_body, body_shape}
 use Rattle.typst_math.proofs.delimited.delimited_body.Goals as goal
 

@@ -1,6 +1,6 @@
-use Rattle.typst_code.specs.Shape.Change.{renamed}
-use Rattle.typst_code.specs.Shape.Shape.{keeps}
-use Rattle.typst_code.proofs.Steps.{does-next, does-gives, does-node}
+use Rattle.typst_markup.specs.Shape.Change.{renamed}
+use Rattle.typst_markup.specs.Shape.Shape.{keeps}
+use Rattle.typst_markup.proofs.Steps.{does-next, does-gives, does-node}
 use Rattle.typst_math.specs.Delimited.{delimiter}
 use Rattle.typst_math.proofs.delimited.delimiter.Goals as goal
 

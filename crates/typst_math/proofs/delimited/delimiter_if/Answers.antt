@@ -1,4 +1,4 @@
-use Rattle.typst_code.proofs.Steps.{does-gives, does-pick, does-other}
+use Rattle.typst_markup.proofs.Steps.{does-gives, does-pick, does-other}
 use Rattle.typst_math.specs.Delimited.{delimiter_if}
 use Rattle.typst_math.proofs.delimited.delimiter_if.Goals as goal
 

@@ -1,8 +1,8 @@
 use Rattle.std.proofs.Common.{ap, ◌∙◌, map}
-use Rattle.typst_code.specs.Shape.{seen}
-use Rattle.typst_code.proofs.Changes.{does-seeing}
-use Rattle.typst_code.proofs.Steps.{does-next, does-gives}
-use Rattle.typst_code.proofs.Values.{does-value}
+use Rattle.typst_markup.specs.Shape.{seen}
+use Rattle.typst_markup.proofs.Changes.{does-seeing}
+use Rattle.typst_markup.proofs.Steps.{does-next, does-gives}
+use Rattle.typst_markup.proofs.Values.{does-value}
 use Rattle.typst_math.specs.Delimited.{delimiter_sign, delimiter_kind}
 use Rattle.typst_math.proofs.delimited.delimiter_sign.Goals as goal
 

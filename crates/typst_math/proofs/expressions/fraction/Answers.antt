@@ -1,5 +1,5 @@
 use Rattle.std.proofs.Common.{sym}
-use Rattle.typst_code.proofs.Steps.{does-next}
+use Rattle.typst_markup.proofs.Steps.{does-next}
 use Rattle.typst_math.specs.MathExpressions.{fraction}
 use Rattle.typst_math.proofs.expressions.fraction.Goals as goal
 

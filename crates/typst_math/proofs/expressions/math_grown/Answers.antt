@@ -1,5 +1,5 @@
 use Rattle.std.proofs.Common.{arith}
-use Rattle.typst_code.proofs.Grows.{grows-init, grows-next, grows-stuck, grows-last}
+use Rattle.typst_markup.proofs.Grows.{grows-init, grows-next, grows-stuck, grows-last}
 use Rattle.typst_math.specs.MathExpressions.{math_grown}
 use Rattle.typst_math.proofs.expressions.math_grown.Goals as goal
 

@@ -1,7 +1,7 @@
-use Rattle.typst_code.specs.Meaning.{Level}
-use Rattle.typst_code.specs.Bytes.{bytes_left}
-use Rattle.typst_code.specs.View.{Fills}
-use Rattle.typst_code.proofs.Grows.{Grows}
+use Rattle.typst_markup.specs.Meaning.{Level}
+use Rattle.typst_markup.specs.Bytes.{bytes_left}
+use Rattle.typst_markup.specs.View.{Fills}
+use Rattle.typst_markup.proofs.Grows.{Grows}
 use Rattle.typst_math.specs.MathExpressions.{math_primary, math_tail_turn}
 use Rattle.typst_math.proofs.expressions.math_grown.Given as goal
 

@@ -1,5 +1,5 @@
 use Rattle.std.proofs.Common.{sym, ap, ◌∙◌}
-use Rattle.typst_code.proofs.Steps.{does-next, does-gives, does-peek}
+use Rattle.typst_markup.proofs.Steps.{does-next, does-gives, does-peek}
 use Rattle.typst_math.specs.MathExpressions.{math_primary, math_head}
 use Rattle.typst_math.specs.declared.heads.MathHead.TheVariants as head
 use Rattle.typst_math.proofs.Begins.{at-head}

@@ -1,5 +1,5 @@
 use Rattle.std.proofs.Common.{sym, ◌∙◌}
-use Rattle.typst_code.proofs.Steps.{does-next, does-peek, does-gives}
+use Rattle.typst_markup.proofs.Steps.{does-next, does-peek, does-gives}
 use Rattle.typst_math.specs.MathExpressions.{math_tail_turn}
 use Rattle.typst_math.specs.declared.heads.MathTail.TheVariants as tail
 use Rattle.typst_math.proofs.Begins.{at-tail}

@@ -1,8 +1,8 @@
 use Rattle.std.proofs.Common.{ap, sym, ◌∙◌, map}
-use Rattle.typst_code.specs.Shape.{seen}
-use Rattle.typst_code.proofs.Changes.{does-seeing}
-use Rattle.typst_code.proofs.Steps.{does-next, does-gives}
-use Rattle.typst_code.proofs.Values.{does-value}
+use Rattle.typst_markup.specs.Shape.{seen}
+use Rattle.typst_markup.proofs.Changes.{does-seeing}
+use Rattle.typst_markup.proofs.Steps.{does-next, does-gives}
+use Rattle.typst_markup.proofs.Values.{does-value}
 use Rattle.typst_math.specs.MathExpressions.{math_text, text_callee}
 use Rattle.typst_math.proofs.expressions.math_text.Goals as goal
 

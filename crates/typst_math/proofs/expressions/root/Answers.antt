@@ -1,7 +1,7 @@
 use Rattle.std.proofs.Common.{sym}
 use Rattle.typst_kinds.specs.declared.kind.SyntaxKind.TheVariants as kind
-use Rattle.typst_code.specs.Shape.{becomes}
-use Rattle.typst_code.proofs.Steps.{does-next, does-node}
+use Rattle.typst_markup.specs.Shape.{becomes}
+use Rattle.typst_markup.proofs.Steps.{does-next, does-node}
 use Rattle.typst_math.specs.MathExpressions.{root}
 use Rattle.typst_math.proofs.expressions.root.Goals as goal
 
