@@ -16,9 +16,19 @@ const WORKED: [Worked; 11] = [
     ("a\n#let \nb", (7, 7), "i", "a\n#let i\nb"),
     ("A: #[BC]", (6, 6), "{", "A: #[B{C]"),
     ("#[[]]", (3, 3), "\\", "#[[\\]]"),
-    ("#{{let x = z}; a = 1} b", (7, 7), "//", "#{{let //x = z}; a = 1} b"),
+    (
+        "#{{let x = z}; a = 1} b",
+        (7, 7),
+        "//",
+        "#{{let //x = z}; a = 1} b",
+    ),
     ("https://a.b''''''", (17, 17), "x", "https://a.b''''''x"),
-    ("x~~ #[- a\n       - b]", (1, 1), "yy", "xyy~~ #[- a\n       - b]"),
+    (
+        "x~~ #[- a\n       - b]",
+        (1, 1),
+        "yy",
+        "xyy~~ #[- a\n       - b]",
+    ),
 ];
 
 /// Whether a worked edit makes the new text, and all is sound after it.

@@ -4,15 +4,18 @@ use crate::sources::{Unicode, detached, edit};
 use std::alloc::Global;
 use std::ops::Range;
 use typst_parser::{
-    FileId, LinkedNode, Source, SourceError, Span, SpanNumber, SubRange, UnicodeClasses, is_ordered,
-    parse,
+    FileId, LinkedNode, Source, SourceError, Span, SpanNumber, SubRange, UnicodeClasses,
+    is_ordered, parse,
 };
 
 /// The numbers of the root of a text with one child, and of that child.
 fn two_numbers(alloc: Global, text: &str) -> Option<(u64, u64)> {
     let source = detached(alloc, text).ok()?;
     match source.root().children() {
-        [kid] => Some((source.root().span().number()?.get(), kid.span().number()?.get())),
+        [kid] => Some((
+            source.root().span().number()?.get(),
+            kid.span().number()?.get(),
+        )),
         _ => None,
     }
 }
@@ -91,7 +94,7 @@ fn handed_in(alloc: Global, numbered: bool) -> Result<Unicode, SourceError> {
     };
     let text = String::from_str(alloc, "b").map_err(out)?;
     match FileId::new(2) {
-        Some(id) => Source::with_root(alloc, id, text, root, UnicodeClasses),
+        Some(id) => Source::with_root(alloc, id, text, root, UnicodeClasses).map_err(out),
         None => Err(SourceError::SpanNumbers),
     }
 }
