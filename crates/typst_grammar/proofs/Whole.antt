@@ -26,6 +26,7 @@ use Rattle.typst_code.proofs.Rests.{Rests}
 use Rattle.typst_code.specs.head.MarkupHead.{MarkupHead}
 use Rattle.typst_code.specs.head.MarkupHead.TheVariants as head
 use Rattle.typst_code.specs.Embedded.{embedded}
+use Rattle.typst_code.specs.Equations.{between_dollars, equation}
 use Rattle.typst_code.specs.Markup.{ends, note_piece, markup_turn, markup_run, delimited, strong, emph, heading, item, term_item, reference, markup_head, markup_by, markup_expr, markup_reading}
 use Rattle.typst_grammar.specs.Grammar.{rules, level_at, max_depth, start_of, whole, parsed, tree}
 
@@ -68,6 +69,10 @@ module _ (l : Level) where
   unfolding embedded
   eats-embedded = eats-within l _ _ (eats-next l eat _ eats-eat)
 
+  eats-equation : Eats l equation
+  unfolding equation between_dollars
+  eats-equation = eats-next l _ _ (eats-node l _ _ (eats-within l _ _ (eats-next l eat _ eats-eat)))
+
   eats-by : (nesting : ℕ) (h : MarkupHead) → Eats l (markup_by nesting h)
   eats-by nesting head.Itself = eats-next l eat _ eats-eat
   eats-by nesting head.Opening = eats-next l (convert_and_eat kind.Text) _ eats-text
@@ -81,6 +86,7 @@ module _ (l : Level) where
   eats-by nesting head.TermItem = eats-next l term_item _ eats-term
   eats-by nesting head.Reference = eats-next l reference _ eats-reference
   eats-by nesting head.Embedded = eats-next l embedded _ eats-embedded
+  eats-by nesting head.Equation = eats-next l equation _ eats-equation
   eats-by nesting head.Plain = eats-next l (convert_and_eat kind.Text) _ eats-text
   eats-by nesting head.Unexpected = eats-next l (unexpected _) _ (eats-unexpected _)
 
