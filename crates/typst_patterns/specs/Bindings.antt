@@ -1,5 +1,5 @@
 -- `let`.
-use Rattle.std.specs.Prelude.{Bool, true, false, not, ◌&&◌, [], codes}
+use Rattle.std.specs.Prelude.{Bool, not, ◌&&◌, [], codes}
 use Rattle.typst_kinds.specs.Kinds.{same}
 use Rattle.typst_kinds.specs.declared.kind.SyntaxKind.{SyntaxKind}
 use Rattle.typst_kinds.specs.declared.kind.SyntaxKind.TheVariants as kind

@@ -1,5 +1,5 @@
 -- Closures, and underscores.
-use Rattle.std.specs.Prelude.{Bool, true, false, if◌then◌else◌, codes}
+use Rattle.std.specs.Prelude.{if◌then◌else◌, codes}
 use Rattle.typst_kinds.specs.Kinds.{same}
 use Rattle.typst_kinds.specs.declared.kind.SyntaxKind.{SyntaxKind}
 use Rattle.typst_kinds.specs.declared.kind.SyntaxKind.TheVariants as kind

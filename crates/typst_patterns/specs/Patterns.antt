@@ -1,5 +1,5 @@
 -- Patterns: names, what is assigned to, and parens around several of them.
-use Rattle.std.specs.Prelude.{ℕ, Bool, true, false, not, ◌||◌, ◌&&◌, if◌then◌else◌, List, [], ◌∷◌, ◌++◌, Option, Some, None, is_some, codes}
+use Rattle.std.specs.Prelude.{ℕ, Bool, true, false, not, ◌&&◌, if◌then◌else◌, List, [], ◌∷◌, ◌++◌, Option, Some, None, is_some, codes}
 use Rattle.typst_kinds.specs.Kinds.{same, among, is_keyword, is_terminator}
 use Rattle.typst_kinds.specs.Sets as set
 use Rattle.typst_kinds.specs.declared.kind.SyntaxKind.{SyntaxKind}
@@ -185,7 +185,7 @@ parts_shape closed parts = if closed then becomes (parts_kind parts) else unclos
 -- `( .. )`; answers the names that were seen
 unfoldable pub destructuring : Role → List (List ℕ) → Parser (List (List ℕ))
 destructuring role names = do
-  x ← node (λ x. parts_shape x.0 x.1.0) (within in_parens (do
+  x ← node (λ (x : Bool × Found). parts_shape x.0 x.1.0) (within in_parens (do
     paren ← eat
     found ← repeat (destructuring_turn (role_below role)) (no_parts, names)
     closed ← eat_if (same kind.RightParen)

@@ -5,7 +5,7 @@ ghost use Rattle.typst_machine.specs.Shape.{seen};
 ghost use Rattle.typst_machine.specs.Syntax.Parser.{repeat};
 ghost use Rattle.typst_machine.specs.View.{Means, Rewrapped};
 ghost use Rattle.typst_patterns.specs.Params as spec;
-ghost use Rattle.typst_patterns.specs.Patterns.{name_of};
+ghost use Rattle.typst_patterns.specs.Patterns.{name_of, name_of_one};
 
 use crate::parts::{code_expression, separator};
 use crate::patterns::{deeper_pattern, sink, wrap_named, wrap_sink};
@@ -22,8 +22,17 @@ fn is_name(nodes: &[SyntaxNode]) -> bool
     if nodes.is_empty() {
         return false;
     }
-    let first = &nodes[0];
-    !first.is_inner() && first.kind() == SyntaxKind::Ident
+    is_name_itself(&nodes[0])
+}
+
+/// Whether a node is a name.
+fn is_name_itself(node: &SyntaxNode) -> bool
+    ensures { result ≡ is_some (name_of_one (seen node.now)) }
+{
+    if node.is_inner() {
+        return false;
+    }
+    node.kind() == SyntaxKind::Ident
 }
 
 /// Reads a pattern, and behind a colon what stands for it where it is not given; answers whether a

@@ -41,11 +41,20 @@ pub(crate) fn name_of(alloc: Global, nodes: &[SyntaxNode]) -> Result<Option<Text
     if nodes.is_empty() {
         return Ok(None);
     }
-    let first = &nodes[0];
-    if first.is_inner() || first.kind() != SyntaxKind::Ident {
+    Ok(name_of_one(alloc, &nodes[0])?)
+}
+
+/// The name that a node is.
+fn name_of_one(alloc: Global, node: &SyntaxNode) -> Result<Option<Text>, AllocError>
+    ensures { IfOk result (λ name. name ≡ spec.name_of_one (seen node.now)) }
+{
+    if node.is_inner() {
         return Ok(None);
     }
-    Ok(Some(Text::new(alloc, first.leaf_text())?))
+    if node.kind() == SyntaxKind::Ident {
+        return Ok(Some(Text::new(alloc, node.leaf_text())?));
+    }
+    Ok(None)
 }
 
 /// What stands before a name that was seen.

@@ -10,7 +10,7 @@ use Rattle.typst_machine.proofs.Nots.{is-not, is-so}
 use Rattle.typst_machine.proofs.Values.{does-value}
 use Rattle.typst_patterns.specs.Patterns.{name_of}
 use Rattle.typst_patterns.specs.Params.{defaulted}
-use Rattle.typst_patterns.proofs.params.defaulted.Goals as goal
+use Rattle.typst_patterns.proofs.parameters.defaulted.Goals as goal
 
 pub returns-then-ne : goal.returns-then-ne
 unfolding defaulted
@@ -24,4 +24,4 @@ returns g c l h =
     does-next (does-seeing h.sound c.marker-from.ensures.few c.marker-from.ensures.marker (c.in_ok-seen.ensures l h) c.in_ok-change.ensures)
     (asks-yes (same kind.Colon) c.current.ensures refl (is-so c.ne.ensures c.if-ne.false)
     (does-next (does-next (c.in_ok-eat.ensures l h) (c.in_ok-code_expression.ensures l h))
-    (does-value (ap (λ b. (Some b, c.in_ok-seen.seen)) (c.is_name.ensures ∙ ap (λ ts. is_some (name_of (map seen ts))) c.given_since.ensures)) does-gives)))
+    (does-value (ap (λ b. (Some b, c.in_ok-seen.seen)) (c.is_name-is_name.ensures ∙ ap (λ ts. is_some (name_of (map seen ts))) c.given_since.ensures)) does-gives)))

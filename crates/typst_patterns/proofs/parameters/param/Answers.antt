@@ -5,7 +5,7 @@ use Rattle.typst_machine.proofs.Steps.{does-next, does-gives, does-node}
 use Rattle.typst_machine.proofs.Asks.{asks-yes, asks-no}
 use Rattle.typst_patterns.specs.Patterns.{named_shape, sink_shape}
 use Rattle.typst_patterns.specs.Params.{param}
-use Rattle.typst_patterns.proofs.params.param.Goals as goal
+use Rattle.typst_patterns.proofs.parameters.param.Goals as goal
 
 pub returns-then-eq : goal.returns-then-eq
 unfolding param

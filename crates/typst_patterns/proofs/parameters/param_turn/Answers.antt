@@ -2,7 +2,7 @@ use Rattle.typst_kinds.specs.Kinds.{is_terminator}
 use Rattle.typst_machine.proofs.Steps.{does-next, does-gives, does-pick, does-other}
 use Rattle.typst_machine.proofs.Asks.{found, asks-yes, asks-no}
 use Rattle.typst_patterns.specs.Params.{param_turn, begins_param}
-use Rattle.typst_patterns.proofs.params.param_turn.Goals as goal
+use Rattle.typst_patterns.proofs.parameters.param_turn.Goals as goal
 
 pub returns-then-is_terminator : goal.returns-then-is_terminator
 unfolding param_turn

@@ -1,8 +1,8 @@
 use Rattle.std.proofs.Common.{◌≡◌, ◌≤◌, true, arith}
 use Rattle.typst_machine.specs.Bytes.{bytes_left}
 use Rattle.typst_machine.proofs.Steps.{turning-next, does-last}
-use Rattle.typst_patterns.proofs.params.param_turns.Goals.{then-not-more-via-then-not-more, then-not-more-via-else-not-more+then-left-before}
-use Rattle.typst_patterns.proofs.params.param_turns.Goals as goal
+use Rattle.typst_patterns.proofs.parameters.param_turns.Goals.{then-not-more-via-then-not-more, then-not-more-via-else-not-more+then-left-before}
+use Rattle.typst_patterns.proofs.parameters.param_turns.Goals as goal
 
 pub returns-then-not-more : goal.returns-then-not-more
 returns-then-not-more g c l h =

@@ -5,7 +5,7 @@ use Rattle.typst_machine.proofs.Steps.{does-next, does-gives, does-node}
 use Rattle.typst_machine.proofs.Values.{does-entered}
 use Rattle.typst_patterns.specs.Parts.{in_parens}
 use Rattle.typst_patterns.specs.Params.{params, params_shape}
-use Rattle.typst_patterns.proofs.params.params.Goals as goal
+use Rattle.typst_patterns.proofs.parameters.params.Goals as goal
 
 pub returns : goal.returns
 unfolding params

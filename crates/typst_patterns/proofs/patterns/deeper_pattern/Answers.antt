@@ -13,4 +13,4 @@ pub returns : goal.returns
 unfolding deeper
 returns g c l h =
     let made = h.reads _ _ _ _ c.in_ok-answered.ensures in
-    does-value (c.names.ensures made.answer made.is) (does-next (does-deepest _) (does-other (ap (λ n. n == 0) (h.levels ∙ sym c.levels.ensures) ∙ ne_eqb _ 0 c.if-levels-eq0.false) (does-calls made.makes)))
+    does-value (c.names-2.ensures made.answer made.is) (does-next (does-deepest _) (does-other (ap (λ n. n == 0) (h.levels ∙ sym c.levels.ensures) ∙ ne_eqb _ 0 c.if-levels-eq0.false) (does-calls made.makes)))
