@@ -9,6 +9,7 @@ pub use Rattle.typst_code.specs.Ask
 pub use Rattle.typst_code.specs.Calls
 pub use Rattle.typst_code.specs.Depth
 pub use Rattle.typst_code.specs.Embedded
+pub use Rattle.typst_code.specs.Equations
 pub use Rattle.typst_code.specs.Expected
 pub use Rattle.typst_code.specs.Expressions
 pub use Rattle.typst_code.specs.Hand

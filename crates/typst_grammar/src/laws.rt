@@ -2,7 +2,7 @@
 
 ghost use Rattle.typst_classes.specs.Classes.{CharClasses};
 ghost use Rattle.typst_grammar.specs.Examples.{CodeTrees, NamedTrees, Trees};
-ghost use Rattle.typst_grammar.specs.Laws.{CallLaws, CodeLeavesLaw, LeavesLaw, PieceLaws, RunLaws, SequenceLaws};
+ghost use Rattle.typst_grammar.specs.Laws.{CallLaws, CodeLeavesLaw, LeavesLaw, MathLeavesLaw, PieceLaws, RunLaws, SequenceLaws};
 ghost use Rattle.typst_grammar.specs.Notes.{Notes};
 
 /// What holds of every part of the grammar. Where all that was asked shows the same at two places,
@@ -21,6 +21,7 @@ pub fn grammar_laws()
 pub fn leaves_law()
     ensures markup { LeavesLaw }
     ensures code { CodeLeavesLaw }
+    ensures math { MathLeavesLaw }
 {}
 
 /// Trees of short texts, which follow from the definitions.

@@ -29,6 +29,7 @@ use Rattle.typst_grammar.specs.head.MarkupHead.{MarkupHead}
 use Rattle.typst_grammar.specs.head.MarkupHead.TheVariants as head
 use Rattle.typst_grammar.specs.Markup.{ends, markup_turn, markup_head, markup_by, markup_expr, delimited, emphasized, heading, item, term_item, reference, strong, emph}
 use Rattle.typst_grammar.specs.Embedded.{embedded}
+use Rattle.typst_grammar.specs.Equations.{between_dollars, equation, in_dollars}
 use Rattle.typst_reuse.specs.Joint.{minds}
 use Rattle.typst_reuse.specs.Occurrences.{goes}
 use Rattle.typst_reuse.proofs.Led.{trivia_with, before_trivia, none-less, none-of, Led, led-then, led-asked, Counts_less, Takes, asks-behind, takes-token, takes-next, takes-peek, takes-column, takes-scoped, takes-wraps, takes-calls}
@@ -44,6 +45,10 @@ emphasized-counts : (k : SyntaxKind) (warning hint : List ℕ) (x : Bool × Bool
 emphasized-counts k warning hint (true, true) ts s = omega arith
 emphasized-counts k warning hint (true, false) ts s = omega arith
 emphasized-counts k warning hint (false, b) ts s = omega arith
+
+dollars-counts : (closed : Bool) → Counts_less (in_dollars closed)
+dollars-counts true ts s = omega arith
+dollars-counts false ts s = omega arith
 
 module _ (l : Level) (sd : (c : Call) → Sane (l.deeper c)) (sb : (b : Block) → Sane (l.blocks b)) (h : Reading) (z : Place) (t : Trivia) (us : List Tree) (nil : is_nil t.nodes ≡ is_nil us) where
   backs : {A : Type 0} (p : Parser A) → Backs (run l p)
@@ -108,6 +113,10 @@ module _ (l : Level) (sd : (c : Call) → Sane (l.deeper c)) (sb : (b : Block) �
     unfolding embedded
     takes-embedded = takes-within _ _ (goes-on false eat _ takes-eat)
 
+    takes-equation : Takes h z t us false (run l equation)
+    unfolding equation between_dollars
+    takes-equation = goes-on false (node in_dollars _) _ (takes-node in_dollars _ dollars-counts (takes-within _ _ (goes-on false eat _ takes-eat)))
+
     takes-by : (nesting : ℕ) (x : MarkupHead) → Takes h z t us (minds x) (run l (markup_by nesting x))
     takes-by nesting head.Itself = goes-on false eat _ takes-eat
     takes-by nesting head.Opening = goes-on false _ _ (takes-convert kind.Text)
@@ -121,6 +130,7 @@ module _ (l : Level) (sd : (c : Call) → Sane (l.deeper c)) (sb : (b : Block) �
     takes-by nesting head.TermItem = goes-on false _ _ takes-term
     takes-by nesting head.Reference = goes-on false _ _ takes-reference
     takes-by nesting head.Embedded = goes-on false embedded _ takes-embedded
+    takes-by nesting head.Equation = goes-on false equation _ takes-equation
     takes-by nesting head.Plain = goes-on false _ _ (takes-convert kind.Text)
     takes-by nesting head.Unexpected = goes-on true _ _ (takes-unexpected [])
 
