@@ -7,7 +7,7 @@ use Rattle.typst_markup.specs.calls.Call.TheVariants.{MathExpr}
 use Rattle.typst_markup.specs.calls.ChainSet.{ChainSet}
 use Rattle.typst_markup.specs.Shape.Change.{unparened}
 use Rattle.typst_markup.specs.Shape.Shape.{keeps}
-use Rattle.typst_markup.specs.Syntax.{Parser, ◌>>=◌, ◌>>◌}
+use Rattle.typst_markup.specs.Syntax.{Parser, ◌>>=◌}
 use Rattle.typst_markup.specs.Syntax.Parser.{gives, pick, repeat}
 use Rattle.typst_markup.specs.Steps.{peek, eat, node}
 use Rattle.typst_markup.specs.Depth.{deeper}

@@ -1,5 +1,5 @@
 -- Delimiters, and what stands between two of them.
-use Rattle.std.specs.Prelude.{ℕ, Bool, ◌||◌, if◌then◌else◌, List, [], ◌∷◌, codes}
+use Rattle.std.specs.Prelude.{ℕ, Bool, ◌||◌, if◌then◌else◌, List, ◌∷◌, codes}
 use Rattle.std.specs.Str.{bytes_eq}
 use Rattle.typst_kinds.specs.declared.kind.SyntaxKind.{SyntaxKind}
 use Rattle.typst_kinds.specs.declared.kind.SyntaxKind.TheVariants as kind
@@ -7,7 +7,7 @@ use Rattle.typst_markup.specs.Shape.{Shape, Seen, becomes}
 use Rattle.typst_markup.specs.Shape.Change.{stays, renamed}
 use Rattle.typst_markup.specs.Shape.Seen.{leaf_seen}
 use Rattle.typst_markup.specs.Shape.Shape.{keeps}
-use Rattle.typst_markup.specs.Syntax.{Parser, ◌>>=◌, ◌>>◌}
+use Rattle.typst_markup.specs.Syntax.{Parser, ◌>>=◌}
 use Rattle.typst_markup.specs.Syntax.Parser.{gives, pick}
 use Rattle.typst_markup.specs.Steps.{peek, eat, node}
 use Rattle.typst_markup.specs.Expected.{seeing}

@@ -1,7 +1,7 @@
 use Rattle.std.proofs.Common.{sym, ◌∙◌}
 use Rattle.typst_markup.proofs.Steps.{does-next, does-gives, does-peek, does-pick, does-other}
 use Rattle.typst_markup.proofs.Values.{does-value}
-use Rattle.typst_math.specs.MathArguments.{math_argument, names_argument}
+use Rattle.typst_math.specs.MathArguments.{math_argument}
 use Rattle.typst_math.proofs.arguments.math_argument.Goals as goal
 
 pub returns-then-eq : goal.returns-then-eq
