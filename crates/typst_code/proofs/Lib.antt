@@ -1,6 +1,7 @@
 -- From what a contract promises to the lemma behind it:
---   a production's clause        its own answers, by the steps of the machine; Begins: what a token begins
+--   a production's clause        its own answers, by the steps of the machine; Begins: what a token begins; Firsts: what may be given up
 pub mod Begins
+pub mod Firsts
 -- What the crates above name of those below.
 pub use Rattle.typst_markup.proofs.Asks
 pub use Rattle.typst_markup.proofs.Backs

@@ -1,12 +1,12 @@
 -- Arguments of calls.
-use Rattle.std.specs.Prelude.{ℕ, Bool, true, false, not, ◌||◌, ◌&&◌, if◌then◌else◌, List, [], ◌++◌, Option, Some, None, codes}
+use Rattle.std.specs.Prelude.{ℕ, Bool, true, false, not, ◌||◌, ◌&&◌, if◌then◌else◌, List, [], Option, Some, None, codes}
 use Rattle.typst_kinds.specs.Kinds.{same, is_terminator}
 use Rattle.typst_kinds.specs.declared.kind.SyntaxKind.{SyntaxKind}
 use Rattle.typst_kinds.specs.declared.kind.SyntaxKind.TheVariants as kind
 use Rattle.typst_markup.specs.calls.Block.TheVariants as block
 use Rattle.typst_markup.specs.reading.AtNewline.TheVariants as newline
 use Rattle.typst_markup.specs.Shape.{Change, Shape, becomes, unclosed}
-use Rattle.typst_markup.specs.Shape.Change.{stays, turns_wrong, is_not}
+use Rattle.typst_markup.specs.Shape.Change.{stays, is_not}
 use Rattle.typst_markup.specs.Shape.Shape.{keeps, holds}
 use Rattle.typst_markup.specs.Syntax.{Parser, ◌>>=◌, ◌>>◌}
 use Rattle.typst_markup.specs.Syntax.Op.{advises}

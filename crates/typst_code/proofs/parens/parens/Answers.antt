@@ -1,4 +1,3 @@
-use Rattle.std.proofs.Common.{ap, sym}
 use Rattle.typst_markup.proofs.Steps.{does-next, does-gives, does-node}
 use Rattle.typst_markup.proofs.Values.{does-value}
 use Rattle.typst_patterns.specs.Closures.{closure_shape}
