@@ -1,6 +1,5 @@
 -- What an expression of code takes.
 use Rattle.std.proofs.Common.{◌≡◌, ℕ, zero, suc, ◌+◌, ◌<◌, Bool, true, false, List, [], ◌∷◌, length, Option, Some, None, refl, ap, sym, subst, ◌∙◌, arith}
-use Rattle.typst_kinds.specs.Kinds.{same}
 use Rattle.typst_kinds.specs.Sets.{code_expr as code_kinds}
 use Rattle.typst_kinds.specs.declared.kind.SyntaxKind.{SyntaxKind}
 use Rattle.typst_kinds.specs.declared.kind.SyntaxKind.TheVariants as kind
@@ -37,7 +36,7 @@ use Rattle.typst_code.specs.Imports.{module_import}
 use Rattle.typst_code.specs.Sequences.{code_block}
 use Rattle.typst_code.specs.Statements.{set_rule, show_rule, contextual, conditional, conditional_turn, while_loop, for_loop, module_include, jump, func_return}
 use Rattle.typst_grammar.specs.Grammar.{level_at}
-use Rattle.typst_grammar.proofs.Moves.{Moves, Each, of-each, left-again, moves-next, moves-peek, moves-takes, moves-eat, moves-scoped, moves-within, moves-node, moves-grow, moves-nest, moves-either, moves-pick}
+use Rattle.typst_grammar.proofs.Moves.{Moves, Each, ◌also◌, of-each, left-again, moves-next, moves-peek, moves-takes, moves-eat, moves-scoped, moves-within, moves-node, moves-grow, moves-nest, moves-either, moves-pick}
 
 -- ---- what code begins with takes something
 
@@ -209,91 +208,13 @@ module _ (k : CharClasses) (levels : ℕ) where
   e = moves-eat here
 
   each-begins : Each Begins code_kinds
-  each-begins = (
-    moves-placeholder here,
-    (
-      moves-named here,
-      (
-        moves-block k levels block.Code,
-        (
-          moves-block k levels block.Content,
-          (
-            moves-parens here,
-            (
-              moves-equation here,
-              (
-                moves-let here,
-                (
-                  moves-set here,
-                  (
-                    moves-show here,
-                    (
-                      moves-context here false,
-                      (
-                        moves-conditional here,
-                        (
-                          moves-while here,
-                          (
-                            moves-for here,
-                            (
-                              moves-import here,
-                              (
-                                moves-include here,
-                                (
-                                  moves-jump here kind.LoopBreak,
-                                  (
-                                    moves-jump here kind.LoopContinue,
-                                    (
-                                      moves-return here,
-                                      (
-                                        e,
-                                        (
-                                          e,
-                                          (
-                                            e,
-                                            (
-                                              e,
-                                              (
-                                                e,
-                                                (
-                                                  e,
-                                                  (
-                                                    e,
-                                                    (
-                                                      e,
-                                                      (
-                                                        e,
-                                                        (
-                                                          moves-unary here _,
-                                                          (moves-unary here _, (moves-unary here _, tt)),
-                                                        ),
-                                                      ),
-                                                    ),
-                                                  ),
-                                                ),
-                                              ),
-                                            ),
-                                          ),
-                                        ),
-                                      ),
-                                    ),
-                                  ),
-                                ),
-                              ),
-                            ),
-                          ),
-                        ),
-                      ),
-                    ),
-                  ),
-                ),
-              ),
-            ),
-          ),
-        ),
-      ),
-    ),
-  )
+  each-begins =
+      moves-placeholder here also moves-named here also moves-block k levels block.Code also moves-block k levels block.Content also moves-parens here
+      also moves-equation here also moves-let here also moves-set here also moves-show here also moves-context here false
+      also moves-conditional here also moves-while here also moves-for here also moves-import here also moves-include here
+      also moves-jump here kind.LoopBreak also moves-jump here kind.LoopContinue also moves-return here
+      also e also e also e also e also e also e also e also e also e
+      also moves-unary here _ also moves-unary here _ also moves-unary here _ also tt
 
   moves-begun : (i : SyntaxKind) → begins_code i ≡ true → Moves here (code_by false (code_head false i))
   moves-begun i h = of-each Begins code_kinds each-begins i h

@@ -15,7 +15,7 @@ use Rattle.typst_code.specs.Embedded.{embedded}
 use Rattle.typst_code.proofs.Ends.{hand-again}
 use Rattle.typst_math.specs.Delimited.{delimiter_sign, delimiter, delimited}
 use Rattle.typst_math.specs.MathExpressions.{math_head, math_text, root, math_by, math_primary, math_tail_turn, math_grown, math_expr}
-use Rattle.typst_grammar.proofs.Moves.{Moves, Each, of-each, left-again, moves-next, moves-eat, moves-within, moves-node, moves-grow, moves-seeing, moves-convert}
+use Rattle.typst_grammar.proofs.Moves.{Moves, Each, ◌also◌, of-each, left-again, moves-next, moves-eat, moves-within, moves-node, moves-grow, moves-seeing, moves-convert}
 
 module _ (l : Level) where
   moves-embedded : Moves l embedded
@@ -64,8 +64,9 @@ module _ (k : CharClasses) (l : Level) where
 
   each-begins : Each Begins math_kinds
   each-begins =
-      (moves-next l embedded _ (moves-embedded l), (eats, (eats, (opens, (opens, (closes, (closes, (plain, (plain, (plain, (plain, (moves-text,
-      (itself, (itself, (itself, (symbol, (symbol, (symbol, (moves-next l root _ (moves-root l), tt)))))))))))))))))))
+      moves-next l embedded _ (moves-embedded l) also eats also eats also opens also opens also closes also closes
+      also plain also plain also plain also plain also moves-text also itself also itself also itself
+      also symbol also symbol also symbol also moves-next l root _ (moves-root l) also tt
 
   moves-primary : (z : Place) (s : Point) → among math_kinds (hand_of l z s).kind ≡ true → 0 < (hand_of l z s).gap + (hand_of l z s).len → 0 < (run l (math_primary k) z s).taken
   unfolding run math_primary

@@ -140,6 +140,11 @@ abbrev pub Each : (SyntaxKind → Type 0) → List SyntaxKind → Type 0
 Each P [] = Unit {0}
 Each P (k ∷ ks) = P k × Each P ks
 
+-- it holds of the first, and of the others
+infixr 10 ◌also◌
+pub ◌also◌ : {A B : Type 0} → A → B → A × B
+a also b = (a, b)
+
 pub of-each : (P : SyntaxKind → Type 0) (ks : List SyntaxKind) → Each P ks → (k : SyntaxKind) → among ks k ≡ true → P k
 of-each P [] h k e = absurd (cc)
 of-each P (j ∷ ks) h k e = of-first (same j k) refl (λ others. of-each P ks h.1 k others)

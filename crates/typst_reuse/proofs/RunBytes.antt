@@ -1,5 +1,5 @@
 -- The test of an edit inside some pieces of a text's run in bytes, by the notes of a reading.
-use Rattle.std.proofs.Common.{◌≡◌, ℕ, zero, suc, ◌+◌, ◌-◌, ◌<◌, ◌≤◌, max, min, Bool, true, false, ◌&&◌, nat_lt, if◌then◌else◌, List, [], ◌∷◌, ◌++◌, length, take, append_assoc, append-nil, Option, Some, refl, ap, sym, ◌∙◌, subst, arith}
+use Rattle.std.proofs.Common.{◌≡◌, ℕ, zero, suc, ◌+◌, ◌-◌, ◌<◌, ◌≤◌, max, min, Bool, true, false, ◌&&◌, nat_lt, List, [], ◌∷◌, ◌++◌, length, take, append_assoc, append-nil, Some, refl, ap, sym, ◌∙◌, subst, arith}
 use Rattle.std.proofs.lemmas.List.{map-append}
 use Rattle.typst_kinds.specs.declared.kind.SyntaxKind.{SyntaxKind}
 use Rattle.typst_lines.specs.Place.{Place, moved}
@@ -17,16 +17,15 @@ use Rattle.typst_grammar.specs.Hand.{AtHand, told, known_by}
 use Rattle.typst_grammar.specs.Log.{Log, no_log, with_hull, with_note, logged}
 use Rattle.typst_grammar.specs.Meaning.{Outcome, Meaning, Level, plain, joined, repeated, hand_of, hand_asks_of, asked, start_point, run}
 use Rattle.typst_grammar.specs.Point.{Point, gap_of, state_of}
-use Rattle.typst_grammar.specs.Steps.{peek, note}
+use Rattle.typst_grammar.specs.Steps.{note}
 use Rattle.typst_grammar.proofs.Ends.{hand-again}
 use Rattle.typst_grammar.proofs.Places.{moved-sum}
 use Rattle.typst_grammar.specs.Markup.{ends, note_piece, markup_turn, markup_reading}
 use Rattle.typst_grammar.specs.Grammar.{rules, level_at, max_depth, start_of, whole, parsed, log}
 use Rattle.typst_reuse.specs.Bytes.{lowest}
-use Rattle.typst_reuse.specs.Edit.{text_with, AllEndBy, AllBeginIn}
-use Rattle.typst_reuse.specs.Occurrences.{goes}
-use Rattle.typst_reuse.specs.RunBytes.{PieceNote, both_end, DecidedRun, RunDecisionLaw}
-use Rattle.typst_reuse.specs.Runs.{made, AllGo, End, end_of, asks_of, chain, piece_at, start, lead, pieces, end_at, pieces_from, end_from, rest_from, tail, whole_of, behind_pieces}
+use Rattle.typst_reuse.specs.Edit.{text_with, AllEndBy}
+use Rattle.typst_reuse.specs.RunBytes.{PieceNote, both_end, RunDecisionLaw}
+use Rattle.typst_reuse.specs.Runs.{made, AllGo, End, end_of, asks_of, chain, piece_at, start, lead, pieces, end_at, end_from, rest_from, tail, whole_of, behind_pieces}
 use Rattle.typst_reuse.proofs.Bytes.{logged-append, noted-by, noted-more, reach-by, end-by, AllFrom, begin-by}
 use Rattle.typst_reuse.proofs.Outcomes.{shift-zero, shift-twice}
 use Rattle.typst_reuse.proofs.Root.{whole-is, within}

@@ -10,7 +10,7 @@ use Rattle.typst_grammar.specs.Ask.Ask.{marked}
 use Rattle.typst_grammar.specs.Log.{no_log, logged}
 use Rattle.typst_grammar.specs.Meaning.{Outcome, standing}
 use Rattle.typst_grammar.specs.Point.{gap_of, state_of}
-use Rattle.typst_grammar.specs.Grammar.{max_depth, start_of, tree, log}
+use Rattle.typst_grammar.specs.Grammar.{max_depth, tree, log}
 use Rattle.typst_reuse.specs.Edit.{text_with}
 use Rattle.typst_reuse.specs.Joint.{onwards_from}
 use Rattle.typst_reuse.specs.Runs.{start, asks_of, lead, pieces, end_at, pieces_from, end_from, PassesRun}

@@ -11,6 +11,7 @@ unfolding whole_math
 returns g c =
     let k = g.C.Classes.classes c.args.classes.now in
     let l = level_at k max_depth in
-    let fills = record { classes = refl; sound = sound-at k max_depth; levels = refl; reads = λ old new call r h. calls-at l call r h.2 h.3 h.4.1 } in
-    let d = does-next (does-next (does-look (c.in_ok-look.ensures l fills)) (c.in_ok-math_exprs.ensures l fills)) (c.in_ok-flush_trivia.ensures l) in
+    let first = does-look (c.in_ok-look.ensures l (record { classes = refl; sound = sound-at k max_depth; levels = refl; reads = λ old new call r h. calls-at l call r h.2 h.3 h.4.1 })) in
+    let expressions = c.in_ok-math_exprs.ensures l (record { classes = refl; sound = sound-at k max_depth; levels = refl; reads = λ old new call r h. calls-at l call r h.2 h.3 h.4.1 }) in
+    let d = does-next (does-next first expressions) (c.in_ok-flush_trivia.ensures l) in
     parsed-is k false c.args.text.now math_reading whole_math _ _ c.in_ok-p.ensures d
