@@ -1,7 +1,7 @@
 //! Laws of the grammar.
 
 ghost use Rattle.typst_classes.specs.Classes.{CharClasses};
-ghost use Rattle.typst_grammar.specs.Examples.{CodeTrees, NamedTrees, Trees};
+ghost use Rattle.typst_grammar.specs.Examples.{CodeTrees, MathTrees, NamedTrees, PatternTrees, Trees};
 ghost use Rattle.typst_grammar.specs.Laws.{CallLaws, CodeLeavesLaw, LeavesLaw, MathLeavesLaw, PieceLaws, RunLaws, SequenceLaws};
 ghost use Rattle.typst_grammar.specs.Notes.{Notes};
 
@@ -37,6 +37,16 @@ pub fn trees_of_names()
 /// The same of texts with code.
 pub fn trees_of_code()
     ensures { (beyond : CharClasses) → CodeTrees beyond }
+{}
+
+/// The same of texts of code with patterns.
+pub fn trees_of_patterns()
+    ensures { (beyond : CharClasses) → PatternTrees beyond }
+{}
+
+/// The same of formulas.
+pub fn trees_of_formulas()
+    ensures { (beyond : CharClasses) → MathTrees beyond }
 {}
 
 /// What is noted of short texts.
