@@ -18,7 +18,7 @@ use crate::log::joined;
 use std::alloc::{AllocError, Global};
 use typst_classes::Classes;
 use typst_combinators::{
-    AtNewline, Hull, Newlines, Reading, Token, is_leaf, leaf_node, make_node, token,
+    AtNewline, Hull, LineEnd, Newlines, Reading, Token, is_leaf, leaf_node, make_node, token,
 };
 use typst_kinds::{SyntaxKind, SyntaxMode};
 use typst_lines::{Scanner, is_newline};
@@ -46,6 +46,8 @@ pub struct ReadAhead<'s> {
     pub own: Hull,
     /// The same, with its column where the newline rule asks for it.
     pub here: Hull,
+    /// The end of a line of the text that is known.
+    pub line: LineEnd<'s>,
 }
 
 impl<'s> ReadAhead<'s> {
@@ -73,6 +75,7 @@ impl<'s> ReadAhead<'s> {
             kind: SyntaxKind::End,
             own: nothing,
             here: nothing,
+            line: LineEnd::of_text(at.string()),
         }
     }
 
@@ -93,6 +96,7 @@ impl<'s> ReadAhead<'s> {
         held: Reading,
         classes: &C,
     ) -> Result<Hull, AllocError>
+        requires { self.old.line.text.now ≡ self.old.before.text.now }
         ensures read { OnOk result (IsAhead (C.classes classes.now) held self.old.before self.new) }
         ensures hull { IfOk result (λ u. u ≡ bytes.whole_at (C.classes classes.now) held (place self.old.before)) }
         ensures refused { OnErr result (Stands self.old → Stands self.new) }
@@ -105,7 +109,7 @@ impl<'s> ReadAhead<'s> {
             least: usize::MAX,
         };
         'tokens: loop {
-            let next = read_token(alloc, start, held.mode, classes)?;
+            let next = read_token(alloc, start, &mut self.line, held.mode, classes)?;
             tokens = joined(tokens, next.hull);
             if !next.token.kind.is_trivia() || left(&start) <= left(&next.after) {
                 let (kind, here) = judged(held, newlines, next.token.kind, &start, next.hull);
@@ -161,16 +165,19 @@ pub struct Read<'s> {
 pub fn read_token<'s, C: Classes>(
     alloc: Global,
     start: Scanner<'s>,
+    line: &mut LineEnd<'s>,
     mode: SyntaxMode,
     classes: &C,
 ) -> Result<Read<'s>, AllocError>
+    requires { line.old.text.now ≡ start.text.now }
     ensures reads { IfOk result (λ r. exec (token (C.classes classes.now) mode) (place start.entry) ≡ (r.token, place r.after)) }
     ensures hull { IfOk result (λ r. r.hull ≡ bytes.token_hull (C.classes classes.now) mode (place start.entry)) }
     ensures fits { IfOk result (λ r. r.hull.least < 2 ^ 64) }
     ensures same_text { IfOk result (λ r. r.after.text.now ≡ start.entry.text.now) }
+    ensures line_text { line.new.text.now ≡ line.old.text.now }
 {
     let mut after = start;
-    let (token, hull) = token(alloc, &mut after, mode, classes)?;
+    let (token, hull) = token(alloc, &mut after, line, mode, classes)?;
     Ok(Read { token, after, hull })
 }
 

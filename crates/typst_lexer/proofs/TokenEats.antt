@@ -1,26 +1,16 @@
 -- A token takes at least one character, unless it is the end.
-use Rattle.std.proofs.Common.{◌≡◌, ◌≤◌, ℕ, Bool, true, false, List, [], ◌∷◌, length, slice_get, if◌then◌else◌, ◌==◌, ◌||◌, refl, ap, ◌∙◌, arith, Some, None}
+use Rattle.std.proofs.Common.{◌≡◌, ◌≤◌, ℕ, true, slice_get, if◌then◌else◌, ◌==◌, refl, ap, ◌∙◌, arith, Some, None}
 use Rattle.std.proofs.lemmas.Bool.Decides.{nat_tests}
-use Rattle.std.specs.Char.{is_ascii_digit}
-use Rattle.std.specs.List.{prefix_len}
 use Rattle.std.specs.Prelude.{IsSome, is_none}
-use Rattle.typst_kinds.specs.declared.kind.SyntaxKind.{SyntaxKind}
 use Rattle.typst_kinds.specs.declared.kind.SyntaxKind.TheVariants as kind
 use Rattle.typst_kinds.specs.declared.mode.SyntaxMode.{SyntaxMode}
 use Rattle.typst_kinds.specs.declared.mode.SyntaxMode.TheVariants.{Markup, Math, Code}
 use Rattle.typst_lines.specs.Place.{Place, scout, passes}
 use Rattle.typst_tokens.specs.Characters.{is_space}
 use Rattle.typst_classes.specs.Classes.{CharClasses, in_line}
-use Rattle.typst_classes.specs.Identifiers.{is_id_continue}
 use Rattle.typst_tokens.specs.Common.{whitespace, shebang, line_comment, block_comment, comment_end}
-use Rattle.typst_markup_tokens.specs.Markup.{dot, minus, emphasis, heading, marker, numbering, markup}
-use Rattle.typst_tokens.specs.Common.{sign}
-use Rattle.typst_tokens.specs.Escapes.{backslash}
 use Rattle.typst_readers.specs.Reader.{Reader, eaten}
 use Rattle.typst_readers.specs.Reader.Reader.{answer}
-use Rattle.typst_markup_tokens.specs.Link.{link_or_text}
-use Rattle.typst_markup_tokens.specs.Names.{label_or_text, ref_marker, ref_or_text}
-use Rattle.typst_tokens.specs.Labels.{label}
 use Rattle.typst_tokens.specs.Raw.{raw}
 use Rattle.typst_tokens.specs.Token.{plain}
 use Rattle.typst_code_tokens.proofs.Eats.{code-eats}

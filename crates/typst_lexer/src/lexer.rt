@@ -17,16 +17,24 @@ use typst_markup_tokens::markup::markup;
 use typst_math_tokens::arguments;
 use typst_math_tokens::math::math;
 use typst_readers::column::column;
-use typst_readers::{Cursor, Hull};
+use typst_readers::{Cursor, Hull, LineEnd};
 use typst_tokens::Token;
 use typst_tokens::common::{block_comment, comment_end, line_comment, shebang, whitespace};
 use typst_tokens::raw::raw;
 use typst_tokens::sets::is_space;
 
+/// A place in a text, and the end of a line of it that is known.
+#[derive(Clone, Copy)]
+struct Spot<'a> {
+    s: Scanner<'a>,
+    line: LineEnd<'a>,
+    ghost same_text: { line.text.now ≡ s.text.now },
+}
+
 /// Reads a text token by token, in one mode or another.
 #[derive_where(Clone, Copy)]
 pub struct Lexer<'a, C: Classes> {
-    s: Scanner<'a>,
+    at: Spot<'a>,
     mode: SyntaxMode,
     newline: bool,
     classes: &'a C,
@@ -43,8 +51,12 @@ impl<'a, C: Classes> Lexer<'a, C> {
         ensures newline { newline_of result ≡ false }
         ensures classes { result.classes.now ≡ classes.now }
     {
-        Lexer {
+        let at = Spot {
             s: Scanner::new(text),
+            line: LineEnd::of_text(text),
+        };
+        Lexer {
+            at,
             mode,
             newline: false,
             classes,
@@ -75,7 +87,7 @@ impl<'a, C: Classes> Lexer<'a, C> {
         ensures boundary { IsCharBoundary (text_of self.now) result }
         ensures place { place self.now ≡ place_at (text_of self.now) result }
     {
-        self.s.cursor()
+        self.at.s.cursor()
     }
 
     /// Goes to a byte offset of the text, on a character boundary.
@@ -88,7 +100,10 @@ impl<'a, C: Classes> Lexer<'a, C> {
         ensures newline { newline_of self.new ≡ newline_of self.old }
         ensures classes { self.new.classes.now ≡ self.old.classes.now }
     {
-        self.s.jump(index);
+        let mut s = self.at.s;
+        s.jump(index);
+        let line = self.at.line;
+        self.at = Spot { s, line };
     }
 
     /// The class value by which it reads.
@@ -111,7 +126,7 @@ impl<'a, C: Classes> Lexer<'a, C> {
         requires { IsCharBoundary (text_of self.now) index }
         ensures { result ≡ column (place_at (text_of self.now) index) }
     {
-        let mut s = self.s;
+        let mut s = self.at.s;
         s.jump(index);
         column(&s).0
     }
@@ -128,28 +143,34 @@ impl<'a, C: Classes> Lexer<'a, C> {
         ensures classes { self.new.classes.now ≡ self.old.classes.now }
         ensures refused { OnErr result (self.new ≡ self.old) }
     {
-        let mut s = self.s;
-        let (token, _) = token(alloc, &mut s, self.mode, self.classes)?;
-        let text = s.since(&self.s);
-        self.s = s;
+        let mut s = self.at.s;
+        let mut line = self.at.line;
+        let (token, _) = token(alloc, &mut s, &mut line, self.mode, self.classes)?;
+        let text = s.since(&self.at.s);
+        self.at = Spot { s, line };
         self.newline = token.newline;
         Ok((token, text))
     }
 }
 
 /// The token of the mode that comes next, and the bytes that were looked at for it. This takes no
-/// memory but for the brackets of a link. Where memory is refused the scanner stays.
-pub fn token<C: Classes>(
+/// memory but for the brackets of a link. Where memory is refused the scanner stays. What is known
+/// of the end of a line goes from token to token, so that each line is gone through once for it.
+pub fn token<'a, C: Classes>(
     alloc: Global,
-    s: &mut Scanner<'_>,
+    s: &mut Scanner<'a>,
+    line: &mut LineEnd<'a>,
     mode: SyntaxMode,
     classes: &C,
 ) -> Result<(Token, Hull), AllocError>
+    requires { line.old.text.now ≡ s.old.text.now }
     ensures scans { IfOk result (λ r. Scans (spec.token (C.classes classes.now) mode) s.old r.0 r.1 s.new) }
+    ensures same_text { line.new.text.now ≡ line.old.text.now }
     ensures refused { OnErr result (s.new ≡ s.old) }
 {
-    let mut cursor = Cursor::new(*s);
+    let mut cursor = Cursor::on_line(*s, *line);
     let token = next_token(alloc, &mut cursor, mode, classes)?;
+    *line = cursor.line();
     let (after, hull) = cursor.finish();
     *s = after;
     Ok((token, hull))

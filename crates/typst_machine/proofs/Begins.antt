@@ -1,5 +1,5 @@
 -- Readings that begin by taking the token at hand, and so leave what stood before it.
-use Rattle.std.proofs.Common.{Option, ◌≡◌, ℕ, suc, ◌+◌, ◌-◌, ◌<◌, ◌≤◌, ◌==◌, Bool, true, false, if◌then◌else◌, nat_lt, List, [], ◌∷◌, ◌++◌, length, take, drop, append_assoc, append-nil, length-append, refl, ap, sym, ◌∙◌, subst, arith}
+use Rattle.std.proofs.Common.{Option, ◌≡◌, ℕ, ◌+◌, ◌-◌, ◌<◌, ◌==◌, Bool, true, false, if◌then◌else◌, nat_lt, List, [], ◌∷◌, ◌++◌, length, take, drop, append_assoc, append-nil, length-append, refl, ap, sym, ◌∙◌, subst, arith}
 use borrow.Author.Tests.{lt-ltb}
 use Rattle.std.proofs.Math.Seq.{take-length}
 use Rattle.typst_lines.specs.Place.{moved}
@@ -23,7 +23,7 @@ use Rattle.typst_machine.specs.View.{View, Ran, Fits, at}
 use Rattle.typst_machine.specs.Checkpoint.{Leaves, first_of}
 use Rattle.typst_ahead.proofs.Backs.{backs-run}
 use Rattle.typst_ahead.proofs.Hints.{hinted-append, length-hinted}
-use Rattle.typst_ahead.proofs.Places.{take-both, drop-both, take-all, drop-all, less-none}
+use Rattle.typst_ahead.proofs.Places.{take-both, drop-both, drop-all, less-none}
 use Rattle.typst_machine.proofs.Runs.{asked-same}
 
 -- an outcome gives these trivia first, and more, and does nothing to what stood before

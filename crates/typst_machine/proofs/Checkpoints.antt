@@ -1,5 +1,5 @@
 -- Going back to a checkpoint.
-use Rattle.std.proofs.Common.{◌≡◌, ℕ, min, if◌then◌else◌, List, length, take, drop, None, refl}
+use Rattle.std.proofs.Common.{◌≡◌, ℕ, min, if◌then◌else◌, List, length, take, None, refl}
 use Rattle.typst_node.specs.Tree.{Tree}
 use Rattle.typst_ahead.specs.Hand.{known_by}
 use Rattle.typst_ahead.specs.Log.{Log}

@@ -1,5 +1,5 @@
 -- What grows: a loop of which each turn may make one node of all that was given since its beginning.
-use Rattle.std.proofs.Common.{Option, Some, None, ◌≡◌, ℕ, zero, suc, ◌+◌, ◌-◌, ◌<◌, ◌≤◌, Bool, true, false, ◌&&◌, nat_lt, max, if◌then◌else◌, length, drop, refl, ap, sym, ◌∙◌, subst, arith}
+use Rattle.std.proofs.Common.{Option, Some, None, ◌≡◌, ℕ, suc, ◌+◌, ◌-◌, ◌<◌, ◌≤◌, true, false, ◌&&◌, nat_lt, max, length, drop, refl, ap, sym, ◌∙◌, subst, arith}
 use borrow.Author.Tests.{lt-ltb}
 use Rattle.typst_lines.specs.Place.{Place, moved}
 use Rattle.typst_ahead.specs.Point.{Point, Trivia, gap_of, pending}

@@ -1,5 +1,5 @@
 -- The token at hand, read from its start in another way.
-use Rattle.std.proofs.Common.{◌≡◌, ℕ, ◌+◌, List, [], ◌∷◌, ◌++◌, length, refl, ap, sym, ◌∙◌}
+use Rattle.std.proofs.Common.{◌≡◌, ℕ, ◌+◌, [], ◌∷◌, ◌++◌, refl, ap, sym, ◌∙◌}
 use Rattle.typst_kinds.specs.Kinds.{is_error}
 use Rattle.typst_lines.specs.Place.{Place, moved}
 use Rattle.typst_node.specs.Tree.{Tree, text_of}
@@ -14,7 +14,7 @@ use Rattle.typst_ahead.specs.calls.Way.{Way}
 use Rattle.typst_ahead.specs.Calls.{token_so}
 use Rattle.typst_ahead.specs.Point.{Point}
 use Rattle.typst_ahead.specs.Hand.{Hand, text_ahead, token_by, len_by}
-use Rattle.typst_ahead.specs.Log.{Log, with_hull}
+use Rattle.typst_ahead.specs.Log.{with_hull}
 use Rattle.typst_ahead.specs.Shape.{Making, made, after_node}
 use Rattle.typst_ahead.specs.Steps.{eat_so}
 use Rattle.typst_ahead.specs.Syntax.Op.{so, takes_so}

@@ -2,7 +2,6 @@
 use Rattle.std.proofs.Common.{◌≡◌, ℕ, ◌+◌, List, [], ◌∷◌, append-nil, refl, ap, sym, ◌∙◌}
 use Rattle.typst_kinds.specs.declared.kind.SyntaxKind.{SyntaxKind}
 use Rattle.typst_lines.specs.Place.{moved}
-use Rattle.typst_readers.specs.Sight.{hull_of}
 use Rattle.typst_ahead.specs.Hand.{Hand, token_at}
 use Rattle.typst_ahead.specs.Log.{with_hull}
 use Rattle.typst_ahead.specs.Shape.{hinted, hinted_last}

@@ -11,8 +11,6 @@ use Rattle.typst_tokens.specs.declared.token.Token.{Token}
 use Rattle.typst_tokens.specs.contracts.token.Token.{the_row as token_row}
 use Rattle.typst_ahead.specs.reading.Newlines.{Newlines}
 use Rattle.typst_ahead.specs.reading-rows.Newlines.{the_row as newlines_row}
-use Rattle.typst_ahead.specs.calls.Note.{Note}
-use Rattle.typst_ahead.specs.calls-rows.Note.{the_row as note_row}
 use Rattle.typst_ahead.specs.reading.Reading.{Reading}
 use Rattle.typst_ahead.specs.reading-rows.Reading.{the_row as reading_row}
 use Rattle.typst_ahead.specs.Point.{Point, Trivia}

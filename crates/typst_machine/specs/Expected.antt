@@ -3,7 +3,6 @@ use Rattle.std.specs.Prelude.{ℕ, Bool, true, false, List, codes}
 use Rattle.typst_kinds.specs.declared.kind.SyntaxKind.{SyntaxKind}
 use Rattle.typst_kinds.specs.declared.kind.SyntaxKind.TheVariants as kind
 use Rattle.typst_kinds.specs.Kinds.{is_keyword, same}
-use Rattle.typst_ahead.specs.Hand.{AtHand}
 use Rattle.typst_ahead.specs.Shape.{Seen}
 use Rattle.typst_ahead.specs.Shape.Change.{stays}
 use Rattle.typst_ahead.specs.Shape.Making.{wanted}

@@ -1,5 +1,5 @@
 -- What a parser of the code shows, and what it ensures.
-use Rattle.std.specs.Prelude.{◌≡◌, ℕ, ◌-◌, ◌<◌, ◌≤◌, ◌^◌, length, true, List, ◌++◌, [], ◌∷◌, take, drop, Option, Some, None, option_map, Result, Ok, Err}
+use Rattle.std.specs.Prelude.{◌≡◌, ℕ, ◌-◌, ◌<◌, ◌≤◌, length, true, List, ◌++◌, [], ◌∷◌, take, drop, Option, None, option_map, Result, Ok, Err}
 use Rattle.std.specs.declared.alloc.AllocError.{AllocError}
 use denote.Ref.{MutBor}
 use Rattle.typst_lines.specs.Place.{Place, moved}
@@ -12,13 +12,11 @@ use Rattle.typst_ahead.specs.calls.Call.{Call}
 use Rattle.typst_ahead.specs.calls.Call.TheVariants.{MarkupExpr, CodeExpr, MathExpr, Pattern}
 use Rattle.typst_ahead.specs.calls.Mark.{Mark}
 use Rattle.typst_ahead.specs.calls.Mark.TheVariants.{Opens, Closes}
-use Rattle.typst_ahead.specs.calls.Note.{Note}
 use Rattle.typst_ahead.specs.reading.Reading.{Reading}
-use Rattle.typst_ahead.specs.reading.State.{State}
 use Rattle.typst_ahead.specs.Calls.{Answer}
 use Rattle.typst_ahead.specs.Point.{Point, forgot, state_of}
 use Rattle.typst_ahead.specs.Hand.{Hand, known_by}
-use Rattle.typst_ahead.specs.Log.{Log, logged, least_behind, with_hull, with_more, with_note}
+use Rattle.typst_ahead.specs.Log.{Log, logged, with_hull, with_note}
 use Rattle.typst_ahead.specs.Shape.{Shape, becomes, shaped, after_shape}
 use Rattle.typst_ahead.specs.Sound.{Sound}
 use Rattle.typst_ahead.specs.Syntax.{Parser, ◌>>◌}

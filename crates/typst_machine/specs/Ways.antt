@@ -1,6 +1,6 @@
 -- The token at hand, read from its start in another way.
-use Rattle.std.specs.Prelude.{◌≡◌, ℕ, List, [], ◌∷◌, ◌++◌}
-use Rattle.typst_lines.specs.Place.{Place, moved}
+use Rattle.std.specs.Prelude.{◌≡◌, [], ◌∷◌, ◌++◌}
+use Rattle.typst_lines.specs.Place.{Place}
 use Rattle.typst_kinds.specs.Kinds.{is_error}
 use Rattle.typst_node.specs.Tree.{Tree, text_of}
 use Rattle.typst_ahead.specs.Shape.{after_node}

@@ -290,7 +290,8 @@ impl<'s> Parser<'s> {
     pub fn further<L: Levels>(&mut self, g: &L) -> Result<SyntaxKind, AllocError>
         ensures { Means (L.frame g.now) (does further) self.old result self.new }
     {
-        let next = read_token(self.alloc, self.ahead.after, self.state.reading.mode, g)?;
+        let mode = self.state.reading.mode;
+        let next = read_token(self.alloc, self.ahead.after, &mut self.ahead.line, mode, g)?;
         self.log.look(next.hull);
         Ok(next.token.kind)
     }

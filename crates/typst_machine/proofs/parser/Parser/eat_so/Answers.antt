@@ -1,15 +1,16 @@
-use Rattle.std.proofs.Common.{◌∙◌, ap, sym, subst, ℕ, List}
+use Rattle.std.proofs.Common.{◌∙◌, ap, sym, subst}
+use Rattle.std.proofs.lemmas.Str.{IsUtf8-had}
 use Rattle.std.specs.Str.{chars}
 use Rattle.typst_lines.specs.Place.{Place}
 use Rattle.typst_lines.specs.Scanner.{place}
 use Rattle.typst_classes.specs.Classes.{CharClasses}
-use Rattle.typst_readers.specs.Reader.{exec, look}
-use Rattle.typst_readers.specs.Sight.{hull_of}
+use Rattle.typst_readers.specs.Reader.{exec}
 use Rattle.typst_ahead.specs.Nodes.{token_node}
 use Rattle.typst_ahead.specs.Calls.{token_so}
 use Rattle.typst_ahead.specs.Hand.{len_by, text_ahead}
 use Rattle.typst_ahead.specs.Log.{Log}
 use Rattle.typst_ahead.specs.Shape.Making.{itself}
+use Rattle.typst_readers.proofs.Sights.{text-is}
 use Rattle.typst_machine.specs.Cursor.{view_of}
 use Rattle.typst_machine.specs.View.{View}
 use Rattle.typst_machine.specs.Ways.{GaveUpTo}
@@ -21,6 +22,11 @@ since-text-requires-clause-after g c =
     let k = g.L.Classes.classes c.args.g.now in
     let from = place c.self.inside.ahead.start in
     (len_by (token_so k c.args.way) from, end-so k c.args.way from _ _ c.in_ok-found.ensures.reads)
+
+pub take_so-requires : goal.take_so-requires
+take_so-requires g c =
+    let b = c.self.inside.ahead.before in
+    c.in_ok-found.ensures.same_text ∙ c.self.invariant.stands.start_text ∙ text-is b.text.now b.cursor (IsUtf8-had _ b.utf8) b.boundary
 
 pub returns : goal.returns
 returns g c l h =
