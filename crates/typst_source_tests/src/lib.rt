@@ -1,11 +1,9 @@
-//! Tests of sources: worked edits, edits in a row, numbers, trees that are handed in, refused memory.
+//! Tests of sources: numbers, bytes of numbers, trees that are handed in, an edit.
 #![tactic(auto)]
 
 #[cfg(test)]
 mod edits;
 #[cfg(test)]
 mod numbers;
-#[cfg(test)]
-mod refusals;
 #[cfg(test)]
 mod sources;
