@@ -6,3 +6,16 @@ pub mod Logs
 pub mod Bytes
 pub mod Columns
 pub mod Trivia
+-- What the crates above name of those below.
+pub use Rattle.typst_combinators.proofs.Backs
+pub use Rattle.typst_combinators.proofs.Eats
+pub use Rattle.typst_combinators.proofs.Ends
+pub use Rattle.typst_combinators.proofs.Frame
+pub use Rattle.typst_combinators.proofs.Hints
+pub use Rattle.typst_combinators.proofs.Knot
+pub use Rattle.typst_combinators.proofs.Leaves
+pub use Rattle.typst_combinators.proofs.Looks
+pub use Rattle.typst_combinators.proofs.Places
+pub use Rattle.typst_combinators.proofs.Rests
+pub use Rattle.typst_combinators.proofs.TokenTexts
+pub use Rattle.typst_combinators.proofs.Within

@@ -9,7 +9,7 @@ use Rattle.typst_kinds.specs.declared.kind.SyntaxKind.{SyntaxKind}
 use Rattle.typst_lines.specs.Place.{Place, moved, place_at}
 use Rattle.typst_node.specs.Tree.{Tree}
 use Rattle.typst_classes.specs.Classes.{CharClasses}
-use Rattle.typst_token_nodes.specs.Nodes.{token_node}
+use Rattle.typst_combinators.specs.Nodes.{token_node}
 use Rattle.typst_readers.specs.declared.hull.Hull.{Hull}
 use Rattle.typst_tokens.specs.declared.token.Token.{Token}
 use Rattle.typst_combinators.specs.declared.reading.Newlines.{Newlines}
@@ -19,7 +19,7 @@ use Rattle.typst_combinators.specs.Point.{Trivia, gap_of, no_newlines}
 use Rattle.typst_combinators.specs.Hand.{Hand, Ahead, text_ahead, token_at, len_at, at_trivia, both_newlines, newlines_of, direct, after_trivia, ahead_by, ahead, column_at, judged, hand_at, known_by}
 use Rattle.typst_ahead.specs.Bytes.{joined_hull, token_hull, tokens_by, tokens_at, column_hull, whole_at}
 use Rattle.typst_readers.specs.Reader.{exec, eaten}
-use Rattle.typst_lexer.specs.Tokens.{token}
+use Rattle.typst_combinators.specs.Tokens.{token}
 use Rattle.typst_readers.proofs.Moves.{exec-moved}
 use Rattle.typst_lines.specs.Scanner.{place}
 use Rattle.typst_ahead.specs.declared.ahead.ReadAhead.{ReadAhead as Front}
@@ -295,9 +295,9 @@ looking-end k m from z tokens h t = h.all ∙ ap (joined_hull tokens) (tokens-st
 pub is-ahead : (k : CharClasses) (held : Reading) (from : Scanner) (a : Front) → a.before ≡ from → a.is_read ≡ true
     → a.own ≡ token_hull k held.mode (place a.start) → a.here ≡ column_hull held a.newlines (place a.start) a.own → Along k held.mode a.newlines a.trivia.items (place a.before) (place a.start)
     → at_trivia k held.mode (place a.start) ≡ false → exec (token k held.mode) (place a.start) ≡ (a.token, place a.after)
-    → a.kind ≡ judged held a.newlines a.token.kind (column_at (place a.start)) → a.start.text.now ≡ a.before.text.now → a.after.text.now ≡ a.start.text.now
+    → a.kind ≡ judged held a.newlines a.token.kind (column_at (place a.start)) → a.start.text.now ≡ a.before.text.now → a.after.text.now ≡ a.start.text.now → a.line.text.now ≡ a.before.text.now
     → IsAhead k held from a
-is-ahead k held begin a same is_read own-is here-is along stop read kind-is one two =
+is-ahead k held begin a same is_read own-is here-is along stop read kind-is one two three =
     let m = held.mode in
     let from = place a.before in
     let z = place a.start in
@@ -309,7 +309,7 @@ is-ahead k held begin a same is_read own-is here-is along stop read kind-is one 
     record {
       before = same;
       is_read = is_read;
-      stands = record { start = start-at; after = after-is ∙ ap (λ n. moved n z) (sym len-is); start_text = one; after_text = two };
+      stands = record { start = start-at; after = after-is ∙ ap (λ n. moved n z) (sym len-is); start_text = one; after_text = two; line_text = three };
       hand = same-hand _ _ _ _ _ _ _ _ _ _ _ _ (kind-is ∙ ap (λ (u : Token). judged held a.newlines u.kind (column_at z)) (sym t)) refl gap-is len-is refl (sym t) ∙ along-end k held a.newlines a.trivia.items from z along stop ∙ ap (λ (s : Scanner). hand_at k held None (place s)) same;
       own = own-is ∙ ap (token_hull k m) start-at ∙ ap (λ (s : Scanner). token_hull k m (moved (distance a.before a.start) (place s))) same;
       here = here-is ∙ ap (λ (p : Place). column_hull held a.newlines p a.own) start-at ∙ ap (λ (s : Scanner). column_hull held a.newlines (moved (distance a.before a.start) (place s)) a.own) same;

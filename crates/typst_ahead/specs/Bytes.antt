@@ -6,7 +6,7 @@ use Rattle.typst_classes.specs.Classes.{CharClasses}
 use Rattle.typst_readers.specs.Reader.{look}
 use Rattle.typst_readers.specs.Sight.{hull_of}
 use Rattle.typst_readers.specs.declared.hull.Hull.{Hull}
-use Rattle.typst_lexer.specs.Tokens.{token}
+use Rattle.typst_combinators.specs.Tokens.{token}
 use Rattle.typst_combinators.specs.declared.reading.Newlines.{Newlines}
 use Rattle.typst_combinators.specs.declared.reading.Reading.{Reading}
 use Rattle.typst_combinators.specs.Hand.{len_at, at_trivia, ahead, asks_column, column_look}

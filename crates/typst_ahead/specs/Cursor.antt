@@ -30,6 +30,7 @@ pub record Stands (a : ReadAhead) : Type 0 where
   pub after : place a.after ≡ moved (distance a.start a.after) (place a.start)
   pub start_text : a.start.text.now ≡ a.before.text.now
   pub after_text : a.after.text.now ≡ a.start.text.now
+  pub line_text : a.line.text.now ≡ a.before.text.now
 
 -- trivia and token are those at a place of which nothing was known
 pub record IsAhead (k : CharClasses) (held : Reading) (from : Scanner) (a : ReadAhead) : Type 0 where

@@ -1,5 +1,5 @@
 -- What the log of the code does with notes.
-use Rattle.std.specs.Prelude.{ℕ, ◌-◌, ◌^◌, min, List, [], ◌∷◌, take, drop, Option, Some, None, option_map}
+use Rattle.std.specs.Prelude.{ℕ, min, List, [], ◌∷◌, take, drop, Option, Some, None, option_map}
 use Rattle.typst_combinators.specs.declared.calls.Mark.{Mark}
 use Rattle.typst_combinators.specs.declared.calls.Note.{Note}
 use Rattle.typst_combinators.specs.declared.reading.State.{State}

@@ -2,7 +2,7 @@
 
 ghost use Rattle.std.specs.Prelude.{◌≡◌, ◌≤◌, ◌<◌, ◌^◌, ◌++◌, ◌∷◌, [], IfOk, OnOk, OnErr};
 ghost use Rattle.std.specs.Str.{chars};
-ghost use Rattle.typst_token_nodes.specs.Nodes.{token_node};
+ghost use Rattle.typst_combinators.specs.Nodes.{token_node};
 ghost use Rattle.typst_kinds.specs.Kinds.{is_error};
 ghost use Rattle.typst_lines.specs.Scanner.{place};
 ghost use Rattle.typst_combinators.specs.Hand as spec;
@@ -11,19 +11,18 @@ ghost use Rattle.typst_ahead.specs.Bytes as bytes;
 ghost use Rattle.typst_ahead.specs.Bytes.{bytes_left};
 ghost use Rattle.typst_readers.specs.Reader.{exec};
 ghost use Rattle.typst_readers.specs.Sight.{hull_of};
-ghost use Rattle.typst_lexer.specs.Tokens.{token};
+ghost use Rattle.typst_combinators.specs.Tokens.{token};
 ghost use Rattle.typst_ahead.specs.Cursor.{IsAhead, Stands};
 
 use crate::log::joined;
 use std::alloc::{AllocError, Global};
 use typst_classes::Classes;
-use typst_combinators::{AtNewline, Newlines, Reading};
+use typst_combinators::{
+    AtNewline, Hull, LineEnd, Newlines, Reading, Token, is_leaf, leaf_node, make_node, token,
+};
 use typst_kinds::{SyntaxKind, SyntaxMode};
-use typst_lexer::lexer::token;
-use typst_lexer::{Hull, Token};
 use typst_lines::{Scanner, is_newline};
 use typst_node::SyntaxNode;
-use typst_token_nodes::{is_leaf, leaf_node, make_node};
 
 /// The token at hand, with the trivia before it.
 #[derive(Drop)]
@@ -47,6 +46,8 @@ pub struct ReadAhead<'s> {
     pub own: Hull,
     /// The same, with its column where the newline rule asks for it.
     pub here: Hull,
+    /// The end of a line of the text that is known.
+    pub line: LineEnd<'s>,
 }
 
 impl<'s> ReadAhead<'s> {
@@ -74,6 +75,7 @@ impl<'s> ReadAhead<'s> {
             kind: SyntaxKind::End,
             own: nothing,
             here: nothing,
+            line: LineEnd::of_text(at.string()),
         }
     }
 
@@ -94,6 +96,7 @@ impl<'s> ReadAhead<'s> {
         held: Reading,
         classes: &C,
     ) -> Result<Hull, AllocError>
+        requires { self.old.line.text.now ≡ self.old.before.text.now }
         ensures read { OnOk result (IsAhead (C.classes classes.now) held self.old.before self.new) }
         ensures hull { IfOk result (λ u. u ≡ bytes.whole_at (C.classes classes.now) held (place self.old.before)) }
         ensures refused { OnErr result (Stands self.old → Stands self.new) }
@@ -106,7 +109,7 @@ impl<'s> ReadAhead<'s> {
             least: usize::MAX,
         };
         'tokens: loop {
-            let next = read_token(alloc, start, held.mode, classes)?;
+            let next = read_token(alloc, start, &mut self.line, held.mode, classes)?;
             tokens = joined(tokens, next.hull);
             if !next.token.kind.is_trivia() || left(&start) <= left(&next.after) {
                 let (kind, here) = judged(held, newlines, next.token.kind, &start, next.hull);
@@ -162,16 +165,19 @@ pub struct Read<'s> {
 pub fn read_token<'s, C: Classes>(
     alloc: Global,
     start: Scanner<'s>,
+    line: &mut LineEnd<'s>,
     mode: SyntaxMode,
     classes: &C,
 ) -> Result<Read<'s>, AllocError>
+    requires { line.old.text.now ≡ start.text.now }
     ensures reads { IfOk result (λ r. exec (token (C.classes classes.now) mode) (place start.entry) ≡ (r.token, place r.after)) }
     ensures hull { IfOk result (λ r. r.hull ≡ bytes.token_hull (C.classes classes.now) mode (place start.entry)) }
     ensures fits { IfOk result (λ r. r.hull.least < 2 ^ 64) }
     ensures same_text { IfOk result (λ r. r.after.text.now ≡ start.entry.text.now) }
+    ensures line_text { line.new.text.now ≡ line.old.text.now }
 {
     let mut after = start;
-    let (token, hull) = token(alloc, &mut after, mode, classes)?;
+    let (token, hull) = token(alloc, &mut after, line, mode, classes)?;
     Ok(Read { token, after, hull })
 }
 

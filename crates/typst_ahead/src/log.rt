@@ -9,8 +9,7 @@ ghost use Rattle.typst_ahead.specs.Noted.{listed, with_noted};
 
 use std::alloc::{AllocError, Global};
 use std::marker::Model;
-use typst_combinators::{Mark, Note, State};
-use typst_lexer::Hull;
+use typst_combinators::{Hull, Mark, Note, State};
 
 /// What was looked at and noted so far.
 #[derive(Drop)]

@@ -34,10 +34,10 @@ fn words(rt: &HostRuntime, alloc: Global) -> anyhow::Result<(Work, u64)> {
     let mut words = env::args(rt)?;
     let _name = words.next();
     let (Some(word), Some(rounds)) = (words.next(), words.next()) else {
-        anyhow::bail!("usage: typst_bench lines|parse|parse-code|html|edit N");
+        anyhow::bail!("usage: typst_bench lines|parse|parse-code|parse-math|html|edit N");
     };
     let Some(work) = Work::from_word(word.as_str()) else {
-        anyhow::bail!("usage: typst_bench lines|parse|parse-code|html|edit N");
+        anyhow::bail!("usage: typst_bench lines|parse|parse-code|parse-math|html|edit N");
     };
     Ok((work, rounds.as_str().parse()?))
 }

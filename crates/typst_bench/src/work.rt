@@ -4,7 +4,9 @@ ghost use Rattle.typst_bench.specs.Words.{word_of, work_named};
 
 use crate::edited::Edited;
 use std::alloc::{AllocError, Global};
-use typst_parser::{Lines, SyntaxNode, UnicodeClasses, highlight_html, parse, parse_code};
+use typst_parser::{
+    Lines, SyntaxNode, UnicodeClasses, highlight_html, parse, parse_code, parse_math,
+};
 
 /// A kind of work on a text.
 #[derive(Debug, Clone, Copy, PartialEq, Eq)]
@@ -15,6 +17,8 @@ pub enum Work {
     Parse,
     /// Makes the syntax tree of code.
     ParseCode,
+    /// Makes the syntax tree of a formula.
+    ParseMath,
     /// Writes the syntax tree as HTML.
     Html,
     /// Puts a letter into the middle of a source, or takes it out.
@@ -30,6 +34,8 @@ pub enum Subject {
     Text(String),
     /// A text of code, whose tree is made.
     Code(String),
+    /// The text of a formula, whose tree is made.
+    Math(String),
     /// A syntax tree, which is written as HTML.
     Tree(SyntaxNode),
     /// A source, which is edited.
@@ -45,6 +51,7 @@ impl Work {
             "lines" => Some(Work::Lines),
             "parse" => Some(Work::Parse),
             "parse-code" => Some(Work::ParseCode),
+            "parse-math" => Some(Work::ParseMath),
             "html" => Some(Work::Html),
             "edit" => Some(Work::Edit),
             _ => None,
@@ -59,6 +66,7 @@ impl Work {
             Work::Lines => "lines",
             Work::Parse => "parse",
             Work::ParseCode => "parse-code",
+            Work::ParseMath => "parse-math",
             Work::Html => "html",
             Work::Edit => "edit",
         }
@@ -70,6 +78,7 @@ impl Work {
             Work::Lines => Subject::Lines(text),
             Work::Parse => Subject::Text(text),
             Work::ParseCode => Subject::Code(text),
+            Work::ParseMath => Subject::Math(text),
             Work::Html => Subject::Tree(parse(alloc, text.as_str(), &UnicodeClasses)?),
             Work::Edit => Subject::Source(Edited::new(alloc, text)?),
         })
@@ -83,6 +92,7 @@ impl Subject {
             Subject::Lines(text) => lines(alloc, text.as_str())?,
             Subject::Text(text) => size(&parse(alloc, text.as_str(), &UnicodeClasses)?),
             Subject::Code(text) => size(&parse_code(alloc, text.as_str(), &UnicodeClasses)?),
+            Subject::Math(text) => size(&parse_math(alloc, text.as_str(), &UnicodeClasses)?),
             Subject::Tree(root) => html(alloc, root)?,
             Subject::Source(edited) => edited.round()?,
         })

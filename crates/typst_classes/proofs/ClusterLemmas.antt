@@ -1,5 +1,5 @@
 -- The first cluster of a line in bytes and in characters.
-use Rattle.std.proofs.Common.{◌≡◌, ◌<◌, ℕ, Bool, true, false, ◌&&◌, if◌then◌else◌, List, [], ◌∷◌, take, length, refl, sym, ap, subst, ◌∙◌, arith, ltb-true, length-take-le, suc, append-nil}
+use Rattle.std.proofs.Common.{◌≡◌, ◌<◌, ℕ, Bool, true, false, if◌then◌else◌, List, [], ◌∷◌, take, length, refl, sym, ap, subst, ◌∙◌, arith, ltb-true, length-take-le, suc, append-nil}
 use Rattle.std.proofs.lemmas.Bool.Decides.{nat_tests}
 use Rattle.std.proofs.lemmas.Str.{length-encode, encodes-IsAscii, encodes-chars, chars-IsAscii, IsAscii-take}
 use Rattle.std.proofs.lemmas.Str.Ascii.{IsAscii-nil, IsAscii-cons}
@@ -45,7 +45,7 @@ module _ (line : List ℕ) (u : IsUtf8 line) (some : 0 < length line) where
   pub more : 0 < length (chars line)
   more = some_chars (chars line) line (encodes-chars line u) some
 
-  pub not_ascii : IsNotAscii line → list_all is_ascii (chars line) ≡ false
+  not_ascii : IsNotAscii line → list_all is_ascii (chars line) ≡ false
   not_ascii n =
       never _ (λ all.
       let a = IsAscii-chars (chars line) all in

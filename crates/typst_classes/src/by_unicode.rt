@@ -1,5 +1,8 @@
 //! The classes by the properties of Unicode.
-ghost use Rattle.std.specs.Prelude.{◌≡◌};
+ghost use Rattle.std.specs.Char.{is_ascii};
+ghost use Rattle.std.specs.List.{list_all};
+ghost use Rattle.std.specs.Prelude.{◌≡◌, take};
+ghost use Rattle.std.specs.Str.{chars};
 ghost use Rattle.typst_classes.specs.UnicodeTables.{unicode_numeric, unicode_alphanumeric, is_unspaced};
 ghost use Rattle.unicode.specs.Script.{script};
 
@@ -90,7 +93,7 @@ impl Classes for UnicodeClasses {
     }
 
     fn cluster(&self, line: &str) -> usize {
-        if line.is_ascii() {
+        if begins_alone(line) {
             return 1;
         }
         match line.graphemes(true).next() {
@@ -98,6 +101,14 @@ impl Classes for UnicodeClasses {
             None => 1,
         }
     }
+}
+
+/// Whether the line is one ASCII character or begins with two, between which a cluster ends.
+#[inline]
+fn begins_alone(line: &str) -> bool
+    ensures { result ≡ list_all is_ascii (take 2 (chars line.now)) }
+{
+    line.chars().take(2).all(|c| c.is_ascii())
 }
 
 /// Whether the general category is Nd, Nl or No.

@@ -9,7 +9,7 @@ use Rattle.typst_node.specs.Diagnostic.{Diagnostic, Hint}
 use Rattle.typst_node_data.specs.Head.{Head}
 use Rattle.typst_node.specs.Tree.{Forest, none, more, Tree, joined, text_of}
 use Rattle.typst_classes.specs.Classes.{CharClasses}
-use Rattle.typst_parser.specs.Grammar.{tree, tree_code}
+use Rattle.typst_parser.specs.Grammar.{tree, tree_code, tree_math}
 use Rattle.typst_cli.specs.Variants.{variant_name}
 
 -- characters as bytes, with a space for each newline character
@@ -81,3 +81,7 @@ tree_printed k text = node_lines [] 0 (tree k (chars text))
 -- the same of a text of code
 abbrev pub code_tree_printed : CharClasses → List ℕ → List ℕ
 code_tree_printed k text = node_lines [] 0 (tree_code k (chars text))
+
+-- the same of the text of a formula
+abbrev pub math_tree_printed : CharClasses → List ℕ → List ℕ
+math_tree_printed k text = node_lines [] 0 (tree_math k (chars text))

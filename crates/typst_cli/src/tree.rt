@@ -8,7 +8,7 @@ pub use crate::variants::variant_name;
 use std::alloc::{AllocError, Global};
 use std::ops::Range;
 use typst_parser::{
-    Classes, Diagnostic, Hint, Severity, SyntaxNode, is_newline, parse, parse_code,
+    Classes, Diagnostic, Hint, Severity, SyntaxNode, is_newline, parse, parse_code, parse_math,
 };
 
 /// The syntax tree of the text. Each node has a line with its kind, its range in bytes and, for an
@@ -28,6 +28,16 @@ pub fn answer_code<C: Classes>(alloc: Global, text: &str, classes: &C) -> Result
     ensures { IfOk result (λ printed. string_bytes printed ≡ spec.code_tree_printed (C.classes classes.now) text.now) }
 {
     let root = parse_code(alloc, text, classes)?;
+    let mut printed = String::new(alloc);
+    print_node(alloc, &mut printed, &root, "", 0)?;
+    Ok(printed)
+}
+
+/// The same of the text of a formula.
+pub fn answer_math<C: Classes>(alloc: Global, text: &str, classes: &C) -> Result<String, AllocError>
+    ensures { IfOk result (λ printed. string_bytes printed ≡ spec.math_tree_printed (C.classes classes.now) text.now) }
+{
+    let root = parse_math(alloc, text, classes)?;
     let mut printed = String::new(alloc);
     print_node(alloc, &mut printed, &root, "", 0)?;
     Ok(printed)

@@ -1,22 +1,23 @@
 -- Arguments of calls.
-use Rattle.std.specs.Prelude.{ℕ, Bool, true, false, not, ◌||◌, ◌&&◌, if◌then◌else◌, List, [], ◌++◌, Option, Some, None, codes}
+use Rattle.std.specs.Prelude.{ℕ, Bool, true, false, not, ◌||◌, ◌&&◌, if◌then◌else◌, List, [], Option, Some, None, codes}
 use Rattle.typst_kinds.specs.Kinds.{same, is_terminator}
 use Rattle.typst_kinds.specs.declared.kind.SyntaxKind.{SyntaxKind}
 use Rattle.typst_kinds.specs.declared.kind.SyntaxKind.TheVariants as kind
-use Rattle.typst_combinators.specs.declared.calls.Block.TheVariants as block
-use Rattle.typst_combinators.specs.declared.reading.AtNewline.TheVariants as newline
-use Rattle.typst_combinators.specs.Shape.{Change, Shape, becomes, unclosed}
-use Rattle.typst_combinators.specs.Shape.Change.{stays, turns_wrong, is_not}
-use Rattle.typst_combinators.specs.Shape.Shape.{keeps, holds}
-use Rattle.typst_combinators.specs.Syntax.{Parser, ◌>>=◌, ◌>>◌}
-use Rattle.typst_combinators.specs.Syntax.Op.{advises}
-use Rattle.typst_combinators.specs.Syntax.Parser.{gives, does, pick, repeat}
-use Rattle.typst_combinators.specs.Steps.{peek, eat, eat_if, unexpected, expected, within, node, read_block}
+use Rattle.typst_markup.specs.calls.Block.TheVariants as block
+use Rattle.typst_markup.specs.reading.AtNewline.TheVariants as newline
+use Rattle.typst_markup.specs.Shape.{Change, Shape, becomes, unclosed}
+use Rattle.typst_markup.specs.Shape.Change.{stays, is_not}
+use Rattle.typst_markup.specs.Shape.Shape.{keeps, holds}
+use Rattle.typst_markup.specs.Syntax.{Parser, ◌>>=◌, ◌>>◌}
+use Rattle.typst_markup.specs.Syntax.Op.{advises}
+use Rattle.typst_markup.specs.Syntax.Parser.{gives, does, pick, repeat}
+use Rattle.typst_markup.specs.Steps.{peek, eat, eat_if, unexpected, expected, within, node, read_block}
 use Rattle.typst_markup.specs.Markup.{at_newline, opens_directly}
-use Rattle.typst_keys.specs.declared.keys.Key.{Key}
-use Rattle.typst_keys.specs.declared.keys.Key.TheVariants as key
-use Rattle.typst_keys.specs.Keys.{has_name, with_name}
-use Rattle.typst_code.specs.Groups.{begins_item, spread, pair, separator}
+use Rattle.typst_named.specs.keys.Key.{Key}
+use Rattle.typst_named.specs.keys.Key.TheVariants as key
+use Rattle.typst_named.specs.Named.{when_named, with_argument}
+use Rattle.typst_patterns.specs.Parts.{separator}
+use Rattle.typst_code.specs.Groups.{begins_item, spread, pair}
 
 -- arguments begin with a paren or a bracket
 abbrev pub opens_arguments : SyntaxKind → Bool
@@ -26,10 +27,7 @@ opens_arguments k = same kind.LeftParen k || same kind.LeftBracket k
 abbrev pub calls_directly : SyntaxKind → Bool → Bool
 calls_directly k has_trivia = opens_arguments k && not has_trivia
 
--- what stands before a colon has to be a name that wasn't seen
-abbrev pub when_named : List (List ℕ) → List ℕ → Change
-when_named names name = if has_name names name then turns_wrong (codes "duplicate argument: " ++ name) else stays
-
+-- what stands before a colon has to be a name
 abbrev pub name_change : List (List ℕ) → Key → Change
 name_change names (key.Name name) = when_named names name
 name_change names (key.Str text) = is_not (codes "identifier")
@@ -38,10 +36,6 @@ name_change names key.Other = is_not (codes "identifier")
 abbrev pub argument_shape : List (List ℕ) → Option Key → Shape
 argument_shape names None = keeps stays
 argument_shape names (Some key) = holds (name_change names key) kind.Named
-
-abbrev pub with_argument : List (List ℕ) → Option Key → List (List ℕ)
-with_argument names (Some (key.Name name)) = with_name names name
-with_argument names _ = names
 
 -- one argument; answers the names that were seen
 unfoldable pub argument : List (List ℕ) → Parser (List (List ℕ))

@@ -9,15 +9,17 @@ use Rattle.typst_kinds.specs.declared.operator.BinOp.{BinOp}
 use Rattle.typst_kinds.specs.declared.operator.BinOp.TheVariants as binary
 use Rattle.typst_kinds.specs.declared.operator.UnOp.{UnOp}
 use Rattle.typst_kinds.specs.declared.operator.UnOp.TheVariants as unary
-use Rattle.typst_combinators.specs.declared.calls.Block.TheVariants as block
-use Rattle.typst_combinators.specs.declared.calls.Call.TheVariants.{CodeExpr}
-use Rattle.typst_combinators.specs.Shape.{Shape, becomes}
-use Rattle.typst_combinators.specs.Shape.Making.{wanted}
-use Rattle.typst_combinators.specs.Syntax.{Parser, ◌>>=◌, ◌>>◌}
-use Rattle.typst_combinators.specs.Syntax.Op.{further}
-use Rattle.typst_combinators.specs.Syntax.Parser.{gives, does, pick}
-use Rattle.typst_combinators.specs.Steps.{peek, eat, eat_making, unexpected, expected, node, grow, read_block}
-use Rattle.typst_combinators.specs.Depth.{deeper}
+use Rattle.typst_markup.specs.calls.Block.TheVariants as block
+use Rattle.typst_markup.specs.calls.Call.TheVariants.{CodeExpr}
+use Rattle.typst_markup.specs.Shape.{Shape, becomes}
+use Rattle.typst_markup.specs.Syntax.{Parser, ◌>>=◌, ◌>>◌}
+use Rattle.typst_markup.specs.Syntax.Op.{further}
+use Rattle.typst_markup.specs.Syntax.Parser.{gives, does, pick}
+use Rattle.typst_markup.specs.Steps.{peek, eat, unexpected, expected, node, grow, read_block}
+use Rattle.typst_markup.specs.Depth.{deeper}
+use Rattle.typst_markup.specs.Equations.{equation}
+use Rattle.typst_patterns.specs.Bindings.{let_binding}
+use Rattle.typst_patterns.specs.Closures.{named, placeholder}
 use Rattle.typst_code.specs.declared.heads.CodeHead.{CodeHead}
 use Rattle.typst_code.specs.declared.heads.CodeHead.TheVariants as head
 use Rattle.typst_code.specs.declared.heads.CodeTail.{CodeTail}
@@ -25,16 +27,17 @@ use Rattle.typst_code.specs.declared.heads.CodeTail.TheVariants as tail
 use Rattle.typst_code.specs.Arguments.{arguments, calls_directly}
 use Rattle.typst_code.specs.Groups.{group}
 use Rattle.typst_code.specs.Imports.{module_import}
-use Rattle.typst_code.specs.Statements.{field, set_rule, show_rule, contextual, conditional, while_loop, module_include, jump, func_return}
+use Rattle.typst_code.specs.Parens.{parens}
+use Rattle.typst_code.specs.Statements.{field, set_rule, show_rule, contextual, conditional, while_loop, for_loop, module_include, jump, func_return}
 
 -- ---- what an expression begins with
 
--- what the token at hand begins. LATER, formulas: `$`. LATER, patterns: `let`, `for`, and `=>` or `=` behind a name or an underscore
+-- what the token at hand begins
 abbrev pub code_head : Bool → SyntaxKind → CodeHead
 code_head atomic kind.Plus = if atomic then head.StrayOperator else head.Unary unary.Pos
 code_head atomic kind.Minus = if atomic then head.StrayOperator else head.Unary unary.Neg
 code_head atomic kind.Not = if atomic then head.StrayOperator else head.Unary unary.Not
-code_head atomic kind.Ident = head.Itself
+code_head atomic kind.Ident = if atomic then head.Itself else head.Named
 code_head atomic kind.Raw = head.Itself
 code_head atomic kind.None = head.Itself
 code_head atomic kind.Auto = head.Itself
@@ -46,12 +49,15 @@ code_head atomic kind.Str = head.Itself
 code_head atomic kind.Label = head.Itself
 code_head atomic kind.LeftBrace = head.CodeBlock
 code_head atomic kind.LeftBracket = head.ContentBlock
-code_head atomic kind.LeftParen = head.Group
+code_head atomic kind.Dollar = head.Equation
+code_head atomic kind.LeftParen = if atomic then head.Group else head.Parens
+code_head atomic kind.Let = head.Let
 code_head atomic kind.Set = head.Set
 code_head atomic kind.Show = head.Show
 code_head atomic kind.Context = head.Context
 code_head atomic kind.If = head.If
 code_head atomic kind.While = head.While
+code_head atomic kind.For = head.For
 code_head atomic kind.Import = head.Import
 code_head atomic kind.Include = head.Include
 code_head atomic kind.Break = head.Break
@@ -69,15 +75,20 @@ abbrev pub code_by : Bool → CodeHead → Parser (Unit {0})
 code_by atomic (head.Unary op) = unary_expr op
 code_by atomic head.StrayOperator = unexpected (codes "to use a unary operator here, wrap the entire expression in parentheses" ∷ [])
 code_by atomic head.Itself = eat
-code_by atomic head.Placeholder = eat_making false (wanted (codes "expression"))
+code_by atomic head.Named = named
+code_by atomic head.Placeholder = placeholder
 code_by atomic head.CodeBlock = read_block block.Code
 code_by atomic head.ContentBlock = read_block block.Content
-code_by atomic head.Group = group
+code_by atomic head.Equation = equation
+code_by atomic head.Group = group >> gives tt
+code_by atomic head.Parens = parens
+code_by atomic head.Let = let_binding
 code_by atomic head.Set = set_rule
 code_by atomic head.Show = show_rule
 code_by atomic head.Context = contextual atomic
 code_by atomic head.If = conditional
 code_by atomic head.While = while_loop
+code_by atomic head.For = for_loop
 code_by atomic head.Import = module_import
 code_by atomic head.Include = module_include
 code_by atomic head.Break = jump kind.LoopBreak

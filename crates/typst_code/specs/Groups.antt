@@ -3,21 +3,22 @@ use Rattle.std.specs.Prelude.{ℕ, Bool, true, false, not, ◌||◌, ◌&&◌, i
 use Rattle.typst_kinds.specs.Kinds.{same, is_terminator}
 use Rattle.typst_kinds.specs.declared.kind.SyntaxKind.{SyntaxKind}
 use Rattle.typst_kinds.specs.declared.kind.SyntaxKind.TheVariants as kind
-use Rattle.typst_combinators.specs.declared.reading.AtNewline.TheVariants as newline
-use Rattle.typst_combinators.specs.Shape.{Change, Shape, becomes, unclosed}
-use Rattle.typst_combinators.specs.Shape.Change.{stays, turns_wrong, is_not}
-use Rattle.typst_combinators.specs.Shape.Shape.{keeps, holds}
-use Rattle.typst_combinators.specs.Syntax.{Parser, ◌>>=◌, ◌>>◌}
-use Rattle.typst_combinators.specs.Syntax.Parser.{gives, pick, repeat}
-use Rattle.typst_combinators.specs.Steps.{peek, eat, eat_if, unexpected, within, node}
-use Rattle.typst_machine.specs.Expected.{expects, seeing}
+use Rattle.typst_markup.specs.reading.AtNewline.TheVariants as newline
+use Rattle.typst_markup.specs.Shape.{Change, Shape, becomes, unclosed}
+use Rattle.typst_markup.specs.Shape.Change.{stays, turns_wrong, is_not}
+use Rattle.typst_markup.specs.Shape.Shape.{keeps, holds}
+use Rattle.typst_markup.specs.Syntax.{Parser, ◌>>=◌, ◌>>◌}
+use Rattle.typst_markup.specs.Syntax.Parser.{gives, pick, repeat}
+use Rattle.typst_markup.specs.Steps.{peek, eat, eat_if, unexpected, within, node}
+use Rattle.typst_markup.specs.Expected.{seeing}
 use Rattle.typst_markup.specs.Markup.{at_newline}
 use Rattle.typst_markup.specs.Starts.{begins_code}
 use Rattle.typst_code.specs.declared.listing.Items.{Items}
-use Rattle.typst_keys.specs.declared.keys.Key.{Key}
-use Rattle.typst_keys.specs.declared.keys.Key.TheVariants as key
-use Rattle.typst_keys.specs.Keys.{has_name, with_name, key_of}
-use Rattle.typst_code.specs.Sequences.{code_expression}
+use Rattle.typst_named.specs.keys.Key.{Key}
+use Rattle.typst_named.specs.keys.Key.TheVariants as key
+use Rattle.typst_named.specs.Keys.{key_of}
+use Rattle.typst_names.specs.Names.{has_name, with_name}
+use Rattle.typst_patterns.specs.Parts.{code_expression, separator}
 
 -- ---- what lists have in common
 
@@ -35,12 +36,6 @@ pair = do
   first ← seeing code_expression
   ahead ← peek
   pick (same kind.Colon ahead.kind) (eat >> code_expression >> gives (Some (key_of first.1))) (gives None)
-
--- a comma stands between two items; answers whether one came
-unfoldable pub separator : Parser Bool
-separator = do
-  ahead ← peek
-  pick (is_terminator ahead.kind) (gives false) (expects (same kind.Comma) (codes "comma"))
 
 -- ---- items of arrays and dictionaries
 
@@ -133,8 +128,8 @@ group_kind items = if items.any && items.is_plain then kind.Parenthesized else l
 abbrev pub group_shape : Bool × SyntaxKind → Shape
 group_shape x = if x.0 then becomes x.1 else unclosed x.1
 
--- `( .. )`. LATER, patterns: where `=>` or `=` comes behind it this reading is given up
-unfoldable pub group : Parser (Unit {0})
+-- `( .. )`; answers what it is
+unfoldable pub group : Parser SyntaxKind
 group = do
   x ← node group_shape (within (at_newline newline.Continue) (do
     paren ← eat
@@ -142,4 +137,4 @@ group = do
     items ← repeat group_turn (no_items colon)
     closed ← eat_if (same kind.RightParen)
     gives (closed, group_kind items)))
-  gives tt
+  gives x.1

@@ -4,21 +4,17 @@ use Rattle.typst_kinds.specs.Kinds.{same}
 use Rattle.typst_kinds.specs.declared.kind.SyntaxKind.{SyntaxKind}
 use Rattle.typst_kinds.specs.declared.kind.SyntaxKind.TheVariants as kind
 use Rattle.typst_kinds.specs.declared.mode.SyntaxMode.TheVariants as mode
-use Rattle.typst_combinators.specs.declared.calls.Call.TheVariants.{CodeExpr}
-use Rattle.typst_combinators.specs.declared.reading.AtNewline.TheVariants as newline
-use Rattle.typst_combinators.specs.declared.reading.Reading.{Reading}
-use Rattle.typst_combinators.specs.Shape.{Shape, becomes, unclosed}
-use Rattle.typst_combinators.specs.Syntax.{Parser, ◌>>=◌, ◌>>◌}
-use Rattle.typst_combinators.specs.Syntax.Op.{advises, is_deepest}
-use Rattle.typst_combinators.specs.Syntax.Parser.{gives, does, pick, repeat, scoped}
-use Rattle.typst_combinators.specs.Steps.{peek, eat, close_if, unexpected, expected, within, node}
-use Rattle.typst_combinators.specs.Depth.{is_end, too_deep, deeper}
+use Rattle.typst_markup.specs.reading.AtNewline.TheVariants as newline
+use Rattle.typst_markup.specs.reading.Reading.{Reading}
+use Rattle.typst_markup.specs.Shape.{Shape, becomes, unclosed}
+use Rattle.typst_markup.specs.Syntax.{Parser, ◌>>=◌, ◌>>◌}
+use Rattle.typst_markup.specs.Syntax.Op.{advises, is_deepest}
+use Rattle.typst_markup.specs.Syntax.Parser.{gives, does, pick, repeat, scoped}
+use Rattle.typst_markup.specs.Steps.{peek, eat, close_if, unexpected, expected, within, node}
+use Rattle.typst_markup.specs.Depth.{is_end, too_deep}
 use Rattle.typst_markup.specs.Markup.{at_newline}
 use Rattle.typst_markup.specs.Starts.{begins_code}
-
--- an expression with all operators, one level deeper
-abbrev pub code_expression : Parser (Unit {0})
-code_expression = deeper (CodeExpr false 0) tt
+use Rattle.typst_patterns.specs.Parts.{code_expression}
 
 -- a code block ends at any closing delimiter
 abbrev pub ends_code : SyntaxKind → Bool

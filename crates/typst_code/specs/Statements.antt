@@ -1,24 +1,24 @@
 -- Statements, and what else a keyword begins.
-use Rattle.std.specs.Prelude.{Bool, true, false, not, if◌then◌else◌, Option, Some, None, codes}
-use Rattle.typst_kinds.specs.Kinds.{same}
+use Rattle.std.specs.Prelude.{ℕ, Bool, true, false, not, if◌then◌else◌, List, [], ◌∷◌, Option, Some, None, codes}
+use Rattle.typst_kinds.specs.Kinds.{same, among}
+use Rattle.typst_kinds.specs.Sets as set
 use Rattle.typst_kinds.specs.declared.kind.SyntaxKind.{SyntaxKind}
 use Rattle.typst_kinds.specs.declared.kind.SyntaxKind.TheVariants as kind
-use Rattle.typst_combinators.specs.declared.calls.Block.TheVariants as block
-use Rattle.typst_combinators.specs.declared.calls.Call.TheVariants.{CodeExpr}
-use Rattle.typst_combinators.specs.Shape.{Shape, becomes}
-use Rattle.typst_combinators.specs.Shape.Shape.{lacks}
-use Rattle.typst_combinators.specs.Syntax.{Parser, ◌>>=◌, ◌>>◌}
-use Rattle.typst_combinators.specs.Syntax.Parser.{gives, pick}
-use Rattle.typst_combinators.specs.Steps.{peek, eat, eat_if, expected, node, grow, nest, read_block}
-use Rattle.typst_combinators.specs.Depth.{deeper}
-use Rattle.typst_machine.specs.Expected.{expect_identifier}
+use Rattle.typst_markup.specs.calls.Block.TheVariants as block
+use Rattle.typst_markup.specs.calls.Call.TheVariants.{CodeExpr}
+use Rattle.typst_markup.specs.calls.Role.TheVariants as role
+use Rattle.typst_markup.specs.Shape.{Shape, becomes}
+use Rattle.typst_markup.specs.Shape.Making.{surprise}
+use Rattle.typst_markup.specs.Shape.Shape.{lacks}
+use Rattle.typst_markup.specs.Syntax.{Parser, ◌>>=◌, ◌>>◌}
+use Rattle.typst_markup.specs.Syntax.Parser.{gives, pick}
+use Rattle.typst_markup.specs.Steps.{peek, eat, eat_if, eat_making, expect, expected, node, grow, nest, read_block}
+use Rattle.typst_markup.specs.Depth.{deeper}
+use Rattle.typst_markup.specs.Expected.{expect_identifier}
 use Rattle.typst_markup.specs.Starts.{begins_code}
 use Rattle.typst_code.specs.Arguments.{arguments}
-use Rattle.typst_code.specs.Sequences.{code_expression}
-
--- an expression, where something was taken that asks for one
-abbrev pub expression_if : Bool → Parser (Unit {0})
-expression_if asked = pick asked code_expression (gives tt)
+use Rattle.typst_patterns.specs.Parts.{code_expression, expression_if}
+use Rattle.typst_patterns.specs.Patterns.{deeper_pattern}
 
 -- `{ .. }` or `[ .. ]`
 unfoldable pub any_block : Parser (Unit {0})
@@ -90,9 +90,31 @@ conditional_turn x = do
 unfoldable pub conditional : Parser (Unit {0})
 conditional = nest (λ _. becomes kind.Conditional) conditional_turn tt
 
--- `while .. { .. }`. LATER, patterns: `for .. in .. { .. }`, and `let`
+-- `while .. { .. }`
 unfoldable pub while_loop : Parser (Unit {0})
 while_loop = node (λ _. becomes kind.WhileLoop) (eat >> code_expression >> any_block)
+
+-- a token that begins a pattern
+abbrev pub begins_pattern : SyntaxKind → Bool
+begins_pattern k = among set.pattern k
+
+-- a comma and a second pattern, which would have to stand in parens with the first
+unfoldable pub second_pattern : List (List ℕ) → Parser (Unit {0})
+second_pattern names = do
+  comma ← eat_making false (surprise (codes "destructuring patterns must be wrapped in parentheses" ∷ []))
+  ahead ← peek
+  pick (begins_pattern ahead.kind) (deeper_pattern role.Binding names >> gives tt) (gives tt)
+
+-- the names of a loop
+unfoldable pub loop_names : Parser (Unit {0})
+loop_names = do
+  names ← deeper_pattern role.Binding []
+  ahead ← peek
+  pick (same kind.Comma ahead.kind) (second_pattern names) (gives tt)
+
+-- `for .. in .. { .. }`
+unfoldable pub for_loop : Parser (Unit {0})
+for_loop = node (λ _. becomes kind.ForLoop) (eat >> loop_names >> expect (same kind.In) (codes "keyword `in`") >> code_expression >> any_block)
 
 -- `include ..`
 unfoldable pub module_include : Parser (Unit {0})

@@ -2,21 +2,21 @@
 
 ghost use Rattle.std.specs.Prelude.{◌≡◌, IfOk, OnOk};
 ghost use Rattle.typst_kinds.specs.declared.kind.SyntaxKind.TheVariants as kind;
-ghost use Rattle.typst_combinators.specs.Shape.Shape.{holds};
-ghost use Rattle.typst_combinators.specs.Syntax.Parser.{repeat};
-ghost use Rattle.typst_machine.specs.View.{Means, MeansBy, Rewrapped};
+ghost use Rattle.typst_markup.specs.Shape.Shape.{holds};
+ghost use Rattle.typst_markup.specs.Syntax.Parser.{repeat};
+ghost use Rattle.typst_markup.specs.View.{Means, MeansBy, Rewrapped};
 ghost use Rattle.typst_code.specs.Arguments as spec;
 ghost use Rattle.typst_code.specs.Outside.{MeansAround, MeansAroundBy};
 
-use crate::groups::{begins_item, pair, separator, spread};
+use crate::groups::{begins_item, pair, spread};
 use crate::heads::{calls_directly, opens_arguments};
 use crate::sequences::read_content;
 use std::alloc::AllocError;
-use typst_combinators::AtNewline;
-use typst_keys::{Key, Names};
 use typst_kinds::SyntaxKind;
-use typst_machine::{Change, Levels, Parser};
-use typst_markup::opens_directly;
+use typst_markup::{AtNewline, Change, Levels, Parser, opens_directly};
+use typst_named::{Key, with_argument, wrap_named};
+use typst_names::Names;
+use typst_patterns::separator;
 
 /// Makes a named argument of an argument that has a key, which has to be a name that wasn't seen.
 fn wrap_argument(
@@ -33,34 +33,6 @@ fn wrap_argument(
         Some(_) => p.wrap_changed(from, Change::IsNot("identifier"), SyntaxKind::Named)?,
     }
     Ok(())
-}
-
-/// The same, of a name.
-fn wrap_named(p: &mut Parser<'_>, from: usize, names: &Names, name: &str) -> Result<(), AllocError>
-    ensures { OnOk result (Rewrapped from (holds (spec.when_named names.now name.now) kind.Named) p.old p.new) }
-{
-    if !names.has(name) {
-        p.wrap_changed(from, Change::Stays, SyntaxKind::Named)?;
-        return Ok(());
-    }
-    let message = format!(in p.alloc(); "duplicate argument: {name}")?;
-    p.wrap_changed(
-        from,
-        Change::TurnsWrong(message.as_str()),
-        SyntaxKind::Named,
-    )?;
-    Ok(())
-}
-
-/// With the name of an argument, if it has one.
-fn with_argument(names: Names, key: &Option<Key>) -> Result<Names, AllocError>
-    ensures { IfOk result (λ more. more ≡ spec.with_argument names key.now) }
-{
-    let mut names = names;
-    if let Some(Key::Name(name)) = key {
-        names.add(name.as_str())?;
-    }
-    Ok(names)
 }
 
 /// Reads one argument; answers the names that were seen.

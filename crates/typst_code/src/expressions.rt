@@ -2,7 +2,7 @@
 
 ghost use Rattle.std.specs.Prelude.{◌≡◌, IfOk, IfSome, false};
 ghost use Rattle.typst_kinds.specs.Kinds.{is_error};
-ghost use Rattle.typst_machine.specs.View.{Means, MeansBy, bare_growth};
+ghost use Rattle.typst_markup.specs.View.{Means, MeansBy, bare_growth};
 ghost use Rattle.typst_code.specs.Expressions as spec;
 ghost use Rattle.typst_code.specs.Outside.{MeansAround, MeansAroundBy};
 
@@ -10,15 +10,16 @@ use crate::arguments::arguments;
 use crate::groups::group;
 use crate::heads::{CodeHead, CodeTail, code_head, code_tail};
 use crate::imports::module_import;
+use crate::parens::parens;
 use crate::sequences::{read_code, read_content};
 use crate::statements::{
-    conditional, contextual, field, func_return, jump, module_include, set_rule, show_rule,
-    while_loop,
+    conditional, contextual, field, for_loop, func_return, jump, module_include, set_rule,
+    show_rule, while_loop,
 };
 use std::alloc::AllocError;
-use typst_combinators::Call;
 use typst_kinds::{Assoc, BinOp, SyntaxKind, UnOp};
-use typst_machine::{Answered, Levels, Parser, deeper};
+use typst_markup::{Answered, Call, Levels, Parser, deeper, equation};
+use typst_patterns::{let_binding, named, placeholder};
 
 /// An operator and its operand.
 fn unary_expr<L: Levels>(g: &L, p: &mut Parser<'_>, op: UnOp) -> Result<(), AllocError>
@@ -45,15 +46,22 @@ fn code_primary<L: Levels>(g: &L, p: &mut Parser<'_>, atomic: bool) -> Result<()
             "to use a unary operator here, wrap the entire expression in parentheses",
             g,
         )?,
-        CodeHead::Placeholder => p.eat_wanted(false, "expression", g)?,
+        CodeHead::Named => named(g, p)?,
+        CodeHead::Placeholder => placeholder(g, p)?,
         CodeHead::CodeBlock => read_code(g, p)?,
         CodeHead::ContentBlock => read_content(g, p)?,
-        CodeHead::Group => group(g, p)?,
+        CodeHead::Equation => equation(g, p)?,
+        CodeHead::Group => {
+            group(g, p)?;
+        }
+        CodeHead::Parens => parens(g, p)?,
+        CodeHead::Let => let_binding(g, p)?,
         CodeHead::Set => set_rule(g, p)?,
         CodeHead::Show => show_rule(g, p)?,
         CodeHead::Context => contextual(g, p, atomic)?,
         CodeHead::If => conditional(g, p)?,
         CodeHead::While => while_loop(g, p)?,
+        CodeHead::For => for_loop(g, p)?,
         CodeHead::Import => module_import(g, p)?,
         CodeHead::Include => module_include(g, p)?,
         CodeHead::Break => jump(g, p, SyntaxKind::LoopBreak)?,

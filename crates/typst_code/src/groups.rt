@@ -2,20 +2,19 @@
 
 ghost use Rattle.std.specs.Prelude.{◌≡◌, OnOk, false};
 ghost use Rattle.typst_kinds.specs.Kinds.{is_error};
-ghost use Rattle.typst_combinators.specs.Shape.Shape.{holds};
-ghost use Rattle.typst_combinators.specs.Syntax.Parser.{repeat};
-ghost use Rattle.typst_shapes.specs.Changes.{IsFine, meant};
-ghost use Rattle.typst_machine.specs.View.{Means, Rewrapped};
+ghost use Rattle.typst_markup.specs.Shape.Shape.{holds};
+ghost use Rattle.typst_markup.specs.Syntax.Parser.{repeat};
+ghost use Rattle.typst_markup.specs.Changes.{IsFine, meant};
+ghost use Rattle.typst_markup.specs.View.{Means, Rewrapped};
 ghost use Rattle.typst_code.specs.Groups as spec;
 
 use crate::listing::Items;
-use crate::sequences::code_expression;
 use std::alloc::AllocError;
-use typst_combinators::AtNewline;
-use typst_keys::{Key, Names, key_of};
 use typst_kinds::SyntaxKind;
-use typst_machine::{Change, Levels, Parser};
-use typst_markup::begins_code;
+use typst_markup::{AtNewline, Change, Levels, Parser, begins_code};
+use typst_named::{Key, key_of};
+use typst_names::Names;
+use typst_patterns::{code_expression, separator};
 
 /// Whether an item begins at this token.
 pub(crate) fn begins_item(kind: SyntaxKind) -> bool
@@ -51,16 +50,6 @@ pub(crate) fn pair<L: Levels>(g: &L, p: &mut Parser<'_>) -> Result<Option<Key>, 
     p.eat(g)?;
     code_expression(g, p)?;
     Ok(Some(key))
-}
-
-/// Reads the comma between two items; answers whether it came.
-pub(crate) fn separator<L: Levels>(g: &L, p: &mut Parser<'_>) -> Result<bool, AllocError>
-    ensures { Means (L.frame g.now) spec.separator p.old result p.new }
-{
-    if p.current().is_terminator() {
-        return Ok(false);
-    }
-    Ok(p.expects(p.current() == SyntaxKind::Comma, "comma", g)?)
 }
 
 /// Makes a pair of an item that has a key.
@@ -166,8 +155,8 @@ fn group_items<L: Levels>(g: &L, p: &mut Parser<'_>, items: Items) -> Result<Ite
     }
 }
 
-/// `( .. )`
-pub(crate) fn group<L: Levels>(g: &L, p: &mut Parser<'_>) -> Result<(), AllocError>
+/// `( .. )`; answers what it is.
+pub(crate) fn group<L: Levels>(g: &L, p: &mut Parser<'_>) -> Result<SyntaxKind, AllocError>
     requires { L.may_call g.now }
     ensures { Means (L.frame g.now) spec.group p.old result p.new }
 {
@@ -178,8 +167,9 @@ pub(crate) fn group<L: Levels>(g: &L, p: &mut Parser<'_>) -> Result<(), AllocErr
     let items = group_items(g, p, Items::new(p.alloc(), colon))?;
     let closed = p.eat_if(p.current() == SyntaxKind::RightParen, g)?;
     p.leave(outer, g)?;
-    wrap_group(p, from, closed, items.kind())?;
-    Ok(())
+    let kind = items.kind();
+    wrap_group(p, from, closed, kind)?;
+    Ok(kind)
 }
 
 /// Makes one node of what stands in parens, where the second may be missing.

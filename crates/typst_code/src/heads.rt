@@ -15,14 +15,22 @@ pub enum CodeHead {
     StrayOperator,
     /// A node of its own.
     Itself,
-    /// An underscore, which is no expression.
+    /// A name, or a closure.
+    Named,
+    /// An underscore, which alone is no expression.
     Placeholder,
     /// `{ .. }`
     CodeBlock,
     /// `[ .. ]`
     ContentBlock,
+    /// `$ .. $`
+    Equation,
     /// `( .. )`
     Group,
+    /// The same, or the parameters of a closure, or what is assigned to.
+    Parens,
+    /// `let ..`
+    Let,
     /// `set ..`
     Set,
     /// `show ..`
@@ -33,6 +41,8 @@ pub enum CodeHead {
     If,
     /// `while ..`
     While,
+    /// `for ..`
+    For,
     /// `import ..`
     Import,
     /// `include ..`
@@ -75,6 +85,7 @@ pub(crate) fn code_head(atomic: bool, kind: SyntaxKind) -> CodeHead
         SyntaxKind::Minus if !atomic => CodeHead::Unary(UnOp::Neg),
         SyntaxKind::Not if !atomic => CodeHead::Unary(UnOp::Not),
         SyntaxKind::Plus | SyntaxKind::Minus | SyntaxKind::Not => CodeHead::StrayOperator,
+        SyntaxKind::Ident if !atomic => CodeHead::Named,
         SyntaxKind::Ident
         | SyntaxKind::Raw
         | SyntaxKind::None
@@ -87,12 +98,16 @@ pub(crate) fn code_head(atomic: bool, kind: SyntaxKind) -> CodeHead
         | SyntaxKind::Label => CodeHead::Itself,
         SyntaxKind::LeftBrace => CodeHead::CodeBlock,
         SyntaxKind::LeftBracket => CodeHead::ContentBlock,
+        SyntaxKind::Dollar => CodeHead::Equation,
+        SyntaxKind::LeftParen if !atomic => CodeHead::Parens,
         SyntaxKind::LeftParen => CodeHead::Group,
+        SyntaxKind::Let => CodeHead::Let,
         SyntaxKind::Set => CodeHead::Set,
         SyntaxKind::Show => CodeHead::Show,
         SyntaxKind::Context => CodeHead::Context,
         SyntaxKind::If => CodeHead::If,
         SyntaxKind::While => CodeHead::While,
+        SyntaxKind::For => CodeHead::For,
         SyntaxKind::Import => CodeHead::Import,
         SyntaxKind::Include => CodeHead::Include,
         SyntaxKind::Break => CodeHead::Break,

@@ -1,16 +1,14 @@
 //! Imports.
 
 ghost use Rattle.std.specs.Prelude.{◌≡◌, OnOk};
-ghost use Rattle.typst_combinators.specs.Syntax.Parser.{repeat};
-ghost use Rattle.typst_machine.specs.View.{Means, MeansBy, Rewrapped};
+ghost use Rattle.typst_markup.specs.Syntax.Parser.{repeat};
+ghost use Rattle.typst_markup.specs.View.{Means, MeansBy, Rewrapped};
 ghost use Rattle.typst_code.specs.Imports as spec;
 
-use crate::groups::separator;
-use crate::sequences::code_expression;
 use std::alloc::AllocError;
-use typst_combinators::AtNewline;
 use typst_kinds::SyntaxKind;
-use typst_machine::{Change, Levels, Parser};
+use typst_markup::{AtNewline, Change, Levels, Parser};
+use typst_patterns::{code_expression, separator};
 
 /// Reads a dot and a name; answers whether they came.
 fn path_turn<L: Levels>(g: &L, p: &mut Parser<'_>) -> Result<bool, AllocError>

@@ -7,6 +7,7 @@ mod groups;
 mod heads;
 mod imports;
 mod listing;
+mod parens;
 mod sequences;
 mod statements;
 mod stops;
@@ -16,3 +17,10 @@ pub use heads::{CodeHead, CodeTail};
 pub use listing::Items;
 pub use sequences::{code_block, code_exprs};
 pub use stops::CodeStop;
+pub use typst_markup::{
+    Answered, AtNewline, Block, Call, ChainSet, Change, Grammar, Hull, Levels, Mark, MathStop,
+    Note, Parser, Reading, Stop, Way, deeper, embedded, ends_list, is_closer, markup_expr,
+    markup_run, math_exprs, no_signs, separates,
+};
+pub use typst_named::{Key, key_of};
+pub use typst_patterns::pattern;

@@ -5,8 +5,9 @@ ghost use Rattle.typst_kinds.specs.Kinds.{is_error};
 ghost use Rattle.typst_code.specs.Groups as spec;
 
 use std::alloc::{AllocError, Global};
-use typst_keys::{Key, Names};
 use typst_kinds::SyntaxKind;
+use typst_named::Key;
+use typst_names::Names;
 
 /// What the items in parens were found to be so far.
 #[derive(Drop)]

@@ -1,28 +1,20 @@
 //! Sequences of code, and code blocks.
 
 ghost use Rattle.std.specs.Prelude.{◌≡◌, OnOk};
-ghost use Rattle.typst_combinators.specs.Steps.{read_block};
-ghost use Rattle.typst_combinators.specs.Syntax.Parser.{repeat};
-ghost use Rattle.typst_machine.specs.View.{Means, MeansBy, MeansLast, Rewrapped};
+ghost use Rattle.typst_markup.specs.Steps.{read_block};
+ghost use Rattle.typst_markup.specs.Syntax.Parser.{repeat};
+ghost use Rattle.typst_markup.specs.View.{Means, MeansBy, MeansLast, Rewrapped};
 ghost use Rattle.typst_code.specs.Sequences as spec;
 ghost use Rattle.typst_code.specs.Outside.{MeansAround};
 ghost use Rattle.typst_code.specs.Stops.{stops_at};
 
 use crate::stops::CodeStop;
 use std::alloc::AllocError;
-use typst_combinators::{AtNewline, Block, Call, Reading};
 use typst_kinds::{SyntaxKind, SyntaxMode};
-use typst_machine::{Answered, Levels, Parser, Stops, deeper, too_deep};
-use typst_markup::{begins_code, content_block};
-
-/// Reads an expression with all its operators.
-pub(crate) fn code_expression<L: Levels>(g: &L, p: &mut Parser<'_>) -> Result<(), AllocError>
-    requires { L.may_call g.now }
-    ensures { Means (L.frame g.now) spec.code_expression p.old result p.new }
-{
-    deeper(g, p, Call::CodeExpr(false, 0), Answered::Nothing)?;
-    Ok(())
-}
+use typst_markup::{
+    AtNewline, Block, Levels, Parser, Reading, Stops, begins_code, content_block, too_deep,
+};
+use typst_patterns::code_expression;
 
 /// Reads statements up to a stop.
 pub fn code_exprs<L: Levels>(g: &L, p: &mut Parser<'_>, stop: CodeStop) -> Result<(), AllocError>

@@ -2,29 +2,18 @@
 
 ghost use Rattle.std.specs.Prelude.{◌≡◌, OnOk, IfOk, IfSome, false};
 ghost use Rattle.typst_kinds.specs.Kinds.{is_error};
-ghost use Rattle.typst_combinators.specs.Hand.{told};
-ghost use Rattle.typst_machine.specs.View.{Means, MeansBy, Rewrapped, bare_growth};
+ghost use Rattle.typst_markup.specs.Hand.{told};
+ghost use Rattle.typst_markup.specs.View.{Means, MeansBy, Rewrapped, bare_growth};
 ghost use Rattle.typst_code.specs.Statements as spec;
 ghost use Rattle.typst_code.specs.Outside.{MeansAround, MeansAroundBy};
 
 use crate::arguments::arguments;
-use crate::sequences::{code_expression, read_code, read_content};
+use crate::sequences::{read_code, read_content};
 use std::alloc::AllocError;
-use typst_combinators::Call;
-use typst_kinds::SyntaxKind;
-use typst_machine::{Answered, Levels, Parser, deeper};
-use typst_markup::begins_code;
-
-/// Reads an expression, if something was taken that asks for one.
-fn expression_if<L: Levels>(g: &L, p: &mut Parser<'_>, asked: bool) -> Result<(), AllocError>
-    requires { L.may_call g.now }
-    ensures { Means (L.frame g.now) (spec.expression_if asked) p.old result p.new }
-{
-    if asked {
-        code_expression(g, p)?;
-    }
-    Ok(())
-}
+use typst_kinds::{SyntaxKind, set};
+use typst_markup::{Answered, Call, Levels, Parser, Role, begins_code, deeper};
+use typst_names::Names;
+use typst_patterns::{code_expression, deeper_pattern, expression_if};
 
 /// `{ .. }` or `[ .. ]`
 fn any_block<L: Levels>(g: &L, p: &mut Parser<'_>) -> Result<(), AllocError>
@@ -192,6 +181,54 @@ pub(crate) fn while_loop<L: Levels>(g: &L, p: &mut Parser<'_>) -> Result<(), All
     code_expression(g, p)?;
     any_block(g, p)?;
     p.wrap(from, SyntaxKind::WhileLoop)?;
+    Ok(())
+}
+
+/// Whether a pattern begins at this token.
+fn begins_pattern(kind: SyntaxKind) -> bool
+    ensures { result ≡ spec.begins_pattern kind }
+{
+    set::named_sets();
+    set::PATTERN.contains(kind)
+}
+
+/// Reads a second pattern behind a comma, which isn't to stand there, where these names were seen.
+#[cold]
+fn second_pattern<L: Levels>(g: &L, p: &mut Parser<'_>, names: Names) -> Result<(), AllocError>
+    requires { L.may_call g.now }
+    ensures { Means (L.frame g.now) (spec.second_pattern names) p.old result p.new }
+{
+    p.eat_unexpected("destructuring patterns must be wrapped in parentheses", g)?;
+    if begins_pattern(p.current()) {
+        deeper_pattern(g, p, Role::Binding, names)?;
+    }
+    Ok(())
+}
+
+/// Reads the names of a loop.
+fn loop_names<L: Levels>(g: &L, p: &mut Parser<'_>) -> Result<(), AllocError>
+    requires { L.may_call g.now }
+    ensures { Means (L.frame g.now) spec.loop_names p.old result p.new }
+{
+    let names = deeper_pattern(g, p, Role::Binding, Names::new(p.alloc()))?;
+    if p.current() == SyntaxKind::Comma {
+        second_pattern(g, p, names)?;
+    }
+    Ok(())
+}
+
+/// `for ..`
+pub(crate) fn for_loop<L: Levels>(g: &L, p: &mut Parser<'_>) -> Result<(), AllocError>
+    requires { L.may_call g.now }
+    ensures { MeansAround (L.frame g.now) spec.for_loop p.old result p.new }
+{
+    let from = p.marker();
+    p.eat(g)?;
+    loop_names(g, p)?;
+    p.expect(p.current() == SyntaxKind::In, "keyword `in`", g)?;
+    code_expression(g, p)?;
+    any_block(g, p)?;
+    p.wrap(from, SyntaxKind::ForLoop)?;
     Ok(())
 }
 

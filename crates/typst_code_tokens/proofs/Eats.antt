@@ -50,10 +50,11 @@ module _ (k : CharClasses) (c : ℕ) (p : Place) (e : scout 0 p ≡ Some c) wher
       (either (c == 93) _ _ p (λ _. omega arith)
       (either (c == 40) _ _ p (λ _. omega arith)
       (either (c == 41) _ _ p (λ _. omega arith)
+      (either (c == 36) _ _ p (λ _. omega arith)
       (either (c == 44) _ _ p (λ _. omega arith)
       (either (c == 59) _ _ p (λ _. omega arith)
       (either (c == 58) _ _ p (λ _. omega arith)
-      (either (is_id_start k c) _ _ p (λ _. omega arith) (invalid-eats c))))))))))
+      (either (is_id_start k c) _ _ p (λ _. omega arith) (invalid-eats c)))))))))))
 
   pub code-eats : 1 ≤ eaten (code k c) p
   unfolding code less label with_equals dot dots dotted string equals bang

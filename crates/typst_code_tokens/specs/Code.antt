@@ -52,12 +52,12 @@ single k c =
     else (if c == 93 then sign kind.RightBracket
     else (if c == 40 then sign kind.LeftParen
     else (if c == 41 then sign kind.RightParen
-    -- LATER, formulas: `$`
+    else (if c == 36 then sign kind.Dollar
     else (if c == 44 then sign kind.Comma
     else (if c == 59 then sign kind.Semicolon
     else (if c == 58 then sign kind.Colon
     else (if is_id_start k c then ident k c
-    else invalid c)))))))))
+    else invalid c))))))))))
 
 -- A token of code that begins with the character, which comes next and begins no token that all modes
 -- share. The sign U+2212 is a minus.

@@ -50,6 +50,7 @@ fn single<C: Classes>(s: &mut Cursor<'_>, c: char, classes: &C) -> Token
         ']' => sign(s, SyntaxKind::RightBracket),
         '(' => sign(s, SyntaxKind::LeftParen),
         ')' => sign(s, SyntaxKind::RightParen),
+        '$' => sign(s, SyntaxKind::Dollar),
         ',' => sign(s, SyntaxKind::Comma),
         ';' => sign(s, SyntaxKind::Semicolon),
         ':' => sign(s, SyntaxKind::Colon),

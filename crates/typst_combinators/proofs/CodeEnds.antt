@@ -123,7 +123,7 @@ string-end-goes (fence a b) = refl
 string-end-goes (brackets cs) = refl
 string-end-goes (quoted e) = refl
 
-string-goes : (p : Place) → Goes string p
+pub string-goes : (p : Place) → Goes string p
 unfolding string
 string-goes p = string-end-goes (spanned in_string (quoted false) (moved 1 p).behind (moved 1 p).ahead).1
 
@@ -195,10 +195,11 @@ single-goes k c p =
     (goes-if (c == 93) _ _ p refl
     (goes-if (c == 40) _ _ p refl
     (goes-if (c == 41) _ _ p refl
+    (goes-if (c == 36) _ _ p refl
     (goes-if (c == 44) _ _ p refl
     (goes-if (c == 59) _ _ p refl
     (goes-if (c == 58) _ _ p refl
-    (goes-if (is_id_start k c) _ _ p (ident-goes k c p) (invalid-goes c p))))))))))
+    (goes-if (is_id_start k c) _ _ p (ident-goes k c p) (invalid-goes c p)))))))))))
 
 equals-goes : (p : Place) → Goes equals p
 unfolding equals

@@ -8,12 +8,11 @@ use Rattle.typst_kinds.specs.declared.mode.SyntaxMode.{SyntaxMode}
 use Rattle.typst_kinds.specs.declared.mode.SyntaxMode.TheVariants.{Markup, Math, Code}
 use Rattle.typst_lines.specs.Place.{Place, scout, passes, moved, run, past}
 use Rattle.typst_classes.specs.Sets.{among}
-use Rattle.typst_tokens.specs.Characters.{is_code_point, is_space, is_u64}
+use Rattle.typst_tokens.specs.Characters.{is_space, is_u64}
 use Rattle.typst_classes.specs.Classes.{CharClasses}
 use Rattle.typst_tokens.specs.Common.{line_ends, is_parbreak, whitespace, shebang, line_comment, block_comment, comment_end}
 use Rattle.typst_markup_tokens.specs.Markup.{dot, marker_or_text, marker, hyphen, minus, emphasis, heading, numbering, markup}
 use Rattle.typst_tokens.specs.Common.{sign}
-use Rattle.typst_tokens.specs.Escapes.{code_point, backslash}
 use Rattle.typst_readers.specs.Reader.{Reader, place, spanned, at_word, exec}
 use Rattle.typst_tokens.specs.Memory.Memory.{blank, comment, fence, brackets, quoted}
 use Rattle.typst_readers.specs.Reader.Reader.{answer, peek, skip}
@@ -37,6 +36,7 @@ use Rattle.typst_combinators.specs.Point.{Trivia}
 use Rattle.typst_combinators.proofs.Places.{moved-sum}
 use Rattle.typst_combinators.proofs.Goes.{Goes, goes-if, kind-if, token-if, word-goes}
 use Rattle.typst_combinators.proofs.CodeEnds.{code-goes}
+use Rattle.typst_combinators.proofs.MathEnds.{backslash-goes, math-goes}
 use Rattle.typst_tokens.specs.Memory.{Memory}
 
 text-goes : (k : CharClasses) (p : Place) → Goes (text k) p
@@ -60,18 +60,6 @@ marker-goes k s p h =
       | Some c ↦ goes-if (c == 47) (peek 1 (λ d. ends k s (passes (among (codes "/*")) d))) (ends k s (is_whitespace c)) p
           (ends-goes k s p h (passes (among (codes "/*")) (scout 1 p))) (ends-goes k s p h (is_whitespace c))
     ]
-
-point-goes : (digits : List ℕ) (p : Place) → Goes (code_point digits) p
-unfolding code_point
-point-goes digits p = goes-if (passes (λ c. c == 125) (scout 0 p)) _ _ p (token-if (is_code_point digits) _ _ refl refl) refl
-
-backslash-goes : (p : Place) → Goes backslash p
-unfolding backslash
-backslash-goes p =
-    let q = moved 1 p in
-    goes-if (passes (λ d. d == 117) (scout 0 q)) _ _ q
-    (goes-if (passes (λ d. d == 123) (scout 1 q)) _ _ q (point-goes _ _) (goes-if (passes (λ c. not (is_whitespace c)) (scout 0 q)) _ _ q refl refl))
-    (goes-if (passes (λ c. not (is_whitespace c)) (scout 0 q)) _ _ q refl refl)
 
 dot-goes : (k : CharClasses) (p : Place) → Goes (dot k) p
 unfolding dot
@@ -161,39 +149,40 @@ markup-goes k c p =
     (goes-if (c == 91) _ _ p refl
     (goes-if (c == 93) _ _ p refl
     (goes-if (c == 39 || c == 34) _ _ p refl
+    (goes-if (c == 36) _ _ p refl
     (goes-if (c == 126) _ _ p refl
     (goes-if (c == 58) _ _ p refl
     (goes-if (c == 61) _ _ p (heading-goes k p)
     (goes-if (c == 43) _ _ p (marker-goes k kind.EnumMarker (moved 1 p) refl)
     (goes-if (c == 47) _ _ p (marker-goes k kind.TermMarker (moved 1 p) refl)
     (goes-if (is_ascii_digit c) _ _ p (numbering-goes k p)
-    (text-goes k (moved 1 p)))))))))))))))))))
+    (text-goes k (moved 1 p))))))))))))))))))))
 
-mode-goes : (k : CharClasses) (m : SyntaxMode) (c : ℕ) (p : Place) → Goes (of_mode k m c) p
-unfolding of_mode text_from
-mode-goes k Markup c p = markup-goes k c p
-mode-goes k Math c p = text-goes k (moved 1 p)
-mode-goes k Code c p = code-goes k c p
+mode-goes : (k : CharClasses) (m : SyntaxMode) (c d : ℕ) (p : Place) → scout 0 p ≡ Some d → Goes (of_mode k m c) p
+unfolding of_mode
+mode-goes k Markup c d p e = markup-goes k c p
+mode-goes k Math c d p e = math-goes k d p e
+mode-goes k Code c d p e = code-goes k c p
 
-hash-goes : (k : CharClasses) (m : SyntaxMode) (p : Place) → Goes (hash k m) p
+hash-goes : (k : CharClasses) (m : SyntaxMode) (d : ℕ) (p : Place) → scout 0 p ≡ Some d → Goes (hash k m) p
 unfolding hash shebang
-hash-goes k m p =
-    goes-if (is_none (slice_get p.behind 0)) _ _ p (goes-if (passes (λ d. d == 33) (scout 1 p)) _ _ p refl (mode-goes k m 35 p)) (mode-goes k m 35 p)
+hash-goes k m d p e =
+    goes-if (is_none (slice_get p.behind 0)) _ _ p (goes-if (passes (λ d. d == 33) (scout 1 p)) _ _ p refl (mode-goes k m 35 d p e)) (mode-goes k m 35 d p e)
 
-slash-goes : (k : CharClasses) (m : SyntaxMode) (p : Place) → Goes (slash k m) p
+slash-goes : (k : CharClasses) (m : SyntaxMode) (d : ℕ) (p : Place) → scout 0 p ≡ Some d → Goes (slash k m) p
 unfolding slash line_comment block_comment
-slash-goes k m p =
-    goes-if (passes (λ d. d == 47) (scout 1 p)) _ _ p refl (goes-if (passes (λ d. d == 42) (scout 1 p)) _ _ p refl (mode-goes k m 47 p))
+slash-goes k m d p e =
+    goes-if (passes (λ d. d == 47) (scout 1 p)) _ _ p refl (goes-if (passes (λ d. d == 42) (scout 1 p)) _ _ p refl (mode-goes k m 47 d p e))
 
-star-goes : (k : CharClasses) (m : SyntaxMode) (p : Place) → Goes (star k m) p
+star-goes : (k : CharClasses) (m : SyntaxMode) (d : ℕ) (p : Place) → scout 0 p ≡ Some d → Goes (star k m) p
 unfolding star comment_end
-star-goes k m p = goes-if (passes (λ d. d == 47) (scout 1 p)) _ _ p refl (mode-goes k m 42 p)
+star-goes k m d p e = goes-if (passes (λ d. d == 47) (scout 1 p)) _ _ p refl (mode-goes k m 42 d p e)
 
-tick-goes : (k : CharClasses) (m : SyntaxMode) (p : Place) → Goes (backtick k m) p
+tick-goes : (k : CharClasses) (m : SyntaxMode) (d : ℕ) (p : Place) → scout 0 p ≡ Some d → Goes (backtick k m) p
 unfolding backtick
-tick-goes k Markup p = raw-goes p
-tick-goes k Math p = mode-goes k Math 96 p
-tick-goes k Code p = raw-goes p
+tick-goes k Markup d p e = raw-goes p
+tick-goes k Math d p e = mode-goes k Math 96 d p e
+tick-goes k Code d p e = raw-goes p
 
 space-goes : (m : SyntaxMode) (p : Place) → Goes (whitespace m) p
 unfolding whitespace
@@ -204,7 +193,7 @@ token-goes : (k : CharClasses) (m : SyntaxMode) (b : List ℕ) (c : ℕ) (a : Li
 unfolding token
 token-goes k m b c a =
     let p = place b (c ∷ a) in
-    goes-if (is_space m c) _ _ p (space-goes m p) (goes-if (c == 35) _ _ p (hash-goes k m p) (goes-if (c == 47) _ _ p (slash-goes k m p) (goes-if (c == 42) _ _ p (star-goes k m p) (goes-if (c == 96) _ _ p (tick-goes k m p) (mode-goes k m c p)))))
+    goes-if (is_space m c) _ _ p (space-goes m p) (goes-if (c == 35) _ _ p (hash-goes k m c p refl) (goes-if (c == 47) _ _ p (slash-goes k m c p refl) (goes-if (c == 42) _ _ p (star-goes k m c p refl) (goes-if (c == 96) _ _ p (tick-goes k m c p refl) (mode-goes k m c c p refl)))))
 
 ends-at : (k : CharClasses) (m : SyntaxMode) (b a : List ℕ) → is_end (token_at k m (place b a)).kind ≡ true → a ≡ []
 ends-at k m b [] h = refl

@@ -113,7 +113,7 @@ same-long [] (u ∷ us) h = absurd h
 same-long (t ∷ ts) [] h = absurd h
 same-long (t ∷ ts) (u ∷ us) h = ap suc (same-long ts us h.1)
 
-texts-same : (ts us : List Tree) → Same ts us → texts ts ≡ texts us
+pub texts-same : (ts us : List Tree) → Same ts us → texts ts ≡ texts us
 texts-same [] [] h = refl
 texts-same [] (u ∷ us) h = absurd h
 texts-same (t ∷ ts) [] h = absurd h
@@ -140,7 +140,7 @@ same-last hints [] = tt
 same-last hints (t ∷ []) = (text-hinted hints t, tt)
 same-last hints (t ∷ u ∷ ts) = (refl, same-last hints (u ∷ ts))
 
-same-hinted : (hints : List (List ℕ)) (ts : List Tree) → Same (hinted hints ts) ts
+pub same-hinted : (hints : List (List ℕ)) (ts : List Tree) → Same (hinted hints ts) ts
 same-hinted [] ts = same-all ts
 same-hinted (hint ∷ hints) ts = same-last (hint ∷ hints) ts
 
@@ -280,7 +280,7 @@ Keeps m = (z : Place) (s : Point) → Stands z s.known → Holds z (m z s)
 stands-on : (a b : ℕ) (z : Place) (known : Option Trivia) → Stands (moved b (moved a z)) known → Stands (moved (a + b) z) known
 stands-on a b z known h = subst (λ w. Stands w known) (sym (moved-sum a b z)) h
 
-kept-joined : {A B : Type 0} (z : Place) (o : Outcome B) (p : Outcome A) → Holds z o → Holds (moved o.taken z) p → Tidy o.state p → Holds z (joined o p)
+pub kept-joined : {A B : Type 0} (z : Place) (o : Outcome B) (p : Outcome A) → Holds z o → Holds (moved o.taken z) p → Tidy o.state p → Holds z (joined o p)
 kept-joined z o p h k t =
     let b = t.back in
     let c = t.left in
@@ -388,7 +388,7 @@ kept-reshaped z shape n o k =
       blank = blank-shaped shape (take m o.nodes) ts o.state (subst (λ ns. Blank o.state.empties ns) (sym (take-append-drop m o.nodes)) k.blank);
     }
 
-kept-grown : {A : Type 0} (z : Place) (n : ℕ) (shape : Option Shape) (o : Outcome A) → Holds z o → Holds z (grown n shape o)
+pub kept-grown : {A : Type 0} (z : Place) (n : ℕ) (shape : Option Shape) (o : Outcome A) → Holds z o → Holds z (grown n shape o)
 kept-grown z n None o k = k
 kept-grown z n (Some shape) o k = kept-reshaped z shape n o k
 

@@ -13,9 +13,12 @@ pub mod Backs
 pub mod Rests
 pub mod Goes
 pub mod CodeEnds
+pub mod MathEnds
 pub mod Ends
 pub mod Eats
 pub mod Alike
 pub mod Frame
 pub mod Leaves
 pub mod Knot
+-- What the crates above name of those below.
+pub use Rattle.typst_token_nodes.proofs.TokenTexts

@@ -2,9 +2,21 @@
 
 use crate::reading::State;
 use typst_kinds::SyntaxMode;
+use typst_names::Names;
+
+/// What the names of a pattern are.
+#[derive(Debug, Clone, Copy, PartialEq, Eq)]
+pub enum Role {
+    /// What is assigned to: any expression may stand there.
+    Target,
+    /// New names.
+    Binding,
+    /// New names of what a closure is called with.
+    Parameter,
+}
 
 /// What is read one level deeper.
-#[derive(Debug, Clone, Copy, PartialEq, Eq)]
+#[derive(Drop)]
 pub enum Call {
     /// An expression of markup, whether at the start of a line, and in how many brackets. It
     /// answers in how many brackets what comes after it stands.
@@ -12,6 +24,21 @@ pub enum Call {
     /// An expression of code, whether atomic, and how tightly its operators bind at least. It answers
     /// nothing.
     CodeExpr(bool, u8),
+    /// An expression of a formula, how tightly its operators bind at least, and at which signs of
+    /// attachments it ends. It answers nothing.
+    MathExpr(u8, ChainSet),
+    /// A pattern, what its names are, and which names were seen before it. It answers which were seen
+    /// behind it.
+    Pattern(Role, Names),
+}
+
+/// Signs of attachments.
+#[derive(Debug, Clone, Copy, PartialEq, Eq)]
+pub struct ChainSet {
+    /// Whether `^` is one of them.
+    pub hat: bool,
+    /// Whether `_` is one of them.
+    pub underscore: bool,
 }
 
 /// What is noted as one block.
@@ -28,6 +55,10 @@ pub enum Block {
 pub enum Way {
     /// As a token of this mode.
     InMode(SyntaxMode),
+    /// As the name of an argument of a call in a formula, directly before its colon.
+    NamedArgument,
+    /// As the dots before an argument of a call in a formula that is spread.
+    SpreadArgument,
 }
 
 /// What begins or ends at a place.

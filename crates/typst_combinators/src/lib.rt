@@ -5,6 +5,9 @@ mod calls;
 mod laws;
 mod reading;
 
-pub use calls::{Block, Call, Mark, Note, Way};
+pub use calls::{Block, Call, ChainSet, Mark, Note, Role, Way};
 pub use laws::words_of_the_language;
 pub use reading::{AtNewline, Newlines, Reading, State};
+pub use typst_lexer::lexer::{named_argument, spread_argument, token};
+pub use typst_lexer::{Hull, LineEnd, Token};
+pub use typst_token_nodes::{is_leaf, leaf_node, make_node};

@@ -1,7 +1,5 @@
 -- What an expression of code takes.
-use Rattle.std.proofs.Common.{◌≡◌, ℕ, zero, suc, ◌+◌, ◌<◌, ◌≤◌, Bool, true, false, ◌&&◌, ◌||◌, not, if◌then◌else◌, nat_lt, List, [], ◌∷◌, length, Option, Some, None, refl, ap, sym, subst, ◌∙◌, arith}
-use Rattle.typst_kinds.proofs.Sameness.{same-is}
-use Rattle.typst_kinds.specs.Kinds.{among, same}
+use Rattle.std.proofs.Common.{◌≡◌, ℕ, zero, suc, ◌+◌, ◌<◌, Bool, true, false, List, [], ◌∷◌, length, Option, Some, None, refl, ap, sym, subst, ◌∙◌, arith}
 use Rattle.typst_kinds.specs.Sets.{code_expr as code_kinds}
 use Rattle.typst_kinds.specs.declared.kind.SyntaxKind.{SyntaxKind}
 use Rattle.typst_kinds.specs.declared.kind.SyntaxKind.TheVariants as kind
@@ -10,116 +8,35 @@ use Rattle.typst_kinds.specs.declared.operator.UnOp.{UnOp}
 use Rattle.typst_lines.specs.Place.{Place, moved}
 use Rattle.typst_node.specs.Tree.{Tree}
 use Rattle.typst_classes.specs.Classes.{CharClasses}
-use Rattle.typst_combinators.specs.declared.calls.Block.{Block}
-use Rattle.typst_combinators.specs.declared.calls.Block.TheVariants as block
-use Rattle.typst_combinators.specs.declared.reading.Reading.{Reading}
-use Rattle.typst_combinators.specs.Point.{Point, Trivia, forgot}
-use Rattle.typst_combinators.specs.Hand.{Hand, AtHand, told, hand_at, ahead, ahead_by, at_trivia, len_at}
-use Rattle.typst_combinators.specs.Shape.{Making, Shape}
-use Rattle.typst_combinators.specs.Shape.Making.{itself, surprise, wanted}
-use Rattle.typst_combinators.specs.Syntax.{Parser}
-use Rattle.typst_combinators.specs.Syntax.Begin.{at_token}
-use Rattle.typst_combinators.specs.Syntax.Op.{hand, takes}
-use Rattle.typst_combinators.specs.Syntax.Parser.{does, next, scoped}
-use Rattle.typst_combinators.specs.Steps.{eat, eat_making, unexpected, within, node, grow, nest, read_block}
-use Rattle.typst_combinators.specs.Meaning.{Outcome, Meaning, Level, apart, before, entered, hand_of, asked, answered, joined, followed, as_last, bound, flushed_state, grown, growths, growing, is_more, nestings, nesting, run}
-use Rattle.typst_combinators.proofs.Ends.{hand-again}
-use Rattle.typst_markup.specs.Markup.{content_block}
-use Rattle.typst_markup.specs.Starts.{comes_later, begins_code}
+use Rattle.typst_code.specs.calls.Block.{Block}
+use Rattle.typst_code.specs.calls.Block.TheVariants as block
+use Rattle.typst_code.specs.calls.Role.{Role}
+use Rattle.typst_code.specs.reading.Reading.{Reading}
+use Rattle.typst_code.specs.Point.{Point, Trivia, forgot}
+use Rattle.typst_code.specs.Hand.{Hand, hand_at, ahead, ahead_by, at_trivia, len_at}
+use Rattle.typst_code.specs.Shape.{Shape}
+use Rattle.typst_code.specs.Shape.Making.{itself}
+use Rattle.typst_code.specs.Syntax.{Parser}
+use Rattle.typst_code.specs.Syntax.Parser.{next}
+use Rattle.typst_code.specs.Steps.{eat, read_block}
+use Rattle.typst_code.specs.Meaning.{Level, apart, hand_of, asked, flushed_state, run}
+use Rattle.typst_code.proofs.Ends.{hand-again}
+use Rattle.typst_code.specs.Markup.{content_block}
+use Rattle.typst_code.specs.Starts.{begins_code}
+use Rattle.typst_code.specs.Equations.{between_dollars, equation}
+use Rattle.typst_code.specs.closures.Behind.{Behind}
+use Rattle.typst_code.specs.Bindings.{let_binding}
+use Rattle.typst_code.specs.Closures.{behind_name, behind_underscore, headed, name_shape, named, placeholder, underscore_shape}
+use Rattle.typst_code.specs.Params.{params}
+use Rattle.typst_code.specs.Patterns.{destructuring}
+use Rattle.typst_code.specs.Parens.{as_group, either_reading, parens, readings}
 use Rattle.typst_code.specs.Expressions.{code_head, code_by, unary_expr, code_primary, code_tail_turn, code_expr}
 use Rattle.typst_code.specs.Groups.{group}
 use Rattle.typst_code.specs.Imports.{module_import}
 use Rattle.typst_code.specs.Sequences.{code_block}
-use Rattle.typst_code.specs.Statements.{set_rule, show_rule, contextual, conditional, conditional_turn, while_loop, module_include, jump, func_return}
+use Rattle.typst_code.specs.Statements.{set_rule, show_rule, contextual, conditional, conditional_turn, while_loop, for_loop, module_include, jump, func_return}
 use Rattle.typst_grammar.specs.Grammar.{level_at}
-
--- where something is left, trivia or a token, something is taken
-abbrev pub Moves : {A : Type 0} → Level → Parser A → Type 0
-Moves l p = (z : Place) (s : Point) → 0 < (hand_of l z s).gap + (hand_of l z s).len → 0 < (run l p z s).taken
-
-module _ (l : Level) where
-  -- as much is left once it was asked for
-  pub left-again : (z : Place) (s : Point) → (hand_of l z (asked (hand_of l z s) s)).gap + (hand_of l z (asked (hand_of l z s) s)).len ≡ (hand_of l z s).gap + (hand_of l z s).len
-  left-again z s = ap (λ (h : Hand). h.gap + h.len) (hand-again l.classes s.held s.known z)
-
-  pub moves-next : {A B : Type 0} (p : Parser B) (f : B → Parser A) → Moves l p → Moves l (next p f)
-  unfolding run
-  moves-next p f e z s h = let first = e z s h in omega arith
-
-  pub moves-peek : {A : Type 0} (f : AtHand → Parser A) → ((h : AtHand) → Moves l (f h)) → Moves l (next (does hand) f)
-  unfolding run
-  moves-peek f e z s h =
-      let t = asked (hand_of l z s) s in
-      let rest : 0 < (run l (f (told (hand_of l z s))) (moved 0 z) t).taken = e (told (hand_of l z s)) z t (omega (arith, left-again z s)) in omega arith
-
-  moves-takes : (trims : Bool) (making : Making) → Moves l (does (takes trims making))
-  unfolding run
-  moves-takes trims making z s h = h
-
-  pub moves-making : (trims : Bool) (making : Making) → Moves l (eat_making trims making)
-  unfolding eat_making
-  moves-making trims making = moves-next (does (takes trims making)) _ (moves-takes trims making)
-
-  pub moves-eat : Moves l eat
-  unfolding eat
-  moves-eat = moves-making false itself
-
-  pub moves-unexpected : (hints : List (List ℕ)) → Moves l (unexpected hints)
-  unfolding unexpected
-  moves-unexpected hints = moves-making true (surprise hints)
-
-  pub moves-scoped : {A : Type 0} (f : Reading → Reading) (p : Parser A) → Moves l p → Moves l (scoped f p)
-  unfolding run
-  moves-scoped f p e z s h = e z (entered (f s.reading) s) h
-
-  pub moves-within : {A : Type 0} (f : Reading → Reading) (p : Parser A) → Moves l p → Moves l (within f p)
-  unfolding within
-  moves-within f p e = moves-next (scoped f p) _ (moves-scoped f p e)
-
-  pub moves-node : {A : Type 0} (shape : A → Shape) (p : Parser A) → Moves l p → Moves l (node shape p)
-  unfolding run node
-  moves-node shape p e z s h = let t = asked (hand_of l z s) s in let inside : 0 < (run l p (moved 0 z) t).taken = e z t (omega (arith, left-again z s)) in omega arith
-
--- what grows takes no less than what it begins with
-either-more : {A : Type 0} (t : ℕ) (b : Bool) (x y : Outcome A) → t ≤ x.taken → t ≤ y.taken → t ≤ (if b then x else y).taken
-either-more t true x y h i = h
-either-more t false x y h i = i
-
-grown-taken : {A : Type 0} (n : ℕ) (s : Option Shape) (o : Outcome A) → (grown n s o).taken ≡ o.taken
-grown-taken n None o = refl
-grown-taken n (Some shape) o = refl
-
-grown-more : {A : Type 0} (m : A → Meaning (Option Shape × A)) (n k : ℕ) (o : Outcome A) (z : Place) → o.taken ≤ (growths m n k o z).taken
-grown-more m n zero o z = omega arith
-grown-more m n (suc k) o z =
-    let p = m o.value (moved o.taken z) o.state in
-    let more = grown n p.value.0 (answered p.value.1 (joined o p)) in
-    let e = grown-taken n p.value.0 (answered p.value.1 (joined o p)) in
-    let here : o.taken ≤ more.taken = omega (arith, e) in
-    let rest = grown-more m n k more z in
-    either-more o.taken (is_more p.value.0 && nat_lt 0 p.taken) (growths m n k more z) more (omega (arith, here, rest)) here
-
--- what nests takes no less than its first turn
-nested-more : {A : Type 0} (f : A → Shape) (m : A → Meaning (Bool × A)) (k : ℕ) (x : A) (z : Place) (s : Point) → (m x z s).taken ≤ (nestings f at_token m (suc k) x z s).taken
-nested-more f m k x z s =
-    let o = m x z s in
-    either-more o.taken (o.value.0 && nat_lt 0 o.taken) (followed o (λ v. nestings f at_token m k v.1) z) (as_last o) (omega arith) (omega arith)
-
-module _ (l : Level) where
-  pub moves-grow : {A : Type 0} (p : Parser A) (turn : A → Parser (Option Shape × A)) (z : Place) (s : Point) → 0 < (run l p (moved 0 z) (asked (hand_of l z s) s)).taken → 0 < (run l (grow p turn) z s).taken
-  unfolding run grow growing
-  moves-grow p turn z s h =
-      let t = asked (hand_of l z s) s in
-      let more = grown-more (λ y. run l (turn y)) (before at_token t) (suc (bound (moved 0 z) t)) (run l p (moved 0 z) t) (moved 0 z) in
-      omega (arith, h, more)
-
-  pub moves-nest : {A : Type 0} (shape : A → Shape) (turn : A → Parser (Bool × A)) (x : A) → Moves l (turn x) → Moves l (nest shape turn x)
-  unfolding run nest nesting
-  moves-nest shape turn x e z s h =
-      let t = asked (hand_of l z s) s in
-      let inside : 0 < (run l (turn x) (moved 0 z) t).taken = e z t (omega (arith, left-again l z s)) in
-      let more = nested-more shape (λ y. run l (turn y)) (bound (moved 0 z) t) x (moved 0 z) t in
-      omega (arith, inside, more)
+use Rattle.typst_grammar.proofs.Moves.{Moves, Each, ◌also◌, of-each, left-again, moves-next, moves-peek, moves-takes, moves-eat, moves-scoped, moves-within, moves-node, moves-grow, moves-nest, moves-either, moves-pick}
 
 -- ---- what code begins with takes something
 
@@ -138,6 +55,52 @@ module _ (l : Level) where
   moves-group : Moves l group
   unfolding group
   moves-group = moves-next l _ _ (moves-node l _ _ (moves-within l _ _ (eats-first _)))
+
+  moves-params : Moves l params
+  unfolding params
+  moves-params = moves-next l _ _ (moves-node l _ _ (moves-within l _ _ (eats-first _)))
+
+  moves-destructuring : (role : Role) (names : List (List ℕ)) → Moves l (destructuring role names)
+  unfolding destructuring
+  moves-destructuring role names = moves-next l _ _ (moves-node l _ _ (moves-within l _ _ (eats-first _)))
+
+  moves-as-group : Moves l as_group
+  unfolding as_group
+  moves-as-group = moves-next l group _ moves-group
+
+  moves-readings : Moves l readings
+  unfolding readings
+  moves-readings =
+      moves-peek l _ (λ a. moves-pick l _ either_reading as_group
+      (moves-either l _ _ _ (moves-either l as_group _ _ moves-as-group (moves-next l params _ moves-params)) (moves-next l _ _ (moves-destructuring _ [])))
+      moves-as-group)
+
+  moves-parens : Moves l parens
+  unfolding parens
+  moves-parens = moves-next l _ _ (moves-node l _ _ (moves-next l readings _ moves-readings))
+
+  moves-headed : (what : SyntaxKind → Behind) (shape : Behind → Shape) → Moves l (headed what shape)
+  moves-headed what shape = moves-next l _ _ (moves-node l _ _ (moves-next l _ _ (moves-node l _ _ (eats-first _))))
+
+  moves-named : Moves l named
+  unfolding named
+  moves-named = moves-headed behind_name name_shape
+
+  moves-placeholder : Moves l placeholder
+  unfolding placeholder
+  moves-placeholder = moves-headed behind_underscore underscore_shape
+
+  moves-let : Moves l let_binding
+  unfolding let_binding
+  moves-let = moves-node l _ _ (eats-first _)
+
+  moves-for : Moves l for_loop
+  unfolding for_loop
+  moves-for = moves-node l _ _ (moves-next l _ _ (moves-next l _ _ (moves-next l _ _ (eats-first _))))
+
+  moves-equation : Moves l equation
+  unfolding equation between_dollars
+  moves-equation = moves-next l _ _ (moves-node l _ _ (moves-within l _ _ (eats-first _)))
 
   moves-set : Moves l set_rule
   unfolding set_rule
@@ -234,126 +197,27 @@ module _ (k : CharClasses) (levels : ℕ) where
 
 -- ---- an expression that a token begins
 
-both-true : (a b : Bool) → (a && b) ≡ true → (a ≡ true) × (b ≡ true)
-both-true true b h = (refl, h)
-both-true false b h = absurd (cc)
-
-is-not : (b : Bool) → not b ≡ true → b ≡ false
-is-not true h = absurd (cc)
-is-not false h = refl
-
--- what holds of each of some kinds holds of those among them
-abbrev Each : (SyntaxKind → Type 0) → List SyntaxKind → Type 0
-Each P [] = Unit {0}
-Each P (k ∷ ks) = P k × Each P ks
-
-of-each : (P : SyntaxKind → Type 0) (ks : List SyntaxKind) → Each P ks → (k : SyntaxKind) → among ks k ≡ true → P k
-of-each P [] h k e = absurd (cc)
-of-each P (j ∷ ks) h k e = of-first (same j k) refl (λ others. of-each P ks h.1 k others)
-  where
-    of-first : (b : Bool) → same j k ≡ b → (among ks k ≡ true → P k) → P k
-    of-first true f rest = subst P (sym (same-is j k f)) h.0
-    of-first false f rest = rest (subst (λ b. (b || among ks k) ≡ true) f e)
-
 module _ (k : CharClasses) (levels : ℕ) where
   abbrev here : Level
   here = level_at k levels
 
   abbrev Begins : SyntaxKind → Type 0
-  Begins i = comes_later i ≡ false → Moves here (code_by false (code_head false i))
+  Begins i = Moves here (code_by false (code_head false i))
 
   abbrev e : Moves here eat
   e = moves-eat here
 
   each-begins : Each Begins code_kinds
-  each-begins = (
-    (λ _. moves-making here false (wanted _)),
-    (
-      (λ _. e),
-      (
-        (λ _. moves-block k levels block.Code),
-        (
-          (λ _. moves-block k levels block.Content),
-          (
-            (λ _. moves-group here),
-            (
-              (λ f. absurd (cc)),
-              (
-                (λ f. absurd (cc)),
-                (
-                  (λ _. moves-set here),
-                  (
-                    (λ _. moves-show here),
-                    (
-                      (λ _. moves-context here false),
-                      (
-                        (λ _. moves-conditional here),
-                        (
-                          (λ _. moves-while here),
-                          (
-                            (λ f. absurd (cc)),
-                            (
-                              (λ _. moves-import here),
-                              (
-                                (λ _. moves-include here),
-                                (
-                                  (λ _. moves-jump here kind.LoopBreak),
-                                  (
-                                    (λ _. moves-jump here kind.LoopContinue),
-                                    (
-                                      (λ _. moves-return here),
-                                      (
-                                        (λ _. e),
-                                        (
-                                          (λ _. e),
-                                          (
-                                            (λ _. e),
-                                            (
-                                              (λ _. e),
-                                              (
-                                                (λ _. e),
-                                                (
-                                                  (λ _. e),
-                                                  (
-                                                    (λ _. e),
-                                                    (
-                                                      (λ _. e),
-                                                      (
-                                                        (λ _. e),
-                                                        (
-                                                          (λ _. moves-unary here _),
-                                                          ((λ _. moves-unary here _), ((λ _. moves-unary here _), tt)),
-                                                        ),
-                                                      ),
-                                                    ),
-                                                  ),
-                                                ),
-                                              ),
-                                            ),
-                                          ),
-                                        ),
-                                      ),
-                                    ),
-                                  ),
-                                ),
-                              ),
-                            ),
-                          ),
-                        ),
-                      ),
-                    ),
-                  ),
-                ),
-              ),
-            ),
-          ),
-        ),
-      ),
-    ),
-  )
+  each-begins =
+      moves-placeholder here also moves-named here also moves-block k levels block.Code also moves-block k levels block.Content also moves-parens here
+      also moves-equation here also moves-let here also moves-set here also moves-show here also moves-context here false
+      also moves-conditional here also moves-while here also moves-for here also moves-import here also moves-include here
+      also moves-jump here kind.LoopBreak also moves-jump here kind.LoopContinue also moves-return here
+      also e also e also e also e also e also e also e also e also e
+      also moves-unary here _ also moves-unary here _ also moves-unary here _ also tt
 
   moves-begun : (i : SyntaxKind) → begins_code i ≡ true → Moves here (code_by false (code_head false i))
-  moves-begun i h = of-each Begins code_kinds each-begins i (both-true (among code_kinds i) (not (comes_later i)) h).0 (is-not (comes_later i) (both-true (among code_kinds i) (not (comes_later i)) h).1)
+  moves-begun i h = of-each Begins code_kinds each-begins i h
 
   moves-primary : (z : Place) (s : Point) → begins_code (hand_of here z s).kind ≡ true → 0 < (hand_of here z s).gap + (hand_of here z s).len → 0 < (run here (code_primary false) z s).taken
   unfolding run code_primary

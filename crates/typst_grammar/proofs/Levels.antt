@@ -6,29 +6,29 @@ use Rattle.typst_lines.specs.Place.{Place, moved}
 use Rattle.typst_readers.specs.Sight.{hull_of}
 use Rattle.typst_node.specs.Tree.{Tree}
 use Rattle.typst_classes.specs.Classes.{CharClasses}
-use Rattle.typst_combinators.specs.declared.calls.Call.{Call}
-use Rattle.typst_combinators.specs.declared.calls.Note.{Note}
-use Rattle.typst_combinators.specs.Point.{Point}
-use Rattle.typst_combinators.specs.Ask.{Ask}
-use Rattle.typst_combinators.specs.Ask.Ask.{looked, marked}
-use Rattle.typst_combinators.specs.declared.reading.Reading.{Reading}
-use Rattle.typst_combinators.specs.Log.{Log, no_log, with_more, with_hull, with_note, logged}
-use Rattle.typst_combinators.specs.Knot.{meaning_of}
-use Rattle.typst_combinators.specs.Meaning.{less, standing, start_point, run}
-use Rattle.typst_combinators.specs.Shape.{hinted}
-use Rattle.typst_combinators.specs.Sound.{Sound}
-use Rattle.typst_combinators.specs.Syntax.{Parser}
-use Rattle.typst_combinators.proofs.Knot.{sound-level}
-use Rattle.typst_machine.specs.declared.depth.Answered.{Answered}
-use Rattle.typst_machine.specs.Cursor.{IsStart}
-use Rattle.typst_machine.specs.View.{View, Runs, Goes, Called, Answers, Fits, Bare, at}
-use Rattle.typst_ahead.specs.Noted.{listed}
+use Rattle.typst_code.specs.calls.Call.{Call}
+use Rattle.typst_code.specs.calls.Note.{Note}
+use Rattle.typst_code.specs.Point.{Point}
+use Rattle.typst_code.specs.Ask.{Ask}
+use Rattle.typst_code.specs.Ask.Ask.{looked, marked}
+use Rattle.typst_code.specs.reading.Reading.{Reading}
+use Rattle.typst_code.specs.Log.{Log, no_log, with_more, with_hull, with_note, logged}
+use Rattle.typst_code.specs.Knot.{meaning_of}
+use Rattle.typst_code.specs.Meaning.{less, standing, start_point, run}
+use Rattle.typst_code.specs.Shape.{hinted}
+use Rattle.typst_code.specs.Sound.{Sound}
+use Rattle.typst_code.specs.Syntax.{Parser}
+use Rattle.typst_code.proofs.Knot.{sound-level}
+use Rattle.typst_code.specs.depth.Answered.{Answered}
+use Rattle.typst_code.specs.Cursor.{IsStart}
+use Rattle.typst_code.specs.View.{View, Runs, Goes, Called, Answers, Fits, Bare, at}
+use Rattle.typst_code.specs.Noted.{listed}
 use Rattle.typst_code.specs.Outside.{Blocks}
 use Rattle.typst_grammar.specs.Grammar.{rules, production, meaning, level_at, max_depth, start_of, parsed, log}
 use Rattle.typst_grammar.specs.Read.{IsParsed}
 
 pub sound-at : (k : CharClasses) (levels : ℕ) → Sound (level_at k levels)
-sound-at k levels = sound-level rules k levels
+sound-at k levels = sound-level (rules k) k levels
 
 -- each block may be read there
 pub blocks-at : (k : CharClasses) (levels : ℕ) → Blocks (level_at k levels)
@@ -38,7 +38,7 @@ blocks-at k levels = record { content = record { has = refl; same = λ z s. refl
 fits-level : (k : CharClasses) (i j : ℕ) {v : View} → Fits (level_at k i) v → Fits (level_at k j) v
 fits-level k i j c = record { known = c.known; hand = c.hand; own = c.own; here = c.here; there = c.there; log = c.log }
 
-pub makes-production : (k : CharClasses) (levels : ℕ) {call : Call} {a : Answered} {old new : View} → Answers (level_at k levels) call (production call) a old new → Called (level_at k (suc levels)) call a old new
+pub makes-production : (k : CharClasses) (levels : ℕ) {call : Call} {a : Answered} {old new : View} → Answers (level_at k levels) call (production k call) a old new → Called (level_at k (suc levels)) call a old new
 unfolding meaning_of
 makes-production k levels {call = call} {a = a} {old = old} {new = new} h =
     let e : levels ≡ suc levels - 1 = omega arith in

@@ -5,7 +5,7 @@ use Rattle.typst_kinds.specs.declared.kind.SyntaxKind.TheVariants as kind
 use Rattle.typst_node.specs.Diagnostic.{warning_with, hint_with}
 use Rattle.typst_node.specs.Tree.{Tree, forest, leaf_of, inner_of, error_of, remarked, advised}
 use Rattle.typst_classes.specs.Classes.{CharClasses, by_law}
-use Rattle.typst_grammar.specs.Grammar.{tree, tree_code}
+use Rattle.typst_grammar.specs.Grammar.{tree, tree_code, tree_math}
 
 -- an inner node
 abbrev pub branch : SyntaxKind → List Tree → Tree
@@ -125,3 +125,45 @@ pub record CodeTrees (beyond : CharClasses) : Type 0 where
   pub context : tree (by_law beyond) (codes "#context\nx") ≡ markup (hash ∷ branch kind.Contextual (leaf_of kind.Context (codes "context") ∷ space (codes "\n") ∷ error_of (codes "unexpected identifier") (codes "x") ∷ []) ∷ [])
   -- a colon has to come right behind `show`
   pub show : tree_code (by_law beyond) (codes "show a") ≡ code (branch kind.ShowRule (leaf_of kind.Show (codes "show") ∷ error_of (codes "expected colon") [] ∷ space (codes " ") ∷ ident (codes "a") ∷ []) ∷ [])
+
+-- a tree of a formula
+abbrev pub math : List Tree → Tree
+math kids = branch kind.Math kids
+
+abbrev pub letter : List ℕ → Tree
+letter s = leaf_of kind.MathText s
+
+abbrev pub dollar : Tree
+dollar = leaf_of kind.Dollar (codes "$")
+
+-- Trees of short formulas, and of text with formulas in it.
+pub record MathTrees (beyond : CharClasses) : Type 0 where
+  -- delimiters are text, but parens round what is above a slash are parens
+  pub delimited : tree_math (by_law beyond) (codes "(a)") ≡ math (branch kind.MathDelimited (letter (codes "(") ∷ math (letter (codes "a") ∷ []) ∷ letter (codes ")") ∷ []) ∷ [])
+  pub fraction : tree_math (by_law beyond) (codes "(a)/b") ≡ math (branch kind.MathFrac (math (leaf_of kind.LeftParen (codes "(") ∷ math (letter (codes "a") ∷ []) ∷ leaf_of kind.RightParen (codes ")") ∷ []) ∷ leaf_of kind.Slash (codes "/") ∷ letter (codes "b") ∷ []) ∷ [])
+  pub unclosed_paren : tree_math (by_law beyond) (codes "(a") ≡ math (math (letter (codes "(") ∷ letter (codes "a") ∷ []) ∷ [])
+  -- one letter isn't called, and a name is
+  pub letter_and_paren : tree_math (by_law beyond) (codes "f(x)") ≡ math (math (letter (codes "f") ∷ branch kind.MathDelimited (letter (codes "(") ∷ math (letter (codes "x") ∷ []) ∷ letter (codes ")") ∷ []) ∷ []) ∷ [])
+  pub call : tree_math (by_law beyond) (codes "ab(x)") ≡ math (branch kind.MathCall (leaf_of kind.MathIdent (codes "ab") ∷ branch kind.MathArgs (leaf_of kind.LeftParen (codes "(") ∷ letter (codes "x") ∷ leaf_of kind.RightParen (codes ")") ∷ []) ∷ []) ∷ [])
+  -- each sign attaches once
+  pub attached : tree_math (by_law beyond) (codes "a^2_1") ≡ math (branch kind.MathAttach (letter (codes "a") ∷ leaf_of kind.Hat (codes "^") ∷ letter (codes "2") ∷ leaf_of kind.Underscore (codes "_") ∷ letter (codes "1") ∷ []) ∷ [])
+  pub primes : tree_math (by_law beyond) (codes "f''") ≡ math (branch kind.MathAttach (letter (codes "f") ∷ leaf_of kind.MathPrimes (codes "''") ∷ []) ∷ [])
+  pub factorial : tree_math (by_law beyond) (codes "a!") ≡ math (math (letter (codes "a") ∷ letter (codes "!") ∷ []) ∷ [])
+  -- a formula ends at a dollar
+  pub equation : tree (by_law beyond) (codes "$a$b") ≡ markup (branch kind.Equation (dollar ∷ math (letter (codes "a") ∷ []) ∷ dollar ∷ []) ∷ text (codes "b") ∷ [])
+  pub unclosed_equation : tree (by_law beyond) (codes "$a") ≡ markup (branch kind.Equation (unclosed (codes "$") ∷ math (letter (codes "a") ∷ []) ∷ []) ∷ [])
+
+-- Trees of short texts of code with patterns.
+pub record PatternTrees (beyond : CharClasses) : Type 0 where
+  pub binding : tree_code (by_law beyond) (codes "let (a,b)=c") ≡
+      code (branch kind.LetBinding (leaf_of kind.Let (codes "let") ∷ space (codes " ")
+      ∷ branch kind.Destructuring (leaf_of kind.LeftParen (codes "(") ∷ ident (codes "a") ∷ leaf_of kind.Comma (codes ",") ∷ ident (codes "b") ∷ leaf_of kind.RightParen (codes ")") ∷ [])
+      ∷ leaf_of kind.Eq (codes "=") ∷ ident (codes "c") ∷ []) ∷ [])
+  -- what stands in parens is read again where an arrow or a sign stands behind it
+  pub closure : tree_code (by_law beyond) (codes "(a)=>a") ≡
+      code (branch kind.Closure (branch kind.Params (leaf_of kind.LeftParen (codes "(") ∷ ident (codes "a") ∷ leaf_of kind.RightParen (codes ")") ∷ [])
+      ∷ leaf_of kind.Arrow (codes "=>") ∷ ident (codes "a") ∷ []) ∷ [])
+  pub assignment : tree_code (by_law beyond) (codes "(a,)=b") ≡
+      code (branch kind.DestructAssignment (branch kind.Destructuring (leaf_of kind.LeftParen (codes "(") ∷ ident (codes "a") ∷ leaf_of kind.Comma (codes ",") ∷ leaf_of kind.RightParen (codes ")") ∷ [])
+      ∷ leaf_of kind.Eq (codes "=") ∷ ident (codes "b") ∷ []) ∷ [])
+  pub placeholder : tree_code (by_law beyond) (codes "_=a") ≡ code (branch kind.DestructAssignment (leaf_of kind.Underscore (codes "_") ∷ leaf_of kind.Eq (codes "=") ∷ ident (codes "a") ∷ []) ∷ [])

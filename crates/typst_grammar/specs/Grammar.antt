@@ -4,25 +4,30 @@ use Rattle.typst_kinds.specs.declared.kind.SyntaxKind.TheVariants as kind
 use Rattle.typst_lines.specs.Place.{Place}
 use Rattle.typst_node.specs.Tree.{Tree, forest, inner_of}
 use Rattle.typst_classes.specs.Classes.{CharClasses}
-use Rattle.typst_combinators.specs.declared.calls.Block.{Block}
-use Rattle.typst_combinators.specs.declared.calls.Block.TheVariants as block
-use Rattle.typst_combinators.specs.declared.calls.Call.{Call}
-use Rattle.typst_combinators.specs.declared.calls.Call.TheVariants.{MarkupExpr, CodeExpr}
-use Rattle.typst_combinators.specs.Calls.{Answer}
-use Rattle.typst_combinators.specs.Syntax.{Parser, ◌>>◌}
-use Rattle.typst_combinators.specs.Steps.{peek, flush_trivia}
-use Rattle.typst_combinators.specs.Depth.{is_end}
-use Rattle.typst_combinators.specs.Log.{Log, no_log, logged}
-use Rattle.typst_combinators.specs.Meaning.{Outcome, Meaning, Level, start_point, run}
-use Rattle.typst_combinators.specs.Knot.{Rules, meaning_of, level_of}
-use Rattle.typst_markup.specs.Markup.{content_block, markup_expr, markup_run, markup_reading}
+use Rattle.typst_code.specs.calls.Block.{Block}
+use Rattle.typst_code.specs.calls.Block.TheVariants as block
+use Rattle.typst_code.specs.calls.Call.{Call}
+use Rattle.typst_code.specs.calls.Call.TheVariants.{MarkupExpr, CodeExpr, MathExpr, Pattern}
+use Rattle.typst_code.specs.Calls.{Answer}
+use Rattle.typst_code.specs.Syntax.{Parser, ◌>>◌}
+use Rattle.typst_code.specs.Steps.{peek, flush_trivia}
+use Rattle.typst_code.specs.Depth.{is_end}
+use Rattle.typst_code.specs.Log.{Log, no_log, logged}
+use Rattle.typst_code.specs.Meaning.{Outcome, Meaning, Level, start_point, run}
+use Rattle.typst_code.specs.Knot.{Rules, meaning_of, level_of}
+use Rattle.typst_code.specs.Markup.{content_block, markup_expr, markup_run, markup_reading}
+use Rattle.typst_code.specs.Patterns.{pattern}
 use Rattle.typst_code.specs.Sequences.{code_block, code_exprs, code_reading}
 use Rattle.typst_code.specs.Expressions.{code_expr}
+use Rattle.typst_code.specs.Equations.{math_exprs, math_reading}
+use Rattle.typst_math.specs.MathExpressions.{math_expr}
 
 -- what a call reads
-abbrev pub production : (call : Call) → Parser (Answer call)
-production (MarkupExpr at_start nesting) = markup_expr at_start nesting
-production (CodeExpr atomic least) = code_expr atomic least
+abbrev pub production : CharClasses → (call : Call) → Parser (Answer call)
+production k (MarkupExpr at_start nesting) = markup_expr at_start nesting
+production k (CodeExpr atomic least) = code_expr atomic least
+production k (MathExpr least stops) = math_expr k least stops
+production k (Pattern role names) = pattern role names
 
 -- each block may be read
 abbrev pub has : Block → Bool
@@ -33,16 +38,16 @@ abbrev pub block_production : Block → Parser (Unit {0})
 block_production block.Content = content_block
 block_production block.Code = code_block
 
-abbrev pub rules : Rules
-rules = record { production = production; has = has; block_production = block_production }
+abbrev pub rules : CharClasses → Rules
+rules k = record { production = production k; has = has; block_production = block_production }
 
 -- what a call gives below so many levels
 abbrev pub meaning : CharClasses → ℕ → (call : Call) → Meaning (Answer call)
-meaning k levels call = meaning_of rules k levels call
+meaning k levels call = meaning_of (rules k) k levels call
 
 -- where so many levels are left
 abbrev pub level_at : CharClasses → ℕ → Level
-level_at k levels = level_of rules k levels
+level_at k levels = level_of (rules k) k levels
 
 -- how deep calls may nest
 abbrev pub max_depth : ℕ
@@ -78,3 +83,15 @@ parsed_code k levels text = run (level_at k levels) whole_code (start_of text) (
 -- the tree of the characters of a text of code
 unfoldable pub tree_code : CharClasses → List ℕ → Tree
 tree_code k text = inner_of kind.Code (forest (parsed_code k max_depth text).nodes)
+
+-- the expressions of the whole text of a formula, with all trivia
+unfoldable pub whole_math : Parser (Unit {0})
+whole_math = peek >> math_exprs is_end >> flush_trivia
+
+-- what is read of the characters of such a text, where so many levels are left
+abbrev pub parsed_math : CharClasses → ℕ → List ℕ → Outcome (Unit {0})
+parsed_math k levels text = run (level_at k levels) whole_math (start_of text) (start_point math_reading)
+
+-- the tree of the characters of the text of a formula
+unfoldable pub tree_math : CharClasses → List ℕ → Tree
+tree_math k text = inner_of kind.Math (forest (parsed_math k max_depth text).nodes)

@@ -3,11 +3,11 @@ use Rattle.std.specs.Prelude.{◌≡◌, ℕ, Bool, List, encode_utf8_all}
 use Rattle.typst_kinds.specs.declared.kind.SyntaxKind.{SyntaxKind}
 use Rattle.typst_node.specs.Tree.{text_of}
 use Rattle.typst_classes.specs.Classes.{CharClasses}
-use Rattle.typst_combinators.specs.declared.calls.Call.{Call}
-use Rattle.typst_combinators.specs.Meaning.{Meaning, run}
-use Rattle.typst_combinators.specs.Sound.{Lawful}
-use Rattle.typst_markup.specs.Markup.{markup_turn, markup_exprs, markup_run}
-use Rattle.typst_grammar.specs.Grammar.{level_at, meaning, tree, tree_code}
+use Rattle.typst_code.specs.calls.Call.{Call}
+use Rattle.typst_code.specs.Meaning.{Meaning, run}
+use Rattle.typst_code.specs.Sound.{Lawful}
+use Rattle.typst_code.specs.Markup.{markup_turn, markup_exprs, markup_run}
+use Rattle.typst_grammar.specs.Grammar.{level_at, meaning, tree, tree_code, tree_math}
 
 -- A piece of a sequence, with whether a line begins there and in how many brackets it stands: an expression with what follows up to the next token.
 abbrev pub piece : CharClasses → Bool → (SyntaxKind → Bool) → Bool → ℕ → ℕ → Meaning (Bool × (Bool × ℕ))
@@ -44,3 +44,7 @@ LeavesLaw = (k : CharClasses) (text : List ℕ) → text_of (tree k text) ≡ en
 -- The same of a text of code.
 abbrev pub CodeLeavesLaw : Type 0
 CodeLeavesLaw = (k : CharClasses) (text : List ℕ) → text_of (tree_code k text) ≡ encode_utf8_all text
+
+-- The same of the text of a formula.
+abbrev pub MathLeavesLaw : Type 0
+MathLeavesLaw = (k : CharClasses) (text : List ℕ) → text_of (tree_math k text) ≡ encode_utf8_all text

@@ -1,8 +1,8 @@
 -- What a parser shows that read a whole text.
 use Rattle.std.specs.Prelude.{◌≡◌, ℕ, Bool, List}
-use Rattle.typst_combinators.specs.Log.{blank_log, logged}
-use Rattle.typst_combinators.specs.Meaning.{Outcome}
-use Rattle.typst_machine.specs.View.{View}
+use Rattle.typst_code.specs.Log.{blank_log, logged}
+use Rattle.typst_code.specs.Meaning.{Outcome}
+use Rattle.typst_code.specs.View.{View}
 use Rattle.typst_grammar.specs.Grammar.{max_depth, start_of}
 
 -- it has the nodes, and the looks and notes, of what the definition gives

@@ -3,19 +3,19 @@
 ghost use Rattle.std.specs.Prelude.{◌≡◌, ◌<◌, IfOk, Some, false};
 ghost use Rattle.std.specs.Str.{chars};
 ghost use Rattle.typst_node.specs.Tree.{text_of};
-ghost use Rattle.typst_machine.specs.View.{Calls};
+ghost use Rattle.typst_code.specs.View.{Calls};
 ghost use Rattle.typst_code.specs.Outside.{MeansAroundAs};
 ghost use Rattle.typst_grammar.specs.Grammar as spec;
 ghost use Rattle.typst_grammar.specs.Read.{IsParsed};
 
 use std::alloc::{AllocError, Global};
 use typst_classes::Classes;
-use typst_code::{CodeStop, code_expr, code_exprs};
-use typst_combinators::{AtNewline, Call, Note, Reading};
+use typst_code::{
+    Answered, AtNewline, Call, CodeStop, Grammar, Hull, Levels, MathStop, Note, Parser, Reading,
+    Stop, code_expr, code_exprs, markup_expr, markup_run, math_exprs, pattern,
+};
 use typst_kinds::{SyntaxKind, SyntaxMode};
-use typst_lexer::Hull;
-use typst_machine::{Answered, Grammar, Levels, Parser};
-use typst_markup::{Stop, markup_expr, markup_run};
+use typst_math::math_expr;
 use typst_node::SyntaxNode;
 
 /// How deep calls may nest.
@@ -24,7 +24,7 @@ const MAX_DEPTH: usize = 256;
 /// Reads what a call asks for.
 pub fn production<L: Levels>(g: &L, p: &mut Parser<'_>, call: Call) -> Result<Answered, AllocError>
     requires { L.may_call g.now }
-    ensures { MeansAroundAs (L.frame g.now) call (spec.production call) p.old result p.new }
+    ensures { MeansAroundAs (L.frame g.now) call (spec.production (L.frame g.now).classes call) p.old result p.new }
 {
     match call {
         Call::MarkupExpr(at_start, nesting) => {
@@ -34,6 +34,14 @@ pub fn production<L: Levels>(g: &L, p: &mut Parser<'_>, call: Call) -> Result<An
         Call::CodeExpr(atomic, least) => {
             code_expr(g, p, atomic, least)?;
             Ok(Answered::Nothing)
+        }
+        Call::MathExpr(least, stops) => {
+            math_expr(g, p, least, stops)?;
+            Ok(Answered::Nothing)
+        }
+        Call::Pattern(role, names) => {
+            let seen = pattern(g, p, role, names)?;
+            Ok(Answered::Names(seen))
         }
     }
 }
@@ -78,6 +86,20 @@ pub fn parse_code<C: Classes>(
 {
     let (nodes, _notes, _hull) = read_whole_code(alloc, text, classes)?.finish();
     Ok(SyntaxNode::inner(SyntaxKind::Code, nodes))
+}
+
+/// The syntax tree of the text of a formula, with detached spans. Any text has one; its leaves joined
+/// are the text. It refuses only for want of memory.
+pub fn parse_math<C: Classes>(
+    alloc: Global,
+    text: &str,
+    classes: &C,
+) -> Result<SyntaxNode, AllocError>
+    ensures tree { IfOk result (λ t. t ≡ spec.tree_math (C.classes classes.now) (chars text.now)) }
+    ensures leaves { IfOk result (λ t. text_of t ≡ text.now) }
+{
+    let (nodes, _notes, _hull) = read_whole_math(alloc, text, classes)?.finish();
+    Ok(SyntaxNode::inner(SyntaxKind::Math, nodes))
 }
 
 /// A syntax tree with what was looked at and noted in parsing it.
@@ -149,6 +171,30 @@ fn read_whole_code<'s, C: Classes>(
     };
     p.look(&g)?;
     code_exprs(&g, &mut p, CodeStop::End)?;
+    p.flush_trivia()?;
+    Ok(p)
+}
+
+/// The same, of the text of a formula.
+fn read_whole_math<'s, C: Classes>(
+    alloc: Global,
+    text: &'s str,
+    classes: &C,
+) -> Result<Parser<'s>, AllocError>
+    ensures { IfOk result (λ p. IsParsed false (chars text.now) (spec.parsed_math (C.classes classes.now) spec.max_depth (chars text.now)) p) }
+{
+    let reading = Reading {
+        mode: SyntaxMode::Math,
+        at_newline: AtNewline::Continue,
+    };
+    let mut p = Parser::new(alloc, text, reading, false)?;
+    let g = Grammar {
+        classes,
+        levels: MAX_DEPTH,
+        call: make_call::<C>,
+    };
+    p.look(&g)?;
+    math_exprs(&g, &mut p, MathStop::End)?;
     p.flush_trivia()?;
     Ok(p)
 }

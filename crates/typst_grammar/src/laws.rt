@@ -1,8 +1,8 @@
 //! Laws of the grammar.
 
 ghost use Rattle.typst_classes.specs.Classes.{CharClasses};
-ghost use Rattle.typst_grammar.specs.Examples.{CodeTrees, NamedTrees, Trees};
-ghost use Rattle.typst_grammar.specs.Laws.{CallLaws, CodeLeavesLaw, LeavesLaw, PieceLaws, RunLaws, SequenceLaws};
+ghost use Rattle.typst_grammar.specs.Examples.{CodeTrees, MathTrees, NamedTrees, PatternTrees, Trees};
+ghost use Rattle.typst_grammar.specs.Laws.{CallLaws, CodeLeavesLaw, LeavesLaw, MathLeavesLaw, PieceLaws, RunLaws, SequenceLaws};
 ghost use Rattle.typst_grammar.specs.Notes.{Notes};
 
 /// What holds of every part of the grammar. Where all that was asked shows the same at two places,
@@ -21,6 +21,7 @@ pub fn grammar_laws()
 pub fn leaves_law()
     ensures markup { LeavesLaw }
     ensures code { CodeLeavesLaw }
+    ensures math { MathLeavesLaw }
 {}
 
 /// Trees of short texts, which follow from the definitions.
@@ -36,6 +37,16 @@ pub fn trees_of_names()
 /// The same of texts with code.
 pub fn trees_of_code()
     ensures { (beyond : CharClasses) → CodeTrees beyond }
+{}
+
+/// The same of texts of code with patterns.
+pub fn trees_of_patterns()
+    ensures { (beyond : CharClasses) → PatternTrees beyond }
+{}
+
+/// The same of formulas.
+pub fn trees_of_formulas()
+    ensures { (beyond : CharClasses) → MathTrees beyond }
 {}
 
 /// What is noted of short texts.

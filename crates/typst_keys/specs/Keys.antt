@@ -1,8 +1,8 @@
--- Names of arguments, and keys of pairs.
+-- Keys of pairs.
 use Rattle.std.specs.Prelude.{ℕ, zero, suc, ◌+◌, Bool, if◌then◌else◌, ◌==◌, List, [], ◌∷◌, ◌++◌, take, drop, slice_get, encode_utf8, encode_utf8_all, Option, Some, None}
 use Rattle.std.specs.Char.{is_ascii_hexdigit}
-use Rattle.std.specs.List.{list_any, prefix_len}
-use Rattle.std.specs.Str.{bytes_eq, chars}
+use Rattle.std.specs.List.{prefix_len}
+use Rattle.std.specs.Str.{chars}
 use Rattle.typst_kinds.specs.Kinds.{same}
 use Rattle.typst_kinds.specs.declared.kind.SyntaxKind.TheVariants as kind
 use Rattle.typst_lines.specs.Place.{passes}
@@ -79,13 +79,7 @@ without_last (c ∷ d ∷ cs) = c ∷ without_last (d ∷ cs)
 unfoldable pub string_key : List ℕ → List ℕ
 string_key text = unescaped 0 (without_last (drop 1 (chars text)))
 
--- ---- names that were seen
-
-abbrev pub has_name : List (List ℕ) → List ℕ → Bool
-has_name names name = list_any (λ n. bytes_eq n name) names
-
-abbrev pub with_name : List (List ℕ) → List ℕ → List (List ℕ)
-with_name names name = if has_name names name then names else names ++ name ∷ []
+-- ---- what a node is as a key
 
 -- what a node is as a key: a name, a string, or none
 abbrev pub key_of_one : Seen → Key

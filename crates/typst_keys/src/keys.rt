@@ -1,12 +1,11 @@
-//! Names of arguments, and keys of pairs.
+//! Keys of pairs.
 
-ghost use Rattle.std.specs.Prelude.{◌≡◌, [], IfOk, OnOk, map};
+ghost use Rattle.std.specs.Prelude.{◌≡◌, IfOk, map};
 ghost use Rattle.typst_combinators.specs.Shape.{seen};
 ghost use Rattle.typst_keys.specs.Keys as spec;
 
 use crate::escapes::string_key;
 use std::alloc::{AllocError, Global};
-use std::marker::Model;
 use typst_kinds::SyntaxKind;
 use typst_node::SyntaxNode;
 use typst_node_data::Text;
@@ -45,50 +44,4 @@ fn key_of_one(alloc: Global, node: &SyntaxNode) -> Result<Key, AllocError>
         return Ok(Key::Str(string_key(alloc, node.leaf_text())?));
     }
     Ok(Key::Other)
-}
-
-/// The names that were seen.
-#[derive(Drop)]
-pub struct Names {
-    alloc: Global,
-    names: Vec<Text>,
-}
-
-impl Model for Names {
-    ghost use Rattle.std.specs.Prelude.{List, ℕ};
-
-    ghost Value = { List (List ℕ) };
-
-    ghost view = { λ n. n.names.items };
-}
-
-impl Names {
-    /// None.
-    pub fn new(alloc: Global) -> Names
-        ensures { result ≡ [] }
-    {
-        Names {
-            alloc,
-            names: Vec::new(alloc),
-        }
-    }
-
-    /// Whether the name is one of them.
-    pub fn has(&self, name: &str) -> bool
-        ensures { result ≡ spec.has_name self.now name.now }
-    {
-        self.names.as_slice().iter().any(|n| n.as_str() == name)
-    }
-
-    /// Adds the name, unless it is one of them.
-    pub fn add(&mut self, name: &str) -> Result<(), AllocError>
-        ensures { OnOk result (self.new ≡ spec.with_name self.old name.now) }
-    {
-        if self.has(name) {
-            return Ok(());
-        }
-        let name = Text::new(self.alloc, name)?;
-        self.names.push(name)?;
-        Ok(())
-    }
 }

@@ -1,8 +1,8 @@
-//! The names of arguments and the keys of pairs.
+//! The keys of pairs.
 #![tactic(auto)]
 
 mod escapes;
 mod keys;
 
 pub use escapes::string_key;
-pub use keys::{Key, Names, key_of};
+pub use keys::{Key, key_of};

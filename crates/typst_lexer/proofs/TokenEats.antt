@@ -1,40 +1,30 @@
 -- A token takes at least one character, unless it is the end.
-use Rattle.std.proofs.Common.{◌≡◌, ◌≤◌, ℕ, Bool, true, false, List, [], ◌∷◌, length, slice_get, if◌then◌else◌, ◌==◌, ◌||◌, refl, ap, ◌∙◌, arith, Some, None}
+use Rattle.std.proofs.Common.{◌≡◌, ◌≤◌, ℕ, true, slice_get, if◌then◌else◌, ◌==◌, refl, ap, ◌∙◌, arith, Some, None}
 use Rattle.std.proofs.lemmas.Bool.Decides.{nat_tests}
-use Rattle.std.specs.Char.{is_ascii_digit}
-use Rattle.std.specs.List.{prefix_len}
 use Rattle.std.specs.Prelude.{IsSome, is_none}
-use Rattle.typst_kinds.specs.declared.kind.SyntaxKind.{SyntaxKind}
 use Rattle.typst_kinds.specs.declared.kind.SyntaxKind.TheVariants as kind
 use Rattle.typst_kinds.specs.declared.mode.SyntaxMode.{SyntaxMode}
 use Rattle.typst_kinds.specs.declared.mode.SyntaxMode.TheVariants.{Markup, Math, Code}
 use Rattle.typst_lines.specs.Place.{Place, scout, passes}
 use Rattle.typst_tokens.specs.Characters.{is_space}
 use Rattle.typst_classes.specs.Classes.{CharClasses, in_line}
-use Rattle.typst_classes.specs.Identifiers.{is_id_continue}
 use Rattle.typst_tokens.specs.Common.{whitespace, shebang, line_comment, block_comment, comment_end}
-use Rattle.typst_markup_tokens.specs.Markup.{dot, minus, emphasis, heading, marker, numbering, markup}
-use Rattle.typst_tokens.specs.Common.{sign}
-use Rattle.typst_tokens.specs.Escapes.{backslash}
 use Rattle.typst_readers.specs.Reader.{Reader, eaten}
 use Rattle.typst_readers.specs.Reader.Reader.{answer}
-use Rattle.typst_markup_tokens.specs.Link.{link_or_text}
-use Rattle.typst_markup_tokens.specs.Names.{label_or_text, ref_marker, ref_or_text}
-use Rattle.typst_tokens.specs.Labels.{label}
 use Rattle.typst_tokens.specs.Raw.{raw}
-use Rattle.typst_markup_tokens.specs.Text.{text_from}
 use Rattle.typst_tokens.specs.Token.{plain}
 use Rattle.typst_code_tokens.proofs.Eats.{code-eats}
 use Rattle.typst_markup_tokens.proofs.Eats.{markup-eats}
+use Rattle.typst_math_tokens.proofs.Eats.{math-eats}
 use Rattle.typst_tokens.proofs.Eats.{either, some-ahead, run-ahead, line-eats}
 use Rattle.typst_lexer.specs.Tokens.{of_mode, hash, slash, star, backtick, token}
 use Rattle.typst_tokens.specs.declared.token.Token.{Token}
 use Rattle.typst_tokens.specs.Memory.{Memory}
 
 mode-eats : (c : ℕ) (p : Place) (e : scout 0 p ≡ Some c) (k : CharClasses) (mode : SyntaxMode) → 1 ≤ eaten (of_mode k mode c) p
-unfolding of_mode text_from
+unfolding of_mode
 mode-eats c p e k Markup = markup-eats c p e k
-mode-eats c p e k Math = omega arith
+mode-eats c p e k Math = math-eats k c p e
 mode-eats c p e k Code = code-eats k c p e
 
 -- the mode's own token at a character that is known

@@ -7,15 +7,15 @@ use Rattle.typst_lexer.specs.declared.lexer.Lexer.{Lexer}
 
 -- The text that it reads.
 abbrev pub text_of : {C : Type 0} → Lexer C → List ℕ
-text_of l = l.s.text.now
+text_of l = l.at.s.text.now
 
 -- Its place in the text.
 abbrev pub place : {C : Type 0} → Lexer C → Place
-place l = scanner.place l.s
+place l = scanner.place l.at.s
 
 -- The byte offset of its place.
 abbrev pub cursor_of : {C : Type 0} → Lexer C → ℕ
-cursor_of l = l.s.cursor
+cursor_of l = l.at.s.cursor
 
 -- The mode in which it reads.
 abbrev pub mode_of : {C : Type 0} → Lexer C → SyntaxMode

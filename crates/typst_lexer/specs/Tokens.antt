@@ -10,7 +10,7 @@ use Rattle.typst_tokens.specs.Common.{whitespace, shebang, line_comment, block_c
 use Rattle.typst_code_tokens.specs.Code.{code}
 use Rattle.typst_markup_tokens.specs.Markup.{markup}
 use Rattle.typst_tokens.specs.Raw.{raw}
-use Rattle.typst_markup_tokens.specs.Text.{text_from}
+use Rattle.typst_math_tokens.specs.Math.{math}
 use Rattle.typst_readers.specs.Reader.{Reader}
 use Rattle.typst_readers.specs.Reader.Reader.{answer, peek, glance}
 use Rattle.typst_tokens.specs.Token.{plain}
@@ -20,8 +20,7 @@ use Rattle.typst_tokens.specs.Memory.{Memory}
 -- A token that only one mode has, at the character that comes next.
 unfoldable pub of_mode : CharClasses → SyntaxMode → ℕ → Reader Memory Token
 of_mode k Markup c = markup k c
--- LATER, formulas: until then any character begins a text
-of_mode k Math c = text_from k
+of_mode k Math c = math k
 of_mode k Code c = code k c
 
 -- A hash comes next: at the text's start `#!` begins a shebang.

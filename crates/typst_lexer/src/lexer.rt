@@ -5,6 +5,7 @@ ghost use Rattle.typst_readers.specs.Column.{column};
 ghost use Rattle.typst_readers.specs.Reader.{exec, eaten};
 ghost use Rattle.typst_readers.specs.Reads.{Reads, Scans};
 ghost use Rattle.typst_lexer.specs.Tokens as spec;
+ghost use Rattle.typst_math_tokens.specs.Arguments.{named_argument as named, spread_argument as spread};
 ghost use Rattle.typst_lines.specs.Place.{place_at, scout};
 
 use std::alloc::{AllocError, Global};
@@ -13,18 +14,27 @@ use typst_code_tokens::code::code;
 use typst_kinds::{SyntaxKind, SyntaxMode};
 use typst_lines::Scanner;
 use typst_markup_tokens::markup::markup;
-use typst_markup_tokens::text::text_from;
+use typst_math_tokens::arguments;
+use typst_math_tokens::math::math;
 use typst_readers::column::column;
-use typst_readers::{Cursor, Hull};
+use typst_readers::{Cursor, Hull, LineEnd};
 use typst_tokens::Token;
 use typst_tokens::common::{block_comment, comment_end, line_comment, shebang, whitespace};
 use typst_tokens::raw::raw;
 use typst_tokens::sets::is_space;
 
+/// A place in a text, and the end of a line of it that is known.
+#[derive(Clone, Copy)]
+struct Spot<'a> {
+    s: Scanner<'a>,
+    line: LineEnd<'a>,
+    ghost same_text: { line.text.now ≡ s.text.now },
+}
+
 /// Reads a text token by token, in one mode or another.
 #[derive_where(Clone, Copy)]
 pub struct Lexer<'a, C: Classes> {
-    s: Scanner<'a>,
+    at: Spot<'a>,
     mode: SyntaxMode,
     newline: bool,
     classes: &'a C,
@@ -41,8 +51,12 @@ impl<'a, C: Classes> Lexer<'a, C> {
         ensures newline { newline_of result ≡ false }
         ensures classes { result.classes.now ≡ classes.now }
     {
-        Lexer {
+        let at = Spot {
             s: Scanner::new(text),
+            line: LineEnd::of_text(text),
+        };
+        Lexer {
+            at,
             mode,
             newline: false,
             classes,
@@ -73,7 +87,7 @@ impl<'a, C: Classes> Lexer<'a, C> {
         ensures boundary { IsCharBoundary (text_of self.now) result }
         ensures place { place self.now ≡ place_at (text_of self.now) result }
     {
-        self.s.cursor()
+        self.at.s.cursor()
     }
 
     /// Goes to a byte offset of the text, on a character boundary.
@@ -86,7 +100,10 @@ impl<'a, C: Classes> Lexer<'a, C> {
         ensures newline { newline_of self.new ≡ newline_of self.old }
         ensures classes { self.new.classes.now ≡ self.old.classes.now }
     {
-        self.s.jump(index);
+        let mut s = self.at.s;
+        s.jump(index);
+        let line = self.at.line;
+        self.at = Spot { s, line };
     }
 
     /// The class value by which it reads.
@@ -109,7 +126,7 @@ impl<'a, C: Classes> Lexer<'a, C> {
         requires { IsCharBoundary (text_of self.now) index }
         ensures { result ≡ column (place_at (text_of self.now) index) }
     {
-        let mut s = self.s;
+        let mut s = self.at.s;
         s.jump(index);
         column(&s).0
     }
@@ -126,28 +143,34 @@ impl<'a, C: Classes> Lexer<'a, C> {
         ensures classes { self.new.classes.now ≡ self.old.classes.now }
         ensures refused { OnErr result (self.new ≡ self.old) }
     {
-        let mut s = self.s;
-        let (token, _) = token(alloc, &mut s, self.mode, self.classes)?;
-        let text = s.since(&self.s);
-        self.s = s;
+        let mut s = self.at.s;
+        let mut line = self.at.line;
+        let (token, _) = token(alloc, &mut s, &mut line, self.mode, self.classes)?;
+        let text = s.since(&self.at.s);
+        self.at = Spot { s, line };
         self.newline = token.newline;
         Ok((token, text))
     }
 }
 
 /// The token of the mode that comes next, and the bytes that were looked at for it. This takes no
-/// memory but for the brackets of a link. Where memory is refused the scanner stays.
-pub fn token<C: Classes>(
+/// memory but for the brackets of a link. Where memory is refused the scanner stays. What is known
+/// of the end of a line goes from token to token, so that each line is gone through once for it.
+pub fn token<'a, C: Classes>(
     alloc: Global,
-    s: &mut Scanner<'_>,
+    s: &mut Scanner<'a>,
+    line: &mut LineEnd<'a>,
     mode: SyntaxMode,
     classes: &C,
 ) -> Result<(Token, Hull), AllocError>
+    requires { line.old.text.now ≡ s.old.text.now }
     ensures scans { IfOk result (λ r. Scans (spec.token (C.classes classes.now) mode) s.old r.0 r.1 s.new) }
+    ensures same_text { line.new.text.now ≡ line.old.text.now }
     ensures refused { OnErr result (s.new ≡ s.old) }
 {
-    let mut cursor = Cursor::new(*s);
+    let mut cursor = Cursor::on_line(*s, *line);
     let token = next_token(alloc, &mut cursor, mode, classes)?;
+    *line = cursor.line();
     let (after, hull) = cursor.finish();
     *s = after;
     Ok((token, hull))
@@ -187,7 +210,7 @@ fn of_mode<C: Classes>(
 {
     match mode {
         SyntaxMode::Markup => Ok(markup(alloc, s, c, classes)?),
-        SyntaxMode::Math => Ok(text_from(s, classes)),
+        SyntaxMode::Math => Ok(math(s, classes)),
         SyntaxMode::Code => Ok(code(s, c, classes)),
     }
 }
@@ -252,4 +275,28 @@ fn backtick<C: Classes>(
         SyntaxMode::Math => Ok(of_mode(alloc, s, '`', mode, classes)?),
         SyntaxMode::Code => Ok(raw(s)),
     }
+}
+
+/// The name of a named argument of a formula that begins here, or End where none does, and the bytes
+/// that were looked at for it.
+pub fn named_argument<C: Classes>(s: &mut Scanner<'_>, classes: &C) -> (Token, Hull)
+    ensures { Scans (named (C.classes classes.now)) s.old result.0 result.1 s.new }
+{
+    let mut cursor = Cursor::new(*s);
+    let token = arguments::named_argument(&mut cursor, classes);
+    let (after, hull) = cursor.finish();
+    *s = after;
+    (token, hull)
+}
+
+/// The dots of an argument of a formula that is spread, or End where none begins here, and the bytes
+/// that were looked at for them.
+pub fn spread_argument(s: &mut Scanner<'_>) -> (Token, Hull)
+    ensures { Scans spread s.old result.0 result.1 s.new }
+{
+    let mut cursor = Cursor::new(*s);
+    let token = arguments::spread_argument(&mut cursor);
+    let (after, hull) = cursor.finish();
+    *s = after;
+    (token, hull)
 }

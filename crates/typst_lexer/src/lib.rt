@@ -8,5 +8,5 @@ pub use lexer::Lexer;
 pub use typst_classes::{
     Classes, MathClass, UnicodeClasses, is_id_continue, is_id_start, is_ident,
 };
-pub use typst_readers::Hull;
+pub use typst_readers::{Hull, LineEnd};
 pub use typst_tokens::{Fault, Token};

@@ -1,29 +1,29 @@
 -- Readings that begin by taking the token at hand, and so leave what stood before it.
-use Rattle.std.proofs.Common.{Option, ◌≡◌, ℕ, suc, ◌+◌, ◌-◌, ◌<◌, ◌≤◌, ◌==◌, Bool, true, false, if◌then◌else◌, nat_lt, List, [], ◌∷◌, ◌++◌, length, take, drop, append_assoc, append-nil, length-append, refl, ap, sym, ◌∙◌, subst, arith}
+use Rattle.std.proofs.Common.{Option, ◌≡◌, ℕ, ◌+◌, ◌-◌, ◌<◌, ◌==◌, Bool, true, false, if◌then◌else◌, nat_lt, List, [], ◌∷◌, ◌++◌, length, take, drop, append_assoc, append-nil, length-append, refl, ap, sym, ◌∙◌, subst, arith}
 use borrow.Author.Tests.{lt-ltb}
 use Rattle.std.proofs.Math.Seq.{take-length}
 use Rattle.typst_lines.specs.Place.{moved}
 use Rattle.typst_kinds.specs.Kinds.{is_error}
 use Rattle.typst_node.specs.Tree.{Tree, text_of}
-use Rattle.typst_combinators.specs.declared.reading.Reading.{Reading}
-use Rattle.typst_combinators.specs.Point.{Point, Trivia, pending}
-use Rattle.typst_combinators.specs.Hand.{AtHand, Hand, told}
-use Rattle.typst_combinators.specs.Shape.{Change, Making, Shape, after_node, first_changed, hinted, shaped}
-use Rattle.typst_combinators.specs.Shape.Change.{stays, turns_wrong, is_not, renamed, unparened}
-use Rattle.typst_combinators.specs.Shape.Shape.{keeps, holds, lacks, warns, fails}
-use Rattle.typst_combinators.specs.Shape.Making.{itself}
-use Rattle.typst_combinators.specs.Sound.{Sound}
-use Rattle.typst_combinators.specs.Steps.{eat, eat_making}
-use Rattle.typst_combinators.specs.Syntax.{Parser}
-use Rattle.typst_combinators.specs.Syntax.Begin.{at_token}
-use Rattle.typst_combinators.specs.Syntax.Op.{hand, takes}
-use Rattle.typst_combinators.specs.Syntax.Parser.{does, gives, next, scoped, wraps}
-use Rattle.typst_combinators.specs.Meaning.{Level, Outcome, asked, entered, hand_of, joined, less, run, taken_node}
+use Rattle.typst_ahead.specs.reading.Reading.{Reading}
+use Rattle.typst_ahead.specs.Point.{Point, Trivia, pending}
+use Rattle.typst_ahead.specs.Hand.{AtHand, Hand, told}
+use Rattle.typst_ahead.specs.Shape.{Change, Making, Shape, after_node, first_changed, hinted, shaped}
+use Rattle.typst_ahead.specs.Shape.Change.{stays, turns_wrong, is_not, renamed, unparened}
+use Rattle.typst_ahead.specs.Shape.Shape.{keeps, holds, lacks, warns, fails}
+use Rattle.typst_ahead.specs.Shape.Making.{itself}
+use Rattle.typst_ahead.specs.Sound.{Sound}
+use Rattle.typst_ahead.specs.Steps.{eat, eat_making}
+use Rattle.typst_ahead.specs.Syntax.{Parser}
+use Rattle.typst_ahead.specs.Syntax.Begin.{at_token}
+use Rattle.typst_ahead.specs.Syntax.Op.{hand, takes}
+use Rattle.typst_ahead.specs.Syntax.Parser.{does, gives, next, scoped, wraps}
+use Rattle.typst_ahead.specs.Meaning.{Level, Outcome, asked, entered, hand_of, joined, less, run, taken_node}
 use Rattle.typst_machine.specs.View.{View, Ran, Fits, at}
 use Rattle.typst_machine.specs.Checkpoint.{Leaves, first_of}
-use Rattle.typst_combinators.proofs.Backs.{backs-run}
-use Rattle.typst_combinators.proofs.Hints.{hinted-append, length-hinted}
-use Rattle.typst_combinators.proofs.Places.{take-both, drop-both, take-all, drop-all, less-none}
+use Rattle.typst_ahead.proofs.Backs.{backs-run}
+use Rattle.typst_ahead.proofs.Hints.{hinted-append, length-hinted}
+use Rattle.typst_ahead.proofs.Places.{take-both, drop-both, drop-all, less-none}
 use Rattle.typst_machine.proofs.Runs.{asked-same}
 
 -- an outcome gives these trivia first, and more, and does nothing to what stood before

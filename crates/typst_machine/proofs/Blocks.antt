@@ -3,18 +3,18 @@ use Rattle.std.proofs.Common.{◌≡◌, ℕ, ◌-◌, [], ◌∷◌, ◌++◌, 
 use Rattle.std.specs.Prelude.{Result, Ok, Err}
 use Rattle.std.specs.declared.alloc.AllocError.{AllocError}
 use Rattle.typst_lines.specs.Place.{moved}
-use Rattle.typst_combinators.specs.declared.calls.Block.{Block}
-use Rattle.typst_combinators.specs.declared.calls.Call.{Call}
-use Rattle.typst_combinators.specs.declared.calls.Mark.TheVariants.{Opens, Closes}
-use Rattle.typst_combinators.specs.Ask.Ask.{marked}
-use Rattle.typst_combinators.specs.Point.{Point, forgot, state_of}
-use Rattle.typst_combinators.specs.Log.{logged, with_note}
-use Rattle.typst_combinators.specs.Sound.{Sound}
-use Rattle.typst_combinators.specs.Syntax.{Parser, ◌>>◌}
-use Rattle.typst_combinators.specs.Syntax.Op.{flushes}
-use Rattle.typst_combinators.specs.Syntax.Parser.{does, block}
-use Rattle.typst_combinators.specs.Steps.{peek, read_block}
-use Rattle.typst_combinators.specs.Meaning.{Outcome, Level, apart, bounded, done, run}
+use Rattle.typst_ahead.specs.calls.Block.{Block}
+use Rattle.typst_ahead.specs.calls.Call.{Call}
+use Rattle.typst_ahead.specs.calls.Mark.TheVariants.{Opens, Closes}
+use Rattle.typst_ahead.specs.Ask.Ask.{marked}
+use Rattle.typst_ahead.specs.Point.{Point, forgot, state_of}
+use Rattle.typst_ahead.specs.Log.{logged, with_note}
+use Rattle.typst_ahead.specs.Sound.{Sound}
+use Rattle.typst_ahead.specs.Syntax.{Parser, ◌>>◌}
+use Rattle.typst_ahead.specs.Syntax.Op.{flushes}
+use Rattle.typst_ahead.specs.Syntax.Parser.{does, block}
+use Rattle.typst_ahead.specs.Steps.{peek, read_block}
+use Rattle.typst_ahead.specs.Meaning.{Outcome, Level, apart, bounded, done, run}
 use Rattle.typst_machine.specs.declared.depth.Answered.{Answered}
 use Rattle.typst_machine.specs.View.{View, Runs, Ran, Goes, Does, Calls, Frame, Fills, Fits, Loose, Looked, Opened, Closed, ReadsBlock, noted_here, unasked}
 use Rattle.typst_ahead.proofs.Logs.{logged-append}

@@ -1,19 +1,19 @@
 -- What the first of the nodes from a number on becomes, in its place.
-use Rattle.std.proofs.Common.{Option, ◌≡◌, ℕ, zero, suc, ◌+◌, ◌<◌, ◌≤◌, Bool, true, false, if◌then◌else◌, List, [], ◌∷◌, ◌++◌, length, map, take, drop, get_or, refl, ap, sym, ◌∙◌, subst, arith}
+use Rattle.std.proofs.Common.{Option, ◌≡◌, ℕ, zero, suc, ◌+◌, ◌<◌, ◌≤◌, true, false, if◌then◌else◌, List, [], ◌∷◌, ◌++◌, length, map, take, drop, get_or, refl, ap, sym, ◌∙◌, subst, arith}
 use Rattle.std.proofs.lemmas.List.{take-append-drop}
 use Rattle.std.proofs.Math.ListN.{set}
 use Rattle.typst_kinds.specs.Kinds.{is_error}
 use Rattle.typst_node.specs.Tree.{Tree, text_of}
-use Rattle.typst_combinators.specs.Point.{Point, Trivia, pending}
-use Rattle.typst_combinators.specs.Shape.{Change, changed, first_changed, count_empty, after_node, after_change, seen}
-use Rattle.typst_combinators.specs.Shape.Change.{stays, turns_wrong, is_not, renamed, unparened}
-use Rattle.typst_combinators.specs.Shape.Shape.{keeps}
-use Rattle.typst_combinators.proofs.Leaves.{text-changed}
-use Rattle.typst_combinators.specs.Meaning.{Level}
-use Rattle.typst_combinators.specs.Sound.{Sound}
-use Rattle.typst_combinators.specs.Syntax.{Parser}
-use Rattle.typst_combinators.specs.Syntax.Begin.{at_token}
-use Rattle.typst_combinators.specs.Syntax.Parser.{wraps}
+use Rattle.typst_ahead.specs.Point.{Point, Trivia, pending}
+use Rattle.typst_ahead.specs.Shape.{Change, changed, first_changed, count_empty, after_node, after_change, seen}
+use Rattle.typst_ahead.specs.Shape.Change.{stays, turns_wrong, is_not, renamed, unparened}
+use Rattle.typst_ahead.specs.Shape.Shape.{keeps}
+use Rattle.typst_ahead.proofs.Leaves.{text-changed}
+use Rattle.typst_ahead.specs.Meaning.{Level}
+use Rattle.typst_ahead.specs.Sound.{Sound}
+use Rattle.typst_ahead.specs.Syntax.{Parser}
+use Rattle.typst_ahead.specs.Syntax.Begin.{at_token}
+use Rattle.typst_ahead.specs.Syntax.Parser.{wraps}
 use Rattle.typst_machine.specs.Expected.{seeing}
 use Rattle.typst_machine.specs.View.{View, Does, Rewrapped}
 use Rattle.typst_machine.proofs.Runs.{rewrapped-fits}

@@ -1,8 +1,8 @@
 -- Going back to a checkpoint.
-use Rattle.std.proofs.Common.{◌≡◌, ℕ, min, if◌then◌else◌, List, length, take, drop, None, refl}
+use Rattle.std.proofs.Common.{◌≡◌, ℕ, min, if◌then◌else◌, List, length, take, None, refl}
 use Rattle.typst_node.specs.Tree.{Tree}
-use Rattle.typst_combinators.specs.Hand.{known_by}
-use Rattle.typst_combinators.specs.Log.{Log}
+use Rattle.typst_ahead.specs.Hand.{known_by}
+use Rattle.typst_ahead.specs.Log.{Log}
 use Rattle.typst_machine.specs.View.{View}
 use Rattle.typst_machine.specs.Checkpoint.{Saved, trivia_back, went_back}
 use Rattle.typst_ahead.specs.Noted.{unnoted}

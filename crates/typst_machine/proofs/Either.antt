@@ -1,23 +1,23 @@
 -- Two readings of one place, of which the first may be given up.
-use Rattle.std.proofs.Common.{Option, Some, None, ◌≡◌, ℕ, zero, suc, ◌+◌, ◌-◌, ◌^◌, ◌<◌, ◌≤◌, min, Bool, true, false, if◌then◌else◌, List, [], ◌∷◌, ◌++◌, length, take, drop, append-nil, length-append, refl, ap, sym, ◌∙◌, subst, arith}
+use Rattle.std.proofs.Common.{Option, Some, None, ◌≡◌, ℕ, ◌-◌, ◌^◌, ◌≤◌, min, Bool, true, false, if◌then◌else◌, List, [], ◌∷◌, ◌++◌, length, take, drop, append-nil, length-append, refl, ap, sym, ◌∙◌, subst, arith}
 use Rattle.typst_lines.specs.Place.{Place, moved}
 use Rattle.typst_node.specs.Tree.{Tree}
 use Rattle.typst_readers.specs.Sight.{hull_of}
 use Rattle.typst_readers.specs.declared.hull.Hull.{Hull}
-use Rattle.typst_combinators.specs.declared.calls.Note.{Note}
-use Rattle.typst_combinators.specs.Ask.{Ask, only_looks}
-use Rattle.typst_combinators.specs.Ask.Ask.{looked, marked}
-use Rattle.typst_combinators.specs.Point.{Trivia}
-use Rattle.typst_combinators.specs.Hand.{known_by}
-use Rattle.typst_combinators.specs.Log.{Log, least_behind, logged, with_hull, with_more, with_note}
-use Rattle.typst_combinators.specs.Syntax.{Parser}
-use Rattle.typst_combinators.specs.Syntax.Parser.{either}
-use Rattle.typst_combinators.specs.Meaning.{Level, given_up, standing, run}
+use Rattle.typst_ahead.specs.calls.Note.{Note}
+use Rattle.typst_ahead.specs.Ask.{Ask, only_looks}
+use Rattle.typst_ahead.specs.Ask.Ask.{looked, marked}
+use Rattle.typst_ahead.specs.Point.{Trivia}
+use Rattle.typst_ahead.specs.Hand.{known_by}
+use Rattle.typst_ahead.specs.Log.{Log, least_behind, logged, with_hull, with_more, with_note}
+use Rattle.typst_ahead.specs.Syntax.{Parser}
+use Rattle.typst_ahead.specs.Syntax.Parser.{either}
+use Rattle.typst_ahead.specs.Meaning.{Level, given_up, run}
 use Rattle.typst_machine.specs.View.{View, Runs, Ran, Goes, Does, Fits, at}
 use Rattle.typst_ahead.specs.Noted.{listed}
-use Rattle.typst_machine.specs.Checkpoint.{Leaves, Saved, forgot_notes, is_some, saved, trivia_back, went_back}
+use Rattle.typst_machine.specs.Checkpoint.{Leaves, Saved, forgot_notes, is_some, saved, went_back}
 use Rattle.typst_ahead.specs.Noted.{least_of, unnoted}
-use Rattle.typst_combinators.proofs.Places.{take-both, drop-both, take-all, drop-all}
+use Rattle.typst_ahead.proofs.Places.{take-both, drop-both, take-all, drop-all}
 use Rattle.typst_ahead.proofs.Logs.{Among, among-is, is-among, logged-append, same-log}
 
 -- ---- notes that are dropped

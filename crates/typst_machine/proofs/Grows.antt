@@ -1,17 +1,17 @@
 -- What grows: a loop of which each turn may make one node of all that was given since its beginning.
-use Rattle.std.proofs.Common.{Option, Some, None, ◌≡◌, ℕ, zero, suc, ◌+◌, ◌-◌, ◌<◌, ◌≤◌, Bool, true, false, ◌&&◌, nat_lt, max, if◌then◌else◌, length, drop, refl, ap, sym, ◌∙◌, subst, arith}
+use Rattle.std.proofs.Common.{Option, Some, None, ◌≡◌, ℕ, suc, ◌+◌, ◌-◌, ◌<◌, ◌≤◌, true, false, ◌&&◌, nat_lt, max, length, drop, refl, ap, sym, ◌∙◌, subst, arith}
 use borrow.Author.Tests.{lt-ltb}
 use Rattle.typst_lines.specs.Place.{Place, moved}
-use Rattle.typst_combinators.specs.Point.{Point, Trivia, gap_of, pending}
-use Rattle.typst_combinators.specs.Shape.{Shape}
-use Rattle.typst_combinators.specs.Sound.{Sound, Tidy}
-use Rattle.typst_combinators.specs.Syntax.{Parser}
-use Rattle.typst_combinators.specs.Syntax.Begin.{at_token}
-use Rattle.typst_combinators.specs.Syntax.Parser.{grows}
-use Rattle.typst_combinators.specs.Steps.{grow}
-use Rattle.typst_combinators.specs.Meaning.{Outcome, Meaning, Level, answered, joined, bound, before, grown, growths, growing, is_more, run}
-use Rattle.typst_combinators.proofs.Within.{grew, within-run}
-use Rattle.typst_combinators.proofs.Backs.{backs-run, backs-joined, tidy-grew}
+use Rattle.typst_ahead.specs.Point.{Point, Trivia, gap_of, pending}
+use Rattle.typst_ahead.specs.Shape.{Shape}
+use Rattle.typst_ahead.specs.Sound.{Sound, Tidy}
+use Rattle.typst_ahead.specs.Syntax.{Parser}
+use Rattle.typst_ahead.specs.Syntax.Begin.{at_token}
+use Rattle.typst_ahead.specs.Syntax.Parser.{grows}
+use Rattle.typst_ahead.specs.Steps.{grow}
+use Rattle.typst_ahead.specs.Meaning.{Outcome, Meaning, Level, answered, joined, bound, before, grown, growths, growing, is_more, run}
+use Rattle.typst_ahead.proofs.Within.{grew, within-run}
+use Rattle.typst_ahead.proofs.Backs.{backs-run, backs-joined, tidy-grew}
 use Rattle.typst_ahead.specs.Bytes.{bytes_left}
 use Rattle.typst_machine.specs.View.{View, Runs, Ran, Does, Fits, Rewrapped, at}
 use Rattle.typst_machine.proofs.Runs.{runs-followed, runs-reshaped, rewrapped-fits, shape-known, taken-some, taken-none, bound-after}

@@ -1,6 +1,7 @@
 -- From what a contract promises to the lemma behind it:
 --   a step did what it says      Runs: how runs compose; Steps: how steps compose; Blocks: calls and blocks
 --   a loop that grows or nests   Grows, Nests: how the code's loops compose
+--   a production                 Asks, Nots: what it does by the token at hand; Values: its answer, and its reading
 --   the token further on, hints  Words
 --   the first node changed, seen Changes
 --   the token at hand            Ready: what it becomes; ReadSo: read in another way
@@ -17,3 +18,19 @@ pub mod Checkpoints
 pub mod Either
 pub mod Begins
 pub mod Changes
+pub mod Asks
+pub mod Values
+pub mod Nots
+-- What the crates above name of those below.
+pub use Rattle.typst_ahead.proofs.Backs
+pub use Rattle.typst_ahead.proofs.Eats
+pub use Rattle.typst_ahead.proofs.Ends
+pub use Rattle.typst_ahead.proofs.Frame
+pub use Rattle.typst_ahead.proofs.Hints
+pub use Rattle.typst_ahead.proofs.Knot
+pub use Rattle.typst_ahead.proofs.Leaves
+pub use Rattle.typst_ahead.proofs.Looks
+pub use Rattle.typst_ahead.proofs.Places
+pub use Rattle.typst_ahead.proofs.Rests
+pub use Rattle.typst_ahead.proofs.TokenTexts
+pub use Rattle.typst_ahead.proofs.Within

@@ -1,17 +1,17 @@
 -- What nests: a loop of which each turn becomes one node with all that comes behind it.
-use Rattle.std.proofs.Common.{Option, ◌≡◌, ℕ, zero, suc, ◌+◌, ◌<◌, ◌≤◌, Bool, true, false, ◌&&◌, nat_lt, List, [], ◌∷◌, ◌++◌, length, drop, refl, ap, sym, ◌∙◌, subst, arith}
+use Rattle.std.proofs.Common.{◌≡◌, ℕ, suc, ◌+◌, ◌<◌, ◌≤◌, Bool, true, false, ◌&&◌, nat_lt, List, [], ◌∷◌, ◌++◌, length, refl, ap, sym, ◌∙◌, subst, arith}
 use borrow.Author.Tests.{lt-ltb}
 use Rattle.typst_lines.specs.Place.{moved}
-use Rattle.typst_combinators.specs.Point.{Trivia, gap_of, pending}
-use Rattle.typst_combinators.specs.Shape.{Shape}
-use Rattle.typst_combinators.specs.Sound.{Sound, Tidy}
-use Rattle.typst_combinators.specs.Syntax.{Parser, Begin}
-use Rattle.typst_combinators.specs.Syntax.Begin.{at_token}
-use Rattle.typst_combinators.specs.Syntax.Parser.{nests}
-use Rattle.typst_combinators.specs.Steps.{nest}
-use Rattle.typst_combinators.specs.Meaning.{Outcome, Level, as_last, bound, before, joined, nestings, nesting, reshaped, run}
-use Rattle.typst_combinators.proofs.Within.{nestings-enough, within-run}
-use Rattle.typst_combinators.proofs.Backs.{backs-run, backs-joined, tidy-nestings}
+use Rattle.typst_ahead.specs.Point.{gap_of}
+use Rattle.typst_ahead.specs.Shape.{Shape}
+use Rattle.typst_ahead.specs.Sound.{Sound}
+use Rattle.typst_ahead.specs.Syntax.{Parser, Begin}
+use Rattle.typst_ahead.specs.Syntax.Begin.{at_token}
+use Rattle.typst_ahead.specs.Syntax.Parser.{nests}
+use Rattle.typst_ahead.specs.Steps.{nest}
+use Rattle.typst_ahead.specs.Meaning.{Level, as_last, bound, before, joined, nestings, nesting, run}
+use Rattle.typst_ahead.proofs.Within.{nestings-enough, within-run}
+use Rattle.typst_ahead.proofs.Backs.{backs-run, backs-joined, tidy-nestings}
 use Rattle.typst_ahead.specs.Bytes.{bytes_left}
 use Rattle.typst_machine.specs.View.{View, Runs, Ran, Does, Fits, Rewrapped, at, rewrapped, rewrapped_each}
 use Rattle.typst_machine.proofs.Runs.{runs-followed, runs-reshaped, rewrapped-fits, taken-some, taken-none, bound-after, no_turn}

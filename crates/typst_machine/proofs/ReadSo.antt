@@ -1,5 +1,5 @@
 -- The token at hand, read from its start in another way.
-use Rattle.std.proofs.Common.{◌≡◌, ℕ, ◌+◌, List, [], ◌∷◌, ◌++◌, length, refl, ap, sym, ◌∙◌}
+use Rattle.std.proofs.Common.{◌≡◌, ℕ, ◌+◌, [], ◌∷◌, ◌++◌, refl, ap, sym, ◌∙◌}
 use Rattle.typst_kinds.specs.Kinds.{is_error}
 use Rattle.typst_lines.specs.Place.{Place, moved}
 use Rattle.typst_node.specs.Tree.{Tree, text_of}
@@ -8,22 +8,21 @@ use Rattle.typst_readers.specs.Sight.{hull_of}
 use Rattle.typst_readers.specs.declared.hull.Hull.{Hull}
 use Rattle.typst_readers.proofs.Moves.{exec-moved}
 use Rattle.typst_classes.specs.Classes.{CharClasses}
-use Rattle.typst_token_nodes.specs.Nodes.{token_node}
+use Rattle.typst_ahead.specs.Nodes.{token_node}
 use Rattle.typst_tokens.specs.declared.token.Token.{Token}
-use Rattle.typst_combinators.specs.declared.calls.Way.{Way}
-use Rattle.typst_combinators.specs.Calls.{token_so}
-use Rattle.typst_combinators.specs.Point.{Point}
-use Rattle.typst_combinators.specs.Hand.{Hand, text_ahead, token_by, len_by}
-use Rattle.typst_combinators.specs.Log.{Log, with_hull}
-use Rattle.typst_combinators.specs.Shape.{Making, after_node}
-use Rattle.typst_combinators.specs.Shape.Making.{itself}
-use Rattle.typst_combinators.specs.Steps.{eat_so}
-use Rattle.typst_combinators.specs.Syntax.Op.{so, takes_so}
-use Rattle.typst_combinators.specs.Syntax.Parser.{does}
-use Rattle.typst_combinators.specs.Meaning.{Level, asked, hand_of, node_by, reader_so, renewed, run}
+use Rattle.typst_ahead.specs.calls.Way.{Way}
+use Rattle.typst_ahead.specs.Calls.{token_so}
+use Rattle.typst_ahead.specs.Point.{Point}
+use Rattle.typst_ahead.specs.Hand.{Hand, text_ahead, token_by, len_by}
+use Rattle.typst_ahead.specs.Log.{with_hull}
+use Rattle.typst_ahead.specs.Shape.{Making, made, after_node}
+use Rattle.typst_ahead.specs.Steps.{eat_so}
+use Rattle.typst_ahead.specs.Syntax.Op.{so, takes_so}
+use Rattle.typst_ahead.specs.Syntax.Parser.{does}
+use Rattle.typst_ahead.specs.Meaning.{Level, asked, hand_of, node_by, reader_so, renewed, run}
 use Rattle.typst_machine.specs.View.{View, Ran, Goes, Does, Fits, Bare, Looked, unasked}
 use Rattle.typst_machine.specs.Ways.{GaveUpTo}
-use Rattle.typst_combinators.proofs.Places.{moved-sum, moved-min, less-none, no-end}
+use Rattle.typst_ahead.proofs.Places.{moved-sum, moved-min, less-none, no-end}
 use Rattle.typst_machine.proofs.Runs.{asked-same, asked-then, fits-more}
 use Rattle.typst_machine.proofs.Steps.{does-next, does-gives, does-look}
 
@@ -112,12 +111,12 @@ pub end-so : (k : CharClasses) (way : Way) (z w : Place) (t : Token) → exec (t
 end-so k way z w t e = sym (ap (λ (p : Token × Place). p.1) e) ∙ exec-moved (token_so k way) z ∙ sym (moved-min (eaten (token_so k way) z) z)
 
 -- the code took what it found there
-pub eaten-so : (l : Level) (way : Way) (v w : View) (t : Token) (end : Place) (u : Hull) (node : Tree) → exec (reader_so l way) (start_of v.hand v.place) ≡ (t, end)
-    → u ≡ hull_so l way v.hand v.place → node ≡ token_node l.classes t (text_ahead (len_so l way v.hand v.place) (start_of v.hand v.place))
-    → GaveUpTo end node (record v { log = with_hull u v.log }) w → EatenSo l way itself v w
-eaten-so l way v w t end u node e h n g =
+pub eaten-so : (l : Level) (way : Way) (making : Making) (v w : View) (t : Token) (end : Place) (u : Hull) (node : Tree) → exec (reader_so l way) (start_of v.hand v.place) ≡ (t, end)
+    → u ≡ hull_so l way v.hand v.place → node ≡ made making (token_node l.classes t (text_ahead (len_so l way v.hand v.place) (start_of v.hand v.place)))
+    → GaveUpTo end node (record v { log = with_hull u v.log }) w → EatenSo l way making v w
+eaten-so l way making v w t end u node e h n g =
     let z = start_of v.hand v.place in
-    let same : node ≡ node_so l way itself v.hand v.place = n ∙ ap (λ (p : Token × Place). token_node l.classes p.0 (text_ahead (len_so l way v.hand v.place) z)) (sym e) in
+    let same : node ≡ node_so l way making v.hand v.place = n ∙ ap (λ (p : Token × Place). made making (token_node l.classes p.0 (text_ahead (len_so l way v.hand v.place) z))) (sym e) in
     record {
       nodes = g.nodes ∙ ap (λ (x : Tree). v.nodes ++ (v.hand.trivia ++ x ∷ [])) same;
       place = g.place ∙ end-so l.classes way z end t e ∙ sym (moved-sum v.hand.gap (len_so l way v.hand v.place) v.place);

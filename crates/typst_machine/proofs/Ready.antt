@@ -1,26 +1,28 @@
 -- What the parser of the code does to the token at hand.
-use Rattle.std.proofs.Common.{Option, Some, None, ◌≡◌, ℕ, ◌+◌, Bool, true, false, if◌then◌else◌, List, [], ◌∷◌, ◌++◌, take, drop, refl, ap, sym, ◌∙◌}
+use Rattle.std.proofs.Common.{Option, Some, None, ◌≡◌, ◌≤◌, ℕ, ◌+◌, ◌-◌, Bool, true, false, if◌then◌else◌, List, [], ◌∷◌, ◌++◌, take, drop, length, length-append, refl, ap, sym, ◌∙◌, arith}
 use Rattle.typst_kinds.specs.Kinds.{is_error}
 use Rattle.typst_lines.specs.Place.{Place, moved}
+use Rattle.typst_lines.specs.Scanner.{place}
 use Rattle.typst_node.specs.Tree.{Tree, text_of}
 use Rattle.typst_classes.specs.Classes.{CharClasses}
 use Rattle.typst_readers.specs.Sight.{position}
 use Rattle.typst_readers.specs.declared.hull.Hull.{Hull}
-use Rattle.typst_combinators.specs.declared.calls.Mark.{Mark}
-use Rattle.typst_combinators.specs.declared.reading.AtNewline.{AtNewline}
-use Rattle.typst_combinators.specs.declared.reading.Reading.{Reading}
-use Rattle.typst_combinators.specs.Point.{Point, Trivia, gap_of, is_nil, state_of}
-use Rattle.typst_combinators.specs.Hand.{Hand, column_at, judged, hand_at, hand_asks, known_by}
-use Rattle.typst_combinators.specs.Log.{with_hull, logged}
-use Rattle.typst_combinators.specs.Shape.{Making, Shape, shaped, count_empty, after_node, after_shape}
-use Rattle.typst_combinators.specs.Steps.{note}
-use Rattle.typst_combinators.specs.Syntax.Op.{column, takes}
-use Rattle.typst_combinators.specs.Syntax.Parser.{does}
-use Rattle.typst_combinators.specs.Meaning.{Level, flushed_state, less, same_mode, same_rule, renewed, taken_node}
+use Rattle.typst_ahead.specs.calls.Mark.{Mark}
+use Rattle.typst_ahead.specs.reading.AtNewline.{AtNewline}
+use Rattle.typst_ahead.specs.reading.Reading.{Reading}
+use Rattle.typst_ahead.specs.Point.{Point, Trivia, gap_of, is_nil, state_of}
+use Rattle.typst_ahead.specs.Hand.{Hand, column_at, judged, hand_at, hand_asks, known_by}
+use Rattle.typst_ahead.specs.Log.{with_hull, logged}
+use Rattle.typst_ahead.specs.Shape.{Making, Shape, shaped, count_empty, after_node, after_shape}
+use Rattle.typst_ahead.specs.Steps.{note}
+use Rattle.typst_ahead.specs.Syntax.Op.{column, takes}
+use Rattle.typst_ahead.specs.Syntax.Parser.{does}
+use Rattle.typst_ahead.specs.Meaning.{Level, flushed_state, less, same_mode, same_rule, renewed, taken_node}
 use Rattle.typst_machine.specs.declared.parser.Parser.TheInside.{Inside}
 use Rattle.typst_ahead.specs.Bytes.{column_hull, token_hull, whole_at}
 use Rattle.typst_machine.specs.Cursor.{view_of}
-use Rattle.typst_ahead.specs.Cursor.{hand_of_ahead}
+use Rattle.typst_ahead.specs.Cursor.{Stands, hand_of_ahead}
+use Rattle.typst_ahead.specs.declared.ahead.ReadAhead.{ReadAhead}
 use Rattle.typst_machine.specs.View.{View, Goes, Does, Fits, Bare, Looked, Left, Rewrapped, unasked, noted_here}
 use Rattle.typst_ahead.specs.Noted.{with_noted}
 use Rattle.typst_ahead.proofs.Logs.{logged-none, logged-some}
@@ -189,3 +191,19 @@ was-read i f =
     by-test : (r : Bool) (t u : Trivia) → (if r then Some t else None) ≡ Some u → r ≡ true
     by-test true t u e = refl
     by-test false t u e = absurd (cc)
+
+-- where nothing stands between the places, the token is passed
+pub stands-passed : (a : ReadAhead) → a.line.text.now ≡ a.after.text.now → Stands (record a { is_read = false; before = a.after; start = a.after })
+stands-passed a same =
+    let n = length (place a.after).behind in
+    let none : n - n ≡ 0 = omega arith in
+    record { start = rw none refl; after = rw none refl; start_text = refl; after_text = refl; line_text = same }
+
+count-most : (text : List ℕ) → count_empty text ≤ 1
+count-most [] = omega arith
+count-most (c ∷ cs) = omega arith
+
+-- behind a node that was given no more empty errors stand than nodes
+pub few-given : (is : Bool) (text : List ℕ) (empties : ℕ) (old new : List Tree) (node : Tree) → empties ≡ (if is then count_empty text else 0) → new ≡ old ++ node ∷ [] → empties ≤ length new
+few-given true text empties old new node e f = omega (arith, e, count-most text, ap length f, length-append old (node ∷ []))
+few-given false text empties old new node e f = omega (arith, e)

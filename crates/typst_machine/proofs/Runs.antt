@@ -7,28 +7,28 @@ use Rattle.typst_node.specs.Tree.{Tree, text_of, error_of}
 use Rattle.typst_classes.specs.Classes.{CharClasses}
 use Rattle.typst_readers.specs.Sight.{hull_of}
 use Rattle.typst_readers.specs.declared.hull.Hull.{Hull}
-use Rattle.typst_combinators.specs.declared.calls.Call.{Call}
-use Rattle.typst_combinators.specs.declared.calls.Mark.{Mark}
-use Rattle.typst_combinators.specs.declared.reading.Newlines.{Newlines}
-use Rattle.typst_combinators.specs.declared.reading.Reading.{Reading}
-use Rattle.typst_combinators.specs.Calls.{Answer}
-use Rattle.typst_combinators.specs.Point.{Point, Trivia, gap_of, state_of}
-use Rattle.typst_combinators.specs.Ask.{Ask, shift}
-use Rattle.typst_combinators.specs.Hand.{Hand, AtHand, told, known_by, hand_at, hand_asks, column_at, column_look}
-use Rattle.typst_combinators.specs.Log.{Log, logged, with_hull, with_note}
-use Rattle.typst_combinators.specs.Shape.{Making, Shape, Change, shaped, after_node, after_change, after_shape, changed, hinted, seen}
-use Rattle.typst_combinators.specs.Shape.Shape.{keeps, holds, lacks, warns, fails}
-use Rattle.typst_combinators.specs.Sound.{Sound}
-use Rattle.typst_combinators.specs.Syntax.{Parser, Begin}
-use Rattle.typst_combinators.specs.Syntax.Op.{hand, column, erred, takes, flushes, complains, marks, is_deepest}
-use Rattle.typst_combinators.specs.Syntax.Parser.{gives, does, next, pick, repeat, wraps, scoped, calls}
-use Rattle.typst_combinators.specs.Meaning.{Outcome, Meaning, Level, asked, before, bound, plain, less, followed, standing, turns, repeated, inside, reshaped, entered, left, renewed, flushed_state, taken_node, hand_of, hand_asks_of, run}
+use Rattle.typst_ahead.specs.calls.Call.{Call}
+use Rattle.typst_ahead.specs.calls.Mark.{Mark}
+use Rattle.typst_ahead.specs.reading.Newlines.{Newlines}
+use Rattle.typst_ahead.specs.reading.Reading.{Reading}
+use Rattle.typst_ahead.specs.Calls.{Answer}
+use Rattle.typst_ahead.specs.Point.{Point, Trivia, gap_of, state_of}
+use Rattle.typst_ahead.specs.Ask.{Ask, shift}
+use Rattle.typst_ahead.specs.Hand.{Hand, AtHand, told, known_by, hand_at, hand_asks, column_at, column_look}
+use Rattle.typst_ahead.specs.Log.{Log, logged, with_hull, with_note}
+use Rattle.typst_ahead.specs.Shape.{Making, Shape, Change, shaped, after_node, after_change, after_shape, changed, hinted, seen}
+use Rattle.typst_ahead.specs.Shape.Shape.{keeps, holds, lacks, warns, fails}
+use Rattle.typst_ahead.specs.Sound.{Sound}
+use Rattle.typst_ahead.specs.Syntax.{Parser, Begin}
+use Rattle.typst_ahead.specs.Syntax.Op.{hand, column, erred, takes, flushes, complains, marks, is_deepest}
+use Rattle.typst_ahead.specs.Syntax.Parser.{gives, does, next, pick, repeat, wraps, scoped, calls}
+use Rattle.typst_ahead.specs.Meaning.{Outcome, Meaning, Level, asked, before, bound, plain, less, followed, standing, turns, repeated, inside, reshaped, entered, left, renewed, flushed_state, taken_node, hand_of, hand_asks_of, run}
 use Rattle.typst_ahead.specs.Bytes.{bytes_left, token_hull, column_hull}
 use Rattle.typst_machine.specs.View.{View, Runs, Ran, at, Fits, Bare, Looked, Flushed, Rewrapped}
-use Rattle.typst_combinators.proofs.Places.{moved-sum, take-both, drop-both, take-all, drop-all, less-none, length-less, no-end}
-use Rattle.typst_combinators.proofs.Hints.{standing-joined, length-hinted}
-use Rattle.typst_combinators.proofs.Within.{turns-enough, within-run}
-use Rattle.typst_combinators.proofs.Backs.{backs-run}
+use Rattle.typst_ahead.proofs.Places.{moved-sum, take-both, drop-both, take-all, drop-all, less-none, length-less, no-end}
+use Rattle.typst_ahead.proofs.Hints.{standing-joined, length-hinted}
+use Rattle.typst_ahead.proofs.Within.{turns-enough, within-run}
+use Rattle.typst_ahead.proofs.Backs.{backs-run}
 use Rattle.typst_ahead.proofs.Bytes.{some-bytes, none-bytes}
 use Rattle.typst_ahead.proofs.Logs.{logged-append, logged-shift, logged-sunk, logged-some, hand-among, Among, among-is, is-among}
 use Rattle.typst_ahead.proofs.Trivia.{hand-known, gap-there}

@@ -1,22 +1,22 @@
 -- How steps of the code compose, most of which begin and end with the right token at hand.
-use Rattle.std.proofs.Common.{Option, ◌≡◌, ℕ, ◌+◌, ◌<◌, ◌≤◌, ◌==◌, Bool, true, false, List, [], ◌∷◌, ◌++◌, length, map, drop, refl, ap, sym, ◌∙◌, subst, arith}
+use Rattle.std.proofs.Common.{Option, None, ◌≡◌, ℕ, ◌+◌, ◌<◌, ◌≤◌, ◌==◌, Bool, true, false, List, [], ◌∷◌, ◌++◌, length, map, drop, refl, ap, sym, ◌∙◌, subst, arith}
 use Rattle.typst_kinds.specs.declared.kind.SyntaxKind.{SyntaxKind}
 use Rattle.typst_lines.specs.Place.{moved}
 use Rattle.typst_node.specs.Tree.{Tree, error_of}
-use Rattle.typst_combinators.specs.declared.calls.Call.{Call}
-use Rattle.typst_combinators.specs.declared.calls.Mark.{Mark}
-use Rattle.typst_combinators.specs.declared.reading.Reading.{Reading}
-use Rattle.typst_combinators.specs.Calls.{Answer}
-use Rattle.typst_combinators.specs.Point.{Point, Trivia, gap_of, pending, is_nil, state_of}
-use Rattle.typst_combinators.specs.Log.{with_note}
-use Rattle.typst_combinators.specs.Hand.{AtHand, told, column_at}
-use Rattle.typst_combinators.specs.Shape.{Making, Shape, becomes, seen}
-use Rattle.typst_combinators.specs.Sound.{Sound}
-use Rattle.typst_combinators.specs.Syntax.{Parser, Begin}
-use Rattle.typst_combinators.specs.Syntax.Op.{hand, column, erred, takes, complains, marks, is_deepest}
-use Rattle.typst_combinators.specs.Syntax.Parser.{gives, does, next, pick, repeat, wraps, scoped, calls}
-use Rattle.typst_combinators.specs.Steps.{peek, eat_making, flush_trivia, within, node, node_with_trivia, note}
-use Rattle.typst_combinators.specs.Meaning.{Level, before, entered, left, same_mode}
+use Rattle.typst_ahead.specs.calls.Call.{Call}
+use Rattle.typst_ahead.specs.calls.Mark.{Mark}
+use Rattle.typst_ahead.specs.reading.Reading.{Reading}
+use Rattle.typst_ahead.specs.Calls.{Answer}
+use Rattle.typst_ahead.specs.Point.{Point, Trivia, gap_of, pending, is_nil, state_of}
+use Rattle.typst_ahead.specs.Log.{with_note}
+use Rattle.typst_ahead.specs.Hand.{AtHand, told, column_at}
+use Rattle.typst_ahead.specs.Shape.{Making, Shape, becomes, seen}
+use Rattle.typst_ahead.specs.Sound.{Sound}
+use Rattle.typst_ahead.specs.Syntax.{Parser, Begin}
+use Rattle.typst_ahead.specs.Syntax.Op.{hand, column, erred, takes, complains, marks, is_deepest}
+use Rattle.typst_ahead.specs.Syntax.Parser.{gives, does, next, pick, repeat, wraps, scoped, calls}
+use Rattle.typst_ahead.specs.Steps.{peek, eat_making, flush_trivia, within, node, node_with_trivia, note}
+use Rattle.typst_ahead.specs.Meaning.{Level, before, entered, left, same_mode}
 use Rattle.typst_ahead.specs.Bytes.{bytes_left}
 use Rattle.typst_machine.specs.View.{View, Ran, Goes, Does, Makes, Fits, Bare, Loose, Looked, Left, Flushed, Rewrapped, unasked, noted_here}
 use Rattle.typst_machine.proofs.Runs.{ran-next, ran-gives, ran-calls, ran-pick, ran-other, ran-hand, ran-column, ran-erred, ran-deepest, ran-marks, Eaten, ran-takes, eaten-bare, ran-flushes, flushed-fits, ran-complains, ran-scoped, ran-wraps, rewrapped-fits, ran-turn, ran-last, looked-fits, ran-look, after-peek, column_seen, fits-more, noted}
@@ -130,6 +130,27 @@ does-scoped {l = l} f {p = p} {a = a} {outer = outer} {old = old} {inner = inner
   ran = λ c. (let j = subst (λ (v : View). Fits l v) (sym i) (fits-entered f c) in rw (e, o) (ran-scoped f (subst (λ (v : View). Ran l p a v mid) i (h.ran j))));
   ready = λ c. record {};
 }
+
+-- behind another mode nothing is known of a token that wasn't asked for
+left-bare : (outer : Reading) (s : Point) → s.known ≡ None → (left outer s).known ≡ None
+left-bare outer s h = by-mode (same_mode s.reading.mode outer.mode) refl
+  where
+    by-mode : (b : Bool) → same_mode s.reading.mode outer.mode ≡ b → (left outer s).known ≡ None
+    by-mode true e = rw e h
+    by-mode false e = rw e refl
+
+-- the last token was taken in the inner way, and the one behind it is asked for in the outer way
+pub does-closed : {A : Type 0} {l : Level} (f : Reading → Reading) {p : Parser A} {a : A} {outer : Reading} {old inner mid last new : View}
+    → inner ≡ record old { state = entered (f old.state.reading) old.state } → outer ≡ old.state.reading
+    → Goes l (Fits l) Bare p a inner mid → last ≡ record mid { state = left outer mid.state } → Looked l (unasked last) new → Does l (within f p) a old new
+unfolding within
+does-closed {l = l} f {outer = outer} {mid = mid} i o h e k =
+    does-next
+    (record {
+      ran = (does-scoped f i o h e).ran;
+      ready = λ c. (let j = subst (λ (v : View). Fits l v) (sym i) (fits-entered f c) in record { known = ap (λ (v : View). v.state.known) e ∙ left-bare outer mid.state (h.ready j).known });
+    })
+    (does-next (does-look k) does-gives)
 
 pub does-wraps : {A : Type 0} {l : Level} {P Q : View → Type 0} {f : A → Shape} {begin : Begin} {from : ℕ} {p : Parser A} {a : A} {old mid new : View}
     → Sound l → old.state.empties ≤ length old.nodes → (P old → from ≡ length old.nodes + before begin old.state) → (Q mid → Q new)

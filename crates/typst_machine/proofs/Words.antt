@@ -2,16 +2,15 @@
 use Rattle.std.proofs.Common.{◌≡◌, ℕ, ◌+◌, List, [], ◌∷◌, append-nil, refl, ap, sym, ◌∙◌}
 use Rattle.typst_kinds.specs.declared.kind.SyntaxKind.{SyntaxKind}
 use Rattle.typst_lines.specs.Place.{moved}
-use Rattle.typst_readers.specs.Sight.{hull_of}
-use Rattle.typst_combinators.specs.Hand.{Hand, token_at}
-use Rattle.typst_combinators.specs.Log.{with_hull}
-use Rattle.typst_combinators.specs.Shape.{hinted, hinted_last}
-use Rattle.typst_combinators.specs.Syntax.Op.{further, advises}
-use Rattle.typst_combinators.specs.Syntax.Parser.{does}
-use Rattle.typst_combinators.specs.Meaning.{Level, asked, run}
+use Rattle.typst_ahead.specs.Hand.{Hand, token_at}
+use Rattle.typst_ahead.specs.Log.{with_hull}
+use Rattle.typst_ahead.specs.Shape.{hinted, hinted_last}
+use Rattle.typst_ahead.specs.Syntax.Op.{further, advises}
+use Rattle.typst_ahead.specs.Syntax.Parser.{does}
+use Rattle.typst_ahead.specs.Meaning.{Level, asked, run}
 use Rattle.typst_ahead.specs.Bytes.{token_hull}
 use Rattle.typst_machine.specs.View.{View, Ran, Does, Fits}
-use Rattle.typst_combinators.proofs.Places.{less-none, no-end}
+use Rattle.typst_ahead.proofs.Places.{less-none, no-end}
 use Rattle.typst_machine.proofs.Runs.{asked-same, asked-then, fits-more}
 
 -- the token directly behind the token at hand was looked at

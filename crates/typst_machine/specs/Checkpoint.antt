@@ -1,15 +1,13 @@
 -- A place of a text to go back to.
-use Rattle.std.specs.Prelude.{◌≡◌, ℕ, ◌-◌, ◌==◌, min, Bool, true, false, if◌then◌else◌, List, [], ◌∷◌, length, take, drop, Option, Some, None, option_map}
+use Rattle.std.specs.Prelude.{◌≡◌, ℕ, ◌-◌, ◌==◌, min, Bool, true, false, if◌then◌else◌, List, [], length, take, drop, Option, Some, None}
 use Rattle.typst_lines.specs.Place.{Place, moved}
 use Rattle.typst_lines.specs.Scanner.{place}
 use Rattle.typst_lines.specs.declared.scanner.Scanner.{Scanner}
 use Rattle.typst_node.specs.Tree.{Tree}
 use Rattle.typst_readers.specs.declared.hull.Hull.{Hull}
-use Rattle.typst_combinators.specs.declared.calls.Note.{Note}
-use Rattle.typst_combinators.specs.declared.reading.State.{State}
-use Rattle.typst_combinators.specs.Point.{Trivia, state_of}
-use Rattle.typst_combinators.specs.Hand.{Hand, known_by}
-use Rattle.typst_combinators.specs.Log.{Log}
+use Rattle.typst_ahead.specs.reading.State.{State}
+use Rattle.typst_ahead.specs.Point.{state_of}
+use Rattle.typst_ahead.specs.Hand.{Hand, known_by}
 use Rattle.typst_ahead.specs.Noted.{listed, unnoted}
 use Rattle.typst_machine.specs.View.{View}
 

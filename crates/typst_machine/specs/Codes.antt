@@ -9,15 +9,13 @@ use Rattle.typst_readers.specs.declared.hull.Hull.{Hull}
 use Rattle.typst_readers.specs.contracts.hull.Hull.{the_row as hull_row}
 use Rattle.typst_tokens.specs.declared.token.Token.{Token}
 use Rattle.typst_tokens.specs.contracts.token.Token.{the_row as token_row}
-use Rattle.typst_combinators.specs.declared.reading.Newlines.{Newlines}
-use Rattle.typst_combinators.specs.contracts.reading.Newlines.{the_row as newlines_row}
-use Rattle.typst_combinators.specs.declared.calls.Note.{Note}
-use Rattle.typst_combinators.specs.contracts.calls.Note.{the_row as note_row}
-use Rattle.typst_combinators.specs.declared.reading.Reading.{Reading}
-use Rattle.typst_combinators.specs.contracts.reading.Reading.{the_row as reading_row}
-use Rattle.typst_combinators.specs.Point.{Point, Trivia}
-use Rattle.typst_combinators.specs.Hand.{Hand}
-use Rattle.typst_combinators.specs.Log.{Log}
+use Rattle.typst_ahead.specs.reading.Newlines.{Newlines}
+use Rattle.typst_ahead.specs.reading-rows.Newlines.{the_row as newlines_row}
+use Rattle.typst_ahead.specs.reading.Reading.{Reading}
+use Rattle.typst_ahead.specs.reading-rows.Reading.{the_row as reading_row}
+use Rattle.typst_ahead.specs.Point.{Point, Trivia}
+use Rattle.typst_ahead.specs.Hand.{Hand}
+use Rattle.typst_ahead.specs.Log.{Log}
 use Rattle.typst_ahead.specs.Codes.{log_code}
 use Rattle.typst_machine.specs.View.{View}
 

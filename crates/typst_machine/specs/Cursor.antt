@@ -1,19 +1,15 @@
 -- What the parser of the code keeps ready.
-use Rattle.std.specs.Prelude.{◌≡◌, ◌≤◌, ◌-◌, ℕ, Bool, true, if◌then◌else◌, List, [], Option, None, length}
+use Rattle.std.specs.Prelude.{◌≡◌, ◌≤◌, ℕ, Bool, if◌then◌else◌, List, [], Option, None, length}
 use Rattle.std.specs.Str.{chars}
-use Rattle.typst_lines.specs.Place.{moved}
 use Rattle.typst_lines.specs.Scanner.{place}
-use Rattle.typst_lines.specs.declared.scanner.Scanner.{Scanner}
-use Rattle.typst_classes.specs.Classes.{CharClasses}
-use Rattle.typst_combinators.specs.declared.reading.Reading.{Reading}
-use Rattle.typst_combinators.specs.declared.reading.State.{State}
-use Rattle.typst_combinators.specs.Point.{Point, Trivia}
-use Rattle.typst_combinators.specs.Hand.{Hand, hand_at, known_by}
-use Rattle.typst_combinators.specs.Log.{blank_log}
-use Rattle.typst_combinators.specs.Meaning.{start_point}
+use Rattle.typst_ahead.specs.reading.Reading.{Reading}
+use Rattle.typst_ahead.specs.reading.State.{State}
+use Rattle.typst_ahead.specs.Point.{Point, Trivia}
+use Rattle.typst_ahead.specs.Hand.{known_by}
+use Rattle.typst_ahead.specs.Log.{blank_log}
+use Rattle.typst_ahead.specs.Meaning.{start_point}
 use Rattle.typst_ahead.specs.declared.ahead.ReadAhead.{ReadAhead}
 use Rattle.typst_machine.specs.declared.parser.Parser.TheInside.{Inside}
-use Rattle.typst_ahead.specs.Bytes.{token_hull, column_hull}
 use Rattle.typst_ahead.specs.Cursor.{Stands, hand_of_ahead}
 use Rattle.typst_machine.specs.View.{View}
 

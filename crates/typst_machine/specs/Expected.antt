@@ -3,15 +3,14 @@ use Rattle.std.specs.Prelude.{ℕ, Bool, true, false, List, codes}
 use Rattle.typst_kinds.specs.declared.kind.SyntaxKind.{SyntaxKind}
 use Rattle.typst_kinds.specs.declared.kind.SyntaxKind.TheVariants as kind
 use Rattle.typst_kinds.specs.Kinds.{is_keyword, same}
-use Rattle.typst_combinators.specs.Hand.{AtHand}
-use Rattle.typst_combinators.specs.Shape.{Seen}
-use Rattle.typst_combinators.specs.Shape.Change.{stays}
-use Rattle.typst_combinators.specs.Shape.Making.{wanted}
-use Rattle.typst_combinators.specs.Shape.Shape.{keeps}
-use Rattle.typst_combinators.specs.Syntax.{Parser, ◌>>=◌, ◌>>◌}
-use Rattle.typst_combinators.specs.Syntax.Begin.{at_token}
-use Rattle.typst_combinators.specs.Syntax.Parser.{gives, pick, wraps}
-use Rattle.typst_combinators.specs.Steps.{peek, eat_making, expect}
+use Rattle.typst_ahead.specs.Shape.{Seen}
+use Rattle.typst_ahead.specs.Shape.Change.{stays}
+use Rattle.typst_ahead.specs.Shape.Making.{wanted}
+use Rattle.typst_ahead.specs.Shape.Shape.{keeps}
+use Rattle.typst_ahead.specs.Syntax.{Parser, ◌>>=◌, ◌>>◌}
+use Rattle.typst_ahead.specs.Syntax.Begin.{at_token}
+use Rattle.typst_ahead.specs.Syntax.Parser.{gives, pick, wraps}
+use Rattle.typst_ahead.specs.Steps.{peek, eat_making, expect}
 
 -- takes the token if the test holds, or says that it was expected; answers whether it took it
 unfoldable pub expects : (SyntaxKind → Bool) → List ℕ → Parser Bool

@@ -1,5 +1,5 @@
 -- What a parser of the code shows, and what it ensures.
-use Rattle.std.specs.Prelude.{◌≡◌, ℕ, ◌-◌, ◌<◌, ◌≤◌, ◌^◌, length, true, List, ◌++◌, [], ◌∷◌, take, drop, Option, Some, None, option_map, Result, Ok, Err}
+use Rattle.std.specs.Prelude.{◌≡◌, ℕ, ◌-◌, ◌<◌, ◌≤◌, length, true, List, ◌++◌, [], ◌∷◌, take, drop, Option, None, option_map, Result, Ok, Err}
 use Rattle.std.specs.declared.alloc.AllocError.{AllocError}
 use denote.Ref.{MutBor}
 use Rattle.typst_lines.specs.Place.{Place, moved}
@@ -7,25 +7,23 @@ use Rattle.typst_kinds.specs.declared.kind.SyntaxKind.{SyntaxKind}
 use Rattle.typst_classes.specs.Classes.{CharClasses}
 use Rattle.typst_node.specs.Tree.{Tree}
 use Rattle.typst_readers.specs.declared.hull.Hull.{Hull}
-use Rattle.typst_combinators.specs.declared.calls.Block.{Block}
-use Rattle.typst_combinators.specs.declared.calls.Call.{Call}
-use Rattle.typst_combinators.specs.declared.calls.Call.TheVariants.{MarkupExpr, CodeExpr}
-use Rattle.typst_combinators.specs.declared.calls.Mark.{Mark}
-use Rattle.typst_combinators.specs.declared.calls.Mark.TheVariants.{Opens, Closes}
-use Rattle.typst_combinators.specs.declared.calls.Note.{Note}
-use Rattle.typst_combinators.specs.declared.reading.Reading.{Reading}
-use Rattle.typst_combinators.specs.declared.reading.State.{State}
-use Rattle.typst_combinators.specs.Calls.{Answer}
-use Rattle.typst_combinators.specs.Point.{Point, forgot, state_of}
-use Rattle.typst_combinators.specs.Hand.{Hand, known_by}
-use Rattle.typst_combinators.specs.Log.{Log, logged, least_behind, with_hull, with_more, with_note}
-use Rattle.typst_combinators.specs.Shape.{Shape, becomes, shaped, after_shape}
-use Rattle.typst_combinators.specs.Sound.{Sound}
-use Rattle.typst_combinators.specs.Syntax.{Parser, ◌>>◌}
-use Rattle.typst_combinators.specs.Meaning.{Outcome, Level, apart, asked, flushed_state, hand_of, hand_asks_of, left, standing, run}
-use Rattle.typst_combinators.specs.Steps.{peek}
+use Rattle.typst_ahead.specs.calls.Block.{Block}
+use Rattle.typst_ahead.specs.calls.Call.{Call}
+use Rattle.typst_ahead.specs.calls.Call.TheVariants.{MarkupExpr, CodeExpr, MathExpr, Pattern}
+use Rattle.typst_ahead.specs.calls.Mark.{Mark}
+use Rattle.typst_ahead.specs.calls.Mark.TheVariants.{Opens, Closes}
+use Rattle.typst_ahead.specs.reading.Reading.{Reading}
+use Rattle.typst_ahead.specs.Calls.{Answer}
+use Rattle.typst_ahead.specs.Point.{Point, forgot, state_of}
+use Rattle.typst_ahead.specs.Hand.{Hand, known_by}
+use Rattle.typst_ahead.specs.Log.{Log, logged, with_hull, with_note}
+use Rattle.typst_ahead.specs.Shape.{Shape, becomes, shaped, after_shape}
+use Rattle.typst_ahead.specs.Sound.{Sound}
+use Rattle.typst_ahead.specs.Syntax.{Parser, ◌>>◌}
+use Rattle.typst_ahead.specs.Meaning.{Outcome, Level, apart, asked, flushed_state, hand_of, hand_asks_of, left, standing, run}
+use Rattle.typst_ahead.specs.Steps.{peek}
 use Rattle.typst_machine.specs.declared.depth.Answered.{Answered}
-use Rattle.typst_machine.specs.declared.depth.Answered.TheVariants.{Brackets, Nothing}
+use Rattle.typst_machine.specs.declared.depth.Answered.TheVariants.{Brackets, Nothing, Names}
 use Rattle.typst_ahead.specs.Bytes.{token_hull, column_hull}
 
 pub record View : Type 0 where
@@ -100,6 +98,8 @@ Reads l p old r new = GoesIf l (Fits l) (Fits l) p old r new
 abbrev pub said : (call : Call) → Answer call → Answered
 said (MarkupExpr at_start nesting) n = Brackets n
 said (CodeExpr atomic least) x = Nothing
+said (MathExpr least chain) x = Nothing
+said (Pattern role names) seen = Names seen
 
 -- a call was made, and this is what the code says that it answered
 pub record Called (l : Level) (call : Call) (a : Answered) (old new : View) : Type 0 where

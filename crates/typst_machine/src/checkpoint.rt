@@ -5,9 +5,8 @@ ghost use Rattle.typst_machine.specs.Checkpoint.{AreBehind, first_of, forgot_not
 
 use crate::parser::Parser;
 use std::alloc::AllocError;
-use typst_combinators::{Newlines, State};
+use typst_ahead::{Hull, LineEnd, Newlines, State, Token};
 use typst_kinds::SyntaxKind;
-use typst_lexer::{Hull, Token};
 use typst_lines::Scanner;
 use typst_node::SyntaxNode;
 
@@ -31,7 +30,9 @@ pub struct Checkpoint<'s> {
     kind: SyntaxKind,
     own: Hull,
     here: Hull,
+    line: LineEnd<'s>,
     ghost behind: { AreBehind before start after },
+    ghost line_text: { line.text.now ≡ before.text.now },
 }
 
 impl<'s> Parser<'s> {
@@ -57,6 +58,7 @@ impl<'s> Parser<'s> {
             kind: self.ahead.kind,
             own: self.ahead.own,
             here: self.ahead.here,
+            line: self.ahead.line,
         }
     }
 
@@ -79,6 +81,7 @@ impl<'s> Parser<'s> {
         self.ahead.kind = to.kind;
         self.ahead.own = to.own;
         self.ahead.here = to.here;
+        self.ahead.line = to.line;
         self.state = to.state;
         self.state.empties = to.state.empties.min(self.nodes.len());
         self.log.drop_notes(to.notes);

@@ -1,26 +1,29 @@
 //! The limit of depth, and what stands in place of what lies deeper.
 
-ghost use Rattle.std.specs.Prelude.{◌≡◌, ◌<◌, ℕ, Bool, refl};
+ghost use Rattle.std.specs.Prelude.{◌≡◌, ◌<◌, ℕ, Bool, List, refl};
 ghost use Rattle.typst_kinds.specs.declared.kind.SyntaxKind.{SyntaxKind as Kind};
-ghost use Rattle.typst_combinators.specs.Depth as spec;
-ghost use Rattle.typst_combinators.specs.Syntax.Parser.{repeat};
+ghost use Rattle.typst_ahead.specs.Depth as spec;
+ghost use Rattle.typst_ahead.specs.Syntax.Parser.{repeat};
 ghost use Rattle.typst_machine.specs.View.{MayNest, Means, MeansAs, given, said};
-ghost use Rattle.typst_combinators.specs.Calls.{Answer};
-ghost use Rattle.typst_machine.specs.declared.depth.Answered.TheVariants.{Brackets};
+ghost use Rattle.typst_ahead.specs.Calls.{Answer};
+ghost use Rattle.typst_machine.specs.declared.depth.Answered.TheVariants.{Brackets, Names as Seen};
 
 use crate::parser::Parser;
-use std::alloc::AllocError;
+use std::alloc::{AllocError, Global};
+use typst_ahead::{AtNewline, Call};
 use typst_classes::{Classes, MathClass};
-use typst_combinators::{AtNewline, Call};
 use typst_kinds::SyntaxKind;
+use typst_names::Names;
 
 /// What a call answered.
-#[derive(Debug, Clone, Copy, PartialEq, Eq)]
+#[derive(Drop)]
 pub enum Answered {
     /// In how many brackets what comes behind an expression of markup stands.
     Brackets(usize),
     /// Nothing.
     Nothing,
+    /// Which names were seen.
+    Names(Names),
 }
 
 impl Answered {
@@ -30,7 +33,17 @@ impl Answered {
     {
         match self {
             Answered::Brackets(nesting) => nesting,
-            Answered::Nothing => 0,
+            _ => 0,
+        }
+    }
+
+    /// Which names were seen.
+    pub fn names(self, alloc: Global) -> Names
+        ensures { (seen : List (List ℕ)) → self ≡ Seen seen → result ≡ seen }
+    {
+        match self {
+            Answered::Names(names) => names,
+            _ => Names::new(alloc),
         }
     }
 }

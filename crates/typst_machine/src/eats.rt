@@ -5,14 +5,14 @@ ghost use Rattle.typst_kinds.specs.Kinds.{is_error, same};
 ghost use Rattle.typst_kinds.specs.declared.kind.SyntaxKind.{SyntaxKind as Kind};
 ghost use Rattle.typst_lines.specs.Place.{moved};
 ghost use Rattle.typst_classes.specs.Classes.{CharClasses};
-ghost use Rattle.typst_token_nodes.specs.Nodes.{is_leaf, token_node};
-ghost use Rattle.typst_combinators.specs.Hand.{text_ahead};
-ghost use Rattle.typst_combinators.specs.Shape.{Making};
-ghost use Rattle.typst_combinators.specs.Shape.Making.{itself, surprise, wanted};
-ghost use Rattle.typst_combinators.specs.Meaning.{Level, taken_node};
-ghost use Rattle.typst_combinators.specs.Steps as spec;
-ghost use Rattle.typst_combinators.specs.Syntax.Op.{advises, further, takes};
-ghost use Rattle.typst_combinators.specs.Syntax.Parser.{does};
+ghost use Rattle.typst_ahead.specs.Nodes.{is_leaf, token_node};
+ghost use Rattle.typst_ahead.specs.Hand.{text_ahead};
+ghost use Rattle.typst_ahead.specs.Shape.{Making};
+ghost use Rattle.typst_ahead.specs.Shape.Making.{itself, surprise, wanted};
+ghost use Rattle.typst_ahead.specs.Meaning.{Level, taken_node};
+ghost use Rattle.typst_ahead.specs.Steps as spec;
+ghost use Rattle.typst_ahead.specs.Syntax.Op.{advises, further, takes};
+ghost use Rattle.typst_ahead.specs.Syntax.Parser.{does};
 ghost use Rattle.typst_machine.specs.Expected as expected;
 ghost use Rattle.typst_machine.specs.View.{Bare, Fills, Fits, Flushed, GoesIf, Means, MeansLast, Reads};
 
@@ -20,12 +20,11 @@ use crate::depth::Levels;
 use crate::nodes::{give, is_none, push_all, trim};
 use crate::parser::Parser;
 use std::alloc::AllocError;
-use typst_ahead::read_token;
+use typst_ahead::{is_leaf, leaf_node, make_node, read_token};
 use typst_classes::Classes;
 use typst_kinds::SyntaxKind;
 use typst_node::SyntaxNode;
 use typst_shapes::hint_last;
-use typst_token_nodes::{is_leaf, leaf_node, make_node};
 
 impl<'s> Parser<'s> {
     /// Whether the node of the token at hand is a leaf of its kind.
@@ -291,7 +290,8 @@ impl<'s> Parser<'s> {
     pub fn further<L: Levels>(&mut self, g: &L) -> Result<SyntaxKind, AllocError>
         ensures { Means (L.frame g.now) (does further) self.old result self.new }
     {
-        let next = read_token(self.alloc, self.ahead.after, self.state.reading.mode, g)?;
+        let mode = self.state.reading.mode;
+        let next = read_token(self.alloc, self.ahead.after, &mut self.ahead.line, mode, g)?;
         self.log.look(next.hull);
         Ok(next.token.kind)
     }

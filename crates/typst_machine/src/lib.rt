@@ -12,4 +12,5 @@ mod wraps;
 pub use checkpoint::Checkpoint;
 pub use depth::{Answered, Anywhere, Grammar, Levels, Stops, deeper, is_end, too_deep};
 pub use parser::Parser;
+pub use typst_ahead::{AtNewline, Block, Call, ChainSet, Hull, Mark, Note, Reading, Role, Way};
 pub use typst_shapes::Change;

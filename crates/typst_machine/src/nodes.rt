@@ -3,12 +3,12 @@
 ghost use Rattle.std.specs.Prelude.{◌≡◌, ◌≤◌, ◌++◌, ◌∷◌, [], if◌then◌else◌, length, OnOk, OnErr};
 ghost use Rattle.typst_kinds.specs.Kinds.{is_error};
 ghost use Rattle.typst_node.specs.Tree.{text_of};
-ghost use Rattle.typst_combinators.specs.Point.{is_nil};
-ghost use Rattle.typst_combinators.specs.Shape.{count_empty};
-ghost use Rattle.typst_combinators.specs.Meaning.{less};
+ghost use Rattle.typst_ahead.specs.Point.{is_nil};
+ghost use Rattle.typst_ahead.specs.Shape.{count_empty};
+ghost use Rattle.typst_ahead.specs.Meaning.{less};
 
 use std::alloc::AllocError;
-use typst_combinators::State;
+use typst_ahead::State;
 use typst_node::SyntaxNode;
 
 /// Adds a node, and tells whether it is an error.

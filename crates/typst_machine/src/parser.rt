@@ -1,11 +1,11 @@
 //! A parser that has read one token ahead.
 
 ghost use Rattle.std.specs.Prelude.{◌≡◌, ◌+◌, ◌≤◌, length, OnOk, IfOk, not};
-ghost use Rattle.typst_combinators.specs.Meaning.{Level, entered, left as outside, same_mode, same_rule};
-ghost use Rattle.typst_combinators.specs.Point.{is_nil};
-ghost use Rattle.typst_combinators.specs.Steps as spec;
-ghost use Rattle.typst_combinators.specs.Syntax.Op.{column};
-ghost use Rattle.typst_combinators.specs.Syntax.Parser.{does};
+ghost use Rattle.typst_ahead.specs.Meaning.{Level, entered, left as outside, same_mode, same_rule};
+ghost use Rattle.typst_ahead.specs.Point.{is_nil};
+ghost use Rattle.typst_ahead.specs.Steps as spec;
+ghost use Rattle.typst_ahead.specs.Syntax.Op.{column};
+ghost use Rattle.typst_ahead.specs.Syntax.Parser.{does};
 ghost use Rattle.typst_ahead.specs.Bytes.{bytes_left};
 ghost use Rattle.typst_machine.specs.Cursor.{IsStart};
 ghost use Rattle.typst_machine.specs.View.{Closed, Does, Fills, Left, Looked, Means, Opened, noted_here, unasked};
@@ -15,11 +15,11 @@ use crate::depth::Levels;
 use crate::nodes::is_none;
 use std::alloc::{AllocError, Global};
 use std::marker::Model;
-use typst_ahead::{Log, ReadAhead, column, judged, left};
+use typst_ahead::{
+    AtNewline, Block, Hull, Log, Mark, Note, ReadAhead, Reading, State, column, judged, left,
+};
 use typst_classes::Classes;
-use typst_combinators::{AtNewline, Block, Mark, Note, Reading, State};
 use typst_kinds::{SyntaxKind, SyntaxMode};
-use typst_lexer::Hull;
 use typst_lines::Scanner;
 use typst_node::SyntaxNode;
 

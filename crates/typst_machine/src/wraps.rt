@@ -3,10 +3,10 @@
 ghost use Rattle.std.specs.Prelude.{◌≡◌, if◌then◌else◌, [], ◌∷◌, ◌++◌, take, drop, OnOk, IfOk, false};
 ghost use Rattle.typst_kinds.specs.Kinds.{is_error};
 ghost use Rattle.typst_node.specs.Tree.{text_of};
-ghost use Rattle.typst_combinators.specs.Shape.{after_node, becomes, unclosed};
-ghost use Rattle.typst_combinators.specs.Point.{is_nil};
-ghost use Rattle.typst_combinators.specs.Shape.Change.{stays};
-ghost use Rattle.typst_combinators.specs.Shape.Shape.{fails, holds, keeps, lacks, warns};
+ghost use Rattle.typst_ahead.specs.Shape.{after_node, becomes, unclosed};
+ghost use Rattle.typst_ahead.specs.Point.{is_nil};
+ghost use Rattle.typst_ahead.specs.Shape.Change.{stays};
+ghost use Rattle.typst_ahead.specs.Shape.Shape.{fails, holds, keeps, lacks, warns};
 ghost use Rattle.typst_shapes.specs.Changes.{IsFine, meant};
 ghost use Rattle.typst_machine.specs.View.{Rewrapped, rewrapped_each};
 

@@ -3,13 +3,13 @@ use Rattle.std.specs.Prelude.{Bool, ◌==◌, List, length, Option, Some, None, 
 use Rattle.typst_kinds.specs.Kinds.{same}
 use Rattle.typst_kinds.specs.declared.kind.SyntaxKind.{SyntaxKind}
 use Rattle.typst_kinds.specs.declared.kind.SyntaxKind.TheVariants as kind
-use Rattle.typst_combinators.specs.Shape.{Shape, Seen, becomes}
-use Rattle.typst_combinators.specs.Shape.Change.{turns_wrong}
-use Rattle.typst_combinators.specs.Shape.Shape.{holds}
-use Rattle.typst_combinators.specs.Syntax.{Parser, ◌>>=◌, ◌>>◌}
-use Rattle.typst_combinators.specs.Syntax.Op.{further, advises}
-use Rattle.typst_combinators.specs.Syntax.Parser.{gives, does, pick}
-use Rattle.typst_combinators.specs.Steps.{peek, eat, expected, grow, nest, node}
+use Rattle.typst_machine.specs.Shape.{Shape, Seen, becomes}
+use Rattle.typst_machine.specs.Shape.Change.{turns_wrong}
+use Rattle.typst_machine.specs.Shape.Shape.{holds}
+use Rattle.typst_machine.specs.Syntax.{Parser, ◌>>=◌, ◌>>◌}
+use Rattle.typst_machine.specs.Syntax.Op.{further, advises}
+use Rattle.typst_machine.specs.Syntax.Parser.{gives, does, pick}
+use Rattle.typst_machine.specs.Steps.{peek, eat, expected, grow, nest, node}
 use Rattle.typst_machine.specs.Expected.{seeing}
 
 -- a star or an underscore takes what stands before it into its node

@@ -1,7 +1,7 @@
 //! Signs that take what stands beside them.
 
 ghost use Rattle.std.specs.Prelude.{◌≡◌, false, map, IfOk, IfSome};
-ghost use Rattle.typst_combinators.specs.Shape.{seen};
+ghost use Rattle.typst_machine.specs.Shape.{seen};
 ghost use Rattle.typst_kinds.specs.Kinds.{is_error};
 ghost use Rattle.typst_machine.specs.View.{Means, MeansBy, bare_growth};
 ghost use Rattle.typst_machine_tests.specs.Signs as spec;

@@ -3,26 +3,27 @@ use Rattle.std.specs.Prelude.{ℕ, ◌-◌, Bool, true, false, not, ◌||◌, �
 use Rattle.typst_kinds.specs.Kinds.{same}
 use Rattle.typst_kinds.specs.declared.kind.SyntaxKind.{SyntaxKind}
 use Rattle.typst_kinds.specs.declared.kind.SyntaxKind.TheVariants as kind
-use Rattle.typst_combinators.specs.declared.reading.AtNewline.{AtNewline}
-use Rattle.typst_combinators.specs.declared.reading.AtNewline.TheVariants as newline
+use Rattle.typst_machine.specs.reading.AtNewline.{AtNewline}
+use Rattle.typst_machine.specs.reading.AtNewline.TheVariants as newline
 use Rattle.typst_kinds.specs.declared.mode.SyntaxMode.TheVariants as mode
-use Rattle.typst_combinators.specs.declared.calls.Block.TheVariants as block
-use Rattle.typst_combinators.specs.declared.calls.Call.TheVariants.{MarkupExpr}
-use Rattle.typst_combinators.specs.declared.calls.Mark.TheVariants as mark
-use Rattle.typst_combinators.specs.declared.reading.Reading.{Reading}
-use Rattle.typst_combinators.specs.Hand.{AtHand}
-use Rattle.typst_combinators.specs.Point.{is_nil}
-use Rattle.typst_combinators.specs.Shape.{Shape, becomes, unclosed}
-use Rattle.typst_combinators.specs.Shape.Making.{itself}
-use Rattle.typst_combinators.specs.Shape.Shape.{warns}
-use Rattle.typst_combinators.specs.Syntax.{Parser, ◌>>=◌, ◌>>◌}
-use Rattle.typst_combinators.specs.Syntax.Op.{column, takes, marks, is_deepest}
-use Rattle.typst_combinators.specs.Syntax.Parser.{gives, does, pick, repeat, scoped}
-use Rattle.typst_combinators.specs.Steps.{peek, eat, convert_and_eat, eat_if, close_if, unexpected, expect, within, node, node_with_trivia, note, read_block}
-use Rattle.typst_combinators.specs.Depth.{is_end, one_more, too_deep, deeper}
+use Rattle.typst_machine.specs.calls.Block.TheVariants as block
+use Rattle.typst_machine.specs.calls.Call.TheVariants.{MarkupExpr}
+use Rattle.typst_machine.specs.calls.Mark.TheVariants as mark
+use Rattle.typst_machine.specs.reading.Reading.{Reading}
+use Rattle.typst_machine.specs.Hand.{AtHand}
+use Rattle.typst_machine.specs.Point.{is_nil}
+use Rattle.typst_machine.specs.Shape.{Shape, becomes, unclosed}
+use Rattle.typst_machine.specs.Shape.Making.{itself}
+use Rattle.typst_machine.specs.Shape.Shape.{warns}
+use Rattle.typst_machine.specs.Syntax.{Parser, ◌>>=◌, ◌>>◌}
+use Rattle.typst_machine.specs.Syntax.Op.{column, takes, marks, is_deepest}
+use Rattle.typst_machine.specs.Syntax.Parser.{gives, does, pick, repeat, scoped}
+use Rattle.typst_machine.specs.Steps.{peek, eat, convert_and_eat, eat_if, close_if, unexpected, expect, within, node, node_with_trivia, note, read_block}
+use Rattle.typst_machine.specs.Depth.{is_end, one_more, too_deep, deeper}
 use Rattle.typst_markup.specs.declared.head.MarkupHead.{MarkupHead}
 use Rattle.typst_markup.specs.declared.head.MarkupHead.TheVariants as head
 use Rattle.typst_markup.specs.Embedded.{embedded}
+use Rattle.typst_markup.specs.Equations.{equation}
 
 -- ---- where sequences stop
 
@@ -185,6 +186,7 @@ markup_head at_start nesting kind.Label = head.Itself
 markup_head at_start nesting kind.Raw = head.Itself
 markup_head at_start nesting kind.RefMarker = head.Reference
 markup_head at_start nesting kind.Hash = head.Embedded
+markup_head at_start nesting kind.Dollar = head.Equation
 markup_head at_start nesting kind.Star = head.Strong
 markup_head at_start nesting kind.Underscore = head.Emph
 markup_head at_start nesting kind.HeadingMarker = if at_start then head.Heading else head.Plain
@@ -208,6 +210,7 @@ markup_by nesting head.EnumItem = item kind.EnumItem >> gives nesting
 markup_by nesting head.TermItem = term_item >> gives nesting
 markup_by nesting head.Reference = reference >> gives nesting
 markup_by nesting head.Embedded = embedded >> gives nesting
+markup_by nesting head.Equation = equation >> gives nesting
 markup_by nesting head.Plain = convert_and_eat kind.Text >> gives nesting
 markup_by nesting head.Unexpected = unexpected [] >> gives nesting
 

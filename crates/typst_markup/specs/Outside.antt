@@ -1,11 +1,11 @@
 -- What productions read where blocks may be read.
 use Rattle.std.specs.Prelude.{Result}
 use Rattle.std.specs.declared.alloc.AllocError.{AllocError}
-use Rattle.typst_combinators.specs.declared.calls.Block.TheVariants as block
-use Rattle.typst_combinators.specs.declared.calls.Call.{Call}
-use Rattle.typst_combinators.specs.Calls.{Answer}
-use Rattle.typst_combinators.specs.Meaning.{Level}
-use Rattle.typst_combinators.specs.Syntax.{Parser}
+use Rattle.typst_machine.specs.calls.Block.TheVariants as block
+use Rattle.typst_machine.specs.calls.Call.{Call}
+use Rattle.typst_machine.specs.Calls.{Answer}
+use Rattle.typst_machine.specs.Meaning.{Level}
+use Rattle.typst_machine.specs.Syntax.{Parser}
 use Rattle.typst_machine.specs.declared.depth.Answered.{Answered}
 use Rattle.typst_machine.specs.View.{View, Frame, Fills, ReadsBlock, Reads, ReadsAs}
 use Rattle.typst_markup.specs.Markup.{content_block}

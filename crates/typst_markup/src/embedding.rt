@@ -6,9 +6,8 @@ ghost use Rattle.typst_markup.specs.Embedded as spec;
 
 use crate::starts::begins_statement;
 use std::alloc::AllocError;
-use typst_combinators::{AtNewline, Call, Reading};
 use typst_kinds::{SyntaxKind, SyntaxMode};
-use typst_machine::{Answered, Levels, Parser, deeper, is_end};
+use typst_machine::{Answered, AtNewline, Call, Levels, Parser, Reading, deeper, is_end};
 
 /// A hash and an expression of code.
 pub fn embedded<L: Levels>(g: &L, p: &mut Parser<'_>) -> Result<(), AllocError>

@@ -8,14 +8,14 @@ ghost use Rattle.typst_markup.specs.Outside.{MeansOutside};
 ghost use Rattle.typst_markup.specs.Stops.{stops_at};
 
 use crate::embedding::embedded;
+use crate::equations::equation;
 use crate::head::{MarkupHead, markup_head};
 use crate::references::reference;
 use crate::sequences::{markup, markup_with_trivia};
 use crate::stops::Stop;
 use std::alloc::AllocError;
-use typst_combinators::AtNewline;
 use typst_kinds::SyntaxKind;
-use typst_machine::{Levels, Parser};
+use typst_machine::{AtNewline, Levels, Parser};
 
 /// `*..*`
 pub fn strong<L: Levels>(g: &L, p: &mut Parser<'_>) -> Result<(), AllocError>
@@ -181,6 +181,7 @@ pub fn markup_expr<L: Levels>(
         MarkupHead::TermItem => term_item(g, p)?,
         MarkupHead::Reference => reference(g, p)?,
         MarkupHead::Embedded => embedded(g, p)?,
+        MarkupHead::Equation => equation(g, p)?,
         MarkupHead::Plain => p.convert_and_eat(SyntaxKind::Text, g)?,
         MarkupHead::Unexpected => p.unexpected(g)?,
     }

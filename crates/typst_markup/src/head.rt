@@ -32,6 +32,8 @@ pub enum MarkupHead {
     Reference,
     /// `#` and an expression of code.
     Embedded,
+    /// `$ .. $`
+    Equation,
     /// Text, since a marker means nothing here.
     Plain,
     /// Nothing that may stand here.
@@ -57,6 +59,7 @@ pub(crate) fn markup_head(at_start: bool, nesting: usize, kind: SyntaxKind) -> M
         | SyntaxKind::Raw => MarkupHead::Itself,
         SyntaxKind::RefMarker => MarkupHead::Reference,
         SyntaxKind::Hash => MarkupHead::Embedded,
+        SyntaxKind::Dollar => MarkupHead::Equation,
         SyntaxKind::Star => MarkupHead::Strong,
         SyntaxKind::Underscore => MarkupHead::Emph,
         SyntaxKind::HeadingMarker if at_start => MarkupHead::Heading,

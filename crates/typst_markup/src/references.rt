@@ -1,8 +1,8 @@
 //! References, and content blocks.
 
 ghost use Rattle.std.specs.Prelude.{◌≡◌, ◌<◌, OnOk};
-ghost use Rattle.typst_combinators.specs.Steps.{read_block};
-ghost use Rattle.typst_combinators.specs.Hand.{told};
+ghost use Rattle.typst_machine.specs.Steps.{read_block};
+ghost use Rattle.typst_machine.specs.Hand.{told};
 ghost use Rattle.typst_machine.specs.View.{MeansLast, Rewrapped};
 ghost use Rattle.typst_markup.specs.Markup as spec;
 ghost use Rattle.typst_markup.specs.Outside.{MeansOutside};
@@ -10,9 +10,8 @@ ghost use Rattle.typst_markup.specs.Outside.{MeansOutside};
 use crate::sequences::run_with_trivia;
 use crate::stops::Stop;
 use std::alloc::AllocError;
-use typst_combinators::{AtNewline, Block, Reading};
 use typst_kinds::{SyntaxKind, SyntaxMode};
-use typst_machine::{Levels, Parser};
+use typst_machine::{AtNewline, Block, Levels, Parser, Reading};
 
 /// `[ .. ]`, read as markup whatever stands around it. What comes behind it isn't asked for.
 pub fn content_block<L: Levels>(g: &L, p: &mut Parser<'_>) -> Result<(), AllocError>

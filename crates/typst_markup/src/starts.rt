@@ -10,7 +10,7 @@ pub fn begins_code(kind: SyntaxKind) -> bool
     ensures { result ≡ spec.begins_code kind }
 {
     set::named_sets();
-    set::CODE_EXPR.contains(kind) && !comes_later(kind)
+    set::CODE_EXPR.contains(kind)
 }
 
 /// Whether a statement begins at this token.
@@ -18,12 +18,5 @@ pub fn begins_statement(kind: SyntaxKind) -> bool
     ensures { result ≡ spec.begins_statement kind }
 {
     set::named_sets();
-    set::STMT.contains(kind) && !comes_later(kind)
-}
-
-/// LATER, patterns: `let` and `for` begin nothing yet. LATER, formulas: nor does `$`.
-fn comes_later(kind: SyntaxKind) -> bool
-    ensures { result ≡ spec.comes_later kind }
-{
-    matches!(kind, SyntaxKind::Let | SyntaxKind::For | SyntaxKind::Dollar)
+    set::STMT.contains(kind)
 }

@@ -1,8 +1,9 @@
-//! Where sequences of markup stop.
+//! Where sequences of markup and of formulas stop.
 
 ghost use Rattle.std.specs.Prelude.{◌≡◌};
 ghost use Rattle.typst_markup.specs.Markup as spec;
-ghost use Rattle.typst_markup.specs.Stops.{stops_at};
+ghost use Rattle.typst_markup.specs.Equations as math;
+ghost use Rattle.typst_markup.specs.Stops.{math_stops_at, stops_at};
 
 use typst_kinds::SyntaxKind;
 use typst_machine::{Stops, is_end};
@@ -44,4 +45,58 @@ fn ends_block(kind: SyntaxKind) -> bool
     ensures { result ≡ spec.ends_block kind }
 {
     kind == SyntaxKind::RightBracket || is_end(kind)
+}
+
+/// At which tokens a sequence of formulas stops.
+#[derive(Debug, Clone, Copy, PartialEq, Eq)]
+pub enum MathStop {
+    /// At the end of what may be read.
+    End,
+    /// There, and at the dollar that closes a formula.
+    Equation,
+    /// There, and at what closes a delimited part.
+    Delimited,
+    /// Where a formula stops, and at what ends an argument of a call.
+    Argument,
+}
+
+impl Stops for MathStop {
+    ghost at = { math_stops_at };
+
+    fn has(&self, kind: SyntaxKind) -> bool {
+        match self {
+            MathStop::End => is_end(kind),
+            MathStop::Equation => ends_equation(kind),
+            MathStop::Delimited => is_closer(kind) || ends_equation(kind),
+            MathStop::Argument => separates(kind) || ends_list(kind),
+        }
+    }
+}
+
+/// Whether a formula ends at this token.
+fn ends_equation(kind: SyntaxKind) -> bool
+    ensures { result ≡ math.ends_equation kind }
+{
+    kind == SyntaxKind::Dollar || is_end(kind)
+}
+
+/// Whether this token closes a delimited part.
+pub fn is_closer(kind: SyntaxKind) -> bool
+    ensures { result ≡ math.is_closer kind }
+{
+    kind == SyntaxKind::RightBrace || kind == SyntaxKind::RightParen
+}
+
+/// Whether the arguments of a call end at this token.
+pub fn ends_list(kind: SyntaxKind) -> bool
+    ensures { result ≡ math.ends_list kind }
+{
+    kind == SyntaxKind::RightParen || ends_equation(kind)
+}
+
+/// Whether this token stands between two arguments.
+pub fn separates(kind: SyntaxKind) -> bool
+    ensures { result ≡ math.separates kind }
+{
+    kind == SyntaxKind::Comma || kind == SyntaxKind::Semicolon
 }

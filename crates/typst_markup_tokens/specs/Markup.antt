@@ -82,11 +82,11 @@ markup k c =
     else (if c == 91 then sign kind.LeftBracket
     else (if c == 93 then sign kind.RightBracket
     else (if c == 39 || c == 34 then sign kind.SmartQuote
-    -- LATER, formulas: `$`
+    else (if c == 36 then sign kind.Dollar
     else (if c == 126 then sign kind.Shorthand
     else (if c == 58 then sign kind.Colon
     else (if c == 61 then heading k
     else (if c == 43 then marker k kind.EnumMarker
     else (if c == 47 then marker k kind.TermMarker
     else (if is_ascii_digit c then numbering k
-    else text_from k)))))))))))))))))
+    else text_from k))))))))))))))))))

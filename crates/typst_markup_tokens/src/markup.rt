@@ -43,6 +43,7 @@ pub fn markup<C: Classes>(
         '[' => Ok(sign(s, SyntaxKind::LeftBracket)),
         ']' => Ok(sign(s, SyntaxKind::RightBracket)),
         '\'' | '"' => Ok(sign(s, SyntaxKind::SmartQuote)),
+        '$' => Ok(sign(s, SyntaxKind::Dollar)),
         '~' => Ok(sign(s, SyntaxKind::Shorthand)),
         ':' => Ok(sign(s, SyntaxKind::Colon)),
         '=' => Ok(heading(s, classes)),

@@ -9,7 +9,6 @@ ghost use Rattle.typst_tokens.specs.Memory.{Memory};
 ghost use Rattle.typst_tokens.specs.declared.token.Token.{Token};
 
 use typst_classes::classes::Classes;
-use typst_classes::sets::InLine;
 use typst_kinds::SyntaxKind;
 use typst_lines::{CharSet, ScannerExt};
 use typst_readers::Cursor;
@@ -74,7 +73,7 @@ pub(crate) fn cluster<C: Classes>(s: &mut Cursor<'_>, classes: &C) -> Token
     ensures { Reads (spec.cluster (C.classes classes.now)) s.old result s.new }
 {
     let start = s.ahead();
-    let line = s.see_while(&InLine);
+    let line = s.see_line();
     if line.is_empty() {
         s.eat();
         return Token::plain(SyntaxKind::MathText);

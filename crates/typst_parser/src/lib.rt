@@ -1,7 +1,10 @@
 //! The parser layer of Typst, as programs use it.
 //!
 //! - [`parse`] makes the syntax tree of a text of markup. Any text has one; errors, warnings and hints
-//!   stand in the tree, and its leaves joined are the text. [`parse_code`] does the same of code.
+//!   stand in the tree, and its leaves joined are the text. [`parse_code`] does the same of code,
+//!   and [`parse_math`] of a formula.
+//!   [`parse_noted`] gives a text's [`Noted`]: its tree with what was looked at for it, and a [`Note`] for
+//!   each [`Mark`] at which a piece or a [`Block`] begins or ends.
 //! - A tree is a [`SyntaxNode`] of some [`SyntaxKind`], with its [`Diagnostic`]s and its [`Span`];
 //!   [`LinkedNode`] is a node with what stands round it.
 //! - [`highlight`] tells the [`Tag`] that a node is shown by, and [`highlight_html`] writes a tree's text
@@ -23,7 +26,9 @@ pub use typst_highlight::{Tag, highlight, highlight_html};
 pub use typst_lexer::{Classes, MathClass, UnicodeClasses, is_id_continue, is_id_start, is_ident};
 pub use typst_lines::{Line, Lines, Text, is_newline, split_newlines};
 pub use typst_links::{is_valid_label_literal_id, link_prefix};
-pub use typst_source::{Source, parse, parse_code};
+pub use typst_source::{
+    Block, Mark, Note, Noted, Source, parse, parse_code, parse_math, parse_noted,
+};
 pub use typst_tree::{
     Assoc, BinOp, Diagnostic, FileId, Hint, LinkedChildren, LinkedNode, Severity, SourceError,
     Span, SpanNumber, SubRange, SyntaxKind, SyntaxMode, SyntaxNode, SyntaxSet, UnOp, is_ordered,

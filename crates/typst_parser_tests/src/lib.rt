@@ -1,12 +1,7 @@
-//! Tests of what no clause says and no row can: depth, long texts, refused memory, and
-//! streams that stop, hold and fail.
+//! Tests of what no clause says and no row can: depth, long texts, refused memory.
 #![tactic(auto)]
 
 #[cfg(test)]
 mod code;
-#[cfg(test)]
-mod program;
-#[cfg(test)]
-mod streams;
 #[cfg(test)]
 mod trees;

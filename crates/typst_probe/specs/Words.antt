@@ -3,10 +3,10 @@ use Rattle.std.specs.Prelude.{ℕ, List, codes, Option, None, Some, if◌then◌
 use Rattle.std.specs.Str.{bytes_eq}
 use Rattle.typst_classes.specs.UnicodeTables.{unicode_classes}
 use Rattle.typst_cli.specs.Printed.{printed}
-use Rattle.typst_cli.specs.PrintedTree.{code_tree_printed}
+use Rattle.typst_cli.specs.PrintedTree.{code_tree_printed, math_tree_printed}
 use Rattle.typst_cli.specs.declared.command.Command.TheVariants as command
 use Rattle.typst_probe.specs.declared.word.Word.{Word}
-use Rattle.typst_probe.specs.declared.word.Word.TheVariants.{Tree, TreeWide, TreeNarrow, TreeCode, Tokens, TokensWide, TokensNarrow, TokensCode, Lines, Link, Stretches, Notes, Tags, Html, Spans, Edit}
+use Rattle.typst_probe.specs.declared.word.Word.TheVariants.{Tree, TreeWide, TreeNarrow, TreeCode, TreeMath, Tokens, TokensWide, TokensNarrow, TokensCode, TokensMath, Lines, Link, Stretches, Notes, Tags, Html, Spans, Edit}
 
 -- the word that a name stands for
 abbrev pub word_named : List ℕ → Option Word
@@ -15,10 +15,12 @@ word_named name =
     else (if bytes_eq name (codes "tree-wide") then Some TreeWide
     else (if bytes_eq name (codes "tree-narrow") then Some TreeNarrow
     else (if bytes_eq name (codes "tree-code") then Some TreeCode
+    else (if bytes_eq name (codes "tree-math") then Some TreeMath
     else (if bytes_eq name (codes "tokens") then Some Tokens
     else (if bytes_eq name (codes "tokens-wide") then Some TokensWide
     else (if bytes_eq name (codes "tokens-narrow") then Some TokensNarrow
     else (if bytes_eq name (codes "tokens-code") then Some TokensCode
+    else (if bytes_eq name (codes "tokens-math") then Some TokensMath
     else (if bytes_eq name (codes "lines") then Some Lines
     else (if bytes_eq name (codes "link") then Some Link
     else (if bytes_eq name (codes "stretches") then Some Stretches
@@ -27,7 +29,7 @@ word_named name =
     else (if bytes_eq name (codes "html") then Some Html
     else (if bytes_eq name (codes "spans") then Some Spans
     else (if bytes_eq name (codes "edit") then Some Edit
-    else None)))))))))))))))
+    else None)))))))))))))))))
 
 -- all that a word of the program typst_syn prints about a text, which this program's word answers too
 abbrev pub printed_by : Word → List ℕ → Option (List ℕ)
@@ -35,10 +37,12 @@ printed_by Tree text = Some (printed command.Tree text)
 printed_by TreeWide text = None
 printed_by TreeNarrow text = None
 printed_by TreeCode text = Some (code_tree_printed unicode_classes text)
+printed_by TreeMath text = Some (math_tree_printed unicode_classes text)
 printed_by Tokens text = None
 printed_by TokensWide text = None
 printed_by TokensNarrow text = None
 printed_by TokensCode text = None
+printed_by TokensMath text = None
 printed_by Lines text = Some (printed command.Lines text)
 printed_by Link text = None
 printed_by Stretches text = None

@@ -22,7 +22,7 @@ use std::{env, fs, io};
 use word::Word;
 
 const USAGE: &str =
-    "usage: typst_probe rows FILE.. | tree | tree-wide | tree-narrow | tree-code | tokens | tokens-wide |\n    tokens-narrow | tokens-code | lines | link | stretches | notes | tags | html | spans | edit |\n    edit-spans START END TEXT";
+    "usage: typst_probe rows FILE.. | tree | tree-wide | tree-narrow | tree-code | tree-math | tokens | tokens-wide |\n    tokens-narrow | tokens-code | tokens-math | lines | link | stretches | notes | tags | html | spans | edit |\n    edit-spans START END TEXT";
 
 /// `rows FILE..` compares all rows of the files, and any other word answers about the text on
 /// standard input. Ends with status 1 where a row disagrees or something fails, and with status 2

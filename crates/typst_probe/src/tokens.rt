@@ -1,4 +1,4 @@
-//! The words `tokens` and `tokens-code`.
+//! The words `tokens`, `tokens-code` and `tokens-math`.
 
 use std::alloc::{AllocError, Global};
 use typst_cli::tree::{print_head, variant_name};

@@ -20,6 +20,8 @@ pub enum Word {
     TreeNarrow,
     /// The syntax tree of the text as code.
     TreeCode,
+    /// The syntax tree of the text as a formula.
+    TreeMath,
     /// The tokens of the text as markup.
     Tokens,
     /// The tokens, where nearly all characters past ASCII are letters.
@@ -28,6 +30,8 @@ pub enum Word {
     TokensNarrow,
     /// The tokens of the text as code.
     TokensCode,
+    /// The tokens of the text as a formula.
+    TokensMath,
     /// Where the lines of the text start.
     Lines,
     /// The link that the text begins with.
@@ -56,10 +60,12 @@ impl Word {
             "tree-wide" => Some(Word::TreeWide),
             "tree-narrow" => Some(Word::TreeNarrow),
             "tree-code" => Some(Word::TreeCode),
+            "tree-math" => Some(Word::TreeMath),
             "tokens" => Some(Word::Tokens),
             "tokens-wide" => Some(Word::TokensWide),
             "tokens-narrow" => Some(Word::TokensNarrow),
             "tokens-code" => Some(Word::TokensCode),
+            "tokens-math" => Some(Word::TokensMath),
             "lines" => Some(Word::Lines),
             "link" => Some(Word::Link),
             "stretches" => Some(Word::Stretches),
@@ -81,10 +87,12 @@ impl Word {
             Word::TreeWide => tree::answer(alloc, text, &Wide),
             Word::TreeNarrow => tree::answer(alloc, text, &Narrow),
             Word::TreeCode => tree::answer_code(alloc, text, &UnicodeClasses),
+            Word::TreeMath => tree::answer_math(alloc, text, &UnicodeClasses),
             Word::Tokens => tokens::answer(alloc, text, SyntaxMode::Markup, &UnicodeClasses),
             Word::TokensWide => tokens::answer(alloc, text, SyntaxMode::Markup, &Wide),
             Word::TokensNarrow => tokens::answer(alloc, text, SyntaxMode::Markup, &Narrow),
             Word::TokensCode => tokens::answer(alloc, text, SyntaxMode::Code, &UnicodeClasses),
+            Word::TokensMath => tokens::answer(alloc, text, SyntaxMode::Math, &UnicodeClasses),
             Word::Lines => Command::Lines.answer(alloc, text),
             Word::Link => links::answer(alloc, text),
             Word::Stretches => stretches::answer(alloc, text),

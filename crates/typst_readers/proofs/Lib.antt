@@ -4,10 +4,12 @@
 --   goes_on, characters (typst_lexer)     Moves.exec-moved
 --   column, hull of a column              Columns
 --   laws.TokenFrame, ColumnFrame          Frame.frame, Columns.column-frame
+--   see_line                              Lines.same-end
 --   loops that follow a machine           Spans.sight-turn, Steps.step-go, step-last, step-end; PairRuns.sight-pairs
 pub mod Ahead
 pub mod Columns
 pub mod Frame
+pub mod Lines
 pub mod Moves
 pub mod PairRuns
 pub mod Sights

@@ -1,12 +1,12 @@
 -- Runs of characters that pass by the one that follows them.
-use Rattle.std.proofs.Common.{◌≡◌, ◌≤◌, ◌<◌, ℕ, zero, suc, ◌+◌, max, Bool, true, false, ◌||◌, List, [], ◌∷◌, length, slice_get, if◌then◌else◌, is_none, Option, Some, None, refl, sym, ap, ◌∙◌, arith}
+use Rattle.std.proofs.Common.{◌≡◌, ◌≤◌, ◌<◌, ℕ, zero, suc, ◌+◌, max, Bool, true, false, ◌||◌, List, [], ◌∷◌, length, slice_get, Option, Some, None, refl, sym, ap, ◌∙◌, arith}
 use Rattle.std.specs.List.{prefix_len}
 use Rattle.typst_lines.specs.Place.{Place, moved, moved_from, passes, past, scout}
 use Rattle.typst_readers.specs.Pairs.{either, pair_passes, pairs_len, past_pairs, went_past_pairs}
 use Rattle.typst_readers.specs.Reader.{place, ask, glimpse, Machine, Reader, eat_span}
 use Rattle.typst_readers.specs.Reader.Turn.{go}
-use Rattle.typst_readers.specs.Sight.{position, far, Sight, Covers, saw, saw_by, went, sight}
-use Rattle.typst_readers.proofs.Sights.{covers-saw, covers-went, far-le, far-moved, far-next, far-none, far-on, far-read, same-sight, saw-ahead, two-scout, went-nowhere}
+use Rattle.typst_readers.specs.Sight.{far, Sight, Covers, saw, saw_by, went, sight}
+use Rattle.typst_readers.proofs.Sights.{covers-saw, covers-went, far-le, far-moved, far-none, far-on, same-sight, saw-ahead, two-scout, went-nowhere}
 use Rattle.typst_readers.proofs.Spans.{sight-turn, sight-first, went-on}
 
 -- ---- the run itself

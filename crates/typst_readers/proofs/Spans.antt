@@ -1,7 +1,7 @@
 -- Machines, taken one character after the other.
 use Rattle.std.proofs.Common.{◌≡◌, ℕ, suc, max, List, [], ◌∷◌, length, refl, sym, ap, ◌∙◌, arith}
 use Rattle.typst_lines.specs.Place.{Place, moved_from}
-use Rattle.typst_readers.specs.Reader.{place, both, no_look, widened, from_before, Look, ask, glimpse, Machine, Turn, spanned, span_look, Reader, eat_span}
+use Rattle.typst_readers.specs.Reader.{place, both, widened, from_before, Look, ask, glimpse, Machine, Turn, spanned, span_look, Reader, eat_span}
 use Rattle.typst_readers.specs.Reader.Turn.{leave, last, go}
 use Rattle.typst_readers.specs.Sight.{far, Sight, Covers, saw, saw_by, went, sight}
 use Rattle.typst_readers.proofs.Frame.{turned, turn_look}

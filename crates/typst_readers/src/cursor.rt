@@ -4,12 +4,15 @@ ghost use Rattle.std.specs.List.{prefix_len};
 ghost use Rattle.std.specs.Str.{chars};
 ghost use Rattle.typst_readers.specs.Pairs.{either, went_past_pairs};
 ghost use Rattle.typst_readers.specs.Sight as spec;
-ghost use Rattle.typst_lines.specs.Place.{moved, passes, run, scout, word_at};
+ghost use Rattle.typst_classes.specs.Classes.{in_line};
+ghost use Rattle.typst_lines.specs.Place.{moved, passes, past, run, scout, word_at};
 ghost use Rattle.typst_lines.specs.Scanner.{place};
 
 use crate::hull::Hull;
+use crate::line::LineEnd;
 use crate::pairs::{PairSet, past_pairs};
 use std::marker::Model;
+use typst_classes::sets::InLine;
 use typst_lines::{CharSet, Scanner, ScannerExt};
 
 /// A place in a text, and the bytes that were looked at on the way to it.
@@ -20,6 +23,10 @@ pub struct Cursor<'a> {
     reach: usize,
     /// Where they begin, in bytes from the mark before the text.
     least: usize,
+    /// From where on the end of a line is known, in bytes,
+    line_from: usize,
+    /// and that end.
+    line_end: usize,
 }
 
 impl<'a> Model for Cursor<'a> {
@@ -29,11 +36,11 @@ impl<'a> Model for Cursor<'a> {
 
     ghost coded = { sight_code };
 
-    ghost use Rattle.typst_readers.specs.Cursor.{sight_of, IsCovered};
+    ghost use Rattle.typst_readers.specs.Cursor.{sight_of, IsKept};
 
     ghost view = { sight_of };
 
-    ghost invariant = { IsCovered };
+    ghost invariant = { IsKept };
 }
 
 impl<'a> Cursor<'a> {
@@ -41,10 +48,31 @@ impl<'a> Cursor<'a> {
     pub fn new(s: Scanner<'a>) -> Cursor<'a>
         ensures { result ≡ spec.fresh (place s.entry) }
     {
+        Cursor::on_line(s, LineEnd::of_text(s.string()))
+    }
+
+    /// The same, where the end of a line of the text is known.
+    pub fn on_line(s: Scanner<'a>, line: LineEnd<'a>) -> Cursor<'a>
+        requires { line.text.now ≡ s.text.now }
+        ensures { result ≡ spec.fresh (place s.entry) }
+    {
         Cursor {
             s,
             reach: s.cursor(),
             least: s.cursor() + 1,
+            line_from: line.from,
+            line_end: line.end,
+        }
+    }
+
+    /// The end of a line that is known.
+    pub fn line(&self) -> LineEnd<'a>
+        ensures { result.text.now ≡ spec.text_of self.now.place }
+    {
+        LineEnd {
+            text: self.s.string(),
+            from: self.line_from,
+            end: self.line_end,
         }
     }
 
@@ -221,6 +249,35 @@ impl<'a> Cursor<'a> {
         seen
     }
 
+    /// The rest of the line, which stays ahead. Where it ends is looked for once a line.
+    pub fn see_line(&mut self) -> &'a str
+        ensures taken { chars result.now ≡ run in_line self.old.place }
+        ensures sight { self.new ≡ spec.saw (suc (prefix_len in_line self.old.place.ahead)) self.old }
+    {
+        let start = self.ahead();
+        let end = self.end_of_line();
+        self.saw_to(&end);
+        end.since(&start)
+    }
+
+    /// A scanner where the line ends.
+    fn end_of_line(&mut self) -> Scanner<'a>
+        ensures place { place result ≡ past in_line self.old.place }
+        ensures text { result.text.now ≡ spec.text_of self.old.place }
+        ensures sight { self.new ≡ self.old }
+    {
+        let at = self.s.cursor();
+        let mut end = self.s;
+        if self.line_from <= at && at <= self.line_end {
+            end.jump(self.line_end);
+            return end;
+        }
+        end.eat_while(&InLine);
+        self.line_from = at;
+        self.line_end = end.cursor();
+        end
+    }
+
     /// Goes past the text, which comes next.
     pub fn skip(&mut self, text: &str)
         requires { take (length (chars text.now)) self.old.place.ahead ≡ chars text.now }
@@ -295,6 +352,7 @@ fn see_word(s: &mut Scanner<'_>, mut reach: usize, word: &[u8]) -> (bool, usize)
     ensures found { result.0 ≡ word_at 0 word.now (place s.old) }
     ensures moved { IsTrue result.0 → place s.new ≡ moved (length word.now) (place s.old) }
     ensures reach { result.1 ≡ spec.word_reach 0 word.now (place s.old) reach }
+    ensures same_text { s.new.text.now ≡ s.old.text.now }
 {
     for b in word {
         let c = s.eat();

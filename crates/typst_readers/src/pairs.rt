@@ -26,6 +26,7 @@ pub(crate) fn past_pairs<'a, S: CharSet, P: PairSet>(
     ensures moved { place s.new ≡ spec.past_pairs (spec.either (S.members alone.now) (P.members pairs.now)) (place s.old) }
     ensures behind { place result.0 ≡ moved 1 (place s.new) }
     ensures next { result.1 ≡ scout 0 (place s.new) }
+    ensures same_text { s.new.text.now ≡ s.old.text.now }
 {
     let mut at = *s;
     'runs: loop {

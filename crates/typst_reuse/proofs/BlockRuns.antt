@@ -4,25 +4,25 @@ use Rattle.typst_kinds.specs.declared.kind.SyntaxKind.TheVariants as kind
 use Rattle.typst_kinds.specs.Kinds.{same}
 use Rattle.typst_lines.specs.Place.{Place, moved}
 use Rattle.typst_classes.specs.Classes.{CharClasses}
-use Rattle.typst_combinators.specs.declared.calls.Block.TheVariants as block
-use Rattle.typst_combinators.specs.declared.calls.Mark.TheVariants as mark
-use Rattle.typst_combinators.specs.Ask.{SameIn}
-use Rattle.typst_combinators.specs.Ask.Ask.{marked}
-use Rattle.typst_combinators.specs.Depth.{too_deep}
-use Rattle.typst_combinators.specs.Hand.{AtHand}
-use Rattle.typst_combinators.specs.Point.{Point, point_of, state_of, gap_of}
-use Rattle.typst_combinators.specs.Shape.{after_node}
-use Rattle.typst_combinators.specs.Shape.Making.{itself}
-use Rattle.typst_combinators.specs.Steps.{peek, flush_trivia, close_if, node, node_with_trivia}
-use Rattle.typst_combinators.specs.Syntax.{Parser, ◌>>◌}
-use Rattle.typst_combinators.specs.Syntax.Op.{takes}
-use Rattle.typst_combinators.specs.Syntax.Parser.{does, repeat}
-use Rattle.typst_combinators.specs.Meaning.{Outcome, plain, joined, entered, repeated, done, run}
-use Rattle.typst_combinators.specs.Sound.{Within}
-use Rattle.typst_combinators.proofs.Knot.{Sane, sane-run, sane-meaning, sane-plain}
-use Rattle.typst_combinators.proofs.Looks.{same_in-shift, same_in-first, same_in-second}
-use Rattle.typst_combinators.proofs.Places.{moved-sum}
-use Rattle.typst_markup.specs.Markup.{ends_block, markup_run, markup_turn, content_block, markup_is_empty, markup_reading}
+use Rattle.typst_grammar.specs.calls.Block.TheVariants as block
+use Rattle.typst_grammar.specs.calls.Mark.TheVariants as mark
+use Rattle.typst_grammar.specs.Ask.{SameIn}
+use Rattle.typst_grammar.specs.Ask.Ask.{marked}
+use Rattle.typst_grammar.specs.Depth.{too_deep}
+use Rattle.typst_grammar.specs.Hand.{AtHand}
+use Rattle.typst_grammar.specs.Point.{Point, point_of, state_of, gap_of}
+use Rattle.typst_grammar.specs.Shape.{after_node}
+use Rattle.typst_grammar.specs.Shape.Making.{itself}
+use Rattle.typst_grammar.specs.Steps.{peek, flush_trivia, close_if, node, node_with_trivia}
+use Rattle.typst_grammar.specs.Syntax.{Parser, ◌>>◌}
+use Rattle.typst_grammar.specs.Syntax.Op.{takes}
+use Rattle.typst_grammar.specs.Syntax.Parser.{does, repeat}
+use Rattle.typst_grammar.specs.Meaning.{Outcome, plain, joined, entered, repeated, done, run}
+use Rattle.typst_grammar.specs.Sound.{Within}
+use Rattle.typst_grammar.proofs.Knot.{Sane, sane-run, sane-meaning, sane-plain}
+use Rattle.typst_grammar.proofs.Looks.{same_in-shift, same_in-first, same_in-second}
+use Rattle.typst_grammar.proofs.Places.{moved-sum}
+use Rattle.typst_grammar.specs.Markup.{ends_block, markup_run, markup_turn, content_block, markup_is_empty, markup_reading}
 use Rattle.typst_grammar.specs.Grammar.{rules}
 use Rattle.typst_reuse.specs.Edit.{text_with, Passes}
 use Rattle.typst_reuse.specs.Laws.{block_at}
@@ -58,7 +58,7 @@ module _ (r : Sequence) where
 
 module _ (k : CharClasses) (levels : ℕ) where
   pub sane : {A : Type 0} (p : Parser A) → Sane (run (inner k levels) p)
-  sane p = sane-run (inner k levels) (sane-meaning rules k (suc levels)) (λ b. sane-plain tt) p
+  sane p = sane-run (inner k levels) (sane-meaning (rules k) k (suc levels)) (λ b. sane-plain tt) p
 
   module _ (z : Place) (s : Point) where
     -- the block by its run, and what comes behind so many characters, in a state

@@ -3,18 +3,18 @@ use Rattle.std.proofs.Common.{◌≡◌, ℕ, ◌+◌, Bool, true, false, if◌t
 use Rattle.typst_node.specs.Tree.{Tree}
 use Rattle.typst_lines.specs.Place.{Place, moved}
 use Rattle.typst_classes.specs.Classes.{CharClasses}
-use Rattle.typst_combinators.specs.declared.calls.Block.{Block}
-use Rattle.typst_combinators.specs.declared.calls.Block.TheVariants as block
-use Rattle.typst_combinators.specs.Point.{Point}
-use Rattle.typst_combinators.specs.Shape.{Shape, hinted, shaped, becomes, unclosed}
-use Rattle.typst_combinators.specs.Steps.{peek, node}
-use Rattle.typst_combinators.specs.Syntax.{Parser, ◌>>◌}
-use Rattle.typst_combinators.specs.Syntax.Begin.{at_token}
-use Rattle.typst_combinators.specs.Knot.{blocks_of, meaning_of}
-use Rattle.typst_combinators.specs.Meaning.{Outcome, Level, plain, less, joined, before, inside, wrapped, blockless, run}
-use Rattle.typst_combinators.proofs.Places.{less-append, less-none}
-use Rattle.typst_markup.specs.Markup.{content_block}
-use Rattle.typst_code.specs.Sequences.{code_block}
+use Rattle.typst_grammar.specs.calls.Block.{Block}
+use Rattle.typst_grammar.specs.calls.Block.TheVariants as block
+use Rattle.typst_grammar.specs.Point.{Point}
+use Rattle.typst_grammar.specs.Shape.{Shape, hinted, shaped, becomes, unclosed}
+use Rattle.typst_grammar.specs.Steps.{peek, node}
+use Rattle.typst_grammar.specs.Syntax.{Parser, ◌>>◌}
+use Rattle.typst_grammar.specs.Syntax.Begin.{at_token}
+use Rattle.typst_grammar.specs.Knot.{blocks_of, meaning_of}
+use Rattle.typst_grammar.specs.Meaning.{Outcome, Level, plain, less, joined, before, inside, wrapped, blockless, run}
+use Rattle.typst_grammar.proofs.Places.{less-append, less-none}
+use Rattle.typst_grammar.specs.Markup.{content_block}
+use Rattle.typst_grammar.specs.Sequences.{code_block}
 use Rattle.typst_grammar.specs.Grammar.{rules}
 use Rattle.typst_reuse.specs.Spot.{kind_of, block_head, last_node}
 use Rattle.typst_reuse.proofs.Law.{Ends}
@@ -108,6 +108,6 @@ ends-code l z s =
     let w = moved o.taken z in
     ends-joined block.Code o _ (ends-plain block.Code tt (run l (node (enclosing block.Code) _) w o.state) (ends-node block.Code l _ w o.state))
 
-pub ends : (k : CharClasses) (levels : ℕ) (b : Block) → rules.has b ≡ true → (z : Place) (s : Point) → Ends b (blocks_of rules k levels (meaning_of rules k levels) b z s)
-ends k levels block.Content h z s = ends-of block.Content _ (ends-content (blockless k levels (meaning_of rules k levels)) z s)
-ends k levels block.Code h z s = ends-of block.Code _ (ends-code (blockless k levels (meaning_of rules k levels)) z s)
+pub ends : (k : CharClasses) (levels : ℕ) (b : Block) → (rules k).has b ≡ true → (z : Place) (s : Point) → Ends b (blocks_of (rules k) k levels (meaning_of (rules k) k levels) b z s)
+ends k levels block.Content h z s = ends-of block.Content _ (ends-content (blockless k levels (meaning_of (rules k) k levels)) z s)
+ends k levels block.Code h z s = ends-of block.Code _ (ends-code (blockless k levels (meaning_of (rules k) k levels)) z s)

@@ -3,16 +3,16 @@ use Rattle.std.proofs.Common.{◌≡◌, ℕ, ◌+◌, ◌-◌, ◌<◌, ◌≤�
 use Rattle.typst_lines.specs.Place.{Place, moved}
 use Rattle.typst_classes.specs.Classes.{CharClasses}
 use Rattle.typst_readers.specs.Sight.{width, position, far, near, hull_of}
-use Rattle.typst_combinators.specs.declared.calls.Mark.{Mark}
-use Rattle.typst_combinators.specs.declared.calls.Mark.TheVariants as mark
-use Rattle.typst_combinators.specs.declared.calls.Note.{Note}
-use Rattle.typst_combinators.specs.declared.reading.State.{State}
-use Rattle.typst_combinators.specs.Ask.{Ask, shift}
-use Rattle.typst_combinators.specs.Ask.Ask.{looked, marked}
-use Rattle.typst_combinators.specs.Log.{Log, no_log, least_behind, with_more, with_hull, with_note, logged_one, logged}
-use Rattle.typst_combinators.specs.Meaning.{start_point}
-use Rattle.typst_combinators.specs.Point.{state_of}
-use Rattle.typst_markup.specs.Markup.{markup_reading}
+use Rattle.typst_grammar.specs.calls.Mark.{Mark}
+use Rattle.typst_grammar.specs.calls.Mark.TheVariants as mark
+use Rattle.typst_grammar.specs.calls.Note.{Note}
+use Rattle.typst_grammar.specs.reading.State.{State}
+use Rattle.typst_grammar.specs.Ask.{Ask, shift}
+use Rattle.typst_grammar.specs.Ask.Ask.{looked, marked}
+use Rattle.typst_grammar.specs.Log.{Log, no_log, least_behind, with_more, with_hull, with_note, logged_one, logged}
+use Rattle.typst_grammar.specs.Meaning.{start_point}
+use Rattle.typst_grammar.specs.Point.{state_of}
+use Rattle.typst_grammar.specs.Markup.{markup_reading}
 use Rattle.typst_grammar.specs.Grammar.{rules, max_depth, start_of, whole, parsed, log}
 use Rattle.typst_reuse.specs.Bytes.{lowest, Decided, DecisionLaw}
 use Rattle.typst_reuse.specs.Edit.{text_with, AllEndBy, AllBeginIn}
@@ -275,8 +275,8 @@ decision-law k front old rest c past i e =
     let z = text_with front old rest in
     let s = start_point markup_reading in
     let o = parsed k max_depth (front ++ (old ++ rest)) in
-    let l = among (Lawful z z o o) c _ i (inside-level rules k (ends k) max_depth whole z z s) in
-    let n = among (Named (block_at k) max_depth) c _ i (named-level rules k max_depth whole z s) in
+    let l = among (Lawful z z o o) c _ i (inside-level (rules k) k (ends k) max_depth whole z z s) in
+    let n = among (Named (block_at k) max_depth) c _ i (named-level (rules k) k max_depth whole z s) in
     let b : max 0 (length (front ++ (old ++ rest))) ≡ length (front ++ (old ++ rest)) = omega arith in
-    let within = subst (λ n. AllAt n o.asks) b (in-level rules k max_depth whole z s) in
+    let within = subst (λ n. AllAt n o.asks) b (in-level (rules k) k max_depth whole z s) in
     decided k front old rest c past l.old n within e

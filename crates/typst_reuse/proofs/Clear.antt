@@ -3,22 +3,22 @@ use Rattle.std.proofs.Common.{◌≡◌, ℕ, zero, suc, ◌+◌, Bool, true, fa
 use Rattle.std.specs.List.{flat_map}
 use Rattle.typst_lines.specs.Place.{Place, moved}
 use Rattle.typst_classes.specs.Classes.{CharClasses}
-use Rattle.typst_combinators.specs.declared.calls.Block.{Block}
-use Rattle.typst_combinators.specs.declared.calls.Call.{Call}
-use Rattle.typst_combinators.specs.declared.reading.Reading.{Reading}
-use Rattle.typst_combinators.specs.Ask.{SameIn}
-use Rattle.typst_combinators.specs.Calls.{Answer}
-use Rattle.typst_combinators.specs.Hand.{at_trivia, hand_at}
-use Rattle.typst_combinators.specs.Point.{Point, forgot}
-use Rattle.typst_combinators.specs.Shape.{Shape}
-use Rattle.typst_combinators.specs.Steps.{peek}
-use Rattle.typst_combinators.specs.Syntax.{Parser, Begin, ◌>>◌}
-use Rattle.typst_combinators.specs.Syntax.Op.{flushes}
-use Rattle.typst_combinators.specs.Syntax.Parser.{gives, does, next, pick, repeat, wraps, grows, nests, scoped, sees, either, calls, block}
-use Rattle.typst_combinators.specs.Knot.{Rules, meaning_of, level_of}
-use Rattle.typst_combinators.specs.Meaning.{Outcome, Meaning, Level, blockless, answered, joined, bound, before, grown, is_more, turns, nestings, entered, done, run}
-use Rattle.typst_combinators.proofs.Looks.{same_in-shift, same_in-first, same_in-second, same_in-sunk}
-use Rattle.typst_combinators.proofs.Places.{moved-sum}
+use Rattle.typst_grammar.specs.calls.Block.{Block}
+use Rattle.typst_grammar.specs.calls.Call.{Call}
+use Rattle.typst_grammar.specs.reading.Reading.{Reading}
+use Rattle.typst_grammar.specs.Ask.{SameIn}
+use Rattle.typst_grammar.specs.Calls.{Answer}
+use Rattle.typst_grammar.specs.Hand.{at_trivia, hand_at}
+use Rattle.typst_grammar.specs.Point.{Point, forgot}
+use Rattle.typst_grammar.specs.Shape.{Shape}
+use Rattle.typst_grammar.specs.Steps.{peek}
+use Rattle.typst_grammar.specs.Syntax.{Parser, Begin, ◌>>◌}
+use Rattle.typst_grammar.specs.Syntax.Op.{flushes}
+use Rattle.typst_grammar.specs.Syntax.Parser.{gives, does, next, pick, repeat, wraps, grows, nests, scoped, sees, either, calls, block}
+use Rattle.typst_grammar.specs.Knot.{Rules, meaning_of, level_of}
+use Rattle.typst_grammar.specs.Meaning.{Outcome, Meaning, Level, blockless, answered, joined, bound, before, grown, is_more, turns, nestings, entered, done, run}
+use Rattle.typst_grammar.proofs.Looks.{same_in-shift, same_in-first, same_in-second, same_in-sunk}
+use Rattle.typst_grammar.proofs.Places.{moved-sum}
 use Rattle.typst_reuse.specs.Hole.{wrap_hole}
 use Rattle.typst_reuse.specs.Spot.{Spot, block_head, valued, then_spot, after_spot, rehole, sunk_spot, closed_spot, here_spot}
 use Rattle.typst_reuse.specs.Occurrences.{Spots, joined_spots, goes, last_spot, turns_spots, repeated_spots, reshaped_spot, wrapped_spot, grown_spot, growths_spots, growing_spots, nestings_spots, nesting_spots, scoped_spot, seen_spot, spots, call_spots, block_spots, level_spots}

@@ -2,23 +2,23 @@
 use Rattle.std.proofs.Common.{◌≡◌, ℕ, ◌+◌, ◌<◌, ◌≤◌, max, Bool, true, false, List, [], ◌++◌, length, take, drop, Option, None, refl, ap, sym, ◌∙◌, subst, arith}
 use Rattle.typst_lines.specs.Place.{Place}
 use Rattle.typst_node.specs.Tree.{Tree}
-use Rattle.typst_combinators.specs.declared.calls.Block.{Block}
-use Rattle.typst_combinators.specs.declared.calls.Block.TheVariants as block
-use Rattle.typst_combinators.specs.declared.reading.Reading.{Reading}
-use Rattle.typst_combinators.specs.declared.calls.Call.{Call}
-use Rattle.typst_combinators.specs.Depth.{is_end}
-use Rattle.typst_combinators.specs.Hand.{Hand, token_at, at_trivia, hand_at}
-use Rattle.typst_combinators.specs.Point.{Trivia, Point, forgot, gap_of}
-use Rattle.typst_combinators.specs.Shape.{shaped, after_node, after_shape}
-use Rattle.typst_combinators.specs.Steps.{peek, node}
-use Rattle.typst_combinators.specs.Syntax.{Parser, ◌>>◌, ◌>>=◌}
-use Rattle.typst_combinators.specs.Syntax.Parser.{gives}
-use Rattle.typst_combinators.specs.Syntax.Begin.{at_token}
-use Rattle.typst_combinators.specs.Meaning.{Outcome, Level, before, inside, wrapped, bound, hand_of, asked, run}
-use Rattle.typst_combinators.proofs.Ends.{hand-again, token-ends, token-takes}
-use Rattle.typst_combinators.proofs.Knot.{Sane, sane-run}
-use Rattle.typst_markup.specs.Markup.{content_block, markup_reading}
-use Rattle.typst_code.specs.Sequences.{code_block, code_reading}
+use Rattle.typst_grammar.specs.calls.Block.{Block}
+use Rattle.typst_grammar.specs.calls.Block.TheVariants as block
+use Rattle.typst_grammar.specs.reading.Reading.{Reading}
+use Rattle.typst_grammar.specs.calls.Call.{Call}
+use Rattle.typst_grammar.specs.Depth.{is_end}
+use Rattle.typst_grammar.specs.Hand.{Hand, token_at, at_trivia, hand_at}
+use Rattle.typst_grammar.specs.Point.{Trivia, Point, forgot, gap_of}
+use Rattle.typst_grammar.specs.Shape.{shaped, after_node, after_shape}
+use Rattle.typst_grammar.specs.Steps.{peek, node}
+use Rattle.typst_grammar.specs.Syntax.{Parser, ◌>>◌, ◌>>=◌}
+use Rattle.typst_grammar.specs.Syntax.Parser.{gives}
+use Rattle.typst_grammar.specs.Syntax.Begin.{at_token}
+use Rattle.typst_grammar.specs.Meaning.{Outcome, Level, before, inside, wrapped, bound, hand_of, asked, run}
+use Rattle.typst_grammar.proofs.Ends.{hand-again, token-ends, token-takes}
+use Rattle.typst_grammar.proofs.Knot.{Sane, sane-run}
+use Rattle.typst_grammar.specs.Markup.{content_block, markup_reading}
+use Rattle.typst_grammar.specs.Sequences.{code_block, code_reading}
 use Rattle.typst_reuse.proofs.Blocks.{enclosing}
 use Rattle.typst_reuse.proofs.Enclosed.{state_from, state-left, Direct, hand-direct, Alone, Apart, alone-after, alone-plain, Opener, opener-takes, opener-eat, enclosed, apart-enclosed, alike-enclosed}
 

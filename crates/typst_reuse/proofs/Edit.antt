@@ -3,10 +3,10 @@ use Rattle.std.proofs.Common.{◌≡◌, ℕ, zero, suc, ◌+◌, ◌≤◌, Lis
 use Rattle.typst_node.specs.Tree.{Tree, forest, trees}
 use Rattle.typst_lines.specs.Place.{Place, moved}
 use Rattle.typst_readers.specs.Reader.{Look, Agree, marked as ended_by_mark}
-use Rattle.typst_combinators.specs.Ask.{Ask, SameIn}
-use Rattle.typst_combinators.specs.Ask.Ask.{looked, marked}
-use Rattle.typst_combinators.specs.Meaning.{Outcome}
-use Rattle.typst_combinators.proofs.Places.{moved-sum}
+use Rattle.typst_grammar.specs.Ask.{Ask, SameIn}
+use Rattle.typst_grammar.specs.Ask.Ask.{looked, marked}
+use Rattle.typst_grammar.specs.Meaning.{Outcome}
+use Rattle.typst_grammar.proofs.Places.{moved-sum}
 use Rattle.typst_reuse.specs.Hole.{Deep, fill, Hole, plug, path_in, path_of}
 use Rattle.typst_reuse.specs.Hole.Deep.{bare, under}
 use Rattle.typst_reuse.specs.Spot.{Spot, Fits, unit_at}

@@ -8,25 +8,25 @@ use Rattle.typst_kinds.specs.Kinds.{is_error}
 use Rattle.typst_lines.specs.Place.{Place, moved}
 use Rattle.typst_node.specs.Tree.{Tree, text_of}
 use Rattle.typst_classes.specs.Classes.{CharClasses}
-use Rattle.typst_token_nodes.proofs.TokenTexts.{text-token}
-use Rattle.typst_combinators.specs.declared.calls.Block.{Block}
-use Rattle.typst_combinators.specs.declared.calls.Call.{Call}
-use Rattle.typst_combinators.specs.declared.reading.AtNewline.{AtNewline}
-use Rattle.typst_combinators.specs.declared.reading.AtNewline.TheVariants.{Continue, Stop, ContextualContinue, StopParBreak, RequireColumn}
-use Rattle.typst_combinators.specs.declared.reading.Reading.{Reading}
-use Rattle.typst_combinators.specs.Hand.{Hand, Ahead, len_at, at_trivia, hand_at, text_ahead}
-use Rattle.typst_combinators.specs.Point.{Point, forgot}
-use Rattle.typst_combinators.specs.Shape.{hinted, count_empty, after_node}
-use Rattle.typst_combinators.specs.Shape.Making.{itself}
-use Rattle.typst_combinators.specs.Steps.{peek, eat_making, eat}
-use Rattle.typst_combinators.specs.Syntax.{Parser}
-use Rattle.typst_combinators.specs.Syntax.Op.{takes}
-use Rattle.typst_combinators.specs.Syntax.Parser.{does, next, scoped}
-use Rattle.typst_combinators.specs.Meaning.{Outcome, Level, plain, less, joined, same_mode, same_rule, left, entered, hand_of, taken_node, done, run}
-use Rattle.typst_combinators.proofs.Knot.{Sane, sane-run}
-use Rattle.typst_combinators.proofs.Places.{less-none}
-use Rattle.typst_combinators.proofs.Rests.{Rests}
-use Rattle.typst_combinators.proofs.Within.{on_if}
+use Rattle.typst_grammar.proofs.TokenTexts.{text-token}
+use Rattle.typst_grammar.specs.calls.Block.{Block}
+use Rattle.typst_grammar.specs.calls.Call.{Call}
+use Rattle.typst_grammar.specs.reading.AtNewline.{AtNewline}
+use Rattle.typst_grammar.specs.reading.AtNewline.TheVariants.{Continue, Stop, ContextualContinue, StopParBreak, RequireColumn}
+use Rattle.typst_grammar.specs.reading.Reading.{Reading}
+use Rattle.typst_grammar.specs.Hand.{Hand, Ahead, len_at, at_trivia, hand_at, text_ahead}
+use Rattle.typst_grammar.specs.Point.{Point, forgot}
+use Rattle.typst_grammar.specs.Shape.{hinted, count_empty, after_node}
+use Rattle.typst_grammar.specs.Shape.Making.{itself}
+use Rattle.typst_grammar.specs.Steps.{peek, eat_making, eat}
+use Rattle.typst_grammar.specs.Syntax.{Parser}
+use Rattle.typst_grammar.specs.Syntax.Op.{takes}
+use Rattle.typst_grammar.specs.Syntax.Parser.{does, next, scoped}
+use Rattle.typst_grammar.specs.Meaning.{Outcome, Level, plain, less, joined, same_mode, same_rule, left, entered, hand_of, taken_node, done, run}
+use Rattle.typst_grammar.proofs.Knot.{Sane, sane-run}
+use Rattle.typst_grammar.proofs.Places.{less-none}
+use Rattle.typst_grammar.proofs.Rests.{Rests}
+use Rattle.typst_grammar.proofs.Within.{on_if}
 use Rattle.typst_reuse.proofs.Outcomes.{hints-first}
 use Rattle.typst_reuse.proofs.Reached.{ahead-direct}
 

@@ -3,15 +3,15 @@ use Rattle.std.proofs.Common.{◌≡◌, ℕ, ◌-◌, ◌<◌, false, List, [],
 use Rattle.typst_lines.specs.Place.{Place, moved}
 use Rattle.typst_node.specs.Tree.{Tree}
 use Rattle.typst_classes.specs.Classes.{CharClasses}
-use Rattle.typst_combinators.specs.declared.calls.Block.{Block}
-use Rattle.typst_combinators.specs.declared.calls.Block.TheVariants as block
-use Rattle.typst_combinators.specs.Ask.{Ask, SameIn}
-use Rattle.typst_combinators.specs.Ask.Ask.{looked, marked}
-use Rattle.typst_combinators.specs.Hand.{at_trivia}
-use Rattle.typst_combinators.specs.Knot.{meaning_of}
-use Rattle.typst_combinators.specs.Meaning.{Outcome, blockless}
-use Rattle.typst_combinators.specs.Point.{Point, point_of, forgot}
-use Rattle.typst_combinators.proofs.Knot.{sane-meaning, sane-plain}
+use Rattle.typst_grammar.specs.calls.Block.{Block}
+use Rattle.typst_grammar.specs.calls.Block.TheVariants as block
+use Rattle.typst_grammar.specs.Ask.{Ask, SameIn}
+use Rattle.typst_grammar.specs.Ask.Ask.{looked, marked}
+use Rattle.typst_grammar.specs.Hand.{at_trivia}
+use Rattle.typst_grammar.specs.Knot.{meaning_of}
+use Rattle.typst_grammar.specs.Meaning.{Outcome, blockless}
+use Rattle.typst_grammar.specs.Point.{Point, point_of, forgot}
+use Rattle.typst_grammar.proofs.Knot.{sane-meaning, sane-plain}
 use Rattle.typst_grammar.specs.Grammar.{rules}
 use Rattle.typst_reuse.specs.Named.{Named}
 use Rattle.typst_reuse.specs.Spot.{Spot, Fits, block_head, ended, last_node, unit_at}
@@ -43,17 +43,17 @@ record Left (k : CharClasses) (b : Block) (s : Point) (o : Outcome (Unit {0})) :
 
 left-by : (k : CharClasses) (levels : ℕ) (b : Block) (z : Place) (s : Point) → s.known ≡ None → at_trivia k s.held.mode z ≡ false → 0 < (block_at k levels b z s).taken → Left k b s (block_at k levels b z s)
 left-by k levels block.Content z s e h some =
-    let l = blockless k levels (meaning_of rules k levels) in
+    let l = blockless k levels (meaning_of (rules k) k levels) in
     record {
-      state = state-content l (sane-meaning rules k levels) (λ c. sane-plain tt) z s;
-      alone = content-alone l (sane-meaning rules k levels) (λ c. sane-plain tt) z s e h some;
+      state = state-content l (sane-meaning (rules k) k levels) (λ c. sane-plain tt) z s;
+      alone = content-alone l (sane-meaning (rules k) k levels) (λ c. sane-plain tt) z s e h some;
       head = (ends k levels block.Content refl z s).head;
     }
 left-by k levels block.Code z s e h some =
-    let l = blockless k levels (meaning_of rules k levels) in
+    let l = blockless k levels (meaning_of (rules k) k levels) in
     record {
-      state = state-code l (sane-meaning rules k levels) (λ c. sane-plain tt) z s;
-      alone = code-alone l (sane-meaning rules k levels) (λ c. sane-plain tt) z s e h some;
+      state = state-code l (sane-meaning (rules k) k levels) (λ c. sane-plain tt) z s;
+      alone = code-alone l (sane-meaning (rules k) k levels) (λ c. sane-plain tt) z s e h some;
       head = (ends k levels block.Code refl z s).head;
     }
 

@@ -4,14 +4,14 @@ use Rattle.std.specs.List.{flat_map}
 use borrow.Author.Tests.{ltb-true}
 use Rattle.typst_node.specs.Tree.{Tree}
 use Rattle.typst_lines.specs.Place.{Place, moved}
-use Rattle.typst_combinators.specs.Ask.{SameIn}
-use Rattle.typst_combinators.specs.Point.{Point, gap_of}
-use Rattle.typst_combinators.specs.Shape.{Shape}
-use Rattle.typst_combinators.specs.Meaning.{Outcome, Meaning, answered, joined, bound, reshaped, grown, is_more, growths, growing}
-use Rattle.typst_combinators.specs.Sound.{Framed, Within, Backs}
-use Rattle.typst_combinators.proofs.Looks.{same_in-shift, same_in-first, same_in-second}
-use Rattle.typst_combinators.proofs.Within.{if-same, and-second, grew, growths-enough, Enough, enough-grew, grown-taken}
-use Rattle.typst_combinators.proofs.Frame.{grew-asks}
+use Rattle.typst_grammar.specs.Ask.{SameIn}
+use Rattle.typst_grammar.specs.Point.{Point, gap_of}
+use Rattle.typst_grammar.specs.Shape.{Shape}
+use Rattle.typst_grammar.specs.Meaning.{Outcome, Meaning, answered, joined, bound, reshaped, grown, is_more, growths, growing}
+use Rattle.typst_grammar.specs.Sound.{Framed, Within, Backs}
+use Rattle.typst_grammar.proofs.Looks.{same_in-shift, same_in-first, same_in-second}
+use Rattle.typst_grammar.proofs.Within.{if-same, and-second, grew, growths-enough, Enough, enough-grew, grown-taken}
+use Rattle.typst_grammar.proofs.Frame.{grew-asks}
 use Rattle.typst_reuse.specs.Hole.{Hole, wrap_hole}
 use Rattle.typst_reuse.specs.Spot.{Spot, block_head, then_spot, after_spot, rehole}
 use Rattle.typst_reuse.specs.Occurrences.{Spots, joined_spots, last_spot, grown_spot, growths_spots, growing_spots}

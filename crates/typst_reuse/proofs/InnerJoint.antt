@@ -5,20 +5,20 @@ use Rattle.typst_kinds.specs.Kinds.{same}
 use Rattle.typst_lines.specs.Place.{Place, moved}
 use Rattle.typst_node.specs.Tree.{Tree}
 use Rattle.typst_classes.specs.Classes.{CharClasses}
-use Rattle.typst_combinators.specs.declared.calls.Block.TheVariants as block
-use Rattle.typst_combinators.specs.declared.reading.Reading.{Reading}
-use Rattle.typst_combinators.specs.Ask.{SameIn}
-use Rattle.typst_combinators.specs.Hand.{hand_at}
-use Rattle.typst_combinators.specs.Point.{Trivia, Point, point_of, is_nil}
-use Rattle.typst_combinators.specs.Shape.{after_node}
-use Rattle.typst_combinators.specs.Steps.{flush_trivia, close_if}
-use Rattle.typst_combinators.specs.Syntax.{◌>>=◌}
-use Rattle.typst_combinators.specs.Syntax.Parser.{repeat}
-use Rattle.typst_combinators.specs.Meaning.{Outcome, joined, run}
-use Rattle.typst_combinators.proofs.Knot.{sane-meaning, sane-plain}
-use Rattle.typst_combinators.proofs.Looks.{same_in-shift, same_in-first, same_in-second}
-use Rattle.typst_combinators.proofs.Places.{moved-sum}
-use Rattle.typst_markup.specs.Markup.{ends_block, markup_turn, markup_head}
+use Rattle.typst_grammar.specs.calls.Block.TheVariants as block
+use Rattle.typst_grammar.specs.reading.Reading.{Reading}
+use Rattle.typst_grammar.specs.Ask.{SameIn}
+use Rattle.typst_grammar.specs.Hand.{hand_at}
+use Rattle.typst_grammar.specs.Point.{Trivia, Point, point_of, is_nil}
+use Rattle.typst_grammar.specs.Shape.{after_node}
+use Rattle.typst_grammar.specs.Steps.{flush_trivia, close_if}
+use Rattle.typst_grammar.specs.Syntax.{◌>>=◌}
+use Rattle.typst_grammar.specs.Syntax.Parser.{repeat}
+use Rattle.typst_grammar.specs.Meaning.{Outcome, joined, run}
+use Rattle.typst_grammar.proofs.Knot.{sane-meaning, sane-plain}
+use Rattle.typst_grammar.proofs.Looks.{same_in-shift, same_in-first, same_in-second}
+use Rattle.typst_grammar.proofs.Places.{moved-sum}
+use Rattle.typst_grammar.specs.Markup.{ends_block, markup_turn, markup_head}
 use Rattle.typst_grammar.specs.Grammar.{rules}
 use Rattle.typst_reuse.specs.BlockRuns.{inner, bracket, inner_lead, content_with, run_at, tail_at, close_at}
 use Rattle.typst_reuse.specs.Edit.{text_with, Passes}
@@ -45,7 +45,7 @@ module _ (k : CharClasses) (levels : ℕ) where
       → Fronted t us (onward x z (before_trivia r h e a t)) (onward x (moved t.gap z) (before_trivia r h d b (trivia_with us t)))
   onward-fronted h z t us nil x r e d a b same =
       let deep : (suc levels == 0) ≡ false = ne_eqb (suc levels) 0 (omega arith) in
-      fronted-behind (inner k levels) (sane-meaning rules k (suc levels)) (λ c. sane-plain tt) deep ends_block refl h z t us nil x r e d a b
+      fronted-behind (inner k levels) (sane-meaning (rules k) k (suc levels)) (λ c. sane-plain tt) deep ends_block refl h z t us nil x r e d a b
       (minds (markup_head x.0 x.1 (hand_at k h (Some t) z).kind)) (λ some. takes-call k levels h z t us nil x.0 x.1 some) same
 
 pub inner-joint-law : InnerJointLaw

@@ -4,14 +4,14 @@ use Rattle.typst_kinds.specs.Kinds.{is_error}
 use Rattle.typst_node_data.specs.Head.{Head}
 use Rattle.typst_node.specs.Tree.{Tree}
 use Rattle.typst_lines.specs.Place.{Place, moved}
-use Rattle.typst_combinators.specs.Ask.{Ask, SameIn}
-use Rattle.typst_combinators.specs.Point.{Point, point_of}
-use Rattle.typst_combinators.specs.Shape.{hinted}
-use Rattle.typst_combinators.specs.Meaning.{Outcome, Meaning, less, joined, followed}
-use Rattle.typst_combinators.specs.Sound.{Framed, Backs}
-use Rattle.typst_combinators.proofs.Looks.{same_in-shift, same_in-first, same_in-second}
-use Rattle.typst_combinators.proofs.Places.{moved-sum, length-less}
-use Rattle.typst_combinators.proofs.Hints.{length-hinted}
+use Rattle.typst_grammar.specs.Ask.{Ask, SameIn}
+use Rattle.typst_grammar.specs.Point.{Point, point_of}
+use Rattle.typst_grammar.specs.Shape.{hinted}
+use Rattle.typst_grammar.specs.Meaning.{Outcome, Meaning, less, joined, followed}
+use Rattle.typst_grammar.specs.Sound.{Framed, Backs}
+use Rattle.typst_grammar.proofs.Looks.{same_in-shift, same_in-first, same_in-second}
+use Rattle.typst_grammar.proofs.Places.{moved-sum, length-less}
+use Rattle.typst_grammar.proofs.Hints.{length-hinted}
 use Rattle.typst_reuse.specs.Hole.{fill}
 use Rattle.typst_reuse.specs.Spot.{Spot, around, Fits, unit_at, block_head, then_spot, after_spot}
 use Rattle.typst_reuse.proofs.Outcomes.{head-fill, then-around, after-around}

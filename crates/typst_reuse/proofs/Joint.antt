@@ -3,18 +3,18 @@ use Rattle.std.proofs.Common.{◌≡◌, ℕ, suc, ◌+◌, ◌<◌, Bool, true,
 use Rattle.typst_lines.specs.Place.{Place, moved}
 use Rattle.typst_node.specs.Tree.{Tree}
 use Rattle.typst_classes.specs.Classes.{CharClasses}
-use Rattle.typst_combinators.specs.declared.calls.Call.TheVariants.{MarkupExpr}
-use Rattle.typst_combinators.specs.declared.reading.Reading.{Reading}
-use Rattle.typst_combinators.specs.Depth.{is_end}
-use Rattle.typst_combinators.specs.Hand.{len_at, hand_at}
-use Rattle.typst_combinators.specs.Knot.{meaning_of}
-use Rattle.typst_combinators.specs.Point.{Trivia, Point, is_nil}
-use Rattle.typst_combinators.specs.Steps.{flush_trivia}
-use Rattle.typst_combinators.specs.Syntax.{◌>>=◌}
-use Rattle.typst_combinators.specs.Syntax.Parser.{repeat}
-use Rattle.typst_combinators.specs.Meaning.{Outcome, joined, run}
-use Rattle.typst_combinators.proofs.Knot.{sane-at, sane-meaning, sane-block}
-use Rattle.typst_markup.specs.Markup.{markup_turn, markup_head}
+use Rattle.typst_grammar.specs.calls.Call.TheVariants.{MarkupExpr}
+use Rattle.typst_grammar.specs.reading.Reading.{Reading}
+use Rattle.typst_grammar.specs.Depth.{is_end}
+use Rattle.typst_grammar.specs.Hand.{len_at, hand_at}
+use Rattle.typst_grammar.specs.Knot.{meaning_of}
+use Rattle.typst_grammar.specs.Point.{Trivia, Point, is_nil}
+use Rattle.typst_grammar.specs.Steps.{flush_trivia}
+use Rattle.typst_grammar.specs.Syntax.{◌>>=◌}
+use Rattle.typst_grammar.specs.Syntax.Parser.{repeat}
+use Rattle.typst_grammar.specs.Meaning.{Outcome, joined, run}
+use Rattle.typst_grammar.proofs.Knot.{sane-at, sane-meaning, sane-block}
+use Rattle.typst_grammar.specs.Markup.{markup_turn, markup_head}
 use Rattle.typst_grammar.specs.Grammar.{rules, level_at, max_depth}
 use Rattle.typst_reuse.specs.Edit.{text_with}
 use Rattle.typst_reuse.specs.Joint.{minds, passed, Exchanged, place_from, onwards_from, JointLaw}
@@ -55,14 +55,14 @@ module _ (k : CharClasses) where
 
   -- what a piece reads one level deeper
   pub takes-call : (levels : ℕ) (h : Reading) (z : Place) (t : Trivia) (us : List Tree) → is_nil t.nodes ≡ is_nil us → (at_start : Bool) (nesting : ℕ) → 0 < len_at k h.mode (moved t.gap z)
-      → Takes h z t us (minds (markup_head at_start nesting (hand_at k h (Some t) z).kind)) (meaning_of rules k (suc levels) (MarkupExpr at_start nesting))
+      → Takes h z t us (minds (markup_head at_start nesting (hand_at k h (Some t) z).kind)) (meaning_of (rules k) k (suc levels) (MarkupExpr at_start nesting))
   unfolding meaning_of
-  takes-call levels h z t us nil at_start nesting some = takes-expr (level_at k levels) (sane-meaning rules k levels) (sane-block rules k levels) h z t us nil some at_start nesting
+  takes-call levels h z t us nil at_start nesting some = takes-expr (level_at k levels) (sane-meaning (rules k) k levels) (sane-block (rules k) k levels) h z t us nil some at_start nesting
 
   onward-fronted : (h : Reading) (z : Place) (t : Trivia) (us : List Tree) → is_nil t.nodes ≡ is_nil us → (x : Bool × ℕ) (r : Reading) (e d : ℕ) (a b : Bool) → (minds (markup_head x.0 x.1 (hand_at k h (Some t) z).kind) ≡ true → e ≡ d)
       → Fronted t us (onward x z (before_trivia r h e a t)) (onward x (moved t.gap z) (before_trivia r h d b (trivia_with us t)))
   onward-fronted h z t us nil x r e d a b same =
-      fronted-behind (level_at k max_depth) (sane-meaning rules k max_depth) (sane-block rules k max_depth) refl is_end refl h z t us nil x r e d a b
+      fronted-behind (level_at k max_depth) (sane-meaning (rules k) k max_depth) (sane-block (rules k) k max_depth) refl is_end refl h z t us nil x r e d a b
       (minds (markup_head x.0 x.1 (hand_at k h (Some t) z).kind)) (λ some. takes-call 255 h z t us nil x.0 x.1 some) same
 
   -- behind pieces
@@ -108,7 +108,7 @@ joint-law k front old new rest i n m past t u h =
     ∙ ap (λ r. onward k e.value (moved u.gap v) (before_trivia r js.held es.empties es.is_after_error (trivia_with t.nodes u))) g.reading
     ∙ ap (λ r. onward k e.value (moved u.gap v) (before_trivia es.reading r es.empties es.is_after_error (trivia_with t.nodes u))) g.held
     ∙ ap (λ a. onward k e.value (moved u.gap v) (before_trivia es.reading es.held es.empties es.is_after_error (record { nodes = t.nodes; gap = 0; newlines = a }))) g.newlines
-    ∙ (sane-at rules k max_depth (repeat (markup_turn true is_end) e.value >>= λ _. flush_trivia)).framed (moved t.gap y) (moved u.gap v) (passed t es) shown in
+    ∙ (sane-at (rules k) k max_depth (repeat (markup_turn true is_end) e.value >>= λ _. flush_trivia)).framed (moved t.gap y) (moved u.gap v) (passed t es) shown in
     let behind = exchanged t u t.nodes (onward k e.value y es) (onward k j.value v js) c d one two same in
     record {
       first = f.pieces_same;

@@ -5,26 +5,26 @@ use Rattle.typst_kinds.specs.Kinds.{is_error}
 use Rattle.typst_node.specs.Tree.{Tree}
 use Rattle.typst_lines.specs.Place.{Place, moved}
 use Rattle.typst_classes.specs.Classes.{CharClasses}
-use Rattle.typst_combinators.specs.declared.calls.Block.{Block}
-use Rattle.typst_combinators.specs.declared.calls.Block.TheVariants as block_kind
-use Rattle.typst_combinators.specs.declared.calls.Call.{Call}
-use Rattle.typst_combinators.specs.declared.calls.Mark.TheVariants as mark
-use Rattle.typst_combinators.specs.declared.reading.Reading.{Reading}
-use Rattle.typst_combinators.specs.Ask.{shift, shift_one, sunk, sink_one}
-use Rattle.typst_combinators.specs.Ask.Ask.{marked}
-use Rattle.typst_combinators.specs.Calls.{Answer}
-use Rattle.typst_combinators.specs.Point.{Point, state_of, forgot}
-use Rattle.typst_combinators.specs.Shape.{seen}
-use Rattle.typst_combinators.specs.Steps.{peek}
-use Rattle.typst_combinators.specs.Syntax.{Parser, ◌>>◌}
-use Rattle.typst_combinators.specs.Syntax.Op.{flushes}
-use Rattle.typst_combinators.specs.Syntax.Parser.{gives, does, next, pick, repeat, wraps, grows, nests, scoped, sees, either, calls, block}
-use Rattle.typst_combinators.specs.Knot.{Rules, blocks_of, meaning_of, level_of}
-use Rattle.typst_combinators.specs.Meaning.{Outcome, Meaning, Level, blockless, plain, less, answered, followed, before, closed, bounded, with_seen, deeper_by_one, chosen, entered, left_to, done, run}
-use Rattle.typst_combinators.proofs.Looks.{same_in-first, same_in-sunk}
-use Rattle.typst_combinators.proofs.Frame.{framed-done}
-use Rattle.typst_combinators.proofs.Backs.{left-empties}
-use Rattle.typst_combinators.proofs.Knot.{Sane, sane-run, sane-plain, sane-meaning, sane-block}
+use Rattle.typst_grammar.specs.calls.Block.{Block}
+use Rattle.typst_grammar.specs.calls.Block.TheVariants as block_kind
+use Rattle.typst_grammar.specs.calls.Call.{Call}
+use Rattle.typst_grammar.specs.calls.Mark.TheVariants as mark
+use Rattle.typst_grammar.specs.reading.Reading.{Reading}
+use Rattle.typst_grammar.specs.Ask.{shift, shift_one, sunk, sink_one}
+use Rattle.typst_grammar.specs.Ask.Ask.{marked}
+use Rattle.typst_grammar.specs.Calls.{Answer}
+use Rattle.typst_grammar.specs.Point.{Point, state_of, forgot}
+use Rattle.typst_grammar.specs.Shape.{seen}
+use Rattle.typst_grammar.specs.Steps.{peek}
+use Rattle.typst_grammar.specs.Syntax.{Parser, ◌>>◌}
+use Rattle.typst_grammar.specs.Syntax.Op.{flushes}
+use Rattle.typst_grammar.specs.Syntax.Parser.{gives, does, next, pick, repeat, wraps, grows, nests, scoped, sees, either, calls, block}
+use Rattle.typst_grammar.specs.Knot.{Rules, blocks_of, meaning_of, level_of}
+use Rattle.typst_grammar.specs.Meaning.{Outcome, Meaning, Level, blockless, plain, less, answered, followed, before, closed, bounded, with_seen, deeper_by_one, chosen, entered, left_to, done, run}
+use Rattle.typst_grammar.proofs.Looks.{same_in-first, same_in-sunk}
+use Rattle.typst_grammar.proofs.Frame.{framed-done}
+use Rattle.typst_grammar.proofs.Backs.{left-empties}
+use Rattle.typst_grammar.proofs.Knot.{Sane, sane-run, sane-plain, sane-meaning, sane-block}
 use Rattle.typst_reuse.specs.Hole.{plug}
 use Rattle.typst_reuse.specs.Spot.{Spot, around, Fits, unit_at, block_head, lowered, after_spot, sunk_spot, closed_spot, ended, last_node, here_spot}
 use Rattle.typst_reuse.specs.Occurrences.{Spots, scoped_spot, seen_spot, bounded_spots, spots, call_spots, block_spots, level_spots}

@@ -6,26 +6,26 @@ use Rattle.typst_kinds.specs.Kinds.{is_error}
 use Rattle.typst_lines.specs.Place.{Place, moved}
 use Rattle.typst_node.specs.Tree.{Tree, text_of}
 use Rattle.typst_readers.specs.Reader.{Look}
-use Rattle.typst_token_nodes.proofs.TokenTexts.{text-token}
-use Rattle.typst_token_nodes.specs.Nodes.{token_node}
-use Rattle.typst_combinators.specs.declared.calls.Call.{Call}
-use Rattle.typst_combinators.specs.declared.reading.Reading.{Reading}
-use Rattle.typst_combinators.specs.Ask.{Ask, shift, shift_one, sunk}
-use Rattle.typst_combinators.specs.Ask.Ask.{looked}
-use Rattle.typst_combinators.specs.Hand.{AtHand, told, len_at, text_ahead, hand_at, hand_asks, asks_column, column_look, column_at}
-use Rattle.typst_combinators.specs.Point.{Trivia, Point, is_nil}
-use Rattle.typst_combinators.specs.Shape.{Making, hinted, Shape, shaped, after_shape, after_node, count_empty, seen}
-use Rattle.typst_combinators.specs.Steps.{peek}
-use Rattle.typst_combinators.specs.Syntax.{Parser}
-use Rattle.typst_combinators.specs.Syntax.Begin.{at_token}
-use Rattle.typst_combinators.specs.Syntax.Op.{column, takes}
-use Rattle.typst_combinators.specs.Syntax.Parser.{does, next, wraps, scoped, calls}
-use Rattle.typst_combinators.specs.Meaning.{Outcome, Meaning, Level, plain, less, standing, joined, followed, inside, wrapped, renewed, left, taken_node, run}
-use Rattle.typst_combinators.specs.Sound.{Tidy, Backs}
-use Rattle.typst_combinators.proofs.Backs.{left-empties}
-use Rattle.typst_combinators.proofs.Hints.{length-hinted, hinted-append}
-use Rattle.typst_combinators.proofs.Leaves.{text-made}
-use Rattle.typst_combinators.proofs.Places.{moved-sum, less-append, less-none, length-less}
+use Rattle.typst_grammar.proofs.TokenTexts.{text-token}
+use Rattle.typst_grammar.specs.Nodes.{token_node}
+use Rattle.typst_grammar.specs.calls.Call.{Call}
+use Rattle.typst_grammar.specs.reading.Reading.{Reading}
+use Rattle.typst_grammar.specs.Ask.{Ask, shift, shift_one, sunk}
+use Rattle.typst_grammar.specs.Ask.Ask.{looked}
+use Rattle.typst_grammar.specs.Hand.{AtHand, told, len_at, text_ahead, hand_at, hand_asks, asks_column, column_look, column_at}
+use Rattle.typst_grammar.specs.Point.{Trivia, Point, is_nil}
+use Rattle.typst_grammar.specs.Shape.{Making, hinted, Shape, shaped, after_shape, after_node, count_empty, seen}
+use Rattle.typst_grammar.specs.Steps.{peek}
+use Rattle.typst_grammar.specs.Syntax.{Parser}
+use Rattle.typst_grammar.specs.Syntax.Begin.{at_token}
+use Rattle.typst_grammar.specs.Syntax.Op.{column, takes}
+use Rattle.typst_grammar.specs.Syntax.Parser.{does, next, wraps, scoped, calls}
+use Rattle.typst_grammar.specs.Meaning.{Outcome, Meaning, Level, plain, less, standing, joined, followed, inside, wrapped, renewed, left, taken_node, run}
+use Rattle.typst_grammar.specs.Sound.{Tidy, Backs}
+use Rattle.typst_grammar.proofs.Backs.{left-empties}
+use Rattle.typst_grammar.proofs.Hints.{length-hinted, hinted-append}
+use Rattle.typst_grammar.proofs.Leaves.{text-made}
+use Rattle.typst_grammar.proofs.Places.{moved-sum, less-append, less-none, length-less}
 use Rattle.typst_reuse.proofs.Outcomes.{shift-zero, shift-twice, sunk-shift, hints-first}
 
 -- nothing of the trivia is seen but whether there are any, and their newlines

@@ -5,8 +5,8 @@
 --   run_law                      Root: of a whole text; RunTrees: its tree and log; BlockRuns: of a content block; Runs: of any loop
 --   joint_law                    Joint: of a whole text; InnerJoint: of a content block; Turns: each head of markup; Led: each word before a token is taken
 --   decision_law                 Bytes: the log; RunBytes: of pieces of a run; Widths: characters and bytes; Within: looks are at places of the text
---   path_law                     Walk: the steps; Placed: what stands before a block; Texts: what nodes hold
---   blocks_of_texts, runs_of_texts      computed (laws)
+--   path_law                     Walk: the steps; Placed: what stands before a block
+--   blocks_of_texts, runs_of_texts, conditions_of_texts      computed (laws)
 pub mod Every
 pub mod Outcomes
 pub mod Wrap
@@ -35,6 +35,5 @@ pub mod Widths
 pub mod Bytes
 pub mod RunBytes
 pub mod RunTrees
-pub mod Texts
 pub mod Placed
 pub mod Walk

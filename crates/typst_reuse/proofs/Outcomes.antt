@@ -5,11 +5,11 @@ use borrow.Author.Tests.{lt-ltb}
 use Rattle.typst_kinds.specs.Kinds.{is_error}
 use Rattle.typst_node_data.specs.Head.{Head}
 use Rattle.typst_node.specs.Tree.{Tree}
-use Rattle.typst_combinators.specs.Ask.{Ask, shift, shift_one, sunk, sink_one}
-use Rattle.typst_combinators.specs.Ask.Ask.{looked, marked}
-use Rattle.typst_combinators.specs.Point.{Point}
-use Rattle.typst_combinators.specs.Shape.{hinted_error, hinted_last, hinted, seen}
-use Rattle.typst_combinators.specs.Meaning.{Outcome, less, hints_before, joined}
+use Rattle.typst_grammar.specs.Ask.{Ask, shift, shift_one, sunk, sink_one}
+use Rattle.typst_grammar.specs.Ask.Ask.{looked, marked}
+use Rattle.typst_grammar.specs.Point.{Point}
+use Rattle.typst_grammar.specs.Shape.{hinted_error, hinted_last, hinted, seen}
+use Rattle.typst_grammar.specs.Meaning.{Outcome, less, hints_before, joined}
 use Rattle.typst_reuse.specs.Hole.{Deep, fill, top, Hole, plug}
 use Rattle.typst_reuse.specs.Hole.Deep.{bare, under}
 use Rattle.typst_reuse.specs.Spot.{Spot, around, then_spot, after_spot, lower, lowered}

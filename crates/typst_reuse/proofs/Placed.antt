@@ -7,30 +7,29 @@ use Rattle.typst_node_data.specs.Head.{Head, inner_head}
 use Rattle.typst_lines.specs.Place.{Place, moved}
 use Rattle.typst_node.specs.Tree.{Tree, error_of}
 use Rattle.typst_classes.specs.Classes.{CharClasses}
-use Rattle.typst_combinators.specs.declared.calls.Block.{Block}
-use Rattle.typst_combinators.specs.declared.calls.Call.{Call}
-use Rattle.typst_combinators.specs.Calls.{Answer}
-use Rattle.typst_combinators.specs.Hand.{utf8_ahead}
-use Rattle.typst_combinators.specs.Point.{Point, forgot}
-use Rattle.typst_combinators.specs.Shape.{Change, Shape, hinted, is_delimited}
-use Rattle.typst_combinators.specs.Shape.Change.{stays, turns_wrong, is_not, renamed, unparened}
-use Rattle.typst_combinators.specs.Shape.Shape.{keeps, holds, lacks, warns, fails}
-use Rattle.typst_combinators.specs.Steps.{peek}
-use Rattle.typst_combinators.specs.Syntax.{Parser, Begin, ◌>>◌}
-use Rattle.typst_combinators.specs.Syntax.Op.{flushes}
-use Rattle.typst_combinators.specs.Syntax.Parser.{gives, does, next, pick, repeat, wraps, grows, nests, scoped, sees, either, calls, block}
-use Rattle.typst_combinators.specs.Knot.{Rules, meaning_of, level_of}
-use Rattle.typst_combinators.specs.Meaning.{Outcome, Meaning, Level, blockless, answered, joined, bound, before, grown, is_more, turns, nestings, entered, less, done, run}
-use Rattle.typst_combinators.specs.Sound.{Tidy, Backs, Stands}
-use Rattle.typst_combinators.proofs.Backs.{tidy-grew}
-use Rattle.typst_combinators.proofs.Knot.{Sane, sane-run, sane-meaning, sane-block, sane-plain}
-use Rattle.typst_combinators.proofs.Leaves.{texts, texts-append, text-shaped, text-add, Holds, Keeps}
+use Rattle.typst_grammar.specs.calls.Block.{Block}
+use Rattle.typst_grammar.specs.calls.Call.{Call}
+use Rattle.typst_grammar.specs.Calls.{Answer}
+use Rattle.typst_grammar.specs.Hand.{utf8_ahead}
+use Rattle.typst_grammar.specs.Point.{Point, forgot}
+use Rattle.typst_grammar.specs.Shape.{Change, Shape, hinted, is_delimited}
+use Rattle.typst_grammar.specs.Shape.Change.{stays, turns_wrong, is_not, renamed, unparened}
+use Rattle.typst_grammar.specs.Shape.Shape.{keeps, holds, lacks, warns, fails}
+use Rattle.typst_grammar.specs.Steps.{peek}
+use Rattle.typst_grammar.specs.Syntax.{Parser, Begin, ◌>>◌}
+use Rattle.typst_grammar.specs.Syntax.Op.{flushes}
+use Rattle.typst_grammar.specs.Syntax.Parser.{gives, does, next, pick, repeat, wraps, grows, nests, scoped, sees, either, calls, block}
+use Rattle.typst_grammar.specs.Knot.{Rules, meaning_of, level_of}
+use Rattle.typst_grammar.specs.Meaning.{Outcome, Meaning, Level, blockless, answered, joined, bound, before, grown, is_more, turns, nestings, entered, less, done, run}
+use Rattle.typst_grammar.specs.Sound.{Tidy, Backs, Stands}
+use Rattle.typst_grammar.proofs.Backs.{tidy-grew}
+use Rattle.typst_grammar.proofs.Knot.{Sane, sane-run, sane-meaning, sane-block, sane-plain}
+use Rattle.typst_grammar.proofs.Leaves.{texts, texts-append, texts-same, text-shaped, text-add, same-hinted, kept-joined, kept-grown, Holds, Keeps}
 use Rattle.typst_reuse.specs.Hole.{Deep, top, Hole, change_hole, in_node, in_nodes, behind_nodes, lack_hole, warned_head, wrap_in, wrap_past, wrap_hole}
 use Rattle.typst_reuse.specs.Hole.Deep.{bare, under}
 use Rattle.typst_reuse.specs.Spot.{Spot, block_head, valued, then_spot, after_spot, rehole, sunk_spot, closed_spot, here_spot}
 use Rattle.typst_reuse.specs.Occurrences.{Spots, joined_spots, goes, last_spot, turns_spots, repeated_spots, reshaped_spot, wrapped_spot, grown_spot, growths_spots, growing_spots, nestings_spots, nesting_spots, scoped_spot, seen_spot, spots, call_spots, block_spots, level_spots}
 use Rattle.typst_reuse.proofs.Every.{Every, every-append, every-map, every-flat, every-if}
-use Rattle.typst_reuse.proofs.Texts.{texts-same, same-hinted, kept-joined, kept-grown}
 
 -- what the nodes before a hole hold
 abbrev pub deep_text : Deep → List ℕ

@@ -6,23 +6,23 @@ use Rattle.typst_kinds.specs.Kinds.{is_error, is_trivia}
 use Rattle.typst_lines.specs.Place.{Place, moved}
 use Rattle.typst_node.specs.Tree.{Tree, text_of}
 use Rattle.typst_classes.specs.Classes.{CharClasses}
-use Rattle.typst_lexer.specs.Tokens.{token}
-use Rattle.typst_combinators.specs.declared.calls.Call.{Call}
-use Rattle.typst_combinators.specs.declared.reading.Reading.{Reading}
-use Rattle.typst_combinators.specs.Ask.{SameIn}
-use Rattle.typst_combinators.specs.Hand.{Hand, token_at, len_at, at_trivia, Ahead, direct, after_trivia, ahead_by, ahead, hand_at, hand_asks}
-use Rattle.typst_combinators.specs.Knot.{Rules, meaning_of, level_of}
-use Rattle.typst_combinators.specs.Point.{Trivia, Point}
-use Rattle.typst_combinators.specs.Shape.{Shape, changed, after_node, after_shape}
-use Rattle.typst_combinators.specs.Shape.Shape.{keeps, holds, lacks, warns, fails}
-use Rattle.typst_combinators.specs.Syntax.{Op, Begin, Parser}
-use Rattle.typst_combinators.specs.Syntax.Op.{hand, so, further, column, erred, takes, takes_so, flushes, complains, advises, marks, is_deepest}
-use Rattle.typst_combinators.specs.Syntax.Parser.{gives, does, next, pick, repeat, wraps, grows, nests, scoped, sees, either, calls, block}
-use Rattle.typst_combinators.specs.Meaning.{Outcome, Meaning, Level, plain, joined, answered, turns, as_last, bound, repeated, before, inside, reshaped, grown, is_more, growths, growing, nestings, nesting, given_up, bounded, same_mode, left, entered, flushed_state, done, run}
-use Rattle.typst_combinators.proofs.Frame.{hand-frame}
-use Rattle.typst_combinators.proofs.Looks.{token-same}
-use Rattle.typst_combinators.proofs.Places.{moved-sum, ahead-left}
-use Rattle.typst_combinators.proofs.Within.{on_both, grew, and-second}
+use Rattle.typst_grammar.specs.Tokens.{token}
+use Rattle.typst_grammar.specs.calls.Call.{Call}
+use Rattle.typst_grammar.specs.reading.Reading.{Reading}
+use Rattle.typst_grammar.specs.Ask.{SameIn}
+use Rattle.typst_grammar.specs.Hand.{Hand, token_at, len_at, at_trivia, Ahead, direct, after_trivia, ahead_by, ahead, hand_at, hand_asks}
+use Rattle.typst_grammar.specs.Knot.{Rules, meaning_of, level_of}
+use Rattle.typst_grammar.specs.Point.{Trivia, Point}
+use Rattle.typst_grammar.specs.Shape.{Shape, changed, after_node, after_shape}
+use Rattle.typst_grammar.specs.Shape.Shape.{keeps, holds, lacks, warns, fails}
+use Rattle.typst_grammar.specs.Syntax.{Op, Begin, Parser}
+use Rattle.typst_grammar.specs.Syntax.Op.{hand, so, further, column, erred, takes, takes_so, flushes, complains, advises, marks, is_deepest}
+use Rattle.typst_grammar.specs.Syntax.Parser.{gives, does, next, pick, repeat, wraps, grows, nests, scoped, sees, either, calls, block}
+use Rattle.typst_grammar.specs.Meaning.{Outcome, Meaning, Level, plain, joined, answered, turns, as_last, bound, repeated, before, inside, reshaped, grown, is_more, growths, growing, nestings, nesting, given_up, bounded, same_mode, left, entered, flushed_state, done, run}
+use Rattle.typst_grammar.proofs.Frame.{hand-frame}
+use Rattle.typst_grammar.proofs.Looks.{token-same}
+use Rattle.typst_grammar.proofs.Places.{moved-sum, ahead-left}
+use Rattle.typst_grammar.proofs.Within.{on_both, grew, and-second}
 
 -- ---- behind trivia there are none
 

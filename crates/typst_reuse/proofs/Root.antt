@@ -2,18 +2,18 @@
 use Rattle.std.proofs.Common.{◌≡◌, ℕ, zero, suc, ◌+◌, ◌<◌, Bool, true, List, ◌++◌, length, refl, ap, sym, ◌∙◌, subst, arith}
 use Rattle.typst_lines.specs.Place.{Place, moved}
 use Rattle.typst_classes.specs.Classes.{CharClasses}
-use Rattle.typst_combinators.specs.Ask.{SameIn}
-use Rattle.typst_combinators.specs.Depth.{is_end}
-use Rattle.typst_combinators.specs.Hand.{AtHand}
-use Rattle.typst_combinators.specs.Point.{Point}
-use Rattle.typst_combinators.specs.Steps.{peek, flush_trivia}
-use Rattle.typst_combinators.specs.Syntax.Parser.{repeat}
-use Rattle.typst_combinators.specs.Meaning.{Outcome, repeated, run}
-use Rattle.typst_combinators.specs.Sound.{Framed, Within}
-use Rattle.typst_combinators.proofs.Knot.{sane-at}
-use Rattle.typst_combinators.proofs.Looks.{same_in-shift, same_in-first, same_in-second}
-use Rattle.typst_combinators.proofs.Places.{moved-sum}
-use Rattle.typst_markup.specs.Markup.{markup_run, markup_turn}
+use Rattle.typst_grammar.specs.Ask.{SameIn}
+use Rattle.typst_grammar.specs.Depth.{is_end}
+use Rattle.typst_grammar.specs.Hand.{AtHand}
+use Rattle.typst_grammar.specs.Point.{Point}
+use Rattle.typst_grammar.specs.Steps.{peek, flush_trivia}
+use Rattle.typst_grammar.specs.Syntax.Parser.{repeat}
+use Rattle.typst_grammar.specs.Meaning.{Outcome, repeated, run}
+use Rattle.typst_grammar.specs.Sound.{Framed, Within}
+use Rattle.typst_grammar.proofs.Knot.{sane-at}
+use Rattle.typst_grammar.proofs.Looks.{same_in-shift, same_in-first, same_in-second}
+use Rattle.typst_grammar.proofs.Places.{moved-sum}
+use Rattle.typst_grammar.specs.Markup.{markup_run, markup_turn}
 use Rattle.typst_grammar.specs.Grammar.{rules, max_depth, start_of, whole, parsed}
 use Rattle.typst_reuse.specs.Edit.{text_with}
 use Rattle.typst_reuse.specs.Runs.{made, AllGo, End, asks_of, chain, piece_at, start, lead, pieces, end_at, pieces_from, end_from, rest_from, tail, whole_of, RunLaw, behind_pieces, StartLaw}
@@ -31,10 +31,10 @@ whole-is k text =
 
 module _ (k : CharClasses) where
   pub within : (x : Bool × ℕ) → Within (piece_at k x)
-  within x = (sane-at rules k max_depth (markup_turn true is_end x)).within
+  within x = (sane-at (rules k) k max_depth (markup_turn true is_end x)).within
 
   framed : (x : Bool × ℕ) → Framed (piece_at k x)
-  framed x = (sane-at rules k max_depth (markup_turn true is_end x)).framed
+  framed x = (sane-at (rules k) k max_depth (markup_turn true is_end x)).framed
 
   -- the pieces of a text, and the rest
   pub split-at : (i n : ℕ) (z : Place) → AllGo (pieces k i z) → AllGo (pieces_from k i n z) → repeated (piece_at k) (true, 0) z (lead k z).state ≡ chain (pieces k i z) (chain (pieces_from k i n z) (rest_from k i n z))
@@ -59,7 +59,7 @@ module _ (k : CharClasses) where
   first-same zero z w h = record { pieces_same = refl; lead_same = λ l. absurd (omega (arith, l)) }
   first-same (suc i) z w h =
       let same = h (omega arith) in
-      let e = (sane-at rules k max_depth peek).framed z w start (same_in-first (lead k z).asks _ z w same) in
+      let e = (sane-at (rules k) k max_depth peek).framed z w start (same_in-first (lead k z).asks _ z w same) in
       let s = (lead k z).state in
       record {
         pieces_same = ap (λ (o : Outcome AtHand). made (piece_at k) (suc i) (true, 0) w o.state) e ∙ made-same (piece_at k) framed (suc i) (true, 0) z w s (same_in-second (lead k z).asks _ z w same);
@@ -68,13 +68,13 @@ module _ (k : CharClasses) where
 
   framed-rest : (x : Bool × ℕ) → Framed (repeated (piece_at k) x)
   unfolding run
-  framed-rest x = (sane-at rules k max_depth (repeat (markup_turn true is_end) x)).framed
+  framed-rest x = (sane-at (rules k) k max_depth (repeat (markup_turn true is_end) x)).framed
 
   rest-again : (f g : End (Bool × ℕ)) (v y : Place) → g.value ≡ f.value → g.state ≡ f.state → SameIn (repeated (piece_at k) f.value v f.state).asks v y → repeated (piece_at k) g.value y g.state ≡ repeated (piece_at k) f.value v f.state
   rest-again f g v y e d same = ap (λ x. repeated (piece_at k) x y g.state) e ∙ ap (λ s. repeated (piece_at k) f.value y s) d ∙ framed-rest f.value v y f.state same
 
   tail-same : (n m : ℕ) (s : Point) (z w : Place) → SameIn (tail k n s z).asks (moved n z) (moved m w) → tail k m s w ≡ tail k n s z
-  tail-same n m s z w same = (sane-at rules k max_depth flush_trivia).framed (moved n z) (moved m w) s same
+  tail-same n m s z w same = (sane-at (rules k) k max_depth flush_trivia).framed (moved n z) (moved m w) s same
 
 pub run-law : RunLaw
 run-law k front old new rest i n m past h =

@@ -1,32 +1,31 @@
 -- The test of an edit inside some pieces of a text's run in bytes, by the notes of a reading.
-use Rattle.std.proofs.Common.{◌≡◌, ℕ, zero, suc, ◌+◌, ◌-◌, ◌<◌, ◌≤◌, max, min, Bool, true, false, ◌&&◌, nat_lt, if◌then◌else◌, List, [], ◌∷◌, ◌++◌, length, take, append_assoc, append-nil, Option, Some, refl, ap, sym, ◌∙◌, subst, arith}
+use Rattle.std.proofs.Common.{◌≡◌, ℕ, zero, suc, ◌+◌, ◌-◌, ◌<◌, ◌≤◌, max, min, Bool, true, false, ◌&&◌, nat_lt, List, [], ◌∷◌, ◌++◌, length, take, append_assoc, append-nil, Some, refl, ap, sym, ◌∙◌, subst, arith}
 use Rattle.std.proofs.lemmas.List.{map-append}
 use Rattle.typst_kinds.specs.declared.kind.SyntaxKind.{SyntaxKind}
 use Rattle.typst_lines.specs.Place.{Place, moved}
 use Rattle.typst_classes.specs.Classes.{CharClasses}
 use Rattle.typst_readers.specs.Sight.{width, position, near, hull_of}
-use Rattle.typst_combinators.specs.declared.calls.Call.TheVariants.{MarkupExpr}
-use Rattle.typst_combinators.specs.declared.calls.Mark.{Mark}
-use Rattle.typst_combinators.specs.declared.calls.Mark.TheVariants as mark
-use Rattle.typst_combinators.specs.declared.calls.Note.{Note}
-use Rattle.typst_combinators.specs.declared.reading.State.{State}
-use Rattle.typst_combinators.specs.Ask.{Ask, shift, shift_one}
-use Rattle.typst_combinators.specs.Ask.Ask.{looked, marked}
-use Rattle.typst_combinators.specs.Depth.{is_end, deeper}
-use Rattle.typst_combinators.specs.Hand.{AtHand, told, known_by}
-use Rattle.typst_combinators.specs.Log.{Log, no_log, with_hull, with_note, logged}
-use Rattle.typst_combinators.specs.Meaning.{Outcome, Meaning, Level, plain, joined, repeated, hand_of, hand_asks_of, asked, start_point, run}
-use Rattle.typst_combinators.specs.Point.{Point, gap_of, state_of}
-use Rattle.typst_combinators.specs.Steps.{peek, note}
-use Rattle.typst_combinators.proofs.Ends.{hand-again}
-use Rattle.typst_combinators.proofs.Places.{moved-sum}
-use Rattle.typst_markup.specs.Markup.{ends, note_piece, markup_turn, markup_reading}
+use Rattle.typst_grammar.specs.calls.Call.TheVariants.{MarkupExpr}
+use Rattle.typst_grammar.specs.calls.Mark.{Mark}
+use Rattle.typst_grammar.specs.calls.Mark.TheVariants as mark
+use Rattle.typst_grammar.specs.calls.Note.{Note}
+use Rattle.typst_grammar.specs.reading.State.{State}
+use Rattle.typst_grammar.specs.Ask.{Ask, shift, shift_one}
+use Rattle.typst_grammar.specs.Ask.Ask.{looked, marked}
+use Rattle.typst_grammar.specs.Depth.{is_end, deeper}
+use Rattle.typst_grammar.specs.Hand.{AtHand, told, known_by}
+use Rattle.typst_grammar.specs.Log.{Log, no_log, with_hull, with_note, logged}
+use Rattle.typst_grammar.specs.Meaning.{Outcome, Meaning, Level, plain, joined, repeated, hand_of, hand_asks_of, asked, start_point, run}
+use Rattle.typst_grammar.specs.Point.{Point, gap_of, state_of}
+use Rattle.typst_grammar.specs.Steps.{note}
+use Rattle.typst_grammar.proofs.Ends.{hand-again}
+use Rattle.typst_grammar.proofs.Places.{moved-sum}
+use Rattle.typst_grammar.specs.Markup.{ends, note_piece, markup_turn, markup_reading}
 use Rattle.typst_grammar.specs.Grammar.{rules, level_at, max_depth, start_of, whole, parsed, log}
 use Rattle.typst_reuse.specs.Bytes.{lowest}
-use Rattle.typst_reuse.specs.Edit.{text_with, AllEndBy, AllBeginIn}
-use Rattle.typst_reuse.specs.Occurrences.{goes}
-use Rattle.typst_reuse.specs.RunBytes.{PieceNote, both_end, DecidedRun, RunDecisionLaw}
-use Rattle.typst_reuse.specs.Runs.{made, AllGo, End, end_of, asks_of, chain, piece_at, start, lead, pieces, end_at, pieces_from, end_from, rest_from, tail, whole_of, behind_pieces}
+use Rattle.typst_reuse.specs.Edit.{text_with, AllEndBy}
+use Rattle.typst_reuse.specs.RunBytes.{PieceNote, both_end, RunDecisionLaw}
+use Rattle.typst_reuse.specs.Runs.{made, AllGo, End, end_of, asks_of, chain, piece_at, start, lead, pieces, end_at, end_from, rest_from, tail, whole_of, behind_pieces}
 use Rattle.typst_reuse.proofs.Bytes.{logged-append, noted-by, noted-more, reach-by, end-by, AllFrom, begin-by}
 use Rattle.typst_reuse.proofs.Outcomes.{shift-zero, shift-twice}
 use Rattle.typst_reuse.proofs.Root.{whole-is, within}
@@ -375,7 +374,7 @@ module _ (k : CharClasses) (text : List ℕ) where
       let b = one-note max_depth z0 c.early (c.late ++ behind) e.taken c.gap what (state_of e.state) in
       let log_is : logged max_depth z0 no_log (parsed k max_depth text).asks ≡ log_all max_depth z0 c.early (c.late ++ behind) e.taken c.gap what (state_of e.state) = ap (logged max_depth z0 no_log) c.is in
       let long : max 0 (length text) ≡ length text = omega arith in
-      let inside = subst (λ n. AllAt n (parsed k max_depth text).asks) long (in-level rules k max_depth whole z0 (start_point markup_reading)) in
+      let inside = subst (λ n. AllAt n (parsed k max_depth text).asks) long (in-level (rules k) k max_depth whole z0 (start_point markup_reading)) in
       let all = subst (λ ls. AllAt (length text) ls) c.is inside in
       record {
         told = record {

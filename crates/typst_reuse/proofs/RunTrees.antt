@@ -5,17 +5,16 @@ use Rattle.typst_kinds.specs.declared.kind.SyntaxKind.TheVariants as kind
 use Rattle.typst_node.specs.Tree.{Tree, forest, inner_of}
 use Rattle.typst_lines.specs.Place.{Place}
 use Rattle.typst_classes.specs.Classes.{CharClasses}
-use Rattle.typst_combinators.specs.Ask.{Ask, shift, shift_one}
-use Rattle.typst_combinators.specs.Log.{Log, no_log, logged}
-use Rattle.typst_combinators.specs.Meaning.{Outcome, plain, less, standing, joined, run}
-use Rattle.typst_combinators.specs.Point.{Point}
-use Rattle.typst_combinators.specs.Shape.{hinted}
-use Rattle.typst_combinators.proofs.Hints.{standing-joined}
-use Rattle.typst_combinators.proofs.Places.{less-none}
-use Rattle.typst_grammar.specs.Grammar.{max_depth, start_of, parsed, tree, log}
+use Rattle.typst_grammar.specs.Ask.{Ask, shift, shift_one}
+use Rattle.typst_grammar.specs.Log.{no_log, logged}
+use Rattle.typst_grammar.specs.Meaning.{Outcome, plain, less, standing, joined, run}
+use Rattle.typst_grammar.specs.Point.{Point}
+use Rattle.typst_grammar.specs.Shape.{hinted}
+use Rattle.typst_grammar.proofs.Hints.{standing-joined}
+use Rattle.typst_grammar.proofs.Places.{less-none}
+use Rattle.typst_grammar.specs.Grammar.{max_depth, parsed, tree, log}
 use Rattle.typst_reuse.specs.Edit.{text_with}
-use Rattle.typst_reuse.specs.Joint.{onwards_from}
-use Rattle.typst_reuse.specs.RunTrees.{given, tree_by, run_mark, asks_by, RunTreeLaw}
+use Rattle.typst_reuse.specs.RunTrees.{given, run_mark, RunTreeLaw}
 use Rattle.typst_reuse.specs.Runs.{start, End, end_of, asks_of, chain, lead, pieces, end_at, pieces_from, end_from, rest_from, tail, whole_of}
 use Rattle.typst_reuse.proofs.Led.{none-less}
 use Rattle.typst_reuse.proofs.Outcomes.{shift-zero, shift-twice}

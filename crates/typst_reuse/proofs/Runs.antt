@@ -2,13 +2,13 @@
 use Rattle.std.proofs.Common.{◌≡◌, ℕ, zero, suc, ◌+◌, ◌<◌, Bool, nat_lt, List, [], ◌∷◌, refl, ap, sym, ◌∙◌, arith}
 use borrow.Author.Tests.{ltb-true}
 use Rattle.typst_lines.specs.Place.{Place, moved}
-use Rattle.typst_combinators.specs.Ask.{SameIn}
-use Rattle.typst_combinators.specs.Point.{Point}
-use Rattle.typst_combinators.specs.Meaning.{Outcome, Meaning, joined, turns, bound, repeated}
-use Rattle.typst_combinators.specs.Sound.{Framed, Within}
-use Rattle.typst_combinators.proofs.Looks.{same_in-shift, same_in-first, same_in-second}
-use Rattle.typst_combinators.proofs.Places.{moved-sum}
-use Rattle.typst_combinators.proofs.Within.{turns-enough, and-second}
+use Rattle.typst_grammar.specs.Ask.{SameIn}
+use Rattle.typst_grammar.specs.Point.{Point}
+use Rattle.typst_grammar.specs.Meaning.{Outcome, Meaning, joined, turns, bound, repeated}
+use Rattle.typst_grammar.specs.Sound.{Framed, Within}
+use Rattle.typst_grammar.proofs.Looks.{same_in-shift, same_in-first, same_in-second}
+use Rattle.typst_grammar.proofs.Places.{moved-sum}
+use Rattle.typst_grammar.proofs.Within.{turns-enough, and-second}
 use Rattle.typst_reuse.specs.Occurrences.{goes}
 use Rattle.typst_reuse.specs.Runs.{made, AllGo, end_of, asks_of, chain}
 use Rattle.typst_reuse.proofs.Spots.{if-true}

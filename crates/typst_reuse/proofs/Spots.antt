@@ -5,16 +5,16 @@ use Rattle.std.specs.List.{flat_map}
 use borrow.Author.Tests.{ltb-true}
 use Rattle.typst_node.specs.Tree.{Tree}
 use Rattle.typst_lines.specs.Place.{Place, moved}
-use Rattle.typst_combinators.specs.Ask.{SameIn}
-use Rattle.typst_combinators.specs.Point.{Point}
-use Rattle.typst_combinators.specs.Shape.{Shape, after_shape, Seen, seen}
-use Rattle.typst_combinators.specs.Syntax.{Begin}
-use Rattle.typst_combinators.specs.Meaning.{Outcome, Meaning, answered, followed, turns, as_last, bound, repeated, before, reshaped, wrapped, nestings, nesting}
-use Rattle.typst_combinators.specs.Sound.{Framed, Within, Backs}
-use Rattle.typst_combinators.proofs.Looks.{same_in-first}
-use Rattle.typst_combinators.proofs.Within.{if-same, and-second, nest, turns-enough, nestings-enough}
-use Rattle.typst_combinators.proofs.Frame.{framed-turns, framed-nestings}
-use Rattle.typst_combinators.proofs.Backs.{backs-turns, tidy-nestings}
+use Rattle.typst_grammar.specs.Ask.{SameIn}
+use Rattle.typst_grammar.specs.Point.{Point}
+use Rattle.typst_grammar.specs.Shape.{Shape, after_shape, Seen, seen}
+use Rattle.typst_grammar.specs.Syntax.{Begin}
+use Rattle.typst_grammar.specs.Meaning.{Outcome, Meaning, answered, followed, turns, as_last, bound, repeated, before, reshaped, wrapped, nestings, nesting}
+use Rattle.typst_grammar.specs.Sound.{Framed, Within, Backs}
+use Rattle.typst_grammar.proofs.Looks.{same_in-first}
+use Rattle.typst_grammar.proofs.Within.{if-same, and-second, nest, turns-enough, nestings-enough}
+use Rattle.typst_grammar.proofs.Frame.{framed-turns, framed-nestings}
+use Rattle.typst_grammar.proofs.Backs.{backs-turns, tidy-nestings}
 use Rattle.typst_reuse.specs.Hole.{Hole, plug, wrap_hole}
 use Rattle.typst_reuse.specs.Spot.{Spot, around, unit_at, block_head, valued, then_spot, after_spot, rehole}
 use Rattle.typst_reuse.specs.Occurrences.{Spots, joined_spots, goes, last_spot, turns_spots, repeated_spots, reshaped_spot, wrapped_spot, nestings_spots, nesting_spots}

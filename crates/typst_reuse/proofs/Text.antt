@@ -2,8 +2,8 @@
 use Rattle.std.proofs.Common.{◌<◌, ◌++◌, ap, arith}
 use Rattle.typst_kinds.specs.declared.kind.SyntaxKind.TheVariants as kind
 use Rattle.typst_node.specs.Tree.{forest, inner_of}
-use Rattle.typst_combinators.specs.Meaning.{start_point}
-use Rattle.typst_markup.specs.Markup.{markup_reading}
+use Rattle.typst_grammar.specs.Meaning.{start_point}
+use Rattle.typst_grammar.specs.Markup.{markup_reading}
 use Rattle.typst_grammar.specs.Grammar.{rules, max_depth, start_of, whole, parsed, tree}
 use Rattle.typst_reuse.specs.Edit.{text_with}
 use Rattle.typst_reuse.specs.Laws.{blocks_of_text, BlockLaw, NamesLaw, block_at}
@@ -25,10 +25,10 @@ block-law k front old new rest c past i h =
     let z = text_with front old rest in
     let w = text_with front new rest in
     let s = start_point markup_reading in
-    let laws = inside-level rules k (ends k) max_depth whole z w s in
+    let laws = inside-level (rules k) k (ends k) max_depth whole z w s in
     let a = among (Lawful z w o n) c _ i laws in
-    let named = among (Named (block_at k) max_depth) c _ i (named-level rules k max_depth whole z s) in
-    let clear = among (Clear k z) c _ i (clear-level rules k max_depth whole z s tt) in
+    let named = among (Named (block_at k) max_depth) c _ i (named-level (rules k) k max_depth whole z s) in
+    let clear = among (Clear k z) c _ i (clear-level (rules k) k max_depth whole z s tt) in
     let some : 0 < (unit_at c z).taken = omega (arith, h.starts, h.ends) in
     let more : 0 < (unit_at c w).taken = omega (arith, h.starts, h.shifted) in
     let f = fitting k max_depth c z w named clear a.fits (before-same c.before front old new rest h.before) some more in
@@ -37,4 +37,4 @@ block-law k front old new rest c past i h =
 
 pub names-law : NamesLaw
 unfolding blocks_of_text
-names-law k text c i = among (Named (block_at k) max_depth) c _ i (named-level rules k max_depth whole (start_of text) (start_point markup_reading))
+names-law k text c i = among (Named (block_at k) max_depth) c _ i (named-level (rules k) k max_depth whole (start_of text) (start_point markup_reading))

@@ -5,30 +5,31 @@ use borrow.Author.Tests.{lt-ltb}
 use Rattle.typst_kinds.specs.declared.kind.SyntaxKind.{SyntaxKind}
 use Rattle.typst_kinds.specs.declared.kind.SyntaxKind.TheVariants as kind
 use Rattle.typst_lines.specs.Place.{Place, moved}
-use Rattle.typst_combinators.specs.declared.calls.Block.{Block}
-use Rattle.typst_combinators.specs.declared.calls.Call.{Call}
-use Rattle.typst_combinators.specs.declared.calls.Call.TheVariants.{MarkupExpr}
-use Rattle.typst_combinators.specs.declared.reading.Reading.{Reading}
-use Rattle.typst_combinators.specs.Ask.{Ask, shift, shift_one}
-use Rattle.typst_combinators.specs.Depth.{anywhere, too_deep, deeper, is_end}
+use Rattle.typst_grammar.specs.calls.Block.{Block}
+use Rattle.typst_grammar.specs.calls.Call.{Call}
+use Rattle.typst_grammar.specs.calls.Call.TheVariants.{MarkupExpr}
+use Rattle.typst_grammar.specs.reading.Reading.{Reading}
+use Rattle.typst_grammar.specs.Ask.{Ask, shift, shift_one}
+use Rattle.typst_grammar.specs.Depth.{anywhere, too_deep, deeper, is_end}
 use Rattle.typst_node.specs.Tree.{Tree}
-use Rattle.typst_combinators.specs.Hand.{AtHand, told, len_at, hand_at, hand_asks}
-use Rattle.typst_combinators.specs.Point.{Trivia, Point, is_nil}
-use Rattle.typst_combinators.specs.Shape.{Making, hinted, Shape, becomes, after_node}
-use Rattle.typst_combinators.specs.Shape.Making.{itself, of_kind, surprise}
-use Rattle.typst_combinators.specs.Steps.{eat_making, eat, convert_and_eat, unexpected, flush_trivia, node, within}
-use Rattle.typst_combinators.specs.Syntax.{Parser, ◌>>=◌, ◌>>◌}
-use Rattle.typst_combinators.specs.Syntax.Begin.{at_token}
-use Rattle.typst_combinators.specs.Syntax.Parser.{gives, next, pick, repeat, wraps, scoped, calls}
-use Rattle.typst_combinators.specs.Meaning.{Outcome, Meaning, Level, plain, less, as_last, joined, followed, repeated, hand_of, hand_asks_of, asked, flushed_state, run}
-use Rattle.typst_combinators.specs.Sound.{Within, Backs}
-use Rattle.typst_combinators.proofs.Ends.{hand-takes}
-use Rattle.typst_combinators.proofs.Knot.{Sane, sane-run}
-use Rattle.typst_combinators.proofs.Places.{less-none}
-use Rattle.typst_markup.specs.declared.head.MarkupHead.{MarkupHead}
-use Rattle.typst_markup.specs.declared.head.MarkupHead.TheVariants as head
-use Rattle.typst_markup.specs.Markup.{ends, markup_turn, markup_head, markup_by, markup_expr, delimited, emphasized, heading, item, term_item, reference, strong, emph}
-use Rattle.typst_markup.specs.Embedded.{embedded}
+use Rattle.typst_grammar.specs.Hand.{AtHand, told, len_at, hand_at, hand_asks}
+use Rattle.typst_grammar.specs.Point.{Trivia, Point, is_nil}
+use Rattle.typst_grammar.specs.Shape.{Making, hinted, Shape, becomes, after_node}
+use Rattle.typst_grammar.specs.Shape.Making.{itself, of_kind, surprise}
+use Rattle.typst_grammar.specs.Steps.{eat_making, eat, convert_and_eat, unexpected, flush_trivia, node, within}
+use Rattle.typst_grammar.specs.Syntax.{Parser, ◌>>=◌, ◌>>◌}
+use Rattle.typst_grammar.specs.Syntax.Begin.{at_token}
+use Rattle.typst_grammar.specs.Syntax.Parser.{gives, next, pick, repeat, wraps, scoped, calls}
+use Rattle.typst_grammar.specs.Meaning.{Outcome, Meaning, Level, plain, less, as_last, joined, followed, repeated, hand_of, hand_asks_of, asked, flushed_state, run}
+use Rattle.typst_grammar.specs.Sound.{Within, Backs}
+use Rattle.typst_grammar.proofs.Ends.{hand-takes}
+use Rattle.typst_grammar.proofs.Knot.{Sane, sane-run}
+use Rattle.typst_grammar.proofs.Places.{less-none}
+use Rattle.typst_grammar.specs.head.MarkupHead.{MarkupHead}
+use Rattle.typst_grammar.specs.head.MarkupHead.TheVariants as head
+use Rattle.typst_grammar.specs.Markup.{ends, markup_turn, markup_head, markup_by, markup_expr, delimited, emphasized, heading, item, term_item, reference, strong, emph}
+use Rattle.typst_grammar.specs.Embedded.{embedded}
+use Rattle.typst_grammar.specs.Equations.{between_dollars, equation, in_dollars}
 use Rattle.typst_reuse.specs.Joint.{minds}
 use Rattle.typst_reuse.specs.Occurrences.{goes}
 use Rattle.typst_reuse.proofs.Led.{trivia_with, before_trivia, none-less, none-of, Led, led-then, led-asked, Counts_less, Takes, asks-behind, takes-token, takes-next, takes-peek, takes-column, takes-scoped, takes-wraps, takes-calls}
@@ -44,6 +45,10 @@ emphasized-counts : (k : SyntaxKind) (warning hint : List ℕ) (x : Bool × Bool
 emphasized-counts k warning hint (true, true) ts s = omega arith
 emphasized-counts k warning hint (true, false) ts s = omega arith
 emphasized-counts k warning hint (false, b) ts s = omega arith
+
+dollars-counts : (closed : Bool) → Counts_less (in_dollars closed)
+dollars-counts true ts s = omega arith
+dollars-counts false ts s = omega arith
 
 module _ (l : Level) (sd : (c : Call) → Sane (l.deeper c)) (sb : (b : Block) → Sane (l.blocks b)) (h : Reading) (z : Place) (t : Trivia) (us : List Tree) (nil : is_nil t.nodes ≡ is_nil us) where
   backs : {A : Type 0} (p : Parser A) → Backs (run l p)
@@ -108,6 +113,10 @@ module _ (l : Level) (sd : (c : Call) → Sane (l.deeper c)) (sb : (b : Block) �
     unfolding embedded
     takes-embedded = takes-within _ _ (goes-on false eat _ takes-eat)
 
+    takes-equation : Takes h z t us false (run l equation)
+    unfolding equation between_dollars
+    takes-equation = goes-on false (node in_dollars _) _ (takes-node in_dollars _ dollars-counts (takes-within _ _ (goes-on false eat _ takes-eat)))
+
     takes-by : (nesting : ℕ) (x : MarkupHead) → Takes h z t us (minds x) (run l (markup_by nesting x))
     takes-by nesting head.Itself = goes-on false eat _ takes-eat
     takes-by nesting head.Opening = goes-on false _ _ (takes-convert kind.Text)
@@ -121,6 +130,7 @@ module _ (l : Level) (sd : (c : Call) → Sane (l.deeper c)) (sb : (b : Block) �
     takes-by nesting head.TermItem = goes-on false _ _ takes-term
     takes-by nesting head.Reference = goes-on false _ _ takes-reference
     takes-by nesting head.Embedded = goes-on false embedded _ takes-embedded
+    takes-by nesting head.Equation = goes-on false equation _ takes-equation
     takes-by nesting head.Plain = goes-on false _ _ (takes-convert kind.Text)
     takes-by nesting head.Unexpected = goes-on true _ _ (takes-unexpected [])
 

@@ -6,13 +6,13 @@ use Rattle.typst_lines.specs.Place.{Place, char_width, moved}
 use Rattle.typst_lines.proofs.LineTable.{width-positive}
 use Rattle.typst_node.specs.Tree.{Tree, trees, text_of}
 use Rattle.typst_readers.specs.Sight.{width}
-use Rattle.typst_combinators.specs.Hand.{utf8_ahead}
-use Rattle.typst_combinators.specs.Meaning.{Outcome, start_point}
-use Rattle.typst_combinators.specs.Point.{point_of}
-use Rattle.typst_combinators.proofs.Knot.{sane-block}
-use Rattle.typst_combinators.proofs.Leaves.{texts, texts-append, texts-one, texts-first, text-add}
-use Rattle.typst_combinators.proofs.Places.{moved-ahead}
-use Rattle.typst_markup.specs.Markup.{markup_reading}
+use Rattle.typst_grammar.specs.Hand.{utf8_ahead}
+use Rattle.typst_grammar.specs.Meaning.{Outcome, start_point}
+use Rattle.typst_grammar.specs.Point.{point_of}
+use Rattle.typst_grammar.proofs.Knot.{sane-block}
+use Rattle.typst_grammar.proofs.Leaves.{texts, texts-append, texts-one, texts-first, text-add}
+use Rattle.typst_grammar.proofs.Places.{moved-ahead}
+use Rattle.typst_grammar.specs.Markup.{markup_reading}
 use Rattle.typst_grammar.specs.Grammar.{rules, max_depth, whole, parsed}
 use Rattle.typst_reuse.specs.Edit.{text_with}
 use Rattle.typst_reuse.specs.Hole.{Deep, fill, Hole, plug, path_in, path_of}
@@ -194,14 +194,14 @@ walk-law k front old rest c past among_them starts ends_at goes_on =
     let u = unit_at c z in
     let y = moved c.at z in
     let p = point_of c.start in
-    let l = among (Lawful z z o o) c _ among_them (inside-level rules k (ends k) max_depth whole z z s) in
-    let n = among (Named (block_at k) max_depth) c _ among_them (named-level rules k max_depth whole z s) in
-    let clear = among (Clear k z) c _ among_them (clear-level rules k max_depth whole z s tt) in
-    let placed = among (Placed z s) c _ among_them (placed-level rules k max_depth whole z s tt) in
+    let l = among (Lawful z z o o) c _ among_them (inside-level (rules k) k (ends k) max_depth whole z z s) in
+    let n = among (Named (block_at k) max_depth) c _ among_them (named-level (rules k) k max_depth whole z s) in
+    let clear = among (Clear k z) c _ among_them (clear-level (rules k) k max_depth whole z s tt) in
+    let placed = among (Placed z s) c _ among_them (placed-level (rules k) k max_depth whole z s tt) in
     let some : 0 < u.taken = omega (arith, starts, ends_at) in
     let none : c.front ≡ [] = no-front k max_depth c z n clear l.fits some in
     let levels = max_depth - c.fewer in
-    let sane = sane-block rules k levels c.name in
+    let sane = sane-block (rules k) k levels c.name in
     let read : u ≡ ended (block_at k levels c.name y p) = ap (λ r. r y p) n.reads in
     -- its node holds its characters
     let held : text_of c.node ≡ utf8_ahead u.taken y =

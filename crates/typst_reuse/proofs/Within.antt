@@ -4,25 +4,25 @@ use Rattle.typst_kinds.specs.declared.mode.SyntaxMode.{SyntaxMode}
 use Rattle.typst_lines.specs.Place.{Place, moved}
 use Rattle.typst_classes.specs.Classes.{CharClasses}
 use Rattle.typst_readers.specs.Reader.{look}
-use Rattle.typst_combinators.specs.declared.calls.Block.{Block}
-use Rattle.typst_combinators.specs.declared.calls.Call.{Call}
-use Rattle.typst_combinators.specs.declared.reading.Reading.{Reading}
-use Rattle.typst_combinators.specs.Ask.{Ask, shift, sunk, only_looks}
-use Rattle.typst_combinators.specs.Ask.Ask.{looked, marked}
-use Rattle.typst_combinators.specs.Hand.{len_at, at_trivia, asks_by, ahead_asks, ahead_of, ahead_asks_of, asks_column, column_look, hand_at, hand_asks}
-use Rattle.typst_combinators.specs.Knot.{Rules, meaning_of, level_of, blocks_of}
-use Rattle.typst_combinators.specs.Point.{Trivia, Point, gap_of, forgot}
-use Rattle.typst_combinators.specs.Shape.{Shape}
-use Rattle.typst_combinators.specs.Shape.Making.{itself}
-use Rattle.typst_combinators.specs.Steps.{peek}
-use Rattle.typst_combinators.specs.Syntax.{Op, Begin, Parser, ◌>>◌}
-use Rattle.typst_combinators.specs.Syntax.Op.{hand, so, further, column, erred, takes, takes_so, flushes, complains, advises, marks, is_deepest}
-use Rattle.typst_combinators.specs.Syntax.Parser.{gives, does, next, pick, repeat, wraps, grows, nests, scoped, sees, either, calls, block}
-use Rattle.typst_combinators.specs.Meaning.{Outcome, Meaning, Level, plain, joined, answered, turns, as_last, bound, repeated, before, grown, is_more, growths, growing, nestings, nesting, given_up, bounded, blockless, entered, hand_of, hand_asks_of, done, run}
-use Rattle.typst_combinators.specs.Sound.{Within}
-use Rattle.typst_combinators.proofs.Knot.{Sane, sane-run, sane-meaning, sane-block, sane-plain}
-use Rattle.typst_combinators.proofs.Places.{ahead-left}
-use Rattle.typst_combinators.proofs.Within.{on_both, grew, enough-grew}
+use Rattle.typst_grammar.specs.calls.Block.{Block}
+use Rattle.typst_grammar.specs.calls.Call.{Call}
+use Rattle.typst_grammar.specs.reading.Reading.{Reading}
+use Rattle.typst_grammar.specs.Ask.{Ask, shift, sunk, only_looks}
+use Rattle.typst_grammar.specs.Ask.Ask.{looked, marked}
+use Rattle.typst_grammar.specs.Hand.{len_at, at_trivia, asks_by, ahead_asks, ahead_of, ahead_asks_of, asks_column, column_look, hand_at, hand_asks}
+use Rattle.typst_grammar.specs.Knot.{Rules, meaning_of, level_of, blocks_of}
+use Rattle.typst_grammar.specs.Point.{Trivia, Point, gap_of, forgot}
+use Rattle.typst_grammar.specs.Shape.{Shape}
+use Rattle.typst_grammar.specs.Shape.Making.{itself}
+use Rattle.typst_grammar.specs.Steps.{peek}
+use Rattle.typst_grammar.specs.Syntax.{Op, Begin, Parser, ◌>>◌}
+use Rattle.typst_grammar.specs.Syntax.Op.{hand, so, further, column, erred, takes, takes_so, flushes, complains, advises, marks, is_deepest}
+use Rattle.typst_grammar.specs.Syntax.Parser.{gives, does, next, pick, repeat, wraps, grows, nests, scoped, sees, either, calls, block}
+use Rattle.typst_grammar.specs.Meaning.{Outcome, Meaning, Level, plain, joined, answered, turns, as_last, bound, repeated, before, grown, is_more, growths, growing, nestings, nesting, given_up, bounded, blockless, entered, hand_of, hand_asks_of, done, run}
+use Rattle.typst_grammar.specs.Sound.{Within}
+use Rattle.typst_grammar.proofs.Knot.{Sane, sane-run, sane-meaning, sane-block, sane-plain}
+use Rattle.typst_grammar.proofs.Places.{ahead-left}
+use Rattle.typst_grammar.proofs.Within.{on_both, grew, enough-grew}
 
 -- every look is at most so many characters on
 abbrev pub AllAt : ℕ → List Ask → Type 0

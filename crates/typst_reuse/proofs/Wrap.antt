@@ -6,11 +6,11 @@ use Rattle.std.proofs.lemmas.Bool.Decides.{nat_tests}
 use Rattle.typst_kinds.specs.Kinds.{is_error}
 use Rattle.typst_node_data.specs.Head.{Head, inner_head}
 use Rattle.typst_node.specs.Tree.{Tree, forest, inner_of, error_of, text_of}
-use Rattle.typst_combinators.specs.Point.{Point}
-use Rattle.typst_combinators.specs.Shape.{Change, changed, first_changed, without_parens, is_delimited, Shape, shaped, after_node, after_change, after_shape}
-use Rattle.typst_combinators.specs.Shape.Change.{stays, turns_wrong, is_not, renamed, unparened}
-use Rattle.typst_combinators.specs.Shape.Shape.{keeps, holds, lacks, warns, fails}
-use Rattle.typst_combinators.proofs.Backs.{shape-counts}
+use Rattle.typst_grammar.specs.Point.{Point}
+use Rattle.typst_grammar.specs.Shape.{Change, changed, first_changed, without_parens, is_delimited, Shape, shaped, after_node, after_change, after_shape}
+use Rattle.typst_grammar.specs.Shape.Change.{stays, turns_wrong, is_not, renamed, unparened}
+use Rattle.typst_grammar.specs.Shape.Shape.{keeps, holds, lacks, warns, fails}
+use Rattle.typst_grammar.proofs.Backs.{shape-counts}
 use Rattle.typst_reuse.specs.Hole.{Deep, fill, top, Hole, plug, change_hole, in_node, in_nodes, behind_nodes, lack_hole, warned_head, wrap_in, wrap_past, wrap_hole}
 use Rattle.typst_reuse.proofs.Every.{Every, every-if}
 use Rattle.typst_reuse.proofs.Outcomes.{head-fill}

@@ -4,19 +4,19 @@ use Rattle.typst_kinds.specs.Kinds.{same}
 use Rattle.typst_kinds.specs.declared.kind.SyntaxKind.TheVariants as kind
 use Rattle.typst_lines.specs.Place.{Place, moved}
 use Rattle.typst_classes.specs.Classes.{CharClasses}
-use Rattle.typst_combinators.specs.declared.calls.Block.TheVariants as block
-use Rattle.typst_combinators.specs.declared.calls.Mark.TheVariants as mark
-use Rattle.typst_combinators.specs.Ask.{shift}
-use Rattle.typst_combinators.specs.Ask.Ask.{marked}
-use Rattle.typst_combinators.specs.Hand.{AtHand}
-use Rattle.typst_combinators.specs.Knot.{meaning_of}
-use Rattle.typst_combinators.specs.Point.{Point, point_of, state_of, pending, gap_of, is_nil}
-use Rattle.typst_combinators.specs.Shape.{becomes, after_node}
-use Rattle.typst_combinators.specs.Shape.Making.{itself}
-use Rattle.typst_combinators.specs.Steps.{peek, flush_trivia, close_if}
-use Rattle.typst_combinators.specs.Syntax.Op.{takes}
-use Rattle.typst_combinators.specs.Meaning.{Outcome, Level, plain, joined, wrapped, blockless, entered, left_to, done, run}
-use Rattle.typst_markup.specs.Markup.{ends_block, bracketed, markup_reading}
+use Rattle.typst_grammar.specs.calls.Block.TheVariants as block
+use Rattle.typst_grammar.specs.calls.Mark.TheVariants as mark
+use Rattle.typst_grammar.specs.Ask.{shift}
+use Rattle.typst_grammar.specs.Ask.Ask.{marked}
+use Rattle.typst_grammar.specs.Hand.{AtHand}
+use Rattle.typst_grammar.specs.Knot.{meaning_of}
+use Rattle.typst_grammar.specs.Point.{Point, point_of, state_of, pending, gap_of, is_nil}
+use Rattle.typst_grammar.specs.Shape.{becomes, after_node}
+use Rattle.typst_grammar.specs.Shape.Making.{itself}
+use Rattle.typst_grammar.specs.Steps.{peek, flush_trivia, close_if}
+use Rattle.typst_grammar.specs.Syntax.Op.{takes}
+use Rattle.typst_grammar.specs.Meaning.{Outcome, Level, plain, joined, wrapped, blockless, entered, left_to, done, run}
+use Rattle.typst_grammar.specs.Markup.{ends_block, bracketed, markup_reading}
 use Rattle.typst_grammar.specs.Grammar.{rules, max_depth}
 use Rattle.typst_reuse.specs.Edit.{Among, text_with, AllEndBy, AllBeginIn, Passes}
 use Rattle.typst_reuse.specs.Laws.{blocks_of_text, Kept}
@@ -28,7 +28,7 @@ use Rattle.typst_reuse.specs.Spot.{Spot, ended, last_node, unit_at}
 
 module _ (k : CharClasses) (levels : ℕ) where
   abbrev pub inner : Level
-  inner = blockless k (suc levels) (meaning_of rules k (suc levels))
+  inner = blockless k (suc levels) (meaning_of (rules k) k (suc levels))
 
   -- the looks at its bracket, and the bracket
   abbrev pub look_first : Place → Point → Outcome AtHand

@@ -2,9 +2,9 @@
 use Rattle.std.specs.Prelude.{◌≡◌, ℕ, ◌+◌, ◌-◌, ◌<◌, ◌≤◌, ◌^◌, min, List, [], ◌∷◌, ◌++◌, length, take, Some}
 use Rattle.typst_classes.specs.Classes.{CharClasses}
 use Rattle.typst_readers.specs.Sight.{width}
-use Rattle.typst_combinators.specs.declared.calls.Mark.TheVariants as mark
-use Rattle.typst_combinators.specs.declared.calls.Note.{Note}
-use Rattle.typst_combinators.specs.Log.{Log}
+use Rattle.typst_grammar.specs.calls.Mark.TheVariants as mark
+use Rattle.typst_grammar.specs.calls.Note.{Note}
+use Rattle.typst_grammar.specs.Log.{Log}
 use Rattle.typst_grammar.specs.Grammar.{max_depth, log}
 use Rattle.typst_reuse.specs.Edit.{Among, text_with, AllEndBy, AllBeginIn}
 use Rattle.typst_reuse.specs.Laws.{blocks_of_text}

@@ -2,9 +2,9 @@
 use Rattle.std.specs.Prelude.{◌≡◌, ℕ, zero, suc, ◌+◌, ◌<◌, ◌≤◌, List, [], ◌∷◌, ◌++◌, length}
 use Rattle.typst_node.specs.Tree.{Tree, forest, trees}
 use Rattle.typst_lines.specs.Place.{Place}
-use Rattle.typst_combinators.specs.Ask.{Ask, shift}
-use Rattle.typst_combinators.specs.Ask.Ask.{looked, marked}
-use Rattle.typst_combinators.specs.Meaning.{Outcome}
+use Rattle.typst_grammar.specs.Ask.{Ask, shift}
+use Rattle.typst_grammar.specs.Ask.Ask.{looked, marked}
+use Rattle.typst_grammar.specs.Meaning.{Outcome}
 use Rattle.typst_reuse.specs.Hole.{path_of}
 use Rattle.typst_reuse.specs.Spot.{Spot, unit_at, lowered}
 

@@ -1,8 +1,8 @@
 -- Where the blocks of short texts stand, as it follows from the definitions.
 use Rattle.std.specs.Prelude.{◌≡◌, ℕ, ◌+◌, ◌-◌, max, List, [], ◌∷◌, codes, map}
 use Rattle.typst_classes.specs.Classes.{CharClasses, by_law}
-use Rattle.typst_combinators.specs.Ask.{Ask}
-use Rattle.typst_combinators.specs.Ask.Ask.{looked, marked}
+use Rattle.typst_grammar.specs.Ask.{Ask}
+use Rattle.typst_grammar.specs.Ask.Ask.{looked, marked}
 use Rattle.typst_reuse.specs.Hole.{path_of}
 use Rattle.typst_reuse.specs.Laws.{blocks_of_text}
 

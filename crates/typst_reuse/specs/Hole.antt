@@ -5,9 +5,9 @@ use Rattle.typst_kinds.specs.Kinds.{is_error}
 use Rattle.typst_node_data.specs.Head.{Head, inner_head}
 use Rattle.typst_node.specs.Diagnostic.{hint_with, warning_with}
 use Rattle.typst_node.specs.Tree.{Tree, forest, inner_of, error_of, advised, remarked}
-use Rattle.typst_combinators.specs.Shape.{Change, first_changed, Shape, shaped, is_delimited}
-use Rattle.typst_combinators.specs.Shape.Change.{stays, turns_wrong, is_not, renamed, unparened}
-use Rattle.typst_combinators.specs.Shape.Shape.{keeps, holds, lacks, warns, fails}
+use Rattle.typst_grammar.specs.Shape.{Change, first_changed, Shape, shaped, is_delimited}
+use Rattle.typst_grammar.specs.Shape.Change.{stays, turns_wrong, is_not, renamed, unparened}
+use Rattle.typst_grammar.specs.Shape.Shape.{keeps, holds, lacks, warns, fails}
 
 -- a tree with a hole
 pub data Deep : Type 0 where

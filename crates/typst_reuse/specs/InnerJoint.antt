@@ -2,10 +2,10 @@
 use Rattle.std.specs.Prelude.{◌≡◌, ℕ, suc, ◌+◌, ◌-◌, ◌<◌, List, ◌++◌, length}
 use Rattle.typst_lines.specs.Place.{Place, moved}
 use Rattle.typst_classes.specs.Classes.{CharClasses}
-use Rattle.typst_combinators.specs.declared.calls.Block.TheVariants as block
-use Rattle.typst_combinators.specs.Ask.{shift}
-use Rattle.typst_combinators.specs.Point.{Trivia, point_of}
-use Rattle.typst_combinators.specs.Meaning.{Outcome, joined}
+use Rattle.typst_grammar.specs.calls.Block.TheVariants as block
+use Rattle.typst_grammar.specs.Ask.{shift}
+use Rattle.typst_grammar.specs.Point.{Trivia, point_of}
+use Rattle.typst_grammar.specs.Meaning.{Outcome, joined}
 use Rattle.typst_grammar.specs.Grammar.{max_depth}
 use Rattle.typst_reuse.specs.BlockRuns.{look_first, look_again, bracket, inner_lead, content_with, run_at, opened_at, tail_at, close_at}
 use Rattle.typst_reuse.specs.Edit.{Among, text_with, AllEndBy, AllBeginIn, Passes}

@@ -3,16 +3,16 @@ use Rattle.std.specs.Prelude.{◌≡◌, ℕ, ◌+◌, ◌<◌, Bool, true, fals
 use Rattle.typst_lines.specs.Place.{Place, moved}
 use Rattle.typst_node.specs.Tree.{Tree}
 use Rattle.typst_classes.specs.Classes.{CharClasses}
-use Rattle.typst_combinators.specs.Ask.{Ask, shift}
-use Rattle.typst_combinators.specs.Depth.{is_end}
-use Rattle.typst_combinators.specs.Point.{Trivia, Point, is_nil}
-use Rattle.typst_combinators.specs.Steps.{flush_trivia}
-use Rattle.typst_combinators.specs.Syntax.{◌>>=◌}
-use Rattle.typst_combinators.specs.Syntax.Parser.{repeat}
-use Rattle.typst_combinators.specs.Meaning.{Outcome, Meaning, joined, hand_of, run}
-use Rattle.typst_markup.specs.declared.head.MarkupHead.{MarkupHead}
-use Rattle.typst_markup.specs.declared.head.MarkupHead.TheVariants as head
-use Rattle.typst_markup.specs.Markup.{markup_turn, markup_head}
+use Rattle.typst_grammar.specs.Ask.{Ask, shift}
+use Rattle.typst_grammar.specs.Depth.{is_end}
+use Rattle.typst_grammar.specs.Point.{Trivia, Point, is_nil}
+use Rattle.typst_grammar.specs.Steps.{flush_trivia}
+use Rattle.typst_grammar.specs.Syntax.{◌>>=◌}
+use Rattle.typst_grammar.specs.Syntax.Parser.{repeat}
+use Rattle.typst_grammar.specs.Meaning.{Outcome, Meaning, joined, hand_of, run}
+use Rattle.typst_grammar.specs.head.MarkupHead.{MarkupHead}
+use Rattle.typst_grammar.specs.head.MarkupHead.TheVariants as head
+use Rattle.typst_grammar.specs.Markup.{markup_turn, markup_head}
 use Rattle.typst_grammar.specs.Grammar.{level_at, max_depth, parsed}
 use Rattle.typst_reuse.specs.Edit.{text_with, AllEndBy, AllBeginIn}
 use Rattle.typst_reuse.specs.Runs.{AllGo, End, asks_of, chain, lead, pieces, end_at, pieces_from, end_from, rest_from, tail, whole_of}

@@ -3,10 +3,10 @@ use Rattle.std.specs.Prelude.{◌≡◌, ℕ, List}
 use Rattle.typst_node.specs.Tree.{Tree, forest, inner_of}
 use Rattle.typst_kinds.specs.declared.kind.SyntaxKind.TheVariants as kind
 use Rattle.typst_classes.specs.Classes.{CharClasses}
-use Rattle.typst_combinators.specs.declared.calls.Block.{Block}
-use Rattle.typst_combinators.specs.Knot.{blocks_of, meaning_of}
-use Rattle.typst_combinators.specs.Meaning.{Meaning, start_point}
-use Rattle.typst_markup.specs.Markup.{markup_reading}
+use Rattle.typst_grammar.specs.calls.Block.{Block}
+use Rattle.typst_grammar.specs.Knot.{blocks_of, meaning_of}
+use Rattle.typst_grammar.specs.Meaning.{Meaning, start_point}
+use Rattle.typst_grammar.specs.Markup.{markup_reading}
 use Rattle.typst_grammar.specs.Grammar.{rules, max_depth, start_of, whole, parsed, tree}
 use Rattle.std.specs.Prelude.{◌++◌}
 use Rattle.typst_reuse.specs.Hole.{path_of}
@@ -17,7 +17,7 @@ use Rattle.typst_reuse.specs.Edit.{Among, text_with, Passes, replaced, Edited}
 
 -- the blocks of a text, each with what stands around it
 unfoldable pub blocks_of_text : CharClasses → List ℕ → List (Spot (Unit {0}))
-blocks_of_text k text = level_spots rules k max_depth whole (start_of text) (start_point markup_reading)
+blocks_of_text k text = level_spots (rules k) k max_depth whole (start_of text) (start_point markup_reading)
 
 -- What the reading and the tree of the new text are, where an edit inside a block passes the test, and the block's node is this one.
 pub record Kept (k : CharClasses) (front old new rest : List ℕ) (c : Spot (Unit {0})) (x : Tree) : Type 0 where
@@ -33,7 +33,7 @@ BlockLaw = (k : CharClasses) (front old new rest : List ℕ) (c : Spot (Unit {0}
 
 -- what a block reads, where so many levels are left
 abbrev pub block_at : CharClasses → ℕ → Block → Meaning (Unit {0})
-block_at k levels b = blocks_of rules k levels (meaning_of rules k levels) b
+block_at k levels b = blocks_of (rules k) k levels (meaning_of (rules k) k levels) b
 
 -- Each block of a text is read as its name, its level and its state say, and its two marks stand in the log directly around what it asked.
 abbrev pub NamesLaw : Type 0

@@ -15,3 +15,4 @@ pub mod RunTrees
 pub mod InnerJoint
 pub mod Examples
 pub mod RunExamples
+pub mod Conditions

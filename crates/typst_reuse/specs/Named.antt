@@ -1,11 +1,11 @@
 -- A block by its name: what is read of it, and its two marks in the log.
 use Rattle.std.specs.Prelude.{◌≡◌, ℕ, ◌-◌, List, [], ◌∷◌, ◌++◌}
-use Rattle.typst_combinators.specs.declared.calls.Block.{Block}
-use Rattle.typst_combinators.specs.declared.calls.Mark.TheVariants as mark
-use Rattle.typst_combinators.specs.Ask.{Ask}
-use Rattle.typst_combinators.specs.Ask.Ask.{marked}
-use Rattle.typst_combinators.specs.Point.{state_of}
-use Rattle.typst_combinators.specs.Meaning.{Meaning}
+use Rattle.typst_grammar.specs.calls.Block.{Block}
+use Rattle.typst_grammar.specs.calls.Mark.TheVariants as mark
+use Rattle.typst_grammar.specs.Ask.{Ask}
+use Rattle.typst_grammar.specs.Ask.Ask.{marked}
+use Rattle.typst_grammar.specs.Point.{state_of}
+use Rattle.typst_grammar.specs.Meaning.{Meaning}
 use Rattle.typst_reuse.specs.Spot.{Spot, ended}
 
 -- where so many levels are left for the whole, by what each block reads at each level

@@ -2,19 +2,19 @@
 use Rattle.std.specs.Prelude.{ℕ, zero, suc, ◌+◌, Bool, ◌&&◌, if◌then◌else◌, nat_lt, List, [], ◌∷◌, ◌++◌, map, Option, Some, None}
 use Rattle.std.specs.List.{flat_map}
 use Rattle.typst_lines.specs.Place.{Place, moved}
-use Rattle.typst_combinators.specs.declared.calls.Block.{Block}
-use Rattle.typst_combinators.specs.declared.calls.Call.{Call}
-use Rattle.typst_combinators.specs.declared.reading.Reading.{Reading}
-use Rattle.typst_combinators.specs.Calls.{Answer}
-use Rattle.typst_combinators.specs.Point.{Point, forgot}
-use Rattle.typst_combinators.specs.Shape.{Shape, after_shape, Seen, seen}
+use Rattle.typst_grammar.specs.calls.Block.{Block}
+use Rattle.typst_grammar.specs.calls.Call.{Call}
+use Rattle.typst_grammar.specs.reading.Reading.{Reading}
+use Rattle.typst_grammar.specs.Calls.{Answer}
+use Rattle.typst_grammar.specs.Point.{Point, forgot}
+use Rattle.typst_grammar.specs.Shape.{Shape, after_shape, Seen, seen}
 use Rattle.typst_classes.specs.Classes.{CharClasses}
-use Rattle.typst_combinators.specs.Knot.{Rules, meaning_of, level_of}
-use Rattle.typst_combinators.specs.Steps.{peek}
-use Rattle.typst_combinators.specs.Syntax.{Parser, Begin, ◌>>◌}
-use Rattle.typst_combinators.specs.Syntax.Op.{flushes}
-use Rattle.typst_combinators.specs.Syntax.Parser.{gives, does, next, pick, repeat, wraps, grows, nests, scoped, sees, either, calls, block}
-use Rattle.typst_combinators.specs.Meaning.{Outcome, Meaning, Level, answered, joined, turns, bound, before, blockless, grown, is_more, nestings, entered, left, done, run}
+use Rattle.typst_grammar.specs.Knot.{Rules, meaning_of, level_of}
+use Rattle.typst_grammar.specs.Steps.{peek}
+use Rattle.typst_grammar.specs.Syntax.{Parser, Begin, ◌>>◌}
+use Rattle.typst_grammar.specs.Syntax.Op.{flushes}
+use Rattle.typst_grammar.specs.Syntax.Parser.{gives, does, next, pick, repeat, wraps, grows, nests, scoped, sees, either, calls, block}
+use Rattle.typst_grammar.specs.Meaning.{Outcome, Meaning, Level, answered, joined, turns, bound, before, blockless, grown, is_more, nestings, entered, left, done, run}
 use Rattle.typst_reuse.specs.Hole.{plug, wrap_hole}
 use Rattle.typst_reuse.specs.Spot.{Spot, block_head, valued, then_spot, after_spot, rehole, sunk_spot, closed_spot, here_spot}
 use Rattle.std.specs.Prelude.{drop}

@@ -1,12 +1,12 @@
 -- The test of an edit inside some pieces of a text's run in bytes, by the notes of a reading.
-use Rattle.std.specs.Prelude.{◌≡◌, ℕ, ◌+◌, ◌<◌, ◌≤◌, Bool, List, [], ◌∷◌, ◌++◌, length, take, Some}
+use Rattle.std.specs.Prelude.{◌≡◌, ℕ, ◌+◌, ◌<◌, ◌≤◌, Bool, List, ◌∷◌, ◌++◌, length, take, Some}
 use Rattle.typst_classes.specs.Classes.{CharClasses}
 use Rattle.typst_readers.specs.Sight.{width}
-use Rattle.typst_combinators.specs.declared.calls.Mark.TheVariants as mark
-use Rattle.typst_combinators.specs.declared.calls.Note.{Note}
-use Rattle.typst_combinators.specs.Ask.{shift}
-use Rattle.typst_combinators.specs.Log.{Log}
-use Rattle.typst_combinators.specs.Point.{state_of}
+use Rattle.typst_grammar.specs.calls.Mark.TheVariants as mark
+use Rattle.typst_grammar.specs.calls.Note.{Note}
+use Rattle.typst_grammar.specs.Ask.{shift}
+use Rattle.typst_grammar.specs.Log.{Log}
+use Rattle.typst_grammar.specs.Point.{state_of}
 use Rattle.typst_grammar.specs.Grammar.{max_depth, log}
 use Rattle.typst_reuse.specs.Bytes.{lowest}
 use Rattle.typst_reuse.specs.Edit.{text_with, AllEndBy, AllBeginIn}

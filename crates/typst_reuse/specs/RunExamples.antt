@@ -3,8 +3,8 @@ use Rattle.std.specs.Prelude.{◌≡◌, ℕ, Bool, true, false, List, [], ◌�
 use Rattle.typst_kinds.specs.declared.kind.SyntaxKind.TheVariants as kind
 use Rattle.typst_node.specs.Tree.{Tree, leaf_of}
 use Rattle.typst_classes.specs.Classes.{CharClasses, by_law}
-use Rattle.typst_combinators.specs.Meaning.{Outcome}
-use Rattle.typst_combinators.specs.Point.{gap_of}
+use Rattle.typst_grammar.specs.Meaning.{Outcome}
+use Rattle.typst_grammar.specs.Point.{gap_of}
 use Rattle.typst_grammar.specs.Grammar.{start_of, tree}
 use Rattle.typst_grammar.specs.Examples.{markup, branch, text, unclosed}
 use Rattle.typst_reuse.specs.Examples.{most, least}

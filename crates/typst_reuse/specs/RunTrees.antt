@@ -4,13 +4,13 @@ use Rattle.typst_kinds.specs.declared.kind.SyntaxKind.TheVariants as kind
 use Rattle.typst_node.specs.Tree.{Tree, forest, inner_of}
 use Rattle.typst_lines.specs.Place.{Place}
 use Rattle.typst_classes.specs.Classes.{CharClasses}
-use Rattle.typst_combinators.specs.declared.calls.Mark.TheVariants as mark
-use Rattle.typst_combinators.specs.Ask.{Ask, shift}
-use Rattle.typst_combinators.specs.Ask.Ask.{marked}
-use Rattle.typst_combinators.specs.Log.{no_log, logged}
-use Rattle.typst_combinators.specs.Meaning.{Outcome, standing}
-use Rattle.typst_combinators.specs.Point.{gap_of, state_of}
-use Rattle.typst_grammar.specs.Grammar.{max_depth, start_of, tree, log}
+use Rattle.typst_grammar.specs.calls.Mark.TheVariants as mark
+use Rattle.typst_grammar.specs.Ask.{Ask, shift}
+use Rattle.typst_grammar.specs.Ask.Ask.{marked}
+use Rattle.typst_grammar.specs.Log.{no_log, logged}
+use Rattle.typst_grammar.specs.Meaning.{Outcome, standing}
+use Rattle.typst_grammar.specs.Point.{gap_of, state_of}
+use Rattle.typst_grammar.specs.Grammar.{max_depth, tree, log}
 use Rattle.typst_reuse.specs.Edit.{text_with}
 use Rattle.typst_reuse.specs.Joint.{onwards_from}
 use Rattle.typst_reuse.specs.Runs.{start, asks_of, lead, pieces, end_at, pieces_from, end_from, PassesRun}

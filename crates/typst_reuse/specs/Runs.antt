@@ -2,15 +2,15 @@
 use Rattle.std.specs.Prelude.{◌≡◌, ℕ, zero, suc, ◌+◌, ◌<◌, Bool, true, false, List, [], ◌∷◌, ◌++◌, length}
 use Rattle.typst_lines.specs.Place.{Place, moved}
 use Rattle.typst_classes.specs.Classes.{CharClasses}
-use Rattle.typst_combinators.specs.declared.calls.Mark.TheVariants as mark
-use Rattle.typst_combinators.specs.Ask.{Ask, shift}
-use Rattle.typst_combinators.specs.Ask.Ask.{marked}
-use Rattle.typst_combinators.specs.Depth.{is_end}
-use Rattle.typst_combinators.specs.Hand.{AtHand}
-use Rattle.typst_combinators.specs.Point.{Point, state_of}
-use Rattle.typst_combinators.specs.Steps.{peek, flush_trivia}
-use Rattle.typst_combinators.specs.Meaning.{Outcome, Meaning, plain, joined, repeated, start_point, run}
-use Rattle.typst_markup.specs.Markup.{markup_turn, markup_reading}
+use Rattle.typst_grammar.specs.calls.Mark.TheVariants as mark
+use Rattle.typst_grammar.specs.Ask.{Ask, shift}
+use Rattle.typst_grammar.specs.Ask.Ask.{marked}
+use Rattle.typst_grammar.specs.Depth.{is_end}
+use Rattle.typst_grammar.specs.Hand.{AtHand}
+use Rattle.typst_grammar.specs.Point.{Point, state_of}
+use Rattle.typst_grammar.specs.Steps.{peek, flush_trivia}
+use Rattle.typst_grammar.specs.Meaning.{Outcome, Meaning, plain, joined, repeated, start_point, run}
+use Rattle.typst_grammar.specs.Markup.{markup_turn, markup_reading}
 use Rattle.typst_grammar.specs.Grammar.{level_at, max_depth, parsed}
 use Rattle.typst_reuse.specs.Edit.{text_with, AllEndBy, AllBeginIn}
 use Rattle.typst_reuse.specs.Occurrences.{goes}

@@ -2,9 +2,9 @@
 use Rattle.std.specs.Prelude.{ℕ, Bool, true, List}
 use Rattle.typst_kinds.specs.declared.kind.SyntaxKind.{SyntaxKind}
 use Rattle.typst_lines.specs.Place.{Place, moved}
-use Rattle.typst_combinators.specs.Point.{Point}
-use Rattle.typst_combinators.specs.Meaning.{Outcome, Meaning, Level, repeated, run}
-use Rattle.typst_markup.specs.Markup.{markup_turn}
+use Rattle.typst_grammar.specs.Point.{Point}
+use Rattle.typst_grammar.specs.Meaning.{Outcome, Meaning, Level, repeated, run}
+use Rattle.typst_grammar.specs.Markup.{markup_turn}
 use Rattle.typst_reuse.specs.Runs.{made, End, end_of}
 
 -- where the pieces of a run are read: how deep, where they stop, and the place and the point at the first of them

@@ -5,15 +5,15 @@ use Rattle.typst_kinds.specs.declared.kind.SyntaxKind.TheVariants as kind
 use Rattle.typst_node_data.specs.Head.{Head, inner_head}
 use Rattle.typst_node.specs.Tree.{Tree, error_of}
 use Rattle.typst_lines.specs.Place.{Place, moved}
-use Rattle.typst_combinators.specs.declared.calls.Block.{Block}
-use Rattle.typst_combinators.specs.declared.calls.Block.TheVariants as block
-use Rattle.typst_combinators.specs.declared.calls.Mark.TheVariants as mark
-use Rattle.typst_combinators.specs.declared.reading.State.{State}
-use Rattle.typst_combinators.specs.Ask.{Ask, shift, sunk}
-use Rattle.typst_combinators.specs.Ask.Ask.{looked, marked}
-use Rattle.typst_combinators.specs.Point.{Point, point_of, state_of, forgot}
-use Rattle.typst_combinators.specs.Shape.{hinted}
-use Rattle.typst_combinators.specs.Meaning.{Outcome, Meaning, less}
+use Rattle.typst_grammar.specs.calls.Block.{Block}
+use Rattle.typst_grammar.specs.calls.Block.TheVariants as block
+use Rattle.typst_grammar.specs.calls.Mark.TheVariants as mark
+use Rattle.typst_grammar.specs.reading.State.{State}
+use Rattle.typst_grammar.specs.Ask.{Ask, shift, sunk}
+use Rattle.typst_grammar.specs.Ask.Ask.{looked, marked}
+use Rattle.typst_grammar.specs.Point.{Point, point_of, state_of, forgot}
+use Rattle.typst_grammar.specs.Shape.{hinted}
+use Rattle.typst_grammar.specs.Meaning.{Outcome, Meaning, less}
 use Rattle.typst_reuse.specs.Hole.{Hole, plug}
 use Rattle.typst_reuse.specs.Hole.Deep.{bare}
 

@@ -3,6 +3,7 @@
 ghost use Rattle.typst_classes.specs.Classes.{CharClasses};
 ghost use Rattle.typst_reuse.specs.BlockRuns.{InnerLaw};
 ghost use Rattle.typst_reuse.specs.Bytes.{DecisionLaw};
+ghost use Rattle.typst_reuse.specs.Conditions.{Conditions};
 ghost use Rattle.typst_reuse.specs.Examples.{Blocks};
 ghost use Rattle.typst_reuse.specs.RunExamples.{Runs};
 ghost use Rattle.typst_reuse.specs.InnerJoint.{InnerJointLaw};
@@ -73,4 +74,9 @@ pub fn blocks_of_texts()
 /// Edits inside pieces of short texts, and what of the test fails where the trees differ.
 pub fn runs_of_texts()
     ensures { (beyond : CharClasses) → Runs beyond }
+{}
+
+/// Edits at which one condition of a law alone fails, and what differs then.
+pub fn conditions_of_texts()
+    ensures { (beyond : CharClasses) → Conditions beyond }
 {}

@@ -4,4 +4,4 @@
 mod source;
 
 pub use source::Source;
-pub use typst_grammar::{parse, parse_code};
+pub use typst_grammar::{Block, Mark, Note, Noted, parse, parse_code, parse_math, parse_noted};

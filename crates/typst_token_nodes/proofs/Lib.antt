@@ -1,9 +1,11 @@
 -- Which lemma gives which clause:
 --   nodes of faults                       TokenTexts.fault-is
 --   leaf_node                             TokenTexts.leaf-is
+--   access_node                           Accesses
 --   suffix_start, value_of                Suffixes
 --   message of an escape                  TokenTexts.thrice
 --   read of next_node                     TokenTexts.is-read
 --   laws.TokenText                        TokenTexts.text-token
+pub mod Accesses
 pub mod Suffixes
 pub mod TokenTexts

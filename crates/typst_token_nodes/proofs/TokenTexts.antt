@@ -1,11 +1,13 @@
 -- Facts on the texts of error tokens.
-use Rattle.std.proofs.Common.{◌≡◌, ℕ, Bool, true, false, not, ◌&&◌, if◌then◌else◌, List, [], ◌∷◌, append-nil, encode_utf8_all, take, refl, ap, sym, ◌∙◌, Option, Some, None}
+use Rattle.std.proofs.Common.{◌≡◌, ℕ, Bool, true, false, not, ◌&&◌, ◌||◌, if◌then◌else◌, List, [], ◌∷◌, append-nil, encode_utf8_all, take, refl, ap, sym, ◌∙◌, Option, Some, None}
 use Rattle.std.specs.Str.{chars}
 use Rattle.typst_lines.proofs.Bools.{on}
 use Rattle.typst_lines.specs.Place.{Place, place_at, moved}
 use Rattle.typst_readers.proofs.Moves.{moved-more}
-use Rattle.typst_token_nodes.specs.Nodes.{IsRead, is_leaf, token_node, plain_node, fault_node, is_raw, with_hints}
+use Rattle.typst_token_nodes.specs.Nodes.{IsRead, is_leaf, token_node, plain_node, fault_node, is_raw, has_fields, with_hints}
 use Rattle.typst_token_nodes.specs.Faults.{hints, message}
+use Rattle.typst_token_nodes.specs.Fields.{access_node}
+use Rattle.typst_token_nodes.proofs.Accesses.{text-access}
 use Rattle.typst_readers.specs.Reader.{Reader, exec, eaten, place}
 use Rattle.typst_tokens.specs.declared.token.Token.{Token}
 use Rattle.typst_tokens.specs.declared.token.Fault.{Fault}
@@ -49,8 +51,9 @@ text-plain : (k : CharClasses) (t : Token) (taken : List ℕ) → text_of (plain
 text-plain k t taken =
     let Is = λ (u : Tree). text_of u ≡ encode_utf8_all taken in
     let leaf = leaf_of t.kind (encode_utf8_all taken) in
-    on Is (is_error t.kind) (error_of [] (encode_utf8_all taken)) (if is_raw t.kind then raw_node k taken else leaf) (append-nil (encode_utf8_all taken))
-    (on Is (is_raw t.kind) (raw_node k taken) leaf (raw-leaves k taken) (append-nil (encode_utf8_all taken)))
+    on Is (is_error t.kind) (error_of [] (encode_utf8_all taken)) (if is_raw t.kind then raw_node k taken else (if has_fields t.kind then access_node taken else leaf)) (append-nil (encode_utf8_all taken))
+    (on Is (is_raw t.kind) (raw_node k taken) (if has_fields t.kind then access_node taken else leaf) (raw-leaves k taken)
+    (on Is (has_fields t.kind) (access_node taken) leaf (text-access taken) (append-nil (encode_utf8_all taken))))
 
 -- a token's node has the text of the characters that it took
 pub text-token : (k : CharClasses) (t : Token) (taken : List ℕ) → text_of (token_node k t taken) ≡ encode_utf8_all taken
@@ -63,14 +66,15 @@ text-token k t taken = elim t.fault as (λ o. text_of (elim o as (λ _. Tree) [ 
 pub leaf-is : (k : CharClasses) (t : Token) (taken : List ℕ) → is_leaf t ≡ true → token_node k t taken ≡ leaf_of t.kind (encode_utf8_all taken)
 leaf-is k t taken h = by t.fault h
   where
-    plain : (e r : Bool) → (not e && not r) ≡ true → (if e then error_of [] (encode_utf8_all taken) else (if r then raw_node k taken else leaf_of t.kind (encode_utf8_all taken))) ≡ leaf_of t.kind (encode_utf8_all taken)
-    plain true r h = absurd (cc)
-    plain false true h = absurd (cc)
-    plain false false h = refl
+    plain : (e r f : Bool) → (not e && not (r || f)) ≡ true → (if e then error_of [] (encode_utf8_all taken) else (if r then raw_node k taken else (if f then access_node taken else leaf_of t.kind (encode_utf8_all taken)))) ≡ leaf_of t.kind (encode_utf8_all taken)
+    plain true r f h = absurd (cc)
+    plain false true f h = absurd (cc)
+    plain false false true h = absurd (cc)
+    plain false false false h = refl
 
-    by : (f : Option Fault) → (elim f [ None ↦ not (is_error t.kind) && not (is_raw t.kind) | Some g ↦ false ]) ≡ true
+    by : (f : Option Fault) → (elim f [ None ↦ not (is_error t.kind) && not (is_raw t.kind || has_fields t.kind) | Some g ↦ false ]) ≡ true
         → (elim f [ None ↦ plain_node k t taken | Some g ↦ fault_node g taken ]) ≡ leaf_of t.kind (encode_utf8_all taken)
-    by None h = plain (is_error t.kind) (is_raw t.kind) h
+    by None h = plain (is_error t.kind) (is_raw t.kind) (has_fields t.kind) h
     by (Some g) h = absurd (cc)
 
 -- a node that was made with a message, and got hints

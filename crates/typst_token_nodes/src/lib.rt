@@ -2,6 +2,7 @@
 #![tactic(auto)]
 
 mod faults;
+mod fields;
 pub mod laws;
 mod next;
 mod nodes;

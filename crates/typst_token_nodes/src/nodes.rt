@@ -1,10 +1,11 @@
 //! The nodes of tokens.
-ghost use Rattle.std.specs.Prelude.{◌≡◌, true, IfOk};
+ghost use Rattle.std.specs.Prelude.{◌≡◌, ◌||◌, true, IfOk};
 ghost use Rattle.std.specs.Str.{chars};
 ghost use Rattle.typst_classes.specs.Classes.{CharClasses};
 ghost use Rattle.typst_token_nodes.specs.Nodes as spec;
 
 use crate::faults::fault_node;
+use crate::fields::access_node;
 use std::alloc::{AllocError, Global};
 use typst_classes::classes::Classes;
 use typst_kinds::SyntaxKind;
@@ -19,7 +20,7 @@ pub fn is_leaf(token: Token) -> bool
 {
     match token.fault {
         Some(_) => false,
-        None => !token.kind.is_error() && !is_raw(token.kind),
+        None => !token.kind.is_error() && !has_parts(token.kind),
     }
 }
 
@@ -32,8 +33,8 @@ pub fn leaf_node(alloc: Global, token: Token, text: &str) -> Result<SyntaxNode, 
     SyntaxNode::leaf(alloc, token.kind, text)
 }
 
-/// The node of a token that took the text: a leaf of its kind, the node of a raw text, or an error
-/// leaf.
+/// The node of a token that took the text: a leaf of its kind, the node of a raw text or of a name
+/// with fields, or an error leaf.
 pub fn make_node<C: Classes>(
     alloc: Global,
     token: Token,
@@ -62,10 +63,31 @@ fn plain_node<C: Classes>(
     if is_raw(token.kind) {
         return raw_node(alloc, text, classes);
     }
+    if has_fields(token.kind) {
+        return access_node(alloc, text);
+    }
     SyntaxNode::leaf(alloc, token.kind, text)
 }
 
-/// Whether the kind is that of raw texts, which alone are more than leaves.
+/// Whether tokens of the kind are more than leaves.
+#[inline(always)]
+fn has_parts(kind: SyntaxKind) -> bool
+    ensures { result ≡ (spec.is_raw kind || spec.has_fields kind) }
+{
+    matches!(kind, SyntaxKind::Raw | SyntaxKind::MathFieldAccess)
+}
+
+/// Whether the kind is that of names with fields.
+fn has_fields(kind: SyntaxKind) -> bool
+    ensures { result ≡ spec.has_fields kind }
+{
+    match kind {
+        SyntaxKind::MathFieldAccess => true,
+        _ => false,
+    }
+}
+
+/// Whether the kind is that of raw texts.
 fn is_raw(kind: SyntaxKind) -> bool
     ensures { result ≡ spec.is_raw kind }
 {

@@ -1,5 +1,5 @@
 use Rattle.typst_kinds.specs.Kinds.{is_terminator}
-use Rattle.typst_machine.proofs.Steps.{does-next, does-gives, does-pick, does-other}
+use Rattle.typst_markup.proofs.Steps.{does-next, does-gives, does-pick, does-other}
 use Rattle.typst_markup.proofs.Asks.{found, asks-yes, asks-no}
 use Rattle.typst_code.specs.Arguments.{argument_turn}
 use Rattle.typst_code.specs.Groups.{begins_item}

@@ -1,4 +1,4 @@
-use Rattle.typst_machine.proofs.Steps.{does-next, does-gives, does-node}
+use Rattle.typst_markup.proofs.Steps.{does-next, does-gives, does-node}
 use Rattle.typst_code.specs.Arguments.{arguments, arguments_shape}
 use Rattle.typst_code.proofs.arguments.arguments.Goals as goal
 

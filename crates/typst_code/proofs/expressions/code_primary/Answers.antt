@@ -1,5 +1,5 @@
 use Rattle.std.proofs.Common.{sym, ap, ◌∙◌}
-use Rattle.typst_machine.proofs.Steps.{does-next, does-peek}
+use Rattle.typst_markup.proofs.Steps.{does-next, does-peek, does-gives}
 use Rattle.typst_code.specs.Expressions.{code_primary, code_head}
 use Rattle.typst_code.specs.declared.heads.CodeHead.TheVariants as head
 use Rattle.typst_code.proofs.Begins.{at-head}
@@ -17,9 +17,13 @@ pub returns-in_ok-unexpected_with_hint-in-StrayOperator : goal.returns-in_ok-une
 unfolding code_primary
 returns-in_ok-unexpected_with_hint-in-StrayOperator g c l h b = does-next (does-peek _) (at-head c.args.atomic _ head.StrayOperator (ap (code_head c.args.atomic) (sym c.current.ensures) ∙ sym c.code_head.ensures ∙ c.in-StrayOperator.is) (c.in_ok-unexpected_with_hint-in-StrayOperator.ensures l h))
 
-pub returns-in_ok-eat_wanted-in-Placeholder : goal.returns-in_ok-eat_wanted-in-Placeholder
+pub returns-in_ok-named-in-Named : goal.returns-in_ok-named-in-Named
 unfolding code_primary
-returns-in_ok-eat_wanted-in-Placeholder g c l h b = does-next (does-peek _) (at-head c.args.atomic _ head.Placeholder (ap (code_head c.args.atomic) (sym c.current.ensures) ∙ sym c.code_head.ensures ∙ c.in-Placeholder.is) (c.in_ok-eat_wanted-in-Placeholder.ensures l h))
+returns-in_ok-named-in-Named g c l h b = does-next (does-peek _) (at-head c.args.atomic _ head.Named (ap (code_head c.args.atomic) (sym c.current.ensures) ∙ sym c.code_head.ensures ∙ c.in-Named.is) (c.in_ok-named-in-Named.ensures l h))
+
+pub returns-in_ok-placeholder-in-Placeholder : goal.returns-in_ok-placeholder-in-Placeholder
+unfolding code_primary
+returns-in_ok-placeholder-in-Placeholder g c l h b = does-next (does-peek _) (at-head c.args.atomic _ head.Placeholder (ap (code_head c.args.atomic) (sym c.current.ensures) ∙ sym c.code_head.ensures ∙ c.in-Placeholder.is) (c.in_ok-placeholder-in-Placeholder.ensures l h))
 
 pub returns-in_ok-read_code-in-CodeBlock : goal.returns-in_ok-read_code-in-CodeBlock
 unfolding code_primary
@@ -31,7 +35,15 @@ returns-in_ok-read_content-in-ContentBlock g c l h b = does-next (does-peek _) (
 
 pub returns-in_ok-group-in-Group : goal.returns-in_ok-group-in-Group
 unfolding code_primary
-returns-in_ok-group-in-Group g c l h b = does-next (does-peek _) (at-head c.args.atomic _ head.Group (ap (code_head c.args.atomic) (sym c.current.ensures) ∙ sym c.code_head.ensures ∙ c.in-Group.is) (c.in_ok-group-in-Group.ensures l h))
+returns-in_ok-group-in-Group g c l h b = does-next (does-peek _) (at-head c.args.atomic _ head.Group (ap (code_head c.args.atomic) (sym c.current.ensures) ∙ sym c.code_head.ensures ∙ c.in-Group.is) (does-next (c.in_ok-group-in-Group.ensures l h) does-gives))
+
+pub returns-in_ok-parens-in-Parens : goal.returns-in_ok-parens-in-Parens
+unfolding code_primary
+returns-in_ok-parens-in-Parens g c l h b = does-next (does-peek _) (at-head c.args.atomic _ head.Parens (ap (code_head c.args.atomic) (sym c.current.ensures) ∙ sym c.code_head.ensures ∙ c.in-Parens.is) (c.in_ok-parens-in-Parens.ensures l h))
+
+pub returns-in_ok-let_binding-in-Let : goal.returns-in_ok-let_binding-in-Let
+unfolding code_primary
+returns-in_ok-let_binding-in-Let g c l h b = does-next (does-peek _) (at-head c.args.atomic _ head.Let (ap (code_head c.args.atomic) (sym c.current.ensures) ∙ sym c.code_head.ensures ∙ c.in-Let.is) (c.in_ok-let_binding-in-Let.ensures l h))
 
 pub returns-in_ok-set_rule-in-Set : goal.returns-in_ok-set_rule-in-Set
 unfolding code_primary
@@ -52,6 +64,10 @@ returns-in_ok-conditional-in-If g c l h b = does-next (does-peek _) (at-head c.a
 pub returns-in_ok-while_loop-in-While : goal.returns-in_ok-while_loop-in-While
 unfolding code_primary
 returns-in_ok-while_loop-in-While g c l h b = does-next (does-peek _) (at-head c.args.atomic _ head.While (ap (code_head c.args.atomic) (sym c.current.ensures) ∙ sym c.code_head.ensures ∙ c.in-While.is) (c.in_ok-while_loop-in-While.ensures l h b))
+
+pub returns-in_ok-for_loop-in-For : goal.returns-in_ok-for_loop-in-For
+unfolding code_primary
+returns-in_ok-for_loop-in-For g c l h b = does-next (does-peek _) (at-head c.args.atomic _ head.For (ap (code_head c.args.atomic) (sym c.current.ensures) ∙ sym c.code_head.ensures ∙ c.in-For.is) (c.in_ok-for_loop-in-For.ensures l h b))
 
 pub returns-in_ok-module_import-in-Import : goal.returns-in_ok-module_import-in-Import
 unfolding code_primary
@@ -80,3 +96,7 @@ returns-in_ok-unexpected-in-Unexpected g c l h b = does-next (does-peek _) (at-h
 pub returns-in_ok-expected-in-Missing : goal.returns-in_ok-expected-in-Missing
 unfolding code_primary
 returns-in_ok-expected-in-Missing g c l h b = does-next (does-peek _) (at-head c.args.atomic _ head.Missing (ap (code_head c.args.atomic) (sym c.current.ensures) ∙ sym c.code_head.ensures ∙ c.in-Missing.is) (c.in_ok-expected-in-Missing.ensures l h))
+
+pub returns-in_ok-equation-in-Equation : goal.returns-in_ok-equation-in-Equation
+unfolding code_primary
+returns-in_ok-equation-in-Equation g c l h b = does-next (does-peek _) (at-head c.args.atomic _ head.Equation (ap (code_head c.args.atomic) (sym c.current.ensures) ∙ sym c.code_head.ensures ∙ c.in-Equation.is) (c.in_ok-equation-in-Equation.ensures l h))

@@ -1,10 +1,10 @@
 use Rattle.std.proofs.Common.{◌∙◌, ap, sym}
 use Rattle.typst_kinds.specs.Kinds.{same}
 use Rattle.typst_kinds.specs.declared.kind.SyntaxKind.TheVariants as kind
-use Rattle.typst_combinators.specs.declared.reading.AtNewline.TheVariants as newline
-use Rattle.typst_machine.proofs.Steps.{does-next, does-gives, does-node}
+use Rattle.typst_markup.specs.reading.AtNewline.TheVariants as newline
+use Rattle.typst_markup.proofs.Steps.{does-next, does-gives, does-node}
 use Rattle.typst_markup.specs.Markup.{at_newline}
-use Rattle.typst_markup.proofs.Heads.{does-entered}
+use Rattle.typst_markup.proofs.Values.{does-entered, does-value}
 use Rattle.typst_code.specs.Groups.{group, group_shape}
 use Rattle.typst_code.proofs.groups.group.Goals as goal
 
@@ -18,4 +18,4 @@ returns g c l h =
     (does-next (c.in_ok-eat.ensures l h) (does-next (c.in_ok-colon.ensures colon (c.eq.ensures ∙ ap colon c.current.ensures) l h)
     (does-next (rw c.new.ensures at c.in_ok-items.ensures l h) (does-next (c.in_ok-closed.ensures closer (c.eq-2.ensures ∙ ap closer c.current-2.ensures) l h) does-gives))))
     c.enter_rule-outer.ensures.outer (c.in_ok-leave.ensures l h))
-    (rw (sym c.kind.ensures.kind) c.in_ok-wrap_group.ensures)) does-gives
+    (rw (sym c.kind-kind.ensures.kind) c.in_ok-wrap_group.ensures)) (does-value c.kind-kind.ensures.kind does-gives)

@@ -1,4 +1,4 @@
-use Rattle.typst_machine.proofs.Steps.{does-next}
+use Rattle.typst_markup.proofs.Steps.{does-next}
 use Rattle.typst_markup.specs.Starts.{begins_code}
 use Rattle.typst_markup.proofs.Asks.{asks-yes, asks-no}
 use Rattle.typst_code.specs.Sequences.{statement}

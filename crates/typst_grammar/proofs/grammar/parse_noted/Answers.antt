@@ -1,7 +1,7 @@
 use Rattle.std.proofs.Common.{◌∙◌, ap, List, Some}
 use Rattle.typst_readers.specs.declared.hull.Hull.{Hull}
-use Rattle.typst_combinators.specs.declared.calls.Note.{Note}
-use Rattle.typst_combinators.specs.Log.{Log}
+use Rattle.typst_code.specs.calls.Note.{Note}
+use Rattle.typst_code.specs.Log.{Log}
 use Rattle.std.specs.Str.{chars}
 use Rattle.typst_kinds.specs.declared.kind.SyntaxKind.TheVariants as kind
 use Rattle.typst_node.specs.Tree.{forest, inner_of}

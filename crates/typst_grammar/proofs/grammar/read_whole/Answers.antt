@@ -1,7 +1,7 @@
 use Rattle.std.proofs.Common.{refl}
-use Rattle.typst_machine.proofs.Steps.{does-next}
-use Rattle.typst_machine.proofs.Blocks.{calls-at}
-use Rattle.typst_markup.specs.Markup.{markup_reading}
+use Rattle.typst_code.proofs.Steps.{does-next}
+use Rattle.typst_code.proofs.Blocks.{calls-at}
+use Rattle.typst_code.specs.Markup.{markup_reading}
 use Rattle.typst_grammar.specs.Grammar.{level_at, max_depth, whole}
 use Rattle.typst_grammar.proofs.Levels.{sound-at, parsed-is}
 use Rattle.typst_grammar.proofs.grammar.read_whole.Goals as goal

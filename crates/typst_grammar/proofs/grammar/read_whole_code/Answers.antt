@@ -1,6 +1,6 @@
 use Rattle.std.proofs.Common.{false, refl}
-use Rattle.typst_machine.proofs.Steps.{does-next, does-look}
-use Rattle.typst_machine.proofs.Blocks.{calls-at}
+use Rattle.typst_code.proofs.Steps.{does-next, does-look}
+use Rattle.typst_code.proofs.Blocks.{calls-at}
 use Rattle.typst_code.specs.Sequences.{code_reading}
 use Rattle.typst_grammar.specs.Grammar.{level_at, max_depth, whole_code}
 use Rattle.typst_grammar.proofs.Levels.{sound-at, parsed-is}

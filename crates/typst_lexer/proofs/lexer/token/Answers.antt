@@ -12,10 +12,19 @@ returns-clause-scans g c =
     let s = c.args.s.now in
     let z = place s in
     let v = c.next_token.new.s in
-    let e = ap (sight r) (sym c.new-cursor.ensures) ∙ c.in_ok-token.ensures in
+    let e = ap (sight r) (sym c.on_line-cursor.ensures) ∙ c.in_ok-token.ensures in
     let f = read-is r z c.in_ok-token.token v e in
     record {
       reads = f ∙ ap (λ w. (c.in_ok-token.token, w)) (sym c.finish.ensures.place);
       hull = c.finish.ensures.hull ∙ hull-is r z c.in_ok-token.token v e;
       same_text = c.finish.ensures.text ∙ ap text_of (sym (ap (λ p. p.1) f)) ∙ text-read r z ∙ sym (text-is s.text.now s.cursor (IsUtf8-had _ s.utf8) s.boundary);
     }
+
+pub returns-clause-same_text : goal.returns-clause-same_text
+returns-clause-same_text g c =
+    let r = token (g.C.Classes.classes c.args.classes.now) c.args.mode in
+    let s = c.args.s.now in
+    let z = place s in
+    let e = ap (sight r) (sym c.on_line-cursor.ensures) ∙ c.in_ok-token.ensures in
+    let f = read-is r z c.in_ok-token.token c.next_token.new.s e in
+    c.line.ensures ∙ ap text_of (sym (ap (λ p. p.1) f)) ∙ text-read r z ∙ sym (text-is s.text.now s.cursor (IsUtf8-had _ s.utf8) s.boundary) ∙ sym c.requires

@@ -1,6 +1,6 @@
 use Rattle.std.proofs.Common.{◌∙◌, ◌==◌, ap, sym}
 use Rattle.std.proofs.lemmas.Bool.{ne_eqb}
-use Rattle.typst_combinators.specs.Depth.{deeper}
+use Rattle.typst_ahead.specs.Depth.{deeper}
 use Rattle.typst_machine.proofs.Steps.{does-next, does-gives, does-deepest, does-pick, does-other, does-calls}
 use Rattle.typst_machine.proofs.depth.deeper.Goals as goal
 

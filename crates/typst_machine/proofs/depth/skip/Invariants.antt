@@ -1,5 +1,5 @@
-use Rattle.typst_combinators.specs.Meaning.{Level}
-use Rattle.typst_combinators.specs.Depth.{skip_one}
+use Rattle.typst_ahead.specs.Meaning.{Level}
+use Rattle.typst_ahead.specs.Depth.{skip_one}
 use Rattle.typst_ahead.specs.Bytes.{bytes_left}
 use Rattle.typst_machine.specs.View.{Fills}
 use Rattle.typst_machine.proofs.Steps.{Turning}

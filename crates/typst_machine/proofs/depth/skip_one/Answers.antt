@@ -1,4 +1,4 @@
-use Rattle.typst_combinators.specs.Depth.{skip_one}
+use Rattle.typst_ahead.specs.Depth.{skip_one}
 use Rattle.typst_machine.proofs.Steps.{does-next, does-gives, does-peek}
 use Rattle.typst_machine.proofs.depth.skip_one.Goals as goal
 

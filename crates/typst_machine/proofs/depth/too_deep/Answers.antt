@@ -1,7 +1,7 @@
 use Rattle.std.proofs.Common.{codes}
-use Rattle.typst_combinators.specs.declared.reading.AtNewline.TheVariants.{Continue}
-use Rattle.typst_combinators.specs.Shape.Shape.{fails}
-use Rattle.typst_combinators.specs.Depth.{too_deep}
+use Rattle.typst_ahead.specs.reading.AtNewline.TheVariants.{Continue}
+use Rattle.typst_ahead.specs.Shape.Shape.{fails}
+use Rattle.typst_ahead.specs.Depth.{too_deep}
 use Rattle.typst_machine.proofs.Steps.{does-next, does-gives, does-node, does-within}
 use Rattle.typst_machine.proofs.depth.too_deep.Goals as goal
 

@@ -1,7 +1,7 @@
 use Rattle.std.proofs.Common.{◌≡◌, ◌≤◌, ◌++◌, ◌∷◌, [], ℕ, List, true, ap, sym, subst, ◌∙◌, arith}
-use Rattle.typst_combinators.specs.Shape.{becomes}
+use Rattle.typst_machine.specs.Shape.{becomes}
 use Rattle.typst_kinds.specs.declared.kind.SyntaxKind.TheVariants as kind
-use Rattle.typst_ahead.specs.Bytes.{bytes_left}
+use Rattle.typst_machine.specs.Bytes.{bytes_left}
 use Rattle.typst_machine.specs.View.{View, Does, rewrapped_each}
 use Rattle.typst_machine.proofs.Nests.{Nests, nests-init, nests-next, nests-last}
 use Rattle.typst_machine_tests.specs.Signs.{opener, openers}

@@ -1,7 +1,7 @@
 use Rattle.typst_kinds.specs.declared.kind.SyntaxKind.TheVariants as kind
-use Rattle.typst_combinators.specs.Meaning.{Level}
-use Rattle.typst_combinators.specs.Shape.{becomes}
-use Rattle.typst_ahead.specs.Bytes.{bytes_left}
+use Rattle.typst_machine.specs.Meaning.{Level}
+use Rattle.typst_machine.specs.Shape.{becomes}
+use Rattle.typst_machine.specs.Bytes.{bytes_left}
 use Rattle.typst_machine.specs.View.{Fills}
 use Rattle.typst_machine.proofs.Nests.{Nests}
 use Rattle.typst_machine_tests.specs.Signs.{opener}

@@ -1,6 +1,6 @@
-use Rattle.typst_combinators.specs.Meaning.{Level}
-use Rattle.typst_combinators.specs.Steps.{eat}
-use Rattle.typst_ahead.specs.Bytes.{bytes_left}
+use Rattle.typst_machine.specs.Meaning.{Level}
+use Rattle.typst_machine.specs.Steps.{eat}
+use Rattle.typst_machine.specs.Bytes.{bytes_left}
 use Rattle.typst_machine.specs.View.{Fills}
 use Rattle.typst_machine.proofs.Grows.{Grows}
 use Rattle.typst_machine_tests.specs.Signs.{operator}

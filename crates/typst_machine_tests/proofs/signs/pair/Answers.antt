@@ -1,7 +1,7 @@
 use Rattle.std.proofs.Common.{codes}
 use Rattle.typst_kinds.specs.declared.kind.SyntaxKind.TheVariants as kind
-use Rattle.typst_combinators.specs.Shape.Change.{turns_wrong}
-use Rattle.typst_combinators.specs.Shape.Shape.{holds}
+use Rattle.typst_machine.specs.Shape.Change.{turns_wrong}
+use Rattle.typst_machine.specs.Shape.Shape.{holds}
 use Rattle.typst_machine.proofs.Changes.{does-seeing}
 use Rattle.typst_machine.proofs.Steps.{does-next, does-gives, does-node}
 use Rattle.typst_machine_tests.specs.Signs.{pair}

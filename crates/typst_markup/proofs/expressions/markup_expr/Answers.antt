@@ -1,7 +1,8 @@
 use Rattle.std.proofs.Common.{sym, ap, ◌∙◌}
 use Rattle.typst_markup.specs.Markup.{markup_expr, markup_head}
 use Rattle.typst_markup.specs.declared.head.MarkupHead.TheVariants as head
-use Rattle.typst_markup.proofs.Heads.{at-head, does-value}
+use Rattle.typst_markup.proofs.Heads.{at-head}
+use Rattle.typst_machine.proofs.Values.{does-value}
 use Rattle.typst_machine.proofs.Steps.{does-next, does-gives, does-peek}
 use Rattle.typst_markup.proofs.expressions.markup_expr.Goals as goal
 
@@ -60,3 +61,7 @@ returns-in_ok-reference-in-Reference g c l h b = does-next (does-peek _) (at-hea
 pub returns-in_ok-embedded-in-Embedded : goal.returns-in_ok-embedded-in-Embedded
 unfolding markup_expr
 returns-in_ok-embedded-in-Embedded g c l h b = does-next (does-peek _) (at-head c.args.nesting _ head.Embedded (ap (markup_head c.args.at_start c.args.nesting) (sym c.current.ensures) ∙ sym c.markup_head.ensures ∙ c.in-Embedded.is) (does-next (c.in_ok-embedded-in-Embedded.ensures l h) does-gives))
+
+pub returns-in_ok-equation-in-Equation : goal.returns-in_ok-equation-in-Equation
+unfolding markup_expr
+returns-in_ok-equation-in-Equation g c l h b = does-next (does-peek _) (at-head c.args.nesting _ head.Equation (ap (markup_head c.args.at_start c.args.nesting) (sym c.current.ensures) ∙ sym c.markup_head.ensures ∙ c.in-Equation.is) (does-next (c.in_ok-equation-in-Equation.ensures l h) does-gives))

@@ -1,5 +1,5 @@
 use Rattle.typst_kinds.specs.declared.kind.SyntaxKind.TheVariants as kind
-use Rattle.typst_combinators.specs.Shape.{becomes}
+use Rattle.typst_machine.specs.Shape.{becomes}
 use Rattle.typst_markup.specs.Markup.{markup}
 use Rattle.typst_machine.proofs.Steps.{does-node}
 use Rattle.typst_markup.proofs.sequences.markup.Goals as goal

@@ -1,7 +1,7 @@
 use Rattle.std.proofs.Common.{◌≡◌, ◌∙◌, ℕ, Bool, true, ap, refl, sym, subst}
-use Rattle.typst_combinators.specs.Meaning.{Level}
-use Rattle.typst_combinators.specs.Steps.{peek}
-use Rattle.typst_combinators.specs.Syntax.Parser.{gives, next}
+use Rattle.typst_machine.specs.Meaning.{Level}
+use Rattle.typst_machine.specs.Steps.{peek}
+use Rattle.typst_machine.specs.Syntax.Parser.{gives, next}
 use Rattle.typst_machine.specs.View.{View, Does}
 use Rattle.typst_markup.specs.Markup.{markup_turn, note_piece, ends}
 use Rattle.typst_markup.specs.Stops.{stops_at}

@@ -10,29 +10,29 @@ use Rattle.typst_math_tokens.proofs.atoms.cluster.Goals as goal
 
 pub returns-then-is_empty : goal.returns-then-is_empty
 returns-then-is_empty g c =
-    let r = c.see_while-line in
+    let r = c.see_line-line in
     cluster-none (g.C.Classes.classes c.args.classes.now) c.args.s.now r.new.self c.eat.new.self r.result.now c.is_empty.result c.plain.result
     r.utf8 r.ensures.taken r.ensures.sight c.is_empty.ensures c.if-is_empty.true c.eat.ensures.sight c.plain.ensures
 
 pub cluster-requires-clause-some : goal.cluster-requires-clause-some
 cluster-requires-clause-some g c =
-    let r = c.see_while-line in
+    let r = c.see_line-line in
     line-some r.result.now (some-chars r.result.now c.is_empty.result r.utf8 c.is_empty.ensures c.if-is_empty.false)
 
 pub cluster-requires-clause-inside : goal.cluster-requires-clause-inside
-cluster-requires-clause-inside g c = inside-run c.args.s.now.place c.see_while-line.result.now c.see_while-line.ensures.taken
+cluster-requires-clause-inside g c = inside-run c.args.s.now.place c.see_line-line.result.now c.see_line-line.ensures.taken
 
 pub advance-requires : goal.advance-requires
 advance-requires g c =
     let k = g.C.Classes.classes c.args.classes.now in
-    let r = c.see_while-line in
+    let r = c.see_line-line in
     let p = c.args.s.now.place in
     (k.cluster (run in_line p), bytes-is k (g.met.C.Classes.lawful c.args.classes.now) p (place c.ahead-start.result) r.result.now c.cluster.result c.is_empty.result r.utf8 r.ensures.taken c.is_empty.ensures c.if-is_empty.false c.ahead-start.ensures.place c.cluster.ensures)
 
 pub since-requires-clause-after : goal.since-requires-clause-after
 since-requires-clause-after g c =
     let k = g.C.Classes.classes c.args.classes.now in
-    let r = c.see_while-line in
+    let r = c.see_line-line in
     let p = c.args.s.now.place in
     let n = k.cluster (run in_line p) in
     (n, c.advance.ensures.moved n (bytes-is k (g.met.C.Classes.lawful c.args.classes.now) p (place c.ahead-start.result) r.result.now c.cluster.result c.is_empty.result r.utf8 r.ensures.taken c.is_empty.ensures c.if-is_empty.false c.ahead-start.ensures.place c.cluster.ensures))
@@ -40,7 +40,7 @@ since-requires-clause-after g c =
 pub skip-requires : goal.skip-requires
 skip-requires g c =
     let k = g.C.Classes.classes c.args.classes.now in
-    let r = c.see_while-line in
+    let r = c.see_line-line in
     let p = c.args.s.now.place in
     let n = k.cluster (run in_line p) in
     let m = c.advance.ensures.moved n (bytes-is k (g.met.C.Classes.lawful c.args.classes.now) p (place c.ahead-start.result) r.result.now c.cluster.result c.is_empty.result r.utf8 r.ensures.taken c.is_empty.ensures c.if-is_empty.false c.ahead-start.ensures.place c.cluster.ensures) in
@@ -49,7 +49,7 @@ skip-requires g c =
 pub returns : goal.returns
 returns g c =
     let k = g.C.Classes.classes c.args.classes.now in
-    let r = c.see_while-line in
+    let r = c.see_line-line in
     let p = c.args.s.now.place in
     let n = k.cluster (run in_line p) in
     let m = c.advance.ensures.moved n (bytes-is k (g.met.C.Classes.lawful c.args.classes.now) p (place c.ahead-start.result) r.result.now c.cluster.result c.is_empty.result r.utf8 r.ensures.taken c.is_empty.ensures c.if-is_empty.false c.ahead-start.ensures.place c.cluster.ensures) in

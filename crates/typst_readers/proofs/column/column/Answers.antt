@@ -3,7 +3,6 @@ use Rattle.std.proofs.lemmas.Str.{IsUtf8-had}
 use Rattle.std.specs.List.{prefix_len}
 use Rattle.typst_lines.specs.Place.{Place}
 use Rattle.typst_lines.specs.Scanner.{place}
-use Rattle.typst_readers.specs.Column.{column}
 use Rattle.typst_classes.specs.Classes.{in_line}
 use Rattle.typst_readers.proofs.Columns.{same-hull, behind-most, some-behind, back-is, line-more, column-back, column-least, column-start, back-smaller}
 use Rattle.typst_readers.specs.Sight.{position}

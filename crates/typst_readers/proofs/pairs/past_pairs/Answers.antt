@@ -33,4 +33,5 @@ runs-preserved g c =
       past =
           run-on alone pairs c.eat-next.result c.eat.result y (place c.eat-next.new.self) c.eat-next.ensures.next c.eat-next.ensures.moved c.eat.ensures.next (sym c.passes.ensures ∙ c.if-not-passes.false)
           ∙ ap (past_pairs (either alone pairs)) c.eat_while.ensures.moved ∙ pairs-past alone pairs z ∙ c.runs.invariant.past;
+      text = c.eat-next.ensures.same_text ∙ c.eat_while.ensures.same_text ∙ c.runs.invariant.text;
     }

@@ -5,7 +5,10 @@ use Rattle.typst_readers.proofs.pairs.past_pairs.Given as goal
 
 abbrev pub invariant-runs : goal.invariant-runs
 invariant-runs g l =
-    record { past : past_pairs (either (g.S.CharSet.members l.alone) (g.P.PairSet.members l.pairs)) (place l.at) ≡ past_pairs (either (g.S.CharSet.members l.alone) (g.P.PairSet.members l.pairs)) (place l.fn.s) }
+    record {
+      past : past_pairs (either (g.S.CharSet.members l.alone) (g.P.PairSet.members l.pairs)) (place l.at) ≡ past_pairs (either (g.S.CharSet.members l.alone) (g.P.PairSet.members l.pairs)) (place l.fn.s);
+      text : l.at.text.now ≡ l.fn.s.text.now;
+    }
 
 abbrev pub decreases-runs : goal.decreases-runs
 decreases-runs g l = length (place l.at).ahead

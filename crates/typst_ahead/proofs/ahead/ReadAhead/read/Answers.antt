@@ -4,7 +4,7 @@ use Rattle.typst_lines.specs.Scanner.{place}
 use Rattle.typst_lines.specs.declared.scanner.Scanner.{Scanner}
 use Rattle.typst_node.specs.Tree.{Tree}
 use Rattle.typst_readers.specs.declared.hull.Hull.{Hull}
-use Rattle.typst_token_nodes.specs.Nodes.{token_node}
+use Rattle.typst_combinators.specs.Nodes.{token_node}
 use Rattle.typst_combinators.specs.Hand.{at_trivia, len_at, text_ahead}
 use Rattle.typst_ahead.specs.Bytes.{bytes_left, joined_hull, token_hull, column_hull, whole_at}
 use Rattle.typst_ahead.proofs.Bytes.{some-bytes}
@@ -22,8 +22,9 @@ tokens-init g c =
       before = refl;
       along = rw (c.no_newlines-newlines.ensures, c.clear.ensures.items) (along-start k m z);
       text = refl;
+      line = c.requires;
       looks = looking-first k m z (2 ^ 64 - 1);
-      stands = λ s. record { start = s.start; after = s.after; start_text = s.start_text; after_text = s.after_text };
+      stands = λ s. record { start = s.start; after = s.after; start_text = s.start_text; after_text = s.after_text; line_text = s.line_text };
     }
 
 pub returns-then-not-is_trivia-clause-read : goal.returns-then-not-is_trivia-clause-read
@@ -37,7 +38,7 @@ returns-then-not-is_trivia-clause-read g c =
       | then-not-is_trivia-via-then-not-is_trivia w ↦ no-trivia k m z _ _ next.ensures.reads (sym c.is_trivia.ensures ∙ w.if-not-is_trivia.true)
       | then-not-is_trivia-via-else-not-is_trivia+then-left w ↦ no-more k m z _ _ next.ensures.reads (omega (arith, w.left.ensures, w.left-else-not-is_trivia.ensures, w.if-left.true))
     ] in
-    is-ahead k c.args.held c.args.self.now.before _ i.before refl next.ensures.hull c.judged-kind.ensures.here i.along stopped next.ensures.reads c.judged-kind.ensures.kind i.text next.ensures.same_text
+    is-ahead k c.args.held c.args.self.now.before _ i.before refl next.ensures.hull c.judged-kind.ensures.here i.along stopped next.ensures.reads c.judged-kind.ensures.kind i.text next.ensures.same_text (next.ensures.line_text ∙ i.line)
 
 pub returns-then-not-is_trivia-clause-hull : goal.returns-then-not-is_trivia-clause-hull
 returns-then-not-is_trivia-clause-hull g c =
@@ -91,10 +92,12 @@ tokens-preserved g c =
     let w = place next.next.after in
     let tokens = c.joined-tokens.ensures ∙ ap (joined_hull c.tokens.tokens) next.ensures.hull in
     let own : (token_hull k m z).least ≤ 2 ^ 64 - 1 = omega (arith, next.ensures.fits, ap (λ (u : Hull). u.least) next.ensures.hull) in
+    let line = next.ensures.line_text ∙ i.line in
     record {
       before = i.before;
       along = rw (items, c.with_token-newlines.ensures, sym t) (along-next k m c.tokens.newlines c.tokens.self.trivia.items from z _ _ i.along at p refl);
       text = next.ensures.same_text ∙ i.text;
+      line = line;
       looks = λ h. subst (λ u. Looking k m from w (joined_hull u (token_hull k m w))) (sym tokens) (looking-next k m from z w _ (i.looks own) at p);
-      stands = λ s. let t = i.stands s in record { start = t.start; after = t.after; start_text = t.start_text; after_text = t.after_text };
+      stands = λ s. let t = i.stands s in record { start = t.start; after = t.after; start_text = t.start_text; after_text = t.after_text; line_text = line };
     }

@@ -2,7 +2,7 @@ use Rattle.std.proofs.Common.{Bool, ℕ, if◌then◌else◌, ap, sym, ◌∙◌
 use Rattle.std.proofs.Math.ListN.{set}
 use Rattle.typst_kinds.specs.Kinds.{is_error}
 use Rattle.typst_node.specs.Tree.{text_of}
-use Rattle.typst_combinators.specs.Shape.{count_empty}
+use Rattle.typst_ahead.specs.Shape.{count_empty}
 use Rattle.typst_shapes.specs.Changes.{meant}
 use Rattle.typst_machine.specs.Cursor.{view_of}
 use Rattle.typst_machine.proofs.Changes.{changed-alone, changed-error, changed-first}

@@ -1,6 +1,6 @@
 use Rattle.std.proofs.Common.{sym, ◌∙◌}
 use Rattle.typst_machine.proofs.Steps.{does-next, does-gives, does-peek, does-pick, does-other, does-loose}
-use Rattle.typst_combinators.specs.Steps.{close_if}
+use Rattle.typst_ahead.specs.Steps.{close_if}
 use Rattle.typst_machine.proofs.parser.Parser.close_if.Goals as goal
 
 pub returns-in_ok-pass : goal.returns-in_ok-pass

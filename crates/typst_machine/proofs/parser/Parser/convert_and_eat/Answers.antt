@@ -1,7 +1,7 @@
 use Rattle.std.proofs.Common.{ap, ◌∙◌}
 use Rattle.typst_node.specs.Tree.{with_kind}
-use Rattle.typst_combinators.specs.Shape.Making.{of_kind}
-use Rattle.typst_combinators.specs.Steps.{convert_and_eat}
+use Rattle.typst_ahead.specs.Shape.Making.{of_kind}
+use Rattle.typst_ahead.specs.Steps.{convert_and_eat}
 use Rattle.typst_machine.proofs.parser.Parser.convert_and_eat.Goals as goal
 
 pub returns : goal.returns

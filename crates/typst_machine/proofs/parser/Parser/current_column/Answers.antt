@@ -2,8 +2,8 @@ use Rattle.std.proofs.Common.{◌∙◌, sym, ap}
 use Rattle.typst_lines.specs.Place.{Place}
 use Rattle.typst_readers.specs.Sight.{hull_of}
 use Rattle.typst_readers.specs.declared.hull.Hull.{Hull}
-use Rattle.typst_combinators.specs.Hand.{column_at, column_look}
-use Rattle.typst_combinators.specs.Log.{Log, with_hull}
+use Rattle.typst_ahead.specs.Hand.{column_at, column_look}
+use Rattle.typst_ahead.specs.Log.{Log, with_hull}
 use Rattle.typst_machine.specs.Cursor.{view_of}
 use Rattle.typst_machine.proofs.Ready.{column-is}
 use Rattle.typst_machine.proofs.parser.Parser.current_column.Goals as goal

@@ -1,6 +1,6 @@
 use Rattle.std.proofs.Common.{◌∙◌}
-use Rattle.typst_combinators.specs.Shape.Making.{itself}
-use Rattle.typst_combinators.specs.Steps.{eat}
+use Rattle.typst_ahead.specs.Shape.Making.{itself}
+use Rattle.typst_ahead.specs.Steps.{eat}
 use Rattle.typst_machine.proofs.parser.Parser.eat.Goals as goal
 
 pub returns : goal.returns

@@ -1,6 +1,6 @@
 use Rattle.std.proofs.Common.{sym, ◌∙◌}
 use Rattle.typst_machine.proofs.Steps.{does-next, does-gives, does-peek, does-pick, does-other}
-use Rattle.typst_combinators.specs.Steps.{eat_if}
+use Rattle.typst_ahead.specs.Steps.{eat_if}
 use Rattle.typst_machine.proofs.parser.Parser.eat_if.Goals as goal
 
 pub returns-in_ok-eat : goal.returns-in_ok-eat

@@ -2,7 +2,7 @@ use Rattle.std.proofs.Common.{[], ◌∷◌, None, ap, ◌∙◌}
 use Rattle.typst_node.specs.Diagnostic.{hint_with}
 use Rattle.typst_node.specs.Messages.{made_unexpected}
 use Rattle.typst_node.specs.Tree.{advised}
-use Rattle.typst_combinators.specs.Shape.Making.{surprise}
+use Rattle.typst_ahead.specs.Shape.Making.{surprise}
 use Rattle.typst_machine.proofs.parser.Parser.eat_surprise.Goals as goal
 
 pub returns : goal.returns

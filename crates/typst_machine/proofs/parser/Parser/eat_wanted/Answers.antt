@@ -1,6 +1,6 @@
 use Rattle.std.proofs.Common.{ap, ◌∙◌}
 use Rattle.typst_node.specs.Messages.{made_expected}
-use Rattle.typst_combinators.specs.Shape.Making.{wanted}
+use Rattle.typst_ahead.specs.Shape.Making.{wanted}
 use Rattle.typst_machine.proofs.parser.Parser.eat_wanted.Goals as goal
 
 pub returns : goal.returns

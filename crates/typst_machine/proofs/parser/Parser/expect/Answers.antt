@@ -1,6 +1,6 @@
 use Rattle.std.proofs.Common.{sym, ◌∙◌}
 use Rattle.typst_machine.proofs.Steps.{does-next, does-peek, does-pick, does-other}
-use Rattle.typst_combinators.specs.Steps.{expect}
+use Rattle.typst_ahead.specs.Steps.{expect}
 use Rattle.typst_machine.proofs.parser.Parser.expect.Goals as goal
 
 pub returns-in_ok-eat : goal.returns-in_ok-eat

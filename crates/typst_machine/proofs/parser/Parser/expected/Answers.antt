@@ -1,9 +1,9 @@
 use Rattle.std.proofs.Common.{ap, sym, ◌∙◌}
 use Rattle.typst_kinds.specs.Kinds.{is_error}
-use Rattle.typst_combinators.specs.Shape.Making.{itself}
+use Rattle.typst_ahead.specs.Shape.Making.{itself}
 use Rattle.typst_machine.specs.View.{View}
 use Rattle.typst_machine.proofs.Steps.{does-next, does-gives, does-peek, does-pick, does-other, does-erred, does-complains}
-use Rattle.typst_combinators.specs.Steps.{expected}
+use Rattle.typst_ahead.specs.Steps.{expected}
 use Rattle.typst_machine.proofs.parser.Parser.expected.Goals as goal
 
 pub returns-then-is_error : goal.returns-then-is_error

@@ -1,7 +1,7 @@
 use Rattle.std.proofs.Common.{◌≡◌, ℕ, ◌-◌, ◌∙◌, Bool, false, None, if◌then◌else◌, append-nil, length, refl, sym, ap, arith}
 use Rattle.typst_lines.specs.Scanner.{place}
-use Rattle.typst_combinators.specs.Point.{is_nil}
-use Rattle.typst_combinators.specs.Hand.{Hand, known_by}
+use Rattle.typst_ahead.specs.Point.{is_nil}
+use Rattle.typst_ahead.specs.Hand.{Hand, known_by}
 use Rattle.typst_machine.specs.Cursor.{view_of}
 use Rattle.typst_ahead.specs.Cursor.{hand_of_ahead}
 use Rattle.typst_machine.proofs.Ready.{nil-is, flushed-none, flushed-some, was-read}

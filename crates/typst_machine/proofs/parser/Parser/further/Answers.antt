@@ -3,9 +3,9 @@ use Rattle.typst_lines.specs.Place.{Place, moved}
 use Rattle.typst_lines.specs.Scanner.{place}
 use Rattle.typst_classes.specs.Classes.{CharClasses}
 use Rattle.typst_readers.specs.declared.hull.Hull.{Hull}
-use Rattle.typst_combinators.specs.Hand.{token_at}
-use Rattle.typst_combinators.specs.Log.{Log, with_hull}
-use Rattle.typst_combinators.proofs.Places.{moved-sum}
+use Rattle.typst_ahead.specs.Hand.{token_at}
+use Rattle.typst_ahead.specs.Log.{Log, with_hull}
+use Rattle.typst_ahead.proofs.Places.{moved-sum}
 use Rattle.typst_ahead.specs.Bytes.{token_hull}
 use Rattle.typst_machine.specs.Cursor.{view_of}
 use Rattle.typst_ahead.specs.Cursor.{distance}

@@ -1,11 +1,6 @@
 use Rattle.std.proofs.Common.{◌∙◌, ap, sym}
-use Rattle.typst_lines.specs.Place.{Place}
 use Rattle.typst_lines.specs.Scanner.{place}
-use Rattle.typst_classes.specs.Classes.{CharClasses}
-use Rattle.typst_readers.specs.Reader.{exec, look}
-use Rattle.typst_readers.specs.Sight.{hull_of}
-use Rattle.typst_combinators.specs.Calls.{token_so}
-use Rattle.typst_combinators.specs.Log.{Log}
+use Rattle.typst_ahead.specs.Log.{Log}
 use Rattle.typst_machine.specs.Cursor.{view_of}
 use Rattle.typst_machine.proofs.ReadSo.{hull-so, read-so, so-is}
 use Rattle.typst_machine.proofs.parser.Parser.kind_so.Goals as goal

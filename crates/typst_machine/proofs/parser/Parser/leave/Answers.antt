@@ -1,6 +1,6 @@
 use Rattle.std.proofs.Common.{Bool, None, if◌then◌else◌, ◌∙◌, refl, sym, ap}
 use Rattle.typst_lines.specs.Place.{Place}
-use Rattle.typst_combinators.specs.Hand.{judged, column_at, known_by}
+use Rattle.typst_ahead.specs.Hand.{judged, column_at, known_by}
 use Rattle.typst_ahead.specs.Bytes.{column_hull}
 use Rattle.typst_machine.proofs.Ready.{left-again, left-kept, left-judged, was-read}
 use Rattle.typst_ahead.specs.Cursor.{hand_of_ahead}

@@ -1,7 +1,7 @@
 use Rattle.std.proofs.Common.{Bool, false, None, if◌then◌else◌, ◌∙◌, ap}
 use Rattle.typst_lines.specs.Scanner.{place}
 use Rattle.typst_lines.specs.declared.scanner.Scanner.{Scanner}
-use Rattle.typst_combinators.specs.Hand.{known_by}
+use Rattle.typst_ahead.specs.Hand.{known_by}
 use Rattle.typst_ahead.specs.Cursor.{hand_of_ahead}
 use Rattle.typst_ahead.proofs.Trivia.{start-is}
 use Rattle.typst_machine.proofs.parser.Parser.new.Goals as goal

@@ -3,8 +3,8 @@ use Rattle.std.specs.Result.{IfOk}
 use Rattle.std.specs.Str.{chars}
 use Rattle.typst_lines.specs.Place.{moved}
 use Rattle.typst_classes.specs.Classes.{CharClasses}
-use Rattle.typst_token_nodes.specs.Nodes.{token_node}
-use Rattle.typst_combinators.specs.Hand.{text_ahead}
+use Rattle.typst_ahead.specs.Nodes.{token_node}
+use Rattle.typst_ahead.specs.Hand.{text_ahead}
 use Rattle.typst_ahead.specs.Cursor.{distance}
 use Rattle.typst_machine.specs.View.{View}
 use Rattle.typst_machine.proofs.parser.Parser.node.Goals as goal

@@ -1,7 +1,7 @@
 use Rattle.std.proofs.Common.{◌∙◌, ap, sym}
 use Rattle.std.proofs.lemmas.Str.{IsUtf8-had}
 use Rattle.typst_readers.proofs.Sights.{offset-is}
-use Rattle.typst_combinators.specs.Log.{Log}
+use Rattle.typst_ahead.specs.Log.{Log}
 use Rattle.typst_machine.specs.Cursor.{view_of}
 use Rattle.typst_ahead.specs.Noted.{with_noted}
 use Rattle.typst_machine.proofs.Ready.{noted-here}

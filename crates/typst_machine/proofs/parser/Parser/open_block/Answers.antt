@@ -1,5 +1,5 @@
 use Rattle.std.proofs.Common.{◌∙◌, ap, sym, subst}
-use Rattle.typst_combinators.specs.declared.calls.Mark.TheVariants.{Opens}
+use Rattle.typst_ahead.specs.calls.Mark.TheVariants.{Opens}
 use Rattle.typst_machine.specs.View.{View, Looked, noted_here, unasked}
 use Rattle.typst_machine.proofs.parser.Parser.open_block.Goals as goal
 

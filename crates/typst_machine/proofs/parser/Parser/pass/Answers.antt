@@ -1,5 +1,5 @@
 use Rattle.std.proofs.Common.{◌∙◌}
-use Rattle.typst_combinators.specs.Shape.Making.{itself}
+use Rattle.typst_ahead.specs.Shape.Making.{itself}
 use Rattle.typst_machine.proofs.parser.Parser.pass.Goals as goal
 
 pub returns : goal.returns

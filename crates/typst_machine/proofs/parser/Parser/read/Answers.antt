@@ -4,8 +4,8 @@ use Rattle.typst_lines.specs.Scanner.{place}
 use Rattle.typst_lines.specs.declared.scanner.Scanner.{Scanner}
 use Rattle.typst_classes.specs.Classes.{CharClasses}
 use Rattle.typst_readers.specs.declared.hull.Hull.{Hull}
-use Rattle.typst_combinators.specs.Hand.{hand_at, known_by}
-use Rattle.typst_combinators.specs.Log.{with_hull}
+use Rattle.typst_ahead.specs.Hand.{hand_at, known_by}
+use Rattle.typst_ahead.specs.Log.{with_hull}
 use Rattle.typst_ahead.specs.Bytes.{token_hull, whole_at}
 use Rattle.typst_machine.specs.Cursor.{view_of}
 use Rattle.typst_ahead.specs.Cursor.{hand_of_ahead}

@@ -1,21 +1,26 @@
-use Rattle.std.proofs.Common.{◌≡◌, ◌∙◌, ◌++◌, ◌∷◌, [], None, List, if◌then◌else◌, append_assoc, refl, sym, ap}
+use Rattle.std.proofs.Common.{◌≡◌, ◌∙◌, ◌++◌, ◌∷◌, [], None, List, if◌then◌else◌, append_assoc, refl, sym, ap, subst}
 use Rattle.typst_lines.specs.Place.{moved}
 use Rattle.typst_lines.specs.Scanner.{place}
 use Rattle.typst_kinds.specs.Kinds.{is_error}
 use Rattle.typst_node.specs.Tree.{Tree, text_of}
-use Rattle.typst_combinators.specs.declared.reading.State.{State}
-use Rattle.typst_combinators.specs.Point.{Point}
-use Rattle.typst_combinators.specs.Hand.{known_by}
-use Rattle.typst_combinators.specs.Meaning.{less, taken_node}
-use Rattle.typst_combinators.specs.Shape.{count_empty}
+use Rattle.typst_ahead.specs.reading.State.{State}
+use Rattle.typst_ahead.specs.Point.{Point}
+use Rattle.typst_ahead.specs.Hand.{known_by}
+use Rattle.typst_ahead.specs.Meaning.{less, taken_node}
+use Rattle.typst_ahead.specs.Shape.{count_empty}
 use Rattle.typst_ahead.specs.declared.ahead.ReadAhead.{ReadAhead}
 use Rattle.typst_machine.specs.Cursor.{known_of}
-use Rattle.typst_ahead.specs.Cursor.{distance, hand_of_ahead}
+use Rattle.typst_ahead.specs.Cursor.{Stands, distance, hand_of_ahead}
 use Rattle.typst_machine.specs.View.{View}
-use Rattle.typst_combinators.proofs.Places.{moved-sum}
-use Rattle.typst_machine.proofs.Ready.{taken-is}
+use Rattle.typst_ahead.proofs.Places.{moved-sum}
+use Rattle.typst_machine.proofs.Ready.{few-given, stands-passed, taken-is}
 use Rattle.typst_machine.proofs.parser.Parser.take.Goals.{then-trims, else-trims}
 use Rattle.typst_machine.proofs.parser.Parser.take.Goals as goal
+
+pub invariant_of-self-2 : goal.invariant_of-self-2
+invariant_of-self-2 c =
+    let s = c.self.invariant.stands in
+    record { stands = subst Stands (sym c.pass.ensures) (stands-passed (record c.self.inside.ahead { trivia = c.push_all.new.more }) (s.line_text ∙ sym s.start_text ∙ sym s.after_text)); few = few-given _ _ _ _ _ _ (ap (λ (u : State). u.empties) c.in_ok-give.ensures.state) c.in_ok-give.ensures.nodes }
 
 pub returns : goal.returns
 returns c l making e =

@@ -1,17 +1,27 @@
-use Rattle.std.proofs.Common.{◌≡◌, ◌∙◌, ◌++◌, ◌∷◌, [], None, List, if◌then◌else◌, append_assoc, refl, sym, ap}
+use Rattle.std.proofs.Common.{◌≡◌, ◌∙◌, ◌++◌, ◌∷◌, [], None, List, if◌then◌else◌, append_assoc, refl, sym, ap, subst}
+use Rattle.std.proofs.lemmas.Str.{IsUtf8-had}
 use Rattle.typst_lines.specs.Scanner.{place}
+use Rattle.typst_readers.specs.Sight.{text_of as text-of}
+use Rattle.typst_readers.proofs.Sights.{text-is}
+use Rattle.typst_machine.specs.View.{View}
 use Rattle.typst_kinds.specs.Kinds.{is_error}
 use Rattle.typst_node.specs.Tree.{Tree, text_of}
-use Rattle.typst_combinators.specs.declared.reading.State.{State}
-use Rattle.typst_combinators.specs.Point.{Point}
-use Rattle.typst_combinators.specs.Hand.{known_by}
-use Rattle.typst_combinators.specs.Meaning.{renewed}
-use Rattle.typst_combinators.specs.Shape.{count_empty}
+use Rattle.typst_ahead.specs.reading.State.{State}
+use Rattle.typst_ahead.specs.Point.{Point}
+use Rattle.typst_ahead.specs.Hand.{known_by}
+use Rattle.typst_ahead.specs.Meaning.{renewed}
+use Rattle.typst_ahead.specs.Shape.{count_empty}
 use Rattle.typst_ahead.specs.declared.ahead.ReadAhead.{ReadAhead}
 use Rattle.typst_machine.specs.Cursor.{known_of, view_of}
-use Rattle.typst_ahead.specs.Cursor.{hand_of_ahead}
-use Rattle.typst_machine.proofs.Ready.{told-node}
+use Rattle.typst_ahead.specs.Cursor.{Stands, hand_of_ahead}
+use Rattle.typst_machine.proofs.Ready.{few-given, stands-passed, told-node}
 use Rattle.typst_machine.proofs.parser.Parser.take_so.Goals as goal
+
+pub invariant_of-self-2 : goal.invariant_of-self-2
+invariant_of-self-2 c =
+    let s = c.self.invariant.stands in
+    let b = c.self.inside.ahead.before in
+    record { stands = subst Stands (sym c.pass.ensures) (stands-passed (record c.self.inside.ahead { after = c.args.after; trivia = c.push_all.new.more }) (s.line_text ∙ text-is b.text.now b.cursor (IsUtf8-had _ b.utf8) b.boundary ∙ ap (λ (v : View). text-of v.place) c.self.view_is ∙ sym c.requires)); few = few-given _ _ _ _ _ _ (ap (λ (u : State). u.empties) c.in_ok-give.ensures.state) c.in_ok-give.ensures.nodes }
 
 pub returns : goal.returns
 returns c =

@@ -1,7 +1,7 @@
 use Rattle.std.proofs.Common.{[], ap, ◌∙◌}
 use Rattle.typst_node.specs.Messages.{made_unexpected}
-use Rattle.typst_combinators.specs.Shape.Making.{surprise}
-use Rattle.typst_combinators.specs.Steps.{unexpected}
+use Rattle.typst_ahead.specs.Shape.Making.{surprise}
+use Rattle.typst_ahead.specs.Steps.{unexpected}
 use Rattle.typst_machine.proofs.parser.Parser.unexpected.Goals as goal
 
 pub returns : goal.returns

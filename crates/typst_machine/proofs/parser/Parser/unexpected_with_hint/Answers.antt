@@ -1,4 +1,4 @@
-use Rattle.typst_combinators.specs.Steps.{unexpected}
+use Rattle.typst_ahead.specs.Steps.{unexpected}
 use Rattle.typst_machine.proofs.parser.Parser.unexpected_with_hint.Goals as goal
 
 pub returns : goal.returns

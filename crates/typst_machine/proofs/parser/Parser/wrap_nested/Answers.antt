@@ -1,6 +1,6 @@
 use Rattle.std.proofs.Common.{◌++◌, Option, ℕ, ap, ◌∙◌}
 use Rattle.std.specs.Option.{option_to_list}
-use Rattle.typst_combinators.specs.Shape.{becomes}
+use Rattle.typst_ahead.specs.Shape.{becomes}
 use Rattle.typst_machine.proofs.Nests.{each-popped}
 use Rattle.typst_machine.proofs.parser.Parser.wrap_nested.Goals as goal
 

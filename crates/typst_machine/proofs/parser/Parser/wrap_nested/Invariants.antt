@@ -1,5 +1,5 @@
 use Rattle.std.proofs.Common.{◌≡◌, length}
-use Rattle.typst_combinators.specs.Shape.{becomes}
+use Rattle.typst_ahead.specs.Shape.{becomes}
 use Rattle.typst_machine.specs.View.{rewrapped_each}
 use Rattle.typst_machine.proofs.parser.Parser.wrap_nested.Given as goal
 

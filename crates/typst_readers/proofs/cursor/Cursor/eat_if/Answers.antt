@@ -3,6 +3,7 @@ use Rattle.typst_lines.specs.Scanner.{place}
 use Rattle.typst_readers.specs.Cursor.{sight_of}
 use Rattle.typst_readers.specs.Sight.{Covers, went, saw}
 use Rattle.typst_readers.proofs.Sights.{ate, covers-went, peeked, went-seen}
+use Rattle.typst_readers.proofs.Lines.{line-kept}
 use Rattle.typst_readers.proofs.cursor.Cursor.eat_if.Goals as goal
 
 pub returns-then-not-is-clause-sight : goal.returns-then-not-is-clause-sight
@@ -14,7 +15,7 @@ returns-then-not-is-clause-sight c =
 pub invariant_of-self-2 : goal.invariant_of-self-2
 invariant_of-self-2 c =
     let i = c.self.inside in
-    subst Covers (sym (ate 0 (place i.s) (place c.eat-c.new.self) c.eat-c.result i.reach i.least c.max-self-inside.result c.end_of.result c.max-self-inside.ensures c.end_of.ensures c.eat-c.ensures.moved c.eat-c.ensures.next)) (covers-went 1 (sight_of i) c.self.invariant)
+    record { looks = subst Covers (sym (ate 0 (place i.s) (place c.eat-c.new.self) c.eat-c.result i.reach i.least c.max-self-inside.result c.end_of.result c.max-self-inside.ensures c.end_of.ensures c.eat-c.ensures.moved c.eat-c.ensures.next)) (covers-went 1 (sight_of i) c.self.invariant.looks); line = line-kept _ _ _ _ (c.eat-c.ensures.same_text) c.self.invariant.line }
 
 pub returns-clause-sight : goal.returns-clause-sight
 returns-clause-sight c =

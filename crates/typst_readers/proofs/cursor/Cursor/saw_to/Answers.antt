@@ -6,7 +6,7 @@ use Rattle.typst_readers.proofs.Ahead.{seen-to}
 use Rattle.typst_readers.proofs.cursor.Cursor.saw_to.Goals as goal
 
 pub invariant_of-self : goal.invariant_of-self
-invariant_of-self c = let h = c.self.invariant in record { reach = omega (arith, h.reach, c.max-self-inside.ensures); least = h.least }
+invariant_of-self c = let h = c.self.invariant.looks in record { looks = record { reach = omega (arith, h.reach, c.max-self-inside.ensures); least = h.least }; line = c.self.invariant.line }
 
 pub returns-clause-sight : goal.returns-clause-sight
 returns-clause-sight c = λ n h.

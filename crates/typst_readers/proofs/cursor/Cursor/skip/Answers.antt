@@ -6,6 +6,7 @@ use Rattle.typst_readers.specs.Cursor.{sight_of}
 use Rattle.typst_readers.specs.Sight.{Sight, Covers, went}
 use Rattle.typst_readers.proofs.Ahead.{bytes-of, skipped}
 use Rattle.typst_readers.proofs.Sights.{covers-went, offset-is}
+use Rattle.typst_readers.proofs.Lines.{line-kept}
 use Rattle.typst_readers.proofs.cursor.Cursor.skip.Goals as goal
 
 pub advance-requires : goal.advance-requires
@@ -23,7 +24,7 @@ invariant_of-self c =
     let e = ap (λ (v : Sight). take (length cs) v.place.ahead) c.self.view_is ∙ c.requires in
     let at = c.cursor.ensures ∙ offset-is s.text.now s.cursor (IsUtf8-had _ s.utf8) s.boundary in
     let moves = c.advance.ensures.moved (length cs) (bytes-of text (place i.s) c.utf8.text e) in
-    subst Covers (sym (skipped cs (place i.s) (place s) i.reach i.least c.max-self-inside.result c.cursor.result e moves at c.max-self-inside.ensures)) (covers-went (length cs) (sight_of i) c.self.invariant)
+    record { looks = subst Covers (sym (skipped cs (place i.s) (place s) i.reach i.least c.max-self-inside.result c.cursor.result e moves at c.max-self-inside.ensures)) (covers-went (length cs) (sight_of i) c.self.invariant.looks); line = line-kept _ _ _ _ (c.advance.ensures.same_text) c.self.invariant.line }
 
 pub returns : goal.returns
 returns c =

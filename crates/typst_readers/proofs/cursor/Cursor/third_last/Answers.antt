@@ -1,5 +1,4 @@
 use Rattle.std.proofs.Common.{◌∙◌, ap}
-use Rattle.typst_lines.specs.Place.{Place}
 use Rattle.typst_lines.specs.Scanner.{place}
 use Rattle.typst_readers.specs.Sight.{Sight, saw_behind}
 use Rattle.typst_readers.proofs.Sights.{glanced, third-start-is}

@@ -12,7 +12,7 @@ invariant_of-self c =
     let i = c.self.inside in
     let w = c.args.word.now in
     let e = c.see_word-found.ensures.reach ∙ ap (λ z. word_reach 0 w z i.reach) c.eat.ensures.moved ∙ word_reach-moved 0 w (place i.s) i.reach in
-    subst (λ m. Covers (record { place = place i.s; reach = m; least = i.least })) (sym e) (covers-word 1 w (sight_of i) c.self.invariant)
+    record { looks = subst (λ m. Covers (record { place = place i.s; reach = m; least = i.least })) (sym e) (covers-word 1 w (sight_of i) c.self.invariant.looks); line = c.self.invariant.line }
 
 pub returns-clause-found : goal.returns-clause-found
 returns-clause-found c =

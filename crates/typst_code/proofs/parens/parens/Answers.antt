@@ -1,0 +1,12 @@
+use Rattle.typst_markup.proofs.Steps.{does-next, does-gives, does-node}
+use Rattle.typst_markup.proofs.Values.{does-value}
+use Rattle.typst_patterns.specs.Closures.{closure_shape}
+use Rattle.typst_code.specs.Parens.{parens}
+use Rattle.typst_code.proofs.parens.parens.Goals as goal
+
+pub returns : goal.returns
+unfolding parens
+returns g c l h =
+    does-next (does-node closure_shape h.sound c.marker-from.ensures.few c.marker-from.ensures.marker
+    (does-next (c.in_ok-behind.ensures l h) (does-next (c.in_ok-came.ensures l h) (does-next (c.in_ok-expression_if.ensures l h) (does-value c.behind_if.ensures does-gives))))
+    c.in_ok-wrap_closure.ensures) does-gives

@@ -1,0 +1,70 @@
+-- What begins with a paren: a group, a closure or an assignment.
+use Rattle.std.specs.Prelude.{Bool, true, false, not, ◌&&◌, if◌then◌else◌, [], codes}
+use Rattle.typst_kinds.specs.Kinds.{same}
+use Rattle.typst_kinds.specs.declared.kind.SyntaxKind.{SyntaxKind}
+use Rattle.typst_kinds.specs.declared.kind.SyntaxKind.TheVariants as kind
+use Rattle.typst_markup.specs.calls.Role.TheVariants as role
+use Rattle.typst_markup.specs.Syntax.{Parser, ◌>>=◌, ◌>>◌}
+use Rattle.typst_markup.specs.Syntax.Parser.{gives, pick, either}
+use Rattle.typst_markup.specs.Steps.{peek, node}
+use Rattle.typst_markup.specs.Expected.{expects}
+use Rattle.typst_patterns.specs.declared.closures.Behind.{Behind}
+use Rattle.typst_patterns.specs.declared.closures.Behind.TheVariants as behind
+use Rattle.typst_patterns.specs.Closures.{closure_shape}
+use Rattle.typst_patterns.specs.Params.{params}
+use Rattle.typst_patterns.specs.Parts.{expression_if}
+use Rattle.typst_patterns.specs.Patterns.{destructuring}
+use Rattle.typst_code.specs.Groups.{group}
+
+-- an arrow makes parameters of what stands before it; an equals sign makes it what is assigned to, unless it is one expression in parens
+abbrev pub behind_group : SyntaxKind → SyntaxKind → Behind
+behind_group group k =
+    if same kind.Arrow k then behind.Arrow
+    else (if same kind.Eq k && not (same kind.Parenthesized group) then behind.Eq else behind.Nothing)
+
+-- the first reading
+unfoldable pub as_group : Parser Behind
+as_group = do
+  read ← group
+  ahead ← peek
+  gives (behind_group read ahead.kind)
+
+abbrev pub is_arrow : Behind → Bool
+is_arrow behind.Arrow = true
+is_arrow behind.Eq = false
+is_arrow behind.Nothing = false
+
+abbrev pub is_eq : Behind → Bool
+is_eq behind.Arrow = false
+is_eq behind.Eq = true
+is_eq behind.Nothing = false
+
+-- a first reading, which is given up where what comes behind it asks for a second one
+abbrev pub either_reading : Parser Behind
+either_reading = either (either as_group is_arrow (params >> gives behind.Arrow)) is_eq (destructuring role.Target [] >> gives behind.Eq)
+
+-- only parens are read twice
+unfoldable pub readings : Parser Behind
+readings = do
+  ahead ← peek
+  pick (same kind.LeftParen ahead.kind) either_reading as_group
+
+-- what comes in place of a sign that doesn't come
+abbrev pub behind_if : Bool → Behind → Behind
+behind_if came b = if came then b else behind.Nothing
+
+-- the sign behind a second reading
+abbrev pub sign : Behind → Parser Bool
+sign behind.Arrow = expects (same kind.Arrow) (codes "arrow")
+sign behind.Eq = expects (same kind.Eq) (codes "equals sign")
+sign behind.Nothing = gives false
+
+-- a group, and behind a second reading its sign and an expression, which aren't given up
+unfoldable pub parens : Parser (Unit {0})
+parens = do
+  x ← node closure_shape (do
+    follows ← readings
+    came ← sign follows
+    rest ← expression_if came
+    gives (behind_if came follows))
+  gives tt

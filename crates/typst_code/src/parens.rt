@@ -1,0 +1,95 @@
+//! What begins with a paren: a group, a closure or an assignment.
+
+ghost use Rattle.std.specs.Prelude.{◌≡◌};
+ghost use Rattle.typst_markup.specs.View.{Means};
+ghost use Rattle.typst_code.specs.Parens as spec;
+
+use crate::groups::group;
+use std::alloc::AllocError;
+use typst_kinds::SyntaxKind;
+use typst_markup::{Levels, Parser, Role};
+use typst_names::Names;
+use typst_patterns::{Behind, destructuring, expression_if, params, wrap_closure};
+
+/// What comes behind a group of this kind.
+fn behind_group(group: SyntaxKind, kind: SyntaxKind) -> Behind
+    ensures { result ≡ spec.behind_group group kind }
+{
+    if kind == SyntaxKind::Arrow {
+        return Behind::Arrow;
+    }
+    if kind == SyntaxKind::Eq && group != SyntaxKind::Parenthesized {
+        return Behind::Eq;
+    }
+    Behind::Nothing
+}
+
+/// Reads a group; answers what comes behind it.
+fn as_group<L: Levels>(g: &L, p: &mut Parser<'_>) -> Result<Behind, AllocError>
+    requires { L.may_call g.now }
+    ensures { Means (L.frame g.now) spec.as_group p.old result p.new }
+{
+    let kind = group(g, p)?;
+    Ok(behind_group(kind, p.current()))
+}
+
+/// Reads a group, or in a second reading parameters or what is assigned to; answers what comes behind
+/// it.
+fn readings<L: Levels>(g: &L, p: &mut Parser<'_>) -> Result<Behind, AllocError>
+    requires { L.may_call g.now }
+    ensures { Means (L.frame g.now) spec.readings p.old result p.new }
+{
+    if p.current() != SyntaxKind::LeftParen {
+        return Ok(as_group(g, p)?);
+    }
+    let place = p.checkpoint();
+    let behind = as_group(g, p)?;
+    match behind {
+        Behind::Arrow => {
+            p.restore(place)?;
+            params(g, p)?;
+            p.drop_notes(place);
+        }
+        Behind::Eq => {
+            p.restore(place)?;
+            destructuring(g, p, Role::Target, Names::new(p.alloc()))?;
+            p.drop_notes(place);
+        }
+        Behind::Nothing => {}
+    }
+    Ok(behind)
+}
+
+/// Takes the sign behind a second reading; answers whether it came.
+fn sign<L: Levels>(g: &L, p: &mut Parser<'_>, behind: Behind) -> Result<bool, AllocError>
+    ensures { Means (L.frame g.now) (spec.sign behind) p.old result p.new }
+{
+    match behind {
+        Behind::Arrow => Ok(p.expects(p.current() == SyntaxKind::Arrow, "arrow", g)?),
+        Behind::Eq => Ok(p.expects(p.current() == SyntaxKind::Eq, "equals sign", g)?),
+        Behind::Nothing => Ok(false),
+    }
+}
+
+/// Nothing, where a sign doesn't come.
+fn behind_if(came: bool, behind: Behind) -> Behind
+    ensures { result ≡ spec.behind_if came behind }
+{
+    if came {
+        return behind;
+    }
+    Behind::Nothing
+}
+
+/// Reads a group, a closure or an assignment.
+pub(crate) fn parens<L: Levels>(g: &L, p: &mut Parser<'_>) -> Result<(), AllocError>
+    requires { L.may_call g.now }
+    ensures { Means (L.frame g.now) spec.parens p.old result p.new }
+{
+    let from = p.marker();
+    let behind = readings(g, p)?;
+    let came = sign(g, p, behind)?;
+    expression_if(g, p, came)?;
+    wrap_closure(p, from, behind_if(came, behind))?;
+    Ok(())
+}

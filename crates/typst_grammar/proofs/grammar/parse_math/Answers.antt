@@ -1,0 +1,18 @@
+use Rattle.std.proofs.Common.{◌∙◌, ap}
+use Rattle.std.proofs.lemmas.Str.{encodes-chars}
+use Rattle.std.specs.Str.{chars}
+use Rattle.typst_kinds.specs.declared.kind.SyntaxKind.TheVariants as kind
+use Rattle.typst_node.specs.Tree.{forest, inner_of, text_of}
+use Rattle.typst_grammar.specs.Grammar.{tree_math}
+use Rattle.typst_grammar.proofs.WholeMath.{leaves-math}
+use Rattle.typst_grammar.proofs.grammar.parse_math.Goals as goal
+
+pub returns-clause-tree : goal.returns-clause-tree
+unfolding tree_math
+returns-clause-tree g c = c.inner.ensures ∙ ap (λ ts. inner_of kind.Math (forest ts)) (c.finish-nodes.ensures.nodes ∙ c.in_ok-read_whole_math.ensures.nodes)
+
+pub returns-clause-leaves : goal.returns-clause-leaves
+unfolding tree_math
+returns-clause-leaves g c =
+    ap text_of (c.inner.ensures ∙ ap (λ ts. inner_of kind.Math (forest ts)) (c.finish-nodes.ensures.nodes ∙ c.in_ok-read_whole_math.ensures.nodes))
+    ∙ leaves-math (g.C.Classes.classes c.args.classes.now) (chars c.args.text.now) ∙ encodes-chars c.args.text.now c.utf8.text

@@ -1,0 +1,9 @@
+use Rattle.typst_kinds.specs.declared.kind.SyntaxKind.TheVariants as kind
+use Rattle.typst_machine.specs.Shape.{becomes}
+use Rattle.typst_machine.proofs.Steps.{does-next, does-gives, does-node}
+use Rattle.typst_markup.specs.Equations.{math}
+use Rattle.typst_markup.proofs.equations.math.Goals as goal
+
+pub returns : goal.returns
+unfolding math
+returns g c l h = does-node (λ _. becomes kind.Math) h.sound c.marker-from.ensures.few c.marker-from.ensures.marker (does-next (c.in_ok-math_exprs.ensures l h) does-gives) c.in_ok-wrap.ensures.wrapped

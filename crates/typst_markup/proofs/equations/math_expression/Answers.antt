@@ -1,0 +1,7 @@
+use Rattle.std.proofs.Common.{refl, sym}
+use Rattle.typst_markup.specs.Equations.{math_expression}
+use Rattle.typst_markup.proofs.equations.math_expression.Goals as goal
+
+pub returns : goal.returns
+unfolding math_expression
+returns g c l h = rw (sym c.no_signs.ensures) ((c.in_ok-deeper.ensures tt refl l h).does)

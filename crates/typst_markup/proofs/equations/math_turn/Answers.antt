@@ -1,0 +1,17 @@
+use Rattle.std.proofs.Common.{ap, true}
+use Rattle.typst_machine.proofs.Steps.{does-next, does-gives}
+use Rattle.typst_markup.specs.Equations.{math_turn}
+use Rattle.typst_markup.specs.Stops.{math_stops_at}
+use Rattle.typst_machine.proofs.Asks.{asks-yes, asks-no}
+use Rattle.typst_machine.proofs.Values.{does-value}
+use Rattle.typst_markup.proofs.equations.math_turn.Goals as goal
+
+pub returns-then-has : goal.returns-then-has
+unfolding math_turn
+returns-then-has g c l h = asks-yes (math_stops_at c.args.stop) c.current.ensures c.has.ensures c.if-has.true does-gives
+
+pub returns : goal.returns
+unfolding math_turn
+returns g c l h =
+    asks-no (math_stops_at c.args.stop) c.current.ensures c.has.ensures c.if-has.false
+    (does-next (c.in_ok-math_item.ensures l h) (does-value (ap (λ n. (true, n)) c.saturating_add.ensures) does-gives))

@@ -1,0 +1,4 @@
+pub mod Delimited
+pub mod MathArguments
+pub mod Attachments
+pub mod MathExpressions

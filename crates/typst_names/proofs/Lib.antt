@@ -1,0 +1,1 @@
+-- From what a contract promises to the lemma behind it: nothing yet.

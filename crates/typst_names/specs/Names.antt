@@ -1,0 +1,10 @@
+-- Names that were seen.
+use Rattle.std.specs.Prelude.{ℕ, Bool, if◌then◌else◌, List, [], ◌∷◌, ◌++◌}
+use Rattle.std.specs.List.{list_any}
+use Rattle.std.specs.Str.{bytes_eq}
+
+abbrev pub has_name : List (List ℕ) → List ℕ → Bool
+has_name names name = list_any (λ n. bytes_eq n name) names
+
+abbrev pub with_name : List (List ℕ) → List ℕ → List (List ℕ)
+with_name names name = if has_name names name then names else names ++ name ∷ []

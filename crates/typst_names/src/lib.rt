@@ -1,0 +1,6 @@
+//! Names that were seen.
+#![tactic(auto)]
+
+mod seen;
+
+pub use seen::Names;

@@ -1,0 +1,54 @@
+//! Names that were seen.
+
+ghost use Rattle.std.specs.Prelude.{◌≡◌, [], OnOk};
+ghost use Rattle.typst_names.specs.Names as spec;
+
+use std::alloc::{AllocError, Global};
+use std::marker::Model;
+use typst_node_data::Text;
+
+/// The names that were seen.
+#[derive(Drop)]
+pub struct Names {
+    alloc: Global,
+    names: Vec<Text>,
+}
+
+impl Model for Names {
+    ghost use Rattle.std.specs.Prelude.{List, ℕ};
+
+    ghost Value = { List (List ℕ) };
+
+    ghost view = { λ n. n.names.items };
+}
+
+impl Names {
+    /// None.
+    pub fn new(alloc: Global) -> Names
+        ensures { result ≡ [] }
+    {
+        Names {
+            alloc,
+            names: Vec::new(alloc),
+        }
+    }
+
+    /// Whether the name is one of them.
+    pub fn has(&self, name: &str) -> bool
+        ensures { result ≡ spec.has_name self.now name.now }
+    {
+        self.names.as_slice().iter().any(|n| n.as_str() == name)
+    }
+
+    /// Adds the name, unless it is one of them.
+    pub fn add(&mut self, name: &str) -> Result<(), AllocError>
+        ensures { OnOk result (self.new ≡ spec.with_name self.old name.now) }
+    {
+        if self.has(name) {
+            return Ok(());
+        }
+        let name = Text::new(self.alloc, name)?;
+        self.names.push(name)?;
+        Ok(())
+    }
+}
