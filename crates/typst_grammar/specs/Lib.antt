@@ -1,3 +1,4 @@
+pub mod Binding
 pub mod Examples
 pub mod Grammar
 pub mod Laws

@@ -1,6 +1,7 @@
 //! Laws of the grammar.
 
 ghost use Rattle.typst_classes.specs.Classes.{CharClasses};
+ghost use Rattle.typst_grammar.specs.Binding.{Bindings};
 ghost use Rattle.typst_grammar.specs.Examples.{CodeTrees, NamedTrees, Trees};
 ghost use Rattle.typst_grammar.specs.Laws.{CallLaws, CodeLeavesLaw, LeavesLaw, MathLeavesLaw, PieceLaws, RunLaws, SequenceLaws};
 ghost use Rattle.typst_grammar.specs.Notes.{Notes};
@@ -42,4 +43,9 @@ pub fn trees_of_code()
 /// What is noted of short texts.
 pub fn notes_of_texts()
     ensures { (beyond : CharClasses) → Notes beyond }
+{}
+
+/// Which operands bind as their operators ask for, by examples.
+pub fn bindings_of_texts()
+    ensures { (beyond : CharClasses) → Bindings beyond }
 {}
