@@ -235,6 +235,9 @@ binds-reshaped shape e n o h =
       known = still-shaped shape (drop m o.nodes) o.state h.known;
     }
 
+still-left : (outer : Reading) (s : Point) → All Still (pending s.known) → All Still (pending (left outer s).known)
+still-left outer s h = on_both (λ (t : Point). All Still (pending t.known)) (same_mode s.reading.mode outer.mode) _ _ h tt
+
 abbrev pub tame_if : Option Shape → Bool
 tame_if None = true
 tame_if (Some shape) = tame shape
@@ -389,7 +392,7 @@ module _ (l : Level) where
     binds-run (scoped f p) w z s h =
         let o = run l p z (entered (f s.reading) s) in
         let k = binds-run p w z (entered (f s.reading) s) h in
-        record { nodes = k.nodes; known = on_both (λ (t : Point). All Still (pending t.known)) (same_mode o.state.reading.mode s.reading.mode) _ _ k.known tt }
+        record { nodes = k.nodes; known = still-left s.reading o.state k.known }
     binds-run (sees p) w z s h = let k = binds-run p w z s h in record { nodes = k.nodes; known = k.known }
     binds-run (either p is_wrong q) w z s h =
         let o = run l p z s in
