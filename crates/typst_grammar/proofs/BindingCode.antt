@@ -1,5 +1,5 @@
 -- Expressions of code bind: what grows turn by turn.
-use Rattle.std.proofs.Common.{◌≡◌, ℕ, zero, suc, ◌+◌, ◌-◌, ◌≤◌, ◌<◌, Bool, true, false, ◌&&◌, if◌then◌else◌, nat_lt, List, [], ◌∷◌, ◌++◌, length, take, drop, append_assoc, Option, Some, None, refl, ap, sym, ◌∙◌, ◌⊎◌, inl, inr, subst, arith}
+use Rattle.std.proofs.Common.{◌≡◌, ℕ, zero, suc, ◌+◌, ◌-◌, ◌≤◌, ◌<◌, Bool, true, false, ◌&&◌, if◌then◌else◌, nat_lt, List, [], ◌∷◌, ◌++◌, length, take, drop, nat_le, length-append, length-take, append_assoc, Option, Some, None, refl, ap, sym, ◌∙◌, ◌⊎◌, inl, inr, subst, arith}
 use Rattle.std.proofs.lemmas.Bool.Decides.{nat_tests}
 use Rattle.typst_kinds.specs.Kinds.{is_error, is_trivia}
 use Rattle.typst_kinds.specs.Operators.{binary_precedence, assoc_of}
@@ -16,13 +16,13 @@ use Rattle.typst_code.specs.Point.{Point, pending}
 use Rattle.typst_code.specs.Shape.{Shape, shaped, becomes, hinted}
 use Rattle.typst_code.specs.Meaning.{Outcome, Meaning, Level, less, standing, joined, answered, bound, inside, reshaped, grown, is_more, growths, growing, hand_of, run}
 use Rattle.typst_code.specs.Sound.{Within}
-use Rattle.typst_code.proofs.Places.{moved-sum}
+use Rattle.typst_code.proofs.Places.{moved-sum, less-none}
 use Rattle.typst_code.proofs.Within.{on_both}
 use Rattle.typst_grammar.specs.Binding.{any_errors, has_errors, sign_of, operator_of, binds_by, right_least, node_binds}
-use Rattle.typst_grammar.proofs.Fine.{All, Fine, tame, or-left, all-append, all-drop, leaf-operator}
+use Rattle.typst_grammar.proofs.Fine.{All, Fine, tame, or-left, all-append, all-drop, all-take, all-map, fine-binary, leaf-operator}
 use Rattle.typst_grammar.proofs.FineRuns.{Binds, Still, binds-joined, binds-reshaped}
 use Rattle.typst_grammar.proofs.BindingHeads.{Leafy, LastIs, last-map, last-one, behind-take}
-use Rattle.typst_grammar.proofs.BindingTurns.{NoSign, BindsBy, Sane, below, Tight, binary-binds, all-sane, all-with, last-with, all-left, all-right}
+use Rattle.typst_grammar.proofs.BindingTurns.{tight-binds, bare-binds, NoSign, BindsBy, Sane, below, Tight, binary-binds, all-sane, all-with, last-with, all-left, all-right}
 
 -- ---- what stands left and right of an operator
 
@@ -71,13 +71,14 @@ last-left E P Q [] h f = f h
 last-left E P Q (t ∷ []) h f = h.1
 last-left E P Q (t ∷ u ∷ ts) h f = last-left E P Q (u ∷ ts) h f
 
+-- the node over them binds, and as tightly as what comes
+abbrev Fits : SyntaxKind → BinOp → List Tree → Type 0
+Fits j op ts = (operator_of (inner_of kind.Binary (forest ts)) ≡ Some op) × ((node_binds (inner_of kind.Binary (forest ts)) ≡ true) × (below (suc (binary_precedence op)) j ≡ true))
+
 -- an operator that was taken, with its right operand
 module _ (i j : SyntaxKind) (op : BinOp) (text : List ℕ) (sgn : Tree) (ds : List Tree) (e : sign_of i ≡ Some op) (leafy : Leafy i text sgn)
     (right : LastIs (has_errors sgn ≡ true) (λ t. Sane t → BindsBy (right_least op) t × (below (right_least op) j ≡ true)) ds) where
-  abbrev Fits : List Tree → Type 0
-  Fits ts = (operator_of (inner_of kind.Binary (forest ts)) ≡ Some op) × ((node_binds (inner_of kind.Binary (forest ts)) ≡ true) × (below (suc (binary_precedence op)) j ≡ true))
-
-  fits-leaf : sgn ≡ leaf_of i text → (ls : List Tree) → All NoSign ls → All (λ t. Sane t → BindsBy (binary_precedence op) t) ls → any_errors (forest (ls ++ sgn ∷ ds)) ≡ false → Fits (ls ++ sgn ∷ ds)
+  fits-leaf : sgn ≡ leaf_of i text → (ls : List Tree) → All NoSign ls → All (λ t. Sane t → BindsBy (binary_precedence op) t) ls → any_errors (forest (ls ++ sgn ∷ ds)) ≡ false → Fits j op (ls ++ sgn ∷ ds)
   fits-leaf is ls no_signs left n =
       let sane = all-sane (ls ++ sgn ∷ ds) n in
       let here = all-right Sane ls (sgn ∷ ds) sane in
@@ -89,12 +90,12 @@ module _ (i j : SyntaxKind) (op : BinOp) (text : List ℕ) (sgn : Tree) (ds : Li
           (last-map (has_errors sgn ≡ true) (Unit {0}) (λ t. BindsBy (right_least op) t × (below (right_least op) j ≡ true)) (BindsBy (right_least op)) (λ w. tt) (λ t x. x.0) ds r) in
       (b.0, (b.1, below-more (right_least op) (suc (binary_precedence op)) j (right-most op) tight))
 
-  fits : (ls : List Tree) → All NoSign ls → All (λ t. Sane t → BindsBy (binary_precedence op) t) ls → any_errors (forest (ls ++ sgn ∷ ds)) ≡ false → Fits (ls ++ sgn ∷ ds)
+  fits : (ls : List Tree) → All NoSign ls → All (λ t. Sane t → BindsBy (binary_precedence op) t) ls → any_errors (forest (ls ++ sgn ∷ ds)) ≡ false → Fits j op (ls ++ sgn ∷ ds)
   fits ls no_signs left n = by-leaf leafy
     where
       wrong : sgn.head.kind ≡ kind.Error → ⊥
       wrong w = let s = (all-right Sane ls (sgn ∷ ds) (all-sane (ls ++ sgn ∷ ds) n)).0 in let x = or-left (is_error sgn.head.kind) (any_errors sgn.kids) s in let y = ap is_error w in absurd (cc)
-      by-leaf : Leafy i text sgn → Fits (ls ++ sgn ∷ ds)
+      by-leaf : Leafy i text sgn → Fits j op (ls ++ sgn ∷ ds)
       by-leaf (inl w) = absurd (wrong w)
       by-leaf (inr is) = fits-leaf is ls no_signs left n
 
@@ -117,6 +118,57 @@ module _ (k : CharClasses) (least : ℕ) where
     pub last : LastIs (s.is_after_error ≡ true) (λ t. Sane t → BindsBy least t) o.nodes
     -- what stood before it is left of the token at hand
     pub enough : n + o.back ≤ length o.nodes + length (hand_at k o.state.held o.state.known (moved o.taken z)).trivia
+
+  tight-of : (j : SyntaxKind) (op : BinOp) (t : Tree) → operator_of t ≡ Some op → below (suc (binary_precedence op)) j ≡ true → Tight j t
+  tight-of j op t e b = subst (λ (o : Option BinOp). elim o as (λ _. Type 0) [ None ↦ Unit {0} | Some x ↦ below (suc (binary_precedence x)) j ≡ true ]) (sym e) b
+
+  -- an operator with its operands becomes a node
+  module _ {A : Type 0} (n : ℕ) (z : Place) (s : Point) (o : Outcome A) (p : Outcome (Option Shape × A)) (a : A) (g : Grown n z s o) where
+    abbrev w : Place
+    w = moved o.taken z
+
+    abbrev i : SyntaxKind
+    i = kind_at w o.state
+
+    abbrev j : SyntaxKind
+    j = kind_at (moved p.taken w) p.state
+
+    abbrev trivia : List Tree
+    trivia = (hand_at k o.state.held o.state.known w).trivia
+
+    abbrev x : Outcome A
+    x = answered a (joined o p)
+
+    pub grown-binary : (op : BinOp) (text : List ℕ) (sgn : Tree) (ds : List Tree) → sign_of i ≡ Some op → nat_le least (binary_precedence op) ≡ true → Leafy i text sgn → All Still trivia
+        → p.nodes ≡ trivia ++ sgn ∷ ds → p.back ≡ 0 → p.hints ≡ [] → Binds p → LastIs (has_errors sgn ≡ true) (λ t. Sane t → BindsBy (right_least op) t × (below (right_least op) j ≡ true)) ds
+        → Grown n z s (reshaped (becomes kind.Binary) n x)
+    grown-binary op text sgn ds e l leafy still nodes back hints b right =
+        let m = n + x.back in
+        let is : x.nodes ≡ o.nodes ++ (trivia ++ sgn ∷ ds) = rw (hints, back) (ap (λ ts. ts ++ p.nodes) (less-none o.nodes) ∙ ap (λ ts. o.nodes ++ ts) nodes) in
+        let same-m : m ≡ n + o.back = omega (arith, back) in
+        let en = g.enough in
+        let sp = split m o.nodes trivia (sgn ∷ ds) (omega (arith, en, same-m)) in
+        let cs = inside n x in
+        let same-cs : cs ≡ sp.front ++ sgn ∷ ds = ap (λ ts. drop m ts) is ∙ sp.same in
+        let left = subst (λ (y : ℕ). All (Leftward i) (drop y o.nodes)) (sym same-m) g.inside in
+        let no_signs = sp.all NoSign (all-map (Leftward i) NoSign (λ t h. h.0) (drop m o.nodes) left) (all-map Still NoSign (λ t h. h.no_sign) trivia still) in
+        let binding = sp.all (λ t. Sane t → BindsBy (binary_precedence op) t) (all-map (Leftward i) (λ t. Sane t → BindsBy (binary_precedence op) t) (λ t h y. tight-binds i op t e (h.1 y)) (drop m o.nodes) left)
+            (all-map Still (λ t. Sane t → BindsBy (binary_precedence op) t) (λ t h y. bare-binds (binary_precedence op) t h.no_operator) trivia still) in
+        let fit : any_errors (forest cs) ≡ false → Fits j op cs = subst (λ (ts : List Tree). any_errors (forest ts) ≡ false → Fits j op ts) (sym same-cs) (fits i j op text sgn ds e leafy right sp.front no_signs binding) in
+        let node = inner_of kind.Binary (forest cs) in
+        let all = binds-joined o p g.binds b in
+        let fine = fine-binary cs (all-drop Fine m x.nodes all.nodes) (λ y. (fit y).1.0) in
+        let there : kind_at (moved (o.taken + p.taken) z) p.state ≡ j = ap (λ (v : Place). kind_at v p.state) (moved-sum o.taken p.taken z) in
+        let leftward : Leftward j node = (refl, λ y. tight-of j op node (fit y).0 (fit y).1.1) in
+        record {
+          binds = record { nodes = all-append Fine (take m x.nodes) (node ∷ []) (all-take Fine m x.nodes all.nodes) (fine, tt); known = all.known };
+          inside = behind-take (Leftward (kind_at (moved (o.taken + p.taken) z) p.state)) m x.nodes (node ∷ []) (subst (λ (v : SyntaxKind). Leftward v node) (sym there) leftward, tt);
+          last = last-one (s.is_after_error ≡ true) (λ t. Sane t → BindsBy least t) (take m x.nodes) node (λ y. by-operator node (fit y).0);
+          enough = (let a1 = length-append o.nodes (trivia ++ sgn ∷ ds) in let a2 = length-append trivia (sgn ∷ ds) in let a3 = ap (λ (ts : List Tree). length ts) is in let a4 = length-take m x.nodes in let a5 = length-append (take m x.nodes) (node ∷ []) in omega (arith, a1, a2, a3, a4, a5, en, same-m));
+        }
+      where
+        by-operator : (t : Tree) → operator_of t ≡ Some op → BindsBy least t
+        by-operator t y = rw (y, binds_by) l
 
   -- an operand
   pub record Operand {A : Type 0} (z : Place) (s : Point) (o : Outcome A) : Type 0 where

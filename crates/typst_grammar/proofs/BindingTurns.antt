@@ -53,7 +53,7 @@ last-behind n [] sgn (r ∷ rs) h b = h
 last-behind n (t ∷ []) sgn rs h b = last-behind n [] sgn rs h b
 last-behind n (t ∷ u ∷ ls) sgn rs h b = last-behind n (u ∷ ls) sgn rs h b
 
-bare-binds : (n : ℕ) (t : Tree) → operator_of t ≡ None → BindsBy n t
+pub bare-binds : (n : ℕ) (t : Tree) → operator_of t ≡ None → BindsBy n t
 bare-binds n t e = rw (e, binds_by) refl
 
 -- an operator between what binds as it asks for
