@@ -21,7 +21,7 @@ use Rattle.typst_code.proofs.Within.{on_both}
 use Rattle.typst_grammar.specs.Binding.{any_errors, has_errors, sign_of, operator_of, binds_by, right_least, node_binds}
 use Rattle.typst_grammar.proofs.Fine.{All, Fine, tame, or-left, all-append, all-drop, all-take, all-map, fine-binary, leaf-operator}
 use Rattle.typst_grammar.proofs.FineRuns.{Binds, Still, binds-joined, binds-reshaped}
-use Rattle.typst_grammar.proofs.BindingHeads.{Leafy, LastIs, last-map, last-one, behind-take}
+use Rattle.typst_grammar.proofs.BindingHeads.{Silent, standing-silent, Leafy, LastIs, last-map, last-one, behind-take}
 use Rattle.typst_grammar.proofs.BindingTurns.{tight-binds, bare-binds, NoSign, BindsBy, Sane, below, Tight, binary-binds, all-sane, all-with, last-with, all-left, all-right}
 
 -- ---- what stands left and right of an operator
@@ -188,9 +188,21 @@ module _ (k : CharClasses) (least : ℕ) where
   abbrev pub turned : {A : Type 0} → ℕ → Outcome A → Outcome (Option Shape × A) → Outcome A
   turned n o p = grown n p.value.0 (answered p.value.1 (joined o p))
 
-  grown-bound : {A : Type 0} (n : ℕ) (shape : Option Shape) (o : Outcome A) (z : Place) → (grown n shape o).taken ≡ o.taken
-  grown-bound n None o z = refl
-  grown-bound n (Some shape) o z = refl
+  -- nothing comes that is taken: the operand ends
+  pub stopped-silent : {A : Type 0} (n : ℕ) (z : Place) (s : Point) (o : Outcome A) (p : Outcome (Option Shape × A)) → Grown n z s o → Silent p → p.value.0 ≡ None → Binds p
+      → kind_at (moved p.taken (moved o.taken z)) p.state ≡ kind_at (moved o.taken z) o.state → below least (kind_at (moved o.taken z) o.state) ≡ true → Stopped z s p (turned n o p)
+  stopped-silent n z s o p g q none b same l =
+      let x = answered p.value.1 (joined o p) in
+      let is : turned n o p ≡ x = ap (λ (v : Option Shape). grown n v x) none in
+      let there : kind_at (moved (o.taken + p.taken) z) p.state ≡ kind_at (moved o.taken z) o.state = ap (λ (v : Place). kind_at v p.state) (moved-sum o.taken p.taken z) ∙ same in
+      let all = binds-joined o p g.binds b in
+      let last = last-map (s.is_after_error ≡ true) (s.is_after_error ≡ true) (λ t. Sane t → BindsBy least t) (Ended (kind_at (moved (o.taken + p.taken) z) p.state)) (λ e. e)
+          (λ t h y. (h y, ap (below least) there ∙ l)) o.nodes g.last in
+      let r : Operand z s x = record {
+        binds = record { nodes = all.nodes; known = all.known };
+        last = subst (λ (ts : List Tree). LastIs (s.is_after_error ≡ true) (Ended (kind_at (moved (o.taken + p.taken) z) p.state)) ts) (sym (standing-silent p q o.nodes)) last;
+      } in
+      record { says = ap is_more none; operand = subst (λ y. Operand z s y) (sym is) r }
 
   is-less : (m : ℕ) → 0 < m → nat_lt 0 m ≡ true
   is-less m h = grind (arith, nat_tests)
