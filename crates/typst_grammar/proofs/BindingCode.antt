@@ -1,5 +1,5 @@
 -- Expressions of code bind: what grows turn by turn.
-use Rattle.std.proofs.Common.{◌≡◌, ℕ, zero, suc, ◌+◌, ◌-◌, ◌≤◌, ◌<◌, Bool, true, false, ◌&&◌, if◌then◌else◌, nat_lt, List, [], ◌∷◌, ◌++◌, length, take, drop, nat_le, length-append, length-take, append_assoc, Option, Some, None, refl, ap, sym, ◌∙◌, ◌⊎◌, inl, inr, subst, arith}
+use Rattle.std.proofs.Common.{◌≡◌, ℕ, zero, suc, ◌+◌, ◌≤◌, ◌<◌, Bool, true, false, ◌&&◌, if◌then◌else◌, nat_lt, List, [], ◌∷◌, ◌++◌, length, take, drop, nat_le, length-append, length-take, append_assoc, Option, Some, None, refl, ap, sym, ◌∙◌, ◌⊎◌, inl, inr, subst, arith}
 use Rattle.std.proofs.lemmas.Bool.Decides.{nat_tests}
 use Rattle.typst_kinds.specs.Kinds.{is_error, is_trivia}
 use Rattle.typst_kinds.specs.Operators.{binary_precedence, assoc_of}
@@ -11,16 +11,14 @@ use Rattle.typst_kinds.specs.declared.kind.SyntaxKind.TheVariants as kind
 use Rattle.typst_lines.specs.Place.{Place, moved}
 use Rattle.typst_node.specs.Tree.{Tree, forest, leaf_of, inner_of}
 use Rattle.typst_classes.specs.Classes.{CharClasses}
-use Rattle.typst_code.specs.Hand.{Hand, hand_at}
-use Rattle.typst_code.specs.Point.{Point, pending}
-use Rattle.typst_code.specs.Shape.{Shape, shaped, becomes, hinted}
-use Rattle.typst_code.specs.Meaning.{Outcome, Meaning, Level, less, standing, joined, answered, bound, inside, reshaped, grown, is_more, growths, growing, hand_of, run}
-use Rattle.typst_code.specs.Sound.{Within}
+use Rattle.typst_code.specs.Hand.{hand_at}
+use Rattle.typst_code.specs.Point.{Point}
+use Rattle.typst_code.specs.Shape.{Shape, becomes}
+use Rattle.typst_code.specs.Meaning.{Outcome, Meaning, joined, answered, bound, inside, reshaped, grown, is_more, growths}
 use Rattle.typst_code.proofs.Places.{moved-sum, less-none}
-use Rattle.typst_code.proofs.Within.{on_both}
 use Rattle.typst_grammar.specs.Binding.{any_errors, has_errors, sign_of, operator_of, binds_by, right_least, node_binds}
-use Rattle.typst_grammar.proofs.Fine.{All, Fine, tame, or-left, all-append, all-drop, all-take, all-map, fine-binary, leaf-operator}
-use Rattle.typst_grammar.proofs.FineRuns.{Binds, Still, binds-joined, binds-reshaped}
+use Rattle.typst_grammar.proofs.Fine.{All, Fine, or-left, all-append, all-drop, all-take, all-map, fine-binary, leaf-operator}
+use Rattle.typst_grammar.proofs.FineRuns.{Binds, Still, binds-joined}
 use Rattle.typst_grammar.proofs.BindingHeads.{Silent, standing-silent, Leafy, LastIs, last-map, last-one, behind-take}
 use Rattle.typst_grammar.proofs.BindingTurns.{tight-binds, bare-binds, NoSign, BindsBy, Sane, below, Tight, binary-binds, all-sane, all-with, last-with, all-left, all-right}
 

@@ -1,13 +1,12 @@
 -- What stands to the left of an operator: no operator stands there, and no binary node.
-use Rattle.std.proofs.Common.{◌≡◌, ℕ, zero, suc, ◌+◌, ◌-◌, ◌≤◌, Bool, true, false, not, ◌&&◌, ◌||◌, if◌then◌else◌, nat_lt, List, [], ◌∷◌, ◌++◌, length, take, drop, Option, Some, None, refl, ap, sym, ◌∙◌, ◌⊎◌, inl, inr, subst, arith, encode_utf8_all}
-use Rattle.std.specs.Prelude.{codes}
+use Rattle.std.proofs.Common.{◌≡◌, ℕ, zero, suc, ◌+◌, ◌-◌, Bool, true, false, ◌&&◌, ◌||◌, if◌then◌else◌, nat_lt, List, [], ◌∷◌, ◌++◌, length, take, drop, Option, Some, None, refl, ap, sym, ◌∙◌, ◌⊎◌, inl, inr, subst, arith, encode_utf8_all}
 use Rattle.typst_classes.specs.Classes.{CharClasses}
 use Rattle.typst_kinds.specs.Kinds.{same, is_error}
 use Rattle.typst_kinds.specs.declared.kind.SyntaxKind.{SyntaxKind}
 use Rattle.typst_kinds.specs.declared.kind.SyntaxKind.TheVariants as kind
 use Rattle.typst_lines.specs.Place.{Place, moved}
 use Rattle.typst_node.specs.Diagnostic.{hint_with}
-use Rattle.typst_node.specs.Tree.{Tree, forest, leaf_of, inner_of, error_of, advised}
+use Rattle.typst_node.specs.Tree.{Tree, leaf_of, error_of, advised}
 use Rattle.typst_token_nodes.specs.Faults.{hints, message}
 use Rattle.typst_raw.specs.Raw.{raw_node, delimited_node, closed_node, block_node, inline_node, delimited, two_delimiters, is_pair, before_ticks, ticks}
 use Rattle.typst_raw.specs.Tag.{tag, next_tag, warned, changes, is_some_text, is_whole, cut_tag, no_tag, only_tag}
@@ -19,19 +18,19 @@ use Rattle.typst_code.specs.Point.{Point, Trivia, pending}
 use Rattle.typst_code.specs.Ask.{Ask}
 use Rattle.typst_code.specs.reading.Reading.{Reading}
 use Rattle.typst_code.specs.Hand.{Hand, AtHand, told, hand_at}
-use Rattle.typst_code.specs.Shape.{Making, Shape, shaped, hinted, hinted_last, hinted_error, all_advised}
+use Rattle.typst_code.specs.Shape.{Making, Shape, shaped, hinted}
 use Rattle.typst_code.specs.Shape.Making.{itself}
 use Rattle.typst_code.specs.Syntax.{Parser}
 use Rattle.typst_code.specs.Syntax.Begin.{at_token}
 use Rattle.typst_code.specs.Syntax.Op.{hand, takes}
-use Rattle.typst_code.specs.Syntax.Parser.{gives, does, next, wraps}
+use Rattle.typst_code.specs.Syntax.Parser.{gives, does, next}
 use Rattle.typst_code.specs.Steps.{peek, eat_making, eat, node, nest}
 use Rattle.typst_code.specs.Depth.{is_end}
-use Rattle.typst_code.specs.Meaning.{Outcome, Meaning, Level, plain, less, standing, joined, answered, followed, as_last, bound, before, inside, reshaped, wrapped, nestings, nesting, gave, taken_node, hand_of, hand_asks_of, asked, run}
+use Rattle.typst_code.specs.Meaning.{Outcome, Level, plain, less, standing, joined, followed, as_last, bound, inside, reshaped, wrapped, nestings, nesting, taken_node, hand_of, hand_asks_of, asked, run}
 use Rattle.typst_code.proofs.Ends.{hand-again}
-use Rattle.typst_code.proofs.Places.{no-end, less-none}
+use Rattle.typst_code.proofs.Places.{no-end}
 use Rattle.typst_code.proofs.Within.{on_both}
-use Rattle.typst_grammar.specs.Binding.{has_errors, sign_of, operator_of}
+use Rattle.typst_grammar.specs.Binding.{sign_of, operator_of}
 use Rattle.typst_grammar.proofs.Fine.{All, Steady, all-drop, no-operator}
 use Rattle.typst_grammar.proofs.FineRuns.{Still, still-hand}
 

@@ -1,5 +1,5 @@
 -- An operator and what is read behind it.
-use Rattle.std.proofs.Common.{◌≡◌, ℕ, ◌+◌, ◌-◌, Bool, true, false, ◌||◌, if◌then◌else◌, nat_lt, List, [], ◌∷◌, ◌++◌, length, length-append, append_assoc, append-nil, Option, None, refl, ap, sym, ◌∙◌, ◌⊎◌, inl, inr, subst, arith}
+use Rattle.std.proofs.Common.{◌≡◌, ℕ, Bool, true, false, if◌then◌else◌, nat_lt, List, [], ◌∷◌, ◌++◌, length, append_assoc, append-nil, None, refl, ap, sym, ◌∙◌, inl, inr, arith}
 use Rattle.std.proofs.lemmas.Bool.Decides.{nat_tests}
 use Rattle.typst_kinds.specs.Kinds.{is_error}
 use Rattle.typst_kinds.specs.declared.kind.SyntaxKind.{SyntaxKind}
@@ -8,10 +8,10 @@ use Rattle.typst_lines.specs.Place.{Place}
 use Rattle.typst_node.specs.Diagnostic.{hint_with}
 use Rattle.typst_node.specs.Tree.{Tree, leaf_of, advised}
 use Rattle.typst_code.specs.Point.{Point}
-use Rattle.typst_code.specs.Shape.{all_advised, hinted_error, hinted_last, hinted}
+use Rattle.typst_code.specs.Shape.{all_advised, hinted_error, hinted}
 use Rattle.typst_code.specs.Shape.Making.{itself}
 use Rattle.typst_code.specs.Steps.{eat}
-use Rattle.typst_code.specs.Meaning.{Outcome, Level, plain, less, standing, joined, hints_before, hand_of, taken_node, run}
+use Rattle.typst_code.specs.Meaning.{Outcome, Level, plain, less, joined, hand_of, taken_node, run}
 use Rattle.typst_code.proofs.Hints.{hinted-append}
 use Rattle.typst_code.proofs.Places.{less-none, no-end}
 use Rattle.typst_code.proofs.Within.{on_both}

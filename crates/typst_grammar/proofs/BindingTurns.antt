@@ -1,5 +1,5 @@
 -- A binary node that an operator makes binds.
-use Rattle.std.proofs.Common.{◌≡◌, ℕ, zero, suc, ◌+◌, ◌-◌, ◌≤◌, ◌<◌, Bool, true, false, not, ◌&&◌, ◌||◌, if◌then◌else◌, nat_lt, nat_le, List, [], ◌∷◌, ◌++◌, length, take, drop, Option, Some, None, refl, ap, sym, ◌∙◌, ◌⊎◌, inl, inr, subst, arith}
+use Rattle.std.proofs.Common.{◌≡◌, ℕ, suc, Bool, true, false, ◌||◌, if◌then◌else◌, nat_lt, nat_le, List, [], ◌∷◌, ◌++◌, Option, Some, None, refl, ap, ◌∙◌, subst, arith}
 use Rattle.std.proofs.lemmas.Bool.Decides.{nat_tests}
 use Rattle.typst_kinds.specs.Kinds.{same, is_error, is_trivia}
 use Rattle.typst_kinds.specs.Operators.{binary_of, binary_precedence}
@@ -7,13 +7,12 @@ use Rattle.typst_kinds.specs.declared.kind.SyntaxKind.{SyntaxKind}
 use Rattle.typst_kinds.specs.declared.kind.SyntaxKind.TheVariants as kind
 use Rattle.typst_kinds.specs.declared.operator.BinOp.{BinOp}
 use Rattle.typst_kinds.specs.declared.operator.BinOp.TheVariants as binary
-use Rattle.typst_node.specs.Tree.{Tree, forest, trees, leaf_of, inner_of}
-use Rattle.typst_code.specs.declared.heads.CodeTail.{CodeTail}
+use Rattle.typst_node.specs.Tree.{Tree, forest, trees, inner_of}
 use Rattle.typst_code.specs.declared.heads.CodeTail.TheVariants as tail
 use Rattle.typst_code.specs.Arguments.{calls_directly}
-use Rattle.typst_code.specs.Expressions.{binary_tail, operator_tail, code_tail}
+use Rattle.typst_code.specs.Expressions.{binary_tail, code_tail}
 use Rattle.typst_grammar.specs.Binding.{any_errors, has_errors, sign_of, first_sign, operator_of, binds_by, left_binds, right_binds, right_least, operands_bind, node_binds}
-use Rattle.typst_grammar.proofs.Fine.{All, or-left, or-right, or-both, and-both, all-append}
+use Rattle.typst_grammar.proofs.Fine.{All, or-left, or-right, or-both, and-both}
 use Rattle.typst_grammar.proofs.BindingHeads.{LastIs}
 
 -- ---- children of a binary node

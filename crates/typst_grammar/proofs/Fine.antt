@@ -1,20 +1,19 @@
 -- Trees that bind where they have no errors.
-use Rattle.std.proofs.Common.{◌≡◌, ℕ, zero, suc, Bool, true, false, ◌&&◌, ◌||◌, if◌then◌else◌, List, [], ◌∷◌, ◌++◌, take, drop, Option, Some, None, refl, ap, sym, ◌∙◌, subst}
-use Rattle.typst_kinds.specs.Kinds.{same, is_error, is_trivia}
+use Rattle.std.proofs.Common.{◌≡◌, ℕ, zero, suc, Bool, true, false, ◌&&◌, ◌||◌, if◌then◌else◌, List, [], ◌∷◌, ◌++◌, take, drop, None, refl, ap, sym, subst}
+use Rattle.typst_kinds.specs.Kinds.{same, is_error}
 use Rattle.typst_kinds.specs.Names.{name_of}
 use Rattle.typst_kinds.specs.declared.kind.SyntaxKind.{SyntaxKind}
 use Rattle.typst_kinds.specs.declared.kind.SyntaxKind.TheVariants as kind
-use Rattle.typst_kinds.specs.declared.operator.BinOp.{BinOp}
 use Rattle.typst_node.specs.Diagnostic.{hint_with}
 use Rattle.typst_node.specs.Messages.{made_unexpected, made_expected, expected_error, expected_message, unexpected_message, is_lost_name, keyword_hint}
 use Rattle.typst_node.specs.Tree.{Tree, Forest, forest, trees, text_of, leaf_of, inner_of, error_of, topped, with_kind, made_error, advised}
 use Rattle.typst_node.specs.Tree.Forest.{none, more}
-use Rattle.typst_code.specs.Shape.{Making, made, all_advised, hinted_error, hinted_last, hinted, Change, is_delimited, in_parens, renamed_last, parens_renamed, without_parens, on_first, first_changed, Shape, shaped}
+use Rattle.typst_code.specs.Shape.{Making, made, all_advised, hinted_last, hinted, Change, is_delimited, in_parens, renamed_last, parens_renamed, without_parens, on_first, first_changed, Shape, shaped}
 use Rattle.typst_code.specs.Shape.Making.{itself, of_kind, surprise, wanted}
 use Rattle.typst_code.specs.Shape.Change.{stays, turns_wrong, is_not, renamed, unparened}
 use Rattle.typst_code.specs.Shape.Shape.{keeps, holds, lacks, warns, fails}
 use Rattle.typst_code.proofs.Within.{on_both, on_if}
-use Rattle.typst_grammar.specs.Binding.{any_errors, has_errors, sign_of, first_sign, operator_of, binds_by, operands_bind, node_binds, all_bind, binds}
+use Rattle.typst_grammar.specs.Binding.{any_errors, has_errors, first_sign, operator_of, node_binds, all_bind, binds}
 
 -- ---- tests
 

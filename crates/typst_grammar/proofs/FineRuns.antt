@@ -1,5 +1,5 @@
 -- Parsers that give trees which bind where they have no errors: the words of the language.
-use Rattle.std.proofs.Common.{◌≡◌, ℕ, zero, suc, ◌+◌, ◌-◌, Bool, true, false, if◌then◌else◌, nat_lt, List, [], ◌∷◌, ◌++◌, length, take, drop, Option, Some, None, refl, ap, sym, ◌∙◌, subst, encode_utf8_all, ◌==◌, ◌&&◌}
+use Rattle.std.proofs.Common.{◌≡◌, ℕ, zero, suc, ◌+◌, ◌-◌, Bool, true, false, if◌then◌else◌, nat_lt, List, [], ◌∷◌, ◌++◌, length, take, drop, Option, Some, None, refl, ap, sym, subst, encode_utf8_all, ◌==◌, ◌&&◌}
 use Rattle.std.specs.Prelude.{codes}
 use Rattle.typst_classes.specs.Classes.{CharClasses}
 use Rattle.typst_kinds.specs.Kinds.{same, is_error, is_trivia}
@@ -8,7 +8,7 @@ use Rattle.typst_kinds.specs.declared.kind.SyntaxKind.TheVariants as kind
 use Rattle.typst_kinds.specs.declared.mode.SyntaxMode.{SyntaxMode}
 use Rattle.typst_lines.specs.Place.{Place, moved}
 use Rattle.typst_node.specs.Diagnostic.{hint_with}
-use Rattle.typst_node.specs.Tree.{Tree, forest, leaf_of, inner_of, error_of, advised}
+use Rattle.typst_node.specs.Tree.{Tree, leaf_of, error_of, advised}
 use Rattle.typst_raw.specs.Raw.{raw_node, delimited_node, closed_node, block_node, inline_node, delimited, two_delimiters, tag_leaves, is_pair, before_ticks, ticks}
 use Rattle.typst_raw.specs.Lines.{leaf, Row, trimmed, first_line, later_rows, is_blank, dedent, front, closing, line_leaves, first_leaves, block_of, block_leaves, inline_leaves}
 use Rattle.typst_raw.specs.Tag.{tag, next_tag, warned, changes, is_some_text, is_whole, cut_tag, no_tag, only_tag}
@@ -21,17 +21,16 @@ use Rattle.typst_code.specs.calls.Block.{Block}
 use Rattle.typst_code.specs.calls.Call.{Call}
 use Rattle.typst_code.specs.reading.Reading.{Reading}
 use Rattle.typst_code.specs.Point.{Point, Trivia, pending}
-use Rattle.typst_code.specs.Hand.{Hand, Ahead, ahead, ahead_by, after_trivia, direct, hand_at, token_at, len_at, at_trivia, token_by, len_by}
-use Rattle.typst_code.specs.Shape.{Making, Change, changed, Shape, shaped, hinted, after_node, after_change, after_shape, Seen}
-use Rattle.typst_code.specs.Shape.Making.{itself, of_kind, surprise, wanted}
+use Rattle.typst_code.specs.Hand.{Ahead, ahead, ahead_by, after_trivia, direct, hand_at, token_at, len_at, at_trivia, token_by, len_by}
+use Rattle.typst_code.specs.Shape.{changed, Shape, shaped, hinted, after_node, after_shape}
 use Rattle.typst_code.specs.Shape.Shape.{keeps, holds, lacks, warns, fails}
 use Rattle.typst_code.specs.Syntax.{Op, Begin, Parser}
 use Rattle.typst_code.specs.Syntax.Op.{hand, so, further, column, erred, takes, takes_so, flushes, complains, advises, marks, is_deepest}
 use Rattle.typst_code.specs.Syntax.Parser.{gives, does, next, pick, repeat, wraps, grows, nests, scoped, sees, either, calls, block}
-use Rattle.typst_code.specs.Meaning.{Outcome, Meaning, Level, less, joined, answered, turns, as_last, bound, repeated, before, inside, reshaped, grown, is_more, growths, growing, nestings, nesting, bounded, given_up, plain, same_mode, entered, left, taken_node, node_by, reader_so, gave, hand_of, hand_asks_of, done, run}
+use Rattle.typst_code.specs.Meaning.{Outcome, Meaning, Level, less, joined, answered, turns, as_last, bound, repeated, before, reshaped, grown, is_more, growths, growing, nestings, nesting, bounded, given_up, plain, same_mode, entered, left, taken_node, node_by, reader_so, gave, hand_of, hand_asks_of, done, run}
 use Rattle.typst_code.proofs.Within.{on_both, on_if}
-use Rattle.typst_grammar.specs.Binding.{any_errors, has_errors, sign_of, operator_of, binds, node_binds, all_bind}
-use Rattle.typst_grammar.proofs.Fine.{All, Fine, Steady, and-left, and-both, all-append, all-take, all-drop, all-hinted, fine-advised, fine-inner, fine-error, fine-leaf, fine-shaped, fine-made, no-operator, tame, tame_kind, tame_making}
+use Rattle.typst_grammar.specs.Binding.{has_errors, sign_of, operator_of}
+use Rattle.typst_grammar.proofs.Fine.{All, Fine, and-left, all-append, all-take, all-drop, all-hinted, fine-advised, fine-inner, fine-error, fine-leaf, fine-shaped, fine-made, no-operator, tame, tame_making}
 
 -- ---- nodes of tokens
 

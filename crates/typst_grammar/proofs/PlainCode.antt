@@ -1,5 +1,5 @@
 -- What makes no binary node: code but for its operators, and formulas.
-use Rattle.std.proofs.Common.{◌≡◌, ℕ, Bool, true, false, not, ◌&&◌, ◌||◌, ◌==◌, if◌then◌else◌, List, [], ◌∷◌, ◌++◌, Option, Some, None, refl}
+use Rattle.std.proofs.Common.{◌≡◌, ℕ, Bool, true, false, ◌&&◌, ◌||◌, ◌==◌, if◌then◌else◌, List, [], ◌∷◌, ◌++◌, Option, Some, None, refl}
 use Rattle.std.specs.Prelude.{codes}
 use Rattle.std.specs.Str.{bytes_eq}
 use Rattle.typst_classes.specs.Classes.{CharClasses}
@@ -18,32 +18,30 @@ use Rattle.typst_code.specs.declared.heads.CodeTail.TheVariants as tail
 use Rattle.typst_code.specs.declared.listing.Items.{Items}
 use Rattle.typst_code.specs.keys.Key.{Key}
 use Rattle.typst_code.specs.keys.Key.TheVariants as key
-use Rattle.typst_code.specs.Arguments.{name_change, argument_shape, argument, argument_turn, argument_list, listed_arguments, content_turn, missing_arguments, begin_arguments, arguments, calls_directly}
+use Rattle.typst_code.specs.Arguments.{argument_shape, argument, argument_turn, argument_list, listed_arguments, content_turn, missing_arguments, begin_arguments, arguments, calls_directly}
 use Rattle.typst_code.specs.Expressions.{code_head, code_by, unary_expr, code_primary, dots_directly, code_tail, direct_field, call_tail, tail_by, code_tail_turn, code_expr}
 use Rattle.typst_code.specs.Expected.{expect_identifier, seeing}
-use Rattle.typst_code.specs.Groups.{spread, pair, when_seen, key_change, item_shape, misfit, item, group_turn, list_kind, group_kind, group_shape, group}
+use Rattle.typst_code.specs.Groups.{spread, pair, when_seen, item_shape, misfit, item, group_turn, list_kind, group_kind, group_shape, group}
 use Rattle.typst_code.specs.Imports.{path_turn, import_name, import_path, renaming, import_shape, import_turn, import_items, parens_shape, import_parens, imported, module_import}
-use Rattle.typst_code.specs.Parens.{as_group, either_reading, readings, sign, parens}
+use Rattle.typst_code.specs.Parens.{as_group, readings, sign, parens}
 use Rattle.typst_code.specs.Sequences.{missing_break, statement_end, statement, code_turn, code_exprs, code, code_block}
 use Rattle.typst_code.specs.Statements.{any_block, field, target_turn, target, set_rule, show_shape, show_rule, contextual, other_branch, conditional_turn, conditional, while_loop, second_pattern, loop_names, for_loop, module_include, jump, func_return}
-use Rattle.typst_code.specs.Shape.{Change, Making, Shape, Seen, becomes, unclosed}
-use Rattle.typst_code.specs.Shape.Change.{stays, turns_wrong, is_not, renamed}
+use Rattle.typst_code.specs.Shape.{Seen, becomes}
+use Rattle.typst_code.specs.Shape.Change.{stays, turns_wrong}
 use Rattle.typst_code.specs.Shape.Making.{itself, surprise, wanted}
 use Rattle.typst_code.specs.Shape.Seen.{leaf_seen, inner_seen}
 use Rattle.typst_code.specs.Shape.Shape.{keeps, holds}
 use Rattle.typst_code.specs.Steps.{within, eat, eat_if, convert_and_eat}
-use Rattle.typst_code.specs.Syntax.{Parser}
 use Rattle.typst_code.proofs.Within.{on_both}
 use Rattle.typst_math.specs.Attachments.{operand, attachment_turn, attachments, primes}
 use Rattle.typst_math.specs.Delimited.{sign_kind, delimiter_kind, delimiter_sign, delimiter, body_shape, delimited_body, delimiter_if, delimited_shape, delimited}
-use Rattle.typst_math.specs.MathArguments.{value_shape, argument_exprs, argument_value, name_making, eat_name, argument_name, name_change as math_change, named_argument, spread_argument, math_argument, argument_end, math_argument_turn, list_shape, math_arguments}
+use Rattle.typst_math.specs.MathArguments.{value_shape, argument_exprs, argument_value, name_making, eat_name, argument_name, name_change as math_change, named_argument, spread_argument, math_argument, argument_end, math_argument_turn, math_arguments}
 use Rattle.typst_math.specs.MathExpressions.{math_head, math_text, root, math_by, math_primary, math_tail, fraction, tail_by as math_tail_by, math_tail_turn, math_grown, math_expr}
-use Rattle.typst_math.specs.declared.heads.Callee.{Callee}
 use Rattle.typst_math.specs.declared.heads.MathHead.{MathHead}
 use Rattle.typst_math.specs.declared.heads.MathHead.TheVariants as math_heads
 use Rattle.typst_math.specs.declared.heads.MathTail.{MathTail}
 use Rattle.typst_math.specs.declared.heads.MathTail.TheVariants as math_tails
-use Rattle.typst_grammar.proofs.Fine.{tame, tame_change, tame_kind, tame_making}
+use Rattle.typst_grammar.proofs.Fine.{tame, tame_kind, tame_making}
 use Rattle.typst_grammar.proofs.FineRuns.{tame_if, Gives, gives-all, Plain}
 use Rattle.typst_grammar.proofs.PlainParts.{plain-making, plain-eat, plain-convert, plain-so, plain-if, plain-close, plain-unexpected, plain-expected, plain-expect, plain-within, plain-shaped, plain-node, plain-grow, plain-nest, plain-read, plain-seeing, plain-expects, plain-identifier, tame-closed, plain-deep, plain-deeper, plain-embedded, plain-exprs, plain-equation, plain-separator, plain-expression-if, plain-destructuring, plain-params, tame-closure, plain-named, plain-placeholder, plain-let}
 

@@ -1,7 +1,7 @@
 -- What makes no binary node: steps, markup and patterns.
 use Rattle.std.proofs.Common.{◌≡◌, ℕ, Bool, true, false, ◌&&◌, if◌then◌else◌, List, [], ◌++◌, Option, Some, None, refl}
 use Rattle.std.specs.Prelude.{codes}
-use Rattle.typst_kinds.specs.Kinds.{same, is_keyword}
+use Rattle.typst_kinds.specs.Kinds.{same}
 use Rattle.typst_kinds.specs.declared.kind.SyntaxKind.{SyntaxKind}
 use Rattle.typst_kinds.specs.declared.kind.SyntaxKind.TheVariants as kind
 use Rattle.typst_names.specs.Names.{has_name}
@@ -22,17 +22,16 @@ use Rattle.typst_code.specs.Calls.{Answer}
 use Rattle.typst_code.specs.Closures.{closure_shape, right_side, headed, name_shape, underscore_shape, behind_name, behind_underscore, named, placeholder}
 use Rattle.typst_code.specs.Depth.{anywhere, skip_one, too_deep, deeper}
 use Rattle.typst_code.specs.Embedded.{embedded_end, embedded_expr, embedded}
-use Rattle.typst_code.specs.Equations.{math_expression, math_item, math_turn, math_exprs, math, in_dollars, between_dollars, equation}
+use Rattle.typst_code.specs.Equations.{math_expression, math_item, math_turn, math_exprs, math, between_dollars, equation}
 use Rattle.typst_code.specs.Expected.{expects, expect_identifier, seeing}
 use Rattle.typst_code.specs.Markup.{note_piece, markup_turn, markup_exprs, markup_run, markup, markup_is_empty, emphasized, delimited, heading, item, term_item, content_block, direct_content, reference, markup_head, markup_by, markup_expr}
 use Rattle.typst_code.specs.Params.{defaulted, param, param_turn, params}
 use Rattle.typst_code.specs.Parts.{expression_if, separator}
 use Rattle.typst_code.specs.Patterns.{duplicate, bound_change, bound_name, pattern_leaf, sink, sink_shape, name_and_colon, key, key_or_pattern, named_shape, part, Found, destructuring_item, destructuring_turn, destructuring, pattern}
-use Rattle.typst_code.specs.Shape.{Making, Change, Shape, becomes, unclosed}
+use Rattle.typst_code.specs.Shape.{Making, Shape, becomes, unclosed}
 use Rattle.typst_code.specs.Shape.Change.{stays, turns_wrong}
 use Rattle.typst_code.specs.Shape.Making.{itself, of_kind, surprise, wanted}
-use Rattle.typst_code.specs.Shape.Shape.{keeps, holds, fails}
-use Rattle.typst_code.specs.Steps.{peek, eat_making, eat, convert_and_eat, eat_so, eat_if, close_if, unexpected, expected, expect, flush_trivia, within, node, node_with_trivia, grow, nest, note, read_block}
+use Rattle.typst_code.specs.Steps.{eat_making, eat, convert_and_eat, eat_so, eat_if, close_if, unexpected, expected, expect, flush_trivia, within, node, node_with_trivia, grow, nest, note, read_block}
 use Rattle.typst_code.specs.Syntax.{Parser}
 use Rattle.typst_code.proofs.Within.{on_both}
 use Rattle.typst_grammar.proofs.Fine.{tame, tame_change, tame_kind, tame_making}
