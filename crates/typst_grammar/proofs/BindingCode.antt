@@ -60,6 +60,7 @@ below-more a b i h e = by-sign (sign_of i) e
   where
     less : (x : ℕ) → nat_lt x a ≡ true → nat_lt x b ≡ true
     less x l = grind (arith, nat_tests)
+
     by-sign : (o : Option BinOp) → (elim o as (λ _. Bool) [ None ↦ true | Some op ↦ nat_lt (binary_precedence op) a ]) ≡ true → (elim o as (λ _. Bool) [ None ↦ true | Some op ↦ nat_lt (binary_precedence op) b ]) ≡ true
     by-sign None l = refl
     by-sign (Some op) l = less (binary_precedence op) l
@@ -85,7 +86,7 @@ module _ (i j : SyntaxKind) (op : BinOp) (text : List ℕ) (sgn : Tree) (ds : Li
       let tight = last-left (has_errors sgn ≡ true) (below (right_least op) j ≡ true) (BindsBy (right_least op)) ds r (λ w. absurd (wrong w)) in
       let k : sgn.head.kind ≡ i = ap (λ (t : Tree). t.head.kind) is in
       let b = binary-binds op ls sgn ds (ap sign_of k ∙ e) (ap is_trivia k ∙ sign-trivia i op e) (ap operator_of is ∙ leaf-operator i text) no_signs (all-with (BindsBy (binary_precedence op)) ls left (all-left Sane ls (sgn ∷ ds) sane))
-          (last-map (has_errors sgn ≡ true) (Unit {0}) (λ t. BindsBy (right_least op) t × (below (right_least op) j ≡ true)) (BindsBy (right_least op)) (λ w. tt) (λ t x. x.0) ds r) in
+      (last-map (has_errors sgn ≡ true) (Unit {0}) (λ t. BindsBy (right_least op) t × (below (right_least op) j ≡ true)) (BindsBy (right_least op)) (λ w. tt) (λ t x. x.0) ds r) in
       (b.0, (b.1, below-more (right_least op) (suc (binary_precedence op)) j (right-most op) tight))
 
   fits : (ls : List Tree) → All NoSign ls → All (λ t. Sane t → BindsBy (binary_precedence op) t) ls → any_errors (forest (ls ++ sgn ∷ ds)) ≡ false → Fits j op (ls ++ sgn ∷ ds)
@@ -93,6 +94,7 @@ module _ (i j : SyntaxKind) (op : BinOp) (text : List ℕ) (sgn : Tree) (ds : Li
     where
       wrong : sgn.head.kind ≡ kind.Error → ⊥
       wrong w = let s = (all-right Sane ls (sgn ∷ ds) (all-sane (ls ++ sgn ∷ ds) n)).0 in let x = or-left (is_error sgn.head.kind) (any_errors sgn.kids) s in let y = ap is_error w in absurd (cc)
+
       by-leaf : Leafy i text sgn → Fits j op (ls ++ sgn ∷ ds)
       by-leaf (inl w) = absurd (wrong w)
       by-leaf (inr is) = fits-leaf is ls no_signs left n
@@ -151,7 +153,7 @@ module _ (k : CharClasses) (least : ℕ) where
         let left = subst (λ (y : ℕ). All (Leftward i) (drop y o.nodes)) (sym same-m) g.inside in
         let no_signs = sp.all NoSign (all-map (Leftward i) NoSign (λ t h. h.0) (drop m o.nodes) left) (all-map Still NoSign (λ t h. h.no_sign) trivia still) in
         let binding = sp.all (λ t. Sane t → BindsBy (binary_precedence op) t) (all-map (Leftward i) (λ t. Sane t → BindsBy (binary_precedence op) t) (λ t h y. tight-binds i op t e (h.1 y)) (drop m o.nodes) left)
-            (all-map Still (λ t. Sane t → BindsBy (binary_precedence op) t) (λ t h y. bare-binds (binary_precedence op) t h.no_operator) trivia still) in
+        (all-map Still (λ t. Sane t → BindsBy (binary_precedence op) t) (λ t h y. bare-binds (binary_precedence op) t h.no_operator) trivia still) in
         let fit : any_errors (forest cs) ≡ false → Fits j op cs = subst (λ (ts : List Tree). any_errors (forest ts) ≡ false → Fits j op ts) (sym same-cs) (fits i j op text sgn ds e leafy right sp.front no_signs binding) in
         let node = inner_of kind.Binary (forest cs) in
         let all = binds-joined o p g.binds b in
@@ -195,7 +197,7 @@ module _ (k : CharClasses) (least : ℕ) where
       let there : kind_at (moved (o.taken + p.taken) z) p.state ≡ kind_at (moved o.taken z) o.state = ap (λ (v : Place). kind_at v p.state) (moved-sum o.taken p.taken z) ∙ same in
       let all = binds-joined o p g.binds b in
       let last = last-map (s.is_after_error ≡ true) (s.is_after_error ≡ true) (λ t. Sane t → BindsBy least t) (Ended (kind_at (moved (o.taken + p.taken) z) p.state)) (λ e. e)
-          (λ t h y. (h y, ap (below least) there ∙ l)) o.nodes g.last in
+      (λ t h y. (h y, ap (below least) there ∙ l)) o.nodes g.last in
       let r : Operand z s x = record {
         binds = record { nodes = all.nodes; known = all.known };
         last = subst (λ (ts : List Tree). LastIs (s.is_after_error ≡ true) (Ended (kind_at (moved (o.taken + p.taken) z) p.state)) ts) (sym (standing-silent p q o.nodes)) last;
@@ -227,6 +229,7 @@ module _ (k : CharClasses) (least : ℕ) where
       where
         p : Outcome (Option Shape × A)
         p = m o.value (moved o.taken z) o.state
+
         by-turn : Stopped z s p (turned n o p) ⊎ (WentOn n z s p (turned n o p) × (p.taken + bound (moved (turned n o p).taken z) (turned n o p).state ≤ bound (moved o.taken z) o.state))
             → ((o : Outcome A) → bound (moved o.taken z) o.state < fuel → Grown n z s o → Operand z s (growths m n fuel o z)) → Operand z s (growths m n (suc fuel) o z)
         by-turn (inl x) rest = stops-if z s (is_more p.value.0) (nat_lt 0 p.taken) (growths m n fuel (turned n o p) z) (turned n o p) x.says x.operand

@@ -260,6 +260,7 @@ bare-raw k cs = by-sides (ticks cs) (drop (length (ticks cs)) cs)
     by-end : (delim message text : List ℕ) (o : Option (List ℕ)) → Bare (elim o as (λ _. Tree) [ None ↦ error_of message text | Some inner ↦ closed_node k delim inner ])
     by-end delim message text None = (refl, refl)
     by-end delim message text (Some inner) = bare-closed k delim inner
+
     by-sides : (delim rest : List ℕ) → Bare (delimited_node k cs delim rest)
     by-sides delim rest = on_both Bare (is_pair delim rest) two_delimiters _ (refl, refl) (by-end delim _ _ (before_ticks (length delim) rest))
 

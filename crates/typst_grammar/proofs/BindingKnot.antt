@@ -1,16 +1,13 @@
 -- All that is read binds, where expressions with operators do.
-use Rattle.std.proofs.Common.{◌≡◌, ℕ, zero, suc, Bool, true, false, List, refl}
+use Rattle.std.proofs.Common.{ℕ, zero, suc, true, false, refl}
 use Rattle.typst_kinds.specs.declared.kind.SyntaxKind.TheVariants as kind
-use Rattle.typst_lines.specs.Place.{Place}
-use Rattle.typst_node.specs.Tree.{Tree}
 use Rattle.typst_classes.specs.Classes.{CharClasses}
 use Rattle.typst_code.specs.calls.Block.{Block}
 use Rattle.typst_code.specs.calls.Block.TheVariants as block
 use Rattle.typst_code.specs.calls.Call.{Call}
 use Rattle.typst_code.specs.calls.Call.TheVariants.{MarkupExpr, CodeExpr, MathExpr, Pattern}
-use Rattle.typst_code.specs.Depth.{is_end}
 use Rattle.typst_code.specs.Knot.{meaning_of, blocks_of}
-use Rattle.typst_code.specs.Meaning.{Level, Meaning, blockless, plain, start_point, run}
+use Rattle.typst_code.specs.Meaning.{blockless, start_point, run}
 use Rattle.typst_code.specs.Markup.{markup_reading}
 use Rattle.typst_code.specs.Sequences.{code_reading}
 use Rattle.typst_code.specs.Equations.{math_reading}

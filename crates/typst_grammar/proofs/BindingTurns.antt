@@ -63,8 +63,8 @@ binary-binds op ls sgn rs s e none no_signs left right =
     let is : operator_of (inner_of kind.Binary (forest ts)) ≡ Some op = ap first_sign (trees-of ts) ∙ first-is sgn rs op ls no_signs s in
     let bare : (n : ℕ) → BindsBy n sgn = (λ n. bare-binds n sgn none) in
     let both : operands_bind op ts ≡ true = and-both (left_binds (binary_precedence op) ts) (right_binds (right_least op) ts)
-        (left-is sgn rs (binary_precedence op) ls left (bare (binary_precedence op)) e)
-        (right-of (right_least op) ts (last-behind (right_least op) ls sgn rs right (bare (right_least op)))) in
+    (left-is sgn rs (binary_precedence op) ls left (bare (binary_precedence op)) e)
+    (right-of (right_least op) ts (last-behind (right_least op) ls sgn rs right (bare (right_least op)))) in
     (is, rw (is, node_binds) (ap (operands_bind op) (trees-of ts) ∙ both))
 
 -- ---- errors
@@ -114,8 +114,10 @@ tight-binds k op t e h = by-operator (operator_of t) h
   where
     at-least : (a b : ℕ) → nat_lt a (suc b) ≡ true → nat_le a b ≡ true
     at-least a b l = grind (arith, nat_tests)
+
     by-sign : (b : ℕ) (o : Option BinOp) → o ≡ Some op → (elim o as (λ _. Bool) [ None ↦ true | Some x ↦ nat_lt (binary_precedence x) (suc b) ]) ≡ true → nat_le (binary_precedence op) b ≡ true
     by-sign b o i l = at-least (binary_precedence op) b (subst (λ (x : Option BinOp). (elim x as (λ _. Bool) [ None ↦ true | Some y ↦ nat_lt (binary_precedence y) (suc b) ]) ≡ true) i l)
+
     by-operator : (o : Option BinOp) → (elim o as (λ _. Type 0) [ None ↦ Unit {0} | Some x ↦ below (suc (binary_precedence x)) k ≡ true ]) → (elim o as (λ _. Bool) [ None ↦ true | Some x ↦ nat_le (binary_precedence op) (binary_precedence x) ]) ≡ true
     by-operator None l = refl
     by-operator (Some x) l = by-sign (binary_precedence x) (sign_of k) e l

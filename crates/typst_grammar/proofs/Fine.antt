@@ -165,21 +165,21 @@ Kept ts us = (any_errors (forest us) ≡ false → any_errors (forest ts) ≡ fa
 kept-first : (t u : Tree) (ts us : List Tree) → (has_errors u ≡ false → has_errors t ≡ false) → (binds t ≡ true → binds u ≡ true) → Kept ts us → Kept (t ∷ ts) (u ∷ us)
 kept-first t u ts us e b h = (
   λ n.
-  (let k = is_error u.head.kind in
-  let a = any_errors u.kids in
-  let r = any_errors (forest us) in
-  let n2 = or-right k (a || r) n in
-  let old = e (or-both k a (or-left k (a || r) n) (or-left a r n2)) in
-  or-both (is_error t.head.kind) (any_errors t.kids || any_errors (forest ts)) (or-left (is_error t.head.kind) (any_errors t.kids) old)
-  (or-both (any_errors t.kids) (any_errors (forest ts)) (or-right (is_error t.head.kind) (any_errors t.kids) old) (h.0 (or-right a r n2)))),
+      (let k = is_error u.head.kind in
+      let a = any_errors u.kids in
+      let r = any_errors (forest us) in
+      let n2 = or-right k (a || r) n in
+      let old = e (or-both k a (or-left k (a || r) n) (or-left a r n2)) in
+      or-both (is_error t.head.kind) (any_errors t.kids || any_errors (forest ts)) (or-left (is_error t.head.kind) (any_errors t.kids) old)
+      (or-both (any_errors t.kids) (any_errors (forest ts)) (or-right (is_error t.head.kind) (any_errors t.kids) old) (h.0 (or-right a r n2)))),
   λ n.
-  (let x = node_binds t in
-  let a = all_bind t.kids in
-  let r = all_bind (forest ts) in
-  let n2 = and-right x (a && r) n in
-  let new = b (and-both x a (and-left x (a && r) n) (and-left a r n2)) in
-  and-both (node_binds u) (all_bind u.kids && all_bind (forest us)) (and-left (node_binds u) (all_bind u.kids) new)
-  (and-both (all_bind u.kids) (all_bind (forest us)) (and-right (node_binds u) (all_bind u.kids) new) (h.1 (and-right a r n2)))),
+      (let x = node_binds t in
+      let a = all_bind t.kids in
+      let r = all_bind (forest ts) in
+      let n2 = and-right x (a && r) n in
+      let new = b (and-both x a (and-left x (a && r) n) (and-left a r n2)) in
+      and-both (node_binds u) (all_bind u.kids && all_bind (forest us)) (and-left (node_binds u) (all_bind u.kids) new)
+      (and-both (all_bind u.kids) (all_bind (forest us)) (and-right (node_binds u) (all_bind u.kids) new) (h.1 (and-right a r n2)))),
 )
 
 kept-last : (k : SyntaxKind) → same kind.Binary k ≡ false → (ts : List Tree) → Kept ts (renamed_last k ts)

@@ -112,6 +112,7 @@ fine-raw k cs = by-sides (ticks cs) (drop (length (ticks cs)) cs)
     by-end : (delim message text : List ℕ) (o : Option (List ℕ)) → Fine (elim o as (λ _. Tree) [ None ↦ error_of message text | Some inner ↦ closed_node k delim inner ])
     by-end delim message text None = λ n. absurd (cc)
     by-end delim message text (Some inner) = fine-closed k delim inner
+
     by-sides : (delim rest : List ℕ) → Fine (delimited_node k cs delim rest)
     by-sides delim rest = on_both Fine (is_pair delim rest) two_delimiters _ (λ n. refl) (by-end delim _ _ (before_ticks (length delim) rest))
 

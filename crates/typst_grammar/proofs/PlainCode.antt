@@ -90,9 +90,11 @@ tame-group items closed =
 
 pub plain-group : Plain group
 unfolding group within
-plain-group =
-    (plain-shaped _ _ (gives-all _ (λ _. gives-all _ (λ _ items. gives-all _ (λ closed _. tame-group items closed) (eat_if _)) (eat_if _)) eat)
-    ((plain-eat, λ _. (plain-if _, λ _. (λ items. plain-group-turn items, λ _. (plain-if _, λ _. tt)))), λ _. (refl, λ _. tt)), λ _. tt)
+plain-group = (
+  plain-shaped _ _ (gives-all _ (λ _. gives-all _ (λ _ items. gives-all _ (λ closed _. tame-group items closed) (eat_if _)) (eat_if _)) eat)
+      ((plain-eat, λ _. (plain-if _, λ _. (λ items. plain-group-turn items, λ _. (plain-if _, λ _. tt)))), λ _. (refl, λ _. tt)),
+  λ _. tt,
+)
 
 -- ---- parens
 
@@ -461,6 +463,8 @@ plain-math-tail stops math_tails.Nothing = (refl, tt)
 
 pub plain-math-expr : (k : CharClasses) (least : ℕ) (stops : ChainSet) → Plain (math_expr k least stops)
 unfolding math_expr math_grown math_primary math_tail_turn
-plain-math-expr k least stops =
-    (plain-grow _ _ (refl, λ a. plain-math-by k (math_head a.kind))
-    (λ c. (λ a. (plain-math-tail stops (math_tail c least stops a.kind a.has_trivia)).0, (refl, λ a. (plain-math-tail stops (math_tail c least stops a.kind a.has_trivia)).1))), λ _. tt)
+plain-math-expr k least stops = (
+  plain-grow _ _ (refl, λ a. plain-math-by k (math_head a.kind))
+      (λ c. (λ a. (plain-math-tail stops (math_tail c least stops a.kind a.has_trivia)).0, (refl, λ a. (plain-math-tail stops (math_tail c least stops a.kind a.has_trivia)).1))),
+  λ _. tt,
+)

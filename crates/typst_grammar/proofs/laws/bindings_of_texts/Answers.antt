@@ -1,4 +1,3 @@
-use Rattle.typst_grammar.proofs.BindingKnot.{binding-math}
 use lib.Utf8.{encode}
 use Rattle.std.proofs.Common.{refl}
 use Rattle.typst_tokens.specs.Characters.{number_after}
