@@ -1,4 +1,4 @@
-use crate::trees::{leaf, many, sample};
+use crate::trees::{SAMPLE, leaf, many, tree};
 use std::alloc::{AllocError, Global};
 use std::mem::size_of;
 use typst_kinds::{Span, SyntaxKind};
@@ -9,7 +9,7 @@ fn a_node_takes_64_bytes(rt: HostRuntime) {
     assert!(rt; size_of::<SyntaxNode>() <= 64);
 }
 
-/// Whether what is read of the node is what `sample` has.
+/// Whether what is read of the node is what `SAMPLE` has.
 fn is_sample(node: &SyntaxNode) -> bool {
     node.len() == 7
         && node.descendants() == 8
@@ -21,8 +21,12 @@ fn is_sample(node: &SyntaxNode) -> bool {
 }
 
 fn have_kinds(nodes: &[SyntaxNode], kinds: &[SyntaxKind]) -> bool {
-    let same = |(node, kind): (&SyntaxNode, &SyntaxKind)| node.kind() == *kind;
-    nodes.len() == kinds.len() && nodes.iter().zip(kinds).all(same)
+    for (node, kind) in nodes.iter().zip(kinds) {
+        if node.kind() != *kind {
+            return false;
+        }
+    }
+    nodes.len() == kinds.len()
 }
 
 const SAMPLE_KINDS: [SyntaxKind; 4] = [
@@ -33,13 +37,46 @@ const SAMPLE_KINDS: [SyntaxKind; 4] = [
 ];
 
 fn makes_the_sample(alloc: Global) -> Result<bool, AllocError> {
-    let node = sample(alloc)?;
+    let node = tree(alloc, &SAMPLE)?;
     Ok(is_sample(&node) && have_kinds(node.children(), &SAMPLE_KINDS))
 }
 
 #[test]
 fn reads_what_was_made(rt: HostRuntime) {
     assert!(rt; makes_the_sample(rt.alloc()) == Ok(true));
+}
+
+/// A change of a node.
+enum Change {
+    Expected(&'static str),
+    Unexpected,
+    Error(&'static str),
+    Kind(SyntaxKind),
+}
+
+fn convert(node: &mut SyntaxNode, kind: SyntaxKind) {
+    if !kind.is_error() {
+        node.convert_to_kind(kind);
+    }
+}
+
+fn make_change(node: &mut SyntaxNode, change: &Change) -> Result<(), AllocError> {
+    match change {
+        Change::Expected(thing) => node.expected(thing),
+        Change::Unexpected => node.unexpected(),
+        Change::Error(message) => node.convert_to_error(message),
+        Change::Kind(kind) => {
+            convert(node, *kind);
+            Ok(())
+        }
+    }
+}
+
+fn change_all(node: &mut SyntaxNode, changes: &[Change]) -> Result<(), AllocError> {
+    for change in changes {
+        make_change(node, change)?;
+    }
+    Ok(())
 }
 
 /// Whether the hints are that one, or none.
@@ -63,123 +100,102 @@ fn says(node: &SyntaxNode, message: &str, hint: Option<&str>) -> bool {
     }
 }
 
-/// A token, what was expected in its place, and the error's message and hint.
-type Expected = (
+/// Whether the node is an error with this text, this message and this hint.
+fn is_error(node: &SyntaxNode, text: &str, message: &str, hint: Option<&str>) -> bool {
+    node.kind() == SyntaxKind::Error && node.leaf_text() == text && says(node, message, hint)
+}
+
+/// A token, how it is changed, and then the error's message and hint.
+type Changed = (
     SyntaxKind,
     &'static str,
-    &'static str,
+    &'static [Change],
     &'static str,
     Option<&'static str>,
 );
 
 const HINT: &str = "keyword `let` is not allowed as an identifier; try `let_` instead";
 
-const EXPECTED: [Expected; 5] = [
+const CHANGED: [Changed; 6] = [
     (
         SyntaxKind::Let,
         "let",
-        "identifier",
+        &[Change::Expected("identifier")],
         "expected identifier, found keyword `let`",
         Some(HINT),
     ),
     (
         SyntaxKind::Let,
         "let",
-        "pattern",
+        &[Change::Expected("pattern")],
         "expected pattern, found keyword `let`",
         Some(HINT),
     ),
     (
         SyntaxKind::Let,
         "let",
-        "expression",
+        &[Change::Expected("expression")],
         "expected expression, found keyword `let`",
         None,
     ),
     (
         SyntaxKind::Underscore,
         "_",
-        "identifier",
+        &[Change::Expected("identifier")],
         "expected identifier, found underscore",
         None,
     ),
     (
         SyntaxKind::None,
         "none",
-        "colon",
+        &[Change::Expected("colon")],
         "expected colon, found `none`",
+        None,
+    ),
+    // An error stays the one that it is.
+    (
+        SyntaxKind::RightBracket,
+        "]",
+        &[
+            Change::Unexpected,
+            Change::Expected("expression"),
+            Change::Error("again"),
+            Change::Kind(SyntaxKind::Text),
+        ],
+        "unexpected closing bracket",
         None,
     ),
 ];
 
-/// A token in whose place a thing was expected.
-fn unexpected(
+fn becomes_error(
     alloc: Global,
-    kind: SyntaxKind,
-    text: &str,
-    thing: &str,
-) -> Result<SyntaxNode, AllocError> {
-    let mut node = leaf(alloc, kind, text)?;
-    node.expected(thing)?;
-    Ok(node)
+    (kind, text, changes, message, hint): &Changed,
+) -> Result<bool, AllocError> {
+    let mut node = leaf(alloc, *kind, text)?;
+    change_all(&mut node, changes)?;
+    Ok(is_error(&node, text, message, *hint))
 }
 
 #[test]
-fn says_what_was_expected(rt: HostRuntime) {
-    for (kind, text, thing, message, hint) in EXPECTED {
-        let node = unexpected(rt.alloc(), kind, text, thing);
-        assert!(rt; node.is_ok_and(|node| says(&node, message, hint)));
+fn tokens_become_errors(rt: HostRuntime) {
+    for row in &CHANGED {
+        assert!(rt; becomes_error(rt.alloc(), row) == Ok(true));
     }
 }
 
-/// A bracket that became an error, and then was to become others and a text.
-fn changed_again(alloc: Global) -> Result<SyntaxNode, AllocError> {
-    let mut node = leaf(alloc, SyntaxKind::RightBracket, "]")?;
-    node.unexpected()?;
-    node.expected("expression")?;
-    node.convert_to_error("again")?;
-    node.convert_to_kind(SyntaxKind::Text);
-    Ok(node)
-}
-
-/// Whether the node is an error with this text and this message, and no hint.
-fn is_error(node: &SyntaxNode, text: &str, message: &str) -> bool {
-    node.kind() == SyntaxKind::Error && node.leaf_text() == text && says(node, message, None)
-}
-
-fn stays_an_error(alloc: Global) -> Result<bool, AllocError> {
-    let node = changed_again(alloc)?;
-    Ok(is_error(&node, "]", "unexpected closing bracket"))
-}
-
-#[test]
-fn an_error_stays(rt: HostRuntime) {
-    assert!(rt; stays_an_error(rt.alloc()) == Ok(true));
-}
-
-/// `sample` with another kind, and another kind of its second child.
-fn converted(alloc: Global) -> Result<SyntaxNode, AllocError> {
-    let mut node = sample(alloc)?;
+/// Gives the node another kind, and its second child too.
+fn convert_both(node: &mut SyntaxNode) {
     node.convert_child_to_kind(1, SyntaxKind::Space);
     node.convert_child_to_kind(9, SyntaxKind::Space);
     node.convert_to_kind(SyntaxKind::Markup);
-    Ok(node)
-}
-
-/// The node as an error.
-fn as_error(mut node: SyntaxNode) -> Result<SyntaxNode, AllocError> {
-    node.convert_to_error("wrong")?;
-    Ok(node)
 }
 
 /// Whether a copy is the same, and the copy as an error is another one.
 fn differs_as_error(node: &SyntaxNode) -> Result<bool, AllocError> {
-    let same = node.try_clone()?;
-    if !node.spanless_eq(&same) {
-        return Ok(false);
-    }
-    let error = as_error(same)?;
-    Ok(is_error(&error, "[a *b*]", "wrong") && !node.spanless_eq(&error))
+    let mut copy = node.try_clone()?;
+    let is_same = node.spanless_eq(&copy);
+    copy.convert_to_error("wrong")?;
+    Ok(is_same && is_error(&copy, "[a *b*]", "wrong", None) && !node.spanless_eq(&copy))
 }
 
 const CONVERTED_KINDS: [SyntaxKind; 4] = [
@@ -189,10 +205,15 @@ const CONVERTED_KINDS: [SyntaxKind; 4] = [
     SyntaxKind::RightBracket,
 ];
 
+fn is_converted(node: &SyntaxNode) -> bool {
+    node.kind() == SyntaxKind::Markup && have_kinds(node.children(), &CONVERTED_KINDS)
+}
+
 fn converts_twice(alloc: Global) -> Result<bool, AllocError> {
-    let node = converted(alloc)?;
-    let has_kinds = have_kinds(node.children(), &CONVERTED_KINDS);
-    Ok(has_kinds && node.kind() == SyntaxKind::Markup && differs_as_error(&node)?)
+    let mut node = tree(alloc, &SAMPLE)?;
+    convert_both(&mut node);
+    let differs = differs_as_error(&node)?;
+    Ok(differs && is_converted(&node))
 }
 
 #[test]
@@ -209,7 +230,7 @@ fn copies(node: &SyntaxNode) -> Result<bool, AllocError> {
 
 /// How many nodes a node over so many leaves has, or 0 where its copy isn't the same.
 fn copied(alloc: Global, leaves: usize) -> Result<usize, AllocError> {
-    let node = SyntaxNode::inner(SyntaxKind::Markup, many(alloc, SyntaxKind::Text, leaves)?);
+    let node = many(alloc, SyntaxKind::Text, leaves)?;
     let is_copied = copies(&node)?;
     Ok(if is_copied { node.descendants() } else { 0 })
 }

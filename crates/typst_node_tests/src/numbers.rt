@@ -1,18 +1,37 @@
-use crate::trees::{END, Row, has_numbers, leaves, many, number, numbered, numbers, replace, tree};
+use crate::trees::{END, Part, Path, Row, forest, many, number, replace, span_at, tree};
 use std::alloc::{AllocError, Global};
 use typst_kinds::{SourceError, SyntaxKind};
 use typst_node::SyntaxNode;
 
 const A_UNDER_MARKUP: [Row; 2] = [
-    (SyntaxKind::Text, "a", None),
-    (SyntaxKind::Markup, "", Some(1)),
+    (SyntaxKind::Text, "a", Part::Leaf),
+    (SyntaxKind::Markup, "", Part::Over(1)),
 ];
 
+/// The way to a node and its number.
+type Number = (Path, u64);
+
+/// Whether these are all the nodes and their numbers.
+fn has_numbers(root: &SyntaxNode, want: &[Number]) -> bool {
+    for (path, number) in want {
+        match span_at(root, path) {
+            Some(span) if span.number_or_zero() == *number => {}
+            _ => return false,
+        }
+    }
+    root.descendants() == want.len()
+}
+
 // A range of numbers, what `numberize` answers, and the numbers then.
-const RANGES: [(u64, u64, Result<(), SourceError>, [u64; 2]); 3] = [
-    (2, 3, Err(SourceError::SpanNumbers), [0, 0]),
-    (2, 4, Ok(()), [2, 3]),
-    (2, END, Ok(()), [17592186044417, 52776558133248]),
+const RANGES: [(u64, u64, Result<(), SourceError>, [Number; 2]); 3] = [
+    (2, 3, Err(SourceError::SpanNumbers), [(&[], 0), (&[0], 0)]),
+    (2, 4, Ok(()), [(&[], 2), (&[0], 3)]),
+    (
+        2,
+        END,
+        Ok(()),
+        [(&[], 17592186044417), (&[0], 52776558133248)],
+    ),
 ];
 
 /// Whether numbering a tree within this range is answered so and gives these numbers.
@@ -21,11 +40,11 @@ fn gets_numbers(
     rows: &[Row],
     (start, end): (u64, u64),
     answer: Result<(), SourceError>,
-    want: &[u64],
+    want: &[Number],
 ) -> Result<bool, AllocError> {
     let mut node = tree(alloc, rows)?;
-    let answered = number(&mut node, start, end) == answer;
-    Ok(answered && has_numbers(alloc, &node, want)?)
+    let answered = number(&mut node, start, end);
+    Ok(answered == answer && has_numbers(&node, want))
 }
 
 #[test]
@@ -36,53 +55,57 @@ fn a_leaf_under_markup(rt: HostRuntime) {
     }
 }
 
-/// Whether replacing the only leaf by leaves of these kinds is answered so, where two nodes have
-/// two numbers.
+/// Whether replacing the only leaf by other trees is answered so, where two nodes have two numbers.
 fn answers(
     alloc: Global,
-    kinds: &[SyntaxKind],
+    rows: &[Row],
     answer: Result<(), SourceError>,
 ) -> Result<bool, AllocError> {
-    let new = leaves(alloc, kinds)?;
+    let new = forest(alloc, rows)?;
     let mut node = tree(alloc, &A_UNDER_MARKUP)?;
     let numbered = number(&mut node, 2, 4).is_ok();
-    let answered = replace(&mut node, &[], 0, 1, new) == answer;
-    Ok(numbered && answered && has_numbers(alloc, &node, &[2, 3])?)
+    let answered = replace(&mut node, &[], 0, 1, new);
+    Ok(numbered && answered == answer && has_numbers(&node, &[(&[], 2), (&[0], 3)]))
 }
+
+const ONE: [Row; 1] = [(SyntaxKind::Space, "x", Part::Leaf)];
+
+const TWO: [Row; 2] = [
+    (SyntaxKind::Shorthand, "x", Part::Leaf),
+    (SyntaxKind::Text, "x", Part::Leaf),
+];
 
 #[test]
 fn two_numbers_are_enough_for_two_nodes(rt: HostRuntime) {
-    let one = [SyntaxKind::Space];
-    assert!(rt; answers(rt.alloc(), &one, Ok(())) == Ok(true));
-    let two = [SyntaxKind::Space, SyntaxKind::Shorthand];
-    assert!(rt; answers(rt.alloc(), &two, Err(SourceError::SpanNumbers)) == Ok(true));
+    assert!(rt; answers(rt.alloc(), &ONE, Ok(())) == Ok(true));
+    assert!(rt; answers(rt.alloc(), &TWO, Err(SourceError::SpanNumbers)) == Ok(true));
 }
 
 // `a *b* c`, as the Rust original numbers it.
 const ORIGINAL: [Row; 10] = [
-    (SyntaxKind::Text, "a", None),
-    (SyntaxKind::Space, " ", None),
-    (SyntaxKind::Star, "*", None),
-    (SyntaxKind::Text, "b", None),
-    (SyntaxKind::Markup, "", Some(1)),
-    (SyntaxKind::Star, "*", None),
-    (SyntaxKind::Strong, "", Some(3)),
-    (SyntaxKind::Space, " ", None),
-    (SyntaxKind::Text, "c", None),
-    (SyntaxKind::Markup, "", Some(5)),
+    (SyntaxKind::Text, "a", Part::Leaf),
+    (SyntaxKind::Space, " ", Part::Leaf),
+    (SyntaxKind::Star, "*", Part::Leaf),
+    (SyntaxKind::Text, "b", Part::Leaf),
+    (SyntaxKind::Markup, "", Part::Over(1)),
+    (SyntaxKind::Star, "*", Part::Leaf),
+    (SyntaxKind::Strong, "", Part::Over(3)),
+    (SyntaxKind::Space, " ", Part::Leaf),
+    (SyntaxKind::Text, "c", Part::Leaf),
+    (SyntaxKind::Markup, "", Part::Over(5)),
 ];
 
-const ORIGINAL_NUMBERS: [u64; 10] = [
-    3518437208885,
-    10555311626651,
-    17592186044417,
-    22869841857741,
-    26388279066624,
-    29027106973286,
-    30786325577727,
-    36943590693273,
-    59813432551013,
-    66850306968779,
+const ORIGINAL_NUMBERS: [Number; 10] = [
+    (&[], 3518437208885),
+    (&[0], 10555311626651),
+    (&[1], 17592186044417),
+    (&[2], 22869841857741),
+    (&[2, 0], 26388279066624),
+    (&[2, 1], 29027106973286),
+    (&[2, 1, 0], 30786325577727),
+    (&[2, 2], 36943590693273),
+    (&[3], 59813432551013),
+    (&[4], 66850306968779),
 ];
 
 #[test]
@@ -91,70 +114,92 @@ fn numbers_of_the_original(rt: HostRuntime) {
     assert!(rt; got == Ok(true));
 }
 
-const OLD: [SyntaxKind; 5] = [
-    SyntaxKind::Text,
-    SyntaxKind::Space,
-    SyntaxKind::Star,
-    SyntaxKind::Comma,
-    SyntaxKind::Text,
+const OLD: [Row; 6] = [
+    (SyntaxKind::Text, "x", Part::Leaf),
+    (SyntaxKind::Space, "x", Part::Leaf),
+    (SyntaxKind::Star, "x", Part::Leaf),
+    (SyntaxKind::Comma, "x", Part::Leaf),
+    (SyntaxKind::Text, "x", Part::Leaf),
+    (SyntaxKind::Markup, "", Part::Over(5)),
 ];
 
-const NEW: [SyntaxKind; 3] = [SyntaxKind::Space, SyntaxKind::Hash, SyntaxKind::Comma];
+const NEW: [Row; 3] = [
+    (SyntaxKind::Space, "x", Part::Leaf),
+    (SyntaxKind::Hash, "x", Part::Leaf),
+    (SyntaxKind::Comma, "x", Part::Leaf),
+];
 
-/// Whether only the number at that place differs.
-fn differ_at(place: usize, old: &[u64], new: &[u64]) -> bool {
-    let agrees = |(i, (a, b)): (usize, (&u64, &u64))| (a == b) == (i != place);
-    old.len() == new.len() && old.iter().zip(new).enumerate().all(agrees)
+/// Whether only the number of the child at that place differs.
+fn differ_at(place: usize, old: &SyntaxNode, new: &SyntaxNode) -> bool {
+    for (i, (a, b)) in old.children().iter().zip(new.children()).enumerate() {
+        if (a.span() == b.span()) == (i == place) {
+            return false;
+        }
+    }
+    old.span() == new.span() && old.children().len() == new.children().len()
 }
 
 /// Whether only the number of the leaf that is new differs.
-fn keeps_the_others(alloc: Global) -> Option<bool> {
-    let new = leaves(alloc, &NEW).ok()?;
-    let kids = leaves(alloc, &OLD).ok()?;
-    let mut node = numbered(SyntaxNode::inner(SyntaxKind::Markup, kids), END)?;
-    let old = numbers(alloc, &node).ok()?;
-    let replaced = replace(&mut node, &[], 1, 4, new).is_ok();
-    let now = numbers(alloc, &node).ok()?;
-    Some(replaced && differ_at(3, old.as_slice(), now.as_slice()))
+fn keeps_the_others(node: &mut SyntaxNode, new: Vec<SyntaxNode>) -> Result<bool, AllocError> {
+    let old = node.try_clone()?;
+    let replaced = replace(node, &[], 1, 4, new).is_ok();
+    Ok(replaced && differ_at(2, &old, node))
+}
+
+fn keeps_numbers(alloc: Global) -> Result<bool, AllocError> {
+    let mut node = tree(alloc, &OLD)?;
+    let numbered = number(&mut node, 2, END).is_ok();
+    let keeps = keeps_the_others(&mut node, forest(alloc, &NEW)?)?;
+    Ok(numbered && keeps)
 }
 
 #[test]
 fn what_stays_keeps_its_number(rt: HostRuntime) {
-    assert!(rt; keeps_the_others(rt.alloc()) == Some(true));
+    assert!(rt; keeps_numbers(rt.alloc()) == Ok(true));
 }
 
-fn are_in_order(all: &[u64], end: u64) -> bool {
-    all.windows(2).all(|pair| pair.first() < pair.last()) && all.last() < Some(&end)
+/// Whether the numbers of a node and its children are in order and below the end.
+fn are_in_order(node: &SyntaxNode, end: u64) -> bool {
+    let mut last = node.span().number_or_zero();
+    for kid in node.children() {
+        let number = kid.span().number_or_zero();
+        if number <= last {
+            return false;
+        }
+        last = number;
+    }
+    last < end
 }
 
 /// Puts two leaves in place of one in the middle, and says whether all numbers are in order and
 /// below the end.
 fn grows(alloc: Global, node: &mut SyntaxNode, end: u64) -> Result<bool, AllocError> {
     let middle = node.children().len() / 2;
-    let two = leaves(alloc, &[SyntaxKind::Shorthand, SyntaxKind::Text])?;
+    let two = forest(alloc, &TWO)?;
     let replaced = replace(node, &[], middle, middle + 1, two).is_ok();
-    Ok(replaced && are_in_order(numbers(alloc, node)?.as_slice(), end))
+    Ok(replaced && are_in_order(node, end))
 }
 
-/// The length of a node after so many replacements, or nothing where one went wrong.
-fn grown(alloc: Global, mut node: SyntaxNode, turns: usize) -> Option<usize> {
+/// Whether the numbers are in order after each of so many replacements.
+fn keeps_growing(alloc: Global, node: &mut SyntaxNode, turns: usize) -> Result<bool, AllocError> {
     for _ in 0..turns {
-        if grows(alloc, &mut node, 1000) != Ok(true) {
-            return None;
+        if !grows(alloc, node, 1000)? {
+            return Ok(false);
         }
     }
-    Some(node.len())
+    Ok(true)
 }
 
-/// The length of 400 leaves after so many replacements, or nothing where one went wrong.
-fn grown_leaves(alloc: Global, turns: usize) -> Option<usize> {
-    let kids = many(alloc, SyntaxKind::Space, 400).ok()?;
-    let node = numbered(SyntaxNode::inner(SyntaxKind::Markup, kids), 1000)?;
-    grown(alloc, node, turns)
+/// The length of 400 leaves after so many replacements, or 0 where one went wrong.
+fn grown(alloc: Global, turns: usize) -> Result<usize, AllocError> {
+    let mut node = many(alloc, SyntaxKind::Space, 400)?;
+    let numbered = number(&mut node, 2, 1000).is_ok();
+    let is_grown = keeps_growing(alloc, &mut node, turns)?;
+    Ok(if numbered && is_grown { node.len() } else { 0 })
 }
 
 // Few numbers are free, so that neighbours have to be numbered anew again and again.
 #[test]
 fn two_hundred_replacements(rt: HostRuntime) {
-    assert!(rt; grown_leaves(rt.alloc(), 200) == Some(600));
+    assert!(rt; grown(rt.alloc(), 200) == Ok(600));
 }

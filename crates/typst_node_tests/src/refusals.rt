@@ -1,17 +1,9 @@
-use crate::trees::{END, Row, numbered, replace, same, sample, tree};
+use crate::trees::{END, Part, Path, Row, SAMPLE, forest, leaf, number, replace, same, tree};
 use std::alloc::{AllocError, Global};
 use typst_kinds::{SourceError, SubRange, SyntaxKind};
 use typst_node::SyntaxNode;
 
 // These tests pass whichever request for memory is refused: `rt try --test --fail-alloc N`.
-
-/// `sample`, numbered, and a copy, or nothing where memory was refused.
-fn samples(alloc: Global) -> Option<(SyntaxNode, SyntaxNode)> {
-    let mut node = numbered(sample(alloc).ok()?, END)?;
-    node.warn("first").ok()?;
-    let before = node.try_clone().ok()?;
-    Some((node, before))
-}
 
 /// Makes the change that `call` stands for.
 fn change(node: &mut SyntaxNode, call: usize, range: SubRange) -> Result<(), AllocError> {
@@ -26,15 +18,29 @@ fn change(node: &mut SyntaxNode, call: usize, range: SubRange) -> Result<(), All
     }
 }
 
-/// Whether the change is made, or the node stays as it is.
-fn changes_or_stays(alloc: Global, call: usize, range: SubRange) -> bool {
-    let Some((mut node, before)) = samples(alloc) else {
-        return true;
-    };
-    match change(&mut node, call, range) {
+/// The ways to the nodes of `SAMPLE`.
+const SAMPLE_PATHS: [Path; 8] = [&[], &[0], &[1], &[2], &[2, 0], &[2, 1], &[2, 2], &[3]];
+
+/// Whether the change is made, or the node, which has a warning then, stays as it is.
+fn changes_or_stays(
+    node: &mut SyntaxNode,
+    call: usize,
+    range: SubRange,
+) -> Result<bool, AllocError> {
+    node.warn("first")?;
+    let before = node.try_clone()?;
+    Ok(match change(node, call, range) {
         Ok(()) => !node.spanless_eq(&before),
-        Err(_) => same(alloc, &node, &before),
-    }
+        Err(_) => same(node, &before, &SAMPLE_PATHS),
+    })
+}
+
+/// Whether the change is made to `SAMPLE` with numbers, or this stays as it is.
+fn changes_sample(alloc: Global, call: usize, range: SubRange) -> Result<bool, AllocError> {
+    let mut node = tree(alloc, &SAMPLE)?;
+    let numbered = number(&mut node, 2, END).is_ok();
+    let is_well = changes_or_stays(&mut node, call, range)?;
+    Ok(is_well || !numbered)
 }
 
 #[test]
@@ -43,87 +49,91 @@ fn a_refused_change_changes_nothing(rt: HostRuntime) {
         return assert!(rt; false);
     };
     for call in 0..7 {
-        assert!(rt; changes_or_stays(rt.alloc(), call, range));
+        assert!(rt; changes_sample(rt.alloc(), call, range) != Ok(false));
+    }
+}
+
+/// Whether the node is an error, or the keyword.
+fn is_either(node: &SyntaxNode, is_error: bool) -> bool {
+    if is_error {
+        node.kind() == SyntaxKind::Error && node.diagnostics().len() == 1
+    } else {
+        node.kind() == SyntaxKind::Let && node.diagnostics().is_empty()
     }
 }
 
 /// Whether a keyword becomes an error, or stays where memory was refused.
-fn keyword_becomes_an_error(alloc: Global) -> bool {
-    let Ok(mut node) = SyntaxNode::leaf(alloc, SyntaxKind::Let, "let") else {
-        return true;
-    };
-    match node.expected("pattern") {
-        Ok(()) => node.kind() == SyntaxKind::Error && node.diagnostics().len() == 1,
-        Err(_) => node.kind() == SyntaxKind::Let && node.diagnostics().is_empty(),
-    }
+fn keyword_becomes_an_error(alloc: Global) -> Result<bool, AllocError> {
+    let mut node = leaf(alloc, SyntaxKind::Let, "let")?;
+    let is_error = node.expected("pattern").is_ok();
+    Ok(is_either(&node, is_error))
 }
 
 #[test]
 fn a_keyword_stays_where_its_error_is_refused(rt: HostRuntime) {
-    assert!(rt; keyword_becomes_an_error(rt.alloc()));
+    assert!(rt; keyword_becomes_an_error(rt.alloc()) != Ok(false));
 }
 
 /// The leaves a and b three levels down.
 const DEEP: [Row; 6] = [
-    (SyntaxKind::Text, "a", None),
-    (SyntaxKind::Text, "b", None),
-    (SyntaxKind::Markup, "", Some(2)),
-    (SyntaxKind::Strong, "", Some(1)),
-    (SyntaxKind::Emph, "", Some(1)),
-    (SyntaxKind::Markup, "", Some(1)),
+    (SyntaxKind::Text, "a", Part::Leaf),
+    (SyntaxKind::Text, "b", Part::Leaf),
+    (SyntaxKind::Markup, "", Part::Over(2)),
+    (SyntaxKind::Strong, "", Part::Over(1)),
+    (SyntaxKind::Emph, "", Part::Over(1)),
+    (SyntaxKind::Markup, "", Part::Over(1)),
 ];
+
+/// The ways to the nodes of `DEEP`.
+const DEEP_PATHS: [Path; 6] = [&[], &[0], &[0, 0], &[0, 0, 0], &[0, 0, 0, 0], &[0, 0, 0, 1]];
 
 /// ` c` within a Strong.
 const FRESH: [Row; 3] = [
-    (SyntaxKind::Space, " ", None),
-    (SyntaxKind::Text, "c", None),
-    (SyntaxKind::Strong, "", Some(2)),
+    (SyntaxKind::Space, " ", Part::Leaf),
+    (SyntaxKind::Text, "c", Part::Leaf),
+    (SyntaxKind::Strong, "", Part::Over(2)),
 ];
 
-/// `DEEP`, numbered within `2..end`, and a copy, or nothing where memory was refused.
-fn deep(alloc: Global, end: u64) -> Option<(SyntaxNode, SyntaxNode)> {
-    let node = numbered(tree(alloc, &DEEP).ok()?, end)?;
-    let before = node.try_clone().ok()?;
-    Some((node, before))
-}
-
-fn fresh(alloc: Global) -> Option<Vec<SyntaxNode>> {
-    let mut nodes = Vec::new(alloc);
-    nodes.push(tree(alloc, &FRESH).ok()?).ok()?;
-    Some(nodes)
-}
-
-/// Whether replacing a leaf three levels down, with numbers below `end`, is answered so, or refused
-/// for want of memory; and a refusal leaves the tree as before.
+/// Whether replacing a leaf three levels down is answered so, or refused for want of memory; and a
+/// refusal leaves the tree as before.
 fn replaces_or_stays(
+    node: &mut SyntaxNode,
+    at: usize,
+    nodes: Vec<SyntaxNode>,
+    answer: Result<(), SourceError>,
+) -> Result<bool, AllocError> {
+    let before = node.try_clone()?;
+    let answered = replace(node, &[0, 0, 0], at, at.saturating_add(1), nodes);
+    let is_well = match answered {
+        Ok(()) => node.descendants() == 8,
+        Err(_) => same(node, &before, &DEEP_PATHS),
+    };
+    Ok(is_well && (answered == answer || answered == Err(SourceError::OutOfMemory)))
+}
+
+/// Whether it is so in `DEEP` with numbers below `end`.
+fn replaces_deep(
     alloc: Global,
     end: u64,
     at: usize,
     answer: Result<(), SourceError>,
-) -> Option<bool> {
-    let nodes = fresh(alloc)?;
-    let (mut node, before) = deep(alloc, end)?;
-    let answered = replace(&mut node, &[0, 0, 0], at, at.saturating_add(1), nodes);
-    let is_allowed = answered == answer || answered == Err(SourceError::OutOfMemory);
-    let is_well = match answered {
-        Ok(()) => node.descendants() == 8,
-        Err(_) => same(alloc, &node, &before),
-    };
-    Some(is_allowed && is_well)
+) -> Result<bool, AllocError> {
+    let mut node = tree(alloc, &DEEP)?;
+    let numbered = number(&mut node, 2, end).is_ok();
+    let is_well = replaces_or_stays(&mut node, at, forest(alloc, &FRESH)?, answer)?;
+    Ok(is_well || !numbered)
 }
 
 // Among all numbers, where the neighbour has to be numbered anew, and where numbers are too few.
 #[test]
 fn a_refusal_at_depth_three_changes_nothing(rt: HostRuntime) {
-    let alloc = rt.alloc();
     let rows = [
         (END, Ok(())),
         (130, Ok(())),
         (8, Err(SourceError::SpanNumbers)),
     ];
     for (end, answer) in rows {
-        for at in 0..2 {
-            assert!(rt; replaces_or_stays(alloc, end, at, answer) != Some(false));
-        }
+        assert!(rt; replaces_deep(rt.alloc(), end, 0, answer) != Ok(false));
+        assert!(rt; replaces_deep(rt.alloc(), end, 1, answer) != Ok(false));
     }
 }

@@ -1,5 +1,5 @@
 use std::alloc::{AllocError, Global};
-use typst_kinds::{FileId, SourceError, SyntaxKind};
+use typst_kinds::{FileId, SourceError, Span, SyntaxKind};
 use typst_node::SyntaxNode;
 
 /// The first number that isn't one.
@@ -12,8 +12,20 @@ pub(crate) fn leaf(alloc: Global, kind: SyntaxKind, text: &str) -> Result<Syntax
     SyntaxNode::leaf(alloc, kind, text)
 }
 
+fn remark(node: &mut SyntaxNode) -> Result<(), AllocError> {
+    node.warn("odd")?;
+    node.hint("look")
+}
+
+/// A leaf with a warning and a hint.
+fn remarked(alloc: Global, kind: SyntaxKind, text: &str) -> Result<SyntaxNode, AllocError> {
+    let mut node = leaf(alloc, kind, text)?;
+    remark(&mut node)?;
+    Ok(node)
+}
+
 /// A node over the last `count` of the stack, or over all.
-pub(crate) fn gather(
+fn gather(
     alloc: Global,
     kind: SyntaxKind,
     stack: &mut Vec<SyntaxNode>,
@@ -31,96 +43,71 @@ pub(crate) fn gather(
     Ok(SyntaxNode::inner(kind, kids))
 }
 
-/// A node of a tree: kind, text, and how many children it is over, where it is an inner node.
-pub(crate) type Row = (SyntaxKind, &'static str, Option<usize>);
+/// How a node of a tree is made: as a leaf, as a leaf with a warning and a hint, or over so many.
+pub(crate) enum Part {
+    Leaf,
+    Remarked,
+    Over(usize),
+}
 
-/// A tree from its nodes, each after its children.
-pub(crate) fn tree(alloc: Global, rows: &[Row]) -> Result<SyntaxNode, AllocError> {
+/// A node of a tree: kind, text, and how it is made.
+pub(crate) type Row = (SyntaxKind, &'static str, Part);
+
+/// The node of a row, where those before it stand on the stack.
+fn node_of(
+    alloc: Global,
+    stack: &mut Vec<SyntaxNode>,
+    row: &Row,
+) -> Result<SyntaxNode, AllocError> {
+    let (kind, text, part) = row;
+    match part {
+        Part::Leaf => leaf(alloc, *kind, text),
+        Part::Remarked => remarked(alloc, *kind, text),
+        Part::Over(count) => gather(alloc, *kind, stack, *count),
+    }
+}
+
+/// Trees from their nodes, each after its children.
+pub(crate) fn forest(alloc: Global, rows: &[Row]) -> Result<Vec<SyntaxNode>, AllocError> {
     let mut stack = Vec::new(alloc);
-    for (kind, text, kids) in rows {
-        let node = match kids {
-            None => leaf(alloc, *kind, text)?,
-            Some(count) => gather(alloc, *kind, &mut stack, *count)?,
-        };
+    for row in rows {
+        let node = node_of(alloc, &mut stack, row)?;
         stack.push(node)?;
     }
-    match stack.pop() {
+    Ok(stack)
+}
+
+/// The last tree of a forest.
+pub(crate) fn tree(alloc: Global, rows: &[Row]) -> Result<SyntaxNode, AllocError> {
+    match forest(alloc, rows)?.pop() {
         Some(node) => Ok(node),
         None => leaf(alloc, SyntaxKind::End, ""),
     }
 }
 
-/// The leaf `b`, with a warning and a hint.
-fn remarked(alloc: Global) -> Result<SyntaxNode, AllocError> {
-    let mut leaf = SyntaxNode::leaf(alloc, SyntaxKind::Text, "b")?;
-    leaf.warn("odd")?;
-    leaf.hint("look")?;
-    Ok(leaf)
-}
-
-/// `*b*`
-fn strong(alloc: Global) -> Result<SyntaxNode, AllocError> {
-    let mut kids = Vec::new(alloc);
-    kids.push(SyntaxNode::leaf(alloc, SyntaxKind::Star, "*")?)?;
-    kids.push(remarked(alloc)?)?;
-    kids.push(SyntaxNode::leaf(alloc, SyntaxKind::Star, "*")?)?;
-    Ok(SyntaxNode::inner(SyntaxKind::Strong, kids))
-}
-
 /// `[a *b*]`, with a warning and a hint at the leaf `b`.
-pub(crate) fn sample(alloc: Global) -> Result<SyntaxNode, AllocError> {
-    let mut kids = Vec::new(alloc);
-    kids.push(SyntaxNode::leaf(alloc, SyntaxKind::LeftBracket, "[")?)?;
-    kids.push(SyntaxNode::leaf(alloc, SyntaxKind::Text, "a ")?)?;
-    kids.push(strong(alloc)?)?;
-    kids.push(SyntaxNode::leaf(alloc, SyntaxKind::RightBracket, "]")?)?;
-    Ok(SyntaxNode::inner(SyntaxKind::ContentBlock, kids))
-}
+pub(crate) const SAMPLE: [Row; 8] = [
+    (SyntaxKind::LeftBracket, "[", Part::Leaf),
+    (SyntaxKind::Text, "a ", Part::Leaf),
+    (SyntaxKind::Star, "*", Part::Leaf),
+    (SyntaxKind::Text, "b", Part::Remarked),
+    (SyntaxKind::Star, "*", Part::Leaf),
+    (SyntaxKind::Strong, "", Part::Over(3)),
+    (SyntaxKind::RightBracket, "]", Part::Leaf),
+    (SyntaxKind::ContentBlock, "", Part::Over(4)),
+];
 
-/// Leaves of these kinds, each with the text `x`.
-pub(crate) fn leaves(alloc: Global, kinds: &[SyntaxKind]) -> Result<Vec<SyntaxNode>, AllocError> {
-    let mut all = Vec::new(alloc);
-    for kind in kinds {
-        all.push(leaf(alloc, *kind, "x")?)?;
-    }
-    Ok(all)
-}
-
-/// So many leaves of one kind, each with the text `x`.
+/// A node over so many leaves of one kind, each with the text `x`.
 pub(crate) fn many(
     alloc: Global,
     kind: SyntaxKind,
     count: usize,
-) -> Result<Vec<SyntaxNode>, AllocError> {
+) -> Result<SyntaxNode, AllocError> {
     let mut all = Vec::new(alloc);
     for _ in 0..count {
         all.push(leaf(alloc, kind, "x")?)?;
     }
-    Ok(all)
-}
-
-/// The numbers of the first thousand nodes, each before its children's, 0 for a detached one.
-pub(crate) fn numbers(alloc: Global, root: &SyntaxNode) -> Result<Vec<u64>, AllocError> {
-    let mut all = Vec::new(alloc);
-    let mut left = Vec::new(alloc);
-    left.push(root)?;
-    for _ in 0..1000 {
-        let Some(node) = left.pop() else { break };
-        all.push(node.span().number_or_zero())?;
-        for kid in node.children().iter().rev() {
-            left.push(kid)?;
-        }
-    }
-    Ok(all)
-}
-
-/// Whether these are the numbers of the tree's nodes.
-pub(crate) fn has_numbers(
-    alloc: Global,
-    node: &SyntaxNode,
-    want: &[u64],
-) -> Result<bool, AllocError> {
-    Ok(numbers(alloc, node)?.as_slice() == want)
+    Ok(SyntaxNode::inner(SyntaxKind::Markup, all))
 }
 
 /// Numbers a tree within `start..end`, both within all numbers.
@@ -129,12 +116,6 @@ pub(crate) fn number(node: &mut SyntaxNode, start: u64, end: u64) -> Result<(), 
         Some(file) if 2 <= start && end <= END => node.numberize(file, start..end),
         _ => Err(SourceError::OutOfMemory),
     }
-}
-
-/// The tree with numbers below the end, or nothing where these are too few or memory was refused.
-pub(crate) fn numbered(mut node: SyntaxNode, end: u64) -> Option<SyntaxNode> {
-    number(&mut node, 2, end).ok()?;
-    Some(node)
 }
 
 /// `replace_at` where the path leads to such children, or want of memory.
@@ -152,10 +133,24 @@ pub(crate) fn replace(
     }
 }
 
-/// Whether both are the same, spans too, or memory was refused.
-pub(crate) fn same(alloc: Global, a: &SyntaxNode, b: &SyntaxNode) -> bool {
-    let (Ok(one), Ok(other)) = (numbers(alloc, a), numbers(alloc, b)) else {
-        return true;
-    };
-    one.as_slice() == other.as_slice() && a.spanless_eq(b)
+/// The span of the node where the path ends.
+pub(crate) fn span_at(root: &SyntaxNode, path: &[usize]) -> Option<Span> {
+    let mut node = root;
+    for at in path {
+        node = node.children().get(*at)?;
+    }
+    Some(node.span())
+}
+
+/// The way to a node: the place of a child, then of a child of it.
+pub(crate) type Path = &'static [usize];
+
+/// Whether both are the same, spans too, where the ways are those to all nodes.
+pub(crate) fn same(one: &SyntaxNode, other: &SyntaxNode, paths: &[Path]) -> bool {
+    for path in paths {
+        if span_at(one, path) != span_at(other, path) {
+            return false;
+        }
+    }
+    one.spanless_eq(other) && one.descendants() == paths.len()
 }

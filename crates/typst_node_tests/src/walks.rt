@@ -1,4 +1,4 @@
-use crate::trees::{END, Row, leaf, numbered, numbers, tree};
+use crate::trees::{Part, Row, forest, number, tree};
 use std::alloc::{AllocError, Global};
 use std::mem::size_of;
 use typst_kinds::{FileId, Span, SpanNumber, SyntaxKind};
@@ -7,48 +7,35 @@ use typst_tree::{LinkedNode, is_ordered};
 
 /// `ab ( ab)xab `, with an empty inner node before the error `x`.
 const TREE: [Row; 10] = [
-    (SyntaxKind::Ident, "ab", None),
-    (SyntaxKind::Space, " ", None),
-    (SyntaxKind::Space, " ", None),
-    (SyntaxKind::Ident, "ab", None),
-    (SyntaxKind::Strong, "", Some(2)),
-    (SyntaxKind::Math, "", Some(0)),
-    (SyntaxKind::Error, "x", None),
-    (SyntaxKind::Ident, "ab", None),
-    (SyntaxKind::Space, " ", None),
-    (SyntaxKind::Markup, "", Some(7)),
+    (SyntaxKind::Ident, "ab", Part::Leaf),
+    (SyntaxKind::Space, " ", Part::Leaf),
+    (SyntaxKind::Space, " ", Part::Leaf),
+    (SyntaxKind::Ident, "ab", Part::Leaf),
+    (SyntaxKind::Strong, "", Part::Over(2)),
+    (SyntaxKind::Math, "", Part::Over(0)),
+    (SyntaxKind::Error, "x", Part::Leaf),
+    (SyntaxKind::Ident, "ab", Part::Leaf),
+    (SyntaxKind::Space, " ", Part::Leaf),
+    (SyntaxKind::Markup, "", Part::Over(7)),
 ];
 
-/// Where the nodes of `TREE` begin and end, in preorder.
-const RANGES: [(usize, usize); 10] = [
-    (0, 10),
-    (0, 2),
-    (2, 3),
-    (3, 6),
-    (3, 4),
-    (4, 6),
-    (6, 6),
-    (6, 7),
-    (7, 9),
-    (9, 10),
-];
-
-/// The places of their parents, next siblings, leaves before, leaves behind and first leaves within.
-const STEPS: [[Option<usize>; 5]; 10] = [
-    [None, None, None, None, Some(1)],
-    [Some(0), Some(3), None, Some(5), Some(1)],
-    [Some(0), Some(3), Some(1), Some(5), None],
-    [Some(0), Some(6), Some(1), Some(6), Some(5)],
-    [Some(3), Some(5), Some(1), Some(5), None],
-    [Some(3), None, Some(1), Some(6), Some(5)],
-    [Some(0), Some(7), Some(5), Some(8), Some(6)],
-    [Some(0), Some(8), Some(6), Some(8), None],
-    [Some(0), None, Some(6), None, Some(8)],
-    [Some(0), None, Some(8), None, None],
+/// Where the nodes of `TREE` begin and end, in preorder, and the places of their parents, next
+/// siblings, leaves before, leaves behind and first leaves within.
+const STEPS: [((usize, usize), [Option<u64>; 5]); 10] = [
+    ((0, 10), [None, None, None, None, Some(1)]),
+    ((0, 2), [Some(0), Some(3), None, Some(5), Some(1)]),
+    ((2, 3), [Some(0), Some(3), Some(1), Some(5), None]),
+    ((3, 6), [Some(0), Some(6), Some(1), Some(6), Some(5)]),
+    ((3, 4), [Some(3), Some(5), Some(1), Some(5), None]),
+    ((4, 6), [Some(3), None, Some(1), Some(6), Some(5)]),
+    ((6, 6), [Some(0), Some(7), Some(5), Some(8), Some(6)]),
+    ((6, 7), [Some(0), Some(8), Some(6), Some(8), None]),
+    ((7, 9), [Some(0), None, Some(6), None, Some(8)]),
+    ((9, 10), [Some(0), None, Some(8), None, None]),
 ];
 
 /// The leaves of `TREE` by the bytes that they hold.
-const LEAVES: [Option<usize>; 11] = [
+const LEAVES: [Option<u64>; 11] = [
     Some(1),
     Some(1),
     Some(2),
@@ -62,25 +49,27 @@ const LEAVES: [Option<usize>; 11] = [
     None,
 ];
 
-/// The place in preorder of a node, by its number.
-fn place(numbers: &[u64], node: Option<LinkedNode>) -> Option<usize> {
-    let own = node?.get().span().number_or_zero();
-    numbers.iter().position(|number| *number == own)
+/// The numbers of `TREE` are those from this one on, in preorder.
+const FIRST: u64 = 2;
+
+/// The place in preorder of a node.
+fn place(node: Option<LinkedNode>) -> Option<u64> {
+    node?.get().span().number_or_zero().checked_sub(FIRST)
 }
 
-fn steps(numbers: &[u64], node: LinkedNode) -> [Option<usize>; 5] {
+fn steps(node: LinkedNode) -> [Option<u64>; 5] {
     [
-        place(numbers, node.parent()),
-        place(numbers, node.next_sibling()),
-        place(numbers, node.prev_leaf()),
-        place(numbers, node.next_leaf()),
-        place(numbers, node.leftmost_leaf()),
+        place(node.parent()),
+        place(node.next_sibling()),
+        place(node.prev_leaf()),
+        place(node.next_leaf()),
+        place(node.leftmost_leaf()),
     ]
 }
 
-/// The node with that number.
-fn node_at<'a>(top: LinkedNode<'a>, number: u64) -> Option<LinkedNode<'a>> {
-    top.find_number(SpanNumber::new(number)?)
+/// The node at that place in preorder.
+fn node_at<'a>(top: LinkedNode<'a>, place: u64) -> Option<LinkedNode<'a>> {
+    top.find_number(SpanNumber::new(place.checked_add(FIRST)?)?)
 }
 
 fn has_range(node: LinkedNode, range: (usize, usize)) -> bool {
@@ -89,53 +78,36 @@ fn has_range(node: LinkedNode, range: (usize, usize)) -> bool {
 }
 
 /// Whether the leaves are those of the list.
-fn has_leaves(top: LinkedNode, numbers: &[u64]) -> bool {
+fn has_leaves(top: LinkedNode) -> bool {
     for (byte, wanted) in LEAVES.iter().enumerate() {
-        if place(numbers, top.leaf_at(byte)) != *wanted {
+        if place(top.leaf_at(byte)) != *wanted {
             return false;
         }
     }
     true
 }
 
-/// Whether each node is found, and its range and steps are those of the lists.
-fn has_steps(top: LinkedNode, numbers: &[u64]) -> bool {
-    for ((number, range), wanted) in numbers.iter().zip(RANGES.iter()).zip(STEPS.iter()) {
-        match node_at(top, *number) {
-            Some(node) if has_range(node, *range) && steps(numbers, node) == *wanted => {}
+/// Whether each node is found, and its range and steps are those of the list.
+fn has_steps(top: LinkedNode) -> bool {
+    let mut place: u64 = 0;
+    for (range, wanted) in &STEPS {
+        match node_at(top, place) {
+            Some(node) if has_range(node, *range) && steps(node) == *wanted => {}
             _ => return false,
         }
+        place = place.saturating_add(1);
     }
-    numbers.len() == STEPS.len()
+    true
 }
 
-/// `TREE` with numbers, or nothing where memory was refused.
-fn linked(alloc: Global) -> Option<SyntaxNode> {
-    numbered(tree(alloc, &TREE).ok()?, END)
-}
-
-/// Whether the leaves and the steps are those of the lists.
-fn walks_from(top: LinkedNode, numbers: &[u64]) -> bool {
-    has_leaves(top, numbers) && has_steps(top, numbers)
-}
-
-/// Whether the steps are the same where the tree is known to be in order.
-fn walks_both(root: &SyntaxNode, numbers: &[u64]) -> bool {
-    root.descendants() == 10
-        && walks_from(LinkedNode::new(root), numbers)
-        && is_ordered(root)
-        && walks_from(LinkedNode::ordered(root), numbers)
-}
-
-fn walks_tree(alloc: Global) -> Option<bool> {
-    let root = linked(alloc)?;
-    let all = numbers(alloc, &root).ok()?;
-    Some(walks_both(&root, all.as_slice()))
-}
-
-#[test]
-fn walks(rt: HostRuntime) {
-    assert!(rt; walks_tree(rt.alloc()) == Some(true));
+/// Whether the leaves and the steps are those of the lists, also where the tree is known to be in
+/// order.
+fn walks_both(root: &SyntaxNode) -> bool {
+    if root.descendants() != 10 || !is_ordered(root) {
+        return false;
+    }
+    let (any, ordered) = (LinkedNode::new(root), LinkedNode::ordered(root));
+    has_leaves(any) && has_steps(any) && has_leaves(ordered) && has_steps(ordered)
 }
 
 /// Whether what is read of the node is what the error of `TREE` has.
@@ -163,25 +135,35 @@ fn has_one_error(root: &SyntaxNode) -> bool {
     root.descendants() == 10 && count_errors(LinkedNode::new(root)) == 1
 }
 
+/// Whether the steps through `TREE` are those of the lists, and whether its error is there once.
+fn walked(alloc: Global) -> Result<[bool; 2], AllocError> {
+    let mut root = tree(alloc, &TREE)?;
+    let numbered = number(&mut root, FIRST, FIRST + 10).is_ok();
+    Ok([numbered && walks_both(&root), has_one_error(&root)])
+}
+
 #[test]
-fn reads_through_the_children(rt: HostRuntime) {
-    let root = linked(rt.alloc());
-    assert!(rt; root.is_some_and(|root| has_one_error(&root)));
+fn walks_and_reads_children(rt: HostRuntime) {
+    assert!(rt; walked(rt.alloc()) == Ok([true, true]));
 }
 
-/// A leaf with this span.
-fn spanned(alloc: Global, span: Span) -> Result<SyntaxNode, AllocError> {
-    let mut leaf = leaf(alloc, SyntaxKind::Ident, "ab")?;
-    leaf.synthesize(span);
-    Ok(leaf)
-}
+/// Leaves without numbers.
+const LEAVES_ALONE: [Row; 3] = [
+    (SyntaxKind::Ident, "ab", Part::Leaf),
+    (SyntaxKind::Ident, "ab", Part::Leaf),
+    (SyntaxKind::Ident, "ab", Part::Leaf),
+];
 
-/// A detached node over leaves with these spans.
-fn unordered(alloc: Global, spans: &[Span]) -> Result<SyntaxNode, AllocError> {
-    let mut kids = Vec::new(alloc);
-    for span in spans {
-        kids.push(spanned(alloc, *span)?)?;
+fn set_spans(nodes: &mut [SyntaxNode], spans: &[Span]) {
+    for (node, span) in nodes.iter_mut().zip(spans) {
+        node.synthesize(*span);
     }
+}
+
+/// A detached node over three leaves with these spans.
+fn unordered(alloc: Global, spans: &[Span]) -> Result<SyntaxNode, AllocError> {
+    let mut kids = forest(alloc, &LEAVES_ALONE)?;
+    set_spans(kids.as_mut_slice(), spans);
     Ok(SyntaxNode::inner(SyntaxKind::Markup, kids))
 }
 
@@ -202,13 +184,15 @@ fn begins(top: LinkedNode, three: Span, ten: Span) -> bool {
         && found(top, Span::detached()) == Some(0)
 }
 
+/// Whether the first nodes are found in a tree that is in no order.
+fn finds_in(root: &SyntaxNode, three: Span, ten: Span) -> bool {
+    root.descendants() == 4 && !is_ordered(root) && begins(LinkedNode::new(root), three, ten)
+}
+
 fn finds_first(alloc: Global) -> Option<bool> {
     let (three, ten) = (span(3)?, span(10)?);
     let root = unordered(alloc, &[ten, three, ten]).ok()?;
-    if root.descendants() != 4 || is_ordered(&root) {
-        return None;
-    }
-    Some(begins(LinkedNode::new(&root), three, ten))
+    Some(finds_in(&root, three, ten))
 }
 
 #[test]
