@@ -73,15 +73,20 @@ fn lines_of(alloc: Global, text: &str) -> Result<Lines<String>, AllocError> {
     Lines::new(alloc, text)
 }
 
+/// Whether both have the same text and the same lines.
+fn have_the_same(one: &Lines<String>, other: &Lines<&str>) -> bool {
+    for i in 0..other.len_lines() {
+        if one.line(i) != other.line(i) {
+            return false;
+        }
+    }
+    one.text() == other.text() && one.len_lines() == other.len_lines()
+}
+
 /// Whether the text is this one, with its table made anew.
 fn is_anew(alloc: Global, lines: &Lines<String>, text: &str) -> Result<bool, AllocError> {
     let anew = Lines::new(alloc, text)?;
-    for i in 0..anew.len_lines() {
-        if lines.line(i) != anew.line(i) {
-            return Ok(false);
-        }
-    }
-    Ok(lines.text() == text && lines.len_lines() == anew.len_lines())
+    Ok(have_the_same(lines, &anew))
 }
 
 /// A text, the range of it that an edit replaces, what is put there, and the text then.
@@ -99,30 +104,31 @@ const EDITS: [Edit; 9] = [
     ("a\r\nb", (2, 2), "x", "a\rx\nb"),
 ];
 
-/// The lines of a text after an edit, or before it where its range is none of the text.
-fn edited(
-    alloc: Global,
-    old: &str,
+/// Edits the text where the range is one of it.
+fn edit(
+    lines: &mut Lines<String>,
     (start, end): (usize, usize),
     with: &str,
-) -> Result<Lines<String>, AllocError> {
-    let mut lines = lines_of(alloc, old)?;
+) -> Result<(), AllocError> {
     if start <= end && lines.text().is_char_boundary(start) && lines.text().is_char_boundary(end) {
         lines.edit(start..end, with)?;
     }
-    Ok(lines)
+    Ok(())
 }
 
 /// Whether the edit gives the table of the new text.
 fn gives_by_edit(alloc: Global, (old, range, with, new): Edit) -> Result<bool, AllocError> {
-    let edited = edited(alloc, old, range, with)?;
-    is_anew(alloc, &edited, new)
+    let mut lines = lines_of(alloc, old)?;
+    edit(&mut lines, range, with)?;
+    is_anew(alloc, &lines, new)
 }
 
 /// Whether the replacement by what the edit makes gives the table of the new text.
 fn gives_by_text(alloc: Global, (old, _, _, new): Edit) -> Result<bool, AllocError> {
-    let mut replaced = lines_of(alloc, old)?;
-    Ok(replaced.replace(new)? && is_anew(alloc, &replaced, new)?)
+    let mut lines = lines_of(alloc, old)?;
+    let is_replaced = lines.replace(new)?;
+    let is_new = is_anew(alloc, &lines, new)?;
+    Ok(is_replaced && is_new)
 }
 
 #[test]
@@ -139,21 +145,25 @@ fn has_ranges(lines: &Lines<String>) -> bool {
 
 /// Whether the text is replaced by another one, and by itself not.
 fn changes_once(lines: &mut Lines<String>) -> Result<bool, AllocError> {
-    Ok(lines.replace("ĩ")? && !lines.replace("ĩ")?)
+    let changes = lines.replace("ĩ")?;
+    let again = lines.replace("ĩ")?;
+    Ok(changes && !again)
 }
 
 fn is_copied(lines: &Lines<String>) -> Result<bool, AllocError> {
     Ok(lines.try_clone()? == *lines)
 }
 
-fn replaces(alloc: Global) -> Result<bool, AllocError> {
+fn replaces(alloc: Global) -> Result<[bool; 3], AllocError> {
     let mut lines = lines_of(alloc, "é")?;
-    Ok(has_ranges(&lines) && changes_once(&mut lines)? && is_copied(&lines)?)
+    let has_ranges = has_ranges(&lines);
+    let changes = changes_once(&mut lines)?;
+    Ok([has_ranges, changes, is_copied(&lines)?])
 }
 
 #[test]
 fn replacements(rt: HostRuntime) {
-    assert!(rt; replaces(rt.alloc()) == Ok(true));
+    assert!(rt; replaces(rt.alloc()) == Ok([true, true, true]));
 }
 
 /// Whether the text is split into these stretches at its line ends.

@@ -1,6 +1,5 @@
 //! What of tokens needs code: modes, columns, refused memory, long texts.
 use std::alloc::{AllocError, Global};
-use std::process::Abort;
 use typst_kinds::{SyntaxKind, SyntaxMode};
 use typst_lexer::{Lexer, UnicodeClasses};
 
@@ -63,32 +62,36 @@ fn counts_columns(rt: HostRuntime) {
     }
 }
 
-/// Whether the end is reached. Where memory is refused, the lexer stays where it is.
-fn ends_here(rt: &impl Abort, alloc: Global, lexer: &mut Lexer<'_, UnicodeClasses>) -> bool {
+/// Whether the end is reached, or nothing where the lexer is not where it has to be: behind the token,
+/// or where it was if memory is refused.
+fn ends_here(alloc: Global, lexer: &mut Lexer<'_, UnicodeClasses>) -> Option<bool> {
     let (cursor, newline) = (lexer.cursor(), lexer.newline());
     match lexer.scan(alloc) {
         Ok((token, taken)) => {
-            assert!(rt; lexer.cursor() == cursor.saturating_add(taken.len()));
-            token.kind.same(SyntaxKind::End)
+            let is_behind = lexer.cursor() == cursor.saturating_add(taken.len());
+            is_behind.then_some(token.kind.same(SyntaxKind::End))
         }
-        Err(_) => {
-            assert!(rt; lexer.cursor() == cursor && lexer.newline() == newline);
-            false
+        Err(_) => (lexer.cursor() == cursor && lexer.newline() == newline).then_some(false),
+    }
+}
+
+/// Where forty tokens end, or all, or nothing where the lexer was not where it has to be.
+fn end_of(alloc: Global, text: &str) -> Option<usize> {
+    let mut lexer = lexer(text);
+    for _ in 0..40 {
+        if ends_here(alloc, &mut lexer)? {
+            break;
         }
     }
+    Some(lexer.cursor())
 }
 
 /// Reads on where memory was refused, and finds what it would have found.
 /// `rt try --test --fail-alloc N` refuses the Nth request.
 #[test]
 fn stays_where_memory_is_refused(rt: HostRuntime) {
-    let mut lexer = lexer("a text that is long */\\u{xyz}\n\nhttp://[a]");
-    for _ in 0..40 {
-        if ends_here(&rt, rt.alloc(), &mut lexer) {
-            break;
-        }
-    }
-    assert!(rt; lexer.cursor() == 41);
+    let text = "a text that is long */\\u{xyz}\n\nhttp://[a]";
+    assert!(rt; end_of(rt.alloc(), text) == Some(41));
 }
 
 /// How many tokens a text has; one more than so many where there are more.
@@ -103,12 +106,18 @@ fn count(alloc: Global, text: &str, most: usize) -> Result<usize, AllocError> {
     Ok(most)
 }
 
-/// How many tokens a text of 100,000 times one character has.
-fn count_run(alloc: Global, one: char) -> Result<usize, AllocError> {
-    let mut text = String::new(alloc);
+/// Writes one character 100,000 times.
+fn write_run(text: &mut String, one: char) -> Result<(), AllocError> {
     for _ in 0..100_000 {
         text.push(one)?;
     }
+    Ok(())
+}
+
+/// How many tokens a text of 100,000 times one character has.
+fn count_run(alloc: Global, one: char) -> Result<usize, AllocError> {
+    let mut text = String::new(alloc);
+    write_run(&mut text, one)?;
     count(alloc, text.as_str(), 100_002)
 }
 
