@@ -13,6 +13,7 @@ use Rattle.typst_ahead.specs.Bytes.{LiesIn, bytes_left}
 use Rattle.typst_ahead.specs.Cursor.{Stands, distance, hand_of_ahead}
 use Rattle.typst_ahead.specs.declared.ahead.ReadAhead.{ReadAhead}
 use Rattle.typst_ahead.specs.Log.{Log, logged, with_hull}
+use Rattle.typst_ahead.specs.Nodes.{is_leaf}
 use Rattle.typst_ahead.specs.Noted.{hull_in}
 use Rattle.typst_ahead.specs.Meaning.{Guess, Guessing, Level}
 use Rattle.typst_machine.specs.declared.memo.Guessed.{Guessed}
@@ -101,24 +102,24 @@ looks-again n z h (marked at gap fewer mark s ∷ asks) i = looks-again n z h as
 
 -- what is remembered of the parens at hand comes behind them
 pub found-is : {l : Level} {v : View} (e : Guessed) (k levels left : ℕ) → Fits l v → slice_get v.memo k ≡ Some e → e.left ≡ left → left ≡ bytes_left (behind_paren v)
-    → l.levels ≡ levels → e.levels ≡ levels → e.outer ≡ v.state.reading → LiesIn e.hull (hull_in v.log) → Found l v e.behind
-found-is {l = l} {v = v} e k levels left f at is here m n o lies =
+    → is_leaf v.hand.token ≡ true → l.levels ≡ levels → e.levels ≡ levels → e.outer ≡ v.state.reading → LiesIn e.hull (hull_in v.log) → Found l v e.behind
+found-is {l = l} {v = v} e k levels left f at is here leaf m n o lies =
     let z = behind_paren v in
     let comes : Comes (l.guess e.levels z e.outer) e.hull z e.behind = so-get l.guess (end_of v.place) v.memo k e f.knows.all at z (end-moved (v.hand.gap + v.hand.len) v.place) (sym (is ∙ here)) in
     let same : l.guess e.levels z e.outer ≡ l.guess l.levels z v.state.reading = rw (o, n, m) refl in
     let found : Comes (l.guess l.levels z v.state.reading) e.hull z e.behind = subst (λ (x : Guess). Comes x e.hull z e.behind) same comes in
-    record { behind = found.behind; looks = looks-more e.hull (hull_in v.log) z (l.guess l.levels z v.state.reading).asks lies found.looks }
+    record { leaf = leaf; comes = record { behind = found.behind; looks = looks-more e.hull (hull_in v.log) z (l.guess l.levels z v.state.reading).asks lies found.looks } }
 
 -- one more is remembered
-pub remembers-more : {v w : View} (levels : ℕ) (b : Behind) (e : Guessed) (k : ℕ) → w ≡ record v { memo = insert v.memo k e }
+pub remembers-more : {v w : View} (levels : ℕ) (b : Behind) (e : Guessed) (k : ℕ) → w ≡ record v { memo = insert v.memo k e } → is_leaf v.hand.token ≡ true
     → e.left ≡ bytes_left (behind_paren v) → e.levels ≡ levels → e.outer ≡ v.state.reading → e.behind ≡ b → e.hull ≡ hull_in v.log → Remembers levels b v w
-remembers-more {v = v} {w = w} levels b e k is left n o c h = record {
+remembers-more {v = v} {w = w} levels b e k is leaf left n o c h = record {
   same = is ∙ ap (λ (es : List Guessed). record v { memo = es }) (sym (ap (λ (x : View). x.memo) is));
   knows = λ l m found all.
       let z = behind_paren v in
       let so : IsSo l.guess (end_of v.place) e = λ y end bytes.
           let here = only-place y z (end ∙ sym (end-moved (v.hand.gap + v.hand.len) v.place)) (bytes ∙ left) in
-          rw (here, n, sym m, o, c, h) found in
+          rw (here, n, sym m, o, c, h) (found leaf).comes in
       knows-at (ap (λ (x : View). x.memo) is) refl (record { all = so-insert l.guess (end_of v.place) v.memo k e all.all so });
 }
 

@@ -24,7 +24,7 @@ use Rattle.typst_ahead.specs.Syntax.Op.{hand, column, erred, takes, flushes, com
 use Rattle.typst_ahead.specs.Syntax.Parser.{gives, does, next, pick, repeat, wraps, scoped, calls}
 use Rattle.typst_ahead.specs.Meaning.{Outcome, Meaning, Level, asked, before, bound, plain, less, followed, standing, turns, repeated, inside, reshaped, entered, left, renewed, flushed_state, taken_node, hand_of, hand_asks_of, run}
 use Rattle.typst_ahead.specs.Bytes.{bytes_left, token_hull, column_hull}
-use Rattle.typst_machine.specs.View.{View, Runs, Ran, at, Fits, Bare, Loose, Looked, Flushed, Rewrapped}
+use Rattle.typst_machine.specs.View.{View, Runs, Ran, at, Fits, Bare, Looked, Flushed, Rewrapped}
 use Rattle.typst_ahead.proofs.Places.{moved-sum, take-both, drop-both, take-all, drop-all, less-none, length-less, no-end}
 use Rattle.typst_ahead.proofs.Hints.{standing-joined, length-hinted}
 use Rattle.typst_ahead.proofs.Within.{turns-enough, within-run}
@@ -441,6 +441,3 @@ rewrapped-fits l {from = from} {shape = shape} {mid = mid} {new = new} w c =
       log = rw (w.here, w.log) c.log;
       knows = knows-at w.memo (ap end_of w.place) c.knows;
     }
-
-pub rewrapped-loose : (l : Level) {from : ℕ} {shape : Shape} {mid new : View} → Rewrapped from shape mid new → Loose l mid → Loose l new
-rewrapped-loose l w c = record { knows = knows-at w.memo (ap end_of w.place) c.knows }

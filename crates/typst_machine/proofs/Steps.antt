@@ -222,3 +222,6 @@ turning-next sound t did less_left = record { rest = λ a new d. t.rest a new (d
 -- the code noted something before anything was asked
 pub first-noted : {l : Level} {levels : ℕ} {m : Mark} {v w : View} → w ≡ noted_here levels m v → l.levels ≡ levels → Goes l (Bare l) (Bare l) (does (marks m)) tt v w
 first-noted {l = l} {m = m} {v = v} {w = w} e n = does-marks m v w (λ b. e ∙ ap (λ k. noted_here k m v) (sym n) ∙ ap (λ (x : Option Trivia). record v { log = with_note (gap_of x) l.levels m (state_of v.state) v.place v.log }) (sym b.known))
+
+pub rewrapped-loose : (l : Level) {from : ℕ} {shape : Shape} {mid new : View} → Rewrapped from shape mid new → Loose l mid → Loose l new
+rewrapped-loose l w c = record { knows = knows-at w.memo (ap end_of w.place) c.knows }

@@ -26,6 +26,7 @@ use Rattle.typst_ahead.specs.Steps.{peek}
 use Rattle.typst_machine.specs.declared.depth.Answered.{Answered}
 use Rattle.typst_machine.specs.declared.depth.Answered.TheVariants.{Brackets, Nothing, Names}
 use Rattle.typst_ahead.specs.Bytes.{LiesIn, token_hull, column_hull}
+use Rattle.typst_ahead.specs.Nodes.{is_leaf}
 use Rattle.typst_ahead.specs.Noted.{hull_in}
 use Rattle.typst_machine.specs.declared.memo.Guessed.{Guessed}
 use Rattle.typst_machine.specs.Remembered.{Comes, Knows, end_of}
@@ -206,8 +207,9 @@ abbrev pub behind_paren : View → Place
 behind_paren v = moved (v.hand.gap + v.hand.len) v.place
 
 -- this comes behind the parens at hand, and all that is looked at for it was looked at
-abbrev pub Found : Level → View → Behind → Type 0
-Found l v b = Comes (l.guess l.levels (behind_paren v) v.state.reading) (hull_in v.log) (behind_paren v) b
+pub record Found (l : Level) (v : View) (b : Behind) : Type 0 where
+  pub leaf : is_leaf v.hand.token ≡ true
+  pub comes : Comes (l.guess l.levels (behind_paren v) v.state.reading) (hull_in v.log) (behind_paren v) b
 
 -- what is remembered is of as many levels and the same reading, and all that was looked at for it was looked at
 pub record IsThis (n : ℕ) (v : View) (e : Guessed) : Type 0 where
@@ -218,7 +220,7 @@ pub record IsThis (n : ℕ) (v : View) (e : Guessed) : Type 0 where
 -- nothing changed but what is remembered, and where it is so that this comes behind the parens at hand it stays so
 pub record Remembers (levels : ℕ) (b : Behind) (v w : View) : Type 0 where
   pub same : w ≡ record v { memo = w.memo }
-  pub knows : (l : Level) → l.levels ≡ levels → Found l v b → Knows l.guess (end_of v.place) v.memo → Knows l.guess (end_of v.place) w.memo
+  pub knows : (l : Level) → l.levels ≡ levels → (is_leaf v.hand.token ≡ true → Found l v b) → Knows l.guess (end_of v.place) v.memo → Knows l.guess (end_of v.place) w.memo
 
 -- nothing changed but what is remembered, and what is no more told stays so
 pub record Dropped (v w : View) : Type 0 where

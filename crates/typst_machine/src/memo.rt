@@ -8,7 +8,7 @@ ghost use Rattle.typst_machine.specs.View.{Dropped, Fits, Found, IsThis, Remembe
 use crate::depth::Levels;
 use crate::parser::{Parser, same_mode, same_rule};
 use std::alloc::AllocError;
-use typst_ahead::{Behind, Hull, Reading, left};
+use typst_ahead::{Behind, Hull, Reading, is_leaf, left};
 
 /// A first reading that turned out wrong: where it went on behind its paren, by how many bytes there
 /// were from there on; how many levels were left; how it was read outside; what came behind it; and
@@ -45,6 +45,9 @@ impl<'s> Parser<'s> {
     pub fn guessed<L: Levels>(&self, g: &L) -> Option<Behind>
         ensures { (l : Level) → l.levels ≡ (L.frame g.now).levels → Fits l self.now → IfSome result (Found l self.now) }
     {
+        if !is_leaf(self.ahead.token) {
+            return None;
+        }
         let left = left(&self.ahead.after);
         let mut at = self.first_at(left);
         'entries: loop {
@@ -76,7 +79,7 @@ impl<'s> Parser<'s> {
     pub fn remember<L: Levels>(&mut self, behind: Behind, g: &L) -> Result<(), AllocError>
         ensures { OnOk result (Remembers (L.frame g.now).levels behind self.old self.new) }
     {
-        if self.guesses < 2 {
+        if self.guesses < 2 || !is_leaf(self.ahead.token) {
             return Ok(());
         }
         let entry = Guessed {
