@@ -35,8 +35,8 @@ as_group = do
   gives (behind_group read ahead.kind)
 
 -- the same, where the first paren was taken
-unfoldable pub behind_paren : Parser Behind
-behind_paren = do
+unfoldable pub after_paren : Parser Behind
+after_paren = do
   x ← within (at_newline newline.Continue) (peek >> group_rest)
   ahead ← peek
   gives (behind_group x.1 ahead.kind)
@@ -44,7 +44,7 @@ behind_paren = do
 -- what a first reading finds, by where it goes on behind its paren and how it is read outside
 abbrev pub guess_of : Level → Place → Reading → Guess
 guess_of l z outer =
-    let o = run l behind_paren z (record (start_point outer) { held = at_newline newline.Continue outer }) in
+    let o = run l after_paren z (record (start_point outer) { held = at_newline newline.Continue outer }) in
     record { behind = o.value; asks = o.asks }
 
 abbrev pub is_arrow : Behind → Bool

@@ -7,12 +7,17 @@ use Rattle.typst_readers.specs.declared.hull.Hull.{Hull}
 use Rattle.typst_ahead.specs.calls.Note.{Note}
 use Rattle.typst_ahead.specs.Ask.{Ask, only_looks}
 use Rattle.typst_ahead.specs.Ask.Ask.{looked, marked}
+use Rattle.typst_classes.specs.Classes.{CharClasses}
+use Rattle.typst_readers.specs.Reader.{look}
+use Rattle.typst_ahead.specs.Tokens.{token}
+use Rattle.typst_ahead.specs.reading.Reading.{Reading}
+use Rattle.typst_ahead.specs.Bytes.{column_hull, joined_hull, token_hull}
 use Rattle.typst_ahead.specs.Point.{Trivia}
-use Rattle.typst_ahead.specs.Hand.{known_by}
+use Rattle.typst_ahead.specs.Hand.{asks_column, column_look, hand_asks, known_by}
 use Rattle.typst_ahead.specs.Log.{Log, least_behind, logged, with_hull, with_more, with_note}
 use Rattle.typst_ahead.specs.Syntax.{Parser}
 use Rattle.typst_ahead.specs.Syntax.Parser.{either}
-use Rattle.typst_ahead.specs.Meaning.{Level, given_up, run}
+use Rattle.typst_ahead.specs.Meaning.{Level, given_up, hand_asks_of, run}
 use Rattle.typst_machine.specs.declared.memo.Guessed.{Guessed}
 use Rattle.typst_machine.specs.Remembered.{Knows, LooksIn, end_of}
 use Rattle.typst_machine.specs.View.{View, Runs, Ran, Goes, Does, Dropped, Fits, at}
@@ -284,7 +289,7 @@ back-changed {l = l} {p = p} {a = a} {old = old} {back = back} {now = now} is kn
     record {
       fits = subst (λ (v : View). Fits l v) (sym is) fits;
       passed = subst (λ (v : View). Passed l p a v) (sym is) passed;
-      again = λ {c} {q} {is_wrong} {last} e k. b.again e (memo-ran is k);
+      again = λ {b = x} {q} {is_wrong} {last} e k. b.again e (memo-ran is k);
     }
 
 -- the second reading was made from there, and what was noted is dropped
@@ -307,3 +312,24 @@ does-dropped {l = l} {p = p} {a = a} {old = old} {mid = mid} {new = new} d g = r
       let fits : Fits l (record mid { memo = new.memo }) = record { known = f.known; hand = f.hand; own = f.own; here = f.here; there = f.there; log = f.log; knows = d.knows l f.knows } in
       subst (λ (v : View). Fits l v) (sym d.same) fits);
 }
+
+-- what is asked for the token at hand was looked at
+pub paren-looks : {l : Level} {v : View} → Fits l v → LooksIn (hull_in v.log) v.place (hand_asks_of l v.place v.state)
+unfolding hand_asks
+paren-looks {l = l} {v = v} f =
+    let k = l.classes in
+    let held = v.state.held in
+    let t : Trivia = record { nodes = v.hand.trivia; gap = v.hand.gap; newlines = v.hand.newlines } in
+    let w = moved v.hand.gap v.place in
+    let own = token_hull k held.mode w in
+    let a = among-is v.here v.log f.log in
+    let here : v.here ≡ column_hull held v.hand.newlines w own = f.here ∙ ap (column_hull held v.hand.newlines w) f.own in
+    let b : Among (column_hull held v.hand.newlines w own) v.log = subst (λ (u : Hull). Among u v.log) here a in
+    subst (λ (x : Option Trivia). LooksIn (hull_in v.log) v.place (hand_asks k held x v.place)) (sym f.known) (by-column k held t v.place v.log (asks_column held t.newlines) b)
+  where
+    by-column : (k : CharClasses) (held : Reading) (t : Trivia) (z : Place) (h : Log) (c : Bool)
+        → (let w = moved t.gap z in let own = token_hull k held.mode w in Among (if c then joined_hull own (hull_of (column_look w) w) else own) h)
+        → LooksIn (hull_in h) z (looked t.gap (look (token k held.mode) (moved t.gap z)) ∷ (if c then looked t.gap (column_look (moved t.gap z)) ∷ [] else []))
+    by-column k held t z h true a =
+        (record { reach = let r = a.reach in omega arith; least = let l = a.least in omega arith }, (record { reach = let r = a.reach in omega arith; least = let l = a.least in omega arith }, tt))
+    by-column k held t z h false a = (record { reach = a.reach; least = a.least }, tt)

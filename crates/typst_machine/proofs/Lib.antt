@@ -5,7 +5,7 @@
 --   the token further on, hints  Words
 --   the first node changed, seen Changes
 --   the token at hand            Ready: what it becomes; ReadSo: read in another way
---   a reading that is given up   Checkpoints: going back; Either: the law; Begins: what leaves what stood before; Knowing: what is remembered
+--   a reading that is given up   Checkpoints: going back; Either: the law; Begins: what leaves what stood before; Knowing, Tails: what is remembered
 pub mod Knowing
 pub mod Blocks
 pub mod Runs
@@ -17,6 +17,7 @@ pub mod Ready
 pub mod ReadSo
 pub mod Checkpoints
 pub mod Either
+pub mod Tails
 pub mod Begins
 pub mod Changes
 pub mod Asks

@@ -412,7 +412,7 @@ change-known change (t ∷ []) s = on-error (is_error t.head.kind) (is_error (ch
     on-error false false text s = refl
 change-known change (t ∷ u ∷ ts) s = refl
 
-shape-held : (shape : Shape) (ts : List Tree) (s : Point) → (after_shape shape ts s).held ≡ s.held
+pub shape-held : (shape : Shape) (ts : List Tree) (s : Point) → (after_shape shape ts s).held ≡ s.held
 shape-held (keeps change) ts s = change-held change ts s
 shape-held (holds change kind) ts s = refl
 shape-held (lacks count message kind) ts s = refl
