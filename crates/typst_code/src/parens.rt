@@ -2,6 +2,7 @@
 
 ghost use Rattle.std.specs.Prelude.{◌≡◌};
 ghost use Rattle.typst_markup.specs.View.{Means};
+ghost use Rattle.typst_kinds.specs.declared.kind.SyntaxKind.TheVariants as kind;
 ghost use Rattle.typst_code.specs.Outside.{MeansAround};
 ghost use Rattle.typst_code.specs.Parens as spec;
 
@@ -43,6 +44,33 @@ fn first_reading<L: Levels>(g: &L, p: &mut Parser<'_>) -> Result<Behind, AllocEr
     Ok(as_group(g, p)?)
 }
 
+/// Reads a group, and where what comes behind it asks for that, goes back and reads parameters or what
+/// is assigned to.
+fn guess<L: Levels>(g: &L, p: &mut Parser<'_>) -> Result<Behind, AllocError>
+    requires may { L.may_call g.now }
+    requires paren { p.old.hand.kind ≡ kind.LeftParen }
+    ensures { MeansAround (L.frame g.now) spec.either_reading p.old result p.new }
+{
+    let place = p.checkpoint();
+    let behind = first_reading(g, p)?;
+    match behind {
+        Behind::Arrow => {
+            p.restore(place)?;
+            p.remember(behind, g)?;
+            params(g, p)?;
+            p.drop_notes(place);
+        }
+        Behind::Eq => {
+            p.restore(place)?;
+            p.remember(behind, g)?;
+            destructuring(g, p, Role::Target, Names::new(p.alloc()))?;
+            p.drop_notes(place);
+        }
+        Behind::Nothing => {}
+    }
+    Ok(behind)
+}
+
 /// Reads a group, or in a second reading parameters or what is assigned to; answers what comes behind
 /// it. Where it is remembered that a second reading is asked for, there is no first one.
 fn readings<L: Levels>(g: &L, p: &mut Parser<'_>) -> Result<Behind, AllocError>
@@ -66,22 +94,7 @@ fn readings<L: Levels>(g: &L, p: &mut Parser<'_>) -> Result<Behind, AllocError>
         }
         _ => {}
     }
-    let behind = first_reading(g, p)?;
-    match behind {
-        Behind::Arrow => {
-            p.restore(place)?;
-            p.remember(behind, g)?;
-            params(g, p)?;
-            p.drop_notes(place);
-        }
-        Behind::Eq => {
-            p.restore(place)?;
-            p.remember(behind, g)?;
-            destructuring(g, p, Role::Target, Names::new(p.alloc()))?;
-            p.drop_notes(place);
-        }
-        Behind::Nothing => {}
-    }
+    let behind = guess(g, p)?;
     p.end_guess();
     Ok(behind)
 }

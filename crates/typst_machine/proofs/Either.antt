@@ -247,6 +247,18 @@ looks-in n z h (looked at look ∷ asks) =
     (record { reach = a.reach; least = a.least }, looks-in n z (with_hull u h) asks)
 looks-in n z h (marked at gap fewer mark s ∷ asks) = looks-in n z h asks
 
+-- where the first reading isn't given up, it is all
+pub passed-chosen : {A : Type 0} {l : Level} {p q : Parser A} {is_wrong : A → Bool} {a : A} {v : View} → is_wrong a ≡ false → Passed l p a v → Passed l (either p is_wrong q) a v
+unfolding run
+passed-chosen {l = l} {p = p} {q = q} {is_wrong = is_wrong} {a = a} {v = v} e h =
+    let o = at l p v in
+    let r = at l q v in
+    let right = sym (ap is_wrong h.value ∙ e) in
+    record {
+      value = subst (λ b. (if b then given_up o r else o).value ≡ a) right h.value;
+      looks = subst (λ b. LooksIn (hull_in v.log) v.place (if b then given_up o r else o).asks) right h.looks;
+    }
+
 -- the code went back to where it began, and perhaps remembered something
 pub record Back {A : Type 0} (l : Level) (p : Parser A) (a : A) (old back : View) : Type 1 where
   pub fits : Fits l back
