@@ -127,8 +127,8 @@ module _ (l : Level) (z : Place) (s : Point) (same : asked (hand_of l z s) s ≡
       let f = first-hulls l w r in
       let m = rest-hulls l w r in
       let e = last-hulls l w r in
-      let all = subst (AllIn u) group-end-is.looks (looks-hulls u z _ h) in
-      let inside = in-first u all-hulls [] (in-second u paren-hulls all-hulls (in-first u (paren-hulls ++ all-hulls) [] (in-first u ((paren-hulls ++ all-hulls) ++ []) (x ++ []) all))) in
+      let all = subst (AllIn u) group-end-is.looks (looks-hulls u z (run l as_group z s).asks h) in
+      let inside = in-second u paren-hulls all-hulls (in-first u (paren-hulls ++ all-hulls) [] (in-first u ((paren-hulls ++ all-hulls) ++ []) (x ++ []) all)) in
       let mid = in-first u (((paren-hulls ++ (f ++ [])) ++ m) ++ (e ++ [])) [] inside in
       let front = in-first u ((paren-hulls ++ (f ++ [])) ++ m) (e ++ []) mid in
       let first = in-first u f [] (in-second u paren-hulls (f ++ []) (in-first u (paren-hulls ++ (f ++ [])) m front)) in
@@ -137,7 +137,7 @@ module _ (l : Level) (z : Place) (s : Point) (same : asked (hand_of l z s) s ≡
       let behind = subst (λ asks. AllIn u (hulls y asks)) asks-same (in-first u x [] (in-second u ((paren-hulls ++ all-hulls) ++ []) (x ++ []) all)) in
       let g = end-hulls l w r in
       let found = in-both u ((f ++ m) ++ (e ++ [])) (g ++ []) (in-both u (f ++ m) (e ++ []) (in-both u f m first rest-in) (in-both u e [] last tt)) (in-both u g [] behind tt) in
-      hulls-looks u w _ (subst (AllIn u) (sym (after-is l w r).looks) found)
+      hulls-looks u w (guess_of l w r).asks (subst (AllIn u) (sym (after-is l w r).looks) found)
 
   looks-before : (u : Hull) → LooksIn u z (hand_asks_of l z s) → LooksIn u w (guess_of l w r).asks → LooksIn u z (run l as_group z s).asks
   looks-before u k h =
@@ -148,7 +148,7 @@ module _ (l : Level) (z : Place) (s : Point) (same : asked (hand_of l z s) s ≡
       let e = last-hulls l w r in
       let g = end-hulls l w r in
       let paren = looks-hulls u z (hand_asks_of l z s) k in
-      let all = subst (AllIn u) (after-is l w r).looks (looks-hulls u w _ h) in
+      let all = subst (AllIn u) (after-is l w r).looks (looks-hulls u w (guess_of l w r).asks h) in
       let mid = in-first u ((f ++ m) ++ (e ++ [])) (g ++ []) all in
       let front = in-first u (f ++ m) (e ++ []) mid in
       let first = in-first u f m front in
@@ -157,7 +157,7 @@ module _ (l : Level) (z : Place) (s : Point) (same : asked (hand_of l z s) s ≡
       let behind = subst (λ asks. AllIn u (hulls y asks)) (sym asks-same) (in-first u g [] (in-second u ((f ++ m) ++ (e ++ [])) (g ++ []) all)) in
       let inside = in-both u (((paren-hulls ++ (f ++ [])) ++ m) ++ (e ++ [])) [] (in-both u ((paren-hulls ++ (f ++ [])) ++ m) (e ++ []) (in-both u (paren-hulls ++ (f ++ [])) m (in-both u paren-hulls (f ++ []) paren (in-both u f [] first tt)) rest-in) last) tt in
       let found = in-both u ((paren-hulls ++ all-hulls) ++ []) (x ++ []) (in-both u (paren-hulls ++ all-hulls) [] (in-both u paren-hulls all-hulls paren inside) tt) (in-both u x [] behind tt) in
-      hulls-looks u z _ (subst (AllIn u) (sym group-end-is.looks) found)
+      hulls-looks u z (run l as_group z s).asks (subst (AllIn u) (sym group-end-is.looks) found)
 
 -- ---- what is remembered of parens
 

@@ -19,15 +19,15 @@ returns-in-Some-Arrow g c l h b =
     let place = c.checkpoint-place.ensures in
     asks-yes (same kind.LeftParen) c.current.ensures refl (is-so c.ne.ensures c.if-ne.false)
     (does-chosen refl
-    (does-either place.saved refl (λ f. goes-nowhere place.least (found-passed f b.guess (c.in-Some-Arrow.ensures l h.levels f)) f) (does-next (c.in_ok-params.ensures l h) does-gives) c.drop_notes.ensures))
+    (does-either place.saved refl (λ f. goes-nowhere place.least (found-passed f b.guess (rw c.in-Some-Arrow.field-0-is at c.in-Some-Arrow.ensures l h.levels f)) f) (does-next (c.in_ok-params-in-Some-Arrow.ensures l h) does-gives) c.drop_notes.ensures))
 
 pub returns-in-Some-Eq : goal.returns-in-Some-Eq
 unfolding readings
 returns-in-Some-Eq g c l h b =
     let place = c.checkpoint-place.ensures in
     asks-yes (same kind.LeftParen) c.current.ensures refl (is-so c.ne.ensures c.if-ne.false)
-    (does-either place.saved refl (λ f. goes-nowhere place.least (passed-chosen refl (found-passed f b.guess (c.in-Some-Eq.ensures l h.levels f))) f)
-    (does-next (rw c.new.ensures at c.in_ok-destructuring.ensures l h) does-gives) c.drop_notes.ensures)
+    (does-either place.saved refl (λ f. goes-nowhere place.least (passed-chosen refl (found-passed f b.guess (rw c.in-Some-Eq.field-0-is at c.in-Some-Eq.ensures l h.levels f))) f)
+    (does-next (rw c.new.ensures at c.in_ok-destructuring-in-Some-Eq.ensures l h) does-gives) c.drop_notes-in-Some-Eq.ensures)
 
 pub returns : goal.returns
 unfolding readings
