@@ -295,13 +295,21 @@ impl Context {
         }
     }
 
-    /// Goes past the node, which has no children.
-    pub fn pass(&mut self, node: &SyntaxNode, later: &[SyntaxNode])
-        requires { is_childless node.now.kids ≡ true }
+    /// Goes past the node, which has no children, where its tag is known.
+    pub fn pass(&mut self, node: &SyntaxNode, later: &[SyntaxNode], tag: Option<Tag>)
+        requires childless { is_childless node.now.kids ≡ true }
+        requires known { tag ≡ walk.tag self.old node.now (forest later.now) }
         ensures { self.new ≡ walk.past self.old node.now (walk.passed self.old node.now (forest later.now)) }
     {
-        let trail = self.behind(node, later);
-        self.leave(node, trail);
+        let kind = node.kind();
+        if is_leaf(node) {
+            self.trail = Trail {
+                before: Some(kind),
+                name: if is_name(kind) { tag } else { None },
+                earlier: self.trail.name,
+            };
+        }
+        self.offset = self.offset.saturating_add(node.len());
     }
 
     /// Goes past the node, where the last leaves before what follows it are known.

@@ -1,7 +1,8 @@
 //! A tree's text as HTML.
 
-ghost use Rattle.std.specs.Prelude.{◌≡◌, ◌<◌, [], ◌∷◌, ◌++◌, IfOk, OnOk, MatchOption, string_bytes};
+ghost use Rattle.std.specs.Prelude.{◌≡◌, ◌<◌, [], ◌∷◌, ◌++◌, IfOk, OnOk, MatchOption, string_bytes, true};
 ghost use Rattle.typst_node.specs.Tree.{text_of, forest};
+ghost use Rattle.typst_tree.specs.Walks.{is_childless};
 ghost use Rattle.typst_highlight.specs.Html as spec;
 ghost use Rattle.typst_highlight.specs.Walk as walk;
 
@@ -37,22 +38,44 @@ fn write_node(
     ensures written { OnOk result (string_bytes html.new ≡ string_bytes html.old ++ walk.node_html context.old node.now (forest later.now)) }
     ensures passed { OnOk result (context.new ≡ walk.past context.old node.now (walk.passed context.old node.now (forest later.now))) }
 {
+    if is_childless(node) {
+        return write_leaf(html, node, later, context);
+    }
     let tag = spanned(tag_here(node, later, context));
     write_start(html, tag)?;
     write_escaped(html, node.leaf_text())?;
-    if is_childless(node) {
-        write_end(html, tag)?;
-        context.pass(node, later);
-        return Ok(());
-    }
     let mut inner = context.within(node, later);
     let mut rest = node.children();
     while let Some((kid, behind)) = rest.split_first() {
-        write_node(html, kid, behind, &mut inner)?;
+        if is_childless(kid) {
+            write_leaf(html, kid, behind, &mut inner)?;
+        } else {
+            write_node(html, kid, behind, &mut inner)?;
+        }
         rest = behind;
     }
     write_end(html, tag)?;
     context.leave(node, inner.trail);
+    Ok(())
+}
+
+/// Writes a node without children, and goes past it.
+fn write_leaf(
+    html: &mut String,
+    node: &SyntaxNode,
+    later: &[SyntaxNode],
+    context: &mut Context,
+) -> Result<(), AllocError>
+    requires { is_childless node.now.kids ≡ true }
+    ensures written { OnOk result (string_bytes html.new ≡ string_bytes html.old ++ walk.node_html context.old node.now (forest later.now)) }
+    ensures passed { OnOk result (context.new ≡ walk.past context.old node.now (walk.passed context.old node.now (forest later.now))) }
+{
+    let tag = tag_here(node, later, context);
+    let span = spanned(tag);
+    write_start(html, span)?;
+    write_escaped(html, node.leaf_text())?;
+    write_end(html, span)?;
+    context.pass(node, later, tag);
     Ok(())
 }
 
@@ -71,9 +94,7 @@ fn write_start(html: &mut String, tag: Option<Tag>) -> Result<(), AllocError>
     ensures { OnOk result (string_bytes html.new ≡ string_bytes html.old ++ spec.span_start tag) }
 {
     if let Some(tag) = tag {
-        html.push_str("<span class=\"")?;
-        html.push_str(tag.css_class())?;
-        html.push_str("\">")?;
+        html.push_str(tag.opening())?;
     }
     Ok(())
 }
