@@ -1,6 +1,6 @@
 //! A tree's text as HTML.
 
-ghost use Rattle.std.specs.Prelude.{◌≡◌, ◌<◌, [], ◌∷◌, ◌++◌, IfOk, OnOk, MatchOption, string_bytes, true};
+ghost use Rattle.std.specs.Prelude.{◌≡◌, ◌<◌, [], ◌∷◌, ◌++◌, IfOk, OnOk, MatchOption, string_bytes, true, false, IsTrue};
 ghost use Rattle.typst_node.specs.Tree.{text_of, forest};
 ghost use Rattle.typst_tree.specs.Walks.{is_childless};
 ghost use Rattle.typst_highlight.specs.Html as spec;
@@ -60,6 +60,7 @@ fn write_node(
 }
 
 /// Writes a node without children, and goes past it.
+#[inline(always)]
 fn write_leaf(
     html: &mut String,
     node: &SyntaxNode,
@@ -72,10 +73,11 @@ fn write_leaf(
 {
     let tag = tag_here(node, later, context);
     let span = spanned(tag);
+    let text = node.leaf_text();
     write_start(html, span)?;
-    write_escaped(html, node.leaf_text())?;
+    write_escaped(html, text)?;
     write_end(html, span)?;
-    context.pass(node, later, tag);
+    context.pass(node, later, tag, text.len());
     Ok(())
 }
 
@@ -110,7 +112,41 @@ fn write_end(html: &mut String, tag: Option<Tag>) -> Result<(), AllocError>
 }
 
 /// Writes a text with an entity for each of `& < > ' "`.
+#[inline(always)]
 fn write_escaped(html: &mut String, text: &str) -> Result<(), AllocError>
+    ensures { OnOk result (string_bytes html.new ≡ string_bytes html.old ++ spec.escaped text.now) }
+{
+    if is_plain(text.as_bytes()) {
+        html.push_str(text)?;
+        return Ok(());
+    }
+    write_entities(html, text)
+}
+
+/// Whether no byte has an entity.
+#[inline(always)]
+fn is_plain(bytes: &[u8]) -> bool
+    ensures { IsTrue result → spec.escaped bytes.now ≡ bytes.now }
+{
+    for at in 0..bytes.len() {
+        if has_entity(bytes[at]) {
+            return false;
+        }
+    }
+    true
+}
+
+/// Whether the byte is one of `& < > ' "`.
+#[inline(always)]
+fn has_entity(byte: u8) -> bool
+    ensures plain { result ≡ false → spec.escaped_byte byte ≡ byte ∷ [] }
+{
+    matches!(byte, b'&' | b'<' | b'>' | b'\'' | b'"')
+}
+
+/// Writes a text with an entity for each of `& < > ' "`, and what stands between them whole.
+#[inline(never)]
+fn write_entities(html: &mut String, text: &str) -> Result<(), AllocError>
     ensures { OnOk result (string_bytes html.new ≡ string_bytes html.old ++ spec.escaped text.now) }
 {
     let bytes = text.as_bytes();

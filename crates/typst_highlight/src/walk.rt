@@ -57,11 +57,18 @@ pub fn tag_here(node: &SyntaxNode, later: &[SyntaxNode], context: &Context) -> O
         Rule::Equals => equals_tag(context.parent),
         Rule::Term => term_tag(context.parent, next_kind(later)),
         Rule::Name => context.name(node, later),
-        Rule::Expression => {
-            let behind = context.past(node, passed(node, later, *context));
-            expression_tag(later, &behind)
-        }
+        Rule::Expression => hash_tag(node, later, context),
     }
+}
+
+/// The tag of a hash that other nodes follow under the same parent.
+#[cycle(tags)]
+#[inline(never)]
+fn hash_tag(node: &SyntaxNode, later: &[SyntaxNode], context: &Context) -> Option<Tag>
+    ensures { result ≡ (walk.found (walk.past context.now node.now (walk.passed context.now node.now (forest later.now))) (forest later.now)).expression }
+{
+    let behind = context.past(node, passed(node, later, *context));
+    expression_tag(later, &behind)
 }
 
 /// The tag of a hash that these nodes follow.
