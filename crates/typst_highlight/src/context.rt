@@ -90,6 +90,7 @@ pub fn is_leaf(node: &SyntaxNode) -> bool
 }
 
 /// The first leaf of nodes that stand side by side from a byte on, under a parent of this kind.
+#[cycle(leaves)]
 fn first_leaf(nodes: &[SyntaxNode], parent: Option<SyntaxKind>, offset: usize) -> Option<Ahead>
     ensures { result ≡ walk.first_leaf parent offset (forest nodes.now) }
 {
@@ -105,7 +106,7 @@ fn first_leaf(nodes: &[SyntaxNode], parent: Option<SyntaxKind>, offset: usize) -
             });
         }
         let inner = begin.saturating_add(node.leaf_text().len());
-        if let Some(leaf) = first_leaf(node.children(), Some(kind), inner) {
+        if let Some(leaf) = leaf_among(node.children(), Some(kind), inner) {
             return Some(leaf);
         }
         begin = begin.saturating_add(node.len());
@@ -115,6 +116,7 @@ fn first_leaf(nodes: &[SyntaxNode], parent: Option<SyntaxKind>, offset: usize) -
 }
 
 /// What `first_leaf` answers, at once where the first node is a leaf.
+#[cycle(leaves)]
 #[inline(always)]
 fn leaf_among(nodes: &[SyntaxNode], parent: Option<SyntaxKind>, offset: usize) -> Option<Ahead>
     ensures { result ≡ walk.first_leaf parent offset (forest nodes.now) }
@@ -330,6 +332,7 @@ impl Context {
     }
 
     /// Goes past the node, where the last leaves before what follows it are known.
+    #[inline(always)]
     pub fn leave(&mut self, node: &SyntaxNode, trail: Trail)
         ensures { self.new ≡ walk.past self.old node.now trail }
     {

@@ -10,6 +10,7 @@ use crate::context::{Context, is_childless};
 use crate::tags::Tag;
 use crate::walk::tag_here;
 use std::alloc::{AllocError, Global};
+use typst_kinds::SyntaxKind;
 use typst_node::SyntaxNode;
 
 /// The text of a tree as HTML: an element `code`, in which each node that has a tag, unless it is
@@ -20,12 +21,18 @@ pub fn highlight_html(alloc: Global, root: &SyntaxNode) -> Result<String, AllocE
     ensures html { IfOk result (λ html. string_bytes html ≡ spec.html_of root.now) }
     ensures shown { IfOk result (λ html. spec.read spec.plain (string_bytes html) ≡ text_of root.now) }
 {
-    let mut html = String::new(alloc);
+    let mut html = String::with_capacity(alloc, likely_len(root))?;
     html.push_str("<code>")?;
     let mut context = Context::ROOT;
     write_node(&mut html, root, &[], &mut context)?;
     html.push_str("</code>")?;
     Ok(html)
+}
+
+/// How long the HTML of a tree mostly is at most: its text, and a third of a span for each node.
+fn likely_len(root: &SyntaxNode) -> usize {
+    let spans = root.descendants().saturating_mul(12);
+    root.len().saturating_add(spans).saturating_add(13)
 }
 
 /// Writes a node that other nodes follow under the same parent, and goes past it.
@@ -71,7 +78,10 @@ fn write_leaf(
     ensures written { OnOk result (string_bytes html.new ≡ string_bytes html.old ++ walk.node_html context.old node.now (forest later.now)) }
     ensures passed { OnOk result (context.new ≡ walk.past context.old node.now (walk.passed context.old node.now (forest later.now))) }
 {
-    let tag = tag_here(node, later, context);
+    let tag = match node.kind() {
+        SyntaxKind::Space | SyntaxKind::Text => None,
+        _ => tag_here(node, later, context),
+    };
     let span = spanned(tag);
     let text = node.leaf_text();
     write_start(html, span)?;
@@ -128,12 +138,11 @@ fn write_escaped(html: &mut String, text: &str) -> Result<(), AllocError>
 fn is_plain(bytes: &[u8]) -> bool
     ensures { IsTrue result → spec.escaped bytes.now ≡ bytes.now }
 {
+    let mut found = false;
     for at in 0..bytes.len() {
-        if has_entity(bytes[at]) {
-            return false;
-        }
+        found = found | has_entity(bytes[at]);
     }
-    true
+    !found
 }
 
 /// Whether the byte is one of `& < > ' "`.
@@ -141,7 +150,7 @@ fn is_plain(bytes: &[u8]) -> bool
 fn has_entity(byte: u8) -> bool
     ensures plain { result ≡ false → spec.escaped_byte byte ≡ byte ∷ [] }
 {
-    matches!(byte, b'&' | b'<' | b'>' | b'\'' | b'"')
+    (byte == b'&') | (byte == b'<') | (byte == b'>') | (byte == b'\'') | (byte == b'"')
 }
 
 /// Writes a text with an entity for each of `& < > ' "`, and what stands between them whole.
