@@ -126,11 +126,11 @@ fn write_end(html: &mut String, tag: Option<Tag>) -> Result<(), AllocError>
 fn write_escaped(html: &mut String, text: &str) -> Result<(), AllocError>
     ensures { OnOk result (string_bytes html.new ≡ string_bytes html.old ++ spec.escaped text.now) }
 {
-    if is_plain(text.as_bytes()) {
-        html.push_str(text)?;
-        return Ok(());
+    match text.as_bytes() {
+        [byte] if *byte < 128 && mark(*byte) == 0 => html.push(char::from(*byte)),
+        bytes if is_plain(bytes) => html.push_str(text),
+        _ => write_entities(html, text),
     }
-    write_entities(html, text)
 }
 
 /// Whether no byte has an entity.
@@ -138,19 +138,21 @@ fn write_escaped(html: &mut String, text: &str) -> Result<(), AllocError>
 fn is_plain(bytes: &[u8]) -> bool
     ensures { IsTrue result → spec.escaped bytes.now ≡ bytes.now }
 {
-    let mut found = false;
+    let mut marks = 0;
     for at in 0..bytes.len() {
-        found = found | has_entity(bytes[at]);
+        marks = marks | mark(bytes[at]);
     }
-    !found
+    marks == 0
 }
 
-/// Whether the byte is one of `& < > ' "`.
+/// Not 0 for the bytes `& < > ' "`.
 #[inline(always)]
-fn has_entity(byte: u8) -> bool
-    ensures plain { result ≡ false → spec.escaped_byte byte ≡ byte ∷ [] }
+fn mark(byte: u8) -> u8
+    ensures { result ≡ 0 → spec.escaped_byte byte ≡ byte ∷ [] }
 {
-    (byte == b'&') | (byte == b'<') | (byte == b'>') | (byte == b'\'') | (byte == b'"')
+    u8::from(
+        (byte == b'&') | (byte == b'<') | (byte == b'>') | (byte == b'\'') | (byte == b'"'),
+    )
 }
 
 /// Writes a text with an entity for each of `& < > ' "`, and what stands between them whole.
