@@ -118,8 +118,8 @@ remembers-more {v = v} {w = w} levels b e k is leaf left n o c h = record {
   knows = λ l m found all.
       let z = behind_paren v in
       let so : IsSo l.guess (end_of v.place) e = λ y end bytes.
-          let here = only-place y z (end ∙ sym (end-moved (v.hand.gap + v.hand.len) v.place)) (bytes ∙ left) in
-          rw (here, n, sym m, o, c, h) (found leaf).comes in
+      let here = only-place y z (end ∙ sym (end-moved (v.hand.gap + v.hand.len) v.place)) (bytes ∙ left) in
+      rw (here, n, sym m, o, c, h) (found leaf).comes in
       knows-at (ap (λ (x : View). x.memo) is) refl (record { all = so-insert l.guess (end_of v.place) v.memo k e all.all so });
 }
 

@@ -14,5 +14,7 @@ pub use checkpoint::Checkpoint;
 pub use depth::{Answered, Anywhere, Grammar, Levels, Stops, deeper, is_end, too_deep};
 pub use memo::Guessed;
 pub use parser::Parser;
-pub use typst_ahead::{AtNewline, Behind, Block, Call, ChainSet, Hull, Mark, Note, Reading, Role, Way};
+pub use typst_ahead::{
+    AtNewline, Behind, Block, Call, ChainSet, Hull, Mark, Note, Reading, Role, Way,
+};
 pub use typst_shapes::Change;
