@@ -8,6 +8,7 @@ pub mod Columns
 pub mod Trivia
 -- What the crates above name of those below.
 pub use Rattle.typst_combinators.proofs.Backs
+pub use Rattle.typst_combinators.proofs.Blind
 pub use Rattle.typst_combinators.proofs.Eats
 pub use Rattle.typst_combinators.proofs.Ends
 pub use Rattle.typst_combinators.proofs.Frame

@@ -1,5 +1,5 @@
 -- What was looked at for the token at hand, and what is left, in bytes.
-use Rattle.std.specs.Prelude.{ℕ, zero, suc, max, min, if◌then◌else◌, length, encode_utf8_all}
+use Rattle.std.specs.Prelude.{ℕ, zero, suc, ◌≤◌, max, min, if◌then◌else◌, length, encode_utf8_all}
 use Rattle.typst_kinds.specs.declared.mode.SyntaxMode.{SyntaxMode}
 use Rattle.typst_lines.specs.Place.{Place, moved}
 use Rattle.typst_classes.specs.Classes.{CharClasses}
@@ -18,6 +18,11 @@ bytes_left z = length (encode_utf8_all z.ahead)
 -- both stretches, and what lies between them
 abbrev pub joined_hull : Hull → Hull → Hull
 joined_hull a b = record { reach = max a.reach b.reach; least = min a.least b.least }
+
+-- one stretch lies in another
+pub record LiesIn (u v : Hull) : Type 0 where
+  pub reach : u.reach ≤ v.reach
+  pub least : v.least ≤ u.least
 
 -- what was looked at for the token at a place
 abbrev pub token_hull : CharClasses → SyntaxMode → Place → Hull

@@ -1,5 +1,6 @@
 -- What the log of the code does with notes.
 use Rattle.std.specs.Prelude.{ℕ, min, List, [], ◌∷◌, take, drop, Option, Some, None, option_map}
+use Rattle.typst_readers.specs.declared.hull.Hull.{Hull}
 use Rattle.typst_combinators.specs.declared.calls.Mark.{Mark}
 use Rattle.typst_combinators.specs.declared.calls.Note.{Note}
 use Rattle.typst_combinators.specs.declared.reading.State.{State}
@@ -12,6 +13,10 @@ with_noted mark before start levels s h = record {
   least = least_behind h.notes h.least;
   notes = with_more (record { mark = mark; before = before; start = start; levels = levels; state = s; reach = h.reach; least = h.least }) h.notes;
 }
+
+-- where all looks end, and where they begin
+abbrev pub hull_in : Log → Hull
+hull_in h = record { reach = h.reach; least = h.least }
 
 -- what was noted, nothing where no notes are kept
 abbrev pub listed : Option (List Note) → List Note

@@ -1,11 +1,10 @@
 //! What was looked at and noted.
 
-ghost use Rattle.std.specs.Prelude.{◌≡◌, ◌≤◌, ◌-◌, ◌^◌, OnOk, length};
+ghost use Rattle.std.specs.Prelude.{◌≡◌, ◌≤◌, ◌-◌, ◌^◌, OnOk, length, true};
 ghost use Rattle.typst_combinators.specs.Log.{blank_log, with_hull};
-ghost use Rattle.typst_ahead.specs.Bytes.{joined_hull};
+ghost use Rattle.typst_ahead.specs.Bytes.{LiesIn, joined_hull};
 ghost use Rattle.typst_ahead.specs.Noted as spec;
-ghost use Rattle.typst_ahead.specs.Noted.{unnoted};
-ghost use Rattle.typst_ahead.specs.Noted.{listed, with_noted};
+ghost use Rattle.typst_ahead.specs.Noted.{hull_in, listed, unnoted, with_noted};
 
 use std::alloc::{AllocError, Global};
 use std::marker::Model;
@@ -83,6 +82,20 @@ impl Log {
             self.hull.least = usize::MAX;
         }
         Ok(())
+    }
+
+    /// Where all looks end, and where those since the last note begin; all, where no notes are kept.
+    pub fn hull(&self) -> Hull
+        ensures { result ≡ hull_in self.now }
+    {
+        self.hull
+    }
+
+    /// Whether all of this was looked at since the last note, or ever, where no notes are kept.
+    pub fn holds(&self, hull: Hull) -> bool
+        ensures { result ≡ true → LiesIn hull (hull_in self.now) }
+    {
+        hull.reach <= self.hull.reach && self.hull.least <= hull.least
     }
 
     /// How many notes are kept.

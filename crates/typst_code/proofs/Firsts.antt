@@ -13,7 +13,7 @@ use Rattle.typst_code.specs.Groups.{group}
 use Rattle.typst_code.specs.Parens.{as_group}
 
 fits-in-parens : {l : Level} {v : View} → Fits l v → Fits l (record v { state = entered (at_newline newline.Continue v.state.reading) v.state })
-fits-in-parens c = record { known = c.known; hand = c.hand; own = c.own; here = c.here; there = c.there; log = c.log }
+fits-in-parens c = record { known = c.known; hand = c.hand; own = c.own; here = c.here; there = c.there; log = c.log; knows = c.knows }
 
 begins-group : {l : Level} {v : View} → Sound l → Fits l v → is_end v.hand.kind ≡ false → Begins l group v
 unfolding group node within run

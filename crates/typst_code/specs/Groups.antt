@@ -128,13 +128,16 @@ group_kind items = if items.any && items.is_plain then kind.Parenthesized else l
 abbrev pub group_shape : Bool × SyntaxKind → Shape
 group_shape x = if x.0 then becomes x.1 else unclosed x.1
 
+-- what stands behind the first paren; answers whether the second one comes, and what it is
+unfoldable pub group_rest : Parser (Bool × SyntaxKind)
+group_rest = do
+  colon ← eat_if (same kind.Colon)
+  items ← repeat group_turn (no_items colon)
+  closed ← eat_if (same kind.RightParen)
+  gives (closed, group_kind items)
+
 -- `( .. )`; answers what it is
 unfoldable pub group : Parser SyntaxKind
 group = do
-  x ← node group_shape (within (at_newline newline.Continue) (do
-    paren ← eat
-    colon ← eat_if (same kind.Colon)
-    items ← repeat group_turn (no_items colon)
-    closed ← eat_if (same kind.RightParen)
-    gives (closed, group_kind items)))
+  x ← node group_shape (within (at_newline newline.Continue) (eat >> group_rest))
   gives x.1

@@ -26,6 +26,7 @@ pub use Rattle.typst_markup.specs.Meaning
 pub use Rattle.typst_markup.specs.Nodes
 pub use Rattle.typst_markup.specs.Noted
 pub use Rattle.typst_markup.specs.Point
+pub use Rattle.typst_markup.specs.Remembered
 pub use Rattle.typst_markup.specs.Shape
 pub use Rattle.typst_markup.specs.Sound
 pub use Rattle.typst_markup.specs.Starts
@@ -42,4 +43,3 @@ pub use Rattle.typst_patterns.specs.Closures
 pub use Rattle.typst_patterns.specs.Params
 pub use Rattle.typst_patterns.specs.Parts
 pub use Rattle.typst_patterns.specs.Patterns
-pub use Rattle.typst_patterns.specs.declared.closures

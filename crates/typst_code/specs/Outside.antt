@@ -1,5 +1,5 @@
 -- What productions of code read where blocks may be read.
-use Rattle.std.specs.Prelude.{Result}
+use Rattle.std.specs.Prelude.{◌≡◌, Result}
 use Rattle.std.specs.declared.alloc.AllocError.{AllocError}
 use Rattle.typst_markup.specs.calls.Block.TheVariants as block
 use Rattle.typst_markup.specs.calls.Call.{Call}
@@ -9,12 +9,17 @@ use Rattle.typst_markup.specs.Syntax.{Parser}
 use Rattle.typst_markup.specs.depth.Answered.{Answered}
 use Rattle.typst_markup.specs.View.{View, Frame, Fills, ReadsBlock, Reads, ReadsAs, ReadsBy}
 use Rattle.typst_markup.specs.Markup.{content_block}
+use Rattle.typst_lines.specs.Place.{Place}
+use Rattle.typst_markup.specs.reading.Reading.{Reading}
+use Rattle.typst_code.specs.Parens.{guess_of}
 use Rattle.typst_code.specs.Sequences.{code_block}
 
 -- each block may be read there
 pub record Blocks (l : Level) : Type 0 where
   pub content : ReadsBlock l block.Content content_block
   pub code : ReadsBlock l block.Code code_block
+  -- and what is told of first readings is what they find
+  pub guess : (z : Place) (outer : Reading) → l.guess l.levels z outer ≡ guess_of l z outer
 
 -- what the code reads where no block is being read
 abbrev pub MeansAround : {A : Type 0} → Frame → Parser A → View → Result A AllocError → View → Type 0

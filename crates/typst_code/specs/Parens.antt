@@ -6,15 +6,20 @@ use Rattle.typst_kinds.specs.declared.kind.SyntaxKind.TheVariants as kind
 use Rattle.typst_markup.specs.calls.Role.TheVariants as role
 use Rattle.typst_markup.specs.Syntax.{Parser, ◌>>=◌, ◌>>◌}
 use Rattle.typst_markup.specs.Syntax.Parser.{gives, pick, either}
-use Rattle.typst_markup.specs.Steps.{peek, node}
+use Rattle.typst_markup.specs.Steps.{peek, node, within}
+use Rattle.typst_markup.specs.Markup.{at_newline}
+use Rattle.typst_markup.specs.Meaning.{Guess, Level, run, start_point}
+use Rattle.typst_markup.specs.reading.AtNewline.TheVariants as newline
+use Rattle.typst_markup.specs.reading.Reading.{Reading}
+use Rattle.typst_lines.specs.Place.{Place}
 use Rattle.typst_markup.specs.Expected.{expects}
-use Rattle.typst_patterns.specs.declared.closures.Behind.{Behind}
-use Rattle.typst_patterns.specs.declared.closures.Behind.TheVariants as behind
+use Rattle.typst_markup.specs.calls.Behind.{Behind}
+use Rattle.typst_markup.specs.calls.Behind.TheVariants as behind
 use Rattle.typst_patterns.specs.Closures.{closure_shape}
 use Rattle.typst_patterns.specs.Params.{params}
 use Rattle.typst_patterns.specs.Parts.{expression_if}
 use Rattle.typst_patterns.specs.Patterns.{destructuring}
-use Rattle.typst_code.specs.Groups.{group}
+use Rattle.typst_code.specs.Groups.{group, group_rest}
 
 -- an arrow makes parameters of what stands before it; an equals sign makes it what is assigned to, unless it is one expression in parens
 abbrev pub behind_group : SyntaxKind → SyntaxKind → Behind
@@ -28,6 +33,19 @@ as_group = do
   read ← group
   ahead ← peek
   gives (behind_group read ahead.kind)
+
+-- the same, where the first paren was taken
+unfoldable pub after_paren : Parser Behind
+after_paren = do
+  x ← within (at_newline newline.Continue) (peek >> group_rest)
+  ahead ← peek
+  gives (behind_group x.1 ahead.kind)
+
+-- what a first reading finds, by where it goes on behind its paren and how it is read outside
+abbrev pub guess_of : Level → Place → Reading → Guess
+guess_of l z outer =
+    let o = run l after_paren z (record (start_point outer) { held = at_newline newline.Continue outer }) in
+    record { behind = o.value; asks = o.asks }
 
 abbrev pub is_arrow : Behind → Bool
 is_arrow behind.Arrow = true

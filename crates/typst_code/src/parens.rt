@@ -2,14 +2,16 @@
 
 ghost use Rattle.std.specs.Prelude.{◌≡◌};
 ghost use Rattle.typst_markup.specs.View.{Means};
+ghost use Rattle.typst_kinds.specs.declared.kind.SyntaxKind.TheVariants as kind;
+ghost use Rattle.typst_code.specs.Outside.{MeansAround};
 ghost use Rattle.typst_code.specs.Parens as spec;
 
 use crate::groups::group;
 use std::alloc::AllocError;
 use typst_kinds::SyntaxKind;
-use typst_markup::{Levels, Parser, Role};
+use typst_markup::{Behind, Levels, Parser, Role};
 use typst_names::Names;
-use typst_patterns::{Behind, destructuring, expression_if, params, wrap_closure};
+use typst_patterns::{destructuring, expression_if, params, wrap_closure};
 
 /// What comes behind a group of this kind.
 fn behind_group(group: SyntaxKind, kind: SyntaxKind) -> Behind
@@ -33,30 +35,67 @@ fn as_group<L: Levels>(g: &L, p: &mut Parser<'_>) -> Result<Behind, AllocError>
     Ok(behind_group(kind, p.current()))
 }
 
-/// Reads a group, or in a second reading parameters or what is assigned to; answers what comes behind
-/// it.
-fn readings<L: Levels>(g: &L, p: &mut Parser<'_>) -> Result<Behind, AllocError>
+/// The same, remembering what turns out wrong within it.
+fn first_reading<L: Levels>(g: &L, p: &mut Parser<'_>) -> Result<Behind, AllocError>
     requires { L.may_call g.now }
-    ensures { Means (L.frame g.now) spec.readings p.old result p.new }
+    ensures { Means (L.frame g.now) spec.as_group p.old result p.new }
 {
-    if p.current() != SyntaxKind::LeftParen {
-        return Ok(as_group(g, p)?);
-    }
+    p.begin_guess();
+    Ok(as_group(g, p)?)
+}
+
+/// Reads a group, and where what comes behind it asks for that, goes back and reads parameters or what
+/// is assigned to.
+fn guess<L: Levels>(g: &L, p: &mut Parser<'_>) -> Result<Behind, AllocError>
+    requires may { L.may_call g.now }
+    requires paren { p.old.hand.kind ≡ kind.LeftParen }
+    ensures { MeansAround (L.frame g.now) spec.either_reading p.old result p.new }
+{
     let place = p.checkpoint();
-    let behind = as_group(g, p)?;
+    let behind = first_reading(g, p)?;
     match behind {
         Behind::Arrow => {
             p.restore(place)?;
+            p.remember(behind, g)?;
             params(g, p)?;
             p.drop_notes(place);
         }
         Behind::Eq => {
             p.restore(place)?;
+            p.remember(behind, g)?;
             destructuring(g, p, Role::Target, Names::new(p.alloc()))?;
             p.drop_notes(place);
         }
         Behind::Nothing => {}
     }
+    Ok(behind)
+}
+
+/// Reads a group, or in a second reading parameters or what is assigned to; answers what comes behind
+/// it. Where it is remembered that a second reading is asked for, there is no first one.
+fn readings<L: Levels>(g: &L, p: &mut Parser<'_>) -> Result<Behind, AllocError>
+    requires { L.may_call g.now }
+    ensures { MeansAround (L.frame g.now) spec.readings p.old result p.new }
+{
+    if p.current() != SyntaxKind::LeftParen {
+        return Ok(as_group(g, p)?);
+    }
+    let place = p.checkpoint();
+    match p.guessed(g) {
+        Some(Behind::Arrow) => {
+            params(g, p)?;
+            p.drop_notes(place);
+            return Ok(Behind::Arrow);
+        }
+        Some(Behind::Eq) => {
+            destructuring(g, p, Role::Target, Names::new(p.alloc()))?;
+            p.drop_notes(place);
+            return Ok(Behind::Eq);
+        }
+        _ => {}
+    }
+    let behind = guess(g, p)?;
+    p.end_guess();
     Ok(behind)
 }
 
@@ -84,7 +123,7 @@ fn behind_if(came: bool, behind: Behind) -> Behind
 /// Reads a group, a closure or an assignment.
 pub(crate) fn parens<L: Levels>(g: &L, p: &mut Parser<'_>) -> Result<(), AllocError>
     requires { L.may_call g.now }
-    ensures { Means (L.frame g.now) spec.parens p.old result p.new }
+    ensures { MeansAround (L.frame g.now) spec.parens p.old result p.new }
 {
     let from = p.marker();
     let behind = readings(g, p)?;

@@ -8,7 +8,7 @@ use Rattle.typst_combinators.specs.Point.{Point, forgot}
 use Rattle.typst_combinators.specs.Syntax.{Op, Begin, Parser}
 use Rattle.typst_combinators.specs.Syntax.Op.{hand, so, further, column, erred, takes, takes_so, flushes, complains, advises, marks, is_deepest}
 use Rattle.typst_combinators.specs.Syntax.Parser.{gives, does, next, pick, repeat, wraps, grows, nests, scoped, sees, either, calls, block}
-use Rattle.typst_combinators.specs.Meaning.{Outcome, Meaning, Level, joined, answered, followed, turns, as_last, bound, repeated, before, wrapped, grown, is_more, growths, growing, nestings, nesting, with_seen, closed, bounded, deeper_by_one, given_up, chosen, entered, left_to, plain, done, run}
+use Rattle.typst_combinators.specs.Meaning.{Outcome, Meaning, Level, joined, answered, followed, turns, as_last, bound, repeated, before, wrapped, grown, is_more, growths, growing, nestings, nesting, with_seen, closed, bounded, deeper_by_one, given_up, chosen, entered, left_to, plain, no_guess, done, run}
 use Rattle.typst_combinators.specs.Sound.{Alike}
 use Rattle.typst_combinators.specs.Calls.{Answer}
 use Rattle.typst_combinators.specs.Shape.{Shape}
@@ -117,10 +117,10 @@ alike-bounded b m n f z s h i = ap (λ o. closed b s o) (f z (forgot s) h i)
 -- two levels that differ in how many are left
 module _ (k : CharClasses) (i j : ℕ) (d e : (c : Call) → Meaning (Answer c)) (has : Block → Bool) (a b : Block → Meaning (Unit {0})) where
   abbrev one : Level
-  one = record { classes = k; levels = i; deeper = d; has = has; blocks = a }
+  one = record { classes = k; levels = i; deeper = d; has = has; blocks = a; guess = no_guess }
 
   abbrev other : Level
-  other = record { classes = k; levels = j; deeper = e; has = has; blocks = b }
+  other = record { classes = k; levels = j; deeper = e; has = has; blocks = b; guess = no_guess }
 
   alike-done : {A : Type 0} (o : Op A) → Alike (done one o) (done other o)
   alike-done hand z s h g = refl

@@ -2,6 +2,7 @@
 --   words_of_the_language        computed (laws/words_of_the_language)
 --   the frame law                Frame: framed-run; Looks: what shows the same; Ends, Eats: tokens
 --   the depth law                Alike: alike-run; Knot: alike-at
+--   nothing depends on what is told of first readings: Blind: run-blind
 --   the leaves law               Leaves: kept-run
 --   no more than there is        Within: within-run; Backs: backs-run; Rests: what the reading is behind a parser
 --   all of them at once          Knot: lawful-parser, sound-level
@@ -17,6 +18,7 @@ pub mod MathEnds
 pub mod Ends
 pub mod Eats
 pub mod Alike
+pub mod Blind
 pub mod Frame
 pub mod Leaves
 pub mod Knot

@@ -78,13 +78,13 @@ like-flushed s (t ∷ ts) = record { reading = refl; held = refl }
 
 -- ---- leaving a reading
 
-mode-is : (a b : SyntaxMode) → same_mode a b ≡ true → a ≡ b
+pub mode-is : (a b : SyntaxMode) → same_mode a b ≡ true → a ≡ b
 mode-is mode.Markup mode.Markup h = refl
 mode-is mode.Math mode.Math h = refl
 mode-is mode.Code mode.Code h = refl
 mode-is _ _ h = cc
 
-rule-is : (a b : AtNewline) → same_rule a b ≡ true → a ≡ b
+pub rule-is : (a b : AtNewline) → same_rule a b ≡ true → a ≡ b
 rule-is Continue Continue h = refl
 rule-is Stop Stop h = refl
 rule-is ContextualContinue ContextualContinue h = refl

@@ -6,7 +6,7 @@ use Rattle.typst_combinators.specs.declared.calls.Call.{Call}
 use Rattle.typst_combinators.specs.Calls.{Answer, no_answer}
 use Rattle.typst_combinators.specs.Syntax.{Parser, ◌>>◌}
 use Rattle.typst_combinators.specs.Steps.{peek}
-use Rattle.typst_combinators.specs.Meaning.{Meaning, Level, plain, blockless, run}
+use Rattle.typst_combinators.specs.Meaning.{Meaning, Level, plain, blockless, no_guess, run}
 
 pub record Rules : Type 1 where
   -- what a call reads
@@ -20,7 +20,7 @@ abbrev pub blocks_of : Rules → CharClasses → ℕ → ((call : Call) → Mean
 blocks_of r k levels deeper b = run (blockless k levels deeper) (peek >> r.block_production b)
 
 abbrev pub level_by : Rules → CharClasses → ℕ → ((call : Call) → Meaning (Answer call)) → Level
-level_by r k levels deeper = record { classes = k; levels = levels; deeper = deeper; has = r.has; blocks = blocks_of r k levels deeper }
+level_by r k levels deeper = record { classes = k; levels = levels; deeper = deeper; has = r.has; blocks = blocks_of r k levels deeper; guess = no_guess }
 
 -- what a call gives below so many levels; at the limit none is made
 unfoldable pub meaning_of : Rules → CharClasses → ℕ → (call : Call) → Meaning (Answer call)

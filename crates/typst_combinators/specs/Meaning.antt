@@ -13,6 +13,8 @@ use Rattle.typst_tokens.specs.declared.token.Token.{Token}
 use Rattle.typst_tokens.specs.Memory.{Memory}
 use Rattle.typst_combinators.specs.declared.reading.AtNewline.{AtNewline}
 use Rattle.typst_combinators.specs.declared.reading.AtNewline.TheVariants.{Continue, Stop, ContextualContinue, StopParBreak, RequireColumn}
+use Rattle.typst_combinators.specs.declared.calls.Behind.{Behind}
+use Rattle.typst_combinators.specs.declared.calls.Behind.TheVariants.{Nothing}
 use Rattle.typst_combinators.specs.declared.calls.Block.{Block}
 use Rattle.typst_combinators.specs.declared.calls.Call.{Call}
 use Rattle.typst_combinators.specs.declared.calls.Mark.TheVariants as mark
@@ -208,6 +210,18 @@ left_to outer o = record o { state = left outer o.state }
 
 -- ---- the meaning
 
+-- what a first reading of parens finds behind them, and what it asks for that
+pub record Guess : Type 0 where
+  pub behind : Behind
+  pub asks : List Ask
+
+-- a first reading by how many levels are left, where it goes on behind its paren, and how it is read outside
+abbrev pub Guessing : Type 0
+Guessing = ℕ → Place → Reading → Guess
+
+abbrev pub no_guess : Guessing
+no_guess levels z outer = record { behind = Nothing; asks = [] }
+
 -- where a parser runs
 pub record Level : Type 0 where
   pub classes : CharClasses
@@ -218,14 +232,20 @@ pub record Level : Type 0 where
   -- which blocks may be read, and what they give
   pub has : Block → Bool
   pub blocks : Block → Meaning (Unit {0})
+  -- what is told of first readings, on which nothing depends that is read
+  pub guess : Guessing
+
+-- the same, where this is told of first readings
+abbrev pub guessing : Guessing → Level → Level
+guessing g l = record l { guess = g }
 
 -- where so many levels are left, and no block may be read but within what is read deeper
 abbrev pub blockless : CharClasses → ℕ → ((c : Call) → Meaning (Answer c)) → Level
-blockless k levels deeper = record { classes = k; levels = levels; deeper = deeper; has = λ b. false; blocks = λ b z s. plain tt s }
+blockless k levels deeper = record { classes = k; levels = levels; deeper = deeper; has = λ b. false; blocks = λ b z s. plain tt s; guess = no_guess }
 
 -- the same, where no block may be read
 abbrev pub apart : Level → Level
-apart l = blockless l.classes l.levels l.deeper
+apart l = guessing l.guess (blockless l.classes l.levels l.deeper)
 
 abbrev pub hand_of : Level → Place → Point → Hand
 hand_of l z s = hand_at l.classes s.held s.known z

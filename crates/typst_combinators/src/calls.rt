@@ -32,6 +32,17 @@ pub enum Call {
     Pattern(Role, Names),
 }
 
+/// What comes behind a name, an underscore or parens.
+#[derive(Debug, Clone, Copy, PartialEq, Eq)]
+pub enum Behind {
+    /// `=>`, which makes a closure of it.
+    Arrow,
+    /// `=`, which makes an assignment of it.
+    Eq,
+    /// Neither.
+    Nothing,
+}
+
 /// Signs of attachments.
 #[derive(Debug, Clone, Copy, PartialEq, Eq)]
 pub struct ChainSet {

@@ -5,7 +5,7 @@ mod calls;
 mod laws;
 mod reading;
 
-pub use calls::{Block, Call, ChainSet, Mark, Note, Role, Way};
+pub use calls::{Behind, Block, Call, ChainSet, Mark, Note, Role, Way};
 pub use laws::words_of_the_language;
 pub use reading::{AtNewline, Newlines, Reading, State};
 pub use typst_lexer::lexer::{named_argument, spread_argument, token};

@@ -24,7 +24,7 @@ use Rattle.typst_code.proofs.Ends.{hand-again}
 use Rattle.typst_code.specs.Markup.{content_block}
 use Rattle.typst_code.specs.Starts.{begins_code}
 use Rattle.typst_code.specs.Equations.{between_dollars, equation}
-use Rattle.typst_code.specs.closures.Behind.{Behind}
+use Rattle.typst_code.specs.calls.Behind.{Behind}
 use Rattle.typst_code.specs.Bindings.{let_binding}
 use Rattle.typst_code.specs.Closures.{behind_name, behind_underscore, headed, name_shape, named, placeholder, underscore_shape}
 use Rattle.typst_code.specs.Params.{params}

@@ -14,11 +14,19 @@ use Rattle.typst_code.specs.Ask.Ask.{looked, marked}
 use Rattle.typst_code.specs.reading.Reading.{Reading}
 use Rattle.typst_code.specs.Log.{Log, no_log, with_more, with_hull, with_note, logged}
 use Rattle.typst_code.specs.Knot.{meaning_of}
-use Rattle.typst_code.specs.Meaning.{less, standing, start_point, run}
+use Rattle.typst_code.specs.Meaning.{Guess, Meaning, Outcome, apart, less, standing, start_point, run}
+use Rattle.typst_code.specs.calls.Behind.{Behind}
+use Rattle.typst_code.specs.Calls.{Answer}
+use Rattle.typst_code.specs.Steps.{peek}
+use Rattle.typst_code.specs.Markup.{content_block}
+use Rattle.typst_code.specs.Sequences.{code_block}
+use Rattle.typst_code.specs.Parens.{after_paren}
 use Rattle.typst_code.specs.Shape.{hinted}
 use Rattle.typst_code.specs.Sound.{Sound}
-use Rattle.typst_code.specs.Syntax.{Parser}
+use Rattle.typst_code.specs.Syntax.{Parser, ◌>>◌}
+use Rattle.typst_code.proofs.Blind.{run-blind}
 use Rattle.typst_code.proofs.Knot.{sound-level}
+use Rattle.typst_code.proofs.Knowing.{knows-none}
 use Rattle.typst_code.specs.depth.Answered.{Answered}
 use Rattle.typst_code.specs.Cursor.{IsStart}
 use Rattle.typst_code.specs.View.{View, Runs, Goes, Called, Answers, Fits, Bare, at}
@@ -26,19 +34,32 @@ use Rattle.typst_code.specs.Noted.{listed}
 use Rattle.typst_code.specs.Outside.{Blocks}
 use Rattle.typst_grammar.specs.Grammar.{rules, production, meaning, level_at, max_depth, start_of, parsed, log}
 use Rattle.typst_grammar.specs.Read.{IsParsed}
+use Rattle.typst_grammar.specs.Told.{guesses, told_at}
 
-pub sound-at : (k : CharClasses) (levels : ℕ) → Sound (level_at k levels)
-sound-at k levels = sound-level (rules k) k levels
+pub sound-at : (k : CharClasses) (levels : ℕ) → Sound (told_at k levels)
+sound-at k levels = let s = sound-level (rules k) k levels in record { within = s.within; backs = s.backs; within_block = s.within_block; backs_block = s.backs_block }
 
--- each block may be read there
-pub blocks-at : (k : CharClasses) (levels : ℕ) → Blocks (level_at k levels)
-blocks-at k levels = record { content = record { has = refl; same = λ z s. refl }; code = record { has = refl; same = λ z s. refl } }
+-- what is told of first readings changes nothing that is read
+told-run : {A : Type 0} (k : CharClasses) (levels : ℕ) (p : Parser A) (z : Place) (s : Point) → run (told_at k levels) p z s ≡ run (level_at k levels) p z s
+told-run {A = A} k levels p z s = ap {A = Meaning A} {B = Outcome A} (λ m. m z s) (run-blind (guesses k) (level_at k levels) p)
+
+-- nor where no block may be read
+told-block : (k : CharClasses) (levels : ℕ) (p : Parser (Unit {0})) (z : Place) (s : Point) → run (apart (level_at k levels)) p z s ≡ run (apart (told_at k levels)) p z s
+told-block k levels p z s = sym (ap {A = Meaning (Unit {0})} {B = Outcome (Unit {0})} (λ m. m z s) (run-blind (guesses k) (apart (level_at k levels)) p))
+
+-- each block may be read there, and what is told of first readings is what they find
+pub blocks-at : (k : CharClasses) (levels : ℕ) → Blocks (told_at k levels)
+blocks-at k levels = record {
+  content = record { has = refl; same = λ z s. told-block k levels (peek >> content_block) z s };
+  code = record { has = refl; same = λ z s. told-block k levels (peek >> code_block) z s };
+  guess = λ z outer. ap {A = Outcome Behind} {B = Guess} (λ o. record { behind = o.value; asks = o.asks }) (sym (told-run k levels after_paren z _));
+}
 
 -- what is at hand doesn't depend on the level
-fits-level : (k : CharClasses) (i j : ℕ) {v : View} → Fits (level_at k i) v → Fits (level_at k j) v
-fits-level k i j c = record { known = c.known; hand = c.hand; own = c.own; here = c.here; there = c.there; log = c.log }
+fits-level : (k : CharClasses) (i j : ℕ) {v : View} → Fits (told_at k i) v → Fits (told_at k j) v
+fits-level k i j c = record { known = c.known; hand = c.hand; own = c.own; here = c.here; there = c.there; log = c.log; knows = c.knows }
 
-pub makes-production : (k : CharClasses) (levels : ℕ) {call : Call} {a : Answered} {old new : View} → Answers (level_at k levels) call (production k call) a old new → Called (level_at k (suc levels)) call a old new
+pub makes-production : (k : CharClasses) (levels : ℕ) {call : Call} {a : Answered} {old new : View} → Answers (told_at k levels) call (production k call) a old new → Called (told_at k (suc levels)) call a old new
 unfolding meaning_of
 makes-production k levels {call = call} {a = a} {old = old} {new = new} h =
     let e : levels ≡ suc levels - 1 = omega arith in
@@ -46,7 +67,10 @@ makes-production k levels {call = call} {a = a} {old = old} {new = new} h =
       answer = h.answer;
       is = h.is;
       makes = record {
-        ran = λ c. subst (λ (n : ℕ). Runs n (meaning k (suc levels) call old.place old.state) h.answer old new) e (h.does.ran (fits-level k (suc levels) levels c)).runs;
+        ran = λ c. (let r = (h.does.ran (fits-level k (suc levels) levels c)).runs in
+            let same = told-run k levels (production k call) old.place old.state in
+            let runs = subst (λ (o : Outcome (Answer call)). Runs levels o h.answer old new) same r in
+            subst (λ (n : ℕ). Runs n (meaning k (suc levels) call old.place old.state) h.answer old new) e runs);
         ready = λ c. fits-level k levels (suc levels) (h.does.ready (fits-level k (suc levels) levels c));
       };
     }
@@ -61,11 +85,11 @@ hinted-nil (h ∷ hs) = refl
 
 -- what the code read and noted from the start is what is read and noted of the text
 pub parsed-is : (k : CharClasses) (keeps : Bool) (text : List ℕ) (reading : Reading) (p : Parser (Unit {0})) (v w : View) → IsStart text reading keeps v
-    → Goes (level_at k max_depth) Bare (Fits (level_at k max_depth)) p tt v w → IsParsed keeps (chars text) (run (level_at k max_depth) p (start_of (chars text)) (start_point reading)) w
+    → Goes (told_at k max_depth) (Bare (told_at k max_depth)) (Fits (told_at k max_depth)) p tt v w → IsParsed keeps (chars text) (run (level_at k max_depth) p (start_of (chars text)) (start_point reading)) w
 parsed-is k keeps text reading p v w h d =
     let l = level_at k max_depth in
-    let bare : Bare v = record { known = ap (λ (s : Point). s.known) h.state } in
-    let r : Runs max_depth (at l p v) tt v w = (d.ran bare).runs in
+    let bare : Bare (told_at k max_depth) v = record { known = ap (λ (s : Point). s.known) h.state; knows = knows-none h.memo } in
+    let r : Runs max_depth (at l p v) tt v w = subst (λ (x : Outcome (Unit {0})). Runs max_depth x tt v w) (told-run k max_depth p v.place v.state) (d.ran bare).runs in
     let o = run l p (start_of (chars text)) (start_point reading) in
     let same : at l p v ≡ o = rw (h.place, h.state) refl in
     let q = subst (λ u. Runs max_depth u tt v w) same r in

@@ -3,6 +3,7 @@ pub mod Grammar
 pub mod Laws
 pub mod Notes
 pub mod Read
+pub mod Told
 -- What the crates above name of those below.
 pub use Rattle.typst_code.specs.Arguments
 pub use Rattle.typst_code.specs.Ask

@@ -7,6 +7,7 @@ ghost use Rattle.typst_code.specs.View.{Calls};
 ghost use Rattle.typst_code.specs.Outside.{MeansAroundAs};
 ghost use Rattle.typst_grammar.specs.Grammar as spec;
 ghost use Rattle.typst_grammar.specs.Read.{IsParsed};
+ghost use Rattle.typst_grammar.specs.Told.{told_at};
 
 use std::alloc::{AllocError, Global};
 use typst_classes::Classes;
@@ -54,7 +55,7 @@ pub fn make_call<C: Classes>(
     call: Call,
 ) -> Result<Answered, AllocError>
     requires { 0 < levels }
-    ensures { Calls (spec.level_at (C.classes classes.now) levels) call p.old result p.new }
+    ensures { Calls (told_at (C.classes classes.now) levels) call p.old result p.new }
 {
     let below = Grammar {
         classes,

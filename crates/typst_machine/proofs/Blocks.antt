@@ -18,17 +18,17 @@ use Rattle.typst_ahead.specs.Meaning.{Outcome, Level, apart, bounded, done, run}
 use Rattle.typst_machine.specs.declared.depth.Answered.{Answered}
 use Rattle.typst_machine.specs.View.{View, Runs, Ran, Goes, Does, Calls, Frame, Fills, Fits, Loose, Looked, Opened, Closed, ReadsBlock, noted_here, unasked}
 use Rattle.typst_ahead.proofs.Logs.{logged-append}
-use Rattle.typst_machine.proofs.Runs.{runs-followed, ran-next, ran-gives, ran-look, ran-flushes, looked-fits}
+use Rattle.typst_machine.proofs.Runs.{runs-followed, ran-next, ran-gives, ran-look, ran-flushes, flushed-fits, looked-fits}
 
 -- what holds of a level holds of the same where no block may be read
 pub sound-apart : {l : Level} → Sound l → Sound (apart l)
 sound-apart s = record { within = s.within; backs = s.backs; within_block = λ b z t. omega arith; backs_block = λ b z t. record { back = omega arith; left = omega arith } }
 
 pub fits-apart : {l : Level} {v : View} → Fits l v → Fits (apart l) v
-fits-apart c = record { known = c.known; hand = c.hand; own = c.own; here = c.here; there = c.there; log = c.log }
+fits-apart c = record { known = c.known; hand = c.hand; own = c.own; here = c.here; there = c.there; log = c.log; knows = c.knows }
 
 pub fits-whole : {l : Level} {v : View} → Fits (apart l) v → Fits l v
-fits-whole c = record { known = c.known; hand = c.hand; own = c.own; here = c.here; there = c.there; log = c.log }
+fits-whole c = record { known = c.known; hand = c.hand; own = c.own; here = c.here; there = c.there; log = c.log; knows = c.knows }
 
 calls-apart : (l : Level) (call : Call) (old new : View) (r : Result Answered AllocError) → Calls l call old r new → Calls (apart l) call old r new
 calls-apart l call old new (Ok a) h = record { answer = h.answer; is = h.is; makes = record { ran = λ c. h.makes.ran (fits-whole c); ready = λ c. fits-apart (h.makes.ready (fits-whole c)) } }
@@ -44,7 +44,7 @@ calls-at l call r {w = w} {old = old} e f h = subst (λ (y : View). Calls l call
 -- ---- a block
 
 looked-apart : {l : Level} {v w : View} → Looked l v w → Looked (apart l) v w
-looked-apart h = record { nodes = h.nodes; place = h.place; state = h.state; hand = h.hand; own = h.own; here = h.here; log = h.log }
+looked-apart h = record { nodes = h.nodes; place = h.place; state = h.state; hand = h.hand; own = h.own; here = h.here; log = h.log; memo = h.memo }
 
 -- what was read between its two notes is the block
 runs-bounded : (n : ℕ) (b : Block) (m : Outcome (Unit {0})) (v w : View) → Runs n m tt (noted_here n (Opens b) (unasked v)) w
@@ -79,12 +79,12 @@ ran-block {l = l} {b = b} {p = p} {v = v} {mid = mid} {first = first} {w = w} k 
 
 -- the code gave the pending trivia, noted where the block begins, read it, and noted where it ends
 pub does-block : {l : Level} {b : Block} {p : Parser (Unit {0})} {v first w last : View}
-    → ReadsBlock l b p → Opened l b v first → Goes (apart l) (Fits (apart l)) Loose p tt first w → Closed l w last → Does l (read_block b) tt v last
+    → ReadsBlock l b p → Opened l b v first → Goes (apart l) (Fits (apart l)) (Loose (apart l)) p tt first w → Closed l w last → Does l (read_block b) tt v last
 unfolding read_block
 does-block {l = l} {b = b} {v = v} {first = first} {w = w} {last = last} k opens did closes = record {
-  ran = λ c. (let f = fits-apart (begins) in ran-next (ran-block k (ran-flushes (opens.flushed c) c) opens.looked (did.ran f)) (ran-next (ran-look closes) ran-gives));
-  ready = λ c. looked-fits (omega arith) closes;
+  ran = λ c. (let f = fits-apart (begins c) in ran-next (ran-block k (ran-flushes (opens.flushed c) c) opens.looked (did.ran f)) (ran-next (ran-look closes) ran-gives));
+  ready = λ c. looked-fits (omega arith) (did.ready (fits-apart (begins c))).knows closes;
 }
   where
-    begins : Fits l first
-    begins = looked-fits (omega arith) opens.looked
+    begins : Fits l v → Fits l first
+    begins c = looked-fits (omega arith) (flushed-fits (opens.flushed c) c).knows opens.looked

@@ -65,6 +65,7 @@ changed-alone change from t u v w long at fine is e = rw e (record {
   own = refl;
   here = refl;
   log = refl;
+  memo = refl;
 })
 
 -- one that was an error
@@ -78,6 +79,7 @@ changed-error change from t u v w long at wrong is e = rw e (record {
   own = refl;
   here = refl;
   log = refl;
+  memo = refl;
 })
 
 -- one before others
@@ -90,6 +92,7 @@ changed-first change from t u v w more at is e = rw e (record {
   own = refl;
   here = refl;
   log = refl;
+  memo = refl;
 })
 
 -- ---- what is seen of nodes

@@ -23,5 +23,6 @@ pub back-is : (c : Saved) (v : View) (ns ts : List Tree) (e : ℕ) (h : Log) →
       own = c.own;
       here = c.here;
       log = h;
+      memo = v.memo;
     } ≡ went_back c v
 back-is c v ns ts e h a b f g = rw (f, a, b, g) refl

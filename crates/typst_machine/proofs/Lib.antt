@@ -5,7 +5,8 @@
 --   the token further on, hints  Words
 --   the first node changed, seen Changes
 --   the token at hand            Ready: what it becomes; ReadSo: read in another way
---   a reading that is given up   Checkpoints: going back; Either: the law; Begins: what leaves what stood before
+--   a reading that is given up   Checkpoints: going back; Either: the law; Begins: what leaves what stood before; Knowing, Tails: what is remembered
+pub mod Knowing
 pub mod Blocks
 pub mod Runs
 pub mod Steps
@@ -16,6 +17,7 @@ pub mod Ready
 pub mod ReadSo
 pub mod Checkpoints
 pub mod Either
+pub mod Tails
 pub mod Begins
 pub mod Changes
 pub mod Asks
@@ -23,6 +25,7 @@ pub mod Values
 pub mod Nots
 -- What the crates above name of those below.
 pub use Rattle.typst_ahead.proofs.Backs
+pub use Rattle.typst_ahead.proofs.Blind
 pub use Rattle.typst_ahead.proofs.Eats
 pub use Rattle.typst_ahead.proofs.Ends
 pub use Rattle.typst_ahead.proofs.Frame

@@ -19,10 +19,10 @@ use Rattle.typst_machine.proofs.Steps.{does-next, does-peek, known-few}
 use Rattle.typst_machine.proofs.Grows.{from-token}
 
 pub rewrapped-is : (from : ℕ) (shape : Shape) (v : View) → Rewrapped from shape v (rewrapped from shape v)
-rewrapped-is from shape v = record { place = refl; state = refl; nodes = refl; hand = refl; own = refl; here = refl; log = refl }
+rewrapped-is from shape v = record { place = refl; state = refl; nodes = refl; hand = refl; own = refl; here = refl; log = refl; memo = refl }
 
 pub rewrapped-same : {from : ℕ} {shape : Shape} {v w : View} → Rewrapped from shape v w → w ≡ rewrapped from shape v
-rewrapped-same r = λ i. record { nodes = r.nodes i; place = r.place i; state = r.state i; hand = r.hand i; own = r.own i; here = r.here i; log = r.log i }
+rewrapped-same r = λ i. record { nodes = r.nodes i; place = r.place i; state = r.state i; hand = r.hand i; own = r.own i; here = r.here i; log = r.log i; memo = r.memo i }
 
 -- the last of the numbers comes first
 pub each-last : (froms : List ℕ) (from : ℕ) (shape : Shape) (v : View) → rewrapped_each (froms ++ from ∷ []) shape v ≡ rewrapped_each froms shape (rewrapped from shape v)

@@ -23,6 +23,8 @@ use Rattle.typst_ahead.specs.Meaning.{Level, asked, hand_of, node_by, reader_so,
 use Rattle.typst_machine.specs.View.{View, Ran, Goes, Does, Fits, Bare, Looked, unasked}
 use Rattle.typst_machine.specs.Ways.{GaveUpTo}
 use Rattle.typst_ahead.proofs.Places.{moved-sum, moved-min, less-none, no-end}
+use Rattle.typst_machine.specs.Remembered.{end_of}
+use Rattle.typst_machine.proofs.Knowing.{end-moved, knows-at}
 use Rattle.typst_machine.proofs.Runs.{asked-same, asked-then, fits-more}
 use Rattle.typst_machine.proofs.Steps.{does-next, does-gives, does-look}
 
@@ -84,6 +86,7 @@ pub record EatenSo (l : Level) (way : Way) (making : Making) (v w : View) : Type
   pub place : w.place ≡ moved (v.hand.gap + len_so l way v.hand v.place) v.place
   pub state : w.state ≡ renewed (after_node (is_error (node_so l way making v.hand v.place).head.kind) (text_of (node_so l way making v.hand v.place)) v.state)
   pub log : w.log ≡ with_hull (hull_so l way v.hand v.place) v.log
+  pub memo : w.memo ≡ v.memo
 
 pub ran-takes_so : {l : Level} {way : Way} {making : Making} {v w : View} → EatenSo l way making v w → Fits l v → Ran l (does (takes_so way making)) tt v w
 unfolding run
@@ -99,8 +102,8 @@ ran-takes_so {l = l} {way = way} {making = making} {v = v} {w = w} h c =
       };
     }
 
-pub does-takes_so : {l : Level} {way : Way} {making : Making} {v w : View} → EatenSo l way making v w → Goes l (Fits l) Bare (does (takes_so way making)) tt v w
-does-takes_so h = record { ran = λ c. ran-takes_so h c; ready = λ c. record { known = ap (λ (s : Point). s.known) h.state } }
+pub does-takes_so : {l : Level} {way : Way} {making : Making} {v w : View} → EatenSo l way making v w → Goes l (Fits l) (Bare l) (does (takes_so way making)) tt v w
+does-takes_so {v = v} h = record { ran = λ c. ran-takes_so h c; ready = λ c. record { known = ap (λ (s : Point). s.known) h.state; knows = knows-at h.memo (ap end_of h.place ∙ end-moved _ v.place) c.knows } }
 
 pub does-eat_so : {l : Level} {way : Way} {making : Making} {v mid w : View} → EatenSo l way making v mid → Looked l (unasked mid) w → Does l (eat_so way making) tt v w
 unfolding eat_so
@@ -122,4 +125,5 @@ eaten-so l way making v w t end u node e h n g =
       place = g.place ∙ end-so l.classes way z end t e ∙ sym (moved-sum v.hand.gap (len_so l way v.hand v.place) v.place);
       state = g.state ∙ ap (λ (x : Tree). renewed (after_node (is_error x.head.kind) (text_of x) v.state)) same;
       log = g.log ∙ ap (λ (x : Hull). with_hull x v.log) h;
+      memo = g.memo;
     }

@@ -46,11 +46,12 @@ pub taken-is : (l : Level) (trims : Bool) (making : Making) (v w : View) (node :
     → w.nodes ≡ less (if trims then v.state.empties else 0) v.nodes ++ (v.hand.trivia ++ node ∷ [])
     → w.place ≡ moved (v.hand.gap + v.hand.len) v.place
     → w.state ≡ record v.state { held = v.state.reading; empties = if is_error node.head.kind then count_empty (text_of node) else 0; is_after_error = is_error node.head.kind; known = None }
-    → w.log ≡ v.log → Goes l (Fits l) Bare (does (takes trims making)) tt v w
-taken-is l trims making v w node e ns p s j =
+    → w.log ≡ v.log → w.memo ≡ v.memo → Goes l (Fits l) (Bare l) (does (takes trims making)) tt v w
+taken-is l trims making v w node e ns p s j m =
     does-takes (record {
       nodes = ns ∙ ap (λ (x : Tree). less (if trims then v.state.empties else 0) v.nodes ++ (v.hand.trivia ++ x ∷ [])) e;
       place = p;
+      memo = m;
       state = s ∙ ap renewed (told-node (is_error node.head.kind) (text_of node) v.state) ∙ ap (λ (x : Tree). renewed (after_node (is_error x.head.kind) (text_of x) v.state)) e;
       log = j;
     })
@@ -59,8 +60,9 @@ taken-is l trims making v w node e ns p s j =
 pub looked-is : (l : Level) (v w : View) → w.nodes ≡ v.nodes → w.place ≡ v.place
     → w.state ≡ record v.state { known = known_by w.hand } → w.hand ≡ hand_at l.classes v.state.held None v.place
     → w.own ≡ token_hull l.classes v.state.held.mode (moved w.hand.gap v.place) → w.here ≡ column_hull v.state.held w.hand.newlines (moved w.hand.gap v.place) w.own
-    → w.log ≡ with_hull (whole_at l.classes v.state.held v.place) v.log → Looked l (unasked v) w
-looked-is l v w n p s h o i j = record {
+    → w.log ≡ with_hull (whole_at l.classes v.state.held v.place) v.log → w.memo ≡ v.memo → Looked l (unasked v) w
+looked-is l v w n p s h o i j m = record {
+  memo = m;
   nodes = n;
   place = p;
   state = s;
@@ -92,7 +94,7 @@ left-again l outer v w m h = λ c. (rw m h)
 pub left-kept : (l : Level) (outer : Reading) (v w : View) → same_mode v.state.reading.mode outer.mode ≡ true → same_rule v.state.reading.at_newline outer.at_newline ≡ true
     → w ≡ record v { state = record v.state { reading = outer } } → Left l outer v w
 left-kept l outer v w m r e = λ c.
-    rw (e, m, r) (fits-looked {l = l} {v = record v { state = record v.state { reading = outer } }} (record { known = c.known; hand = c.hand; own = c.own; here = c.here; there = c.there; log = c.log }))
+    rw (e, m, r) (fits-looked {l = l} {v = record v { state = record v.state { reading = outer } }} (record { known = c.known; hand = c.hand; own = c.own; here = c.here; there = c.there; log = c.log; knows = c.knows }))
 
 -- the token at hand by another rule
 rejudged : (k : CharClasses) (held : Reading) (rule : AtNewline) (t : Trivia) (z : Place) (h : Hand) → h ≡ hand_at k held (Some t) z
@@ -105,8 +107,8 @@ pub left-judged : (l : Level) (outer : Reading) (v w : View) → same_mode v.sta
     → w.nodes ≡ v.nodes → w.place ≡ v.place → w.state ≡ record v.state { reading = outer; held = record v.state.held { at_newline = outer.at_newline }; known = known_by w.hand }
     → w.hand ≡ record v.hand { kind = judged (record v.state.held { at_newline = outer.at_newline }) v.hand.newlines v.hand.token.kind (column_at (moved v.hand.gap v.place)) }
     → w.own ≡ v.own → w.here ≡ column_hull (record v.state.held { at_newline = outer.at_newline }) v.hand.newlines (moved v.hand.gap v.place) v.own
-    → w.log ≡ with_hull w.here v.log → Left l outer v w
-left-judged l outer v w m r n p s h o i j = λ c.
+    → w.log ≡ with_hull w.here v.log → w.memo ≡ v.memo → Left l outer v w
+left-judged l outer v w m r n p s h o i j remembered = λ c.
     let k = l.classes in
     let held = record v.state.held { at_newline = outer.at_newline } in
     let t : Trivia = record { nodes = v.hand.trivia; gap = v.hand.gap; newlines = v.hand.newlines } in
@@ -119,6 +121,7 @@ left-judged l outer v w m r n p s h o i j = λ c.
     let here-is : w.here ≡ column_hull held w.hand.newlines (moved w.hand.gap v.place) w.own = i ∙ (rw (gap-is, lines-is, o) refl) in
     rw (m, r)
     (record {
+      memo = remembered;
       nodes = n;
       place = p;
       state = s;
@@ -140,6 +143,7 @@ noted-is l mark levels before start v w d b s f =
     let look = fits-looked c in
     let gap : position (moved v.hand.gap v.place) ≡ position (moved (gap_of v.state.known) v.place) = ap (λ (x : Option Trivia). position (moved (gap_of x) v.place)) (sym c.known) in
     record {
+      memo = refl;
       nodes = refl;
       place = refl;
       state = look.state;
@@ -171,6 +175,7 @@ rewrapped-is from shape ts t v mid w m d f g s =
       own = refl;
       here = refl;
       log = refl;
+      memo = refl;
     })
 
 -- behind a node that is no error

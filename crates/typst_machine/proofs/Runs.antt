@@ -32,6 +32,8 @@ use Rattle.typst_ahead.proofs.Backs.{backs-run}
 use Rattle.typst_ahead.proofs.Bytes.{some-bytes, none-bytes}
 use Rattle.typst_ahead.proofs.Logs.{logged-append, logged-shift, logged-sunk, logged-some, hand-among, Among, among-is, is-among}
 use Rattle.typst_ahead.proofs.Trivia.{hand-known, gap-there}
+use Rattle.typst_machine.specs.Remembered.{Knows, end_of}
+use Rattle.typst_machine.proofs.Knowing.{end-moved, knows-at}
 
 pub runs-plain : {A : Type 0} (n : ℕ) (a b : A) (v : View) → a ≡ b → Runs n (plain a v.state) b v v
 runs-plain n a b v e = record { value = e; place = refl; state = refl; nodes = no-end v.nodes; log = refl }
@@ -106,8 +108,8 @@ here-is : (k : CharClasses) (held : Reading) (a h : Hand) (z : Place) (own here 
 here-is k held a h z own here e o j =
     j ∙ ap (column_hull held h.newlines (moved h.gap z)) o ∙ ap (λ (x : Hand). column_hull held x.newlines (moved x.gap z) (token_hull k held.mode (moved x.gap z))) e
 
-pub looked-fits : {l : Level} {v w : View} → gap_of v.state.known ≤ length v.place.ahead → Looked l v w → Fits l w
-looked-fits {l = l} {v = v} {w = w} few h =
+pub looked-fits : {l : Level} {v w : View} → gap_of v.state.known ≤ length v.place.ahead → Knows l.guess (end_of v.place) v.memo → Looked l v w → Fits l w
+looked-fits {l = l} {v = v} {w = w} few knows h =
     let k = l.classes in
     let held = v.state.held in
     let a = hand_at k held v.state.known v.place in
@@ -124,6 +126,7 @@ looked-fits {l = l} {v = v} {w = w} few h =
       here = here-at w.state.held held w.hand.newlines w.hand.newlines (moved w.hand.gap w.place) (moved w.hand.gap v.place) w.here w.own w.own same refl at refl h.here;
       there = rw h.place (let g = ap (λ (x : Hand). x.gap) h.hand in omega arith);
       log = is-among w.here w.log (subst (λ (u : Hull). Among u w.log) (sym here) (subst (λ (x : Log). Among (column_hull held a.newlines (moved a.gap v.place) (token_hull k held.mode (moved a.gap v.place))) x) (sym h.log) among));
+      knows = knows-at h.memo (ap end_of h.place) knows;
     }
 
 -- the token at hand is asked for alone
@@ -147,7 +150,7 @@ pub asked-same : (l : Level) (v : View) → Fits l v → v.state ≡ asked v.han
 asked-same l v c = ap (λ (x : Option Trivia). record v.state { known = x }) c.known
 
 pub fits-looked : {l : Level} {v : View} → Fits l v → Looked l v v
-fits-looked {l = l} {v = v} c = record { nodes = refl; place = refl; state = asked-same l v c; hand = c.hand; own = c.own; here = c.here; log = sym (asked-again l v c) }
+fits-looked {l = l} {v = v} c = record { nodes = refl; place = refl; state = asked-same l v c; hand = c.hand; own = c.own; here = c.here; log = sym (asked-again l v c); memo = refl }
 
 pub ran-hand : {l : Level} (v : View) → Fits l v → Ran l (does hand) (told v.hand) v v
 ran-hand v c = ran-look (fits-looked c)
@@ -172,7 +175,7 @@ ran-column {l = l} v c =
 pub fits-more : {l : Level} {v : View} (u : Hull) → Fits l v → Fits l (record v { log = with_hull u v.log })
 fits-more {v = v} u c =
     let a = among-is v.here v.log c.log in
-    record { known = c.known; hand = c.hand; own = c.own; here = c.here; there = c.there; log = is-among v.here (with_hull u v.log) (record { reach = omega (arith, a.reach); least = omega (arith, a.least) }) }
+    record { known = c.known; hand = c.hand; own = c.own; here = c.here; there = c.there; log = is-among v.here (with_hull u v.log) (record { reach = omega (arith, a.reach); least = omega (arith, a.least) }); knows = c.knows }
 
 pub ran-erred : {l : Level} (v : View) → Ran l (does erred) v.state.is_after_error v v
 unfolding run
@@ -200,6 +203,7 @@ pub record Eaten (l : Level) (trims : Bool) (making : Making) (v w : View) : Typ
   pub place : w.place ≡ moved (v.hand.gap + v.hand.len) v.place
   pub state : w.state ≡ renewed (after_node (is_error (taken_node l.classes making v.hand v.place).head.kind) (text_of (taken_node l.classes making v.hand v.place)) v.state)
   pub log : w.log ≡ v.log
+  pub memo : w.memo ≡ v.memo
 
 pub ran-takes : {l : Level} {trims : Bool} {making : Making} {v w : View} → Eaten l trims making v w → Fits l v → Ran l (does (takes trims making)) tt v w
 unfolding run
@@ -214,8 +218,8 @@ ran-takes {l = l} {trims = trims} {making = making} {v = v} {w = w} h c =
       };
     }
 
-pub eaten-bare : {l : Level} {trims : Bool} {making : Making} {v w : View} → Eaten l trims making v w → Bare w
-eaten-bare h = record { known = ap (λ (s : Point). s.known) h.state }
+pub eaten-bare : {l : Level} {trims : Bool} {making : Making} {v w : View} → Eaten l trims making v w → Fits l v → Bare l w
+eaten-bare {v = v} h c = record { known = ap (λ (s : Point). s.known) h.state; knows = knows-at h.memo (ap end_of h.place ∙ end-moved (v.hand.gap + v.hand.len) v.place) c.knows }
 
 pub ran-flushes : {l : Level} {v w : View} → Flushed v w → Fits l v → Ran l (does flushes) tt v w
 unfolding run
@@ -250,6 +254,7 @@ flushed-fits {l = l} {v = v} {w = w} h c =
       here = h.here ∙ here-at w.state.held v.state.held w.hand.newlines v.hand.newlines (moved w.hand.gap w.place) (moved v.hand.gap v.place) v.here w.own v.own held (ap (λ (x : Hand). x.newlines) h.hand) at h.own c.here;
       there = let g : w.hand.gap ≡ 0 = ap (λ (x : Hand). x.gap) h.hand in omega arith;
       log = rw (h.here, h.log) c.log;
+      knows = knows-at h.memo (ap end_of h.place ∙ end-moved v.hand.gap v.place) c.knows;
     }
 
 pub ran-complains : {l : Level} (m : List ℕ) (v : View)
@@ -407,7 +412,7 @@ change-known change (t ∷ []) s = on-error (is_error t.head.kind) (is_error (ch
     on-error false false text s = refl
 change-known change (t ∷ u ∷ ts) s = refl
 
-shape-held : (shape : Shape) (ts : List Tree) (s : Point) → (after_shape shape ts s).held ≡ s.held
+pub shape-held : (shape : Shape) (ts : List Tree) (s : Point) → (after_shape shape ts s).held ≡ s.held
 shape-held (keeps change) ts s = change-held change ts s
 shape-held (holds change kind) ts s = refl
 shape-held (lacks count message kind) ts s = refl
@@ -434,4 +439,5 @@ rewrapped-fits l {from = from} {shape = shape} {mid = mid} {new = new} w c =
       here = w.here ∙ here-at new.state.held mid.state.held new.hand.newlines mid.hand.newlines (moved new.hand.gap new.place) (moved mid.hand.gap mid.place) mid.here new.own mid.own held (ap (λ (x : Hand). x.newlines) w.hand) at w.own c.here;
       there = rw (w.hand, w.place) c.there;
       log = rw (w.here, w.log) c.log;
+      knows = knows-at w.memo (ap end_of w.place) c.knows;
     }

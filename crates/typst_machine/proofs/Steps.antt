@@ -19,6 +19,8 @@ use Rattle.typst_ahead.specs.Steps.{peek, eat_making, flush_trivia, within, node
 use Rattle.typst_ahead.specs.Meaning.{Level, before, entered, left, same_mode}
 use Rattle.typst_ahead.specs.Bytes.{bytes_left}
 use Rattle.typst_machine.specs.View.{View, Ran, Goes, Does, Makes, Fits, Bare, Loose, Looked, Left, Flushed, Rewrapped, unasked, noted_here}
+use Rattle.typst_machine.specs.Remembered.{Knows, end_of}
+use Rattle.typst_machine.proofs.Knowing.{knows-at}
 use Rattle.typst_machine.proofs.Runs.{ran-next, ran-gives, ran-calls, ran-pick, ran-other, ran-hand, ran-column, ran-erred, ran-deepest, ran-marks, Eaten, ran-takes, eaten-bare, ran-flushes, flushed-fits, ran-complains, ran-scoped, ran-wraps, rewrapped-fits, ran-turn, ran-last, looked-fits, ran-look, after-peek, column_seen, fits-more, noted}
 
 pub does-next : {A B : Type 0} {l : Level} {P Q R : View → Type 0} {p : Parser B} {f : B → Parser A} {b : B} {a : A} {old mid new : View}
@@ -45,21 +47,31 @@ pub does-peek : {l : Level} (v : View) → Does l peek (told v.hand) v v
 does-peek v = record { ran = λ c. ran-hand v c; ready = λ c. c }
 
 -- the first question
-bare-same : (v : View) → Bare v → unasked v ≡ v
+bare-same : {l : Level} (v : View) → Bare l v → unasked v ≡ v
 bare-same v b = ap (λ (x : Option Trivia). record v { state = record v.state { known = x } }) (sym b.known)
 
-pub does-look : {l : Level} {v w : View} → Looked l (unasked v) w → Goes l Bare (Fits l) peek (told w.hand) v w
-does-look {l = l} {v = v} {w = w} h = record { ran = λ b. ran-look (subst (λ (x : View). Looked l x w) (bare-same v b) h); ready = λ b. looked-fits (omega arith) h }
+pub does-look : {l : Level} {v w : View} → Looked l (unasked v) w → Goes l (Bare l) (Fits l) peek (told w.hand) v w
+does-look {l = l} {v = v} {w = w} h = record { ran = λ b. ran-look (subst (λ (x : View). Looked l x w) (bare-same v b) h); ready = λ b. looked-fits (omega arith) b.knows h }
 
 -- what begins with that question, after it was asked
-pub does-first : {A : Type 0} {l : Level} {f : AtHand → Parser A} {a : A} {v w new : View} → Looked l (unasked v) w → Does l (next (does hand) f) a w new → Goes l Bare (Fits l) (next (does hand) f) a v new
+pub does-first : {A : Type 0} {l : Level} {f : AtHand → Parser A} {a : A} {v w new : View} → Looked l (unasked v) w → Does l (next (does hand) f) a w new → Goes l (Bare l) (Fits l) (next (does hand) f) a v new
 does-first {w = w} h d =
     let first = does-look h in
     record { ran = λ b. (let c = first.ready b in ran-next (first.ran b) (after-peek c (d.ran c))); ready = λ b. d.ready (first.ready b) }
 
 -- what may end anywhere
-pub does-loose : {A : Type 0} {l : Level} {P Q : View → Type 0} {p : Parser A} {a : A} {old new : View} → Goes l P Q p a old new → Goes l P Loose p a old new
-does-loose d = record { ran = d.ran; ready = λ c. record {} }
+pub does-loose : {A : Type 0} {l : Level} {P Q : View → Type 0} {p : Parser A} {a : A} {old new : View} → (Q new → Knows l.guess (end_of new.place) new.memo) → Goes l P Q p a old new → Goes l P (Loose l) p a old new
+does-loose knows d = record { ran = d.ran; ready = λ c. record { knows = knows (d.ready c) } }
+
+-- what is remembered, wherever the token at hand is the right one, none was asked for, or either
+pub fits-knows : {l : Level} {v : View} → Fits l v → Knows l.guess (end_of v.place) v.memo
+fits-knows c = c.knows
+
+pub bare-knows : {l : Level} {v : View} → Bare l v → Knows l.guess (end_of v.place) v.memo
+bare-knows c = c.knows
+
+pub loose-knows : {l : Level} {v : View} → Loose l v → Knows l.guess (end_of v.place) v.memo
+loose-knows c = c.knows
 
 pub does-column : {l : Level} (v : View) → Does l (does column) (column_at (moved v.hand.gap v.place)) v (column_seen v)
 does-column v = record { ran = λ c. ran-column v c; ready = λ c. fits-more _ c }
@@ -79,23 +91,23 @@ pub does-note : {l : Level} (m : Mark) {v w : View} → (Fits l v → Looked l (
 unfolding note
 does-note m {v = v} h = record {
   ran = λ c. ran-next (ran-hand v c) (ran-next (ran-marks m v) (ran-next (ran-look (h c)) ran-gives));
-  ready = λ c. looked-fits (known-few c) (h c);
+  ready = λ c. looked-fits (known-few c) c.knows (h c);
 }
 
 -- this was noted before anything was asked
-pub does-marks : {l : Level} (m : Mark) (v w : View) → (Bare v → w ≡ noted l.levels m v) → Goes l Bare Bare (does (marks m)) tt v w
+pub does-marks : {l : Level} (m : Mark) (v w : View) → (Bare l v → w ≡ noted l.levels m v) → Goes l (Bare l) (Bare l) (does (marks m)) tt v w
 does-marks {l = l} m v w e = record {
   ran = λ b. rw (e b) (ran-marks m v);
-  ready = λ b. rw (e b) (record { known = b.known });
+  ready = λ b. rw (e b) (record { known = b.known; knows = b.knows });
 }
 
 pub does-complains : {l : Level} (m : List ℕ) (v : View) → Does l (does (complains m)) tt v (record v { nodes = v.nodes ++ error_of m [] ∷ []; state = record v.state { empties = v.state.empties + 1; is_after_error = true } })
-does-complains m v = record { ran = λ c. ran-complains m v; ready = λ c. record { known = c.known; hand = c.hand; own = c.own; here = c.here; there = c.there; log = c.log } }
+does-complains m v = record { ran = λ c. ran-complains m v; ready = λ c. record { known = c.known; hand = c.hand; own = c.own; here = c.here; there = c.there; log = c.log; knows = c.knows } }
 
-pub does-takes : {l : Level} {trims : Bool} {making : Making} {v w : View} → Eaten l trims making v w → Goes l (Fits l) Bare (does (takes trims making)) tt v w
-does-takes h = record { ran = λ c. ran-takes h c; ready = λ c. eaten-bare h }
+pub does-takes : {l : Level} {trims : Bool} {making : Making} {v w : View} → Eaten l trims making v w → Goes l (Fits l) (Bare l) (does (takes trims making)) tt v w
+does-takes h = record { ran = λ c. ran-takes h c; ready = λ c. eaten-bare h c }
 
-pub does-eat : {l : Level} {trims : Bool} {making : Making} {v mid w : View} → Goes l (Fits l) Bare (does (takes trims making)) tt v mid → Looked l (unasked mid) w → Does l (eat_making trims making) tt v w
+pub does-eat : {l : Level} {trims : Bool} {making : Making} {v mid w : View} → Goes l (Fits l) (Bare l) (does (takes trims making)) tt v mid → Looked l (unasked mid) w → Does l (eat_making trims making) tt v w
 unfolding eat_making
 does-eat h k = does-next h (does-next (does-look k) does-gives)
 
@@ -104,7 +116,7 @@ unfolding flush_trivia
 does-flush {w = w} h = record { ran = λ c. ran-next (ran-flushes (h c) c) (ran-next (ran-hand w (flushed-fits (h c) c)) ran-gives); ready = λ c. flushed-fits (h c) c }
 
 fits-entered : {l : Level} (f : Reading → Reading) {v : View} → Fits l v → Fits l (record v { state = entered (f v.state.reading) v.state })
-fits-entered f c = record { known = c.known; hand = c.hand; own = c.own; here = c.here; there = c.there; log = c.log }
+fits-entered f c = record { known = c.known; hand = c.hand; own = c.own; here = c.here; there = c.there; log = c.log; knows = c.knows }
 
 left-few : (outer : Reading) (s : Point) (n : ℕ) → gap_of s.known ≤ n → gap_of (left outer s).known ≤ n
 left-few outer s n h = by-mode (same_mode s.reading.mode outer.mode) refl
@@ -119,16 +131,16 @@ pub does-within : {A : Type 0} {l : Level} (f : Reading → Reading) {p : Parser
 unfolding within
 does-within f {old = old} {mid = mid} h e = record {
   ran = λ c. (let i = fits-entered f c in ran-next (ran-scoped f (h.ran i)) (ran-next (ran-look (e (h.ready i))) ran-gives));
-  ready = λ c. (let m = h.ready (fits-entered f c) in looked-fits (left-few old.state.reading mid.state (length mid.place.ahead) (known-few m)) (e m));
+  ready = λ c. (let m = h.ready (fits-entered f c) in looked-fits (left-few old.state.reading mid.state (length mid.place.ahead) (known-few m)) m.knows (e m));
 }
 
 -- the same, where no token is asked for behind it
 pub does-scoped : {A : Type 0} {l : Level} {Q : View → Type 0} (f : Reading → Reading) {p : Parser A} {a : A} {outer : Reading} {old inner mid new : View}
-    → inner ≡ record old { state = entered (f old.state.reading) old.state } → outer ≡ old.state.reading
-    → Goes l (Fits l) Q p a inner mid → new ≡ record mid { state = left outer mid.state } → Goes l (Fits l) Loose (scoped f p) a old new
-does-scoped {l = l} f {p = p} {a = a} {outer = outer} {old = old} {inner = inner} {mid = mid} {new = new} i o h e = record {
+    → (Q mid → Knows l.guess (end_of mid.place) mid.memo) → inner ≡ record old { state = entered (f old.state.reading) old.state } → outer ≡ old.state.reading
+    → Goes l (Fits l) Q p a inner mid → new ≡ record mid { state = left outer mid.state } → Goes l (Fits l) (Loose l) (scoped f p) a old new
+does-scoped {l = l} f {p = p} {a = a} {outer = outer} {old = old} {inner = inner} {mid = mid} {new = new} knows i o h e = record {
   ran = λ c. (let j = subst (λ (v : View). Fits l v) (sym i) (fits-entered f c) in rw (e, o) (ran-scoped f (subst (λ (v : View). Ran l p a v mid) i (h.ran j))));
-  ready = λ c. record {};
+  ready = λ c. (let j = subst (λ (v : View). Fits l v) (sym i) (fits-entered f c) in record { knows = knows-at (ap (λ (v : View). v.memo) e) (ap (λ (v : View). end_of v.place) e) (knows (h.ready j)) });
 }
 
 -- behind another mode nothing is known of a token that wasn't asked for
@@ -142,13 +154,16 @@ left-bare outer s h = by-mode (same_mode s.reading.mode outer.mode) refl
 -- the last token was taken in the inner way, and the one behind it is asked for in the outer way
 pub does-closed : {A : Type 0} {l : Level} (f : Reading → Reading) {p : Parser A} {a : A} {outer : Reading} {old inner mid last new : View}
     → inner ≡ record old { state = entered (f old.state.reading) old.state } → outer ≡ old.state.reading
-    → Goes l (Fits l) Bare p a inner mid → last ≡ record mid { state = left outer mid.state } → Looked l (unasked last) new → Does l (within f p) a old new
+    → Goes l (Fits l) (Bare l) p a inner mid → last ≡ record mid { state = left outer mid.state } → Looked l (unasked last) new → Does l (within f p) a old new
 unfolding within
 does-closed {l = l} f {outer = outer} {mid = mid} i o h e k =
     does-next
     (record {
-      ran = (does-scoped f i o h e).ran;
-      ready = λ c. (let j = subst (λ (v : View). Fits l v) (sym i) (fits-entered f c) in record { known = ap (λ (v : View). v.state.known) e ∙ left-bare outer mid.state (h.ready j).known });
+      ran = (does-scoped f bare-knows i o h e).ran;
+      ready = λ c. (let j = subst (λ (v : View). Fits l v) (sym i) (fits-entered f c) in record {
+        known = ap (λ (v : View). v.state.known) e ∙ left-bare outer mid.state (h.ready j).known;
+        knows = ((does-scoped f bare-knows i o h e).ready c).knows;
+      });
     })
     (does-next (does-look k) does-gives)
 
@@ -205,5 +220,8 @@ pub turning-next : {A : Type 0} {l : Level} {p : A → Parser (Bool × A)} {star
 turning-next sound t did less_left = record { rest = λ a new d. t.rest a new (does-turn sound did less_left d) }
 
 -- the code noted something before anything was asked
-pub first-noted : {l : Level} {levels : ℕ} {m : Mark} {v w : View} → w ≡ noted_here levels m v → l.levels ≡ levels → Goes l Bare Bare (does (marks m)) tt v w
+pub first-noted : {l : Level} {levels : ℕ} {m : Mark} {v w : View} → w ≡ noted_here levels m v → l.levels ≡ levels → Goes l (Bare l) (Bare l) (does (marks m)) tt v w
 first-noted {l = l} {m = m} {v = v} {w = w} e n = does-marks m v w (λ b. e ∙ ap (λ k. noted_here k m v) (sym n) ∙ ap (λ (x : Option Trivia). record v { log = with_note (gap_of x) l.levels m (state_of v.state) v.place v.log }) (sym b.known))
+
+pub rewrapped-loose : (l : Level) {from : ℕ} {shape : Shape} {mid new : View} → Rewrapped from shape mid new → Loose l mid → Loose l new
+rewrapped-loose l w c = record { knows = knows-at w.memo (ap end_of w.place) c.knows }

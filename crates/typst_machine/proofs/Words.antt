@@ -44,4 +44,4 @@ ran-advises hint v = record { runs = record { value = refl; place = refl; state 
 
 -- the last node has the hint, where it is an error
 pub does-advises : {l : Level} (hint : List ℕ) (v w : View) → w ≡ record v { nodes = hinted_last (hint ∷ []) v.nodes } → Does l (does (advises hint)) tt v w
-does-advises hint v w e = rw e (record { ran = λ c. ran-advises hint v; ready = λ c. record { known = c.known; hand = c.hand; own = c.own; here = c.here; there = c.there; log = c.log } })
+does-advises hint v w e = rw e (record { ran = λ c. ran-advises hint v; ready = λ c. record { known = c.known; hand = c.hand; own = c.own; here = c.here; there = c.there; log = c.log; knows = c.knows } })

@@ -73,6 +73,7 @@ went_back c v = record {
   own = c.own;
   here = c.here;
   log = unnoted c.notes v.log;
+  memo = v.memo;
 }
 
 -- a reading left what stood before it, and the trivia that were at hand are what it gave first, or are at hand still

@@ -17,6 +17,8 @@ use Rattle.typst_ahead.specs.Point.{Point, Trivia}
 use Rattle.typst_ahead.specs.Hand.{Hand}
 use Rattle.typst_ahead.specs.Log.{Log}
 use Rattle.typst_ahead.specs.Codes.{log_code}
+use Rattle.typst_machine.specs.declared.memo.Guessed.{Guessed}
+use Rattle.typst_machine.specs.contracts.memo.Guessed.{the_row as guessed_row}
 use Rattle.typst_machine.specs.View.{View}
 
 abbrev pub hand_code : Coded Hand
@@ -42,8 +44,8 @@ point_code =
 
 abbrev pub view_code : Coded View
 view_code =
-    code_by (List Tree × (Place × (Point × (Hand × (Hull × (Hull × Log))))))
-    (coded× (coded_list tree_code) (coded× place_code (coded× point_code (coded× hand_code (coded× hull_row.coded (coded× hull_row.coded log_code))))))
-    (λ v. (v.nodes, (v.place, (v.state, (v.hand, (v.own, (v.here, v.log)))))))
-    (λ p. record { nodes = p.0; place = p.1.0; state = p.1.1.0; hand = p.1.1.1.0; own = p.1.1.1.1.0; here = p.1.1.1.1.1.0; log = p.1.1.1.1.1.1 })
+    code_by (List Tree × (Place × (Point × (Hand × (Hull × (Hull × (Log × List Guessed)))))))
+    (coded× (coded_list tree_code) (coded× place_code (coded× point_code (coded× hand_code (coded× hull_row.coded (coded× hull_row.coded (coded× log_code (coded_list guessed_row.coded))))))))
+    (λ v. (v.nodes, (v.place, (v.state, (v.hand, (v.own, (v.here, (v.log, v.memo))))))))
+    (λ p. record { nodes = p.0; place = p.1.0; state = p.1.1.0; hand = p.1.1.1.0; own = p.1.1.1.1.0; here = p.1.1.1.1.1.0; log = p.1.1.1.1.1.1.0; memo = p.1.1.1.1.1.1.1 })
     (λ _. refl)

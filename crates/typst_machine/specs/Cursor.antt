@@ -29,6 +29,7 @@ view_of i = record {
   own = i.ahead.own;
   here = i.ahead.here;
   log = i.log;
+  memo = i.memo.items;
 }
 
 pub record IsReady (i : Inside) : Type 0 where
@@ -41,3 +42,4 @@ pub record IsStart (text : List ℕ) (reading : Reading) (keeps : Bool) (v : Vie
   pub place : v.place ≡ record { behind = []; ahead = chars text }
   pub state : v.state ≡ start_point reading
   pub log : v.log ≡ blank_log keeps
+  pub memo : v.memo ≡ []

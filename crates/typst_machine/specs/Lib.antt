@@ -1,3 +1,4 @@
+pub mod Remembered
 pub mod View
 pub mod Codes
 pub mod Cursor

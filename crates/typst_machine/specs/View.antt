@@ -1,5 +1,5 @@
 -- What a parser of the code shows, and what it ensures.
-use Rattle.std.specs.Prelude.{◌≡◌, ℕ, ◌-◌, ◌<◌, ◌≤◌, length, true, List, ◌++◌, [], ◌∷◌, take, drop, Option, None, option_map, Result, Ok, Err}
+use Rattle.std.specs.Prelude.{◌≡◌, ℕ, ◌+◌, ◌-◌, ◌<◌, ◌≤◌, length, true, List, ◌++◌, [], ◌∷◌, take, drop, Option, None, option_map, Result, Ok, Err}
 use Rattle.std.specs.declared.alloc.AllocError.{AllocError}
 use denote.Ref.{MutBor}
 use Rattle.typst_lines.specs.Place.{Place, moved}
@@ -7,6 +7,7 @@ use Rattle.typst_kinds.specs.declared.kind.SyntaxKind.{SyntaxKind}
 use Rattle.typst_classes.specs.Classes.{CharClasses}
 use Rattle.typst_node.specs.Tree.{Tree}
 use Rattle.typst_readers.specs.declared.hull.Hull.{Hull}
+use Rattle.typst_ahead.specs.calls.Behind.{Behind}
 use Rattle.typst_ahead.specs.calls.Block.{Block}
 use Rattle.typst_ahead.specs.calls.Call.{Call}
 use Rattle.typst_ahead.specs.calls.Call.TheVariants.{MarkupExpr, CodeExpr, MathExpr, Pattern}
@@ -24,7 +25,11 @@ use Rattle.typst_ahead.specs.Meaning.{Outcome, Level, apart, asked, flushed_stat
 use Rattle.typst_ahead.specs.Steps.{peek}
 use Rattle.typst_machine.specs.declared.depth.Answered.{Answered}
 use Rattle.typst_machine.specs.declared.depth.Answered.TheVariants.{Brackets, Nothing, Names}
-use Rattle.typst_ahead.specs.Bytes.{token_hull, column_hull}
+use Rattle.typst_ahead.specs.Bytes.{LiesIn, token_hull, column_hull}
+use Rattle.typst_ahead.specs.Nodes.{is_leaf}
+use Rattle.typst_ahead.specs.Noted.{hull_in}
+use Rattle.typst_machine.specs.declared.memo.Guessed.{Guessed}
+use Rattle.typst_machine.specs.Remembered.{Comes, Knows, end_of}
 
 pub record View : Type 0 where
   -- the nodes before the pending trivia
@@ -39,6 +44,8 @@ pub record View : Type 0 where
   pub here : Hull
   -- what was looked at and noted up to here
   pub log : Log
+  -- which first readings turned out wrong
+  pub memo : List Guessed
 
 -- the code went from one view to another as an outcome says, where so many levels are left
 pub record Runs {A : Type 0} (levels : ℕ) (o : Outcome A) (a : A) (old new : View) : Type 0 where
@@ -64,13 +71,16 @@ pub record Fits (l : Level) (v : View) : Type 0 where
   pub here : v.here ≡ column_hull v.state.held v.hand.newlines (moved v.hand.gap v.place) v.own
   pub there : v.hand.gap ≤ length v.place.ahead
   pub log : with_hull v.here v.log ≡ v.log
+  pub knows : Knows l.guess (end_of v.place) v.memo
 
 -- no token was asked for
-pub record Bare (v : View) : Type 0 where
+pub record Bare (l : Level) (v : View) : Type 0 where
   pub known : v.state.known ≡ None
+  pub knows : Knows l.guess (end_of v.place) v.memo
 
 -- whatever was asked for
-pub record Loose (v : View) : Type 0 where
+pub record Loose (l : Level) (v : View) : Type 0 where
+  pub knows : Knows l.guess (end_of v.place) v.memo
 
 -- the code did what the parser does from where one thing holds, and then another thing holds
 pub record Goes {A : Type 0} (l : Level) (P Q : View → Type 0) (p : Parser A) (a : A) (old new : View) : Type 0 where
@@ -130,6 +140,7 @@ pub record Looked (l : Level) (v w : View) : Type 0 where
   pub own : w.own ≡ token_hull l.classes v.state.held.mode (moved w.hand.gap v.place)
   pub here : w.here ≡ column_hull v.state.held w.hand.newlines (moved w.hand.gap v.place) w.own
   pub log : w.log ≡ logged l.levels v.place v.log (hand_asks_of l v.place v.state)
+  pub memo : w.memo ≡ v.memo
 
 -- what was asked for is forgotten
 abbrev pub unasked : View → View
@@ -148,6 +159,7 @@ pub record Flushed (v w : View) : Type 0 where
   pub own : w.own ≡ v.own
   pub here : w.here ≡ v.here
   pub log : w.log ≡ v.log
+  pub memo : w.memo ≡ v.memo
 
 -- the nodes from a number on went into a shape
 pub record Rewrapped (from : ℕ) (shape : Shape) (mid new : View) : Type 0 where
@@ -158,6 +170,7 @@ pub record Rewrapped (from : ℕ) (shape : Shape) (mid new : View) : Type 0 wher
   pub own : new.own ≡ mid.own
   pub here : new.here ≡ mid.here
   pub log : new.log ≡ mid.log
+  pub memo : new.memo ≡ mid.memo
 
 -- the same view with the nodes from a number on in a shape
 abbrev pub rewrapped : ℕ → Shape → View → View
@@ -186,6 +199,33 @@ Closed l v w = Looked l (noted_here l.levels Closes (unasked v)) w
 pub record ReadsBlock (l : Level) (b : Block) (p : Parser (Unit {0})) : Type 0 where
   pub has : l.has b ≡ true
   pub same : (z : Place) (s : Point) → l.blocks b z s ≡ run (apart l) (peek >> p) z s
+
+-- ---- first readings
+
+-- where a first reading goes on behind its paren, which is the token at hand
+abbrev pub behind_paren : View → Place
+behind_paren v = moved (v.hand.gap + v.hand.len) v.place
+
+-- this comes behind the parens at hand, and all that is looked at for it was looked at
+pub record Found (l : Level) (v : View) (b : Behind) : Type 0 where
+  pub leaf : is_leaf v.hand.token ≡ true
+  pub comes : Comes (l.guess l.levels (behind_paren v) v.state.reading) (hull_in v.log) (behind_paren v) b
+
+-- what is remembered is of as many levels and the same reading, and all that was looked at for it was looked at
+pub record IsThis (n : ℕ) (v : View) (e : Guessed) : Type 0 where
+  pub levels : e.levels ≡ n
+  pub outer : e.outer ≡ v.state.reading
+  pub looks : LiesIn e.hull (hull_in v.log)
+
+-- nothing changed but what is remembered, and where it is so that this comes behind the parens at hand it stays so
+pub record Remembers (levels : ℕ) (b : Behind) (v w : View) : Type 0 where
+  pub same : w ≡ record v { memo = w.memo }
+  pub knows : (l : Level) → l.levels ≡ levels → (is_leaf v.hand.token ≡ true → Found l v b) → Knows l.guess (end_of v.place) v.memo → Knows l.guess (end_of v.place) w.memo
+
+-- nothing changed but what is remembered, and what is no more told stays so
+pub record Dropped (v w : View) : Type 0 where
+  pub same : w ≡ record v { memo = w.memo }
+  pub knows : (l : Level) → Knows l.guess (end_of v.place) v.memo → Knows l.guess (end_of v.place) w.memo
 
 -- ---- a function that makes calls
 
@@ -228,11 +268,11 @@ MeansAs f call q old r new = (l : Level) → Fills l f → ReadsAs l call q old 
 
 -- the same where no token was asked for before it
 abbrev pub MeansFirst : {A : Type 0} → Frame → Parser A → View → Result A AllocError → View → Type 0
-MeansFirst f q old r new = (l : Level) → Fills l f → GoesIf l Bare (Fits l) q old r new
+MeansFirst f q old r new = (l : Level) → Fills l f → GoesIf l (Bare l) (Fits l) q old r new
 
 -- the same where no token is asked for behind it
 abbrev pub MeansLast : {A : Type 0} → Frame → Parser A → View → Result A AllocError → View → Type 0
-MeansLast f q old r new = (l : Level) → Fills l f → GoesIf l (Fits l) Loose q old r new
+MeansLast f q old r new = (l : Level) → Fills l f → GoesIf l (Fits l) (Loose l) q old r new
 
 -- calls may be made above the limit
 abbrev pub MayNest : ℕ → (MutBor View → ℕ → Call → Type 0) → Type 0

@@ -20,6 +20,7 @@ pub record GaveUpTo (end : Place) (node : Tree) (v w : View) : Type 0 where
   pub place : w.place ≡ end
   pub state : w.state ≡ renewed (after_node (is_error node.head.kind) (text_of node) v.state)
   pub log : w.log ≡ v.log
+  pub memo : w.memo ≡ v.memo
 
 -- the token of a reader was read from a scanner's place
 pub record IsReadBy (r : Reader Memory Token) (start : Scanner) (found : Read) : Type 0 where

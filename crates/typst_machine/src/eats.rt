@@ -63,7 +63,7 @@ impl<'s> Parser<'s> {
     /// Takes the token at hand as this node. What comes behind it isn't asked for.
     #[inline(always)]
     fn take(&mut self, trims: bool, node: SyntaxNode) -> Result<(), AllocError>
-        ensures { (l : Level) (making : Making) → node ≡ taken_node l.classes making self.old.hand self.old.place → GoesIf l (Fits l) Bare (does (takes trims making)) self.old result self.new }
+        ensures { (l : Level) (making : Making) → node ≡ taken_node l.classes making self.old.hand self.old.place → GoesIf l (Fits l) (Bare l) (does (takes trims making)) self.old result self.new }
     {
         let count = if trims { self.state.empties } else { 0 };
         self.state.empties = 0;
@@ -106,7 +106,7 @@ impl<'s> Parser<'s> {
 
     /// Takes the token at hand. What comes behind it isn't asked for.
     pub fn pass<L: Levels>(&mut self, g: &L) -> Result<(), AllocError>
-        ensures { (l : Level) → Fills l (L.frame g.now) → GoesIf l (Fits l) Bare (does (takes false itself)) self.old result self.new }
+        ensures { (l : Level) → Fills l (L.frame g.now) → GoesIf l (Fits l) (Bare l) (does (takes false itself)) self.old result self.new }
     {
         let node = self.node(g)?;
         self.take(false, node)?;

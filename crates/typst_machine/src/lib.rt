@@ -4,6 +4,7 @@
 mod checkpoint;
 mod depth;
 mod eats;
+mod memo;
 mod nodes;
 mod parser;
 mod ways;
@@ -11,6 +12,9 @@ mod wraps;
 
 pub use checkpoint::Checkpoint;
 pub use depth::{Answered, Anywhere, Grammar, Levels, Stops, deeper, is_end, too_deep};
+pub use memo::Guessed;
 pub use parser::Parser;
-pub use typst_ahead::{AtNewline, Block, Call, ChainSet, Hull, Mark, Note, Reading, Role, Way};
+pub use typst_ahead::{
+    AtNewline, Behind, Block, Call, ChainSet, Hull, Mark, Note, Reading, Role, Way,
+};
 pub use typst_shapes::Change;

@@ -12,6 +12,7 @@ ghost use Rattle.typst_machine.specs.View.{Closed, Does, Fills, Left, Looked, Me
 ghost use Rattle.typst_ahead.specs.Noted.{listed};
 
 use crate::depth::Levels;
+use crate::memo::Guessed;
 use crate::nodes::is_none;
 use std::alloc::{AllocError, Global};
 use std::marker::Model;
@@ -37,6 +38,10 @@ pub struct Parser<'s> {
     pub(crate) ahead: ReadAhead<'s>,
     pub(crate) state: State,
     pub(crate) log: Log,
+    /// First readings that turned out wrong, those first that have more bytes left.
+    pub(crate) memo: Vec<Guessed>,
+    /// How many first readings have not ended.
+    pub(crate) guesses: usize,
 }
 
 impl<'s> Model for Parser<'s> {
@@ -76,6 +81,8 @@ impl<'s> Parser<'s> {
             ahead: ReadAhead::none(alloc, Scanner::new(text)),
             state,
             log: Log::new(alloc, keeps_notes),
+            memo: Vec::new(alloc),
+            guesses: 0,
         })
     }
 
@@ -273,7 +280,7 @@ impl<'s> Parser<'s> {
     }
 }
 
-fn same_mode(a: SyntaxMode, b: SyntaxMode) -> bool
+pub(crate) fn same_mode(a: SyntaxMode, b: SyntaxMode) -> bool
     ensures { result ≡ same_mode a b }
 {
     matches!(
@@ -284,7 +291,7 @@ fn same_mode(a: SyntaxMode, b: SyntaxMode) -> bool
     )
 }
 
-fn same_rule(a: AtNewline, b: AtNewline) -> bool
+pub(crate) fn same_rule(a: AtNewline, b: AtNewline) -> bool
     ensures { result ≡ same_rule a b }
 {
     match (a, b) {

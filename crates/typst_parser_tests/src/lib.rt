@@ -4,4 +4,6 @@
 #[cfg(test)]
 mod code;
 #[cfg(test)]
+mod guesses;
+#[cfg(test)]
 mod trees;

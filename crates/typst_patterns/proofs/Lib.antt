@@ -4,3 +4,4 @@ pub mod Firsts
 -- What the crates above name of those below.
 pub use Rattle.typst_machine.proofs.Begins
 pub use Rattle.typst_machine.proofs.Either
+pub use Rattle.typst_machine.proofs.Tails

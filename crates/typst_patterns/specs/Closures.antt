@@ -9,8 +9,8 @@ use Rattle.typst_machine.specs.Shape.Shape.{keeps}
 use Rattle.typst_machine.specs.Syntax.{Parser, ◌>>=◌, ◌>>◌}
 use Rattle.typst_machine.specs.Syntax.Parser.{gives}
 use Rattle.typst_machine.specs.Steps.{peek, eat, node}
-use Rattle.typst_patterns.specs.declared.closures.Behind.{Behind}
-use Rattle.typst_patterns.specs.declared.closures.Behind.TheVariants as behind
+use Rattle.typst_machine.specs.calls.Behind.{Behind}
+use Rattle.typst_machine.specs.calls.Behind.TheVariants as behind
 use Rattle.typst_patterns.specs.Parts.{code_expression}
 
 -- behind a name only an arrow counts; `=` is an operator there

@@ -7,18 +7,7 @@ ghost use Rattle.typst_patterns.specs.Closures as spec;
 use crate::parts::code_expression;
 use std::alloc::AllocError;
 use typst_kinds::SyntaxKind;
-use typst_machine::{Change, Levels, Parser};
-
-/// What comes behind a name, an underscore or parens.
-#[derive(Debug, Clone, Copy, PartialEq, Eq)]
-pub enum Behind {
-    /// `=>`, which makes a closure of it.
-    Arrow,
-    /// `=`, which makes an assignment of it.
-    Eq,
-    /// Neither.
-    Nothing,
-}
+use typst_machine::{Behind, Change, Levels, Parser};
 
 /// What comes behind a name.
 fn behind_name(kind: SyntaxKind) -> Behind

@@ -9,7 +9,7 @@ mod parts;
 mod patterns;
 
 pub use bindings::{Bound, let_binding};
-pub use closures::{Behind, named, placeholder, wrap_closure};
+pub use closures::{named, placeholder, wrap_closure};
 pub use listing::Parts;
 pub use parameters::params;
 pub use parts::{code_expression, expression_if, separator};

@@ -39,7 +39,7 @@ returns-in_ok-group-in-Group g c l h b = does-next (does-peek _) (at-head c.args
 
 pub returns-in_ok-parens-in-Parens : goal.returns-in_ok-parens-in-Parens
 unfolding code_primary
-returns-in_ok-parens-in-Parens g c l h b = does-next (does-peek _) (at-head c.args.atomic _ head.Parens (ap (code_head c.args.atomic) (sym c.current.ensures) ∙ sym c.code_head.ensures ∙ c.in-Parens.is) (c.in_ok-parens-in-Parens.ensures l h))
+returns-in_ok-parens-in-Parens g c l h b = does-next (does-peek _) (at-head c.args.atomic _ head.Parens (ap (code_head c.args.atomic) (sym c.current.ensures) ∙ sym c.code_head.ensures ∙ c.in-Parens.is) (c.in_ok-parens-in-Parens.ensures l h b))
 
 pub returns-in_ok-let_binding-in-Let : goal.returns-in_ok-let_binding-in-Let
 unfolding code_primary

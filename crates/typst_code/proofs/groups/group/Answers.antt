@@ -5,11 +5,11 @@ use Rattle.typst_markup.specs.reading.AtNewline.TheVariants as newline
 use Rattle.typst_markup.proofs.Steps.{does-next, does-gives, does-node}
 use Rattle.typst_markup.specs.Markup.{at_newline}
 use Rattle.typst_markup.proofs.Values.{does-entered, does-value}
-use Rattle.typst_code.specs.Groups.{group, group_shape}
+use Rattle.typst_code.specs.Groups.{group, group_rest, group_shape}
 use Rattle.typst_code.proofs.groups.group.Goals as goal
 
 pub returns : goal.returns
-unfolding group
+unfolding group group_rest
 returns g c l h =
     let colon = same kind.Colon in
     let closer = same kind.RightParen in

@@ -2,7 +2,8 @@ use Rattle.std.proofs.Common.{false, refl}
 use Rattle.typst_code.proofs.Steps.{does-next, does-look}
 use Rattle.typst_code.proofs.Blocks.{calls-at}
 use Rattle.typst_code.specs.Equations.{math_reading}
-use Rattle.typst_grammar.specs.Grammar.{level_at, max_depth, whole_math}
+use Rattle.typst_grammar.specs.Told.{told_at}
+use Rattle.typst_grammar.specs.Grammar.{max_depth, whole_math}
 use Rattle.typst_grammar.proofs.Levels.{sound-at, parsed-is}
 use Rattle.typst_grammar.proofs.grammar.read_whole_math.Goals as goal
 
@@ -10,7 +11,7 @@ pub returns : goal.returns
 unfolding whole_math
 returns g c =
     let k = g.C.Classes.classes c.args.classes.now in
-    let l = level_at k max_depth in
+    let l = told_at k max_depth in
     let first = does-look (c.in_ok-look.ensures l (record { classes = refl; sound = sound-at k max_depth; levels = refl; reads = λ old new call r h. calls-at l call r h.2 h.3 h.4.1 })) in
     let expressions = c.in_ok-math_exprs.ensures l (record { classes = refl; sound = sound-at k max_depth; levels = refl; reads = λ old new call r h. calls-at l call r h.2 h.3 h.4.1 }) in
     let d = does-next (does-next first expressions) (c.in_ok-flush_trivia.ensures l) in

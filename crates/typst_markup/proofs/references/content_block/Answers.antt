@@ -2,15 +2,15 @@ use Rattle.std.proofs.Common.{◌∙◌, ap}
 use Rattle.typst_kinds.specs.Kinds.{same}
 use Rattle.typst_kinds.specs.declared.kind.SyntaxKind.TheVariants as kind
 use Rattle.typst_markup.specs.Markup.{content_block, bracketed, markup_reading}
-use Rattle.typst_machine.proofs.Steps.{does-next, does-gives, does-shape, does-scoped}
+use Rattle.typst_machine.proofs.Steps.{does-next, does-gives, does-shape, does-scoped, loose-knows, rewrapped-loose}
 use Rattle.typst_markup.proofs.references.content_block.Goals as goal
 
 pub returns : goal.returns
 unfolding content_block
 returns g c l h =
     let is = same kind.RightBracket in
-    does-next (does-shape bracketed h.sound c.marker-from.ensures.few c.marker-from.ensures.marker (λ _. record {})
-    (does-scoped (λ _. markup_reading) c.enter-outer.ensures.view c.enter-outer.ensures.outer
+    does-next (does-shape bracketed h.sound c.marker-from.ensures.few c.marker-from.ensures.marker (rewrapped-loose l c.in_ok-wrap_bracketed.ensures)
+    (does-scoped (λ _. markup_reading) loose-knows c.enter-outer.ensures.view c.enter-outer.ensures.outer
     (does-next (c.in_ok-pass.ensures l h) (does-next (c.in_ok-run_with_trivia.ensures l h) (c.in_ok-closed.ensures is (c.eq.ensures ∙ ap is c.current.ensures) l h)))
     c.leave_unasked.ensures)
     c.in_ok-wrap_bracketed.ensures) does-gives

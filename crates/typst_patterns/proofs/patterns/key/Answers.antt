@@ -3,7 +3,7 @@ use Rattle.typst_kinds.specs.Kinds.{same}
 use Rattle.typst_kinds.specs.declared.kind.SyntaxKind.TheVariants as kind
 use Rattle.typst_machine.proofs.Steps.{does-gives}
 use Rattle.typst_machine.proofs.Begins.{begins-leaves}
-use Rattle.typst_machine.proofs.Either.{does-chosen, does-either}
+use Rattle.typst_machine.proofs.Either.{does-chosen, does-either, goes-back}
 use Rattle.typst_machine.proofs.Asks.{asks-yes, asks-no}
 use Rattle.typst_machine.proofs.Nots.{is-not, is-so}
 use Rattle.typst_patterns.specs.Patterns.{key}
@@ -24,4 +24,4 @@ returns g c l h =
     let place = c.checkpoint-place.ensures in
     let first = c.in_ok-is_key.ensures l h in
     asks-yes (same kind.Ident) c.current.ensures refl (is-so c.ne.ensures c.if-ne.false)
-    (does-either place.saved place.few place.least (λ f. begins-leaves (begins-name f) (first.ran f)) first (ap not c.if-is_key.false) c.in_ok-restore.ensures does-gives c.drop_notes.ensures)
+    (does-either place.saved (ap not c.if-is_key.false) (goes-back place.saved place.few place.least (λ f. begins-leaves (begins-name f) (first.ran f)) first c.in_ok-restore.ensures) does-gives c.drop_notes.ensures)

@@ -30,6 +30,7 @@ returns-then-is_none c l =
       own = refl;
       here = refl;
       log = refl;
+      memo = refl;
     })
 
 pub returns : goal.returns
@@ -50,4 +51,5 @@ returns c l =
       own = refl;
       here = refl;
       log = refl;
+      memo = refl;
     })

@@ -25,4 +25,4 @@ returns g c l k =
     (b.hand ∙ ap (λ (q : CharClasses). hand_at q i.state.held None from) (sym k))
     (b.own ∙ ap (λ (q : CharClasses). token_hull q i.state.held.mode (moved gap from)) (sym k))
     b.here
-    (c.look.ensures ∙ ap (λ (u : Hull). with_hull u i.log) (c.in_ok-hull.ensures.hull ∙ ap (λ (q : CharClasses). whole_at q i.state.held from) (sym k))))
+    (c.look.ensures ∙ ap (λ (u : Hull). with_hull u i.log) (c.in_ok-hull.ensures.hull ∙ ap (λ (q : CharClasses). whole_at q i.state.held from) (sym k))) refl)

@@ -40,4 +40,4 @@ returns c l making e =
     ap (λ (u : State). record { reading = u.reading; held = u.reading; empties = u.empties; is_after_error = u.is_after_error; known = known_of b }) c.in_ok-give.ensures.state
     ∙ ap (λ (r : ReadAhead). record { reading = i.state.reading; held = i.state.reading; empties = if is_error c.args.node.head.kind then count_empty (text_of c.args.node) else 0; is_after_error = is_error c.args.node.head.kind; known = if r.is_read then known_by (hand_of_ahead b) else None }) c.pass.ensures in
     rw (sym c.self.view_is)
-    (taken-is l c.args.trims making _ _ c.args.node (e ∙ ap (λ (v : View). taken_node l.classes making v.hand v.place) (sym c.self.view_is)) nodes-is place-is state-is refl)
+    (taken-is l c.args.trims making _ _ c.args.node (e ∙ ap (λ (v : View). taken_node l.classes making v.hand v.place) (sym c.self.view_is)) nodes-is place-is state-is refl refl)

@@ -37,4 +37,5 @@ returns c =
       place = ap (λ (x : ReadAhead). place x.before) c.pass.ensures;
       state = state-is ∙ ap renewed (told-node (is_error node.head.kind) (text_of node) (view_of i).state);
       log = refl;
+      memo = refl;
     })

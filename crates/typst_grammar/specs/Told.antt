@@ -1,0 +1,14 @@
+-- What the parser of the code knows of first readings of parens, at each level.
+use Rattle.std.specs.Prelude.{ℕ}
+use Rattle.typst_classes.specs.Classes.{CharClasses}
+use Rattle.typst_code.specs.Meaning.{Guessing, Level, guessing}
+use Rattle.typst_code.specs.Parens.{guess_of}
+use Rattle.typst_grammar.specs.Grammar.{level_at}
+
+-- what they find where so many levels are left
+abbrev pub guesses : CharClasses → Guessing
+guesses k levels z outer = guess_of (level_at k levels) z outer
+
+-- where so many levels are left, and that is told
+abbrev pub told_at : CharClasses → ℕ → Level
+told_at k levels = guessing (guesses k) (level_at k levels)
