@@ -8,7 +8,7 @@ ghost use Rattle.typst_highlight.specs.Walk as walk;
 
 use crate::rules::{
     begins_arguments, is_colon, is_dot, is_field_access, is_hash, is_math_name, is_name,
-    is_show_rule,
+    is_show_rule, is_skipped,
 };
 use crate::tags::Tag;
 use typst_kinds::SyntaxKind;
@@ -82,14 +82,15 @@ pub fn is_childless(node: &SyntaxNode) -> bool
 }
 
 /// Whether the node is a leaf that is neither trivia nor an error.
+#[inline(always)]
 pub fn is_leaf(node: &SyntaxNode) -> bool
     ensures { result ≡ is_leaf node.now }
 {
-    let kind = node.kind();
-    is_childless(node) && !kind.is_trivia() && !kind.is_error()
+    is_childless(node) && !is_skipped(node.kind())
 }
 
 /// The first leaf of nodes that stand side by side from a byte on, under a parent of this kind.
+#[cycle(leaves)]
 fn first_leaf(nodes: &[SyntaxNode], parent: Option<SyntaxKind>, offset: usize) -> Option<Ahead>
     ensures { result ≡ walk.first_leaf parent offset (forest nodes.now) }
 {
@@ -105,13 +106,29 @@ fn first_leaf(nodes: &[SyntaxNode], parent: Option<SyntaxKind>, offset: usize) -
             });
         }
         let inner = begin.saturating_add(node.leaf_text().len());
-        if let Some(leaf) = first_leaf(node.children(), Some(kind), inner) {
+        if let Some(leaf) = leaf_among(node.children(), Some(kind), inner) {
             return Some(leaf);
         }
         begin = begin.saturating_add(node.len());
         rest = later;
     }
     None
+}
+
+/// What `first_leaf` answers, at once where the first node is a leaf.
+#[cycle(leaves)]
+#[inline(always)]
+fn leaf_among(nodes: &[SyntaxNode], parent: Option<SyntaxKind>, offset: usize) -> Option<Ahead>
+    ensures { result ≡ walk.first_leaf parent offset (forest nodes.now) }
+{
+    match nodes.split_first() {
+        Some((node, _)) if is_leaf(node) => Some(Ahead {
+            kind: node.kind(),
+            parent,
+            offset,
+        }),
+        _ => first_leaf(nodes, parent, offset),
+    }
 }
 
 impl Surroundings {
@@ -199,11 +216,12 @@ impl Context {
     }
 
     /// The first leaf behind the node.
+    #[inline(always)]
     fn next_leaf(&self, node: &SyntaxNode, later: &[SyntaxNode]) -> Option<Ahead>
         ensures { result ≡ walk.next_leaf self.now node.now (forest later.now) }
     {
         let end = self.offset.saturating_add(node.len());
-        match first_leaf(later, self.parent, end) {
+        match leaf_among(later, self.parent, end) {
             None => self.ahead,
             found => found,
         }
@@ -278,7 +296,7 @@ impl Context {
 }
 
 impl Context {
-    ghost use Rattle.std.specs.Prelude.{◌≡◌, true};
+    ghost use Rattle.std.specs.Prelude.{◌≡◌, true, length};
     ghost use Rattle.typst_node.specs.Tree.{forest};
     ghost use Rattle.typst_tree.specs.Walks.{is_childless};
     ghost use Rattle.typst_highlight.specs.Walk as walk;
@@ -295,16 +313,27 @@ impl Context {
         }
     }
 
-    /// Goes past the node, which has no children.
-    pub fn pass(&mut self, node: &SyntaxNode, later: &[SyntaxNode])
-        requires { is_childless node.now.kids ≡ true }
+    /// Goes past the node, which has no children, where its tag and the length of its text are known.
+    #[inline(always)]
+    pub fn pass(&mut self, node: &SyntaxNode, later: &[SyntaxNode], tag: Option<Tag>, len: usize)
+        requires childless { is_childless node.now.kids ≡ true }
+        requires tagged { tag ≡ walk.tag self.old node.now (forest later.now) }
+        requires long { len ≡ length node.now.head.text }
         ensures { self.new ≡ walk.past self.old node.now (walk.passed self.old node.now (forest later.now)) }
     {
-        let trail = self.behind(node, later);
-        self.leave(node, trail);
+        let kind = node.kind();
+        if !is_skipped(kind) {
+            self.trail = Trail {
+                before: Some(kind),
+                name: if is_name(kind) { tag } else { None },
+                earlier: self.trail.name,
+            };
+        }
+        self.offset = self.offset.saturating_add(len);
     }
 
     /// Goes past the node, where the last leaves before what follows it are known.
+    #[inline(always)]
     pub fn leave(&mut self, node: &SyntaxNode, trail: Trail)
         ensures { self.new ≡ walk.past self.old node.now trail }
     {

@@ -1,7 +1,8 @@
 //! A tree's text as HTML.
 
-ghost use Rattle.std.specs.Prelude.{◌≡◌, ◌<◌, [], ◌∷◌, ◌++◌, IfOk, OnOk, MatchOption, string_bytes};
+ghost use Rattle.std.specs.Prelude.{◌≡◌, ◌<◌, [], ◌∷◌, ◌++◌, IfOk, OnOk, MatchOption, string_bytes, true, IsTrue};
 ghost use Rattle.typst_node.specs.Tree.{text_of, forest};
+ghost use Rattle.typst_tree.specs.Walks.{is_childless};
 ghost use Rattle.typst_highlight.specs.Html as spec;
 ghost use Rattle.typst_highlight.specs.Walk as walk;
 
@@ -19,12 +20,18 @@ pub fn highlight_html(alloc: Global, root: &SyntaxNode) -> Result<String, AllocE
     ensures html { IfOk result (λ html. string_bytes html ≡ spec.html_of root.now) }
     ensures shown { IfOk result (λ html. spec.read spec.plain (string_bytes html) ≡ text_of root.now) }
 {
-    let mut html = String::new(alloc);
+    let mut html = String::with_capacity(alloc, likely_len(root))?;
     html.push_str("<code>")?;
     let mut context = Context::ROOT;
     write_node(&mut html, root, &[], &mut context)?;
     html.push_str("</code>")?;
     Ok(html)
+}
+
+/// How long the HTML of a tree mostly is at most: its text, and a third of a span for each node.
+fn likely_len(root: &SyntaxNode) -> usize {
+    let spans = root.descendants().saturating_mul(12);
+    root.len().saturating_add(spans).saturating_add(13)
 }
 
 /// Writes a node that other nodes follow under the same parent, and goes past it.
@@ -37,22 +44,46 @@ fn write_node(
     ensures written { OnOk result (string_bytes html.new ≡ string_bytes html.old ++ walk.node_html context.old node.now (forest later.now)) }
     ensures passed { OnOk result (context.new ≡ walk.past context.old node.now (walk.passed context.old node.now (forest later.now))) }
 {
+    if is_childless(node) {
+        return write_leaf(html, node, later, context);
+    }
     let tag = spanned(tag_here(node, later, context));
     write_start(html, tag)?;
     write_escaped(html, node.leaf_text())?;
-    if is_childless(node) {
-        write_end(html, tag)?;
-        context.pass(node, later);
-        return Ok(());
-    }
     let mut inner = context.within(node, later);
     let mut rest = node.children();
     while let Some((kid, behind)) = rest.split_first() {
-        write_node(html, kid, behind, &mut inner)?;
+        if is_childless(kid) {
+            write_leaf(html, kid, behind, &mut inner)?;
+        } else {
+            write_node(html, kid, behind, &mut inner)?;
+        }
         rest = behind;
     }
     write_end(html, tag)?;
     context.leave(node, inner.trail);
+    Ok(())
+}
+
+/// Writes a node without children, and goes past it.
+#[inline(always)]
+fn write_leaf(
+    html: &mut String,
+    node: &SyntaxNode,
+    later: &[SyntaxNode],
+    context: &mut Context,
+) -> Result<(), AllocError>
+    requires { is_childless node.now.kids ≡ true }
+    ensures written { OnOk result (string_bytes html.new ≡ string_bytes html.old ++ walk.node_html context.old node.now (forest later.now)) }
+    ensures passed { OnOk result (context.new ≡ walk.past context.old node.now (walk.passed context.old node.now (forest later.now))) }
+{
+    let tag = tag_here(node, later, context);
+    let span = spanned(tag);
+    let text = node.leaf_text();
+    write_start(html, span)?;
+    write_escaped(html, text)?;
+    write_end(html, span)?;
+    context.pass(node, later, tag, text.len());
     Ok(())
 }
 
@@ -71,9 +102,7 @@ fn write_start(html: &mut String, tag: Option<Tag>) -> Result<(), AllocError>
     ensures { OnOk result (string_bytes html.new ≡ string_bytes html.old ++ spec.span_start tag) }
 {
     if let Some(tag) = tag {
-        html.push_str("<span class=\"")?;
-        html.push_str(tag.css_class())?;
-        html.push_str("\">")?;
+        html.push_str(tag.opening())?;
     }
     Ok(())
 }
@@ -89,7 +118,40 @@ fn write_end(html: &mut String, tag: Option<Tag>) -> Result<(), AllocError>
 }
 
 /// Writes a text with an entity for each of `& < > ' "`.
+#[inline(always)]
 fn write_escaped(html: &mut String, text: &str) -> Result<(), AllocError>
+    ensures { OnOk result (string_bytes html.new ≡ string_bytes html.old ++ spec.escaped text.now) }
+{
+    match text.as_bytes() {
+        [byte] if *byte < 128 && mark(*byte) == 0 => html.push(char::from(*byte)),
+        bytes if is_plain(bytes) => html.push_str(text),
+        _ => write_entities(html, text),
+    }
+}
+
+/// Whether no byte has an entity.
+#[inline(always)]
+fn is_plain(bytes: &[u8]) -> bool
+    ensures { IsTrue result → spec.escaped bytes.now ≡ bytes.now }
+{
+    let mut marks = 0;
+    for at in 0..bytes.len() {
+        marks = marks | mark(bytes[at]);
+    }
+    marks == 0
+}
+
+/// Not 0 for the bytes `& < > ' "`.
+#[inline(always)]
+fn mark(byte: u8) -> u8
+    ensures { result ≡ 0 → spec.escaped_byte byte ≡ byte ∷ [] }
+{
+    u8::from((byte == b'&') | (byte == b'<') | (byte == b'>') | (byte == b'\'') | (byte == b'"'))
+}
+
+/// Writes a text with an entity for each of `& < > ' "`, and what stands between them whole.
+#[inline(never)]
+fn write_entities(html: &mut String, text: &str) -> Result<(), AllocError>
     ensures { OnOk result (string_bytes html.new ≡ string_bytes html.old ++ spec.escaped text.now) }
 {
     let bytes = text.as_bytes();

@@ -1,6 +1,7 @@
 //! What the tags of nodes depend on.
 
-ghost use Rattle.std.specs.Prelude.{◌≡◌};
+ghost use Rattle.std.specs.Prelude.{◌≡◌, ◌||◌};
+ghost use Rattle.typst_kinds.specs.Kinds.{is_trivia, is_error};
 ghost use Rattle.typst_highlight.specs.Rules as spec;
 
 use crate::tags::Tag;
@@ -30,6 +31,7 @@ pub enum Rule {
 }
 
 /// What the tag of a node of the kind depends on.
+#[inline(never)]
 pub fn rule_of(kind: SyntaxKind) -> Rule
     ensures { result ≡ spec.rule_of kind }
 {
@@ -245,10 +247,26 @@ fn colon_tag(next: Option<SyntaxKind>) -> Option<Tag>
 }
 
 /// Whether the kind is that of a name.
+#[inline(always)]
 pub fn is_name(kind: SyntaxKind) -> bool
     ensures { result ≡ spec.is_name kind }
 {
-    matches!(kind, SyntaxKind::Ident | SyntaxKind::MathIdent)
+    kind == SyntaxKind::Ident || kind == SyntaxKind::MathIdent
+}
+
+/// Whether the kind is that of trivia or of an error.
+#[inline(always)]
+pub fn is_skipped(kind: SyntaxKind) -> bool
+    ensures { result ≡ (is_trivia kind || is_error kind) }
+{
+    matches!(
+        kind,
+        SyntaxKind::Space
+            | SyntaxKind::Parbreak
+            | SyntaxKind::LineComment
+            | SyntaxKind::BlockComment
+            | SyntaxKind::Error
+    )
 }
 
 /// Whether the kind is that of a field access.

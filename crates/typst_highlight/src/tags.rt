@@ -2,6 +2,7 @@
 
 ghost use Rattle.std.specs.Prelude.{◌≡◌};
 ghost use Rattle.typst_highlight.specs.Tags.{scope_of, class_of, all_tags};
+ghost use Rattle.typst_highlight.specs.Html.{opening};
 
 /// How a node of a syntax tree is to be shown.
 #[derive(Debug, Clone, Copy, PartialEq, Eq, Hash)]
@@ -136,6 +137,36 @@ impl Tag {
             Tag::Function => "typ-func",
             Tag::Interpolated => "typ-pol",
             Tag::Error => "typ-error",
+        }
+    }
+
+    /// What begins the tag's spans in HTML.
+    pub(crate) fn opening(self) -> &'static str
+        ensures { result.now ≡ opening self }
+    {
+        match self {
+            Tag::Comment => "<span class=\"typ-comment\">",
+            Tag::Punctuation => "<span class=\"typ-punct\">",
+            Tag::Escape => "<span class=\"typ-escape\">",
+            Tag::Strong => "<span class=\"typ-strong\">",
+            Tag::Emph => "<span class=\"typ-emph\">",
+            Tag::Link => "<span class=\"typ-link\">",
+            Tag::Raw => "<span class=\"typ-raw\">",
+            Tag::Label => "<span class=\"typ-label\">",
+            Tag::Ref => "<span class=\"typ-ref\">",
+            Tag::Heading => "<span class=\"typ-heading\">",
+            Tag::ListMarker => "<span class=\"typ-marker\">",
+            Tag::ListTerm => "<span class=\"typ-term\">",
+            Tag::MathDelimiter => "<span class=\"typ-math-delim\">",
+            Tag::MathOperator => "<span class=\"typ-math-op\">",
+            Tag::MathGroupingParens => "<span class=\"typ-math-group\">",
+            Tag::Keyword => "<span class=\"typ-key\">",
+            Tag::Operator => "<span class=\"typ-op\">",
+            Tag::Number => "<span class=\"typ-num\">",
+            Tag::String => "<span class=\"typ-str\">",
+            Tag::Function => "<span class=\"typ-func\">",
+            Tag::Interpolated => "<span class=\"typ-pol\">",
+            Tag::Error => "<span class=\"typ-error\">",
         }
     }
 }

@@ -4,13 +4,19 @@ use Rattle.typst_highlight.specs.Walk.{found, within}
 use Rattle.typst_highlight.proofs.walk.+tags.Given as goal
 
 abbrev pub decreases-tag_here : goal.decreases-tag_here
-decreases-tag_here l = 3 * (nodes l.node.now + count (forest l.later.now))
+decreases-tag_here l = 5 * (nodes l.node.now + count (forest l.later.now))
+
+abbrev pub decreases-tag_by : goal.decreases-tag_by
+decreases-tag_by l = 5 * count (forest l.later.now) + 4
+
+abbrev pub decreases-hash_tag : goal.decreases-hash_tag
+decreases-hash_tag l = 5 * count (forest l.later.now) + 3
 
 abbrev pub decreases-expression_tag : goal.decreases-expression_tag
-decreases-expression_tag l = 3 * count (forest l.nodes.now) + 2
+decreases-expression_tag l = 5 * count (forest l.nodes.now) + 2
 
 abbrev pub decreases-leaf_tag : goal.decreases-leaf_tag
-decreases-leaf_tag l = 3 * (nodes l.node.now + count (forest l.later.now)) + 1
+decreases-leaf_tag l = 5 * (nodes l.node.now + count (forest l.later.now)) + 1
 
 abbrev pub invariant-expression_tag-loop-node : goal.invariant-expression_tag-loop-node
 invariant-expression_tag-loop-node l = record {

@@ -1,8 +1,8 @@
 use Rattle.std.proofs.Common.{◌≡◌, ◌+◌, ◌<◌, ◌≤◌, ◌++◌, ◌∙◌, refl, ap, arith, length, get_or, string_bytes}
 use Rattle.std.proofs.lemmas.Str.{IsCharBoundary-start, IsCharBoundary-after_ascii}
 use Rattle.typst_highlight.proofs.Escapes.{plain_more, plain_none, entity_more, plain_rest}
-use Rattle.typst_highlight.proofs.html.write_escaped.Goals as goal
-use Rattle.typst_highlight.proofs.html.write_escaped.Goals.{in-Some+in_ok-push_str+in_ok-push_str-2, in_default}
+use Rattle.typst_highlight.proofs.html.write_entities.Goals as goal
+use Rattle.typst_highlight.proofs.html.write_entities.Goals.{in-Some+in_ok-push_str+in_ok-push_str-2, in_default}
 
 pub loop-at-init : goal.loop-at-init
 loop-at-init c = record { written = refl; plain = refl; before = omega arith; boundary = IsCharBoundary-start c.args.text.now c.utf8.text }

@@ -2,7 +2,7 @@ use Rattle.std.proofs.Common.{◌≡◌, ◌≤◌, ◌++◌, drop, string_bytes
 use Rattle.std.specs.Str.{IsCharBoundary}
 use Rattle.std.specs.List.{slice_range}
 use Rattle.typst_highlight.specs.Html.{escaped}
-use Rattle.typst_highlight.proofs.html.write_escaped.Given as goal
+use Rattle.typst_highlight.proofs.html.write_entities.Given as goal
 
 abbrev pub invariant-loop-at : goal.invariant-loop-at
 invariant-loop-at l = record {
