@@ -25,7 +25,7 @@ use typst_lines::Scanner;
 use typst_node::SyntaxNode;
 
 /// Room for one node is taken at once for so many bytes of the text, which suffices as a rule.
-const BYTES_OF_A_NODE: usize = 32;
+const BYTES_OF_A_NODE: usize = 8;
 
 /// A parser of a text: the nodes so far, the token at hand, and how to go on.
 ///
