@@ -2,7 +2,7 @@
 
 use crate::sources::Unicode;
 use std::alloc::Global;
-use typst_parser::{Lines, SyntaxNode, UnicodeClasses, parse};
+use typst_parser::{Lines, Span, SyntaxNode, UnicodeClasses, parse};
 
 /// Whether the lines are those of the text, as they are made anew.
 pub fn has_lines(alloc: Global, lines: &Lines<String>, text: &str) -> Option<bool> {
@@ -91,15 +91,13 @@ pub fn is_whole(alloc: Global, source: &Unicode, text: &str) -> Option<bool> {
     Some(is_text && is_tree)
 }
 
-/// Whether two trees have the same spans, node by node.
-fn have_spans(alloc: Global, one: &SyntaxNode, other: &SyntaxNode) -> Option<bool> {
-    let (ones, others) = (nodes(alloc, one)?, nodes(alloc, other)?);
-    for (one, other) in ones.iter().zip(others.iter()) {
-        if one.span() != other.span() {
-            return Some(false);
-        }
+/// The spans of a tree's nodes, each before those of its children.
+fn spans(alloc: Global, root: &SyntaxNode) -> Option<Vec<Span>> {
+    let mut all = Vec::new(alloc);
+    for node in nodes(alloc, root)?.as_slice() {
+        all.push(node.span()).ok()?;
     }
-    Some(ones.len() == others.len())
+    Some(all)
 }
 
 /// Whether two sources have the same file, text, lines and tree, spans too; nothing where memory was
@@ -107,6 +105,7 @@ fn have_spans(alloc: Global, one: &SyntaxNode, other: &SyntaxNode) -> Option<boo
 pub fn are_same(alloc: Global, one: &Unicode, other: &Unicode) -> Option<bool> {
     let is_text = one.id() == other.id() && one.text() == other.text();
     let is_tree = one.root().spanless_eq(other.root());
-    let has_spans = have_spans(alloc, one.root(), other.root())?;
+    let (ones, others) = (spans(alloc, one.root())?, spans(alloc, other.root())?);
+    let has_spans = ones.as_slice() == others.as_slice();
     Some(is_text && is_tree && has_spans && has_lines(alloc, one.lines(), other.text())?)
 }
