@@ -12,6 +12,8 @@ use Rattle.typst_node.specs.Tree.{Tree}
 use Rattle.typst_tokens.specs.declared.token.Token.{Token}
 use Rattle.typst_tokens.specs.Memory.{Memory}
 use Rattle.typst_classes.specs.Classes.{CharClasses}
+unfoldable pub use Rattle.typst_readers.specs.Column.{column_at}
+pub use Rattle.typst_readers.specs.Column.{column_look}
 use Rattle.typst_readers.specs.Reader.{Reader, Look, exec, eaten, look}
 use Rattle.typst_lexer.specs.Tokens.{token}
 use Rattle.typst_token_nodes.specs.Nodes.{token_node}
@@ -99,14 +101,6 @@ asks_by k m (suc n) z =
 -- what each of these tokens looked at
 unfoldable pub ahead_asks : CharClasses → SyntaxMode → Place → List Ask
 ahead_asks k m z = asks_by k m (length z.ahead) z
-
--- how many characters stand between a place and the last newline character before it, or the text's start
-unfoldable pub column_at : Place → ℕ
-column_at z = prefix_len (λ c. not (is_newline c)) z.behind
-
--- a column is told by these characters and what ends them
-abbrev pub column_look : Place → Look
-column_look z = record { back = suc (column_at z); front = 0 }
 
 -- a line that begins with `else` or `.` goes on with the line before it
 abbrev pub goes_on : SyntaxKind → Bool

@@ -1,7 +1,7 @@
 //! The lexer: what comes next in a text, token by token.
 ghost use Rattle.std.specs.Prelude.{◌≡◌, ◌≤◌, IfOk, OnOk, OnErr, IsSome, false, take};
 ghost use Rattle.std.specs.Str.{chars, IsCharBoundary};
-ghost use Rattle.typst_readers.specs.Column.{column};
+ghost use Rattle.typst_readers.specs.Column.{column_at};
 ghost use Rattle.typst_readers.specs.Reader.{exec, eaten};
 ghost use Rattle.typst_readers.specs.Reads.{Reads, Scans};
 ghost use Rattle.typst_lexer.specs.Tokens as spec;
@@ -124,7 +124,7 @@ impl<'a, C: Classes> Lexer<'a, C> {
     /// text's start, and the index, which is a byte offset on a character boundary.
     pub fn column(&self, index: usize) -> usize
         requires { IsCharBoundary (text_of self.now) index }
-        ensures { result ≡ column (place_at (text_of self.now) index) }
+        ensures { result ≡ column_at (place_at (text_of self.now) index) }
     {
         let mut s = self.at.s;
         s.jump(index);
