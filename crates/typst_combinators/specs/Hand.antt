@@ -1,12 +1,10 @@
 -- The token at hand: the trivia ahead, and the token after it.
 use Rattle.std.specs.Prelude.{ℕ, zero, suc, ◌+◌, min, Bool, true, false, not, ◌||◌, ◌&&◌, if◌then◌else◌, nat_lt, nat_le, List, [], ◌∷◌, ◌++◌, length, take, encode_utf8_all, Option, Some, None}
-use Rattle.std.specs.List.{prefix_len}
 use Rattle.typst_kinds.specs.declared.kind.SyntaxKind.{SyntaxKind}
 use Rattle.typst_kinds.specs.declared.kind.SyntaxKind.TheVariants as kind
 use Rattle.typst_kinds.specs.Kinds.{is_trivia}
 use Rattle.typst_kinds.specs.declared.mode.SyntaxMode.{SyntaxMode}
 use Rattle.typst_kinds.specs.declared.mode.SyntaxMode.TheVariants as mode
-use Rattle.typst_lines.specs.Newline.{is_newline}
 use Rattle.typst_lines.specs.Place.{Place, moved}
 use Rattle.typst_node.specs.Tree.{Tree}
 use Rattle.typst_tokens.specs.declared.token.Token.{Token}
@@ -14,7 +12,7 @@ use Rattle.typst_tokens.specs.Memory.{Memory}
 use Rattle.typst_classes.specs.Classes.{CharClasses}
 unfoldable pub use Rattle.typst_readers.specs.Column.{column_at}
 pub use Rattle.typst_readers.specs.Column.{column_look}
-use Rattle.typst_readers.specs.Reader.{Reader, Look, exec, eaten, look}
+use Rattle.typst_readers.specs.Reader.{Reader, exec, eaten, look}
 use Rattle.typst_lexer.specs.Tokens.{token}
 use Rattle.typst_token_nodes.specs.Nodes.{token_node}
 use Rattle.typst_combinators.specs.declared.reading.AtNewline.TheVariants.{Continue, Stop, ContextualContinue, StopParBreak, RequireColumn}
