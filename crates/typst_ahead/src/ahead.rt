@@ -10,7 +10,6 @@ ghost use Rattle.typst_combinators.specs.Point as point;
 ghost use Rattle.typst_ahead.specs.Bytes as bytes;
 ghost use Rattle.typst_ahead.specs.Bytes.{bytes_left};
 ghost use Rattle.typst_readers.specs.Reader.{exec};
-ghost use Rattle.typst_readers.specs.Sight.{hull_of};
 ghost use Rattle.typst_combinators.specs.Tokens.{token};
 ghost use Rattle.typst_ahead.specs.Cursor.{IsAhead, Stands};
 
@@ -21,8 +20,9 @@ use typst_combinators::{
     AtNewline, Hull, LineEnd, Newlines, Reading, Token, is_leaf, leaf_node, make_node, token,
 };
 use typst_kinds::{SyntaxKind, SyntaxMode};
-use typst_lines::{Scanner, is_newline};
+use typst_lines::Scanner;
 use typst_node::SyntaxNode;
+use typst_readers::column::column;
 
 /// The token at hand, with the trivia before it.
 #[derive(Drop)]
@@ -274,24 +274,4 @@ fn is_markup(mode: SyntaxMode) -> bool
     ensures { result ≡ spec.is_markup mode }
 {
     matches!(mode, SyntaxMode::Markup)
-}
-
-/// How many characters stand between the last newline character, or the text's start, and here; and
-/// what was looked at for it.
-#[inline(never)]
-pub fn column(s: &Scanner<'_>) -> (usize, Hull)
-    ensures column { result.0 ≡ spec.column_at (place s.now) }
-    ensures hull { result.1 ≡ hull_of (spec.column_look (place s.now)) (place s.now) }
-{
-    let reach = s.cursor();
-    let mut behind = *s;
-    let mut count = 0usize;
-    'back: while let Some(c) = behind.uneat() {
-        if is_newline(c) {
-            let least = behind.cursor() + 1;
-            return (count, Hull { reach, least });
-        }
-        count = count.saturating_add(1);
-    }
-    (count, Hull { reach, least: 0 })
 }

@@ -48,8 +48,8 @@ pub record CodeLooks (beyond : CharClasses) : Type 0 where
   pub float : Shows (by_law beyond) [] 49 (codes ".5e3 ") (reach 0 6) (plain kind.Float) 5
   pub length : Shows (by_law beyond) [] 49 (codes "em ") (reach 0 4) (plain kind.Numeric) 3
   pub dotted : Shows (by_law beyond) [] 46 (codes "5 ") (reach 0 3) (plain kind.Float) 2
-  pub no_exponent : Shows (by_law beyond) [] 49 (codes "e") (reach 0 3) (faulty (fault.Number number_fault.Exponent 0)) 2
-  pub binary : Shows (by_law beyond) [] 48 (codes "b10pt ") (reach 0 7) (faulty (fault.Number (number_fault.Suffix Binary) 2)) 6
+  pub no_exponent : Shows (by_law beyond) [] 49 (codes "e") (reach 0 3) (faulty (fault.Number number_fault.Exponent)) 2
+  pub binary : Shows (by_law beyond) [] 48 (codes "b10pt ") (reach 0 7) (faulty (fault.Number (number_fault.Suffix Binary))) 6
   -- 2 ^ 63 - 1 and 2 ^ 63
   pub largest : Shows (by_law beyond) [] 57 (codes "223372036854775807") (reach 0 21) (plain kind.Int) 19
   pub too_large : Shows (by_law beyond) [] 57 (codes "223372036854775808") (reach 0 21) (plain kind.Float) 19

@@ -27,13 +27,13 @@ in_suffix c = is_ascii_alphanumeric c || c == 37
 abbrev pub with_suffix : SyntaxKind → List ℕ → Token
 with_suffix k suffix =
     if length suffix == 0 then plain k
-    else (if is_unit suffix then plain kind.Numeric else faulty (fault.Number number_fault.UnknownSuffix (length suffix)))
+    else (if is_unit suffix then plain kind.Numeric else faulty (fault.Number number_fault.UnknownSuffix))
 
 -- The token of what stands before a suffix, by the suffix's bytes.
 abbrev pub numbered : Numeral → List ℕ → Token
 numbered (numeral.Valid k) suffix = with_suffix k suffix
-numbered (numeral.Based b) suffix = if length suffix == 0 then plain kind.Int else faulty (fault.Number (number_fault.Suffix b) (length suffix))
-numbered (numeral.Invalid f) suffix = faulty (fault.Number f (length suffix))
+numbered (numeral.Based b) suffix = if length suffix == 0 then plain kind.Int else faulty (fault.Number (number_fault.Suffix b))
+numbered (numeral.Invalid f) suffix = faulty (fault.Number f)
 
 -- What is left of a number: its suffix.
 unfoldable pub suffixed : Numeral → Reader Memory Token

@@ -77,7 +77,7 @@ fn in_base(s: &mut Cursor<'_>, base: Base) -> Token
 
 /// What is taken for digits of a base.
 #[derive(Clone, Copy)]
-struct DigitsOf(Base);
+pub struct DigitsOf(pub Base);
 
 impl CharSet for DigitsOf {
     ghost members = { λ s. spec.is_digit_of s.0 };
@@ -245,7 +245,7 @@ fn numbered(before: Numeral, suffix: &str) -> Token
     match before {
         Numeral::Valid(kind) => with_suffix(kind, suffix),
         Numeral::Based(base) => without_suffix(base, suffix),
-        Numeral::Invalid(fault) => Token::faulty(Fault::Number(fault, suffix.len())),
+        Numeral::Invalid(fault) => Token::faulty(Fault::Number(fault)),
     }
 }
 
@@ -259,7 +259,7 @@ fn with_suffix(kind: SyntaxKind, suffix: &str) -> Token
     if is_unit(suffix) {
         return Token::plain(SyntaxKind::Numeric);
     }
-    Token::faulty(Fault::Number(NumberFault::UnknownSuffix, suffix.len()))
+    Token::faulty(Fault::Number(NumberFault::UnknownSuffix))
 }
 
 /// An integer of a base, which takes no suffix.
@@ -269,5 +269,5 @@ fn without_suffix(base: Base, suffix: &str) -> Token
     if suffix.is_empty() {
         return Token::plain(SyntaxKind::Int);
     }
-    Token::faulty(Fault::Number(NumberFault::Suffix(base), suffix.len()))
+    Token::faulty(Fault::Number(NumberFault::Suffix(base)))
 }

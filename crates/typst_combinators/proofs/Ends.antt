@@ -27,6 +27,7 @@ use Rattle.typst_tokens.specs.Token.{plain}
 use Rattle.typst_lexer.specs.Tokens.{of_mode, hash, slash, star, backtick, token}
 use Rattle.typst_tokens.specs.declared.token.Token.{Token}
 use Rattle.typst_lexer.proofs.TokenEats.{token-eats}
+use Rattle.typst_lines.proofs.Bools.{on}
 use Rattle.typst_combinators.specs.Depth.{is_end}
 use Rattle.typst_token_nodes.specs.Nodes.{token_node}
 use Rattle.typst_combinators.specs.declared.reading.AtNewline.TheVariants.{Continue}
@@ -219,10 +220,6 @@ token-takes k m z h = takes-at k m z.behind z.ahead h
 
 abbrev Read : CharClasses → SyntaxMode → Place → Ahead → Type 0
 Read k m z a = (a.token ≡ token_at k m (moved a.gap z)) × (a.len ≡ len_at k m (moved a.gap z))
-
-on : {A : Type 0} (P : A → Type 0) (b : Bool) (x y : A) → P x → P y → P (if b then x else y)
-on P true x y p q = p
-on P false x y p q = q
 
 -- the token after the trivia is the one that stands there
 pub ahead-read : (k : CharClasses) (m : SyntaxMode) (n : ℕ) (z : Place) → Read k m z (ahead_by k m n z)

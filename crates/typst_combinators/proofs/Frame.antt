@@ -10,6 +10,7 @@ use Rattle.typst_token_nodes.specs.Nodes.{token_node}
 use Rattle.typst_tokens.specs.declared.token.Token.{Token}
 use Rattle.typst_readers.specs.Reader.{Look, look}
 use Rattle.typst_lexer.specs.Tokens.{token}
+use Rattle.typst_lines.proofs.Bools.{and-second}
 use Rattle.typst_combinators.specs.declared.reading.AtNewline.TheVariants.{Continue, Stop, ContextualContinue, StopParBreak, RequireColumn}
 use Rattle.typst_combinators.specs.declared.calls.Block.{Block}
 use Rattle.typst_combinators.specs.declared.calls.Call.{Call}
@@ -33,10 +34,6 @@ use Rattle.typst_combinators.proofs.Within.{grew, nest, turns-enough, growths-en
 use Rattle.typst_combinators.proofs.Looks.{same_in-shift, same_in-first, same_in-second, same_in-only, same_in-sunk, token-same, column-same}
 
 -- ---- the token at hand
-
-and-second : (a b : Bool) → (a && b) ≡ true → b ≡ true
-and-second true b h = h
-and-second false b h = cc
 
 no-trivia : (k : CharClasses) (m : SyntaxMode) (z : Place) → length z.ahead ≡ 0 → at_trivia k m z ≡ true → ⊥
 no-trivia k m z e h = let some : 0 < len_at k m z = ltb-true 0 (len_at k m z) (and-second (is_trivia (token_at k m z).kind) (nat_lt 0 (len_at k m z)) h) in absurd (omega arith)

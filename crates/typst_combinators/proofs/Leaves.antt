@@ -13,6 +13,7 @@ use Rattle.typst_node.specs.Messages.{made_unexpected, made_expected, expected_e
 use Rattle.typst_node.specs.Diagnostic.{hint_with}
 use Rattle.typst_kinds.specs.Names.{name_of}
 use Rattle.std.specs.Prelude.{codes, None}
+use Rattle.typst_lines.proofs.Bools.{on}
 use Rattle.typst_combinators.specs.declared.calls.Block.{Block}
 use Rattle.typst_combinators.specs.declared.calls.Call.{Call}
 use Rattle.typst_combinators.specs.Point.{Trivia, Point, forgot}
@@ -60,10 +61,6 @@ pub texts-first : (t : Tree) (ts : List Tree) → texts (t ∷ ts) ≡ text_of t
 texts-first t ts = sym (append_assoc t.head.text (text_joined t.kids) (texts ts))
 
 -- ---- what becomes of a token
-
-on : {A : Type 0} (P : A → Type 0) (b : Bool) (x y : A) → P x → P y → P (if b then x else y)
-on P true x y p q = p
-on P false x y p q = q
 
 text-kind : (k : SyntaxKind) (t : Tree) → text_of (with_kind k t) ≡ text_of t
 text-kind k t = on (λ (u : Tree). text_of u ≡ text_of t) (is_error t.head.kind) t (topped t (record t.head { kind = k })) refl refl

@@ -7,6 +7,7 @@ use Rattle.typst_kinds.specs.declared.mode.SyntaxMode.TheVariants as mode
 use Rattle.typst_lines.specs.Place.{Place, moved}
 use Rattle.typst_kinds.specs.Kinds.{is_error}
 use Rattle.typst_node.specs.Tree.{Tree, text_of}
+use Rattle.typst_lines.proofs.Bools.{on}
 use Rattle.typst_combinators.specs.declared.reading.AtNewline.{AtNewline}
 use Rattle.typst_combinators.specs.declared.reading.AtNewline.TheVariants.{Continue, Stop, ContextualContinue, StopParBreak, RequireColumn}
 use Rattle.typst_combinators.specs.declared.calls.Block.{Block}
@@ -112,10 +113,6 @@ rests-left f r h s a =
     (λ e. record { reading = refl; mode = inr refl; rule = inr refl })
 
 -- ---- the law
-
-on : {A : Type 0} (P : A → Type 0) (b : Bool) (x y : A) → P x → P y → P (if b then x else y)
-on P true x y p q = p
-on P false x y p q = q
 
 rests-turns : {A : Type 0} (m : A → Meaning (Bool × A)) → ((x : A) → Restful (m x)) → (n : ℕ) (x : A) → Restful (turns m n x)
 rests-turns m h zero x z s = rests-same s

@@ -4,6 +4,7 @@ use borrow.Author.Tests.{ltb-true}
 use Rattle.typst_kinds.specs.declared.mode.SyntaxMode.{SyntaxMode}
 use Rattle.typst_lines.specs.Place.{Place, moved}
 use Rattle.typst_classes.specs.Classes.{CharClasses}
+pub use Rattle.typst_lines.proofs.Bools.{and-second}
 use Rattle.typst_combinators.specs.declared.calls.Block.{Block}
 use Rattle.typst_combinators.specs.declared.calls.Call.{Call}
 use Rattle.typst_combinators.specs.Point.{Trivia, Point, gap_of}
@@ -137,10 +138,6 @@ enough-turns m h (suc n) x z s =
 pub if-same : {A : Type 0} (b : Bool) (x y u : A) → (b ≡ true → x ≡ y) → (if b then x else u) ≡ (if b then y else u)
 if-same true x y u h = h refl
 if-same false x y u h = refl
-
-pub and-second : (a b : Bool) → (a && b) ≡ true → b ≡ true
-and-second true b h = h
-and-second false b h = cc
 
 -- more turns than characters are never made
 pub turns-enough : {A : Type 0} (m : A → Meaning (Bool × A)) → ((x : A) → Within (m x)) → (n k : ℕ) (x : A) (z : Place) (s : Point) → bound z s < n → bound z s < k → turns m n x z s ≡ turns m k x z s

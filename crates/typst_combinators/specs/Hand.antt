@@ -1,18 +1,18 @@
 -- The token at hand: the trivia ahead, and the token after it.
 use Rattle.std.specs.Prelude.{ℕ, zero, suc, ◌+◌, min, Bool, true, false, not, ◌||◌, ◌&&◌, if◌then◌else◌, nat_lt, nat_le, List, [], ◌∷◌, ◌++◌, length, take, encode_utf8_all, Option, Some, None}
-use Rattle.std.specs.List.{prefix_len}
 use Rattle.typst_kinds.specs.declared.kind.SyntaxKind.{SyntaxKind}
 use Rattle.typst_kinds.specs.declared.kind.SyntaxKind.TheVariants as kind
 use Rattle.typst_kinds.specs.Kinds.{is_trivia}
 use Rattle.typst_kinds.specs.declared.mode.SyntaxMode.{SyntaxMode}
 use Rattle.typst_kinds.specs.declared.mode.SyntaxMode.TheVariants as mode
-use Rattle.typst_lines.specs.Newline.{is_newline}
 use Rattle.typst_lines.specs.Place.{Place, moved}
 use Rattle.typst_node.specs.Tree.{Tree}
 use Rattle.typst_tokens.specs.declared.token.Token.{Token}
 use Rattle.typst_tokens.specs.Memory.{Memory}
 use Rattle.typst_classes.specs.Classes.{CharClasses}
-use Rattle.typst_readers.specs.Reader.{Reader, Look, exec, eaten, look}
+unfoldable pub use Rattle.typst_readers.specs.Column.{column_at}
+pub use Rattle.typst_readers.specs.Column.{column_look}
+use Rattle.typst_readers.specs.Reader.{Reader, exec, eaten, look}
 use Rattle.typst_lexer.specs.Tokens.{token}
 use Rattle.typst_token_nodes.specs.Nodes.{token_node}
 use Rattle.typst_combinators.specs.declared.reading.AtNewline.TheVariants.{Continue, Stop, ContextualContinue, StopParBreak, RequireColumn}
@@ -99,14 +99,6 @@ asks_by k m (suc n) z =
 -- what each of these tokens looked at
 unfoldable pub ahead_asks : CharClasses → SyntaxMode → Place → List Ask
 ahead_asks k m z = asks_by k m (length z.ahead) z
-
--- how many characters stand between a place and the last newline character before it, or the text's start
-unfoldable pub column_at : Place → ℕ
-column_at z = prefix_len (λ c. not (is_newline c)) z.behind
-
--- a column is told by these characters and what ends them
-abbrev pub column_look : Place → Look
-column_look z = record { back = suc (column_at z); front = 0 }
 
 -- a line that begins with `else` or `.` goes on with the line before it
 abbrev pub goes_on : SyntaxKind → Bool

@@ -1,5 +1,6 @@
-use crate::trees::{Row, shows};
+use crate::trees::shows;
 use typst_kinds::SyntaxKind;
+use typst_test_trees::Row;
 
 /// A heading from right to left, and behind it tabs: in a text, in raw text and between them.
 pub(crate) const RIGHT_TO_LEFT: [Row; 24] = [

@@ -1,52 +1,6 @@
 use std::alloc::{AllocError, Global};
 use typst_highlight::highlight_html;
-use typst_kinds::SyntaxKind;
-use typst_node::SyntaxNode;
-
-fn leaf(alloc: Global, kind: SyntaxKind, text: &str) -> Result<SyntaxNode, AllocError> {
-    if kind.is_error() {
-        return SyntaxNode::error(alloc, "error", text);
-    }
-    SyntaxNode::leaf(alloc, kind, text)
-}
-
-/// A node over the last `count` of the stack, or over all.
-fn gather(
-    alloc: Global,
-    kind: SyntaxKind,
-    stack: &mut Vec<SyntaxNode>,
-    count: usize,
-) -> Result<SyntaxNode, AllocError> {
-    let mut kids = Vec::new(alloc);
-    for _ in 0..count {
-        let Some(kid) = stack.pop() else { break };
-        kids.push(kid)?;
-    }
-    kids.reverse();
-    if kind.is_error() {
-        return SyntaxNode::error(alloc, "error", "");
-    }
-    Ok(SyntaxNode::inner(kind, kids))
-}
-
-/// A node of a tree: kind, text, and how many children it is over, where it is an inner node.
-pub(crate) type Row = (SyntaxKind, &'static str, Option<usize>);
-
-/// A tree from its nodes, each after its children.
-fn tree(alloc: Global, rows: &[Row]) -> Result<SyntaxNode, AllocError> {
-    let mut stack = Vec::new(alloc);
-    for (kind, text, kids) in rows {
-        let node = match kids {
-            None => leaf(alloc, *kind, text)?,
-            Some(count) => gather(alloc, *kind, &mut stack, *count)?,
-        };
-        stack.push(node)?;
-    }
-    match stack.pop() {
-        Some(node) => Ok(node),
-        None => leaf(alloc, SyntaxKind::End, ""),
-    }
-}
+use typst_test_trees::{Row, tree};
 
 /// Whether this is the HTML of the tree of these rows.
 pub(crate) fn shows(alloc: Global, rows: &[Row], html: &str) -> Result<bool, AllocError> {

@@ -1,7 +1,7 @@
 //! The lexer: what comes next in a text, token by token.
 ghost use Rattle.std.specs.Prelude.{◌≡◌, ◌≤◌, IfOk, OnOk, OnErr, IsSome, false, take};
 ghost use Rattle.std.specs.Str.{chars, IsCharBoundary};
-ghost use Rattle.typst_readers.specs.Column.{column};
+ghost use Rattle.typst_readers.specs.Column.{column_at};
 ghost use Rattle.typst_readers.specs.Reader.{exec, eaten};
 ghost use Rattle.typst_readers.specs.Reads.{Reads, Scans};
 ghost use Rattle.typst_lexer.specs.Tokens as spec;
@@ -124,7 +124,7 @@ impl<'a, C: Classes> Lexer<'a, C> {
     /// text's start, and the index, which is a byte offset on a character boundary.
     pub fn column(&self, index: usize) -> usize
         requires { IsCharBoundary (text_of self.now) index }
-        ensures { result ≡ column (place_at (text_of self.now) index) }
+        ensures { result ≡ column_at (place_at (text_of self.now) index) }
     {
         let mut s = self.at.s;
         s.jump(index);
@@ -156,6 +156,7 @@ impl<'a, C: Classes> Lexer<'a, C> {
 /// The token of the mode that comes next, and the bytes that were looked at for it. This takes no
 /// memory but for the brackets of a link. Where memory is refused the scanner stays. What is known
 /// of the end of a line goes from token to token, so that each line is gone through once for it.
+#[inline(always)]
 pub fn token<'a, C: Classes>(
     alloc: Global,
     s: &mut Scanner<'a>,
@@ -189,11 +190,11 @@ fn next_token<C: Classes>(
     match s.peek() {
         None => Ok(Token::plain(SyntaxKind::End)),
         Some(c) if is_space(c, mode) => Ok(whitespace(s, mode)),
-        Some('#') => Ok(hash(alloc, s, mode, classes)?),
-        Some('/') => Ok(slash(alloc, s, mode, classes)?),
-        Some('*') => Ok(star(alloc, s, mode, classes)?),
-        Some('`') => Ok(backtick(alloc, s, mode, classes)?),
-        Some(c) => Ok(of_mode(alloc, s, c, mode, classes)?),
+        Some('#') => hash(alloc, s, mode, classes),
+        Some('/') => slash(alloc, s, mode, classes),
+        Some('*') => star(alloc, s, mode, classes),
+        Some('`') => backtick(alloc, s, mode, classes),
+        Some(c) => of_mode(alloc, s, c, mode, classes),
     }
 }
 
@@ -209,7 +210,7 @@ fn of_mode<C: Classes>(
     ensures { IfOk result (λ token. Reads (spec.of_mode (C.classes classes.now) mode c) s.old token s.new) }
 {
     match mode {
-        SyntaxMode::Markup => Ok(markup(alloc, s, c, classes)?),
+        SyntaxMode::Markup => markup(alloc, s, c, classes),
         SyntaxMode::Math => Ok(math(s, classes)),
         SyntaxMode::Code => Ok(code(s, c, classes)),
     }
@@ -227,7 +228,7 @@ fn hash<C: Classes>(
     if s.last().is_none() && s.second() == Some('!') {
         return Ok(shebang(s));
     }
-    Ok(of_mode(alloc, s, '#', mode, classes)?)
+    of_mode(alloc, s, '#', mode, classes)
 }
 
 #[tactic(auto, unfolding(crate::specs::Tokens::slash))]
@@ -242,7 +243,7 @@ fn slash<C: Classes>(
     match s.second() {
         Some('/') => Ok(line_comment(s)),
         Some('*') => Ok(block_comment(s)),
-        _ => Ok(of_mode(alloc, s, '/', mode, classes)?),
+        _ => of_mode(alloc, s, '/', mode, classes),
     }
 }
 
@@ -258,7 +259,7 @@ fn star<C: Classes>(
     if s.second() == Some('/') {
         return Ok(comment_end(s));
     }
-    Ok(of_mode(alloc, s, '*', mode, classes)?)
+    of_mode(alloc, s, '*', mode, classes)
 }
 
 #[tactic(auto, unfolding(crate::specs::Tokens::backtick))]
@@ -272,7 +273,7 @@ fn backtick<C: Classes>(
 {
     match mode {
         SyntaxMode::Markup => Ok(raw(s)),
-        SyntaxMode::Math => Ok(of_mode(alloc, s, '`', mode, classes)?),
+        SyntaxMode::Math => of_mode(alloc, s, '`', mode, classes),
         SyntaxMode::Code => Ok(raw(s)),
     }
 }

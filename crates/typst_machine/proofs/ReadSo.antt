@@ -1,5 +1,5 @@
 -- The token at hand, read from its start in another way.
-use Rattle.std.proofs.Common.{◌≡◌, ℕ, ◌+◌, [], ◌∷◌, ◌++◌, refl, ap, sym, ◌∙◌}
+use Rattle.std.proofs.Common.{◌≡◌, ℕ, ◌+◌, List, [], ◌∷◌, ◌++◌, refl, ap, sym, ◌∙◌}
 use Rattle.typst_kinds.specs.Kinds.{is_error}
 use Rattle.typst_lines.specs.Place.{Place, moved}
 use Rattle.typst_node.specs.Tree.{Tree, text_of}
@@ -64,19 +64,24 @@ ran-so {l = l} way v c =
 pub does-so : {l : Level} (way : Way) (v : View) → Does l (does (so way)) (token_by (reader_so l way) (start_of v.hand v.place)).kind v (looked_so l way v)
 does-so way v = record { ran = λ c. ran-so way v c; ready = λ c. fits-more _ c }
 
--- the code read it by the same classes, at the same place
-pub read-so : (k q : CharClasses) (way : Way) (from z w : Place) (t : Token) → k ≡ q → from ≡ z → exec (token_so q way) from ≡ (t, w) → exec (token_so k way) z ≡ (t, w)
-read-so k q way from z w t e f h = ap (λ y. exec (token_so k way) y) (sym f) ∙ ap (λ c. exec (token_so c way) from) e ∙ h
+-- what is found there, up to which place, and what is looked at for it
+pub record FoundSo (l : Level) (way : Way) (v : View) (t : Token) (end : Place) (u : Hull) : Type 0 where
+  pub reads : exec (reader_so l way) (start_of v.hand v.place) ≡ (t, end)
+  pub hull : u ≡ hull_so l way v.hand v.place
 
-pub hull-so : (k q : CharClasses) (way : Way) (from z : Place) (u : Hull) → k ≡ q → from ≡ z → u ≡ hull_of (look (token_so q way) from) from → u ≡ hull_of (look (token_so k way) z) z
-hull-so k q way from z u e f h = h ∙ ap (λ c. hull_of (look (token_so c way) from) from) (sym e) ∙ ap (λ y. hull_of (look (token_so k way) y) y) f
+-- the code read it by the same classes, at the same place
+pub found-so : {l : Level} (q : CharClasses) (way : Way) (v : View) (from end : Place) (t : Token) (u : Hull) → l.classes ≡ q → from ≡ start_of v.hand v.place → exec (token_so q way) from ≡ (t, end)
+    → u ≡ hull_of (look (token_so q way) from) from → FoundSo l way v t end u
+found-so {l = l} q way v from end t u e f g h = record {
+  reads = ap (λ y. exec (token_so l.classes way) y) (sym f) ∙ ap (λ c. exec (token_so c way) from) e ∙ g;
+  hull = h ∙ ap (λ c. hull_of (look (token_so c way) from) from) (sym e) ∙ ap (λ y. hull_of (look (token_so l.classes way) y) y) f;
+}
 
 -- what the code found there, and looked at
-pub so-is : (l : Level) (way : Way) (v w : View) (t : Token) (end : Place) (u : Hull) → exec (reader_so l way) (start_of v.hand v.place) ≡ (t, end) → u ≡ hull_so l way v.hand v.place
-    → w ≡ record v { log = with_hull u v.log } → Does l (does (so way)) t.kind v w
-so-is l way v w t end u e h f =
-    let k = ap (λ (p : Token × Place). p.0.kind) e in
-    rw (f, h, sym k) (does-so way v)
+pub so-is : (l : Level) (way : Way) (v w : View) (t : Token) (end : Place) (u : Hull) → FoundSo l way v t end u → w ≡ record v { log = with_hull u v.log } → Does l (does (so way)) t.kind v w
+so-is l way v w t end u e f =
+    let k = ap (λ (p : Token × Place). p.0.kind) e.reads in
+    rw (f, e.hull, sym k) (does-so way v)
 
 -- ---- taking it
 
@@ -113,17 +118,22 @@ does-eat_so h k = does-next (does-takes_so h) (does-next (does-look k) does-give
 pub end-so : (k : CharClasses) (way : Way) (z w : Place) (t : Token) → exec (token_so k way) z ≡ (t, w) → w ≡ moved (len_by (token_so k way) z) z
 end-so k way z w t e = sym (ap (λ (p : Token × Place). p.1) e) ∙ exec-moved (token_so k way) z ∙ sym (moved-min (eaten (token_so k way) z) z)
 
--- the code took what it found there
-pub eaten-so : (l : Level) (way : Way) (making : Making) (v w : View) (t : Token) (end : Place) (u : Hull) (node : Tree) → exec (reader_so l way) (start_of v.hand v.place) ≡ (t, end)
-    → u ≡ hull_so l way v.hand v.place → node ≡ made making (token_node l.classes t (text_ahead (len_so l way v.hand v.place) (start_of v.hand v.place)))
-    → GaveUpTo end node (record v { log = with_hull u v.log }) w → EatenSo l way making v w
-eaten-so l way making v w t end u node e h n g =
+-- the code took what it found there, with the text between both places
+pub eaten-so : (l : Level) (q : CharClasses) (way : Way) (making : Making) (v x w : View) (from end : Place) (t : Token) (u : Hull) (text : List ℕ) (node : Tree) → l.classes ≡ q → from ≡ start_of v.hand v.place
+    → exec (token_so q way) from ≡ (t, end) → u ≡ hull_of (look (token_so q way) from) from → ((n : ℕ) → end ≡ moved n from → text ≡ text_ahead n from) → node ≡ made making (token_node q t text)
+    → x ≡ record v { log = with_hull u v.log } → GaveUpTo end node x w → EatenSo l way making v w
+eaten-so l q way making v x w from end t u text node same at reads hull cut is logged g =
     let z = start_of v.hand v.place in
-    let same : node ≡ node_so l way making v.hand v.place = n ∙ ap (λ (p : Token × Place). made making (token_node l.classes p.0 (text_ahead (len_so l way v.hand v.place) z))) (sym e) in
+    let n = len_so l way v.hand v.place in
+    let found = found-so {l = l} q way v from end t u same at reads hull in
+    let ends = end-so l.classes way z end t found.reads in
+    let whole : text ≡ text_ahead n z = cut n (ends ∙ ap (moved n) (sym at)) ∙ ap (text_ahead n) at in
+    let node_is : node ≡ node_so l way making v.hand v.place =
+    is ∙ ap (λ c. made making (token_node c t text)) (sym same) ∙ ap (λ s. made making (token_node l.classes t s)) whole ∙ ap (λ (p : Token × Place). made making (token_node l.classes p.0 (text_ahead n z))) (sym found.reads) in
     record {
-      nodes = g.nodes ∙ ap (λ (x : Tree). v.nodes ++ (v.hand.trivia ++ x ∷ [])) same;
-      place = g.place ∙ end-so l.classes way z end t e ∙ sym (moved-sum v.hand.gap (len_so l way v.hand v.place) v.place);
-      state = g.state ∙ ap (λ (x : Tree). renewed (after_node (is_error x.head.kind) (text_of x) v.state)) same;
-      log = g.log ∙ ap (λ (x : Hull). with_hull x v.log) h;
-      memo = g.memo;
+      nodes = g.nodes ∙ ap (λ (y : View). y.nodes ++ (y.hand.trivia ++ node ∷ [])) logged ∙ ap (λ (y : Tree). v.nodes ++ (v.hand.trivia ++ y ∷ [])) node_is;
+      place = g.place ∙ ends ∙ sym (moved-sum v.hand.gap n v.place);
+      state = g.state ∙ ap (λ (y : View). renewed (after_node (is_error node.head.kind) (text_of node) y.state)) logged ∙ ap (λ (y : Tree). renewed (after_node (is_error y.head.kind) (text_of y) v.state)) node_is;
+      log = g.log ∙ ap (λ (y : View). y.log) logged ∙ ap (λ (y : Hull). with_hull y v.log) found.hull;
+      memo = g.memo ∙ ap (λ (y : View). y.memo) logged;
     }

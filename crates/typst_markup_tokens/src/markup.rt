@@ -32,7 +32,7 @@ pub fn markup<C: Classes>(
 {
     match c {
         '\\' => Ok(backslash(s)),
-        'h' => Ok(link_or_text(alloc, s, classes)?),
+        'h' => link_or_text(alloc, s, classes),
         '<' => Ok(label_or_text(s, classes)),
         '@' => Ok(ref_or_text(s, classes)),
         '.' => Ok(dot(s, classes)),

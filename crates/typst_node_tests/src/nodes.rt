@@ -1,8 +1,9 @@
-use crate::trees::{leaf, many, sample};
+use crate::trees::{many, sample};
 use std::alloc::{AllocError, Global};
 use std::mem::size_of;
 use typst_kinds::{Span, SyntaxKind};
 use typst_node::{Hint, Severity, SyntaxNode};
+use typst_test_trees::leaf;
 
 #[test]
 fn a_node_takes_64_bytes(rt: HostRuntime) {

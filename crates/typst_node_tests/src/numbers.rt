@@ -1,7 +1,8 @@
-use crate::trees::{END, Row, has_numbers, leaves, many, number, numbered, numbers, replace, tree};
+use crate::trees::{END, has_numbers, leaves, many, number, numbered, numbers, replace};
 use std::alloc::{AllocError, Global};
 use typst_kinds::{SourceError, SyntaxKind};
 use typst_node::SyntaxNode;
+use typst_test_trees::{Row, tree};
 
 const A_UNDER_MARKUP: [Row; 2] = [
     (SyntaxKind::Text, "a", None),

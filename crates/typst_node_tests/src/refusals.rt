@@ -1,7 +1,8 @@
-use crate::trees::{END, Row, numbered, replace, same, sample, tree};
+use crate::trees::{END, numbered, replace, same, sample};
 use std::alloc::{AllocError, Global};
 use typst_kinds::{SourceError, SubRange, SyntaxKind};
 use typst_node::SyntaxNode;
+use typst_test_trees::{Row, tree};
 
 // These tests pass whichever request for memory is refused: `rt try --test --fail-alloc N`.
 

@@ -1,8 +1,9 @@
-use crate::trees::{END, Row, leaf, numbered, numbers, tree};
+use crate::trees::{END, numbered, numbers};
 use std::alloc::{AllocError, Global};
 use std::mem::size_of;
 use typst_kinds::{FileId, Span, SpanNumber, SyntaxKind};
 use typst_node::SyntaxNode;
+use typst_test_trees::{Row, leaf, tree};
 use typst_tree::{LinkedNode, is_ordered};
 
 /// `ab ( ab)xab `, with an empty inner node before the error `x`.

@@ -6,4 +6,6 @@ mod code;
 #[cfg(test)]
 mod guesses;
 #[cfg(test)]
+mod math;
+#[cfg(test)]
 mod trees;

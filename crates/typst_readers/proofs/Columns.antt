@@ -9,7 +9,7 @@ use Rattle.typst_lines.specs.Newline.{is_newline}
 use Rattle.typst_lines.specs.Place.{Place, place_at, moved_back}
 use Rattle.typst_readers.proofs.Frame.{run-agree, run_look, agree-narrow}
 use Rattle.typst_readers.proofs.Sights.{near-on, near-none, near-start, position-step}
-use Rattle.typst_readers.specs.Column.{column, column_look}
+use Rattle.typst_readers.specs.Column.{column_at, column_look}
 use Rattle.typst_readers.specs.Reader.{place, no_look, Agree}
 use Rattle.typst_readers.specs.Sight.{near, position}
 use Rattle.typst_readers.specs.declared.hull.Hull.{Hull}
@@ -65,19 +65,19 @@ near-back n z c e = at z.behind z.ahead e
     at [] a e = absurd (none-some c e)
     at (d ∷ b) a e = near-on n d b a
 
-pub column-least : (z y : Place) (c : ℕ) → near (suc (column z)) z ≡ near (suc (prefix_len in_line y.behind)) y → Some c ≡ slice_get y.behind 0 → is_newline c ≡ true
-    → suc (position (moved_back y)) ≡ near (suc (column z)) z
+pub column-least : (z y : Place) (c : ℕ) → near (suc (column_at z)) z ≡ near (suc (prefix_len in_line y.behind)) y → Some c ≡ slice_get y.behind 0 → is_newline c ≡ true
+    → suc (position (moved_back y)) ≡ near (suc (column_at z)) z
 column-least z y c h e t =
     let none = line-stop y.behind (drop 1 y.behind) c (some-behind y.behind c e) t in
     sym (h ∙ ap (λ n. near (suc n) y) none ∙ near-back 0 y c e ∙ near-none (moved_back y))
 
-pub column-start : (z y : Place) → near (suc (column z)) z ≡ near (suc (prefix_len in_line y.behind)) y → None ≡ slice_get y.behind 0 → 0 ≡ near (suc (column z)) z
+pub column-start : (z y : Place) → near (suc (column_at z)) z ≡ near (suc (prefix_len in_line y.behind)) y → None ≡ slice_get y.behind 0 → 0 ≡ near (suc (column_at z)) z
 column-start z y h e =
     let none : prefix_len in_line y.behind ≡ 0 = ap (prefix_len in_line) (none-behind y.behind e) in
     near-start y e ∙ sym (h ∙ ap (λ n. near (suc n) y) none)
 
-pub column-back : (z y w : Place) (c : ℕ) → near (suc (column z)) z ≡ near (suc (prefix_len in_line y.behind)) y → Some c ≡ slice_get y.behind 0 → is_newline c ≡ false → w ≡ moved_back y
-    → near (suc (column z)) z ≡ near (suc (prefix_len in_line w.behind)) w
+pub column-back : (z y w : Place) (c : ℕ) → near (suc (column_at z)) z ≡ near (suc (prefix_len in_line y.behind)) y → Some c ≡ slice_get y.behind 0 → is_newline c ≡ false → w ≡ moved_back y
+    → near (suc (column_at z)) z ≡ near (suc (prefix_len in_line w.behind)) w
 column-back z y w c h e t m =
     let more = line-more y.behind (drop 1 y.behind) c (some-behind y.behind c e) t in
     let rest = ap (prefix_len in_line) (ap (λ (p : Place). p.behind) m ∙ back-is y c e) in
@@ -93,10 +93,12 @@ back-smaller z c e = at z.behind z.ahead e
 -- ---- the frame law
 
 -- what stands behind, turned so that it stands ahead
-turned : (p q : Place) → Agree (column_look p) p q → Agree (run_look (column p) no_look) (place [] p.behind) (place [] q.behind)
+turned : (p q : Place) → Agree (column_look p) p q → Agree (run_look (column_at p) no_look) (place [] p.behind) (place [] q.behind)
+unfolding column_at
 turned p q g =
-    agree-narrow (run_look (column p) no_look) (record { back = 0; front = suc (column p) }) (place [] p.behind) (place [] q.behind) (omega arith) (omega arith)
+    agree-narrow (run_look (column_at p) no_look) (record { back = 0; front = suc (column_at p) }) (place [] p.behind) (place [] q.behind) (omega arith) (omega arith)
     (record { behind = refl; ahead = g.behind })
 
-pub column-frame : (p q : Place) → Agree (column_look p) p q → column p ≡ column q
+pub column-frame : (p q : Place) → Agree (column_look p) p q → column_at p ≡ column_at q
+unfolding column_at
 column-frame p q g = (run-agree in_line no_look [] p.behind [] q.behind (turned p q g)).long

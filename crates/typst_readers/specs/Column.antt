@@ -6,9 +6,9 @@ use Rattle.typst_classes.specs.Classes.{in_line}
 use Rattle.typst_readers.specs.Reader.{Look}
 
 -- The column of a place: the characters back to the last newline character, or to the start.
-abbrev pub column : Place → ℕ
-column p = prefix_len in_line p.behind
+unfoldable pub column_at : Place → ℕ
+column_at p = prefix_len in_line p.behind
 
 -- A column is looked for back to that newline character, or to the mark before the text.
 abbrev pub column_look : Place → Look
-column_look p = record { back = suc (column p); front = 0 }
+column_look p = record { back = suc (column_at p); front = 0 }

@@ -1,9 +1,9 @@
 -- How far is looked in a text, in bytes from its start. The text has one mark before its first and
 -- one after its last character, each as long as a byte.
 use Rattle.std.specs.Prelude.{◌≤◌, ℕ, zero, suc, ◌+◌, ◌-◌, max, min, Bool, if◌then◌else◌, ◌==◌, List, [], ◌∷◌, ◌++◌, reverse, slice_get, encode_utf8_all, refl}
-use Rattle.std.specs.Coded.{Coded, code_by, coded×, coded_ℕ, coded_list}
+use Rattle.std.specs.Coded.{Coded, code_by, coded×, coded_ℕ}
 use Rattle.std.specs.List.{prefix_len}
-use Rattle.typst_lines.specs.Place.{Place, char_width, moved, scout, passes, run}
+use Rattle.typst_lines.specs.Place.{Place, place_code, char_width, moved, scout, passes, run}
 use Rattle.typst_readers.specs.Reader.{Look, Step, Reader, spanned, span_look}
 use Rattle.typst_readers.specs.Reader.Step.{turn, see, see_behind}
 use Rattle.typst_readers.specs.Reader.Reader.{answer, peek, glance, span, eat, see_run, skip, eat_run}
@@ -104,9 +104,6 @@ sight (skip n r) v = sight r (went n v)
 sight (eat_run test k) v = sight (k (run test v.place)) (went_past test v)
 
 -- ---- how it is stored
-
-abbrev pub place_code : Coded Place
-place_code = code_by (List ℕ × List ℕ) (coded× (coded_list coded_ℕ) (coded_list coded_ℕ)) (λ z. (z.behind, z.ahead)) (λ p. record { behind = p.0; ahead = p.1 }) (λ _. refl)
 
 abbrev pub sight_code : Coded Sight
 sight_code = code_by (Place × (ℕ × ℕ)) (coded× place_code (coded× coded_ℕ coded_ℕ)) (λ v. (v.place, (v.reach, v.least))) (λ p. record { place = p.0; reach = p.1.0; least = p.1.1 }) (λ _. refl)

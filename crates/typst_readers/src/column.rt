@@ -11,7 +11,7 @@ use typst_lines::{Scanner, is_newline};
 /// here; and what was looked at for it.
 #[inline(never)]
 pub fn column(s: &Scanner<'_>) -> (usize, Hull)
-    ensures column { result.0 ≡ spec.column (place s.now) }
+    ensures column { result.0 ≡ spec.column_at (place s.now) }
     ensures hull { result.1 ≡ hull_of (spec.column_look (place s.now)) (place s.now) }
 {
     let reach = s.cursor();

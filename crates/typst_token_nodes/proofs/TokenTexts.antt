@@ -8,6 +8,7 @@ use Rattle.typst_token_nodes.specs.Nodes.{IsRead, is_leaf, token_node, plain_nod
 use Rattle.typst_token_nodes.specs.Faults.{hints, message}
 use Rattle.typst_token_nodes.specs.Fields.{access_node}
 use Rattle.typst_token_nodes.proofs.Accesses.{text-access}
+use Rattle.typst_token_nodes.proofs.Suffixes.{start-of}
 use Rattle.typst_readers.specs.Reader.{Reader, exec, eaten, place}
 use Rattle.typst_tokens.specs.declared.token.Token.{Token}
 use Rattle.typst_tokens.specs.declared.token.Fault.{Fault}
@@ -18,10 +19,6 @@ use Rattle.typst_node.specs.Diagnostic.{hint_with}
 use Rattle.typst_classes.specs.Classes.{CharClasses}
 use Rattle.typst_node.specs.Tree.{Tree, text_of, leaf_of, error_of, advised}
 use Rattle.typst_tokens.specs.Memory.{Memory}
-
-start-of : (text : List ℕ) → place_at text 0 ≡ place [] (chars text)
-unfolding place_at chars
-start-of text = refl
 
 -- three characters on from a text's start
 pub thrice : (text : List ℕ) → moved 1 (moved 1 (moved 1 (place_at text 0))) ≡ moved 3 (place [] (chars text))

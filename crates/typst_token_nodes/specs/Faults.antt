@@ -1,9 +1,10 @@
 -- What is said of faults, by the characters that were taken.
-use Rattle.std.specs.Prelude.{ℕ, if◌then◌else◌, ◌||◌, ◌==◌, List, [], ◌∷◌, ◌++◌, length, drop, reverse, Some, None, codes, encode_utf8_all}
-use Rattle.std.specs.Char.{is_ascii_alphanumeric}
+use Rattle.std.specs.Prelude.{ℕ, Bool, if◌then◌else◌, ◌||◌, ◌==◌, List, [], ◌∷◌, ◌++◌, length, drop, reverse, Some, None, codes, encode_utf8_all}
+use Rattle.std.specs.Char.{is_ascii_alphanumeric, is_ascii_digit}
 use Rattle.std.specs.Fmt.{decimal}
 use Rattle.std.specs.Str.{bytes_eq}
-use Rattle.typst_lines.specs.Place.{moved, run}
+use Rattle.typst_code_tokens.specs.Numbers.{is_digit_of}
+use Rattle.typst_lines.specs.Place.{Place, moved, run, past, passes, scout, word_at}
 use Rattle.typst_readers.specs.Reader.{place}
 use Rattle.typst_tokens.specs.Characters.{is_unit, number}
 use Rattle.typst_tokens.specs.Token.{radix_of}
@@ -20,13 +21,41 @@ escaped taken = run is_ascii_alphanumeric (moved 3 (place [] taken))
 
 -- ---- numbers
 
--- A number without its last n characters, which are its suffix.
-abbrev pub without_suffix : ℕ → List ℕ → List ℕ
-without_suffix n taken = reverse (drop n (reverse taken))
+-- What a decimal number is made of before its exponent.
+abbrev pub is_decimal : ℕ → Bool
+is_decimal c = is_ascii_digit c || c == 46
+
+abbrev pub is_sign : ℕ → Bool
+is_sign c = c == 43 || c == 45
+
+abbrev pub is_exponent : ℕ → Bool
+is_exponent c = c == 101 || c == 69
+
+-- Behind a sign, if one comes next.
+abbrev pub behind_sign : Place → Place
+behind_sign z = if passes is_sign (scout 0 z) then moved 1 z else z
+
+-- Behind an exponent, with its sign and its digits, if one comes next; `em` begins a suffix.
+abbrev pub behind_exponent : Place → Place
+behind_exponent z =
+    if word_at 0 (codes "em") z then z
+    else (if passes is_exponent (scout 0 z) then past is_ascii_digit (behind_sign (moved 1 z)) else z)
+
+-- Where the suffix of a number begins: behind the digits of its base, which stand behind two characters, or behind its exponent.
+abbrev pub at_suffix : NumberFault → Place → Place
+at_suffix UnknownSuffix z = behind_exponent (past is_decimal z)
+at_suffix Exponent z = behind_exponent (past is_decimal z)
+at_suffix (NoDigits b) z = past (is_digit_of b) (moved 2 z)
+at_suffix (WrongDigits b) z = past (is_digit_of b) (moved 2 z)
+at_suffix (Suffix b) z = past (is_digit_of b) (moved 2 z)
+
+-- A number without its suffix, by its characters.
+abbrev pub without_suffix : NumberFault → List ℕ → List ℕ
+without_suffix f taken = reverse (at_suffix f (place [] taken)).behind
 
 -- The suffix.
-abbrev pub suffix_of : ℕ → List ℕ → List ℕ
-suffix_of n taken = drop (length (without_suffix n taken)) taken
+abbrev pub suffix_of : NumberFault → List ℕ → List ℕ
+suffix_of f taken = (at_suffix f (place [] taken)).ahead
 
 abbrev pub name_of : Base → List ℕ
 name_of Binary = codes "binary"
@@ -98,7 +127,7 @@ message InvalidEscape taken = codes "invalid Unicode codepoint: " ++ encode_utf8
 message UnbalancedLink taken = codes "automatic links cannot contain unbalanced brackets, use the `link` function instead"
 message UnclosedLabel taken = codes "unclosed label"
 message UnclosedString taken = codes "unclosed string"
-message (Number f n) taken = number_message f (encode_utf8_all (without_suffix n taken)) (encode_utf8_all (suffix_of n taken))
+message (Number f) taken = number_message f (encode_utf8_all (without_suffix f taken)) (encode_utf8_all (suffix_of f taken))
 message InvalidCharacter taken = invalid_character (encode_utf8_all taken)
 message HashedCharacter taken = invalid_character (encode_utf8_all taken)
 message InvalidOperator taken = codes "`" ++ (encode_utf8_all taken ++ codes "` is not valid in code")
@@ -106,7 +135,7 @@ message InvalidOperator taken = codes "`" ++ (encode_utf8_all taken ++ codes "` 
 -- The hints that go with it.
 abbrev pub hints : Fault → List ℕ → List (List ℕ)
 hints CommentEnd taken = codes "consider escaping the `*` with a backslash or opening the block comment with `/*`" ∷ []
-hints (Number f n) taken = number_hints f (without_suffix n taken) (encode_utf8_all (suffix_of n taken))
+hints (Number f) taken = number_hints f (without_suffix f taken) (encode_utf8_all (suffix_of f taken))
 hints InvalidCharacter taken = character_hints (encode_utf8_all taken)
 hints HashedCharacter taken = codes "the preceding hash is causing this to parse in code mode" ∷ codes "try escaping the preceding hash: `\\#`" ∷ []
 hints InvalidOperator taken = operator_hints (encode_utf8_all taken)

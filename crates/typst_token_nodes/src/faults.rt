@@ -32,7 +32,7 @@ pub(crate) fn fault_node(alloc: Global, fault: Fault, text: &str) -> Result<Synt
         ),
         Fault::UnclosedLabel => SyntaxNode::error(alloc, "unclosed label", text),
         Fault::UnclosedString => SyntaxNode::error(alloc, "unclosed string", text),
-        Fault::Number(found, suffix) => number_node(alloc, found, suffix, text),
+        Fault::Number(found) => number_node(alloc, found, text),
         Fault::InvalidCharacter => character_node(alloc, text),
         Fault::HashedCharacter => hashed_node(alloc, text),
         Fault::InvalidOperator => operator_node(alloc, text),

@@ -1,5 +1,7 @@
 //! What is said of numbers.
-ghost use Rattle.std.specs.Prelude.{◌≡◌, IfOk, OnOk, drop, reverse, string_bytes};
+ghost use Rattle.std.specs.Prelude.{◌≡◌, IfOk, OnOk, drop, string_bytes};
+ghost use Rattle.typst_code_tokens.specs.Numbers.{is_digit_of};
+ghost use Rattle.typst_lines.specs.Place.{moved, past, place_at};
 ghost use Rattle.typst_lines.specs.Scanner.{place};
 ghost use Rattle.std.specs.Str.{chars};
 ghost use Rattle.typst_token_nodes.specs.Faults as spec;
@@ -8,21 +10,21 @@ ghost use Rattle.typst_tokens.specs.declared.token.Fault.TheVariants as fault;
 ghost use Rattle.typst_tokens.specs.declared.token.NumberFault.TheVariants as number_fault;
 
 use std::alloc::{AllocError, Global};
-use typst_lines::Scanner;
+use typst_code_tokens::numbers::DigitsOf;
+use typst_lines::{CharSet, Scanner};
 use typst_node::SyntaxNode;
-use typst_tokens::sets::{is_unit, number};
+use typst_tokens::sets::{AsciiDigits, is_unit, number};
 use typst_tokens::{Base, NumberFault};
 
-/// The node of a number with a fault, of which so many characters at its end are a suffix.
+/// The node of a number with a fault.
 pub(crate) fn number_node(
     alloc: Global,
     found: NumberFault,
-    suffix: usize,
     text: &str,
 ) -> Result<SyntaxNode, AllocError>
-    ensures { IfOk result (λ node. node ≡ fault_node (fault.Number found suffix) (chars text.now)) }
+    ensures { IfOk result (λ node. node ≡ fault_node (fault.Number found) (chars text.now)) }
 {
-    let split = suffix_start(text, suffix);
+    let split = suffix_start(found, text);
     let (before, suffix) = (split.before(), split.after());
     let message = number_message(alloc, found, before, suffix)?;
     let mut node = SyntaxNode::error(alloc, message.as_str(), text)?;
@@ -30,21 +32,77 @@ pub(crate) fn number_node(
     Ok(node)
 }
 
-/// Where the suffix of a number begins, which is so many characters.
-fn suffix_start(text: &str, suffix: usize) -> Scanner<'_>
-    ensures before { reverse (place result).behind ≡ spec.without_suffix suffix (chars text.now) }
-    ensures after { (place result).ahead ≡ spec.suffix_of suffix (chars text.now) }
+/// Where the suffix of a number begins.
+fn suffix_start(found: NumberFault, text: &str) -> Scanner<'_>
+    ensures { place result ≡ spec.at_suffix found (place_at text.now 0) }
 {
     let mut s = Scanner::new(text);
-    s.jump(text.len());
-    let mut left = suffix;
-    while left > 0 {
-        let Some(_) = s.uneat() else {
-            return s;
-        };
-        left -= 1;
+    match found {
+        NumberFault::UnknownSuffix | NumberFault::Exponent => pass_decimal(&mut s),
+        NumberFault::NoDigits(base) => pass_based(&mut s, base),
+        NumberFault::WrongDigits(base) => pass_based(&mut s, base),
+        NumberFault::Suffix(base) => pass_based(&mut s, base),
     }
     s
+}
+
+/// Goes past the digits of a base, behind the two characters that name it.
+fn pass_based(s: &mut Scanner<'_>, base: Base)
+    ensures { place s.new ≡ past (is_digit_of base) (moved 2 (place s.old)) }
+{
+    s.eat();
+    s.eat();
+    s.eat_while(&DigitsOf(base));
+}
+
+/// Goes past a decimal number and its exponent.
+fn pass_decimal(s: &mut Scanner<'_>)
+    ensures { place s.new ≡ spec.behind_exponent (past spec.is_decimal (place s.old)) }
+{
+    s.eat_while(&Decimal);
+    if s.at_word(b"em") {
+        return;
+    }
+    if s.eat_set(&ExponentSign) {
+        s.eat_set(&Sign);
+        s.eat_while(&AsciiDigits);
+    }
+}
+
+/// What a decimal number is made of before its exponent.
+#[derive(Clone, Copy)]
+struct Decimal;
+
+impl CharSet for Decimal {
+    ghost members = { λ _. spec.is_decimal };
+
+    fn has(&self, c: char) -> bool {
+        c.is_ascii_digit() || c == '.'
+    }
+}
+
+/// What an exponent begins with.
+#[derive(Clone, Copy)]
+struct ExponentSign;
+
+impl CharSet for ExponentSign {
+    ghost members = { λ _. spec.is_exponent };
+
+    fn has(&self, c: char) -> bool {
+        c == 'e' || c == 'E'
+    }
+}
+
+/// A sign.
+#[derive(Clone, Copy)]
+struct Sign;
+
+impl CharSet for Sign {
+    ghost members = { λ _. spec.is_sign };
+
+    fn has(&self, c: char) -> bool {
+        c == '+' || c == '-'
+    }
 }
 
 fn number_message(

@@ -62,8 +62,8 @@ pub enum Fault {
     UnclosedLabel,
     /// A string without its closing quotation mark.
     UnclosedString,
-    /// A number, and how many bytes of it are its suffix, which is at its end.
-    Number(NumberFault, usize),
+    /// A number.
+    Number(NumberFault),
     /// A character that no token of code begins with.
     InvalidCharacter,
     /// Such a character directly behind a hash.

@@ -3,9 +3,10 @@ use Rattle.typst_tokens.specs.Common.{whitespace, line_comment, block_comment, l
 use Rattle.typst_markup_tokens.specs.Markup.{markup, minus, hyphen, emphasis, marker_or_text}
 use Rattle.typst_tokens.specs.Common.{sign}
 use Rattle.typst_markup_tokens.specs.Text.{text, text_from}
+use Rattle.typst_readers.specs.Column.{column_at}
 use Rattle.typst_lexer.specs.Tokens.{token, of_mode, hash, slash, star}
 use Rattle.typst_lexer.proofs.laws.looks_of_tokens.Goals as goal
 
 pub returns : goal.returns
-unfolding token of_mode hash slash star markup whitespace line_comment block_comment line_ends text sign text_from minus hyphen emphasis marker_or_text
+unfolding column_at token of_mode hash slash star markup whitespace line_comment block_comment line_ends text sign text_from minus hyphen emphasis marker_or_text
 returns c = λ k. record { line_comment = refl; block_comment = refl; unclosed_comment = refl; parbreak = refl; list_marker = refl; end = refl; column = refl }

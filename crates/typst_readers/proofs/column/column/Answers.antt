@@ -5,11 +5,13 @@ use Rattle.typst_lines.specs.Place.{Place}
 use Rattle.typst_lines.specs.Scanner.{place}
 use Rattle.typst_classes.specs.Classes.{in_line}
 use Rattle.typst_readers.proofs.Columns.{same-hull, behind-most, some-behind, back-is, line-more, column-back, column-least, column-start, back-smaller}
+use Rattle.typst_readers.specs.Column.{column_at}
 use Rattle.typst_readers.specs.Sight.{position}
 use Rattle.typst_readers.proofs.Sights.{offset-is, far-none}
 use Rattle.typst_readers.proofs.column.column.Goals as goal
 
 pub back-init : goal.back-init
+unfolding column_at
 back-init c = record { rest = zero-add _; near = refl; before = omega arith; size = zero-add _ }
 
 pub back-preserved : goal.back-preserved
@@ -44,6 +46,7 @@ overflow_add-least c =
     omega (arith, c.cursor-least.ensures, at, whole, fits, back-smaller y c.in-Some.c c.in-Some.ensures.last, c.back.invariant.before)
 
 pub returns-then-is_newline-clause-hull : goal.returns-then-is_newline-clause-hull
+unfolding column_at
 returns-then-is_newline-clause-hull c =
     let s = c.args.s.now in
     let z = place s in
