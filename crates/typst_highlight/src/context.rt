@@ -105,9 +105,11 @@ fn first_leaf(nodes: &[SyntaxNode], parent: Option<SyntaxKind>, offset: usize) -
                 offset: begin,
             });
         }
-        let inner = begin.saturating_add(node.leaf_text().len());
-        if let Some(leaf) = leaf_among(node.children(), Some(kind), inner) {
-            return Some(leaf);
+        if !is_childless(node) {
+            let inner = begin.saturating_add(node.leaf_text().len());
+            if let Some(leaf) = leaf_among(node.children(), Some(kind), inner) {
+                return Some(leaf);
+            }
         }
         begin = begin.saturating_add(node.len());
         rest = later;

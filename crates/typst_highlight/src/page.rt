@@ -10,7 +10,7 @@ use std::marker::Model;
 use std::str;
 
 /// How long a page is.
-const PAGE: usize = 1024;
+const PAGE: usize = 2048;
 
 /// How much of a page is left where a short text with its span is written.
 const ROOM: usize = 128;
@@ -22,7 +22,7 @@ const SHORT: usize = 64;
 #[derive(Drop)]
 pub struct Writer {
     done: String,
-    page: [u8; 1024],
+    page: [u8; 2048],
     len: usize,
 }
 
@@ -34,7 +34,7 @@ impl Model for Writer {
 
     ghost view = { λ w. string_bytes w.done ++ take w.len w.page };
 
-    ghost invariant = { λ w. (w.len ≤ 1024) × IsUtf8 (take w.len w.page) };
+    ghost invariant = { λ w. (w.len ≤ 2048) × IsUtf8 (take w.len w.page) };
 }
 
 impl Writer {
@@ -44,7 +44,7 @@ impl Writer {
     {
         Ok(Writer {
             done: String::with_capacity(alloc, capacity)?,
-            page: [0; 1024],
+            page: [0; 2048],
             len: 0,
         })
     }
@@ -201,8 +201,8 @@ impl Writer {
 
 /// Puts a text on a page from `at` on, and answers where it ends.
 #[inline(always)]
-fn put(page: &mut [u8; 1024], at: usize, text: &str) -> usize
-    requires { at + length text.now ≤ 1024 }
+fn put(page: &mut [u8; 2048], at: usize, text: &str) -> usize
+    requires { at + length text.now ≤ 2048 }
     ensures end { result ≡ at + length text.now }
     ensures written { take result page.new ≡ take at page.old ++ text.now }
 {
@@ -213,8 +213,8 @@ fn put(page: &mut [u8; 1024], at: usize, text: &str) -> usize
 
 /// Puts the beginning of a span on a page from `at` on, and answers where it ends.
 #[inline(always)]
-fn put_opening(page: &mut [u8; 1024], at: usize, tag: Tag) -> usize
-    requires { at + 32 ≤ 1024 }
+fn put_opening(page: &mut [u8; 2048], at: usize, tag: Tag) -> usize
+    requires { at + 32 ≤ 2048 }
     ensures end { result ≤ at + 32 }
     ensures from { at ≤ result }
     ensures written { take result page.new ≡ take at page.old ++ spec.opening tag }
@@ -226,8 +226,8 @@ fn put_opening(page: &mut [u8; 1024], at: usize, tag: Tag) -> usize
 
 /// Puts a byte in the span of a tag on a page from `at` on, and answers where it ends.
 #[inline(always)]
-fn put_byte(page: &mut [u8; 1024], at: usize, tag: Option<Tag>, byte: u8) -> usize
-    requires { at + 64 ≤ 1024 }
+fn put_byte(page: &mut [u8; 2048], at: usize, tag: Option<Tag>, byte: u8) -> usize
+    requires { at + 64 ≤ 2048 }
     ensures end { result ≤ at + 64 }
     ensures written { take result page.new ≡ take at page.old ++ (spec.span_start tag ++ (byte ∷ spec.span_end tag)) }
 {
@@ -246,8 +246,8 @@ fn put_byte(page: &mut [u8; 1024], at: usize, tag: Option<Tag>, byte: u8) -> usi
 
 /// Puts a text in the span of a tag on a page from `at` on, and answers where it ends.
 #[inline(always)]
-fn put_span(page: &mut [u8; 1024], at: usize, tag: Option<Tag>, text: &str) -> usize
-    requires { at + length text.now + 64 ≤ 1024 }
+fn put_span(page: &mut [u8; 2048], at: usize, tag: Option<Tag>, text: &str) -> usize
+    requires { at + length text.now + 64 ≤ 2048 }
     ensures end { result ≤ at + length text.now + 64 }
     ensures written { take result page.new ≡ take at page.old ++ (spec.span_start tag ++ (text.now ++ spec.span_end tag)) }
 {
