@@ -13,6 +13,10 @@ use Rattle.typst_highlight.specs.declared.context.Surroundings.{Surroundings}
 use Rattle.typst_highlight.specs.declared.context.Trail.{Trail}
 use Rattle.typst_highlight.specs.declared.context.Outer.{Outer}
 use Rattle.typst_highlight.specs.declared.context.Context.{Context}
+use Rattle.typst_highlight.specs.declared.place.Level.{Level}
+use Rattle.typst_highlight.specs.declared.place.Place.{Place}
+use Rattle.typst_highlight.specs.declared.spans.Known.{Known}
+use Rattle.typst_highlight.specs.declared.spans.Known.TheVariants as known
 use Rattle.typst_highlight.specs.Rules.{rule_of, paren_tag, star_tag, underscore_tag, slash_tag, equals_tag, term_tag, is_name, is_field_access, is_dot}
 use Rattle.typst_highlight.specs.Names.{first_tag, name_alone}
 use Rattle.typst_highlight.specs.Html.{escaped, spanned, span_start, span_end}
@@ -173,3 +177,21 @@ forest_html c (more h ks r) =
 -- a node as HTML
 abbrev pub node_html : Context → Tree → Forest → List ℕ
 node_html c t r = span_start (spanned (tag c t r)) ++ (escaped t.head.text ++ (forest_html (within c t r) t.kids ++ span_end (spanned (tag c t r))))
+
+-- what is known of the span of a node of this tag
+abbrev pub known_span : Option Tag → Known
+known_span None = known.Bare
+known_span (Some t) = known.Within t
+
+-- what is known of the span of a node by its rule
+abbrev pub span_by_rule : Rule → Known
+span_by_rule (rule.Always t) = known_span (spanned t)
+span_by_rule _ = known.Unknown
+
+-- what is round the node that a walk has come to on a level
+abbrev pub joined : Level → Place → Context
+joined l p = record { parent = l.parent; outer = l.outer; offset = p.offset; trail = p.trail; ahead = l.ahead }
+
+-- what is round all nodes that stand beside a node
+abbrev pub level_of : Context → Level
+level_of c = record { parent = c.parent; outer = c.outer; ahead = c.ahead }

@@ -105,9 +105,11 @@ fn first_leaf(nodes: &[SyntaxNode], parent: Option<SyntaxKind>, offset: usize) -
                 offset: begin,
             });
         }
-        let inner = begin.saturating_add(node.leaf_text().len());
-        if let Some(leaf) = leaf_among(node.children(), Some(kind), inner) {
-            return Some(leaf);
+        if !is_childless(node) {
+            let inner = begin.saturating_add(node.leaf_text().len());
+            if let Some(leaf) = leaf_among(node.children(), Some(kind), inner) {
+                return Some(leaf);
+            }
         }
         begin = begin.saturating_add(node.len());
         rest = later;
@@ -182,19 +184,6 @@ impl Context {
     ghost use Rattle.typst_node.specs.Tree.{forest};
     ghost use Rattle.typst_highlight.specs.Walk as walk;
 
-    /// What is round the root of a tree.
-    pub const ROOT: Context = Context {
-        parent: None,
-        outer: None,
-        offset: 0,
-        trail: Trail {
-            before: None,
-            name: None,
-            earlier: None,
-        },
-        ahead: None,
-    };
-
     /// The kind of what the node, or the outermost of the field accesses above it, stands in.
     fn around(&self) -> Option<SyntaxKind>
         ensures { result ≡ walk.around self.now }
@@ -228,6 +217,7 @@ impl Context {
     }
 
     /// What is round the node's first child.
+    #[inline(always)]
     pub fn within(&self, node: &SyntaxNode, later: &[SyntaxNode]) -> Context
         ensures { result ≡ walk.within self.now node.now (forest later.now) }
     {
@@ -311,34 +301,6 @@ impl Context {
         } else {
             self.trail
         }
-    }
-
-    /// Goes past the node, which has no children, where its tag and the length of its text are known.
-    #[inline(always)]
-    pub fn pass(&mut self, node: &SyntaxNode, later: &[SyntaxNode], tag: Option<Tag>, len: usize)
-        requires childless { is_childless node.now.kids ≡ true }
-        requires tagged { tag ≡ walk.tag self.old node.now (forest later.now) }
-        requires long { len ≡ length node.now.head.text }
-        ensures { self.new ≡ walk.past self.old node.now (walk.passed self.old node.now (forest later.now)) }
-    {
-        let kind = node.kind();
-        if !is_skipped(kind) {
-            self.trail = Trail {
-                before: Some(kind),
-                name: if is_name(kind) { tag } else { None },
-                earlier: self.trail.name,
-            };
-        }
-        self.offset = self.offset.saturating_add(len);
-    }
-
-    /// Goes past the node, where the last leaves before what follows it are known.
-    #[inline(always)]
-    pub fn leave(&mut self, node: &SyntaxNode, trail: Trail)
-        ensures { self.new ≡ walk.past self.old node.now trail }
-    {
-        self.offset = self.offset.saturating_add(node.len());
-        self.trail = trail;
     }
 }
 

@@ -2,9 +2,13 @@
 #![tactic(auto)]
 
 mod context;
+mod entities;
 mod highlighter;
 mod html;
+mod page;
+mod place;
 mod rules;
+mod spans;
 mod tags;
 mod walk;
 

@@ -31,7 +31,7 @@ pub enum Rule {
 }
 
 /// What the tag of a node of the kind depends on.
-#[inline(never)]
+#[inline(always)]
 pub fn rule_of(kind: SyntaxKind) -> Rule
     ensures { result ≡ spec.rule_of kind }
 {

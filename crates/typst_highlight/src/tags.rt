@@ -1,6 +1,6 @@
 //! Highlight tags.
 
-ghost use Rattle.std.specs.Prelude.{◌≡◌};
+ghost use Rattle.std.specs.Prelude.{◌≡◌, ◌≤◌, length, take};
 ghost use Rattle.typst_highlight.specs.Tags.{scope_of, class_of, all_tags};
 ghost use Rattle.typst_highlight.specs.Html.{opening};
 
@@ -167,6 +167,39 @@ impl Tag {
             Tag::Function => "<span class=\"typ-func\">",
             Tag::Interpolated => "<span class=\"typ-pol\">",
             Tag::Error => "<span class=\"typ-error\">",
+        }
+    }
+
+    /// What begins the tag's spans in HTML, with spaces behind it up to 32 bytes, and its length.
+    #[inline(always)]
+    pub(crate) fn opening_block(self) -> (&'static str, usize)
+        ensures whole { length result.0.now ≡ 32 }
+        ensures within { result.1 ≤ 32 }
+        ensures opening { take result.1 result.0.now ≡ opening self }
+    {
+        match self {
+            Tag::Comment => ("<span class=\"typ-comment\">      ", 26),
+            Tag::Punctuation => ("<span class=\"typ-punct\">        ", 24),
+            Tag::Escape => ("<span class=\"typ-escape\">       ", 25),
+            Tag::Strong => ("<span class=\"typ-strong\">       ", 25),
+            Tag::Emph => ("<span class=\"typ-emph\">         ", 23),
+            Tag::Link => ("<span class=\"typ-link\">         ", 23),
+            Tag::Raw => ("<span class=\"typ-raw\">          ", 22),
+            Tag::Label => ("<span class=\"typ-label\">        ", 24),
+            Tag::Ref => ("<span class=\"typ-ref\">          ", 22),
+            Tag::Heading => ("<span class=\"typ-heading\">      ", 26),
+            Tag::ListMarker => ("<span class=\"typ-marker\">       ", 25),
+            Tag::ListTerm => ("<span class=\"typ-term\">         ", 23),
+            Tag::MathDelimiter => ("<span class=\"typ-math-delim\">   ", 29),
+            Tag::MathOperator => ("<span class=\"typ-math-op\">      ", 26),
+            Tag::MathGroupingParens => ("<span class=\"typ-math-group\">   ", 29),
+            Tag::Keyword => ("<span class=\"typ-key\">          ", 22),
+            Tag::Operator => ("<span class=\"typ-op\">           ", 21),
+            Tag::Number => ("<span class=\"typ-num\">          ", 22),
+            Tag::String => ("<span class=\"typ-str\">          ", 22),
+            Tag::Function => ("<span class=\"typ-func\">         ", 23),
+            Tag::Interpolated => ("<span class=\"typ-pol\">          ", 22),
+            Tag::Error => ("<span class=\"typ-error\">        ", 24),
         }
     }
 }

@@ -45,23 +45,11 @@ fn next_kind(nodes: &[SyntaxNode]) -> Option<SyntaxKind>
 
 /// The tag of a node that other nodes follow under the same parent.
 #[cycle(tags)]
-#[inline(always)]
+#[inline(never)]
 pub fn tag_here(node: &SyntaxNode, later: &[SyntaxNode], context: &Context) -> Option<Tag>
     ensures { result ≡ walk.tag context.now node.now (forest later.now) }
 {
     match rule_of(node.kind()) {
-        Rule::Always(tag) => tag,
-        rule => tag_by(rule, node, later, context),
-    }
-}
-
-/// The tag of a node that other nodes follow under the same parent, by its rule.
-#[cycle(tags)]
-#[inline(never)]
-fn tag_by(rule: Rule, node: &SyntaxNode, later: &[SyntaxNode], context: &Context) -> Option<Tag>
-    ensures { result ≡ walk.tag_here rule context.now node.now (forest later.now) (walk.found (walk.past context.now node.now (walk.passed context.now node.now (forest later.now))) (forest later.now)).expression }
-{
-    match rule {
         Rule::Always(tag) => tag,
         Rule::Paren => paren_tag(context.parent),
         Rule::Star => star_tag(context.parent),

@@ -1,7 +1,7 @@
-use Rattle.std.proofs.Common.{◌≡◌, ◌++◌, ◌<◌, length, string_bytes}
+use Rattle.std.proofs.Common.{◌≡◌, ◌++◌, ◌<◌, length}
 use Rattle.typst_node.specs.Tree.{forest, count, nodes}
 use Rattle.typst_highlight.specs.Html.{span_end}
-use Rattle.typst_highlight.specs.Walk.{forest_html, node_html, passed_row, within}
+use Rattle.typst_highlight.specs.Walk.{forest_html, joined, node_html, passed_row, within}
 use Rattle.typst_highlight.proofs.html.+write_node.Given as goal
 
 abbrev pub decreases-write_node : goal.decreases-write_node
@@ -9,8 +9,8 @@ decreases-write_node l = nodes l.node.now
 
 abbrev pub invariant-loop-kid : goal.invariant-loop-kid
 invariant-loop-kid l = record {
-  written : string_bytes l.html ++ (forest_html l.inner (forest l.rest) ++ span_end l.tag) ≡ string_bytes l.fn.html ++ node_html l.fn.context l.node (forest l.later);
-  left : passed_row (within l.fn.context l.node (forest l.later)) l.node.kids ≡ passed_row l.inner (forest l.rest);
+  written : l.html ++ (forest_html (joined l.inner l.place) (forest l.rest) ++ span_end l.tag) ≡ l.fn.html ++ node_html (joined l.level l.fn.place) l.node (forest l.later);
+  left : passed_row (within (joined l.level l.fn.place) l.node (forest l.later)) l.node.kids ≡ passed_row (joined l.inner l.place) (forest l.rest);
   smaller : count (forest l.rest) < nodes l.node;
 }
 

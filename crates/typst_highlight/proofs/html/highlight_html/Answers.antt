@@ -7,9 +7,10 @@ use Rattle.typst_highlight.proofs.html.highlight_html.Goals as goal
 
 pub returns-clause-html : goal.returns-clause-html
 returns-clause-html c =
-    written_law c.args.root.now _ _ _ _ _ (fits_root c.args.root.now _ refl refl refl refl refl) c.in_ok-html.ensures.bytes c.in_ok-push_str.ensures.bytes c.in_ok-write_node.ensures.written c.in_ok-push_str-2.ensures.bytes
+    c.in_ok-html.ensures
+    ∙ written_law c.args.root.now _ _ _ _ _ (fits_root c.args.root.now _ refl refl refl refl refl) c.in_ok-writer.ensures c.in_ok-push.ensures c.in_ok-write_node.ensures.written c.in_ok-push-2.ensures
 
 pub returns-clause-shown : goal.returns-clause-shown
 returns-clause-shown c =
-    ap (read plain) (written_law c.args.root.now _ _ _ _ _ (fits_root c.args.root.now _ refl refl refl refl refl) c.in_ok-html.ensures.bytes c.in_ok-push_str.ensures.bytes c.in_ok-write_node.ensures.written c.in_ok-push_str-2.ensures.bytes)
+    ap (read plain) (c.in_ok-html.ensures ∙ written_law c.args.root.now _ _ _ _ _ (fits_root c.args.root.now _ refl refl refl refl refl) c.in_ok-writer.ensures c.in_ok-push.ensures c.in_ok-write_node.ensures.written c.in_ok-push-2.ensures)
     ∙ text_read c.args.root.now

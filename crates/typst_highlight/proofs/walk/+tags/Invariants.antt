@@ -6,9 +6,6 @@ use Rattle.typst_highlight.proofs.walk.+tags.Given as goal
 abbrev pub decreases-tag_here : goal.decreases-tag_here
 decreases-tag_here l = 5 * (nodes l.node.now + count (forest l.later.now))
 
-abbrev pub decreases-tag_by : goal.decreases-tag_by
-decreases-tag_by l = 5 * count (forest l.later.now) + 4
-
 abbrev pub decreases-hash_tag : goal.decreases-hash_tag
 decreases-hash_tag l = 5 * count (forest l.later.now) + 3
 

@@ -1,8 +1,8 @@
-use Rattle.std.proofs.Common.{◌≡◌, ◌+◌, ◌<◌, ◌≤◌, ◌++◌, ◌∙◌, refl, ap, arith, length, get_or, string_bytes}
+use Rattle.std.proofs.Common.{◌≡◌, ◌+◌, ◌<◌, ◌≤◌, ◌++◌, ◌∙◌, refl, ap, arith, length, get_or}
 use Rattle.std.proofs.lemmas.Str.{IsCharBoundary-start, IsCharBoundary-after_ascii}
 use Rattle.typst_highlight.proofs.Escapes.{plain_more, plain_none, entity_more, plain_rest}
-use Rattle.typst_highlight.proofs.html.write_entities.Goals as goal
-use Rattle.typst_highlight.proofs.html.write_entities.Goals.{in-Some+in_ok-push_str+in_ok-push_str-2, in_default}
+use Rattle.typst_highlight.proofs.page.Writer.write_entities.Goals as goal
+use Rattle.typst_highlight.proofs.page.Writer.write_entities.Goals.{in-Some+in_ok-push+in_ok-push-2, in_default}
 
 pub loop-at-init : goal.loop-at-init
 loop-at-init c = record { written = refl; plain = refl; before = omega arith; boundary = IsCharBoundary-start c.args.text.now c.utf8.text }
@@ -16,18 +16,18 @@ loop-at-preserved c =
     let byte : get_or bytes at 0 ≡ get_or text at 0 = ap (λ t. get_or t at 0) same in
     let within : at < length text = omega (arith, ap length same) in
     let so_far = c.loop-at.invariant in elim c.match-entity.branch [
-      | in-Some+in_ok-push_str+in_ok-push_str-2 w ↦
-          let front = w.in_ok-push_str.ensures.bytes ∙ ap (λ bs. string_bytes c.loop-at.html ++ bs) w.range.ensures.value in
-          let behind = ap string_bytes w.html-is ∙ w.in_ok-push_str-2.ensures.bytes ∙ ap (λ bs. string_bytes w.push_str.new.self ++ bs) w.in-Some.ensures.0 in
+      | in-Some+in_ok-push+in_ok-push-2 w ↦
+          let front = w.in_ok-push.ensures ∙ ap (λ bs. c.loop-at.self ++ bs) w.range.ensures.value in
+          let behind = w.self-is ∙ (w.in_ok-push-2.ensures ∙ ap (λ bs. w.push.new.self ++ bs) w.in-Some.ensures.0) in
           record {
-            written = entity_more text (string_bytes c.loop-at.html) _ _ (string_bytes c.match-entity.html) c.loop-at.done at c.match-entity.done (get_or bytes at 0) so_far.before within byte w.done-is front behind so_far.plain so_far.written;
+            written = entity_more text c.loop-at.self _ _ c.match-entity.self c.loop-at.done at c.match-entity.done (get_or bytes at 0) so_far.before within byte w.done-is front behind so_far.plain so_far.written;
             plain = plain_none text c.match-entity.done (at + 1) w.done-is;
             before = omega (arith, w.done-is);
             boundary = rw w.done-is (IsCharBoundary-after_ascii text at c.utf8.text within (omega (arith, byte, w.in-Some.ensures.1)));
           }
       | in_default w ↦
           record {
-            written = rw (w.html-is, w.done-is) so_far.written;
+            written = rw (w.self-is, w.done-is) so_far.written;
             plain = rw w.done-is (plain_more text c.loop-at.done at (at + 1) (get_or bytes at 0) so_far.before within byte refl w.in_default.ensures so_far.plain);
             before = omega (arith, w.done-is);
             boundary = rw w.done-is so_far.boundary;
@@ -38,5 +38,5 @@ pub returns : goal.returns
 returns c =
     let so_far = c.loop-at.invariant in
     let end : length c.args.text.now ≤ c.loop-at.at = omega (arith, ap length c.as_bytes-bytes.ensures.value) in
-    let rest = c.in_ok-push_str-3.ensures.bytes ∙ ap (λ bs. string_bytes c.loop-at.html ++ bs) c.range_from.ensures.value in
-    plain_rest c.args.text.now (string_bytes c.loop-at.html) _ _ c.loop-at.done c.loop-at.at so_far.before end rest so_far.plain so_far.written
+    let rest = c.in_ok-push-3.ensures ∙ ap (λ bs. c.loop-at.self ++ bs) c.range_from.ensures.value in
+    plain_rest c.args.text.now c.loop-at.self _ _ c.loop-at.done c.loop-at.at so_far.before end rest so_far.plain so_far.written
