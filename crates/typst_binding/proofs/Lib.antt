@@ -1,0 +1,9 @@
+pub mod Fine
+pub mod FineRuns
+pub mod PlainParts
+pub mod PlainCode
+pub mod Heads
+pub mod Turns
+pub mod Operands
+pub mod Grown
+pub mod Knot
