@@ -1,5 +1,5 @@
 -- Trees that bind where they have no errors.
-use Rattle.std.proofs.Common.{◌≡◌, ℕ, zero, suc, Bool, true, false, ◌&&◌, ◌||◌, if◌then◌else◌, List, [], ◌∷◌, ◌++◌, take, drop, None, refl, ap, sym, subst}
+use Rattle.std.proofs.Common.{◌≡◌, ℕ, zero, suc, Bool, true, false, ◌&&◌, ◌||◌, if◌then◌else◌, List, [], ◌∷◌, ◌++◌, take, drop, None, refl, ap, sym, subst, ◌⊎◌, inl, inr}
 use Rattle.typst_kinds.specs.Kinds.{same, is_error}
 use Rattle.typst_kinds.specs.Names.{name_of}
 use Rattle.typst_kinds.specs.declared.kind.SyntaxKind.{SyntaxKind}
@@ -111,8 +111,51 @@ fine-inner k ts e h n =
     and-both (node_binds (inner_of k (forest ts))) (all_bind (forest ts)) (binds-bare (inner_of k (forest ts)) (no-operator (inner_of k (forest ts)) e))
     (all-bind-fine ts h (or-right (is_error k) (any_errors (forest ts)) n))
 
-pub fine-binary : (ts : List Tree) → All Fine ts → (any_errors (forest ts) ≡ false → node_binds (inner_of kind.Binary (forest ts)) ≡ true) → Fine (inner_of kind.Binary (forest ts))
-fine-binary ts h b n = and-both (node_binds (inner_of kind.Binary (forest ts))) (all_bind (forest ts)) (b n) (all-bind-fine ts h n)
+-- trees of which each binds, up to the first error among them
+abbrev pub Fines : List Tree → Type 0
+Fines [] = Unit {0}
+Fines (t ∷ ts) = Fine t × ((is_error t.head.kind ≡ true) ⊎ Fines ts)
+
+pub fines-all : (ts : List Tree) → All Fine ts → Fines ts
+fines-all [] h = tt
+fines-all (t ∷ ts) h = (h.0, inr (fines-all ts h.1))
+
+pub fines-append : (ts us : List Tree) → Fines ts → Fines us → Fines (ts ++ us)
+fines-append [] us h k = k
+fines-append (t ∷ ts) us (f, inl e) k = (f, inl e)
+fines-append (t ∷ ts) us (f, inr h) k = (f, inr (fines-append ts us h k))
+
+pub fines-take : (n : ℕ) (ts : List Tree) → Fines ts → Fines (take n ts)
+fines-take zero ts h = tt
+fines-take (suc n) [] h = tt
+fines-take (suc n) (t ∷ ts) (f, inl e) = (f, inl e)
+fines-take (suc n) (t ∷ ts) (f, inr h) = (f, inr (fines-take n ts h))
+
+hinted-error : (hints : List (List ℕ)) (t : Tree) → is_error t.head.kind ≡ true → is_error (all_advised hints t).head.kind ≡ true
+hinted-error [] t e = e
+hinted-error (hint ∷ hints) t e = hinted-error hints (advised (hint_with None hint) t) e
+
+fines-last : (hints : List (List ℕ)) (ts : List Tree) → Fines ts → Fines (hinted_last hints ts)
+fines-last hints [] h = tt
+fines-last hints (t ∷ []) h = (on_both Fine (is_error t.head.kind) (all_advised hints t) t (fine-advised hints t h.0) h.0, inr tt)
+fines-last hints (t ∷ u ∷ ts) (f, inl e) = (f, inl e)
+fines-last hints (t ∷ u ∷ ts) (f, inr h) = (f, inr (fines-last hints (u ∷ ts) h))
+
+pub fines-hinted : (hints : List (List ℕ)) (ts : List Tree) → Fines ts → Fines (hinted hints ts)
+fines-hinted [] ts h = h
+fines-hinted (hint ∷ hints) ts h = fines-last (hint ∷ hints) ts h
+
+-- where there is none they all do
+pub fines-sane : (ts : List Tree) → any_errors (forest ts) ≡ false → Fines ts → All Fine ts
+fines-sane [] n h = tt
+fines-sane (t ∷ ts) n (f, inl e) = let x = or-left (is_error t.head.kind) (any_errors t.kids || any_errors (forest ts)) n in absurd (cc)
+fines-sane (t ∷ ts) n (f, inr h) = (f, fines-sane ts (or-right (any_errors t.kids) (any_errors (forest ts)) (or-right (is_error t.head.kind) (any_errors t.kids || any_errors (forest ts)) n)) h)
+
+pub fine-over : (k : SyntaxKind) (ts : List Tree) → same kind.Binary k ≡ false → Fines ts → Fine (inner_of k (forest ts))
+fine-over k ts e h n = fine-inner k ts e (fines-sane ts (or-right (is_error k) (any_errors (forest ts)) n) h) n
+
+pub fine-binary : (ts : List Tree) → Fines ts → (any_errors (forest ts) ≡ false → node_binds (inner_of kind.Binary (forest ts)) ≡ true) → Fine (inner_of kind.Binary (forest ts))
+fine-binary ts h b n = and-both (node_binds (inner_of kind.Binary (forest ts))) (all_bind (forest ts)) (b n) (all-bind-fine ts (fines-sane ts n h) n)
 
 pub fine-error : (message text : List ℕ) → Fine (error_of message text)
 fine-error message text n = absurd (cc)
@@ -236,25 +279,57 @@ tame (lacks count message k) = tame_kind k
 tame (warns k message hint) = tame_kind k
 tame (fails message) = true
 
-fine-first : (f : Tree → Tree) → ((t : Tree) → Fine t → Fine (f t)) → (ts : List Tree) → All Fine ts → All Fine (on_first f ts)
-fine-first f g [] h = tt
-fine-first f g (t ∷ ts) h = (g t h.0, h.1)
+-- an error stays one
+abbrev Wrong : Tree → Type 0
+Wrong t = is_error t.head.kind ≡ true
 
-fine-change : (change : Change) (ts : List Tree) → tame_change change ≡ true → All Fine ts → All Fine (first_changed change ts)
-fine-change stays ts e h = h
-fine-change (turns_wrong message) ts e h = fine-first (made_error message) (fine-wrong message) ts h
-fine-change (is_not thing) ts e h = fine-first (made_expected thing) (fine-wanted thing) ts h
-fine-change (renamed k) ts e h = fine-first (with_kind k) (fine-kind k (is-tame k e)) ts h
-fine-change unparened ts e h = fine-first without_parens fine-parens ts h
+wrong-wrong : (message : List ℕ) (t : Tree) → Wrong t → Wrong (made_error message t)
+wrong-wrong message t e = on_both Wrong (is_error t.head.kind) t (error_of message (text_of t)) e refl
 
-pub fine-shaped : (shape : Shape) (ts : List Tree) → tame shape ≡ true → All Fine ts → All Fine (shaped shape ts)
-fine-shaped (keeps change) ts e h = fine-change change ts e h
-fine-shaped (holds change k) ts e h =
-    (fine-inner k (first_changed change ts) (is-tame k (and-right (tame_change change) (tame_kind k) e)) (fine-change change ts (and-left (tame_change change) (tame_kind k) e) h), tt)
-fine-shaped (lacks count message k) ts e h =
-    (fine-inner k (take count ts ++ error_of message [] ∷ drop count ts) (is-tame k e) (all-append Fine (take count ts) (error_of message [] ∷ drop count ts) (all-take Fine count ts h) (fine-error message [], all-drop Fine count ts h)), tt)
-fine-shaped (warns k message hint) ts e h = (fine-inner k ts (is-tame k e) h, tt)
-fine-shaped (fails message) ts e h = (λ n. absurd (cc), tt)
+wrong-wanted : (thing : List ℕ) (t : Tree) → Wrong t → Wrong (made_expected thing t)
+wrong-wanted thing t e =
+    on_both Wrong (is_error t.head.kind) t (expected_error thing t) e
+    (on_both Wrong (is_lost_name t.head.kind thing) (advised (hint_with None (keyword_hint (text_of t))) (error_of (expected_message thing (name_of t.head.kind)) (text_of t)))
+    (error_of (expected_message thing (name_of t.head.kind)) (text_of t)) refl refl)
+
+wrong-kind : (k : SyntaxKind) (t : Tree) → Wrong t → Wrong (with_kind k t)
+wrong-kind k t e = on_if Wrong (is_error t.head.kind) t (topped t (record t.head { kind = k })) (λ _. e) (λ i. absurd (cc))
+
+wrong-parens : (t : Tree) → Wrong t → Wrong (without_parens t)
+wrong-parens t e =
+    on_if Wrong (is_delimited t.head.kind && in_parens (trees t.kids)) _ t
+    (λ d. let x = delimited-sound t.head.kind (and-left (is_delimited t.head.kind) (in_parens (trees t.kids)) d) in absurd (cc)) (λ _. e)
+
+fines-first : (f : Tree → Tree) → ((t : Tree) → Fine t → Fine (f t)) → ((t : Tree) → Wrong t → Wrong (f t)) → (ts : List Tree) → Fines ts → Fines (on_first f ts)
+fines-first f g w [] h = tt
+fines-first f g w (t ∷ ts) (x, inl e) = (g t x, inl (w t e))
+fines-first f g w (t ∷ ts) (x, inr h) = (g t x, inr h)
+
+fines-change : (change : Change) (ts : List Tree) → tame_change change ≡ true → Fines ts → Fines (first_changed change ts)
+fines-change stays ts e h = h
+fines-change (turns_wrong message) ts e h = fines-first (made_error message) (fine-wrong message) (wrong-wrong message) ts h
+fines-change (is_not thing) ts e h = fines-first (made_expected thing) (fine-wanted thing) (wrong-wanted thing) ts h
+fines-change (renamed k) ts e h = fines-first (with_kind k) (fine-kind k (is-tame k e)) (wrong-kind k) ts h
+fines-change unparened ts e h = fines-first without_parens fine-parens wrong-parens ts h
+
+fines-shaped : (shape : Shape) (ts : List Tree) → tame shape ≡ true → Fines ts → Fines (shaped shape ts)
+fines-shaped (keeps change) ts e h = fines-change change ts e h
+fines-shaped (holds change k) ts e h =
+    (fine-over k (first_changed change ts) (is-tame k (and-right (tame_change change) (tame_kind k) e)) (fines-change change ts (and-left (tame_change change) (tame_kind k) e) h), inr tt)
+fines-shaped (lacks count message k) ts e h =
+    (fine-over k (take count ts ++ error_of message [] ∷ drop count ts) (is-tame k e) (fines-append (take count ts) (error_of message [] ∷ drop count ts) (fines-take count ts h) (fine-error message [], inl refl)), inr tt)
+fines-shaped (warns k message hint) ts e h = (fine-over k ts (is-tame k e) h, inr tt)
+fines-shaped (fails message) ts e h = (λ n. absurd (cc), inl refl)
+
+-- what stands before them stays
+pub fines-behind : (m : ℕ) (ts us : List Tree) → Fines ts → (Fines (drop m ts) → Fines us) → Fines (take m ts ++ us)
+fines-behind zero ts us h f = f h
+fines-behind (suc m) [] us h f = f tt
+fines-behind (suc m) (t ∷ ts) us (x, inl e) f = (x, inl e)
+fines-behind (suc m) (t ∷ ts) us (x, inr h) f = (x, inr (fines-behind m ts us h f))
+
+pub fines-reshaped : (m : ℕ) (shape : Shape) (ts : List Tree) → tame shape ≡ true → Fines ts → Fines (take m ts ++ shaped shape (drop m ts))
+fines-reshaped m shape ts e h = fines-behind m ts (shaped shape (drop m ts)) h (fines-shaped shape (drop m ts) e)
 
 -- ---- what becomes of a token
 

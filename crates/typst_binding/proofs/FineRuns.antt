@@ -1,5 +1,5 @@
 -- Parsers that give trees which bind where they have no errors: the words of the language.
-use Rattle.std.proofs.Common.{◌≡◌, ℕ, zero, suc, ◌+◌, ◌-◌, Bool, true, false, if◌then◌else◌, nat_lt, List, [], ◌∷◌, ◌++◌, length, take, drop, Option, Some, None, refl, ap, sym, subst, encode_utf8_all, ◌==◌, ◌&&◌}
+use Rattle.std.proofs.Common.{◌≡◌, ℕ, zero, suc, ◌+◌, ◌-◌, Bool, true, false, if◌then◌else◌, nat_lt, List, [], ◌∷◌, ◌++◌, length, take, drop, Option, Some, None, refl, ap, sym, subst, encode_utf8_all, ◌==◌, ◌&&◌, inl, inr}
 use Rattle.std.specs.Prelude.{codes}
 use Rattle.typst_classes.specs.Classes.{CharClasses}
 use Rattle.typst_kinds.specs.Kinds.{same, is_error, is_trivia}
@@ -30,7 +30,7 @@ use Rattle.typst_code.specs.Syntax.Parser.{gives, does, next, pick, repeat, wrap
 use Rattle.typst_code.specs.Meaning.{Outcome, Meaning, Level, less, joined, answered, turns, as_last, bound, repeated, before, reshaped, grown, is_more, growths, growing, nestings, nesting, bounded, given_up, plain, same_mode, entered, left, taken_node, node_by, reader_so, gave, hand_of, hand_asks_of, done, run}
 use Rattle.typst_code.proofs.Within.{on_both, on_if}
 use Rattle.typst_binding.specs.Binding.{has_errors, sign_of, operator_of}
-use Rattle.typst_binding.proofs.Fine.{All, Fine, and-left, all-append, all-take, all-drop, all-hinted, fine-advised, fine-inner, fine-error, fine-leaf, fine-shaped, fine-made, no-operator, tame, tame_making}
+use Rattle.typst_binding.proofs.Fine.{All, Fine, Fines, fines-all, fines-append, fines-take, fines-hinted, fines-reshaped, and-left, all-append, fine-inner, fine-error, fine-leaf, fine-made, no-operator, tame, tame_making}
 
 -- ---- nodes of tokens
 
@@ -179,19 +179,19 @@ fine-still (t ∷ ts) h = (h.0.fine, fine-still ts h.1)
 
 -- the nodes bind, and so do those that are known to come
 pub record Binds {A : Type 0} (o : Outcome A) : Type 0 where
-  pub nodes : All Fine o.nodes
+  pub nodes : Fines o.nodes
   pub known : All Still (pending o.state.known)
 
 abbrev pub AllBind : {A : Type 0} → Meaning A → Type 0
 AllBind m = (z : Place) (s : Point) → All Still (pending s.known) → Binds (m z s)
 
-pub all-less : (P : Tree → Type 0) (n : ℕ) (ts : List Tree) → All P ts → All P (less n ts)
+fines-less : (n : ℕ) (ts : List Tree) → Fines ts → Fines (less n ts)
 unfolding less
-all-less P n ts h = all-take P (length ts - n) ts h
+fines-less n ts h = fines-take (length ts - n) ts h
 
 pub binds-joined : {A B : Type 0} (o : Outcome B) (p : Outcome A) → Binds o → Binds p → Binds (joined o p)
 binds-joined o p h k = record {
-  nodes = all-append Fine (hinted p.hints (less p.back o.nodes)) p.nodes (all-hinted Fine fine-advised p.hints (less p.back o.nodes) (all-less Fine p.back o.nodes h.nodes)) k.nodes;
+  nodes = fines-append (hinted p.hints (less p.back o.nodes)) p.nodes (fines-hinted p.hints (less p.back o.nodes) (fines-less p.back o.nodes h.nodes)) k.nodes;
   known = k.known;
 }
 
@@ -231,7 +231,7 @@ pub binds-reshaped : {A : Type 0} (shape : Shape) → tame shape ≡ true → (n
 binds-reshaped shape e n o h =
     let m = n + o.back in
     record {
-      nodes = all-append Fine (take m o.nodes) (shaped shape (drop m o.nodes)) (all-take Fine m o.nodes h.nodes) (fine-shaped shape (drop m o.nodes) e (all-drop Fine m o.nodes h.nodes));
+      nodes = fines-reshaped m shape o.nodes e h.nodes;
       known = still-shaped shape (drop m o.nodes) o.state h.known;
     }
 
@@ -345,7 +345,7 @@ module _ (l : Level) where
   gives-run Q (block b) h z s = h _
 
   binds-gave : (z : Place) (s : Point) (trims : Bool) (len : ℕ) (node : Tree) (asks : List _) → All Still (pending s.known) → Fine node → Binds (gave (hand_of l z s) trims len node asks s)
-  binds-gave z s trims len node asks k f = let h = hand_of l z s in record { nodes = all-append Fine h.trivia (node ∷ []) (fine-still h.trivia (still-hand l z s k)) (f, tt); known = tt }
+  binds-gave z s trims len node asks k f = let h = hand_of l z s in record { nodes = fines-append h.trivia (node ∷ []) (fines-all h.trivia (fine-still h.trivia (still-hand l z s k))) (f, inr tt); known = tt }
 
   binds-done : {A : Type 0} (o : Op A) → tame_op o ≡ true → AllBind (done l o)
   binds-done hand e z s h = record { nodes = tt; known = still-hand l z s h }
@@ -364,8 +364,8 @@ module _ (l : Level) where
       let taken = take (len_by r w) w.ahead in
       binds-gave z s false (len_by r w) (node_by l.classes making (token_by r w) (len_by r w) w) _ h
       (fine-made making (token_node l.classes (token_by r w) taken) e (fine-token l.classes (token_by r w) taken))
-  binds-done flushes e z s h = record { nodes = fine-still (hand_of l z s).trivia (still-hand l z s h); known = tt }
-  binds-done (complains message) e z s h = record { nodes = (fine-error message [], tt); known = h }
+  binds-done flushes e z s h = record { nodes = fines-all (hand_of l z s).trivia (fine-still (hand_of l z s).trivia (still-hand l z s h)); known = tt }
+  binds-done (complains message) e z s h = record { nodes = (fine-error message [], inl refl); known = h }
   binds-done (advises hint) e z s h = record { nodes = tt; known = h }
   binds-done (marks mark) e z s h = record { nodes = tt; known = h }
   binds-done is_deepest e z s h = record { nodes = tt; known = h }

@@ -14,7 +14,8 @@ use Rattle.typst_code.specs.Equations.{math_reading}
 use Rattle.typst_code.specs.Expressions.{code_expr}
 use Rattle.typst_binding.specs.Binding.{BindingLaw, CodeBindingLaw, MathBindingLaw}
 use Rattle.typst_grammar.specs.Grammar.{production, block_production, rules, meaning, level_at, max_depth, start_of, whole, whole_code, whole_math, parsed, parsed_code, parsed_math, tree, tree_code, tree_math}
-use Rattle.typst_binding.proofs.Fine.{fine-inner}
+use Rattle.typst_binding.proofs.Fine.{fine-over}
+use Rattle.typst_binding.proofs.Leads.{fills-nest}
 use Rattle.typst_binding.proofs.FineRuns.{AllBind, Plain, binds-run}
 use Rattle.typst_binding.proofs.PlainParts.{plain-flush, plain-run, plain-exprs, plain-content, plain-markup-expr, plain-pattern}
 use Rattle.typst_binding.proofs.PlainCode.{plain-code-exprs, plain-code-block, plain-atomic, plain-math-expr}
@@ -74,15 +75,15 @@ module _ (k : CharClasses) where
 module _ (step : (k : CharClasses) → Step k) where
   pub binding-markup : BindingLaw
   unfolding tree
-  binding-markup k text = fine-inner kind.Markup (parsed k max_depth text).nodes refl (level-binds k max_depth (calls-bind k (step k) max_depth) whole plain-whole (start_of text) (start_point markup_reading) tt).nodes
+  binding-markup k text = fine-over kind.Markup (parsed k max_depth text).nodes refl (level-binds k max_depth (calls-bind k (step k) max_depth) whole plain-whole (start_of text) (start_point markup_reading) tt).nodes
 
   pub binding-code : CodeBindingLaw
   unfolding tree_code
-  binding-code k text = fine-inner kind.Code (parsed_code k max_depth text).nodes refl (level-binds k max_depth (calls-bind k (step k) max_depth) whole_code plain-whole-code (start_of text) (start_point code_reading) tt).nodes
+  binding-code k text = fine-over kind.Code (parsed_code k max_depth text).nodes refl (level-binds k max_depth (calls-bind k (step k) max_depth) whole_code plain-whole-code (start_of text) (start_point code_reading) tt).nodes
 
   pub binding-math : MathBindingLaw
   unfolding tree_math
-  binding-math k text = fine-inner kind.Math (parsed_math k max_depth text).nodes refl (level-binds k max_depth (calls-bind k (step k) max_depth) whole_math plain-whole-math (start_of text) (start_point math_reading) tt).nodes
+  binding-math k text = fine-over kind.Math (parsed_math k max_depth text).nodes refl (level-binds k max_depth (calls-bind k (step k) max_depth) whole_math plain-whole-math (start_of text) (start_point math_reading) tt).nodes
 
 pub step : (k : CharClasses) → Step k
 step k = ?

@@ -3,6 +3,7 @@ pub mod FineRuns
 pub mod PlainParts
 pub mod PlainCode
 pub mod Heads
+pub mod Leads
 pub mod Turns
 pub mod Operands
 pub mod Grown
