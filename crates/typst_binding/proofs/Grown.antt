@@ -1,5 +1,5 @@
 -- Expressions of code bind: what grows turn by turn.
-use Rattle.std.proofs.Common.{◌≡◌, ℕ, zero, suc, ◌+◌, ◌≤◌, ◌<◌, Bool, true, false, ◌&&◌, if◌then◌else◌, nat_lt, List, [], ◌∷◌, ◌++◌, length, take, drop, nat_le, length-append, length-take, append_assoc, Option, Some, None, refl, ap, sym, ◌∙◌, ◌⊎◌, inl, inr, subst, arith}
+use Rattle.std.proofs.Common.{◌≡◌, ℕ, zero, suc, ◌+◌, ◌≤◌, ◌<◌, Bool, true, false, ◌&&◌, ◌||◌, if◌then◌else◌, nat_lt, List, [], ◌∷◌, ◌++◌, length, take, drop, nat_le, length-append, length-take, append_assoc, Option, Some, None, refl, ap, sym, ◌∙◌, ◌⊎◌, inl, inr, subst, arith}
 use Rattle.std.proofs.lemmas.Bool.Decides.{nat_tests}
 use Rattle.typst_kinds.specs.Kinds.{is_error, is_trivia}
 use Rattle.typst_kinds.specs.Operators.{binary_precedence, assoc_of}
@@ -17,7 +17,7 @@ use Rattle.typst_code.specs.Shape.{Shape, becomes}
 use Rattle.typst_code.specs.Meaning.{Outcome, Meaning, joined, answered, bound, inside, reshaped, grown, is_more, growths}
 use Rattle.typst_code.proofs.Places.{moved-sum, less-none}
 use Rattle.typst_binding.specs.Binding.{any_errors, has_errors, sign_of, operator_of, binds_by, right_least, node_binds}
-use Rattle.typst_binding.proofs.Fine.{All, Fine, or-left, all-append, all-drop, all-take, all-map, fine-binary, leaf-operator}
+use Rattle.typst_binding.proofs.Fine.{All, or-left, or-right, all-append, all-drop, all-map, fines-behind, fine-binary, leaf-operator}
 use Rattle.typst_binding.proofs.FineRuns.{Binds, Still, binds-joined}
 use Rattle.typst_binding.proofs.Heads.{Silent, standing-silent, Leafy, LastIs, last-map, last-one, behind-take}
 use Rattle.typst_binding.proofs.Turns.{tight-binds, bare-binds, NoSign, BindsBy, Sane, below, Tight, binary-binds, all-sane, all-with, last-with, all-left, all-right}
@@ -70,18 +70,26 @@ last-left E P Q [] h f = f h
 last-left E P Q (t ∷ []) h f = h.1
 last-left E P Q (t ∷ u ∷ ts) h f = last-left E P Q (u ∷ ts) h f
 
+-- no errors are among the last of them where none are among all
+pub errors-second : (t : Tree) (ts : List Tree) → any_errors (forest (t ∷ ts)) ≡ false → any_errors (forest ts) ≡ false
+errors-second t ts n = or-right (any_errors t.kids) (any_errors (forest ts)) (or-right (is_error t.head.kind) (any_errors t.kids || any_errors (forest ts)) n)
+
+pub errors-behind : (ts us : List Tree) → any_errors (forest (ts ++ us)) ≡ false → any_errors (forest us) ≡ false
+errors-behind [] us n = n
+errors-behind (t ∷ ts) us n = errors-behind ts us (errors-second t (ts ++ us) n)
+
 -- the node over them binds, and as tightly as what comes
 abbrev Fits : SyntaxKind → BinOp → List Tree → Type 0
 Fits j op ts = (operator_of (inner_of kind.Binary (forest ts)) ≡ Some op) × ((node_binds (inner_of kind.Binary (forest ts)) ≡ true) × (below (suc (binary_precedence op)) j ≡ true))
 
 -- an operator that was taken, with its right operand
 module _ (i j : SyntaxKind) (op : BinOp) (text : List ℕ) (sgn : Tree) (ds : List Tree) (e : sign_of i ≡ Some op) (leafy : Leafy i text sgn)
-    (right : LastIs (has_errors sgn ≡ true) (λ t. Sane t → BindsBy (right_least op) t × (below (right_least op) j ≡ true)) ds) where
+    (right : any_errors (forest ds) ≡ false → LastIs (has_errors sgn ≡ true) (λ t. Sane t → BindsBy (right_least op) t × (below (right_least op) j ≡ true)) ds) where
   fits-leaf : sgn ≡ leaf_of i text → (ls : List Tree) → All NoSign ls → All (λ t. Sane t → BindsBy (binary_precedence op) t) ls → any_errors (forest (ls ++ sgn ∷ ds)) ≡ false → Fits j op (ls ++ sgn ∷ ds)
   fits-leaf is ls no_signs left n =
       let sane = all-sane (ls ++ sgn ∷ ds) n in
       let here = all-right Sane ls (sgn ∷ ds) sane in
-      let r = last-with (has_errors sgn ≡ true) (λ t. BindsBy (right_least op) t × (below (right_least op) j ≡ true)) ds right here.1 in
+      let r = last-with (has_errors sgn ≡ true) (λ t. BindsBy (right_least op) t × (below (right_least op) j ≡ true)) ds (right (errors-second sgn ds (errors-behind ls (sgn ∷ ds) n))) here.1 in
       let wrong : has_errors sgn ≡ true → ⊥ = (λ w. let s = here.0 in absurd (cc)) in
       let tight = last-left (has_errors sgn ≡ true) (below (right_least op) j ≡ true) (BindsBy (right_least op)) ds r (λ w. absurd (wrong w)) in
       let k : sgn.head.kind ≡ i = ap (λ (t : Tree). t.head.kind) is in
@@ -140,7 +148,7 @@ module _ (k : CharClasses) (least : ℕ) where
     x = answered a (joined o p)
 
     pub grown-binary : (op : BinOp) (text : List ℕ) (sgn : Tree) (ds : List Tree) → sign_of i ≡ Some op → nat_le least (binary_precedence op) ≡ true → Leafy i text sgn → All Still trivia
-        → p.nodes ≡ trivia ++ sgn ∷ ds → p.back ≡ 0 → p.hints ≡ [] → Binds p → LastIs (has_errors sgn ≡ true) (λ t. Sane t → BindsBy (right_least op) t × (below (right_least op) j ≡ true)) ds
+        → p.nodes ≡ trivia ++ sgn ∷ ds → p.back ≡ 0 → p.hints ≡ [] → Binds p → (any_errors (forest ds) ≡ false → LastIs (has_errors sgn ≡ true) (λ t. Sane t → BindsBy (right_least op) t × (below (right_least op) j ≡ true)) ds)
         → Grown n z s (reshaped (becomes kind.Binary) n x)
     grown-binary op text sgn ds e l leafy still nodes back hints b right =
         let m = n + x.back in
@@ -157,11 +165,10 @@ module _ (k : CharClasses) (least : ℕ) where
         let fit : any_errors (forest cs) ≡ false → Fits j op cs = subst (λ (ts : List Tree). any_errors (forest ts) ≡ false → Fits j op ts) (sym same-cs) (fits i j op text sgn ds e leafy right sp.front no_signs binding) in
         let node = inner_of kind.Binary (forest cs) in
         let all = binds-joined o p g.binds b in
-        let fine = fine-binary cs (all-drop Fine m x.nodes all.nodes) (λ y. (fit y).1.0) in
         let there : kind_at (moved (o.taken + p.taken) z) p.state ≡ j = ap (λ (v : Place). kind_at v p.state) (moved-sum o.taken p.taken z) in
         let leftward : Leftward j node = (refl, λ y. tight-of j op node (fit y).0 (fit y).1.1) in
         record {
-          binds = record { nodes = all-append Fine (take m x.nodes) (node ∷ []) (all-take Fine m x.nodes all.nodes) (fine, tt); known = all.known };
+          binds = record { nodes = fines-behind m x.nodes (node ∷ []) all.nodes (λ h. (fine-binary cs h (λ y. (fit y).1.0), inr tt)); known = all.known };
           inside = behind-take (Leftward (kind_at (moved (o.taken + p.taken) z) p.state)) m x.nodes (node ∷ []) (subst (λ (v : SyntaxKind). Leftward v node) (sym there) leftward, tt);
           last = last-one (s.is_after_error ≡ true) (λ t. Sane t → BindsBy least t) (take m x.nodes) node (λ y. by-operator node (fit y).0);
           enough = (let a1 = length-append o.nodes (trivia ++ sgn ∷ ds) in let a2 = length-append trivia (sgn ∷ ds) in let a3 = ap (λ (ts : List Tree). length ts) is in let a4 = length-take m x.nodes in let a5 = length-append (take m x.nodes) (node ∷ []) in omega (arith, a1, a2, a3, a4, a5, en, same-m));
@@ -173,7 +180,7 @@ module _ (k : CharClasses) (least : ℕ) where
   -- an operand
   pub record Operand {A : Type 0} (z : Place) (s : Point) (o : Outcome A) : Type 0 where
     pub binds : Binds o
-    pub last : LastIs (s.is_after_error ≡ true) (Ended (kind_at (moved o.taken z) o.state)) o.nodes
+    pub last : any_errors (forest o.nodes) ≡ false → LastIs (s.is_after_error ≡ true) (Ended (kind_at (moved o.taken z) o.state)) o.nodes
 
   -- a turn stops, or takes something and goes on
   pub record Stopped {A : Type 0} (z : Place) (s : Point) (p : Outcome (Option Shape × A)) (next : Outcome A) : Type 0 where
@@ -200,7 +207,7 @@ module _ (k : CharClasses) (least : ℕ) where
       (λ t h y. (h y, ap (below least) there ∙ l)) o.nodes g.last in
       let r : Operand z s x = record {
         binds = record { nodes = all.nodes; known = all.known };
-        last = subst (λ (ts : List Tree). LastIs (s.is_after_error ≡ true) (Ended (kind_at (moved (o.taken + p.taken) z) p.state)) ts) (sym (standing-silent p q o.nodes)) last;
+        last = λ e. subst (λ (ts : List Tree). LastIs (s.is_after_error ≡ true) (Ended (kind_at (moved (o.taken + p.taken) z) p.state)) ts) (sym (standing-silent p q o.nodes)) last;
       } in
       record { says = ap is_more none; operand = subst (λ y. Operand z s y) (sym is) r }
 

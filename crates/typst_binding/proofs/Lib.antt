@@ -7,4 +7,6 @@ pub mod Leads
 pub mod Turns
 pub mod Operands
 pub mod Grown
+pub mod Levels
+pub mod Tails
 pub mod Knot
