@@ -13,12 +13,13 @@ use Rattle.typst_node.specs.Tree.{Tree, forest, leaf_of, inner_of}
 use Rattle.typst_classes.specs.Classes.{CharClasses}
 use Rattle.typst_code.specs.Hand.{hand_at}
 use Rattle.typst_code.specs.Point.{Point}
-use Rattle.typst_code.specs.Shape.{Shape, becomes}
-use Rattle.typst_code.specs.Meaning.{Outcome, Meaning, joined, answered, bound, inside, reshaped, grown, is_more, growths}
-use Rattle.typst_code.proofs.Places.{moved-sum, less-none}
+use Rattle.typst_code.specs.Shape.{Shape, becomes, hinted}
+use Rattle.typst_code.specs.Meaning.{Outcome, Meaning, less, joined, answered, bound, inside, reshaped, grown, is_more, growths}
+use Rattle.typst_code.proofs.Hints.{length-hinted}
+use Rattle.typst_code.proofs.Places.{moved-sum, less-none, length-less}
 use Rattle.typst_binding.specs.Binding.{any_errors, has_errors, sign_of, operator_of, binds_by, right_least, node_binds}
-use Rattle.typst_binding.proofs.Fine.{All, or-left, or-right, all-append, all-drop, all-map, fines-behind, fine-binary, leaf-operator}
-use Rattle.typst_binding.proofs.FineRuns.{Binds, Still, binds-joined}
+use Rattle.typst_binding.proofs.Fine.{All, or-left, or-right, all-append, all-drop, all-map, fines-behind, fine-binary, leaf-operator, no-operator, is-tame, tame_kind}
+use Rattle.typst_binding.proofs.FineRuns.{Binds, Still, binds-joined, binds-reshaped}
 use Rattle.typst_binding.proofs.Heads.{Silent, standing-silent, Leafy, LastIs, last-map, last-one, behind-take}
 use Rattle.typst_binding.proofs.Turns.{tight-binds, bare-binds, NoSign, BindsBy, Sane, below, Tight, binary-binds, all-sane, all-with, last-with, all-left, all-right}
 
@@ -176,6 +177,32 @@ module _ (k : CharClasses) (least : ℕ) where
       where
         by-operator : (t : Tree) → operator_of t ≡ Some op → BindsBy least t
         by-operator t y = rw (y, binds_by) l
+
+  tight-none : (j : SyntaxKind) (t : Tree) → operator_of t ≡ None → Tight j t
+  tight-none j t e = subst (λ (o : Option BinOp). elim o as (λ _. Type 0) [ None ↦ Unit {0} | Some x ↦ below (suc (binary_precedence x)) j ≡ true ]) (sym e) tt
+
+  -- another tail becomes a node
+  module _ {A : Type 0} (n : ℕ) (z : Place) (s : Point) (o : Outcome A) (p : Outcome (Option Shape × A)) (a : A) (g : Grown n z s o) where
+    pub grown-other : (i : SyntaxKind) → tame_kind i ≡ true → sign_of i ≡ None → p.back ≡ 0 → length (hand_at k o.state.held o.state.known (moved o.taken z)).trivia ≤ length p.nodes → Binds p → Grown n z s (reshaped (becomes i) n (answered a (joined o p)))
+    grown-other i e f back long b =
+        let x = answered a (joined o p) in
+        let m = n + x.back in
+        let node = inner_of i (forest (inside n x)) in
+        let all = binds-joined o p g.binds b in
+        let none = no-operator node (is-tame i e) in
+        let en = g.enough in
+        let a1 = length-append (hinted p.hints (less p.back o.nodes)) p.nodes in
+        let a2 = length-less p.back o.nodes in
+        let a3 = length-hinted p.hints (less p.back o.nodes) in
+        let a4 = length-take m x.nodes in
+        let a5 = length-append (take m x.nodes) (node ∷ []) in
+        let j = kind_at (moved (o.taken + p.taken) z) p.state in
+        record {
+          binds = binds-reshaped (becomes i) e n x (record { nodes = all.nodes; known = all.known });
+          inside = behind-take (Leftward j) m x.nodes (node ∷ []) ((f, λ y. tight-none j node none), tt);
+          last = last-one (s.is_after_error ≡ true) (λ t. Sane t → BindsBy least t) (take m x.nodes) node (λ y. bare-binds least node none);
+          enough = omega (arith, back, long, en, a1, a2, a3, a4, a5);
+        }
 
   -- an operand
   pub record Operand {A : Type 0} (z : Place) (s : Point) (o : Outcome A) : Type 0 where

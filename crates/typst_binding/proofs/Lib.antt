@@ -7,6 +7,7 @@ pub mod Leads
 pub mod Turns
 pub mod Operands
 pub mod Grown
+pub mod Missing
 pub mod Levels
 pub mod Tails
 pub mod Knot

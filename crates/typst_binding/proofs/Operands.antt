@@ -115,9 +115,13 @@ module _ (l : Level) (z : Place) (s : Point) where
   after-error true text = refl
   after-error false text = refl
 
+  pub making-empties : (trims : Bool) → 0 < (hand_of l z s).len → (run l (eat_making trims itself) z s).state.empties ≡ 0
+  unfolding run eat_making
+  making-empties trims h = after-empties (is_error taken_sign.head.kind) (text_of taken_sign) (node-text l z s h)
+
   pub eat-empties : 0 < (hand_of l z s).len → (run l eat z s).state.empties ≡ 0
-  unfolding run eat eat_making
-  eat-empties h = after-empties (is_error taken_sign.head.kind) (text_of taken_sign) (node-text l z s h)
+  unfolding eat
+  eat-empties h = making-empties false h
 
   pub eat-error : (run l eat z s).state.is_after_error ≡ is_error taken_sign.head.kind
   unfolding run eat eat_making

@@ -66,12 +66,12 @@ module _ (k : CharClasses) (levels : ℕ) (d : CallsBind k levels) (ops : Deeper
 
   -- ---- an operator and its right operand
 
-  module _ (op : BinOp) (v : Place) (y : Point) (still : All Still (pending y.known)) (e : sign_of (hand_of l v y).kind ≡ Some op) where
+  module _ (op : BinOp) (v : Place) (y : Point) (still : All Still (pending y.known)) (e : (is_end (hand_of l v y).kind || is_plain (hand_of l v y).kind) ≡ false) where
     abbrev i : SyntaxKind
     i = (hand_of l v y).kind
 
     no_end : is_end i ≡ false
-    no_end = first-false (is_end i) (is_plain i) (sign-leaf i op e)
+    no_end = first-false (is_end i) (is_plain i) e
 
     some : 0 < (hand_of l v y).len
     some = hand-takes k y.held y.known v no_end
@@ -106,8 +106,8 @@ module _ (k : CharClasses) (levels : ℕ) (d : CallsBind k levels) (ops : Deeper
 
     pub whole-leafy : Leafy i text sgn
     whole-leafy =
-        leafy-last operand.hints i text (taken_sign l v y) (first-false (is_error i) _ (second-false (is_end i) (is_plain i) (sign-leaf i op e)))
-        (leafy-token k (hand_of l v y).token (text_ahead (hand_of l v y).len (moved (hand_of l v y).gap v)) i (hand-kind k y.held y.known v i no_end refl) (second-false (is_end i) (is_plain i) (sign-leaf i op e)))
+        leafy-last operand.hints i text (taken_sign l v y) (first-false (is_error i) _ (second-false (is_end i) (is_plain i) e))
+        (leafy-token k (hand_of l v y).token (text_ahead (hand_of l v y).len (moved (hand_of l v y).gap v)) i (hand-kind k y.held y.known v i no_end refl) (second-false (is_end i) (is_plain i) e))
 
     wrong-sign : eaten.state.is_after_error ≡ true → has_errors sgn ≡ true
     wrong-sign a = or-true (is_error sgn.head.kind) (any_errors sgn.kids) (last-kind operand.hints (taken_sign l v y) (sym (eat-error l v y) ∙ a))
@@ -145,23 +145,26 @@ module _ (k : CharClasses) (levels : ℕ) (d : CallsBind k levels) (ops : Deeper
       abbrev p_of : CodeTail → Outcome (Option Shape × Unit {0})
       p_of t = run l (turn_by t) w o.state
 
+      -- no more is taken than there is
+      abbrev Fits : Outcome (Option Shape × Unit {0}) → Type 0
+      Fits p = p.taken + bound (moved p.taken w) p.state ≤ bound w o.state
+
+      fits : (t : CodeTail) → Fits (p_of t)
+      fits t = (sane-at (rules k) k levels (turn_by t)).within w o.state
+
       -- it stops, or goes on with less to come
-      abbrev pub Turned : CodeTail → Type 0
-      Turned t =
-          Stopped k least z s (p_of t) (turned k least n o (p_of t))
-          ⊎ (WentOn k least n z s (p_of t) (turned k least n o (p_of t)) × ((p_of t).taken + bound (moved (turned k least n o (p_of t)).taken z) (turned k least n o (p_of t)).state ≤ bound w o.state))
+      abbrev pub Turned : Outcome (Option Shape × Unit {0}) → Type 0
+      Turned p =
+          Stopped k least z s p (turned k least n o p)
+          ⊎ (WentOn k least n z s p (turned k least n o p) × (p.taken + bound (moved (turned k least n o p).taken z) (turned k least n o p).state ≤ bound w o.state))
 
       bound-by : (p : Outcome (Option Shape × Unit {0})) (v : Option Shape) → bound (moved (grown n v (answered p.value.1 (joined o p))).taken z) (grown n v (answered p.value.1 (joined o p))).state ≡ bound (moved p.taken w) p.state
       bound-by p None = ap (λ (x : Place). bound x p.state) (moved-sum o.taken p.taken z)
       bound-by p (Some shape) =
           ap (λ (x : Option Trivia). max (gap_of x) (length (moved (o.taken + p.taken) z).ahead)) (after-shape-known shape _ p.state) ∙ ap (λ (x : Place). bound x p.state) (moved-sum o.taken p.taken z)
 
-      went : (t : CodeTail) → is_more (p_of t).value.0 ≡ true → 0 < (p_of t).taken → Grown k least n z s (turned k least n o (p_of t)) → Turned t
-      went t says taken grew =
-          let p = p_of t in
-          let less = (sane-at (rules k) k levels (turn_by t)).within w o.state in
-          let same = bound-by p p.value.0 in
-          inr (record { says = says; taken = taken; grown = grew }, omega (arith, less, same))
+      went : (p : Outcome (Option Shape × Unit {0})) → Fits p → is_more p.value.0 ≡ true → 0 < p.taken → Grown k least n z s (turned k least n o p) → Turned p
+      went p less says taken grew = let same = bound-by p p.value.0 in inr (record { says = says; taken = taken; grown = grew }, omega (arith, less, same))
 
       -- the token at hand once it was asked for
       abbrev t : Point
@@ -176,12 +179,12 @@ module _ (k : CharClasses) (levels : ℕ) (d : CallsBind k levels) (ops : Deeper
       abbrev nothing : Option Shape × Unit {0}
       nothing = (None, tt {0})
 
-      turn-nothing : (has_trivia : Bool) → code_tail false least h.kind has_trivia ≡ tail.Nothing → Turned tail.Nothing
+      turn-nothing : (has_trivia : Bool) → code_tail false least h.kind has_trivia ≡ tail.Nothing → Turned (p_of tail.Nothing)
       unfolding run
       turn-nothing has_trivia e =
           let p = p_of tail.Nothing in
           let first = record (plain (told h) t) { asks = hand_asks_of l w o.state } in
-          inl (stopped-silent k least n z s o p g (silent-joined first (plain nothing t) (record { nodes = refl; back = refl; hints = refl }) (silent-plain (None {A = Shape}, tt {0}) t)) refl
+          inl (stopped-silent k least n z s o p g (silent-joined first (plain nothing t) (record { nodes = refl; back = refl; hints = refl }) (silent-plain nothing t)) refl
           (level-binds k levels d (turn_by tail.Nothing) (refl, λ _. tt) w o.state g.binds.known) (ap (λ (x : Hand). x.kind) again) (nothing-below least h.kind has_trivia e))
 
       -- the token at hand takes something
@@ -196,18 +199,18 @@ module _ (k : CharClasses) (levels : ℕ) (d : CallsBind k levels) (ops : Deeper
       unfolding binary_expr
       moves-binary op = moves-next l eat _ (moves-eat l)
 
-      turn-binary : (op : BinOp) (has_trivia : Bool) → code_tail false least h.kind has_trivia ≡ tail.Binary op → Turned (tail.Binary op)
+      turn-binary : (op : BinOp) (has_trivia : Bool) → code_tail false least h.kind has_trivia ≡ tail.Binary op → Turned (p_of (tail.Binary op))
       unfolding run binary_expr
       turn-binary op has_trivia e =
           let c = sign-comes least h.kind has_trivia op e in
           let p = p_of (tail.Binary op) in
           let first = record (plain (told h) t) { asks = hand_asks_of l w o.state } in
-          let there : sign_of (hand_of l w t).kind ≡ Some op = ap (λ (x : Hand). sign_of x.kind) again ∙ c.0 in
+          let there : (is_end (hand_of l w t).kind || is_plain (hand_of l w t).kind) ≡ false = ap (λ (x : Hand). is_end x.kind || is_plain x.kind) again ∙ sign-leaf h.kind op c.0 in
           let q = run l (binary_expr op) w t in
           let x = exact-joined first q [] ((hand_of l w t).trivia ++ sgn op w t still there ∷ operands op w t still there) (exact-plain (told h) t (hand_asks_of l w o.state)) (whole-exact op w t still there) in
           let same_taken : 0 + q.taken ≡ q.taken = omega arith in
           let same_kind : kind_at k 0 (moved p.taken w) p.state ≡ kind_at k 0 (moved q.taken w) q.state = ap (λ (m : ℕ). kind_at k 0 (moved m w) q.state) same_taken in
-          went (tail.Binary op) refl (moves-peek l (λ _. binary_expr op) (λ a. moves-binary op) w o.state (comes (first-false (is_end h.kind) (is_plain h.kind) (sign-leaf h.kind op c.0))))
+          went p (fits (tail.Binary op)) refl (moves-peek l (λ _. binary_expr op) (λ a. moves-binary op) w o.state (comes (first-false (is_end h.kind) (is_plain h.kind) (sign-leaf h.kind op c.0))))
           (grown-binary k least n z s o p (tt {0}) g op (text op w t still there) (sgn op w t still there) (operands op w t still there) c.0 c.1
           (subst (λ (v : SyntaxKind). Leafy v (text op w t still there) (sgn op w t still there)) (ap (λ (v : Hand). v.kind) again) (whole-leafy op w t still there)) still
           (x.nodes ∙ ap (λ (v : Hand). v.trivia ++ sgn op w t still there ∷ operands op w t still there) again) x.back x.hints
