@@ -1,5 +1,5 @@
 -- What takes an expression into its node, turn by turn.
-use Rattle.std.proofs.Common.{◌≡◌, ℕ, zero, suc, ◌+◌, ◌-◌, ◌≤◌, ◌<◌, max, Bool, true, false, ◌&&◌, ◌||◌, not, if◌then◌else◌, nat_le, List, [], ◌∷◌, ◌++◌, length, take, length-append, length-take, Option, Some, None, refl, ap, sym, ◌∙◌, ◌⊎◌, inl, inr, subst, arith, encode_utf8_all}
+use Rattle.std.proofs.Common.{codes, append_assoc, ◌≡◌, ℕ, zero, suc, ◌+◌, ◌-◌, ◌≤◌, ◌<◌, max, Bool, true, false, ◌&&◌, ◌||◌, not, if◌then◌else◌, nat_le, List, [], ◌∷◌, ◌++◌, length, take, length-append, length-take, Option, Some, None, refl, ap, sym, ◌∙◌, ◌⊎◌, inl, inr, subst, arith, encode_utf8_all}
 use Rattle.typst_kinds.specs.Kinds.{same, is_error}
 use Rattle.typst_kinds.specs.Operators.{binary_precedence}
 use Rattle.typst_kinds.specs.declared.kind.SyntaxKind.{SyntaxKind}
@@ -13,29 +13,30 @@ use Rattle.typst_code.specs.calls.Call.TheVariants.{CodeExpr}
 use Rattle.typst_code.specs.declared.heads.CodeTail.{CodeTail}
 use Rattle.typst_code.specs.declared.heads.CodeTail.TheVariants as tail
 use Rattle.typst_code.specs.Depth.{deeper, is_end}
-use Rattle.typst_code.specs.Expressions.{binary_expr, code_tail, operand_least, tail_by}
+use Rattle.typst_code.specs.Expressions.{not_in, binary_expr, code_tail, operand_least, tail_by}
 use Rattle.typst_code.specs.Hand.{Hand, AtHand, told, hand_at, text_ahead}
 
 use Rattle.typst_code.specs.Point.{Point, Trivia, pending, gap_of}
-use Rattle.typst_code.specs.Shape.{Shape, becomes, after_shape}
+use Rattle.typst_code.specs.Shape.{Shape, becomes, hinted, after_shape}
 use Rattle.typst_code.specs.Shape.Making.{itself}
-use Rattle.typst_code.specs.Steps.{peek, eat}
+use Rattle.typst_code.specs.Steps.{peek, eat, expected}
 use Rattle.typst_code.specs.Syntax.{Parser}
 use Rattle.typst_code.specs.Syntax.Parser.{next}
-use Rattle.typst_code.specs.Meaning.{Outcome, Level, plain, joined, answered, bound, grown, is_more, hand_of, hand_asks_of, taken_node, asked, run}
+use Rattle.typst_code.specs.Meaning.{Outcome, Level, plain, less, reshaped, joined, answered, bound, grown, is_more, hand_of, hand_asks_of, taken_node, asked, run}
 use Rattle.typst_code.proofs.Ends.{hand-again, hand-takes}
 use Rattle.typst_code.proofs.Knot.{sane-at}
-use Rattle.typst_code.proofs.Places.{moved-sum}
+use Rattle.typst_code.proofs.Places.{moved-sum, no-end}
 use Rattle.typst_grammar.specs.Grammar.{rules, level_at}
 use Rattle.typst_grammar.proofs.Moves.{Moves, moves-next, moves-peek, moves-eat}
 use Rattle.typst_binding.specs.Binding.{any_errors, has_errors, sign_of, operator_of, right_least}
-use Rattle.typst_binding.proofs.Fine.{All}
-use Rattle.typst_binding.proofs.FineRuns.{Binds, Plain, Still, still-hand, after-shape-known}
-use Rattle.typst_binding.proofs.PlainParts.{plain-eat, plain-deeper}
-use Rattle.typst_binding.proofs.Heads.{Silent, silent-joined, silent-plain, Leafy, LastIs, last-map, is_plain, leafy-token, hand-kind}
-use Rattle.typst_binding.proofs.Turns.{Sane, BindsBy, below, nothing-below, sign-comes}
-use Rattle.typst_binding.proofs.Operands.{Exact, exact-plain, exact-joined, taken_sign, exact-eat, eat-empties, eat-error, last_hinted, leafy-last, last-kind, operation-exact}
-use Rattle.typst_binding.proofs.Grown.{kind_at, Grown, Ended, Operand, Stopped, WentOn, turned, grown-binary, stopped-silent}
+use Rattle.typst_binding.proofs.Fine.{All, or-left}
+use Rattle.typst_binding.proofs.FineRuns.{Binds, binds-joined, Plain, Still, still-hand, after-shape-known}
+use Rattle.typst_binding.proofs.PlainParts.{plain-eat, plain-expected, plain-deeper}
+use Rattle.typst_binding.proofs.Heads.{standing-none, Silent, silent-joined, silent-plain, Leafy, LastIs, last-map, is_plain, leafy-token, hand-kind}
+use Rattle.typst_binding.proofs.Turns.{Sane, all-sane, BindsBy, below, nothing-below, sign-comes, not-comes}
+use Rattle.typst_binding.proofs.Operands.{Exact, exact-plain, exact-gives, exact-joined, taken_sign, exact-eat, eat-empties, eat-error, last_hinted, leafy-last, last-kind, operation-exact}
+use Rattle.typst_binding.proofs.Grown.{errors-second, errors-behind, kind_at, Grown, Ended, Operand, Stopped, WentOn, turned, grown-binary, stopped-silent}
+use Rattle.typst_binding.proofs.Missing.{Missed, missed, error-kind}
 use Rattle.typst_binding.proofs.Levels.{CallsBind, DeeperOperands, level-binds}
 
 -- ---- kinds of operators
@@ -55,6 +56,16 @@ first-false false b h = refl
 second-false : (a b : Bool) → (a || b) ≡ false → b ≡ false
 second-false true b h = absurd (cc)
 second-false false b h = h
+
+no-error : (t : Tree) → t.head.kind ≡ kind.Error → any_errors (forest (t ∷ [])) ≡ false → ⊥
+no-error t e n = let x = or-left (is_error t.head.kind) (any_errors t.kids || false) n in let y = ap is_error e in cc
+
+-- the last of several nodes behind one without errors
+last-front : (E : Type 0) (P : Tree → Type 0) (ts : List Tree) (u : Tree) (us : List Tree) → Sane u → LastIs (has_errors u ≡ true) P us → LastIs E P (ts ++ u ∷ us)
+last-front E P [] u [] n h = absurd (cc)
+last-front E P [] u (v ∷ us) n h = last-map (has_errors u ≡ true) E P P (λ e. absurd (cc)) (λ t x. x) (v ∷ us) h
+last-front E P (t ∷ []) u us n h = last-front E P [] u us n h
+last-front E P (t ∷ v ∷ ts) u us n h = last-front E P (v ∷ ts) u us n h
 
 or-true : (a b : Bool) → a ≡ true → (a || b) ≡ true
 or-true true b h = refl
@@ -216,3 +227,148 @@ module _ (k : CharClasses) (levels : ℕ) (d : CallsBind k levels) (ops : Deeper
           (x.nodes ∙ ap (λ (v : Hand). v.trivia ++ sgn op w t still there ∷ operands op w t still there) again) x.back x.hints
           (level-binds k levels d (turn_by (tail.Binary op)) (refl, λ _. plain-binary op) w o.state g.binds.known)
           (λ sane. subst (λ (v : SyntaxKind). LastIs (has_errors (sgn op w t still there) ≡ true) (Ended k (right_least op) v) (operands op w t still there)) (sym same_kind) (whole-right op w t still there sane)))
+
+      -- ---- `not in`
+
+      module _ (has_trivia : Bool) (e : code_tail false least h.kind has_trivia ≡ tail.NotIn) where
+        sign_not : sign_of h.kind ≡ Some binary.NotIn
+        sign_not = let x = (not-comes least h.kind has_trivia e).0 in rw x refl
+
+        leaf_not : (is_end (hand_of l w t).kind || is_plain (hand_of l w t).kind) ≡ false
+        leaf_not = ap (λ (x : Hand). is_end x.kind || is_plain x.kind) again ∙ sign-leaf h.kind binary.NotIn sign_not
+
+        no_end_not : is_end (hand_of l w t).kind ≡ false
+        no_end_not = first-false (is_end (hand_of l w t).kind) (is_plain (hand_of l w t).kind) leaf_not
+
+        some_not : 0 < (hand_of l w t).len
+        some_not = hand-takes k t.held t.known w no_end_not
+
+        -- behind `not`
+        abbrev e1 : Outcome (Unit {0})
+        e1 = run l eat w t
+
+        abbrev w2 : Place
+        w2 = moved e1.taken w
+
+        abbrev h2 : Hand
+        h2 = hand_of l w2 e1.state
+
+        abbrev t2 : Point
+        t2 = asked h2 e1.state
+
+        abbrev pk1 : Outcome AtHand
+        pk1 = record (plain (told h) t) { asks = hand_asks_of l w o.state }
+
+        abbrev pk2 : Outcome AtHand
+        pk2 = record (plain (told h2) t2) { asks = hand_asks_of l w2 e1.state }
+
+        abbrev not_sign : Tree
+        not_sign = taken_sign l w t
+
+        still1 : All Still (pending e1.state.known)
+        still1 = (level-binds k levels d eat plain-eat w t still).known
+
+        still2 : All Still (pending t2.known)
+        still2 = still-hand l w2 e1.state still1
+
+        again2 : hand_of l w2 t2 ≡ h2
+        again2 = hand-again k e1.state.held e1.state.known w2
+
+        -- with what comes behind it
+        abbrev behind_not : Outcome (Option Shape × Unit {0}) → Outcome (Option Shape × Unit {0})
+        behind_not r = joined pk1 (joined e1 (joined pk2 r))
+
+        exact-behind : (r : Outcome (Option Shape × Unit {0})) (ts : List Tree) → Exact r ts → Exact (behind_not r) (h.trivia ++ not_sign ∷ ts)
+        exact-behind r ts x =
+            let y = exact-joined pk1 (joined e1 (joined pk2 r)) [] (((hand_of l w t).trivia ++ not_sign ∷ []) ++ ts) (exact-plain (told h) t (hand_asks_of l w o.state))
+            (exact-joined e1 (joined pk2 r) ((hand_of l w t).trivia ++ not_sign ∷ []) ts (exact-eat l w t) (exact-joined pk2 r [] ts (exact-plain (told h2) t2 (hand_asks_of l w2 e1.state)) x)) in
+            record { nodes = y.nodes ∙ append_assoc (hand_of l w t).trivia (not_sign ∷ []) ts ∙ ap (λ (v : Hand). v.trivia ++ not_sign ∷ ts) again; back = y.back; hints = y.hints }
+
+        abbrev with_in : Outcome (Option Shape × Unit {0})
+        with_in = run l (binary_expr binary.NotIn) w2 t2
+
+        abbrev missing : Outcome (Unit {0})
+        missing = run l (expected (codes "keyword `in`")) w2 t2
+
+        abbrev without_in : Outcome (Option Shape × Unit {0})
+        without_in = joined missing (plain nothing missing.state)
+
+        leafy_not : Leafy h.kind (encode_utf8_all (text_ahead (hand_of l w t).len (moved (hand_of l w t).gap w))) not_sign
+        leafy_not =
+            subst (λ (v : SyntaxKind). Leafy v (encode_utf8_all (text_ahead (hand_of l w t).len (moved (hand_of l w t).gap w))) not_sign) (ap (λ (v : Hand). v.kind) again)
+            (leafy-token k (hand_of l w t).token (text_ahead (hand_of l w t).len (moved (hand_of l w t).gap w)) (hand_of l w t).kind (hand-kind k t.held t.known w (hand_of l w t).kind no_end_not refl) (second-false (is_end (hand_of l w t).kind) (is_plain (hand_of l w t).kind) leaf_not))
+
+        in-leaf : (i : SyntaxKind) → same kind.In i ≡ true → (is_end i || is_plain i) ≡ false
+        in-leaf kind.End x = absurd (cc)
+        in-leaf kind.Error x = absurd (cc)
+        in-leaf kind.Raw x = absurd (cc)
+        in-leaf kind.MathFieldAccess x = absurd (cc)
+        in-leaf _ x = refl
+
+        says-more : is_more (behind_not with_in).value.0 ≡ true
+        unfolding run binary_expr
+        says-more = refl
+
+        grown-more : Grown k least n z s (reshaped (becomes kind.Binary) n (answered (tt {0}) (joined o (behind_not with_in)))) → Grown k least n z s (turned k least n o (behind_not with_in))
+        unfolding run binary_expr
+        grown-more x = x
+
+        went-in : same kind.In h2.kind ≡ true → Fits (behind_not with_in) → Binds (behind_not with_in) → Turned (behind_not with_in)
+        went-in is_in less b =
+            let there : (is_end (hand_of l w2 t2).kind || is_plain (hand_of l w2 t2).kind) ≡ false = in-leaf (hand_of l w2 t2).kind (ap (λ (v : Hand). same kind.In v.kind) again2 ∙ is_in) in
+            let in_sign = sgn binary.NotIn w2 t2 still2 there in
+            let right = operands binary.NotIn w2 t2 still2 there in
+            let before = (hand_of l w2 t2).trivia in
+            let p = behind_not with_in in
+            let x = exact-behind with_in (before ++ in_sign ∷ right) (whole-exact binary.NotIn w2 t2 still2 there) in
+            let sum : p.taken ≡ e1.taken + with_in.taken = omega arith in
+            let same_kind : kind_at k 0 (moved p.taken w) p.state ≡ kind_at k 0 (moved with_in.taken w2) with_in.state = ap (λ (v : Place). kind_at k 0 v with_in.state) (ap (λ (m : ℕ). moved m w) sum ∙ moved-sum e1.taken with_in.taken w) in
+            let gap = ap (λ (v : Hand). v.len) again in
+            let some = moves-eat l w t (omega (arith, some_not)) in
+            went p less says-more (omega (arith, sum, some))
+            (grown-more (grown-binary k least n z s o p (tt {0}) g binary.NotIn (encode_utf8_all (text_ahead (hand_of l w t).len (moved (hand_of l w t).gap w))) not_sign (before ++ in_sign ∷ right) sign_not (not-comes least h.kind has_trivia e).1 leafy_not still
+            x.nodes x.back x.hints b
+            (λ sane. (let rest = errors-behind before (in_sign ∷ right) sane in
+            subst (λ (v : SyntaxKind). LastIs (has_errors not_sign ≡ true) (Ended k (right_least binary.NotIn) v) (before ++ in_sign ∷ right)) (sym same_kind)
+            (last-front (has_errors not_sign ≡ true) (Ended k (right_least binary.NotIn) (kind_at k 0 (moved with_in.taken w2) with_in.state)) before in_sign right (all-sane (in_sign ∷ right) rest).0 (whole-right binary.NotIn w2 t2 still2 there (errors-second in_sign right rest)))))))
+
+        left-over : (r : Outcome (Option Shape × Unit {0})) → any_errors (forest (behind_not r).nodes) ≡ false → any_errors (forest r.nodes) ≡ false
+        left-over r n =
+            let q = joined pk2 r in
+            let a = subst (λ (ts : List Tree). any_errors (forest ts) ≡ false) (standing-none (joined e1 q)) n in
+            subst (λ (ts : List Tree). any_errors (forest ts) ≡ false) (standing-none r) (errors-behind (hinted q.hints (less q.back e1.nodes)) q.nodes a)
+
+        missing-left : any_errors (forest (behind_not without_in).nodes) ≡ false → any_errors (forest missing.nodes) ≡ false
+        missing-left n = subst (λ (ts : List Tree). any_errors (forest ts) ≡ false) (sym (no-end missing.nodes)) (left-over without_in n)
+
+        never : Missed l w2 t2 missing → any_errors (forest (behind_not without_in).nodes) ≡ false → ⊥
+        never (inl x) n = no-error x.node x.is_wrong (errors-behind (hand_of l w2 t2).trivia (x.node ∷ []) (subst (λ (ts : List Tree). any_errors (forest ts) ≡ false) x.nodes (missing-left n)))
+        never (inr (inl x)) n = no-error x.node x.is_wrong (subst (λ (ts : List Tree). any_errors (forest ts) ≡ false) x.exact.nodes (missing-left n))
+        never (inr (inr x)) n =
+            let y = exact-behind without_in [] (exact-gives missing nothing [] x.exact) in
+            let wrong : is_error not_sign.head.kind ≡ true = sym (eat-error l w t) ∙ x.after in
+            no-error not_sign (error-kind not_sign.head.kind wrong) (errors-behind h.trivia (not_sign ∷ []) (subst (λ (ts : List Tree). any_errors (forest ts) ≡ false) y.nodes n))
+
+        stopped-in : Binds (behind_not without_in) → Turned (behind_not without_in)
+        stopped-in b =
+            let p = behind_not without_in in
+            let all = binds-joined o p g.binds b in
+            inl (record {
+              says = refl;
+              operand = record {
+                binds = record { nodes = all.nodes; known = all.known };
+                last = λ sane. absurd (never (missed l (codes "keyword `in`") w2 t2) (errors-behind (hinted p.hints (less p.back o.nodes)) p.nodes sane));
+              };
+            })
+
+        by-in : (b : Bool) → same kind.In h2.kind ≡ b → Fits (behind_not (if b then with_in else without_in)) → Binds (behind_not (if b then with_in else without_in)) → Turned (behind_not (if b then with_in else without_in))
+        by-in true is less b = went-in is less b
+        by-in false is less b = stopped-in b
+
+        plain-not : Plain not_in
+        unfolding not_in
+        plain-not = (plain-eat, λ _. (refl, λ _. (plain-binary binary.NotIn, (plain-expected _, λ _. tt))))
+
+        turn-not : Turned (p_of tail.NotIn)
+        unfolding run not_in
+        turn-not = by-in (same kind.In h2.kind) refl (fits tail.NotIn) (level-binds k levels d (turn_by tail.NotIn) (refl, λ _. plain-not) w o.state g.binds.known)
