@@ -34,7 +34,7 @@ all-take-both P (suc n) zero ts h = tt
 all-take-both P (suc n) (suc m) [] h = tt
 all-take-both P (suc n) (suc m) (t ∷ ts) h = (h.0, all-take-both P n m ts h.1)
 
-all-take-front : (P : Tree → Type 0) (n : ℕ) (xs ys : List Tree) → n ≤ length xs → All P (take n xs) → All P (take n (xs ++ ys))
+pub all-take-front : (P : Tree → Type 0) (n : ℕ) (xs ys : List Tree) → n ≤ length xs → All P (take n xs) → All P (take n (xs ++ ys))
 all-take-front P zero xs ys l h = tt
 all-take-front P (suc n) [] ys l h = absurd (omega arith)
 all-take-front P (suc n) (x ∷ xs) ys l h = (h.0, all-take-front P n xs ys (omega arith) h.1)
@@ -45,15 +45,15 @@ all-take-last P f hints (suc n) [] h = tt
 all-take-last P f hints (suc n) (t ∷ []) h = (on_both P (is_error t.head.kind) _ t (f hints t h.0) h.0, h.1)
 all-take-last P f hints (suc n) (t ∷ u ∷ ts) h = (h.0, all-take-last P f hints n (u ∷ ts) h.1)
 
-all-take-hinted : (P : Tree → Type 0) → Steady P → (hints : List (List ℕ)) (n : ℕ) (ts : List Tree) → All P (take n ts) → All P (take n (hinted hints ts))
+pub all-take-hinted : (P : Tree → Type 0) → Steady P → (hints : List (List ℕ)) (n : ℕ) (ts : List Tree) → All P (take n ts) → All P (take n (hinted hints ts))
 all-take-hinted P f [] n ts h = h
 all-take-hinted P f (hint ∷ hints) n ts h = all-take-last P f (hint ∷ hints) n ts h
 
-all-take-less : (P : Tree → Type 0) (n m : ℕ) (ts : List Tree) → All P (take n ts) → All P (take n (less m ts))
+pub all-take-less : (P : Tree → Type 0) (n m : ℕ) (ts : List Tree) → All P (take n ts) → All P (take n (less m ts))
 unfolding less
 all-take-less P n m ts h = all-take-both P n (length ts - m) ts h
 
-all-front : (P : Tree → Type 0) (xs ys : List Tree) → All P xs → All P (take (length xs) (xs ++ ys))
+pub all-front : (P : Tree → Type 0) (xs ys : List Tree) → All P xs → All P (take (length xs) (xs ++ ys))
 all-front P [] ys h = tt
 all-front P (x ∷ xs) ys h = (h.0, all-front P xs ys h.1)
 

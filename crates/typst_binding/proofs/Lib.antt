@@ -7,6 +7,8 @@ pub mod Leads
 pub mod Turns
 pub mod Operands
 pub mod Grown
+pub mod Firsts
+pub mod Called
 pub mod Missing
 pub mod Levels
 pub mod Tails

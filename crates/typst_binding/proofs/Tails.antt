@@ -10,13 +10,15 @@ use Rattle.typst_lines.specs.Place.{Place, moved}
 use Rattle.typst_node.specs.Tree.{Tree, forest, inner_of}
 use Rattle.typst_classes.specs.Classes.{CharClasses}
 use Rattle.typst_code.specs.calls.Call.TheVariants.{CodeExpr}
+use Rattle.typst_code.specs.Arguments.{calls_directly}
+use Rattle.typst_code.specs.Statements.{field}
 use Rattle.typst_code.specs.declared.heads.CodeTail.{CodeTail}
 use Rattle.typst_code.specs.declared.heads.CodeTail.TheVariants as tail
 use Rattle.typst_code.specs.Depth.{deeper, is_end}
-use Rattle.typst_code.specs.Expressions.{not_in, binary_expr, code_tail, operand_least, tail_by}
+use Rattle.typst_code.specs.Expressions.{code_tail_turn, call_tail, not_in, binary_expr, code_tail, operand_least, tail_by}
 use Rattle.typst_code.specs.Hand.{Hand, AtHand, told, hand_at, text_ahead}
 
-use Rattle.typst_code.specs.Point.{Point, Trivia, pending, gap_of}
+use Rattle.typst_code.specs.Point.{is_nil, Point, Trivia, pending, gap_of}
 use Rattle.typst_code.specs.Shape.{Shape, becomes, hinted, after_shape}
 use Rattle.typst_code.specs.Shape.Making.{itself}
 use Rattle.typst_code.specs.Steps.{peek, eat, expected}
@@ -33,9 +35,13 @@ use Rattle.typst_binding.proofs.Fine.{All, or-left}
 use Rattle.typst_binding.proofs.FineRuns.{Binds, binds-joined, Plain, Still, still-hand, after-shape-known}
 use Rattle.typst_binding.proofs.PlainParts.{plain-eat, plain-expected, plain-deeper}
 use Rattle.typst_binding.proofs.Heads.{standing-none, Silent, silent-joined, silent-plain, Leafy, LastIs, last-map, is_plain, leafy-token, hand-kind}
-use Rattle.typst_binding.proofs.Turns.{Sane, all-sane, BindsBy, below, nothing-below, sign-comes, not-comes}
+use Rattle.typst_binding.proofs.Turns.{Sane, all-sane, BindsBy, below, nothing-below, sign-comes, not-comes, call-comes, dot-comes, no-direct}
 use Rattle.typst_binding.proofs.Operands.{Exact, exact-plain, exact-gives, exact-joined, taken_sign, exact-eat, eat-empties, eat-error, last_hinted, leafy-last, last-kind, operation-exact}
-use Rattle.typst_binding.proofs.Grown.{errors-second, errors-behind, kind_at, Grown, Ended, Operand, Stopped, WentOn, turned, grown-binary, stopped-silent}
+use Rattle.typst_binding.proofs.Grown.{grown-other, errors-second, errors-behind, kind_at, Grown, Ended, Operand, Stopped, WentOn, turned, grown-binary, stopped-silent}
+use Rattle.typst_binding.proofs.PlainCode.{plain-field, plain-call}
+use Rattle.typst_binding.proofs.Leads.{fills-peek}
+use Rattle.typst_binding.proofs.Firsts.{calls-back, blocks-back, fills-field}
+use Rattle.typst_binding.proofs.Called.{called-back}
 use Rattle.typst_binding.proofs.Missing.{Missed, missed, error-kind}
 use Rattle.typst_binding.proofs.Levels.{CallsBind, DeeperOperands, level-binds}
 
@@ -372,3 +378,43 @@ module _ (k : CharClasses) (levels : ℕ) (d : CallsBind k levels) (ops : Deeper
         turn-not : Turned (p_of tail.NotIn)
         unfolding run not_in
         turn-not = by-in (same kind.In h2.kind) refl (fits tail.NotIn) (level-binds k levels d (turn_by tail.NotIn) (refl, λ _. plain-not) w o.state g.binds.known)
+
+      -- ---- calls and fields
+
+      same-dot : (i : SyntaxKind) → same kind.Dot i ≡ true → is_end i ≡ false
+      same-dot kind.End x = absurd (cc)
+      same-dot _ x = refl
+
+      moves-field : Moves l field
+      unfolding field
+      moves-field = moves-next l eat _ (moves-eat l)
+
+      turn-field : (has_trivia : Bool) → code_tail false least h.kind has_trivia ≡ tail.Field → Turned (p_of tail.Field)
+      unfolding run field
+      turn-field has_trivia e =
+          let p = p_of tail.Field in
+          let lead = fills-peek l (λ _. field) (λ a. fills-field l (calls-back k levels) (blocks-back k levels)) w o.state g.binds.known in
+          let room = lead.room in
+          went p (fits tail.Field) refl (moves-peek l (λ _. field) (λ a. moves-field) w o.state (comes (same-dot h.kind (dot-comes least h.kind has_trivia e))))
+          (grown-other k least n z s o p (tt {0}) g kind.FieldAccess refl refl lead.none (omega (arith, room)) (level-binds k levels d (turn_by tail.Field) (refl, λ _. plain-field) w o.state g.binds.known))
+
+      turn-call : (has_trivia : Bool) → has_trivia ≡ not (is_nil h.trivia) → code_tail false least h.kind has_trivia ≡ tail.Call → Turned (p_of tail.Call)
+      unfolding run call_tail
+      turn-call has_trivia f e =
+          let p = p_of tail.Call in
+          let c = called-back k levels w o.state g.binds.known (ap (calls_directly h.kind) (sym f) ∙ call-comes least h.kind has_trivia e) in
+          let back = c.none in let room = c.room in
+          went p (fits tail.Call) refl c.taken
+          (grown-other k least n z s o p (tt {0}) g kind.FuncCall refl refl back (omega (arith, room)) (level-binds k levels d (turn_by tail.Call) (refl, λ _. plain-call) w o.state g.binds.known))
+
+      by-tail : (t : CodeTail) → code_tail false least h.kind (not (is_nil h.trivia)) ≡ t → Turned (p_of t)
+      by-tail tail.Call e = turn-call (not (is_nil h.trivia)) refl e
+      by-tail tail.Field e = turn-field (not (is_nil h.trivia)) e
+      by-tail tail.DirectField e = absurd (no-direct least h.kind (not (is_nil h.trivia)) e)
+      by-tail tail.NotIn e = turn-not (not (is_nil h.trivia)) e
+      by-tail (tail.Binary op) e = turn-binary op (not (is_nil h.trivia)) e
+      by-tail tail.Nothing e = turn-nothing (not (is_nil h.trivia)) e
+
+      pub turn-turned : Turned (run l (code_tail_turn false least tt) w o.state)
+      unfolding run code_tail_turn
+      turn-turned = by-tail (code_tail false least h.kind (not (is_nil h.trivia))) refl
