@@ -7,9 +7,12 @@ pub mod Leads
 pub mod Turns
 pub mod Operands
 pub mod Grown
+pub mod Lost
 pub mod Firsts
 pub mod Called
 pub mod Missing
 pub mod Levels
 pub mod Tails
+pub mod Primary
+pub mod Exprs
 pub mod Knot
