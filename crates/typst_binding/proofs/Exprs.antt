@@ -1,5 +1,6 @@
 -- Expressions with operators bind.
-use Rattle.std.proofs.Common.{◌≡◌, ℕ, zero, suc, ◌+◌, ◌≤◌, ◌<◌, Bool, true, false, List, [], ◌∷◌, ◌++◌, length, Option, Some, None, refl, ap, sym, ◌∙◌, ◌⊎◌, inl, inr, subst, arith}
+use Rattle.std.proofs.lemmas.Bool.Decides.{nat_tests}
+use Rattle.std.proofs.Common.{◌==◌, if◌then◌else◌, codes, take, ◌≡◌, ℕ, zero, suc, ◌+◌, ◌≤◌, ◌<◌, Bool, true, false, List, [], ◌∷◌, ◌++◌, length, Option, Some, None, refl, ap, sym, ◌∙◌, ◌⊎◌, inl, inr, subst, arith}
 use Rattle.typst_lines.specs.Place.{Place, moved}
 use Rattle.typst_node.specs.Tree.{Tree, forest}
 use Rattle.typst_classes.specs.Classes.{CharClasses}
@@ -7,7 +8,11 @@ use Rattle.typst_code.specs.calls.Call.TheVariants.{CodeExpr}
 use Rattle.typst_code.specs.declared.heads.CodeTail.{CodeTail}
 use Rattle.typst_code.specs.declared.heads.CodeTail.TheVariants as tail
 use Rattle.typst_code.specs.Arguments.{arguments}
-use Rattle.typst_code.specs.Depth.{anywhere, too_deep, deeper}
+use Rattle.typst_code.specs.Depth.{anywhere, skip_one, too_deep, deeper}
+use Rattle.typst_code.specs.Knot.{meaning_of}
+use Rattle.typst_code.specs.reading.AtNewline.TheVariants.{Continue}
+use Rattle.typst_code.specs.Syntax.{◌>>◌}
+use Rattle.typst_code.specs.Syntax.Parser.{gives, repeat}
 use Rattle.typst_code.specs.Expected.{expect_identifier}
 use Rattle.typst_code.specs.Expressions.{binary_expr, call_tail, code_expr, code_primary, code_tail, code_tail_turn, direct_field, not_in, tail_by}
 use Rattle.typst_code.specs.Hand.{Hand, AtHand, told}
@@ -15,8 +20,8 @@ use Rattle.typst_code.specs.Point.{Point, pending}
 use Rattle.typst_code.specs.Shape.{Shape, becomes, shaped}
 use Rattle.typst_code.specs.Shape.Shape.{fails}
 use Rattle.typst_code.specs.Statements.{field}
-use Rattle.typst_code.specs.Steps.{eat, expected, grow, node}
-use Rattle.typst_code.specs.Meaning.{Outcome, Level, plain, joined, bound, growths, growing, hand_of, hand_asks_of, asked, run}
+use Rattle.typst_code.specs.Steps.{eat, expected, grow, node, within}
+use Rattle.typst_code.specs.Meaning.{Outcome, Level, plain, deeper_by_one, inside, reshaped, joined, bound, growths, growing, hand_of, hand_asks_of, asked, run}
 use Rattle.typst_code.proofs.Ends.{hand-again}
 use Rattle.typst_code.proofs.Knot.{sane-at}
 use Rattle.typst_code.proofs.Places.{no-end}
@@ -25,9 +30,9 @@ use Rattle.typst_binding.specs.Binding.{any_errors}
 use Rattle.typst_binding.proofs.Fine.{All, Fines}
 use Rattle.typst_binding.proofs.FineRuns.{AllBind, Gives, gives-all, gives-run, Plain, Still, still-hand, binds-joined}
 use Rattle.typst_binding.proofs.Heads.{LastIs, standing-none}
-use Rattle.typst_binding.proofs.PlainParts.{plain-eat, plain-expected, plain-deeper}
+use Rattle.typst_binding.proofs.PlainParts.{plain-eat, plain-expected, plain-deep, plain-deeper}
 use Rattle.typst_binding.proofs.PlainCode.{plain-field, plain-call}
-use Rattle.typst_binding.proofs.Grown.{kind_at, Ended, Grown, Operand, operand-growths}
+use Rattle.typst_binding.proofs.Grown.{errors-behind, kind_at, Ended, Grown, Operand, operand-growths}
 use Rattle.typst_binding.proofs.Levels.{CallsBind, DeeperOperands, level-binds}
 use Rattle.typst_binding.proofs.Lost.{Holds, Lost, operand-lost}
 use Rattle.typst_binding.proofs.Primary.{primary-begins}
@@ -139,8 +144,39 @@ module _ (k : CharClasses) (levels : ℕ) (d : CallsBind k levels) (ops : Deeper
 -- ---- one level deeper
 
 module _ (k : CharClasses) where
+  is-some : (n : ℕ) → (suc n == 0) ≡ false
+  is-some n = grind (arith, nat_tests)
+
+  by-depth : (least : ℕ) (z : Place) (s : Point) (a : Outcome (Unit {0})) (c : Outcome (Unit {0})) → Operand k least z s c → (b : Bool) → b ≡ false → Operand k least z s (joined (record (plain b s) { met = b }) (if b then a else c))
+  by-depth least z s a c h true e = absurd (cc)
+  by-depth least z s a c h false e = operand-behind k least z s s false [] false c refl h
+
+  call-binds : (levels : ℕ) (d : CallsBind k levels) → DeeperOperands k levels → (least : ℕ) (z : Place) (s : Point) → All Still (pending s.known) → Operand k least z s (deeper_by_one (meaning_of (rules k) k (suc levels) (CodeExpr false least) z s))
+  unfolding meaning_of
+  call-binds levels d ops least z s still = let o = expr-binds k levels d ops least z s still in record { binds = record { nodes = o.binds.nodes; known = o.binds.known }; last = o.last }
+
   pub deeper-binds : (levels : ℕ) (d : CallsBind k levels) → DeeperOperands k levels → DeeperOperands k (suc levels)
-  deeper-binds levels d ops least z s still = ?
+  unfolding run deeper
+  deeper-binds levels d ops least z s still = by-depth least z s _ _ (call-binds levels d ops least z s still) (suc levels == 0) (is-some levels)
+
+  too-wrong : (z : Place) (s : Point) → any_errors (forest (run (level_at k 0) (too_deep anywhere >> gives (tt {0})) z s).nodes) ≡ false → ⊥
+  unfolding run too_deep node
+  too-wrong z s sane =
+      let l = level_at k 0 in
+      let t = asked (hand_of l z s) s in
+      let n = length (hand_of l z s).trivia in
+      let o = run l (within (λ r. record r { at_newline = Continue }) (repeat (skip_one anywhere) 0)) z t in
+      let w = reshaped (fails (codes "maximum parsing depth exceeded")) n o in
+      let x = run l (node (λ _. fails (codes "maximum parsing depth exceeded")) (within (λ r. record r { at_newline = Continue }) (repeat (skip_one anywhere) 0))) z s in
+      let y = run l (too_deep anywhere) z s in
+      let inner : x.nodes ≡ w.nodes = standing-none (joined w (plain o.value w.state)) ∙ sym (no-end w.nodes) in
+      let all : (run l (too_deep anywhere >> gives (tt {0})) z s).nodes ≡ w.nodes = sym (no-end y.nodes) ∙ sym (no-end x.nodes) ∙ inner in
+      let last = errors-behind (take (n + o.back) o.nodes) (shaped (fails (codes "maximum parsing depth exceeded")) (inside n o)) (subst (λ (ts : List Tree). any_errors (forest ts) ≡ false) all sane) in
+      cc
 
   pub limit-binds : CallsBind k 0 → DeeperOperands k 0
-  limit-binds d least z s still = ?
+  unfolding run deeper
+  limit-binds d least z s still =
+      let l = level_at k 0 in
+      operand-behind k least z s s true [] true (run l (too_deep anywhere >> gives (tt {0})) z s) refl
+      (record { binds = level-binds k 0 d (too_deep anywhere >> gives (tt {0})) (plain-deep anywhere, λ _. tt) z s still; last = λ sane. absurd (too-wrong z s sane) })
