@@ -178,7 +178,7 @@ module _ (k : CharClasses) (least : ℕ) where
         by-operator : (t : Tree) → operator_of t ≡ Some op → BindsBy least t
         by-operator t y = rw (y, binds_by) l
 
-  tight-none : (j : SyntaxKind) (t : Tree) → operator_of t ≡ None → Tight j t
+  pub tight-none : (j : SyntaxKind) (t : Tree) → operator_of t ≡ None → Tight j t
   tight-none j t e = subst (λ (o : Option BinOp). elim o as (λ _. Type 0) [ None ↦ Unit {0} | Some x ↦ below (suc (binary_precedence x)) j ≡ true ]) (sym e) tt
 
   -- another tail becomes a node

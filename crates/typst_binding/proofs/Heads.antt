@@ -1,5 +1,5 @@
 -- What stands to the left of an operator: no operator stands there, and no binary node.
-use Rattle.std.proofs.Common.{◌≡◌, ℕ, zero, suc, ◌+◌, ◌-◌, Bool, true, false, ◌&&◌, ◌||◌, if◌then◌else◌, nat_lt, List, [], ◌∷◌, ◌++◌, length, take, drop, Option, Some, None, refl, ap, sym, ◌∙◌, ◌⊎◌, inl, inr, subst, arith, encode_utf8_all}
+use Rattle.std.proofs.Common.{◌≡◌, ℕ, zero, suc, ◌+◌, ◌-◌, ◌<◌, Bool, true, false, ◌&&◌, ◌||◌, if◌then◌else◌, nat_lt, List, [], ◌∷◌, ◌++◌, length, take, drop, Option, Some, None, refl, ap, sym, ◌∙◌, ◌⊎◌, inl, inr, subst, arith, encode_utf8_all}
 use Rattle.typst_classes.specs.Classes.{CharClasses}
 use Rattle.typst_kinds.specs.Kinds.{same, is_error}
 use Rattle.typst_kinds.specs.declared.kind.SyntaxKind.{SyntaxKind}
@@ -19,7 +19,10 @@ use Rattle.typst_code.specs.Ask.{Ask}
 use Rattle.typst_code.specs.reading.Reading.{Reading}
 use Rattle.typst_code.specs.Hand.{Hand, AtHand, told, hand_at}
 use Rattle.typst_code.specs.Shape.{Making, Shape, shaped, hinted}
+use Rattle.typst_code.specs.Shape.Change.{stays}
 use Rattle.typst_code.specs.Shape.Making.{itself}
+use Rattle.typst_code.specs.Shape.Shape.{keeps}
+use Rattle.std.proofs.lemmas.List.{take-append-drop}
 use Rattle.typst_code.specs.Syntax.{Parser}
 use Rattle.typst_code.specs.Syntax.Begin.{at_token}
 use Rattle.typst_code.specs.Syntax.Op.{hand, takes}
@@ -89,6 +92,20 @@ single-last E ts [] h = absurd h
 single-last E ts (t ∷ []) h = last-one E Unary ts t h.1
 single-last E ts (t ∷ u ∷ us) h = absurd h
 
+-- what stands before some of them
+pub last-behind : (E F : Type 0) (P : Tree → Type 0) → (F → ⊥) → (ts us : List Tree) → LastIs F P us → LastIs E P (ts ++ us)
+last-behind E F P f [] [] h = absurd (f h)
+last-behind E F P f [] (u ∷ us) h = last-map F E P P (λ x. absurd (f x)) (λ t x. x) (u ∷ us) h
+last-behind E F P f (t ∷ []) [] h = absurd (f h)
+last-behind E F P f (t ∷ []) (u ∷ us) h = last-behind E F P f [] (u ∷ us) h
+last-behind E F P f (t ∷ u ∷ ts) us h = last-behind E F P f (u ∷ ts) us h
+
+-- several nodes of which each is no operator and has none
+pub last-all : (E : Type 0) (ts : List Tree) → All Bare ts → 0 < length ts → LastIs E Unary ts
+last-all E [] h l = absurd (omega arith)
+last-all E (t ∷ []) h l = h.0.1
+last-all E (t ∷ u ∷ ts) h l = last-all E (u ∷ ts) h.1 (omega arith)
+
 -- ---- nodes that stand
 
 less-nil : (n : ℕ) → less {A = Tree} n [] ≡ []
@@ -130,6 +147,17 @@ head-reshaped n s shape o h = record {
   last = single-last (s.is_after_error ≡ true) (take (n + o.back) o.nodes) (shaped shape (inside n o)) h;
 }
 
+-- a shape of nodes of which none is an operator or has one
+pub head-shaped : {A : Type 0} (n : ℕ) (s : Point) (shape : Shape) (o : Outcome A) → All Bare (shaped shape (inside n o)) → 0 < length (shaped shape (inside n o)) → Head n s (reshaped shape n o)
+head-shaped n s shape o h l = record {
+  inside = behind-take Bare (n + o.back) o.nodes (shaped shape (inside n o)) h;
+  last = last-behind (s.is_after_error ≡ true) ⊥ Unary (λ x. x) (take (n + o.back) o.nodes) (shaped shape (inside n o)) (last-all ⊥ (shaped shape (inside n o)) h l);
+}
+
+-- the same nodes
+pub head-stays : {A : Type 0} (n : ℕ) (s : Point) (shape : Shape) (o : Outcome A) → shape ≡ keeps stays → Head n s o → Head n s (reshaped shape n o)
+head-stays n s shape o e h = head-same n s o (reshaped shape n o) (ap (λ (x : Shape). take (n + o.back) o.nodes ++ shaped x (inside n o)) e ∙ take-append-drop (n + o.back) o.nodes) refl h
+
 module _ (l : Level) where
   abbrev pub trivia_at : Place → Point → ℕ
   trivia_at z s = length (hand_of l z s).trivia
@@ -152,16 +180,22 @@ module _ (l : Level) where
   unfolding run
   head-next i p f h z s k e = let o = run l p z s in head-gives (trivia_at z s) s o (f o.value) (h z s k e)
 
-  -- one node
-  pub head-node : {A : Type 0} (i : SyntaxKind) (shape : A → Shape) (p : Parser A) → ((a : A) (ts : List Tree) → Single (shaped (shape a) ts)) → Heads i (node shape p)
+  -- one node, behind what stands at any point
+  pub head-wrapped : {A : Type 0} (r : Point) (shape : A → Shape) (p : Parser A) (z : Place) (s : Point) → (let o = run l p z (asked (hand_of l z s) s) in Head (trivia_at z s) r (reshaped (shape o.value) (trivia_at z s) o)) → Head (trivia_at z s) r (run l (node shape p) z s)
   unfolding run node
-  head-node i shape p h z s k e =
+  head-wrapped r shape p z s h =
       let t = asked (hand_of l z s) s in
       let n = trivia_at z s in
       let o = run l p z t in
       let w = wrapped shape n o in
-      let r = head-reshaped n s (shape o.value) o (h o.value (inside n o)) in
-      head-behind n s t (told (hand_of l z s)) (hand_asks_of l z s) (joined w (plain w.value.0 w.state)) (head-gives n s w w.value.0 (record { inside = r.inside; last = r.last }))
+      head-behind n r t (told (hand_of l z s)) (hand_asks_of l z s) (joined w (plain w.value.0 w.state)) (head-gives n r w w.value.0 (record { inside = h.inside; last = h.last }))
+
+  pub head-node-at : {A : Type 0} (r : Point) (shape : A → Shape) (p : Parser A) → ((a : A) (ts : List Tree) → Single (shaped (shape a) ts)) → (z : Place) (s : Point) → Head (trivia_at z s) r (run l (node shape p) z s)
+  head-node-at r shape p h z s = let o = run l p z (asked (hand_of l z s) s) in let n = trivia_at z s in head-wrapped r shape p z s (head-reshaped n r (shape o.value) o (h o.value (inside n o)))
+
+  -- one node
+  pub head-node : {A : Type 0} (i : SyntaxKind) (shape : A → Shape) (p : Parser A) → ((a : A) (ts : List Tree) → Single (shaped (shape a) ts)) → Heads i (node shape p)
+  head-node i shape p h z s k e = head-node-at s shape p h z s
 
   pub head-nest : {A : Type 0} (i : SyntaxKind) (shape : A → Shape) (turn : A → Parser (Bool × A)) (x : A) → ((a : A) (ts : List Tree) → Single (shaped (shape a) ts)) → Heads i (nest shape turn x)
   unfolding run nest nesting

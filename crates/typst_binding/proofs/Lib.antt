@@ -13,6 +13,7 @@ pub mod Called
 pub mod Missing
 pub mod Levels
 pub mod Tails
+pub mod Openers
 pub mod Primary
 pub mod Exprs
 pub mod Knot
