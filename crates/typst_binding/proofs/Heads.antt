@@ -141,7 +141,7 @@ head-gives n s o b h = head-same n s o (joined o (plain b o.state)) (sym (no-end
 pub head-behind : {A B : Type 0} (n : ℕ) (s t : Point) (b : B) (asks : List Ask) (p : Outcome A) → Head n s p → Head n s (joined (record (plain b t) { asks = asks }) p)
 head-behind n s t b asks p h = head-same n s p (joined (record (plain b t) { asks = asks }) p) (standing-none p) (omega arith) h
 
-head-reshaped : {A : Type 0} (n : ℕ) (s : Point) (shape : Shape) (o : Outcome A) → Single (shaped shape (inside n o)) → Head n s (reshaped shape n o)
+pub head-reshaped : {A : Type 0} (n : ℕ) (s : Point) (shape : Shape) (o : Outcome A) → Single (shaped shape (inside n o)) → Head n s (reshaped shape n o)
 head-reshaped n s shape o h = record {
   inside = behind-take Bare (n + o.back) o.nodes (shaped shape (inside n o)) (single-all (shaped shape (inside n o)) h);
   last = single-last (s.is_after_error ≡ true) (take (n + o.back) o.nodes) (shaped shape (inside n o)) h;

@@ -1,10 +1,10 @@
 -- What each token that begins an expression gives.
-use Rattle.std.proofs.Common.{None, ◌≡◌, ℕ, zero, suc, ◌+◌, ◌-◌, ◌<◌, Bool, true, false, if◌then◌else◌, List, [], ◌∷◌, ◌++◌, length, take, drop, refl, ap, sym, ◌∙◌, ◌⊎◌, inl, inr, subst, arith, codes}
+use Rattle.std.proofs.Common.{length-append, length-drop, None, ◌≡◌, ℕ, zero, suc, ◌+◌, ◌-◌, ◌<◌, Bool, true, false, if◌then◌else◌, List, [], ◌∷◌, ◌++◌, length, take, drop, refl, ap, sym, ◌∙◌, ◌⊎◌, inl, inr, subst, arith, codes}
 use Rattle.typst_kinds.specs.declared.kind.SyntaxKind.{SyntaxKind}
 use Rattle.typst_kinds.specs.declared.kind.SyntaxKind.TheVariants as kind
 use Rattle.typst_kinds.specs.declared.operator.UnOp.{UnOp}
 use Rattle.typst_lines.specs.Place.{Place, moved}
-use Rattle.typst_node.specs.Tree.{Tree}
+use Rattle.typst_node.specs.Tree.{Tree, text_of, error_of, advised}
 use Rattle.typst_code.specs.calls.Behind.{Behind}
 use Rattle.typst_code.specs.calls.Behind.TheVariants as behind
 use Rattle.typst_code.specs.Hand.{Hand, told}
@@ -12,11 +12,13 @@ use Rattle.typst_code.specs.Point.{Point, pending, forgot}
 use Rattle.typst_code.specs.calls.Block.{Block}
 use Rattle.typst_code.specs.calls.Block.TheVariants as block
 use Rattle.typst_classes.specs.Classes.{CharClasses}
-use Rattle.typst_kinds.specs.Kinds.{same}
-use Rattle.typst_node.specs.Messages.{made_expected}
+use Rattle.typst_kinds.specs.Kinds.{same, is_error}
+use Rattle.typst_kinds.specs.Names.{name_of}
+use Rattle.typst_node.specs.Diagnostic.{hint_with}
+use Rattle.typst_node.specs.Messages.{made_expected, expected_error, expected_message, is_lost_name, keyword_hint}
 use Rattle.typst_grammar.specs.Grammar.{block_production, level_at}
 use Rattle.typst_binding.specs.Binding.{sign_of}
-use Rattle.typst_code.specs.Shape.{Shape, hinted, shaped}
+use Rattle.typst_code.specs.Shape.{Shape, becomes, hinted, on_first, shaped}
 use Rattle.typst_code.specs.Shape.Change.{stays, is_not}
 use Rattle.typst_code.specs.Shape.Shape.{keeps}
 use Rattle.typst_code.specs.Depth.{is_end}
@@ -24,8 +26,10 @@ use Rattle.typst_code.specs.Syntax.{Parser, ◌>>=◌}
 use Rattle.typst_code.specs.Syntax.Parser.{gives, block}
 use Rattle.typst_code.specs.Steps.{peek, eat, node, read_block}
 use Rattle.typst_code.specs.Markup.{bracketed, content_block}
+use Rattle.typst_code.specs.Parens.{parens}
 use Rattle.typst_code.specs.Sequences.{braced, code_block}
-use Rattle.typst_code.specs.Closures.{headed}
+use Rattle.typst_code.specs.Closures.{behind_name, behind_underscore, name_shape, underscore_shape, named, placeholder, headed, closure_shape, right_side}
+use Rattle.typst_code.proofs.Within.{on_both}
 use Rattle.typst_code.specs.Equations.{equation, in_dollars}
 use Rattle.typst_code.specs.Bindings.{let_binding}
 use Rattle.typst_code.specs.Expressions.{unary_expr}
@@ -35,7 +39,8 @@ use Rattle.typst_code.specs.Meaning.{Outcome, Level, plain, less, closed, flushe
 use Rattle.typst_code.proofs.Ends.{hand-again}
 use Rattle.typst_binding.proofs.Fine.{All, all-append, all-drop, all-take, all-hinted}
 use Rattle.typst_binding.proofs.FineRuns.{Still, still-hand}
-use Rattle.typst_binding.proofs.Heads.{Bare, bare-advised, Unary, LastIs, last-behind, Single, Head, Heads, head-same, head-behind, head-gives, head-next, head-wrapped, head-reshaped, head-shaped, head-stays, head-node-at, head-node, head-nest, head-silent, silent-joined, silent-plain, is_plain, head-eat}
+use Rattle.typst_binding.proofs.Heads.{Bare, bare-advised, Unary, LastIs, last-behind, Single, Head, Heads, head-same, head-behind, head-gives, head-next, head-wrapped, head-reshaped, head-shaped, head-stays, head-node-at, head-node, head-nest, head-silent, standing-silent, silent-joined, silent-plain, is_plain, head-eat}
+use Rattle.typst_binding.proofs.Operands.{exact-eat, taken_sign}
 use Rattle.typst_binding.proofs.Leads.{Leads, all-bare}
 use Rattle.typst_binding.proofs.Firsts.{within_blocks, fills-inside}
 
@@ -178,8 +183,38 @@ module _ (k : CharClasses) (levels : ℕ) where
 abbrev Kept : Shape → Type 0
 Kept shape = ((ts : List Tree) → Single (shaped shape ts)) ⊎ ((shape ≡ keeps stays) ⊎ (shape ≡ keeps (is_not (codes "expression"))))
 
-bare-wanted : (t : Tree) → Bare t → Bare (made_expected (codes "expression") t)
-bare-wanted t b = ?
+bare-wanted : (thing : List ℕ) (t : Tree) → Bare t → Bare (made_expected thing t)
+bare-wanted thing t b =
+    on_both Bare (is_error t.head.kind) t (expected_error thing t) b
+    (on_both Bare (is_lost_name t.head.kind thing) (advised (hint_with None (keyword_hint (text_of t))) (error_of (expected_message thing (name_of t.head.kind)) (text_of t)))
+    (error_of (expected_message thing (name_of t.head.kind)) (text_of t)) (refl, refl) (refl, refl))
+
+bare-first : (thing : List ℕ) (ts : List Tree) → All Bare ts → All Bare (on_first (made_expected thing) ts)
+bare-first thing [] h = tt
+bare-first thing (t ∷ ts) h = (bare-wanted thing t h.0, h.1)
+
+as-long : (thing : List ℕ) (ts : List Tree) → length (on_first (made_expected thing) ts) ≡ length ts
+as-long thing [] = refl
+as-long thing (t ∷ ts) = refl
+
+head-kept : {A : Type 0} (n : ℕ) (s : Point) (o : Outcome A) → Head n s o → 0 < length (inside n o) → (shape : Shape) → Kept shape → Head n s (reshaped shape n o)
+head-kept n s o h l shape (inl f) = head-reshaped n s shape o (f (inside n o))
+head-kept n s o h l shape (inr (inl e)) = head-stays n s shape o e h
+head-kept n s o h l shape (inr (inr e)) =
+    let long = as-long (codes "expression") (inside n o) in
+    head-shaped n s shape o (subst (λ (x : Shape). All Bare (shaped x (inside n o))) (sym e) (bare-first (codes "expression") (inside n o) h.inside))
+    (subst (λ (x : Shape). 0 < length (shaped x (inside n o))) (sym e) (omega (arith, long, l)))
+
+-- what comes behind a name
+after-name : (l : Level) (n : ℕ) (s : Point) (z : Place) (o : Outcome Behind) → Head n s o → (b : Behind)
+    → (let q = joined o (run l (right_side b >>= λ rest. gives b) (moved o.taken z) o.state) in Head n s (reshaped (closure_shape q.value) n q))
+unfolding run
+after-name l n s z o h behind.Arrow = let q = joined o (run l (right_side behind.Arrow >>= λ rest. gives behind.Arrow) (moved o.taken z) o.state) in head-reshaped n s (becomes kind.Closure) q (refl, refl)
+after-name l n s z o h behind.Eq = let q = joined o (run l (right_side behind.Eq >>= λ rest. gives behind.Eq) (moved o.taken z) o.state) in head-reshaped n s (becomes kind.DestructAssignment) q (refl, refl)
+after-name l n s z o h behind.Nothing =
+    let p = plain (tt {0}) o.state in
+    let q = joined p (plain behind.Nothing o.state) in
+    head-stays n s (keeps stays) (joined o q) refl (head-silent n s o q (silent-joined p (plain behind.Nothing o.state) (silent-plain (tt {0}) o.state) (silent-plain behind.Nothing o.state)) h)
 
 module _ (l : Level) (i : SyntaxKind) (goes : is_end i ≡ false) (plain_kind : is_plain i ≡ false) (no_sign : sign_of i ≡ None) (no_binary : same kind.Binary i ≡ false) where
   module _ (what : SyntaxKind → Behind) (shape : Behind → Shape) (kept : (b : Behind) → Kept (shape b)) where
@@ -187,7 +222,64 @@ module _ (l : Level) (i : SyntaxKind) (goes : is_end i ≡ false) (plain_kind : 
     token = eat >>= λ taken. peek >>= λ ahead. gives (what ahead.kind)
 
     head-token : Heads l i (node shape token)
-    head-token z s still e = ?
+    unfolding run
+    head-token z s still e =
+        let t = asked (hand_of l z s) s in
+        let h = hand_of l z s in
+        let n = length h.trivia in
+        let again = hand-again l.classes s.held s.known z in
+        let o = run l eat z t in
+        let p = run l peek (moved o.taken z) o.state in
+        let v = what p.value.kind in
+        let q = joined p (plain v p.state) in
+        let silent = silent-joined p (plain v p.state) (record { nodes = refl; back = refl; hints = refl }) (silent-plain v p.state) in
+        let x = subst (λ (y : Hand). Head (length y.trivia) t o) again (head-eat l i goes plain_kind no_sign no_binary z t (still-hand l z s still) (ap (λ (y : Hand). y.kind) again ∙ e)) in
+        let hd = head-silent n s o q silent (record { inside = x.inside; last = x.last }) in
+        let exact = exact-eat l z t in
+        let same : (joined o q).nodes ≡ (hand_of l z t).trivia ++ taken_sign l z t ∷ [] = standing-silent q silent o.nodes ∙ exact.nodes in
+        let long = ap length same in
+        let one = length-append (hand_of l z t).trivia (taken_sign l z t ∷ []) in
+        let trivia = ap (λ (y : Hand). length y.trivia) again in
+        let a = exact.back in
+        let b = silent.back in
+        let dropped = length-drop (n + (joined o q).back) (joined o q).nodes in
+        head-wrapped l s shape token z s (head-kept n s (joined o q) hd (omega (arith, long, one, trivia, a, b, dropped)) (shape v) (kept v))
+
+    head-closure : Heads l i (node closure_shape (node shape token >>= λ follows. right_side follows >>= λ rest. gives follows))
+    unfolding run
+    head-closure z s still e =
+        let t = asked (hand_of l z s) s in
+        let h = hand_of l z s in
+        let known = still-hand l z s still in
+        let again = hand-again l.classes s.held s.known z in
+        let n = length h.trivia in
+        let o = run l (node shape token) z t in
+        let x = head-token z t known (ap (λ (v : Hand). v.kind) again ∙ e) in
+        let y = subst (λ (v : Hand). Head (length v.trivia) t o) again x in
+        head-wrapped l s closure_shape (node shape token >>= λ follows. right_side follows >>= λ rest. gives follows) z s (after-name l n s z o (record { inside = y.inside; last = y.last }) o.value)
 
     pub head-headed : Heads l i (headed what shape)
-    head-headed = ?
+    head-headed = head-next l i (node closure_shape _) _ head-closure
+
+-- where a name is at hand
+kept-name : (b : Behind) → Kept (name_shape b)
+kept-name behind.Arrow = inl (λ ts. (refl, refl))
+kept-name behind.Eq = inr (inl refl)
+kept-name behind.Nothing = inr (inl refl)
+
+kept-underscore : (b : Behind) → Kept (underscore_shape b)
+kept-underscore behind.Arrow = inl (λ ts. (refl, refl))
+kept-underscore behind.Eq = inr (inl refl)
+kept-underscore behind.Nothing = inr (inr refl)
+
+module _ (l : Level) where
+  pub head-named : Heads l kind.Ident named
+  unfolding named
+  head-named = head-headed l kind.Ident refl refl refl refl behind_name name_shape kept-name
+
+  pub head-placeholder : Heads l kind.Underscore placeholder
+  unfolding placeholder
+  head-placeholder = head-headed l kind.Underscore refl refl refl refl behind_underscore underscore_shape kept-underscore
+
+  pub head-parens : (i : SyntaxKind) → Heads l i parens
+  head-parens i = ?

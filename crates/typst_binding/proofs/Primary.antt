@@ -28,7 +28,7 @@ use Rattle.typst_binding.proofs.Grown.{kind_at, Grown, Leftward, tight-none}
 use Rattle.typst_binding.proofs.Levels.{CallsBind, level-binds}
 use Rattle.typst_binding.proofs.Lost.{Lost, Stuck}
 use Rattle.typst_binding.proofs.Missing.{Missed, missed}
-use Rattle.typst_binding.proofs.Openers.{head-unary, head-let, head-set, head-show, head-context, head-conditional, head-while, head-for, head-import, head-include, head-break, head-continue, head-return, head-equation}
+use Rattle.typst_binding.proofs.Openers.{head-unary, head-let, head-set, head-show, head-context, head-conditional, head-while, head-for, head-import, head-include, head-break, head-continue, head-return, head-equation, head-read, head-named, head-placeholder, head-parens}
 
 stuck-behind : (m : ℕ) (ts : List Tree) (t : Tree) → is_error t.head.kind ≡ true → length ts < m → Stuck m (ts ++ t ∷ [])
 stuck-behind zero ts t e h = absurd (omega arith)
@@ -48,5 +48,87 @@ module _ (k : CharClasses) (levels : ℕ) (d : CallsBind k levels) (least : ℕ)
   abbrev Table : SyntaxKind → Type 0
   Table i = Opens i (code_head false i) ⊎ (code_head false i ≡ head.Missing)
 
+  table : (i : SyntaxKind) → Table i
+  table kind.Plus = inl (head-unary l kind.Plus _, fills-unary l (calls-back k levels) (blocks-back k levels) _)
+  table kind.Minus = inl (head-unary l kind.Minus _, fills-unary l (calls-back k levels) (blocks-back k levels) _)
+  table kind.Not = inl (head-unary l kind.Not _, fills-unary l (calls-back k levels) (blocks-back k levels) _)
+  table kind.Ident = inl (head-named l, fills-named l (calls-back k levels) (blocks-back k levels))
+  table kind.Raw = inl (head-raw l, fills-eat l (calls-back k levels) (blocks-back k levels))
+  table kind.None = inl (head-eat l kind.None refl refl refl refl, fills-eat l (calls-back k levels) (blocks-back k levels))
+  table kind.Auto = inl (head-eat l kind.Auto refl refl refl refl, fills-eat l (calls-back k levels) (blocks-back k levels))
+  table kind.Int = inl (head-eat l kind.Int refl refl refl refl, fills-eat l (calls-back k levels) (blocks-back k levels))
+  table kind.Float = inl (head-eat l kind.Float refl refl refl refl, fills-eat l (calls-back k levels) (blocks-back k levels))
+  table kind.Bool = inl (head-eat l kind.Bool refl refl refl refl, fills-eat l (calls-back k levels) (blocks-back k levels))
+  table kind.Numeric = inl (head-eat l kind.Numeric refl refl refl refl, fills-eat l (calls-back k levels) (blocks-back k levels))
+  table kind.Str = inl (head-eat l kind.Str refl refl refl refl, fills-eat l (calls-back k levels) (blocks-back k levels))
+  table kind.Label = inl (head-eat l kind.Label refl refl refl refl, fills-eat l (calls-back k levels) (blocks-back k levels))
+  table kind.LeftBrace = inl (head-read k levels kind.LeftBrace block.Code, fills-read k levels block.Code)
+  table kind.LeftBracket = inl (head-read k levels kind.LeftBracket block.Content, fills-read k levels block.Content)
+  table kind.Dollar = inl (head-equation l kind.Dollar, fills-equation l (calls-back k levels) (blocks-back k levels))
+  table kind.LeftParen = inl (head-parens l kind.LeftParen, fills-parens l (calls-back k levels) (blocks-back k levels))
+  table kind.Let = inl (head-let l kind.Let, fills-let l (calls-back k levels) (blocks-back k levels))
+  table kind.Set = inl (head-set l kind.Set, fills-set l (calls-back k levels) (blocks-back k levels))
+  table kind.Show = inl (head-show l kind.Show, fills-show l (calls-back k levels) (blocks-back k levels))
+  table kind.Context = inl (head-context l kind.Context, fills-context l (calls-back k levels) (blocks-back k levels) false)
+  table kind.If = inl (head-conditional l kind.If, fills-conditional l (calls-back k levels) (blocks-back k levels))
+  table kind.While = inl (head-while l kind.While, fills-while l (calls-back k levels) (blocks-back k levels))
+  table kind.For = inl (head-for l kind.For, fills-for l (calls-back k levels) (blocks-back k levels))
+  table kind.Import = inl (head-import l kind.Import, fills-import l (calls-back k levels) (blocks-back k levels))
+  table kind.Include = inl (head-include l kind.Include, fills-include l (calls-back k levels) (blocks-back k levels))
+  table kind.Break = inl (head-break l kind.Break, fills-jump l (calls-back k levels) (blocks-back k levels) kind.LoopBreak)
+  table kind.Continue = inl (head-continue l kind.Continue, fills-jump l (calls-back k levels) (blocks-back k levels) kind.LoopContinue)
+  table kind.Return = inl (head-return l kind.Return, fills-return l (calls-back k levels) (blocks-back k levels))
+  table kind.Underscore = inl (head-placeholder l, fills-placeholder l (calls-back k levels) (blocks-back k levels))
+  table _ = inr refl
+
+  -- ---- what is given
+
+  module _ (z : Place) (s : Point) (still : All Still (pending s.known)) where
+    abbrev h : Hand
+    h = hand_of l z s
+
+    abbrev n : ℕ
+    n = length h.trivia
+
+    abbrev t : Point
+    t = asked h s
+
+    abbrev first : Outcome AtHand
+    first = record (plain (told h) t) { asks = hand_asks_of l z s }
+
+    again : hand_of l z t ≡ h
+    again = hand-again k s.held s.known z
+
+    abbrev by_head : CodeHead → Outcome (Unit {0})
+    by_head c = run l (next peek (λ _. code_by false c)) z s
+
+    -- a token that begins an expression
+    grown-head : (o : Outcome (Unit {0})) → Binds o → Head n s o → Leads n o → Grown k least n z s o
+    grown-head o b x lead =
+        let none = lead.none in
+        let room = lead.room in
+        let j = kind_at k least (moved o.taken z) o.state in
+        record {
+          binds = b;
+          inside = all-map Bare (Leftward k least j) (λ u c. (c.0, λ y. tight-none k least j u c.1)) (drop (n + o.back) o.nodes) x.inside;
+          last = last-map (s.is_after_error ≡ true) (s.is_after_error ≡ true) Unary (λ u. Sane u → BindsBy least u) (λ y. y) (λ u c y. bare-binds least u c) o.nodes x.last;
+          enough = omega (arith, none, room);
+        }
+
+    opened : (i : SyntaxKind) → h.kind ≡ i → (c : CodeHead) → Opens i c → Binds (by_head c) → Grown k least n z s (by_head c)
+    opened i e c x b =
+        grown-head (by_head c) b (head-peek l i (λ _. code_by false c) (λ a f. x.0) z s still e) (fills-peek l (λ _. code_by false c) (λ a. x.1) z s still)
+
+    -- none begins there
+    missing : Missed l z t (run l (expected (codes "expression")) z t) → Binds (by_head head.Missing) → Grown k least n z s (by_head head.Missing) ⊎ Lost k least n z s (by_head head.Missing)
+    missing x b = ?
+
+    by-table : Table h.kind → Binds (by_head (code_head false h.kind)) → Grown k least n z s (by_head (code_head false h.kind)) ⊎ Lost k least n z s (by_head (code_head false h.kind))
+    by-table (inl x) b = inl (opened h.kind refl (code_head false h.kind) x b)
+    by-table (inr e) b =
+        subst (λ (c : CodeHead). Grown k least n z s (by_head c) ⊎ Lost k least n z s (by_head c)) (sym e)
+        (missing (missed l (codes "expression") z t) (subst (λ (c : CodeHead). Binds (by_head c)) e b))
+
   pub primary-begins : (z : Place) (s : Point) → All Still (pending s.known) → let n = length (hand_of (level_at k levels) z s).trivia in let o = run (level_at k levels) (code_primary false) z s in Grown k least n z s o ⊎ Lost k least n z s o
-  primary-begins z s still = ?
+  unfolding run code_primary
+  primary-begins z s still = by-table z s still (table (hand_of (level_at k levels) z s).kind) (level-binds k levels d (code_primary false) (plain-primary false) z s still)
