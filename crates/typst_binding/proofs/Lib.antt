@@ -14,6 +14,7 @@ pub mod Missing
 pub mod Levels
 pub mod Tails
 pub mod Openers
+pub mod Parens
 pub mod Primary
 pub mod Exprs
 pub mod Knot

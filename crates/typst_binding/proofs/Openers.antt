@@ -26,7 +26,6 @@ use Rattle.typst_code.specs.Syntax.{Parser, ◌>>=◌}
 use Rattle.typst_code.specs.Syntax.Parser.{gives, block}
 use Rattle.typst_code.specs.Steps.{peek, eat, node, read_block}
 use Rattle.typst_code.specs.Markup.{bracketed, content_block}
-use Rattle.typst_code.specs.Parens.{parens}
 use Rattle.typst_code.specs.Sequences.{braced, code_block}
 use Rattle.typst_code.specs.Closures.{behind_name, behind_underscore, name_shape, underscore_shape, named, placeholder, headed, closure_shape, right_side}
 use Rattle.typst_code.proofs.Within.{on_both}
@@ -280,6 +279,3 @@ module _ (l : Level) where
   pub head-placeholder : Heads l kind.Underscore placeholder
   unfolding placeholder
   head-placeholder = head-headed l kind.Underscore refl refl refl refl behind_underscore underscore_shape kept-underscore
-
-  pub head-parens : (i : SyntaxKind) → Heads l i parens
-  head-parens i = ?

@@ -1,5 +1,5 @@
 -- What an expression begins with.
-use Rattle.std.proofs.Common.{◌≡◌, ℕ, zero, suc, ◌+◌, ◌-◌, ◌<◌, Bool, true, false, List, [], ◌∷◌, ◌++◌, length, drop, codes, refl, ap, sym, ◌∙◌, ◌⊎◌, inl, inr, subst, arith, length-append}
+use Rattle.std.proofs.Common.{◌≡◌, ℕ, zero, suc, ◌+◌, ◌-◌, ◌<◌, ◌≤◌, Bool, true, false, List, [], ◌∷◌, ◌++◌, length, drop, codes, refl, ap, sym, ◌∙◌, ◌⊎◌, inl, inr, subst, arith, length-append}
 use Rattle.typst_kinds.specs.Kinds.{is_error}
 use Rattle.typst_kinds.specs.declared.kind.SyntaxKind.{SyntaxKind}
 use Rattle.typst_kinds.specs.declared.kind.SyntaxKind.TheVariants as kind
@@ -28,7 +28,8 @@ use Rattle.typst_binding.proofs.Grown.{kind_at, Grown, Leftward, tight-none}
 use Rattle.typst_binding.proofs.Levels.{CallsBind, level-binds}
 use Rattle.typst_binding.proofs.Lost.{Lost, Stuck}
 use Rattle.typst_binding.proofs.Missing.{Missed, missed}
-use Rattle.typst_binding.proofs.Openers.{head-unary, head-let, head-set, head-show, head-context, head-conditional, head-while, head-for, head-import, head-include, head-break, head-continue, head-return, head-equation, head-read, head-named, head-placeholder, head-parens}
+use Rattle.typst_binding.proofs.Openers.{head-unary, head-let, head-set, head-show, head-context, head-conditional, head-while, head-for, head-import, head-include, head-break, head-continue, head-return, head-equation, head-read, head-named, head-placeholder}
+use Rattle.typst_binding.proofs.Parens.{head-parens}
 
 stuck-behind : (m : ℕ) (ts : List Tree) (t : Tree) → is_error t.head.kind ≡ true → length ts < m → Stuck m (ts ++ t ∷ [])
 stuck-behind zero ts t e h = absurd (omega arith)
@@ -65,7 +66,7 @@ module _ (k : CharClasses) (levels : ℕ) (d : CallsBind k levels) (least : ℕ)
   table kind.LeftBrace = inl (head-read k levels kind.LeftBrace block.Code, fills-read k levels block.Code)
   table kind.LeftBracket = inl (head-read k levels kind.LeftBracket block.Content, fills-read k levels block.Content)
   table kind.Dollar = inl (head-equation l kind.Dollar, fills-equation l (calls-back k levels) (blocks-back k levels))
-  table kind.LeftParen = inl (head-parens l kind.LeftParen, fills-parens l (calls-back k levels) (blocks-back k levels))
+  table kind.LeftParen = inl (head-parens l (calls-back k levels) (blocks-back k levels) kind.LeftParen, fills-parens l (calls-back k levels) (blocks-back k levels))
   table kind.Let = inl (head-let l kind.Let, fills-let l (calls-back k levels) (blocks-back k levels))
   table kind.Set = inl (head-set l kind.Set, fills-set l (calls-back k levels) (blocks-back k levels))
   table kind.Show = inl (head-show l kind.Show, fills-show l (calls-back k levels) (blocks-back k levels))
@@ -120,8 +121,65 @@ module _ (k : CharClasses) (levels : ℕ) (d : CallsBind k levels) (least : ℕ)
         grown-head (by_head c) b (head-peek l i (λ _. code_by false c) (λ a f. x.0) z s still e) (fills-peek l (λ _. code_by false c) (λ a. x.1) z s still)
 
     -- none begins there
+    grown-bare : (o : Outcome (Unit {0})) → Binds o → All Bare o.nodes → LastIs (s.is_after_error ≡ true) Unary o.nodes → n + o.back ≤ length o.nodes + length (hand_of l (moved o.taken z) o.state).trivia → Grown k least n z s o
+    grown-bare o b all x m =
+        let j = kind_at k least (moved o.taken z) o.state in
+        record {
+          binds = b;
+          inside = all-map Bare (Leftward k least j) (λ u c. (c.0, λ y. tight-none k least j u c.1)) (drop (n + o.back) o.nodes) (all-drop Bare (n + o.back) o.nodes all);
+          last = last-map (s.is_after_error ≡ true) (s.is_after_error ≡ true) Unary (λ u. Sane u → BindsBy least u) (λ y. y) (λ u c y. bare-binds least u c) o.nodes x;
+          enough = m;
+        }
+
+    same-trivia : (run l (expected (codes "expression")) z t).taken ≡ 0 → hand_of l z (run l (expected (codes "expression")) z t).state ≡ hand_of l z t → length (hand_of l (moved (by_head head.Missing).taken z) (by_head head.Missing).state).trivia ≡ n
+    unfolding run
+    same-trivia e f =
+        let x = run l (expected (codes "expression")) z t in
+        let none : 0 + x.taken ≡ 0 = omega (arith, e) in
+        ap (λ (m : ℕ). length (hand_of l (moved m z) x.state).trivia) none ∙ ap (λ (v : Hand). length v.trivia) f ∙ ap (λ (v : Hand). length v.trivia) again
+
     missing : Missed l z t (run l (expected (codes "expression")) z t) → Binds (by_head head.Missing) → Grown k least n z s (by_head head.Missing) ⊎ Lost k least n z s (by_head head.Missing)
-    missing x b = ?
+    unfolding run
+    missing (inl x) b = by-empties s.empties refl
+      where
+        p : Outcome (Unit {0})
+        p = by_head head.Missing
+
+        nodes : p.nodes ≡ (hand_of l z t).trivia ++ x.node ∷ []
+        nodes = standing-none (run l (expected (codes "expression")) z t) ∙ x.nodes
+
+        long : length (hand_of l z t).trivia ≡ n
+        long = ap (λ (v : Hand). length v.trivia) again
+
+        by-empties : (m : ℕ) → s.empties ≡ m → Grown k least n z s p ⊎ Lost k least n z s p
+        by-empties zero f =
+            let e = ap length nodes in
+            let c = length-append (hand_of l z t).trivia (x.node ∷ []) in
+            let back = x.back in
+            let bare = bare-error x.node x.is_wrong in
+            inl (grown-bare p b (subst (All Bare) (sym nodes) (all-append Bare (hand_of l z t).trivia (x.node ∷ []) (all-bare (hand_of l z t).trivia (still-hand l z t (still-hand l z s still))) (bare, tt)))
+            (subst (LastIs (s.is_after_error ≡ true) Unary) (sym nodes) (last-one (s.is_after_error ≡ true) Unary (hand_of l z t).trivia x.node bare.1)) (omega (arith, e, c, back, f, long)))
+        by-empties (suc m) f =
+            let back = x.back in
+            inr (record {
+              binds = b;
+              stuck = subst (Stuck (n + p.back)) (sym nodes) (stuck-behind (n + p.back) (hand_of l z t).trivia x.node (ap is_error x.is_wrong) (omega (arith, long, back, f)));
+              few = x.empties;
+            })
+    missing (inr (inl x)) b =
+        let p = by_head head.Missing in
+        let nodes = standing-none (run l (expected (codes "expression")) z t) ∙ x.exact.nodes in
+        let bare = bare-error x.node x.is_wrong in
+        let back = x.exact.back in
+        let one = ap length nodes in
+        let after = same-trivia x.taken x.same in
+        inl (grown-bare p b (subst (All Bare) (sym nodes) (bare, tt)) (subst (LastIs (s.is_after_error ≡ true) Unary) (sym nodes) bare.1) (omega (arith, back, one, after)))
+    missing (inr (inr x)) b =
+        let p = by_head head.Missing in
+        let nodes = standing-none (run l (expected (codes "expression")) z t) ∙ x.exact.nodes in
+        let back = x.exact.back in
+        let after = same-trivia x.taken x.same in
+        inl (grown-bare p b (subst (All Bare) (sym nodes) tt) (subst (LastIs (s.is_after_error ≡ true) Unary) (sym nodes) x.after) (omega (arith, back, after)))
 
     by-table : Table h.kind → Binds (by_head (code_head false h.kind)) → Grown k least n z s (by_head (code_head false h.kind)) ⊎ Lost k least n z s (by_head (code_head false h.kind))
     by-table (inl x) b = inl (opened h.kind refl (code_head false h.kind) x b)
