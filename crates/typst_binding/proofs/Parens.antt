@@ -20,7 +20,7 @@ use Rattle.typst_code.specs.Parens.{as_group, behind_if, parens, readings, sign}
 use Rattle.typst_code.specs.Parts.{expression_if}
 use Rattle.typst_code.specs.Patterns.{destructuring}
 use Rattle.typst_code.specs.Point.{Point, pending}
-use Rattle.typst_code.specs.Shape.{Shape, becomes, unclosed, hinted_last, hinted, shaped}
+use Rattle.typst_code.specs.Shape.{Shape, becomes, unclosed, first_changed, hinted_last, hinted, shaped}
 use Rattle.typst_code.specs.Shape.Change.{stays, turns_wrong}
 use Rattle.typst_code.specs.Shape.Shape.{keeps}
 use Rattle.typst_code.specs.Sound.{Tidy, Backs}
@@ -91,7 +91,7 @@ head-then n s o q lead h tidy all some =
 
 single-closed : (k : SyntaxKind) → sign_of k ≡ None → same kind.Binary k ≡ false → (closed : Bool) (ts : List Tree) → Single (shaped (if closed then becomes k else unclosed k) ts)
 single-closed k e f true ts = (e, no-operator (inner_of k (forest ts)) f)
-single-closed k e f false ts = (e, no-operator (inner_of k _) f)
+single-closed k e f false ts = (e, no-operator (inner_of k (forest (first_changed (turns_wrong (codes "unclosed delimiter")) ts))) f)
 
 single-parts : (alone closed : Bool) (ts : List Tree) → Single (shaped (if closed then becomes (if alone then kind.Parenthesized else kind.Destructuring) else unclosed (if alone then kind.Parenthesized else kind.Destructuring)) ts)
 single-parts true closed ts = single-closed kind.Parenthesized refl refl closed ts
@@ -157,6 +157,113 @@ module _ (l : Level) (i : SyntaxKind) where
       (head-either _ _ _ (head-either as_group _ _ head-as-group (head-next l i params _ head-params)) (head-next l i (destructuring _ []) _ (head-destructuring _ [])))
       head-as-group)
 
-module _ (l : Level) (d : (c : Call) → Backs (l.deeper c)) (e : (b : Block) → Backs (l.blocks b)) where
-  pub head-parens : (i : SyntaxKind) → Heads l i parens
-  head-parens i = ?
+-- ---- a sign that doesn't come
+
+-- nothing is given, or nodes that are no operators
+abbrev Unmet : {A : Type 0} → Outcome A → Type 0
+Unmet o = Silent o ⊎ (All Bare o.nodes × (0 < length o.nodes))
+
+-- the same nodes
+unmet-same : {A B : Type 0} (o : Outcome A) (p : Outcome B) → p.nodes ≡ o.nodes → (Silent o → Silent p) → Unmet o → Unmet p
+unmet-same o p e f (inl x) = inl (f x)
+unmet-same o p e f (inr x) = let long = ap length e in let some = x.1 in inr (subst (All Bare) (sym e) x.0, omega (arith, long, some))
+
+unmet-behind : {A B : Type 0} (b : B) (t : Point) (asks : List _) (o : Outcome A) → Unmet o → Unmet (joined (record (plain b t) { asks = asks }) o)
+unmet-behind b t asks o x = let first = record (plain b t) { asks = asks } in unmet-same o (joined first o) (standing-none o) (λ y. silent-joined first o (record { nodes = refl; back = refl; hints = refl }) y) x
+
+unmet-before : {A B : Type 0} (o : Outcome A) (p : Outcome B) → Silent p → Unmet o → Unmet (joined o p)
+unmet-before o p q x = unmet-same o (joined o p) (standing-silent p q o.nodes) (λ y. silent-joined o p y q) x
+
+module _ (l : Level) where
+  unmet-expected : (thing : List ℕ) (z : Place) (s : Point) → All Still (pending s.known) → Missed l z s (run l (expected thing) z s) → Unmet (run l (expected thing) z s)
+  unmet-expected thing z s still (inl x) =
+      let h = hand_of l z s in
+      let one = length-append h.trivia (x.node ∷ []) in
+      let long = ap length x.nodes in
+      inr (subst (All Bare) (sym x.nodes) (all-append Bare h.trivia (x.node ∷ []) (all-bare h.trivia (still-hand l z s still)) (bare-error x.node x.is_wrong, tt)), omega (arith, one, long))
+  unmet-expected thing z s still (inr (inl x)) = let long = ap length x.exact.nodes in inr (subst (All Bare) (sym x.exact.nodes) (bare-error x.node x.is_wrong, tt), omega (arith, long))
+  unmet-expected thing z s still (inr (inr x)) = inl (record { nodes = x.exact.nodes; back = x.exact.back; hints = x.exact.hints })
+
+  unmet-by : (is : SyntaxKind → Bool) (thing : List ℕ) (z : Place) (s : Point) → All Still (pending s.known) → (b : Bool) → b ≡ false → Unmet (if b then run l eat z s else run l (expected thing) z s)
+  unmet-by is thing z s still true e = absurd (cc)
+  unmet-by is thing z s still false e = unmet-expected thing z s still (missed l thing z s)
+
+  unmet-expect : (is : SyntaxKind → Bool) (thing : List ℕ) (z : Place) (s : Point) → All Still (pending s.known) → is (hand_of l z s).kind ≡ false → Unmet (run l (expect is thing) z s)
+  unfolding run expect
+  unmet-expect is thing z s still e =
+      let t = asked (hand_of l z s) s in
+      unmet-behind (told (hand_of l z s)) t (hand_asks_of l z s) _ (unmet-by is thing z t (still-hand l z s still) (is (hand_of l z s).kind) e)
+
+  -- behind a second reading
+  module _ (n : ℕ) (s : Point) (z : Place) (o : Outcome Behind) (lead : Leads n o) (h : Head n s o) (still : All Still (pending o.state.known)) where
+    abbrev w : Place
+    w = moved o.taken z
+
+    abbrev t : Point
+    t = asked (hand_of l w o.state) o.state
+
+    abbrev rest_of : Behind → Parser Behind
+    rest_of v = sign v >>= λ came. expression_if came >>= λ rest. gives (behind_if came v)
+
+    module _ (is : SyntaxKind → Bool) (thing : List ℕ) where
+      abbrev met : Outcome (Unit {0})
+      met = run l (expect is thing) w t
+
+      abbrev signed : Bool → Outcome Bool
+      signed came = joined (record (plain (told (hand_of l w o.state)) t) { asks = hand_asks_of l w o.state }) (joined met (plain came met.state))
+
+      abbrev behind_sign : Bool → Behind → Outcome Behind
+      behind_sign came v = let x = signed came in let y = run l (expression_if came) (moved x.taken w) x.state in joined x (joined y (plain (behind_if came v) y.state))
+
+      by-sign : (v : Behind) → ((ts : List Tree) → Single (shaped (closure_shape v) ts)) → (came : Bool) → is (hand_of l w o.state).kind ≡ came → Tidy o.state (behind_sign came v) → Head n s (reshaped (closure_shape (joined o (behind_sign came v)).value) n (joined o (behind_sign came v)))
+      unfolding run
+      by-sign v single true e tidy = let q = joined o (behind_sign true v) in head-reshaped n s (closure_shape v) q (single (inside n q))
+      by-sign v single false e tidy =
+          let q = behind_sign false v in
+          let x = signed false in
+          let y = plain (tt {0}) x.state in
+          let end = joined y (plain behind.Nothing x.state) in
+          let silent = silent-joined y (plain behind.Nothing x.state) (silent-plain (tt {0}) x.state) (silent-plain behind.Nothing x.state) in
+          let known = still-hand l w o.state still in
+          let again = hand-again l.classes o.state.held o.state.known w in
+          let none = unmet-expect is thing w t known (ap (λ (u : Hand). is u.kind) again ∙ e) in
+          let all = unmet-before x end silent (unmet-behind (told (hand_of l w o.state)) t (hand_asks_of l w o.state) (joined met (plain false met.state)) (unmet-before met (plain false met.state) (silent-plain false met.state) none)) in
+          head-stays n s (keeps stays) (joined o q) refl (by-unmet all)
+        where
+          by-unmet : Unmet (behind_sign false v) → Head n s (joined o (behind_sign false v))
+          by-unmet (inl u) = head-silent n s o (behind_sign false v) u h
+          by-unmet (inr u) = head-then n s o (behind_sign false v) lead h tidy u.0 u.1
+
+    module _ (tidy : (v : Behind) → Tidy o.state (run l (rest_of v) w o.state)) where
+      pub after-readings : (v : Behind) → let q = joined o (run l (rest_of v) w o.state) in Head n s (reshaped (closure_shape q.value) n q)
+      unfolding run expects
+      after-readings behind.Arrow = by-sign (same kind.Arrow) (codes "arrow") behind.Arrow (λ ts. (refl, refl)) (same kind.Arrow (hand_of l w o.state).kind) refl (tidy behind.Arrow)
+      after-readings behind.Eq = by-sign (same kind.Eq) (codes "equals sign") behind.Eq (λ ts. (refl, refl)) (same kind.Eq (hand_of l w o.state).kind) refl (tidy behind.Eq)
+      after-readings behind.Nothing =
+          let a = plain false o.state in
+          let y = plain (tt {0}) o.state in
+          let end = joined y (plain behind.Nothing o.state) in
+          let q = joined a end in
+          head-stays n s (keeps stays) (joined o q) refl
+          (head-silent n s o q (silent-joined a end (silent-plain false o.state) (silent-joined y (plain behind.Nothing o.state) (silent-plain (tt {0}) o.state) (silent-plain behind.Nothing o.state))) h)
+
+module _ (l : Level) (d : (c : Call) → Backs (l.deeper c)) (e : (b : Block) → Backs (l.blocks b)) (binds : (z : Place) (s : Point) → All Still (pending s.known) → All Still (pending (run l readings z s).state.known)) (i : SyntaxKind) where
+  abbrev inner : Parser Behind
+  inner = readings >>= λ follows. sign follows >>= λ came. expression_if came >>= λ rest. gives (behind_if came follows)
+
+  head-closure : Heads l i (node closure_shape inner)
+  unfolding run
+  head-closure z s still f =
+      let t = asked (hand_of l z s) s in
+      let n = length (hand_of l z s).trivia in
+      let known = still-hand l z s still in
+      let again = hand-again l.classes s.held s.known z in
+      let o = run l readings z t in
+      let x = subst (λ (v : Hand). Head (length v.trivia) t o) again (head-readings l i z t known (ap (λ (v : Hand). v.kind) again ∙ f)) in
+      let lead = subst (λ (v : Hand). Leads (length v.trivia) o) again (fills-readings l d e z t known) in
+      head-wrapped l s closure_shape inner z s (after-readings l n s z o lead (record { inside = x.inside; last = x.last }) (binds z t known)
+      (λ v. backs-run l d e (sign v >>= λ came. expression_if came >>= λ rest. gives (behind_if came v)) (moved o.taken z) o.state) o.value)
+
+  pub head-parens : Heads l i parens
+  unfolding parens
+  head-parens = head-next l i (node closure_shape inner) _ head-closure

@@ -107,7 +107,7 @@ plain-as-group : Plain as_group
 unfolding as_group
 plain-as-group = (plain-group, λ _. (refl, λ _. tt))
 
-plain-readings : Plain readings
+pub plain-readings : Plain readings
 unfolding readings
 plain-readings = (refl, λ _. (((plain-as-group, (plain-params, λ _. tt)), (plain-destructuring _ _, λ _. tt)), plain-as-group))
 

@@ -11,6 +11,7 @@ use Rattle.typst_code.specs.declared.heads.CodeHead.{CodeHead}
 use Rattle.typst_code.specs.declared.heads.CodeHead.TheVariants as head
 use Rattle.typst_code.specs.Expressions.{code_by, code_head, code_primary}
 use Rattle.typst_code.specs.Hand.{Hand, AtHand, told}
+use Rattle.typst_code.specs.Parens.{readings}
 use Rattle.typst_code.specs.Point.{Point, pending}
 use Rattle.typst_code.specs.Steps.{peek, expected}
 use Rattle.typst_code.specs.Syntax.Parser.{next}
@@ -19,7 +20,7 @@ use Rattle.typst_code.proofs.Ends.{hand-again}
 use Rattle.typst_grammar.specs.Grammar.{level_at}
 use Rattle.typst_binding.proofs.Fine.{All, all-append, all-drop, all-map}
 use Rattle.typst_binding.proofs.FineRuns.{Binds, Still, still-hand}
-use Rattle.typst_binding.proofs.PlainCode.{plain-primary}
+use Rattle.typst_binding.proofs.PlainCode.{plain-primary, plain-readings}
 use Rattle.typst_binding.proofs.Heads.{Bare, Unary, LastIs, last-map, last-one, bare-error, Head, Heads, head-peek, head-eat, head-raw, standing-none}
 use Rattle.typst_binding.proofs.Turns.{Sane, BindsBy, bare-binds}
 use Rattle.typst_binding.proofs.Leads.{Leads, Fills, all-bare, fills-peek, fills-eat}
@@ -66,7 +67,7 @@ module _ (k : CharClasses) (levels : ℕ) (d : CallsBind k levels) (least : ℕ)
   table kind.LeftBrace = inl (head-read k levels kind.LeftBrace block.Code, fills-read k levels block.Code)
   table kind.LeftBracket = inl (head-read k levels kind.LeftBracket block.Content, fills-read k levels block.Content)
   table kind.Dollar = inl (head-equation l kind.Dollar, fills-equation l (calls-back k levels) (blocks-back k levels))
-  table kind.LeftParen = inl (head-parens l (calls-back k levels) (blocks-back k levels) kind.LeftParen, fills-parens l (calls-back k levels) (blocks-back k levels))
+  table kind.LeftParen = inl (head-parens l (calls-back k levels) (blocks-back k levels) (λ z s still. (level-binds k levels d readings plain-readings z s still).known) kind.LeftParen, fills-parens l (calls-back k levels) (blocks-back k levels))
   table kind.Let = inl (head-let l kind.Let, fills-let l (calls-back k levels) (blocks-back k levels))
   table kind.Set = inl (head-set l kind.Set, fills-set l (calls-back k levels) (blocks-back k levels))
   table kind.Show = inl (head-show l kind.Show, fills-show l (calls-back k levels) (blocks-back k levels))
