@@ -13,6 +13,7 @@ use Rattle.typst_code.specs.Shape.Making.{itself, of_kind, surprise, wanted}
 use Rattle.typst_code.specs.Shape.Change.{stays, turns_wrong, is_not, renamed, unparened}
 use Rattle.typst_code.specs.Shape.Shape.{keeps, holds, lacks, warns, fails}
 use Rattle.typst_code.proofs.Within.{on_both, on_if}
+pub use Rattle.typst_binding.proofs.Lists.{All, all-append, all-take, all-drop, all-map}
 use Rattle.typst_binding.specs.Binding.{any_errors, has_errors, first_sign, operator_of, node_binds, all_bind, binds}
 
 -- ---- tests
@@ -42,28 +43,6 @@ and-both true b h i = i
 and-both false b h i = absurd (cc)
 
 -- ---- several trees
-
-abbrev pub All : (Tree → Type 0) → List Tree → Type 0
-All P [] = Unit {0}
-All P (t ∷ ts) = P t × All P ts
-
-pub all-append : (P : Tree → Type 0) (ts us : List Tree) → All P ts → All P us → All P (ts ++ us)
-all-append P [] us h k = k
-all-append P (t ∷ ts) us h k = (h.0, all-append P ts us h.1 k)
-
-pub all-take : (P : Tree → Type 0) (n : ℕ) (ts : List Tree) → All P ts → All P (take n ts)
-all-take P zero ts h = tt
-all-take P (suc n) [] h = tt
-all-take P (suc n) (t ∷ ts) h = (h.0, all-take P n ts h.1)
-
-pub all-drop : (P : Tree → Type 0) (n : ℕ) (ts : List Tree) → All P ts → All P (drop n ts)
-all-drop P zero ts h = h
-all-drop P (suc n) [] h = tt
-all-drop P (suc n) (t ∷ ts) h = all-drop P n ts h.1
-
-pub all-map : (P Q : Tree → Type 0) → ((t : Tree) → P t → Q t) → (ts : List Tree) → All P ts → All Q ts
-all-map P Q f [] h = tt
-all-map P Q f (t ∷ ts) h = (f t h.0, all-map P Q f ts h.1)
 
 -- what holds of a tree with hints too
 abbrev pub Steady : (Tree → Type 0) → Type 0
@@ -162,7 +141,7 @@ fine-error message text n = absurd (cc)
 
 -- a leaf has no operator
 pub leaf-operator : (k : SyntaxKind) (s : List ℕ) → operator_of (leaf_of k s) ≡ None
-leaf-operator k s = on_both (λ o. o ≡ None) (same kind.Binary k) (first_sign []) None refl refl
+leaf-operator k s = on_both (λ o. o ≡ None) (same kind.Binary k) (first_sign false []) None refl refl
 
 pub fine-leaf : (k : SyntaxKind) (s : List ℕ) → Fine (leaf_of k s)
 fine-leaf k s n = and-both (node_binds (leaf_of k s)) true (binds-bare (leaf_of k s) (leaf-operator k s)) refl

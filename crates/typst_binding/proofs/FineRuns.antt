@@ -29,7 +29,8 @@ use Rattle.typst_code.specs.Syntax.Op.{hand, so, further, column, erred, takes, 
 use Rattle.typst_code.specs.Syntax.Parser.{gives, does, next, pick, repeat, wraps, grows, nests, scoped, sees, either, calls, block}
 use Rattle.typst_code.specs.Meaning.{Outcome, Meaning, Level, less, joined, answered, turns, as_last, bound, repeated, before, reshaped, grown, is_more, growths, growing, nestings, nesting, bounded, given_up, plain, same_mode, entered, left, taken_node, node_by, reader_so, gave, hand_of, hand_asks_of, done, run}
 use Rattle.typst_code.proofs.Within.{on_both, on_if}
-use Rattle.typst_binding.specs.Binding.{has_errors, sign_of, operator_of}
+use Rattle.typst_binding.specs.Binding.{has_errors, operator_of}
+use Rattle.typst_binding.proofs.Signs.{sign_of}
 use Rattle.typst_binding.proofs.Fine.{All, Fine, Fines, fines-all, fines-append, fines-take, fines-hinted, fines-reshaped, and-left, all-append, fine-inner, fine-error, fine-leaf, fine-made, no-operator, tame, tame_making}
 
 -- ---- nodes of tokens

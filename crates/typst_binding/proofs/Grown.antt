@@ -17,11 +17,12 @@ use Rattle.typst_code.specs.Shape.{Shape, becomes, hinted}
 use Rattle.typst_code.specs.Meaning.{Outcome, Meaning, less, joined, answered, bound, inside, reshaped, grown, is_more, growths}
 use Rattle.typst_code.proofs.Hints.{length-hinted}
 use Rattle.typst_code.proofs.Places.{moved-sum, less-none, length-less}
-use Rattle.typst_binding.specs.Binding.{any_errors, has_errors, sign_of, operator_of, binds_by, right_least, node_binds}
+use Rattle.typst_binding.specs.Binding.{any_errors, has_errors, first_sign, operator_of, binds_by, right_least, node_binds}
+use Rattle.typst_binding.proofs.Signs.{sign_of, NoSign}
 use Rattle.typst_binding.proofs.Fine.{All, or-left, or-right, all-append, all-drop, all-map, fines-behind, fine-binary, leaf-operator, no-operator, is-tame, tame_kind}
 use Rattle.typst_binding.proofs.FineRuns.{Binds, Still, binds-joined, binds-reshaped}
 use Rattle.typst_binding.proofs.Heads.{Silent, standing-silent, Leafy, LastIs, last-map, last-one, behind-take}
-use Rattle.typst_binding.proofs.Turns.{tight-binds, bare-binds, NoSign, BindsBy, Sane, below, Tight, binary-binds, all-sane, all-with, last-with, all-left, all-right}
+use Rattle.typst_binding.proofs.Turns.{tight-binds, bare-binds, BindsBy, Sane, below, Tight, binary-binds, all-sane, all-with, last-with, all-left, all-right}
 
 -- ---- what stands left and right of an operator
 
@@ -84,7 +85,7 @@ abbrev Fits : SyntaxKind → BinOp → List Tree → Type 0
 Fits j op ts = (operator_of (inner_of kind.Binary (forest ts)) ≡ Some op) × ((node_binds (inner_of kind.Binary (forest ts)) ≡ true) × (below (suc (binary_precedence op)) j ≡ true))
 
 -- an operator that was taken, with its right operand
-module _ (i j : SyntaxKind) (op : BinOp) (text : List ℕ) (sgn : Tree) (ds : List Tree) (e : sign_of i ≡ Some op) (leafy : Leafy i text sgn)
+module _ (i j : SyntaxKind) (op : BinOp) (text : List ℕ) (sgn : Tree) (ds : List Tree) (e : sign_of i ≡ Some op) (reads : any_errors (forest ds) ≡ false → sgn ≡ leaf_of i text → (ls : List Tree) → All NoSign ls → first_sign false (ls ++ sgn ∷ ds) ≡ Some op) (leafy : Leafy i text sgn)
     (right : any_errors (forest ds) ≡ false → LastIs (has_errors sgn ≡ true) (λ t. Sane t → BindsBy (right_least op) t × (below (right_least op) j ≡ true)) ds) where
   fits-leaf : sgn ≡ leaf_of i text → (ls : List Tree) → All NoSign ls → All (λ t. Sane t → BindsBy (binary_precedence op) t) ls → any_errors (forest (ls ++ sgn ∷ ds)) ≡ false → Fits j op (ls ++ sgn ∷ ds)
   fits-leaf is ls no_signs left n =
@@ -94,7 +95,7 @@ module _ (i j : SyntaxKind) (op : BinOp) (text : List ℕ) (sgn : Tree) (ds : Li
       let wrong : has_errors sgn ≡ true → ⊥ = (λ w. let s = here.0 in absurd (cc)) in
       let tight = last-left (has_errors sgn ≡ true) (below (right_least op) j ≡ true) (BindsBy (right_least op)) ds r (λ w. absurd (wrong w)) in
       let k : sgn.head.kind ≡ i = ap (λ (t : Tree). t.head.kind) is in
-      let b = binary-binds op ls sgn ds (ap sign_of k ∙ e) (ap is_trivia k ∙ sign-trivia i op e) (ap operator_of is ∙ leaf-operator i text) no_signs (all-with (BindsBy (binary_precedence op)) ls left (all-left Sane ls (sgn ∷ ds) sane))
+      let b = binary-binds op ls sgn ds (reads (errors-second sgn ds (errors-behind ls (sgn ∷ ds) n)) is ls no_signs) (ap is_trivia k ∙ sign-trivia i op e) (ap operator_of is ∙ leaf-operator i text) no_signs (all-with (BindsBy (binary_precedence op)) ls left (all-left Sane ls (sgn ∷ ds) sane))
       (last-map (has_errors sgn ≡ true) (Unit {0}) (λ t. BindsBy (right_least op) t × (below (right_least op) j ≡ true)) (BindsBy (right_least op)) (λ w. tt) (λ t x. x.0) ds r) in
       (b.0, (b.1, below-more (right_least op) (suc (binary_precedence op)) j (right-most op) tight))
 
@@ -148,10 +149,10 @@ module _ (k : CharClasses) (least : ℕ) where
     abbrev x : Outcome A
     x = answered a (joined o p)
 
-    pub grown-binary : (op : BinOp) (text : List ℕ) (sgn : Tree) (ds : List Tree) → sign_of i ≡ Some op → nat_le least (binary_precedence op) ≡ true → Leafy i text sgn → All Still trivia
+    pub grown-binary : (op : BinOp) (text : List ℕ) (sgn : Tree) (ds : List Tree) → sign_of i ≡ Some op → (any_errors (forest ds) ≡ false → sgn ≡ leaf_of i text → (ls : List Tree) → All NoSign ls → first_sign false (ls ++ sgn ∷ ds) ≡ Some op) → nat_le least (binary_precedence op) ≡ true → Leafy i text sgn → All Still trivia
         → p.nodes ≡ trivia ++ sgn ∷ ds → p.back ≡ 0 → p.hints ≡ [] → Binds p → (any_errors (forest ds) ≡ false → LastIs (has_errors sgn ≡ true) (λ t. Sane t → BindsBy (right_least op) t × (below (right_least op) j ≡ true)) ds)
         → Grown n z s (reshaped (becomes kind.Binary) n x)
-    grown-binary op text sgn ds e l leafy still nodes back hints b right =
+    grown-binary op text sgn ds e reads l leafy still nodes back hints b right =
         let m = n + x.back in
         let is : x.nodes ≡ o.nodes ++ (trivia ++ sgn ∷ ds) = rw (hints, back) (ap (λ ts. ts ++ p.nodes) (less-none o.nodes) ∙ ap (λ ts. o.nodes ++ ts) nodes) in
         let same-m : m ≡ n + o.back = omega (arith, back) in
@@ -163,7 +164,7 @@ module _ (k : CharClasses) (least : ℕ) where
         let no_signs = sp.all NoSign (all-map (Leftward i) NoSign (λ t h. h.0) (drop m o.nodes) left) (all-map Still NoSign (λ t h. h.no_sign) trivia still) in
         let binding = sp.all (λ t. Sane t → BindsBy (binary_precedence op) t) (all-map (Leftward i) (λ t. Sane t → BindsBy (binary_precedence op) t) (λ t h y. tight-binds i op t e (h.1 y)) (drop m o.nodes) left)
         (all-map Still (λ t. Sane t → BindsBy (binary_precedence op) t) (λ t h y. bare-binds (binary_precedence op) t h.no_operator) trivia still) in
-        let fit : any_errors (forest cs) ≡ false → Fits j op cs = subst (λ (ts : List Tree). any_errors (forest ts) ≡ false → Fits j op ts) (sym same-cs) (fits i j op text sgn ds e leafy right sp.front no_signs binding) in
+        let fit : any_errors (forest cs) ≡ false → Fits j op cs = subst (λ (ts : List Tree). any_errors (forest ts) ≡ false → Fits j op ts) (sym same-cs) (fits i j op text sgn ds e reads leafy right sp.front no_signs binding) in
         let node = inner_of kind.Binary (forest cs) in
         let all = binds-joined o p g.binds b in
         let there : kind_at (moved (o.taken + p.taken) z) p.state ≡ j = ap (λ (v : Place). kind_at v p.state) (moved-sum o.taken p.taken z) in

@@ -33,7 +33,8 @@ use Rattle.typst_code.specs.Meaning.{Outcome, Level, plain, less, standing, join
 use Rattle.typst_code.proofs.Ends.{hand-again}
 use Rattle.typst_code.proofs.Places.{no-end}
 use Rattle.typst_code.proofs.Within.{on_both}
-use Rattle.typst_binding.specs.Binding.{sign_of, operator_of}
+use Rattle.typst_binding.specs.Binding.{operator_of}
+use Rattle.typst_binding.proofs.Signs.{sign_of}
 use Rattle.typst_binding.proofs.Fine.{All, Steady, all-drop, no-operator}
 use Rattle.typst_binding.proofs.FineRuns.{Still, still-hand}
 

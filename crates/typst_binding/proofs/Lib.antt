@@ -1,3 +1,5 @@
+pub mod Lists
+pub mod Signs
 pub mod Fine
 pub mod FineRuns
 pub mod PlainParts

@@ -17,7 +17,7 @@ use Rattle.typst_kinds.specs.Names.{name_of}
 use Rattle.typst_node.specs.Diagnostic.{hint_with}
 use Rattle.typst_node.specs.Messages.{made_expected, expected_error, expected_message, is_lost_name, keyword_hint}
 use Rattle.typst_grammar.specs.Grammar.{block_production, level_at}
-use Rattle.typst_binding.specs.Binding.{sign_of}
+use Rattle.typst_binding.proofs.Signs.{sign_of}
 use Rattle.typst_code.specs.Shape.{Shape, becomes, hinted, on_first, shaped}
 use Rattle.typst_code.specs.Shape.Change.{stays, is_not}
 use Rattle.typst_code.specs.Shape.Shape.{keeps}

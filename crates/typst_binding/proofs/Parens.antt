@@ -32,7 +32,7 @@ use Rattle.typst_code.proofs.Backs.{backs-run}
 use Rattle.typst_code.proofs.Ends.{hand-again}
 use Rattle.typst_code.proofs.Places.{no-end}
 use Rattle.typst_code.proofs.Within.{on_both}
-use Rattle.typst_binding.specs.Binding.{sign_of}
+use Rattle.typst_binding.proofs.Signs.{sign_of}
 use Rattle.typst_binding.proofs.Fine.{All, Steady, all-append, no-operator}
 use Rattle.typst_binding.proofs.FineRuns.{Gives, gives-all, gives-run, Still, still-hand}
 use Rattle.typst_binding.proofs.Firsts.{fills-readings}

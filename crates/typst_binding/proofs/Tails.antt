@@ -30,8 +30,9 @@ use Rattle.typst_code.proofs.Knot.{sane-at}
 use Rattle.typst_code.proofs.Places.{moved-sum, no-end}
 use Rattle.typst_grammar.specs.Grammar.{rules, level_at}
 use Rattle.typst_grammar.proofs.Moves.{Moves, moves-next, moves-peek, moves-eat}
-use Rattle.typst_binding.specs.Binding.{any_errors, has_errors, sign_of, operator_of, right_least}
-use Rattle.typst_binding.proofs.Fine.{All, or-left}
+use Rattle.typst_binding.specs.Binding.{any_errors, has_errors, first_sign, operator_of, right_least}
+use Rattle.typst_binding.proofs.Signs.{sign_of, NoSign, reads-sign, reads-not}
+use Rattle.typst_binding.proofs.Fine.{All, all-map, or-left}
 use Rattle.typst_binding.proofs.FineRuns.{Binds, binds-joined, Plain, Still, still-hand, after-shape-known}
 use Rattle.typst_binding.proofs.PlainParts.{plain-eat, plain-expected, plain-deeper}
 use Rattle.typst_binding.proofs.Heads.{standing-none, Silent, silent-joined, silent-plain, Leafy, LastIs, last-map, is_plain, leafy-token, hand-kind}
@@ -228,7 +229,8 @@ module _ (k : CharClasses) (levels : ℕ) (d : CallsBind k levels) (ops : Deeper
           let same_taken : 0 + q.taken ≡ q.taken = omega arith in
           let same_kind : kind_at k 0 (moved p.taken w) p.state ≡ kind_at k 0 (moved q.taken w) q.state = ap (λ (m : ℕ). kind_at k 0 (moved m w) q.state) same_taken in
           went p (fits (tail.Binary op)) refl (moves-peek l (λ _. binary_expr op) (λ a. moves-binary op) w o.state (comes (first-false (is_end h.kind) (is_plain h.kind) (sign-leaf h.kind op c.0))))
-          (grown-binary k least n z s o p (tt {0}) g op (text op w t still there) (sgn op w t still there) (operands op w t still there) c.0 c.1
+          (grown-binary k least n z s o p (tt {0}) g op (text op w t still there) (sgn op w t still there) (operands op w t still there) c.0
+          (λ sane is ls no_signs. ap (λ (u : Tree). first_sign false (ls ++ u ∷ operands op w t still there)) is ∙ reads-sign op h.kind c.1.0 (text op w t still there) ls no_signs (operands op w t still there)) c.1.1
           (subst (λ (v : SyntaxKind). Leafy v (text op w t still there) (sgn op w t still there)) (ap (λ (v : Hand). v.kind) again) (whole-leafy op w t still there)) still
           (x.nodes ∙ ap (λ (v : Hand). v.trivia ++ sgn op w t still there ∷ operands op w t still there) again) x.back x.hints
           (level-binds k levels d (turn_by (tail.Binary op)) (refl, λ _. plain-binary op) w o.state g.binds.known)
@@ -319,6 +321,17 @@ module _ (k : CharClasses) (levels : ℕ) (d : CallsBind k levels) (ops : Deeper
         unfolding run binary_expr
         grown-more x = x
 
+        -- it is `in` indeed
+        is-in : (there : (is_end (hand_of l w2 t2).kind || is_plain (hand_of l w2 t2).kind) ≡ false) → same kind.In h2.kind ≡ true → Sane (sgn binary.NotIn w2 t2 still2 there) → same kind.In (sgn binary.NotIn w2 t2 still2 there).head.kind ≡ true
+        is-in there f sane = by-leaf (whole-leafy binary.NotIn w2 t2 still2 there)
+          where
+            u : Tree
+            u = sgn binary.NotIn w2 t2 still2 there
+
+            by-leaf : Leafy (hand_of l w2 t2).kind (text binary.NotIn w2 t2 still2 there) u → same kind.In u.head.kind ≡ true
+            by-leaf (inl x) = absurd (let a = or-left (is_error u.head.kind) (any_errors u.kids) sane in let b = ap is_error x in cc)
+            by-leaf (inr x) = ap (λ (v : Tree). same kind.In v.head.kind) x ∙ ap (λ (v : Hand). same kind.In v.kind) again2 ∙ f
+
         went-in : same kind.In h2.kind ≡ true → Fits (behind_not with_in) → Binds (behind_not with_in) → Turned (behind_not with_in)
         went-in is_in less b =
             let there : (is_end (hand_of l w2 t2).kind || is_plain (hand_of l w2 t2).kind) ≡ false = in-leaf (hand_of l w2 t2).kind (ap (λ (v : Hand). same kind.In v.kind) again2 ∙ is_in) in
@@ -332,7 +345,7 @@ module _ (k : CharClasses) (levels : ℕ) (d : CallsBind k levels) (ops : Deeper
             let gap = ap (λ (v : Hand). v.len) again in
             let some = moves-eat l w t (omega (arith, some_not)) in
             went p less says-more (omega (arith, sum, some))
-            (grown-more (grown-binary k least n z s o p (tt {0}) g binary.NotIn (encode_utf8_all (text_ahead (hand_of l w t).len (moved (hand_of l w t).gap w))) not_sign (before ++ in_sign ∷ right) sign_not (not-comes least h.kind has_trivia e).1 leafy_not still
+            (grown-more (grown-binary k least n z s o p (tt {0}) g binary.NotIn (encode_utf8_all (text_ahead (hand_of l w t).len (moved (hand_of l w t).gap w))) not_sign (before ++ in_sign ∷ right) sign_not (λ sane is ls no_signs. ap (λ (u : Tree). first_sign false (ls ++ u ∷ (before ++ in_sign ∷ right))) is ∙ reads-not h.kind (not-comes least h.kind has_trivia e).0 (encode_utf8_all (text_ahead (hand_of l w t).len (moved (hand_of l w t).gap w))) ls no_signs before (all-map Still NoSign (λ u x. x.no_sign) before (still-hand l w2 t2 still2)) in_sign (is-in there is_in (all-sane (in_sign ∷ right) (errors-behind before (in_sign ∷ right) sane)).0) right) (not-comes least h.kind has_trivia e).1 leafy_not still
             x.nodes x.back x.hints b
             (λ sane. (let rest = errors-behind before (in_sign ∷ right) sane in
             subst (λ (v : SyntaxKind). LastIs (has_errors not_sign ≡ true) (Ended k (right_least binary.NotIn) v) (before ++ in_sign ∷ right)) (sym same_kind)

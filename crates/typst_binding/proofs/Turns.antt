@@ -12,7 +12,8 @@ use Rattle.typst_code.specs.declared.heads.CodeTail.{CodeTail}
 use Rattle.typst_code.specs.declared.heads.CodeTail.TheVariants as tail
 use Rattle.typst_code.specs.Arguments.{calls_directly}
 use Rattle.typst_code.specs.Expressions.{binary_tail, code_tail}
-use Rattle.typst_binding.specs.Binding.{any_errors, has_errors, sign_of, first_sign, operator_of, binds_by, left_binds, right_binds, right_least, operands_bind, node_binds}
+use Rattle.typst_binding.specs.Binding.{any_errors, has_errors, first_sign, operator_of, binds_by, left_binds, right_binds, right_least, operands_bind, node_binds}
+use Rattle.typst_binding.proofs.Signs.{sign_of, NoSign}
 use Rattle.typst_binding.proofs.Fine.{All, or-left, or-right, or-both, and-both}
 use Rattle.typst_binding.proofs.Heads.{LastIs}
 
@@ -22,17 +23,10 @@ trees-of : (ts : List Tree) → trees (forest ts) ≡ ts
 trees-of [] = refl
 trees-of (t ∷ ts) = ap (λ us. t ∷ us) (trees-of ts)
 
-abbrev pub NoSign : Tree → Type 0
-NoSign t = sign_of t.head.kind ≡ None
-
 abbrev pub BindsBy : ℕ → Tree → Type 0
 BindsBy n t = binds_by n t ≡ true
 
 module _ (sgn : Tree) (rs : List Tree) where
-  first-is : (op : BinOp) (ls : List Tree) → All NoSign ls → sign_of sgn.head.kind ≡ Some op → first_sign (ls ++ sgn ∷ rs) ≡ Some op
-  first-is op [] h e = rw (e, first_sign) refl
-  first-is op (t ∷ ls) h e = ap (λ (o : Option BinOp). elim o as (λ _. Option BinOp) [ None ↦ first_sign (ls ++ sgn ∷ rs) | Some x ↦ Some x ]) h.0 ∙ first-is op ls h.1 e
-
   left-is : (n : ℕ) (ls : List Tree) → All (BindsBy n) ls → BindsBy n sgn → is_trivia sgn.head.kind ≡ false → left_binds n (ls ++ sgn ∷ rs) ≡ true
   left-is n [] h b e = rw e b
   left-is n (t ∷ ls) h b e = by-trivia (is_trivia t.head.kind) (left-is n ls h.1 b e)
@@ -57,11 +51,11 @@ pub bare-binds : (n : ℕ) (t : Tree) → operator_of t ≡ None → BindsBy n t
 bare-binds n t e = rw (e, binds_by) refl
 
 -- an operator between what binds as it asks for
-pub binary-binds : (op : BinOp) (ls : List Tree) (sgn : Tree) (rs : List Tree) → sign_of sgn.head.kind ≡ Some op → is_trivia sgn.head.kind ≡ false → operator_of sgn ≡ None → All NoSign ls → All (BindsBy (binary_precedence op)) ls → LastIs (Unit {0}) (BindsBy (right_least op)) rs
+pub binary-binds : (op : BinOp) (ls : List Tree) (sgn : Tree) (rs : List Tree) → first_sign false (ls ++ sgn ∷ rs) ≡ Some op → is_trivia sgn.head.kind ≡ false → operator_of sgn ≡ None → All NoSign ls → All (BindsBy (binary_precedence op)) ls → LastIs (Unit {0}) (BindsBy (right_least op)) rs
     → (operator_of (inner_of kind.Binary (forest (ls ++ sgn ∷ rs))) ≡ Some op) × (node_binds (inner_of kind.Binary (forest (ls ++ sgn ∷ rs))) ≡ true)
 binary-binds op ls sgn rs s e none no_signs left right =
     let ts = ls ++ sgn ∷ rs in
-    let is : operator_of (inner_of kind.Binary (forest ts)) ≡ Some op = ap first_sign (trees-of ts) ∙ first-is sgn rs op ls no_signs s in
+    let is : operator_of (inner_of kind.Binary (forest ts)) ≡ Some op = ap (first_sign false) (trees-of ts) ∙ s in
     let bare : (n : ℕ) → BindsBy n sgn = (λ n. bare-binds n sgn none) in
     let both : operands_bind op ts ≡ true = and-both (left_binds (binary_precedence op) ts) (right_binds (right_least op) ts)
     (left-is sgn rs (binary_precedence op) ls left (bare (binary_precedence op)) e)
@@ -218,7 +212,7 @@ module _ (least : ℕ) where
   operator_in (tail.Binary op) = op
   operator_in _ = binary.NotIn
 
-  signs-by : (op : BinOp) (a b c : Bool) (o : Option BinOp) → tail_of a b c o ≡ tail.Binary op → ((if c then Some binary.NotIn else o) ≡ Some op) × (nat_le least (binary_precedence op) ≡ true)
+  signs-by : (op : BinOp) (a b c : Bool) (o : Option BinOp) → tail_of a b c o ≡ tail.Binary op → ((if c then Some binary.NotIn else o) ≡ Some op) × ((o ≡ Some op) × (nat_le least (binary_precedence op) ≡ true))
   signs-by op true b c o h = absurd (cc)
   signs-by op false true c o h = absurd (cc)
   signs-by op false false true o h = absurd (by-less (nat_lt (binary_precedence binary.NotIn) least) h)
@@ -229,11 +223,11 @@ module _ (least : ℕ) where
   signs-by op false false false None h = absurd (cc)
   signs-by op false false false (Some found) h = by-less (nat_lt (binary_precedence found) least) refl h
     where
-      by-less : (x : Bool) → nat_lt (binary_precedence found) least ≡ x → (if x then tail.Nothing else tail.Binary found) ≡ tail.Binary op → (Some found ≡ Some op) × (nat_le least (binary_precedence op) ≡ true)
+      by-less : (x : Bool) → nat_lt (binary_precedence found) least ≡ x → (if x then tail.Nothing else tail.Binary found) ≡ tail.Binary op → (Some found ≡ Some op) × ((Some found ≡ Some op) × (nat_le least (binary_precedence op) ≡ true))
       by-less true e i = absurd (cc)
       by-less false e i =
           let same : found ≡ op = ap operator_in i in
-          (ap (λ x. Some x) same, subst (λ (x : BinOp). nat_le least (binary_precedence x) ≡ true) same (enough (binary_precedence found) e))
+          (ap (λ x. Some x) same, (ap (λ x. Some x) same, subst (λ (x : BinOp). nat_le least (binary_precedence x) ≡ true) same (enough (binary_precedence found) e)))
 
   module _ (k : SyntaxKind) (has_trivia : Bool) where
     pub call-comes : code_tail false least k has_trivia ≡ tail.Call → calls_directly k has_trivia ≡ true
@@ -248,5 +242,5 @@ module _ (least : ℕ) where
     pub not-comes : code_tail false least k has_trivia ≡ tail.NotIn → (same kind.Not k ≡ true) × (nat_le least (binary_precedence binary.NotIn) ≡ true)
     not-comes h = not-by (calls_directly k has_trivia) (same kind.Dot k) (same kind.Not k) (binary_of k) h
 
-    pub sign-comes : (op : BinOp) → code_tail false least k has_trivia ≡ tail.Binary op → (sign_of k ≡ Some op) × (nat_le least (binary_precedence op) ≡ true)
+    pub sign-comes : (op : BinOp) → code_tail false least k has_trivia ≡ tail.Binary op → (sign_of k ≡ Some op) × ((binary_of k ≡ Some op) × (nat_le least (binary_precedence op) ≡ true))
     sign-comes op h = signs-by op (calls_directly k has_trivia) (same kind.Dot k) (same kind.Not k) (binary_of k) h

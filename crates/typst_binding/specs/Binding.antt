@@ -25,18 +25,18 @@ has_errors t = is_error t.head.kind || any_errors t.kids
 
 -- ---- operators and operands
 
--- the binary operator that a token of this kind begins: `not` begins `not in`
-abbrev pub sign_of : SyntaxKind → Option BinOp
-sign_of k = if same kind.Not k then Some binary.NotIn else binary_of k
+-- the binary operator that a node of this kind is, where `not` stands before it or not: `in` behind `not` is `not in`
+abbrev pub sign_behind : Bool → SyntaxKind → Option BinOp
+sign_behind behind_not k = if behind_not && same kind.In k then Some binary.NotIn else binary_of k
 
--- the first operator among several nodes
-abbrev pub first_sign : List Tree → Option BinOp
-first_sign [] = None
-first_sign (t ∷ ts) = elim (sign_of t.head.kind) [ None ↦ first_sign ts | Some op ↦ Some op ]
+-- the first operator among several nodes; `not` alone is none, and is remembered
+abbrev pub first_sign : Bool → List Tree → Option BinOp
+first_sign behind_not [] = None
+first_sign behind_not (t ∷ ts) = elim (sign_behind behind_not t.head.kind) [ None ↦ first_sign (behind_not || same kind.Not t.head.kind) ts | Some op ↦ Some op ]
 
 -- the operator of a node, if it is a binary one
 abbrev pub operator_of : Tree → Option BinOp
-operator_of t = if same kind.Binary t.head.kind then first_sign (trees t.kids) else None
+operator_of t = if same kind.Binary t.head.kind then first_sign false (trees t.kids) else None
 
 -- whether a node, where it is a binary one, binds at least so tightly
 abbrev pub binds_by : ℕ → Tree → Bool
