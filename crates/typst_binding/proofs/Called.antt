@@ -1,5 +1,5 @@
 -- Arguments directly behind what is called.
-use Rattle.std.proofs.Common.{◌≡◌, ℕ, zero, suc, ◌+◌, ◌-◌, ◌≤◌, ◌<◌, Bool, true, false, not, ◌&&◌, ◌||◌, if◌then◌else◌, nat_lt, List, [], ◌∷◌, ◌++◌, length, take, length-append, Option, Some, refl, ap, sym, ◌∙◌, subst, arith}
+use Rattle.std.proofs.Common.{◌≡◌, ℕ, ◌+◌, ◌≤◌, ◌<◌, Bool, true, false, not, ◌&&◌, ◌||◌, if◌then◌else◌, nat_lt, List, [], ◌++◌, length, take, Some, refl, ap, sym, ◌∙◌, subst, arith}
 use Rattle.typst_kinds.specs.Kinds.{same}
 use Rattle.typst_kinds.specs.declared.kind.SyntaxKind.{SyntaxKind}
 use Rattle.typst_kinds.specs.declared.kind.SyntaxKind.TheVariants as kind
@@ -10,9 +10,9 @@ use Rattle.typst_code.specs.calls.Block.TheVariants as block
 use Rattle.typst_code.specs.Arguments.{argument_list, arguments, arguments_shape, begin_arguments, calls_directly, content_turn, listed_arguments, missing_arguments, opens_arguments}
 use Rattle.typst_code.specs.Depth.{is_end}
 use Rattle.typst_code.specs.Expressions.{call_tail}
-use Rattle.typst_code.specs.Hand.{Hand, AtHand, told, hand_at}
+use Rattle.typst_code.specs.Hand.{Hand, AtHand, told}
 use Rattle.typst_code.specs.Point.{Point, is_nil, pending}
-use Rattle.typst_code.specs.Shape.{hinted, Shape, becomes}
+use Rattle.typst_code.specs.Shape.{hinted, becomes}
 use Rattle.typst_code.specs.Sound.{Tidy, Backs}
 use Rattle.typst_code.specs.Steps.{peek, node, read_block}
 use Rattle.typst_code.specs.Syntax.{Parser, ◌>>=◌, ◌>>◌}
@@ -20,7 +20,7 @@ use Rattle.typst_code.specs.Syntax.Parser.{gives, next, repeat}
 use Rattle.typst_code.specs.Meaning.{Outcome, Level, plain, reshaped, less, repeated, joined, followed, as_last, turns, bound, hand_of, hand_asks_of, asked, run}
 use Rattle.typst_code.proofs.Ends.{hand-again, hand-takes}
 use Rattle.typst_code.proofs.Backs.{backs-run, backs-turns}
-use Rattle.typst_grammar.specs.Grammar.{rules, level_at}
+use Rattle.typst_grammar.specs.Grammar.{level_at}
 use Rattle.typst_grammar.proofs.CodeMoves.{moves-block}
 use Rattle.typst_grammar.proofs.Moves.{Moves, moves-next, moves-within, moves-eat}
 use Rattle.typst_binding.proofs.Fine.{All}
@@ -28,7 +28,7 @@ use Rattle.typst_binding.proofs.FineRuns.{Still, still-hand}
 use Rattle.typst_code.proofs.Within.{on_both}
 use Rattle.typst_binding.proofs.Heads.{Bare, standing-none}
 use Rattle.typst_binding.proofs.Operands.{exact-plain, exact-joined}
-use Rattle.typst_binding.proofs.Leads.{Leads, Fills, leads-joined, leads-behind, leads-reshaped, fills-next}
+use Rattle.typst_binding.proofs.Leads.{Leads, leads-joined, leads-reshaped}
 use Rattle.typst_binding.proofs.Firsts.{calls-back, blocks-back, fills-arguments, fills-read}
 
 -- it leads, and takes something

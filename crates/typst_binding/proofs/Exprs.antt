@@ -1,6 +1,6 @@
 -- Expressions with operators bind.
 use Rattle.std.proofs.lemmas.Bool.Decides.{nat_tests}
-use Rattle.std.proofs.Common.{◌==◌, if◌then◌else◌, codes, take, ◌≡◌, ℕ, zero, suc, ◌+◌, ◌≤◌, ◌<◌, Bool, true, false, List, [], ◌∷◌, ◌++◌, length, Option, Some, None, refl, ap, sym, ◌∙◌, ◌⊎◌, inl, inr, subst, arith}
+use Rattle.std.proofs.Common.{◌==◌, if◌then◌else◌, codes, take, ◌≡◌, ℕ, suc, ◌+◌, ◌≤◌, Bool, true, false, List, [], length, Option, refl, ap, sym, ◌∙◌, ◌⊎◌, inl, inr, subst, arith}
 use Rattle.typst_lines.specs.Place.{Place, moved}
 use Rattle.typst_node.specs.Tree.{Tree, forest}
 use Rattle.typst_classes.specs.Classes.{CharClasses}
@@ -15,9 +15,9 @@ use Rattle.typst_code.specs.Syntax.{◌>>◌}
 use Rattle.typst_code.specs.Syntax.Parser.{gives, repeat}
 use Rattle.typst_code.specs.Expected.{expect_identifier}
 use Rattle.typst_code.specs.Expressions.{binary_expr, call_tail, code_expr, code_primary, code_tail, code_tail_turn, direct_field, not_in, tail_by}
-use Rattle.typst_code.specs.Hand.{Hand, AtHand, told}
+use Rattle.typst_code.specs.Hand.{Hand, told}
 use Rattle.typst_code.specs.Point.{Point, pending}
-use Rattle.typst_code.specs.Shape.{Shape, becomes, shaped}
+use Rattle.typst_code.specs.Shape.{Shape, shaped}
 use Rattle.typst_code.specs.Shape.Shape.{fails}
 use Rattle.typst_code.specs.Statements.{field}
 use Rattle.typst_code.specs.Steps.{eat, expected, grow, node, within}
@@ -28,7 +28,7 @@ use Rattle.typst_code.proofs.Places.{no-end}
 use Rattle.typst_grammar.specs.Grammar.{rules, level_at}
 use Rattle.typst_binding.specs.Binding.{any_errors}
 use Rattle.typst_binding.proofs.Fine.{All, Fines}
-use Rattle.typst_binding.proofs.FineRuns.{AllBind, Gives, gives-all, gives-run, Plain, Still, still-hand, binds-joined}
+use Rattle.typst_binding.proofs.FineRuns.{Gives, gives-all, gives-run, Plain, Still, still-hand}
 use Rattle.typst_binding.proofs.Heads.{LastIs, standing-none}
 use Rattle.typst_binding.proofs.PlainParts.{plain-eat, plain-expected, plain-deep, plain-deeper}
 use Rattle.typst_binding.proofs.PlainCode.{plain-field, plain-call}

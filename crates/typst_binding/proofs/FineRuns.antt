@@ -22,7 +22,7 @@ use Rattle.typst_code.specs.calls.Call.{Call}
 use Rattle.typst_code.specs.reading.Reading.{Reading}
 use Rattle.typst_code.specs.Point.{Point, Trivia, pending}
 use Rattle.typst_code.specs.Hand.{Ahead, ahead, ahead_by, after_trivia, direct, hand_at, token_at, len_at, at_trivia, token_by, len_by}
-use Rattle.typst_code.specs.Shape.{changed, Shape, shaped, hinted, after_node, after_shape}
+use Rattle.typst_code.specs.Shape.{changed, Shape, hinted, after_node, after_shape}
 use Rattle.typst_code.specs.Shape.Shape.{keeps, holds, lacks, warns, fails}
 use Rattle.typst_code.specs.Syntax.{Op, Begin, Parser}
 use Rattle.typst_code.specs.Syntax.Op.{hand, so, further, column, erred, takes, takes_so, flushes, complains, advises, marks, is_deepest}

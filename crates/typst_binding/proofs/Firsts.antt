@@ -1,5 +1,5 @@
 -- What begins with the token at hand.
-use Rattle.std.proofs.Common.{◌≡◌, ℕ, ◌+◌, ◌-◌, ◌≤◌, Bool, true, false, if◌then◌else◌, List, [], ◌∷◌, ◌++◌, length, take, length-append, refl, ap, sym, subst, arith}
+use Rattle.std.proofs.Common.{◌≡◌, ℕ, ◌≤◌, Bool, List, [], length, take, length-append, refl, ap, sym, subst, arith}
 use Rattle.typst_kinds.specs.declared.kind.SyntaxKind.{SyntaxKind}
 use Rattle.typst_kinds.specs.declared.operator.UnOp.{UnOp}
 use Rattle.typst_lines.specs.Place.{Place, moved}
@@ -10,7 +10,7 @@ use Rattle.typst_code.specs.calls.Block.{Block}
 use Rattle.typst_code.specs.calls.Block.TheVariants as block
 use Rattle.typst_code.specs.calls.Call.{Call}
 use Rattle.typst_code.specs.calls.Role.{Role}
-use Rattle.typst_code.specs.Point.{Point, pending, forgot}
+use Rattle.typst_code.specs.Point.{Point, forgot}
 use Rattle.typst_code.specs.Shape.{hinted, Shape}
 use Rattle.typst_code.specs.Shape.Making.{itself}
 use Rattle.typst_code.specs.Sound.{Backs}
@@ -36,9 +36,9 @@ use Rattle.typst_code.proofs.Knot.{sane-meaning, sane-block}
 use Rattle.typst_code.proofs.Places.{length-less}
 use Rattle.typst_grammar.specs.Grammar.{block_production, rules, meaning, level_at}
 use Rattle.typst_binding.proofs.Fine.{All, all-take}
-use Rattle.typst_binding.proofs.FineRuns.{Still, still-hand}
+use Rattle.typst_binding.proofs.FineRuns.{still-hand}
 use Rattle.typst_binding.proofs.Heads.{Bare, bare-advised}
-use Rattle.typst_binding.proofs.Leads.{Leads, Fills, all-bare, all-take-front, all-take-hinted, all-take-less, all-front, fills-takes, fills-peek, fills-scoped, fills-either, fills-pick, fills-next, fills-eat, fills-within, fills-node, fills-nest}
+use Rattle.typst_binding.proofs.Leads.{Leads, Fills, all-bare, all-take-front, all-take-hinted, all-take-less, fills-takes, fills-peek, fills-scoped, fills-either, fills-pick, fills-next, fills-eat, fills-within, fills-node, fills-nest}
 
 module _ (l : Level) (d : (c : Call) → Backs (l.deeper c)) (e : (b : Block) → Backs (l.blocks b)) where
   abbrev eats-first : {A : Type 0} (f : Unit {0} → Parser A) → Fills l (next eat f)

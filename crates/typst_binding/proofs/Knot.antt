@@ -2,24 +2,21 @@
 use Rattle.std.proofs.Common.{ℕ, zero, suc, true, false, refl}
 use Rattle.typst_kinds.specs.declared.kind.SyntaxKind.TheVariants as kind
 use Rattle.typst_classes.specs.Classes.{CharClasses}
-use Rattle.typst_code.specs.calls.Block.{Block}
-use Rattle.typst_code.specs.calls.Block.TheVariants as block
 use Rattle.typst_code.specs.calls.Call.{Call}
 use Rattle.typst_code.specs.calls.Call.TheVariants.{MarkupExpr, CodeExpr, MathExpr, Pattern}
-use Rattle.typst_code.specs.Knot.{meaning_of, blocks_of}
-use Rattle.typst_code.specs.Meaning.{blockless, start_point, run}
+use Rattle.typst_code.specs.Knot.{meaning_of}
+use Rattle.typst_code.specs.Meaning.{start_point, run}
 use Rattle.typst_code.specs.Markup.{markup_reading}
 use Rattle.typst_code.specs.Sequences.{code_reading}
 use Rattle.typst_code.specs.Equations.{math_reading}
-use Rattle.typst_code.specs.Expressions.{code_expr}
 use Rattle.typst_binding.specs.Binding.{BindingLaw, CodeBindingLaw, MathBindingLaw}
-use Rattle.typst_grammar.specs.Grammar.{production, block_production, rules, meaning, level_at, max_depth, start_of, whole, whole_code, whole_math, parsed, parsed_code, parsed_math, tree, tree_code, tree_math}
+use Rattle.typst_grammar.specs.Grammar.{production, level_at, max_depth, start_of, whole, whole_code, whole_math, parsed, parsed_code, parsed_math, tree, tree_code, tree_math}
 use Rattle.typst_binding.proofs.Fine.{fine-over}
 use Rattle.typst_binding.proofs.Levels.{CallsBind, DeeperOperands, level-binds}
 use Rattle.typst_binding.proofs.Exprs.{expr-binds, deeper-binds, limit-binds}
-use Rattle.typst_binding.proofs.FineRuns.{AllBind, Plain, binds-run}
-use Rattle.typst_binding.proofs.PlainParts.{plain-flush, plain-run, plain-exprs, plain-content, plain-markup-expr, plain-pattern}
-use Rattle.typst_binding.proofs.PlainCode.{plain-code-exprs, plain-code-block, plain-atomic, plain-math-expr}
+use Rattle.typst_binding.proofs.FineRuns.{AllBind, Plain}
+use Rattle.typst_binding.proofs.PlainParts.{plain-flush, plain-run, plain-exprs, plain-markup-expr, plain-pattern}
+use Rattle.typst_binding.proofs.PlainCode.{plain-code-exprs, plain-atomic, plain-math-expr}
 
 -- ---- whole texts
 

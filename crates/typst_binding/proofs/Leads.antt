@@ -1,5 +1,5 @@
 -- What takes the token at hand first: the trivia before it come first, and stay there.
-use Rattle.std.proofs.Common.{◌≡◌, ℕ, zero, suc, ◌+◌, ◌-◌, ◌≤◌, Bool, true, false, ◌&&◌, if◌then◌else◌, nat_lt, List, [], ◌∷◌, ◌++◌, length, take, drop, length-append, length-take, length-drop, refl, ap, sym, subst, inl, inr, arith}
+use Rattle.std.proofs.Common.{◌≡◌, ℕ, zero, suc, ◌+◌, ◌-◌, ◌≤◌, Bool, true, false, ◌&&◌, if◌then◌else◌, nat_lt, List, [], ◌∷◌, ◌++◌, length, take, length-append, length-take, length-drop, refl, ap, sym, subst, inl, inr, arith}
 use Rattle.typst_kinds.specs.Kinds.{is_error}
 use Rattle.typst_lines.specs.Place.{Place, moved}
 use Rattle.typst_node.specs.Tree.{Tree, text_of}
@@ -14,15 +14,15 @@ use Rattle.typst_code.specs.Sound.{Tidy, Backs}
 use Rattle.typst_code.specs.Syntax.{Parser}
 use Rattle.typst_code.specs.Syntax.Begin.{at_token}
 use Rattle.typst_code.specs.Syntax.Op.{hand, takes}
-use Rattle.typst_code.specs.Syntax.Parser.{gives, does, next, pick, scoped, either}
-use Rattle.typst_code.specs.Steps.{peek, eat_making, eat, within, node, nest}
-use Rattle.typst_code.specs.Meaning.{Outcome, Level, plain, less, joined, followed, as_last, bound, entered, inside, reshaped, nestings, nesting, given_up, taken_node, hand_of, hand_asks_of, asked, run}
+use Rattle.typst_code.specs.Syntax.Parser.{does, next, pick, scoped, either}
+use Rattle.typst_code.specs.Steps.{eat_making, eat, within, node, nest}
+use Rattle.typst_code.specs.Meaning.{Outcome, Level, plain, less, joined, as_last, bound, entered, inside, reshaped, nestings, nesting, given_up, taken_node, hand_of, hand_asks_of, asked, run}
 use Rattle.typst_code.proofs.Backs.{backs-run, shape-counts, tidy-nestings, left-empties}
 use Rattle.typst_code.proofs.Ends.{hand-again}
 use Rattle.typst_code.proofs.Hints.{length-hinted}
 use Rattle.typst_code.proofs.Places.{length-less}
 use Rattle.typst_code.proofs.Within.{on_both}
-use Rattle.typst_binding.proofs.Fine.{All, Steady, all-append, all-take}
+use Rattle.typst_binding.proofs.Fine.{All, Steady}
 use Rattle.typst_binding.proofs.FineRuns.{Still, still-hand}
 use Rattle.typst_binding.proofs.Heads.{Bare, bare-advised, standing-none}
 

@@ -10,7 +10,6 @@ use Rattle.typst_code.specs.Depth.{deeper}
 use Rattle.typst_code.specs.Knot.{blocks_of}
 use Rattle.typst_code.specs.Meaning.{Meaning, blockless, run}
 use Rattle.typst_code.specs.Point.{Point, pending}
-use Rattle.typst_code.specs.Syntax.{Parser}
 use Rattle.typst_grammar.specs.Grammar.{block_production, rules, meaning, level_at}
 use Rattle.typst_binding.proofs.Fine.{All}
 use Rattle.typst_binding.proofs.FineRuns.{AllBind, Plain, Still, binds-run}

@@ -1,21 +1,21 @@
 -- Behind an error that stands before a node, nothing is said of it.
-use Rattle.std.proofs.Common.{◌≡◌, ℕ, zero, suc, ◌+◌, ◌-◌, ◌≤◌, Bool, true, false, ◌&&◌, ◌||◌, if◌then◌else◌, nat_lt, List, [], ◌∷◌, ◌++◌, length, take, drop, Option, Some, None, refl, ap, sym, ◌∙◌, ◌⊎◌, inl, inr, subst, arith}
+use Rattle.std.proofs.Common.{◌≡◌, ℕ, zero, suc, ◌+◌, Bool, true, false, ◌&&◌, ◌||◌, nat_lt, List, [], ◌∷◌, ◌++◌, take, Option, Some, None, refl, ap, sym, ◌∙◌, ◌⊎◌, inl, inr, subst, arith}
 use Rattle.typst_kinds.specs.Kinds.{is_error}
 use Rattle.typst_lines.specs.Place.{Place, moved}
 use Rattle.typst_node.specs.Diagnostic.{hint_with}
 use Rattle.typst_node.specs.Tree.{Tree, forest, advised}
 use Rattle.typst_classes.specs.Classes.{CharClasses}
-use Rattle.typst_code.specs.Point.{Point, pending}
+use Rattle.typst_code.specs.Point.{Point}
 use Rattle.typst_code.specs.Shape.{Shape, all_advised, hinted_last, hinted, shaped}
 use Rattle.typst_code.specs.Shape.Shape.{keeps, holds, lacks, warns, fails}
 use Rattle.typst_code.specs.Sound.{Backs}
-use Rattle.typst_code.specs.Meaning.{Outcome, Meaning, less, joined, answered, inside, reshaped, grown, is_more, growths}
+use Rattle.typst_code.specs.Meaning.{Outcome, Meaning, less, joined, answered, inside, grown, is_more, growths}
 use Rattle.typst_code.proofs.Places.{less-none}
 use Rattle.typst_code.proofs.Within.{on_both, on_if}
 use Rattle.typst_binding.specs.Binding.{any_errors}
-use Rattle.typst_binding.proofs.Fine.{All, Fines, or-left, or-right}
-use Rattle.typst_binding.proofs.FineRuns.{AllBind, Binds, Still, binds-joined, still-shaped}
-use Rattle.typst_binding.proofs.Grown.{Operand, turned}
+use Rattle.typst_binding.proofs.Fine.{Fines, or-left, or-right}
+use Rattle.typst_binding.proofs.FineRuns.{AllBind, Binds, binds-joined, still-shaped}
+use Rattle.typst_binding.proofs.Grown.{Operand}
 
 -- an error is among the first so many nodes
 abbrev pub Stuck : ℕ → List Tree → Type 0

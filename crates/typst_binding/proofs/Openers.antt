@@ -1,5 +1,5 @@
 -- What each token that begins an expression gives.
-use Rattle.std.proofs.Common.{length-append, length-drop, None, ◌≡◌, ℕ, zero, suc, ◌+◌, ◌-◌, ◌<◌, Bool, true, false, if◌then◌else◌, List, [], ◌∷◌, ◌++◌, length, take, drop, refl, ap, sym, ◌∙◌, ◌⊎◌, inl, inr, subst, arith, codes}
+use Rattle.std.proofs.Common.{length-append, length-drop, None, ◌≡◌, ℕ, zero, suc, ◌+◌, ◌-◌, ◌<◌, Bool, true, false, List, [], ◌∷◌, ◌++◌, length, take, drop, refl, ap, sym, ◌∙◌, ◌⊎◌, inl, inr, subst, arith, codes}
 use Rattle.typst_kinds.specs.declared.kind.SyntaxKind.{SyntaxKind}
 use Rattle.typst_kinds.specs.declared.kind.SyntaxKind.TheVariants as kind
 use Rattle.typst_kinds.specs.declared.operator.UnOp.{UnOp}
@@ -8,7 +8,7 @@ use Rattle.typst_node.specs.Tree.{Tree, text_of, error_of, advised}
 use Rattle.typst_code.specs.calls.Behind.{Behind}
 use Rattle.typst_code.specs.calls.Behind.TheVariants as behind
 use Rattle.typst_code.specs.Hand.{Hand, told}
-use Rattle.typst_code.specs.Point.{Point, pending, forgot}
+use Rattle.typst_code.specs.Point.{Point, forgot}
 use Rattle.typst_code.specs.calls.Block.{Block}
 use Rattle.typst_code.specs.calls.Block.TheVariants as block
 use Rattle.typst_classes.specs.Classes.{CharClasses}
@@ -37,8 +37,8 @@ use Rattle.typst_code.specs.Statements.{set_rule, show_rule, show_shape, context
 use Rattle.typst_code.specs.Meaning.{Outcome, Level, plain, less, closed, flushed_state, joined, inside, reshaped, hand_of, hand_asks_of, asked, run}
 use Rattle.typst_code.proofs.Ends.{hand-again}
 use Rattle.typst_binding.proofs.Fine.{All, all-append, all-drop, all-take, all-hinted}
-use Rattle.typst_binding.proofs.FineRuns.{Still, still-hand}
-use Rattle.typst_binding.proofs.Heads.{Bare, bare-advised, Unary, LastIs, last-behind, Single, Head, Heads, head-same, head-behind, head-gives, head-next, head-wrapped, head-reshaped, head-shaped, head-stays, head-node-at, head-node, head-nest, head-silent, standing-silent, silent-joined, silent-plain, is_plain, head-eat}
+use Rattle.typst_binding.proofs.FineRuns.{still-hand}
+use Rattle.typst_binding.proofs.Heads.{Bare, bare-advised, Unary, last-behind, Single, Head, Heads, head-behind, head-gives, head-next, head-wrapped, head-reshaped, head-shaped, head-stays, head-node-at, head-node, head-nest, head-silent, standing-silent, silent-joined, silent-plain, is_plain, head-eat}
 use Rattle.typst_binding.proofs.Operands.{exact-eat, taken_sign}
 use Rattle.typst_binding.proofs.Leads.{Leads, all-bare}
 use Rattle.typst_binding.proofs.Firsts.{within_blocks, fills-inside}

@@ -1,5 +1,5 @@
 -- An operator and what is read behind it.
-use Rattle.std.proofs.Common.{◌≡◌, ℕ, zero, suc, ◌+◌, ◌-◌, ◌<◌, ◌≤◌, Bool, true, false, if◌then◌else◌, nat_lt, List, [], ◌∷◌, ◌++◌, length, take, length-append, length-take, append_assoc, append-nil, None, refl, ap, sym, ◌∙◌, inl, inr, arith, encode_utf8_all}
+use Rattle.std.proofs.Common.{◌≡◌, ℕ, zero, suc, ◌<◌, ◌≤◌, Bool, true, false, if◌then◌else◌, nat_lt, List, [], ◌∷◌, ◌++◌, length, length-append, length-take, append_assoc, append-nil, None, refl, ap, sym, ◌∙◌, inl, inr, arith}
 use Rattle.std.proofs.lemmas.Str.{length-le-encodes}
 use borrow.Author.Tests.{lt-ltb, le-ltb}
 use Rattle.typst_kinds.specs.Kinds.{is_error}

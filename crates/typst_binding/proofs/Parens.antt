@@ -1,5 +1,5 @@
 -- What begins with a paren.
-use Rattle.std.proofs.Common.{length-append, length-drop, None, Some, Option, ◌≡◌, ℕ, zero, suc, ◌+◌, ◌-◌, ◌<◌, ◌&&◌, Bool, true, false, if◌then◌else◌, List, [], ◌∷◌, ◌++◌, length, take, drop, refl, ap, sym, ◌∙◌, ◌⊎◌, inl, inr, subst, arith, codes}
+use Rattle.std.proofs.Common.{length-append, None, Some, Option, ◌≡◌, ℕ, zero, suc, ◌+◌, ◌-◌, ◌<◌, ◌&&◌, Bool, true, false, if◌then◌else◌, List, [], ◌∷◌, ◌++◌, length, take, drop, refl, ap, sym, ◌∙◌, ◌⊎◌, inl, inr, subst, arith, codes}
 use Rattle.typst_kinds.specs.Kinds.{same, is_error}
 use Rattle.typst_kinds.specs.declared.kind.SyntaxKind.{SyntaxKind}
 use Rattle.typst_kinds.specs.declared.kind.SyntaxKind.TheVariants as kind
@@ -20,23 +20,22 @@ use Rattle.typst_code.specs.Parens.{as_group, behind_if, parens, readings, sign}
 use Rattle.typst_code.specs.Parts.{expression_if}
 use Rattle.typst_code.specs.Patterns.{destructuring}
 use Rattle.typst_code.specs.Point.{Point, pending}
-use Rattle.typst_code.specs.Shape.{Shape, becomes, unclosed, first_changed, hinted_last, hinted, shaped}
+use Rattle.typst_code.specs.Shape.{becomes, unclosed, first_changed, hinted_last, hinted, shaped}
 use Rattle.typst_code.specs.Shape.Change.{stays, turns_wrong}
 use Rattle.typst_code.specs.Shape.Shape.{keeps}
 use Rattle.typst_code.specs.Sound.{Tidy, Backs}
 use Rattle.typst_code.specs.Steps.{peek, eat, eat_if, expect, expected, node, within}
-use Rattle.typst_code.specs.Syntax.{Parser, ◌>>=◌, ◌>>◌}
-use Rattle.typst_code.specs.Syntax.Parser.{gives, next, pick, either}
+use Rattle.typst_code.specs.Syntax.{Parser, ◌>>=◌}
+use Rattle.typst_code.specs.Syntax.Parser.{gives, pick, either}
 use Rattle.typst_code.specs.Meaning.{Outcome, Level, plain, less, joined, inside, reshaped, given_up, hand_of, hand_asks_of, asked, run}
 use Rattle.typst_code.proofs.Backs.{backs-run}
 use Rattle.typst_code.proofs.Ends.{hand-again}
-use Rattle.typst_code.proofs.Places.{no-end}
 use Rattle.typst_code.proofs.Within.{on_both}
 use Rattle.typst_binding.proofs.Signs.{sign_of}
 use Rattle.typst_binding.proofs.Fine.{All, Steady, all-append, no-operator}
 use Rattle.typst_binding.proofs.FineRuns.{Gives, gives-all, gives-run, Still, still-hand}
 use Rattle.typst_binding.proofs.Firsts.{fills-readings}
-use Rattle.typst_binding.proofs.Heads.{Bare, bare-advised, bare-error, Unary, LastIs, last-behind, last-all, Single, Head, Heads, Silent, head-next, head-peek, head-wrapped, head-reshaped, head-stays, head-node, head-silent, silent-joined, silent-plain, standing-none, standing-silent}
+use Rattle.typst_binding.proofs.Heads.{Bare, bare-advised, bare-error, Unary, last-behind, last-all, Single, Head, Heads, Silent, head-next, head-peek, head-wrapped, head-reshaped, head-stays, head-node, head-silent, silent-joined, silent-plain, standing-none, standing-silent}
 use Rattle.typst_binding.proofs.Leads.{Leads, all-bare}
 use Rattle.typst_binding.proofs.Missing.{Missed, missed}
 

@@ -1,5 +1,5 @@
 -- What an expression begins with.
-use Rattle.std.proofs.Common.{◌≡◌, ℕ, zero, suc, ◌+◌, ◌-◌, ◌<◌, ◌≤◌, Bool, true, false, List, [], ◌∷◌, ◌++◌, length, drop, codes, refl, ap, sym, ◌∙◌, ◌⊎◌, inl, inr, subst, arith, length-append}
+use Rattle.std.proofs.Common.{◌≡◌, ℕ, zero, suc, ◌+◌, ◌<◌, ◌≤◌, true, false, List, [], ◌∷◌, ◌++◌, length, drop, codes, refl, ap, sym, ◌∙◌, ◌⊎◌, inl, inr, subst, arith, length-append}
 use Rattle.typst_kinds.specs.Kinds.{is_error}
 use Rattle.typst_kinds.specs.declared.kind.SyntaxKind.{SyntaxKind}
 use Rattle.typst_kinds.specs.declared.kind.SyntaxKind.TheVariants as kind
@@ -15,7 +15,7 @@ use Rattle.typst_code.specs.Parens.{readings}
 use Rattle.typst_code.specs.Point.{Point, pending}
 use Rattle.typst_code.specs.Steps.{peek, expected}
 use Rattle.typst_code.specs.Syntax.Parser.{next}
-use Rattle.typst_code.specs.Meaning.{Outcome, Level, plain, joined, hand_of, hand_asks_of, asked, run}
+use Rattle.typst_code.specs.Meaning.{Outcome, Level, plain, hand_of, hand_asks_of, asked, run}
 use Rattle.typst_code.proofs.Ends.{hand-again}
 use Rattle.typst_grammar.specs.Grammar.{level_at}
 use Rattle.typst_binding.proofs.Fine.{All, all-append, all-drop, all-map}

@@ -1,13 +1,12 @@
 -- What takes an expression into its node, turn by turn.
-use Rattle.std.proofs.Common.{codes, append_assoc, ◌≡◌, ℕ, zero, suc, ◌+◌, ◌-◌, ◌≤◌, ◌<◌, max, Bool, true, false, ◌&&◌, ◌||◌, not, if◌then◌else◌, nat_le, List, [], ◌∷◌, ◌++◌, length, take, length-append, length-take, Option, Some, None, refl, ap, sym, ◌∙◌, ◌⊎◌, inl, inr, subst, arith, encode_utf8_all}
+use Rattle.std.proofs.Common.{codes, append_assoc, ◌≡◌, ℕ, ◌+◌, ◌≤◌, ◌<◌, max, Bool, true, false, ◌||◌, not, if◌then◌else◌, List, [], ◌∷◌, ◌++◌, length, Option, Some, None, refl, ap, sym, ◌∙◌, ◌⊎◌, inl, inr, subst, arith, encode_utf8_all}
 use Rattle.typst_kinds.specs.Kinds.{same, is_error}
-use Rattle.typst_kinds.specs.Operators.{binary_precedence}
 use Rattle.typst_kinds.specs.declared.kind.SyntaxKind.{SyntaxKind}
 use Rattle.typst_kinds.specs.declared.kind.SyntaxKind.TheVariants as kind
 use Rattle.typst_kinds.specs.declared.operator.BinOp.{BinOp}
 use Rattle.typst_kinds.specs.declared.operator.BinOp.TheVariants as binary
 use Rattle.typst_lines.specs.Place.{Place, moved}
-use Rattle.typst_node.specs.Tree.{Tree, forest, inner_of}
+use Rattle.typst_node.specs.Tree.{Tree, forest}
 use Rattle.typst_classes.specs.Classes.{CharClasses}
 use Rattle.typst_code.specs.calls.Call.TheVariants.{CodeExpr}
 use Rattle.typst_code.specs.Arguments.{calls_directly}
@@ -16,29 +15,27 @@ use Rattle.typst_code.specs.declared.heads.CodeTail.{CodeTail}
 use Rattle.typst_code.specs.declared.heads.CodeTail.TheVariants as tail
 use Rattle.typst_code.specs.Depth.{deeper, is_end}
 use Rattle.typst_code.specs.Expressions.{code_tail_turn, call_tail, not_in, binary_expr, code_tail, operand_least, tail_by}
-use Rattle.typst_code.specs.Hand.{Hand, AtHand, told, hand_at, text_ahead}
-
+use Rattle.typst_code.specs.Hand.{Hand, AtHand, told, text_ahead}
 use Rattle.typst_code.specs.Point.{is_nil, Point, Trivia, pending, gap_of}
-use Rattle.typst_code.specs.Shape.{Shape, becomes, hinted, after_shape}
-use Rattle.typst_code.specs.Shape.Making.{itself}
+use Rattle.typst_code.specs.Shape.{Shape, becomes, hinted}
 use Rattle.typst_code.specs.Steps.{peek, eat, expected}
 use Rattle.typst_code.specs.Syntax.{Parser}
 use Rattle.typst_code.specs.Syntax.Parser.{next}
-use Rattle.typst_code.specs.Meaning.{Outcome, Level, plain, less, reshaped, joined, answered, bound, grown, is_more, hand_of, hand_asks_of, taken_node, asked, run}
+use Rattle.typst_code.specs.Meaning.{Outcome, Level, plain, less, reshaped, joined, answered, bound, grown, is_more, hand_of, hand_asks_of, asked, run}
 use Rattle.typst_code.proofs.Ends.{hand-again, hand-takes}
 use Rattle.typst_code.proofs.Knot.{sane-at}
 use Rattle.typst_code.proofs.Places.{moved-sum, no-end}
 use Rattle.typst_grammar.specs.Grammar.{rules, level_at}
 use Rattle.typst_grammar.proofs.Moves.{Moves, moves-next, moves-peek, moves-eat}
-use Rattle.typst_binding.specs.Binding.{any_errors, has_errors, first_sign, operator_of, right_least}
+use Rattle.typst_binding.specs.Binding.{any_errors, has_errors, first_sign, right_least}
 use Rattle.typst_binding.proofs.Signs.{sign_of, NoSign, reads-sign, reads-not}
 use Rattle.typst_binding.proofs.Fine.{All, all-map, or-left}
 use Rattle.typst_binding.proofs.FineRuns.{Binds, binds-joined, Plain, Still, still-hand, after-shape-known}
 use Rattle.typst_binding.proofs.PlainParts.{plain-eat, plain-expected, plain-deeper}
-use Rattle.typst_binding.proofs.Heads.{standing-none, Silent, silent-joined, silent-plain, Leafy, LastIs, last-map, is_plain, leafy-token, hand-kind}
-use Rattle.typst_binding.proofs.Turns.{Sane, all-sane, BindsBy, below, nothing-below, sign-comes, not-comes, call-comes, dot-comes, no-direct}
+use Rattle.typst_binding.proofs.Heads.{standing-none, silent-joined, silent-plain, Leafy, LastIs, last-map, is_plain, leafy-token, hand-kind}
+use Rattle.typst_binding.proofs.Turns.{Sane, all-sane, below, nothing-below, sign-comes, not-comes, call-comes, dot-comes, no-direct}
 use Rattle.typst_binding.proofs.Operands.{Exact, exact-plain, exact-gives, exact-joined, taken_sign, exact-eat, eat-empties, eat-error, last_hinted, leafy-last, last-kind, operation-exact}
-use Rattle.typst_binding.proofs.Grown.{grown-other, errors-second, errors-behind, kind_at, Grown, Ended, Operand, Stopped, WentOn, turned, grown-binary, stopped-silent}
+use Rattle.typst_binding.proofs.Grown.{grown-other, errors-second, errors-behind, kind_at, Grown, Ended, Stopped, WentOn, turned, grown-binary, stopped-silent}
 use Rattle.typst_binding.proofs.PlainCode.{plain-field, plain-call}
 use Rattle.typst_binding.proofs.Leads.{fills-peek}
 use Rattle.typst_binding.proofs.Firsts.{calls-back, blocks-back, fills-field}
