@@ -210,7 +210,7 @@ module _ (k : CharClasses) (levels : ℕ) where
     takes-call s a =
         let t = next_of s in
         let o = run l arguments w t in
-        takes-look s _ (takes-joined n o (plain (Some (becomes kind.FuncCall), tt {0}) o.state) (takes-arguments t (at-next s a)) (record { back = omega arith; left = omega arith }))
+        takes-look s (joined o (plain (Some (becomes kind.FuncCall), tt {0}) o.state)) (takes-joined n o (plain (Some (becomes kind.FuncCall), tt {0}) o.state) (takes-arguments t (at-next s a)) (record { back = omega arith; left = omega arith }))
 
   pub called-back : (w : Place) (y : Point) → All Still (pending y.known) → calls_directly (hand_of l w y).kind (not (is_nil (hand_of l w y).trivia)) ≡ true → Takes (length (hand_of l w y).trivia) (run l (next peek (λ _. call_tail)) w y)
   called-back w y still e = takes-call w (hand_of l w y) e y (record { hand = refl; still = still })

@@ -16,7 +16,7 @@ use Rattle.typst_code.specs.Expected.{expects}
 use Rattle.typst_code.specs.Groups.{group, group_kind, group_rest, group_shape, list_kind}
 use Rattle.typst_code.specs.Hand.{Hand, AtHand, told}
 use Rattle.typst_code.specs.Params.{params, params_shape}
-use Rattle.typst_code.specs.Parens.{as_group, behind_if, parens, readings, sign}
+use Rattle.typst_code.specs.Parens.{as_group, behind_group, behind_if, parens, readings, sign}
 use Rattle.typst_code.specs.Parts.{expression_if}
 use Rattle.typst_code.specs.Patterns.{destructuring}
 use Rattle.typst_code.specs.Point.{Point, pending}
@@ -137,7 +137,8 @@ module _ (l : Level) (i : SyntaxKind) where
   head-as-group z s still e =
       let o = run l group z s in
       let p = run l peek (moved o.taken z) o.state in
-      head-silent _ s o (joined p (plain _ p.state)) (silent-joined p (plain _ p.state) (record { nodes = refl; back = refl; hints = refl }) (silent-plain _ p.state)) (head-group z s still e)
+      let v = behind_group o.value p.value.kind in
+      head-silent _ s o (joined p (plain v p.state)) (silent-joined p (plain v p.state) (record { nodes = refl; back = refl; hints = refl }) (silent-plain v p.state)) (head-group z s still e)
 
   head-either : {A : Type 0} (p : Parser A) (is_wrong : A → Bool) (q : Parser A) → Heads l i p → Heads l i q → Heads l i (either p is_wrong q)
   unfolding run
