@@ -180,7 +180,7 @@ module _ (k : CharClasses) (levels : ℕ) where
       let t = forgot s in
       moves-peek (apart l) {A = Unit {0}} (λ _. code_block) (λ a. moves-code (apart l)) z t h
 
-  moves-block : (b : Block) → Moves l (read_block b)
+  pub moves-block : (b : Block) → Moves l (read_block b)
   unfolding run read_block
   moves-block b z s h = by-gap ((hand_of l z s).gap) refl
     where
