@@ -2,6 +2,7 @@
 --   block_law: edit              Text: of a whole text; Law: for every parser; Inside, Spots, Grows, Wrap, Outcomes: word by word; Blocks: each block's node; Edit: looks
 --     that the block fits        Fitting; Content: a content block; Enclosed: what stands between brackets; Clear: a block begins at no trivia; Reached: what is known of trivia is all of them
 --   block_law: names             Names: each block is the one of its name, between its marks
+--   complete_law                 Complete: word by word, by the notes of the log
 --   run_law                      Root: of a whole text; RunTrees: its tree and log; BlockRuns: of a content block; Runs: of any loop
 --   joint_law                    Joint: of a whole text; InnerJoint: of a content block; Turns: each head of markup; Led: each word before a token is taken
 --   decision_law                 Bytes: the log; RunBytes: of pieces of a run; Widths: characters and bytes; Within: looks are at places of the text
@@ -18,6 +19,7 @@ pub mod Edit
 pub mod Blocks
 pub mod Text
 pub mod Names
+pub mod Complete
 pub mod Reached
 pub mod Clear
 pub mod Enclosed

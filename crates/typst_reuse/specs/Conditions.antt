@@ -10,6 +10,7 @@ use Rattle.typst_reuse.specs.Examples.{most, least}
 use Rattle.typst_reuse.specs.Hole.{path_of}
 use Rattle.typst_reuse.specs.Joint.{onwards_from}
 use Rattle.typst_reuse.specs.Laws.{blocks_of_text}
+use Rattle.typst_reuse.specs.Lost.{lost_of_text}
 use Rattle.typst_reuse.specs.RunExamples.{lengths}
 use Rattle.typst_reuse.specs.RunTrees.{given}
 use Rattle.typst_reuse.specs.Runs.{pieces, end_at, pieces_from, end_from, lead, asks_of}
@@ -25,6 +26,8 @@ pub record Conditions (beyond : CharClasses) : Type 0 where
   pub code_places : map (λ c. c.at) (blocks_of_text (by_law beyond) (codes "#{[a]}")) ≡ 1 ∷ 2 ∷ []
   pub code_paths : map (λ c. path_of c.hole) (blocks_of_text (by_law beyond) (codes "#{[a]}")) ≡ (1 ∷ []) ∷ (1 ∷ 1 ∷ 0 ∷ []) ∷ []
   pub code_levels : map (λ c. c.fewer) (blocks_of_text (by_law beyond) (codes "#{[a]}")) ≡ 2 ∷ 3 ∷ []
+  -- neither of their notes is lost
+  pub none_lost : lost_of_text (by_law beyond) (codes "#{[a]}") ≡ []
   -- the steps to the block of `@a[b] c` that covers its `b`
   pub step_indices : map (λ (s : Step). s.index) (walk_to 2 (by_law beyond) (codes "@a[") (codes "b") (codes "] c")) ≡ 0 ∷ 1 ∷ []
   pub step_starts : map (λ (s : Step). s.start) (walk_to 2 (by_law beyond) (codes "@a[") (codes "b") (codes "] c")) ≡ 0 ∷ 2 ∷ []

@@ -8,6 +8,7 @@ pub mod Sequence
 pub mod Bytes
 pub mod RunBytes
 pub mod Laws
+pub mod Lost
 pub mod Walk
 pub mod BlockRuns
 pub mod Joint

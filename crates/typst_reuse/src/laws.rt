@@ -9,6 +9,7 @@ ghost use Rattle.typst_reuse.specs.RunExamples.{Runs};
 ghost use Rattle.typst_reuse.specs.InnerJoint.{InnerJointLaw};
 ghost use Rattle.typst_reuse.specs.Joint.{JointLaw};
 ghost use Rattle.typst_reuse.specs.Laws.{BlockLaw, NamesLaw};
+ghost use Rattle.typst_reuse.specs.Lost.{CompleteLaw};
 ghost use Rattle.typst_reuse.specs.RunBytes.{RunDecisionLaw};
 ghost use Rattle.typst_reuse.specs.RunTrees.{RunTreeLaw};
 ghost use Rattle.typst_reuse.specs.Runs.{RunLaw, StartLaw};
@@ -23,6 +24,12 @@ ghost use Rattle.typst_reuse.specs.Walk.{WalkLaw};
 pub fn block_law()
     ensures edit { BlockLaw }
     ensures names { NamesLaw }
+{}
+
+/// Each block that the reading of a text notes as begun stands in the text's tree, with the place,
+/// the level and the state of its note, unless a shape made its node a part of something else.
+pub fn complete_law()
+    ensures { CompleteLaw }
 {}
 
 /// An edit inside some pieces of a text's run: where all that was looked at before these pieces
