@@ -3,6 +3,7 @@ use Rattle.std.proofs.Common.{◌≡◌, ℕ, ◌+◌, ◌≤◌, ◌<◌, Bool,
 use Rattle.typst_kinds.specs.Kinds.{same}
 use Rattle.typst_kinds.specs.declared.kind.SyntaxKind.{SyntaxKind}
 use Rattle.typst_kinds.specs.declared.kind.SyntaxKind.TheVariants as kind
+use Rattle.typst_lines.proofs.Bools.{and-first, and-second}
 use Rattle.typst_lines.specs.Place.{Place, moved}
 use Rattle.typst_node.specs.Tree.{Tree}
 use Rattle.typst_classes.specs.Classes.{CharClasses}
@@ -64,14 +65,6 @@ takes-after n o q e f h =
 opens-goes : (i : SyntaxKind) → opens_arguments i ≡ true → is_end i ≡ false
 opens-goes kind.End h = absurd (cc)
 opens-goes _ h = refl
-
-and-first : (a b : Bool) → (a && b) ≡ true → a ≡ true
-and-first true b h = refl
-and-first false b h = absurd (cc)
-
-and-second : (a b : Bool) → (a && b) ≡ true → b ≡ true
-and-second true b h = h
-and-second false b h = absurd (cc)
 
 second-or : (a b : Bool) → (a || b) ≡ true → a ≡ false → b ≡ true
 second-or true b h e = absurd (cc)
