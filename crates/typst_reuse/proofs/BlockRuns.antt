@@ -182,11 +182,11 @@ inner-law k levels front old new rest c i n m past among h =
     let q = run_at k levels c w0 in
     let b = bracket k levels z s in
     let d = bracket k levels w s in
-    let opened : d ≡ b = bracket-same k levels z w s (same_in-shift c.at _ z0 w0 (before-same _ front old new rest h.opens)) in
+    let opened : d ≡ b = bracket-same k levels z w s (same_in-shift c.at _ z0 w0 (before-same _ front old new rest h.pieces.opens)) in
     let shown : 0 < i → SameIn ((inner_lead k levels z s).asks ++ asks_of (first_of i r)) (moved b.taken z) (moved b.taken w) = λ l.
-    same_in-to _ _ _ _ _ (sym (moved-sum c.at b.taken z0)) (sym (moved-sum c.at b.taken w0)) (same_in-shift (c.at + b.taken) _ z0 w0 (before-same _ front old new rest (h.before_run l))) in
+    same_in-to _ _ _ _ _ (sym (moved-sum c.at b.taken z0)) (sym (moved-sum c.at b.taken w0)) (same_in-shift (c.at + b.taken) _ z0 w0 (before-same _ front old new rest (h.pieces.before_run l))) in
     let first_is : first_of i q ≡ first_of i r = ap (λ o. first_of i (seq_by k levels o w)) opened ∙ first-by k levels i b z w shown in
-    let new_first : AllGo (first_of i q) = subst (λ os. AllGo os) (sym first_is) h.first_go in
+    let new_first : AllGo (first_of i q) = subst (λ os. AllGo os) (sym first_is) h.pieces.first_go in
     let e = first_end i r in
     let g = then_end i n r in
     let f = first_end i q in
@@ -224,10 +224,10 @@ inner-law k levels front old new rest c i n m past among h =
     ∙ (sane k levels (close_if (same kind.RightBracket))).framed y2 v2 (after_node false [] tail.state) (subst (λ (o : Outcome Bool). SameIn o.asks y2 v2) close_old last) ∙ sym close_old in
     let named = names-law k (front ++ (old ++ rest)) c among in
     let reads : (a : Place) → unit_at c a ≡ ended (block_at k (suc levels) block.Content (moved c.at a) s) = λ a.
-    ap (λ o. o (moved c.at a) s) named.reads ∙ ap (λ l. ended (block_at k l c.name (moved c.at a) s)) h.level ∙ ap (λ x. ended (block_at k (suc levels) x (moved c.at a) s)) h.name in
+    ap (λ o. o (moved c.at a) s) named.reads ∙ ap (λ l. ended (block_at k l c.name (moved c.at a) s)) h.pieces.level ∙ ap (λ x. ended (block_at k (suc levels) x (moved c.at a) s)) h.pieces.name in
     let ended_of = λ (o : Outcome (Unit {0})). ended o in
-    let was = reads z0 ∙ ap ended_of (content-split k levels z s i n h.first_go h.old_go) in
-    let now = reads w0 ∙ ap ended_of (content-split k levels w s i m new_first h.new_go)
+    let was = reads z0 ∙ ap ended_of (content-split k levels z s i n h.pieces.first_go h.pieces.old_go) in
+    let now = reads w0 ∙ ap ended_of (content-split k levels w s i m new_first h.pieces.new_go)
     ∙ ap (λ os. content_with k levels w s (chain os (chain (then_of i m q) u)) (tail_at k levels i m c w0) (close_at k levels i m c w0)) first_is
     ∙ ap (λ o. content_with k levels w s (chain (first_of i r) (chain (then_of i m q) o)) (tail_at k levels i m c w0) (close_at k levels i m c w0)) rest_is
     ∙ ap (λ o. content_with k levels w s (chain (first_of i r) (chain (then_of i m q) t)) o (close_at k levels i m c w0)) tail_is
@@ -243,10 +243,10 @@ inner-law k levels front old new rest c i n m past among h =
     let shifted = h.shifted in
     let many = split-taken q i m in
     let passes : Passes front old new rest c (past + left_at k levels i n c z0) = record {
-      starts = h.starts;
+      starts = h.pieces.starts;
       ends = omega (arith, old_taken, ends);
       goes_on = h.goes_on;
-      before = h.before;
+      before = h.pieces.before;
       after = h.behind;
       shifted = omega (arith, new_taken, shifted, many, same_rest);
     } in

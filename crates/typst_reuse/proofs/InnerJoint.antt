@@ -60,11 +60,11 @@ inner-joint-law k levels front old new rest c i n m past t u among h =
     let q = run_at k levels c w0 in
     let b = bracket k levels z s in
     let d = bracket k levels w s in
-    let opened : d ≡ b = bracket-same k levels z w s (same_in-shift c.at _ z0 w0 (before-same _ front old new rest h.opens)) in
+    let opened : d ≡ b = bracket-same k levels z w s (same_in-shift c.at _ z0 w0 (before-same _ front old new rest h.pieces.opens)) in
     let shown : 0 < i → SameIn ((inner_lead k levels z s).asks ++ asks_of (first_of i r)) (moved b.taken z) (moved b.taken w) = λ l.
-    same_in-to _ _ _ _ _ (sym (moved-sum c.at b.taken z0)) (sym (moved-sum c.at b.taken w0)) (same_in-shift (c.at + b.taken) _ z0 w0 (before-same _ front old new rest (h.before_run l))) in
+    same_in-to _ _ _ _ _ (sym (moved-sum c.at b.taken z0)) (sym (moved-sum c.at b.taken w0)) (same_in-shift (c.at + b.taken) _ z0 w0 (before-same _ front old new rest (h.pieces.before_run l))) in
     let first_is : first_of i q ≡ first_of i r = ap (λ o. first_of i (seq_by k levels o w)) opened ∙ first-by k levels i b z w shown in
-    let new_first : AllGo (first_of i q) = subst (λ os. AllGo os) (sym first_is) h.first_go in
+    let new_first : AllGo (first_of i q) = subst (λ os. AllGo os) (sym first_is) h.pieces.first_go in
     let fe = first_end i r in
     let ff = first_end i q in
     let e = then_end i n r in
@@ -128,10 +128,10 @@ inner-joint-law k levels front old new rest c i n m past t u among h =
     -- the block
     let named = names-law k (front ++ (old ++ rest)) c among in
     let reads : (a : Place) → unit_at c a ≡ ended (block_at k (suc levels) block.Content (moved c.at a) s) = λ a.
-    ap (λ o. o (moved c.at a) s) named.reads ∙ ap (λ l. ended (block_at k l c.name (moved c.at a) s)) h.level ∙ ap (λ x. ended (block_at k (suc levels) x (moved c.at a) s)) h.name in
+    ap (λ o. o (moved c.at a) s) named.reads ∙ ap (λ l. ended (block_at k l c.name (moved c.at a) s)) h.pieces.level ∙ ap (λ x. ended (block_at k (suc levels) x (moved c.at a) s)) h.pieces.name in
     let ended_of = λ (o : Outcome (Unit {0})). ended o in
-    let was = reads z0 ∙ ap ended_of (content-split k levels z s i n h.first_go h.old_go) in
-    let mine = reads w0 ∙ ap ended_of (content-split k levels w s i m new_first h.new_go) in
+    let was = reads z0 ∙ ap ended_of (content-split k levels z s i n h.pieces.first_go h.pieces.old_go) in
+    let mine = reads w0 ∙ ap ended_of (content-split k levels w s i m new_first h.pieces.new_go) in
     let now = mine
     ∙ ap (λ os. content_with k levels w s (chain os (chain (then_of i m q) rest_new)) tail_new (close_at k levels i m c w0)) first_is
     ∙ ap (λ o. content_with k levels w s (chain (first_of i r) (chain (then_of i m q) rest_new)) tail_new o) close_is in
@@ -144,10 +144,10 @@ inner-joint-law k levels front old new rest c i n m past t u among h =
     let ends = h.ends in
     let shifted = h.shifted in
     let passes : Passes front old new rest c (past + left_past k levels i n t c z0) = record {
-      starts = h.starts;
+      starts = h.pieces.starts;
       ends = omega (arith, old_taken, ends, took_old);
       goes_on = h.goes_on;
-      before = h.before;
+      before = h.pieces.before;
       after = h.behind;
       shifted = omega (arith, new_taken, shifted, took_new);
     } in

@@ -102,8 +102,8 @@ close_at k levels i n c z =
 abbrev pub left_at : {A : Type 0} → CharClasses → ℕ → ℕ → ℕ → Spot A → Place → ℕ
 left_at k levels i n c z = (rest_of i n (run_at k levels c z)).taken + ((tail_at k levels i n c z).taken + (close_at k levels i n c z).taken)
 
--- The test: in a content block, behind i pieces of its run stand n that go on so many characters past a stretch `old`, which becomes `new`, and m pieces are to take their place.
-pub record PassesInner (k : CharClasses) (levels : ℕ) (front old new rest : List ℕ) (c : Spot (Unit {0})) (i n m past : ℕ) : Type 0 where
+-- In a content block, behind i pieces of its run stand n that go on, and m pieces are to take their place, where a stretch `old` becomes `new`: what was looked at before them ends at the stretch or before it.
+pub record TakesPlace (k : CharClasses) (levels : ℕ) (front old new rest : List ℕ) (c : Spot (Unit {0})) (i n m : ℕ) : Type 0 where
   -- a content block that is not the deepest
   pub name : c.name ≡ block.Content
   pub level : max_depth - c.fewer ≡ suc levels
@@ -118,6 +118,10 @@ pub record PassesInner (k : CharClasses) (levels : ℕ) (front old new rest : Li
       AllEndBy (length front) (shift c.at ((look_first k levels z s).asks ++ ((look_again k levels z s).asks ++ (bracket k levels z s).asks))))
   pub before_run : 0 < i → (let z = text_with front old rest in
       AllEndBy (length front) (shift (opened_at k levels c z) ((inner_lead k levels (moved c.at z) (point_of c.start)).asks ++ asks_of (first_of i (run_at k levels c z)))))
+
+-- The test: in a content block, behind i pieces of its run stand n that go on so many characters past a stretch `old`, which becomes `new`, and m pieces are to take their place.
+pub record PassesInner (k : CharClasses) (levels : ℕ) (front old new rest : List ℕ) (c : Spot (Unit {0})) (i n m past : ℕ) : Type 0 where
+  pub pieces : TakesPlace k levels front old new rest c i n m
   -- what was looked at behind them, in the block and behind it, begins at the stretch's end or behind it
   pub ends : (let z = text_with front old rest in let r = run_at k levels c z in opened_at k levels c z + ((first_end i r).taken + (then_end i n r).taken) ≡ (length front + length old) + past)
   pub after : (let z = text_with front old rest in let r = rest_of i n (run_at k levels c z) in let t = tail_at k levels i n c z in

@@ -1,17 +1,15 @@
 -- Pieces of a content block's run that are read again, and what is behind them, where other trivia or other errors stand between them than before.
-use Rattle.std.specs.Prelude.{◌≡◌, ℕ, suc, ◌+◌, ◌-◌, ◌<◌, List, ◌++◌, length}
+use Rattle.std.specs.Prelude.{◌≡◌, ℕ, ◌+◌, ◌<◌, List, ◌++◌, length}
 use Rattle.typst_lines.specs.Place.{Place, moved}
 use Rattle.typst_classes.specs.Classes.{CharClasses}
-use Rattle.typst_grammar.specs.calls.Block.TheVariants as block
 use Rattle.typst_grammar.specs.Ask.{shift}
 use Rattle.typst_grammar.specs.Point.{Trivia, point_of}
 use Rattle.typst_grammar.specs.Meaning.{Outcome, joined}
-use Rattle.typst_grammar.specs.Grammar.{max_depth}
-use Rattle.typst_reuse.specs.BlockRuns.{look_first, look_again, bracket, inner_lead, content_with, run_at, opened_at, tail_at, close_at}
-use Rattle.typst_reuse.specs.Edit.{Among, text_with, AllEndBy, AllBeginIn, Passes}
+use Rattle.typst_reuse.specs.BlockRuns.{TakesPlace, content_with, run_at, opened_at, tail_at, close_at}
+use Rattle.typst_reuse.specs.Edit.{Among, text_with, AllBeginIn, Passes}
 use Rattle.typst_reuse.specs.Joint.{onwards, passed, Exchanged, Meets}
 use Rattle.typst_reuse.specs.Laws.{blocks_of_text, Kept}
-use Rattle.typst_reuse.specs.Runs.{AllGo, asks_of, chain}
+use Rattle.typst_reuse.specs.Runs.{chain}
 use Rattle.typst_reuse.specs.Sequence.{first_of, first_end, then_of, then_end, then_place, rest_of}
 use Rattle.typst_reuse.specs.Spot.{Spot, last_node, unit_at}
 
@@ -32,20 +30,7 @@ left_past k levels i n t c z = (onwards_past k levels i n t c z).taken + (close_
 
 -- The test: in a content block, behind i pieces of its run stand n that go on, with the trivia behind them, so many characters past a stretch `old`, which becomes `new`, and m pieces are to take their place.
 pub record PassesInnerJoint (k : CharClasses) (levels : ℕ) (front old new rest : List ℕ) (c : Spot (Unit {0})) (i n m past : ℕ) (t u : Trivia) : Type 0 where
-  -- a content block that is not the deepest
-  pub name : c.name ≡ block.Content
-  pub level : max_depth - c.fewer ≡ suc levels
-  -- these are pieces of its run, in both texts
-  pub first_go : AllGo (first_of i (run_at k levels c (text_with front old rest)))
-  pub old_go : AllGo (then_of i n (run_at k levels c (text_with front old rest)))
-  pub new_go : AllGo (then_of i m (run_at k levels c (text_with front new rest)))
-  -- the block begins before the stretch, and what was looked at before it, at its bracket and in the pieces before ends at the stretch or before it
-  pub starts : c.at < length front
-  pub before : AllEndBy (length front) c.before
-  pub opens : (let z = moved c.at (text_with front old rest) in let s = point_of c.start in
-      AllEndBy (length front) (shift c.at ((look_first k levels z s).asks ++ ((look_again k levels z s).asks ++ (bracket k levels z s).asks))))
-  pub before_run : 0 < i → (let z = text_with front old rest in
-      AllEndBy (length front) (shift (opened_at k levels c z) ((inner_lead k levels (moved c.at z) (point_of c.start)).asks ++ asks_of (first_of i (run_at k levels c z)))))
+  pub pieces : TakesPlace k levels front old new rest c i n m
   -- what is looked at from behind the trivia on, in the block and behind it, begins at the stretch's end or behind it
   pub ends : (let z = text_with front old rest in let r = run_at k levels c z in (opened_at k levels c z + ((first_end i r).taken + (then_end i n r).taken)) + t.gap ≡ (length front + length old) + past)
   pub after : (let z = text_with front old rest in let o = onwards_past k levels i n t c z in AllBeginIn past rest (o.asks ++ shift o.taken (close_at k levels i n c z).asks))
