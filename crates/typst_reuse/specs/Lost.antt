@@ -1,4 +1,4 @@
--- The blocks that a reading notes and that stand in none of its nodes: a shape made their node a part of something else.
+-- The blocks that a reading notes and that have no spot in its nodes: a shape made their node a part of something else, or what they stand in another kind or a node without its parens.
 use Rattle.std.specs.Prelude.{◌≡◌, ℕ, zero, suc, Bool, true, false, ◌&&◌, if◌then◌else◌, nat_lt, List, [], ◌∷◌, ◌++◌, map, Option, Some, None}
 use Rattle.std.specs.List.{flat_map}
 use Rattle.typst_lines.specs.Place.{Place, moved}
@@ -45,7 +45,7 @@ abbrev pub unless_some : {X : Type 0} → Ask → List X → List Ask
 unless_some ask [] = ask ∷ []
 unless_some ask (x ∷ xs) = []
 
--- the note of a block that stands no more in what several nodes became
+-- the note of a block that has no spot any more in what several nodes became
 abbrev pub lost_in : {A : Type 0} → Shape → ℕ → Spot A → List Ask
 lost_in shape n c = unless_some (opening c) (reshaped_spot shape n c)
 
@@ -119,11 +119,11 @@ level_lost r k levels p = lost (level_of r k levels) (call_spots r k levels) (bl
 unfoldable pub lost_of_text : CharClasses → List ℕ → List Ask
 lost_of_text k text = level_lost (rules k) k max_depth whole (start_of text) (start_point markup_reading)
 
--- What a note says where a block of a text begins: a block stands in the tree that begins there, with this name, level and state, or its node was lost.
+-- What a note says where a block of a text begins: a spot of the tree begins there, with this name, level and state, or the block lost its spot.
 pub data Stands (k : CharClasses) (text : List ℕ) (ask : Ask) : Type 0 where
   stands : (c : Spot (Unit {0})) → Among c (blocks_of_text k text) → opening c ≡ ask → Stands k text ask
   is_lost : Among ask (lost_of_text k text) → Stands k text ask
 
--- The law of completeness: each block that the reading of a text notes stands in its tree, unless a shape took its node.
+-- The law of completeness: each block that the reading of a text notes has a spot in its tree, unless a shape took it.
 abbrev pub CompleteLaw : Type 0
 CompleteLaw = (k : CharClasses) (text : List ℕ) (ask : Ask) → Among ask (opened (parsed k max_depth text).asks) → Stands k text ask

@@ -26,8 +26,8 @@ pub fn block_law()
     ensures names { NamesLaw }
 {}
 
-/// Each block that the reading of a text notes as begun stands in the text's tree, with the place,
-/// the level and the state of its note, unless a shape made its node a part of something else.
+/// Each block that the reading of a text notes as begun has a spot in the text's tree, with the place,
+/// the level and the state of its note, unless a shape took it.
 pub fn complete_law()
     ensures { CompleteLaw }
 {}
