@@ -13,6 +13,7 @@ ghost use Rattle.typst_machine.specs.View.{Rewrapped, rewrapped_each};
 use crate::nodes::{empty_errors, give};
 use crate::parser::Parser;
 use std::alloc::AllocError;
+use std::mem;
 use typst_kinds::SyntaxKind;
 use typst_node::SyntaxNode;
 use typst_shapes::{Change, change_first, change_node};
@@ -102,7 +103,7 @@ impl<'s> Parser<'s> {
     pub fn wrap_error(&mut self, from: usize, message: &str) -> Result<(), AllocError>
         ensures { OnOk result (Rewrapped from (fails message.now) self.old self.new) }
     {
-        let nodes = self.cut_off(from)?;
+        let nodes = self.take_from(from)?;
         let mut node = SyntaxNode::inner(SyntaxKind::Markup, nodes);
         node.convert_to_error(message)?;
         self.give(node)?;
@@ -157,6 +158,21 @@ impl<'s> Parser<'s> {
         let at = from.min(self.nodes.len());
         let nodes = self.nodes.split_off(at)?;
         Ok(nodes)
+    }
+
+    /// The same. Where they are more than those before them, these are moved, and they stay.
+    fn take_from(&mut self, from: usize) -> Result<Vec<SyntaxNode>, AllocError>
+        ensures rest { OnOk result (self.new ≡ record self.old { nodes = take from self.old.nodes; state = record self.old.state { empties = 0 } }) }
+        ensures cut { IfOk result (λ found. found.items ≡ drop from self.old.nodes) }
+    {
+        let count = self.nodes.len().saturating_sub(from);
+        if count <= from {
+            return Ok(self.cut_off(from)?);
+        }
+        self.state.empties = 0;
+        self.nodes.as_mut_slice().rotate_left(from);
+        let before = self.nodes.split_off(count)?;
+        Ok(mem::replace(&mut self.nodes, before))
     }
 
     /// Adds a node.
