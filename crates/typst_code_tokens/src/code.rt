@@ -18,6 +18,7 @@ use typst_tokens::labels::label;
 
 /// A token of code that begins with the character, which comes next and begins no token that all
 /// modes share.
+#[inline(always)]
 #[tactic(auto, unfolding(crate::specs::Code::code))]
 pub fn code<C: Classes>(s: &mut Cursor<'_>, c: char, classes: &C) -> Token
     ensures { Reads (spec.code (C.classes classes.now) c) s.old result s.new }
@@ -39,6 +40,7 @@ pub fn code<C: Classes>(s: &mut Cursor<'_>, c: char, classes: &C) -> Token
 }
 
 /// A sign alone, a name, or an error.
+#[inline(always)]
 #[tactic(auto, unfolding(crate::specs::Code::single))]
 fn single<C: Classes>(s: &mut Cursor<'_>, c: char, classes: &C) -> Token
     ensures { Reads (spec.single (C.classes classes.now) c) s.old result s.new }

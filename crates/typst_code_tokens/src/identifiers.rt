@@ -11,6 +11,7 @@ use typst_readers::Cursor;
 use typst_tokens::Token;
 
 /// A name that begins with the character, which comes next and starts names.
+#[inline(always)]
 #[tactic(auto, unfolding(crate::specs::Identifiers::ident))]
 pub(crate) fn ident<C: Classes>(s: &mut Cursor<'_>, c: char, classes: &C) -> Token
     ensures { Reads (spec.ident (C.classes classes.now) c) s.old result s.new }
@@ -25,6 +26,7 @@ pub(crate) fn ident<C: Classes>(s: &mut Cursor<'_>, c: char, classes: &C) -> Tok
 }
 
 /// A keyword, or an identifier directly after `@` and directly after a single dot.
+#[inline(always)]
 #[tactic(auto, unfolding(crate::specs::Identifiers::keyword_or_name))]
 fn keyword_or_name(s: &mut Cursor<'_>, rest: &str, kind: SyntaxKind) -> Token
     requires { take (length (chars rest.now)) s.old.place.ahead ≡ chars rest.now }
@@ -43,6 +45,7 @@ fn keyword_or_name(s: &mut Cursor<'_>, rest: &str, kind: SyntaxKind) -> Token
 }
 
 /// A name that is no keyword, by its first character and the others.
+#[inline(always)]
 fn named(first: char, rest: &str) -> Token
     ensures { result ≡ spec.named (first ∷ rest.now) }
 {

@@ -6,6 +6,7 @@ use typst_readers::Cursor;
 use typst_tokens::{Fault, Token};
 
 /// The character comes next.
+#[inline(always)]
 #[tactic(auto, unfolding(crate::specs::Invalid::invalid))]
 pub(crate) fn invalid(s: &mut Cursor<'_>, c: char) -> Token
     ensures { Reads (spec.invalid c) s.old result s.new }

@@ -178,6 +178,7 @@ pub fn token<'a, C: Classes>(
 }
 
 /// The token of the mode that comes next.
+#[inline(always)]
 #[tactic(auto, unfolding(crate::specs::Tokens::token))]
 fn next_token<C: Classes>(
     alloc: Global,
@@ -190,15 +191,16 @@ fn next_token<C: Classes>(
     match s.peek() {
         None => Ok(Token::plain(SyntaxKind::End)),
         Some(c) if is_space(c, mode) => Ok(whitespace(s, mode)),
-        Some('#') => hash(alloc, s, mode, classes),
-        Some('/') => slash(alloc, s, mode, classes),
-        Some('*') => star(alloc, s, mode, classes),
-        Some('`') => backtick(alloc, s, mode, classes),
+        Some('#') => Ok(hash(alloc, s, mode, classes)?),
+        Some('/') => Ok(slash(alloc, s, mode, classes)?),
+        Some('*') => Ok(star(alloc, s, mode, classes)?),
+        Some('`') => Ok(backtick(alloc, s, mode, classes)?),
         Some(c) => of_mode(alloc, s, c, mode, classes),
     }
 }
 
 /// A token that only the mode has.
+#[inline(always)]
 #[tactic(auto, unfolding(crate::specs::Tokens::of_mode))]
 fn of_mode<C: Classes>(
     alloc: Global,
@@ -216,6 +218,20 @@ fn of_mode<C: Classes>(
     }
 }
 
+/// The same, apart from the common way.
+#[inline(never)]
+fn of_mode_apart<C: Classes>(
+    alloc: Global,
+    s: &mut Cursor<'_>,
+    c: char,
+    mode: SyntaxMode,
+    classes: &C,
+) -> Result<Token, AllocError>
+    ensures { IfOk result (λ token. Reads (spec.of_mode (C.classes classes.now) mode c) s.old token s.new) }
+{
+    of_mode(alloc, s, c, mode, classes)
+}
+
 #[tactic(auto, unfolding(crate::specs::Tokens::hash))]
 fn hash<C: Classes>(
     alloc: Global,
@@ -228,7 +244,7 @@ fn hash<C: Classes>(
     if s.last().is_none() && s.second() == Some('!') {
         return Ok(shebang(s));
     }
-    of_mode(alloc, s, '#', mode, classes)
+    of_mode_apart(alloc, s, '#', mode, classes)
 }
 
 #[tactic(auto, unfolding(crate::specs::Tokens::slash))]
@@ -243,7 +259,7 @@ fn slash<C: Classes>(
     match s.second() {
         Some('/') => Ok(line_comment(s)),
         Some('*') => Ok(block_comment(s)),
-        _ => of_mode(alloc, s, '/', mode, classes),
+        _ => of_mode_apart(alloc, s, '/', mode, classes),
     }
 }
 
@@ -259,7 +275,7 @@ fn star<C: Classes>(
     if s.second() == Some('/') {
         return Ok(comment_end(s));
     }
-    of_mode(alloc, s, '*', mode, classes)
+    of_mode_apart(alloc, s, '*', mode, classes)
 }
 
 #[tactic(auto, unfolding(crate::specs::Tokens::backtick))]
@@ -273,7 +289,7 @@ fn backtick<C: Classes>(
 {
     match mode {
         SyntaxMode::Markup => Ok(raw(s)),
-        SyntaxMode::Math => of_mode(alloc, s, '`', mode, classes),
+        SyntaxMode::Math => of_mode_apart(alloc, s, '`', mode, classes),
         SyntaxMode::Code => Ok(raw(s)),
     }
 }

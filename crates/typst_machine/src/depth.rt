@@ -92,6 +92,7 @@ impl<'g, C: Classes, F: Fn(&C, &mut Parser<'_>, usize, Call) -> Result<Answered,
         self.levels
     }
 
+    #[inline(always)]
     fn call(&self, p: &mut Parser<'_>, call: Call) -> Result<Answered, AllocError> {
         (self.call)(self.classes, p, self.levels, call)
     }
@@ -158,6 +159,7 @@ impl Stops for Anywhere {
 }
 
 /// Reads one level deeper. What lies too deep is skipped, and the answer is the one handed in.
+#[inline(always)]
 pub fn deeper<L: Levels>(
     g: &L,
     p: &mut Parser<'_>,

@@ -21,6 +21,7 @@ use typst_tokens::escapes::backslash;
 use typst_tokens::sets::{AsciiDigits, is_u64};
 
 /// A token that begins with the character, which comes next.
+#[inline(always)]
 #[tactic(auto, unfolding(crate::specs::Markup::markup))]
 pub fn markup<C: Classes>(
     alloc: Global,
@@ -32,7 +33,7 @@ pub fn markup<C: Classes>(
 {
     match c {
         '\\' => Ok(backslash(s)),
-        'h' => link_or_text(alloc, s, classes),
+        'h' => Ok(link_or_text(alloc, s, classes)?),
         '<' => Ok(label_or_text(s, classes)),
         '@' => Ok(ref_or_text(s, classes)),
         '.' => Ok(dot(s, classes)),

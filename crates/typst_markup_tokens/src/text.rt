@@ -35,6 +35,7 @@ impl<C: Classes> PairSet for Flow<'_, C> {
 }
 
 /// What is left of a text.
+#[inline(always)]
 #[tactic(auto, unfolding(crate::specs::Text::text))]
 pub(crate) fn text<C: Classes>(s: &mut Cursor<'_>, classes: &C) -> Token
     ensures { Reads (spec.text (C.classes classes.now)) s.old result s.new }

@@ -28,6 +28,7 @@ impl<C: Classes> CharSet for Numeric<'_, C> {
 }
 
 /// A number or a cluster that begins with the character, which comes next.
+#[inline(always)]
 #[tactic(auto, unfolding(crate::specs::Atoms::text))]
 pub(crate) fn text<C: Classes>(s: &mut Cursor<'_>, c: char, classes: &C) -> Token
     ensures { Reads (spec.text (C.classes classes.now) c) s.old result s.new }
@@ -39,6 +40,7 @@ pub(crate) fn text<C: Classes>(s: &mut Cursor<'_>, c: char, classes: &C) -> Toke
 }
 
 /// Numeric characters, and a dot with more of them.
+#[inline(always)]
 #[tactic(auto, unfolding(crate::specs::Atoms::number))]
 fn number<C: Classes>(s: &mut Cursor<'_>, classes: &C) -> Token
     ensures { Reads (spec.number (C.classes classes.now)) s.old result s.new }
@@ -69,6 +71,7 @@ fn is_numeric<C: Classes>(c: Option<char>, classes: &C) -> bool
 }
 
 /// A cluster of the rest of the line.
+#[inline(always)]
 pub(crate) fn cluster<C: Classes>(s: &mut Cursor<'_>, classes: &C) -> Token
     ensures { Reads (spec.cluster (C.classes classes.now)) s.old result s.new }
 {

@@ -16,6 +16,7 @@ use typst_tokens::common::sign;
 use typst_tokens::escapes::backslash;
 
 /// The token of a formula that comes next, where none that all modes share does.
+#[inline(always)]
 #[tactic(auto, unfolding(crate::specs::Math::math))]
 pub fn math<C: Classes>(s: &mut Cursor<'_>, classes: &C) -> Token
     ensures { Reads (spec.math (C.classes classes.now)) s.old result s.new }
@@ -27,6 +28,7 @@ pub fn math<C: Classes>(s: &mut Cursor<'_>, classes: &C) -> Token
 }
 
 /// A token that begins with the character, which comes next.
+#[inline(always)]
 #[tactic(auto, unfolding(crate::specs::Math::math_from, crate::specs::Shorthands::several))]
 fn math_from<C: Classes>(s: &mut Cursor<'_>, c: char, classes: &C) -> Token
     requires { scout 0 s.old.place ≡ Some c }
@@ -59,6 +61,7 @@ fn primes(s: &mut Cursor<'_>) -> Token
 }
 
 /// A sign of one character, or what its class says.
+#[inline(always)]
 #[tactic(auto, unfolding(crate::specs::Math::single))]
 fn single<C: Classes>(s: &mut Cursor<'_>, c: char, classes: &C) -> Token
     requires { scout 0 s.old.place ≡ Some c }
@@ -82,6 +85,7 @@ fn single<C: Classes>(s: &mut Cursor<'_>, c: char, classes: &C) -> Token
 }
 
 /// What opens or closes a delimited part, or an atom.
+#[inline(always)]
 #[tactic(auto, unfolding(crate::specs::Math::by_class))]
 fn by_class<C: Classes>(s: &mut Cursor<'_>, c: char, classes: &C) -> Token
     requires { scout 0 s.old.place ≡ Some c }
@@ -95,6 +99,7 @@ fn by_class<C: Classes>(s: &mut Cursor<'_>, c: char, classes: &C) -> Token
 }
 
 /// A name, a number or a cluster.
+#[inline(always)]
 #[tactic(auto, unfolding(crate::specs::Math::atom))]
 fn atom<C: Classes>(s: &mut Cursor<'_>, c: char, classes: &C) -> Token
     requires { scout 0 s.old.place ≡ Some c }

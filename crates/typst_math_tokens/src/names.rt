@@ -37,6 +37,7 @@ fn is_math_id_continue<C: Classes>(c: char, classes: &C) -> bool
 }
 
 /// A name that begins with the character, which comes next and starts identifiers, or a text.
+#[inline(always)]
 #[tactic(auto, unfolding(crate::specs::Names::name))]
 pub(crate) fn name<C: Classes>(s: &mut Cursor<'_>, c: char, classes: &C) -> Token
     requires next { scout 0 s.old.place ≡ Some c }
@@ -75,6 +76,7 @@ fn is_cluster<C: Classes>(text: &str, classes: &C) -> bool
 }
 
 /// An identifier behind its name, with the fields that follow.
+#[inline(always)]
 fn behind_name<C: Classes>(s: &mut Cursor<'_>, classes: &C) -> Token
     ensures { Reads (spec.behind_name (C.classes classes.now)) s.old result s.new }
 {

@@ -13,6 +13,7 @@ use typst_lines::{Scanner, is_newline};
 use typst_readers::Cursor;
 
 /// A token of one character.
+#[inline(always)]
 #[tactic(auto, unfolding(crate::specs::Common::sign))]
 pub fn sign(s: &mut Cursor<'_>, kind: SyntaxKind) -> Token
     ensures { Reads (spec.sign kind) s.old result s.new }
@@ -47,6 +48,7 @@ fn is_parbreak(mode: SyntaxMode, ends: usize) -> bool
     }
 }
 
+#[inline(always)]
 #[tactic(auto, unfolding(crate::specs::Common::whitespace))]
 pub fn whitespace(s: &mut Cursor<'_>, mode: SyntaxMode) -> Token
     ensures { Reads (spec.whitespace mode) s.old result s.new }
