@@ -1,16 +1,17 @@
 //! The tag of a node, found from the root of its tree.
 
-ghost use Rattle.std.specs.Prelude.{◌≡◌, ◌+◌, None};
+ghost use Rattle.std.specs.Prelude.{◌≡◌, ◌+◌, ◌&&◌, ◌||◌, None};
 ghost use Rattle.std.specs.Option.{option_map};
 ghost use Rattle.typst_tree.specs.Linked.{linked};
-ghost use Rattle.typst_tree.specs.Steps.{next_leaf, kind_of};
-ghost use Rattle.typst_highlight.specs.Rules.{rule_of};
+ghost use Rattle.typst_tree.specs.Steps.{end_of, kind_of, parent};
+ghost use Rattle.typst_highlight.specs.Names.{is_called, kind_ahead, name_alone};
+ghost use Rattle.typst_highlight.specs.Rules.{begins_arguments, is_colon, is_show_rule, rule_of};
 ghost use Rattle.typst_highlight.specs.Nodes as spec;
 
-use crate::context::{Ahead, Surroundings};
 use crate::rules::{
-    Rule, equals_tag, is_dot, is_field_access, is_name, paren_tag, rule_of, slash_tag, star_tag,
-    term_tag, underscore_tag,
+    Rule, equals_tag, is_arguments, is_colon, is_content, is_dot, is_field_access, is_hash,
+    is_math_name, is_name, is_show_rule, paren_tag, rule_of, slash_tag, star_tag, term_tag,
+    underscore_tag,
 };
 use crate::tags::Tag;
 use typst_kinds::SyntaxKind;
@@ -18,8 +19,17 @@ use typst_tree::LinkedNode;
 
 /// The tag of a node, or `None` if it has none of its own.
 ///
-/// Takes no memory. What it asks for beside the node is looked for from the root of the tree, so
-/// to go through all nodes of a tree `highlight_html` is the faster way.
+/// Takes no memory. Of most kinds the kind tells the tag, in a constant time. The others ask by
+/// steps of `LinkedNode`, each of which goes through the children of each node above:
+/// - a parenthesis, a star, an underscore, a slash and an equals sign for the parent, and markup
+///   also for the next sibling;
+/// - a hash for the next sibling, and then for what the first leaf of that asks for;
+/// - a name for the next leaf. Where that doesn't make it a function, it asks for the parents up to
+///   the outermost field access and for the leaf before that, and where these don't tell, for the
+///   two leaves before the name and for all that the name before the dot asks for.
+///
+/// So a node among m siblings may take a time in proportion to m, and a name at the end of a chain
+/// `a.b.c` more than that. `highlight_html` asks once for all nodes of a tree, in one pass.
 pub fn highlight(node: &LinkedNode) -> Option<Tag>
     ensures { result ≡ spec.tag_of (linked node.now) }
 {
@@ -64,12 +74,72 @@ fn tag_by_rule(node: LinkedNode) -> Option<Tag>
 fn name_tag(name: LinkedNode) -> Option<Tag>
     ensures { result ≡ spec.name_tag ((linked name.entry).number + 1) (linked name.entry) }
 {
-    match surroundings(name).tag() {
+    match own_tag(name) {
         Some(tag) => Some(tag),
         None => {
             let earlier = earlier_name(name)?;
             name_tag(earlier)
         }
+    }
+}
+
+/// The tag of a name, unless only a name before it can tell.
+fn own_tag(name: LinkedNode) -> Option<Tag>
+    ensures { result ≡ name_alone (spec.surroundings (linked name.entry)) }
+{
+    let next = name.next_leaf();
+    if is_called(name, next) {
+        return Some(Tag::Function);
+    }
+    if is_math_name(name.kind()) {
+        return Some(Tag::Interpolated);
+    }
+    let outer = outermost(name);
+    if is_shown(name, next, outer) {
+        return Some(Tag::Function);
+    }
+    if is_hash(leaf_before(outer)) {
+        return Some(Tag::Interpolated);
+    }
+    None
+}
+
+/// Whether arguments or content begin where a name ends, by the leaf behind the name.
+fn is_called<'a>(name: LinkedNode<'a>, next: Option<LinkedNode<'a>>) -> bool
+    ensures { result ≡ is_called (end_of (linked name.entry)) (option_map spec.described (option_map linked next.entry)) }
+{
+    match next {
+        None => false,
+        Some(leaf) => leaf.offset() == name.range().end && opens_arguments(leaf),
+    }
+}
+
+/// Whether a leaf begins what a function is called with.
+fn opens_arguments(leaf: LinkedNode) -> bool
+    ensures { result ≡ begins_arguments (kind_of (linked leaf.entry)) (spec.kind_if (parent (linked leaf.entry))) }
+{
+    match leaf.kind() {
+        SyntaxKind::LeftParen => is_arguments(leaf.parent_kind()),
+        SyntaxKind::LeftBracket => is_content(leaf.parent_kind()),
+        _ => false,
+    }
+}
+
+/// Whether a name stands directly before or behind the colon of a show rule, by the leaf behind the
+/// name and the outermost of the field accesses above it.
+fn is_shown<'a>(name: LinkedNode<'a>, next: Option<LinkedNode<'a>>, outer: LinkedNode<'a>) -> bool
+    ensures { result ≡ (is_show_rule (spec.kind_if (parent (linked outer.entry))) && (is_colon (kind_ahead (option_map spec.described (option_map linked next.entry))) || is_colon (spec.kind_before (linked name.entry)))) }
+{
+    is_show_rule(outer.parent_kind()) && (is_colon(kind_ahead(next)) || is_colon(leaf_before(name)))
+}
+
+/// The kind of the leaf behind a name.
+fn kind_ahead(next: Option<LinkedNode>) -> Option<SyntaxKind>
+    ensures { result ≡ kind_ahead (option_map spec.described (option_map linked next.entry)) }
+{
+    match next {
+        None => None,
+        Some(leaf) => Some(leaf.kind()),
     }
 }
 
@@ -94,33 +164,6 @@ fn name_before<'a>(dot: LinkedNode<'a>) -> Option<LinkedNode<'a>>
     } else {
         None
     }
-}
-
-/// What is round a name.
-fn surroundings(name: LinkedNode) -> Surroundings
-    ensures { result ≡ spec.surroundings (linked name.entry) }
-{
-    let outer = outermost(name);
-    Surroundings {
-        kind: name.kind(),
-        end: name.range().end,
-        next: next_leaf(name),
-        around: outer.parent_kind(),
-        lead: leaf_before(outer),
-        before: leaf_before(name),
-    }
-}
-
-/// The first leaf behind a node, as a name sees it.
-fn next_leaf(node: LinkedNode) -> Option<Ahead>
-    ensures { result ≡ option_map spec.described (next_leaf (linked node.entry)) }
-{
-    let leaf = node.next_leaf()?;
-    Some(Ahead {
-        kind: leaf.kind(),
-        parent: leaf.parent_kind(),
-        offset: leaf.offset(),
-    })
 }
 
 /// The kind of the last leaf before a node.

@@ -311,16 +311,30 @@ pub fn is_hash(kind: Option<SyntaxKind>) -> bool
     matches!(kind, Some(SyntaxKind::Hash))
 }
 
+/// Whether a parenthesis under a parent of the kind begins what a function is called with.
+pub fn is_arguments(parent: Option<SyntaxKind>) -> bool
+    ensures { result ≡ spec.is_arguments parent }
+{
+    matches!(
+        parent,
+        Some(SyntaxKind::Args | SyntaxKind::MathArgs | SyntaxKind::Params)
+    )
+}
+
+/// Whether a bracket under a parent of the kind begins what a function is called with.
+pub fn is_content(parent: Option<SyntaxKind>) -> bool
+    ensures { result ≡ spec.is_content parent }
+{
+    matches!(parent, Some(SyntaxKind::ContentBlock))
+}
+
 /// Whether a leaf begins what a function is called with, by its kind and its parent's.
 pub fn begins_arguments(kind: SyntaxKind, parent: Option<SyntaxKind>) -> bool
     ensures { result ≡ spec.begins_arguments kind parent }
 {
     match kind {
-        SyntaxKind::LeftParen => matches!(
-            parent,
-            Some(SyntaxKind::Args | SyntaxKind::MathArgs | SyntaxKind::Params)
-        ),
-        SyntaxKind::LeftBracket => matches!(parent, Some(SyntaxKind::ContentBlock)),
+        SyntaxKind::LeftParen => is_arguments(parent),
+        SyntaxKind::LeftBracket => is_content(parent),
         _ => false,
     }
 }

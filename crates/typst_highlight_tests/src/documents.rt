@@ -2,8 +2,9 @@ use crate::trees::shows;
 use typst_kinds::SyntaxKind;
 use typst_test_trees::Row;
 
-/// A heading from right to left, and behind it tabs: in a text, in raw text and between them.
-pub(crate) const RIGHT_TO_LEFT: [Row; 24] = [
+/// A heading from right to left with an equals sign of its own, and behind it tabs: in a text, in
+/// raw text and between them.
+pub(crate) const RIGHT_TO_LEFT: [Row; 25] = [
     (SyntaxKind::HeadingMarker, "=", None),
     (SyntaxKind::Space, " ", None),
     (SyntaxKind::Text, "שלום", None),
@@ -18,7 +19,8 @@ pub(crate) const RIGHT_TO_LEFT: [Row; 24] = [
     (SyntaxKind::Text, "<", None),
     (SyntaxKind::SmartQuote, "\"", None),
     (SyntaxKind::Markup, "", Some(7)),
-    (SyntaxKind::Heading, "", Some(3)),
+    (SyntaxKind::Eq, "=", None),
+    (SyntaxKind::Heading, "", Some(4)),
     (SyntaxKind::Parbreak, "\n\n\t", None),
     (SyntaxKind::Text, "a", None),
     (SyntaxKind::Space, "\t", None),
@@ -31,7 +33,7 @@ pub(crate) const RIGHT_TO_LEFT: [Row; 24] = [
 ];
 
 pub(crate) const RIGHT_TO_LEFT_HTML: &str =
-    "<code><span class=\"typ-heading\">= שלום <span class=\"typ-strong\">*עולם*</span>\u{200f}&quot;&lt;&quot;</span>\n\n\ta\t<span class=\"typ-raw\">`\tx`</span><span class=\"typ-label\">&lt;l&gt;</span></code>";
+    "<code><span class=\"typ-heading\">= שלום <span class=\"typ-strong\">*עולם*</span>\u{200f}&quot;&lt;&quot;=</span>\n\n\ta\t<span class=\"typ-raw\">`\tx`</span><span class=\"typ-label\">&lt;l&gt;</span></code>";
 
 /// A term with a call behind it.
 pub(crate) const TERM: [Row; 22] = [
