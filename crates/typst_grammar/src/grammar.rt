@@ -1,26 +1,15 @@
-//! The knot: what is read one level deeper, and whole texts.
+//! The knot: what is read one level deeper.
 
-ghost use Rattle.std.specs.Prelude.{◌≡◌, ◌<◌, IfOk, Some, false};
-ghost use Rattle.std.specs.Str.{chars};
-ghost use Rattle.typst_node.specs.Tree.{text_of};
+ghost use Rattle.std.specs.Prelude.{◌≡◌, ◌<◌};
 ghost use Rattle.typst_code.specs.View.{Calls};
 ghost use Rattle.typst_code.specs.Outside.{MeansAroundAs};
 ghost use Rattle.typst_grammar.specs.Grammar as spec;
-ghost use Rattle.typst_grammar.specs.Read.{IsParsed};
 ghost use Rattle.typst_grammar.specs.Told.{told_at};
 
-use std::alloc::{AllocError, Global};
+use std::alloc::AllocError;
 use typst_classes::Classes;
-use typst_code::{
-    Answered, AtNewline, Call, CodeStop, Grammar, Hull, Levels, MathStop, Note, Parser, Reading,
-    Stop, code_expr, code_exprs, markup_expr, markup_run, math_exprs, pattern,
-};
-use typst_kinds::{SyntaxKind, SyntaxMode};
+use typst_code::{Answered, Call, Grammar, Levels, Parser, code_expr, markup_expr, pattern};
 use typst_math::math_expr;
-use typst_node::SyntaxNode;
-
-/// How deep calls may nest.
-const MAX_DEPTH: usize = 256;
 
 /// Reads what a call asks for.
 pub fn production<L: Levels>(g: &L, p: &mut Parser<'_>, call: Call) -> Result<Answered, AllocError>
@@ -63,139 +52,4 @@ pub fn make_call<C: Classes>(
         call: make_call::<C>,
     };
     Ok(production(&below, p, call)?)
-}
-
-/// The syntax tree of a text of markup, with detached spans. Any text has one; its leaves joined are
-/// the text. It refuses only for want of memory.
-pub fn parse<C: Classes>(alloc: Global, text: &str, classes: &C) -> Result<SyntaxNode, AllocError>
-    ensures tree { IfOk result (λ t. t ≡ spec.tree (C.classes classes.now) (chars text.now)) }
-    ensures leaves { IfOk result (λ t. text_of t ≡ text.now) }
-{
-    let (nodes, _notes, _hull) = read_whole(alloc, text, false, classes)?.finish();
-    Ok(SyntaxNode::inner(SyntaxKind::Markup, nodes))
-}
-
-/// The syntax tree of a text of code, with detached spans. Any text has one; its leaves joined are the
-/// text. It refuses only for want of memory.
-pub fn parse_code<C: Classes>(
-    alloc: Global,
-    text: &str,
-    classes: &C,
-) -> Result<SyntaxNode, AllocError>
-    ensures tree { IfOk result (λ t. t ≡ spec.tree_code (C.classes classes.now) (chars text.now)) }
-    ensures leaves { IfOk result (λ t. text_of t ≡ text.now) }
-{
-    let (nodes, _notes, _hull) = read_whole_code(alloc, text, classes)?.finish();
-    Ok(SyntaxNode::inner(SyntaxKind::Code, nodes))
-}
-
-/// The syntax tree of the text of a formula, with detached spans. Any text has one; its leaves joined
-/// are the text. It refuses only for want of memory.
-pub fn parse_math<C: Classes>(
-    alloc: Global,
-    text: &str,
-    classes: &C,
-) -> Result<SyntaxNode, AllocError>
-    ensures tree { IfOk result (λ t. t ≡ spec.tree_math (C.classes classes.now) (chars text.now)) }
-    ensures leaves { IfOk result (λ t. text_of t ≡ text.now) }
-{
-    let (nodes, _notes, _hull) = read_whole_math(alloc, text, classes)?.finish();
-    Ok(SyntaxNode::inner(SyntaxKind::Math, nodes))
-}
-
-/// A syntax tree with what was looked at and noted in parsing it.
-#[derive(Drop)]
-pub struct Noted {
-    pub tree: SyntaxNode,
-    pub notes: Vec<Note>,
-    /// Where all looks end, and where those since the last note begin.
-    pub hull: Hull,
-}
-
-/// The syntax tree of a text of markup, and what was looked at and noted for it, in order: a piece
-/// at the text's start and behind each expression of the text's own, where a content block opens
-/// and closes, and between them a piece behind its bracket and behind each of its expressions. What
-/// lies at the limit of depth is no run and has no pieces.
-pub fn parse_noted<C: Classes>(alloc: Global, text: &str, classes: &C) -> Result<Noted, AllocError>
-    ensures tree { IfOk result (λ r. r.tree ≡ spec.tree (C.classes classes.now) (chars text.now)) }
-    ensures log { IfOk result (λ r. record { reach = r.hull.reach; least = r.hull.least; notes = Some r.notes.items } ≡ spec.log (C.classes classes.now) (chars text.now)) }
-{
-    let (nodes, notes, hull) = read_whole(alloc, text, true, classes)?.finish();
-    Ok(Noted {
-        tree: SyntaxNode::inner(SyntaxKind::Markup, nodes),
-        notes,
-        hull,
-    })
-}
-
-/// A parser that read a whole text.
-fn read_whole<'s, C: Classes>(
-    alloc: Global,
-    text: &'s str,
-    keeps_notes: bool,
-    classes: &C,
-) -> Result<Parser<'s>, AllocError>
-    ensures { IfOk result (λ p. IsParsed keeps_notes (chars text.now) (spec.parsed (C.classes classes.now) spec.max_depth (chars text.now)) p) }
-{
-    let reading = Reading {
-        mode: SyntaxMode::Markup,
-        at_newline: AtNewline::Continue,
-    };
-    let mut p = Parser::new(alloc, text, reading, keeps_notes)?;
-    let g = Grammar {
-        classes,
-        levels: MAX_DEPTH,
-        call: make_call::<C>,
-    };
-    markup_run(&g, &mut p, Stop::End)?;
-    p.flush_trivia()?;
-    Ok(p)
-}
-
-/// The same, of a text of code.
-fn read_whole_code<'s, C: Classes>(
-    alloc: Global,
-    text: &'s str,
-    classes: &C,
-) -> Result<Parser<'s>, AllocError>
-    ensures { IfOk result (λ p. IsParsed false (chars text.now) (spec.parsed_code (C.classes classes.now) spec.max_depth (chars text.now)) p) }
-{
-    let reading = Reading {
-        mode: SyntaxMode::Code,
-        at_newline: AtNewline::Continue,
-    };
-    let mut p = Parser::new(alloc, text, reading, false)?;
-    let g = Grammar {
-        classes,
-        levels: MAX_DEPTH,
-        call: make_call::<C>,
-    };
-    p.look(&g)?;
-    code_exprs(&g, &mut p, CodeStop::End)?;
-    p.flush_trivia()?;
-    Ok(p)
-}
-
-/// The same, of the text of a formula.
-fn read_whole_math<'s, C: Classes>(
-    alloc: Global,
-    text: &'s str,
-    classes: &C,
-) -> Result<Parser<'s>, AllocError>
-    ensures { IfOk result (λ p. IsParsed false (chars text.now) (spec.parsed_math (C.classes classes.now) spec.max_depth (chars text.now)) p) }
-{
-    let reading = Reading {
-        mode: SyntaxMode::Math,
-        at_newline: AtNewline::Continue,
-    };
-    let mut p = Parser::new(alloc, text, reading, false)?;
-    let g = Grammar {
-        classes,
-        levels: MAX_DEPTH,
-        call: make_call::<C>,
-    };
-    p.look(&g)?;
-    math_exprs(&g, &mut p, MathStop::End)?;
-    p.flush_trivia()?;
-    Ok(p)
 }

@@ -11,7 +11,7 @@ use Rattle.typst_node.specs.Numbers.{placed, stride, numbered, numbered_forest, 
 use Rattle.typst_node.proofs.Numbering.{numbered_bare, text_numbered, nodes_numbered}
 use Rattle.std.specs.Str.{chars}
 use Rattle.typst_classes.specs.Classes.{CharClasses}
-use Rattle.typst_grammar.specs.Grammar.{tree}
+use Rattle.typst_entry.specs.Grammar.{tree}
 use Rattle.typst_source.specs.Held.{Held}
 use Rattle.typst_source.specs.Headline.{file_of, IsNumberedIn, Headline, AreNumbered, AreOrdered, numbered_in}
 

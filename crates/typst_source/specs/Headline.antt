@@ -7,7 +7,7 @@ use Rattle.typst_node.specs.Tree.{Tree, places, nodes, bare, text_of, synthesize
 use Rattle.typst_node.specs.Numbers.{numberized}
 use Rattle.typst_node.specs.Order.{AreInOrder, numbers_of}
 use Rattle.typst_classes.specs.Classes.{CharClasses}
-use Rattle.typst_grammar.specs.Grammar.{tree}
+use Rattle.typst_entry.specs.Grammar.{tree}
 use Rattle.typst_source.specs.Held.{Held}
 
 -- the text with another one in the place of a range of bytes

@@ -2,4 +2,4 @@ pub mod Held
 pub mod Headline
 pub mod Find
 pub mod Found
-pub use Rattle.typst_grammar.specs.Grammar
+pub use Rattle.typst_entry.specs.Grammar

@@ -4,4 +4,4 @@
 mod source;
 
 pub use source::Source;
-pub use typst_grammar::{Block, Mark, Note, Noted, parse, parse_code, parse_math, parse_noted};
+pub use typst_entry::{Block, Mark, Note, Noted, parse, parse_code, parse_math, parse_noted};

@@ -3,7 +3,7 @@ ghost use Rattle.std.specs.Prelude.{◌≡◌, ◌+◌, ◌-◌, ◌^◌, ◌<�
 ghost use Rattle.std.specs.Str.{IsCharBoundary, chars};
 ghost use Rattle.std.specs.String.{string_bytes};
 ghost use Rattle.typst_node.specs.Tree.{text_of, bare, nodes};
-ghost use Rattle.typst_grammar.specs.Grammar.{tree};
+ghost use Rattle.typst_entry.specs.Grammar.{tree};
 ghost use Rattle.typst_source.specs.Headline.{Headline, edited, file_of, AreNumbered, AreOrdered, numbered_in};
 
 use std::alloc::{AllocError, Global};
@@ -11,7 +11,7 @@ use std::fmt;
 use std::marker::Model;
 use std::ops::Range;
 use typst_classes::Classes;
-use typst_grammar::parse;
+use typst_entry::parse;
 use typst_kinds::{FileId, SourceError, Span, SpanNumber, SubRange};
 use typst_lines::Lines;
 use typst_node::SyntaxNode;
