@@ -5,19 +5,12 @@ ghost use Rattle.std.specs.Str.{chars};
 ghost use Rattle.typst_node.specs.Tree.{text_of};
 ghost use Rattle.typst_binding.specs.Binding.{binds, has_errors};
 ghost use Rattle.typst_grammar.specs.Grammar as spec;
-ghost use Rattle.typst_grammar.specs.Read.{IsParsed};
 
 use std::alloc::{AllocError, Global};
 use typst_classes::Classes;
-use typst_grammar::{
-    AtNewline, CodeStop, Grammar, Hull, MathStop, Note, Parser, Reading, Stop, code_exprs,
-    make_call, markup_run, math_exprs,
-};
-use typst_kinds::{SyntaxKind, SyntaxMode};
+use typst_grammar::{Hull, Note, read_whole, read_whole_code, read_whole_math};
+use typst_kinds::SyntaxKind;
 use typst_node::SyntaxNode;
-
-/// How deep calls may nest.
-const MAX_DEPTH: usize = 256;
 
 /// The syntax tree of a text of markup, with detached spans. Any text has one; its leaves joined are
 /// the text, and in one without errors the operands of each binary operator bind as tightly as the
@@ -86,76 +79,4 @@ pub fn parse_noted<C: Classes>(alloc: Global, text: &str, classes: &C) -> Result
         notes,
         hull,
     })
-}
-
-/// A parser that read a whole text.
-fn read_whole<'s, C: Classes>(
-    alloc: Global,
-    text: &'s str,
-    keeps_notes: bool,
-    classes: &C,
-) -> Result<Parser<'s>, AllocError>
-    ensures { IfOk result (λ p. IsParsed keeps_notes (chars text.now) (spec.parsed (C.classes classes.now) spec.max_depth (chars text.now)) p) }
-{
-    let reading = Reading {
-        mode: SyntaxMode::Markup,
-        at_newline: AtNewline::Continue,
-    };
-    let mut p = Parser::new(alloc, text, reading, keeps_notes)?;
-    let g = Grammar {
-        classes,
-        levels: MAX_DEPTH,
-        call: make_call::<C>,
-    };
-    markup_run(&g, &mut p, Stop::End)?;
-    p.flush_trivia()?;
-    Ok(p)
-}
-
-/// The same, of a text of code.
-fn read_whole_code<'s, C: Classes>(
-    alloc: Global,
-    text: &'s str,
-    classes: &C,
-) -> Result<Parser<'s>, AllocError>
-    ensures { IfOk result (λ p. IsParsed false (chars text.now) (spec.parsed_code (C.classes classes.now) spec.max_depth (chars text.now)) p) }
-{
-    let reading = Reading {
-        mode: SyntaxMode::Code,
-        at_newline: AtNewline::Continue,
-    };
-    let mut p = Parser::new(alloc, text, reading, false)?;
-    let g = Grammar {
-        classes,
-        levels: MAX_DEPTH,
-        call: make_call::<C>,
-    };
-    p.look(&g)?;
-    code_exprs(&g, &mut p, CodeStop::End)?;
-    p.flush_trivia()?;
-    Ok(p)
-}
-
-/// The same, of the text of a formula.
-fn read_whole_math<'s, C: Classes>(
-    alloc: Global,
-    text: &'s str,
-    classes: &C,
-) -> Result<Parser<'s>, AllocError>
-    ensures { IfOk result (λ p. IsParsed false (chars text.now) (spec.parsed_math (C.classes classes.now) spec.max_depth (chars text.now)) p) }
-{
-    let reading = Reading {
-        mode: SyntaxMode::Math,
-        at_newline: AtNewline::Continue,
-    };
-    let mut p = Parser::new(alloc, text, reading, false)?;
-    let g = Grammar {
-        classes,
-        levels: MAX_DEPTH,
-        call: make_call::<C>,
-    };
-    p.look(&g)?;
-    math_exprs(&g, &mut p, MathStop::End)?;
-    p.flush_trivia()?;
-    Ok(p)
 }

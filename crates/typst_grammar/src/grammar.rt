@@ -1,15 +1,24 @@
-//! The knot: what is read one level deeper.
+//! The knot: what is read one level deeper, and whole texts.
 
-ghost use Rattle.std.specs.Prelude.{◌≡◌, ◌<◌};
+ghost use Rattle.std.specs.Prelude.{◌≡◌, ◌<◌, IfOk, false};
+ghost use Rattle.std.specs.Str.{chars};
 ghost use Rattle.typst_code.specs.View.{Calls};
 ghost use Rattle.typst_code.specs.Outside.{MeansAroundAs};
 ghost use Rattle.typst_grammar.specs.Grammar as spec;
+ghost use Rattle.typst_grammar.specs.Read.{IsParsed};
 ghost use Rattle.typst_grammar.specs.Told.{told_at};
 
-use std::alloc::AllocError;
+use std::alloc::{AllocError, Global};
 use typst_classes::Classes;
-use typst_code::{Answered, Call, Grammar, Levels, Parser, code_expr, markup_expr, pattern};
+use typst_code::{
+    Answered, AtNewline, Call, CodeStop, Grammar, Levels, MathStop, Parser, Reading, Stop,
+    code_expr, code_exprs, markup_expr, markup_run, math_exprs, pattern,
+};
+use typst_kinds::SyntaxMode;
 use typst_math::math_expr;
+
+/// How deep calls may nest.
+const MAX_DEPTH: usize = 256;
 
 /// Reads what a call asks for.
 pub fn production<L: Levels>(g: &L, p: &mut Parser<'_>, call: Call) -> Result<Answered, AllocError>
@@ -52,4 +61,76 @@ pub fn make_call<C: Classes>(
         call: make_call::<C>,
     };
     Ok(production(&below, p, call)?)
+}
+
+/// A parser that read a whole text of markup.
+pub fn read_whole<'s, C: Classes>(
+    alloc: Global,
+    text: &'s str,
+    keeps_notes: bool,
+    classes: &C,
+) -> Result<Parser<'s>, AllocError>
+    ensures { IfOk result (λ p. IsParsed keeps_notes (chars text.now) (spec.parsed (C.classes classes.now) spec.max_depth (chars text.now)) p) }
+{
+    let reading = Reading {
+        mode: SyntaxMode::Markup,
+        at_newline: AtNewline::Continue,
+    };
+    let mut p = Parser::new(alloc, text, reading, keeps_notes)?;
+    let g = Grammar {
+        classes,
+        levels: MAX_DEPTH,
+        call: make_call::<C>,
+    };
+    markup_run(&g, &mut p, Stop::End)?;
+    p.flush_trivia()?;
+    Ok(p)
+}
+
+/// The same of a text of code.
+pub fn read_whole_code<'s, C: Classes>(
+    alloc: Global,
+    text: &'s str,
+    classes: &C,
+) -> Result<Parser<'s>, AllocError>
+    ensures { IfOk result (λ p. IsParsed false (chars text.now) (spec.parsed_code (C.classes classes.now) spec.max_depth (chars text.now)) p) }
+{
+    let reading = Reading {
+        mode: SyntaxMode::Code,
+        at_newline: AtNewline::Continue,
+    };
+    let mut p = Parser::new(alloc, text, reading, false)?;
+    let g = Grammar {
+        classes,
+        levels: MAX_DEPTH,
+        call: make_call::<C>,
+    };
+    p.look(&g)?;
+    code_exprs(&g, &mut p, CodeStop::End)?;
+    p.flush_trivia()?;
+    Ok(p)
+}
+
+/// The same of the text of a formula.
+pub fn read_whole_math<'s, C: Classes>(
+    alloc: Global,
+    text: &'s str,
+    classes: &C,
+) -> Result<Parser<'s>, AllocError>
+    ensures { IfOk result (λ p. IsParsed false (chars text.now) (spec.parsed_math (C.classes classes.now) spec.max_depth (chars text.now)) p) }
+{
+    let reading = Reading {
+        mode: SyntaxMode::Math,
+        at_newline: AtNewline::Continue,
+    };
+    let mut p = Parser::new(alloc, text, reading, false)?;
+    let g = Grammar {
+        classes,
+        levels: MAX_DEPTH,
+        call: make_call::<C>,
+    };
+    p.look(&g)?;
+    math_exprs(&g, &mut p, MathStop::End)?;
+    p.flush_trivia()?;
+    Ok(p)
 }

@@ -4,12 +4,9 @@
 mod grammar;
 mod laws;
 
-pub use grammar::{make_call, production};
+pub use grammar::{make_call, production, read_whole, read_whole_code, read_whole_math};
 pub use laws::{
     grammar_laws, leaves_law, notes_of_texts, trees_of_code, trees_of_formulas, trees_of_names,
     trees_of_patterns, trees_of_texts,
 };
-pub use typst_code::{
-    AtNewline, Block, CodeStop, Grammar, Hull, Mark, MathStop, Note, Parser, Reading, Stop,
-    code_exprs, markup_run, math_exprs,
-};
+pub use typst_code::{Block, Hull, Mark, Note};

@@ -1,18 +1,18 @@
 use Rattle.std.proofs.Common.{false, refl}
 use Rattle.typst_code.proofs.Steps.{does-next, does-look}
 use Rattle.typst_code.proofs.Blocks.{calls-at}
-use Rattle.typst_code.specs.Equations.{math_reading}
+use Rattle.typst_code.specs.Sequences.{code_reading}
 use Rattle.typst_grammar.specs.Told.{told_at}
-use Rattle.typst_grammar.specs.Grammar.{max_depth, whole_math}
+use Rattle.typst_grammar.specs.Grammar.{max_depth, whole_code}
 use Rattle.typst_grammar.proofs.Levels.{sound-at, parsed-is}
-use Rattle.typst_entry.proofs.entry.read_whole_math.Goals as goal
+use Rattle.typst_grammar.proofs.grammar.read_whole_code.Goals as goal
 
 pub returns : goal.returns
-unfolding whole_math
+unfolding whole_code
 returns g c =
     let k = g.C.Classes.classes c.args.classes.now in
     let l = told_at k max_depth in
     let first = does-look (c.in_ok-look.ensures l (record { classes = refl; sound = sound-at k max_depth; levels = refl; reads = λ old new call r h. calls-at l call r h.2 h.3 h.4.1 })) in
-    let expressions = c.in_ok-math_exprs.ensures l (record { classes = refl; sound = sound-at k max_depth; levels = refl; reads = λ old new call r h. calls-at l call r h.2 h.3 h.4.1 }) in
-    let d = does-next (does-next first expressions) (c.in_ok-flush_trivia.ensures l) in
-    parsed-is k false c.args.text.now math_reading whole_math _ _ c.in_ok-p.ensures d
+    let statements = c.in_ok-code_exprs.ensures l (record { classes = refl; sound = sound-at k max_depth; levels = refl; reads = λ old new call r h. calls-at l call r h.2 h.3 h.4.1 }) in
+    let d = does-next (does-next first statements) (c.in_ok-flush_trivia.ensures l) in
+    parsed-is k false c.args.text.now code_reading whole_code _ _ c.in_ok-p.ensures d
