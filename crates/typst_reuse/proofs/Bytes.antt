@@ -70,12 +70,12 @@ reach-by lv b z (marked at gap fewer m s ∷ asks) h e =
     let i = reach-by lv b z asks (with_note gap (lv - fewer) m s (moved at z) h) e in
     record { before = i.before; all = i.all }
 
-pub reach-to : (lv b : ℕ) (z : Place) (asks : List Ask) (h : Log) → h.reach ≤ b → AllReach b z asks → (logged lv z h asks).reach ≤ b
+reach-to : (lv b : ℕ) (z : Place) (asks : List Ask) (h : Log) → h.reach ≤ b → AllReach b z asks → (logged lv z h asks).reach ≤ b
 reach-to lv b z [] h e a = e
 reach-to lv b z (looked at look ∷ asks) h e a = let d = a.0 in reach-to lv b z asks (with_hull (hull_of look (moved at z)) h) (omega (arith, e, d)) a.1
 reach-to lv b z (marked at gap fewer m s ∷ asks) h e a = reach-to lv b z asks (with_note gap (lv - fewer) m s (moved at z) h) e a
 
-pub end-to : (front more : List ℕ) (asks : List Ask) → AllEndBy (length front) asks → AllReach (width front) (start_of (front ++ more)) asks
+end-to : (front more : List ℕ) (asks : List Ask) → AllEndBy (length front) asks → AllReach (width front) (start_of (front ++ more)) asks
 end-to front more [] a = tt
 end-to front more (looked at look ∷ asks) a = (far-to at look.front front more a.0, end-to front more asks a.1)
 end-to front more (marked at gap fewer m s ∷ asks) a = end-to front more asks a
@@ -117,7 +117,7 @@ above : (b m n : ℕ) → b < m → b < n → b < min m n
 above b m n h k = omega (arith, h, k)
 
 -- behind a note nothing was looked at yet
-pub newly : (b : ℕ) (notes : Option (List Note)) (ns : List Note) (least : ℕ) → notes ≡ Some ns → b < 2 ^ 64 - 1 → b < least_behind notes least
+newly : (b : ℕ) (notes : Option (List Note)) (ns : List Note) (least : ℕ) → notes ≡ Some ns → b < 2 ^ 64 - 1 → b < least_behind notes least
 newly b notes ns least e big = subst (λ o. b < least_behind o least) (sym e) big
 
 least-by : (lv b : ℕ) (z : Place) (asks : List Ask) (h : Log) (ns : List Note) → h.notes ≡ Some ns → Least lv b z h ns asks
@@ -160,7 +160,7 @@ begin-by front old rest end past (looked at look ∷ asks) e a f =
     (near-by look.back d (onto old (onto front [])) rest room begins, room, begin-by front old rest end past asks e a.1 f.1)
 begin-by front old rest end past (marked at gap fewer m s ∷ asks) e a f = begin-by front old rest end past asks e a f
 
-pub begin-to : (front old rest : List ℕ) (end past : ℕ) (asks : List Ask) → end ≡ (length front + length old) + past → AllBeginIn past rest asks → AllFrom (width (front ++ old)) (text_with front old rest) (shift end asks)
+begin-to : (front old rest : List ℕ) (end past : ℕ) (asks : List Ask) → end ≡ (length front + length old) + past → AllBeginIn past rest asks → AllFrom (width (front ++ old)) (text_with front old rest) (shift end asks)
 begin-to front old rest end past [] e f = tt
 begin-to front old rest end past (looked at look ∷ asks) e f =
     let d = past + at in

@@ -1,5 +1,5 @@
 -- The test of an edit inside some pieces of a text's run in bytes, by the notes of a reading.
-use Rattle.std.proofs.Common.{◌≡◌, ℕ, zero, suc, ◌+◌, ◌-◌, ◌<◌, ◌≤◌, ◌^◌, max, min, Bool, true, false, ◌&&◌, nat_lt, if◌then◌else◌, List, [], ◌∷◌, ◌++◌, length, take, append_assoc, append-nil, Some, refl, ap, sym, ◌∙◌, subst, arith}
+use Rattle.std.proofs.Common.{◌≡◌, ℕ, zero, suc, ◌+◌, ◌-◌, ◌<◌, ◌≤◌, max, min, Bool, true, false, ◌&&◌, nat_lt, List, [], ◌∷◌, ◌++◌, length, take, append_assoc, append-nil, Some, refl, ap, sym, ◌∙◌, subst, arith}
 use Rattle.std.proofs.lemmas.List.{map-append}
 use Rattle.typst_kinds.specs.declared.kind.SyntaxKind.{SyntaxKind}
 use Rattle.typst_lines.specs.Place.{Place, moved}
@@ -13,9 +13,9 @@ use Rattle.typst_grammar.specs.reading.State.{State}
 use Rattle.typst_grammar.specs.Ask.{Ask, shift, shift_one}
 use Rattle.typst_grammar.specs.Ask.Ask.{looked, marked}
 use Rattle.typst_grammar.specs.Depth.{is_end, deeper}
-use Rattle.typst_grammar.specs.Hand.{AtHand, told, known_by, hand_asks}
+use Rattle.typst_grammar.specs.Hand.{AtHand, told, known_by}
 use Rattle.typst_grammar.specs.Log.{Log, no_log, with_hull, with_note, logged}
-use Rattle.typst_grammar.specs.Meaning.{Outcome, Meaning, Level, plain, joined, followed, as_last, bound, turns, repeated, hand_of, hand_asks_of, asked, start_point, run}
+use Rattle.typst_grammar.specs.Meaning.{Outcome, Meaning, Level, plain, joined, repeated, hand_of, hand_asks_of, asked, start_point, run}
 use Rattle.typst_grammar.specs.Point.{Point, gap_of, state_of}
 use Rattle.typst_grammar.specs.Steps.{note}
 use Rattle.typst_grammar.proofs.Ends.{hand-again}
@@ -26,7 +26,7 @@ use Rattle.typst_reuse.specs.Bytes.{lowest}
 use Rattle.typst_reuse.specs.Edit.{text_with, AllEndBy}
 use Rattle.typst_reuse.specs.RunBytes.{PieceNote, both_end, RunDecisionLaw}
 use Rattle.typst_reuse.specs.Runs.{made, AllGo, End, end_of, asks_of, chain, piece_at, start, lead, pieces, end_at, end_from, rest_from, tail, whole_of, behind_pieces}
-use Rattle.typst_reuse.proofs.Bytes.{logged-append, noted-by, noted-more, newly, reach-by, reach-to, end-by, end-to, AllFrom, begin-by, begin-to}
+use Rattle.typst_reuse.proofs.Bytes.{logged-append, noted-by, noted-more, reach-by, end-by, AllFrom, begin-by}
 use Rattle.typst_reuse.proofs.Outcomes.{shift-zero, shift-twice}
 use Rattle.typst_reuse.proofs.Root.{whole-is, within}
 use Rattle.typst_reuse.proofs.Runs.{repeated-chain, chain-state, chain-taken}
@@ -36,17 +36,12 @@ use Rattle.typst_reuse.proofs.Within.{AllAt, at-first, at-second, in-level}
 
 -- ---- where a piece ends
 
--- the looks at the token that stands at a place
-abbrev looks_at : CharClasses → Place → Point → List Ask
-looks_at c z s = hand_asks c s.held s.known z
-
--- what was asked up to a place ends with a note of a piece between two looks at the token there
-record Ends (c : CharClasses) (z : Place) (asks : List Ask) (at : ℕ) (x : Bool × ℕ) (s : Point) : Type 0 where
+-- what was asked up to a place ends with a note of a piece between two looks at the same
+record Ends (asks : List Ask) (at : ℕ) (x : Bool × ℕ) (s : State) : Type 0 where
   early : List Ask
   gap : ℕ
   looks : List Ask
-  is : asks ≡ early ++ (shift at looks ++ marked at gap 0 (mark.Piece x.0 x.1) (state_of s) ∷ shift at looks)
-  there : looks ≡ looks_at c (moved at z) s
+  is : asks ≡ early ++ (shift at looks ++ marked at gap 0 (mark.Piece x.0 x.1) s ∷ shift at looks)
 
 module _ (l : Level) (stops : SyntaxKind → Bool) (x : Bool × ℕ) (z : Place) (s : Point) where
   abbrev ahead : AtHand
@@ -83,9 +78,6 @@ module _ (l : Level) (stops : SyntaxKind → Bool) (x : Bool × ℕ) (z : Place)
   abbrev gone : Outcome (Bool × (Bool × ℕ))
   gone = joined (peeked z s) (joined deep (joined (peeked there deep.state) (joined noting (plain (true, carried) last))))
 
-  last-is : last ≡ after
-  last-is = ap (λ t. asked (hand_of l there t) t) again ∙ again
-
   turn-is : ends stops x.1 ahead.kind ≡ false → run l (markup_turn true stops x) z s ≡ gone
   unfolding run markup_turn note_piece note
   turn-is h = ap (joined (peeked z s)) (if-false (ends stops x.1 ahead.kind) _ _ h)
@@ -94,7 +86,7 @@ module _ (l : Level) (stops : SyntaxKind → Bool) (x : Bool × ℕ) (z : Place)
   unfolding run markup_turn
   stopped-is h = ap (λ (o : Outcome (Bool × (Bool × ℕ))). o.value.0) (if-true (ends stops x.1 ahead.kind) _ _ h)
 
-  gone-ends : Ends l.classes z gone.asks gone.taken gone.value.1 gone.state
+  gone-ends : Ends gone.asks gone.taken gone.value.1 (state_of gone.state)
   gone-ends =
       let looks = hand_asks_of l there after in
       let t = asked (hand_of l there after) after in
@@ -123,15 +115,14 @@ module _ (l : Level) (stops : SyntaxKind → Bool) (x : Bool × ℕ) (z : Place)
         looks = looks;
         is = all ∙ ap (λ n. (first ++ (deep.asks ++ shift d second)) ++ (shift d looks ++ marked n gap 0 (mark.Piece carried.0 carried.1) (state_of t) ∷ shift d looks)) at_is
             ∙ ap (λ n. (first ++ (deep.asks ++ shift d second)) ++ (shift n looks ++ marked n gap 0 (mark.Piece carried.0 carried.1) (state_of t) ∷ shift n looks)) (sym took);
-        there = sym (ap (λ n. looks_at l.classes (moved n z) last) took ∙ ap (hand_asks_of l there) last-is);
       }
 
   turn-by : (b : Bool) → ends stops x.1 ahead.kind ≡ b → (run l (markup_turn true stops x) z s).value.0 ≡ true
-      → (let o = run l (markup_turn true stops x) z s in Ends l.classes z o.asks o.taken o.value.1 o.state)
+      → (let o = run l (markup_turn true stops x) z s in Ends o.asks o.taken o.value.1 (state_of o.state))
   turn-by true e h = let f : true ≡ false = sym h ∙ stopped-is e in cc
-  turn-by false e h = subst (λ (o : Outcome (Bool × (Bool × ℕ))). Ends l.classes z o.asks o.taken o.value.1 o.state) (sym (turn-is e)) gone-ends
+  turn-by false e h = subst (λ (o : Outcome (Bool × (Bool × ℕ))). Ends o.asks o.taken o.value.1 (state_of o.state)) (sym (turn-is e)) gone-ends
 
-  turn-ends : (run l (markup_turn true stops x) z s).value.0 ≡ true → (let o = run l (markup_turn true stops x) z s in Ends l.classes z o.asks o.taken o.value.1 o.state)
+  turn-ends : (run l (markup_turn true stops x) z s).value.0 ≡ true → (let o = run l (markup_turn true stops x) z s in Ends o.asks o.taken o.value.1 (state_of o.state))
   turn-ends h = turn-by (ends stops x.1 ahead.kind) refl h
 
 -- ---- several pieces
@@ -140,9 +131,9 @@ first-of : (b c : Bool) → (b && c) ≡ true → b ≡ true
 first-of true c h = refl
 first-of false c h = cc
 
-later-ends : (c : CharClasses) (z : Place) (asks ls : List Ask) (a b : ℕ) (x : Bool × ℕ) (s : Point) → Ends c (moved a z) asks b x s → Ends c z (ls ++ shift a asks) (a + b) x s
-later-ends c z asks ls a b x s e =
-    let m = marked b e.gap 0 (mark.Piece x.0 x.1) (state_of s) in
+later-ends : (asks ls : List Ask) (a b : ℕ) (x : Bool × ℕ) (s : State) → Ends asks b x s → Ends (ls ++ shift a asks) (a + b) x s
+later-ends asks ls a b x s e =
+    let m = marked b e.gap 0 (mark.Piece x.0 x.1) s in
     let q = shift b e.looks ++ m ∷ shift b e.looks in
     record {
       early = ls ++ shift a e.early;
@@ -151,22 +142,21 @@ later-ends c z asks ls a b x s e =
       is = ap (λ u. ls ++ shift a u) e.is ∙ ap (λ u. ls ++ u) (map-append (shift_one a) e.early q ∙ ap (λ u. shift a e.early ++ u) (map-append (shift_one a) (shift b e.looks) (m ∷ shift b e.looks)
           ∙ ap (λ u. u ++ shift_one a m ∷ shift a (shift b e.looks)) (shift-twice a b e.looks) ∙ ap (λ u. shift (a + b) e.looks ++ shift_one a m ∷ u) (shift-twice a b e.looks)))
           ∙ sym (append_assoc ls (shift a e.early) (shift (a + b) e.looks ++ shift_one a m ∷ shift (a + b) e.looks));
-      there = e.there ∙ ap (λ w. looks_at c w s) (sym (moved-sum a b z));
     }
 
-module _ (c : CharClasses) (m : Bool × ℕ → Meaning (Bool × (Bool × ℕ))) (each : (x : Bool × ℕ) (z : Place) (s : Point) → (m x z s).value.0 ≡ true → Ends c z (m x z s).asks (m x z s).taken (m x z s).value.1 (m x z s).state) where
+module _ (m : Bool × ℕ → Meaning (Bool × (Bool × ℕ))) (each : (x : Bool × ℕ) (z : Place) (s : Point) → (m x z s).value.0 ≡ true → Ends (m x z s).asks (m x z s).taken (m x z s).value.1 (state_of (m x z s).state)) where
   -- the last of several pieces ends so
-  made-ends : (n : ℕ) (x : Bool × ℕ) (z : Place) (s : Point) → AllGo (made m (suc n) x z s) → (let os = made m (suc n) x z s in let e = end_of x s os in Ends c z (asks_of os) e.taken e.value e.state)
+  made-ends : (n : ℕ) (x : Bool × ℕ) (z : Place) (s : Point) → AllGo (made m (suc n) x z s) → (let os = made m (suc n) x z s in let e = end_of x s os in Ends (asks_of os) e.taken e.value (state_of e.state))
   made-ends zero x z s g =
       let o = m x z s in
       let e = each x z s (first-of o.value.0 (nat_lt 0 o.taken) g.0) in
       let n : o.taken + 0 ≡ o.taken = omega arith in
-      subst (λ k. Ends c z (o.asks ++ []) k o.value.1 o.state) (sym n) (subst (λ ls. Ends c z ls o.taken o.value.1 o.state) (sym (append-nil o.asks)) e)
+      subst (λ k. Ends (o.asks ++ []) k o.value.1 (state_of o.state)) (sym n) (subst (λ ls. Ends ls o.taken o.value.1 (state_of o.state)) (sym (append-nil o.asks)) e)
   made-ends (suc n) x z s g =
       let o = m x z s in
       let os = made m (suc n) o.value.1 (moved o.taken z) o.state in
       let e = end_of o.value.1 o.state os in
-      later-ends c z (asks_of os) o.asks o.taken e.taken e.value e.state (made-ends n o.value.1 (moved o.taken z) o.state g.1)
+      later-ends (asks_of os) o.asks o.taken e.taken e.value (state_of e.state) (made-ends n o.value.1 (moved o.taken z) o.state g.1)
 
   -- pieces behind others
   made-add : (i n : ℕ) (x : Bool × ℕ) (z : Place) (s : Point) → (let e = end_of x s (made m i x z s) in let f = end_of e.value e.state (made m n e.value (moved e.taken z) e.state) in
@@ -205,41 +195,6 @@ chain-asks x s (o ∷ os) q =
     ∙ ap (λ u. o.asks ++ u) (map-append (shift_one o.taken) (asks_of os) (shift e.taken q.asks) ∙ ap (λ u. shift o.taken (asks_of os) ++ u) (shift-twice o.taken e.taken q.asks))
     ∙ sym (append_assoc o.asks (shift o.taken (asks_of os)) (shift (o.taken + e.taken) q.asks))
 
--- ---- what a turn looks at first
-
-record Begins (ls asks : List Ask) : Type 0 where
-  more : List Ask
-  is : asks ≡ ls ++ more
-
-turn-begins : (l : Level) (stops : SyntaxKind → Bool) (x : Bool × ℕ) (z : Place) (s : Point) → Begins (hand_asks_of l z s) (run l (markup_turn true stops x) z s).asks
-unfolding run markup_turn
-turn-begins l stops x z s = record { more = _; is = refl }
-
-module _ (m : Bool × ℕ → Meaning (Bool × (Bool × ℕ))) (x : Bool × ℕ) (z : Place) (s : Point) (ls : List Ask) (h : Begins ls (m x z s).asks) where
-  abbrev first_turn : Outcome (Bool × (Bool × ℕ))
-  first_turn = m x z s
-
-  either-begins : (b : Bool) (f : Bool × (Bool × ℕ) → Meaning (Bool × ℕ)) → Begins ls (if b then followed first_turn f z else as_last first_turn).asks
-  either-begins true f =
-      let late = shift first_turn.taken (f first_turn.value (moved first_turn.taken z) first_turn.state).asks in
-      record { more = h.more ++ late; is = ap (λ u. u ++ late) h.is ∙ append_assoc ls h.more late }
-  either-begins false f = h
-
-  run-begins : Begins ls (repeated m x z s).asks
-  unfolding repeated
-  run-begins = either-begins (first_turn.value.0 && nat_lt 0 first_turn.taken) (λ v. turns m (bound z s) v.1)
-
--- where all looks begin behind a place, the first of them do
-first-from : (b n : ℕ) (z : Place) (ls asks ks : List Ask) → Begins ls asks → AllFrom b z (shift n (asks ++ ks)) → AllFrom b z (shift n ls)
-first-from b n z ls asks ks h f =
-    let e : shift n (asks ++ ks) ≡ shift n ls ++ shift n (h.more ++ ks) = ap (λ u. shift n (u ++ ks)) h.is ∙ ap (shift n) (append_assoc ls h.more ks) ∙ map-append (shift_one n) ls (h.more ++ ks) in
-    from-first b z (shift n ls) (shift n (h.more ++ ks)) (subst (λ u. AllFrom b z u) e f)
-  where
-    from-first : (b : ℕ) (z : Place) (ls ks : List Ask) → AllFrom b z (ls ++ ks) → AllFrom b z ls
-    from-first b z [] ks h = tt
-    from-first b z (looked at look ∷ ls) ks h = (h.0, from-first b z ls ks h.1)
-    from-first b z (marked at gap fewer m s ∷ ls) ks h = from-first b z ls ks h
-
 -- ---- one note of a log
 
 end-split : (n : ℕ) (ls ks : List Ask) → AllEndBy n (ls ++ ks) → AllEndBy n ls × AllEndBy n ks
@@ -252,11 +207,6 @@ end-both n [] ks h i = i
 end-both n (looked at look ∷ ls) ks h i = (h.0, end-both n ls ks h.1 i)
 end-both n (marked at gap fewer m s ∷ ls) ks h i = end-both n ls ks h i
 
-from-both : (b : ℕ) (z : Place) (ls ks : List Ask) → AllFrom b z ls → AllFrom b z ks → AllFrom b z (ls ++ ks)
-from-both b z [] ks h i = i
-from-both b z (looked at look ∷ ls) ks h i = (h.0, from-both b z ls ks h.1 i)
-from-both b z (marked at gap fewer m s ∷ ls) ks h i = from-both b z ls ks h i
-
 from-second : (b : ℕ) (z : Place) (ls ks : List Ask) → AllFrom b z (ls ++ ks) → AllFrom b z ks
 from-second b z [] ks h = h
 from-second b z (looked at look ∷ ls) ks h = from-second b z ls ks h.1
@@ -267,23 +217,18 @@ record Later (lv : ℕ) (z : Place) (h : Log) (ns : List Note) (asks : List Ask)
   more : List Note
   is : (logged lv z h asks).notes ≡ Some (ns ++ more)
   all : (b : ℕ) → b < lowest more (logged lv z h asks).least → (b < h.least) × AllFrom b z asks
-  back : (b : ℕ) → b < 2 ^ 64 - 1 → b < h.least → AllFrom b z asks → b < lowest more (logged lv z h asks).least
 
 below : (b m n : ℕ) → b < min m n → (b < m) × (b < n)
 below b m n h = (omega (arith, h), omega (arith, h))
 
-above : (b m n : ℕ) → b < m → b < n → b < min m n
-above b m n h k = omega (arith, h, k)
-
 later-by : (lv : ℕ) (z : Place) (asks : List Ask) (h : Log) (ns : List Note) → h.notes ≡ Some ns → Later lv z h ns asks
-later-by lv z [] h ns e = record { more = []; is = e ∙ ap Some (sym (append-nil ns)); all = λ b l. (l, tt); back = λ b big l f. l }
+later-by lv z [] h ns e = record { more = []; is = e ∙ ap Some (sym (append-nil ns)); all = λ b l. (l, tt) }
 later-by lv z (looked at look ∷ asks) h ns e =
     let i = later-by lv z asks (with_hull (hull_of look (moved at z)) h) ns e in
     record {
       more = i.more;
       is = i.is;
       all = λ b l. (let j = i.all b l in let k = below b h.least (near look.back (moved at z)) j.0 in (k.0, (k.1, j.1)));
-      back = λ b big l f. i.back b big (above b h.least (near look.back (moved at z)) l f.0) f.1;
     }
 later-by lv z (marked at gap fewer m s ∷ asks) h ns e =
     let k = with_note gap (lv - fewer) m s (moved at z) h in
@@ -294,7 +239,6 @@ later-by lv z (marked at gap fewer m s ∷ asks) h ns e =
       more = note ∷ i.more;
       is = i.is ∙ ap Some (append_assoc ns (note ∷ []) i.more);
       all = λ b l. (let j = below b h.least (lowest i.more last) l in (j.0, (i.all b j.1).1));
-      back = λ b big l f. above b h.least (lowest i.more last) l (i.back b big (newly b h.notes ns h.least e big) f);
     }
 
 module _ (lv : ℕ) (z : Place) (ls ks : List Ask) (at gap : ℕ) (m : Mark) (s : State) where
@@ -312,7 +256,6 @@ module _ (lv : ℕ) (z : Place) (ls ks : List Ask) (at gap : ℕ) (m : Mark) (s 
     later : List Note
     notes : log_all.notes ≡ Some (earlier ++ the_note ∷ later)
     all : (b : ℕ) → b < lowest later log_all.least → AllFrom b z ks
-    back : (b : ℕ) → b < 2 ^ 64 - 1 → AllFrom b z ks → b < lowest later log_all.least
 
   -- the notes behind it, whatever they are compared with
   one-note : OneNote
@@ -328,7 +271,6 @@ module _ (lv : ℕ) (z : Place) (ls ks : List Ask) (at gap : ℕ) (m : Mark) (s 
         later = two.more;
         notes = ap (λ (u : Log). u.notes) is ∙ two.is ∙ ap Some (append_assoc one.more (the_note ∷ []) two.more);
         all = λ b l. (two.all b (subst (λ (u : Log). b < lowest two.more u.least) is l)).1;
-        back = λ b big f. subst (λ (u : Log). b < lowest two.more u.least) (sym is) (two.back b big (newly b log_before.notes one.more log_before.least one.is big) f);
       }
 
 -- ---- a text
@@ -340,7 +282,7 @@ module _ (k : CharClasses) (text : List ℕ) where
   abbrev first_mark : Ask
   first_mark = marked 0 (gap_of start.known) 0 (mark.Piece true 0) (state_of start)
 
-  each-ends : (x : Bool × ℕ) (z : Place) (s : Point) → (piece_at k x z s).value.0 ≡ true → Ends k z (piece_at k x z s).asks (piece_at k x z s).taken (piece_at k x z s).value.1 (piece_at k x z s).state
+  each-ends : (x : Bool × ℕ) (z : Place) (s : Point) → (piece_at k x z s).value.0 ≡ true → Ends (piece_at k x z s).asks (piece_at k x z s).taken (piece_at k x z s).value.1 (state_of (piece_at k x z s).state)
   each-ends x z s h = turn-ends (level_at k max_depth) is_end x z s h
 
   -- what is asked behind j pieces
@@ -384,8 +326,6 @@ module _ (k : CharClasses) (text : List ℕ) where
     late : List Ask
     is : (parsed k max_depth text).asks ≡ early ++ marked (end_at k j z0).taken gap 0 (mark.Piece (end_at k j z0).value.0 (end_at k j z0).value.1) (state_of (end_at k j z0).state) ∷ (late ++ shift (end_at k j z0).taken (asks_behind j))
     ended : (n : ℕ) → 0 < j → AllEndBy n early → AllEndBy n ((lead k z0).asks ++ asks_of (pieces k j z0))
-    ended_too : (n : ℕ) → 0 < j → AllEndBy n ((lead k z0).asks ++ asks_of (pieces k j z0)) → AllEndBy n early
-    from_too : (b : ℕ) → 0 < j → AllFrom b z0 (shift (end_at k j z0).taken (asks_behind j)) → AllFrom b z0 late
 
   boundary : (j : ℕ) → AllGo (pieces k j z0) → Boundary j
   unfolding run
@@ -395,14 +335,12 @@ module _ (k : CharClasses) (text : List ℕ) where
     late = (lead k z0).asks ++ [];
     is = whole-asks zero g;
     ended = λ n l. absurd (omega (arith, l));
-    ended_too = λ n l. absurd (omega (arith, l));
-    from_too = λ n l. absurd (omega (arith, l));
   }
   boundary (suc j) g =
       let ls = (lead k z0).asks in
       let os = pieces k (suc j) z0 in
       let e = end_at k (suc j) z0 in
-      let b = made-ends k (piece_at k) each-ends j (true, 0) z0 (lead k z0).state g in
+      let b = made-ends (piece_at k) each-ends j (true, 0) z0 (lead k z0).state g in
       let looks = shift e.taken b.looks in
       let m = marked e.taken b.gap 0 (mark.Piece e.value.0 e.value.1) (state_of e.state) in
       let rest = shift e.taken (asks_behind (suc j)) in
@@ -418,23 +356,12 @@ module _ (k : CharClasses) (text : List ℕ) where
             (let one = end-split n ls (b.early ++ looks) h in
             let two = end-split n b.early looks one.1 in
             end-both n ls (asks_of os) one.0 (subst (λ u. AllEndBy n u) (sym b.is) (end-both n b.early (looks ++ m ∷ looks) two.0 (end-both n looks (m ∷ looks) two.1 two.1))));
-        ended_too = λ n l h.
-            (let one = end-split n ls (asks_of os) h in
-            let two = end-split n b.early (looks ++ m ∷ looks) (subst (λ u. AllEndBy n u) b.is one.1) in
-            end-both n ls (b.early ++ looks) one.0 (end-both n b.early looks two.0 (end-split n looks (m ∷ looks) two.1).0));
-        from_too = λ n l f.
-            (let r = behind_pieces k (suc j) z0 in
-            let there = looks_at k (moved e.taken z0) e.state in
-            let begins = run-begins (piece_at k) e.value (moved e.taken z0) e.state there (turn-begins (level_at k max_depth) is_end e.value (moved e.taken z0) e.state) in
-            subst (λ u. AllFrom n z0 (shift e.taken u)) (sym b.there) (first-from n e.taken z0 there r.asks (shift r.taken (tail k (e.taken + r.taken) r.state z0).asks) begins f));
       }
 
   record NoteAt (j : ℕ) : Type 0 where
     told : PieceNote (log k text) text (end_at k j z0)
     reached : (front more : List ℕ) → text ≡ front ++ more → 0 < j → told.note.reach ≤ width front → AllEndBy (length front) ((lead k z0).asks ++ asks_of (pieces k j z0))
     begun : (b : ℕ) → b < lowest told.later (log k text).least → AllFrom b z0 (shift (end_at k j z0).taken (asks_behind j))
-    reached_too : (front more : List ℕ) → text ≡ front ++ more → 0 < j → AllEndBy (length front) ((lead k z0).asks ++ asks_of (pieces k j z0)) → told.note.reach ≤ width front
-    begun_too : (b : ℕ) → 0 < j → b < 2 ^ 64 - 1 → AllFrom b z0 (shift (end_at k j z0).taken (asks_behind j)) → b < lowest told.later (log k text).least
     placed : AllAt (length text) (shift (end_at k j z0).taken (asks_behind j))
 
   note-at : (j : ℕ) → AllGo (pieces k j z0) → NoteAt j
@@ -462,8 +389,6 @@ module _ (k : CharClasses) (text : List ℕ) where
         };
         reached = λ front more same l h. c.ended (length front) l (early-ends front more c.early text same (at-first (length text) c.early _ all) h);
         begun = λ n l. from-second n z0 c.late behind (b.all n (subst (λ (h : Log). n < lowest b.later h.least) log_is l));
-        reached_too = λ front more same l h. reach-back front more c.early text same (c.ended_too (length front) l h);
-        begun_too = λ n l big f. subst (λ (h : Log). n < lowest b.later h.least) (sym log_is) (b.back n big (from-both n z0 c.late behind (c.from_too n l f) f));
         placed = at-second (length text) c.late behind (at-second (length text) c.early _ all);
       }
     where
@@ -471,20 +396,16 @@ module _ (k : CharClasses) (text : List ℕ) where
       early-ends front more early t same a h =
           end-by front more early (subst (λ u. AllAt (length u) early) same a) (reach-by max_depth (width front) (start_of (front ++ more)) early no_log (subst (λ u. (logged max_depth (start_of u) no_log early).reach ≤ width front) same h)).all
 
-      reach-back : (front more : List ℕ) (early : List Ask) (t : List ℕ) → t ≡ front ++ more → AllEndBy (length front) early → (logged max_depth (start_of t) no_log early).reach ≤ width front
-      reach-back front more early t same a =
-          subst (λ u. (logged max_depth (start_of u) no_log early).reach ≤ width front) (sym same) (reach-to max_depth (width front) (start_of (front ++ more)) early no_log (omega arith) (end-to front more early a))
-
 -- ---- the law
 
 pub run-decision-law : RunDecisionLaw
 run-decision-law k front old rest i n past g h e =
     let text = front ++ (old ++ rest) in
     let z = text_with front old rest in
-    let all = go-add k (piece_at k) (each-ends k text) i n (true, 0) z (lead k z).state g h in
+    let all = go-add (piece_at k) (each-ends k text) i n (true, 0) z (lead k z).state g h in
     let one = note-at k text i g in
     let two = note-at k text (i + n) all in
-    let sum : end_at k (i + n) z ≡ both_end k i n front old rest = made-add k (piece_at k) (each-ends k text) i n (true, 0) z (lead k z).state in
+    let sum : end_at k (i + n) z ≡ both_end k i n front old rest = made-add (piece_at k) (each-ends k text) i n (true, 0) z (lead k z).state in
     let r = rest_from k i n z in
     let u = both_end k i n front old rest in
     let fe = end_at k i z in
@@ -511,6 +432,4 @@ run-decision-law k front old rest i n past g h e =
       };
       before = λ l m. one.reached front (old ++ rest) refl l m;
       after = λ l. begin-by front old rest end past (r.asks ++ shift r.taken (tail k (end + r.taken) r.state z).asks) refl (subst (λ ls. AllAt (length text) ls) asks_is two.placed) (subst (λ ls. AllFrom (width (front ++ old)) z ls) asks_is (two.begun (width (front ++ old)) l));
-      before_too = λ l m. one.reached_too front (old ++ rest) refl l m;
-      after_too = λ l big h. two.begun_too (width (front ++ old)) l big (subst (λ ls. AllFrom (width (front ++ old)) z ls) (sym asks_is) (begin-to front old rest end past (r.asks ++ shift r.taken (tail k (end + r.taken) r.state z).asks) refl h));
     }
