@@ -70,12 +70,12 @@ reach-by lv b z (marked at gap fewer m s ∷ asks) h e =
     let i = reach-by lv b z asks (with_note gap (lv - fewer) m s (moved at z) h) e in
     record { before = i.before; all = i.all }
 
-reach-to : (lv b : ℕ) (z : Place) (asks : List Ask) (h : Log) → h.reach ≤ b → AllReach b z asks → (logged lv z h asks).reach ≤ b
+pub reach-to : (lv b : ℕ) (z : Place) (asks : List Ask) (h : Log) → h.reach ≤ b → AllReach b z asks → (logged lv z h asks).reach ≤ b
 reach-to lv b z [] h e a = e
 reach-to lv b z (looked at look ∷ asks) h e a = let d = a.0 in reach-to lv b z asks (with_hull (hull_of look (moved at z)) h) (omega (arith, e, d)) a.1
 reach-to lv b z (marked at gap fewer m s ∷ asks) h e a = reach-to lv b z asks (with_note gap (lv - fewer) m s (moved at z) h) e a
 
-end-to : (front more : List ℕ) (asks : List Ask) → AllEndBy (length front) asks → AllReach (width front) (start_of (front ++ more)) asks
+pub end-to : (front more : List ℕ) (asks : List Ask) → AllEndBy (length front) asks → AllReach (width front) (start_of (front ++ more)) asks
 end-to front more [] a = tt
 end-to front more (looked at look ∷ asks) a = (far-to at look.front front more a.0, end-to front more asks a.1)
 end-to front more (marked at gap fewer m s ∷ asks) a = end-to front more asks a
@@ -103,12 +103,12 @@ AllFrom b z (looked at look ∷ asks) = (b < near look.back (moved at z)) × All
 AllFrom b z (marked at gap fewer m s ∷ asks) = AllFrom b z asks
 
 -- with the notes since
-pub record Least (lv b : ℕ) (z : Place) (h : Log) (ns : List Note) (asks : List Ask) : Type 0 where
+pub record Least (lv : ℕ) (z : Place) (h : Log) (ns : List Note) (asks : List Ask) : Type 0 where
   pub more : List Note
   pub is : (logged lv z h asks).notes ≡ Some (ns ++ more)
-  pub before : b < lowest more (logged lv z h asks).least → b < h.least
-  pub all : b < lowest more (logged lv z h asks).least → AllFrom b z asks
-  pub back : b < 2 ^ 64 - 1 → b < h.least → AllFrom b z asks → b < lowest more (logged lv z h asks).least
+  pub before : (b : ℕ) → b < lowest more (logged lv z h asks).least → b < h.least
+  pub all : (b : ℕ) → b < lowest more (logged lv z h asks).least → AllFrom b z asks
+  pub back : (b : ℕ) → b < 2 ^ 64 - 1 → b < h.least → AllFrom b z asks → b < lowest more (logged lv z h asks).least
 
 below : (b m n : ℕ) → b < min m n → (b < m) × (b < n)
 below b m n h = (omega (arith, h), omega (arith, h))
@@ -117,31 +117,31 @@ above : (b m n : ℕ) → b < m → b < n → b < min m n
 above b m n h k = omega (arith, h, k)
 
 -- behind a note nothing was looked at yet
-newly : (b : ℕ) (notes : Option (List Note)) (ns : List Note) (least : ℕ) → notes ≡ Some ns → b < 2 ^ 64 - 1 → b < least_behind notes least
+pub newly : (b : ℕ) (notes : Option (List Note)) (ns : List Note) (least : ℕ) → notes ≡ Some ns → b < 2 ^ 64 - 1 → b < least_behind notes least
 newly b notes ns least e big = subst (λ o. b < least_behind o least) (sym e) big
 
-least-by : (lv b : ℕ) (z : Place) (asks : List Ask) (h : Log) (ns : List Note) → h.notes ≡ Some ns → Least lv b z h ns asks
-least-by lv b z [] h ns e = record { more = []; is = e ∙ ap Some (sym (append-nil ns)); before = λ l. l; all = λ l. tt; back = λ big l f. l }
-least-by lv b z (looked at look ∷ asks) h ns e =
-    let i = least-by lv b z asks (with_hull (hull_of look (moved at z)) h) ns e in
+pub least-by : (lv : ℕ) (z : Place) (asks : List Ask) (h : Log) (ns : List Note) → h.notes ≡ Some ns → Least lv z h ns asks
+least-by lv z [] h ns e = record { more = []; is = e ∙ ap Some (sym (append-nil ns)); before = λ b l. l; all = λ b l. tt; back = λ b big l f. l }
+least-by lv z (looked at look ∷ asks) h ns e =
+    let i = least-by lv z asks (with_hull (hull_of look (moved at z)) h) ns e in
     record {
       more = i.more;
       is = i.is;
-      before = λ l. (below b h.least (near look.back (moved at z)) (i.before l)).0;
-      all = λ l. ((below b h.least (near look.back (moved at z)) (i.before l)).1, i.all l);
-      back = λ big l f. i.back big (above b h.least (near look.back (moved at z)) l f.0) f.1;
+      before = λ b l. (below b h.least (near look.back (moved at z)) (i.before b l)).0;
+      all = λ b l. ((below b h.least (near look.back (moved at z)) (i.before b l)).1, i.all b l);
+      back = λ b big l f. i.back b big (above b h.least (near look.back (moved at z)) l f.0) f.1;
     }
-least-by lv b z (marked at gap fewer m s ∷ asks) h ns e =
+least-by lv z (marked at gap fewer m s ∷ asks) h ns e =
     let k = with_note gap (lv - fewer) m s (moved at z) h in
     let note : Note = record { mark = m; before = position (moved at z); start = position (moved gap (moved at z)); levels = lv - fewer; state = s; reach = h.reach; least = h.least } in
-    let i = least-by lv b z asks k (ns ++ note ∷ []) (noted-more note h.notes ns e) in
+    let i = least-by lv z asks k (ns ++ note ∷ []) (noted-more note h.notes ns e) in
     let last = (logged lv z k asks).least in
     record {
       more = note ∷ i.more;
       is = i.is ∙ ap Some (append_assoc ns (note ∷ []) i.more);
-      before = λ l. (below b h.least (lowest i.more last) l).0;
-      all = λ l. i.all (below b h.least (lowest i.more last) l).1;
-      back = λ big l f. above b h.least (lowest i.more last) l (i.back big (newly b h.notes ns h.least e big) f);
+      before = λ b l. (below b h.least (lowest i.more last) l).0;
+      all = λ b l. i.all b (below b h.least (lowest i.more last) l).1;
+      back = λ b big l f. above b h.least (lowest i.more last) l (i.back b big (newly b h.notes ns h.least e big) f);
     }
 
 -- behind a stretch
@@ -160,7 +160,7 @@ begin-by front old rest end past (looked at look ∷ asks) e a f =
     (near-by look.back d (onto old (onto front [])) rest room begins, room, begin-by front old rest end past asks e a.1 f.1)
 begin-by front old rest end past (marked at gap fewer m s ∷ asks) e a f = begin-by front old rest end past asks e a f
 
-begin-to : (front old rest : List ℕ) (end past : ℕ) (asks : List Ask) → end ≡ (length front + length old) + past → AllBeginIn past rest asks → AllFrom (width (front ++ old)) (text_with front old rest) (shift end asks)
+pub begin-to : (front old rest : List ℕ) (end past : ℕ) (asks : List Ask) → end ≡ (length front + length old) + past → AllBeginIn past rest asks → AllFrom (width (front ++ old)) (text_with front old rest) (shift end asks)
 begin-to front old rest end past [] e f = tt
 begin-to front old rest end past (looked at look ∷ asks) e f =
     let d = past + at in
@@ -211,14 +211,14 @@ module _ (lv : ℕ) (z : Place) (first second third : List Ask) (at fewer end ga
   between b =
       let one = noted-by lv z first no_log [] refl in
       let two = noted-by lv z second (with_note 0 (lv - fewer) m s (moved at z) log_one) (one.more ++ note_one ∷ []) (noted-more note_one log_one.notes one.more one.is) in
-      let three = least-by lv b z third (with_note gap (lv - less) n t (moved end z) log_two) (((one.more ++ note_one ∷ []) ++ two.more) ++ note_two ∷ []) (noted-more note_two log_two.notes ((one.more ++ note_one ∷ []) ++ two.more) two.is) in
+      let three = least-by lv z third (with_note gap (lv - less) n t (moved end z) log_two) (((one.more ++ note_one ∷ []) ++ two.more) ++ note_two ∷ []) (noted-more note_two log_two.notes ((one.more ++ note_one ∷ []) ++ two.more) two.is) in
       record {
         earlier = one.more;
         inner = two.more;
         later = three.more;
         notes = three.is ∙ ap Some (append_assoc ((one.more ++ note_one ∷ []) ++ two.more) (note_two ∷ []) three.more ∙ append_assoc (one.more ++ note_one ∷ []) two.more (note_two ∷ three.more) ∙ append_assoc one.more (note_one ∷ []) (two.more ++ note_two ∷ three.more));
-        all = three.all;
-        back = λ big f. three.back big (newly b log_two.notes _ log_two.least two.is big) f;
+        all = three.all b;
+        back = λ big f. three.back b big (newly b log_two.notes _ log_two.least two.is big) f;
       }
 
 asks-are : (os bs es own cs ls : List Ask) (a c : Ask) → os ≡ bs ++ (own ++ cs) → bs ≡ es ++ a ∷ [] → cs ≡ c ∷ ls → os ≡ es ++ (a ∷ (own ++ c ∷ ls))

@@ -1,10 +1,10 @@
 -- The test of an edit inside some pieces of a text's run in bytes, by the notes of a reading.
-use Rattle.std.proofs.Common.{◌≡◌, ℕ, zero, suc, ◌+◌, ◌-◌, ◌<◌, ◌≤◌, max, min, Bool, true, false, ◌&&◌, nat_lt, List, [], ◌∷◌, ◌++◌, length, take, append_assoc, append-nil, Some, refl, ap, sym, ◌∙◌, subst, arith}
+use Rattle.std.proofs.Common.{◌≡◌, ℕ, zero, suc, ◌+◌, ◌-◌, ◌<◌, ◌≤◌, ◌^◌, max, Bool, true, false, ◌&&◌, if◌then◌else◌, nat_lt, List, [], ◌∷◌, ◌++◌, length, take, append_assoc, append-nil, Some, refl, ap, sym, ◌∙◌, subst, arith}
 use Rattle.std.proofs.lemmas.List.{map-append}
 use Rattle.typst_kinds.specs.declared.kind.SyntaxKind.{SyntaxKind}
 use Rattle.typst_lines.specs.Place.{Place, moved}
 use Rattle.typst_classes.specs.Classes.{CharClasses}
-use Rattle.typst_readers.specs.Sight.{width, position, near, hull_of}
+use Rattle.typst_readers.specs.Sight.{width, position}
 use Rattle.typst_grammar.specs.calls.Call.TheVariants.{MarkupExpr}
 use Rattle.typst_grammar.specs.calls.Mark.{Mark}
 use Rattle.typst_grammar.specs.calls.Mark.TheVariants as mark
@@ -14,8 +14,8 @@ use Rattle.typst_grammar.specs.Ask.{Ask, shift, shift_one}
 use Rattle.typst_grammar.specs.Ask.Ask.{looked, marked}
 use Rattle.typst_grammar.specs.Depth.{is_end, deeper}
 use Rattle.typst_grammar.specs.Hand.{AtHand, told, known_by}
-use Rattle.typst_grammar.specs.Log.{Log, no_log, with_hull, with_note, logged}
-use Rattle.typst_grammar.specs.Meaning.{Outcome, Meaning, Level, plain, joined, repeated, hand_of, hand_asks_of, asked, start_point, run}
+use Rattle.typst_grammar.specs.Log.{Log, no_log, with_note, logged}
+use Rattle.typst_grammar.specs.Meaning.{Outcome, Meaning, Level, plain, joined, as_last, repeated, hand_of, hand_asks_of, asked, start_point, run}
 use Rattle.typst_grammar.specs.Point.{Point, gap_of, state_of}
 use Rattle.typst_grammar.specs.Steps.{note}
 use Rattle.typst_grammar.proofs.Ends.{hand-again}
@@ -26,7 +26,7 @@ use Rattle.typst_reuse.specs.Bytes.{lowest}
 use Rattle.typst_reuse.specs.Edit.{text_with, AllEndBy}
 use Rattle.typst_reuse.specs.RunBytes.{PieceNote, both_end, RunDecisionLaw}
 use Rattle.typst_reuse.specs.Runs.{made, AllGo, End, end_of, asks_of, chain, piece_at, start, lead, pieces, end_at, end_from, rest_from, tail, whole_of, behind_pieces}
-use Rattle.typst_reuse.proofs.Bytes.{logged-append, noted-by, noted-more, reach-by, end-by, AllFrom, begin-by}
+use Rattle.typst_reuse.proofs.Bytes.{logged-append, noted-by, noted-more, AllReach, reach-by, reach-to, end-by, end-to, AllFrom, least-by, newly, begin-by, begin-to}
 use Rattle.typst_reuse.proofs.Outcomes.{shift-zero, shift-twice}
 use Rattle.typst_reuse.proofs.Root.{whole-is, within}
 use Rattle.typst_reuse.proofs.Runs.{repeated-chain, chain-state, chain-taken}
@@ -36,11 +36,10 @@ use Rattle.typst_reuse.proofs.Within.{AllAt, at-first, at-second, in-level}
 
 -- ---- where a piece ends
 
--- what was asked up to a place ends with a note of a piece between two looks at the same
-record Ends (asks : List Ask) (at : ℕ) (x : Bool × ℕ) (s : State) : Type 0 where
+-- what was asked up to a place ends with a note of a piece between these looks, asked twice
+record Ends (asks : List Ask) (at : ℕ) (x : Bool × ℕ) (s : State) (looks : List Ask) : Type 0 where
   early : List Ask
   gap : ℕ
-  looks : List Ask
   is : asks ≡ early ++ (shift at looks ++ marked at gap 0 (mark.Piece x.0 x.1) s ∷ shift at looks)
 
 module _ (l : Level) (stops : SyntaxKind → Bool) (x : Bool × ℕ) (z : Place) (s : Point) where
@@ -86,7 +85,10 @@ module _ (l : Level) (stops : SyntaxKind → Bool) (x : Bool × ℕ) (z : Place)
   unfolding run markup_turn
   stopped-is h = ap (λ (o : Outcome (Bool × (Bool × ℕ))). o.value.0) (if-true (ends stops x.1 ahead.kind) _ _ h)
 
-  gone-ends : Ends gone.asks gone.taken gone.value.1 (state_of gone.state)
+  last-is : last ≡ after
+  last-is = ap (λ t. asked (hand_of l there t) t) again ∙ again
+
+  gone-ends : Ends gone.asks gone.taken gone.value.1 (state_of gone.state) (hand_asks_of l (moved gone.taken z) gone.state)
   gone-ends =
       let looks = hand_asks_of l there after in
       let t = asked (hand_of l there after) after in
@@ -109,20 +111,20 @@ module _ (l : Level) (stops : SyntaxKind → Bool) (x : Bool × ℕ) (z : Place)
       ∙ sym (append_assoc deep.asks (shift d second) (shift d looks ++ shift_one d mk ∷ shift d looks)))
       ∙ sym (append_assoc first (deep.asks ++ shift d second) (shift d looks ++ shift_one d mk ∷ shift d looks)) in
       let at_is : d + 0 ≡ d = omega arith in
-      record {
+      let ahead_is : hand_asks_of l (moved gone.taken z) gone.state ≡ looks = ap (λ n. hand_asks_of l (moved n z) last) took ∙ ap (hand_asks_of l there) last-is in
+      subst (Ends gone.asks gone.taken gone.value.1 (state_of gone.state)) (sym ahead_is) (record {
         early = first ++ (deep.asks ++ shift d second);
         gap = gap;
-        looks = looks;
         is = all ∙ ap (λ n. (first ++ (deep.asks ++ shift d second)) ++ (shift d looks ++ marked n gap 0 (mark.Piece carried.0 carried.1) (state_of t) ∷ shift d looks)) at_is
             ∙ ap (λ n. (first ++ (deep.asks ++ shift d second)) ++ (shift n looks ++ marked n gap 0 (mark.Piece carried.0 carried.1) (state_of t) ∷ shift n looks)) (sym took);
-      }
+      })
 
   turn-by : (b : Bool) → ends stops x.1 ahead.kind ≡ b → (run l (markup_turn true stops x) z s).value.0 ≡ true
-      → (let o = run l (markup_turn true stops x) z s in Ends o.asks o.taken o.value.1 (state_of o.state))
+      → (let o = run l (markup_turn true stops x) z s in Ends o.asks o.taken o.value.1 (state_of o.state) (hand_asks_of l (moved o.taken z) o.state))
   turn-by true e h = let f : true ≡ false = sym h ∙ stopped-is e in cc
-  turn-by false e h = subst (λ (o : Outcome (Bool × (Bool × ℕ))). Ends o.asks o.taken o.value.1 (state_of o.state)) (sym (turn-is e)) gone-ends
+  turn-by false e h = subst (λ (o : Outcome (Bool × (Bool × ℕ))). Ends o.asks o.taken o.value.1 (state_of o.state) (hand_asks_of l (moved o.taken z) o.state)) (sym (turn-is e)) gone-ends
 
-  turn-ends : (run l (markup_turn true stops x) z s).value.0 ≡ true → (let o = run l (markup_turn true stops x) z s in Ends o.asks o.taken o.value.1 (state_of o.state))
+  turn-ends : (run l (markup_turn true stops x) z s).value.0 ≡ true → (let o = run l (markup_turn true stops x) z s in Ends o.asks o.taken o.value.1 (state_of o.state) (hand_asks_of l (moved o.taken z) o.state))
   turn-ends h = turn-by (ends stops x.1 ahead.kind) refl h
 
 -- ---- several pieces
@@ -131,32 +133,35 @@ first-of : (b c : Bool) → (b && c) ≡ true → b ≡ true
 first-of true c h = refl
 first-of false c h = cc
 
-later-ends : (asks ls : List Ask) (a b : ℕ) (x : Bool × ℕ) (s : State) → Ends asks b x s → Ends (ls ++ shift a asks) (a + b) x s
-later-ends asks ls a b x s e =
+later-ends : (asks ls looks : List Ask) (a b : ℕ) (x : Bool × ℕ) (s : State) → Ends asks b x s looks → Ends (ls ++ shift a asks) (a + b) x s looks
+later-ends asks ls looks a b x s e =
     let m = marked b e.gap 0 (mark.Piece x.0 x.1) s in
-    let q = shift b e.looks ++ m ∷ shift b e.looks in
+    let q = shift b looks ++ m ∷ shift b looks in
     record {
       early = ls ++ shift a e.early;
       gap = e.gap;
-      looks = e.looks;
-      is = ap (λ u. ls ++ shift a u) e.is ∙ ap (λ u. ls ++ u) (map-append (shift_one a) e.early q ∙ ap (λ u. shift a e.early ++ u) (map-append (shift_one a) (shift b e.looks) (m ∷ shift b e.looks)
-          ∙ ap (λ u. u ++ shift_one a m ∷ shift a (shift b e.looks)) (shift-twice a b e.looks) ∙ ap (λ u. shift (a + b) e.looks ++ shift_one a m ∷ u) (shift-twice a b e.looks)))
-          ∙ sym (append_assoc ls (shift a e.early) (shift (a + b) e.looks ++ shift_one a m ∷ shift (a + b) e.looks));
+      is = ap (λ u. ls ++ shift a u) e.is ∙ ap (λ u. ls ++ u) (map-append (shift_one a) e.early q ∙ ap (λ u. shift a e.early ++ u) (map-append (shift_one a) (shift b looks) (m ∷ shift b looks)
+          ∙ ap (λ u. u ++ shift_one a m ∷ shift a (shift b looks)) (shift-twice a b looks) ∙ ap (λ u. shift (a + b) looks ++ shift_one a m ∷ u) (shift-twice a b looks)))
+          ∙ sym (append_assoc ls (shift a e.early) (shift (a + b) looks ++ shift_one a m ∷ shift (a + b) looks));
     }
 
-module _ (m : Bool × ℕ → Meaning (Bool × (Bool × ℕ))) (each : (x : Bool × ℕ) (z : Place) (s : Point) → (m x z s).value.0 ≡ true → Ends (m x z s).asks (m x z s).taken (m x z s).value.1 (state_of (m x z s).state)) where
+module _ (m : Bool × ℕ → Meaning (Bool × (Bool × ℕ))) (looks : Place → Point → List Ask)
+    (each : (x : Bool × ℕ) (z : Place) (s : Point) → (m x z s).value.0 ≡ true → (let o = m x z s in Ends o.asks o.taken o.value.1 (state_of o.state) (looks (moved o.taken z) o.state))) where
   -- the last of several pieces ends so
-  made-ends : (n : ℕ) (x : Bool × ℕ) (z : Place) (s : Point) → AllGo (made m (suc n) x z s) → (let os = made m (suc n) x z s in let e = end_of x s os in Ends (asks_of os) e.taken e.value (state_of e.state))
+  made-ends : (n : ℕ) (x : Bool × ℕ) (z : Place) (s : Point) → AllGo (made m (suc n) x z s) → (let os = made m (suc n) x z s in let e = end_of x s os in Ends (asks_of os) e.taken e.value (state_of e.state) (looks (moved e.taken z) e.state))
   made-ends zero x z s g =
       let o = m x z s in
       let e = each x z s (first-of o.value.0 (nat_lt 0 o.taken) g.0) in
       let n : o.taken + 0 ≡ o.taken = omega arith in
-      subst (λ k. Ends (o.asks ++ []) k o.value.1 (state_of o.state)) (sym n) (subst (λ ls. Ends ls o.taken o.value.1 (state_of o.state)) (sym (append-nil o.asks)) e)
+      subst (λ k. Ends (o.asks ++ []) k o.value.1 (state_of o.state) (looks (moved k z) o.state)) (sym n)
+      (subst (λ ls. Ends ls o.taken o.value.1 (state_of o.state) (looks (moved o.taken z) o.state)) (sym (append-nil o.asks)) e)
   made-ends (suc n) x z s g =
       let o = m x z s in
       let os = made m (suc n) o.value.1 (moved o.taken z) o.state in
       let e = end_of o.value.1 o.state os in
-      later-ends (asks_of os) o.asks o.taken e.taken e.value (state_of e.state) (made-ends n o.value.1 (moved o.taken z) o.state g.1)
+      let place = moved-sum o.taken e.taken z in
+      subst (λ w. Ends (o.asks ++ shift o.taken (asks_of os)) (o.taken + e.taken) e.value (state_of e.state) (looks w e.state)) (sym place)
+      (later-ends (asks_of os) o.asks (looks (moved e.taken (moved o.taken z)) e.state) o.taken e.taken e.value (state_of e.state) (made-ends n o.value.1 (moved o.taken z) o.state g.1))
 
   -- pieces behind others
   made-add : (i n : ℕ) (x : Bool × ℕ) (z : Place) (s : Point) → (let e = end_of x s (made m i x z s) in let f = end_of e.value e.state (made m n e.value (moved e.taken z) e.state) in
@@ -195,6 +200,38 @@ chain-asks x s (o ∷ os) q =
     ∙ ap (λ u. o.asks ++ u) (map-append (shift_one o.taken) (asks_of os) (shift e.taken q.asks) ∙ ap (λ u. shift o.taken (asks_of os) ++ u) (shift-twice o.taken e.taken q.asks))
     ∙ sym (append_assoc o.asks (shift o.taken (asks_of os)) (shift (o.taken + e.taken) q.asks))
 
+-- ---- what is asked first
+
+record Begins (ls asks : List Ask) : Type 0 where
+  more : List Ask
+  is : asks ≡ ls ++ more
+
+begins-append : (ls asks ks : List Ask) → Begins ls asks → Begins ls (asks ++ ks)
+begins-append ls asks ks b = record { more = b.more ++ ks; is = ap (λ u. u ++ ks) b.is ∙ append_assoc ls b.more ks }
+
+begins-shift : (n : ℕ) (ls asks : List Ask) → Begins ls asks → Begins (shift n ls) (shift n asks)
+begins-shift n ls asks b = record { more = shift n b.more; is = ap (shift n) b.is ∙ map-append (shift_one n) ls b.more }
+
+begins-either : {A : Type 0} (b : Bool) (ls : List Ask) (o q : Outcome A) → Begins ls o.asks → Begins ls q.asks → Begins ls (if b then o else q).asks
+begins-either true ls o q h i = h
+begins-either false ls o q h i = i
+
+-- pieces begin by asking for the token at hand
+module _ (k : CharClasses) where
+  abbrev looks_at : Place → Point → List Ask
+  looks_at z s = hand_asks_of (level_at k max_depth) z s
+
+  piece-begins : (x : Bool × ℕ) (z : Place) (s : Point) → Begins (looks_at z s) (piece_at k x z s).asks
+  unfolding run markup_turn
+  piece-begins x z s = record { more = _; is = refl }
+
+  pieces-begin : (x : Bool × ℕ) (z : Place) (s : Point) → Begins (looks_at z s) (repeated (piece_at k) x z s).asks
+  unfolding repeated
+  pieces-begin x z s =
+      let o = piece_at k x z s in
+      let b = piece-begins x z s in
+      begins-either (o.value.0 && nat_lt 0 o.taken) (looks_at z s) _ (as_last o) (begins-append (looks_at z s) o.asks _ b) b
+
 -- ---- one note of a log
 
 end-split : (n : ℕ) (ls ks : List Ask) → AllEndBy n (ls ++ ks) → AllEndBy n ls × AllEndBy n ks
@@ -207,39 +244,20 @@ end-both n [] ks h i = i
 end-both n (looked at look ∷ ls) ks h i = (h.0, end-both n ls ks h.1 i)
 end-both n (marked at gap fewer m s ∷ ls) ks h i = end-both n ls ks h i
 
+from-first : (b : ℕ) (z : Place) (ls ks : List Ask) → AllFrom b z (ls ++ ks) → AllFrom b z ls
+from-first b z [] ks h = tt
+from-first b z (looked at look ∷ ls) ks h = (h.0, from-first b z ls ks h.1)
+from-first b z (marked at gap fewer m s ∷ ls) ks h = from-first b z ls ks h
+
+from-both : (b : ℕ) (z : Place) (ls ks : List Ask) → AllFrom b z ls → AllFrom b z ks → AllFrom b z (ls ++ ks)
+from-both b z [] ks h i = i
+from-both b z (looked at look ∷ ls) ks h i = (h.0, from-both b z ls ks h.1 i)
+from-both b z (marked at gap fewer m s ∷ ls) ks h i = from-both b z ls ks h i
+
 from-second : (b : ℕ) (z : Place) (ls ks : List Ask) → AllFrom b z (ls ++ ks) → AllFrom b z ks
 from-second b z [] ks h = h
 from-second b z (looked at look ∷ ls) ks h = from-second b z ls ks h.1
 from-second b z (marked at gap fewer m s ∷ ls) ks h = from-second b z ls ks h
-
--- where looks begin, with the notes since, whatever they are compared with
-record Later (lv : ℕ) (z : Place) (h : Log) (ns : List Note) (asks : List Ask) : Type 0 where
-  more : List Note
-  is : (logged lv z h asks).notes ≡ Some (ns ++ more)
-  all : (b : ℕ) → b < lowest more (logged lv z h asks).least → (b < h.least) × AllFrom b z asks
-
-below : (b m n : ℕ) → b < min m n → (b < m) × (b < n)
-below b m n h = (omega (arith, h), omega (arith, h))
-
-later-by : (lv : ℕ) (z : Place) (asks : List Ask) (h : Log) (ns : List Note) → h.notes ≡ Some ns → Later lv z h ns asks
-later-by lv z [] h ns e = record { more = []; is = e ∙ ap Some (sym (append-nil ns)); all = λ b l. (l, tt) }
-later-by lv z (looked at look ∷ asks) h ns e =
-    let i = later-by lv z asks (with_hull (hull_of look (moved at z)) h) ns e in
-    record {
-      more = i.more;
-      is = i.is;
-      all = λ b l. (let j = i.all b l in let k = below b h.least (near look.back (moved at z)) j.0 in (k.0, (k.1, j.1)));
-    }
-later-by lv z (marked at gap fewer m s ∷ asks) h ns e =
-    let k = with_note gap (lv - fewer) m s (moved at z) h in
-    let note : Note = record { mark = m; before = position (moved at z); start = position (moved gap (moved at z)); levels = lv - fewer; state = s; reach = h.reach; least = h.least } in
-    let i = later-by lv z asks k (ns ++ note ∷ []) (noted-more note h.notes ns e) in
-    let last = (logged lv z k asks).least in
-    record {
-      more = note ∷ i.more;
-      is = i.is ∙ ap Some (append_assoc ns (note ∷ []) i.more);
-      all = λ b l. (let j = below b h.least (lowest i.more last) l in (j.0, (i.all b j.1).1));
-    }
 
 module _ (lv : ℕ) (z : Place) (ls ks : List Ask) (at gap : ℕ) (m : Mark) (s : State) where
   abbrev log_before : Log
@@ -256,6 +274,7 @@ module _ (lv : ℕ) (z : Place) (ls ks : List Ask) (at gap : ℕ) (m : Mark) (s 
     later : List Note
     notes : log_all.notes ≡ Some (earlier ++ the_note ∷ later)
     all : (b : ℕ) → b < lowest later log_all.least → AllFrom b z ks
+    back : (b : ℕ) → b < 2 ^ 64 - 1 → AllFrom b z ks → b < lowest later log_all.least
 
   -- the notes behind it, whatever they are compared with
   one-note : OneNote
@@ -265,12 +284,13 @@ module _ (lv : ℕ) (z : Place) (ls ks : List Ask) (at gap : ℕ) (m : Mark) (s 
       let ns = one.more ++ the_note ∷ [] in
       let is : log_all ≡ logged lv z h ks = logged-append lv z no_log ls (marked at gap 0 m s ∷ ks) in
       let kept : h.notes ≡ Some ns = noted-more the_note log_before.notes one.more one.is in
-      let two = later-by lv z ks h ns kept in
+      let two = least-by lv z ks h ns kept in
       record {
         earlier = one.more;
         later = two.more;
         notes = ap (λ (u : Log). u.notes) is ∙ two.is ∙ ap Some (append_assoc one.more (the_note ∷ []) two.more);
-        all = λ b l. (two.all b (subst (λ (u : Log). b < lowest two.more u.least) is l)).1;
+        all = λ b l. two.all b (subst (λ (u : Log). b < lowest two.more u.least) is l);
+        back = λ b big f. subst (λ (u : Log). b < lowest two.more u.least) (sym is) (two.back b big (newly b log_before.notes one.more log_before.least one.is big) f);
       }
 
 -- ---- a text
@@ -282,7 +302,7 @@ module _ (k : CharClasses) (text : List ℕ) where
   abbrev first_mark : Ask
   first_mark = marked 0 (gap_of start.known) 0 (mark.Piece true 0) (state_of start)
 
-  each-ends : (x : Bool × ℕ) (z : Place) (s : Point) → (piece_at k x z s).value.0 ≡ true → Ends (piece_at k x z s).asks (piece_at k x z s).taken (piece_at k x z s).value.1 (state_of (piece_at k x z s).state)
+  each-ends : (x : Bool × ℕ) (z : Place) (s : Point) → (piece_at k x z s).value.0 ≡ true → (let o = piece_at k x z s in Ends o.asks o.taken o.value.1 (state_of o.state) (looks_at k (moved o.taken z) o.state))
   each-ends x z s h = turn-ends (level_at k max_depth) is_end x z s h
 
   -- what is asked behind j pieces
@@ -326,6 +346,8 @@ module _ (k : CharClasses) (text : List ℕ) where
     late : List Ask
     is : (parsed k max_depth text).asks ≡ early ++ marked (end_at k j z0).taken gap 0 (mark.Piece (end_at k j z0).value.0 (end_at k j z0).value.1) (state_of (end_at k j z0).state) ∷ (late ++ shift (end_at k j z0).taken (asks_behind j))
     ended : (n : ℕ) → 0 < j → AllEndBy n early → AllEndBy n ((lead k z0).asks ++ asks_of (pieces k j z0))
+    ends_too : (n : ℕ) → (0 < j → AllEndBy n ((lead k z0).asks ++ asks_of (pieces k j z0))) → AllEndBy n early
+    late_from : (b : ℕ) → 0 < j → AllFrom b z0 (shift (end_at k j z0).taken (asks_behind j)) → AllFrom b z0 late
 
   boundary : (j : ℕ) → AllGo (pieces k j z0) → Boundary j
   unfolding run
@@ -335,13 +357,18 @@ module _ (k : CharClasses) (text : List ℕ) where
     late = (lead k z0).asks ++ [];
     is = whole-asks zero g;
     ended = λ n l. absurd (omega (arith, l));
+    ends_too = λ n h. tt;
+    late_from = λ b l. absurd (omega (arith, l));
   }
   boundary (suc j) g =
       let ls = (lead k z0).asks in
       let os = pieces k (suc j) z0 in
       let e = end_at k (suc j) z0 in
-      let b = made-ends (piece_at k) each-ends j (true, 0) z0 (lead k z0).state g in
-      let looks = shift e.taken b.looks in
+      let b = made-ends (piece_at k) (looks_at k) each-ends j (true, 0) z0 (lead k z0).state g in
+      let first = looks_at k (moved e.taken z0) e.state in
+      let looks = shift e.taken first in
+      let r = behind_pieces k (suc j) z0 in
+      let next = begins-shift e.taken first (asks_behind (suc j)) (begins-append first r.asks _ (pieces-begin k e.value (moved e.taken z0) e.state)) in
       let m = marked e.taken b.gap 0 (mark.Piece e.value.0 e.value.1) (state_of e.state) in
       let rest = shift e.taken (asks_behind (suc j)) in
       let front = first_mark ∷ (ls ++ (b.early ++ looks)) in
@@ -356,12 +383,19 @@ module _ (k : CharClasses) (text : List ℕ) where
             (let one = end-split n ls (b.early ++ looks) h in
             let two = end-split n b.early looks one.1 in
             end-both n ls (asks_of os) one.0 (subst (λ u. AllEndBy n u) (sym b.is) (end-both n b.early (looks ++ m ∷ looks) two.0 (end-both n looks (m ∷ looks) two.1 two.1))));
+        ends_too = λ n h.
+            (let one = end-split n ls (asks_of os) (h (omega arith)) in
+            let two = end-split n b.early (looks ++ m ∷ looks) (subst (λ u. AllEndBy n u) b.is one.1) in
+            end-both n ls (b.early ++ looks) one.0 (end-both n b.early looks two.0 (end-split n looks (m ∷ looks) two.1).0));
+        late_from = λ n l h. from-first n z0 looks next.more (subst (λ u. AllFrom n z0 u) next.is h);
       }
 
   record NoteAt (j : ℕ) : Type 0 where
     told : PieceNote (log k text) text (end_at k j z0)
     reached : (front more : List ℕ) → text ≡ front ++ more → 0 < j → told.note.reach ≤ width front → AllEndBy (length front) ((lead k z0).asks ++ asks_of (pieces k j z0))
+    reached_too : (front more : List ℕ) → text ≡ front ++ more → (0 < j → AllEndBy (length front) ((lead k z0).asks ++ asks_of (pieces k j z0))) → told.note.reach ≤ width front
     begun : (b : ℕ) → b < lowest told.later (log k text).least → AllFrom b z0 (shift (end_at k j z0).taken (asks_behind j))
+    begun_too : (b : ℕ) → 0 < j → b < 2 ^ 64 - 1 → AllFrom b z0 (shift (end_at k j z0).taken (asks_behind j)) → b < lowest told.later (log k text).least
     placed : AllAt (length text) (shift (end_at k j z0).taken (asks_behind j))
 
   note-at : (j : ℕ) → AllGo (pieces k j z0) → NoteAt j
@@ -388,6 +422,9 @@ module _ (k : CharClasses) (text : List ℕ) where
           state = refl;
         };
         reached = λ front more same l h. c.ended (length front) l (early-ends front more c.early text same (at-first (length text) c.early _ all) h);
+        reached_too = λ front more same h. reach-to max_depth (width front) z0 c.early no_log (omega arith)
+            (subst (λ u. AllReach (width front) (start_of u) c.early) (sym same) (end-to front more c.early (c.ends_too (length front) h)));
+        begun_too = λ n l big f. subst (λ (h : Log). n < lowest b.later h.least) (sym log_is) (b.back n big (from-both n z0 c.late behind (c.late_from n l f) f));
         begun = λ n l. from-second n z0 c.late behind (b.all n (subst (λ (h : Log). n < lowest b.later h.least) log_is l));
         placed = at-second (length text) c.late behind (at-second (length text) c.early _ all);
       }
@@ -402,10 +439,10 @@ pub run-decision-law : RunDecisionLaw
 run-decision-law k front old rest i n past g h e =
     let text = front ++ (old ++ rest) in
     let z = text_with front old rest in
-    let all = go-add (piece_at k) (each-ends k text) i n (true, 0) z (lead k z).state g h in
+    let all = go-add (piece_at k) (looks_at k) (each-ends k text) i n (true, 0) z (lead k z).state g h in
     let one = note-at k text i g in
     let two = note-at k text (i + n) all in
-    let sum : end_at k (i + n) z ≡ both_end k i n front old rest = made-add (piece_at k) (each-ends k text) i n (true, 0) z (lead k z).state in
+    let sum : end_at k (i + n) z ≡ both_end k i n front old rest = made-add (piece_at k) (looks_at k) (each-ends k text) i n (true, 0) z (lead k z).state in
     let r = rest_from k i n z in
     let u = both_end k i n front old rest in
     let fe = end_at k i z in
@@ -431,5 +468,8 @@ run-decision-law k front old rest i n past g h e =
         state = t.state ∙ ap (λ (v : End (Bool × ℕ)). state_of v.state) sum;
       };
       before = λ l m. one.reached front (old ++ rest) refl l m;
+      before_too = λ m. one.reached_too front (old ++ rest) refl m;
+      after_too = λ l big m. two.begun_too (width (front ++ old)) l big
+          (subst (λ ls. AllFrom (width (front ++ old)) z ls) (sym asks_is) (begin-to front old rest end past (r.asks ++ shift r.taken (tail k (end + r.taken) r.state z).asks) refl m));
       after = λ l. begin-by front old rest end past (r.asks ++ shift r.taken (tail k (end + r.taken) r.state z).asks) refl (subst (λ ls. AllAt (length text) ls) asks_is two.placed) (subst (λ ls. AllFrom (width (front ++ old)) z ls) asks_is (two.begun (width (front ++ old)) l));
     }

@@ -1,5 +1,5 @@
 -- The test of an edit inside some pieces of a text's run in bytes, by the notes of a reading.
-use Rattle.std.specs.Prelude.{◌≡◌, ℕ, ◌+◌, ◌<◌, ◌≤◌, Bool, List, ◌∷◌, ◌++◌, length, take, Some}
+use Rattle.std.specs.Prelude.{◌≡◌, ℕ, ◌+◌, ◌-◌, ◌<◌, ◌≤◌, ◌^◌, Bool, List, ◌∷◌, ◌++◌, length, take, Some}
 use Rattle.typst_classes.specs.Classes.{CharClasses}
 use Rattle.typst_readers.specs.Sight.{width}
 use Rattle.typst_grammar.specs.calls.Mark.TheVariants as mark
@@ -38,8 +38,14 @@ pub record DecidedRun (k : CharClasses) (front old rest : List ℕ) (i n past : 
   pub after : width (front ++ old) < lowest ends.later (log k (front ++ (old ++ rest))).least
       → (let r = rest_from k i n (text_with front old rest) in
       AllBeginIn past rest (r.asks ++ shift r.taken (tail k (((length front + length old) + past) + r.taken) r.state (text_with front old rest)).asks))
+  -- and the other way round: before the first piece nothing is asked of the looks, and the text is one that a machine word counts
+  pub before_too : (0 < i → AllEndBy (length front) ((lead k (text_with front old rest)).asks ++ asks_of (pieces k i (text_with front old rest)))) → begins.note.reach ≤ width front
+  pub after_too : 0 < i + n → width (front ++ old) < 2 ^ 64 - 1
+      → (let r = rest_from k i n (text_with front old rest) in
+      AllBeginIn past rest (r.asks ++ shift r.taken (tail k (((length front + length old) + past) + r.taken) r.state (text_with front old rest)).asks))
+      → width (front ++ old) < lowest ends.later (log k (front ++ (old ++ rest))).least
 
--- The law of the decision for runs: where pieces of a text's run begin and end stand notes, whose numbers decide what was looked at before them and behind them.
+-- The law of the decision for runs: where pieces of a text's run begin and end stand notes, whose numbers say exactly whether what was looked at before them and behind them passes the test.
 abbrev pub RunDecisionLaw : Type 0
 RunDecisionLaw = (k : CharClasses) (front old rest : List ℕ) (i n past : ℕ) → AllGo (pieces k i (text_with front old rest)) → AllGo (pieces_from k i n (text_with front old rest))
     → (end_at k i (text_with front old rest)).taken + (end_from k i n (text_with front old rest)).taken ≡ (length front + length old) + past → DecidedRun k front old rest i n past

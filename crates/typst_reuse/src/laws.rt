@@ -60,7 +60,7 @@ pub fn joint_law()
 /// Each block of a text has two notes in its log, where it begins and where it ends. Two numbers of
 /// them say exactly whether what the block law asks of looks holds: where all looks before the first
 /// end, and where those behind the second begin, in bytes beside the ends of the replaced stretch. A note stands
-/// where each piece of a text's run begins, too, and decides the same of what the run law asks.
+/// where each piece of a text's run begins, too, and says as exactly whether what the run law asks of looks holds.
 pub fn decision_law()
     ensures blocks { DecisionLaw }
     ensures pieces { RunDecisionLaw }
