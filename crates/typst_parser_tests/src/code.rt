@@ -1,6 +1,6 @@
 //! What of code needs code: depth, refused memory.
 
-use crate::trees::{are_one, is_too_deep, lowest, repeated};
+use crate::trees::{are_one, is_too_deep, lowest, repeated, stops_between};
 use std::alloc::{AllocError, Global};
 use typst_parser::{SyntaxNode, UnicodeClasses, parse_code};
 
@@ -10,24 +10,45 @@ fn tree(alloc: Global, part: &str, count: usize, rest: &str) -> Result<SyntaxNod
     parse_code(alloc, text.as_str(), &UnicodeClasses)
 }
 
-/// Whether the node is an `a` without an error.
-fn is_name(node: &SyntaxNode) -> bool {
-    node.leaf_text() == "a" && node.diagnostics().is_empty()
+/// Whether an `a` behind so many such parts is a name, and behind one more an error of too great a
+/// depth.
+fn stops_at_limit(alloc: Global, (part, fits, deep): Limit) -> Result<bool, AllocError> {
+    Ok(stops_between(
+        &tree(alloc, part, fits, "a")?,
+        &tree(alloc, part, deep, "a")?,
+    ))
 }
 
-/// Whether an `a` behind 255 such parts is a name, and behind 256 an error of too great a depth.
-fn stops_at_limit(alloc: Global, part: &str) -> Result<bool, AllocError> {
-    let fits = tree(alloc, part, 255, "a")?;
-    let deep = tree(alloc, part, 256, "a")?;
-    let ((_, name), (_, error)) = (lowest(&fits), lowest(&deep));
-    Ok(is_name(name) && is_too_deep(error, "a"))
-}
+/// A part, how many of it fit, and one more.
+type Limit = (&'static str, usize, usize);
+
+/// What is counted once, and content with a hash in it, which is counted twice.
+const LIMITS: [Limit; 6] = [
+    ("(", 255, 256),
+    ("{", 255, 256),
+    ("-", 255, 256),
+    ("f(", 255, 256),
+    ("a=", 255, 256),
+    ("[#", 127, 128),
+];
 
 #[test]
 fn stops_at_a_depth_of_code(rt: HostRuntime) {
-    for part in ["(", "{", "-", "f(", "a="] {
-        assert!(rt; stops_at_limit(rt.alloc(), part) == Ok(true));
+    for limit in LIMITS {
+        assert!(rt; stops_at_limit(rt.alloc(), limit) == Ok(true));
     }
+}
+
+/// Whether behind 256 signs an empty error says that nothing more fits.
+fn ends_at_limit(alloc: Global) -> Result<bool, AllocError> {
+    let root = tree(alloc, "-", 256, "")?;
+    let (steps, error) = lowest(&root);
+    Ok(steps == 257 && is_too_deep(error, ""))
+}
+
+#[test]
+fn ends_at_a_depth_of_code(rt: HostRuntime) {
+    assert!(rt; ends_at_limit(rt.alloc()) == Ok(true));
 }
 
 /// How many nodes the tree of 257 parts and the rest has.

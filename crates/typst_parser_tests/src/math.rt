@@ -1,8 +1,26 @@
-//! What of formulas needs code: refused memory.
+//! What of formulas needs code: depth, refused memory.
 
-use crate::trees::are_one;
-use std::alloc::Global;
-use typst_parser::{UnicodeClasses, parse_math};
+use crate::trees::{are_one, repeated, stops_between};
+use std::alloc::{AllocError, Global};
+use typst_parser::{SyntaxNode, UnicodeClasses, parse_math};
+
+/// The tree of so many times one part, and then an `a`.
+fn tree(alloc: Global, part: &str, count: usize) -> Result<SyntaxNode, AllocError> {
+    let text = repeated(alloc, part, count, "a")?;
+    parse_math(alloc, text.as_str(), &UnicodeClasses)
+}
+
+/// Whether an `a` behind 255 such parts fits, and behind 256 it lies too deep.
+fn stops_at_limit(alloc: Global, part: &str) -> Result<bool, AllocError> {
+    Ok(stops_between(&tree(alloc, part, 255)?, &tree(alloc, part, 256)?))
+}
+
+#[test]
+fn stops_at_a_depth_of_formulas(rt: HostRuntime) {
+    for part in ["(", "√", "f(", "sin(", "a_", "a^"] {
+        assert!(rt; stops_at_limit(rt.alloc(), part) == Ok(true));
+    }
+}
 
 /// Whether parsing gives the tree, also where memory was refused once.
 fn gives_again(alloc: Global, text: &str) -> bool {

@@ -70,6 +70,28 @@ pub(crate) fn is_too_deep(node: &SyntaxNode, text: &str) -> bool {
     }
 }
 
+/// Whether the lowest node of the first tree is an `a` without an error, and that of the second one
+/// an `a` that lies too deep.
+pub(crate) fn stops_between(fits: &SyntaxNode, deep: &SyntaxNode) -> bool {
+    let ((_, name), (_, error)) = (lowest(fits), lowest(deep));
+    name.leaf_text() == "a" && name.diagnostics().is_empty() && is_too_deep(error, "a")
+}
+
+/// Whether behind a hash 255 of 300 parens are nodes of their own, and the others are one leaf.
+fn leaves_rest_unread(alloc: Global) -> Result<bool, AllocError> {
+    let parens = repeated(alloc, "(", 300, "")?;
+    let text = repeated(alloc, "#", 1, parens.as_str())?;
+    let rest = repeated(alloc, "(", 45, "")?;
+    let root = parse(alloc, text.as_str(), &UnicodeClasses)?;
+    let (steps, error) = lowest(&root);
+    Ok(steps == 256 && is_too_deep(error, rest.as_str()))
+}
+
+#[test]
+fn leaves_unread_what_is_too_deep(rt: HostRuntime) {
+    assert!(rt; leaves_rest_unread(rt.alloc()) == Ok(true));
+}
+
 /// Whether behind 256 items the rest is one leaf that lies too deep, 513 steps down.
 fn stops_at(alloc: Global, rest: &str) -> Result<bool, AllocError> {
     let text = repeated(alloc, "- ", 256, rest)?;
