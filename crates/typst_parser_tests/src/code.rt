@@ -51,6 +51,43 @@ fn ends_at_a_depth_of_code(rt: HostRuntime) {
     assert!(rt; ends_at_limit(rt.alloc()) == Ok(true));
 }
 
+/// The first child, or the second one where the first is a leaf that others follow.
+fn first_inside(node: &SyntaxNode) -> Option<&SyntaxNode> {
+    match node.children() {
+        [] => None,
+        [only] => Some(only),
+        [first, second, ..] => Some(if first.is_inner() { first } else { second }),
+    }
+}
+
+/// Goes down along these children, and gives the node where it ends.
+fn innermost(root: &SyntaxNode) -> &SyntaxNode {
+    let mut node = root;
+    for _ in 0..10_000 {
+        match first_inside(node) {
+            None => return node,
+            Some(kid) => node = kid,
+        }
+    }
+    node
+}
+
+/// Whether in so many parens a parameter lies too deep. It stands in a list that is assigned to, so
+/// it is read a second time, one level deeper.
+fn is_parameter_too_deep(alloc: Global, parens: usize) -> Result<bool, AllocError> {
+    let close = repeated(alloc, ")", parens, "")?;
+    let inside = repeated(alloc, "(f((x) => y), b) = c", 1, close.as_str())?;
+    let root = tree(alloc, "(", parens, inside.as_str())?;
+    let parameter = innermost(&root);
+    Ok(is_too_deep(parameter, "x"))
+}
+
+#[test]
+fn reads_again_one_level_deeper(rt: HostRuntime) {
+    assert!(rt; is_parameter_too_deep(rt.alloc(), 250) == Ok(false));
+    assert!(rt; is_parameter_too_deep(rt.alloc(), 251) == Ok(true));
+}
+
 /// How many nodes the tree of 257 parts and the rest has.
 fn count(alloc: Global, part: &str, rest: &str) -> Result<usize, AllocError> {
     Ok(tree(alloc, part, 257, rest)?.descendants())
