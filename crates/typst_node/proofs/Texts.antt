@@ -1,5 +1,5 @@
 -- The text of a tree whose kind, message or hints changed is the text that it was.
-use Rattle.std.proofs.Common.{◌≡◌, ℕ, Bool, true, false, if◌then◌else◌, List, [], ◌∷◌, None, refl, append-nil}
+use Rattle.std.proofs.Common.{◌≡◌, ℕ, List, [], ◌∷◌, None, refl, append-nil}
 use Rattle.std.proofs.lemmas.Bool.{cond_both}
 use Rattle.typst_kinds.specs.Kinds.{is_error}
 use Rattle.typst_kinds.specs.Names.{name_of}

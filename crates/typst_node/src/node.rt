@@ -21,7 +21,8 @@ pub struct SyntaxNode {
 
 impl Model for SyntaxNode {
     ghost use Rattle.std.specs.Prelude.{◌≡◌, length};
-    ghost use Rattle.typst_node.specs.Tree.{Tree, tree_code, forest, nodes, text_of, saturated, most_le-count};
+    ghost use Rattle.typst_node_data.specs.Head.{kept};
+    ghost use Rattle.typst_node.specs.Tree.{Tree, tree_code, forest, nodes, text_of, most_le-count};
     ghost use Rattle.typst_node.specs.Order.{IsWhole};
     ghost use Rattle.std.proofs.Common.{arith};
 
@@ -31,7 +32,7 @@ impl Model for SyntaxNode {
 
     ghost view = { λ a. record { head = a.own.head; kids = forest a.kids.items } };
 
-    ghost invariant = { λ a. (a.own.len ≡ saturated (length (text_of (record { head = a.own.head; kids = forest a.kids.items })))) × (a.own.descendants ≡ saturated (nodes (record { head = a.own.head; kids = forest a.kids.items }))) × IsWhole (record { head = a.own.head; kids = forest a.kids.items }) };
+    ghost invariant = { λ a. (a.own.len ≡ kept (length (text_of (record { head = a.own.head; kids = forest a.kids.items })))) × (a.own.descendants ≡ kept (nodes (record { head = a.own.head; kids = forest a.kids.items }))) × IsWhole (record { head = a.own.head; kids = forest a.kids.items }) };
 
     ghost size = { nodes };
 
@@ -111,17 +112,55 @@ impl SyntaxNode {
     }
 
     /// The length of the node's text in bytes, or the largest `usize` where it is longer.
+    #[cycle(len)]
     pub fn len(&self) -> usize
         ensures { result ≡ saturated (length (text_of self.now)) }
     {
-        self.own.len()
+        let kept = self.own.len();
+        if kept < Own::MOST {
+            kept
+        } else {
+            self.added_len()
+        }
+    }
+
+    /// The same, added up from the children.
+    #[cycle(len)]
+    #[cold]
+    fn added_len(&self) -> usize
+        ensures { result ≡ saturated (length (text_of self.now)) }
+    {
+        let mut len = self.leaf_text().len();
+        for kid in &self.kids {
+            len = len.saturating_add(kid.len());
+        }
+        len
     }
 
     /// How many nodes the tree has, this one counted, or the largest `usize` where they are more.
+    #[cycle(descendants)]
     pub fn descendants(&self) -> usize
         ensures { result ≡ saturated (nodes self.now) }
     {
-        self.own.descendants()
+        let kept = self.own.descendants();
+        if kept < Own::MOST {
+            kept
+        } else {
+            self.added_descendants()
+        }
+    }
+
+    /// The same, added up from the children.
+    #[cycle(descendants)]
+    #[cold]
+    fn added_descendants(&self) -> usize
+        ensures { result ≡ saturated (nodes self.now) }
+    {
+        let mut descendants: usize = 1;
+        for kid in &self.kids {
+            descendants = descendants.saturating_add(kid.descendants());
+        }
+        descendants
     }
 
     /// The node's kind.
@@ -142,7 +181,7 @@ impl SyntaxNode {
     pub fn is_empty(&self) -> bool
         ensures { IsTrue result ↔ (text_of self.now ≡ []) }
     {
-        self.len() == 0
+        self.own.len() == 0
     }
 
     /// Whether it is an inner node.

@@ -1,4 +1,5 @@
 ghost use Rattle.std.specs.Prelude.{◌≡◌, ◌↔◌, ℕ, ◌+◌, ◌-◌, ◌*◌, ◌^◌, ◌<◌, ◌≤◌, ◌++◌, length, slice_range, Some, None, IfSome, OnErr, OnOk, IfErr, IsTrue, false, [], reverse, vec_len};
+ghost use Rattle.typst_node_data.specs.Head.{kept};
 ghost use Rattle.typst_node.specs.Tree.{forest, joined, count, saturated};
 ghost use Rattle.typst_node.specs.Order.{IsWholeForest, IsNumbered, AreInOrder, numbers_of};
 ghost use Rattle.typst_node.specs.Same.{front};
@@ -264,7 +265,7 @@ fn swap_children(
 /// Counts the text and the nodes of an inner node anew, after its children changed.
 fn renew(own: &mut Own, kids: &[SyntaxNode])
     requires { own.old.head.is_inner ≡ false → 1 < own.old.descendants }
-    ensures counts { own.new ≡ record { head = own.old.head; len = saturated (length (own.old.head.text ++ joined (forest kids.now))); descendants = saturated (1 + count (forest kids.now)) } }
+    ensures counts { own.new ≡ record { head = own.old.head; len = kept (length (own.old.head.text ++ joined (forest kids.now))); descendants = kept (1 + count (forest kids.now)) } }
     ensures whole { IsWholeForest (forest kids.now) }
 {
     let (len, below) = totals(kids);

@@ -1,5 +1,5 @@
 -- What a node is without its children.
-use Rattle.std.specs.Prelude.{ℕ, Bool, true, false, List, [], ◌∷◌, ◌++◌, None, length, refl, if◌then◌else◌}
+use Rattle.std.specs.Prelude.{ℕ, ◌-◌, ◌^◌, min, Bool, true, false, List, [], ◌∷◌, ◌++◌, None, length, refl, if◌then◌else◌}
 use Rattle.std.specs.Coded.{Coded, code_by, coded×, coded_ℕ, coded_bool, coded_list, coded_option}
 use Rattle.typst_kinds.specs.Span.{SpanValue, number_of}
 use Rattle.typst_kinds.specs.declared.kind.SyntaxKind.{SyntaxKind}
@@ -24,7 +24,7 @@ head_code =
     (λ p. record { kind = p.0; is_inner = p.1.0; text = p.1.1.0; span = p.1.1.1.0; upper = p.1.1.1.1.0; diagnostics = p.1.1.1.1.1 })
     (λ _. refl)
 
--- what a node keeps beside its children: its head, and the length of its text and the count of its nodes
+-- what a node keeps beside its children: its head, and the length of its text and the count of its nodes as `kept` says
 pub record Own : Type 0 where
   pub head : Head
   pub len : ℕ
@@ -60,9 +60,13 @@ inner_head k = record { kind = k; is_inner = true; text = []; span = None; upper
 abbrev pub error_head : List ℕ → List ℕ → Head
 error_head message s = record { kind = Error; is_inner = false; text = s; span = None; upper = 0; diagnostics = error_with message ∷ [] }
 
+-- a count as a node keeps it: the largest says only that it is that or more
+abbrev pub kept : ℕ → ℕ
+kept n = min n (2 ^ 32 - 1)
+
 -- what a leaf with this head keeps
 abbrev pub leaf_own : Head → Own
-leaf_own h = record { head = h; len = length h.text; descendants = 1 }
+leaf_own h = record { head = h; len = kept (length h.text); descendants = 1 }
 
 -- the same with another head
 abbrev pub with_head : Own → Head → Own

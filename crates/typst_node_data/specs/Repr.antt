@@ -1,9 +1,8 @@
 -- How the parts of a node stand in memory, and what contracts see of them.
-use Rattle.std.specs.Prelude.{ℕ, ◌≤◌, ◌^◌, true, false, List, []}
+use Rattle.std.specs.Prelude.{ℕ, ◌≤◌, ◌+◌, ◌*◌, ◌^◌, true, false, List, []}
 use Rattle.typst_kinds.specs.declared.kind.SyntaxKind.{SyntaxKind}
 use Rattle.typst_kinds.specs.Span.{SpanValue}
 use Rattle.typst_node_data.specs.Head.{Own, leaf_own}
-use Rattle.typst_node_data.specs.declared.own.Extent.{Extent}
 use Rattle.typst_node_data.specs.declared.own.Parts.{Parts}
 use Rattle.typst_node_data.specs.declared.own.Repr.{Repr}
 use Rattle.typst_node_data.specs.declared.own.Repr.TheVariants.{ShortLeaf, LongLeaf, Inner, Diagnosed}
@@ -12,9 +11,14 @@ use Rattle.typst_node_data.specs.declared.own.Repr.TheVariants.{ShortLeaf, LongL
 abbrev pub plain_leaf : SpanValue → SyntaxKind → List ℕ → Own
 plain_leaf sp k s = leaf_own (record { kind = k; is_inner = false; text = s; span = sp; upper = 0; diagnostics = [] })
 
-abbrev pub plain_inner : SpanValue → SyntaxKind → Extent → Own
-plain_inner sp k x =
-    record { head = record { kind = k; is_inner = true; text = []; span = sp; upper = x.upper; diagnostics = [] }; len = x.len; descendants = x.descendants }
+-- an upper end, from its high and its low part
+abbrev pub upper_end : ℕ → ℕ → ℕ
+upper_end high low = high * 2 ^ 32 + low
+
+-- an inner node without diagnostics
+abbrev pub plain_inner : SpanValue → SyntaxKind → ℕ → ℕ → ℕ → Own
+plain_inner sp k upper len descendants =
+    record { head = record { kind = k; is_inner = true; text = []; span = sp; upper = upper; diagnostics = [] }; len = len; descendants = descendants }
 
 abbrev pub of_parts : SpanValue → SyntaxKind → Parts → Own
 of_parts sp k p =
@@ -22,13 +26,13 @@ of_parts sp k p =
 
 abbrev pub own_of : SpanValue → Repr → Own
 own_of sp (ShortLeaf k s) = plain_leaf sp k s
-own_of sp (LongLeaf k s) = plain_leaf sp k s
-own_of sp (Inner k x) = plain_inner sp k x
+own_of sp (LongLeaf k s) = plain_leaf sp k s.value
+own_of sp (Inner k high low len descendants) = plain_inner sp k (upper_end high low) len descendants
 own_of sp (Diagnosed k p) = of_parts sp k p.value
 
 -- an upper end is at most the last
 abbrev pub IsOwn : Repr → Type 0
 IsOwn (ShortLeaf k s) = Unit {0}
 IsOwn (LongLeaf k s) = Unit {0}
-IsOwn (Inner k x) = x.upper ≤ 2 ^ 47
+IsOwn (Inner k high low len descendants) = upper_end high low ≤ 2 ^ 47
 IsOwn (Diagnosed k p) = p.value.extent.upper ≤ 2 ^ 47

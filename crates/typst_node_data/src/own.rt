@@ -1,6 +1,6 @@
 ghost use Rattle.std.specs.Prelude.{◌≡◌, ◌≤◌, ◌<◌, ◌^◌, ◌↔◌, IfOk, OnOk, OnErr, IsTrue, false};
 ghost use Rattle.typst_kinds.specs.Span.{number_of};
-ghost use Rattle.typst_node_data.specs.Head.{bare_head, located, spanned, leaf_head, inner_head, error_head, leaf_own, with_head, diagnosed, helped};
+ghost use Rattle.typst_node_data.specs.Head.{bare_head, located, spanned, leaf_head, inner_head, error_head, kept, leaf_own, with_head, diagnosed, helped};
 ghost use Rattle.typst_node_data.specs.Diagnostic.{at_last, hinted};
 
 use crate::diagnostic::{clone_diagnostics, same_diagnostics};
@@ -27,13 +27,26 @@ struct Parts {
     diagnostics: Vec<Diagnostic>,
 }
 
-/// The usual nodes hold their parts in 32 bytes.
+/// The usual nodes hold their parts in 16 bytes. An upper end takes 6 of them.
 #[derive(Drop)]
 enum Repr {
     ShortLeaf(SyntaxKind, ShortText),
-    LongLeaf(SyntaxKind, Text),
-    Inner(SyntaxKind, Extent),
+    LongLeaf(SyntaxKind, Box<Text>),
+    Inner {
+        kind: SyntaxKind,
+        upper_high: u16,
+        upper_low: u32,
+        len: u32,
+        descendants: u32,
+    },
     Diagnosed(SyntaxKind, Box<Parts>),
+}
+
+/// A count as it is kept.
+fn kept(count: usize) -> usize
+    ensures { result ≡ kept count }
+{
+    count.min(Own::MOST)
 }
 
 /// What a node keeps beside its children.
@@ -57,6 +70,11 @@ impl Model for Own {
     ghost invariant = { λ o. IsOwn o.repr };
 }
 
+impl Own {
+    /// The largest count that a node keeps: it stands for all counts from there on.
+    pub const MOST: usize = 0xffff_ffff;
+}
+
 // Makers.
 impl Own {
     /// A leaf's.
@@ -72,22 +90,23 @@ impl Own {
         let long = Text::new(alloc, text)?;
         Ok(Own {
             span: Span::detached(),
-            repr: Repr::LongLeaf(kind, long),
+            repr: Repr::LongLeaf(kind, Box::new(alloc, long)?),
         })
     }
 
     /// An inner node's.
     pub fn inner(kind: SyntaxKind, len: usize, descendants: usize) -> Own
-        ensures { result ≡ record { head = inner_head kind; len = len; descendants = descendants } }
+        ensures { result ≡ record { head = inner_head kind; len = kept len; descendants = kept descendants } }
     {
-        let extent = Extent {
-            upper: 0,
-            len,
-            descendants,
-        };
         Own {
             span: Span::detached(),
-            repr: Repr::Inner(kind, extent),
+            repr: Repr::Inner {
+                kind,
+                upper_high: 0,
+                upper_low: 0,
+                len: kept(len) as u32,
+                descendants: kept(descendants) as u32,
+            },
         }
     }
 
@@ -99,7 +118,7 @@ impl Own {
         diagnostics.push(Diagnostic::error(alloc, message))?;
         let extent = Extent {
             upper: 0,
-            len: text.len(),
+            len: kept(text.len()),
             descendants: 1,
         };
         let parts = Parts {
@@ -128,12 +147,24 @@ impl Own {
                 let text = text.try_clone(alloc)?;
                 Ok(Own {
                     span,
-                    repr: Repr::LongLeaf(*kind, text),
+                    repr: Repr::LongLeaf(*kind, Box::new(alloc, text)?),
                 })
             }
-            Repr::Inner(kind, extent) => Ok(Own {
+            Repr::Inner {
+                kind,
+                upper_high,
+                upper_low,
+                len,
+                descendants,
+            } => Ok(Own {
                 span,
-                repr: Repr::Inner(*kind, *extent),
+                repr: Repr::Inner {
+                    kind: *kind,
+                    upper_high: *upper_high,
+                    upper_low: *upper_low,
+                    len: *len,
+                    descendants: *descendants,
+                },
             }),
             Repr::Diagnosed(kind, parts) => {
                 let parts = parts.try_clone(alloc)?;
@@ -169,7 +200,7 @@ impl Own {
         match &self.repr {
             Repr::ShortLeaf(kind, _) => *kind,
             Repr::LongLeaf(kind, _) => *kind,
-            Repr::Inner(kind, _) => *kind,
+            Repr::Inner { kind, .. } => *kind,
             Repr::Diagnosed(kind, _) => *kind,
         }
     }
@@ -180,7 +211,7 @@ impl Own {
         match &self.repr {
             Repr::ShortLeaf(_, _) => false,
             Repr::LongLeaf(_, _) => false,
-            Repr::Inner(_, _) => true,
+            Repr::Inner { .. } => true,
             Repr::Diagnosed(_, parts) => parts.is_inner,
         }
     }
@@ -191,7 +222,7 @@ impl Own {
         match &self.repr {
             Repr::ShortLeaf(_, text) => text.as_str(),
             Repr::LongLeaf(_, text) => text.as_str(),
-            Repr::Inner(_, _) => "",
+            Repr::Inner { .. } => "",
             Repr::Diagnosed(_, parts) => parts.text.as_str(),
         }
     }
@@ -216,29 +247,31 @@ impl Own {
         match &self.repr {
             Repr::ShortLeaf(_, _) => &[],
             Repr::LongLeaf(_, _) => &[],
-            Repr::Inner(_, _) => &[],
+            Repr::Inner { .. } => &[],
             Repr::Diagnosed(_, parts) => parts.diagnostics.as_slice(),
         }
     }
 
+    /// The length of the node's text, as it is kept.
     pub fn len(&self) -> usize
         ensures { result ≡ self.now.len }
     {
         match &self.repr {
             Repr::ShortLeaf(_, text) => text.len(),
-            Repr::LongLeaf(_, text) => text.len(),
-            Repr::Inner(_, extent) => extent.len,
+            Repr::LongLeaf(_, text) => kept(text.len()),
+            Repr::Inner { len, .. } => *len as usize,
             Repr::Diagnosed(_, parts) => parts.extent.len,
         }
     }
 
+    /// The count of the node and those below it, as it is kept.
     pub fn descendants(&self) -> usize
         ensures { result ≡ self.now.descendants }
     {
         match &self.repr {
             Repr::ShortLeaf(_, _) => 1,
             Repr::LongLeaf(_, _) => 1,
-            Repr::Inner(_, extent) => extent.descendants,
+            Repr::Inner { descendants, .. } => *descendants as usize,
             Repr::Diagnosed(_, parts) => parts.extent.descendants,
         }
     }
@@ -250,7 +283,11 @@ impl Own {
         match &self.repr {
             Repr::ShortLeaf(_, _) => 0,
             Repr::LongLeaf(_, _) => 0,
-            Repr::Inner(_, extent) => extent.upper,
+            Repr::Inner {
+                upper_high,
+                upper_low,
+                ..
+            } => u64::from(*upper_high) * 0x1_0000_0000 + u64::from(*upper_low),
             Repr::Diagnosed(_, parts) => parts.extent.upper,
         }
     }
@@ -281,7 +318,7 @@ impl Own {
         match &mut self.repr {
             Repr::ShortLeaf(old, _) => *old = kind,
             Repr::LongLeaf(old, _) => *old = kind,
-            Repr::Inner(old, _) => *old = kind,
+            Repr::Inner { kind: old, .. } => *old = kind,
             Repr::Diagnosed(old, _) => *old = kind,
         }
     }
@@ -295,7 +332,14 @@ impl Own {
         match &mut self.repr {
             Repr::ShortLeaf(_, _) => {}
             Repr::LongLeaf(_, _) => {}
-            Repr::Inner(_, extent) => extent.upper = upper,
+            Repr::Inner {
+                upper_high,
+                upper_low,
+                ..
+            } => {
+                *upper_high = (upper / 0x1_0000_0000) as u16;
+                *upper_low = (upper % 0x1_0000_0000) as u32;
+            }
             Repr::Diagnosed(_, parts) => parts.extent.upper = if parts.is_inner {
                 upper
             } else {
@@ -307,18 +351,24 @@ impl Own {
     /// Gives an inner node the length of its text and the count of its nodes.
     pub fn set_counts(&mut self, len: usize, descendants: usize)
         requires { self.old.head.is_inner ≡ false → 1 < self.old.descendants }
-        ensures { self.new ≡ record { head = self.old.head; len = len; descendants = descendants } }
+        ensures { self.new ≡ record { head = self.old.head; len = kept len; descendants = kept descendants } }
     {
+        let new_len = kept(len);
+        let new_count = kept(descendants);
         match &mut self.repr {
             Repr::ShortLeaf(_, _) => {}
             Repr::LongLeaf(_, _) => {}
-            Repr::Inner(_, extent) => {
-                extent.len = len;
-                extent.descendants = descendants;
+            Repr::Inner {
+                len,
+                descendants,
+                ..
+            } => {
+                *len = new_len as u32;
+                *descendants = new_count as u32;
             }
             Repr::Diagnosed(_, parts) => {
-                parts.extent.len = len;
-                parts.extent.descendants = descendants;
+                parts.extent.len = new_len;
+                parts.extent.descendants = new_count;
             }
         }
     }

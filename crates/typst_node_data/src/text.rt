@@ -1,4 +1,4 @@
-ghost use Rattle.std.specs.Prelude.{◌≡◌, ◌<◌, [], ◌++◌, ◌↔◌, IfOk, OnOk, OnErr, IsTrue, MatchOption, length, string_bytes};
+ghost use Rattle.std.specs.Prelude.{◌≡◌, ◌≤◌, ◌<◌, [], ◌++◌, ◌↔◌, IfOk, OnOk, OnErr, IsTrue, MatchOption, length, string_bytes};
 
 use std::alloc::{AllocError, Global};
 use std::marker::Model;
@@ -82,11 +82,11 @@ impl Text {
     }
 }
 
-/// A text of at most 29 bytes, which takes no memory of its own.
+/// A text of at most 13 bytes, which takes no memory of its own.
 #[derive(Drop)]
 pub struct ShortText {
     len: u8,
-    bytes: [u8; 29],
+    bytes: [u8; 13],
 }
 
 impl Model for ShortText {
@@ -97,20 +97,20 @@ impl Model for ShortText {
 
     ghost view = { λ t. take t.len t.bytes };
 
-    ghost invariant = { λ t. (t.len ≤ 29) × IsUtf8 (take t.len t.bytes) };
+    ghost invariant = { λ t. (t.len ≤ 13) × IsUtf8 (take t.len t.bytes) };
 }
 
 impl ShortText {
     /// A copy of `text`, or `None` where it is longer.
     pub fn new(text: &str) -> Option<ShortText>
-        ensures { MatchOption result (29 < length text.now) (λ t. t ≡ text.now) }
+        ensures { MatchOption result (13 < length text.now) (λ t. t ≡ text.now) }
     {
         let from = text.as_bytes();
         let len = from.len();
-        if len > 29 {
+        if len > 13 {
             return None;
         }
-        let mut bytes = [0u8; 29];
+        let mut bytes = [0u8; 13];
         if len == 1 {
             bytes[0] = from[0];
         } else {
@@ -142,7 +142,8 @@ impl ShortText {
 
     /// The length in bytes.
     pub fn len(&self) -> usize
-        ensures { result ≡ length self.now }
+        ensures value { result ≡ length self.now }
+        ensures short { result ≤ 13 }
     {
         self.len as usize
     }
