@@ -26,7 +26,7 @@ use Rattle.typst_code.specs.Shape.{changed, Shape, hinted, after_node, after_sha
 use Rattle.typst_code.specs.Shape.Shape.{keeps, holds, lacks, warns, fails}
 use Rattle.typst_code.specs.Syntax.{Op, Begin, Parser}
 use Rattle.typst_code.specs.Syntax.Op.{hand, so, further, column, erred, takes, takes_so, flushes, complains, advises, marks, is_deepest}
-use Rattle.typst_code.specs.Syntax.Parser.{gives, does, next, pick, repeat, wraps, grows, nests, scoped, sees, either, calls, block}
+use Rattle.typst_code.specs.Syntax.Parser.{gives, does, next, pick, repeat, wraps, grows, nests, scoped, either, calls, block}
 use Rattle.typst_code.specs.Meaning.{Outcome, Meaning, Level, less, joined, answered, turns, as_last, bound, repeated, before, reshaped, grown, is_more, growths, growing, nestings, nesting, bounded, given_up, plain, same_mode, entered, left, taken_node, node_by, reader_so, gave, hand_of, hand_asks_of, done, run}
 use Rattle.typst_code.proofs.Within.{on_both, on_if}
 use Rattle.typst_binding.specs.Binding.{has_errors, operator_of}
@@ -281,7 +281,6 @@ Gives {A} Q (wraps f begin p) = (a : A) → Q a
 Gives {A} Q (grows begin p f) = (a : A) → Q a
 Gives {A} Q (nests f begin p x) = (a : A) → Q a
 Gives Q (scoped f p) = Gives Q p
-Gives {A} Q (sees p) = (a : A) → Q a
 Gives Q (either p is_wrong q) = Gives Q p × Gives Q q
 Gives {A} Q (calls c) = (a : A) → Q a
 Gives {A} Q (block b) = (a : A) → Q a
@@ -296,7 +295,6 @@ gives-all Q h (wraps f begin p) = h
 gives-all Q h (grows begin p f) = h
 gives-all Q h (nests f begin p x) = h
 gives-all Q h (scoped f p) = gives-all Q h p
-gives-all Q h (sees p) = h
 gives-all Q h (either p is_wrong q) = (gives-all Q h p, gives-all Q h q)
 gives-all Q h (calls c) = h
 gives-all Q h (block b) = h
@@ -318,7 +316,6 @@ Plain (wraps f begin p) = Gives (λ a. tame (f a) ≡ true) p × Plain p
 Plain (grows begin p f) = Plain p × ((x : _) → Gives (λ v. tame_if v.0 ≡ true) (f x) × Plain (f x))
 Plain (nests f begin p x) = ((a : _) → tame (f a) ≡ true) × ((y : _) → Plain (p y))
 Plain (scoped f p) = Plain p
-Plain (sees p) = Plain p
 Plain (either p is_wrong q) = Plain p × Plain q
 Plain (calls c) = Unit {0}
 Plain (block b) = Unit {0}
@@ -339,7 +336,6 @@ module _ (l : Level) where
   gives-run Q (grows begin p f) h z s = h _
   gives-run Q (nests f begin p x) h z s = h _
   gives-run Q (scoped f p) h z s = gives-run Q p h z (entered (f s.reading) s)
-  gives-run Q (sees p) h z s = h _
   gives-run Q (either p is_wrong q) h z s =
       on_both (λ o. Q o.value) (is_wrong (run l p z s).value) (given_up (run l p z s) (run l q z s)) (run l p z s) (gives-run Q q h.1 z s) (gives-run Q p h.0 z s)
   gives-run Q (calls c) h z s = h _
@@ -394,7 +390,6 @@ module _ (l : Level) where
         let o = run l p z (entered (f s.reading) s) in
         let k = binds-run p w z (entered (f s.reading) s) h in
         record { nodes = k.nodes; known = still-left s.reading o.state k.known }
-    binds-run (sees p) w z s h = let k = binds-run p w z s h in record { nodes = k.nodes; known = k.known }
     binds-run (either p is_wrong q) w z s h =
         let o = run l p z s in
         let k = binds-run q w.1 z s h in

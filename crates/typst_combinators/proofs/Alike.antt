@@ -7,8 +7,8 @@ use Rattle.typst_combinators.specs.declared.calls.Call.{Call}
 use Rattle.typst_combinators.specs.Point.{Point, forgot}
 use Rattle.typst_combinators.specs.Syntax.{Op, Begin, Parser}
 use Rattle.typst_combinators.specs.Syntax.Op.{hand, so, further, column, erred, takes, takes_so, flushes, complains, advises, marks, is_deepest}
-use Rattle.typst_combinators.specs.Syntax.Parser.{gives, does, next, pick, repeat, wraps, grows, nests, scoped, sees, either, calls, block}
-use Rattle.typst_combinators.specs.Meaning.{Outcome, Meaning, Level, joined, answered, followed, turns, as_last, bound, repeated, before, wrapped, grown, is_more, growths, growing, nestings, nesting, with_seen, closed, bounded, deeper_by_one, given_up, chosen, entered, left_to, plain, no_guess, done, run}
+use Rattle.typst_combinators.specs.Syntax.Parser.{gives, does, next, pick, repeat, wraps, grows, nests, scoped, either, calls, block}
+use Rattle.typst_combinators.specs.Meaning.{Outcome, Meaning, Level, joined, answered, followed, turns, as_last, bound, repeated, before, wrapped, grown, is_more, growths, growing, nestings, nesting, closed, bounded, deeper_by_one, given_up, chosen, entered, left_to, plain, no_guess, done, run}
 use Rattle.typst_combinators.specs.Sound.{Alike}
 use Rattle.typst_combinators.specs.Calls.{Answer}
 use Rattle.typst_combinators.specs.Shape.{Shape}
@@ -150,7 +150,6 @@ module _ (k : CharClasses) (i j : ℕ) (d e : (c : Call) → Meaning (Answer c))
         alike-growing (λ y. run one (q y)) (λ y. run other (q y)) (λ y. alike-run (q y)) (before begin s) (suc (bound z s)) (run one p z s) (run other p z s) z (alike-run p z s) h i
     alike-run (nests w begin p x) z s h i = alike-nestings w begin (λ y. run one (p y)) (λ y. run other (p y)) (λ y. alike-run (p y)) (suc (bound z s)) x z s h i
     alike-run (scoped w p) z s h i = ap (left_to s.reading) (alike-run p z (entered (w s.reading) s) h i)
-    alike-run (sees p) z s h i = ap with_seen (alike-run p z s h i)
     alike-run (either p is_wrong q) z s h i =
         let o = run other p z s in
         let u = run one p z s in

@@ -15,7 +15,7 @@ use Rattle.typst_combinators.specs.Shape.Change.{stays, turns_wrong, is_not, ren
 use Rattle.typst_combinators.specs.Shape.Shape.{keeps, holds, lacks, warns, fails}
 use Rattle.typst_combinators.specs.Syntax.{Op, Begin, Parser}
 use Rattle.typst_combinators.specs.Syntax.Op.{hand, so, further, column, erred, takes, takes_so, flushes, complains, advises, marks, is_deepest}
-use Rattle.typst_combinators.specs.Syntax.Parser.{gives, does, next, pick, repeat, wraps, grows, nests, scoped, sees, either, calls, block}
+use Rattle.typst_combinators.specs.Syntax.Parser.{gives, does, next, pick, repeat, wraps, grows, nests, scoped, either, calls, block}
 use Rattle.typst_combinators.specs.Meaning.{Outcome, Meaning, Level, plain, less, answered, joined, turns, as_last, bound, repeated, before, inside, reshaped, grown, is_more, growths, growing, nestings, nesting, given_up, bounded, same_mode, entered, left, flushed_state, hand_of, hand_asks_of, gave, followed, taken_node, reader_so, node_by, done, run}
 use Rattle.typst_combinators.specs.Sound.{Tidy, Backs}
 use Rattle.typst_combinators.proofs.Places.{length-less}
@@ -188,7 +188,6 @@ module _ (l : Level) where
         let c = b.back in
         let k = b.left in
         record { back = c; left = omega (arith, e, k) }
-    backs-run (sees p) z s = let b = backs-run p z s in record { back = b.back; left = b.left }
     backs-run (either p is_wrong q) z s =
         let o = run l p z s in
         let k = backs-run q z s in

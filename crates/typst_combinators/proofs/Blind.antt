@@ -6,8 +6,8 @@ use Rattle.typst_combinators.specs.Point.{Point}
 use Rattle.typst_combinators.specs.Shape.{Shape}
 use Rattle.typst_combinators.specs.Syntax.{Op, Begin, Parser}
 use Rattle.typst_combinators.specs.Syntax.Op.{hand, so, further, column, erred, takes, takes_so, flushes, complains, advises, marks, is_deepest}
-use Rattle.typst_combinators.specs.Syntax.Parser.{gives, does, next, pick, repeat, wraps, grows, nests, scoped, sees, either, calls, block}
-use Rattle.typst_combinators.specs.Meaning.{Outcome, Meaning, Level, Guessing, guessing, answered, joined, followed, turns, bound, repeated, before, wrapped, grown, growths, growing, nestings, nesting, with_seen, bounded, deeper_by_one, chosen, entered, left_to, plain, done, run}
+use Rattle.typst_combinators.specs.Syntax.Parser.{gives, does, next, pick, repeat, wraps, grows, nests, scoped, either, calls, block}
+use Rattle.typst_combinators.specs.Meaning.{Outcome, Meaning, Level, Guessing, guessing, answered, joined, followed, turns, bound, repeated, before, wrapped, grown, growths, growing, nestings, nesting, bounded, deeper_by_one, chosen, entered, left_to, plain, done, run}
 use Rattle.std.specs.Prelude.{Option}
 
 -- what is made of the same is the same
@@ -49,7 +49,6 @@ module _ (g : Guessing) (l : Level) where
       ∙ under (λ (h : A → Meaning (Option Shape × A)) z s. growing h (before begin s) (run l p) z s) (fun_ext (λ y. run-blind (f y)))
   run-blind (nests {A = A} f begin p x) = under (λ (h : A → Meaning (Bool × A)) z s. nesting f begin h x z s) (fun_ext (λ y. run-blind (p y)))
   run-blind (scoped {A = A} f p) = under (λ (m : Meaning A) z s. left_to s.reading (m z (entered (f s.reading) s))) (run-blind p)
-  run-blind (sees {A = A} p) = under (λ (m : Meaning A) z s. with_seen (m z s)) (run-blind p)
   run-blind (either {A = A} p is_wrong q) =
       under (λ (m : Meaning A) z s. chosen is_wrong (m z s) (run told q z s)) (run-blind p) ∙ under (λ (m : Meaning A) z s. chosen is_wrong (run l p z s) (m z s)) (run-blind q)
   run-blind (calls c) = refl

@@ -24,10 +24,10 @@ use Rattle.typst_combinators.specs.Shape.{Shape}
 use Rattle.typst_combinators.proofs.Places.{moved-sum}
 use Rattle.typst_combinators.specs.Syntax.{Op, Begin, Parser}
 use Rattle.typst_combinators.specs.Syntax.Op.{hand, so, further, column, erred, takes, takes_so, flushes, complains, advises, marks, is_deepest}
-use Rattle.typst_combinators.specs.Syntax.Parser.{gives, does, next, pick, repeat, wraps, grows, nests, scoped, sees, either, calls, block}
+use Rattle.typst_combinators.specs.Syntax.Parser.{gives, does, next, pick, repeat, wraps, grows, nests, scoped, either, calls, block}
 use Rattle.typst_kinds.specs.Kinds.{is_trivia}
 use Rattle.typst_combinators.specs.Shape.{Making, made}
-use Rattle.typst_combinators.specs.Meaning.{Outcome, Meaning, Level, joined, answered, followed, turns, as_last, bound, repeated, before, wrapped, grown, is_more, growths, growing, nestings, nesting, with_seen, closed, bounded, deeper_by_one, given_up, chosen, entered, left_to, plain, hand_of, hand_asks_of, asked, flushed_state, reader_so, gave, done, run}
+use Rattle.typst_combinators.specs.Meaning.{Outcome, Meaning, Level, joined, answered, followed, turns, as_last, bound, repeated, before, wrapped, grown, is_more, growths, growing, nestings, nesting, closed, bounded, deeper_by_one, given_up, chosen, entered, left_to, plain, hand_of, hand_asks_of, asked, flushed_state, reader_so, gave, done, run}
 use Rattle.typst_combinators.specs.Sound.{Framed, Within}
 use Rattle.typst_combinators.proofs.Places.{ahead-left}
 use Rattle.typst_combinators.proofs.Within.{grew, nest, turns-enough, growths-enough, nestings-enough, within-run}
@@ -421,7 +421,6 @@ module _ (l : Level) where
         framed-growing (λ y. run l (g y)) (run l p) (before begin) (λ y. within-run l d e (g y)) (within-run l d e p) (λ y. framed-run (g y)) (framed-run p) z w s h
     framed-run (nests g begin p x) z w s h = framed-nesting g begin (λ y. run l (p y)) (λ y. within-run l d e (p y)) (λ y. framed-run (p y)) x z w s h
     framed-run (scoped g p) z w s h = ap (left_to s.reading) (framed-run p z w (entered (g s.reading) s) h)
-    framed-run (sees p) z w s h = ap with_seen (framed-run p z w s h)
     framed-run (either p is_wrong q) z w s h = framed-chosen is_wrong (run l p) (run l q) (framed-run p) (framed-run q) z w s h
     framed-run (calls c) z w s h = ap deeper_by_one (f c z w s (same_in-sunk _ z w h))
     framed-run (block b) z w s h =

@@ -28,7 +28,7 @@ use Rattle.typst_lexer.specs.Tokens.{token}
 use Rattle.typst_combinators.specs.Hand.{Hand, utf8_ahead, token_at, len_at, token_by, len_by, at_trivia, Ahead, after_trivia, direct, ahead_by, ahead, hand_at, told, column_at}
 use Rattle.typst_combinators.specs.Syntax.{Op, Begin, Parser}
 use Rattle.typst_combinators.specs.Syntax.Op.{hand, so, further, column, erred, takes, takes_so, flushes, complains, advises, marks, is_deepest}
-use Rattle.typst_combinators.specs.Syntax.Parser.{gives, does, next, pick, repeat, wraps, grows, nests, scoped, sees, either, calls, block}
+use Rattle.typst_combinators.specs.Syntax.Parser.{gives, does, next, pick, repeat, wraps, grows, nests, scoped, either, calls, block}
 use Rattle.typst_combinators.specs.Meaning.{Outcome, Meaning, Level, less, joined, answered, followed, turns, as_last, bound, repeated, before, inside, reshaped, wrapped, grown, is_more, growths, growing, nestings, nesting, closed, bounded, given_up, plain, same_mode, entered, left, taken_node, node_by, reader_so, gave, hand_of, hand_asks_of, asked, done, run}
 use Rattle.typst_combinators.specs.Sound.{Tidy, Backs, Stands}
 use Rattle.typst_combinators.specs.Calls.{Answer}
@@ -478,7 +478,6 @@ module _ (l : Level) where
         let o = run l p z (entered (f s.reading) s) in
         let k = kept-run p z (entered (f s.reading) s) h in
         record { text = k.text; known = kept-known (moved o.taken z) s.reading o.state k.known; blank = subst (λ n. Blank n o.nodes) (sym (kept-empties s.reading o.state)) k.blank }
-    kept-run (sees p) z s h = let k = kept-run p z s h in record { text = k.text; known = k.known; blank = k.blank }
     kept-run (either p is_wrong q) z s h =
         let o = run l p z s in
         let k = kept-run q z s h in

@@ -18,7 +18,7 @@ use Rattle.typst_combinators.specs.Shape.{Shape, changed, after_node, after_shap
 use Rattle.typst_combinators.specs.Shape.Shape.{keeps, holds, lacks, warns, fails}
 use Rattle.typst_combinators.specs.Syntax.{Op, Begin, Parser}
 use Rattle.typst_combinators.specs.Syntax.Op.{hand, so, further, column, erred, takes, takes_so, flushes, complains, advises, marks, is_deepest}
-use Rattle.typst_combinators.specs.Syntax.Parser.{gives, does, next, pick, repeat, wraps, grows, nests, scoped, sees, either, calls, block}
+use Rattle.typst_combinators.specs.Syntax.Parser.{gives, does, next, pick, repeat, wraps, grows, nests, scoped, either, calls, block}
 use Rattle.typst_combinators.specs.Hand.{Hand, len_by, token_by}
 use Rattle.typst_combinators.specs.Ask.{Ask}
 use Rattle.typst_combinators.specs.Ask.Ask.{looked}
@@ -188,7 +188,6 @@ module _ (l : Level) where
     rests-run (grows begin p f) z s = rests-growths (λ y. run l (f y)) (λ y. rests-run (f y)) s.reading s.held (before begin s) (suc (bound z s)) (run l p z s) z (rests-run p z s)
     rests-run (nests f begin p x) z s = rests-nestings f begin (λ y. run l (p y)) (λ y. rests-run (p y)) (suc (bound z s)) x z s
     rests-run (scoped f p) z s = rests-left (f s.reading) s.reading s.held (run l p z (entered (f s.reading) s)).state (rests-run p z (entered (f s.reading) s))
-    rests-run (sees p) z s = rests-run p z s
     rests-run (either p is_wrong q) z s =
         let o = run l p z s in
         on (λ u. Rests s.reading s.held u.state) (is_wrong o.value) (given_up o (run l q z s)) o (rests-run q z s) (rests-run p z s)

@@ -17,7 +17,7 @@ use Rattle.typst_tokens.specs.Memory.{Memory}
 use Rattle.typst_combinators.specs.Hand.{Ahead, len_at, len_by, at_trivia, ahead_by, ahead, hand_at}
 use Rattle.typst_combinators.specs.Syntax.{Op, Begin, Parser}
 use Rattle.typst_combinators.specs.Syntax.Op.{hand, so, further, column, erred, takes, takes_so, flushes, complains, advises, marks, is_deepest}
-use Rattle.typst_combinators.specs.Syntax.Parser.{gives, does, next, pick, repeat, wraps, grows, nests, scoped, sees, either, calls, block}
+use Rattle.typst_combinators.specs.Syntax.Parser.{gives, does, next, pick, repeat, wraps, grows, nests, scoped, either, calls, block}
 use Rattle.typst_combinators.specs.Meaning.{Outcome, Meaning, Level, plain, joined, answered, followed, turns, as_last, bound, repeated, before, inside, reshaped, grown, is_more, growths, growing, nestings, nesting, given_up, bounded, entered, left, same_mode, flushed_state, reader_so, done, run}
 use Rattle.typst_combinators.specs.Sound.{Within}
 use Rattle.typst_kinds.specs.Kinds.{is_error}
@@ -243,7 +243,6 @@ module _ (l : Level) where
     within-run (grows begin p f) z s = enough-growths (λ y. run l (f y)) (λ y. within-run (f y)) (before begin s) (suc (bound z s)) z (gap_of s.known) (run l p z s) (within-run p z s)
     within-run (nests f begin p x) z s = enough-nestings f begin (λ y. run l (p y)) (λ y. within-run (p y)) (suc (bound z s)) x z s
     within-run (scoped f p) z s = enough-left z (gap_of s.known) s.reading (run l p z (entered (f s.reading) s)) (within-run p z (entered (f s.reading) s))
-    within-run (sees p) z s = within-run p z s
     within-run (either p is_wrong q) z s = on_both (Enough z (gap_of s.known)) _ (given_up (run l p z s) (run l q z s)) (run l p z s) (within-run q z s) (within-run p z s)
     within-run (calls c) z s = d c z s
     within-run (block b) z s =

@@ -29,7 +29,7 @@ use Rattle.typst_combinators.specs.Shape.{Making, made, hinted, Shape, shaped, a
 use Rattle.typst_combinators.specs.Syntax.{Op, Begin, Parser}
 use Rattle.typst_combinators.specs.Syntax.Begin.{at_token, at_trivia}
 use Rattle.typst_combinators.specs.Syntax.Op.{hand, so, further, column, erred, takes, takes_so, flushes, complains, advises, marks, is_deepest}
-use Rattle.typst_combinators.specs.Syntax.Parser.{gives, does, next, pick, repeat, wraps, grows, nests, scoped, sees, either, calls, block}
+use Rattle.typst_combinators.specs.Syntax.Parser.{gives, does, next, pick, repeat, wraps, grows, nests, scoped, either, calls, block}
 
 pub record Outcome (A : Type 0) : Type 0 where
   pub value : A
@@ -151,9 +151,6 @@ nestings f begin m (suc n) x z s =
 
 unfoldable pub nesting : {A : Type 0} → (A → Shape) → Begin → (A → Meaning (Bool × A)) → A → Meaning A
 nesting f begin m x z s = nestings f begin m (suc (bound z s)) x z s
-
-abbrev pub with_seen : {A : Type 0} → Outcome A → Outcome (A × List Seen)
-with_seen o = answered (o.value, map seen o.nodes) o
 
 -- what a block gives, noted at both ends, and with nothing known of the trivia behind it
 abbrev pub closed : Block → Point → Outcome (Unit {0}) → Outcome (Unit {0})
@@ -331,7 +328,6 @@ module _ (l : Level) where
   run (grows begin p f) z s = growing (λ y. run (f y)) (before begin s) (run p) z s
   run (nests f begin p x) z s = nesting f begin (λ y. run (p y)) x z s
   run (scoped f p) z s = left_to s.reading (run p z (entered (f s.reading) s))
-  run (sees p) z s = with_seen (run p z s)
   run (either p is_wrong q) z s = chosen is_wrong (run p z s) (run q z s)
   run (calls c) z s = deeper_by_one (l.deeper c z s)
   run (block b) z s = if l.has b then followed (done flushes z s) (λ _. bounded b (l.blocks b)) z else plain tt s

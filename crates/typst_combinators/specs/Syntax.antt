@@ -61,8 +61,6 @@ pub data Parser : Type 0 → Type 1 where
   nests : {A : Type 0} → (A → Shape) → Begin → (A → Parser (Bool × A)) → A → Parser A
   -- the tokens to come are read in another way, and behind it as before
   scoped : {A : Type 0} → (Reading → Reading) → Parser A → Parser A
-  -- answers what is seen of the nodes that were given, too
-  sees : {A : Type 0} → Parser A → Parser (A × List Seen)
   -- where the first turns out wrong it is given up, and the second reads from the same place
   either : {A : Type 0} → Parser A → (A → Bool) → Parser A → Parser A
   -- reads one level deeper

@@ -14,14 +14,14 @@ use Rattle.typst_grammar.specs.Shape.{Shape}
 use Rattle.typst_grammar.specs.Steps.{peek}
 use Rattle.typst_grammar.specs.Syntax.{Parser, Begin, ◌>>◌}
 use Rattle.typst_grammar.specs.Syntax.Op.{flushes}
-use Rattle.typst_grammar.specs.Syntax.Parser.{gives, does, next, pick, repeat, wraps, grows, nests, scoped, sees, either, calls, block}
+use Rattle.typst_grammar.specs.Syntax.Parser.{gives, does, next, pick, repeat, wraps, grows, nests, scoped, either, calls, block}
 use Rattle.typst_grammar.specs.Knot.{Rules, meaning_of, level_of}
 use Rattle.typst_grammar.specs.Meaning.{Outcome, Meaning, Level, blockless, answered, joined, bound, before, grown, is_more, turns, nestings, entered, done, run}
 use Rattle.typst_grammar.proofs.Looks.{same_in-shift, same_in-first, same_in-second, same_in-sunk}
 use Rattle.typst_grammar.proofs.Places.{moved-sum}
 use Rattle.typst_reuse.specs.Hole.{wrap_hole}
 use Rattle.typst_reuse.specs.Spot.{Spot, block_head, valued, then_spot, after_spot, rehole, sunk_spot, closed_spot, here_spot}
-use Rattle.typst_reuse.specs.Occurrences.{Spots, joined_spots, goes, last_spot, turns_spots, repeated_spots, reshaped_spot, wrapped_spot, grown_spot, growths_spots, growing_spots, nestings_spots, nesting_spots, scoped_spot, seen_spot, spots, call_spots, block_spots, level_spots}
+use Rattle.typst_reuse.specs.Occurrences.{Spots, joined_spots, goes, last_spot, turns_spots, repeated_spots, reshaped_spot, wrapped_spot, grown_spot, growths_spots, growing_spots, nestings_spots, nesting_spots, scoped_spot, spots, call_spots, block_spots, level_spots}
 use Rattle.typst_reuse.proofs.Every.{Every, every-any, every-append, every-map, every-flat, every-if}
 use Rattle.typst_reuse.proofs.Reached.{Reached, Reaches, reached-run, reached-meaning, hand-stops-there, flushed-held, reached-joined, reached-grown}
 
@@ -119,7 +119,6 @@ module _ (l : Level) (deep : (c : Call) → Spots (Answer c)) (in_block : Block 
       clears-growths l.classes (λ y. run l (f y)) (λ y. spots l deep in_block (f y)) (λ y. reached-run l d (f y)) (λ y. clear-run d i j (f y)) (before begin s) (suc (bound z s)) (run l p z s) (spots l deep in_block p z s) z (reached-run l d p z s r) (clear-run d i j p z s r)
   clear-run d i j (nests f begin p x) z s r = clears-nestings l.classes f begin (λ y. run l (p y)) (λ y. spots l deep in_block (p y)) (λ y. reached-run l d (p y)) (λ y. clear-run d i j (p y)) (suc (bound z s)) x z s r
   clear-run d i j (scoped f p) z s r = every-map _ _ (scoped_spot s.reading) (λ c h. record { clear = h.clear }) _ (clear-run d i j p z (entered (f s.reading) s) r)
-  clear-run d i j (sees p) z s r = every-map _ _ seen_spot (λ c h. clear-valued l.classes z _ c h) (spots l deep in_block p z s) (clear-run d i j p z s r)
   clear-run d i j (either p is_wrong q) z s r = every-if _ (is_wrong (run l p z s).value) [] _ (λ t. tt) (λ t. clear-run d i j p z s r)
   clear-run d i j (calls c) z s r = every-map _ _ sunk_spot (λ x h. record { clear = λ w same. h.clear w (same_in-sunk x.before z w same) }) (deep c z s) (i c z s r)
   clear-run d i j (block b) z s r =

@@ -18,7 +18,7 @@ use Rattle.typst_grammar.specs.Shape.{Shape}
 use Rattle.typst_grammar.specs.Steps.{peek}
 use Rattle.typst_grammar.specs.Syntax.{Parser, Begin, ◌>>◌}
 use Rattle.typst_grammar.specs.Syntax.Op.{flushes}
-use Rattle.typst_grammar.specs.Syntax.Parser.{gives, does, next, pick, repeat, wraps, grows, nests, scoped, sees, either, calls, block}
+use Rattle.typst_grammar.specs.Syntax.Parser.{gives, does, next, pick, repeat, wraps, grows, nests, scoped, either, calls, block}
 use Rattle.typst_grammar.specs.Knot.{Rules, meaning_of, level_of}
 use Rattle.typst_grammar.specs.Markup.{markup_reading}
 use Rattle.typst_grammar.specs.Meaning.{Outcome, Meaning, Level, answered, joined, followed, as_last, turns, bound, repeated, before, blockless, grown, is_more, growths, growing, nestings, nesting, bounded, given_up, entered, plain, start_point, done, run}
@@ -29,7 +29,7 @@ use Rattle.typst_reuse.specs.Hole.{Hole}
 use Rattle.typst_reuse.specs.Laws.{blocks_of_text}
 use Rattle.typst_reuse.specs.Lost.{opening, is_opening, opens, opened, unless_some, lost_in, Lost, turns_lost, grown_lost, growths_lost, nestings_lost, lost, call_lost, block_lost, level_lost, lost_of_text, Stands, CompleteLaw}
 use Rattle.typst_reuse.specs.Lost.Stands.{stands, is_lost}
-use Rattle.typst_reuse.specs.Occurrences.{Spots, joined_spots, goes, last_spot, turns_spots, repeated_spots, reshaped_spot, wrapped_spot, grown_spot, growths_spots, growing_spots, nestings_spots, nesting_spots, scoped_spot, seen_spot, bounded_spots, spots, call_spots, block_spots, level_spots}
+use Rattle.typst_reuse.specs.Occurrences.{Spots, joined_spots, goes, last_spot, turns_spots, repeated_spots, reshaped_spot, wrapped_spot, grown_spot, growths_spots, growing_spots, nestings_spots, nesting_spots, scoped_spot, bounded_spots, spots, call_spots, block_spots, level_spots}
 use Rattle.typst_reuse.specs.Spot.{Spot, valued, then_spot, after_spot, rehole, sunk_spot, closed_spot}
 use Rattle.typst_reuse.proofs.Every.{Every, every-append, every-map}
 use Rattle.typst_reuse.proofs.Wrap.{every-weaker}
@@ -285,7 +285,6 @@ module _ (l : Level) (deep : (c : Call) → Spots (Answer c)) (in_block : Block 
         (lost l deep in_block deep_lost lost_inside p z s) z (covered-run p z s)
     covered-run (nests f begin p x) z s = covered-nestings (λ y. run l (p y)) (λ y. spots l deep in_block (p y)) (λ y. lost l deep in_block deep_lost lost_inside (p y)) (λ y. covered-run (p y)) f begin (suc (bound z s)) x z s
     covered-run (scoped f p) z s = let t = entered (f s.reading) s in covered-map (scoped_spot s.reading) (λ c. refl) (spots l deep in_block p z t) (lost l deep in_block deep_lost lost_inside p z t) (run l p z t).asks (covered-run p z t)
-    covered-run (sees p) z s = covered-map seen_spot (λ c. refl) (spots l deep in_block p z s) (lost l deep in_block deep_lost lost_inside p z s) (run l p z s).asks (covered-run p z s)
     covered-run (either p is_wrong q) z s =
         let o = run l p z s in
         covered-if (is_wrong o.value) [] (spots l deep in_block p z s) [] (lost l deep in_block deep_lost lost_inside p z s) (given_up o (run l q z s)) o (covered-none {A = Unit {0}} [] [] (given_up o (run l q z s)).asks (opened-looks (o.asks ++ (run l q z s).asks))) (covered-run p z s)

@@ -14,22 +14,21 @@ use Rattle.typst_grammar.specs.Ask.{shift, shift_one, sunk, sink_one}
 use Rattle.typst_grammar.specs.Ask.Ask.{marked}
 use Rattle.typst_grammar.specs.Calls.{Answer}
 use Rattle.typst_grammar.specs.Point.{Point, state_of, forgot}
-use Rattle.typst_grammar.specs.Shape.{seen}
 use Rattle.typst_grammar.specs.Steps.{peek}
 use Rattle.typst_grammar.specs.Syntax.{Parser, ◌>>◌}
 use Rattle.typst_grammar.specs.Syntax.Op.{flushes}
-use Rattle.typst_grammar.specs.Syntax.Parser.{gives, does, next, pick, repeat, wraps, grows, nests, scoped, sees, either, calls, block}
+use Rattle.typst_grammar.specs.Syntax.Parser.{gives, does, next, pick, repeat, wraps, grows, nests, scoped, either, calls, block}
 use Rattle.typst_grammar.specs.Knot.{Rules, blocks_of, meaning_of, level_of}
-use Rattle.typst_grammar.specs.Meaning.{Outcome, Meaning, Level, blockless, plain, less, answered, followed, before, closed, bounded, with_seen, deeper_by_one, chosen, entered, left_to, done, run}
+use Rattle.typst_grammar.specs.Meaning.{Outcome, Meaning, Level, blockless, plain, less, answered, followed, before, closed, bounded, deeper_by_one, chosen, entered, left_to, done, run}
 use Rattle.typst_grammar.proofs.Looks.{same_in-first, same_in-sunk}
 use Rattle.typst_grammar.proofs.Frame.{framed-done}
 use Rattle.typst_grammar.proofs.Backs.{left-empties}
 use Rattle.typst_grammar.proofs.Knot.{Sane, sane-run, sane-plain, sane-meaning, sane-block}
 use Rattle.typst_reuse.specs.Hole.{plug}
 use Rattle.typst_reuse.specs.Spot.{Spot, around, Fits, unit_at, block_head, lowered, after_spot, sunk_spot, closed_spot, ended, last_node, here_spot}
-use Rattle.typst_reuse.specs.Occurrences.{Spots, scoped_spot, seen_spot, bounded_spots, spots, call_spots, block_spots, level_spots}
+use Rattle.typst_reuse.specs.Occurrences.{Spots, scoped_spot, bounded_spots, spots, call_spots, block_spots, level_spots}
 use Rattle.typst_reuse.proofs.Every.{Every, every-map, every-if}
-use Rattle.typst_reuse.proofs.Outcomes.{same-outcome, shift-zero, lowered-zero, sunk-lowered, sunk-shift, or-false, seen-plug}
+use Rattle.typst_reuse.proofs.Outcomes.{same-outcome, shift-zero, lowered-zero, sunk-lowered, sunk-shift, or-false}
 use Rattle.typst_reuse.proofs.Inside.{Edits, Lawful, lawful-after}
 use Rattle.typst_reuse.proofs.Spots.{Inside, if-true, if-false, lawful-same, joined-inside, value-same, inside-repeated, inside-wrapped, inside-nesting}
 use Rattle.typst_reuse.proofs.Grows.{inside-growing}
@@ -52,29 +51,6 @@ lawful-scoped outer z w o n c l = record {
   few = (let f = l.few in omega (arith, f, left-empties outer c.state));
   solid = l.solid;
   swaps = λ x e. ap (left_to outer) (l.swaps x (edits-scoped outer z w c x e));
-}
-
--- ---- what is seen
-
-edits-seen : {A : Type 0} (z w : Place) (c : Spot A) (x : Tree) → Edits z w (seen_spot c) x → Edits z w c x
-edits-seen z w c x e = record {
-  before = e.before;
-  fits = record { state = e.fits.state; back = e.fits.back; hints = e.fits.hints; nodes = e.fits.nodes; head = e.fits.head };
-  covers = e.covers;
-  some = e.some;
-  after = e.after;
-}
-
-seen-around : {A : Type 0} (c : Spot A) (b : Outcome (Unit {0})) (x : Tree) → map seen (plug c.hole x) ≡ map seen (plug c.hole c.node) → with_seen (around c b x) ≡ around (seen_spot c) b x
-seen-around c b x e = ap (λ u. answered (c.value, u) (around c b x)) e
-
-lawful-seen : {A : Type 0} (z w : Place) (o n : Outcome A) (c : Spot A) → Lawful z w o n c → Lawful z w (with_seen o) (with_seen n) (seen_spot c)
-lawful-seen z w o n c l = record {
-  old = ap with_seen l.old;
-  fits = record { state = l.fits.state; back = l.fits.back; hints = l.fits.hints; nodes = l.fits.nodes; head = l.fits.head };
-  few = l.few;
-  solid = l.solid;
-  swaps = λ x e. ap with_seen (l.swaps x (edits-seen z w c x e)) ∙ seen-around c (unit_at c w) x (seen-plug c.hole x c.node (block_head c.name) e.fits.head l.fits.head);
 }
 
 -- ---- one level deeper
@@ -203,7 +179,6 @@ module _ (l : Level) (deep : (c : Call) → Spots (Answer c)) (in_block : Block 
     inside-run (scoped f p) z w s =
         let t = entered (f s.reading) s in
         every-map (Lawful z w (run l p z t) (run l p w t)) _ (scoped_spot s.reading) (λ c k. lawful-scoped s.reading z w _ _ c k) (spots l deep in_block p z t) (inside-run p z w t)
-    inside-run (sees p) z w s = every-map (Lawful z w (run l p z s) (run l p w s)) _ seen_spot (λ c k. lawful-seen z w _ _ c k) (spots l deep in_block p z s) (inside-run p z w s)
     inside-run (either p is_wrong q) z w s =
         let o = run l p z s in
         let n = run l p w s in

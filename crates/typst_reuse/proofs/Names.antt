@@ -15,12 +15,12 @@ use Rattle.typst_grammar.specs.Shape.{Shape}
 use Rattle.typst_grammar.specs.Steps.{peek}
 use Rattle.typst_grammar.specs.Syntax.{Parser, Begin, ◌>>◌}
 use Rattle.typst_grammar.specs.Syntax.Op.{flushes}
-use Rattle.typst_grammar.specs.Syntax.Parser.{gives, does, next, pick, repeat, wraps, grows, nests, scoped, sees, either, calls, block}
+use Rattle.typst_grammar.specs.Syntax.Parser.{gives, does, next, pick, repeat, wraps, grows, nests, scoped, either, calls, block}
 use Rattle.typst_grammar.specs.Knot.{Rules, blocks_of, meaning_of, level_of}
 use Rattle.typst_grammar.specs.Meaning.{Outcome, Meaning, Level, blockless, answered, joined, bound, before, grown, is_more, turns, nestings, entered, done, run}
 use Rattle.typst_reuse.specs.Hole.{Hole, wrap_hole}
 use Rattle.typst_reuse.specs.Spot.{Spot, block_head, valued, then_spot, after_spot, rehole, sunk_spot, closed_spot, ended, here_spot}
-use Rattle.typst_reuse.specs.Occurrences.{Spots, joined_spots, goes, last_spot, turns_spots, repeated_spots, reshaped_spot, wrapped_spot, grown_spot, growths_spots, growing_spots, nestings_spots, nesting_spots, scoped_spot, seen_spot, bounded_spots, spots, call_spots, block_spots, level_spots}
+use Rattle.typst_reuse.specs.Occurrences.{Spots, joined_spots, goes, last_spot, turns_spots, repeated_spots, reshaped_spot, wrapped_spot, grown_spot, growths_spots, growing_spots, nestings_spots, nesting_spots, scoped_spot, bounded_spots, spots, call_spots, block_spots, level_spots}
 use Rattle.typst_reuse.specs.Named.{Named}
 use Rattle.typst_reuse.proofs.Every.{Every, every-any, every-append, every-map, every-flat, every-if}
 
@@ -133,7 +133,6 @@ module _ (meant : ℕ → Block → Meaning (Unit {0})) (l : Level) (deep : (c :
   named-run e i j (nests f begin p x) z s = names-nestings meant l.levels f begin (λ y. run l (p y)) (λ y. spots l deep in_block (p y)) (λ y. named-run e i j (p y)) (suc (bound z s)) x z s
   named-run e i j (scoped f p) z s =
       every-map _ _ (scoped_spot s.reading) (λ c h. record { reads = h.reads; earlier = h.earlier; opened = h.opened; later = h.later; closed = h.closed }) _ (named-run e i j p z (entered (f s.reading) s))
-  named-run e i j (sees p) z s = every-map _ _ seen_spot (λ c h. name-valued meant l.levels _ c h) (spots l deep in_block p z s) (named-run e i j p z s)
   named-run e i j (either p is_wrong q) z s = every-if _ (is_wrong (run l p z s).value) [] _ (λ t. tt) (λ t. named-run e i j p z s)
   named-run e i j (calls c) z s = every-map _ _ sunk_spot (λ x h. name-sunk meant l.levels x h) (deep c z s) (i c z s)
   named-run e i j (block b) z s =

@@ -18,7 +18,7 @@ use Rattle.typst_grammar.specs.Shape.Shape.{keeps, holds, lacks, warns, fails}
 use Rattle.typst_grammar.specs.Steps.{peek}
 use Rattle.typst_grammar.specs.Syntax.{Parser, Begin, ◌>>◌}
 use Rattle.typst_grammar.specs.Syntax.Op.{flushes}
-use Rattle.typst_grammar.specs.Syntax.Parser.{gives, does, next, pick, repeat, wraps, grows, nests, scoped, sees, either, calls, block}
+use Rattle.typst_grammar.specs.Syntax.Parser.{gives, does, next, pick, repeat, wraps, grows, nests, scoped, either, calls, block}
 use Rattle.typst_grammar.specs.Knot.{Rules, meaning_of, level_of}
 use Rattle.typst_grammar.specs.Meaning.{Outcome, Meaning, Level, blockless, answered, joined, bound, before, grown, is_more, turns, nestings, entered, less, done, run}
 use Rattle.typst_grammar.specs.Sound.{Tidy, Backs, Stands}
@@ -28,7 +28,7 @@ use Rattle.typst_grammar.proofs.Leaves.{texts, texts-append, texts-same, text-sh
 use Rattle.typst_reuse.specs.Hole.{Deep, top, Hole, change_hole, in_node, in_nodes, behind_nodes, lack_hole, warned_head, wrap_in, wrap_past, wrap_hole}
 use Rattle.typst_reuse.specs.Hole.Deep.{bare, under}
 use Rattle.typst_reuse.specs.Spot.{Spot, block_head, valued, then_spot, after_spot, rehole, sunk_spot, closed_spot, here_spot}
-use Rattle.typst_reuse.specs.Occurrences.{Spots, joined_spots, goes, last_spot, turns_spots, repeated_spots, reshaped_spot, wrapped_spot, grown_spot, growths_spots, growing_spots, nestings_spots, nesting_spots, scoped_spot, seen_spot, spots, call_spots, block_spots, level_spots}
+use Rattle.typst_reuse.specs.Occurrences.{Spots, joined_spots, goes, last_spot, turns_spots, repeated_spots, reshaped_spot, wrapped_spot, grown_spot, growths_spots, growing_spots, nestings_spots, nesting_spots, scoped_spot, spots, call_spots, block_spots, level_spots}
 use Rattle.typst_reuse.proofs.Every.{Every, every-append, every-map, every-flat, every-if}
 
 -- what the nodes before a hole hold
@@ -208,7 +208,6 @@ module _ (l : Level) (deep : (c : Call) → Spots (Answer c)) (in_block : Block 
       placed-growths (λ y. run l (f y)) (λ y. spots l deep in_block (f y)) (λ y. (sane (f y)).kept) (λ y. (sane (f y)).backs) (λ y. placed-run (f y)) (before begin s) (suc (bound z s)) (run l p z s) (spots l deep in_block p z s) z s ((sane p).kept z s r) ((sane p).backs z s) (placed-run p z s r)
   placed-run (nests f begin p x) z s r = placed-nestings (λ y. run l (p y)) (λ y. spots l deep in_block (p y)) (λ y. (sane (p y)).kept) (λ y. (sane (p y)).backs) (λ y. placed-run (p y)) f begin (suc (bound z s)) x z s r
   placed-run (scoped f p) z s r = every-map _ _ (scoped_spot s.reading) (λ c h. record { back = h.back; left = h.left }) _ (placed-run p z (entered (f s.reading) s) r)
-  placed-run (sees p) z s r = every-map _ _ seen_spot (λ c h. placed-valued z s _ c h) (spots l deep in_block p z s) (placed-run p z s r)
   placed-run (either p is_wrong q) z s r = every-if _ (is_wrong (run l p z s).value) [] _ (λ t. tt) (λ t. placed-run p z s r)
   placed-run (calls c) z s r = every-map _ _ sunk_spot (λ x h. record { back = h.back; left = h.left }) (deep c z s) (i c z s r)
   placed-run (block b) z s r =

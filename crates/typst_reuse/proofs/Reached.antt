@@ -17,7 +17,7 @@ use Rattle.typst_grammar.specs.Shape.{Shape, changed, after_node, after_shape}
 use Rattle.typst_grammar.specs.Shape.Shape.{keeps, holds, lacks, warns, fails}
 use Rattle.typst_grammar.specs.Syntax.{Op, Begin, Parser}
 use Rattle.typst_grammar.specs.Syntax.Op.{hand, so, further, column, erred, takes, takes_so, flushes, complains, advises, marks, is_deepest}
-use Rattle.typst_grammar.specs.Syntax.Parser.{gives, does, next, pick, repeat, wraps, grows, nests, scoped, sees, either, calls, block}
+use Rattle.typst_grammar.specs.Syntax.Parser.{gives, does, next, pick, repeat, wraps, grows, nests, scoped, either, calls, block}
 use Rattle.typst_grammar.specs.Meaning.{Outcome, Meaning, Level, plain, joined, answered, turns, as_last, bound, repeated, before, inside, reshaped, grown, is_more, growths, growing, nestings, nesting, given_up, bounded, same_mode, left, entered, flushed_state, done, run}
 use Rattle.typst_grammar.proofs.Frame.{hand-frame}
 use Rattle.typst_grammar.proofs.Looks.{token-same}
@@ -219,7 +219,6 @@ module _ (l : Level) where
     reached-run (grows begin p f) z s h = reached-growths l.classes (λ y. run l (f y)) (λ y. reached-run (f y)) (before begin s) (suc (bound z s)) (run l p z s) z (reached-run p z s h)
     reached-run (nests f begin p x) z s h = reached-nestings l.classes f begin (λ y. run l (p y)) (λ y. reached-run (p y)) (suc (bound z s)) x z s h
     reached-run (scoped f p) z s h = let t = entered (f s.reading) s in reached-left l.classes (moved (run l p z t).taken z) s.reading (run l p z t).state (reached-run p z t h)
-    reached-run (sees p) z s h = reached-run p z s h
     reached-run (either p is_wrong q) z s h =
         let o = run l p z s in
         on_both (λ u. Reached l.classes (moved u.taken z) u.state) (is_wrong o.value) (given_up o (run l q z s)) o (reached-run q z s h) (reached-run p z s h)

@@ -17,7 +17,7 @@ use Rattle.typst_grammar.specs.Shape.Making.{itself}
 use Rattle.typst_grammar.specs.Steps.{peek}
 use Rattle.typst_grammar.specs.Syntax.{Op, Begin, Parser, ◌>>◌}
 use Rattle.typst_grammar.specs.Syntax.Op.{hand, so, further, column, erred, takes, takes_so, flushes, complains, advises, marks, is_deepest}
-use Rattle.typst_grammar.specs.Syntax.Parser.{gives, does, next, pick, repeat, wraps, grows, nests, scoped, sees, either, calls, block}
+use Rattle.typst_grammar.specs.Syntax.Parser.{gives, does, next, pick, repeat, wraps, grows, nests, scoped, either, calls, block}
 use Rattle.typst_grammar.specs.Meaning.{Outcome, Meaning, Level, plain, joined, answered, turns, as_last, bound, repeated, before, grown, is_more, growths, growing, nestings, nesting, given_up, bounded, blockless, entered, hand_of, hand_asks_of, done, run}
 use Rattle.typst_grammar.specs.Sound.{Within}
 use Rattle.typst_grammar.proofs.Knot.{Sane, sane-run, sane-meaning, sane-block, sane-plain}
@@ -173,7 +173,6 @@ module _ (l : Level) (d : (c : Call) → Sane (l.deeper c)) (e : (b : Block) →
     in-run (grows begin p f) z s = in-growths (λ y. run l (f y)) (λ y. w-run (f y)) (λ y. in-run (f y)) (before begin s) (suc (bound z s)) (run l p z s) z (gap_of s.known) (w-run p z s) (in-run p z s)
     in-run (nests f begin p x) z s = in-nestings f begin (λ y. run l (p y)) (λ y. w-run (p y)) (λ y. in-run (p y)) (suc (bound z s)) x z s
     in-run (scoped f p) z s = in-run p z (entered (f s.reading) s)
-    in-run (sees p) z s = in-run p z s
     in-run (either p is_wrong q) z s =
         let o = run l p z s in
         on_both (λ u. AllAt (bound z s) u.asks) (is_wrong o.value) (given_up o (run l q z s)) o (at-only (bound z s) (o.asks ++ (run l q z s).asks) (at-append (bound z s) o.asks _ (in-run p z s) (in-run q z s))) (in-run p z s)

@@ -15,7 +15,7 @@ use Rattle.typst_grammar.specs.Shape.{Shape}
 use Rattle.typst_grammar.specs.Steps.{peek}
 use Rattle.typst_grammar.specs.Syntax.{Parser, Begin, ◌>>◌}
 use Rattle.typst_grammar.specs.Syntax.Op.{flushes}
-use Rattle.typst_grammar.specs.Syntax.Parser.{gives, does, next, pick, repeat, wraps, grows, nests, scoped, sees, either, calls, block}
+use Rattle.typst_grammar.specs.Syntax.Parser.{gives, does, next, pick, repeat, wraps, grows, nests, scoped, either, calls, block}
 use Rattle.typst_grammar.specs.Knot.{Rules, meaning_of, level_of}
 use Rattle.typst_grammar.specs.Markup.{markup_reading}
 use Rattle.typst_grammar.specs.Meaning.{Outcome, Meaning, Level, answered, joined, bound, before, blockless, grown, is_more, nestings, entered, start_point, done, run}
@@ -95,7 +95,6 @@ module _ (l : Level) (deep_spots : (c : Call) → Spots (Answer c)) (in_block : 
       growths_lost (λ y. run l (f y)) (λ y. spots l deep_spots in_block (f y)) (λ y. lost (f y)) (before begin s) (suc (bound z s)) (run l p z s) (spots l deep_spots in_block p z s) (lost p z s) z
   lost (nests f begin p x) z s = nestings_lost f begin (λ y. run l (p y)) (λ y. spots l deep_spots in_block (p y)) (λ y. lost (p y)) (suc (bound z s)) x z s
   lost (scoped f p) z s = lost p z (entered (f s.reading) s)
-  lost (sees p) z s = lost p z s
   lost (either p is_wrong q) z s = if is_wrong (run l p z s).value then [] else lost p z s
   lost (calls c) z s = sunk (deep_lost c z s)
   lost (block b) z s = let o = done l flushes z s in if l.has b then shift o.taken (lost_inside b (moved o.taken z) (forgot o.state)) else []

@@ -13,7 +13,7 @@ use Rattle.typst_grammar.specs.Knot.{Rules, meaning_of, level_of}
 use Rattle.typst_grammar.specs.Steps.{peek}
 use Rattle.typst_grammar.specs.Syntax.{Parser, Begin, ◌>>◌}
 use Rattle.typst_grammar.specs.Syntax.Op.{flushes}
-use Rattle.typst_grammar.specs.Syntax.Parser.{gives, does, next, pick, repeat, wraps, grows, nests, scoped, sees, either, calls, block}
+use Rattle.typst_grammar.specs.Syntax.Parser.{gives, does, next, pick, repeat, wraps, grows, nests, scoped, either, calls, block}
 use Rattle.typst_grammar.specs.Meaning.{Outcome, Meaning, Level, answered, joined, turns, bound, before, blockless, grown, is_more, nestings, entered, left, done, run}
 use Rattle.typst_reuse.specs.Hole.{plug, wrap_hole}
 use Rattle.typst_reuse.specs.Spot.{Spot, block_head, valued, then_spot, after_spot, rehole, sunk_spot, closed_spot, here_spot}
@@ -83,9 +83,6 @@ nesting_spots f begin m sp x z s = nestings_spots f begin m sp (suc (bound z s))
 abbrev pub scoped_spot : {A : Type 0} → Reading → Spot A → Spot A
 scoped_spot outer c = record c { state = left outer c.state }
 
-abbrev pub seen_spot : {A : Type 0} → Spot A → Spot (A × List Seen)
-seen_spot c = valued (c.value, map seen (plug c.hole c.node)) c
-
 -- a block with those within it
 abbrev pub bounded_spots : Block → Meaning (Unit {0}) → Spots (Unit {0}) → Spots (Unit {0})
 bounded_spots b m sp z s = here_spot b m z s ∷ map (closed_spot b s) (sp z (forgot s))
@@ -105,7 +102,6 @@ module _ (l : Level) (deep_spots : (c : Call) → Spots (Answer c)) (block_spots
   spots (grows begin p f) z s = growing_spots (λ y. run l (f y)) (λ y. spots (f y)) (before begin s) (run l p) (spots p) z s
   spots (nests f begin p x) z s = nesting_spots f begin (λ y. run l (p y)) (λ y. spots (p y)) x z s
   spots (scoped f p) z s = map (scoped_spot s.reading) (spots p z (entered (f s.reading) s))
-  spots (sees p) z s = map seen_spot (spots p z s)
   spots (either p is_wrong q) z s = if is_wrong (run l p z s).value then [] else spots p z s
   spots (calls c) z s = map sunk_spot (deep_spots c z s)
   spots (block b) z s =
