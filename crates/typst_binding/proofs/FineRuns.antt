@@ -8,13 +8,13 @@ use Rattle.typst_kinds.specs.declared.kind.SyntaxKind.TheVariants as kind
 use Rattle.typst_kinds.specs.declared.mode.SyntaxMode.{SyntaxMode}
 use Rattle.typst_lines.specs.Place.{Place, moved}
 use Rattle.typst_node.specs.Diagnostic.{hint_with}
-use Rattle.typst_node.specs.Tree.{Tree, leaf_of, error_of, advised}
+use Rattle.typst_node.specs.Tree.{Tree, leaf_of, error_of, advised, all_advised}
 use Rattle.typst_raw.specs.Raw.{raw_node, delimited_node, closed_node, block_node, inline_node, delimited, two_delimiters, tag_leaves, is_pair, before_ticks, ticks}
 use Rattle.typst_raw.specs.Lines.{leaf, Row, trimmed, first_line, later_rows, is_blank, dedent, front, closing, line_leaves, first_leaves, block_of, block_leaves, inline_leaves}
 use Rattle.typst_raw.specs.Tag.{tag, next_tag, warned, changes, is_some_text, is_whole, cut_tag, no_tag, only_tag}
 use Rattle.typst_token_nodes.specs.Faults.{hints, message}
 use Rattle.typst_token_nodes.specs.Fields.{field_node, fields_node, name_node, named_node, names_of, access_node}
-use Rattle.typst_token_nodes.specs.Nodes.{token_node, plain_node, fault_node, with_hints, is_raw, has_fields}
+use Rattle.typst_token_nodes.specs.Nodes.{token_node, plain_node, fault_node, is_raw, has_fields}
 use Rattle.typst_tokens.specs.declared.token.Fault.{Fault}
 use Rattle.typst_tokens.specs.declared.token.Token.{Token}
 use Rattle.typst_code.specs.calls.Block.{Block}
@@ -36,7 +36,7 @@ use Rattle.typst_binding.proofs.Fine.{All, Fine, Fines, fines-all, fines-append,
 -- ---- nodes of tokens
 
 -- with hints or a warning the same holds
-hints-wrong : (hints : List (List ℕ)) (t : Tree) → has_errors t ≡ true → has_errors (with_hints hints t) ≡ true
+hints-wrong : (hints : List (List ℕ)) (t : Tree) → has_errors t ≡ true → has_errors (all_advised hints t) ≡ true
 hints-wrong [] t h = h
 hints-wrong (hint ∷ hints) t h = hints-wrong hints (advised (hint_with None hint) t) h
 
@@ -134,7 +134,7 @@ pub record Still (t : Tree) : Type 0 where
   pub no_sign : sign_of t.head.kind ≡ None
   pub no_operator : operator_of t ≡ None
 
-still-hints : (hints : List (List ℕ)) (t : Tree) → t.head.kind ≡ kind.Error → (with_hints hints t).head.kind ≡ kind.Error
+still-hints : (hints : List (List ℕ)) (t : Tree) → t.head.kind ≡ kind.Error → (all_advised hints t).head.kind ≡ kind.Error
 still-hints [] t h = h
 still-hints (hint ∷ hints) t h = still-hints hints (advised (hint_with None hint) t) h
 

@@ -6,12 +6,12 @@ use Rattle.typst_kinds.specs.declared.kind.SyntaxKind.{SyntaxKind}
 use Rattle.typst_kinds.specs.declared.kind.SyntaxKind.TheVariants as kind
 use Rattle.typst_lines.specs.Place.{Place, moved}
 use Rattle.typst_node.specs.Diagnostic.{hint_with}
-use Rattle.typst_node.specs.Tree.{Tree, leaf_of, error_of, advised}
+use Rattle.typst_node.specs.Tree.{Tree, leaf_of, error_of, advised, all_advised}
 use Rattle.typst_token_nodes.specs.Faults.{hints, message}
 use Rattle.typst_raw.specs.Raw.{raw_node, delimited_node, closed_node, block_node, inline_node, delimited, two_delimiters, is_pair, before_ticks, ticks}
 use Rattle.typst_raw.specs.Tag.{tag, next_tag, warned, changes, is_some_text, is_whole, cut_tag, no_tag, only_tag}
 use Rattle.typst_token_nodes.specs.Fields.{access_node}
-use Rattle.typst_token_nodes.specs.Nodes.{token_node, plain_node, fault_node, with_hints, is_raw, has_fields}
+use Rattle.typst_token_nodes.specs.Nodes.{token_node, plain_node, fault_node, is_raw, has_fields}
 use Rattle.typst_tokens.specs.declared.token.Token.{Token}
 use Rattle.typst_tokens.specs.declared.token.Fault.{Fault}
 use Rattle.typst_code.specs.Point.{Point, Trivia, pending}
@@ -232,7 +232,7 @@ silent-plain a s = record { nodes = refl; back = refl; hints = refl }
 
 -- ---- tokens
 
-hints-kind : (hints : List (List ℕ)) (t : Tree) → t.head.kind ≡ kind.Error → (with_hints hints t).head.kind ≡ kind.Error
+hints-kind : (hints : List (List ℕ)) (t : Tree) → t.head.kind ≡ kind.Error → (all_advised hints t).head.kind ≡ kind.Error
 hints-kind [] t h = h
 hints-kind (hint ∷ hints) t h = hints-kind hints (advised (hint_with None hint) t) h
 

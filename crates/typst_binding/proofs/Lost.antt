@@ -3,10 +3,10 @@ use Rattle.std.proofs.Common.{◌≡◌, ℕ, zero, suc, ◌+◌, Bool, true, fa
 use Rattle.typst_kinds.specs.Kinds.{is_error}
 use Rattle.typst_lines.specs.Place.{Place, moved}
 use Rattle.typst_node.specs.Diagnostic.{hint_with}
-use Rattle.typst_node.specs.Tree.{Tree, forest, advised}
+use Rattle.typst_node.specs.Tree.{Tree, forest, advised, all_advised}
 use Rattle.typst_classes.specs.Classes.{CharClasses}
 use Rattle.typst_code.specs.Point.{Point}
-use Rattle.typst_code.specs.Shape.{Shape, all_advised, hinted_last, hinted, shaped}
+use Rattle.typst_code.specs.Shape.{Shape, hinted_last, hinted, shaped}
 use Rattle.typst_code.specs.Shape.Shape.{keeps, holds, lacks, warns, fails}
 use Rattle.typst_code.specs.Sound.{Backs}
 use Rattle.typst_code.specs.Meaning.{Outcome, Meaning, less, joined, answered, inside, grown, is_more, growths}

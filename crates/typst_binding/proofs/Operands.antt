@@ -7,12 +7,12 @@ use Rattle.typst_kinds.specs.declared.kind.SyntaxKind.{SyntaxKind}
 use Rattle.typst_kinds.specs.declared.kind.SyntaxKind.TheVariants as kind
 use Rattle.typst_lines.specs.Place.{Place, moved}
 use Rattle.typst_node.specs.Diagnostic.{hint_with}
-use Rattle.typst_node.specs.Tree.{Tree, text_of, leaf_of, advised}
+use Rattle.typst_node.specs.Tree.{Tree, text_of, leaf_of, advised, all_advised}
 use Rattle.typst_token_nodes.specs.Nodes.{token_node}
 use Rattle.typst_code.specs.Ask.{Ask}
 use Rattle.typst_code.specs.Hand.{Hand, hand_at, len_at, text_ahead}
 use Rattle.typst_code.specs.Point.{Point}
-use Rattle.typst_code.specs.Shape.{all_advised, hinted_error, hinted, count_empty, after_node}
+use Rattle.typst_code.specs.Shape.{hinted_error, hinted, count_empty, after_node}
 use Rattle.typst_code.specs.Shape.Making.{itself}
 use Rattle.typst_code.specs.Steps.{eat_making, eat}
 use Rattle.typst_code.specs.Meaning.{Outcome, Level, plain, less, joined, hand_of, renewed, taken_node, run}

@@ -5,8 +5,8 @@ use borrow.Author.Tests.{lt-ltb, le-ltb}
 use Rattle.std.specs.Prelude.{None}
 use Rattle.typst_kinds.specs.Kinds.{is_error}
 use Rattle.typst_node.specs.Diagnostic.{hint_with}
-use Rattle.typst_node.specs.Tree.{Tree, advised}
-use Rattle.typst_combinators.specs.Shape.{all_advised, hinted_error, hinted_last, hinted}
+use Rattle.typst_node.specs.Tree.{Tree, advised, all_advised}
+use Rattle.typst_combinators.specs.Shape.{hinted_error, hinted_last, hinted}
 use Rattle.typst_combinators.specs.Meaning.{Outcome, less, standing, joined}
 use Rattle.typst_combinators.proofs.Places.{less-append, less-twice, less-none, length-less}
 

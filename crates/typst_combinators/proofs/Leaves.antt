@@ -6,7 +6,8 @@ use Rattle.typst_kinds.specs.declared.kind.SyntaxKind.{SyntaxKind}
 use Rattle.typst_kinds.specs.declared.mode.SyntaxMode.{SyntaxMode}
 use Rattle.typst_kinds.specs.Kinds.{is_error}
 use Rattle.typst_lines.specs.Place.{Place, moved}
-use Rattle.typst_node.specs.Tree.{Tree, Forest, forest, trees, joined as text_joined, text_of, with_kind, made_error, advised, error_of, topped, inner_of}
+use Rattle.typst_node.specs.Tree.{Tree, Forest, forest, trees, joined as text_joined, text_of, with_kind, made_error, advised, all_advised, error_of, topped, inner_of}
+use Rattle.typst_node.proofs.Texts.{text_all_advised}
 use Rattle.typst_node.specs.Tree.Forest.{none, more}
 use Rattle.typst_kinds.specs.declared.kind.SyntaxKind.TheVariants as kind
 use Rattle.typst_node.specs.Messages.{made_unexpected, made_expected, expected_error, expected_message, unexpected_message, is_lost_name, keyword_hint}
@@ -17,7 +18,7 @@ use Rattle.typst_lines.proofs.Bools.{on}
 use Rattle.typst_combinators.specs.declared.calls.Block.{Block}
 use Rattle.typst_combinators.specs.declared.calls.Call.{Call}
 use Rattle.typst_combinators.specs.Point.{Trivia, Point, forgot}
-use Rattle.typst_combinators.specs.Shape.{Making, made, all_advised, hinted_error, hinted_last, hinted, Change, changed, on_first, first_changed, is_delimited, in_parens, renamed_last, parens_renamed, without_parens, Shape, shaped, count_empty, after_node, after_change, after_shape}
+use Rattle.typst_combinators.specs.Shape.{Making, made, hinted_error, hinted_last, hinted, Change, changed, on_first, first_changed, is_delimited, in_parens, renamed_last, parens_renamed, without_parens, Shape, shaped, count_empty, after_node, after_change, after_shape}
 use Rattle.typst_combinators.specs.Shape.Change.{stays, turns_wrong, is_not, renamed, unparened}
 use Rattle.typst_combinators.specs.Shape.Making.{itself, of_kind, surprise, wanted}
 use Rattle.typst_combinators.specs.Shape.Shape.{keeps, holds, lacks, warns, fails}
@@ -75,14 +76,10 @@ text-wanted thing t =
     (advised (hint_with None (keyword_hint (text_of t))) (error_of (expected_message thing (name_of t.head.kind)) (text_of t)))
     (error_of (expected_message thing (name_of t.head.kind)) (text_of t)) (append-nil (text_of t)) (append-nil (text_of t)))
 
-text-advised : (hints : List (List ℕ)) (t : Tree) → text_of (all_advised hints t) ≡ text_of t
-text-advised [] t = refl
-text-advised (hint ∷ hints) t = text-advised hints (advised (hint_with None hint) t)
-
 pub text-made : (m : Making) (t : Tree) → text_of (made m t) ≡ text_of t
 text-made itself t = refl
 text-made (of_kind k) t = text-kind k t
-text-made (surprise hints) t = text-advised hints (made_unexpected t) ∙ text-error (unexpected_message (name_of t.head.kind)) t
+text-made (surprise hints) t = text_all_advised hints (made_unexpected t) ∙ text-error (unexpected_message (name_of t.head.kind)) t
 text-made (wanted thing) t = text-wanted thing t
 
 -- ---- what becomes of several nodes
@@ -130,7 +127,7 @@ less-same k ts us h =
 
 -- with hints
 text-hinted : (hints : List (List ℕ)) (t : Tree) → text_of (hinted_error hints t) ≡ text_of t
-text-hinted hints t = on (λ (u : Tree). text_of u ≡ text_of t) (is_error t.head.kind) (all_advised hints t) t (text-advised hints t) refl
+text-hinted hints t = on (λ (u : Tree). text_of u ≡ text_of t) (is_error t.head.kind) (all_advised hints t) t (text_all_advised hints t) refl
 
 same-last : (hints : List (List ℕ)) (ts : List Tree) → Same (hinted_last hints ts) ts
 same-last hints [] = tt

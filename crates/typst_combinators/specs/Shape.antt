@@ -5,7 +5,7 @@ use Rattle.typst_kinds.specs.declared.kind.SyntaxKind.TheVariants as kind
 use Rattle.typst_kinds.specs.Kinds.{is_error}
 use Rattle.typst_node.specs.Diagnostic.{hint_with, warning_with}
 use Rattle.typst_node.specs.Messages.{made_unexpected, made_expected}
-use Rattle.typst_node.specs.Tree.{Tree, forest, trees, joined, text_of, inner_of, error_of, with_kind, made_error, advised, remarked}
+use Rattle.typst_node.specs.Tree.{Tree, forest, trees, joined, text_of, inner_of, error_of, with_kind, made_error, advised, all_advised, remarked}
 use Rattle.typst_combinators.specs.Point.{Point, is_nil}
 
 -- ---- what the token at hand becomes
@@ -19,11 +19,6 @@ pub data Making : Type 0 where
   surprise : List (List ℕ) → Making
   -- an error that this was expected in its place
   wanted : List ℕ → Making
-
--- the node with these hints on its last diagnostic
-abbrev pub all_advised : List (List ℕ) → Tree → Tree
-all_advised [] t = t
-all_advised (hint ∷ hints) t = all_advised hints (advised (hint_with None hint) t)
 
 abbrev pub made : Making → Tree → Tree
 made itself t = t

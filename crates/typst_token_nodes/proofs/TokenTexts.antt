@@ -4,7 +4,7 @@ use Rattle.std.specs.Str.{chars}
 use Rattle.typst_lines.proofs.Bools.{on}
 use Rattle.typst_lines.specs.Place.{Place, place_at, moved}
 use Rattle.typst_readers.proofs.Moves.{moved-more}
-use Rattle.typst_token_nodes.specs.Nodes.{IsRead, is_leaf, token_node, plain_node, fault_node, is_raw, has_fields, with_hints}
+use Rattle.typst_token_nodes.specs.Nodes.{IsRead, is_leaf, token_node, plain_node, fault_node, is_raw, has_fields}
 use Rattle.typst_token_nodes.specs.Faults.{hints, message}
 use Rattle.typst_token_nodes.specs.Fields.{access_node}
 use Rattle.typst_token_nodes.proofs.Accesses.{text-access}
@@ -17,7 +17,8 @@ use Rattle.typst_raw.specs.Raw.{raw_node}
 use Rattle.typst_kinds.specs.Kinds.{is_error}
 use Rattle.typst_node.specs.Diagnostic.{hint_with}
 use Rattle.typst_classes.specs.Classes.{CharClasses}
-use Rattle.typst_node.specs.Tree.{Tree, text_of, leaf_of, error_of, advised}
+use Rattle.typst_node.specs.Tree.{Tree, text_of, leaf_of, error_of, all_advised}
+use Rattle.typst_node.proofs.Texts.{text_all_advised}
 use Rattle.typst_tokens.specs.Memory.{Memory}
 
 -- three characters on from a text's start
@@ -37,12 +38,8 @@ is-read k r p q t node taken e made same = record {
 
 -- ---- the text of a node
 
-text-hints : (more : List (List ℕ)) (t : Tree) → text_of (with_hints more t) ≡ text_of t
-text-hints [] t = refl
-text-hints (hint ∷ more) t = text-hints more (advised (hint_with None hint) t)
-
 text-fault : (f : Fault) (taken : List ℕ) → text_of (fault_node f taken) ≡ encode_utf8_all taken
-text-fault f taken = text-hints (hints f taken) (error_of (message f taken) (encode_utf8_all taken)) ∙ append-nil (encode_utf8_all taken)
+text-fault f taken = text_all_advised (hints f taken) (error_of (message f taken) (encode_utf8_all taken)) ∙ append-nil (encode_utf8_all taken)
 
 text-plain : (k : CharClasses) (t : Token) (taken : List ℕ) → text_of (plain_node k t taken) ≡ encode_utf8_all taken
 text-plain k t taken =
@@ -75,5 +72,5 @@ leaf-is k t taken h = by t.fault h
     by (Some g) h = absurd (cc)
 
 -- a node that was made with a message, and got hints
-pub fault-is : (f : Fault) (taken bytes said : List ℕ) (node made : Tree) → encode_utf8_all taken ≡ bytes → node ≡ error_of said bytes → said ≡ message f taken → made ≡ with_hints (hints f taken) node → made ≡ fault_node f taken
-fault-is f taken bytes said node made u e m h = h ∙ ap (with_hints (hints f taken)) (e ∙ ap (λ x. error_of x bytes) m ∙ ap (error_of (message f taken)) (sym u))
+pub fault-is : (f : Fault) (taken bytes said : List ℕ) (node made : Tree) → encode_utf8_all taken ≡ bytes → node ≡ error_of said bytes → said ≡ message f taken → made ≡ all_advised (hints f taken) node → made ≡ fault_node f taken
+fault-is f taken bytes said node made u e m h = h ∙ ap (all_advised (hints f taken)) (e ∙ ap (λ x. error_of x bytes) m ∙ ap (error_of (message f taken)) (sym u))

@@ -5,8 +5,7 @@ use Rattle.typst_kinds.specs.Kinds.{is_error}
 use Rattle.typst_kinds.specs.declared.kind.SyntaxKind.{SyntaxKind}
 use Rattle.typst_kinds.specs.declared.kind.SyntaxKind.TheVariants as kind
 use Rattle.typst_lines.specs.Place.{Place}
-use Rattle.typst_node.specs.Diagnostic.{hint_with}
-use Rattle.typst_node.specs.Tree.{Tree, leaf_of, error_of, advised}
+use Rattle.typst_node.specs.Tree.{Tree, leaf_of, error_of, all_advised}
 use Rattle.typst_raw.specs.Raw.{raw_node}
 use Rattle.typst_readers.specs.Reader.{Reader, exec, eaten}
 use Rattle.typst_tokens.specs.declared.token.Token.{Token}
@@ -15,14 +14,9 @@ use Rattle.typst_token_nodes.specs.Faults.{hints, message}
 use Rattle.typst_token_nodes.specs.Fields.{access_node}
 use Rattle.typst_tokens.specs.Memory.{Memory}
 
--- A tree with hints for its last diagnostic.
-abbrev pub with_hints : List (List ℕ) → Tree → Tree
-with_hints [] t = t
-with_hints (hint ∷ more) t = with_hints more (advised (hint_with None hint) t)
-
 -- An error leaf of the characters, with message and hints.
 abbrev pub fault_node : Fault → List ℕ → Tree
-fault_node f taken = with_hints (hints f taken) (error_of (message f taken) (encode_utf8_all taken))
+fault_node f taken = all_advised (hints f taken) (error_of (message f taken) (encode_utf8_all taken))
 
 -- Only raw texts and names with fields are more than leaves.
 abbrev pub is_raw : SyntaxKind → Bool

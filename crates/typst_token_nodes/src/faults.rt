@@ -1,9 +1,9 @@
 //! The nodes of tokens with faults: what is said of them.
 ghost use Rattle.std.specs.Prelude.{◌≡◌, IfOk, OnOk, string_bytes};
 ghost use Rattle.std.specs.Str.{chars};
-ghost use Rattle.typst_node.specs.Tree.{error_of};
+ghost use Rattle.typst_node.specs.Tree.{all_advised, error_of};
 ghost use Rattle.typst_token_nodes.specs.Faults as spec;
-ghost use Rattle.typst_token_nodes.specs.Nodes.{fault_node, with_hints};
+ghost use Rattle.typst_token_nodes.specs.Nodes.{fault_node};
 ghost use Rattle.typst_tokens.specs.declared.token.Fault.TheVariants as fault;
 
 use crate::numbers::number_node;
@@ -76,7 +76,7 @@ fn character_node(alloc: Global, text: &str) -> Result<SyntaxNode, AllocError>
 }
 
 fn hint_at_character(node: &mut SyntaxNode, text: &str) -> Result<(), AllocError>
-    ensures { OnOk result (node.new ≡ with_hints (spec.character_hints text.now) node.old) }
+    ensures { OnOk result (node.new ≡ all_advised (spec.character_hints text.now) node.old) }
 {
     match text {
         "#" => {
@@ -119,7 +119,7 @@ fn operator_node(alloc: Global, text: &str) -> Result<SyntaxNode, AllocError>
 }
 
 fn hint_at_operator(node: &mut SyntaxNode, text: &str) -> Result<(), AllocError>
-    ensures { OnOk result (node.new ≡ with_hints (spec.operator_hints text.now) node.old) }
+    ensures { OnOk result (node.new ≡ all_advised (spec.operator_hints text.now) node.old) }
 {
     match text {
         "&&" => node.hint("in Typst, `and` is used for logical AND"),

@@ -5,7 +5,8 @@ ghost use Rattle.typst_lines.specs.Place.{moved, past, place_at};
 ghost use Rattle.typst_lines.specs.Scanner.{place};
 ghost use Rattle.std.specs.Str.{chars};
 ghost use Rattle.typst_token_nodes.specs.Faults as spec;
-ghost use Rattle.typst_token_nodes.specs.Nodes.{fault_node, with_hints};
+ghost use Rattle.typst_node.specs.Tree.{all_advised};
+ghost use Rattle.typst_token_nodes.specs.Nodes.{fault_node};
 ghost use Rattle.typst_tokens.specs.declared.token.Fault.TheVariants as fault;
 ghost use Rattle.typst_tokens.specs.declared.token.NumberFault.TheVariants as number_fault;
 
@@ -162,7 +163,7 @@ fn add_hint(
     before: &str,
     suffix: &str,
 ) -> Result<(), AllocError>
-    ensures { OnOk result (node.new ≡ with_hints (spec.number_hints found (chars before.now) suffix.now) node.old) }
+    ensures { OnOk result (node.new ≡ all_advised (spec.number_hints found (chars before.now) suffix.now) node.old) }
 {
     match found {
         NumberFault::UnknownSuffix => Ok(()),
@@ -175,7 +176,7 @@ fn add_hint(
 
 /// Tells of a suffix that no number has.
 fn add_suffix(alloc: Global, node: &mut SyntaxNode, suffix: &str) -> Result<(), AllocError>
-    ensures { OnOk result (node.new ≡ with_hints (spec.suffix_hints suffix.now) node.old) }
+    ensures { OnOk result (node.new ≡ all_advised (spec.suffix_hints suffix.now) node.old) }
 {
     if suffix.is_empty() || is_unit(suffix) {
         return Ok(());
@@ -192,7 +193,7 @@ fn add_decimal(
     before: &str,
     suffix: &str,
 ) -> Result<(), AllocError>
-    ensures { OnOk result (node.new ≡ with_hints (spec.number_hints (number_fault.Suffix base) (chars before.now) suffix.now) node.old) }
+    ensures { OnOk result (node.new ≡ all_advised (spec.number_hints (number_fault.Suffix base) (chars before.now) suffix.now) node.old) }
 {
     let hint = if is_unit(suffix) {
         in_decimal(alloc, base, before, suffix)?

@@ -4,7 +4,7 @@ use Rattle.std.specs.Str.{chars}
 use Rattle.typst_token_nodes.proofs.TokenTexts.{fault-is}
 use Rattle.typst_token_nodes.proofs.faults.operator_node.Goals as goal
 use Rattle.typst_token_nodes.specs.Faults.{operator_hints}
-use Rattle.typst_token_nodes.specs.Nodes.{with_hints}
+use Rattle.typst_node.specs.Tree.{all_advised}
 use Rattle.typst_tokens.specs.declared.token.Fault.TheVariants.{InvalidOperator}
 
 pub returns : goal.returns
@@ -13,4 +13,4 @@ returns c =
     let same = encodes-chars text c.utf8.text in
     fault-is InvalidOperator (chars text) text c.as_str.result.now c.in_ok-node.node _ same c.in_ok-node.ensures
     (c.as_str.ensures.value ∙ c.in_ok-message.ensures.ok ∙ ap (λ t. codes "`" ++ (t ++ codes "` is not valid in code")) (sym same))
-    (c.in_ok-hint_at_operator.ensures ∙ ap (λ t. with_hints (operator_hints t) c.in_ok-node.node) (sym same))
+    (c.in_ok-hint_at_operator.ensures ∙ ap (λ t. all_advised (operator_hints t) c.in_ok-node.node) (sym same))

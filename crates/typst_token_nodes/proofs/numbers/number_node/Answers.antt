@@ -5,7 +5,7 @@ use Rattle.typst_token_nodes.proofs.Suffixes.{said, start-of}
 use Rattle.typst_token_nodes.proofs.TokenTexts.{fault-is}
 use Rattle.typst_token_nodes.proofs.numbers.number_node.Goals as goal
 use Rattle.typst_token_nodes.specs.Faults.{at_suffix}
-use Rattle.typst_token_nodes.specs.Nodes.{with_hints}
+use Rattle.typst_node.specs.Tree.{all_advised}
 use Rattle.typst_tokens.specs.declared.token.Fault.TheVariants.{Number}
 
 pub returns : goal.returns
@@ -15,4 +15,4 @@ returns c =
     let is = said c.args.found (chars text) c.before-before.result.now c.after-suffix.result.now c.before-before.utf8 c.after-suffix.utf8
     (c.before-before.ensures.characters ∙ ap (λ z. reverse z.behind) split) (c.after-suffix.ensures.characters ∙ ap (λ z. z.ahead) split) in
     fault-is (Number c.args.found) (chars text) text c.as_str.result.now c.in_ok-node.node _ (encodes-chars text c.utf8.text) c.in_ok-node.ensures
-    (c.as_str.ensures.value ∙ c.in_ok-message.ensures ∙ is.0) (c.in_ok-add_hint.ensures ∙ ap (λ hints. with_hints hints c.in_ok-node.node) is.1)
+    (c.as_str.ensures.value ∙ c.in_ok-message.ensures ∙ is.0) (c.in_ok-add_hint.ensures ∙ ap (λ hints. all_advised hints c.in_ok-node.node) is.1)
