@@ -14,15 +14,6 @@ use Rattle.typst_tokens.specs.declared.token.Base.{Base}
 use Rattle.typst_tokens.specs.declared.token.NumberFault.TheVariants as number_fault
 use Rattle.typst_tokens.specs.declared.token.Token.{Token}
 
--- a text without bytes has no characters
-pub none-is : (text : List ℕ) → IsUtf8 text → (length (chars text) == 0) ≡ (length text == 0)
-none-is [] u = ap (λ t. length t == 0) chars-nil
-none-is (b ∷ text) u = cases (chars (b ∷ text)) refl
-  where
-    cases : (cs : List ℕ) → chars (b ∷ text) ≡ cs → (length cs == 0) ≡ (length (b ∷ text) == 0)
-    cases [] f = let none : b ∷ text ≡ [] = sym (encodes-chars (b ∷ text) u) ∙ ap encode_utf8_all f in absurd (cc)
-    cases (c ∷ cs) f = grind (arith, nat_tests)
-
 pub exponent-is : (cs : List ℕ) (e : Bool) → (length cs == 0) ≡ e → with_exponent cs ≡ (if e then numeral.Invalid number_fault.Exponent else numeral.Valid kind.Float)
 exponent-is cs e p = ap (λ x. if x then numeral.Invalid number_fault.Exponent else numeral.Valid kind.Float) p
 

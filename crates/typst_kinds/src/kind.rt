@@ -436,6 +436,7 @@ impl SyntaxKind {
     }
 
     /// Whether the kind is of space or of a comment, which stand between what the grammar asks for.
+    #[inline(always)]
     pub fn is_trivia(self) -> bool
         ensures { result ≡ is_trivia self }
     {

@@ -294,6 +294,7 @@ impl<'a> Scanner<'a> {
     }
 
     /// Eats the longest run of characters of the set.
+    #[inline(always)]
     pub fn eat_while<S: CharSet>(&mut self, set: &S) -> &'a str
         ensures moved { place self.new ≡ past (S.members set.now) (place self.old) }
         ensures taken { chars result.now ≡ run (S.members set.now) (place self.old) }

@@ -97,14 +97,6 @@ link-is cs link b e f = ap (λ x. (x, b)) e ∙ ap (λ x. (without_last_signs (f
 
 -- ---- names
 
-pub none-is : (text : List ℕ) → IsUtf8 text → (length (chars text) == 0) ≡ (length text == 0)
-none-is [] u = ap (λ t. length t == 0) chars-nil
-none-is (b ∷ text) u = cases (chars (b ∷ text)) refl
-  where
-    cases : (cs : List ℕ) → chars (b ∷ text) ≡ cs → (length cs == 0) ≡ (length (b ∷ text) == 0)
-    cases [] f = let none : b ∷ text ≡ [] = sym (encodes-chars (b ∷ text) u) ∙ ap encode_utf8_all f in absurd (cc)
-    cases (c ∷ cs) f = grind (arith, nat_tests)
-
 pub label-some : (k : CharClasses) (cs : List ℕ) (b : Bool) → (length cs == 0) ≡ false → b ≡ list_all (is_name k) cs → b ≡ is_label_id k cs
 label-some k cs b e f = f ∙ sym (ap (λ x. not x && list_all (is_name k) cs) e)
 

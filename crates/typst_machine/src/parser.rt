@@ -24,10 +24,8 @@ use typst_kinds::{SyntaxKind, SyntaxMode};
 use typst_lines::Scanner;
 use typst_node::SyntaxNode;
 
-/// Room for a node is taken at once for so many bytes of the text, which suffices as a rule.
-const BYTES_OF_A_NODE: usize = 2;
-
-/// Room is taken at once for so many nodes at most. What isn't written to takes no memory.
+/// Room is taken at once for a node for each byte of the text, but for so many nodes at most: it
+/// takes addresses, and pages where nodes are written to it.
 const MOST_ROOM: usize = 100_000;
 
 /// A parser of a text: the nodes so far, the token at hand, and how to go on.
@@ -80,7 +78,7 @@ impl<'s> Parser<'s> {
         };
         Ok(Parser {
             alloc,
-            nodes: Vec::with_capacity(alloc, (text.len() / BYTES_OF_A_NODE).min(MOST_ROOM))?,
+            nodes: Vec::with_capacity(alloc, text.len().min(MOST_ROOM))?,
             ahead: ReadAhead::none(alloc, Scanner::new(text)),
             state,
             log: Log::new(alloc, keeps_notes),

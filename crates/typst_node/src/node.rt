@@ -41,6 +41,7 @@ impl Model for SyntaxNode {
 
 impl SyntaxNode {
     /// A leaf of that kind, with a copy of the text.
+    #[inline(always)]
     pub fn leaf(alloc: Global, kind: SyntaxKind, text: &str) -> Result<SyntaxNode, AllocError>
         requires { is_error kind ≡ false }
         ensures { IfOk result (λ t. t ≡ leaf_of kind text.now) }
@@ -113,6 +114,7 @@ impl SyntaxNode {
 
     /// The length of the node's text in bytes, or the largest `usize` where it is longer.
     #[cycle(len)]
+    #[inline(always)]
     pub fn len(&self) -> usize
         ensures { result ≡ saturated (length (text_of self.now)) }
     {
@@ -139,6 +141,7 @@ impl SyntaxNode {
 
     /// How many nodes the tree has, this one counted, or the largest `usize` where they are more.
     #[cycle(descendants)]
+    #[inline(always)]
     pub fn descendants(&self) -> usize
         ensures { result ≡ saturated (nodes self.now) }
     {

@@ -78,6 +78,7 @@ impl Own {
 // Makers.
 impl Own {
     /// A leaf's.
+    #[inline(always)]
     pub fn leaf(alloc: Global, kind: SyntaxKind, text: &str) -> Result<Own, AllocError>
         ensures { IfOk result (λ o. o ≡ leaf_own (leaf_head kind text.now)) }
     {

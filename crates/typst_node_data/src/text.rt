@@ -102,6 +102,7 @@ impl Model for ShortText {
 
 impl ShortText {
     /// A copy of `text`, or `None` where it is longer.
+    #[inline(always)]
     pub fn new(text: &str) -> Option<ShortText>
         ensures { MatchOption result (13 < length text.now) (λ t. t ≡ text.now) }
     {

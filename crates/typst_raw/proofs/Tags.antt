@@ -67,15 +67,6 @@ pub tick-chars : chars (96 ∷ []) ≡ 96 ∷ []
 unfolding chars
 tick-chars = refl
 
--- no more characters than bytes, and none of both together
-pub none-is : (text : List ℕ) → IsUtf8 text → (length (chars text) == 0) ≡ (length text == 0)
-none-is [] u = ap (λ t. length t == 0) chars-nil
-none-is (b ∷ text) u = cases (chars (b ∷ text)) refl
-  where
-    cases : (cs : List ℕ) → chars (b ∷ text) ≡ cs → (length cs == 0) ≡ (length (b ∷ text) == 0)
-    cases [] f = let none : b ∷ text ≡ [] = sym (encodes-chars (b ∷ text) u) ∙ ap encode_utf8_all f in absurd (cc)
-    cases (c ∷ cs) f = grind (arith, nat_tests)
-
 -- backticks take a byte each
 pub ticks-width : (cs : List ℕ) → length (encode_utf8_all (take (prefix_len is_tick cs) cs)) ≡ length (take (prefix_len is_tick cs) cs)
 ticks-width cs = run-width is_tick small cs

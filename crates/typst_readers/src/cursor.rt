@@ -154,7 +154,7 @@ impl<'a> Cursor<'a> {
     }
 
     /// Eats the next character.
-    #[inline]
+    #[inline(always)]
     pub fn eat(&mut self) -> Option<char>
         ensures next { result ≡ scout 0 self.old.place }
         ensures sight { self.new ≡ spec.went 1 self.old }
@@ -250,6 +250,7 @@ impl<'a> Cursor<'a> {
     }
 
     /// The rest of the line, which stays ahead. Where it ends is looked for once a line.
+    #[inline(always)]
     pub fn see_line(&mut self) -> &'a str
         ensures taken { chars result.now ≡ run in_line self.old.place }
         ensures sight { self.new ≡ spec.saw (suc (prefix_len in_line self.old.place.ahead)) self.old }
@@ -288,6 +289,7 @@ impl<'a> Cursor<'a> {
     }
 
     /// Eats the longest run of characters of the set.
+    #[inline(always)]
     pub fn eat_while<S: CharSet>(&mut self, set: &S) -> &'a str
         ensures taken { chars result.now ≡ run (S.members set.now) self.old.place }
         ensures sight { self.new ≡ spec.went_past (S.members set.now) self.old }

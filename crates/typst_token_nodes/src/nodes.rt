@@ -35,6 +35,7 @@ pub fn leaf_node(alloc: Global, token: Token, text: &str) -> Result<SyntaxNode, 
 
 /// The node of a token that took the text: a leaf of its kind, the node of a raw text or of a name
 /// with fields, or an error leaf.
+#[inline(never)]
 pub fn make_node<C: Classes>(
     alloc: Global,
     token: Token,

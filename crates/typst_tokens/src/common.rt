@@ -23,6 +23,7 @@ pub fn sign(s: &mut Cursor<'_>, kind: SyntaxKind) -> Token
 }
 
 /// How many lines end in the text.
+#[inline(always)]
 fn count_newlines(text: &str) -> usize
     ensures { result ≡ spec.line_ends false (chars text.now) }
 {

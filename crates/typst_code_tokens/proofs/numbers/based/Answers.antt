@@ -1,6 +1,7 @@
 use Rattle.std.proofs.Common.{ap, sym, ◌∙◌}
 use Rattle.std.specs.Str.{chars}
-use Rattle.typst_code_tokens.proofs.Digits.{none-is, none-based, based-is}
+use Rattle.typst_lines.proofs.Empty.{none-is}
+use Rattle.typst_code_tokens.proofs.Digits.{none-based, based-is}
 use Rattle.typst_code_tokens.proofs.numbers.based.Goals as goal
 use Rattle.typst_code_tokens.specs.Numbers.{is_i64}
 

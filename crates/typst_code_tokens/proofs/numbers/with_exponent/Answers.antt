@@ -1,6 +1,7 @@
 use Rattle.std.proofs.Common.{sym, ◌∙◌}
 use Rattle.std.specs.Str.{chars}
-use Rattle.typst_code_tokens.proofs.Digits.{none-is, exponent-is}
+use Rattle.typst_lines.proofs.Empty.{none-is}
+use Rattle.typst_code_tokens.proofs.Digits.{exponent-is}
 use Rattle.typst_code_tokens.proofs.numbers.with_exponent.Goals as goal
 
 pub returns-then-is_empty : goal.returns-then-is_empty

@@ -3,7 +3,8 @@ use Rattle.std.proofs.lemmas.Iterator.{YieldsList-from_chars}
 use Rattle.std.proofs.lemmas.Iterator.Search.{all_from_yields_List}
 use Rattle.std.specs.Str.{chars}
 use Rattle.typst_links.specs.Labels.{is_name}
-use Rattle.typst_links.proofs.Fronts.{none-is, label-some, label-none}
+use Rattle.typst_lines.proofs.Empty.{none-is}
+use Rattle.typst_links.proofs.Fronts.{label-some, label-none}
 use Rattle.typst_links.proofs.labels.is_valid_label_literal_id.Goals as goal
 
 pub returns-then-is_empty : goal.returns-then-is_empty

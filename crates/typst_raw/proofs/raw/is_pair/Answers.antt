@@ -1,6 +1,7 @@
 use Rattle.std.proofs.Common.{sym, ◌∙◌}
 use Rattle.std.specs.Str.{chars}
-use Rattle.typst_raw.proofs.Tags.{none-is, pair-is}
+use Rattle.typst_lines.proofs.Empty.{none-is}
+use Rattle.typst_raw.proofs.Tags.{pair-is}
 use Rattle.typst_raw.proofs.raw.is_pair.Goals as goal
 
 pub returns-then-delim-eq2 : goal.returns-then-delim-eq2
