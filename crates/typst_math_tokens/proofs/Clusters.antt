@@ -8,7 +8,7 @@ use Rattle.std.specs.Prelude.{encode_utf8, encode_utf8_all}
 use Rattle.std.specs.Str.{chars, IsUtf8}
 use Rattle.typst_classes.proofs.LineCluster.{IsLine-run, cluster-bytes}
 use Rattle.typst_classes.specs.Classes.{CharClasses, IsLine, IsLawful, in_line}
-use Rattle.typst_code_tokens.proofs.Digits.{none-is}
+use Rattle.typst_lines.proofs.Empty.{none-is}
 use Rattle.typst_kinds.specs.declared.kind.SyntaxKind.TheVariants as kind
 use Rattle.typst_lines.specs.Place.{Place, run, bytes_ahead}
 use Rattle.typst_math_tokens.specs.Atoms.{cluster_len, cluster}

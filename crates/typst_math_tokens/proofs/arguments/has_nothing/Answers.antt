@@ -1,5 +1,5 @@
 use Rattle.std.proofs.Common.{sym, ◌∙◌}
-use Rattle.typst_code_tokens.proofs.Digits.{none-is}
+use Rattle.typst_lines.proofs.Empty.{none-is}
 use Rattle.typst_math_tokens.proofs.arguments.has_nothing.Goals as goal
 
 pub returns : goal.returns
