@@ -2,7 +2,8 @@
 
 ghost use Rattle.std.specs.Prelude.{◌≡◌, IfOk, Some, false, true};
 ghost use Rattle.std.specs.Str.{chars};
-ghost use Rattle.typst_node.specs.Tree.{text_of};
+ghost use Rattle.typst_kinds.specs.Kinds.{is_error};
+ghost use Rattle.typst_node.specs.Tree.{forest, inner_of, text_of};
 ghost use Rattle.typst_binding.specs.Binding.{binds, has_errors};
 ghost use Rattle.typst_grammar.specs.Grammar as spec;
 
@@ -11,6 +12,15 @@ use typst_classes::Classes;
 use typst_grammar::{Hull, Note, read_whole, read_whole_code, read_whole_math};
 use typst_kinds::SyntaxKind;
 use typst_node::SyntaxNode;
+
+/// The root over the nodes of a text, without room for more of them.
+fn root_over(kind: SyntaxKind, mut nodes: Vec<SyntaxNode>) -> Result<SyntaxNode, AllocError>
+    requires { is_error kind ≡ false }
+    ensures { IfOk result (λ t. t ≡ inner_of kind (forest nodes.items)) }
+{
+    let kids = nodes.split_off(0)?;
+    Ok(SyntaxNode::inner(kind, kids))
+}
 
 /// The syntax tree of a text of markup, with detached spans. Any text has one; its leaves joined are
 /// the text, and in one without errors the operands of each binary operator bind as tightly as the
@@ -21,7 +31,8 @@ pub fn parse<C: Classes>(alloc: Global, text: &str, classes: &C) -> Result<Synta
     ensures binding { IfOk result (λ t. has_errors t ≡ false → binds t ≡ true) }
 {
     let (nodes, _notes, _hull) = read_whole(alloc, text, false, classes)?.finish();
-    Ok(SyntaxNode::inner(SyntaxKind::Markup, nodes))
+    let root = root_over(SyntaxKind::Markup, nodes)?;
+    Ok(root)
 }
 
 /// The syntax tree of a text of code, with detached spans. Any text has one; its leaves joined are the
@@ -36,7 +47,8 @@ pub fn parse_code<C: Classes>(
     ensures binding { IfOk result (λ t. has_errors t ≡ false → binds t ≡ true) }
 {
     let (nodes, _notes, _hull) = read_whole_code(alloc, text, classes)?.finish();
-    Ok(SyntaxNode::inner(SyntaxKind::Code, nodes))
+    let root = root_over(SyntaxKind::Code, nodes)?;
+    Ok(root)
 }
 
 /// The syntax tree of the text of a formula, with detached spans. Any text has one; its leaves joined
@@ -51,7 +63,8 @@ pub fn parse_math<C: Classes>(
     ensures binding { IfOk result (λ t. has_errors t ≡ false → binds t ≡ true) }
 {
     let (nodes, _notes, _hull) = read_whole_math(alloc, text, classes)?.finish();
-    Ok(SyntaxNode::inner(SyntaxKind::Math, nodes))
+    let root = root_over(SyntaxKind::Math, nodes)?;
+    Ok(root)
 }
 
 /// A syntax tree with what was looked at and noted in parsing it.
@@ -74,9 +87,6 @@ pub fn parse_noted<C: Classes>(alloc: Global, text: &str, classes: &C) -> Result
     ensures log { IfOk result (λ r. record { reach = r.hull.reach; least = r.hull.least; notes = Some r.notes.items } ≡ spec.log (C.classes classes.now) (chars text.now)) }
 {
     let (nodes, notes, hull) = read_whole(alloc, text, true, classes)?.finish();
-    Ok(Noted {
-        tree: SyntaxNode::inner(SyntaxKind::Markup, nodes),
-        notes,
-        hull,
-    })
+    let tree = root_over(SyntaxKind::Markup, nodes)?;
+    Ok(Noted { tree, notes, hull })
 }

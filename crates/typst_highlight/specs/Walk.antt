@@ -13,8 +13,8 @@ use Rattle.typst_highlight.specs.declared.context.Surroundings.{Surroundings}
 use Rattle.typst_highlight.specs.declared.context.Trail.{Trail}
 use Rattle.typst_highlight.specs.declared.context.Outer.{Outer}
 use Rattle.typst_highlight.specs.declared.context.Context.{Context}
-use Rattle.typst_highlight.specs.declared.place.Level.{Level}
-use Rattle.typst_highlight.specs.declared.place.Place.{Place}
+use Rattle.typst_highlight.specs.declared.progress.Level.{Level}
+use Rattle.typst_highlight.specs.declared.progress.Progress.{Progress}
 use Rattle.typst_highlight.specs.declared.spans.Known.{Known}
 use Rattle.typst_highlight.specs.declared.spans.Known.TheVariants as known
 use Rattle.typst_highlight.specs.Rules.{rule_of, paren_tag, star_tag, underscore_tag, slash_tag, equals_tag, term_tag, is_name, is_field_access, is_dot}
@@ -189,7 +189,7 @@ span_by_rule (rule.Always t) = known_span (spanned t)
 span_by_rule _ = known.Unknown
 
 -- what is round the node that a walk has come to on a level
-abbrev pub joined : Level → Place → Context
+abbrev pub joined : Level → Progress → Context
 joined l p = record { parent = l.parent; outer = l.outer; offset = p.offset; trail = p.trail; ahead = l.ahead }
 
 -- what is round all nodes that stand beside a node

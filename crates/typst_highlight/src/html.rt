@@ -8,7 +8,7 @@ ghost use Rattle.typst_highlight.specs.Walk as walk;
 
 use crate::context::is_childless;
 use crate::page::Writer;
-use crate::place::{Level, Place};
+use crate::progress::{Level, Progress};
 use crate::rules::is_name;
 use crate::spans::{Known, span_by_kind, span_of, spanned};
 use crate::walk::tag_here;
@@ -25,8 +25,8 @@ pub fn highlight_html(alloc: Global, root: &SyntaxNode) -> Result<String, AllocE
 {
     let mut writer = Writer::with_capacity(alloc, likely_len(root))?;
     writer.push("<code>")?;
-    let mut place = Place::START;
-    write_node(&mut writer, root, &[], &Level::ROOT, &mut place)?;
+    let mut progress = Progress::START;
+    write_node(&mut writer, root, &[], &Level::ROOT, &mut progress)?;
     writer.push("</code>")?;
     let html = writer.finish()?;
     Ok(html)
@@ -44,31 +44,31 @@ fn write_node(
     node: &SyntaxNode,
     later: &[SyntaxNode],
     level: &Level,
-    place: &mut Place,
+    progress: &mut Progress,
 ) -> Result<(), AllocError>
-    ensures written { OnOk result (html.new ≡ html.old ++ walk.node_html (walk.joined level.now place.old) node.now (forest later.now)) }
-    ensures passed { OnOk result (walk.joined level.now place.new ≡ walk.past (walk.joined level.now place.old) node.now (walk.passed (walk.joined level.now place.old) node.now (forest later.now))) }
+    ensures written { OnOk result (html.new ≡ html.old ++ walk.node_html (walk.joined level.now progress.old) node.now (forest later.now)) }
+    ensures passed { OnOk result (walk.joined level.now progress.new ≡ walk.past (walk.joined level.now progress.old) node.now (walk.passed (walk.joined level.now progress.old) node.now (forest later.now))) }
 {
     if is_childless(node) {
-        return write_leaf(html, node, later, level, place);
+        return write_leaf(html, node, later, level, progress);
     }
-    let tag = span_of(node, later, level, place);
+    let tag = span_of(node, later, level, progress);
     html.start(tag)?;
     html.write_own(node.leaf_text())?;
-    let begin = place.offset;
-    let inner = level.within(node, later, place);
-    place.offset = begin.saturating_add(node.leaf_text().len());
+    let begin = progress.offset;
+    let inner = level.within(node, later, progress);
+    progress.offset = begin.saturating_add(node.leaf_text().len());
     let mut rest = node.children();
     while let Some((kid, behind)) = rest.split_first() {
         if is_childless(kid) {
-            write_leaf(html, kid, behind, &inner, place)?;
+            write_leaf(html, kid, behind, &inner, progress)?;
         } else {
-            write_node(html, kid, behind, &inner, place)?;
+            write_node(html, kid, behind, &inner, progress)?;
         }
         rest = behind;
     }
     html.end(tag)?;
-    place.offset = begin.saturating_add(node.len());
+    progress.offset = begin.saturating_add(node.len());
     Ok(())
 }
 
@@ -79,20 +79,20 @@ fn write_leaf(
     node: &SyntaxNode,
     later: &[SyntaxNode],
     level: &Level,
-    place: &mut Place,
+    progress: &mut Progress,
 ) -> Result<(), AllocError>
     requires { is_childless node.now.kids ≡ true }
-    ensures written { OnOk result (html.new ≡ html.old ++ walk.node_html (walk.joined level.now place.old) node.now (forest later.now)) }
-    ensures passed { OnOk result (walk.joined level.now place.new ≡ walk.past (walk.joined level.now place.old) node.now (walk.passed (walk.joined level.now place.old) node.now (forest later.now))) }
+    ensures written { OnOk result (html.new ≡ html.old ++ walk.node_html (walk.joined level.now progress.old) node.now (forest later.now)) }
+    ensures passed { OnOk result (walk.joined level.now progress.new ≡ walk.past (walk.joined level.now progress.old) node.now (walk.passed (walk.joined level.now progress.old) node.now (forest later.now))) }
 {
     let span = match span_by_kind(node.kind()) {
         Known::Bare => None,
         Known::Within(tag) => Some(tag),
-        Known::Unknown => return write_asking(html, node, later, level, place),
+        Known::Unknown => return write_asking(html, node, later, level, progress),
     };
     let text = node.leaf_text();
     html.write(span, text)?;
-    place.pass(node, later, level, text.len(), None);
+    progress.pass(node, later, level, text.len(), None);
     Ok(())
 }
 
@@ -103,16 +103,16 @@ fn write_asking(
     node: &SyntaxNode,
     later: &[SyntaxNode],
     level: &Level,
-    place: &mut Place,
+    progress: &mut Progress,
 ) -> Result<(), AllocError>
     requires { is_childless node.now.kids ≡ true }
-    ensures written { OnOk result (html.new ≡ html.old ++ walk.node_html (walk.joined level.now place.old) node.now (forest later.now)) }
-    ensures passed { OnOk result (walk.joined level.now place.new ≡ walk.past (walk.joined level.now place.old) node.now (walk.passed (walk.joined level.now place.old) node.now (forest later.now))) }
+    ensures written { OnOk result (html.new ≡ html.old ++ walk.node_html (walk.joined level.now progress.old) node.now (forest later.now)) }
+    ensures passed { OnOk result (walk.joined level.now progress.new ≡ walk.past (walk.joined level.now progress.old) node.now (walk.passed (walk.joined level.now progress.old) node.now (forest later.now))) }
 {
-    let tag = tag_here(node, later, &level.at(place));
+    let tag = tag_here(node, later, &level.at(progress));
     let text = node.leaf_text();
     html.write(spanned(tag), text)?;
     let name = if is_name(node.kind()) { tag } else { None };
-    place.pass(node, later, level, text.len(), name);
+    progress.pass(node, later, level, text.len(), name);
     Ok(())
 }

@@ -6,7 +6,7 @@ mod entities;
 mod highlighter;
 mod html;
 mod page;
-mod place;
+mod progress;
 mod rules;
 mod spans;
 mod tags;

@@ -6,7 +6,7 @@ ghost use Rattle.typst_highlight.specs.Html as spec;
 ghost use Rattle.typst_highlight.specs.Rules.{rule_of};
 ghost use Rattle.typst_highlight.specs.Walk as walk;
 
-use crate::place::{Level, Place};
+use crate::progress::{Level, Progress};
 use crate::rules::{Rule, rule_of};
 use crate::tags::Tag;
 use crate::walk::tag_here;
@@ -51,12 +51,17 @@ pub fn spanned(tag: Option<Tag>) -> Option<Tag>
 
 /// The tag of the span that a node stands in.
 #[inline(always)]
-pub fn span_of(node: &SyntaxNode, later: &[SyntaxNode], level: &Level, place: &Place) -> Option<Tag>
-    ensures { result ≡ spec.spanned (walk.tag (walk.joined level.now place.now) node.now (forest later.now)) }
+pub fn span_of(
+    node: &SyntaxNode,
+    later: &[SyntaxNode],
+    level: &Level,
+    progress: &Progress,
+) -> Option<Tag>
+    ensures { result ≡ spec.spanned (walk.tag (walk.joined level.now progress.now) node.now (forest later.now)) }
 {
     match span_by_kind(node.kind()) {
         Known::Bare => None,
         Known::Within(tag) => Some(tag),
-        Known::Unknown => spanned(tag_here(node, later, &level.at(place))),
+        Known::Unknown => spanned(tag_here(node, later, &level.at(progress))),
     }
 }

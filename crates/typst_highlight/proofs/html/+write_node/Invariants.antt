@@ -9,8 +9,8 @@ decreases-write_node l = nodes l.node.now
 
 abbrev pub invariant-loop-kid : goal.invariant-loop-kid
 invariant-loop-kid l = record {
-  written : l.html ++ (forest_html (joined l.inner l.place) (forest l.rest) ++ span_end l.tag) ≡ l.fn.html ++ node_html (joined l.level l.fn.place) l.node (forest l.later);
-  left : passed_row (within (joined l.level l.fn.place) l.node (forest l.later)) l.node.kids ≡ passed_row (joined l.inner l.place) (forest l.rest);
+  written : l.html ++ (forest_html (joined l.inner l.progress) (forest l.rest) ++ span_end l.tag) ≡ l.fn.html ++ node_html (joined l.level l.fn.progress) l.node (forest l.later);
+  left : passed_row (within (joined l.level l.fn.progress) l.node (forest l.later)) l.node.kids ≡ passed_row (joined l.inner l.progress) (forest l.rest);
   smaller : count (forest l.rest) < nodes l.node;
 }
 

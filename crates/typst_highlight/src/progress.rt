@@ -25,7 +25,7 @@ pub struct Level {
 
 /// How far a walk has come.
 #[derive(Clone, Copy)]
-pub struct Place {
+pub struct Progress {
     /// Where the next node begins, in bytes.
     pub offset: usize,
     /// The leaves before it.
@@ -46,24 +46,24 @@ impl Level {
 
     /// What is round a node of the level.
     #[inline(always)]
-    pub fn at(&self, place: &Place) -> Context
-        ensures { result ≡ walk.joined self.now place.now }
+    pub fn at(&self, progress: &Progress) -> Context
+        ensures { result ≡ walk.joined self.now progress.now }
     {
         Context {
             parent: self.parent,
             outer: self.outer,
-            offset: place.offset,
-            trail: place.trail,
+            offset: progress.offset,
+            trail: progress.trail,
             ahead: self.ahead,
         }
     }
 
     /// What is round the children of a node.
     #[inline(always)]
-    pub fn within(&self, node: &SyntaxNode, later: &[SyntaxNode], place: &Place) -> Level
-        ensures { result ≡ walk.level_of (walk.within (walk.joined self.now place.now) node.now (forest later.now)) }
+    pub fn within(&self, node: &SyntaxNode, later: &[SyntaxNode], progress: &Progress) -> Level
+        ensures { result ≡ walk.level_of (walk.within (walk.joined self.now progress.now) node.now (forest later.now)) }
     {
-        let inner = self.at(place).within(node, later);
+        let inner = self.at(progress).within(node, later);
         Level {
             parent: inner.parent,
             outer: inner.outer,
@@ -72,7 +72,7 @@ impl Level {
     }
 }
 
-impl Place {
+impl Progress {
     ghost use Rattle.std.specs.Prelude.{◌≡◌, None, true, length, if◌then◌else◌};
     ghost use Rattle.typst_node.specs.Tree.{forest};
     ghost use Rattle.typst_tree.specs.Walks.{is_childless};
@@ -80,7 +80,7 @@ impl Place {
     ghost use Rattle.typst_highlight.specs.Walk as walk;
 
     /// Before the first leaf.
-    pub const START: Place = Place {
+    pub const START: Progress = Progress {
         offset: 0,
         trail: Trail {
             before: None,
