@@ -12,6 +12,7 @@ pub mod Lost
 pub mod Walk
 pub mod BlockRuns
 pub mod Joint
+pub mod JointBytes
 pub mod RunTrees
 pub mod InnerJoint
 pub mod Examples

@@ -8,6 +8,7 @@ ghost use Rattle.typst_reuse.specs.Examples.{Blocks};
 ghost use Rattle.typst_reuse.specs.RunExamples.{Runs};
 ghost use Rattle.typst_reuse.specs.InnerJoint.{InnerJointLaw};
 ghost use Rattle.typst_reuse.specs.Joint.{JointLaw};
+ghost use Rattle.typst_reuse.specs.JointBytes.{JointDecisionLaw};
 ghost use Rattle.typst_reuse.specs.Laws.{BlockLaw, NamesLaw};
 ghost use Rattle.typst_reuse.specs.Lost.{CompleteLaw};
 ghost use Rattle.typst_reuse.specs.RunBytes.{RunDecisionLaw};
@@ -60,10 +61,12 @@ pub fn joint_law()
 /// Each block of a text has two notes in its log, where it begins and where it ends. Two numbers of
 /// them say exactly whether what the block law asks of looks holds: where all looks before the first
 /// end, and where those behind the second begin, in bytes beside the ends of the replaced stretch. A note stands
-/// where each piece of a text's run begins, too, and says as exactly whether what the run law asks of looks holds.
+/// where each piece of a text's run begins, too, and says as exactly whether what the run law asks of looks holds,
+/// or the law of the joint, for a stretch that goes on into the trivia behind the pieces.
 pub fn decision_law()
     ensures blocks { DecisionLaw }
     ensures pieces { RunDecisionLaw }
+    ensures joint { JointDecisionLaw }
 {}
 
 /// From the top of a text's tree the steps to the child that begins before a stretch and ends behind
