@@ -5,7 +5,7 @@
 --   complete_law                 Complete: word by word, by the notes of the log
 --   run_law                      Root: of a whole text; RunTrees: its tree and log; BlockRuns: of a content block; Runs: of any loop
 --   joint_law                    Joint: of a whole text; InnerJoint: of a content block; Turns: each head of markup; Led: each word before a token is taken
---   decision_law                 Bytes: the log; Boundary: where pieces of any run end; RunBytes, JointBytes: of a whole text; Widths: characters and bytes; Within: looks are at places of the text
+--   decision_law                 Bytes: the log; Boundary: where pieces of any run end; RunBytes, JointBytes: of a whole text; InnerBytes: of a content block; Widths: characters and bytes; Within: looks are at places of the text
 --   path_law                     Walk: the steps; Placed: what stands before a block
 --   blocks_of_texts, runs_of_texts, conditions_of_texts      computed (laws)
 pub mod Every
@@ -39,6 +39,7 @@ pub mod Marks
 pub mod Boundary
 pub mod RunBytes
 pub mod JointBytes
+pub mod InnerBytes
 pub mod RunTrees
 pub mod Placed
 pub mod Walk

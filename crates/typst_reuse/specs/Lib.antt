@@ -15,6 +15,7 @@ pub mod Joint
 pub mod JointBytes
 pub mod RunTrees
 pub mod InnerJoint
+pub mod InnerBytes
 pub mod Examples
 pub mod RunExamples
 pub mod Conditions

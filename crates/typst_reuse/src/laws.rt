@@ -6,6 +6,7 @@ ghost use Rattle.typst_reuse.specs.Bytes.{DecisionLaw};
 ghost use Rattle.typst_reuse.specs.Conditions.{Conditions};
 ghost use Rattle.typst_reuse.specs.Examples.{Blocks};
 ghost use Rattle.typst_reuse.specs.RunExamples.{Runs};
+ghost use Rattle.typst_reuse.specs.InnerBytes.{InnerDecisionLaw};
 ghost use Rattle.typst_reuse.specs.InnerJoint.{InnerJointLaw};
 ghost use Rattle.typst_reuse.specs.Joint.{JointLaw};
 ghost use Rattle.typst_reuse.specs.JointBytes.{JointDecisionLaw};
@@ -62,11 +63,12 @@ pub fn joint_law()
 /// them say exactly whether what the block law asks of looks holds: where all looks before the first
 /// end, and where those behind the second begin, in bytes beside the ends of the replaced stretch. A note stands
 /// where each piece of a text's run begins, too, and says as exactly whether what the run law asks of looks holds,
-/// or the law of the joint, for a stretch that goes on into the trivia behind the pieces.
+/// or the law of the joint, for a stretch that goes on into the trivia behind the pieces; and so in a content block.
 pub fn decision_law()
     ensures blocks { DecisionLaw }
     ensures pieces { RunDecisionLaw }
     ensures joint { JointDecisionLaw }
+    ensures inner { InnerDecisionLaw }
 {}
 
 /// From the top of a text's tree the steps to the child that begins before a stretch and ends behind

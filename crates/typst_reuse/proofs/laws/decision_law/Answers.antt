@@ -1,3 +1,4 @@
+use Rattle.typst_reuse.proofs.InnerBytes.{inner-decision-law}
 use Rattle.typst_reuse.proofs.Bytes.{decision-law}
 use Rattle.typst_reuse.proofs.JointBytes.{joint-decision-law}
 use Rattle.typst_reuse.proofs.RunBytes.{run-decision-law}
@@ -11,3 +12,6 @@ returns-clause-pieces c = run-decision-law
 
 pub returns-clause-joint : goal.returns-clause-joint
 returns-clause-joint c = joint-decision-law
+
+pub returns-clause-inner : goal.returns-clause-inner
+returns-clause-inner c = inner-decision-law
