@@ -5,6 +5,7 @@
 --   complete_law                 Complete: word by word, by the notes of the log
 --   run_law                      Root: of a whole text; RunTrees: its tree and log; BlockRuns: of a content block; Runs: of any loop
 --   joint_law                    Joint: of a whole text; InnerJoint: of a content block; Turns: each head of markup; Led: each word before a token is taken
+--   children_law                 Children: of a whole text; InnerChildren: of a content block
 --   decision_law                 Bytes: the log; Boundary: where pieces of any run end; RunBytes, JointBytes: of a whole text; InnerBytes: of a content block; Widths: characters and bytes; Within: looks are at places of the text
 --   path_law                     Walk: the steps; Placed: what stands before a block
 --   blocks_of_texts, runs_of_texts, conditions_of_texts      computed (laws)
@@ -41,5 +42,7 @@ pub mod RunBytes
 pub mod JointBytes
 pub mod InnerBytes
 pub mod RunTrees
+pub mod Children
+pub mod InnerChildren
 pub mod Placed
 pub mod Walk

@@ -14,8 +14,10 @@ pub mod BlockRuns
 pub mod Joint
 pub mod JointBytes
 pub mod RunTrees
+pub mod Children
 pub mod InnerJoint
 pub mod InnerBytes
+pub mod InnerChildren
 pub mod Examples
 pub mod RunExamples
 pub mod Conditions

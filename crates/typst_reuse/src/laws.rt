@@ -3,10 +3,12 @@
 ghost use Rattle.typst_classes.specs.Classes.{CharClasses};
 ghost use Rattle.typst_reuse.specs.BlockRuns.{InnerLaw};
 ghost use Rattle.typst_reuse.specs.Bytes.{DecisionLaw};
+ghost use Rattle.typst_reuse.specs.Children.{BackLaw, ChildrenLaw};
 ghost use Rattle.typst_reuse.specs.Conditions.{Conditions};
 ghost use Rattle.typst_reuse.specs.Examples.{Blocks};
 ghost use Rattle.typst_reuse.specs.RunExamples.{Runs};
 ghost use Rattle.typst_reuse.specs.InnerBytes.{InnerDecisionLaw};
+ghost use Rattle.typst_reuse.specs.InnerChildren.{InnerBackLaw, InnerChildrenLaw};
 ghost use Rattle.typst_reuse.specs.InnerJoint.{InnerJointLaw};
 ghost use Rattle.typst_reuse.specs.Joint.{JointLaw};
 ghost use Rattle.typst_reuse.specs.JointBytes.{JointDecisionLaw};
@@ -57,6 +59,18 @@ pub fn run_law()
 pub fn joint_law()
     ensures pieces { JointLaw }
     ensures inner { InnerJointLaw }
+{}
+
+/// Where an edit inside some pieces of a text's run passes the test of the joint, the new pieces take back as many
+/// errors as the old ones, and there are pieces or nothing is taken back behind them, one stretch of the tree's
+/// children is exchanged: for the nodes of the new pieces and the trivia behind them. So in a content block: there
+/// they are children of the markup that is its second child. Pieces take back no more errors than the state where
+/// they begin counts, and what is behind them no more than the state where they end counts.
+pub fn children_law()
+    ensures pieces { ChildrenLaw }
+    ensures inner { InnerChildrenLaw }
+    ensures back { BackLaw }
+    ensures inner_back { InnerBackLaw }
 {}
 
 /// Each block of a text has two notes in its log, where it begins and where it ends. Two numbers of
