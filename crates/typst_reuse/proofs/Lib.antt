@@ -7,6 +7,7 @@
 --   joint_law                    Joint: of a whole text; InnerJoint: of a content block; Turns: each head of markup; Led: each word before a token is taken
 --   children_law                 Children: of a whole text; InnerChildren: of a content block
 --   decision_law                 Bytes: the log; Boundary: where pieces of any run end; RunBytes, JointBytes: of a whole text; InnerBytes: of a content block; Widths: characters and bytes; Within: looks are at places of the text
+--   notes_law                    PieceNotes: of a whole text and of a content block; Marks: in any list of asks
 --   path_law                     Walk: the steps; Placed: what stands before a block
 --   blocks_of_texts, runs_of_texts, conditions_of_texts      computed (laws)
 pub mod Every
@@ -44,5 +45,6 @@ pub mod InnerBytes
 pub mod RunTrees
 pub mod Children
 pub mod InnerChildren
+pub mod PieceNotes
 pub mod Placed
 pub mod Walk

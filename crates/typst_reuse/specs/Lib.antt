@@ -17,6 +17,7 @@ pub mod RunTrees
 pub mod Children
 pub mod InnerJoint
 pub mod InnerBytes
+pub mod PieceNotes
 pub mod InnerChildren
 pub mod Examples
 pub mod RunExamples

@@ -14,6 +14,7 @@ ghost use Rattle.typst_reuse.specs.Joint.{JointLaw};
 ghost use Rattle.typst_reuse.specs.JointBytes.{JointDecisionLaw};
 ghost use Rattle.typst_reuse.specs.Laws.{BlockLaw, NamesLaw};
 ghost use Rattle.typst_reuse.specs.Lost.{CompleteLaw};
+ghost use Rattle.typst_reuse.specs.PieceNotes.{InnerNotesLaw, RunNotesLaw};
 ghost use Rattle.typst_reuse.specs.RunBytes.{RunDecisionLaw};
 ghost use Rattle.typst_reuse.specs.RunTrees.{RunTreeLaw};
 ghost use Rattle.typst_reuse.specs.Runs.{RunLaw, StartLaw};
@@ -83,6 +84,13 @@ pub fn decision_law()
     ensures pieces { RunDecisionLaw }
     ensures joint { JointDecisionLaw }
     ensures inner { InnerDecisionLaw }
+{}
+
+/// A note of a text's log that says that all levels are left is one where pieces of its run end; and a note between
+/// the two of a content block that says as many levels as are left in it is one where pieces of the block's run end.
+pub fn notes_law()
+    ensures run { RunNotesLaw }
+    ensures inner { InnerNotesLaw }
 {}
 
 /// From the top of a text's tree the steps to the child that begins before a stretch and ends behind
