@@ -9,7 +9,7 @@
 --   decision_law                 Bytes: the log; Boundary: where pieces of any run end; RunBytes, JointBytes: of a whole text; InnerBytes: of a content block; Widths: characters and bytes; Within: looks are at places of the text
 --   notes_law                    PieceNotes: of a whole text and of a content block; Marks: in any list of asks
 --   path_law                     Walk: the steps; Placed: what stands before a block
---   blocks_of_texts, runs_of_texts, conditions_of_texts      computed (laws)
+--   blocks_of_texts, runs_of_texts, conditions_of_texts, rare_conditions_of_texts      computed (laws)
 pub mod Every
 pub mod Outcomes
 pub mod Wrap

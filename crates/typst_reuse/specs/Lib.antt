@@ -22,3 +22,4 @@ pub mod InnerChildren
 pub mod Examples
 pub mod RunExamples
 pub mod Conditions
+pub mod RareConditions

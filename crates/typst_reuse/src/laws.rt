@@ -15,6 +15,7 @@ ghost use Rattle.typst_reuse.specs.JointBytes.{JointDecisionLaw};
 ghost use Rattle.typst_reuse.specs.Laws.{BlockLaw, NamesLaw};
 ghost use Rattle.typst_reuse.specs.Lost.{CompleteLaw};
 ghost use Rattle.typst_reuse.specs.PieceNotes.{InnerNotesLaw, RunNotesLaw};
+ghost use Rattle.typst_reuse.specs.RareConditions.{RareConditions};
 ghost use Rattle.typst_reuse.specs.RunBytes.{RunDecisionLaw};
 ghost use Rattle.typst_reuse.specs.RunTrees.{RunTreeLaw};
 ghost use Rattle.typst_reuse.specs.Runs.{RunLaw, StartLaw};
@@ -113,4 +114,9 @@ pub fn runs_of_texts()
 /// Edits at which one condition of a law alone fails, and what differs then.
 pub fn conditions_of_texts()
     ensures { (beyond : CharClasses) → Conditions beyond }
+{}
+
+/// Edits at which a column, the depth or a reading that was given up alone makes the test fail, and what differs then.
+pub fn rare_conditions_of_texts()
+    ensures { (beyond : CharClasses) → RareConditions beyond }
 {}

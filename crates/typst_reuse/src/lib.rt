@@ -5,5 +5,5 @@ mod laws;
 
 pub use laws::{
     block_law, blocks_of_texts, children_law, complete_law, conditions_of_texts, decision_law,
-    joint_law, notes_law, path_law, run_law, runs_of_texts,
+    joint_law, notes_law, path_law, rare_conditions_of_texts, run_law, runs_of_texts,
 };
