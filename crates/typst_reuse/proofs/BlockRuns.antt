@@ -62,10 +62,10 @@ module _ (k : CharClasses) (levels : ℕ) where
 
   module _ (z : Place) (s : Point) where
     -- the block by its run, and what comes behind so many characters, in a state
-    abbrev content_by : Outcome (Bool × ℕ) → Outcome (Unit {0}) → Outcome Bool → Outcome (Unit {0})
+    abbrev pub content_by : Outcome (Bool × ℕ) → Outcome (Unit {0}) → Outcome Bool → Outcome (Unit {0})
     content_by r t close = content_of (look_first k levels z s) (look_again k levels z s) (bracket k levels z s) (body_of (run_of (bracket k levels z s).state (inner_lead k levels z s) r t)) close
 
-    abbrev by_run : Outcome (Bool × ℕ) → ℕ → Point → Outcome (Unit {0})
+    abbrev pub by_run : Outcome (Bool × ℕ) → ℕ → Point → Outcome (Unit {0})
     by_run r n u =
         let place = moved (bracket k levels z s).taken z in
         let t = inner_tail k levels n u place in
@@ -99,7 +99,7 @@ module _ (k : CharClasses) (levels : ℕ) where
         let rest = joined (record (plain (tt {0}) x) { asks = marked 0 (gap_of x.known) 0 (mark.Piece true 0) (state_of x) ∷ [] }) (joined (inner_lead k levels z s) (joined o (plain (tt {0}) o.state))) in
         ap (λ b. joined (record (plain b x) { met = b }) (if b then run (inner k levels) (peek >> too_deep ends_block) r.place x else rest)) some
 
-    content-is : (let r = inner_run k levels z s in let o = repeated (turn_of r) (true, 0) r.place r.point in block_at k (suc levels) block.Content z s ≡ by_run o o.taken o.state)
+    pub content-is : (let r = inner_run k levels z s in let o = repeated (turn_of r) (true, 0) r.place r.point in block_at k (suc levels) block.Content z s ≡ by_run o o.taken o.state)
     unfolding run
     content-is =
         let r = inner_run k levels z s in
@@ -182,9 +182,9 @@ inner-law k levels front old new rest c i n m past among h =
     let q = run_at k levels c w0 in
     let b = bracket k levels z s in
     let d = bracket k levels w s in
-    let opened : d ≡ b = bracket-same k levels z w s (same_in-shift c.at _ z0 w0 (before-same _ front old new rest h.pieces.opens)) in
+    let opened : d ≡ b = bracket-same k levels z w s (same_in-shift c.at _ z0 w0 (before-same _ front old new rest h.pieces.looks.opens)) in
     let shown : 0 < i → SameIn ((inner_lead k levels z s).asks ++ asks_of (first_of i r)) (moved b.taken z) (moved b.taken w) = λ l.
-    same_in-to _ _ _ _ _ (sym (moved-sum c.at b.taken z0)) (sym (moved-sum c.at b.taken w0)) (same_in-shift (c.at + b.taken) _ z0 w0 (before-same _ front old new rest (h.pieces.before_run l))) in
+    same_in-to _ _ _ _ _ (sym (moved-sum c.at b.taken z0)) (sym (moved-sum c.at b.taken w0)) (same_in-shift (c.at + b.taken) _ z0 w0 (before-same _ front old new rest (h.pieces.looks.before_run l))) in
     let first_is : first_of i q ≡ first_of i r = ap (λ o. first_of i (seq_by k levels o w)) opened ∙ first-by k levels i b z w shown in
     let new_first : AllGo (first_of i q) = subst (λ os. AllGo os) (sym first_is) h.pieces.first_go in
     let e = first_end i r in
@@ -201,7 +201,7 @@ inner-law k levels front old new rest c i n m past among h =
     let v = then_place i m q in
     let y_is : y ≡ moved old_at z0 = moved-four c.at b.taken e.taken g.taken z0 ∙ ap (λ a. moved a z0) h.ends in
     let v_is : v ≡ moved new_at w0 = moved-four c.at d.taken f.taken j.taken w0 ∙ ap (λ a. moved a w0) h.shifted in
-    let all = same_in-to _ _ _ _ _ y_is v_is (after-same _ past old_at new_at front old new rest refl refl h.after) in
+    let all = same_in-to _ _ _ _ _ y_is v_is (after-same _ past old_at new_at front old new rest refl refl h.looks.inside) in
     let rest_is : u ≡ t = rest-again k levels g j y v h.value h.state (same_in-first t.asks _ y v all) in
     let behind = same_in-shift t.taken _ y v (same_in-second t.asks _ y v all) in
     let y1 = moved t.taken y in
@@ -246,8 +246,8 @@ inner-law k levels front old new rest c i n m past among h =
       starts = h.pieces.starts;
       ends = omega (arith, old_taken, ends);
       goes_on = h.goes_on;
-      before = h.pieces.before;
-      after = h.behind;
+      before = h.pieces.looks.before;
+      after = h.looks.behind;
       shifted = omega (arith, new_taken, shifted, many, same_rest);
     } in
     record { was = was; now = now; passes = passes; kept = block-law k front old new rest c _ among passes }

@@ -27,7 +27,7 @@ record EndsIn {A : Type 0} (b : Block) (o : Outcome A) : Type 0 where
   head : node.head ≡ block_head b
   empties : o.state.empties ≡ 0
 
-last-is : (front : List Tree) (x : Tree) → last_node (front ++ x ∷ []) ≡ x
+pub last-is : (front : List Tree) (x : Tree) → last_node (front ++ x ∷ []) ≡ x
 last-is [] x = refl
 last-is (t ∷ []) x = refl
 last-is (t ∷ u ∷ ts) x = last-is (u ∷ ts) x

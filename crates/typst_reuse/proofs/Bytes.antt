@@ -221,7 +221,7 @@ module _ (lv : ℕ) (z : Place) (first second third : List Ask) (at fewer end ga
         back = λ big f. three.back b big (newly b log_two.notes _ log_two.least two.is big) f;
       }
 
-asks-are : (os bs es own cs ls : List Ask) (a c : Ask) → os ≡ bs ++ (own ++ cs) → bs ≡ es ++ a ∷ [] → cs ≡ c ∷ ls → os ≡ es ++ (a ∷ (own ++ c ∷ ls))
+pub asks-are : (os bs es own cs ls : List Ask) (a c : Ask) → os ≡ bs ++ (own ++ cs) → bs ≡ es ++ a ∷ [] → cs ≡ c ∷ ls → os ≡ es ++ (a ∷ (own ++ c ∷ ls))
 asks-are os bs es own cs ls a c e f g = e ∙ ap (λ u. u ++ (own ++ cs)) f ∙ append_assoc es (a ∷ []) (own ++ cs) ∙ ap (λ u. es ++ (a ∷ (own ++ u))) g
 
 decided : (k : CharClasses) (front old rest : List ℕ) (c : Spot (Unit {0})) (past : ℕ) → (let z = text_with front old rest in

@@ -44,9 +44,16 @@ shape-state : (b : Block) (closed : Bool) (ts : List Tree) (s : Point) → after
 shape-state b true ts s = refl
 shape-state b false ts s = refl
 
+-- the token at hand has characters, and no trivia before it
+pub record Begun (l : Level) (z : Place) (s : Point) : Type 0 where
+  pub trivia : (hand_of l z s).trivia ≡ []
+  pub gap : (hand_of l z s).gap ≡ 0
+  pub some : 0 < (hand_of l z s).len
+  pub room : (hand_of l z s).len ≤ length z.ahead
+
 module _ (l : Level) (d : (c : Call) → Sane (l.deeper c)) (e : (b : Block) → Sane (l.blocks b)) where
   -- the token at hand stays once it was asked for
-  again : (z : Place) (s : Point) → hand_of l z (asked (hand_of l z s) s) ≡ hand_of l z s
+  pub again : (z : Place) (s : Point) → hand_of l z (asked (hand_of l z s) s) ≡ hand_of l z s
   again z s = hand-again l.classes s.held s.known z
 
   direct-hand : (z : Place) (s : Point) → s.known ≡ None → at_trivia l.classes s.held.mode z ≡ false → Direct (hand_of l z s) l.classes s.held.mode z
@@ -95,12 +102,18 @@ module _ (l : Level) (d : (c : Call) → Sane (l.deeper c)) (e : (b : Block) →
         let b : bound z s ≡ 0 = ap (λ (k : Option Trivia). max (gap_of k) (length z.ahead)) blank ∙ ap (λ (xs : List ℕ). max 0 (length xs)) f in
         omega (arith, w, b)
 
+    begun-by : (t : Bool) (z : Place) (s : Point) → s.known ≡ None → at_trivia l.classes s.held.mode z ≡ false → 0 < (run l (peek >> block_of) z s).taken → is_end (token_at l.classes s.held.mode z).kind ≡ t → Begun l z s
+    begun-by true z s blank h some t = let n = nothing-left z s blank (token-ends l.classes s.held.mode z t) in absurd (omega (arith, n, some))
+    begun-by false z s blank h some t =
+        let k = direct-hand z s blank h in
+        let len = k.len in
+        let more = token-takes l.classes s.held.mode z t in
+        record { trivia = k.trivia; gap = k.gap; some = omega (arith, len, more); room = omega (arith, len) }
+
     alone-by : (t : Bool) (z : Place) (s : Point) → s.known ≡ None → at_trivia l.classes s.held.mode z ≡ false → 0 < (run l (peek >> block_of) z s).taken → is_end (token_at l.classes s.held.mode z).kind ≡ t
         → Alone (run l (peek >> block_of) z s)
     alone-by true z s blank h some t = let n = nothing-left z s blank (token-ends l.classes s.held.mode z t) in absurd (omega (arith, n, some))
-    alone-by false z s blank h some t =
-        let k = direct-hand z s blank h in
-        alone-direct z s k.trivia k.gap (omega (arith, k.len, token-takes l.classes s.held.mode z t)) (omega (arith, k.len))
+    alone-by false z s blank h some t = let b = begun-by false z s blank h some t in alone-direct z s b.trivia b.gap b.some b.room
 
     -- where it takes something, and what it begins with is no trivia
     pub block-alone : (z : Place) (s : Point) → s.known ≡ None → at_trivia l.classes s.held.mode z ≡ false → 0 < (run l (peek >> block_of) z s).taken → Alone (run l (peek >> block_of) z s)
@@ -114,6 +127,10 @@ module _ (l : Level) (d : (c : Call) → Sane (l.deeper c)) (e : (b : Block) →
   pub content-alone : (z : Place) (s : Point) → s.known ≡ None → at_trivia l.classes s.held.mode z ≡ false → 0 < (run l (peek >> content_block) z s).taken → Alone (run l (peek >> content_block) z s)
   unfolding content_block
   content-alone z s blank h some = block-alone block.Content markup_reading _ (opener-takes l) _ z s blank h some
+
+  pub content-begun : (z : Place) (s : Point) → s.known ≡ None → at_trivia l.classes s.held.mode z ≡ false → 0 < (run l (peek >> content_block) z s).taken → Begun l z s
+  unfolding content_block
+  content-begun z s blank h some = begun-by block.Content markup_reading _ (opener-takes l) _ (is_end (token_at l.classes s.held.mode z).kind) z s blank h some refl
 
   pub state-code : (z : Place) (s : Point) → forgot (run l (peek >> code_block) z s).state ≡ state_from s.reading
   unfolding code_block

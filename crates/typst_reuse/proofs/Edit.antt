@@ -80,7 +80,7 @@ pub trees-of : (ts : List Tree) → trees (forest ts) ≡ ts
 trees-of [] = refl
 trees-of (t ∷ ts) = ap (λ l. t ∷ l) (trees-of ts)
 
-alter-at : (f : Tree → Tree) (left : List Tree) (y : Tree) (right : List Tree) → alter (length left) f (left ++ y ∷ right) ≡ left ++ f y ∷ right
+pub alter-at : (f : Tree → Tree) (left : List Tree) (y : Tree) (right : List Tree) → alter (length left) f (left ++ y ∷ right) ≡ left ++ f y ∷ right
 alter-at f [] y right = refl
 alter-at f (l ∷ left) y right =
     let e : length (l ∷ left) ≡ suc (length left) = omega arith in
@@ -92,7 +92,7 @@ put-fill (under head left d right) x y =
     ap (λ ts. record { head = head; kids = forest ts })
     (ap (alter (length left) (put (path_in d) x)) (trees-of (left ++ fill d y ∷ right)) ∙ alter-at (put (path_in d) x) left (fill d y) right ∙ ap (λ u. left ++ u ∷ right) (put-fill d x y))
 
-replaced-plug : (h : Hole) (x y : Tree) → replaced (path_of h) x (plug h y) ≡ plug h x
+pub replaced-plug : (h : Hole) (x y : Tree) → replaced (path_of h) x (plug h y) ≡ plug h x
 replaced-plug h x y = alter-at (put (path_in h.deep) x) h.left (fill h.deep y) h.right ∙ ap (λ u. h.left ++ u ∷ h.right) (put-fill h.deep x y)
 
 -- ---- the law

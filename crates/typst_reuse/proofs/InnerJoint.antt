@@ -20,14 +20,14 @@ use Rattle.typst_grammar.proofs.Looks.{same_in-shift, same_in-first, same_in-sec
 use Rattle.typst_grammar.proofs.Places.{moved-sum}
 use Rattle.typst_grammar.specs.Markup.{ends_block, markup_turn, markup_head}
 use Rattle.typst_grammar.specs.Grammar.{rules}
-use Rattle.typst_reuse.specs.BlockRuns.{inner, bracket, inner_lead, content_with, run_at, tail_at, close_at}
+use Rattle.typst_reuse.specs.BlockRuns.{EndsBefore, inner, bracket, inner_lead, content_with, run_at, tail_at, close_at}
 use Rattle.typst_reuse.specs.Edit.{text_with, Passes}
 use Rattle.typst_reuse.specs.InnerJoint.{onwards_in, onwards_past, left_past, InnerJointLaw}
 use Rattle.typst_reuse.specs.Joint.{minds, passed, Exchanged}
 use Rattle.typst_reuse.specs.Laws.{block_at}
 use Rattle.typst_reuse.specs.Runs.{AllGo, asks_of, chain}
 use Rattle.typst_reuse.specs.Sequence.{first_of, first_end, then_of, then_end, then_place, rest_of}
-use Rattle.typst_reuse.specs.Spot.{ended, unit_at}
+use Rattle.typst_reuse.specs.Spot.{Spot, ended, unit_at}
 use Rattle.typst_reuse.proofs.BlockRuns.{split-taken, sane, content-split, content-taken, bracket-same, seq_by, first-by}
 use Rattle.typst_reuse.proofs.Edit.{before-same, after-same, same_in-to}
 use Rattle.typst_reuse.proofs.Joint.{exchanged, takes-call, known-is}
@@ -38,15 +38,48 @@ use Rattle.typst_reuse.proofs.Turns.{Fronted, fronted-behind}
 
 module _ (k : CharClasses) (levels : ℕ) where
   -- all behind some pieces of a block's run, up to its closing bracket
-  abbrev onward : Bool × ℕ → Place → Point → Outcome (Unit {0})
+  abbrev pub onward : Bool × ℕ → Place → Point → Outcome (Unit {0})
   onward x = run (inner k levels) (repeat (markup_turn true ends_block) x >>= λ _. flush_trivia)
 
-  onward-fronted : (h : Reading) (z : Place) (t : Trivia) (us : List Tree) → is_nil t.nodes ≡ is_nil us → (x : Bool × ℕ) (r : Reading) (e d : ℕ) (a b : Bool) → (minds (markup_head x.0 x.1 (hand_at k h (Some t) z).kind) ≡ true → e ≡ d)
+  pub onward-fronted : (h : Reading) (z : Place) (t : Trivia) (us : List Tree) → is_nil t.nodes ≡ is_nil us → (x : Bool × ℕ) (r : Reading) (e d : ℕ) (a b : Bool) → (minds (markup_head x.0 x.1 (hand_at k h (Some t) z).kind) ≡ true → e ≡ d)
       → Fronted t us (onward x z (before_trivia r h e a t)) (onward x (moved t.gap z) (before_trivia r h d b (trivia_with us t)))
   onward-fronted h z t us nil x r e d a b same =
       let deep : (suc levels == 0) ≡ false = ne_eqb (suc levels) 0 (omega arith) in
       fronted-behind (inner k levels) (sane-meaning (rules k) k (suc levels)) (λ c. sane-plain tt) deep ends_block refl h z t us nil x r e d a b
       (minds (markup_head x.0 x.1 (hand_at k h (Some t) z).kind)) (λ some. takes-call k levels h z t us nil x.0 x.1 some) same
+
+-- where what was looked at before them ends at the stretch or before it, the bracket and the pieces before are the same in both texts
+pub record FirstSame (k : CharClasses) (levels : ℕ) (front old new rest : List ℕ) (c : Spot (Unit {0})) (i : ℕ) : Type 0 where
+  pub opened : (let s = point_of c.start in bracket k levels (moved c.at (text_with front new rest)) s ≡ bracket k levels (moved c.at (text_with front old rest)) s)
+  pub first : first_of i (run_at k levels c (text_with front new rest)) ≡ first_of i (run_at k levels c (text_with front old rest))
+
+pub first-same : (k : CharClasses) (levels : ℕ) (front old new rest : List ℕ) (c : Spot (Unit {0})) (i : ℕ) → EndsBefore k levels front old rest c i → FirstSame k levels front old new rest c i
+first-same k levels front old new rest c i h =
+    let z0 = text_with front old rest in
+    let w0 = text_with front new rest in
+    let z = moved c.at z0 in
+    let w = moved c.at w0 in
+    let s = point_of c.start in
+    let b = bracket k levels z s in
+    let opened : bracket k levels w s ≡ b = bracket-same k levels z w s (same_in-shift c.at _ z0 w0 (before-same _ front old new rest h.opens)) in
+    let shown : 0 < i → SameIn ((inner_lead k levels z s).asks ++ asks_of (first_of i (run_at k levels c z0))) (moved b.taken z) (moved b.taken w) = λ l.
+    same_in-to _ _ _ _ _ (sym (moved-sum c.at b.taken z0)) (sym (moved-sum c.at b.taken w0)) (same_in-shift (c.at + b.taken) _ z0 w0 (before-same _ front old new rest (h.before_run l))) in
+    record { opened = opened; first = ap (λ o. first_of i (seq_by k levels o w)) opened ∙ first-by k levels i b z w shown }
+
+-- all behind some pieces that end before these trivia
+pub inner-fronted : (k : CharClasses) (levels i n : ℕ) (c : Spot (Unit {0})) (z : Place) (t : Trivia) → (then_end i n (run_at k levels c z)).state.known ≡ Some t → Fronted t t.nodes (onwards_in k levels i n c z) (onwards_past k levels i n t c z)
+unfolding run
+inner-fronted k levels i n c z t known =
+    let r = run_at k levels c z in
+    let e = then_end i n r in
+    let s = e.state in
+    let y = then_place i n r in
+    let rest = rest_of i n r in
+    let on = onwards_past k levels i n t c z in
+    let is : onwards_in k levels i n c z ≡ onward k levels e.value y s =
+    ap (λ p. joined rest (run (inner k levels) flush_trivia p rest.state)) (moved-three (first_end i r).taken e.taken rest.taken r.place) in
+    subst (λ o. Fronted t t.nodes o on) (sym is) (subst (λ a. Fronted t t.nodes (onward k levels e.value y a) on) (sym (known-is k s t known))
+    (onward-fronted k levels s.held y t t.nodes refl e.value s.reading s.empties s.empties s.is_after_error s.is_after_error (λ p. refl)))
 
 pub inner-joint-law : InnerJointLaw
 unfolding run
@@ -60,10 +93,7 @@ inner-joint-law k levels front old new rest c i n m past t u among h =
     let q = run_at k levels c w0 in
     let b = bracket k levels z s in
     let d = bracket k levels w s in
-    let opened : d ≡ b = bracket-same k levels z w s (same_in-shift c.at _ z0 w0 (before-same _ front old new rest h.pieces.opens)) in
-    let shown : 0 < i → SameIn ((inner_lead k levels z s).asks ++ asks_of (first_of i r)) (moved b.taken z) (moved b.taken w) = λ l.
-    same_in-to _ _ _ _ _ (sym (moved-sum c.at b.taken z0)) (sym (moved-sum c.at b.taken w0)) (same_in-shift (c.at + b.taken) _ z0 w0 (before-same _ front old new rest (h.pieces.before_run l))) in
-    let first_is : first_of i q ≡ first_of i r = ap (λ o. first_of i (seq_by k levels o w)) opened ∙ first-by k levels i b z w shown in
+    let first_is : first_of i q ≡ first_of i r = (first-same k levels front old new rest c i h.pieces.looks).first in
     let new_first : AllGo (first_of i q) = subst (λ os. AllGo os) (sym first_is) h.pieces.first_go in
     let fe = first_end i r in
     let ff = first_end i q in
@@ -84,7 +114,7 @@ inner-joint-law k levels front old new rest c i n m past t u among h =
     let there : moved t.gap y ≡ moved old_at z0 = ap (moved t.gap) (moved-four c.at b.taken fe.taken e.taken z0) ∙ sym (moved-sum ((c.at + b.taken) + (fe.taken + e.taken)) t.gap z0) ∙ ap (λ a. moved a z0) h.ends in
     let here : moved u.gap v ≡ moved new_at w0 = ap (moved u.gap) (moved-four c.at d.taken ff.taken j.taken w0) ∙ sym (moved-sum ((c.at + d.taken) + (ff.taken + j.taken)) u.gap w0) ∙ ap (λ a. moved a w0) h.shifted in
     let on = onwards_past k levels i n t c z0 in
-    let all = same_in-to _ _ _ _ _ there here (after-same _ past old_at new_at front old new rest refl refl h.after) in
+    let all = same_in-to _ _ _ _ _ there here (after-same _ past old_at new_at front old new rest refl refl h.looks.inside) in
     let shown_on = same_in-first on.asks _ (moved t.gap y) (moved u.gap v) all in
     let after_on = onward k levels j.value (moved u.gap v) (before_trivia js.reading js.held es.empties es.is_after_error (trivia_with t.nodes u)) in
     let one : Fronted t t.nodes (onward k levels e.value y es) on =
@@ -147,8 +177,8 @@ inner-joint-law k levels front old new rest c i n m past t u among h =
       starts = h.pieces.starts;
       ends = omega (arith, old_taken, ends, took_old);
       goes_on = h.goes_on;
-      before = h.pieces.before;
-      after = h.behind;
+      before = h.pieces.looks.before;
+      after = h.looks.behind;
       shifted = omega (arith, new_taken, shifted, took_new);
     } in
     record {

@@ -50,7 +50,7 @@ exchanged t u us o n c d f g e =
 
 module _ (k : CharClasses) where
   -- all behind some pieces of a text
-  abbrev onward : Bool × ℕ → Place → Point → Outcome (Unit {0})
+  abbrev pub onward : Bool × ℕ → Place → Point → Outcome (Unit {0})
   onward x = run (level_at k max_depth) (repeat (markup_turn true is_end) x >>= λ _. flush_trivia)
 
   -- what a piece reads one level deeper
@@ -66,7 +66,7 @@ module _ (k : CharClasses) where
       (minds (markup_head x.0 x.1 (hand_at k h (Some t) z).kind)) (λ some. takes-call 255 h z t us nil x.0 x.1 some) same
 
   -- behind pieces
-  onwards-is : (i n : ℕ) (z : Place) → onwards_from k i n z ≡ onward (end_from k i n z).value (place_from k i n z) (end_from k i n z).state
+  pub onwards-is : (i n : ℕ) (z : Place) → onwards_from k i n z ≡ onward (end_from k i n z).value (place_from k i n z) (end_from k i n z).state
   unfolding run
   onwards-is i n z =
       let r = rest_from k i n z in
@@ -74,6 +74,17 @@ module _ (k : CharClasses) where
 
   pub known-is : (s : Point) (t : Trivia) → s.known ≡ Some t → s ≡ before_trivia s.reading s.held s.empties s.is_after_error t
   known-is s t e = ap (λ u. record s { known = u }) e
+
+  -- and all behind pieces that end before these trivia
+  pub onwards-fronted : (i n : ℕ) (z : Place) (t : Trivia) → (end_from k i n z).state.known ≡ Some t
+      → (let e = end_from k i n z in Fronted t t.nodes (onwards_from k i n z) (onward e.value (moved t.gap (place_from k i n z)) (passed t e.state)))
+  onwards-fronted i n z t known =
+      let e = end_from k i n z in
+      let s = e.state in
+      let y = place_from k i n z in
+      let c = onward e.value (moved t.gap y) (passed t s) in
+      subst (λ o. Fronted t t.nodes o c) (sym (onwards-is i n z)) (subst (λ p. Fronted t t.nodes (onward e.value y p) c) (sym (known-is s t known))
+      (onward-fronted s.held y t t.nodes refl e.value s.reading s.empties s.empties s.is_after_error s.is_after_error (λ p. refl)))
 
 pub joint-law : JointLaw
 joint-law k front old new rest i n m past t u h =

@@ -92,7 +92,7 @@ standing-led xs rest o q e h =
     ∙ ap (λ ts. ts ++ q.nodes) (hinted-append q.hints xs (less q.back rest) some) ∙ append_assoc xs (hinted q.hints (less q.back rest)) q.nodes
 
 -- behind it all is the same
-led-joined : {A B : Type 0} (t : Trivia) (us : List Tree) (trims : Bool) (o c : Outcome B) (q : Outcome A) → Led t us trims o c → Tidy c.state q → Led t us trims (joined o q) (joined c q)
+pub led-joined : {A B : Type 0} (t : Trivia) (us : List Tree) (trims : Bool) (o c : Outcome B) (q : Outcome A) → Led t us trims o c → Tidy c.state q → Led t us trims (joined o q) (joined c q)
 led-joined t us trims o c q h tidy =
     let few = h.few in
     let less_back = tidy.back in

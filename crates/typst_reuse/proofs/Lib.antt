@@ -5,9 +5,11 @@
 --   complete_law                 Complete: word by word, by the notes of the log
 --   run_law                      Root: of a whole text; RunTrees: its tree and log; BlockRuns: of a content block; Runs: of any loop
 --   joint_law                    Joint: of a whole text; InnerJoint: of a content block; Turns: each head of markup; Led: each word before a token is taken
---   decision_law                 Bytes: the log; RunBytes: of pieces of a run; Widths: characters and bytes; Within: looks are at places of the text
+--   children_law                 Children: of a whole text; InnerChildren: of a content block
+--   decision_law                 Bytes: the log; Boundary: where pieces of any run end; RunBytes, JointBytes: of a whole text; InnerBytes: of a content block; Widths: characters and bytes; Within: looks are at places of the text
+--   notes_law                    PieceNotes: of a whole text and of a content block; Marks: in any list of asks
 --   path_law                     Walk: the steps; Placed: what stands before a block
---   blocks_of_texts, runs_of_texts, conditions_of_texts      computed (laws)
+--   blocks_of_texts, runs_of_texts, conditions_of_texts, rare_conditions_of_texts      computed (laws)
 pub mod Every
 pub mod Outcomes
 pub mod Wrap
@@ -35,7 +37,14 @@ pub mod InnerJoint
 pub mod Within
 pub mod Widths
 pub mod Bytes
+pub mod Marks
+pub mod Boundary
 pub mod RunBytes
+pub mod JointBytes
+pub mod InnerBytes
 pub mod RunTrees
+pub mod Children
+pub mod InnerChildren
+pub mod PieceNotes
 pub mod Placed
 pub mod Walk

@@ -12,32 +12,33 @@ use Rattle.typst_grammar.specs.Point.{Point}
 use Rattle.typst_grammar.specs.Shape.{hinted}
 use Rattle.typst_grammar.proofs.Hints.{standing-joined}
 use Rattle.typst_grammar.proofs.Places.{less-none}
-use Rattle.typst_grammar.specs.Grammar.{max_depth, parsed, tree, log}
+use Rattle.typst_grammar.specs.Grammar.{max_depth, start_of, parsed, tree, log}
 use Rattle.typst_reuse.specs.Edit.{text_with}
-use Rattle.typst_reuse.specs.RunTrees.{given, run_mark, RunTreeLaw}
-use Rattle.typst_reuse.specs.Runs.{start, End, end_of, asks_of, chain, lead, pieces, end_at, pieces_from, end_from, rest_from, tail, whole_of}
+use Rattle.typst_reuse.specs.Joint.{onwards_from}
+use Rattle.typst_reuse.specs.RunTrees.{given, tree_by, run_mark, RunTreeLaw}
+use Rattle.typst_reuse.specs.Runs.{start, AllGo, End, end_of, asks_of, chain, lead, pieces, end_at, pieces_from, end_from, rest_from, tail, whole_of}
 use Rattle.typst_reuse.proofs.Led.{none-less}
 use Rattle.typst_reuse.proofs.Outcomes.{shift-zero, shift-twice}
-use Rattle.typst_reuse.proofs.Root.{run-law, split-taken}
-use Rattle.typst_reuse.proofs.RunBytes.{chain-asks}
+use Rattle.typst_reuse.proofs.Root.{run-law, whole-is, split-at, split-taken}
+use Rattle.typst_reuse.proofs.Boundary.{chain-asks}
 use Rattle.typst_reuse.proofs.Runs.{chain-state, chain-taken}
 
 -- ---- nodes
 
-hinted-none : (hs : List (List ℕ)) → ◌≡◌ {A = List Tree} (hinted hs []) []
+pub hinted-none : (hs : List (List ℕ)) → ◌≡◌ {A = List Tree} (hinted hs []) []
 hinted-none [] = refl
 hinted-none (h ∷ hs) = refl
 
 -- an outcome's nodes alone
-standing-none : {A : Type 0} (o : Outcome A) → standing o [] ≡ o.nodes
+pub standing-none : {A : Type 0} (o : Outcome A) → standing o [] ≡ o.nodes
 standing-none o = ap (λ ts. hinted o.hints ts ++ o.nodes) (none-less o.back) ∙ ap (λ ts. ts ++ o.nodes) (hinted-none o.hints)
 
 -- what gives nothing and takes nothing back
-standing-still : {A : Type 0} (o : Outcome A) (ts : List Tree) → o.hints ≡ [] → o.back ≡ 0 → o.nodes ≡ [] → standing o ts ≡ ts
+pub standing-still : {A : Type 0} (o : Outcome A) (ts : List Tree) → o.hints ≡ [] → o.back ≡ 0 → o.nodes ≡ [] → standing o ts ≡ ts
 standing-still o ts e f g =
     ap (λ hs. hinted hs (less o.back ts) ++ o.nodes) e ∙ ap (λ n. less n ts ++ o.nodes) f ∙ ap (λ us. less 0 ts ++ us) g ∙ append-nil (less 0 ts) ∙ less-none ts
 
-standing-chain : {A B : Type 0} (os : List (Outcome (Bool × A))) (q : Outcome B) (ts : List Tree) → standing (chain os q) ts ≡ standing q (given os ts)
+pub standing-chain : {A B : Type 0} (os : List (Outcome (Bool × A))) (q : Outcome B) (ts : List Tree) → standing (chain os q) ts ≡ standing q (given os ts)
 standing-chain [] q ts = refl
 standing-chain (o ∷ os) q ts = standing-joined o (chain os q) ts ∙ standing-chain os q (standing o ts)
 
@@ -60,7 +61,7 @@ module _ (k : CharClasses) (y : Place) (c : Outcome (Bool × ℕ)) (t : Outcome 
       ∙ standing-joined first four none ∙ ap (standing four) (standing-still first none refl refl refl)
       ∙ standing-joined c (plain (tt {0}) c.state) none ∙ standing-still (plain (tt {0}) c.state) (standing c none) refl refl refl)
 
-  whole-asks : (whole_of (lead k y) c t).asks ≡ run_mark ∷ (((lead k y).asks ++ c.asks) ++ shift c.taken t.asks)
+  pub whole-asks : (whole_of (lead k y) c t).asks ≡ run_mark ∷ (((lead k y).asks ++ c.asks) ++ shift c.taken t.asks)
   unfolding run
   whole-asks =
       let ls = (lead k y).asks in
@@ -88,6 +89,23 @@ chained-asks ls x v s r os ps q t =
     ap (shift a) inner ∙ map-append (shift_one a) second (shift (b + q.taken) t.asks) ∙ ap (λ u. shift a second ++ u) (shift-twice a (b + q.taken) t.asks) in
     ap (λ u. (ls ++ u) ++ shift c.taken t.asks) asks ∙ ap (λ n. (ls ++ (first ++ shift a second)) ++ shift n t.asks) taken
     ∙ ap (λ u. u ++ last) (sym (append_assoc ls first (shift a second))) ∙ append_assoc (ls ++ first) (shift a second) last ∙ ap (λ u. (ls ++ first) ++ u) (sym outer)
+
+-- a text's tree, by its pieces and all behind them
+pub tree-is : (k : CharClasses) (text : List ℕ) (i n : ℕ) → (let z = start_of text in AllGo (pieces k i z) → AllGo (pieces_from k i n z) → tree k text ≡ tree_by (pieces k i z) (pieces_from k i n z) (onwards_from k i n z))
+unfolding tree
+tree-is k text i n g h =
+    let z = start_of text in
+    let os = pieces k i z in
+    let ps = pieces_from k i n z in
+    let q = rest_from k i n z in
+    let r = chain os (chain ps q) in
+    let u = tail k (((end_at k i z).taken + (end_from k i n z).taken) + q.taken) q.state z in
+    let tail_is : tail k r.taken r.state z ≡ u =
+    ap (λ a. tail k a r.state z) (split-taken k i n z) ∙ ap (λ s. tail k (((end_at k i z).taken + (end_from k i n z).taken) + q.taken) s z) (chain-state os (chain ps q) ∙ chain-state ps q) in
+    let is : parsed k max_depth text ≡ whole_of (lead k z) r u =
+    whole-is k text ∙ ap (λ o. whole_of (lead k z) o (tail k o.taken o.state z)) (split-at k i n z g h) ∙ ap (whole_of (lead k z) r) tail_is in
+    ap (λ (o : Outcome (Unit {0})). inner_of kind.Markup (forest o.nodes)) is
+    ∙ ap (λ ts. inner_of kind.Markup (forest ts)) (whole-nodes k z r u ∙ ap (standing u) (standing-chain os (chain ps q) [] ∙ standing-chain ps q (given os [])) ∙ sym (standing-joined q u (given ps (given os []))))
 
 pub run-tree-law : RunTreeLaw
 unfolding tree log

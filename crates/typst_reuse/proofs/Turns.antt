@@ -256,7 +256,7 @@ module _ {A : Type 0} (m : A → Meaning (Bool × A)) (within : (x : A) → With
   led-repeated t us trims x z s r tidy h = led-goes t us trims x z s r tidy h (goes (m x (moved t.gap z) r)) refl
 
 -- the end is a stop
-end-by : (stops : SyntaxKind → Bool) → stops kind.End ≡ true → (n : ℕ) (k : SyntaxKind) → ends stops n k ≡ false → is_end k ≡ false
+pub end-by : (stops : SyntaxKind → Bool) → stops kind.End ≡ true → (n : ℕ) (k : SyntaxKind) → ends stops n k ≡ false → is_end k ≡ false
 end-by stops e n kind.End f = let g : true ≡ false = sym e ∙ f in cc
 end-by stops e n _ f = refl
 

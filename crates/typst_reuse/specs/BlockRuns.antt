@@ -102,6 +102,20 @@ close_at k levels i n c z =
 abbrev pub left_at : {A : Type 0} → CharClasses → ℕ → ℕ → ℕ → Spot A → Place → ℕ
 left_at k levels i n c z = (rest_of i n (run_at k levels c z)).taken + ((tail_at k levels i n c z).taken + (close_at k levels i n c z).taken)
 
+-- What is looked at before so many pieces of a block's run ends at the stretch or before it: before the block, at its bracket, and in these pieces.
+pub record EndsBefore (k : CharClasses) (levels : ℕ) (front old rest : List ℕ) (c : Spot (Unit {0})) (i : ℕ) : Type 0 where
+  pub before : AllEndBy (length front) c.before
+  pub opens : (let z = moved c.at (text_with front old rest) in let s = point_of c.start in
+      AllEndBy (length front) (shift c.at ((look_first k levels z s).asks ++ ((look_again k levels z s).asks ++ (bracket k levels z s).asks))))
+  pub before_run : 0 < i → (let z = text_with front old rest in
+      AllEndBy (length front) (shift (opened_at k levels c z) ((inner_lead k levels (moved c.at z) (point_of c.start)).asks ++ asks_of (first_of i (run_at k levels c z)))))
+
+-- What is looked at behind n pieces behind i, in the block and behind it, begins at the stretch's end or behind it, where they go on so many characters past it.
+pub record BeginsBehind (k : CharClasses) (levels : ℕ) (front old rest : List ℕ) (c : Spot (Unit {0})) (i n past : ℕ) : Type 0 where
+  pub inside : (let z = text_with front old rest in let r = rest_of i n (run_at k levels c z) in let t = tail_at k levels i n c z in
+      AllBeginIn past rest (r.asks ++ shift r.taken (t.asks ++ shift t.taken (close_at k levels i n c z).asks)))
+  pub behind : AllBeginIn (past + left_at k levels i n c (text_with front old rest)) rest c.after
+
 -- In a content block, behind i pieces of its run stand n that go on, and m pieces are to take their place, where a stretch `old` becomes `new`: what was looked at before them ends at the stretch or before it.
 pub record TakesPlace (k : CharClasses) (levels : ℕ) (front old new rest : List ℕ) (c : Spot (Unit {0})) (i n m : ℕ) : Type 0 where
   -- a content block that is not the deepest
@@ -113,20 +127,14 @@ pub record TakesPlace (k : CharClasses) (levels : ℕ) (front old new rest : Lis
   pub new_go : AllGo (then_of i m (run_at k levels c (text_with front new rest)))
   -- the block begins before the stretch, and what was looked at before it, at its bracket and in the pieces before ends at the stretch or before it
   pub starts : c.at < length front
-  pub before : AllEndBy (length front) c.before
-  pub opens : (let z = moved c.at (text_with front old rest) in let s = point_of c.start in
-      AllEndBy (length front) (shift c.at ((look_first k levels z s).asks ++ ((look_again k levels z s).asks ++ (bracket k levels z s).asks))))
-  pub before_run : 0 < i → (let z = text_with front old rest in
-      AllEndBy (length front) (shift (opened_at k levels c z) ((inner_lead k levels (moved c.at z) (point_of c.start)).asks ++ asks_of (first_of i (run_at k levels c z)))))
+  pub looks : EndsBefore k levels front old rest c i
 
--- The test: in a content block, behind i pieces of its run stand n that go on so many characters past a stretch `old`, which becomes `new`, and m pieces are to take their place.
+-- The test: in a content block, behind i pieces of its run stand n that go on so many characters past a stretch `old`, which becomes `new`.
 pub record PassesInner (k : CharClasses) (levels : ℕ) (front old new rest : List ℕ) (c : Spot (Unit {0})) (i n m past : ℕ) : Type 0 where
   pub pieces : TakesPlace k levels front old new rest c i n m
   -- what was looked at behind them, in the block and behind it, begins at the stretch's end or behind it
   pub ends : (let z = text_with front old rest in let r = run_at k levels c z in opened_at k levels c z + ((first_end i r).taken + (then_end i n r).taken) ≡ (length front + length old) + past)
-  pub after : (let z = text_with front old rest in let r = rest_of i n (run_at k levels c z) in let t = tail_at k levels i n c z in
-      AllBeginIn past rest (r.asks ++ shift r.taken (t.asks ++ shift t.taken (close_at k levels i n c z).asks)))
-  pub behind : AllBeginIn (past + left_at k levels i n c (text_with front old rest)) rest c.after
+  pub looks : BeginsBehind k levels front old rest c i n past
   pub goes_on : 0 < past + left_at k levels i n c (text_with front old rest)
   -- the new ones end at the shifted end, with what was carried there and in the same state
   pub shifted : (let z = text_with front new rest in let r = run_at k levels c z in opened_at k levels c z + ((first_end i r).taken + (then_end i m r).taken) ≡ (length front + length new) + past)

@@ -28,13 +28,17 @@ onwards_past k levels i n t c z =
 abbrev pub left_past : {A : Type 0} → CharClasses → ℕ → ℕ → ℕ → Trivia → Spot A → Place → ℕ
 left_past k levels i n t c z = (onwards_past k levels i n t c z).taken + (close_at k levels i n c z).taken
 
+-- What is looked at from behind these trivia on, in the block and behind it, begins at the stretch's end or behind it, where they end so many characters past it.
+pub record BeginsPast (k : CharClasses) (levels : ℕ) (front old rest : List ℕ) (c : Spot (Unit {0})) (i n past : ℕ) (t : Trivia) : Type 0 where
+  pub inside : (let z = text_with front old rest in let o = onwards_past k levels i n t c z in AllBeginIn past rest (o.asks ++ shift o.taken (close_at k levels i n c z).asks))
+  pub behind : AllBeginIn (past + left_past k levels i n t c (text_with front old rest)) rest c.after
+
 -- The test: in a content block, behind i pieces of its run stand n that go on, with the trivia behind them, so many characters past a stretch `old`, which becomes `new`, and m pieces are to take their place.
 pub record PassesInnerJoint (k : CharClasses) (levels : ℕ) (front old new rest : List ℕ) (c : Spot (Unit {0})) (i n m past : ℕ) (t u : Trivia) : Type 0 where
   pub pieces : TakesPlace k levels front old new rest c i n m
   -- what is looked at from behind the trivia on, in the block and behind it, begins at the stretch's end or behind it
   pub ends : (let z = text_with front old rest in let r = run_at k levels c z in (opened_at k levels c z + ((first_end i r).taken + (then_end i n r).taken)) + t.gap ≡ (length front + length old) + past)
-  pub after : (let z = text_with front old rest in let o = onwards_past k levels i n t c z in AllBeginIn past rest (o.asks ++ shift o.taken (close_at k levels i n c z).asks))
-  pub behind : AllBeginIn (past + left_past k levels i n t c (text_with front old rest)) rest c.after
+  pub looks : BeginsPast k levels front old rest c i n past t
   pub goes_on : 0 < past + left_past k levels i n t c (text_with front old rest)
   -- the new ones end at the shifted end, with their trivia, and meet what is behind them
   pub shifted : (let z = text_with front new rest in let r = run_at k levels c z in (opened_at k levels c z + ((first_end i r).taken + (then_end i m r).taken)) + u.gap ≡ (length front + length new) + past)

@@ -12,8 +12,14 @@ pub mod Lost
 pub mod Walk
 pub mod BlockRuns
 pub mod Joint
+pub mod JointBytes
 pub mod RunTrees
+pub mod Children
 pub mod InnerJoint
+pub mod InnerBytes
+pub mod PieceNotes
+pub mod InnerChildren
 pub mod Examples
 pub mod RunExamples
 pub mod Conditions
+pub mod RareConditions

@@ -12,8 +12,8 @@ use Rattle.typst_reuse.specs.Bytes.{lowest}
 use Rattle.typst_reuse.specs.Edit.{text_with, AllEndBy, AllBeginIn}
 use Rattle.typst_reuse.specs.Runs.{AllGo, End, asks_of, lead, pieces, end_at, pieces_from, end_from, rest_from, tail}
 
--- The note of a text's log where some pieces of its run end, and the next begins or the run ends.
-pub record PieceNote (h : Log) (text : List ℕ) (e : End (Bool × ℕ)) : Type 0 where
+-- The note of a text's log where some pieces of a run end, and the next begins or the run ends; so many levels are left there.
+pub record PieceNote (h : Log) (left : ℕ) (text : List ℕ) (e : End (Bool × ℕ)) : Type 0 where
   pub earlier : List Note
   pub note : Note
   pub later : List Note
@@ -21,7 +21,7 @@ pub record PieceNote (h : Log) (text : List ℕ) (e : End (Bool × ℕ)) : Type 
   -- it says what is carried there, where the trivia before the next piece begin, how many levels are left, and the state
   pub mark : note.mark ≡ mark.Piece e.value.0 e.value.1
   pub before : note.before ≡ width (take e.taken text)
-  pub levels : note.levels ≡ max_depth
+  pub levels : note.levels ≡ left
   pub state : note.state ≡ state_of e.state
 
 -- where n pieces behind i end
@@ -31,8 +31,8 @@ both_end k i n front old rest = let z = text_with front old rest in record (end_
 -- The notes where n pieces behind i begin and end, and what their numbers decide: where the stretch begins in bytes with `reach`,
 -- and where it ends with `least`.
 pub record DecidedRun (k : CharClasses) (front old rest : List ℕ) (i n past : ℕ) : Type 0 where
-  pub begins : PieceNote (log k (front ++ (old ++ rest))) (front ++ (old ++ rest)) (end_at k i (text_with front old rest))
-  pub ends : PieceNote (log k (front ++ (old ++ rest))) (front ++ (old ++ rest)) (both_end k i n front old rest)
+  pub begins : PieceNote (log k (front ++ (old ++ rest))) max_depth (front ++ (old ++ rest)) (end_at k i (text_with front old rest))
+  pub ends : PieceNote (log k (front ++ (old ++ rest))) max_depth (front ++ (old ++ rest)) (both_end k i n front old rest)
   -- the two tests of looks
   pub before : 0 < i → begins.note.reach ≤ width front → AllEndBy (length front) ((lead k (text_with front old rest)).asks ++ asks_of (pieces k i (text_with front old rest)))
   pub after : width (front ++ old) < lowest ends.later (log k (front ++ (old ++ rest))).least

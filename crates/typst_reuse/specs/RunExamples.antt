@@ -1,14 +1,17 @@
 -- Edits inside pieces of short texts, as they follow from the definitions.
-use Rattle.std.specs.Prelude.{◌≡◌, ℕ, Bool, true, false, List, [], ◌∷◌, codes, map}
+use Rattle.std.specs.Prelude.{◌≡◌, ℕ, Bool, true, false, List, [], ◌∷◌, take, drop, codes, map}
 use Rattle.typst_kinds.specs.declared.kind.SyntaxKind.TheVariants as kind
 use Rattle.typst_node.specs.Tree.{Tree, leaf_of}
 use Rattle.typst_classes.specs.Classes.{CharClasses, by_law}
+use Rattle.typst_grammar.specs.calls.Note.{Note}
 use Rattle.typst_grammar.specs.Meaning.{Outcome}
 use Rattle.typst_grammar.specs.Point.{gap_of}
-use Rattle.typst_grammar.specs.Grammar.{start_of, tree}
+use Rattle.typst_grammar.specs.Grammar.{start_of, tree, log}
 use Rattle.typst_grammar.specs.Examples.{markup, branch, text, unclosed}
+use Rattle.typst_reuse.specs.Bytes.{lowest}
 use Rattle.typst_reuse.specs.Examples.{most, least}
 use Rattle.typst_reuse.specs.Joint.{onwards_from}
+use Rattle.typst_reuse.specs.PieceNotes.{listed}
 use Rattle.typst_reuse.specs.Runs.{pieces, pieces_from, end_from, rest_from, lead, asks_of}
 
 -- how much the turns that go on take, one by one
@@ -54,3 +57,7 @@ pub record Runs (beyond : CharClasses) : Type 0 where
   pub joint_gaps : map (λ t. gap_of (end_from (by_law beyond) 0 1 (start_of t)).state.known) (codes "a //cc\nb" ∷ codes "a //dc\nb" ∷ []) ≡ 6 ∷ 6 ∷ []
   -- four lines, and a letter behind the last newline: what the first two, three and four pieces look at ends so far on
   pub lines : map (λ n. most (asks_of (pieces (by_law beyond) n (start_of (codes "a\nb\nc\nd\n"))))) (2 ∷ 3 ∷ 4 ∷ []) ≡ 6 ∷ 8 ∷ 9 ∷ []
+  -- the notes of the comment's text: the first has no look before it, the second says where the trivia end, and no look behind that one begins before there
+  pub joint_starts : map (λ (n : Note). n.start) (listed (log (by_law beyond) (codes "a //cc\nb")).notes) ≡ 0 ∷ 7 ∷ 8 ∷ []
+  pub joint_reach : map (λ (n : Note). n.reach) (take 1 (listed (log (by_law beyond) (codes "a //cc\nb")).notes)) ≡ 0 ∷ []
+  pub joint_least : lowest (drop 2 (listed (log (by_law beyond) (codes "a //cc\nb")).notes)) (log (by_law beyond) (codes "a //cc\nb")).least ≡ 8

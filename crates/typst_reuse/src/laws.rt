@@ -3,13 +3,19 @@
 ghost use Rattle.typst_classes.specs.Classes.{CharClasses};
 ghost use Rattle.typst_reuse.specs.BlockRuns.{InnerLaw};
 ghost use Rattle.typst_reuse.specs.Bytes.{DecisionLaw};
+ghost use Rattle.typst_reuse.specs.Children.{BackLaw, ChildrenLaw};
 ghost use Rattle.typst_reuse.specs.Conditions.{Conditions};
 ghost use Rattle.typst_reuse.specs.Examples.{Blocks};
 ghost use Rattle.typst_reuse.specs.RunExamples.{Runs};
+ghost use Rattle.typst_reuse.specs.InnerBytes.{InnerDecisionLaw};
+ghost use Rattle.typst_reuse.specs.InnerChildren.{InnerBackLaw, InnerChildrenLaw};
 ghost use Rattle.typst_reuse.specs.InnerJoint.{InnerJointLaw};
 ghost use Rattle.typst_reuse.specs.Joint.{JointLaw};
+ghost use Rattle.typst_reuse.specs.JointBytes.{JointDecisionLaw};
 ghost use Rattle.typst_reuse.specs.Laws.{BlockLaw, NamesLaw};
 ghost use Rattle.typst_reuse.specs.Lost.{CompleteLaw};
+ghost use Rattle.typst_reuse.specs.PieceNotes.{InnerNotesLaw, RunNotesLaw};
+ghost use Rattle.typst_reuse.specs.RareConditions.{RareConditions};
 ghost use Rattle.typst_reuse.specs.RunBytes.{RunDecisionLaw};
 ghost use Rattle.typst_reuse.specs.RunTrees.{RunTreeLaw};
 ghost use Rattle.typst_reuse.specs.Runs.{RunLaw, StartLaw};
@@ -57,13 +63,35 @@ pub fn joint_law()
     ensures inner { InnerJointLaw }
 {}
 
+/// Where an edit inside some pieces of a text's run passes the test of the joint, the new pieces take back as many
+/// errors as the old ones, and there are pieces or nothing is taken back behind them, one stretch of the tree's
+/// children is exchanged: for the nodes of the new pieces and the trivia behind them. So in a content block: there
+/// they are children of the markup that is its second child. Pieces take back no more errors than the state where
+/// they begin counts, and what is behind them no more than the state where they end counts.
+pub fn children_law()
+    ensures pieces { ChildrenLaw }
+    ensures inner { InnerChildrenLaw }
+    ensures back { BackLaw }
+    ensures inner_back { InnerBackLaw }
+{}
+
 /// Each block of a text has two notes in its log, where it begins and where it ends. Two numbers of
 /// them say exactly whether what the block law asks of looks holds: where all looks before the first
 /// end, and where those behind the second begin, in bytes beside the ends of the replaced stretch. A note stands
-/// where each piece of a text's run begins, too, and says as exactly whether what the run law asks of looks holds.
+/// where each piece of a text's run begins, too, and says as exactly whether what the run law asks of looks holds,
+/// or the law of the joint, for a stretch that goes on into the trivia behind the pieces; and so in a content block.
 pub fn decision_law()
     ensures blocks { DecisionLaw }
     ensures pieces { RunDecisionLaw }
+    ensures joint { JointDecisionLaw }
+    ensures inner { InnerDecisionLaw }
+{}
+
+/// A note of a text's log that says that all levels are left is one where pieces of its run end; and a note between
+/// the two of a content block that says as many levels as are left in it is one where pieces of the block's run end.
+pub fn notes_law()
+    ensures run { RunNotesLaw }
+    ensures inner { InnerNotesLaw }
 {}
 
 /// From the top of a text's tree the steps to the child that begins before a stretch and ends behind
@@ -86,4 +114,9 @@ pub fn runs_of_texts()
 /// Edits at which one condition of a law alone fails, and what differs then.
 pub fn conditions_of_texts()
     ensures { (beyond : CharClasses) → Conditions beyond }
+{}
+
+/// Edits at which a column, the depth or a reading that was given up alone makes the test fail, and what differs then.
+pub fn rare_conditions_of_texts()
+    ensures { (beyond : CharClasses) → RareConditions beyond }
 {}

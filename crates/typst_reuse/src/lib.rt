@@ -4,6 +4,6 @@
 mod laws;
 
 pub use laws::{
-    block_law, blocks_of_texts, complete_law, conditions_of_texts, decision_law, joint_law,
-    path_law, run_law, runs_of_texts,
+    block_law, blocks_of_texts, children_law, complete_law, conditions_of_texts, decision_law,
+    joint_law, notes_law, path_law, rare_conditions_of_texts, run_law, runs_of_texts,
 };

@@ -1,4 +1,6 @@
+use Rattle.typst_reuse.proofs.InnerBytes.{inner-decision-law}
 use Rattle.typst_reuse.proofs.Bytes.{decision-law}
+use Rattle.typst_reuse.proofs.JointBytes.{joint-decision-law}
 use Rattle.typst_reuse.proofs.RunBytes.{run-decision-law}
 use Rattle.typst_reuse.proofs.laws.decision_law.Goals as goal
 
@@ -7,3 +9,9 @@ returns-clause-blocks c = decision-law
 
 pub returns-clause-pieces : goal.returns-clause-pieces
 returns-clause-pieces c = run-decision-law
+
+pub returns-clause-joint : goal.returns-clause-joint
+returns-clause-joint c = joint-decision-law
+
+pub returns-clause-inner : goal.returns-clause-inner
+returns-clause-inner c = inner-decision-law

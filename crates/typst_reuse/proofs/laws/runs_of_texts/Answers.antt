@@ -13,7 +13,7 @@ use Rattle.typst_grammar.specs.Meaning.{less, repeated, run}
 use Rattle.typst_grammar.specs.Steps.{eat_making, eat, convert_and_eat, eat_if, close_if, unexpected, expected, expect, flush_trivia, within, node, node_with_trivia, note}
 use Rattle.typst_grammar.specs.Depth.{deeper}
 use Rattle.typst_grammar.specs.Markup.{note_piece, markup_turn, markup_exprs, markup_run, markup, markup_is_empty, delimited, heading, item, term_item, markup_expr}
-use Rattle.typst_grammar.specs.Grammar.{whole, tree}
+use Rattle.typst_grammar.specs.Grammar.{whole, tree, log}
 use Rattle.typst_reuse.proofs.laws.runs_of_texts.Goals as goal
 use Rattle.typst_markup_tokens.specs.Link.{link, link_or_text}
 use Rattle.typst_markup_tokens.specs.Names.{label_or_text, ref_marker, ref_or_text}
@@ -22,11 +22,13 @@ use Rattle.typst_tokens.specs.Raw.{raw}
 use Rattle.typst_grammar.specs.Tokens.{backtick}
 use Rattle.typst_raw.specs.Lines.{later_rows, inline_leaves}
 use Rattle.typst_raw.specs.Raw.{raw_node}
+use Rattle.typst_lines.specs.Place.{char_width}
+use Rattle.typst_readers.specs.Sight.{width, position, near, far, stretch}
 use Rattle.typst_grammar.specs.Steps.{read_block}
 use Rattle.typst_grammar.specs.Markup.{content_block, direct_content, reference}
 
 pub returns : goal.returns
-unfolding tree whole meaning_of note_piece markup_turn markup_exprs markup_run markup markup_is_empty delimited heading item term_item markup_expr deeper eat_making eat convert_and_eat eat_if close_if unexpected expected expect flush_trivia within node node_with_trivia note less repeated run ahead ahead_asks column_at hand_at hand_asks of_mode hash slash star token text_token markup_token heading_token sign text_from code_point backslash dot marker_or_text marker hyphen minus emphasis numbering line_ends whitespace shebang line_comment block_comment comment_end number_after encode link link_or_text label label_or_text ref_marker ref_or_text raw backtick later_rows inline_leaves raw_node read_block content_block direct_content reference
+unfolding log width char_width position near far stretch tree whole meaning_of note_piece markup_turn markup_exprs markup_run markup markup_is_empty delimited heading item term_item markup_expr deeper eat_making eat convert_and_eat eat_if close_if unexpected expected expect flush_trivia within node node_with_trivia note less repeated run ahead ahead_asks column_at hand_at hand_asks of_mode hash slash star token text_token markup_token heading_token sign text_from code_point backslash dot marker_or_text marker hyphen minus emphasis numbering line_ends whitespace shebang line_comment block_comment comment_end number_after encode link link_or_text label label_or_text ref_marker ref_or_text raw backtick later_rows inline_leaves raw_node read_block content_block direct_content reference
 returns c = λ beyond. record {
   old_lengths = refl;
   new_lengths = refl;
@@ -50,4 +52,7 @@ returns c = λ beyond. record {
   joint_new = refl;
   joint_gaps = refl;
   lines = refl;
+  joint_starts = refl;
+  joint_reach = refl;
+  joint_least = refl;
 }
