@@ -1,5 +1,5 @@
 -- A tree where some pieces of a content block's run are read again: one stretch of the children of the block's markup exchanged.
-use Rattle.std.proofs.Common.{◌≡◌, ℕ, suc, ◌+◌, ◌-◌, ◌<◌, ◌≤◌, ◌==◌, ne_eqb, Bool, true, false, if◌then◌else◌, nat_lt, List, [], ◌∷◌, ◌++◌, length, take, drop, codes, refl, ap, sym, ◌∙◌, subst, arith}
+use Rattle.std.proofs.Common.{◌≡◌, ℕ, suc, ◌+◌, ◌<◌, ◌≤◌, ◌==◌, ne_eqb, Bool, true, false, if◌then◌else◌, nat_lt, List, [], ◌∷◌, ◌++◌, length, take, drop, codes, refl, ap, sym, ◌∙◌, subst, arith}
 use Rattle.typst_kinds.specs.declared.kind.SyntaxKind.TheVariants as kind
 use Rattle.typst_kinds.specs.Kinds.{same}
 use borrow.Author.Tests.{le-ltb}
@@ -11,7 +11,7 @@ use Rattle.typst_grammar.specs.calls.Mark.TheVariants as mark
 use Rattle.typst_grammar.specs.Ask.Ask.{marked}
 use Rattle.typst_grammar.specs.Hand.{Hand, told}
 use Rattle.typst_grammar.specs.Point.{Trivia, Point, is_nil, point_of, state_of, gap_of, pending}
-use Rattle.typst_grammar.specs.Shape.{hinted, shaped, becomes, unclosed, after_node}
+use Rattle.typst_grammar.specs.Shape.{hinted, shaped, becomes, after_node}
 use Rattle.typst_grammar.specs.Shape.Making.{itself}
 use Rattle.typst_grammar.specs.Steps.{flush_trivia, close_if}
 use Rattle.typst_grammar.specs.Syntax.Op.{takes}

@@ -9,7 +9,7 @@ use Rattle.typst_grammar.specs.reading.Newlines.{Newlines}
 use Rattle.typst_grammar.specs.Ask.{Ask}
 use Rattle.typst_grammar.specs.Point.{Trivia, no_newlines, gap_of, state_of}
 use Rattle.typst_grammar.specs.Steps.{eat}
-use Rattle.typst_grammar.specs.Syntax.{Parser, ◌>>=◌, ◌>>◌}
+use Rattle.typst_grammar.specs.Syntax.{Parser, ◌>>◌}
 use Rattle.typst_grammar.specs.Syntax.Parser.{gives, either, block as reads}
 use Rattle.typst_grammar.specs.Meaning.{Outcome, start_point, run}
 use Rattle.typst_grammar.specs.Markup.{markup_reading}
