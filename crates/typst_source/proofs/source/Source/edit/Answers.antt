@@ -1,4 +1,4 @@
-use Rattle.std.proofs.Common.{◌∙◌, true, Err, ap, refl}
+use Rattle.std.proofs.Common.{◌∙◌, true, Err, ap, refl, arith}
 use Rattle.std.specs.Str.{chars}
 use Rattle.std.specs.String.{string_bytes}
 use Rattle.typst_kinds.specs.declared.error.SourceError.TheVariants.{SpanNumbers}
@@ -37,3 +37,9 @@ returns-clause-kept g c =
       ap (λ (s : Held g.row.C.Denot). s.classes) is,
       same-file _ c.args.self.now c.id-file.result (tree (g.C.Classes.classes c.self.inside.classes) (chars c.in_ok-made.made.lines)) c.in_ok-made.made.root c.span.result is c.id-file.ensures c.span.ensures c.in_ok-made.ensures.tree,
     )
+
+pub returns-clause-within : goal.returns-clause-within
+returns-clause-within g c = (omega arith, omega (arith, c.len_bytes-end.ensures))
+
+pub returns-clause-err : goal.returns-clause-err
+returns-clause-err g c = tt
