@@ -2,5 +2,7 @@
 --   the headline's tree, leaves and numbers   Fresh: fresh-bare, fresh-text, fresh-file, fresh-numbers
 --   a node is found by its own span           Own: finds-own
 --   a node's bytes by its own number          Own: gives-own
+--   what a call of a source answers          Answered: not-found, looked-for, part-given, replaced, same-file, same-refusal
 pub mod Fresh
 pub mod Own
+pub mod Answered
