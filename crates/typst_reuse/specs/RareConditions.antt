@@ -1,5 +1,5 @@
--- Where a column, a depth or a reading that was given up alone makes an edit fail the test, and the trees differ.
-use Rattle.std.specs.Prelude.{◌≡◌, ℕ, Bool, true, List, [], ◌∷◌, Option, Some, None, codes, map}
+-- Where a column, a depth, a reading that was given up or a look around a block alone makes an edit fail the test, and the trees differ.
+use Rattle.std.specs.Prelude.{◌≡◌, ℕ, Bool, true, false, ◌==◌, List, [], ◌∷◌, Option, Some, None, codes, map}
 use Rattle.typst_kinds.specs.declared.kind.SyntaxKind.{SyntaxKind}
 use Rattle.typst_kinds.specs.declared.kind.SyntaxKind.TheVariants as kind
 use Rattle.typst_node.specs.Tree.{Tree, leaf_of, error_of}
@@ -9,14 +9,15 @@ use Rattle.typst_grammar.specs.reading.Newlines.{Newlines}
 use Rattle.typst_grammar.specs.Ask.{Ask}
 use Rattle.typst_grammar.specs.Point.{Trivia, no_newlines, gap_of, state_of}
 use Rattle.typst_grammar.specs.Steps.{eat}
-use Rattle.typst_grammar.specs.Syntax.{Parser, ◌>>◌}
-use Rattle.typst_grammar.specs.Syntax.Parser.{gives, either, block as reads}
+use Rattle.typst_grammar.specs.Syntax.{Parser, ◌>>◌, ◌>>=◌}
+use Rattle.typst_grammar.specs.Syntax.Op.{further, column, complains}
+use Rattle.typst_grammar.specs.Syntax.Parser.{gives, does, pick, either, block as reads}
 use Rattle.typst_grammar.specs.Meaning.{Outcome, start_point, run}
 use Rattle.typst_grammar.specs.Markup.{markup_reading}
 use Rattle.typst_grammar.specs.Grammar.{rules, max_depth, level_at, start_of}
 use Rattle.typst_grammar.specs.Examples.{markup, branch, text}
 use Rattle.typst_reuse.specs.Conditions.{kinds}
-use Rattle.typst_reuse.specs.Examples.{least}
+use Rattle.typst_reuse.specs.Examples.{least, most}
 use Rattle.typst_reuse.specs.JointBytes.{asked_past}
 use Rattle.typst_reuse.specs.Laws.{block_at}
 use Rattle.typst_reuse.specs.Occurrences.{level_spots}
@@ -54,6 +55,22 @@ spots_in k p s = level_spots (rules k) k max_depth p (start_of s) (start_point m
 abbrev pub kinds_in : CharClasses → Parser Bool → List ℕ → List SyntaxKind
 kinds_in k p s = map (λ (t : Tree). t.head.kind) (run (level_at k max_depth) p (start_of s) (start_point markup_reading)).nodes
 
+-- says so where a test fails: an empty error
+abbrev pub unless : Bool → Parser Bool
+unless holds = pick holds (gives true) (does (complains (codes "no")) >> gives true)
+
+abbrev pub is_letter : SyntaxKind → Bool
+is_letter kind.Text = true
+is_letter _ = false
+
+-- a content block, before which the token behind its bracket is asked for
+abbrev pub peeking : Parser Bool
+peeking = does further >>= (λ k. reads block.Content >> unless (is_letter k))
+
+-- a content block, behind which the column is asked for
+abbrev pub measuring : Parser Bool
+measuring = reads block.Content >> (does column >>= (λ n. unless (n == 3)))
+
 abbrev pub indented : List ℕ
 indented = codes "a\n/*\n*/- b\n   - c"
 
@@ -85,3 +102,15 @@ pub record RareConditions (beyond : CharClasses) : Type 0 where
   -- but it has no spot, and its node doesn't stand in the tree
   pub given_up_none : map (λ c. c.at) (spots_in (by_law beyond) both_readings (codes "[a]")) ≡ []
   pub given_up_tree : kinds_in (by_law beyond) both_readings (codes "[a]") ≡ kind.LeftBracket ∷ []
+  -- a look before the block into it: what stands behind its bracket is asked for before, and is no letter any more
+  pub ahead_before : map (λ c. most c.before) (spots_in (by_law beyond) peeking (codes "[a]")) ≡ 3 ∷ []
+  pub ahead_behind : map (λ c. least c.after) (spots_in (by_law beyond) peeking (codes "[a]")) ≡ 0 ∷ []
+  pub ahead_ends : map (λ c. (unit_at c (start_of (codes "[~]"))).taken) (spots_in (by_law beyond) peeking (codes "[a]")) ≡ 3 ∷ []
+  pub ahead_old : kinds_in (by_law beyond) peeking (codes "[a]") ≡ kind.ContentBlock ∷ []
+  pub ahead_new : kinds_in (by_law beyond) peeking (codes "[~]") ≡ kind.ContentBlock ∷ kind.Error ∷ []
+  -- a look behind the block into it: the column of what stands behind is asked for, and is greater now
+  pub back_before : map (λ c. most c.before) (spots_in (by_law beyond) measuring (codes "[a]b")) ≡ 1 ∷ []
+  pub back_behind : map (λ c. least c.after) (spots_in (by_law beyond) measuring (codes "[a]b")) ≡ 4 ∷ []
+  pub back_ends : map (λ c. (unit_at c (start_of (codes "[aa]b"))).taken) (spots_in (by_law beyond) measuring (codes "[a]b")) ≡ 4 ∷ []
+  pub back_old : kinds_in (by_law beyond) measuring (codes "[a]b") ≡ kind.ContentBlock ∷ []
+  pub back_new : kinds_in (by_law beyond) measuring (codes "[aa]b") ≡ kind.ContentBlock ∷ kind.Error ∷ []

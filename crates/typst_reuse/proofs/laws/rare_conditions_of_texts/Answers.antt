@@ -61,4 +61,14 @@ returns c = λ beyond. record {
   given_up_nodes = refl;
   given_up_none = refl;
   given_up_tree = refl;
+  ahead_before = refl;
+  ahead_behind = refl;
+  ahead_ends = refl;
+  ahead_old = refl;
+  ahead_new = refl;
+  back_before = refl;
+  back_behind = refl;
+  back_ends = refl;
+  back_old = refl;
+  back_new = refl;
 }
