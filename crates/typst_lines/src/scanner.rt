@@ -206,7 +206,7 @@ impl<'a> Scanner<'a> {
     }
 
     /// Eats the next character.
-    #[inline]
+    #[inline(always)]
     pub fn eat(&mut self) -> Option<char>
         ensures next { result ≡ scout 0 (place self.old) }
         ensures moved { place self.new ≡ moved 1 (place self.old) }

@@ -176,6 +176,7 @@ impl<'s> Parser<'s> {
     }
 
     /// Adds a node.
+    #[inline(always)]
     fn give(&mut self, node: SyntaxNode) -> Result<(), AllocError>
         ensures { OnOk result (self.new ≡ record self.old { nodes = self.old.nodes ++ node ∷ []; state = after_node (is_error node.head.kind) (text_of node) self.old.state }) }
     {

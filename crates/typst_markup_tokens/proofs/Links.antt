@@ -11,9 +11,8 @@ use Rattle.typst_links.proofs.Trimmed.{last-taken}
 use Rattle.typst_links.proofs.Fronts.{front-taken}
 use Rattle.typst_classes.specs.Sets.{among}
 use Rattle.typst_links.specs.Links.{last_signs, after, front, without_last_signs, link_prefix}
-use Rattle.typst_readers.specs.Reader.{Look, Turn, both, no_look, widened, from_before, spanned, span_look, exec}
+use Rattle.typst_readers.specs.Reader.{Look, both, widened, from_before, spanned, span_look, exec}
 use Rattle.typst_tokens.specs.Memory.Memory.{brackets}
-use Rattle.typst_readers.specs.Reader.Turn.{leave, last, go}
 use Rattle.typst_readers.specs.Sight.{Sight, Covers, saw, saw_by, went, sight}
 use Rattle.typst_readers.proofs.Frame.{turned, turn_look}
 use Rattle.typst_readers.proofs.Sights.{saw-ahead}

@@ -1,17 +1,16 @@
 -- Labels and references.
-use Rattle.std.specs.Prelude.{if◌then◌else◌, ◌==◌, length}
+use Rattle.std.specs.Prelude.{if◌then◌else◌, length}
 use Rattle.typst_classes.specs.Classes.{CharClasses}
 use Rattle.typst_classes.specs.Identifiers.{is_id_continue}
 use Rattle.typst_kinds.specs.declared.kind.SyntaxKind.TheVariants as kind
 use Rattle.typst_markup_tokens.specs.Text.{text_from}
 use Rattle.typst_tokens.specs.Labels.{label}
-use Rattle.typst_tokens.specs.Token.{plain, faulty}
+use Rattle.typst_tokens.specs.Token.{plain}
 use Rattle.typst_tokens.specs.declared.token.Token.{Token}
-use Rattle.typst_tokens.specs.declared.token.Fault.TheVariants as fault
 use Rattle.typst_lines.specs.Place.{passes}
 use Rattle.typst_links.specs.Labels.{is_name, ref_name}
-use Rattle.typst_readers.specs.Reader.{Reader, if_next}
-use Rattle.typst_readers.specs.Reader.Reader.{answer, peek, eat, see_run, skip, eat_run}
+use Rattle.typst_readers.specs.Reader.{Reader}
+use Rattle.typst_readers.specs.Reader.Reader.{answer, peek, eat, see_run, skip}
 use Rattle.typst_tokens.specs.Memory.{Memory}
 
 -- `<` comes next: before a character of identifiers it begins a label.

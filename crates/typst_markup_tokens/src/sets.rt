@@ -1,9 +1,9 @@
 //! What is text in any case.
 ghost use Rattle.std.specs.Prelude.{◌≡◌, not, codes};
+ghost use Rattle.typst_markup_tokens.specs.Flow.{flows_in_ascii};
 ghost use Rattle.typst_markup_tokens.specs.Text.{may_stop};
+ghost use Rattle.typst_readers.specs.Pairs.{bytes_pass};
 ghost use Rattle.typst_classes.specs.Sets.{among};
-
-use typst_lines::CharSet;
 
 /// Which ASCII characters are text in any case, by their numbers.
 const PLAIN: [bool; 128] = [
@@ -18,20 +18,47 @@ const PLAIN: [bool; 128] = [
     true, true, true, true, false, true,
 ];
 
-/// What is text in any case.
-#[derive(Clone, Copy)]
-pub(crate) struct PlainText;
+/// What each byte is in a text, in bits: 1 for what is text in any case, 2 for a space, 4 for an `h`. Bytes past ASCII are none of these.
+const ROLES: [u8; 256] = [
+    1, 1, 1, 1, 1, 1, 1, 1, 1, 0, 0, 0, 0, 0, 1, 1, 1, 1, 1, 1, 1, 1, 1, 1, 1, 1, 1, 1, 1, 1, 1, 1,
+    2, 1, 0, 0, 0, 1, 1, 0, 1, 1, 0, 1, 1, 0, 0, 0, 1, 1, 1, 1, 1, 1, 1, 1, 1, 1, 0, 1, 0, 1, 0, 1,
+    0, 1, 1, 1, 1, 1, 1, 1, 1, 1, 1, 1, 1, 1, 1, 1, 1, 1, 1, 1, 1, 1, 1, 1, 1, 1, 1, 0, 0, 0, 1, 0,
+    0, 1, 1, 1, 1, 1, 1, 1, 4, 1, 1, 1, 1, 1, 1, 1, 1, 1, 1, 1, 1, 1, 1, 1, 1, 1, 1, 1, 1, 1, 0, 1,
+    0, 0, 0, 0, 0, 0, 0, 0, 0, 0, 0, 0, 0, 0, 0, 0, 0, 0, 0, 0, 0, 0, 0, 0, 0, 0, 0, 0, 0, 0, 0, 0,
+    0, 0, 0, 0, 0, 0, 0, 0, 0, 0, 0, 0, 0, 0, 0, 0, 0, 0, 0, 0, 0, 0, 0, 0, 0, 0, 0, 0, 0, 0, 0, 0,
+    0, 0, 0, 0, 0, 0, 0, 0, 0, 0, 0, 0, 0, 0, 0, 0, 0, 0, 0, 0, 0, 0, 0, 0, 0, 0, 0, 0, 0, 0, 0, 0,
+    0, 0, 0, 0, 0, 0, 0, 0, 0, 0, 0, 0, 0, 0, 0, 0, 0, 0, 0, 0, 0, 0, 0, 0, 0, 0, 0, 0, 0, 0, 0, 0,
+];
 
-impl CharSet for PlainText {
-    ghost members = { λ _ c. not (may_stop c) };
+/// What is text before each byte, in the same bits: a space before a letter or a digit, an `h` before all but a `t`.
+const FOLLOWED: [u8; 256] = [
+    5, 5, 5, 5, 5, 5, 5, 5, 5, 5, 5, 5, 5, 5, 5, 5, 5, 5, 5, 5, 5, 5, 5, 5, 5, 5, 5, 5, 5, 5, 5, 5,
+    5, 5, 5, 5, 5, 5, 5, 5, 5, 5, 5, 5, 5, 5, 5, 5, 7, 7, 7, 7, 7, 7, 7, 7, 7, 7, 5, 5, 5, 5, 5, 5,
+    5, 7, 7, 7, 7, 7, 7, 7, 7, 7, 7, 7, 7, 7, 7, 7, 7, 7, 7, 7, 7, 7, 7, 7, 7, 7, 7, 5, 5, 5, 5, 5,
+    5, 7, 7, 7, 7, 7, 7, 7, 7, 7, 7, 7, 7, 7, 7, 7, 7, 7, 7, 7, 3, 7, 7, 7, 7, 7, 7, 5, 5, 5, 5, 5,
+    0, 0, 0, 0, 0, 0, 0, 0, 0, 0, 0, 0, 0, 0, 0, 0, 0, 0, 0, 0, 0, 0, 0, 0, 0, 0, 0, 0, 0, 0, 0, 0,
+    0, 0, 0, 0, 0, 0, 0, 0, 0, 0, 0, 0, 0, 0, 0, 0, 0, 0, 0, 0, 0, 0, 0, 0, 0, 0, 0, 0, 0, 0, 0, 0,
+    0, 0, 0, 0, 0, 0, 0, 0, 0, 0, 0, 0, 0, 0, 0, 0, 0, 0, 0, 0, 0, 0, 0, 0, 0, 0, 0, 0, 0, 0, 0, 0,
+    0, 0, 0, 0, 0, 0, 0, 0, 0, 0, 0, 0, 0, 0, 0, 0, 0, 0, 0, 0, 0, 0, 0, 0, 0, 0, 0, 0, 0, 0, 0, 0,
+];
 
-    #[inline]
-    fn has(&self, c: char) -> bool {
-        if c.is_ascii() {
-            PLAIN[c as usize]
-        } else {
-            !may_stop(c)
-        }
+/// Whether both bytes are of ASCII, and the first is text in any case or before the second.
+#[inline(always)]
+pub(crate) fn passes_before(c: u8, next: u8) -> bool
+    ensures { result ≡ bytes_pass flows_in_ascii c next }
+{
+    ROLES[c as usize] & FOLLOWED[next as usize] != 0
+}
+
+/// Whether the character is text in any case.
+#[inline]
+pub(crate) fn is_plain(c: char) -> bool
+    ensures { result ≡ not (may_stop c) }
+{
+    if c.is_ascii() {
+        PLAIN[c as usize]
+    } else {
+        !may_stop(c)
     }
 }
 

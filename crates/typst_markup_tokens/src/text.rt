@@ -1,36 +1,52 @@
 //! Plain text of markup.
-ghost use Rattle.std.specs.Prelude.{◌≡◌, if◌then◌else◌};
+ghost use Rattle.std.specs.Prelude.{◌≡◌, not, if◌then◌else◌};
 ghost use Rattle.typst_tokens.specs.Memory.Memory.{blank};
 ghost use Rattle.typst_readers.specs.Reader.Turn.{leave, go};
 ghost use Rattle.typst_readers.specs.Reads.{Reads};
 ghost use Rattle.typst_readers.specs.Sight.{regard};
 ghost use Rattle.typst_markup_tokens.specs.Text as spec;
+ghost use Rattle.typst_markup_tokens.specs.Text.{may_stop};
 
-use crate::sets::PlainText;
+use crate::sets::{is_plain, passes_before};
 use typst_classes::classes::Classes;
 use typst_kinds::SyntaxKind;
+use typst_lines::CharSet;
 use typst_links::labels::is_valid_in_label_literal;
 use typst_readers::{Cursor, PairSet};
 use typst_tokens::Token;
 
-/// What flows on in a text, by the character that follows.
+/// What is text in any case, and what flows on in a text by the character that follows.
 #[derive(Clone, Copy)]
 struct Flow<'a, C: Classes> {
     classes: &'a C,
 }
 
+impl<C: Classes> CharSet for Flow<'_, C> {
+    ghost members = { λ _ c. not (may_stop c) };
+
+    #[inline]
+    fn has(&self, c: char) -> bool {
+        is_plain(c)
+    }
+}
+
 impl<C: Classes> PairSet for Flow<'_, C> {
     ghost use Rattle.typst_markup_tokens.specs.Flow.{flows};
 
-    ghost members = { λ f c next. flows (C.classes f.classes.now) c next };
+    ghost before = { λ f c next. flows (C.classes f.classes.now) c next };
 
     #[inline]
-    fn has(&self, c: char, next: Option<char>) -> bool {
+    fn has_before(&self, c: char, next: Option<char>) -> bool {
         match (c, next) {
             (' ', Some(next)) => self.classes.is_alphanumeric(next),
             ('h', next) => !matches!(next, Some('t')),
             _ => false,
         }
+    }
+
+    #[inline(always)]
+    fn has_bytes(&self, c: u8, next: u8) -> bool {
+        passes_before(c, next)
     }
 }
 
@@ -41,13 +57,13 @@ pub(crate) fn text<C: Classes>(s: &mut Cursor<'_>, classes: &C) -> Token
     ensures { Reads (spec.text (C.classes classes.now)) s.old result s.new }
 {
     let flow = Flow { classes };
-    let mut next = s.go_past(&PlainText, &flow);
+    let mut next = s.go_past(&flow);
     while let Some(c) = next {
         if !goes_on(c, s, classes) {
             return Token::plain(SyntaxKind::Text);
         }
         s.eat();
-        next = s.go_past(&PlainText, &flow);
+        next = s.go_past(&flow);
     }
     Token::plain(SyntaxKind::Text)
 }

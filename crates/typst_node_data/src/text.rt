@@ -1,4 +1,5 @@
-ghost use Rattle.std.specs.Prelude.{◌≡◌, ◌≤◌, ◌<◌, [], ◌++◌, ◌↔◌, IfOk, OnOk, OnErr, IsTrue, MatchOption, length, string_bytes};
+ghost use Rattle.std.specs.Prelude.{◌≡◌, ◌≤◌, ◌<◌, [], ◌∷◌, ◌++◌, ◌↔◌, IfOk, OnOk, OnErr, IsTrue, MatchOption, length, string_bytes};
+ghost use Rattle.std.specs.Str.{IsUtf8};
 
 use std::alloc::{AllocError, Global};
 use std::marker::Model;
@@ -107,20 +108,31 @@ impl ShortText {
         ensures { MatchOption result (13 < length text.now) (λ t. t ≡ text.now) }
     {
         let from = text.as_bytes();
+        if let [byte] = from {
+            return Some(ShortText::of_byte(*byte));
+        }
         let len = from.len();
         if len > 13 {
             return None;
         }
         let mut bytes = [0u8; 13];
-        if len == 1 {
-            bytes[0] = from[0];
-        } else {
-            bytes[..len].copy_from_slice(from);
-        }
+        bytes[..len].copy_from_slice(from);
         Some(ShortText {
             len: len as u8,
             bytes,
         })
+    }
+
+    /// The text of one byte, which is made without memory between.
+    #[inline(always)]
+    fn of_byte(byte: u8) -> ShortText
+        requires { IsUtf8 (byte ∷ []) }
+        ensures { result ≡ byte ∷ [] }
+    {
+        ShortText {
+            len: 1,
+            bytes: [byte, 0, 0, 0, 0, 0, 0, 0, 0, 0, 0, 0, 0],
+        }
     }
 
     /// The same text again.

@@ -1,8 +1,12 @@
 -- Runs of characters that pass by the one that follows them.
-use Rattle.std.proofs.Common.{◌≡◌, ◌≤◌, ◌<◌, ℕ, zero, suc, ◌+◌, max, Bool, true, false, ◌||◌, List, [], ◌∷◌, length, slice_get, Option, Some, None, refl, sym, ap, ◌∙◌, arith}
+use Rattle.std.proofs.Common.{◌≡◌, ◌≤◌, ◌<◌, ℕ, zero, suc, ◌+◌, max, Bool, true, false, ◌&&◌, ◌||◌, get_or, List, [], ◌∷◌, length, slice_get, Option, Some, None, refl, sym, ap, subst, ◌∙◌, arith}
+use Rattle.std.proofs.lemmas.Bool.Decides.{nat_tests}
+use Rattle.std.specs.Char.{is_ascii}
+use Rattle.std.specs.Str.{IsUtf8, IsCharBoundary}
 use Rattle.std.specs.List.{prefix_len}
-use Rattle.typst_lines.specs.Place.{Place, moved, moved_from, passes, past, scout}
-use Rattle.typst_readers.specs.Pairs.{either, pair_passes, pairs_len, past_pairs, went_past_pairs}
+use Rattle.typst_lines.specs.Place.{Place, place_at, moved, moved_from, passes, past, scout}
+use Rattle.typst_lines.proofs.PlaceLemmas.{IsStep-from_ascii}
+use Rattle.typst_readers.specs.Pairs.{either, bytes_pass, pair_passes, pairs_len, past_pairs, went_past_pairs}
 use Rattle.typst_readers.specs.Reader.{place, ask, glimpse, Machine, Reader, eat_span}
 use Rattle.typst_readers.specs.Reader.Turn.{go}
 use Rattle.typst_readers.specs.Sight.{far, Sight, Covers, saw, saw_by, went, sight}
@@ -118,6 +122,30 @@ run-shortens alone pairs (Some c) p z y w f o m e =
     shorter : (b a : List ℕ) → Some c ≡ slice_get a 0 → length (moved_from 1 b a).ahead < length a
     shorter b [] e = absurd (cc)
     shorter b (d ∷ a) e = omega arith
+
+both-true : (a b : Bool) → (a && b) ≡ true → (a ≡ true) × (b ≡ true)
+both-true true b e = (refl, e)
+both-true false b e = absurd (cc)
+
+-- what the bytes tell to pass, a run goes on behind
+pub bytes-on : (test : ℕ → Option ℕ → Bool) (s : List ℕ) → IsUtf8 s → (i c d : ℕ) → IsCharBoundary s i → i + 1 < length s → c ≡ get_or s i 0 → d ≡ get_or s (i + 1) 0 → bytes_pass test c d ≡ true
+    → IsCharBoundary s (i + 1) × ((past_pairs test (place_at s (i + 1)) ≡ past_pairs test (place_at s i)) × (length (place_at s (i + 1)).ahead ≤ length (place_at s i).ahead))
+bytes-on test s u i c d start lt is next e =
+    let first = both-true (is_ascii c) _ e in
+    let second = both-true (is_ascii d) _ first.1 in
+    let z = place_at s i in
+    let one = IsStep-from_ascii s u i c start (omega (arith, lt)) is (below-128 c first.0) in
+    let two = IsStep-from_ascii s u (i + 1) d one.boundary lt next (below-128 d second.0) in
+    let behind : scout 1 z ≡ Some d = sym (two-scout z (place_at s (i + 1)) (Some d) one.moves (sym two.next)) in (
+      one.boundary,
+      (
+        ap (past_pairs test) one.moves ∙ pairs-on test c z (sym one.next) (ap (test c) behind ∙ second.1),
+        subst (λ (y : Place). length y.ahead ≤ length z.ahead) (sym one.moves) (moved-less 1 z.behind z.ahead),
+      ),
+    )
+  where
+    below-128 : (n : ℕ) → is_ascii n ≡ true → n < 128
+    below-128 n t = grind (arith, nat_tests, t)
 
 -- ---- what a cursor does
 

@@ -1,11 +1,16 @@
 -- Runs of characters that pass by the one that follows them.
-use Rattle.std.specs.Prelude.{ℕ, suc, Bool, false, ◌||◌, if◌then◌else◌, List, [], ◌∷◌, slice_get, Option, Some, None}
+use Rattle.std.specs.Prelude.{ℕ, suc, Bool, false, ◌||◌, ◌&&◌, if◌then◌else◌, List, [], ◌∷◌, slice_get, Option, Some, None}
+use Rattle.std.specs.Char.{is_ascii}
 use Rattle.typst_lines.specs.Place.{Place, moved}
 use Rattle.typst_readers.specs.Sight.{Sight, saw, went}
 
 -- a character passes by itself, or by the one that follows it
 abbrev pub either : (ℕ → Bool) → (ℕ → Option ℕ → Bool) → ℕ → Option ℕ → Bool
 either alone pairs c next = alone c || pairs c next
+
+-- whether two bytes are of ASCII, and the first passes before the second
+abbrev pub bytes_pass : (ℕ → Option ℕ → Bool) → ℕ → ℕ → Bool
+bytes_pass test c next = is_ascii c && (is_ascii next && test c (Some next))
 
 -- whether there is a character, and it passes by the one that follows it
 abbrev pub pair_passes : (ℕ → Option ℕ → Bool) → Option ℕ → Option ℕ → Bool

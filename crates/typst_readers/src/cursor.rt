@@ -302,15 +302,15 @@ impl<'a> Cursor<'a> {
         taken
     }
 
-    /// Goes past the longest run of characters that are in one set, or in the other by what
+    /// Goes past the longest run of characters that are in the set, or in its other one by what
     /// follows, and gives the character that ends it.
     #[inline]
-    pub fn go_past<S: CharSet, P: PairSet>(&mut self, alone: &S, pairs: &P) -> Option<char>
+    pub fn go_past<P: PairSet>(&mut self, set: &P) -> Option<char>
         ensures next { result ≡ scout 0 self.new.place }
-        ensures sight { self.new ≡ went_past_pairs (either (S.members alone.now) (P.members pairs.now)) self.old }
+        ensures sight { self.new ≡ went_past_pairs (either (P.CharSet.members set.now) (P.PairSet.before set.now)) self.old }
         ensures covers { spec.Covers self.old }
     {
-        let (behind, c) = past_pairs(&mut self.s, alone, pairs);
+        let (behind, c) = past_pairs(&mut self.s, set);
         self.reach = self.reach.max(end_of(&behind, c));
         c
     }

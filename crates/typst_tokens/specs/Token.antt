@@ -9,11 +9,11 @@ use Rattle.typst_tokens.specs.declared.token.Fault.{Fault}
 
 -- A token without a fault, in which no line ends.
 abbrev pub plain : SyntaxKind → Token
-plain k = record { kind = k; newline = false; fault = None }
+plain k = record { fault = None; kind = k; newline = false }
 
 -- An error.
 abbrev pub faulty : Fault → Token
-faulty f = record { kind = kind.Error; newline = false; fault = Some f }
+faulty f = record { fault = Some f; kind = kind.Error; newline = false }
 
 -- The base of a number that is not decimal.
 abbrev pub radix_of : Base → ℕ

@@ -13,7 +13,7 @@ pub struct Whitespace(pub SyntaxMode);
 impl CharSet for Whitespace {
     ghost members = { λ s. spec.is_space s.0 };
 
-    #[inline]
+    #[inline(always)]
     fn has(&self, c: char) -> bool {
         is_space(c, self.0)
     }

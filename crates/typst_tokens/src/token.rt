@@ -75,12 +75,12 @@ pub enum Fault {
 /// A token, aside from its text.
 #[derive(Debug, Clone, Copy, PartialEq, Eq)]
 pub struct Token {
+    /// What is wrong with it, where it is an error.
+    pub fault: Option<Fault>,
     /// What the token is.
     pub kind: SyntaxKind,
     /// Whether a line ends in it; only in whitespace one can.
     pub newline: bool,
-    /// What is wrong with it, where it is an error.
-    pub fault: Option<Fault>,
 }
 
 impl Token {
@@ -92,9 +92,9 @@ impl Token {
         ensures { result ≡ plain kind }
     {
         Token {
+            fault: None,
             kind,
             newline: false,
-            fault: None,
         }
     }
 
@@ -104,9 +104,9 @@ impl Token {
         ensures { result ≡ faulty fault }
     {
         Token {
+            fault: Some(fault),
             kind: SyntaxKind::Error,
             newline: false,
-            fault: Some(fault),
         }
     }
 }

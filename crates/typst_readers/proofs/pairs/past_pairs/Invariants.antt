@@ -6,7 +6,7 @@ use Rattle.typst_readers.proofs.pairs.past_pairs.Given as goal
 abbrev pub invariant-runs : goal.invariant-runs
 invariant-runs g l =
     record {
-      past : past_pairs (either (g.S.CharSet.members l.alone) (g.P.PairSet.members l.pairs)) (place l.at) ≡ past_pairs (either (g.S.CharSet.members l.alone) (g.P.PairSet.members l.pairs)) (place l.fn.s);
+      past : past_pairs (either (g.P.CharSet.members l.set) (g.P.PairSet.before l.set)) (place l.at) ≡ past_pairs (either (g.P.CharSet.members l.set) (g.P.PairSet.before l.set)) (place l.fn.s);
       text : l.at.text.now ≡ l.fn.s.text.now;
     }
 

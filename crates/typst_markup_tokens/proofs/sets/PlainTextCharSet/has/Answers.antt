@@ -1,7 +1,0 @@
-use Rattle.std.proofs.Common.{not}
-use Rattle.typst_markup_tokens.proofs.Tables.{below, tabulated-from_zero}
-use Rattle.typst_markup_tokens.proofs.sets.PlainTextCharSet.has.Goals as goal
-use Rattle.typst_markup_tokens.specs.Text.{may_stop}
-
-pub returns-then-is_ascii : goal.returns-then-is_ascii
-returns-then-is_ascii c = tabulated-from_zero (λ d. not (may_stop d)) 128 c.args.c (below c.args.c 128 c.if-is_ascii.ensures)
