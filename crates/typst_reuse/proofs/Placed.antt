@@ -2,6 +2,7 @@
 use Rattle.std.proofs.Common.{◌≡◌, ℕ, zero, suc, ◌+◌, ◌-◌, ◌≤◌, Bool, true, false, ◌&&◌, if◌then◌else◌, nat_lt, nat_le, List, [], ◌∷◌, ◌++◌, length, map, take, drop, append_assoc, append-nil, refl, ap, sym, ◌∙◌, subst, arith, Option, Some, None}
 use Rattle.std.proofs.lemmas.List.{take-append-drop}
 use Rattle.std.specs.List.{flat_map}
+use Rattle.typst_kinds.specs.declared.kind.SyntaxKind.TheVariants as kind
 use Rattle.typst_kinds.specs.Kinds.{is_error}
 use Rattle.typst_node_data.specs.Head.{Head, inner_head}
 use Rattle.typst_lines.specs.Place.{Place, moved}
@@ -12,7 +13,7 @@ use Rattle.typst_grammar.specs.calls.Call.{Call}
 use Rattle.typst_grammar.specs.Calls.{Answer}
 use Rattle.typst_grammar.specs.Hand.{utf8_ahead}
 use Rattle.typst_grammar.specs.Point.{Point, forgot}
-use Rattle.typst_grammar.specs.Shape.{Change, Shape, hinted, is_delimited}
+use Rattle.typst_grammar.specs.Shape.{Change, Shape, hinted, is_delimited, in_parens}
 use Rattle.typst_grammar.specs.Shape.Change.{stays, turns_wrong, is_not, renamed, unparened}
 use Rattle.typst_grammar.specs.Shape.Shape.{keeps, holds, lacks, warns, fails}
 use Rattle.typst_grammar.specs.Steps.{peek}
@@ -25,7 +26,7 @@ use Rattle.typst_grammar.specs.Sound.{Tidy, Backs, Stands}
 use Rattle.typst_grammar.proofs.Backs.{tidy-grew}
 use Rattle.typst_grammar.proofs.Knot.{Sane, sane-run, sane-meaning, sane-block, sane-plain}
 use Rattle.typst_grammar.proofs.Leaves.{texts, texts-append, texts-same, text-shaped, text-add, same-hinted, kept-joined, kept-grown, Holds, Keeps}
-use Rattle.typst_reuse.specs.Hole.{Deep, top, Hole, change_hole, in_node, in_nodes, behind_nodes, lack_hole, warned_head, wrap_in, wrap_past, wrap_hole}
+use Rattle.typst_reuse.specs.Hole.{Deep, Hole, stub, between_parens, changed_deep, first_hole, change_hole, in_node, in_nodes, behind_nodes, lack_hole, warned_head, wrap_in, wrap_past, wrap_hole}
 use Rattle.typst_reuse.specs.Hole.Deep.{bare, under}
 use Rattle.typst_reuse.specs.Spot.{Spot, block_head, valued, then_spot, after_spot, rehole, sunk_spot, closed_spot, here_spot}
 use Rattle.typst_reuse.specs.Occurrences.{Spots, joined_spots, goes, last_spot, turns_spots, repeated_spots, reshaped_spot, wrapped_spot, grown_spot, growths_spots, growing_spots, nestings_spots, nesting_spots, scoped_spot, spots, call_spots, block_spots, level_spots}
@@ -44,14 +45,26 @@ left_text h = texts h.left ++ deep_text h.deep
 abbrev Alike : List ℕ → List Hole → Type 0
 Alike text gs = Every (λ g. left_text g ≡ text) gs
 
--- the first node changes, and the node with the hole doesn't
+-- the node with the hole changes
+alike-between : (head : Head) (left : List Tree) (d : Deep) (right : List Tree) → Every (λ (e : Deep). deep_text e ≡ head.text ++ (texts left ++ deep_text d)) (between_parens head left d right)
+alike-between head [] d right = tt
+alike-between head (t ∷ left) d [] = tt
+alike-between head (t ∷ left) d (u ∷ right) = (ap (λ x. head.text ++ (x ++ deep_text d)) (text-shaped (keeps (renamed kind.LeftParen)) (t ∷ left)), tt)
+
+alike-deep : (change : Change) (h : Head) (d : Deep) → Every (λ (e : Deep). deep_text e ≡ deep_text d) (changed_deep change h d)
+alike-deep stays h d = (refl, tt)
+alike-deep (turns_wrong message) h d = tt
+alike-deep (is_not thing) h d = tt
+alike-deep (renamed kind) h bare = tt
+alike-deep (renamed kind) h (under head left d right) = every-if (λ (e : Deep). deep_text e ≡ deep_text (under head left d right)) (is_error kind) [] _ (λ e. tt) (λ e. (refl, tt))
+alike-deep unparened h bare = every-if (λ (e : Deep). deep_text e ≡ []) (is_delimited h.kind) [] _ (λ e. tt) (λ e. (refl, tt))
+alike-deep unparened h (under head left d right) =
+    every-if (λ (e : Deep). deep_text e ≡ deep_text (under head left d right)) (is_delimited head.kind && in_parens (left ++ stub d h ∷ right)) (between_parens head left d right) _ (λ e. alike-between head left d right) (λ e. (refl, tt))
+
+-- the first node changes
 alike-changed : (change : Change) (h : Head) (left : List Tree) (d : Deep) (right : List Tree) → Alike (texts left ++ deep_text d) (change_hole change h left d right)
 alike-changed change h (t ∷ left) d right = (ap (λ x. x ++ deep_text d) (text-shaped (keeps change) (t ∷ left)), tt)
-alike-changed stays h [] d right = (refl, tt)
-alike-changed (turns_wrong message) h [] d right = tt
-alike-changed (is_not thing) h [] d right = tt
-alike-changed (renamed kind) h [] d right = tt
-alike-changed unparened h [] d right = every-if (λ (g : Hole). left_text g ≡ deep_text d) (is_delimited (top d h).kind) [] (record { left = []; deep = d; right = right } ∷ []) (λ e. tt) (λ e. (refl, tt))
+alike-changed change h [] d right = every-map (λ (e : Deep). deep_text e ≡ deep_text d) (λ (g : Hole). left_text g ≡ deep_text d) (first_hole right) (λ e i. i) (changed_deep change h d) (alike-deep change h d)
 
 alike-behind : (kept : List Tree) (text : List ℕ) (gs : List Hole) → Alike text gs → Alike (texts kept ++ text) (behind_nodes kept gs)
 alike-behind kept text [] h = tt

@@ -1,18 +1,22 @@
 -- A hole in what several nodes become.
-use Rattle.std.proofs.Common.{◌≡◌, ℕ, suc, ◌+◌, ◌-◌, ◌<◌, ◌≤◌, inl, inr, Bool, true, false, if◌then◌else◌, nat_le, List, [], ◌∷◌, ◌++◌, length, take, drop, length-append, length-take, length-drop, append_assoc, refl, ap, sym, ◌∙◌, subst, arith}
+use Rattle.std.proofs.Common.{◌≡◌, ℕ, suc, ◌+◌, ◌-◌, ◌<◌, ◌≤◌, inl, inr, Bool, true, false, ◌&&◌, if◌then◌else◌, nat_le, List, [], ◌∷◌, ◌++◌, length, take, drop, length-append, length-take, length-drop, append_assoc, refl, ap, sym, ◌∙◌, subst, arith}
 use Rattle.std.proofs.lemmas.List.{take-append-le, drop-append-le}
 use Rattle.std.proofs.Math.Seq.{take-append-add, drop-append-add}
 use Rattle.std.proofs.lemmas.Bool.Decides.{nat_tests}
+use Rattle.typst_kinds.specs.declared.kind.SyntaxKind.{SyntaxKind}
+use Rattle.typst_kinds.specs.declared.kind.SyntaxKind.TheVariants as kind
 use Rattle.typst_kinds.specs.Kinds.{is_error}
 use Rattle.typst_node_data.specs.Head.{Head, inner_head}
-use Rattle.typst_node.specs.Tree.{Tree, forest, inner_of, error_of, text_of}
+use Rattle.typst_node.specs.Tree.{Tree, forest, trees, inner_of, error_of, with_kind, topped, text_of}
+use Rattle.typst_node.proofs.SpansAside.{trees_forest}
 use Rattle.typst_grammar.specs.Point.{Point}
-use Rattle.typst_grammar.specs.Shape.{Change, changed, first_changed, without_parens, is_delimited, Shape, shaped, after_node, after_change, after_shape}
+use Rattle.typst_grammar.specs.Shape.{Change, changed, first_changed, without_parens, is_delimited, is_sign, ends_with, in_parens, renamed_last, parens_renamed, Shape, shaped, after_node, after_change, after_shape}
 use Rattle.typst_grammar.specs.Shape.Change.{stays, turns_wrong, is_not, renamed, unparened}
 use Rattle.typst_grammar.specs.Shape.Shape.{keeps, holds, lacks, warns, fails}
 use Rattle.typst_grammar.proofs.Backs.{shape-counts}
-use Rattle.typst_reuse.specs.Hole.{Deep, fill, top, Hole, plug, change_hole, in_node, in_nodes, behind_nodes, lack_hole, warned_head, wrap_in, wrap_past, wrap_hole}
-use Rattle.typst_reuse.proofs.Every.{Every, every-if}
+use Rattle.typst_reuse.specs.Hole.Deep.{bare, under}
+use Rattle.typst_reuse.specs.Hole.{Deep, fill, top, Hole, plug, stub, between_parens, changed_deep, first_hole, change_hole, in_node, in_nodes, behind_nodes, lack_hole, warned_head, wrap_in, wrap_past, wrap_hole}
+use Rattle.typst_reuse.proofs.Every.{Every, every-map, every-if}
 use Rattle.typst_reuse.proofs.Outcomes.{head-fill}
 
 -- all but the first k nodes become something else
@@ -28,7 +32,7 @@ Solid d h = is_error (top d h).kind ≡ false
 -- the hole of the changed nodes
 record Changes (change : Change) (h : Head) (left : List Tree) (d : Deep) (right : List Tree) (g : Hole) : Type 0 where
   nodes : (x : Tree) → x.head ≡ h → first_changed change (left ++ fill d x ∷ right) ≡ plug g x
-  same : g.deep ≡ d
+  solid : Solid g.deep h
   state : (x y : Tree) (s : Point) → x.head ≡ h → y.head ≡ h → after_change change (left ++ fill d x ∷ right) s ≡ after_change change (left ++ fill d y ∷ right) s
   few : (x : Tree) (s : Point) (n : ℕ) → x.head ≡ h → s.empties ≤ length right → (after_change change (left ++ fill d x ∷ right) s).empties ≤ length g.right
 
@@ -43,47 +47,128 @@ after-more : (change : Change) (t : Tree) (ts : List Tree) (u : Tree) (us : List
 after-more change t [] u us s = refl
 after-more change t (v ∷ ts) u us s = refl
 
-changes-more : (change : Change) (h : Head) (t : Tree) (left : List Tree) (d : Deep) (right : List Tree) → Changes change h (t ∷ left) d right (record { left = first_changed change (t ∷ left); deep = d; right = right })
-changes-more change h t left d right = record {
+changes-more : (change : Change) (h : Head) (t : Tree) (left : List Tree) (d : Deep) (right : List Tree) → Solid d h → Changes change h (t ∷ left) d right (record { left = first_changed change (t ∷ left); deep = d; right = right })
+changes-more change h t left d right solid = record {
   nodes = λ x e. first-more change t left (fill d x ∷ right);
-  same = refl;
+  solid = solid;
   state = λ x y s e f. after-more change t left (fill d x) right s ∙ sym (after-more change t left (fill d y) right s);
   few = λ x s n e l. subst (λ (u : Point). u.empties ≤ length right) (sym (after-more change t left (fill d x) right s)) l;
 }
 
--- a node that stays as it is
-after-same : (change : Change) (t : Tree) (right : List Tree) (s : Point) → changed change t ≡ t → is_error t.head.kind ≡ false → after_change change (t ∷ right) s ≡ (elim right as (λ _. Point) [ [] ↦ record s { empties = 0; is_after_error = false } | u ∷ us ↦ s ])
-after-same change t [] s e f = ap (λ (b : Bool). if b then s else after_node (is_error (changed change t).head.kind) (text_of t) s) f ∙ ap (λ (u : Tree). after_node (is_error u.head.kind) (text_of t) s) e ∙ ap (λ (b : Bool). after_node b (text_of t) s) f
-after-same change t (u ∷ us) s e f = refl
+-- a node that is no error, and becomes none
+after-solid : (change : Change) (t u : Tree) (right : List Tree) (s : Point) → changed change t ≡ u → is_error t.head.kind ≡ false → is_error u.head.kind ≡ false
+    → after_change change (t ∷ right) s ≡ (elim right as (λ _. Point) [ [] ↦ record s { empties = 0; is_after_error = false } | v ∷ vs ↦ s ])
+after-solid change t u [] s e f g = ap (λ (b : Bool). if b then s else after_node (is_error (changed change t).head.kind) (text_of t) s) f ∙ ap (λ (v : Tree). after_node (is_error v.head.kind) (text_of t) s) e ∙ ap (λ (b : Bool). after_node b (text_of t) s) g
+after-solid change t u (v ∷ vs) s e f g = refl
 
 few-right : (right : List Tree) (s : Point) → s.empties ≤ length right → (elim right as (λ _. Point) [ [] ↦ record s { empties = 0; is_after_error = false } | u ∷ us ↦ s ]).empties ≤ length right
 few-right [] s h = omega arith
 few-right (u ∷ us) s h = h
 
-changes-first : (change : Change) (h : Head) (d : Deep) (right : List Tree) → ((x : Tree) → x.head ≡ h → changed change (fill d x) ≡ fill d x) → ((ts : List Tree) (t : Tree) → first_changed change (t ∷ ts) ≡ changed change t ∷ ts) → Solid d h
-    → Changes change h [] d right (record { left = []; deep = d; right = right })
-changes-first change h d right stay first solid = record {
-  nodes = λ x e. first right (fill d x) ∙ ap (λ u. u ∷ right) (stay x e);
-  same = refl;
-  state = λ x y s e f. after-same change (fill d x) right s (stay x e) (no-error x e) ∙ sym (after-same change (fill d y) right s (stay y f) (no-error y f));
-  few = λ x s n e l. subst (λ (u : Point). u.empties ≤ length right) (sym (after-same change (fill d x) right s (stay x e) (no-error x e))) (few-right right s l);
+first-is : (change : Change) (t : Tree) (ts : List Tree) → first_changed change (t ∷ ts) ≡ changed change t ∷ ts
+first-is stays t ts = refl
+first-is (turns_wrong message) t ts = refl
+first-is (is_not thing) t ts = refl
+first-is (renamed kind) t ts = refl
+first-is unparened t ts = refl
+
+-- the changed node is the other, with the same in its hole
+record Turns (change : Change) (h : Head) (d e : Deep) : Type 0 where
+  node : (x : Tree) → x.head ≡ h → changed change (fill d x) ≡ fill e x
+  solid : Solid e h
+
+changes-first : (change : Change) (h : Head) (d e : Deep) (right : List Tree) → Solid d h → Turns change h d e → Changes change h [] d right (first_hole right e)
+changes-first change h d e right solid t = record {
+  nodes = λ x i. first-is change (fill d x) right ∙ ap (λ u. u ∷ right) (t.node x i);
+  solid = t.solid;
+  state = λ x y s i j. after x s i ∙ sym (after y s j);
+  few = λ x s n i l. subst (λ (u : Point). u.empties ≤ length right) (sym (after x s i)) (few-right right s l);
 }
   where
-    no-error : (x : Tree) → x.head ≡ h → is_error (fill d x).head.kind ≡ false
-    no-error x e = ap (λ (a : Head). is_error a.kind) (head-fill d x h e) ∙ solid
+    no-error : (f : Deep) → Solid f h → (x : Tree) → x.head ≡ h → is_error (fill f x).head.kind ≡ false
+    no-error f k x i = ap (λ (a : Head). is_error a.kind) (head-fill f x h i) ∙ k
+
+    after : (x : Tree) (s : Point) → x.head ≡ h → after_change change (fill d x ∷ right) s ≡ (elim right as (λ _. Point) [ [] ↦ record s { empties = 0; is_after_error = false } | u ∷ us ↦ s ])
+    after x s i = after-solid change (fill d x) (fill e x) right s (t.node x i) (no-error d solid x i) (no-error e t.solid x i)
+
+-- ---- parens in math
 
 not-delimited : (t : Tree) → is_delimited t.head.kind ≡ false → without_parens t ≡ t
 not-delimited t h = rw h refl
 
+-- of the nodes the heads alone say whether they are between parens
+sign-head : (c : ℕ) (t u : Tree) → t.head ≡ u.head → is_sign c t ≡ is_sign c u
+sign-head c t u e = ap (λ (a : Head). is_sign c (record { head = a; kids = forest [] })) e
+
+ends-head : (c : ℕ) (left : List Tree) (t u : Tree) (right : List Tree) → t.head ≡ u.head → ends_with c (left ++ t ∷ right) ≡ ends_with c (left ++ u ∷ right)
+ends-head c [] t u [] e = sign-head c t u e
+ends-head c [] t u (v ∷ right) e = refl
+ends-head c (v ∷ []) t u right e = ends-head c [] t u right e
+ends-head c (v ∷ w ∷ left) t u right e = ends-head c (w ∷ left) t u right e
+
+parens-head : (left : List Tree) (t u : Tree) (right : List Tree) → t.head ≡ u.head → in_parens (left ++ t ∷ right) ≡ in_parens (left ++ u ∷ right)
+parens-head [] t u right e = ap (λ (b : Bool). b && ends_with 41 right) (sign-head 40 t u e)
+parens-head (v ∷ left) t u right e = ap (λ (b : Bool). is_sign 40 v && b) (ends-head 41 left t u right e)
+
+renamed-past : (k : SyntaxKind) (left : List Tree) (y u : Tree) (right : List Tree) → renamed_last k (left ++ y ∷ u ∷ right) ≡ left ++ y ∷ renamed_last k (u ∷ right)
+renamed-past k [] y u right = refl
+renamed-past k (t ∷ []) y u right = refl
+renamed-past k (t ∷ v ∷ left) y u right = ap (λ ts. t ∷ ts) (renamed-past k (v ∷ left) y u right)
+
+-- without its parens
+parens-off : (head : Head) (left : List Tree) (d : Deep) (right : List Tree) (h : Head) (x : Tree) → x.head ≡ h → (is_delimited head.kind && in_parens (left ++ stub d h ∷ right)) ≡ true
+    → without_parens (fill (under head left d right) x) ≡ record { head = record head { kind = kind.Math }; kids = forest (parens_renamed (left ++ fill d x ∷ right)) }
+parens-off head left d right h x i e =
+    let ts = left ++ fill d x ∷ right in
+    let t = fill (under head left d right) x in
+    let is = trees_forest ts in
+    let off : List Tree → Tree = λ us. record { head = record head { kind = kind.Math }; kids = forest (parens_renamed us) } in
+    ap (λ (b : Bool). if b then off (trees (forest ts)) else t)
+    (ap (λ us. is_delimited head.kind && in_parens us) is ∙ ap (λ (b : Bool). is_delimited head.kind && b) (parens-head left (fill d x) (stub d h) right (head-fill d x h i)) ∙ e)
+    ∙ ap off is
+
+-- or as it was
+parens-on : (head : Head) (left : List Tree) (d : Deep) (right : List Tree) (h : Head) (x : Tree) → x.head ≡ h → (is_delimited head.kind && in_parens (left ++ stub d h ∷ right)) ≡ false
+    → without_parens (fill (under head left d right) x) ≡ fill (under head left d right) x
+parens-on head left d right h x i e =
+    let ts = left ++ fill d x ∷ right in
+    let t = fill (under head left d right) x in
+    ap (λ (b : Bool). if b then record { head = record head { kind = kind.Math }; kids = forest (parens_renamed (trees (forest ts))) } else t)
+    (ap (λ us. is_delimited head.kind && in_parens us) (trees_forest ts) ∙ ap (λ (b : Bool). is_delimited head.kind && b) (parens-head left (fill d x) (stub d h) right (head-fill d x h i)) ∙ e)
+
+turns-between : (h head : Head) (left : List Tree) (d : Deep) (right : List Tree) → (is_delimited head.kind && in_parens (left ++ stub d h ∷ right)) ≡ true → Every (Turns unparened h (under head left d right)) (between_parens head left d right)
+turns-between h head [] d right e = tt
+turns-between h head (t ∷ left) d [] e = tt
+turns-between h head (t ∷ left) d (u ∷ right) e = (
+  record {
+    node = λ x i. parens-off head (t ∷ left) d (u ∷ right) h x i e
+        ∙ ap (λ ts. record { head = record head { kind = kind.Math }; kids = forest (with_kind kind.LeftParen t ∷ ts) }) (renamed-past kind.RightParen left (fill d x) u right);
+    solid = refl;
+  },
+  tt,
+)
+
+-- ---- the node with the hole changes
+
+every-turns : (change : Change) (h : Head) (d : Deep) → Solid d h → Every (Turns change h d) (changed_deep change h d)
+every-turns stays h d solid = (record { node = λ x i. refl; solid = solid }, tt)
+every-turns (turns_wrong message) h d solid = tt
+every-turns (is_not thing) h d solid = tt
+every-turns (renamed kind) h bare solid = tt
+every-turns (renamed kind) h (under head left d right) solid =
+    every-if (Turns (renamed kind) h (under head left d right)) (is_error kind) [] _ (λ e. tt)
+    (λ e. (record { node = λ x i. (let t = fill (under head left d right) x in ap (λ (b : Bool). if b then t else topped t (record head { kind = kind })) solid); solid = e }, tt))
+every-turns unparened h bare solid =
+    every-if (Turns unparened h bare) (is_delimited h.kind) [] _ (λ e. tt)
+    (λ e. (record { node = λ x i. not-delimited x (ap (λ (a : Head). is_delimited a.kind) i ∙ e); solid = solid }, tt))
+every-turns unparened h (under head left d right) solid =
+    every-if (Turns unparened h (under head left d right)) (is_delimited head.kind && in_parens (left ++ stub d h ∷ right)) (between_parens head left d right) _ (λ e. turns-between h head left d right e)
+    (λ e. (record { node = λ x i. parens-on head left d right h x i e; solid = solid }, tt))
+
 every-changes : (change : Change) (h : Head) (left : List Tree) (d : Deep) (right : List Tree) → Solid d h → Every (Changes change h left d right) (change_hole change h left d right)
-every-changes change h (t ∷ left) d right solid = (changes-more change h t left d right, tt)
-every-changes stays h [] d right solid = (changes-first stays h d right (λ x e. refl) (λ ts t. refl) solid, tt)
-every-changes (turns_wrong message) h [] d right solid = tt
-every-changes (is_not thing) h [] d right solid = tt
-every-changes (renamed kind) h [] d right solid = tt
-every-changes unparened h [] d right solid =
-    every-if (Changes unparened h [] d right) (is_delimited (top d h).kind) [] _ (λ e. tt)
-    (λ e. (changes-first unparened h d right (λ x f. not-delimited (fill d x) (ap (λ (a : Head). is_delimited a.kind) (head-fill d x h f) ∙ e)) (λ ts t. refl) solid, tt))
+every-changes change h (t ∷ left) d right solid = (changes-more change h t left d right solid, tt)
+every-changes change h [] d right solid =
+    every-map (Turns change h d) (Changes change h [] d right) (first_hole right) (λ e t. changes-first change h d e right solid t) (changed_deep change h d) (every-turns change h d solid)
 
 -- ---- what becomes of a hole
 
@@ -124,15 +209,15 @@ wraps-nodes change kind kept left d right h [] e = tt
 wraps-nodes change kind kept left d right h (p ∷ ps) e =
     wraps-node (holds change kind) (inner_head kind) kept left d right h p (λ x i. ap (λ u. inner_of kind (forest u) ∷ []) (e.0.nodes x i)) (λ ts s. refl)
 
-wraps-behind : (change : Change) (kept left : List Tree) (d : Deep) (right : List Tree) (h : Head) (ps : List Hole) → Solid d h → Every (Changes change h left d right) ps
+wraps-behind : (change : Change) (kept left : List Tree) (d : Deep) (right : List Tree) (h : Head) (ps : List Hole) → Every (Changes change h left d right) ps
     → Every (WrapsIn (keeps change) kept left d right h) (behind_nodes kept ps)
-wraps-behind change kept left d right h [] solid e = tt
-wraps-behind change kept left d right h (p ∷ ps) solid e = (
+wraps-behind change kept left d right h [] e = tt
+wraps-behind change kept left d right h (p ∷ ps) e = (
   record {
     nodes = λ x i. ap (λ u. kept ++ u) (e.0.nodes x i) ∙ sym (append_assoc kept p.left (fill p.deep x ∷ p.right));
     state = λ x y s i j. e.0.state x y s i j;
     few = λ x s i l. e.0.few x s 0 i l;
-    solid = subst (λ (q : Deep). Solid q h) (sym e.0.same) solid;
+    solid = e.0.solid;
   },
   tt,
 )
@@ -168,7 +253,7 @@ lack-at false count error left d right x e =
     ∙ append_assoc left (fill d x ∷ take j right) (error ∷ drop j right)
 
 wraps-in : (shape : Shape) (kept left : List Tree) (d : Deep) (right : List Tree) (h : Head) → Solid d h → Every (WrapsIn shape kept left d right h) (wrap_in shape h kept left d right)
-wraps-in (keeps change) kept left d right h solid = wraps-behind change kept left d right h (change_hole change h left d right) solid (every-changes change h left d right solid)
+wraps-in (keeps change) kept left d right h solid = wraps-behind change kept left d right h (change_hole change h left d right) (every-changes change h left d right solid)
 wraps-in (holds change kind) kept left d right h solid = wraps-nodes change kind kept left d right h (change_hole change h left d right) (every-changes change h left d right solid)
 wraps-in (lacks count message kind) kept left d right h solid =
     wraps-node (lacks count message kind) (inner_head kind) kept left d right h (lack_hole count (error_of message []) left d right)

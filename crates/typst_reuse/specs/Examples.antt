@@ -28,5 +28,8 @@ pub record Blocks (beyond : CharClasses) : Type 0 where
   pub looked_behind : map (λ c. least c.after) (blocks_of_text (by_law beyond) (codes "@a[@b[c]]")) ≡ 0 ∷ 0 ∷ []
   -- a star behind a block looks at its last character
   pub star_behind : map (λ c. least c.after) (blocks_of_text (by_law beyond) (codes "@a[b]*c*")) ≡ 1 ∷ []
+  -- a block in what is delimited by parens, which it loses above a fraction's slash: where the block begins, and its path
+  pub paren_places : map (λ c. c.at) (blocks_of_text (by_law beyond) (codes "$(#[a])/b$")) ≡ 3 ∷ []
+  pub paren_paths : map (λ c. path_of c.hole) (blocks_of_text (by_law beyond) (codes "$(#[a])/b$")) ≡ (0 ∷ 1 ∷ 0 ∷ 0 ∷ 1 ∷ 1 ∷ []) ∷ []
   -- where a bracket is text there is no block
   pub none : map (λ c. c.at) (blocks_of_text (by_law beyond) (codes "@a [b]")) ≡ []

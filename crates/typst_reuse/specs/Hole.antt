@@ -1,11 +1,12 @@
 -- Nodes with a hole for one of them, at any depth.
-use Rattle.std.specs.Prelude.{ℕ, suc, ◌-◌, if◌then◌else◌, nat_le, List, [], ◌∷◌, ◌++◌, length, take, drop, None}
+use Rattle.std.specs.Prelude.{ℕ, suc, ◌-◌, ◌&&◌, if◌then◌else◌, nat_le, List, [], ◌∷◌, ◌++◌, length, map, take, drop, None}
 use Rattle.typst_kinds.specs.declared.kind.SyntaxKind.{SyntaxKind}
+use Rattle.typst_kinds.specs.declared.kind.SyntaxKind.TheVariants as kind
 use Rattle.typst_kinds.specs.Kinds.{is_error}
 use Rattle.typst_node_data.specs.Head.{Head, inner_head}
 use Rattle.typst_node.specs.Diagnostic.{hint_with, warning_with}
-use Rattle.typst_node.specs.Tree.{Tree, forest, inner_of, error_of, advised, remarked}
-use Rattle.typst_grammar.specs.Shape.{Change, first_changed, Shape, shaped, is_delimited}
+use Rattle.typst_node.specs.Tree.{Tree, forest, inner_of, error_of, with_kind, advised, remarked}
+use Rattle.typst_grammar.specs.Shape.{Change, first_changed, Shape, shaped, is_delimited, in_parens, renamed_last}
 use Rattle.typst_grammar.specs.Shape.Change.{stays, turns_wrong, is_not, renamed, unparened}
 use Rattle.typst_grammar.specs.Shape.Shape.{keeps, holds, lacks, warns, fails}
 
@@ -43,14 +44,42 @@ path_of h = length h.left ∷ path_in h.deep
 
 -- ---- the hole of what several nodes become
 
--- where the first of the nodes changes: none where that is the node with the hole, and it may become a text
+-- a tree without children, with the head that the tree with the hole has
+abbrev pub stub : Deep → Head → Tree
+stub d h = record { head = top d h; kids = forest [] }
+
+-- a node of another kind; none where it is the hole, and an error has no children
+abbrev pub renamed_deep : SyntaxKind → Deep → List Deep
+renamed_deep kind bare = []
+renamed_deep kind (under head left d right) = if is_error kind then [] else under (record head { kind = kind }) left d right ∷ []
+
+-- math whose first and last child become parens; none where one of these is the node with the hole
+abbrev pub between_parens : Head → List Tree → Deep → List Tree → List Deep
+between_parens head [] d right = []
+between_parens head (t ∷ left) d [] = []
+between_parens head (t ∷ left) d (u ∷ right) = under (record head { kind = kind.Math }) (with_kind kind.LeftParen t ∷ left) d (renamed_last kind.RightParen (u ∷ right)) ∷ []
+
+-- a node without its parens in math, or the same where it has none; none where it is the hole and delimited
+abbrev pub unparened_deep : Head → Deep → List Deep
+unparened_deep h bare = if is_delimited h.kind then [] else bare ∷ []
+unparened_deep h (under head left d right) = if is_delimited head.kind && in_parens (left ++ stub d h ∷ right) then between_parens head left d right else under head left d right ∷ []
+
+-- the changed node; none where it may become a text
+abbrev pub changed_deep : Change → Head → Deep → List Deep
+changed_deep stays h d = d ∷ []
+changed_deep (turns_wrong message) h d = []
+changed_deep (is_not thing) h d = []
+changed_deep (renamed kind) h d = renamed_deep kind d
+changed_deep unparened h d = unparened_deep h d
+
+-- in the first of several nodes
+abbrev pub first_hole : List Tree → Deep → Hole
+first_hole right d = record { left = []; deep = d; right = right }
+
+-- where the first of the nodes changes
 abbrev pub change_hole : Change → Head → List Tree → Deep → List Tree → List Hole
 change_hole change h (t ∷ left) d right = record { left = first_changed change (t ∷ left); deep = d; right = right } ∷ []
-change_hole stays h [] d right = record { left = []; deep = d; right = right } ∷ []
-change_hole (turns_wrong message) h [] d right = []
-change_hole (is_not thing) h [] d right = []
-change_hole (renamed kind) h [] d right = []
-change_hole unparened h [] d right = if is_delimited (top d h).kind then [] else record { left = []; deep = d; right = right } ∷ []
+change_hole change h [] d right = map (first_hole right) (changed_deep change h d)
 
 -- in a node of this kind, behind others; an error has no children
 abbrev pub in_node : Head → List Tree → Hole → List Hole
@@ -75,7 +104,7 @@ lack_hole count error left d right =
 abbrev pub warned_head : SyntaxKind → List ℕ → List ℕ → Head
 warned_head kind message hint = (advised (hint_with None hint) (remarked (warning_with None message) (inner_of kind (forest [])))).head
 
--- the hole is in what becomes something else; none where the node is a part of an error's text then
+-- the hole is in what becomes something else; none where that is an error then, or the hole itself another kind of node
 abbrev pub wrap_in : Shape → Head → List Tree → List Tree → Deep → List Tree → List Hole
 wrap_in (keeps change) h kept left d right = behind_nodes kept (change_hole change h left d right)
 wrap_in (holds change kind) h kept left d right = in_nodes (inner_head kind) kept (change_hole change h left d right)

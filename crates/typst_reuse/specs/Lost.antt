@@ -1,4 +1,4 @@
--- The blocks that a reading notes and that have no spot in its nodes: a shape made their node a part of something else, or what they stand in another kind or a node without its parens.
+-- The blocks that a reading notes and that have no spot in its nodes: a shape made their node, or one that they stand in, an error, a part of one or a paren, or gave their own node another kind.
 use Rattle.std.specs.Prelude.{◌≡◌, ℕ, zero, suc, Bool, true, false, ◌&&◌, if◌then◌else◌, nat_lt, List, [], ◌∷◌, ◌++◌, map, Option, Some, None}
 use Rattle.std.specs.List.{flat_map}
 use Rattle.typst_lines.specs.Place.{Place, moved}
@@ -123,6 +123,6 @@ pub data Stands (k : CharClasses) (text : List ℕ) (ask : Ask) : Type 0 where
   stands : (c : Spot (Unit {0})) → Among c (blocks_of_text k text) → opening c ≡ ask → Stands k text ask
   is_lost : Among ask (lost_of_text k text) → Stands k text ask
 
--- The law of completeness: each block that the reading of a text notes has a spot in its tree, unless a shape took it.
+-- The law of completeness: each block that the reading of a text notes has a spot in its tree, or is lost.
 abbrev pub CompleteLaw : Type 0
 CompleteLaw = (k : CharClasses) (text : List ℕ) (ask : Ask) → Among ask (opened (parsed k max_depth text).asks) → Stands k text ask

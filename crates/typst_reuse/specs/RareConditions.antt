@@ -1,4 +1,4 @@
--- Where a column, a depth, a reading that was given up or a look around a block alone makes an edit fail the test, and the trees differ.
+-- Where a column, a depth, a reading that was given up or a look around a block alone makes an edit fail the test, and the trees differ; and where a block stands in a node that is given another kind.
 use Rattle.std.specs.Prelude.{◌≡◌, ℕ, Bool, true, false, ◌==◌, List, [], ◌∷◌, Option, Some, None, codes, map}
 use Rattle.typst_kinds.specs.declared.kind.SyntaxKind.{SyntaxKind}
 use Rattle.typst_kinds.specs.declared.kind.SyntaxKind.TheVariants as kind
@@ -8,7 +8,10 @@ use Rattle.typst_grammar.specs.calls.Block.TheVariants as block
 use Rattle.typst_grammar.specs.reading.Newlines.{Newlines}
 use Rattle.typst_grammar.specs.Ask.{Ask}
 use Rattle.typst_grammar.specs.Point.{Trivia, no_newlines, gap_of, state_of}
-use Rattle.typst_grammar.specs.Steps.{eat}
+use Rattle.typst_grammar.specs.Shape.{becomes}
+use Rattle.typst_grammar.specs.Shape.Change.{renamed, unparened}
+use Rattle.typst_grammar.specs.Shape.Shape.{keeps}
+use Rattle.typst_grammar.specs.Steps.{eat, node}
 use Rattle.typst_grammar.specs.Syntax.{Parser, ◌>>◌, ◌>>=◌}
 use Rattle.typst_grammar.specs.Syntax.Op.{further, column, complains}
 use Rattle.typst_grammar.specs.Syntax.Parser.{gives, does, pick, either, block as reads}
@@ -18,6 +21,7 @@ use Rattle.typst_grammar.specs.Grammar.{rules, max_depth, level_at, start_of}
 use Rattle.typst_grammar.specs.Examples.{markup, branch, text}
 use Rattle.typst_reuse.specs.Conditions.{kinds}
 use Rattle.typst_reuse.specs.Examples.{least, most}
+use Rattle.typst_reuse.specs.Hole.{path_of}
 use Rattle.typst_reuse.specs.JointBytes.{asked_past}
 use Rattle.typst_reuse.specs.Laws.{block_at}
 use Rattle.typst_reuse.specs.Occurrences.{level_spots}
@@ -71,6 +75,17 @@ peeking = does further >>= (λ k. reads block.Content >> unless (is_letter k))
 abbrev pub measuring : Parser Bool
 measuring = reads block.Content >> (does column >>= (λ n. unless (n == 3)))
 
+-- a content block between two tokens, in a node that loses its parens in math
+abbrev pub unparening : Parser Bool
+unparening = node (λ _. keeps unparened) (node (λ _. becomes kind.MathDelimited) (eat >> (reads block.Content >> (eat >> gives true))))
+
+-- a content block in a node that is given another kind, and one that is given another kind itself
+abbrev pub renaming_around : Parser Bool
+renaming_around = node (λ _. keeps (renamed kind.Strong)) (node (λ _. becomes kind.Emph) first_reading)
+
+abbrev pub renaming : Parser Bool
+renaming = node (λ _. keeps (renamed kind.Strong)) first_reading
+
 abbrev pub indented : List ℕ
 indented = codes "a\n/*\n*/- b\n   - c"
 
@@ -114,3 +129,10 @@ pub record RareConditions (beyond : CharClasses) : Type 0 where
   pub back_ends : map (λ c. (unit_at c (start_of (codes "[aa]b"))).taken) (spots_in (by_law beyond) measuring (codes "[a]b")) ≡ 4 ∷ []
   pub back_old : kinds_in (by_law beyond) measuring (codes "[a]b") ≡ kind.ContentBlock ∷ []
   pub back_new : kinds_in (by_law beyond) measuring (codes "[aa]b") ≡ kind.ContentBlock ∷ kind.Error ∷ []
+  -- a block in what becomes math without delimiters keeps its spot, at its path
+  pub unparened_paths : map (λ c. path_of c.hole) (spots_in (by_law beyond) unparening (codes "([a])")) ≡ (0 ∷ 1 ∷ []) ∷ []
+  pub unparened_kinds : kinds_in (by_law beyond) unparening (codes "([a])") ≡ kind.Math ∷ []
+  -- and so does one in a node of another kind, but not one whose own node is given another kind
+  pub renamed_paths : map (λ c. path_of c.hole) (spots_in (by_law beyond) renaming_around (codes "[a]")) ≡ (0 ∷ 0 ∷ []) ∷ []
+  pub renamed_kinds : kinds_in (by_law beyond) renaming_around (codes "[a]") ≡ kind.Strong ∷ []
+  pub renamed_none : map (λ c. path_of c.hole) (spots_in (by_law beyond) renaming (codes "[a]")) ≡ []

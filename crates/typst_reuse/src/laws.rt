@@ -33,7 +33,7 @@ pub fn block_law()
 {}
 
 /// Each block that the reading of a text notes as begun has a spot in the text's tree, with the place,
-/// the level and the state of its note, unless a shape took it.
+/// the level and the state of its note, unless its node became part of an error or another kind of node.
 pub fn complete_law()
     ensures { CompleteLaw }
 {}
@@ -116,7 +116,8 @@ pub fn conditions_of_texts()
     ensures { (beyond : CharClasses) → Conditions beyond }
 {}
 
-/// Edits at which a column, the depth or a reading that was given up alone makes the test fail, and what differs then.
+/// Edits at which a column, the depth or a reading that was given up alone makes the test fail, and what differs then;
+/// and where a block stands in a node that is given another kind.
 pub fn rare_conditions_of_texts()
     ensures { (beyond : CharClasses) → RareConditions beyond }
 {}

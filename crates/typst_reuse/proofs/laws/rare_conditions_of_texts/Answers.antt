@@ -71,4 +71,9 @@ returns c = λ beyond. record {
   back_ends = refl;
   back_old = refl;
   back_new = refl;
+  unparened_paths = refl;
+  unparened_kinds = refl;
+  renamed_paths = refl;
+  renamed_kinds = refl;
+  renamed_none = refl;
 }
