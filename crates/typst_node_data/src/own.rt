@@ -30,7 +30,8 @@ struct Parts {
 /// The usual nodes hold their parts in 16 bytes. An upper end takes 6 of them.
 #[derive(Drop)]
 enum Repr {
-    ShortLeaf(SyntaxKind, ShortText),
+    ShortLeaf(SyntaxKind, ShortText<13>),
+    BoxedLeaf(SyntaxKind, Box<ShortText<71>>),
     LongLeaf(SyntaxKind, Box<Text>),
     Inner {
         kind: SyntaxKind,
@@ -75,6 +76,24 @@ impl Own {
     pub const MOST: usize = 0xffff_ffff;
 }
 
+impl Repr {
+    ghost use Rattle.std.specs.Prelude.{None};
+    ghost use Rattle.typst_node_data.specs.Repr.{own_of, IsOwn};
+
+    /// A leaf's whose text stands apart: up to 71 bytes of it take memory once.
+    #[inline(never)]
+    fn apart(alloc: Global, kind: SyntaxKind, text: &str) -> Result<Repr, AllocError>
+        ensures leaf { IfOk result (λ r. own_of None r ≡ leaf_own (leaf_head kind text.now)) }
+        ensures fine { IfOk result (λ r. IsOwn r) }
+    {
+        if let Some(boxed) = ShortText::copied(text) {
+            return Ok(Repr::BoxedLeaf(kind, Box::new(alloc, boxed)?));
+        }
+        let long = Text::new(alloc, text)?;
+        Ok(Repr::LongLeaf(kind, Box::new(alloc, long)?))
+    }
+}
+
 // Makers.
 impl Own {
     /// A leaf's.
@@ -88,10 +107,9 @@ impl Own {
                 repr: Repr::ShortLeaf(kind, short),
             });
         }
-        let long = Text::new(alloc, text)?;
         Ok(Own {
             span: Span::detached(),
-            repr: Repr::LongLeaf(kind, Box::new(alloc, long)?),
+            repr: Repr::apart(alloc, kind, text)?,
         })
     }
 
@@ -144,6 +162,13 @@ impl Own {
                 span,
                 repr: Repr::ShortLeaf(*kind, text.copy()),
             }),
+            Repr::BoxedLeaf(kind, text) => {
+                let text = text.copy();
+                Ok(Own {
+                    span,
+                    repr: Repr::BoxedLeaf(*kind, Box::new(alloc, text)?),
+                })
+            }
             Repr::LongLeaf(kind, text) => {
                 let text = text.try_clone(alloc)?;
                 Ok(Own {
@@ -200,6 +225,7 @@ impl Own {
     {
         match &self.repr {
             Repr::ShortLeaf(kind, _) => *kind,
+            Repr::BoxedLeaf(kind, _) => *kind,
             Repr::LongLeaf(kind, _) => *kind,
             Repr::Inner { kind, .. } => *kind,
             Repr::Diagnosed(kind, _) => *kind,
@@ -211,6 +237,7 @@ impl Own {
     {
         match &self.repr {
             Repr::ShortLeaf(_, _) => false,
+            Repr::BoxedLeaf(_, _) => false,
             Repr::LongLeaf(_, _) => false,
             Repr::Inner { .. } => true,
             Repr::Diagnosed(_, parts) => parts.is_inner,
@@ -222,6 +249,7 @@ impl Own {
     {
         match &self.repr {
             Repr::ShortLeaf(_, text) => text.as_str(),
+            Repr::BoxedLeaf(_, text) => text.as_str(),
             Repr::LongLeaf(_, text) => text.as_str(),
             Repr::Inner { .. } => "",
             Repr::Diagnosed(_, parts) => parts.text.as_str(),
@@ -247,6 +275,7 @@ impl Own {
     {
         match &self.repr {
             Repr::ShortLeaf(_, _) => &[],
+            Repr::BoxedLeaf(_, _) => &[],
             Repr::LongLeaf(_, _) => &[],
             Repr::Inner { .. } => &[],
             Repr::Diagnosed(_, parts) => parts.diagnostics.as_slice(),
@@ -259,6 +288,7 @@ impl Own {
     {
         match &self.repr {
             Repr::ShortLeaf(_, text) => text.len(),
+            Repr::BoxedLeaf(_, text) => text.len(),
             Repr::LongLeaf(_, text) => kept(text.len()),
             Repr::Inner { len, .. } => *len as usize,
             Repr::Diagnosed(_, parts) => parts.extent.len,
@@ -271,6 +301,7 @@ impl Own {
     {
         match &self.repr {
             Repr::ShortLeaf(_, _) => 1,
+            Repr::BoxedLeaf(_, _) => 1,
             Repr::LongLeaf(_, _) => 1,
             Repr::Inner { descendants, .. } => *descendants as usize,
             Repr::Diagnosed(_, parts) => parts.extent.descendants,
@@ -283,6 +314,7 @@ impl Own {
     {
         match &self.repr {
             Repr::ShortLeaf(_, _) => 0,
+            Repr::BoxedLeaf(_, _) => 0,
             Repr::LongLeaf(_, _) => 0,
             Repr::Inner {
                 upper_high,
@@ -318,6 +350,7 @@ impl Own {
     {
         match &mut self.repr {
             Repr::ShortLeaf(old, _) => *old = kind,
+            Repr::BoxedLeaf(old, _) => *old = kind,
             Repr::LongLeaf(old, _) => *old = kind,
             Repr::Inner { kind: old, .. } => *old = kind,
             Repr::Diagnosed(old, _) => *old = kind,
@@ -332,6 +365,7 @@ impl Own {
         self.span = span;
         match &mut self.repr {
             Repr::ShortLeaf(_, _) => {}
+            Repr::BoxedLeaf(_, _) => {}
             Repr::LongLeaf(_, _) => {}
             Repr::Inner {
                 upper_high,
@@ -358,6 +392,7 @@ impl Own {
         let new_count = kept(descendants);
         match &mut self.repr {
             Repr::ShortLeaf(_, _) => {}
+            Repr::BoxedLeaf(_, _) => {}
             Repr::LongLeaf(_, _) => {}
             Repr::Inner {
                 len,

@@ -1,4 +1,4 @@
-ghost use Rattle.std.specs.Prelude.{◌≡◌, ◌≤◌, ◌<◌, [], ◌∷◌, ◌++◌, ◌↔◌, IfOk, OnOk, OnErr, IsTrue, MatchOption, length, string_bytes};
+ghost use Rattle.std.specs.Prelude.{◌≡◌, ◌≤◌, ◌<◌, ◌^◌, [], ◌∷◌, ◌++◌, ◌↔◌, IfOk, OnOk, OnErr, IsTrue, MatchOption, length, string_bytes};
 ghost use Rattle.std.specs.Str.{IsUtf8};
 
 use std::alloc::{AllocError, Global};
@@ -83,14 +83,14 @@ impl Text {
     }
 }
 
-/// A text of at most 13 bytes, which takes no memory of its own.
+/// A text of at most `N` bytes, which stand where it stands.
 #[derive(Drop)]
-pub struct ShortText {
+pub struct ShortText<const N: usize> {
     len: u8,
-    bytes: [u8; 13],
+    bytes: [u8; N],
 }
 
-impl Model for ShortText {
+impl<const N: usize> Model for ShortText<N> {
     ghost use Rattle.std.specs.Prelude.{List, ℕ, ◌≤◌, take};
     ghost use Rattle.std.specs.Str.{IsUtf8};
 
@@ -98,24 +98,39 @@ impl Model for ShortText {
 
     ghost view = { λ t. take t.len t.bytes };
 
-    ghost invariant = { λ t. (t.len ≤ 13) × IsUtf8 (take t.len t.bytes) };
+    ghost invariant = { λ t. (t.len ≤ N) × IsUtf8 (take t.len t.bytes) };
 }
 
-impl ShortText {
-    /// A copy of `text`, or `None` where it is longer.
+impl ShortText<13> {
+    /// A copy of `text`, or `None` where it is longer. A text of one byte is made without memory
+    /// between.
     #[inline(always)]
-    pub fn new(text: &str) -> Option<ShortText>
+    pub fn new(text: &str) -> Option<ShortText<13>>
         ensures { MatchOption result (13 < length text.now) (λ t. t ≡ text.now) }
     {
-        let from = text.as_bytes();
-        if let [byte] = from {
-            return Some(ShortText::of_byte(*byte));
+        if let [byte] = text.as_bytes() {
+            return Some(ShortText {
+                len: 1,
+                bytes: [*byte, 0, 0, 0, 0, 0, 0, 0, 0, 0, 0, 0, 0],
+            });
         }
+        ShortText::copied(text)
+    }
+}
+
+impl<const N: usize> ShortText<N> {
+    /// A copy of `text`, or `None` where it is longer.
+    #[inline(always)]
+    pub fn copied(text: &str) -> Option<ShortText<N>>
+        requires { N < 2 ^ 8 }
+        ensures { MatchOption result (N < length text.now) (λ t. t ≡ text.now) }
+    {
+        let from = text.as_bytes();
         let len = from.len();
-        if len > 13 {
+        if len > N {
             return None;
         }
-        let mut bytes = [0u8; 13];
+        let mut bytes = [0u8; N];
         bytes[..len].copy_from_slice(from);
         Some(ShortText {
             len: len as u8,
@@ -123,20 +138,8 @@ impl ShortText {
         })
     }
 
-    /// The text of one byte, which is made without memory between.
-    #[inline(always)]
-    fn of_byte(byte: u8) -> ShortText
-        requires { IsUtf8 (byte ∷ []) }
-        ensures { result ≡ byte ∷ [] }
-    {
-        ShortText {
-            len: 1,
-            bytes: [byte, 0, 0, 0, 0, 0, 0, 0, 0, 0, 0, 0, 0],
-        }
-    }
-
     /// The same text again.
-    pub fn copy(&self) -> ShortText
+    pub fn copy(&self) -> ShortText<N>
         ensures { result ≡ self.now }
     {
         ShortText {
@@ -156,7 +159,7 @@ impl ShortText {
     /// The length in bytes.
     pub fn len(&self) -> usize
         ensures value { result ≡ length self.now }
-        ensures short { result ≤ 13 }
+        ensures short { result ≤ N }
     {
         self.len as usize
     }

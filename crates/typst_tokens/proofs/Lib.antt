@@ -1,5 +1,5 @@
 -- Which lemma gives which clause:
---   count_newlines                        LineEnds
+--   count_newlines, line_ends             LineEnds
 --   Reads block_comment                   Comments
 --   Reads raw                             RawTexts
 --   number, is_code_point, with_digit     Numbers

@@ -1,5 +1,5 @@
 -- Line ends in whitespace, character by character.
-use Rattle.std.proofs.Common.{◌≡◌, ◌≤◌, ℕ, suc, Bool, true, false, not, ◌&&◌, ◌==◌, if◌then◌else◌, List, [], ◌∷◌, length, refl, sym, ap, arith, Some, None}
+use Rattle.std.proofs.Common.{◌≡◌, ◌≤◌, ℕ, suc, Bool, true, false, not, ◌&&◌, ◌==◌, if◌then◌else◌, List, [], ◌∷◌, length, slice_index_or, refl, sym, ap, arith, Some, None}
 use Rattle.std.proofs.lemmas.Str.{length-le-encodes, encodes-chars}
 use Rattle.std.specs.Str.{chars, IsUtf8}
 use Rattle.typst_lines.proofs.LineTable.{place-end}
@@ -39,3 +39,10 @@ line_ends-start text = refl
 
 pub line_ends-fit : (text : List ℕ) → IsUtf8 text → line_ends false (chars text) ≤ length text
 line_ends-fit text u = omega (arith, line_ends-le false (chars text), length-le-encodes (chars text), ap length (encodes-chars text u))
+
+-- no line ends in one space
+pub one-space : (bs : List ℕ) → length bs ≡ 1 → slice_index_or bs 0 0 ≡ 32 → 0 ≡ line_ends false (chars bs)
+unfolding line_ends chars
+one-space [] l e = absurd (omega (arith, l))
+one-space (b ∷ []) l e = rw e refl
+one-space (b ∷ (d ∷ bs)) l e = absurd (omega (arith, l))

@@ -22,8 +22,20 @@ pub fn sign(s: &mut Cursor<'_>, kind: SyntaxKind) -> Token
     Token::plain(kind)
 }
 
-/// How many lines end in the text.
+/// How many lines end in the text, of which most are one space.
 #[inline(always)]
+fn line_ends(text: &str) -> usize
+    ensures { result ≡ spec.line_ends false (chars text.now) }
+{
+    if let [byte] = text.as_bytes() {
+        if *byte == b' ' {
+            return 0;
+        }
+    }
+    count_newlines(text)
+}
+
+/// The same, counted.
 fn count_newlines(text: &str) -> usize
     ensures { result ≡ spec.line_ends false (chars text.now) }
 {
@@ -54,7 +66,7 @@ fn is_parbreak(mode: SyntaxMode, ends: usize) -> bool
 pub fn whitespace(s: &mut Cursor<'_>, mode: SyntaxMode) -> Token
     ensures { Reads (spec.whitespace mode) s.old result s.new }
 {
-    let ends = count_newlines(s.eat_while(&Whitespace(mode)));
+    let ends = line_ends(s.eat_while(&Whitespace(mode)));
     Token {
         kind: if is_parbreak(mode, ends) {
             SyntaxKind::Parbreak

@@ -54,8 +54,11 @@ impl CharSet for AsciiDigits {
 pub fn is_space(c: char, mode: SyntaxMode) -> bool
     ensures { result ≡ spec.is_space mode c }
 {
+    if c.is_ascii() {
+        return matches!(c, ' ' | '\t'..='\r');
+    }
     match mode {
-        SyntaxMode::Markup => c == ' ' || c == '\t' || is_newline(c),
+        SyntaxMode::Markup => is_newline(c),
         SyntaxMode::Math => c.is_whitespace(),
         SyntaxMode::Code => c.is_whitespace(),
     }
