@@ -1,11 +1,13 @@
 -- From what is known of an answer to what is promised of a run.
-use Rattle.std.proofs.Common.{◌≡◌, List, ℕ, Option, None, Some, IsUtf8, subst}
-use Rattle.std.specs.Prelude.{IfSome, String}
+use Rattle.std.proofs.Common.{◌≡◌, List, ℕ, Option, None, Some, Result, Ok, Err, IsUtf8, subst, refl}
+use Rattle.std.specs.Prelude.{IfErr, IfSome, IsErrAnd, String}
+use Rattle.typst_kinds.specs.declared.error.SourceError.{SourceError}
+use Rattle.typst_kinds.specs.declared.error.SourceError.TheVariants as source_error
 use Rattle.std.proofs.lemmas.Str.{IsUtf8-string_bytes}
 use Rattle.std.specs.String.{string_bytes}
 use Rattle.std.specs.Io.KnownBytes.{Appends}
 use Rattle.typst_cli.specs.Asked.{Asked}
-use Rattle.typst_cli.specs.Faults.{IsAnswerFault, TellsOf, Tells, Gives, IsAnswered}
+use Rattle.typst_cli.specs.Faults.{IsAnswerFault, TellsOf, Tells, Gives, IsAnswered, failure_from}
 use Rattle.typst_cli.specs.PrintedEdit.{Prints}
 use Rattle.typst_cli.specs.declared.failure.Failure.{Failure}
 use Rattle.typst_cli.specs.declared.failure.Failure.TheVariants.{Usage, NotRead, NotUtf8, BadRange, OutOfSpanNumbers, OutOfMemory, NotWritten}
@@ -33,3 +35,10 @@ gives-asked a text answer (Some bytes) old new u e p w = subst (λ t. IsUtf8 t �
 pub answered_by : (a : Asked) (asked : Option Asked) (text answer : List ℕ) (input old new : Option (List ℕ)) → Some a ≡ asked → IsUtf8 text → IfSome input (λ bytes. text ≡ bytes)
     → Prints a text answer → Appends old new answer → IsAnswered asked input old new
 answered_by a asked text answer input old new is u e p w = subst (λ o. IsAnswered o input old new) is (gives-asked a text answer input old new u e p w)
+
+-- what an edit is refused for is told: want of memory, or that numbers lack
+pub edit-refused : {X : Type 0} (r : Result X Failure) (e : SourceError) (a : Asked) (text : List ℕ) → IsErrAnd r (λ fault. fault ≡ failure_from e)
+    → (e ≡ source_error.SpanNumbers → IsAnswerFault OutOfSpanNumbers a text) → IfErr r (λ fault. IsAnswerFault fault a text)
+edit-refused (Ok x) e a text h lacks = tt
+edit-refused (Err fault) source_error.OutOfMemory a text h lacks = rw h tt
+edit-refused (Err fault) source_error.SpanNumbers a text h lacks = rw h (lacks refl)
