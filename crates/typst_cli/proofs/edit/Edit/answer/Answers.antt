@@ -1,6 +1,10 @@
-use Rattle.std.proofs.Common.{◌≡◌, ◌≤◌, length, ap, subst, ◌∙◌, refl}
+use Rattle.std.proofs.Common.{◌≡◌, ◌≤◌, ℕ, List, length, Option, None, Some, Err, inr, ap, subst, ◌∙◌, refl}
+use Rattle.std.specs.Str.{chars}
 use Rattle.std.specs.String.{string_bytes}
-use Rattle.typst_parser.specs.Headline.{edited}
+use Rattle.typst_classes.specs.UnicodeTables.{unicode_classes}
+use Rattle.typst_parser.specs.Grammar.{tree}
+use Rattle.typst_parser.specs.Headline.{edited, file_of, numbered_in}
+use Rattle.typst_source.proofs.Fresh.{fresh-file}
 use Rattle.typst_cli.specs.Asked.{edits, range_in}
 use Rattle.typst_cli.specs.PrintedEdit.{IsRange}
 use Rattle.typst_cli.proofs.FaultLemmas.{edit-refused}
@@ -24,6 +28,16 @@ returns-clause-printed c =
 
 pub returns-in_err-parsed-clause-fault : goal.returns-in_err-parsed-clause-fault
 returns-in_err-parsed-clause-fault c =
-    edit-refused c.from_residual-in_err-parsed.result c.in_err-parsed.field-0.0 (edits (range_in c.args.self) c.args.self.with_text.now) (string_bytes c.args.text)
-    c.from_residual-in_err-parsed.ensures.1
-    (λ e. search)
+    let range = range_in c.args.self in
+    let with_text = c.args.self.with_text.now in
+    let text = string_bytes c.args.text in
+    let made = c.in_ok-source.source in
+    let file = fresh-file (Some 1) (tree unicode_classes (chars made.text)) made.root c.in_ok-source.ensures.root in
+    edit-refused c.from_residual-in_err-parsed.result c.in_err-parsed.field-0.0 (edits range with_text) text c.from_residual-in_err-parsed.ensures.1
+    (λ e. (
+      subst (IsRange range) c.as_str.ensures.value (c.if-not-fits.ensures.0 refl),
+      inr
+          (subst (λ (f : Option ℕ). numbered_in f (tree unicode_classes (chars (edited text range with_text))) ≡ None) file
+          (subst (λ (t : List ℕ). numbered_in (file_of made.root) (tree unicode_classes (chars (edited t range with_text))) ≡ None) c.in_ok-source.ensures.made.1
+          (c.in_err-parsed.ensures.refused (ap Err e)))),
+    ))
