@@ -1,6 +1,6 @@
 -- Which lemma gives which clause:
 --   Reads text, regard text_step          Texts
---   is_plain                              Tables
+--   is_plain                              Pairs
 --   passes_before                         Pairs
 --   Reads link, laws.LinkIsPrefix         Links.link-is, Links.link-prefix-is
 --   Reads ref_marker                      References

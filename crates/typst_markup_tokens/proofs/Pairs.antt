@@ -1,10 +1,10 @@
 -- Two bytes of ASCII that pass, told by bits.
-use Rattle.std.proofs.Common.{◌≡◌, ◌<◌, ℕ, ◌+◌, Bool, true, false, not, ◌&&◌, ◌||◌, ◌==◌, nat_eq, if◌then◌else◌, slice_index_or, bit_and, refl, ap, ◌∙◌}
+use Rattle.std.proofs.Common.{◌≡◌, ◌<◌, ℕ, ◌+◌, Bool, true, false, not, ◌&&◌, ◌||◌, ◌==◌, nat_eq, if◌then◌else◌, slice_index_or, bit_and, refl, sym, ap, ◌∙◌, arith}
 use Rattle.std.specs.Char.{is_ascii, is_ascii_alphanumeric}
 use Rattle.typst_readers.specs.Pairs.{bytes_pass}
 use Rattle.typst_markup_tokens.specs.Flow.{flows_in_ascii}
 use Rattle.typst_markup_tokens.specs.Text.{may_stop}
-use Rattle.typst_markup_tokens.proofs.Tables.{tabulate, tabulated-from_zero}
+use Rattle.typst_markup_tokens.proofs.Tables.{tabulate, tabulated-from_zero, below}
 
 abbrev bit : ℕ → Bool → ℕ
 bit n b = if b then n else 0
@@ -88,3 +88,23 @@ tables-tell c d l m =
     ap (λ n. meet n (slice_index_or (tabulate follow 0 256) d 0)) (tabulated-from_zero 0 role 256 c l)
     ∙ ap (meet (role c)) (tabulated-from_zero 0 follow 256 d m)
     ∙ in-ascii (is_ascii c) (is_ascii d) (not (may_stop c)) (c == 32) (c == 104) (is_ascii_alphanumeric d) (d == 116)
+
+first-bit : (p s h : Bool) → meet (role_bits p s h) 1 ≡ p
+first-bit true true true = refl
+first-bit true true false = refl
+first-bit true false true = refl
+first-bit true false false = refl
+first-bit false true true = refl
+first-bit false true false = refl
+first-bit false false true = refl
+first-bit false false false = refl
+
+is-byte : (c : ℕ) → c < 128 → c < 256
+is-byte c l = omega arith
+
+-- what the first table says of a character of ASCII alone
+pub table-tells : (c : ℕ) → true ≡ is_ascii c → meet (slice_index_or (tabulate role 0 256) c 0) 1 ≡ not (may_stop c)
+table-tells c e =
+    ap (λ n. meet n 1) (tabulated-from_zero 0 role 256 c (is-byte c (below c 128 e)))
+    ∙ ap (λ b. meet (if b then role_bits (not (may_stop c)) (c == 32) (c == 104) else 0) 1) (sym e)
+    ∙ first-bit (not (may_stop c)) (c == 32) (c == 104)

@@ -44,7 +44,7 @@ plain-is k c h =
 -- ---- what flows on
 
 abbrev pub flowing : CharClasses → ℕ → Option ℕ → Bool
-flowing k = either (λ c. not (may_stop c)) (flows k)
+flowing k = either (λ c. not (may_stop c)) (flows k.alphanumeric)
 
 data Way (k : CharClasses) (c : ℕ) (next : Option ℕ) : Type 0 where
   plainly : not (may_stop c) ≡ true → Way k c next

@@ -5,19 +5,6 @@ ghost use Rattle.typst_markup_tokens.specs.Text.{may_stop};
 ghost use Rattle.typst_readers.specs.Pairs.{bytes_pass};
 ghost use Rattle.typst_classes.specs.Sets.{among};
 
-/// Which ASCII characters are text in any case, by their numbers.
-const PLAIN: [bool; 128] = [
-    true, true, true, true, true, true, true, true, true, false, false, false, false, false, true,
-    true, true, true, true, true, true, true, true, true, true, true, true, true, true, true, true,
-    true, false, true, false, false, false, true, true, false, true, true, false, true, true,
-    false, false, false, true, true, true, true, true, true, true, true, true, true, false, true,
-    false, true, false, true, false, true, true, true, true, true, true, true, true, true, true,
-    true, true, true, true, true, true, true, true, true, true, true, true, true, true, true, true,
-    false, false, false, true, false, false, true, true, true, true, true, true, true, false, true,
-    true, true, true, true, true, true, true, true, true, true, true, true, true, true, true, true,
-    true, true, true, true, false, true,
-];
-
 /// What each byte is in a text, in bits: 1 for what is text in any case, 2 for a space, 4 for an `h`. Bytes past ASCII are none of these.
 const ROLES: [u8; 256] = [
     1, 1, 1, 1, 1, 1, 1, 1, 1, 0, 0, 0, 0, 0, 1, 1, 1, 1, 1, 1, 1, 1, 1, 1, 1, 1, 1, 1, 1, 1, 1, 1,
@@ -56,7 +43,7 @@ pub(crate) fn is_plain(c: char) -> bool
     ensures { result ≡ not (may_stop c) }
 {
     if c.is_ascii() {
-        PLAIN[c as usize]
+        ROLES[c as usize] & 1 != 0
     } else {
         !may_stop(c)
     }

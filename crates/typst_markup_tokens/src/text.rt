@@ -33,7 +33,7 @@ impl<C: Classes> CharSet for Flow<'_, C> {
 impl<C: Classes> PairSet for Flow<'_, C> {
     ghost use Rattle.typst_markup_tokens.specs.Flow.{flows};
 
-    ghost before = { λ f c next. flows (C.classes f.classes.now) c next };
+    ghost before = { λ f c next. flows (C.classes f.classes.now).alphanumeric c next };
 
     #[inline]
     fn has_before(&self, c: char, next: Option<char>) -> bool {

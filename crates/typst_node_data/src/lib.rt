@@ -10,4 +10,4 @@ mod text;
 pub use diagnostic::{Diagnostic, Hint, Severity};
 pub use items::Items;
 pub use own::Own;
-pub use text::{ShortText, Text};
+pub use text::Text;

@@ -80,7 +80,8 @@ impl Repr {
     ghost use Rattle.std.specs.Prelude.{None};
     ghost use Rattle.typst_node_data.specs.Repr.{own_of, IsOwn};
 
-    /// A leaf's whose text stands apart: up to 71 bytes of it take memory once.
+    /// The parts of a leaf whose text is too long to stand within: one of up to 71 bytes takes
+    /// memory once.
     #[inline(never)]
     fn apart(alloc: Global, kind: SyntaxKind, text: &str) -> Result<Repr, AllocError>
         ensures leaf { IfOk result (λ r. own_of None r ≡ leaf_own (leaf_head kind text.now)) }
