@@ -1,6 +1,7 @@
 -- From what a contract promises to the lemma behind it:
 --   highlight                    Bounds: steps stay in the tree; Chains, Cases: up and along chains
 --   highlight_html: html         Trees: the walk makes the tags; Contexts, Leaves, Rows: what it carries along
+--   rule_of                      RuleTable
 --   highlight_html: shown        Reading: a reader of the HTML; Escapes: escaped texts; Pages: what is put on a page
 pub mod Bounds
 pub mod Cases
@@ -11,4 +12,5 @@ pub mod Leaves
 pub mod Pages
 pub mod Reading
 pub mod Rows
+pub mod RuleTable
 pub mod Trees

@@ -1,6 +1,7 @@
 -- What a walk through a tree carries along. Public clauses name none of it.
 use Rattle.std.specs.Prelude.{ℕ, ◌+◌, List, [], ◌++◌, Option, None, Some, length, if◌then◌else◌}
 use Rattle.typst_kinds.specs.declared.kind.SyntaxKind.{SyntaxKind}
+use Rattle.typst_kinds.specs.declared.kind.SyntaxKind.TheVariants as kind
 use Rattle.typst_kinds.specs.Kinds.{is_trivia, is_hash_expr}
 use Rattle.typst_node_data.specs.Head.{Head}
 use Rattle.typst_node.specs.Tree.{Forest, none, more, Tree, text_of, saturated}
@@ -15,8 +16,6 @@ use Rattle.typst_highlight.specs.declared.context.Outer.{Outer}
 use Rattle.typst_highlight.specs.declared.context.Context.{Context}
 use Rattle.typst_highlight.specs.declared.progress.Level.{Level}
 use Rattle.typst_highlight.specs.declared.progress.Progress.{Progress}
-use Rattle.typst_highlight.specs.declared.spans.Known.{Known}
-use Rattle.typst_highlight.specs.declared.spans.Known.TheVariants as known
 use Rattle.typst_highlight.specs.Rules.{rule_of, paren_tag, star_tag, underscore_tag, slash_tag, equals_tag, term_tag, is_name, is_field_access, is_dot}
 use Rattle.typst_highlight.specs.Names.{first_tag, name_alone}
 use Rattle.typst_highlight.specs.Html.{escaped, spanned, span_start, span_end}
@@ -53,9 +52,13 @@ lead c = outer_lead c.outer c.trail.before
 abbrev pub end : Context → Tree → ℕ
 end c t = saturated (c.offset + length (text_of t))
 
+-- the first leaf behind a node that ends there and that the trees r follow
+abbrev pub leaf_from : Context → ℕ → Forest → Option Ahead
+leaf_from c e r = first_ahead (first_leaf c.parent e r) c.ahead
+
 -- the first leaf behind a node that the trees r follow
 abbrev pub next_leaf : Context → Tree → Forest → Option Ahead
-next_leaf c t r = first_ahead (first_leaf c.parent (end c t) r) c.ahead
+next_leaf c t r = leaf_from c (end c t) r
 
 -- what is round a node's first child
 abbrev pub within : Context → Tree → Forest → Context
@@ -117,7 +120,8 @@ next_kind (more h ks r) = if is_trivia h.kind then next_kind r else Some h.kind
 
 -- the tag of a node by its rule and by the tag of the expression behind it
 abbrev pub tag_here : Rule → Context → Tree → Forest → Option Tag → Option Tag
-tag_here (rule.Always tag) c t r e = tag
+tag_here rule.Untagged c t r e = None
+tag_here (rule.Tagged tag) c t r e = Some tag
 tag_here rule.Paren c t r e = paren_tag c.parent
 tag_here rule.Star c t r e = star_tag c.parent
 tag_here rule.Underscore c t r e = underscore_tag c.parent
@@ -126,6 +130,24 @@ tag_here rule.Equals c t r e = equals_tag c.parent
 tag_here rule.Term c t r e = term_tag c.parent (next_kind r)
 tag_here rule.Name c t r e = name c t r
 tag_here rule.Expression c t r e = e
+
+-- the tag of markup that is no term
+abbrev pub tag_outside : Option SyntaxKind → Option (Option Tag)
+tag_outside (Some kind.TermItem) = None
+tag_outside _ = Some None
+
+-- the tag of a node where its rule and its parent's kind tell it
+abbrev pub tag_under : Rule → Option SyntaxKind → Option (Option Tag)
+tag_under rule.Untagged p = Some None
+tag_under (rule.Tagged tag) p = Some (Some tag)
+tag_under rule.Paren p = Some (paren_tag p)
+tag_under rule.Star p = Some (star_tag p)
+tag_under rule.Underscore p = Some (underscore_tag p)
+tag_under rule.Slash p = Some (slash_tag p)
+tag_under rule.Equals p = Some (equals_tag p)
+tag_under rule.Term p = tag_outside p
+tag_under rule.Name p = None
+tag_under rule.Expression p = None
 
 abbrev pub if_found : Option (Option Tag) → Option (Option Tag) → Option (Option Tag)
 if_found None y = y
@@ -177,16 +199,6 @@ forest_html c (more h ks r) =
 -- a node as HTML
 abbrev pub node_html : Context → Tree → Forest → List ℕ
 node_html c t r = span_start (spanned (tag c t r)) ++ (escaped t.head.text ++ (forest_html (within c t r) t.kids ++ span_end (spanned (tag c t r))))
-
--- what is known of the span of a node of this tag
-abbrev pub known_span : Option Tag → Known
-known_span None = known.Bare
-known_span (Some t) = known.Within t
-
--- what is known of the span of a node by its rule
-abbrev pub span_by_rule : Rule → Known
-span_by_rule (rule.Always t) = known_span (spanned t)
-span_by_rule _ = known.Unknown
 
 -- what is round the node that a walk has come to on a level
 abbrev pub joined : Level → Progress → Context

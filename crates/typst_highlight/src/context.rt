@@ -124,6 +124,7 @@ fn leaf_among(nodes: &[SyntaxNode], parent: Option<SyntaxKind>, offset: usize) -
     ensures { result ≡ walk.first_leaf parent offset (forest nodes.now) }
 {
     match nodes.split_first() {
+        None => None,
         Some((node, _)) if is_leaf(node) => Some(Ahead {
             kind: node.kind(),
             parent,
@@ -135,6 +136,7 @@ fn leaf_among(nodes: &[SyntaxNode], parent: Option<SyntaxKind>, offset: usize) -
 
 impl Surroundings {
     /// Whether arguments or content begin where the name ends.
+    #[inline(always)]
     fn is_called(self) -> bool
         ensures { result ≡ is_called self.end self.next }
     {
@@ -145,6 +147,7 @@ impl Surroundings {
     }
 
     /// The kind of the next leaf.
+    #[inline(always)]
     fn after(self) -> Option<SyntaxKind>
         ensures { result ≡ kind_ahead self.next }
     {
@@ -155,6 +158,7 @@ impl Surroundings {
     }
 
     /// Whether the name stands in a show rule, directly before or behind its colon.
+    #[inline(always)]
     fn is_shown(self) -> bool
         ensures { result ≡ is_shown self }
     {
@@ -162,6 +166,7 @@ impl Surroundings {
     }
 
     /// The name's tag, unless only a name before it can tell.
+    #[inline(always)]
     pub fn tag(self) -> Option<Tag>
         ensures { result ≡ name_alone self }
     {
@@ -185,6 +190,7 @@ impl Context {
     ghost use Rattle.typst_highlight.specs.Walk as walk;
 
     /// The kind of what the node, or the outermost of the field accesses above it, stands in.
+    #[inline(always)]
     fn around(&self) -> Option<SyntaxKind>
         ensures { result ≡ walk.around self.now }
     {
@@ -195,6 +201,7 @@ impl Context {
     }
 
     /// The kind of the leaf before the node, or before the outermost of the field accesses above it.
+    #[inline(always)]
     fn lead(&self) -> Option<SyntaxKind>
         ensures { result ≡ walk.lead self.now }
     {
@@ -204,12 +211,19 @@ impl Context {
         }
     }
 
-    /// The first leaf behind the node.
+    /// Where the node ends, in bytes.
     #[inline(always)]
-    fn next_leaf(&self, node: &SyntaxNode, later: &[SyntaxNode]) -> Option<Ahead>
-        ensures { result ≡ walk.next_leaf self.now node.now (forest later.now) }
+    pub fn end(&self, node: &SyntaxNode) -> usize
+        ensures { result ≡ walk.end self.now node.now }
     {
-        let end = self.offset.saturating_add(node.len());
+        self.offset.saturating_add(node.len())
+    }
+
+    /// The first leaf behind the node, which ends there.
+    #[inline(always)]
+    fn next_leaf(&self, end: usize, later: &[SyntaxNode]) -> Option<Ahead>
+        ensures { result ≡ walk.leaf_from self.now end (forest later.now) }
+    {
         match leaf_among(later, self.parent, end) {
             None => self.ahead,
             found => found,
@@ -219,6 +233,15 @@ impl Context {
     /// What is round the node's first child.
     #[inline(always)]
     pub fn within(&self, node: &SyntaxNode, later: &[SyntaxNode]) -> Context
+        ensures { result ≡ walk.within self.now node.now (forest later.now) }
+    {
+        self.within_until(node, self.end(node), later)
+    }
+
+    /// The same, where it is known where the node ends.
+    #[inline(always)]
+    pub fn within_until(&self, node: &SyntaxNode, end: usize, later: &[SyntaxNode]) -> Context
+        requires { end ≡ walk.end self.now node.now }
         ensures { result ≡ walk.within self.now node.now (forest later.now) }
     {
         let kind = node.kind();
@@ -235,7 +258,7 @@ impl Context {
             outer,
             offset: self.offset.saturating_add(node.leaf_text().len()),
             trail: self.trail,
-            ahead: self.next_leaf(node, later),
+            ahead: self.next_leaf(end, later),
         }
     }
 
@@ -251,13 +274,15 @@ impl Context {
     }
 
     /// The tag of the node if it is a name.
+    #[inline(always)]
     pub fn name(&self, node: &SyntaxNode, later: &[SyntaxNode]) -> Option<Tag>
         ensures { result ≡ walk.name self.now node.now (forest later.now) }
     {
+        let end = self.end(node);
         let surroundings = Surroundings {
             kind: node.kind(),
-            end: self.offset.saturating_add(node.len()),
-            next: self.next_leaf(node, later),
+            end,
+            next: self.next_leaf(end, later),
             around: self.around(),
             lead: self.lead(),
             before: self.trail.before,
@@ -306,6 +331,7 @@ impl Context {
 
 impl Trail {
     /// The tag of the name before the dot that the last leaf is.
+    #[inline(always)]
     fn behind_dot(self) -> Option<Tag>
         ensures { result ≡ walk.behind_dot self }
     {

@@ -1,11 +1,39 @@
 //! The bytes of a text that HTML has entities for.
 
-ghost use Rattle.std.specs.Prelude.{◌≡◌, ◌<◌, [], ◌∷◌, MatchOption, IsTrue};
+ghost use Rattle.std.specs.Prelude.{◌≡◌, ◌<◌, [], ◌∷◌, MatchOption, IsTrue, false};
 ghost use Rattle.typst_highlight.specs.Html as spec;
+
+/// How many bytes are looked at one by one.
+const FEW: usize = 16;
 
 /// Whether no byte has an entity.
 #[inline(always)]
 pub fn is_plain(bytes: &[u8]) -> bool
+    ensures { IsTrue result → spec.escaped bytes.now ≡ bytes.now }
+{
+    if bytes.len() <= FEW {
+        are_itself(bytes)
+    } else {
+        are_unmarked(bytes)
+    }
+}
+
+/// The same of few bytes.
+#[inline(always)]
+fn are_itself(bytes: &[u8]) -> bool
+    ensures { IsTrue result → spec.escaped bytes.now ≡ bytes.now }
+{
+    for at in 0..bytes.len() {
+        if has_entity(bytes[at]) {
+            return false;
+        }
+    }
+    true
+}
+
+/// The same of many bytes, all of which are looked at.
+#[inline(never)]
+fn are_unmarked(bytes: &[u8]) -> bool
     ensures { IsTrue result → spec.escaped bytes.now ≡ bytes.now }
 {
     let mut marks = 0;
@@ -21,7 +49,15 @@ pub fn is_itself(byte: u8) -> bool
     ensures small { IsTrue result → byte < 128 }
     ensures same { IsTrue result → spec.escaped_byte byte ≡ byte ∷ [] }
 {
-    byte < 128 && mark(byte) == 0
+    byte < 128 && !has_entity(byte)
+}
+
+/// Whether the byte is one of `& < > ' "`.
+#[inline(always)]
+fn has_entity(byte: u8) -> bool
+    ensures { result ≡ false → spec.escaped_byte byte ≡ byte ∷ [] }
+{
+    matches!(byte, b'&' | b'<' | b'>' | b'\'' | b'"')
 }
 
 /// Not 0 for the bytes `& < > ' "`.

@@ -9,9 +9,9 @@ ghost use Rattle.typst_highlight.specs.Walk as walk;
 use crate::context::is_childless;
 use crate::page::Writer;
 use crate::progress::{Level, Progress};
-use crate::rules::is_name;
-use crate::spans::{Known, span_by_kind, span_of, spanned};
-use crate::walk::tag_here;
+use crate::rules::{Rule, is_name, rule_of};
+use crate::spans::{span_of, spanned};
+use crate::walk::tag_under;
 use std::alloc::{AllocError, Global};
 use typst_node::SyntaxNode;
 
@@ -54,10 +54,11 @@ fn write_node(
     }
     let tag = span_of(node, later, level, progress);
     html.start(tag)?;
-    html.write_own(node.leaf_text())?;
-    let begin = progress.offset;
-    let inner = level.within(node, later, progress);
-    progress.offset = begin.saturating_add(node.leaf_text().len());
+    let text = node.leaf_text();
+    html.write_own(text)?;
+    let end = progress.offset.saturating_add(node.len());
+    let inner = level.within(node, end, later, progress);
+    progress.offset = progress.offset.saturating_add(text.len());
     let mut rest = node.children();
     while let Some((kid, behind)) = rest.split_first() {
         if is_childless(kid) {
@@ -68,7 +69,7 @@ fn write_node(
         rest = behind;
     }
     html.end(tag)?;
-    progress.offset = begin.saturating_add(node.len());
+    progress.offset = end;
     Ok(())
 }
 
@@ -85,10 +86,14 @@ fn write_leaf(
     ensures written { OnOk result (html.new ≡ html.old ++ walk.node_html (walk.joined level.now progress.old) node.now (forest later.now)) }
     ensures passed { OnOk result (walk.joined level.now progress.new ≡ walk.past (walk.joined level.now progress.old) node.now (walk.passed (walk.joined level.now progress.old) node.now (forest later.now))) }
 {
-    let span = match span_by_kind(node.kind()) {
-        Known::Bare => None,
-        Known::Within(tag) => Some(tag),
-        Known::Unknown => return write_asking(html, node, later, level, progress),
+    let kind = node.kind();
+    let span = match rule_of(kind) {
+        Rule::Untagged => None,
+        Rule::Tagged(tag) => spanned(Some(tag)),
+        _ => match tag_under(kind, level.parent) {
+            Some(tag) => spanned(tag),
+            None => return write_asking(html, node, later, level, progress),
+        },
     };
     let text = node.leaf_text();
     html.write(span, text)?;
@@ -109,10 +114,14 @@ fn write_asking(
     ensures written { OnOk result (html.new ≡ html.old ++ walk.node_html (walk.joined level.now progress.old) node.now (forest later.now)) }
     ensures passed { OnOk result (walk.joined level.now progress.new ≡ walk.past (walk.joined level.now progress.old) node.now (walk.passed (walk.joined level.now progress.old) node.now (forest later.now))) }
 {
-    let tag = tag_here(node, later, &level.at(progress));
     let text = node.leaf_text();
-    html.write(spanned(tag), text)?;
-    let name = if is_name(node.kind()) { tag } else { None };
-    progress.pass(node, later, level, text.len(), name);
+    if is_name(node.kind()) {
+        let name = level.at(progress).name(node, later);
+        html.write(spanned(name), text)?;
+        progress.pass(node, later, level, text.len(), name);
+        return Ok(());
+    }
+    html.write(span_of(node, later, level, progress), text)?;
+    progress.pass(node, later, level, text.len(), None);
     Ok(())
 }

@@ -58,12 +58,19 @@ impl Level {
         }
     }
 
-    /// What is round the children of a node.
+    /// What is round the children of a node, which ends there.
     #[inline(always)]
-    pub fn within(&self, node: &SyntaxNode, later: &[SyntaxNode], progress: &Progress) -> Level
+    pub fn within(
+        &self,
+        node: &SyntaxNode,
+        end: usize,
+        later: &[SyntaxNode],
+        progress: &Progress,
+    ) -> Level
+        requires { end ≡ walk.end (walk.joined self.now progress.now) node.now }
         ensures { result ≡ walk.level_of (walk.within (walk.joined self.now progress.now) node.now (forest later.now)) }
     {
-        let inner = self.at(progress).within(node, later);
+        let inner = self.at(progress).within_until(node, end, later);
         Level {
             parent: inner.parent,
             outer: inner.outer,

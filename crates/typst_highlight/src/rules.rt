@@ -1,7 +1,8 @@
 //! What the tags of nodes depend on.
 
-ghost use Rattle.std.specs.Prelude.{◌≡◌, ◌||◌};
+ghost use Rattle.std.specs.Prelude.{◌≡◌, ◌<◌, ◌||◌};
 ghost use Rattle.typst_kinds.specs.Kinds.{is_trivia, is_error};
+ghost use Rattle.typst_kinds.specs.Members.{place_of};
 ghost use Rattle.typst_highlight.specs.Rules as spec;
 
 use crate::tags::Tag;
@@ -10,8 +11,10 @@ use typst_kinds::SyntaxKind;
 /// What the tag of a node depends on beside its kind.
 #[derive(Clone, Copy)]
 pub enum Rule {
-    /// Nothing.
-    Always(Option<Tag>),
+    /// Nothing: it has none.
+    Untagged,
+    /// Nothing: it is this one.
+    Tagged(Tag),
     /// The parent's kind, for a parenthesis.
     Paren,
     /// The parent's kind, for a star.
@@ -30,150 +33,162 @@ pub enum Rule {
     Expression,
 }
 
+/// What the tag of a node of each kind depends on, in the order of the kinds.
+const RULES: &[Rule] = &[
+    Rule::Untagged, // End
+    Rule::Tagged(Tag::Error), // Error
+    Rule::Tagged(Tag::Comment), // Shebang
+    Rule::Tagged(Tag::Comment), // LineComment
+    Rule::Tagged(Tag::Comment), // BlockComment
+    Rule::Term, // Markup
+    Rule::Untagged, // Text
+    Rule::Untagged, // Space
+    Rule::Tagged(Tag::Escape), // Linebreak
+    Rule::Untagged, // Parbreak
+    Rule::Tagged(Tag::Escape), // Escape
+    Rule::Tagged(Tag::Escape), // Shorthand
+    Rule::Untagged, // SmartQuote
+    Rule::Tagged(Tag::Strong), // Strong
+    Rule::Tagged(Tag::Emph), // Emph
+    Rule::Tagged(Tag::Raw), // Raw
+    Rule::Untagged, // RawLang
+    Rule::Untagged, // RawDelim
+    Rule::Untagged, // RawTrimmed
+    Rule::Tagged(Tag::Link), // Link
+    Rule::Tagged(Tag::Label), // Label
+    Rule::Tagged(Tag::Ref), // Ref
+    Rule::Untagged, // RefMarker
+    Rule::Tagged(Tag::Heading), // Heading
+    Rule::Untagged, // HeadingMarker
+    Rule::Untagged, // ListItem
+    Rule::Tagged(Tag::ListMarker), // ListMarker
+    Rule::Untagged, // EnumItem
+    Rule::Tagged(Tag::ListMarker), // EnumMarker
+    Rule::Untagged, // TermItem
+    Rule::Tagged(Tag::ListMarker), // TermMarker
+    Rule::Untagged, // Equation
+    Rule::Untagged, // Math
+    Rule::Untagged, // MathText
+    Rule::Name, // MathIdent
+    Rule::Untagged, // MathFieldAccess
+    Rule::Tagged(Tag::Escape), // MathShorthand
+    Rule::Tagged(Tag::MathOperator), // MathAlignPoint
+    Rule::Untagged, // MathCall
+    Rule::Untagged, // MathArgs
+    Rule::Untagged, // MathDelimited
+    Rule::Untagged, // MathAttach
+    Rule::Tagged(Tag::MathOperator), // MathPrimes
+    Rule::Untagged, // MathFrac
+    Rule::Untagged, // MathRoot
+    Rule::Expression, // Hash
+    Rule::Tagged(Tag::Punctuation), // LeftBrace
+    Rule::Tagged(Tag::Punctuation), // RightBrace
+    Rule::Tagged(Tag::Punctuation), // LeftBracket
+    Rule::Tagged(Tag::Punctuation), // RightBracket
+    Rule::Paren, // LeftParen
+    Rule::Paren, // RightParen
+    Rule::Tagged(Tag::Punctuation), // Comma
+    Rule::Tagged(Tag::Punctuation), // Semicolon
+    Rule::Tagged(Tag::Punctuation), // Colon
+    Rule::Star, // Star
+    Rule::Underscore, // Underscore
+    Rule::Tagged(Tag::MathDelimiter), // Dollar
+    Rule::Tagged(Tag::Operator), // Plus
+    Rule::Tagged(Tag::Operator), // Minus
+    Rule::Slash, // Slash
+    Rule::Tagged(Tag::MathOperator), // Hat
+    Rule::Tagged(Tag::Punctuation), // Dot
+    Rule::Untagged, // Bang
+    Rule::Equals, // Eq
+    Rule::Tagged(Tag::Operator), // EqEq
+    Rule::Tagged(Tag::Operator), // ExclEq
+    Rule::Tagged(Tag::Operator), // Lt
+    Rule::Tagged(Tag::Operator), // LtEq
+    Rule::Tagged(Tag::Operator), // Gt
+    Rule::Tagged(Tag::Operator), // GtEq
+    Rule::Tagged(Tag::Operator), // PlusEq
+    Rule::Tagged(Tag::Operator), // HyphEq
+    Rule::Tagged(Tag::Operator), // StarEq
+    Rule::Tagged(Tag::Operator), // SlashEq
+    Rule::Tagged(Tag::Operator), // Dots
+    Rule::Tagged(Tag::Operator), // Arrow
+    Rule::Tagged(Tag::MathOperator), // Root
+    Rule::Tagged(Tag::Keyword), // Not
+    Rule::Tagged(Tag::Keyword), // And
+    Rule::Tagged(Tag::Keyword), // Or
+    Rule::Tagged(Tag::Keyword), // None
+    Rule::Tagged(Tag::Keyword), // Auto
+    Rule::Tagged(Tag::Keyword), // Let
+    Rule::Tagged(Tag::Keyword), // Set
+    Rule::Tagged(Tag::Keyword), // Show
+    Rule::Tagged(Tag::Keyword), // Context
+    Rule::Tagged(Tag::Keyword), // If
+    Rule::Tagged(Tag::Keyword), // Else
+    Rule::Tagged(Tag::Keyword), // For
+    Rule::Tagged(Tag::Keyword), // In
+    Rule::Tagged(Tag::Keyword), // While
+    Rule::Tagged(Tag::Keyword), // Break
+    Rule::Tagged(Tag::Keyword), // Continue
+    Rule::Tagged(Tag::Keyword), // Return
+    Rule::Tagged(Tag::Keyword), // Import
+    Rule::Tagged(Tag::Keyword), // Include
+    Rule::Tagged(Tag::Keyword), // As
+    Rule::Untagged, // Code
+    Rule::Name, // Ident
+    Rule::Tagged(Tag::Keyword), // Bool
+    Rule::Tagged(Tag::Number), // Int
+    Rule::Tagged(Tag::Number), // Float
+    Rule::Tagged(Tag::Number), // Numeric
+    Rule::Tagged(Tag::String), // Str
+    Rule::Untagged, // CodeBlock
+    Rule::Untagged, // ContentBlock
+    Rule::Untagged, // Parenthesized
+    Rule::Untagged, // Array
+    Rule::Untagged, // Dict
+    Rule::Untagged, // Named
+    Rule::Untagged, // Keyed
+    Rule::Untagged, // Unary
+    Rule::Untagged, // Binary
+    Rule::Untagged, // FieldAccess
+    Rule::Untagged, // FuncCall
+    Rule::Untagged, // Args
+    Rule::Untagged, // Spread
+    Rule::Untagged, // Closure
+    Rule::Untagged, // Params
+    Rule::Untagged, // LetBinding
+    Rule::Untagged, // SetRule
+    Rule::Untagged, // ShowRule
+    Rule::Untagged, // Contextual
+    Rule::Untagged, // Conditional
+    Rule::Untagged, // WhileLoop
+    Rule::Untagged, // ForLoop
+    Rule::Untagged, // ModuleImport
+    Rule::Untagged, // ImportItems
+    Rule::Untagged, // ImportItemPath
+    Rule::Untagged, // RenamedImportItem
+    Rule::Untagged, // ModuleInclude
+    Rule::Untagged, // LoopBreak
+    Rule::Untagged, // LoopContinue
+    Rule::Untagged, // FuncReturn
+    Rule::Untagged, // Destructuring
+    Rule::Untagged, // DestructAssignment
+];
+
+/// Where a kind stands among all kinds.
+#[inline(always)]
+fn place(kind: SyntaxKind) -> usize
+    ensures place { result ≡ place_of kind }
+    ensures small { result < 137 }
+{
+    kind as usize
+}
+
 /// What the tag of a node of the kind depends on.
 #[inline(always)]
 pub fn rule_of(kind: SyntaxKind) -> Rule
     ensures { result ≡ spec.rule_of kind }
 {
-    match kind {
-        SyntaxKind::End => Rule::Always(None),
-        SyntaxKind::Error => Rule::Always(Some(Tag::Error)),
-        SyntaxKind::Shebang => Rule::Always(Some(Tag::Comment)),
-        SyntaxKind::LineComment => Rule::Always(Some(Tag::Comment)),
-        SyntaxKind::BlockComment => Rule::Always(Some(Tag::Comment)),
-        SyntaxKind::Markup => Rule::Term,
-        SyntaxKind::Text => Rule::Always(None),
-        SyntaxKind::Space => Rule::Always(None),
-        SyntaxKind::Linebreak => Rule::Always(Some(Tag::Escape)),
-        SyntaxKind::Parbreak => Rule::Always(None),
-        SyntaxKind::Escape => Rule::Always(Some(Tag::Escape)),
-        SyntaxKind::Shorthand => Rule::Always(Some(Tag::Escape)),
-        SyntaxKind::SmartQuote => Rule::Always(None),
-        SyntaxKind::Strong => Rule::Always(Some(Tag::Strong)),
-        SyntaxKind::Emph => Rule::Always(Some(Tag::Emph)),
-        SyntaxKind::Raw => Rule::Always(Some(Tag::Raw)),
-        SyntaxKind::RawLang => Rule::Always(None),
-        SyntaxKind::RawDelim => Rule::Always(None),
-        SyntaxKind::RawTrimmed => Rule::Always(None),
-        SyntaxKind::Link => Rule::Always(Some(Tag::Link)),
-        SyntaxKind::Label => Rule::Always(Some(Tag::Label)),
-        SyntaxKind::Ref => Rule::Always(Some(Tag::Ref)),
-        SyntaxKind::RefMarker => Rule::Always(None),
-        SyntaxKind::Heading => Rule::Always(Some(Tag::Heading)),
-        SyntaxKind::HeadingMarker => Rule::Always(None),
-        SyntaxKind::ListItem => Rule::Always(None),
-        SyntaxKind::ListMarker => Rule::Always(Some(Tag::ListMarker)),
-        SyntaxKind::EnumItem => Rule::Always(None),
-        SyntaxKind::EnumMarker => Rule::Always(Some(Tag::ListMarker)),
-        SyntaxKind::TermItem => Rule::Always(None),
-        SyntaxKind::TermMarker => Rule::Always(Some(Tag::ListMarker)),
-        SyntaxKind::Equation => Rule::Always(None),
-        SyntaxKind::Math => Rule::Always(None),
-        SyntaxKind::MathText => Rule::Always(None),
-        SyntaxKind::MathIdent => Rule::Name,
-        SyntaxKind::MathFieldAccess => Rule::Always(None),
-        SyntaxKind::MathShorthand => Rule::Always(Some(Tag::Escape)),
-        SyntaxKind::MathAlignPoint => Rule::Always(Some(Tag::MathOperator)),
-        SyntaxKind::MathCall => Rule::Always(None),
-        SyntaxKind::MathArgs => Rule::Always(None),
-        SyntaxKind::MathDelimited => Rule::Always(None),
-        SyntaxKind::MathAttach => Rule::Always(None),
-        SyntaxKind::MathPrimes => Rule::Always(Some(Tag::MathOperator)),
-        SyntaxKind::MathFrac => Rule::Always(None),
-        SyntaxKind::MathRoot => Rule::Always(None),
-        SyntaxKind::Hash => Rule::Expression,
-        SyntaxKind::LeftBrace => Rule::Always(Some(Tag::Punctuation)),
-        SyntaxKind::RightBrace => Rule::Always(Some(Tag::Punctuation)),
-        SyntaxKind::LeftBracket => Rule::Always(Some(Tag::Punctuation)),
-        SyntaxKind::RightBracket => Rule::Always(Some(Tag::Punctuation)),
-        SyntaxKind::LeftParen => Rule::Paren,
-        SyntaxKind::RightParen => Rule::Paren,
-        SyntaxKind::Comma => Rule::Always(Some(Tag::Punctuation)),
-        SyntaxKind::Semicolon => Rule::Always(Some(Tag::Punctuation)),
-        SyntaxKind::Colon => Rule::Always(Some(Tag::Punctuation)),
-        SyntaxKind::Star => Rule::Star,
-        SyntaxKind::Underscore => Rule::Underscore,
-        SyntaxKind::Dollar => Rule::Always(Some(Tag::MathDelimiter)),
-        SyntaxKind::Plus => Rule::Always(Some(Tag::Operator)),
-        SyntaxKind::Minus => Rule::Always(Some(Tag::Operator)),
-        SyntaxKind::Slash => Rule::Slash,
-        SyntaxKind::Hat => Rule::Always(Some(Tag::MathOperator)),
-        SyntaxKind::Dot => Rule::Always(Some(Tag::Punctuation)),
-        SyntaxKind::Bang => Rule::Always(None),
-        SyntaxKind::Eq => Rule::Equals,
-        SyntaxKind::EqEq => Rule::Always(Some(Tag::Operator)),
-        SyntaxKind::ExclEq => Rule::Always(Some(Tag::Operator)),
-        SyntaxKind::Lt => Rule::Always(Some(Tag::Operator)),
-        SyntaxKind::LtEq => Rule::Always(Some(Tag::Operator)),
-        SyntaxKind::Gt => Rule::Always(Some(Tag::Operator)),
-        SyntaxKind::GtEq => Rule::Always(Some(Tag::Operator)),
-        SyntaxKind::PlusEq => Rule::Always(Some(Tag::Operator)),
-        SyntaxKind::HyphEq => Rule::Always(Some(Tag::Operator)),
-        SyntaxKind::StarEq => Rule::Always(Some(Tag::Operator)),
-        SyntaxKind::SlashEq => Rule::Always(Some(Tag::Operator)),
-        SyntaxKind::Dots => Rule::Always(Some(Tag::Operator)),
-        SyntaxKind::Arrow => Rule::Always(Some(Tag::Operator)),
-        SyntaxKind::Root => Rule::Always(Some(Tag::MathOperator)),
-        SyntaxKind::Not => Rule::Always(Some(Tag::Keyword)),
-        SyntaxKind::And => Rule::Always(Some(Tag::Keyword)),
-        SyntaxKind::Or => Rule::Always(Some(Tag::Keyword)),
-        SyntaxKind::None => Rule::Always(Some(Tag::Keyword)),
-        SyntaxKind::Auto => Rule::Always(Some(Tag::Keyword)),
-        SyntaxKind::Let => Rule::Always(Some(Tag::Keyword)),
-        SyntaxKind::Set => Rule::Always(Some(Tag::Keyword)),
-        SyntaxKind::Show => Rule::Always(Some(Tag::Keyword)),
-        SyntaxKind::Context => Rule::Always(Some(Tag::Keyword)),
-        SyntaxKind::If => Rule::Always(Some(Tag::Keyword)),
-        SyntaxKind::Else => Rule::Always(Some(Tag::Keyword)),
-        SyntaxKind::For => Rule::Always(Some(Tag::Keyword)),
-        SyntaxKind::In => Rule::Always(Some(Tag::Keyword)),
-        SyntaxKind::While => Rule::Always(Some(Tag::Keyword)),
-        SyntaxKind::Break => Rule::Always(Some(Tag::Keyword)),
-        SyntaxKind::Continue => Rule::Always(Some(Tag::Keyword)),
-        SyntaxKind::Return => Rule::Always(Some(Tag::Keyword)),
-        SyntaxKind::Import => Rule::Always(Some(Tag::Keyword)),
-        SyntaxKind::Include => Rule::Always(Some(Tag::Keyword)),
-        SyntaxKind::As => Rule::Always(Some(Tag::Keyword)),
-        SyntaxKind::Code => Rule::Always(None),
-        SyntaxKind::Ident => Rule::Name,
-        SyntaxKind::Bool => Rule::Always(Some(Tag::Keyword)),
-        SyntaxKind::Int => Rule::Always(Some(Tag::Number)),
-        SyntaxKind::Float => Rule::Always(Some(Tag::Number)),
-        SyntaxKind::Numeric => Rule::Always(Some(Tag::Number)),
-        SyntaxKind::Str => Rule::Always(Some(Tag::String)),
-        SyntaxKind::CodeBlock => Rule::Always(None),
-        SyntaxKind::ContentBlock => Rule::Always(None),
-        SyntaxKind::Parenthesized => Rule::Always(None),
-        SyntaxKind::Array => Rule::Always(None),
-        SyntaxKind::Dict => Rule::Always(None),
-        SyntaxKind::Named => Rule::Always(None),
-        SyntaxKind::Keyed => Rule::Always(None),
-        SyntaxKind::Unary => Rule::Always(None),
-        SyntaxKind::Binary => Rule::Always(None),
-        SyntaxKind::FieldAccess => Rule::Always(None),
-        SyntaxKind::FuncCall => Rule::Always(None),
-        SyntaxKind::Args => Rule::Always(None),
-        SyntaxKind::Spread => Rule::Always(None),
-        SyntaxKind::Closure => Rule::Always(None),
-        SyntaxKind::Params => Rule::Always(None),
-        SyntaxKind::LetBinding => Rule::Always(None),
-        SyntaxKind::SetRule => Rule::Always(None),
-        SyntaxKind::ShowRule => Rule::Always(None),
-        SyntaxKind::Contextual => Rule::Always(None),
-        SyntaxKind::Conditional => Rule::Always(None),
-        SyntaxKind::WhileLoop => Rule::Always(None),
-        SyntaxKind::ForLoop => Rule::Always(None),
-        SyntaxKind::ModuleImport => Rule::Always(None),
-        SyntaxKind::ImportItems => Rule::Always(None),
-        SyntaxKind::ImportItemPath => Rule::Always(None),
-        SyntaxKind::RenamedImportItem => Rule::Always(None),
-        SyntaxKind::ModuleInclude => Rule::Always(None),
-        SyntaxKind::LoopBreak => Rule::Always(None),
-        SyntaxKind::LoopContinue => Rule::Always(None),
-        SyntaxKind::FuncReturn => Rule::Always(None),
-        SyntaxKind::Destructuring => Rule::Always(None),
-        SyntaxKind::DestructAssignment => Rule::Always(None),
-    }
+    RULES[place(kind)]
 }
 
 /// The tag of a parenthesis, by its parent's kind.
@@ -270,6 +285,7 @@ pub fn is_skipped(kind: SyntaxKind) -> bool
 }
 
 /// Whether the kind is that of a field access.
+#[inline(always)]
 pub fn is_field_access(kind: SyntaxKind) -> bool
     ensures { result ≡ spec.is_field_access kind }
 {
@@ -277,6 +293,7 @@ pub fn is_field_access(kind: SyntaxKind) -> bool
 }
 
 /// Whether the kind is that of a dot.
+#[inline(always)]
 pub fn is_dot(kind: SyntaxKind) -> bool
     ensures { result ≡ spec.is_dot kind }
 {
@@ -284,6 +301,7 @@ pub fn is_dot(kind: SyntaxKind) -> bool
 }
 
 /// Whether the kind is that of a name in an equation.
+#[inline(always)]
 pub fn is_math_name(kind: SyntaxKind) -> bool
     ensures { result ≡ spec.is_math_name kind }
 {
@@ -291,6 +309,7 @@ pub fn is_math_name(kind: SyntaxKind) -> bool
 }
 
 /// Whether there is a kind, and it is that of a show rule.
+#[inline(always)]
 pub fn is_show_rule(kind: Option<SyntaxKind>) -> bool
     ensures { result ≡ spec.is_show_rule kind }
 {
@@ -298,6 +317,7 @@ pub fn is_show_rule(kind: Option<SyntaxKind>) -> bool
 }
 
 /// Whether there is a kind, and it is that of a colon.
+#[inline(always)]
 pub fn is_colon(kind: Option<SyntaxKind>) -> bool
     ensures { result ≡ spec.is_colon kind }
 {
@@ -305,6 +325,7 @@ pub fn is_colon(kind: Option<SyntaxKind>) -> bool
 }
 
 /// Whether there is a kind, and it is that of a hash.
+#[inline(always)]
 pub fn is_hash(kind: Option<SyntaxKind>) -> bool
     ensures { result ≡ spec.is_hash kind }
 {
@@ -312,6 +333,7 @@ pub fn is_hash(kind: Option<SyntaxKind>) -> bool
 }
 
 /// Whether a parenthesis under a parent of the kind begins what a function is called with.
+#[inline(always)]
 pub fn is_arguments(parent: Option<SyntaxKind>) -> bool
     ensures { result ≡ spec.is_arguments parent }
 {
@@ -322,6 +344,7 @@ pub fn is_arguments(parent: Option<SyntaxKind>) -> bool
 }
 
 /// Whether a bracket under a parent of the kind begins what a function is called with.
+#[inline(always)]
 pub fn is_content(parent: Option<SyntaxKind>) -> bool
     ensures { result ≡ spec.is_content parent }
 {
@@ -329,6 +352,7 @@ pub fn is_content(parent: Option<SyntaxKind>) -> bool
 }
 
 /// Whether a leaf begins what a function is called with, by its kind and its parent's.
+#[inline(always)]
 pub fn begins_arguments(kind: SyntaxKind, parent: Option<SyntaxKind>) -> bool
     ensures { result ≡ spec.begins_arguments kind parent }
 {

@@ -2,6 +2,7 @@
 
 ghost use Rattle.std.specs.Prelude.{◌≡◌};
 ghost use Rattle.typst_node.specs.Tree.{forest};
+ghost use Rattle.typst_highlight.specs.Rules.{rule_of};
 ghost use Rattle.typst_highlight.specs.Walk as walk;
 
 use crate::context::{Context, Trail, is_childless, is_leaf};
@@ -43,6 +44,35 @@ fn next_kind(nodes: &[SyntaxNode]) -> Option<SyntaxKind>
     None
 }
 
+/// The tag of a node of the kind, where its kind and its parent's tell it.
+#[inline(always)]
+pub fn tag_under(kind: SyntaxKind, parent: Option<SyntaxKind>) -> Option<Option<Tag>>
+    ensures { result ≡ walk.tag_under (rule_of kind) parent }
+{
+    match rule_of(kind) {
+        Rule::Untagged => Some(None),
+        Rule::Tagged(tag) => Some(Some(tag)),
+        Rule::Paren => Some(paren_tag(parent)),
+        Rule::Star => Some(star_tag(parent)),
+        Rule::Underscore => Some(underscore_tag(parent)),
+        Rule::Slash => Some(slash_tag(parent)),
+        Rule::Equals => Some(equals_tag(parent)),
+        Rule::Term => tag_outside(parent),
+        Rule::Name | Rule::Expression => None,
+    }
+}
+
+/// The tag of markup that is no term.
+#[inline(always)]
+fn tag_outside(parent: Option<SyntaxKind>) -> Option<Option<Tag>>
+    ensures { result ≡ walk.tag_outside parent }
+{
+    match parent {
+        Some(SyntaxKind::TermItem) => None,
+        _ => Some(None),
+    }
+}
+
 /// The tag of a node that other nodes follow under the same parent.
 #[cycle(tags)]
 #[inline(never)]
@@ -50,7 +80,8 @@ pub fn tag_here(node: &SyntaxNode, later: &[SyntaxNode], context: &Context) -> O
     ensures { result ≡ walk.tag context.now node.now (forest later.now) }
 {
     match rule_of(node.kind()) {
-        Rule::Always(tag) => tag,
+        Rule::Untagged => None,
+        Rule::Tagged(tag) => Some(tag),
         Rule::Paren => paren_tag(context.parent),
         Rule::Star => star_tag(context.parent),
         Rule::Underscore => underscore_tag(context.parent),

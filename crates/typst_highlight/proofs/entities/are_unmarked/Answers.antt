@@ -2,7 +2,7 @@ use Rattle.std.proofs.Common.{◌≡◌, ◌+◌, refl, arith}
 use Rattle.std.specs.Prelude.{slice_index_or}
 use Rattle.std.proofs.lemmas.Nat.{le_or_l, le_or_r}
 use Rattle.typst_highlight.proofs.Escapes.{plain_more}
-use Rattle.typst_highlight.proofs.entities.is_plain.Goals as goal
+use Rattle.typst_highlight.proofs.entities.are_unmarked.Goals as goal
 
 pub loop-at-preserved : goal.loop-at-preserved
 loop-at-preserved c = λ e.
