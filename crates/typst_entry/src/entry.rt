@@ -13,13 +13,18 @@ use typst_grammar::{Hull, Note, read_whole, read_whole_code, read_whole_math};
 use typst_kinds::SyntaxKind;
 use typst_node::SyntaxNode;
 
-/// The root over the nodes of a text, without room for more of them.
+/// The root over the nodes of a text, without room for more of them: few nodes are moved, and many
+/// stay where they are.
 fn root_over(kind: SyntaxKind, mut nodes: Vec<SyntaxNode>) -> Result<SyntaxNode, AllocError>
     requires { is_error kind ≡ false }
     ensures { IfOk result (λ t. t ≡ inner_of kind (forest nodes.items)) }
 {
-    let kids = nodes.split_off(0)?;
-    Ok(SyntaxNode::inner(kind, kids))
+    if nodes.len() < nodes.capacity() / 4 {
+        nodes = nodes.split_off(0)?;
+    } else {
+        nodes.shrink_to_fit();
+    }
+    Ok(SyntaxNode::inner(kind, nodes))
 }
 
 /// The syntax tree of a text of markup, with detached spans. Any text has one; its leaves joined are
