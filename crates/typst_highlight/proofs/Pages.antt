@@ -1,14 +1,14 @@
 -- What is put on a page.
-use Rattle.std.proofs.Common.{rules, ◌≡◌, ℕ, ◌+◌, ◌<◌, ◌≤◌, List, [], ◌∷◌, ◌++◌, Option, None, Some, length, take, drop, ap, sym, subst, ◌∙◌, arith, append_assoc, length-append}
-use Rattle.std.specs.Prelude.{codes}
+use Rattle.std.proofs.Common.{rules, ◌≡◌, ℕ, zero, suc, ◌+◌, ◌<◌, ◌≤◌, List, [], ◌∷◌, ◌++◌, Option, None, Some, length, take, drop, ap, refl, sym, subst, ◌∙◌, arith, get_or, append_assoc, length-append, take-suc-set}
+use Rattle.std.specs.Prelude.{codes, slice_set}
 use Rattle.std.specs.Str.{IsUtf8}
 use Rattle.std.proofs.lemmas.Str.{IsUtf8-nil, IsUtf8-append, IsUtf8-from_ascii}
 use Rattle.std.proofs.lemmas.Str.Ascii.{IsAscii-from_all}
-use Rattle.std.proofs.lemmas.List.{length-take-le, take-append-drop, take-append-le}
+use Rattle.std.proofs.lemmas.List.{length-take-le, take-append-drop, take-append-le, take_more}
 use Rattle.std.proofs.Math.Seq.{take-append-add}
 use Rattle.typst_highlight.specs.declared.tags.Tag.{Tag}
 use Rattle.typst_highlight.specs.declared.tags.Tag.TheVariants as tag
-use Rattle.typst_highlight.specs.Html.{opening, span_start, span_end}
+use Rattle.typst_highlight.specs.Html.{opening, escaped, span_start, span_end}
 
 -- the first n bytes of what was put on a page
 pub part_put : (page old block : List ℕ) (a n end : ℕ) → end ≡ a + length block → n ≤ length block → a ≤ length old → take end page ≡ take a old ++ block → take (a + n) page ≡ take a old ++ take n block
@@ -19,6 +19,23 @@ part_put page old block a n end e h l w =
     ∙ (take-append-le (a + n) (take end page) (drop end page) count
     ∙ (ap (take (a + n)) w
     ∙ (ap (λ m. take (m + n) (take a old ++ block)) (sym front) ∙ take-append-add (take a old) block n)))
+
+-- what stands before a byte that is put on a page
+pub before_put : (page : List ℕ) (a n b : ℕ) → a ≤ n → take a (slice_set page n b) ≡ take a page
+before_put page zero n b l = refl
+before_put [] (suc a) n b l = refl
+before_put (x ∷ page) (suc a) zero b l = absurd (omega (arith, l))
+before_put (x ∷ page) (suc a) (suc n) b l = ap (λ ys. x ∷ ys) (before_put page a n b (omega (arith, l)))
+
+-- one byte more of a text that is put on a page
+pub byte_put : (page front text : List ℕ) (a n b : ℕ) → a + n < length page → n < length text → b ≡ get_or text n 0 → take (a + n) page ≡ front ++ take n text → take (a + (n + 1)) (slice_set page (a + n) b) ≡ front ++ take (n + 1) text
+byte_put page front text a n b l m e w =
+    let next : a + (n + 1) ≡ suc (a + n) = omega arith in
+    ap (λ k. take k (slice_set page (a + n) b)) next
+    ∙ (take-suc-set page (a + n) b l
+    ∙ (ap (λ bs. bs ++ b ∷ []) w
+    ∙ (append_assoc front (take n text) (b ∷ [])
+    ∙ ap (λ bs. front ++ bs) (ap (λ x. take n text ++ x ∷ []) e ∙ sym (take_more text n 0 m)))))
 
 -- a text between the beginning and the end of a span
 pub span_put : (o : Option Tag) (t : Tag) (a b d e text : List ℕ) → o ≡ Some t → b ≡ a ++ opening t → d ≡ b ++ text → e ≡ d ++ codes "</span>" → e ≡ a ++ (span_start o ++ (text ++ span_end o))
@@ -69,3 +86,11 @@ utf8_span o text u = IsUtf8-append (span_start o) (text ++ span_end o) (utf8_sta
 
 pub utf8_byte : (b : ℕ) → b < 128 → IsUtf8 (b ∷ [])
 utf8_byte b l = IsUtf8-from_ascii (b ∷ []) (IsAscii-from_all (b ∷ []) (grind (arith, l)))
+
+-- the beginning of a span and a node's own text, before what its children become
+pub node_put : (a b d : List ℕ) (g t : Option Tag) (text own inner kids : List ℕ) → b ≡ a ++ span_start g → d ≡ b ++ escaped text → g ≡ t → text ≡ own → inner ≡ kids → d ++ (inner ++ span_end g) ≡ a ++ (span_start t ++ (escaped own ++ (kids ++ span_end t)))
+node_put a b d g t text own inner kids e f same said made =
+    let first : d ≡ a ++ (span_start t ++ escaped own) =
+    f ∙ ((λ i. e i ++ escaped (said i)) ∙ (ap (λ o. (a ++ span_start o) ++ escaped own) same ∙ append_assoc a (span_start t) (escaped own))) in
+    (λ i. first i ++ (made i ++ span_end (same i)))
+    ∙ (append_assoc a (span_start t ++ escaped own) (kids ++ span_end t) ∙ ap (λ bs. a ++ bs) (append_assoc (span_start t) (escaped own) (kids ++ span_end t)))

@@ -1,5 +1,5 @@
 -- What a walk through a tree carries along. Public clauses name none of it.
-use Rattle.std.specs.Prelude.{ℕ, ◌+◌, List, [], ◌++◌, Option, None, Some, length, if◌then◌else◌}
+use Rattle.std.specs.Prelude.{ℕ, ◌+◌, Bool, false, ◌&&◌, not, List, [], ◌++◌, Option, None, Some, length, if◌then◌else◌}
 use Rattle.typst_kinds.specs.declared.kind.SyntaxKind.{SyntaxKind}
 use Rattle.typst_kinds.specs.declared.kind.SyntaxKind.TheVariants as kind
 use Rattle.typst_kinds.specs.Kinds.{is_trivia, is_hash_expr}
@@ -60,11 +60,15 @@ leaf_from c e r = first_ahead (first_leaf c.parent e r) c.ahead
 abbrev pub next_leaf : Context → Tree → Forest → Option Ahead
 next_leaf c t r = leaf_from c (end c t) r
 
+-- what is round the outermost of the field accesses above the children of a node of this kind
+abbrev pub outer_within : Context → SyntaxKind → Option Outer
+outer_within c k = if is_field_access k then Some (record { around = around c; lead = lead c }) else None
+
 -- what is round a node's first child
 abbrev pub within : Context → Tree → Forest → Context
 within c t r = record {
   parent = Some t.head.kind;
-  outer = if is_field_access t.head.kind then Some (record { around = around c; lead = lead c }) else None;
+  outer = outer_within c t.head.kind;
   offset = saturated (c.offset + length t.head.text);
   trail = c.trail;
   ahead = next_leaf c t r;
@@ -207,3 +211,17 @@ joined l p = record { parent = l.parent; outer = l.outer; offset = p.offset; tra
 -- what is round all nodes that stand beside a node
 abbrev pub level_of : Context → Level
 level_of c = record { parent = c.parent; outer = c.outer; ahead = c.ahead }
+
+-- the last of trees that stand side by side is a leaf and no name: so none of them asks for what is behind them all
+abbrev pub closes : Forest → Bool
+closes none = false
+closes (more h ks none) = is_leaf (tree_of h ks) && not (is_name h.kind)
+closes (more h ks (more g is r)) = closes (more g is r)
+
+-- what is ahead of trees that stand side by side, where they ask for it
+abbrev pub needed : Forest → Option Ahead → Option Ahead
+needed ks ahead = if closes ks then None else ahead
+
+-- what is round the children of a node, as far as they ask for it
+abbrev pub level_within : Context → Tree → Forest → Level
+level_within c t r = record (level_of (within c t r)) { ahead = needed t.kids (next_leaf c t r) }

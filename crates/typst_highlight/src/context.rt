@@ -89,6 +89,18 @@ pub fn is_leaf(node: &SyntaxNode) -> bool
     is_childless(node) && !is_skipped(node.kind())
 }
 
+/// Whether the last of nodes that stand side by side is a leaf and no name: then none of them asks for
+/// what is behind them all.
+#[inline(always)]
+pub fn closes(nodes: &[SyntaxNode]) -> bool
+    ensures { result ≡ walk.closes (forest nodes.now) }
+{
+    match nodes.last() {
+        Some(last) => is_leaf(last) && !is_name(last.kind()),
+        None => false,
+    }
+}
+
 /// The first leaf of nodes that stand side by side from a byte on, under a parent of this kind.
 #[cycle(leaves)]
 fn first_leaf(nodes: &[SyntaxNode], parent: Option<SyntaxKind>, offset: usize) -> Option<Ahead>
@@ -221,7 +233,7 @@ impl Context {
 
     /// The first leaf behind the node, which ends there.
     #[inline(always)]
-    fn next_leaf(&self, end: usize, later: &[SyntaxNode]) -> Option<Ahead>
+    pub fn next_leaf(&self, end: usize, later: &[SyntaxNode]) -> Option<Ahead>
         ensures { result ≡ walk.leaf_from self.now end (forest later.now) }
     {
         match leaf_among(later, self.parent, end) {
@@ -230,35 +242,33 @@ impl Context {
         }
     }
 
-    /// What is round the node's first child.
+    /// What is round the outermost of the field accesses above the children of a node of the kind.
     #[inline(always)]
-    pub fn within(&self, node: &SyntaxNode, later: &[SyntaxNode]) -> Context
-        ensures { result ≡ walk.within self.now node.now (forest later.now) }
+    pub fn outer_within(&self, kind: SyntaxKind) -> Option<Outer>
+        ensures { result ≡ walk.outer_within self.now kind }
     {
-        self.within_until(node, self.end(node), later)
-    }
-
-    /// The same, where it is known where the node ends.
-    #[inline(always)]
-    pub fn within_until(&self, node: &SyntaxNode, end: usize, later: &[SyntaxNode]) -> Context
-        requires { end ≡ walk.end self.now node.now }
-        ensures { result ≡ walk.within self.now node.now (forest later.now) }
-    {
-        let kind = node.kind();
-        let outer = if is_field_access(kind) {
+        if is_field_access(kind) {
             Some(Outer {
                 around: self.around(),
                 lead: self.lead(),
             })
         } else {
             None
-        };
+        }
+    }
+
+    /// What is round the node's first child.
+    #[inline(always)]
+    pub fn within(&self, node: &SyntaxNode, later: &[SyntaxNode]) -> Context
+        ensures { result ≡ walk.within self.now node.now (forest later.now) }
+    {
+        let kind = node.kind();
         Context {
             parent: Some(kind),
-            outer,
+            outer: self.outer_within(kind),
             offset: self.offset.saturating_add(node.leaf_text().len()),
             trail: self.trail,
-            ahead: self.next_leaf(end, later),
+            ahead: self.next_leaf(self.end(node), later),
         }
     }
 

@@ -4,7 +4,7 @@ ghost use Rattle.std.specs.Prelude.{◌≡◌, ◌<◌, [], ◌∷◌, MatchOpti
 ghost use Rattle.typst_highlight.specs.Html as spec;
 
 /// How many bytes are looked at one by one.
-const FEW: usize = 16;
+pub const FEW: usize = 16;
 
 /// Whether no byte has an entity.
 #[inline(always)]
@@ -54,7 +54,7 @@ pub fn is_itself(byte: u8) -> bool
 
 /// Whether the byte is one of `& < > ' "`.
 #[inline(always)]
-fn has_entity(byte: u8) -> bool
+pub fn has_entity(byte: u8) -> bool
     ensures { result ≡ false → spec.escaped_byte byte ≡ byte ∷ [] }
 {
     matches!(byte, b'&' | b'<' | b'>' | b'\'' | b'"')

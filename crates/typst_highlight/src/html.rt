@@ -10,7 +10,7 @@ use crate::context::is_childless;
 use crate::page::Writer;
 use crate::progress::{Level, Progress};
 use crate::rules::{Rule, is_name, rule_of};
-use crate::spans::{span_of, spanned};
+use crate::spans::{span_asked, span_of, spanned};
 use crate::walk::tag_under;
 use std::alloc::{AllocError, Global};
 use typst_node::SyntaxNode;
@@ -90,6 +90,7 @@ fn write_leaf(
     let span = match rule_of(kind) {
         Rule::Untagged => None,
         Rule::Tagged(tag) => spanned(Some(tag)),
+        Rule::Name | Rule::Expression => return write_asking(html, node, later, level, progress),
         _ => match tag_under(kind, level.parent) {
             Some(tag) => spanned(tag),
             None => return write_asking(html, node, later, level, progress),
@@ -121,7 +122,7 @@ fn write_asking(
         progress.pass(node, later, level, text.len(), name);
         return Ok(());
     }
-    html.write(span_of(node, later, level, progress), text)?;
+    html.write(span_asked(node, later, level, progress), text)?;
     progress.pass(node, later, level, text.len(), None);
     Ok(())
 }

@@ -1,9 +1,9 @@
 //! HTML as it is being written.
 
-ghost use Rattle.std.specs.Prelude.{◌≡◌, ◌+◌, ◌≤◌, [], ◌∷◌, ◌++◌, IfOk, OnOk, codes, length, take, string_bytes};
+ghost use Rattle.std.specs.Prelude.{◌≡◌, ◌+◌, ◌≤◌, [], ◌∷◌, ◌++◌, IfOk, IsTrue, OnOk, codes, length, take, string_bytes};
 ghost use Rattle.typst_highlight.specs.Html as spec;
 
-use crate::entities::{entity, is_itself, is_plain};
+use crate::entities::{FEW, entity, has_entity, is_itself, is_plain};
 use crate::tags::Tag;
 use std::alloc::{AllocError, Global};
 use std::marker::Model;
@@ -125,10 +125,17 @@ impl Writer {
     fn write_text(&mut self, tag: Option<Tag>, text: &str) -> Result<(), AllocError>
         ensures { OnOk result (self.new ≡ self.old ++ (spec.span_start tag ++ (spec.escaped text.now ++ spec.span_end tag))) }
     {
-        if text.len() > SHORT || !is_plain(text.as_bytes()) {
+        if self.len > PAGE - ROOM {
             return self.write_parts(tag, text);
         }
-        if self.len > PAGE - ROOM {
+        if tag.is_none() && text.len() <= FEW {
+            if !put_few(&mut self.page, self.len, text.as_bytes()) {
+                return self.write_parts(tag, text);
+            }
+            self.len += text.len();
+            return Ok(());
+        }
+        if text.len() > SHORT || !is_plain(text.as_bytes()) {
             return self.write_parts(tag, text);
         }
         self.len = put_span(&mut self.page, self.len, tag, text);
@@ -242,6 +249,25 @@ fn put_byte(page: &mut [u8; 2048], at: usize, tag: Option<Tag>, byte: u8) -> usi
             put(page, start + 1, "</span>")
         }
     }
+}
+
+/// Puts few bytes on a page from `at` on, and answers whether none has an entity. Where one has, what
+/// then stands behind `at` means nothing.
+#[inline(always)]
+fn put_few(page: &mut [u8; 2048], at: usize, bytes: &[u8]) -> bool
+    requires { at + length bytes.now ≤ 2048 }
+    ensures kept { take at page.new ≡ take at page.old }
+    ensures written { IsTrue result → take (at + length bytes.now) page.new ≡ take at page.old ++ bytes.now }
+    ensures plain { IsTrue result → spec.escaped bytes.now ≡ bytes.now }
+{
+    for index in 0..bytes.len() {
+        let byte = bytes[index];
+        if has_entity(byte) {
+            return false;
+        }
+        page[at + index] = byte;
+    }
+    true
 }
 
 /// Puts a text in the span of a tag on a page from `at` on, and answers where it ends.

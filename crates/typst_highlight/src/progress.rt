@@ -6,7 +6,7 @@ ghost use Rattle.typst_tree.specs.Walks.{is_childless};
 ghost use Rattle.typst_highlight.specs.Rules.{is_name};
 ghost use Rattle.typst_highlight.specs.Walk as walk;
 
-use crate::context::{Ahead, Context, Outer, Trail};
+use crate::context::{Ahead, Context, Outer, Trail, closes};
 use crate::rules::is_skipped;
 use crate::tags::Tag;
 use typst_kinds::SyntaxKind;
@@ -58,7 +58,7 @@ impl Level {
         }
     }
 
-    /// What is round the children of a node, which ends there.
+    /// What is round the children of a node, which ends there, as far as they ask for it.
     #[inline(always)]
     pub fn within(
         &self,
@@ -68,13 +68,18 @@ impl Level {
         progress: &Progress,
     ) -> Level
         requires { end ≡ walk.end (walk.joined self.now progress.now) node.now }
-        ensures { result ≡ walk.level_of (walk.within (walk.joined self.now progress.now) node.now (forest later.now)) }
+        ensures { result ≡ walk.level_within (walk.joined self.now progress.now) node.now (forest later.now) }
     {
-        let inner = self.at(progress).within_until(node, end, later);
+        let context = self.at(progress);
+        let kind = node.kind();
         Level {
-            parent: inner.parent,
-            outer: inner.outer,
-            ahead: inner.ahead,
+            parent: Some(kind),
+            outer: context.outer_within(kind),
+            ahead: if closes(node.children()) {
+                None
+            } else {
+                context.next_leaf(end, later)
+            },
         }
     }
 }

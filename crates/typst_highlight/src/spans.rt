@@ -6,6 +6,7 @@ ghost use Rattle.typst_highlight.specs.Html as spec;
 ghost use Rattle.typst_highlight.specs.Walk as walk;
 
 use crate::progress::{Level, Progress};
+use crate::rules::{Rule, rule_of};
 use crate::tags::Tag;
 use crate::walk::{tag_here, tag_under};
 use typst_node::SyntaxNode;
@@ -24,6 +25,23 @@ pub fn spanned(tag: Option<Tag>) -> Option<Tag>
 /// The tag of the span that a node stands in.
 #[inline(always)]
 pub fn span_of(
+    node: &SyntaxNode,
+    later: &[SyntaxNode],
+    level: &Level,
+    progress: &Progress,
+) -> Option<Tag>
+    ensures { result ≡ spec.spanned (walk.tag (walk.joined level.now progress.now) node.now (forest later.now)) }
+{
+    match rule_of(node.kind()) {
+        Rule::Untagged => None,
+        Rule::Tagged(tag) => spanned(Some(tag)),
+        _ => span_asked(node, later, level, progress),
+    }
+}
+
+/// The same of any node, apart from the common way.
+#[inline(never)]
+pub fn span_asked(
     node: &SyntaxNode,
     later: &[SyntaxNode],
     level: &Level,

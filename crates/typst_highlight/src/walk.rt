@@ -45,7 +45,7 @@ fn next_kind(nodes: &[SyntaxNode]) -> Option<SyntaxKind>
 }
 
 /// The tag of a node of the kind, where its kind and its parent's tell it.
-#[inline(always)]
+#[inline(never)]
 pub fn tag_under(kind: SyntaxKind, parent: Option<SyntaxKind>) -> Option<Option<Tag>>
     ensures { result ≡ walk.tag_under (rule_of kind) parent }
 {
