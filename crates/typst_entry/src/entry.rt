@@ -15,7 +15,7 @@ use typst_node::SyntaxNode;
 
 /// The root over the nodes of a text, without room for more of them: few nodes are moved, and many
 /// stay where they are.
-fn root_over(kind: SyntaxKind, mut nodes: Vec<SyntaxNode>) -> Result<SyntaxNode, AllocError>
+pub fn root_over(kind: SyntaxKind, mut nodes: Vec<SyntaxNode>) -> Result<SyntaxNode, AllocError>
     requires { is_error kind ≡ false }
     ensures { IfOk result (λ t. t ≡ inner_of kind (forest nodes.items)) }
 {

@@ -4,5 +4,5 @@
 
 mod entry;
 
-pub use entry::{Noted, parse, parse_code, parse_math, parse_noted};
+pub use entry::{Noted, parse, parse_code, parse_math, parse_noted, root_over};
 pub use typst_grammar::{Block, Mark, Note};

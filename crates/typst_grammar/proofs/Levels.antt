@@ -40,7 +40,7 @@ pub sound-at : (k : CharClasses) (levels : ℕ) → Sound (told_at k levels)
 sound-at k levels = let s = sound-level (rules k) k levels in record { within = s.within; backs = s.backs; within_block = s.within_block; backs_block = s.backs_block }
 
 -- what is told of first readings changes nothing that is read
-told-run : {A : Type 0} (k : CharClasses) (levels : ℕ) (p : Parser A) (z : Place) (s : Point) → run (told_at k levels) p z s ≡ run (level_at k levels) p z s
+pub told-run : {A : Type 0} (k : CharClasses) (levels : ℕ) (p : Parser A) (z : Place) (s : Point) → run (told_at k levels) p z s ≡ run (level_at k levels) p z s
 told-run {A = A} k levels p z s = ap {A = Meaning A} {B = Outcome A} (λ m. m z s) (run-blind (guesses k) (level_at k levels) p)
 
 -- nor where no block may be read

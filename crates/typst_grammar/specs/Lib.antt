@@ -30,3 +30,4 @@ pub use Rattle.typst_code.specs.Tokens
 pub use Rattle.typst_code.specs.calls
 pub use Rattle.typst_code.specs.head
 pub use Rattle.typst_code.specs.reading
+pub use Rattle.typst_code.specs.View

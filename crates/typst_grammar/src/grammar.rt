@@ -18,7 +18,7 @@ use typst_kinds::SyntaxMode;
 use typst_math::math_expr;
 
 /// How deep calls may nest.
-const MAX_DEPTH: usize = 256;
+pub(crate) const MAX_DEPTH: usize = 256;
 
 /// Reads what a call asks for.
 pub fn production<L: Levels>(g: &L, p: &mut Parser<'_>, call: Call) -> Result<Answered, AllocError>

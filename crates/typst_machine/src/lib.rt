@@ -15,6 +15,6 @@ pub use depth::{Answered, Anywhere, Grammar, Levels, Stops, deeper, is_end, too_
 pub use memo::Guessed;
 pub use parser::Parser;
 pub use typst_ahead::{
-    AtNewline, Behind, Block, Call, ChainSet, Hull, Mark, Note, Reading, Role, Way,
+    AtNewline, Behind, Block, Call, ChainSet, Hull, Log, Mark, Note, Reading, Role, State, Way,
 };
 pub use typst_shapes::Change;

@@ -1,15 +1,17 @@
 //! A parser that has read one token ahead.
 
-ghost use Rattle.std.specs.Prelude.{◌≡◌, ◌+◌, ◌≤◌, length, OnOk, IfOk, not};
+ghost use Rattle.std.specs.Prelude.{◌≡◌, ◌+◌, ◌≤◌, [], length, OnOk, IfOk, not};
+ghost use Rattle.typst_lines.specs.Scanner.{place};
+ghost use Rattle.typst_readers.specs.Sight.{position};
 ghost use Rattle.typst_ahead.specs.Meaning.{Level, entered, left as outside, same_mode, same_rule};
-ghost use Rattle.typst_ahead.specs.Point.{is_nil};
+ghost use Rattle.typst_ahead.specs.Point.{is_nil, point_of, state_of};
 ghost use Rattle.typst_ahead.specs.Steps as spec;
 ghost use Rattle.typst_ahead.specs.Syntax.Op.{column};
 ghost use Rattle.typst_ahead.specs.Syntax.Parser.{does};
 ghost use Rattle.typst_ahead.specs.Bytes.{bytes_left};
 ghost use Rattle.typst_machine.specs.Cursor.{IsStart};
 ghost use Rattle.typst_machine.specs.View.{Closed, Does, Fills, Left, Looked, Means, Opened, noted_here, unasked};
-ghost use Rattle.typst_ahead.specs.Noted.{listed};
+ghost use Rattle.typst_ahead.specs.Noted.{hull_in, listed};
 
 use crate::depth::Levels;
 use crate::memo::Guessed;
@@ -85,6 +87,54 @@ impl<'s> Parser<'s> {
             memo: Vec::new(alloc),
             guesses: 0,
         })
+    }
+
+    /// A parser at a place of a text, before anything was asked there: behind these nodes, in this
+    /// state, after this was looked at and noted.
+    pub fn resume(
+        alloc: Global,
+        at: Scanner<'s>,
+        nodes: Vec<SyntaxNode>,
+        state: State,
+        log: Log,
+    ) -> Self
+        requires few { state.empties ≤ length nodes.items }
+        ensures nodes { result.nodes ≡ nodes.items }
+        ensures place { result.place ≡ place at.entry }
+        ensures state { result.state ≡ point_of state }
+        ensures log { result.log ≡ log }
+        ensures memo { result.memo ≡ [] }
+    {
+        Parser {
+            alloc,
+            nodes,
+            ahead: ReadAhead::none(alloc, at),
+            state,
+            log,
+            memo: Vec::new(alloc),
+            guesses: 0,
+        }
+    }
+
+    /// Where the pending trivia begin, in bytes from the text's start.
+    pub fn cursor(&self) -> usize
+        ensures { result ≡ position self.now.place }
+    {
+        self.ahead.before.cursor()
+    }
+
+    /// How it goes on, but for the place.
+    pub fn state(&self) -> State
+        ensures { result ≡ state_of self.now.state }
+    {
+        self.state
+    }
+
+    /// What was looked at: where all looks end, and where those since the last note begin.
+    pub fn looked(&self) -> Hull
+        ensures { result ≡ hull_in self.now.log }
+    {
+        self.log.hull()
     }
 
     /// Where its memory comes from.

@@ -19,6 +19,6 @@ pub use sequences::{markup, markup_exprs, markup_run, markup_turn, markup_with_t
 pub use starts::{begins_code, begins_statement};
 pub use stops::{MathStop, Stop, ends_list, is_closer, separates};
 pub use typst_machine::{
-    Answered, AtNewline, Behind, Block, Call, ChainSet, Change, Grammar, Hull, Levels, Mark, Note,
-    Parser, Reading, Role, Stops, Way, deeper, is_end, too_deep,
+    Answered, AtNewline, Behind, Block, Call, ChainSet, Change, Grammar, Hull, Levels, Log, Mark,
+    Note, Parser, Reading, Role, State, Stops, Way, deeper, is_end, too_deep,
 };

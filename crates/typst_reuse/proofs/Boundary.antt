@@ -199,7 +199,7 @@ later-ends asks ls looks a b x s e =
 module _ (m : Bool × ℕ → Meaning (Bool × (Bool × ℕ))) (looks : Place → Point → List Ask)
     (each : (x : Bool × ℕ) (z : Place) (s : Point) → (m x z s).value.0 ≡ true → (let o = m x z s in Ends o.asks o.taken o.value.1 o.state (looks (moved o.taken z) o.state))) where
   -- the last of several pieces ends so
-  made-ends : (n : ℕ) (x : Bool × ℕ) (z : Place) (s : Point) → AllGo (made m (suc n) x z s) → (let os = made m (suc n) x z s in let e = end_of x s os in Ends (asks_of os) e.taken e.value e.state (looks (moved e.taken z) e.state))
+  pub made-ends : (n : ℕ) (x : Bool × ℕ) (z : Place) (s : Point) → AllGo (made m (suc n) x z s) → (let os = made m (suc n) x z s in let e = end_of x s os in Ends (asks_of os) e.taken e.value e.state (looks (moved e.taken z) e.state))
   made-ends zero x z s g =
       let o = m x z s in
       let e = each x z s (first-of o.value.0 (nat_lt 0 o.taken) g.0) in

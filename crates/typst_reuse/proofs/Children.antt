@@ -44,7 +44,7 @@ less-inside n xs ys h =
     let e : n - length ys ≡ 0 = omega (arith, h) in
     less-append n xs ys ∙ ap (λ j. less j xs ++ less n ys) e ∙ ap (λ u. u ++ less n ys) (less-none xs)
 
-take-front : (xs ys : List Tree) → take (length xs) (xs ++ ys) ≡ xs
+pub take-front : (xs ys : List Tree) → take (length xs) (xs ++ ys) ≡ xs
 take-front [] ys = refl
 take-front (x ∷ xs) ys = ap (λ u. x ∷ u) (take-front xs ys)
 
@@ -159,11 +159,11 @@ module _ (k : CharClasses) where
   abbrev top : Level
   top = level_at k max_depth
 
-  top-known : (i : ℕ) (z : Place) → AllGo (pieces k i z) → KnownAt (end_at k i z).state
+  pub top-known : (i : ℕ) (z : Place) → AllGo (pieces k i z) → KnownAt (end_at k i z).state
   unfolding run
   top-known i z g = known-behind top (sane-meaning (rules k) k max_depth) (sane-block (rules k) k max_depth) refl is_end refl (λ h y t x some. takes-call k 255 h y t t.nodes refl x.0 x.1 some) i (true, 0) z (lead k z).state (record { trivia = _; is = refl }) g
 
-  top-gives : (i n : ℕ) (z : Place) → AllGo (pieces k i z) → AllGo (pieces_from k i n z) → 0 < n → Gives (read_from k i n z)
+  pub top-gives : (i n : ℕ) (z : Place) → AllGo (pieces k i z) → AllGo (pieces_from k i n z) → 0 < n → Gives (read_from k i n z)
   unfolding run
   top-gives i n z g h some =
       let e = end_at k i z in

@@ -1,5 +1,5 @@
 -- The law of an edit inside a block, for every parser of the language.
-use Rattle.std.proofs.Common.{◌≡◌, ℕ, zero, suc, ◌+◌, Bool, true, false, if◌then◌else◌, List, [], ◌∷◌, ◌++◌, map, append_assoc, refl, ap, sym, ◌∙◌, arith}
+use Rattle.std.proofs.Common.{◌≡◌, ℕ, zero, suc, ◌+◌, Bool, true, false, if◌then◌else◌, List, [], ◌∷◌, ◌++◌, append_assoc, refl, ap, sym, ◌∙◌, arith}
 use Rattle.std.proofs.lemmas.List.{map-append}
 use Rattle.typst_kinds.specs.Kinds.{is_error}
 use Rattle.typst_node.specs.Tree.{Tree}
@@ -19,12 +19,11 @@ use Rattle.typst_grammar.specs.Syntax.{Parser, ◌>>◌}
 use Rattle.typst_grammar.specs.Syntax.Op.{flushes}
 use Rattle.typst_grammar.specs.Syntax.Parser.{gives, does, next, pick, repeat, wraps, grows, nests, scoped, either, calls, block}
 use Rattle.typst_grammar.specs.Knot.{Rules, blocks_of, meaning_of, level_of}
-use Rattle.typst_grammar.specs.Meaning.{Outcome, Meaning, Level, blockless, plain, less, answered, followed, before, closed, bounded, deeper_by_one, chosen, entered, left_to, done, run}
+use Rattle.typst_grammar.specs.Meaning.{Outcome, Meaning, Level, blockless, plain, less, followed, before, closed, bounded, deeper_by_one, chosen, entered, left_to, done, run}
 use Rattle.typst_grammar.proofs.Looks.{same_in-first, same_in-sunk}
 use Rattle.typst_grammar.proofs.Frame.{framed-done}
 use Rattle.typst_grammar.proofs.Backs.{left-empties}
 use Rattle.typst_grammar.proofs.Knot.{Sane, sane-run, sane-plain, sane-meaning, sane-block}
-use Rattle.typst_reuse.specs.Hole.{plug}
 use Rattle.typst_reuse.specs.Spot.{Spot, around, Fits, unit_at, block_head, lowered, after_spot, sunk_spot, closed_spot, ended, last_node, here_spot}
 use Rattle.typst_reuse.specs.Occurrences.{Spots, scoped_spot, bounded_spots, spots, call_spots, block_spots, level_spots}
 use Rattle.typst_reuse.proofs.Every.{Every, every-map, every-if}

@@ -1,6 +1,6 @@
 -- From what a contract promises to the lemma behind it:
 --   block_law: edit              Text: of a whole text; Law: for every parser; Inside, Spots, Grows, Wrap, Outcomes: word by word; Blocks: each block's node; Edit: looks
---     that the block fits        Fitting; Content: a content block; Enclosed: what stands between brackets; Clear: a block begins at no trivia; Reached: what is known of trivia is all of them
+--     that the block fits        Fitting; Content: a content block; Enclosed: what stands between brackets; Clear: a block begins at no trivia; Reached: what is known of trivia is all of them; Known: what stays true of what is known
 --   block_law: names             Names: each block is the one of its name, between its marks
 --   complete_law                 Complete: word by word, by the notes of the log
 --   run_law                      Root: of a whole text; RunTrees: its tree and log; BlockRuns: of a content block; Runs: of any loop
@@ -22,7 +22,9 @@ pub mod Blocks
 pub mod Text
 pub mod Names
 pub mod Complete
+pub mod Known
 pub mod Reached
+pub mod Fresh
 pub mod Clear
 pub mod Enclosed
 pub mod Content
@@ -46,5 +48,11 @@ pub mod RunTrees
 pub mod Children
 pub mod InnerChildren
 pub mod PieceNotes
+pub mod MadeOn
+pub mod Loops
+pub mod Restarts
+pub mod RestartBytes
 pub mod Placed
 pub mod Walk
+-- What the crates above name of those below.
+pub use Rattle.typst_grammar.proofs.Whole

@@ -35,7 +35,7 @@ module _ (k : CharClasses) (text : List ℕ) where
   abbrev asks_behind : ℕ → List Ask
   asks_behind j = let e = end_at k j z0 in let r = behind_pieces k j z0 in r.asks ++ shift r.taken (tail k (e.taken + r.taken) r.state z0).asks
 
-  whole-asks : (j : ℕ) → AllGo (pieces k j z0) → (parsed k max_depth text).asks ≡ first_mark ∷ (((lead k z0).asks ++ asks_of (pieces k j z0)) ++ shift (end_at k j z0).taken (asks_behind j))
+  pub whole-asks : (j : ℕ) → AllGo (pieces k j z0) → (parsed k max_depth text).asks ≡ first_mark ∷ (((lead k z0).asks ++ asks_of (pieces k j z0)) ++ shift (end_at k j z0).taken (asks_behind j))
   unfolding run
   whole-asks j g =
       let os = pieces k j z0 in

@@ -23,3 +23,5 @@ pub mod Examples
 pub mod RunExamples
 pub mod Conditions
 pub mod RareConditions
+pub mod Restart
+pub mod Saved

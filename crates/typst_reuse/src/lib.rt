@@ -2,8 +2,10 @@
 #![tactic(auto)]
 
 mod laws;
+mod restart;
 
 pub use laws::{
     block_law, blocks_of_texts, children_law, complete_law, conditions_of_texts, decision_law,
     joint_law, notes_law, path_law, rare_conditions_of_texts, run_law, runs_of_texts,
 };
+pub use restart::{Rest, Restart, read_on};

@@ -1,6 +1,6 @@
 -- What the steps of a source's calls give, for the answers of their clauses.
 use Rattle.std.proofs.Common.{◌≡◌, ℕ, ◌+◌, ◌-◌, ◌≤◌, Bool, true, false, List, ◌++◌, length, take, drop, Option, Some, None, refl, sym, ap, subst, ◌∙◌, arith}
-use Rattle.std.specs.Prelude.{OnOk, OnErr, IsErrAnd, not, nat_eq, nat_le, option_and_then, option_map, slice_range}
+use Rattle.std.specs.Prelude.{OnOk, IsErrAnd, not, nat_eq, nat_le, option_and_then, option_map, slice_range}
 use Rattle.std.specs.Prelude.{Result, Ok, Err}
 use Rattle.std.proofs.lemmas.Bool.Decides.{nat_tests}
 use Rattle.std.specs.Option.{option_eq}
@@ -63,10 +63,6 @@ part-given number asked sub root a b range from to last at-top at-node is start 
     ∙ ap (λ o. option_and_then (bytes_in asked) (option_and_then (find_number number) o)) at-top
 
 -- ---- a refusal
-
-pub on-error : {T E P : Type 0} (r : Result T E) → P → OnErr r P
-on-error (Ok x) p = tt
-on-error (Err e) p = p
 
 pub on-ok : {T E P Q : Type 0} (r : Result T E) → (P → Q) → OnOk r P → OnOk r Q
 on-ok (Ok x) f p = f p

@@ -1,47 +1,22 @@
 -- A tree that was numbered as a whole, or not at all.
-use Rattle.std.proofs.Common.{◌≡◌, ℕ, ◌+◌, ◌-◌, ◌*◌, ◌/◌, ◌^◌, ◌<◌, ◌≤◌, Bool, true, false, if◌then◌else◌, List, ◌++◌, Option, Some, None, refl, sym, ap, subst, ◌∙◌, arith}
+use Rattle.std.proofs.Common.{◌≡◌, ℕ, ◌+◌, ◌-◌, ◌^◌, ◌≤◌, Bool, true, false, if◌then◌else◌, List, ◌++◌, Option, Some, None, refl, sym, ap, subst, ◌∙◌, arith}
 use Rattle.std.specs.Prelude.{All, nat_le, option_map}
 use Rattle.std.proofs.lemmas.Bool.Decides.{nat_tests}
 use Rattle.std.proofs.lemmas.List.Elements.{All-nil, All-cons, All-append}
 use Rattle.std.proofs.lemmas.Option.{none-some, same_Some}
-use Rattle.typst_kinds.specs.Span.{number_of}
-use Rattle.typst_node_data.specs.Head.{Head, spanned}
-use Rattle.typst_node.specs.Tree.{Forest, none, more, Tree, places, preorder, count, nodes, bare, bare_forest, joined, text_of, with_each, synthesized}
-use Rattle.typst_node.specs.Numbers.{placed, stride, numbered, numbered_forest, numberized}
+use Rattle.typst_node_data.specs.Head.{spanned}
+use Rattle.typst_node.specs.Tree.{Forest, none, more, Tree, places, preorder, nodes, bare, bare_forest, joined, text_of, with_each, synthesized}
+use Rattle.typst_node.specs.Numbers.{placed, stride, numbered}
 use Rattle.typst_node.proofs.Numbering.{numbered_bare, text_numbered, nodes_numbered}
 use Rattle.std.specs.Str.{chars}
 use Rattle.typst_classes.specs.Classes.{CharClasses}
 use Rattle.typst_entry.specs.Grammar.{tree}
+use Rattle.typst_reuse.specs.Restart.{AreRestarts}
+use Rattle.typst_reuse.specs.declared.restart.Restart.{Restart}
 use Rattle.typst_source.specs.Held.{Held}
-use Rattle.typst_source.specs.Headline.{file_of, IsNumberedIn, Headline, AreNumbered, AreOrdered, numbered_in}
-
--- ---- numbered nodes name the file
-
-abbrev IsOf : ℕ → Tree → Type 0
-IsOf file n = n.head.span ≡ Some (file, number_of n.head.span)
-
-placed-by : (file m n e : ℕ) (h : Head) (b : Bool) →
-    (if b then record h { span = Some (file, m); upper = e } else record h { span = Some (file, n); upper = 0 }).span ≡ Some (file, number_of (if b then record h { span = Some (file, m); upper = e } else record h { span = Some (file, n); upper = 0 }).span)
-placed-by file m n e h true = refl
-placed-by file m n e h false = refl
-
-placed-span : (file s a e : ℕ) (h : Head) → (placed file s a e h).span ≡ Some (file, number_of (placed file s a e h).span)
-placed-span file s a e h = placed-by file (a + s / 2) ((a + e) / 2) e h h.is_inner
-
-forest-spans : (file s a : ℕ) (f : Forest) → All (IsOf file) (preorder (numbered_forest file s a f))
-forest-spans file s a none = All-nil (IsOf file)
-forest-spans file s a (more h ks r) =
-    let n = 1 + count ks in
-    let inner = stride (n * s) n in
-    All-cons (IsOf file) (record { head = placed file inner a (a + n * s) h; kids = numbered_forest file inner (a + inner) ks })
-    (preorder (numbered_forest file inner (a + inner) ks) ++ preorder (numbered_forest file s (a + n * s) r))
-    (placed-span file inner a (a + n * s) h)
-    (All-append (IsOf file) (preorder (numbered_forest file inner (a + inner) ks)) (preorder (numbered_forest file s (a + n * s) r)) (forest-spans file inner (a + inner) ks) (forest-spans file s (a + n * s) r))
-
-numbered-spans : (file a p : ℕ) (t : Tree) → All (IsOf file) (places (numbered file a p t))
-numbered-spans file a p t =
-    let s = stride p (nodes t) in
-    All-cons (IsOf file) (numbered file a p t) (preorder (numbered_forest file s (a + s) t.kids)) (placed-span file s a (a + p) t.head) (forest-spans file s (a + s) t.kids)
+use Rattle.typst_source.specs.Headline.{file_of, Headline, AreNumbered, AreOrdered, numbered_in}
+use Rattle.typst_source.specs.Records.{IsPlaced, IsPlacedBy, Records}
+use Rattle.typst_source.proofs.Replaced.{IsOf, placed-span, numbered-spans, numbered-head}
 
 -- ---- a tree without numbers
 
@@ -117,3 +92,19 @@ headline-new k s file is leaves numbers = record {
   leaves = leaves;
   numbers = subst (λ f. AreNumbered f s.root) (sym (fresh-file file (tree k (chars s.text)) s.root is)) numbers;
 }
+
+-- and the numbers of its root lie among those that nodes can have
+pub placed-new : (file : Option ℕ) (t u : Tree) → numbered_in file t ≡ Some u → t.head.is_inner ≡ true → IsPlacedBy file u → IsPlaced file u
+placed-new None t u is inner numbered = tt
+placed-new (Some file) t u is inner numbered = let h = numbered-head file t u is inner in (numbered, h.0, h.1)
+
+-- what a source keeps whose whole text was read
+pub records-new : {C : Type 0} (k : CharClasses) (s : Held C) (file : Option ℕ) (rs : List Restart) (text : List ℕ) → text ≡ s.text → numbered_in file (tree k (chars text)) ≡ Some s.root → text_of s.root ≡ text → AreNumbered file s.root
+    → IsPlaced file s.root → AreRestarts k (chars text) rs → Records k s rs
+records-new k s file rs text e is leaves numbers placed restarts =
+    let numbered : numbered_in file (tree k (chars s.text)) ≡ Some s.root = subst (λ t. numbered_in file (tree k (chars t)) ≡ Some s.root) e is in
+    record {
+      headline = headline-new k s file numbered (leaves ∙ e) numbers;
+      placed = subst (λ f. IsPlaced f s.root) (sym (fresh-file file (tree k (chars s.text)) s.root numbered)) placed;
+      restarts = subst (λ t. AreRestarts k (chars t) rs) e restarts;
+    }

@@ -3,6 +3,9 @@
 --   a node is found by its own span           Own: finds-own
 --   a node's bytes by its own number          Own: gives-own
 --   what a call of a source answers          Answered: not-found, looked-for, part-given, replaced, same-file, same-refusal
+pub mod Replaced
 pub mod Fresh
+pub mod Reparsed
+pub mod Kept
 pub mod Own
 pub mod Answered

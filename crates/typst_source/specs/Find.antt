@@ -1,5 +1,5 @@
 -- How a source finds a node, and its bytes, by span and number.
-use Rattle.std.specs.Prelude.{◌≡◌, ℕ, ◌+◌, ◌-◌, ◌^◌, nat_lt, nat_le, ◌==◌, Bool, true, false, ◌&&◌, List, Option, Some, None, option_and_then, if◌then◌else◌, slice_get}
+use Rattle.std.specs.Prelude.{◌≡◌, ℕ, ◌+◌, ◌-◌, ◌^◌, nat_lt, nat_le, ◌==◌, Bool, false, Option, Some, None, option_and_then, if◌then◌else◌, slice_get}
 use Rattle.std.specs.declared.ops.Range.{Range}
 use Rattle.typst_kinds.specs.Span.{Bytes}
 use Rattle.typst_kinds.specs.Span.{number_of}

@@ -1,20 +1,26 @@
 //! Sources: what an editor holds of a file.
-ghost use Rattle.std.specs.Prelude.{◌≡◌, ◌+◌, ◌-◌, ◌^◌, ◌<◌, ◌≤◌, ◌++◌, [], length, take, drop, true, false, Some, None, IfOk, IfErr, IfSome, OnOk, OnErr, MatchResult, MatchOption, nat_eq, not};
+ghost use Rattle.std.specs.Prelude.{◌≡◌, ◌+◌, ◌-◌, ◌^◌, ◌<◌, ◌≤◌, ◌++◌, [], length, take, drop, true, false, Some, None, IfOk, IfErr, IfSome, OnOk, OnErr, MatchResult, MatchOption, nat_eq, not, IsTrue};
 ghost use Rattle.std.specs.Str.{IsCharBoundary, chars};
 ghost use Rattle.std.specs.String.{string_bytes};
 ghost use Rattle.typst_node.specs.Tree.{text_of, bare, nodes};
 ghost use Rattle.typst_entry.specs.Grammar.{tree};
+ghost use Rattle.typst_reuse.specs.Edit.{Among};
+ghost use Rattle.typst_reuse.specs.Restart.{AreRestarts, IsRestart};
+ghost use Rattle.typst_node.specs.Replace.{kids_of};
 ghost use Rattle.typst_source.specs.Headline.{Headline, edited, file_of, AreNumbered, AreOrdered, numbered_in};
+ghost use Rattle.typst_source.specs.Tried.{Tries};
+ghost use Rattle.typst_source.specs.Records.{AreBefore, Edits, IsEdited, IsPlaced, IsPlacedBy, Replaced};
 
 use std::alloc::{AllocError, Global};
 use std::fmt;
 use std::marker::Model;
 use std::ops::Range;
 use typst_classes::Classes;
-use typst_entry::parse;
-use typst_kinds::{FileId, SourceError, Span, SpanNumber, SubRange};
+use typst_entry::root_over;
+use typst_kinds::{FileId, SourceError, Span, SpanNumber, SubRange, SyntaxKind};
 use typst_lines::Lines;
 use typst_node::SyntaxNode;
+use typst_reuse::{Restart, read_on};
 use typst_tree::LinkedNode;
 
 /// The numbers that nodes can have.
@@ -32,12 +38,14 @@ pub struct Source<C: Classes> {
     root: SyntaxNode,
     classes: C,
     has_records: bool,
+    /// Where the text can be read anew, in order.
+    restarts: Vec<Restart>,
 }
 
 impl<C: Classes> Model for Source<C> {
     ghost use Rattle.std.specs.Prelude.{◌≡◌, true};
     ghost use Rattle.typst_source.specs.Held.{Held, held_code};
-    ghost use Rattle.typst_source.specs.Headline.{Headline};
+    ghost use Rattle.typst_source.specs.Records.{Records};
 
     ghost Value = { Held C };
 
@@ -45,7 +53,7 @@ impl<C: Classes> Model for Source<C> {
 
     ghost view = { λ a. record { id = a.id; text = a.lines; root = a.root; classes = a.classes; has_records = a.has_records } };
 
-    ghost invariant = { λ a. a.has_records ≡ true → Headline (C.classes a.classes) (record { id = a.id; text = a.lines; root = a.root; classes = a.classes; has_records = a.has_records }) };
+    ghost invariant = { λ a. a.has_records ≡ true → Records (C.classes a.classes) (record { id = a.id; text = a.lines; root = a.root; classes = a.classes; has_records = a.has_records }) a.restarts.items };
 }
 
 fn out_of_memory(_refused: AllocError) -> SourceError
@@ -58,6 +66,7 @@ fn out_of_memory(_refused: AllocError) -> SourceError
 fn number(root: &mut SyntaxNode, file: Option<FileId>) -> Result<(), SourceError>
     ensures numbers { MatchResult result (λ _. numbered_in file root.old ≡ Some root.new) (λ e. (e ≡ SourceError.SpanNumbers) × (numbered_in file root.old ≡ None)) }
     ensures order { OnOk result (AreOrdered file root.new) }
+    ensures numbered { OnOk result (IsPlacedBy file root.new) }
 {
     match file {
         Some(id) => root.numberize(id, NUMBERS)?,
@@ -66,50 +75,114 @@ fn number(root: &mut SyntaxNode, file: Option<FileId>) -> Result<(), SourceError
     Ok(())
 }
 
+/// The tree of a text, numbered in a file, or without numbers where there is none, and where the
+/// text can be read anew.
+#[derive(Drop)]
+struct Parsed {
+    root: SyntaxNode,
+    restarts: Vec<Restart>,
+}
+
 /// The tree of a text, numbered in a file, or without numbers where there is none.
-fn fresh_tree<C: Classes>(
+fn parse_anew<C: Classes>(
     alloc: Global,
     text: &str,
     file: Option<FileId>,
     classes: &C,
-) -> Result<SyntaxNode, SourceError>
-    ensures tree { IfOk result (λ root. numbered_in file (tree (C.classes classes.now) (chars text.now)) ≡ Some root) }
-    ensures leaves { IfOk result (λ root. text_of root ≡ text.now) }
-    ensures numbers { IfOk result (λ root. AreNumbered file root) }
+) -> Result<Parsed, SourceError>
+    ensures tree { IfOk result (λ made. numbered_in file (tree (C.classes classes.now) (chars text.now)) ≡ Some made.root) }
+    ensures leaves { IfOk result (λ made. text_of made.root ≡ text.now) }
+    ensures numbers { IfOk result (λ made. AreNumbered file made.root) }
+    ensures placed { IfOk result (λ made. IsPlaced file made.root) }
+    ensures restarts { IfOk result (λ made. AreRestarts (C.classes classes.now) (chars text.now) made.restarts.items) }
     ensures refused { result ≡ Err SourceError.SpanNumbers → numbered_in file (tree (C.classes classes.now) (chars text.now)) ≡ None }
 {
-    let Ok(mut root) = parse(alloc, text, classes) else {
+    let Ok(rest) = read_on(alloc, text, Restart::start(), classes) else {
+        return Err(SourceError::OutOfMemory);
+    };
+    let Ok(mut root) = root_over(SyntaxKind::Markup, rest.nodes) else {
         return Err(SourceError::OutOfMemory);
     };
     number(&mut root, file)?;
-    Ok(root)
+    Ok(Parsed {
+        root,
+        restarts: rest.restarts,
+    })
 }
 
-/// The lines of a text and its tree.
-#[derive(Drop)]
-struct Parsed {
-    lines: Lines<String>,
-    root: SyntaxNode,
-}
-
-/// The lines of a text and its tree, numbered in a file, or without numbers where there is none.
-fn parse_anew<C: Classes>(
+/// The restarts up to which nothing was looked at behind a place.
+fn restarts_before(
     alloc: Global,
-    text: String,
-    file: Option<FileId>,
-    classes: &C,
-) -> Result<Parsed, SourceError>
-    ensures text { IfOk result (λ made. made.lines ≡ string_bytes text) }
-    ensures tree { IfOk result (λ made. numbered_in file (tree (C.classes classes.now) (chars made.lines)) ≡ Some made.root) }
-    ensures leaves { IfOk result (λ made. text_of made.root ≡ made.lines) }
-    ensures numbers { IfOk result (λ made. AreNumbered file made.root) }
-    ensures refused { result ≡ Err SourceError.SpanNumbers → numbered_in file (tree (C.classes classes.now) (chars (string_bytes text))) ≡ None }
+    restarts: &Vec<Restart>,
+    at: usize,
+) -> Result<Vec<Restart>, AllocError>
+    ensures { IfOk result (λ kept. AreBefore restarts.now.items at kept.items) }
 {
-    let Ok(lines) = Lines::new(alloc, text) else {
+    let mut kept = Vec::new(alloc);
+    let mut index = 0usize;
+    'restarts: loop {
+        let Some(restart) = restarts.get(index) else {
+            return Ok(kept);
+        };
+        if restart.reach <= at {
+            kept.push(*restart)?;
+        }
+        index = index.saturating_add(1);
+    }
+}
+
+/// The last of some restarts.
+fn last_of(restarts: &Vec<Restart>) -> Option<Restart>
+    ensures { IfSome result (λ r. Among r restarts.now.items) }
+{
+    match restarts.get(restarts.len().saturating_sub(1)) {
+        Some(restart) => Some(*restart),
+        None => None,
+    }
+}
+
+/// Reads a text from a restart on, and puts the nodes in the place of those that stand behind it in
+/// the tree; the restarts from there on come behind the others. It answers whether it did: where the
+/// nodes find no numbers the tree stays as it was.
+fn reparse<C: Classes>(
+    alloc: Global,
+    root: &mut SyntaxNode,
+    text: &str,
+    from: Restart,
+    restarts: &mut Vec<Restart>,
+    classes: &C,
+) -> Result<bool, SourceError>
+    requires restart { IsRestart (C.classes classes.now) (chars text.now) from }
+    requires restarts { AreRestarts (C.classes classes.now) (chars text.now) restarts.old.items }
+    requires inner { IsTrue root.old.head.is_inner }
+    requires few { from.nodes ≤ length (kids_of root.old) }
+    ensures done { IfOk result (λ b. b ≡ true → Replaced (C.classes classes.now) (chars text.now) from root.old root.new) }
+    ensures undone { IfOk result (λ b. b ≡ false → root.new ≡ root.old) }
+    ensures restarts { OnOk result (AreRestarts (C.classes classes.now) (chars text.now) restarts.new.items) }
+    ensures err { OnErr result (root.new ≡ root.old) }
+    ensures memory { IfErr result (λ e. e ≡ SourceError.OutOfMemory) }
+{
+    let Ok(rest) = read_on(alloc, text, from, classes) else {
         return Err(SourceError::OutOfMemory);
     };
-    let root = fresh_tree(alloc, lines.text(), file, classes)?;
-    Ok(Parsed { lines, root })
+    restarts
+        .extend_from_slice(rest.restarts.as_slice())
+        .map_err(out_of_memory)?;
+    let end = root.children().len();
+    match root.replace_at(&[], from.nodes..end, rest.nodes) {
+        Ok(()) => Ok(true),
+        Err(SourceError::SpanNumbers) => Ok(false),
+        Err(SourceError::OutOfMemory) => Err(SourceError::OutOfMemory),
+    }
+}
+
+/// What came of reading a part of a text.
+#[derive(Drop)]
+enum Tried {
+    /// It took the place of what was there, and this range of the text was read.
+    Done(Range<usize>),
+    /// Nothing changed.
+    Undone(Lines<String>),
 }
 
 /// A text with another one in the place of a range of bytes.
@@ -147,14 +220,18 @@ impl<C: Classes + Drop> Source<C> {
         ensures root { IfOk result (λ s. numbered_in (Some id) (tree (C.classes classes) (chars s.text)) ≡ Some s.root) }
         ensures refused { result ≡ Err SourceError.SpanNumbers → numbered_in (Some id) (tree (C.classes classes) (chars (string_bytes text))) ≡ None }
     {
-        let made = parse_anew(alloc, text, Some(id), &classes)?;
+        let Ok(lines) = Lines::new(alloc, text) else {
+            return Err(SourceError::OutOfMemory);
+        };
+        let made = parse_anew(alloc, lines.text(), Some(id), &classes)?;
         Ok(Source {
             alloc,
             id,
-            lines: made.lines,
+            lines,
             root: made.root,
             classes,
             has_records: true,
+            restarts: made.restarts,
         })
     }
 
@@ -191,6 +268,7 @@ impl<C: Classes + Drop> Source<C> {
             root,
             classes,
             has_records: false,
+            restarts: Vec::new(alloc),
         })
     }
 }
@@ -307,12 +385,64 @@ impl<C: Classes> Source<C> {
         ensures err { OnErr result (self.new ≡ self.old) }
         ensures refused { result ≡ Err SourceError.SpanNumbers → numbered_in (file_of self.old.root) (tree (C.classes self.old.classes) (chars (edited self.old.text replace with.now))) ≡ None }
     {
+        let at = replace.start;
         let text = edited(self.alloc, self.text(), replace, with)?;
+        let Ok(lines) = Lines::new(self.alloc, text) else {
+            return Err(SourceError::OutOfMemory);
+        };
+        match self.read_behind(at, lines)? {
+            Tried::Done(range) => Ok(range),
+            Tried::Undone(lines) => Ok(self.read_whole(lines)?),
+        }
+    }
+
+    /// Makes a text the text, of which all before a place is as it was, by reading it from the last
+    /// restart up to which nothing was looked at behind that place. Where there is none, or the new
+    /// nodes find no numbers, nothing changes.
+    fn read_behind(&mut self, at: usize, lines: Lines<String>) -> Result<Tried, SourceError>
+        requires { IsEdited self.old.text lines at }
+        ensures tried { IfOk result (λ t. Tries (C.classes self.old.classes) self.old self.new lines t) }
+        ensures err { OnErr result (self.new ≡ self.old) }
+        ensures memory { IfErr result (λ e. e ≡ SourceError.OutOfMemory) }
+    {
+        if !self.has_records {
+            return Ok(Tried::Undone(lines));
+        }
+        let Ok(mut kept) = restarts_before(self.alloc, &self.restarts, at) else {
+            return Err(SourceError::OutOfMemory);
+        };
+        let Some(from) = last_of(&kept) else {
+            return Ok(Tried::Undone(lines));
+        };
+        let text = lines.text();
+        if !reparse(
+            self.alloc,
+            &mut self.root,
+            text,
+            from,
+            &mut kept,
+            &self.classes,
+        )? {
+            return Ok(Tried::Undone(lines));
+        }
+        let end = lines.len_bytes();
+        self.lines = lines;
+        self.restarts = kept;
+        Ok(Tried::Done(from.cursor..end))
+    }
+
+    /// Makes a text the text, by reading the whole of it.
+    fn read_whole(&mut self, lines: Lines<String>) -> Result<Range<usize>, SourceError>
+        ensures edits { IfOk result (λ range. Edits (C.classes self.old.classes) self.old self.new lines range) }
+        ensures err { OnErr result (self.new ≡ self.old) }
+        ensures refused { result ≡ Err SourceError.SpanNumbers → numbered_in (file_of self.old.root) (tree (C.classes self.old.classes) (chars lines)) ≡ None }
+    {
         let file = self.root.span().id();
-        let made = parse_anew(self.alloc, text, file, &self.classes)?;
-        let end = made.lines.len_bytes();
-        self.lines = made.lines;
+        let made = parse_anew(self.alloc, lines.text(), file, &self.classes)?;
+        let end = lines.len_bytes();
+        self.lines = lines;
         self.root = made.root;
+        self.restarts = made.restarts;
         self.has_records = true;
         Ok(0..end)
     }
@@ -344,6 +474,8 @@ impl<C: Classes + Copy> Source<C> {
     pub fn try_clone(&self) -> Result<Source<C>, AllocError>
         ensures { IfOk result (λ s. s ≡ self.now) }
     {
+        let mut restarts = Vec::new(self.alloc);
+        restarts.extend_from_slice(self.restarts.as_slice())?;
         Ok(Source {
             alloc: self.alloc,
             id: self.id,
@@ -351,6 +483,7 @@ impl<C: Classes + Copy> Source<C> {
             root: self.root.try_clone()?,
             classes: self.classes,
             has_records: self.has_records,
+            restarts,
         })
     }
 }

@@ -118,3 +118,22 @@ const LETTERS: [&str; 16] = [
 fn wide_characters_stay_whole(rt: HostRuntime) {
     assert!(rt; stays_whole(rt.alloc(), WIDE, &LETTERS, 200) == Some(true));
 }
+
+/// A text so many times over.
+fn repeated(alloc: Global, text: &str, times: usize) -> Option<String> {
+    let mut all = String::new(alloc);
+    for _ in 0..times {
+        all.push_str(text).ok()?;
+    }
+    Some(all)
+}
+
+fn long_stays_whole(alloc: Global, edits: usize) -> Option<bool> {
+    let markup = repeated(alloc, MARKUP, 14)?;
+    stays_whole(alloc, markup.as_str(), &MARKS, edits)
+}
+
+#[test]
+fn a_long_text_stays_whole(rt: HostRuntime) {
+    assert!(rt; long_stays_whole(rt.alloc(), 24) == Some(true));
+}

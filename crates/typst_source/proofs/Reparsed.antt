@@ -1,0 +1,143 @@
+-- A tree whose last children were read anew.
+use Rattle.std.proofs.Common.{◌≡◌, ℕ, ◌≤◌, ◌^◌, true, List, [], ◌++◌, length, map, take, drop, append-nil, Option, Some, None, refl, ap, sym, subst, ◌∙◌, arith}
+use Rattle.std.specs.Prelude.{option_map}
+use Rattle.std.specs.Str.{chars, IsUtf8}
+use Rattle.std.proofs.lemmas.List.{map-append, take-map, take_at, drop_all}
+use Rattle.std.proofs.lemmas.Option.{none-some}
+use Rattle.std.proofs.lemmas.Str.{encodes-chars}
+use Rattle.typst_kinds.specs.Span.{number_of}
+use Rattle.typst_node_data.specs.Head.{Head, bare_head}
+use Rattle.typst_node.specs.Tree.{Tree, bare, text_of}
+use Rattle.typst_node.specs.Laws.{put_at}
+use Rattle.typst_node.specs.Order.{upper_at}
+use Rattle.typst_node.specs.Replace.{kids_of, with_kids, replaced_at, in_file, Reaches}
+use Rattle.typst_node.proofs.ReplacesChildren.{replaces_children, text_bare}
+use Rattle.typst_node.proofs.SpansAside.{over, trees_forest, forest_trees, parts_from_bare, bare_from_parts, lengths_from_bare}
+use Rattle.typst_classes.specs.Classes.{CharClasses}
+use Rattle.typst_entry.specs.Grammar.{tree}
+use Rattle.typst_reuse.specs.Restart.{AreRestarts, IsRestart}
+use Rattle.typst_reuse.specs.declared.restart.Restart.{Restart}
+use Rattle.typst_reuse.proofs.RestartBytes.{stays-edited}
+use Rattle.typst_reuse.proofs.Restarts.{Stays, heads-same, is-inner}
+use Rattle.typst_reuse.proofs.Whole.{leaves}
+use Rattle.typst_source.specs.Held.{Held}
+use Rattle.typst_source.specs.Headline.{Headline, AreNumbered, file_of}
+use Rattle.typst_source.specs.Records.{IsEdited, IsPlaced, Replaced, Records}
+use Rattle.typst_source.proofs.Replaced.{replaced-spans, replaced-head, few-nodes}
+
+over-kids : (t : Tree) → over t.head (kids_of t) ≡ t
+over-kids t = ap (λ f. record { head = t.head; kids = f }) (forest_trees t.kids)
+
+-- the children of trees that are the same, spans aside
+kids-bare : (t u : Tree) → bare t ≡ bare u → map bare (kids_of t) ≡ map bare (kids_of u)
+kids-bare t u e = (parts_from_bare t.head u.head (kids_of t) (kids_of u) (over-kids t) (over-kids u) e).kids
+
+heads-bare : (t u : Tree) → bare t ≡ bare u → bare_head t.head ≡ bare_head u.head
+heads-bare t u e = ap (λ (v : Tree). v.head) e
+
+from-parts : (t u : Tree) → bare_head t.head ≡ bare_head u.head → map bare (kids_of t) ≡ map bare (kids_of u) → bare t ≡ bare u
+from-parts t u h k = bare_from_parts t.head u.head (kids_of t) (kids_of u) (over-kids t) (over-kids u) h k
+
+-- a tree without a file takes no new children
+file-there : (from to : ℕ) (new : List Tree) (t u : Tree) (span : Option (ℕ × ℕ)) → t.head.span ≡ span → replaced_at [] from to new t ≡ Some u → option_map (λ place. place.0) span ≡ None → ⊥
+file-there from to new t u None e r n = none-some u (ap (λ s. option_map (with_kids t) (in_file s t.head (kids_of t) from to new)) (sym e) ∙ r)
+file-there from to new t u (Some p) e r n = none-some p.0 (sym n)
+
+-- a restart up to which nothing was looked at behind the place of an edit
+pub edited-stays : (k : CharClasses) (old new : List ℕ) (at : ℕ) → IsEdited old new at → (r : Restart) → IsRestart k (chars old) r → r.reach ≤ at → Stays k (chars old) (chars new) r
+edited-stays k old new at e r h m = subst (λ t. Stays k (chars old) (chars t) r) (sym e.is) (stays-edited k old e.with at e.to e.utf8_old e.utf8 e.start e.end e.ordered r h m)
+
+pub root-inner : {C : Type 0} (k : CharClasses) (s : Held C) → Headline k s → s.root.head.is_inner ≡ true
+root-inner k s h = ap (λ (x : Head). x.is_inner) (heads-bare s.root (tree k (chars s.text)) h.tree) ∙ is-inner k (chars s.text)
+
+pub root-few : {C : Type 0} (k : CharClasses) (s : Held C) (now : List ℕ) (r : Restart) → Headline k s → Stays k (chars s.text) now r → r.nodes ≤ length (kids_of s.root)
+root-few k s now r h stays =
+    let same = lengths_from_bare (kids_of s.root) (kids_of (tree k (chars s.text))) (kids-bare s.root (tree k (chars s.text)) h.tree) in
+    let m = stays.few in
+    omega (arith, same, m)
+
+module _ {C : Type 0} (k : CharClasses) (old now : Held C) (from : Restart) (h : Headline k old) (p : IsPlaced (file_of old.root) old.root)
+    (stays : Stays k (chars old.text) (chars now.text) from) (r : Replaced k (chars now.text) from old.root now.root) where
+  abbrev t : Tree
+  t = old.root
+
+  abbrev u : Tree
+  u = now.root
+
+  abbrev was : Tree
+  was = tree k (chars old.text)
+
+  abbrev is : Tree
+  is = tree k (chars now.text)
+
+  abbrev xs : List Tree
+  xs = kids_of t
+
+  abbrev n : ℕ
+  n = from.nodes
+
+  few : n ≤ length xs
+  few = root-few k old (chars now.text) from h stays
+
+  inner : t.head.is_inner ≡ true
+  inner = root-inner k old h
+
+  reaches : Reaches [] n (length xs) t
+  reaches = (inner, few, omega arith)
+
+  -- the children of the new text's tree
+  before-is : r.rest.before ≡ take n (kids_of was)
+  before-is =
+      let i = r.rest in
+      sym (ap (take n) i.all ∙ take_at i.before r.nodes n i.count) ∙ stays.kids
+
+  kids-now : kids_of is ≡ take n (kids_of was) ++ r.nodes
+  kids-now = r.rest.all ∙ ap (λ ys. ys ++ r.nodes) before-is
+
+  put-kids : kids_of (put_at [] n (length xs) r.nodes t) ≡ take n xs ++ r.nodes
+  put-kids = trees_forest (take n xs ++ (r.nodes ++ drop (length xs) xs)) ∙ ap (λ ys. take n xs ++ (r.nodes ++ ys)) (drop_all (length xs) xs (omega arith)) ∙ ap (λ ys. take n xs ++ ys) (append-nil r.nodes)
+
+  kids-same : map bare (take n xs ++ r.nodes) ≡ map bare (take n (kids_of was) ++ r.nodes)
+  kids-same =
+      map-append bare (take n xs) r.nodes ∙ ap (λ ys. ys ++ map bare r.nodes) (sym (take-map bare n xs) ∙ ap (take n) (kids-bare t was h.tree) ∙ take-map bare n (kids_of was)) ∙ sym (map-append bare (take n (kids_of was)) r.nodes)
+
+  pub tree-again : bare u ≡ bare is
+  tree-again =
+      let put = put_at [] n (length xs) r.nodes t in
+      replaces_children [] n (length xs) r.nodes t u reaches r.is
+      ∙ from-parts put is (heads-bare t was h.tree ∙ ap bare_head (heads-same k (chars old.text) (chars now.text))) (ap (map bare) put-kids ∙ kids-same ∙ ap (map bare) (sym kids-now))
+
+  head-same : u.head ≡ t.head
+  head-same = replaced-head n (length xs) r.nodes t u reaches r.is
+
+  pub file-same : file_of u ≡ file_of t
+  file-same = ap (λ (x : Head). option_map (λ place. place.0) x.span) head-same
+
+  placed-by : (file : Option ℕ) → file_of t ≡ file → IsPlaced file t → IsPlaced file u
+  placed-by None e q = tt
+  placed-by (Some file) e q = ((r.order q.0).0, subst (λ (x : Head). 1 ≤ number_of x.span) (sym head-same) q.1, subst (λ (x : Head). upper_at x ≤ 2 ^ 47) (sym head-same) q.2)
+
+  numbers-by : (file : Option ℕ) → file_of t ≡ file → AreNumbered file t → IsPlaced file t → AreNumbered file u
+  numbers-by None e a q = absurd (file-there n (length xs) r.nodes t u t.head.span refl r.is e)
+  numbers-by (Some file) e a q =
+      let o = r.order q.0 in
+      let placed = placed-by (Some file) e q in
+      record {
+        spans = replaced-spans file n (length xs) r.nodes t u reaches r.is a.spans;
+        order = o.1;
+        few = few-nodes u placed.0 placed.1 placed.2;
+      }
+
+  pub placed-again : IsPlaced (file_of u) u
+  placed-again = subst (λ f. IsPlaced f u) (sym file-same) (placed-by (file_of t) refl p)
+
+  -- the headline holds again
+  pub headline-again : IsUtf8 now.text → Headline k now
+  headline-again utf8 = record {
+    tree = tree-again;
+    leaves = sym (text_bare u) ∙ ap text_of tree-again ∙ text_bare is ∙ leaves k (chars now.text) ∙ encodes-chars now.text utf8;
+    numbers = subst (λ f. AreNumbered f u) (sym file-same) (numbers-by (file_of t) refl h.numbers p);
+  }
+
+  pub records-again : IsUtf8 now.text → (rs : List Restart) → AreRestarts k (chars now.text) rs → Records k now rs
+  records-again utf8 rs restarts = record { headline = headline-again utf8; placed = placed-again; restarts = restarts }

@@ -1,0 +1,63 @@
+-- What a source keeps beside its text, lines and tree.
+use Rattle.std.specs.Prelude.{◌≡◌, ℕ, ◌≤◌, ◌^◌, true, List, [], ◌++◌, length, take, drop, Option, Some, None}
+use Rattle.std.specs.Str.{chars, IsUtf8, IsCharBoundary}
+use Rattle.std.specs.declared.ops.Range.{Range}
+use Rattle.typst_kinds.specs.Span.{number_of}
+use Rattle.typst_node.specs.Tree.{Tree}
+use Rattle.typst_node.specs.Order.{AreInOrder, IsNumbered, numbers_of, upper_at}
+use Rattle.typst_node.specs.Replace.{kids_of, replaced_at}
+use Rattle.typst_classes.specs.Classes.{CharClasses}
+use Rattle.typst_reuse.specs.Edit.{Among}
+use Rattle.typst_reuse.specs.Restart.{AreRestarts, Every, IsRest}
+use Rattle.typst_reuse.specs.declared.restart.Restart.{Restart}
+use Rattle.typst_source.specs.Held.{Held}
+use Rattle.typst_source.specs.Headline.{Headline, file_of}
+
+-- where there is a file, the numbers below each node stand between its number and its upper end
+abbrev pub IsPlacedBy : Option ℕ → Tree → Type 0
+IsPlacedBy None t = Unit {0}
+IsPlacedBy (Some file) t = IsNumbered t
+
+-- and those of the root among the numbers that nodes can have
+abbrev pub IsPlaced : Option ℕ → Tree → Type 0
+IsPlaced None t = Unit {0}
+IsPlaced (Some file) t = IsNumbered t × (1 ≤ number_of t.head.span) × (upper_at t.head ≤ 2 ^ 47)
+
+-- The headline holds, and the text can be read anew at each restart.
+pub record Records {C : Type 0} (k : CharClasses) (s : Held C) (rs : List Restart) : Type 0 where
+  pub headline : Headline k s
+  pub placed : IsPlaced (file_of s.root) s.root
+  pub restarts : AreRestarts k (chars s.text) rs
+
+-- these are some of the restarts, and nothing was looked at behind a place up to them
+abbrev pub AreBefore : List Restart → ℕ → List Restart → Type 0
+AreBefore rs at kept = Every (λ r. Among r rs × (r.reach ≤ at)) kept
+
+-- what is read of a text from a restart on stands in the place of the nodes behind it
+pub record Replaced (k : CharClasses) (text : List ℕ) (from : Restart) (t u : Tree) : Type 0 where
+  pub nodes : List Tree
+  pub rest : IsRest k text from.nodes nodes
+  pub is : replaced_at [] from.nodes (length (kids_of t)) nodes t ≡ Some u
+  pub order : IsNumbered t → IsNumbered u × AreInOrder (numbers_of u)
+
+-- in a text a stretch that begins at a place was replaced
+pub record IsEdited (old new : List ℕ) (at : ℕ) : Type 0 where
+  pub to : ℕ
+  pub with : List ℕ
+  pub utf8_old : IsUtf8 old
+  pub utf8 : IsUtf8 with
+  pub start : IsCharBoundary old at
+  pub end : IsCharBoundary old to
+  pub ordered : at ≤ to
+  pub is : new ≡ take at old ++ (with ++ drop to old)
+
+-- a source has another text now, and a range of it was read
+pub record Edits {C : Type 0} (k : CharClasses) (old new : Held C) (text : List ℕ) (range : Range ℕ) : Type 0 where
+  pub text_is : new.text ≡ text
+  pub headline : Headline k new
+  pub id : new.id ≡ old.id
+  pub classes : new.classes ≡ old.classes
+  pub file : file_of new.root ≡ file_of old.root
+  pub records : new.has_records ≡ true
+  pub ordered : range.start ≤ range.end
+  pub within : range.end ≤ length new.text
