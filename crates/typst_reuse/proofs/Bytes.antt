@@ -2,7 +2,7 @@
 use Rattle.std.proofs.Common.{◌≡◌, ℕ, ◌+◌, ◌-◌, ◌<◌, ◌≤◌, ◌^◌, max, min, List, [], ◌∷◌, ◌++◌, length, length-append, append_assoc, append-nil, Option, Some, refl, ap, sym, ◌∙◌, subst, arith}
 use Rattle.typst_lines.specs.Place.{Place, moved}
 use Rattle.typst_classes.specs.Classes.{CharClasses}
-use Rattle.typst_readers.specs.Sight.{width, position, far, near, hull_of}
+use Rattle.typst_readers.specs.Sight.{width, position, near, hull_of}
 use Rattle.typst_grammar.specs.calls.Mark.{Mark}
 use Rattle.typst_grammar.specs.calls.Mark.TheVariants as mark
 use Rattle.typst_grammar.specs.calls.Note.{Note}
@@ -17,6 +17,7 @@ use Rattle.typst_grammar.specs.Grammar.{rules, max_depth, start_of, whole, parse
 use Rattle.typst_reuse.specs.Bytes.{lowest, Decided, DecisionLaw}
 use Rattle.typst_reuse.specs.Edit.{text_with, AllEndBy, AllBeginIn}
 use Rattle.typst_reuse.specs.Laws.{blocks_of_text, block_at}
+pub use Rattle.typst_reuse.specs.Looks.{AllReach, AllFrom}
 use Rattle.typst_reuse.specs.Named.{Named}
 use Rattle.typst_reuse.specs.Spot.{Spot, unit_at, around, lowered}
 use Rattle.typst_reuse.proofs.Blocks.{ends}
@@ -51,11 +52,6 @@ noted-by lv z (marked at gap fewer m s ∷ asks) h ns e =
     record { more = note ∷ i.more; is = i.is ∙ ap Some (append_assoc ns (note ∷ []) i.more) }
 
 -- ---- where looks end
-
-abbrev pub AllReach : ℕ → Place → List Ask → Type 0
-AllReach b z [] = Unit {0}
-AllReach b z (looked at look ∷ asks) = (far look.front (moved at z) ≤ b) × AllReach b z asks
-AllReach b z (marked at gap fewer m s ∷ asks) = AllReach b z asks
 
 pub record Reach (b : ℕ) (z : Place) (h : Log) (asks : List Ask) : Type 0 where
   pub before : h.reach ≤ b
@@ -96,11 +92,6 @@ end-mark n (looked i look ∷ asks) at gap fewer m s h = (h.0, end-mark n asks a
 end-mark n (marked i g f l t ∷ asks) at gap fewer m s h = end-mark n asks at gap fewer m s h
 
 -- ---- where looks begin
-
-abbrev pub AllFrom : ℕ → Place → List Ask → Type 0
-AllFrom b z [] = Unit {0}
-AllFrom b z (looked at look ∷ asks) = (b < near look.back (moved at z)) × AllFrom b z asks
-AllFrom b z (marked at gap fewer m s ∷ asks) = AllFrom b z asks
 
 -- with the notes since
 pub record Least (lv : ℕ) (z : Place) (h : Log) (ns : List Note) (asks : List Ask) : Type 0 where

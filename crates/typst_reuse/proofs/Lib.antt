@@ -52,6 +52,13 @@ pub mod MadeOn
 pub mod Loops
 pub mod Restarts
 pub mod RestartBytes
+pub mod Onwards
+pub mod Parts
+pub mod Passing
+pub mod Behind
+pub mod Before
+pub mod Chosen
+pub mod Exchanged
 pub mod Placed
 pub mod Walk
 -- What the crates above name of those below.

@@ -1,5 +1,5 @@
--- What a loop over pieces keeps, turn by turn.
-use Rattle.std.proofs.Common.{◌≡◌, ℕ, zero, suc, ◌+◌, ◌-◌, ◌<◌, Bool, true, ◌&&◌, nat_lt, List, [], ◌∷◌, ◌++◌, length, append_assoc, append-nil, refl, ap, sym, ◌∙◌, subst, arith}
+-- Where a loop over pieces stands, turn by turn.
+use Rattle.std.proofs.Common.{◌≡◌, ℕ, zero, suc, ◌+◌, ◌-◌, ◌<◌, Bool, true, ◌&&◌, nat_lt, List, [], ◌∷◌, ◌++◌, length, append-nil, refl, ap, sym, ◌∙◌, subst, arith}
 use borrow.Author.Tests.{lt-ltb}
 use Rattle.typst_lines.specs.Place.{Place, moved}
 use Rattle.typst_readers.specs.Sight.{position, hull_of}
@@ -16,10 +16,9 @@ use Rattle.typst_grammar.proofs.Places.{moved-sum}
 use Rattle.typst_reuse.specs.Occurrences.{goes}
 use Rattle.typst_reuse.specs.RunTrees.{given}
 use Rattle.typst_reuse.specs.Runs.{made, AllGo, End, end_of, asks_of}
-use Rattle.typst_reuse.specs.Saved.{piece, WasThere, Adds, Stood, Keeps}
+use Rattle.typst_reuse.specs.Saved.{piece, WasThere, Stopped, Stood}
 use Rattle.typst_reuse.specs.declared.restart.Restart.{Restart}
 use Rattle.typst_reuse.proofs.Bytes.{logged-append}
-use Rattle.typst_reuse.proofs.Every.{every-append, every-by}
 use Rattle.typst_reuse.proofs.MadeOn.{made-sum, end-append, given-append, asks-append, go-append}
 
 pub logged-shift : (n k : ℕ) (z : Place) (h : Log) (ys : List Ask) → logged n z h (shift k ys) ≡ logged n (moved k z) h ys
@@ -115,12 +114,7 @@ module _ (l : Level) (from : Restart) (old : View) where
         reach = s.reach ∙ ap (λ (h : Log). h.reach) a.log;
       }
 
-  pub adds-none : (rs : List Restart) → Adds l from old rs rs
-  adds-none rs = record { more = []; is = sym (append-nil rs); each = tt }
-
-  pub adds-more : (x : Bool × ℕ) (v : View) (rs ss ts : List Restart) → Next x v → Adds l from old rs ss → Keeps v from.nodes x ss ts → Adds l from old rs ts
-  adds-more x v rs ss ts n a k = record {
-    more = a.more ++ k.more;
-    is = k.is ∙ ap (λ us. us ++ k.more) a.is ∙ append_assoc rs a.more k.more;
-    each = every-append (WasThere l from old) a.more k.more a.each (every-by (λ r s. was-there x v n r s) k.more k.each);
-  }
+  -- and where it stands
+  pub stopped : (x : Bool × ℕ) (v : View) → Next x v → (r : Restart) → Stood v from.nodes x r → Stopped l from old v r
+  unfolding was-there
+  stopped x v n r s = record { was = was-there x v n r s; nodes = n.after.nodes; log = n.after.log }

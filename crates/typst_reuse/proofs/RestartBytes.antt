@@ -1,12 +1,10 @@
 -- Restarts in the bytes of a text.
-use Rattle.std.proofs.Common.{◌≡◌, ℕ, ◌≤◌, List, [], ◌∷◌, ◌++◌, length, take, drop, take-append-drop, length-take-le, append_assoc, append-nil, reverse, zero, suc, refl, ap, sym, ◌∙◌, subst, arith}
-use Rattle.std.specs.Prelude.{slice_range}
+use Rattle.std.proofs.Common.{◌≡◌, ℕ, ◌≤◌, List, [], ◌∷◌, ◌++◌, length, take, drop, take-append-drop, append_assoc, append-nil, reverse, zero, suc, refl, ap, sym, ◌∙◌, arith}
 use Rattle.std.specs.Str.{chars, IsUtf8, IsCharBoundary}
 use Rattle.std.proofs.lemmas.List.{reverse-append}
-use Rattle.std.proofs.lemmas.Str.{chars-append, IsUtf8-take}
 use Rattle.typst_lines.specs.Lines.{bytes}
 use Rattle.typst_lines.specs.Place.{moved, moved_from, place_at}
-use Rattle.typst_lines.proofs.LineTable.{bytes-text, chars-range, chars-split, front-boundary, front-chars}
+use Rattle.typst_lines.proofs.LineTable.{bytes-text, chars-split, front-boundary, front-chars}
 use Rattle.typst_classes.specs.Classes.{CharClasses}
 use Rattle.typst_readers.specs.Sight.{width}
 use Rattle.typst_grammar.specs.Grammar.{start_of}
@@ -15,7 +13,6 @@ use Rattle.typst_reuse.specs.Runs.{end_at}
 use Rattle.typst_reuse.specs.declared.restart.Restart.{Restart}
 use Rattle.typst_reuse.proofs.Edit.{onto}
 use Rattle.typst_reuse.proofs.Led.{drop-front}
-use Rattle.typst_reuse.proofs.Restarts.{Stays, stays}
 use Rattle.typst_reuse.proofs.Widths.{width-append}
 
 bytes-width : (cs : List ℕ) → width cs ≡ bytes cs
@@ -24,15 +21,15 @@ bytes-width [] = refl
 bytes-width (c ∷ cs) = let e = bytes-width cs in omega (arith, e)
 
 -- a text's bytes are those of its characters
-width-chars : (s : List ℕ) → IsUtf8 s → width (chars s) ≡ length s
+pub width-chars : (s : List ℕ) → IsUtf8 s → width (chars s) ≡ length s
 width-chars s u = bytes-width (chars s) ∙ bytes-text s u
 
-moved-is : (n : ℕ) (b cs : List ℕ) → moved_from n b cs ≡ record { behind = onto (take n cs) b; ahead = drop n cs }
+pub moved-is : (n : ℕ) (b cs : List ℕ) → moved_from n b cs ≡ record { behind = onto (take n cs) b; ahead = drop n cs }
 moved-is zero b cs = refl
 moved-is (suc n) b [] = refl
 moved-is (suc n) b (c ∷ cs) = moved-is n (c ∷ b) cs
 
-onto-reverse : (xs b : List ℕ) → onto xs b ≡ reverse xs ++ b
+pub onto-reverse : (xs b : List ℕ) → onto xs b ≡ reverse xs ++ b
 onto-reverse [] b = refl
 onto-reverse (x ∷ xs) b = onto-reverse xs (x ∷ b) ∙ sym (append_assoc (reverse xs) (x ∷ []) b) ∙ ap (λ ys. ys ++ b) (sym (reverse-append (x ∷ []) xs))
 
@@ -69,16 +66,3 @@ module _ (k : CharClasses) (s : List ℕ) (u : IsUtf8 s) (r : Restart) (h : IsRe
       let rest : ahead ≡ drop n cs = sym (drop-front (take n cs) ahead (length (take n cs)) refl) ∙ ap (drop (length (take n cs))) both ∙ drop-front (take n cs) (drop n cs) (length (take n cs)) refl in
       ap (λ x. record { behind = reverse x; ahead = ahead }) behind ∙ ap (λ x. record { behind = reverse (take n cs); ahead = x }) rest
       ∙ ap (λ x. record { behind = x; ahead = drop n cs }) (reverse-onto (take n cs)) ∙ sym (moved-is n [] cs)
-
--- a stretch of bytes replaced behind all that was looked at up to a restart
-pub stays-edited : (k : CharClasses) (s with : List ℕ) (from to : ℕ) → IsUtf8 s → IsUtf8 with → IsCharBoundary s from → IsCharBoundary s to → from ≤ to → (r : Restart) → IsRestart k (chars s) r → r.reach ≤ from
-    → Stays k (chars s) (chars (take from s ++ (with ++ drop to s))) r
-stays-edited k s with from to u v b c le r h m =
-    let front = chars (take from s) in
-    let old = chars (slice_range s from to) in
-    let rest = chars (drop to s) in
-    let was : chars s ≡ front ++ (old ++ rest) = ap chars (sym (take-append-drop to s)) ∙ chars-append (take to s) (drop to s) (IsUtf8-take s to u c) ∙ ap (λ x. x ++ rest) (chars-range s u from to le b c) ∙ append_assoc front old rest in
-    let now : chars (take from s ++ (with ++ drop to s)) ≡ front ++ (chars with ++ rest) = chars-append (take from s) (with ++ drop to s) (IsUtf8-take s from u b) ∙ ap (λ x. front ++ x) (chars-append with (drop to s) v) in
-    let wide : width front ≡ from = width-chars (take from s) (IsUtf8-take s from u b) ∙ length-take-le from s b.0 in
-    subst (λ t. Stays k t (chars (take from s ++ (with ++ drop to s))) r) (sym was) (subst (λ t. Stays k (front ++ (old ++ rest)) t r) (sym now)
-    (stays k front old (chars with) rest r (subst (λ t. IsRestart k t r) was h) (omega (arith, m, wide))))

@@ -30,7 +30,7 @@ use Rattle.typst_grammar.proofs.Places.{moved-sum, less-none}
 use Rattle.typst_reuse.specs.Children.{read_from}
 use Rattle.typst_reuse.specs.Edit.{AllEndBy}
 use Rattle.typst_reuse.specs.Joint.{text_run, onwards_from}
-use Rattle.typst_reuse.specs.Restart.{Every, IsRestart, AreRestarts, IsRest}
+use Rattle.typst_reuse.specs.Restart.{IsRestart, IsRest, asks_there}
 use Rattle.typst_reuse.specs.RunTrees.{given}
 use Rattle.typst_reuse.specs.Runs.{made, AllGo, End, end_of, asks_of, piece_at, start, lead, pieces, end_at, pieces_from, end_from}
 use Rattle.typst_reuse.specs.Saved.{piece, WasThere}
@@ -40,7 +40,6 @@ use Rattle.typst_reuse.proofs.Boundary.{looks_in, each-ends, made-ends}
 use Rattle.typst_reuse.proofs.Bytes.{AllReach, Reach, reach-by, end-by, end-to}
 use Rattle.typst_reuse.proofs.Children.{take-front, back-law, given-together, top-known, top-gives}
 use Rattle.typst_reuse.proofs.Edit.{trees-of}
-use Rattle.typst_reuse.proofs.Every.{every-by}
 use Rattle.typst_reuse.proofs.Fresh.{Fresh, fresh-stays, ask-fresh}
 use Rattle.typst_reuse.proofs.Joint.{onward, onwards-is, onwards-fronted}
 use Rattle.typst_reuse.proofs.Known.{Holds, holds-run, holds-meaning}
@@ -83,7 +82,7 @@ module _ (k : CharClasses) where
 
 -- ---- looks, counted from another place
 
-reach-shift : (b n : ℕ) (z : Place) (ls : List Ask) → AllReach b (moved n z) ls → AllReach b z (shift n ls)
+pub reach-shift : (b n : ℕ) (z : Place) (ls : List Ask) → AllReach b (moved n z) ls → AllReach b z (shift n ls)
 reach-shift b n z [] h = tt
 reach-shift b n z (looked at look ∷ ls) h = (subst (λ w. far look.front w ≤ b) (sym (moved-sum n at z)) h.0, reach-shift b n z ls h.1)
 reach-shift b n z (marked at gap fewer m s ∷ ls) h = reach-shift b n z ls h
@@ -93,7 +92,7 @@ reach-both b z [] ks h i = i
 reach-both b z (looked at look ∷ ls) ks h i = (h.0, reach-both b z ls ks h.1 i)
 reach-both b z (marked at gap fewer m s ∷ ls) ks h i = reach-both b z ls ks h i
 
-end-both : (n : ℕ) (ls ks : List Ask) → AllEndBy n ls → AllEndBy n ks → AllEndBy n (ls ++ ks)
+pub end-both : (n : ℕ) (ls ks : List Ask) → AllEndBy n ls → AllEndBy n ks → AllEndBy n (ls ++ ks)
 end-both n [] ks h i = i
 end-both n (looked at look ∷ ls) ks h i = (h.0, end-both n ls ks h.1 i)
 end-both n (marked at gap fewer m s ∷ ls) ks h i = end-both n ls ks h i
@@ -114,17 +113,17 @@ end-more m n [] le h = tt
 end-more m n (looked at look ∷ ls) le h = (omega (arith, le, h.0), end-more m n ls le h.1)
 end-more m n (marked at gap fewer mk s ∷ ls) le h = end-more m n ls le h
 
-position-is : (n : ℕ) (text : List ℕ) → position (moved n (start_of text)) ≡ width (take n text)
+pub position-is : (n : ℕ) (text : List ℕ) → position (moved n (start_of text)) ≡ width (take n text)
 unfolding position
 position-is n text = width-moved n text
 
 -- ---- restarts of a text
 
 -- outcomes that give no hint and take nothing back leave the nodes before them
-standing-on : {A : Type 0} (o : Outcome A) (ts : List Tree) → o.hints ≡ [] → o.back ≡ 0 → standing o ts ≡ ts ++ o.nodes
+pub standing-on : {A : Type 0} (o : Outcome A) (ts : List Tree) → o.hints ≡ [] → o.back ≡ 0 → standing o ts ≡ ts ++ o.nodes
 standing-on o ts e f = ap (λ hs. hinted hs (less o.back ts) ++ o.nodes) e ∙ ap (λ n. less n ts ++ o.nodes) f ∙ ap (λ us. us ++ o.nodes) (less-none ts)
 
-none-back : (m n : ℕ) → m ≤ n → n ≡ 0 → m ≡ 0
+pub none-back : (m n : ℕ) → m ≤ n → n ≡ 0 → m ≡ 0
 none-back m n h e = omega (arith, h, e)
 
 module _ (k : CharClasses) (text : List ℕ) where
@@ -132,7 +131,7 @@ module _ (k : CharClasses) (text : List ℕ) where
   z0 = start_of text
 
   -- the looks of the first pieces are at places of the text
-  looks-at : (j : ℕ) → AllGo (pieces k j z0) → AllAt (length text) ((lead k z0).asks ++ asks_of (pieces k j z0))
+  pub looks-at : (j : ℕ) → AllGo (pieces k j z0) → AllAt (length text) ((lead k z0).asks ++ asks_of (pieces k j z0))
   looks-at j g =
       let early = (lead k z0).asks ++ asks_of (pieces k j z0) in
       let long : max 0 (length text) ≡ length text = omega arith in
@@ -147,20 +146,40 @@ module _ (k : CharClasses) (text : List ℕ) where
     empties : e.state.empties ≡ 0
     empties = ap (λ (s : State). s.empties) (sym h.state) ∙ h.clean
 
-    -- the rest of the tree behind it
-    pub rest-is : (ts : List Tree) → ts ≡ (onwards_from k h.count 0 z0).nodes → IsRest k text r.nodes ts
+    -- the tree's children, by it
+    pub kids-by : trees (tree k text).kids ≡ given (pieces k h.count z0) [] ++ (onwards_from k h.count 0 z0).nodes
     unfolding tree
-    rest-is ts is =
+    kids-by =
         let o = onwards_from k h.count 0 z0 in
         let known = top-known k h.count z0 h.go in
         let front = onwards-fronted k h.count 0 z0 known.trivia known.is in
         let back = none-back o.back e.state.empties (back-law k text h.count 0).behind_back empties in
         let xs = given (pieces k h.count z0) [] in
-        record {
-          before = xs;
-          count = sym h.nodes;
-          all = ap (λ (t : Tree). trees t.kids) (tree-is k text h.count 0 h.go tt) ∙ trees-of (standing o xs) ∙ standing-on o xs front.hints back ∙ ap (λ us. xs ++ us) (sym is);
-        }
+        ap (λ (t : Tree). trees t.kids) (tree-is k text h.count 0 h.go tt) ∙ trees-of (standing o xs) ∙ standing-on o xs front.hints back
+
+    -- the rest of the tree behind it
+    pub rest-is : (ts : List Tree) → ts ≡ (onwards_from k h.count 0 z0).nodes → IsRest k text r.nodes ts
+    rest-is ts is = record {
+      before = given (pieces k h.count z0) [];
+      count = sym h.nodes;
+      all = kids-by ∙ ap (λ us. given (pieces k h.count z0) [] ++ us) (sym is);
+    }
+
+    -- the nodes of pieces from there on come behind those before it
+    pub given-on : (n : ℕ) → AllGo (pieces_from k h.count n z0) → (let xs = given (pieces k h.count z0) [] in let ps = pieces_from k h.count n z0 in given ps xs ≡ xs ++ given ps [])
+    given-on zero go = sym (append-nil (given (pieces k h.count z0) []))
+    given-on (suc n) go =
+        let ps = pieces_from k h.count (suc n) z0 in
+        let xs = given (pieces k h.count z0) [] in
+        let s = (end_from k h.count (suc n) z0).state in
+        let one = read_from k h.count (suc n) z0 in
+        let gives = top-gives k h.count (suc n) z0 h.go go (omega arith) in
+        let back = none-back one.back e.state.empties (back-law k text h.count (suc n)).pieces_back empties in
+        given-together s ps xs ∙ standing-on one xs gives.hints back ∙ ap (λ us. xs ++ us) (sym (given-together s ps [] ∙ standing-none one))
+
+    pub given-are : (n : ℕ) → AllGo (pieces_from k h.count n z0) → given (pieces k (h.count + n) z0) [] ≡ given (pieces k h.count z0) [] ++ given (pieces_from k h.count n z0) []
+    given-are n go =
+        ap (λ us. given us []) (made-sum (piece_at k) h.count n (true, 0) z0 (lead k z0).state) ∙ given-append (pieces k h.count z0) (pieces_from k h.count n z0) [] ∙ given-on n go
 
     -- a loop over pieces from there on
     module _ (old : View) (place : old.place ≡ moved e.taken z0) (state : old.state ≡ e.state) (none : old.nodes ≡ []) (reach : r.reach ≤ old.log.reach)
@@ -171,12 +190,12 @@ module _ (k : CharClasses) (text : List ℕ) where
       abbrev ps : ℕ → List (Outcome (Bool × (Bool × ℕ)))
       ps n = pieces_from k h.count n z0
 
-      turns-are : (n : ℕ) → made (piece l) n (r.at_start, r.nesting) old.place old.state ≡ ps n
+      pub turns-are : (n : ℕ) → made (piece l) n (r.at_start, r.nesting) old.place old.state ≡ ps n
       turns-are n =
           made-by (piece l) (piece_at k) (λ x z s. told-run k max_depth (markup_turn true is_end x) z s) n (r.at_start, r.nesting) old.place old.state
           ∙ ap (λ x. made (piece_at k) n x old.place old.state) h.value ∙ ap (λ z. made (piece_at k) n e.value z old.state) place ∙ ap (λ s. made (piece_at k) n e.value (moved e.taken z0) s) state
 
-      ends-are : (n : ℕ) → end_of (r.at_start, r.nesting) old.state (made (piece l) n (r.at_start, r.nesting) old.place old.state) ≡ end_from k h.count n z0
+      pub ends-are : (n : ℕ) → end_of (r.at_start, r.nesting) old.state (made (piece l) n (r.at_start, r.nesting) old.place old.state) ≡ end_from k h.count n z0
       ends-are n =
           ap (end_of (r.at_start, r.nesting) old.state) (turns-are n) ∙ ap (λ x. end_of x old.state (ps n)) h.value ∙ ap (λ s. end_of e.value s (ps n)) state
 
@@ -202,15 +221,10 @@ module _ (k : CharClasses) (text : List ℕ) where
           let state_is : q.state ≡ state_of f.state = w.state ∙ ap (λ (u : End (Bool × ℕ)). state_of u.state) (ends-are n) in
           let there : moved f.taken old.place ≡ moved (e.taken + f.taken) z0 = ap (moved f.taken) place ∙ sym (moved-sum e.taken f.taken z0) in
           let both_is = ends-are n in
-          let one = read_from k i n z0 in
-          let gives = top-gives k i n z0 h.go go w.some in
-          let back = none-back one.back e.state.empties (back-law k text i n).pieces_back empties in
           let xs = given os [] in
-          let own : given (ps n) old.nodes ≡ one.nodes = ap (given (ps n)) none ∙ given-together (end_from k i n z0).state (ps n) [] ∙ standing-none one in
-          let all : given (pieces k (i + n) z0) [] ≡ xs ++ one.nodes =
-          ap (λ us. given us []) sum ∙ given-append os (ps n) [] ∙ given-together (end_from k i n z0).state (ps n) xs ∙ standing-on one xs gives.hints back in
-          let long : length (given (pieces k (i + n) z0) []) ≡ length xs + length one.nodes = ap length all ∙ length-append xs one.nodes in
-          let count : q.nodes ≡ r.nodes + length one.nodes = w.nodes ∙ ap (λ us. r.nodes + length (given us old.nodes)) (turns-are n) ∙ ap (λ us. r.nodes + length us) own in
+          let own : given (ps n) old.nodes ≡ given (ps n) [] = ap (given (ps n)) none in
+          let long : length (given (pieces k (i + n) z0) []) ≡ length xs + length (given (ps n) []) = ap length (given-are n go) ∙ length-append xs (given (ps n) []) in
+          let count : q.nodes ≡ r.nodes + length (given (ps n) []) = w.nodes ∙ ap (λ us. r.nodes + length (given us old.nodes)) (turns-are n) ∙ ap (λ us. r.nodes + length us) own in
           let asks : asks_of (pieces k (i + n) z0) ≡ asks_of os ++ shift e.taken (asks_of (ps n)) = ap asks_of sum ∙ asks-append (true, 0) (lead k z0).state os (ps n) in
           let reached : q.reach ≡ (logged max_depth old.place old.log (asks_of (ps n))).reach = w.reach ∙ ap (λ us. (logged max_depth old.place old.log (asks_of us)).reach) (turns-are n) in
           record {
@@ -221,7 +235,7 @@ module _ (k : CharClasses) (text : List ℕ) where
             state = state_is ∙ ap (λ (u : End (Bool × ℕ)). state_of u.state) (sym at_end);
             clean = w.clean;
             trivia = λ many. ap (λ (u : End (Bool × ℕ)). is_nil (pending u.state.known)) at_end ∙ ap (λ (u : End (Bool × ℕ)). is_nil (pending u.state.known)) (sym both_is) ∙ w.trivia;
-            nodes = count ∙ ap (λ j. j + length one.nodes) h.nodes ∙ sym long;
+            nodes = count ∙ ap (λ j. j + length (given (ps n) [])) h.nodes ∙ sym long;
             looks = λ m le many h_reach. (
                 let b = width (take m text) in
                 let by = reach-by max_depth b old.place (asks_of (ps n)) old.log (subst (λ j. j ≤ b) reached h_reach) in
@@ -233,6 +247,10 @@ module _ (k : CharClasses) (text : List ℕ) where
                 by-reach m text le ((lead k z0).asks ++ asks_of (pieces k (i + n) z0)) (looks-at (i + n) all_go) reaches);
           }
 
+      pub restart-count : (q : Restart) (w : WasThere l r old q) → (restart-is q w).count ≡ h.count + w.count
+      unfolding restart-is
+      restart-count q w = refl
+
     -- asking anew there finds what is known
     again-by : (i : ℕ) → h.count ≡ i → asked (hand_of (level_at k max_depth) (moved e.taken z0) (forgot e.state)) (forgot e.state) ≡ e.state
     unfolding run
@@ -243,7 +261,7 @@ module _ (k : CharClasses) (text : List ℕ) where
         found-again k (moved e.taken z0) e.state known.trivia known.is (ap (λ o. is_nil (pending o)) (sym known.is) ∙ h.trivia some)
         (subst (λ o. Fresh k e.state.held.mode o (moved e.taken z0)) known.is (fresh-at k h.count z0))
 
-    again : asked (hand_of (level_at k max_depth) (moved e.taken z0) (forgot e.state)) (forgot e.state) ≡ e.state
+    pub again : asked (hand_of (level_at k max_depth) (moved e.taken z0) (forgot e.state)) (forgot e.state) ≡ e.state
     again = again-by h.count refl
 
     -- the token at hand was asked for where the text is read from there on
@@ -253,6 +271,9 @@ module _ (k : CharClasses) (text : List ℕ) where
       pub nodes : v.nodes ≡ []
       pub reach : r.reach ≤ v.log.reach
       pub lead_in : h.count ≡ 0 → (b : ℕ) → v.log.reach ≤ b → AllReach b z0 (lead k z0).asks
+      pub before : Log
+      pub none : before.notes ≡ None
+      pub log : v.log ≡ logged max_depth (moved e.taken z0) before (asks_there k r (moved e.taken z0))
 
     abbrev y0 : Place
     y0 = moved e.taken z0
@@ -276,10 +297,10 @@ module _ (k : CharClasses) (text : List ℕ) where
     at-zero zero c = refl
     at-zero (suc i) c = absurd (omega (arith, c))
 
-    pub begun : (a : AtHand) (v w : View) → v.place ≡ y0 → v.state ≡ point_of r.state → v.nodes ≡ [] → r.reach ≤ v.log.reach
+    pub begun : (a : AtHand) (v w : View) → v.place ≡ y0 → v.state ≡ point_of r.state → v.nodes ≡ [] → r.reach ≤ v.log.reach → v.log.notes ≡ None
         → Runs max_depth (run (told_at k max_depth) peek v.place v.state) a v w → Begun w
     unfolding run
-    begun a v w place state none reach runs =
+    begun a v w place state none reach blank runs =
         let from : point_of r.state ≡ s0 = ap point_of h.state in
         let o = run (told_at k max_depth) peek y0 s0 in
         let same : run (told_at k max_depth) peek v.place v.state ≡ o = ap (λ z. run (told_at k max_depth) peek z v.state) place ∙ ap (run (told_at k max_depth) peek y0) (state ∙ from) in
@@ -295,11 +316,10 @@ module _ (k : CharClasses) (text : List ℕ) where
           nodes = q.nodes ∙ ap (standing o) none ∙ standing-none o;
           reach = omega (arith, reach, first);
           lead_in = λ c b m. subst (λ us. AllReach b z0 us) (at-start h.count c) (subst (λ z. AllReach b z asks) (at-zero h.count c) (covers b m).all);
+          before = v.log;
+          none = blank;
+          log = log ∙ ap (λ s. logged max_depth y0 v.log (hand_asks_of (level_at k max_depth) y0 s)) (sym from);
         }
-
-    -- what a loop from there on kept
-    pub restarts-are : (v : View) → Begun v → (rs : List Restart) → Every (WasThere (told_at k max_depth) r v) rs → AreRestarts k text rs
-    restarts-are v b rs each = every-by (λ q w. restart-is v b.place b.state b.nodes b.reach b.lead_in q w) rs each
 
     -- what is read from there on
     pub read-is : (v w : View) → Begun v → Runs max_depth (run (told_at k max_depth) (repeat (markup_turn true is_end) (r.at_start, r.nesting) >>= λ _. flush_trivia) v.place v.state) tt v w → IsRest k text r.nodes w.nodes
@@ -332,12 +352,12 @@ first-there : (k : CharClasses) (m : SyntaxMode) (i : ℕ) (z : Place) (d n : �
 first-there k m zero z d n more h = let at = h.0 in omega (arith, at)
 first-there k m (suc i) z d n more h = let at = h.0 in omega (arith, at)
 
-looks-there : (k : CharClasses) (held : Reading) (known : Option Trivia) (z : Place) (d n : ℕ) → AllEndBy n (shift d (hand_asks k held known z)) → d ≤ n
+pub looks-there : (k : CharClasses) (held : Reading) (known : Option Trivia) (z : Place) (d n : ℕ) → AllEndBy n (shift d (hand_asks k held known z)) → d ≤ n
 unfolding hand_asks ahead_asks
 looks-there k held (Some t) z d n h = let at = h.0 in omega (arith, at)
 looks-there k held None z d n h = first-there k held.mode (length z.ahead) z d n _ h
 
-end-second : (n : ℕ) (ls ks : List Ask) → AllEndBy n (ls ++ ks) → AllEndBy n ks
+pub end-second : (n : ℕ) (ls ks : List Ask) → AllEndBy n (ls ++ ks) → AllEndBy n ks
 end-second n [] ks h = h
 end-second n (looked at look ∷ ls) ks h = end-second n ls ks h.1
 end-second n (marked at gap fewer m s ∷ ls) ks h = end-second n ls ks h
@@ -348,7 +368,7 @@ end-first n (looked at look ∷ ls) ks h = (h.0, end-first n ls ks h.1)
 end-first n (marked at gap fewer m s ∷ ls) ks h = end-first n ls ks h
 
 -- pieces whose looks end by a place end by it
-ends-by-looks : (k : CharClasses) (z : Place) (j n : ℕ) → AllGo (pieces k (suc j) z) → AllEndBy n ((lead k z).asks ++ asks_of (pieces k (suc j) z)) → (end_at k (suc j) z).taken ≤ n
+pub ends-by-looks : (k : CharClasses) (z : Place) (j n : ℕ) → AllGo (pieces k (suc j) z) → AllEndBy n ((lead k z).asks ++ asks_of (pieces k (suc j) z)) → (end_at k (suc j) z).taken ≤ n
 ends-by-looks k z j n g h =
     let r = text_run k z in
     let e = end_at k (suc j) z in
@@ -358,16 +378,16 @@ ends-by-looks k z j n g h =
     let last = end-first n (shift e.taken looks) _ (end-second n m.early _ own) in
     looks-there k e.state.held e.state.known (moved e.taken z) e.taken n last
 
-take-within : (n : ℕ) (xs ys : List ℕ) → n ≤ length xs → take n (xs ++ ys) ≡ take n xs
+pub take-within : (n : ℕ) (xs ys : List ℕ) → n ≤ length xs → take n (xs ++ ys) ≡ take n xs
 take-within zero xs ys h = refl
 take-within (suc n) [] ys h = absurd (omega (arith, h))
 take-within (suc n) (x ∷ xs) ys h = ap (λ u. x ∷ u) (take-within n xs ys (omega (arith, h)))
 
-take-all-front : (xs ys : List ℕ) → take (length xs) (xs ++ ys) ≡ xs
+pub take-all-front : (xs ys : List ℕ) → take (length xs) (xs ++ ys) ≡ xs
 take-all-front [] ys = refl
 take-all-front (x ∷ xs) ys = ap (λ u. x ∷ u) (take-all-front xs ys)
 
-take-first : (xs ys : List Tree) (n : ℕ) → n ≡ length xs → take n (xs ++ ys) ≡ xs
+pub take-first : (xs ys : List Tree) (n : ℕ) → n ≡ length xs → take n (xs ++ ys) ≡ xs
 take-first xs ys n e = ap (λ j. take j (xs ++ ys)) e ∙ take-front xs ys
 
 -- what an edit behind all that was looked at up to a restart leaves of it

@@ -33,7 +33,7 @@ module _ (k : CharClasses) where
   pub within : (x : Bool × ℕ) → Within (piece_at k x)
   within x = (sane-at (rules k) k max_depth (markup_turn true is_end x)).within
 
-  framed : (x : Bool × ℕ) → Framed (piece_at k x)
+  pub framed : (x : Bool × ℕ) → Framed (piece_at k x)
   framed x = (sane-at (rules k) k max_depth (markup_turn true is_end x)).framed
 
   -- the pieces of a text, and the rest

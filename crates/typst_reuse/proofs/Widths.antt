@@ -44,7 +44,7 @@ unfolding far position width
 far-by at n front more l h = ends-by at n [] front more l (omega (arith, h))
 
 -- and the other way round
-stretch-to : (n : ℕ) (front more : List ℕ) → n ≤ length front → stretch n (front ++ more) ≤ width front
+pub stretch-to : (n : ℕ) (front more : List ℕ) → n ≤ length front → stretch n (front ++ more) ≤ width front
 unfolding stretch width
 stretch-to zero front more h = omega arith
 stretch-to (suc n) [] more h = absurd (omega (arith, h))

@@ -35,7 +35,7 @@ at-append n [] ks h k = k
 at-append n (looked at look ∷ ls) ks h k = (h.0, at-append n ls ks h.1 k)
 at-append n (marked at gap fewer mark s ∷ ls) ks h k = at-append n ls ks h k
 
-at-shift : (d m n : ℕ) (ls : List Ask) → d + m ≤ n → AllAt m ls → AllAt n (shift d ls)
+pub at-shift : (d m n : ℕ) (ls : List Ask) → d + m ≤ n → AllAt m ls → AllAt n (shift d ls)
 at-shift d m n [] e h = tt
 at-shift d m n (looked at look ∷ ls) e h = (omega (arith, h.0), at-shift d m n ls e h.1)
 at-shift d m n (marked at gap fewer mark s ∷ ls) e h = at-shift d m n ls e h

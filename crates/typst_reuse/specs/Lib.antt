@@ -23,5 +23,9 @@ pub mod Examples
 pub mod RunExamples
 pub mod Conditions
 pub mod RareConditions
+pub mod Looks
 pub mod Restart
+pub mod Shifted
+pub mod Parts
+pub mod Exchange
 pub mod Saved

@@ -1,11 +1,20 @@
 -- Where a text can be read anew between two pieces of its run.
-use Rattle.std.specs.Prelude.{◌≡◌, ℕ, ◌<◌, false, ◌≤◌, List, [], ◌++◌, length, take, ◌∷◌}
+use Rattle.std.specs.Prelude.{◌≡◌, ℕ, ◌<◌, true, false, ◌≤◌, List, [], ◌++◌, length, take, ◌∷◌}
+use Rattle.typst_lines.specs.Place.{Place, moved}
 use Rattle.typst_node.specs.Tree.{Tree, trees}
 use Rattle.typst_classes.specs.Classes.{CharClasses}
 use Rattle.typst_readers.specs.Sight.{width}
-use Rattle.typst_grammar.specs.Point.{is_nil, pending, state_of}
-use Rattle.typst_grammar.specs.Grammar.{start_of, tree}
+use Rattle.typst_grammar.specs.Ask.{Ask}
+use Rattle.typst_grammar.specs.Depth.{is_end}
+use Rattle.typst_grammar.specs.Markup.{markup_turn}
+use Rattle.typst_grammar.specs.Meaning.{Outcome, hand_asks_of, run}
+use Rattle.typst_grammar.specs.Point.{is_nil, pending, point_of, state_of}
+use Rattle.typst_grammar.specs.Steps.{peek, flush_trivia}
+use Rattle.typst_grammar.specs.Syntax.{◌>>=◌}
+use Rattle.typst_grammar.specs.Syntax.Parser.{repeat}
+use Rattle.typst_grammar.specs.Grammar.{level_at, max_depth, start_of, tree}
 use Rattle.typst_reuse.specs.Edit.{AllEndBy}
+use Rattle.typst_reuse.specs.Looks.{AllReach, AllFrom}
 use Rattle.typst_reuse.specs.RunTrees.{given}
 use Rattle.typst_reuse.specs.Runs.{AllGo, asks_of, lead, pieces, end_at}
 use Rattle.typst_reuse.specs.declared.restart.Restart.{Restart}
@@ -25,16 +34,49 @@ pub record IsRestart (k : CharClasses) (text : List ℕ) (r : Restart) : Type 0 
   -- what was looked at in these pieces
   pub looks : (n : ℕ) → n ≤ length text → 0 < count → r.reach ≤ width (take n text) → AllEndBy n ((lead k (start_of text)).asks ++ asks_of (pieces k count (start_of text)))
 
+-- what is asked for the token there
+abbrev pub asks_there : CharClasses → Restart → Place → List Ask
+asks_there k r z = hand_asks_of (level_at k max_depth) z (point_of r.state)
+
+-- what is read from there on
+abbrev pub onwards_of : CharClasses → Restart → Place → Outcome (Unit {0})
+onwards_of k r z = run (level_at k max_depth) (peek >>= λ _. repeat (markup_turn true is_end) (r.at_start, r.nesting) >>= λ _. flush_trivia) z (point_of r.state)
+
+-- where the looks for the token there end
+pub record HasReach (k : CharClasses) (text : List ℕ) (r : Restart) (reach : ℕ) : Type 0 where
+  pub at : ℕ
+  pub cursor : r.cursor ≡ width (take at text)
+  pub looks : AllReach reach (moved at (start_of text)) (asks_there k r (moved at (start_of text)))
+
+-- where all looks from there on begin, counted from the mark before the text
+pub record HasFloor (k : CharClasses) (text : List ℕ) (r : Restart) (floor : ℕ) : Type 0 where
+  pub at : ℕ
+  pub cursor : r.cursor ≡ width (take at text)
+  pub looks : (b : ℕ) → b < floor → AllFrom b (moved at (start_of text)) (onwards_of k r (moved at (start_of text))).asks
+
+-- a restart, with both
+pub record IsKept (k : CharClasses) (text : List ℕ) (r : Restart) : Type 0 where
+  pub restart : IsRestart k text r
+  pub reach : HasReach k text r r.reach
+  pub floor : HasFloor k text r r.floor
+
 -- something holds of each of several
 abbrev pub Every : {X : Type 0} → (X → Type 0) → List X → Type 0
 Every P [] = Unit {0}
 Every P (x ∷ xs) = P x × Every P xs
 
-abbrev pub AreRestarts : CharClasses → List ℕ → List Restart → Type 0
-AreRestarts k text rs = Every (IsRestart k text) rs
+abbrev pub AreKept : CharClasses → List ℕ → List Restart → Type 0
+AreKept k text rs = Every (IsKept k text) rs
 
 -- These are the nodes at the top of a text's tree behind so many.
 pub record IsRest (k : CharClasses) (text : List ℕ) (n : ℕ) (ts : List Tree) : Type 0 where
   pub before : List Tree
   pub count : length before ≡ n
   pub all : trees (tree k text).kids ≡ before ++ ts
+
+-- These are nodes there.
+pub record IsStretch (k : CharClasses) (text : List ℕ) (n : ℕ) (ts : List Tree) : Type 0 where
+  pub before : List Tree
+  pub behind : List Tree
+  pub count : length before ≡ n
+  pub all : trees (tree k text).kids ≡ before ++ (ts ++ behind)

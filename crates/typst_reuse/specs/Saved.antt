@@ -1,5 +1,5 @@
--- What a loop over pieces keeps of where it stood.
-use Rattle.std.specs.Prelude.{◌≡◌, ℕ, ◌+◌, ◌<◌, Bool, true, false, List, ◌++◌, length}
+-- Where a loop over pieces stops.
+use Rattle.std.specs.Prelude.{◌≡◌, ℕ, ◌+◌, ◌<◌, Bool, true, false, length, Option, Some, None}
 use Rattle.typst_lines.specs.Place.{moved}
 use Rattle.typst_readers.specs.Sight.{position}
 use Rattle.typst_grammar.specs.Depth.{is_end}
@@ -7,16 +7,18 @@ use Rattle.typst_grammar.specs.Log.{logged}
 use Rattle.typst_grammar.specs.Markup.{markup_turn}
 use Rattle.typst_grammar.specs.Meaning.{Meaning, Level, run}
 use Rattle.typst_grammar.specs.Point.{is_nil, pending, state_of}
-use Rattle.typst_grammar.specs.View.{View}
+use Rattle.typst_grammar.specs.Steps.{flush_trivia}
+use Rattle.typst_grammar.specs.Syntax.{◌>>=◌}
+use Rattle.typst_grammar.specs.Syntax.Parser.{repeat}
+use Rattle.typst_grammar.specs.View.{View, Runs}
 use Rattle.typst_reuse.specs.RunTrees.{given}
 use Rattle.typst_reuse.specs.Runs.{made, AllGo, end_of, asks_of}
-use Rattle.typst_reuse.specs.Restart.{Every}
 use Rattle.typst_reuse.specs.declared.restart.Restart.{Restart}
 
 abbrev pub piece : Level → Bool × ℕ → Meaning (Bool × (Bool × ℕ))
 piece l x = run l (markup_turn true is_end x)
 
--- so many pieces behind where it began the loop kept this
+-- so many pieces behind where the loop began this is kept
 pub record WasThere (l : Level) (from : Restart) (old : View) (r : Restart) : Type 0 where
   pub count : ℕ
   pub some : 0 < count
@@ -29,11 +31,16 @@ pub record WasThere (l : Level) (from : Restart) (old : View) (r : Restart) : Ty
   pub nodes : r.nodes ≡ from.nodes + length (given (made (piece l) count (from.at_start, from.nesting) old.place old.state) old.nodes)
   pub reach : r.reach ≡ (logged l.levels old.place old.log (asks_of (made (piece l) count (from.at_start, from.nesting) old.place old.state))).reach
 
--- restarts behind others, each of which the loop met
-pub record Adds (l : Level) (from : Restart) (old : View) (rs ss : List Restart) : Type 0 where
-  pub more : List Restart
-  pub is : ss ≡ rs ++ more
-  pub each : Every (WasThere l from old) more
+-- it stands there
+pub record Stopped (l : Level) (from : Restart) (old new : View) (r : Restart) : Type 0 where
+  pub was : WasThere l from old r
+  pub nodes : new.nodes ≡ given (made (piece l) was.count (from.at_start, from.nesting) old.place old.state) old.nodes
+  pub log : new.log ≡ logged l.levels old.place old.log (asks_of (made (piece l) was.count (from.at_start, from.nesting) old.place old.state))
+
+-- a loop over pieces stopped there, or went on to the text's end and took the trivia there
+abbrev pub Went : Level → Restart → View → Option Restart → View → Type 0
+Went l from old None new = Runs l.levels (run l (repeat (markup_turn true is_end) (from.at_start, from.nesting) >>= λ _. flush_trivia) old.place old.state) tt old new
+Went l from old (Some r) new = Stopped l from old new r
 
 -- where a parser stands that has trivia at hand and no empty error before them
 pub record Stood (v : View) (before : ℕ) (carried : Bool × ℕ) (r : Restart) : Type 0 where
@@ -44,9 +51,3 @@ pub record Stood (v : View) (before : ℕ) (carried : Bool × ℕ) (r : Restart)
   pub trivia : is_nil v.hand.trivia ≡ false
   pub nodes : r.nodes ≡ before + length v.nodes
   pub reach : r.reach ≡ v.log.reach
-
--- the same restarts, or one more
-pub record Keeps (v : View) (before : ℕ) (carried : Bool × ℕ) (rs ss : List Restart) : Type 0 where
-  pub more : List Restart
-  pub is : ss ≡ rs ++ more
-  pub each : Every (Stood v before carried) more

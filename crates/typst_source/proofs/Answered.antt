@@ -4,15 +4,13 @@ use Rattle.std.specs.Prelude.{OnOk, IsErrAnd, not, nat_eq, nat_le, option_and_th
 use Rattle.std.specs.Prelude.{Result, Ok, Err}
 use Rattle.std.proofs.lemmas.Bool.Decides.{nat_tests}
 use Rattle.std.specs.Option.{option_eq}
-use Rattle.std.specs.Str.{IsCharBoundary, chars}
+use Rattle.std.specs.Str.{IsCharBoundary}
 use Rattle.std.specs.declared.ops.Range.{Range}
 use Rattle.typst_kinds.specs.Span.{Bytes}
 use Rattle.typst_kinds.specs.declared.error.SourceError.{SourceError}
 use Rattle.typst_lines.specs.Replacement.{Replaces}
 use Rattle.typst_node.specs.Tree.{Tree}
 use Rattle.typst_tree.specs.Steps.{At, find_span, find_number, offset_of, end_of}
-use Rattle.typst_classes.specs.Classes.{CharClasses}
-use Rattle.typst_entry.specs.Grammar.{tree}
 use Rattle.typst_source.specs.Held.{Held}
 use Rattle.typst_source.specs.Headline.{edited, file_of, numbered_in}
 use Rattle.typst_source.specs.Find.{top, found, is_in_file, bytes_in, range_of}
@@ -92,17 +90,6 @@ replaced lines text new with n front end is of piece h =
 pub same-file : {D : Type 0} (s old : Held D) (file : Option ℕ) (t root : Tree) (span : Option (ℕ × ℕ)) → s ≡ old → file ≡ option_map (λ place. place.0) span → span ≡ s.root.head.span → numbered_in file t ≡ Some root → file_of root ≡ file_of old.root
 same-file {D} s old file t root span is of at numbered =
     fresh-file file t root numbered ∙ of ∙ ap (λ (p : Option (ℕ × ℕ)). option_map (λ place. place.0) p) at ∙ ap (λ (h : Held D). file_of h.root) is
-
-pub same-refusal :
-    {D : Type 0} (k : D → CharClasses) (s old : Held D) (file : Option ℕ) (span : Option (ℕ × ℕ)) (made text : List ℕ) (range : Range ℕ) (with : List ℕ) →
-    s ≡ old → file ≡ option_map (λ place. place.0) span → span ≡ s.root.head.span → made ≡ edited text range with → text ≡ old.text →
-    numbered_in file (tree (k s.classes) (chars made)) ≡ None → numbered_in (file_of old.root) (tree (k old.classes) (chars (edited old.text range with))) ≡ None
-same-refusal {D} k s old file span made text range with is of at becomes from refused =
-    let is-file : file ≡ file_of old.root = of ∙ ap (λ (p : Option (ℕ × ℕ)). option_map (λ place. place.0) p) at ∙ ap (λ (h : Held D). file_of h.root) is in
-    let is-text : made ≡ edited old.text range with = becomes ∙ ap (λ t. edited t range with) from in
-    let in-file : numbered_in file (tree (k old.classes) (chars made)) ≡ None = subst (λ (h : Held D). numbered_in file (tree (k h.classes) (chars made)) ≡ None) is refused in
-    let of-text : numbered_in file (tree (k old.classes) (chars (edited old.text range with))) ≡ None = subst (λ (t : List ℕ). numbered_in file (tree (k old.classes) (chars t)) ≡ None) is-text in-file in
-    subst (λ (f : Option ℕ). numbered_in f (tree (k old.classes) (chars (edited old.text range with))) ≡ None) is-file of-text
 
 pub same-held : {D : Type 0} (s : Held D) (text : List ℕ) (root : Tree) → text ≡ s.text → root ≡ s.root → record { id = s.id; text = text; root = root; classes = s.classes; has_records = s.has_records } ≡ s
 same-held {D} s text root is at = ap (λ (t : List ℕ). record s { text = t; root = root }) is ∙ ap (λ (t : Tree). record s { root = t }) at

@@ -11,7 +11,7 @@ use Rattle.typst_node.proofs.Numbering.{numbered_bare, text_numbered, nodes_numb
 use Rattle.std.specs.Str.{chars}
 use Rattle.typst_classes.specs.Classes.{CharClasses}
 use Rattle.typst_entry.specs.Grammar.{tree}
-use Rattle.typst_reuse.specs.Restart.{AreRestarts}
+use Rattle.typst_reuse.specs.Restart.{AreKept}
 use Rattle.typst_reuse.specs.declared.restart.Restart.{Restart}
 use Rattle.typst_source.specs.Held.{Held}
 use Rattle.typst_source.specs.Headline.{file_of, Headline, AreNumbered, AreOrdered, numbered_in}
@@ -100,11 +100,11 @@ placed-new (Some file) t u is inner numbered = let h = numbered-head file t u is
 
 -- what a source keeps whose whole text was read
 pub records-new : {C : Type 0} (k : CharClasses) (s : Held C) (file : Option ℕ) (rs : List Restart) (text : List ℕ) → text ≡ s.text → numbered_in file (tree k (chars text)) ≡ Some s.root → text_of s.root ≡ text → AreNumbered file s.root
-    → IsPlaced file s.root → AreRestarts k (chars text) rs → Records k s rs
+    → IsPlaced file s.root → AreKept k (chars text) rs → Records k s rs
 records-new k s file rs text e is leaves numbers placed restarts =
     let numbered : numbered_in file (tree k (chars s.text)) ≡ Some s.root = subst (λ t. numbered_in file (tree k (chars t)) ≡ Some s.root) e is in
     record {
       headline = headline-new k s file numbered (leaves ∙ e) numbers;
       placed = subst (λ f. IsPlaced f s.root) (sym (fresh-file file (tree k (chars s.text)) s.root numbered)) placed;
-      restarts = subst (λ t. AreRestarts k (chars t) rs) e restarts;
+      restarts = subst (λ t. AreKept k (chars t) rs) e restarts;
     }

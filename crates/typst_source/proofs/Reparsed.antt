@@ -1,8 +1,9 @@
--- A tree whose last children were read anew.
-use Rattle.std.proofs.Common.{◌≡◌, ℕ, ◌≤◌, ◌^◌, true, List, [], ◌++◌, length, map, take, drop, append-nil, Option, Some, None, refl, ap, sym, subst, ◌∙◌, arith}
+-- A tree of which some children were read anew.
+use Rattle.std.proofs.Common.{◌≡◌, ℕ, ◌≤◌, ◌^◌, true, List, [], ◌++◌, length, map, take, drop, Option, Some, None, refl, ap, sym, subst, ◌∙◌, arith}
 use Rattle.std.specs.Prelude.{option_map}
 use Rattle.std.specs.Str.{chars, IsUtf8}
-use Rattle.std.proofs.lemmas.List.{map-append, take-map, take_at, drop_all}
+use Rattle.std.specs.declared.ops.Range.{Range}
+use Rattle.std.proofs.lemmas.List.{map-append, take-map, drop-map}
 use Rattle.std.proofs.lemmas.Option.{none-some}
 use Rattle.std.proofs.lemmas.Str.{encodes-chars}
 use Rattle.typst_kinds.specs.Span.{number_of}
@@ -15,14 +16,12 @@ use Rattle.typst_node.proofs.ReplacesChildren.{replaces_children, text_bare}
 use Rattle.typst_node.proofs.SpansAside.{over, trees_forest, forest_trees, parts_from_bare, bare_from_parts, lengths_from_bare}
 use Rattle.typst_classes.specs.Classes.{CharClasses}
 use Rattle.typst_entry.specs.Grammar.{tree}
-use Rattle.typst_reuse.specs.Restart.{AreRestarts, IsRestart}
 use Rattle.typst_reuse.specs.declared.restart.Restart.{Restart}
-use Rattle.typst_reuse.proofs.RestartBytes.{stays-edited}
-use Rattle.typst_reuse.proofs.Restarts.{Stays, heads-same, is-inner}
+use Rattle.typst_reuse.proofs.Restarts.{heads-same, is-inner}
 use Rattle.typst_reuse.proofs.Whole.{leaves}
 use Rattle.typst_source.specs.Held.{Held}
 use Rattle.typst_source.specs.Headline.{Headline, AreNumbered, file_of}
-use Rattle.typst_source.specs.Records.{IsEdited, IsPlaced, Replaced, Records}
+use Rattle.typst_source.specs.Records.{IsPlaced, Replaced, Records}
 use Rattle.typst_source.proofs.Replaced.{replaced-spans, replaced-head, few-nodes}
 
 over-kids : (t : Tree) → over t.head (kids_of t) ≡ t
@@ -43,21 +42,14 @@ file-there : (from to : ℕ) (new : List Tree) (t u : Tree) (span : Option (ℕ 
 file-there from to new t u None e r n = none-some u (ap (λ s. option_map (with_kids t) (in_file s t.head (kids_of t) from to new)) (sym e) ∙ r)
 file-there from to new t u (Some p) e r n = none-some p.0 (sym n)
 
--- a restart up to which nothing was looked at behind the place of an edit
-pub edited-stays : (k : CharClasses) (old new : List ℕ) (at : ℕ) → IsEdited old new at → (r : Restart) → IsRestart k (chars old) r → r.reach ≤ at → Stays k (chars old) (chars new) r
-edited-stays k old new at e r h m = subst (λ t. Stays k (chars old) (chars t) r) (sym e.is) (stays-edited k old e.with at e.to e.utf8_old e.utf8 e.start e.end e.ordered r h m)
-
 pub root-inner : {C : Type 0} (k : CharClasses) (s : Held C) → Headline k s → s.root.head.is_inner ≡ true
 root-inner k s h = ap (λ (x : Head). x.is_inner) (heads-bare s.root (tree k (chars s.text)) h.tree) ∙ is-inner k (chars s.text)
 
-pub root-few : {C : Type 0} (k : CharClasses) (s : Held C) (now : List ℕ) (r : Restart) → Headline k s → Stays k (chars s.text) now r → r.nodes ≤ length (kids_of s.root)
-root-few k s now r h stays =
-    let same = lengths_from_bare (kids_of s.root) (kids_of (tree k (chars s.text))) (kids-bare s.root (tree k (chars s.text)) h.tree) in
-    let m = stays.few in
-    omega (arith, same, m)
+pub root-count : {C : Type 0} (k : CharClasses) (s : Held C) → Headline k s → length (kids_of s.root) ≡ length (kids_of (tree k (chars s.text)))
+root-count k s h = lengths_from_bare (kids_of s.root) (kids_of (tree k (chars s.text))) (kids-bare s.root (tree k (chars s.text)) h.tree)
 
-module _ {C : Type 0} (k : CharClasses) (old now : Held C) (from : Restart) (h : Headline k old) (p : IsPlaced (file_of old.root) old.root)
-    (stays : Stays k (chars old.text) (chars now.text) from) (r : Replaced k (chars now.text) from old.root now.root) where
+module _ {C : Type 0} (k : CharClasses) (old now : Held C) (bytes : Range ℕ) (rs : List Restart) (h : Headline k old) (p : IsPlaced (file_of old.root) old.root)
+    (r : Replaced k old.text now.text old.root now.root bytes rs) where
   abbrev t : Tree
   t = old.root
 
@@ -73,42 +65,37 @@ module _ {C : Type 0} (k : CharClasses) (old now : Held C) (from : Restart) (h :
   abbrev xs : List Tree
   xs = kids_of t
 
-  abbrev n : ℕ
-  n = from.nodes
+  abbrev i : ℕ
+  i = r.range.start
 
-  few : n ≤ length xs
-  few = root-few k old (chars now.text) from h stays
+  abbrev j : ℕ
+  j = r.range.end
 
-  inner : t.head.is_inner ≡ true
-  inner = root-inner k old h
+  reaches : Reaches [] i j t
+  reaches =
+      let x = r.exchanges in
+      (root-inner k old h, x.from, omega (arith, x.to, root-count k old h))
 
-  reaches : Reaches [] n (length xs) t
-  reaches = (inner, few, omega arith)
+  put-kids : kids_of (put_at [] i j r.nodes t) ≡ take i xs ++ (r.nodes ++ drop j xs)
+  put-kids = trees_forest (take i xs ++ (r.nodes ++ drop j xs))
 
-  -- the children of the new text's tree
-  before-is : r.rest.before ≡ take n (kids_of was)
-  before-is =
-      let i = r.rest in
-      sym (ap (take n) i.all ∙ take_at i.before r.nodes n i.count) ∙ stays.kids
+  bare-parts : (ys : List Tree) → map bare (take i ys ++ (r.nodes ++ drop j ys)) ≡ take i (map bare ys) ++ (map bare r.nodes ++ drop j (map bare ys))
+  bare-parts ys =
+      map-append bare (take i ys) (r.nodes ++ drop j ys) ∙ ap (λ zs. map bare (take i ys) ++ zs) (map-append bare r.nodes (drop j ys))
+      ∙ ap (λ zs. zs ++ (map bare r.nodes ++ map bare (drop j ys))) (sym (take-map bare i ys)) ∙ ap (λ zs. take i (map bare ys) ++ (map bare r.nodes ++ zs)) (sym (drop-map bare j ys))
 
-  kids-now : kids_of is ≡ take n (kids_of was) ++ r.nodes
-  kids-now = r.rest.all ∙ ap (λ ys. ys ++ r.nodes) before-is
-
-  put-kids : kids_of (put_at [] n (length xs) r.nodes t) ≡ take n xs ++ r.nodes
-  put-kids = trees_forest (take n xs ++ (r.nodes ++ drop (length xs) xs)) ∙ ap (λ ys. take n xs ++ (r.nodes ++ ys)) (drop_all (length xs) xs (omega arith)) ∙ ap (λ ys. take n xs ++ ys) (append-nil r.nodes)
-
-  kids-same : map bare (take n xs ++ r.nodes) ≡ map bare (take n (kids_of was) ++ r.nodes)
+  kids-same : map bare (take i xs ++ (r.nodes ++ drop j xs)) ≡ map bare (kids_of is)
   kids-same =
-      map-append bare (take n xs) r.nodes ∙ ap (λ ys. ys ++ map bare r.nodes) (sym (take-map bare n xs) ∙ ap (take n) (kids-bare t was h.tree) ∙ take-map bare n (kids_of was)) ∙ sym (map-append bare (take n (kids_of was)) r.nodes)
+      bare-parts xs ∙ ap (λ ys. take i ys ++ (map bare r.nodes ++ drop j ys)) (kids-bare t was h.tree) ∙ sym (bare-parts (kids_of was)) ∙ ap (map bare) (sym r.exchanges.kids)
 
   pub tree-again : bare u ≡ bare is
   tree-again =
-      let put = put_at [] n (length xs) r.nodes t in
-      replaces_children [] n (length xs) r.nodes t u reaches r.is
-      ∙ from-parts put is (heads-bare t was h.tree ∙ ap bare_head (heads-same k (chars old.text) (chars now.text))) (ap (map bare) put-kids ∙ kids-same ∙ ap (map bare) (sym kids-now))
+      let put = put_at [] i j r.nodes t in
+      replaces_children [] i j r.nodes t u reaches r.is
+      ∙ from-parts put is (heads-bare t was h.tree ∙ ap bare_head (heads-same k (chars old.text) (chars now.text))) (ap (map bare) put-kids ∙ kids-same)
 
   head-same : u.head ≡ t.head
-  head-same = replaced-head n (length xs) r.nodes t u reaches r.is
+  head-same = replaced-head i j r.nodes t u reaches r.is
 
   pub file-same : file_of u ≡ file_of t
   file-same = ap (λ (x : Head). option_map (λ place. place.0) x.span) head-same
@@ -118,12 +105,12 @@ module _ {C : Type 0} (k : CharClasses) (old now : Held C) (from : Restart) (h :
   placed-by (Some file) e q = ((r.order q.0).0, subst (λ (x : Head). 1 ≤ number_of x.span) (sym head-same) q.1, subst (λ (x : Head). upper_at x ≤ 2 ^ 47) (sym head-same) q.2)
 
   numbers-by : (file : Option ℕ) → file_of t ≡ file → AreNumbered file t → IsPlaced file t → AreNumbered file u
-  numbers-by None e a q = absurd (file-there n (length xs) r.nodes t u t.head.span refl r.is e)
+  numbers-by None e a q = absurd (file-there i j r.nodes t u t.head.span refl r.is e)
   numbers-by (Some file) e a q =
       let o = r.order q.0 in
       let placed = placed-by (Some file) e q in
       record {
-        spans = replaced-spans file n (length xs) r.nodes t u reaches r.is a.spans;
+        spans = replaced-spans file i j r.nodes t u reaches r.is a.spans;
         order = o.1;
         few = few-nodes u placed.0 placed.1 placed.2;
       }
@@ -139,5 +126,5 @@ module _ {C : Type 0} (k : CharClasses) (old now : Held C) (from : Restart) (h :
     numbers = subst (λ f. AreNumbered f u) (sym file-same) (numbers-by (file_of t) refl h.numbers p);
   }
 
-  pub records-again : IsUtf8 now.text → (rs : List Restart) → AreRestarts k (chars now.text) rs → Records k now rs
-  records-again utf8 rs restarts = record { headline = headline-again utf8; placed = placed-again; restarts = restarts }
+  pub records-again : IsUtf8 now.text → Records k now rs
+  records-again utf8 = record { headline = headline-again utf8; placed = placed-again; restarts = r.exchanges.restarts }

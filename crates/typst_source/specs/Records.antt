@@ -1,14 +1,14 @@
 -- What a source keeps beside its text, lines and tree.
-use Rattle.std.specs.Prelude.{◌≡◌, ℕ, ◌≤◌, ◌^◌, true, List, [], ◌++◌, length, take, drop, Option, Some, None}
-use Rattle.std.specs.Str.{chars, IsUtf8, IsCharBoundary}
+use Rattle.std.specs.Prelude.{◌≡◌, ℕ, ◌≤◌, ◌^◌, true, List, [], length, Option, Some, None}
+use Rattle.std.specs.Str.{chars}
 use Rattle.std.specs.declared.ops.Range.{Range}
 use Rattle.typst_kinds.specs.Span.{number_of}
 use Rattle.typst_node.specs.Tree.{Tree}
 use Rattle.typst_node.specs.Order.{AreInOrder, IsNumbered, numbers_of, upper_at}
-use Rattle.typst_node.specs.Replace.{kids_of, replaced_at}
+use Rattle.typst_node.specs.Replace.{replaced_at}
 use Rattle.typst_classes.specs.Classes.{CharClasses}
-use Rattle.typst_reuse.specs.Edit.{Among}
-use Rattle.typst_reuse.specs.Restart.{AreRestarts, Every, IsRest}
+use Rattle.typst_reuse.specs.Exchange.{Exchanges}
+use Rattle.typst_reuse.specs.Restart.{AreKept}
 use Rattle.typst_reuse.specs.declared.restart.Restart.{Restart}
 use Rattle.typst_source.specs.Held.{Held}
 use Rattle.typst_source.specs.Headline.{Headline, file_of}
@@ -27,29 +27,15 @@ IsPlaced (Some file) t = IsNumbered t × (1 ≤ number_of t.head.span) × (upper
 pub record Records {C : Type 0} (k : CharClasses) (s : Held C) (rs : List Restart) : Type 0 where
   pub headline : Headline k s
   pub placed : IsPlaced (file_of s.root) s.root
-  pub restarts : AreRestarts k (chars s.text) rs
+  pub restarts : AreKept k (chars s.text) rs
 
--- these are some of the restarts, and nothing was looked at behind a place up to them
-abbrev pub AreBefore : List Restart → ℕ → List Restart → Type 0
-AreBefore rs at kept = Every (λ r. Among r rs × (r.reach ≤ at)) kept
-
--- what is read of a text from a restart on stands in the place of the nodes behind it
-pub record Replaced (k : CharClasses) (text : List ℕ) (from : Restart) (t u : Tree) : Type 0 where
+-- what an edit of the text exchanges stands in the tree
+pub record Replaced (k : CharClasses) (old new : List ℕ) (t u : Tree) (bytes : Range ℕ) (rs : List Restart) : Type 0 where
   pub nodes : List Tree
-  pub rest : IsRest k text from.nodes nodes
-  pub is : replaced_at [] from.nodes (length (kids_of t)) nodes t ≡ Some u
+  pub range : Range ℕ
+  pub exchanges : Exchanges k old new nodes range bytes rs
+  pub is : replaced_at [] range.start range.end nodes t ≡ Some u
   pub order : IsNumbered t → IsNumbered u × AreInOrder (numbers_of u)
-
--- in a text a stretch that begins at a place was replaced
-pub record IsEdited (old new : List ℕ) (at : ℕ) : Type 0 where
-  pub to : ℕ
-  pub with : List ℕ
-  pub utf8_old : IsUtf8 old
-  pub utf8 : IsUtf8 with
-  pub start : IsCharBoundary old at
-  pub end : IsCharBoundary old to
-  pub ordered : at ≤ to
-  pub is : new ≡ take at old ++ (with ++ drop to old)
 
 -- a source has another text now, and a range of it was read
 pub record Edits {C : Type 0} (k : CharClasses) (old new : Held C) (text : List ℕ) (range : Range ℕ) : Type 0 where

@@ -4,12 +4,12 @@ ghost use Rattle.std.specs.Str.{IsCharBoundary, chars};
 ghost use Rattle.std.specs.String.{string_bytes};
 ghost use Rattle.typst_node.specs.Tree.{text_of, bare, nodes};
 ghost use Rattle.typst_entry.specs.Grammar.{tree};
-ghost use Rattle.typst_reuse.specs.Edit.{Among};
-ghost use Rattle.typst_reuse.specs.Restart.{AreRestarts, IsRestart};
+ghost use Rattle.typst_reuse.specs.Exchange.{IsEdited};
+ghost use Rattle.typst_reuse.specs.Restart.{AreKept};
 ghost use Rattle.typst_node.specs.Replace.{kids_of};
 ghost use Rattle.typst_source.specs.Headline.{Headline, edited, file_of, AreNumbered, AreOrdered, numbered_in};
 ghost use Rattle.typst_source.specs.Tried.{Tries};
-ghost use Rattle.typst_source.specs.Records.{AreBefore, Edits, IsEdited, IsPlaced, IsPlacedBy, Replaced};
+ghost use Rattle.typst_source.specs.Records.{Edits, IsPlaced, IsPlacedBy, Replaced};
 
 use std::alloc::{AllocError, Global};
 use std::fmt;
@@ -20,7 +20,7 @@ use typst_entry::root_over;
 use typst_kinds::{FileId, SourceError, Span, SpanNumber, SubRange, SyntaxKind};
 use typst_lines::Lines;
 use typst_node::SyntaxNode;
-use typst_reuse::{Restart, read_on};
+use typst_reuse::{Replacement, Restart, read_edited, read_text};
 use typst_tree::LinkedNode;
 
 /// The numbers that nodes can have.
@@ -38,7 +38,7 @@ pub struct Source<C: Classes> {
     root: SyntaxNode,
     classes: C,
     has_records: bool,
-    /// Where the text can be read anew, in order.
+    /// Where the text can be read anew, from its end to its start.
     restarts: Vec<Restart>,
 }
 
@@ -94,84 +94,53 @@ fn parse_anew<C: Classes>(
     ensures leaves { IfOk result (λ made. text_of made.root ≡ text.now) }
     ensures numbers { IfOk result (λ made. AreNumbered file made.root) }
     ensures placed { IfOk result (λ made. IsPlaced file made.root) }
-    ensures restarts { IfOk result (λ made. AreRestarts (C.classes classes.now) (chars text.now) made.restarts.items) }
+    ensures restarts { IfOk result (λ made. AreKept (C.classes classes.now) (chars text.now) made.restarts.items) }
     ensures refused { result ≡ Err SourceError.SpanNumbers → numbered_in file (tree (C.classes classes.now) (chars text.now)) ≡ None }
 {
-    let Ok(rest) = read_on(alloc, text, Restart::start(), classes) else {
+    let Ok(whole) = read_text(alloc, text, classes) else {
         return Err(SourceError::OutOfMemory);
     };
-    let Ok(mut root) = root_over(SyntaxKind::Markup, rest.nodes) else {
+    let Ok(mut root) = root_over(SyntaxKind::Markup, whole.nodes) else {
         return Err(SourceError::OutOfMemory);
     };
     number(&mut root, file)?;
     Ok(Parsed {
         root,
-        restarts: rest.restarts,
+        restarts: whole.restarts,
     })
 }
 
-/// The restarts up to which nothing was looked at behind a place.
-fn restarts_before(
-    alloc: Global,
-    restarts: &Vec<Restart>,
-    at: usize,
-) -> Result<Vec<Restart>, AllocError>
-    ensures { IfOk result (λ kept. AreBefore restarts.now.items at kept.items) }
-{
-    let mut kept = Vec::new(alloc);
-    let mut index = 0usize;
-    'restarts: loop {
-        let Some(restart) = restarts.get(index) else {
-            return Ok(kept);
-        };
-        if restart.reach <= at {
-            kept.push(*restart)?;
-        }
-        index = index.saturating_add(1);
-    }
-}
-
-/// The last of some restarts.
-fn last_of(restarts: &Vec<Restart>) -> Option<Restart>
-    ensures { IfSome result (λ r. Among r restarts.now.items) }
-{
-    match restarts.get(restarts.len().saturating_sub(1)) {
-        Some(restart) => Some(*restart),
-        None => None,
-    }
-}
-
-/// Reads a text from a restart on, and puts the nodes in the place of those that stand behind it in
-/// the tree; the restarts from there on come behind the others. It answers whether it did: where the
-/// nodes find no numbers the tree stays as it was.
+/// Reads of an edited text what the edit may have changed, and puts the nodes in the place of those
+/// that stood there. It answers which bytes of the new text were read, or none where the nodes find
+/// no numbers: then the tree and the restarts stay as they were.
 fn reparse<C: Classes>(
     alloc: Global,
     root: &mut SyntaxNode,
-    text: &str,
-    from: Restart,
+    old: &str,
+    new: &str,
+    edit: Replacement,
     restarts: &mut Vec<Restart>,
     classes: &C,
-) -> Result<bool, SourceError>
-    requires restart { IsRestart (C.classes classes.now) (chars text.now) from }
-    requires restarts { AreRestarts (C.classes classes.now) (chars text.now) restarts.old.items }
+) -> Result<Option<Range<usize>>, SourceError>
+    requires edit { IsEdited old.now new.now edit }
+    requires restarts { AreKept (C.classes classes.now) (chars old.now) restarts.old.items }
     requires inner { IsTrue root.old.head.is_inner }
-    requires few { from.nodes ≤ length (kids_of root.old) }
-    ensures done { IfOk result (λ b. b ≡ true → Replaced (C.classes classes.now) (chars text.now) from root.old root.new) }
-    ensures undone { IfOk result (λ b. b ≡ false → root.new ≡ root.old) }
-    ensures restarts { OnOk result (AreRestarts (C.classes classes.now) (chars text.now) restarts.new.items) }
-    ensures err { OnErr result (root.new ≡ root.old) }
+    requires count { length (kids_of root.old) ≡ length (kids_of (tree (C.classes classes.now) (chars old.now))) }
+    ensures done { IfOk result (λ read. IfSome read (λ bytes. Replaced (C.classes classes.now) old.now new.now root.old root.new bytes restarts.new.items)) }
+    ensures undone { result ≡ Ok None → (root.new ≡ root.old) × (restarts.new ≡ restarts.old) }
+    ensures err { OnErr result ((root.new ≡ root.old) × (restarts.new ≡ restarts.old)) }
     ensures memory { IfErr result (λ e. e ≡ SourceError.OutOfMemory) }
 {
-    let Ok(rest) = read_on(alloc, text, from, classes) else {
+    let count = root.children().len();
+    let Ok(exchange) = read_edited(alloc, old, new, edit, restarts, count, classes) else {
         return Err(SourceError::OutOfMemory);
     };
-    restarts
-        .extend_from_slice(rest.restarts.as_slice())
-        .map_err(out_of_memory)?;
-    let end = root.children().len();
-    match root.replace_at(&[], from.nodes..end, rest.nodes) {
-        Ok(()) => Ok(true),
-        Err(SourceError::SpanNumbers) => Ok(false),
+    match root.replace_at(&[], exchange.range, exchange.nodes) {
+        Ok(()) => {
+            *restarts = exchange.restarts;
+            Ok(Some(exchange.bytes))
+        }
+        Err(SourceError::SpanNumbers) => Ok(None),
         Err(SourceError::OutOfMemory) => Err(SourceError::OutOfMemory),
     }
 }
@@ -198,7 +167,9 @@ fn edited(
     ensures ok { IfOk result (λ made. string_bytes made ≡ edited text.now replace with.now) }
     ensures err { IfErr result (λ e. e ≡ SourceError.OutOfMemory) }
 {
-    let mut made = String::new(alloc);
+    let gone = replace.end.saturating_sub(replace.start);
+    let size = text.len().saturating_sub(gone).saturating_add(with.len());
+    let mut made = String::with_capacity(alloc, size).map_err(out_of_memory)?;
     made.push_str(&text[..replace.start])
         .map_err(out_of_memory)?;
     made.push_str(with).map_err(out_of_memory)?;
@@ -385,22 +356,27 @@ impl<C: Classes> Source<C> {
         ensures err { OnErr result (self.new ≡ self.old) }
         ensures refused { result ≡ Err SourceError.SpanNumbers → numbered_in (file_of self.old.root) (tree (C.classes self.old.classes) (chars (edited self.old.text replace with.now))) ≡ None }
     {
-        let at = replace.start;
+        let Range { start, end } = replace;
         let text = edited(self.alloc, self.text(), replace, with)?;
         let Ok(lines) = Lines::new(self.alloc, text) else {
             return Err(SourceError::OutOfMemory);
         };
-        match self.read_behind(at, lines)? {
+        let behind = self.lines.len_bytes().saturating_sub(end);
+        let edit = Replacement {
+            start,
+            old_end: end,
+            new_end: lines.len_bytes().saturating_sub(behind),
+        };
+        match self.read_edit(edit, lines)? {
             Tried::Done(range) => Ok(range),
             Tried::Undone(lines) => Ok(self.read_whole(lines)?),
         }
     }
 
-    /// Makes a text the text, of which all before a place is as it was, by reading it from the last
-    /// restart up to which nothing was looked at behind that place. Where there is none, or the new
-    /// nodes find no numbers, nothing changes.
-    fn read_behind(&mut self, at: usize, lines: Lines<String>) -> Result<Tried, SourceError>
-        requires { IsEdited self.old.text lines at }
+    /// Makes a text the text, of which a stretch was replaced, by reading what that may have changed.
+    /// Where there are no records, or the new nodes find no numbers, nothing changes.
+    fn read_edit(&mut self, edit: Replacement, lines: Lines<String>) -> Result<Tried, SourceError>
+        requires { IsEdited self.old.text lines edit }
         ensures tried { IfOk result (λ t. Tries (C.classes self.old.classes) self.old self.new lines t) }
         ensures err { OnErr result (self.new ≡ self.old) }
         ensures memory { IfErr result (λ e. e ≡ SourceError.OutOfMemory) }
@@ -408,27 +384,20 @@ impl<C: Classes> Source<C> {
         if !self.has_records {
             return Ok(Tried::Undone(lines));
         }
-        let Ok(mut kept) = restarts_before(self.alloc, &self.restarts, at) else {
-            return Err(SourceError::OutOfMemory);
-        };
-        let Some(from) = last_of(&kept) else {
-            return Ok(Tried::Undone(lines));
-        };
-        let text = lines.text();
-        if !reparse(
+        let Some(bytes) = reparse(
             self.alloc,
             &mut self.root,
-            text,
-            from,
-            &mut kept,
+            self.lines.text(),
+            lines.text(),
+            edit,
+            &mut self.restarts,
             &self.classes,
-        )? {
+        )?
+        else {
             return Ok(Tried::Undone(lines));
-        }
-        let end = lines.len_bytes();
+        };
         self.lines = lines;
-        self.restarts = kept;
-        Ok(Tried::Done(from.cursor..end))
+        Ok(Tried::Done(bytes))
     }
 
     /// Makes a text the text, by reading the whole of it.

@@ -4,6 +4,7 @@ use crate::sources::{detached, edit};
 use crate::whole::is_whole;
 use std::alloc::Global;
 use std::cell::Cell;
+use std::ops::Range;
 use typst_parser::{Source, SourceError, SyntaxKind};
 use typst_test_classes::Counting;
 
@@ -33,9 +34,9 @@ fn lines(alloc: Global, count: usize) -> Option<String> {
     Some(text)
 }
 
-/// Where the part begins that is read for a letter put in so many bytes before the end of many lines,
-/// if the source is whole then and its first node has its span.
-fn begins(alloc: Global, before: usize) -> Option<usize> {
+/// The part that is read for a letter put in so many bytes before the end of many lines, if the source
+/// is whole then and its first node has its span.
+fn part(alloc: Global, before: usize) -> Option<Range<usize>> {
     let text = lines(alloc, 300)?;
     let mut source = detached(alloc, text.as_str()).ok()?;
     let first = source.root().children().first()?.span();
@@ -47,40 +48,55 @@ fn begins(alloc: Global, before: usize) -> Option<usize> {
     let mut now = String::from_str(alloc, text.get(..at)?).ok()?;
     now.push_str("x").ok()?;
     now.push_str(text.get(at..)?).ok()?;
-    if answer.end != now.len() || source.root().children().first()?.span() != first {
+    if source.root().children().first()?.span() != first {
         return None;
     }
     if is_whole(alloc, &source, now.as_str())? {
-        Some(answer.start)
+        Some(answer)
     } else {
         None
     }
 }
 
 #[test]
-fn an_edit_is_read_from_before_it_on(rt: HostRuntime) {
-    let start = begins(rt.alloc(), 10);
-    assert!(rt; start.is_some_and(|start| start > 6_000 && start <= 8_990));
-    let start = begins(rt.alloc(), 4_500);
-    assert!(rt; start.is_some_and(|start| start > 2_000 && start <= 4_500));
+fn an_edit_is_read_from_before_it_to_behind_it(rt: HostRuntime) {
+    let near_end = part(rt.alloc(), 10);
+    assert!(rt;
+        near_end.is_some_and(|part| part.start > 6_000 && part.start <= 8_990 && part.end == 9_001)
+    );
+    let inside = part(rt.alloc(), 4_500);
+    assert!(rt;
+        inside.is_some_and(|part| part.start > 2_000
+            && part.start <= 4_500
+            && part.end > 4_500
+            && part.end < 7_000)
+    );
+    let near_start = part(rt.alloc(), 8_960);
+    assert!(rt;
+        near_start.is_some_and(|part| part.start == 0 && part.end > 40 && part.end < 3_000)
+    );
 }
 
-/// How often the classes are asked for many lines, and for a letter that is put in behind them.
-fn calls(alloc: Global) -> Option<(usize, usize)> {
+/// How often the classes are asked for so many lines, and for a letter that is put in behind half of
+/// them.
+fn calls(alloc: Global, count: usize) -> Option<(usize, usize)> {
     let calls = Cell::new(0usize);
     let classes = Counting { calls: &calls };
-    let text = lines(alloc, 300)?;
-    let end = text.len();
+    let text = lines(alloc, count)?;
+    let middle = text.len() / 2;
     let mut source = Source::detached(alloc, text, classes).ok()?;
     let whole = calls.replace(0);
-    if !source.text().is_char_boundary(end) {
+    if !source.text().is_char_boundary(middle) {
         return None;
     }
-    source.edit(end..end, "x").ok()?;
+    source.edit(middle..middle, "x").ok()?;
     Some((whole, calls.get()))
 }
 
 #[test]
-fn an_edit_leaves_what_is_before_it_unread(rt: HostRuntime) {
-    assert!(rt; calls(rt.alloc()).is_some_and(|(whole, part)| part > 0 && part < whole / 3));
+fn an_edit_leaves_what_is_around_it_unread(rt: HostRuntime) {
+    assert!(rt; calls(rt.alloc(), 300).is_some_and(|(whole, part)| part > 0 && part < whole / 2));
+    assert!(rt;
+        calls(rt.alloc(), 3_000).is_some_and(|(whole, part)| part > 0 && part < whole / 20)
+    );
 }

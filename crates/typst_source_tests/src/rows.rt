@@ -129,7 +129,7 @@ fn repeated(alloc: Global, text: &str, times: usize) -> Option<String> {
 }
 
 fn long_stays_whole(alloc: Global, edits: usize) -> Option<bool> {
-    let markup = repeated(alloc, MARKUP, 14)?;
+    let markup = repeated(alloc, MARKUP, 24)?;
     stays_whole(alloc, markup.as_str(), &MARKS, edits)
 }
 

@@ -1,4 +1,4 @@
-use Rattle.std.proofs.Common.{◌≡◌, ◌∙◌, Some, None, ap, subst}
+use Rattle.std.proofs.Common.{refl, ◌≡◌, ◌∙◌, Some, None, ap, subst}
 use Rattle.std.proofs.lemmas.Str.{encodes-chars}
 use Rattle.std.specs.Str.{chars}
 use Rattle.typst_node.specs.Tree.{Tree, text_of}
@@ -10,17 +10,17 @@ use Rattle.typst_source.proofs.source.parse_anew.Goals as goal
 
 pub returns-in_err-number-clause-refused : goal.returns-in_err-number-clause-refused
 returns-in_err-number-clause-refused g c =
-    λ is. subst (λ (t : Tree). numbered_in c.args.file t ≡ None) (c.in-Ok-root_over.ensures ∙ whole-tree (g.C.Classes.classes c.args.classes.now) (chars c.args.text.now) c.start.result.nodes c.in-Ok.rest.nodes.items c.in-Ok.ensures.nodes c.start.ensures.nodes) c.in_err-number.ensures.numbers.1
+    λ is. subst (λ (t : Tree). numbered_in c.args.file t ≡ None) (c.in-Ok-root_over.ensures ∙ whole-tree (g.C.Classes.classes c.args.classes.now) (chars c.args.text.now) 0 c.in-Ok.whole.nodes.items c.in-Ok.ensures.nodes refl) c.in_err-number.ensures.numbers.1
 
 pub returns-clause-tree : goal.returns-clause-tree
 returns-clause-tree g c =
-    subst (λ (t : Tree). numbered_in c.args.file t ≡ Some c.number.new.root) (c.in-Ok-root_over.ensures ∙ whole-tree (g.C.Classes.classes c.args.classes.now) (chars c.args.text.now) c.start.result.nodes c.in-Ok.rest.nodes.items c.in-Ok.ensures.nodes c.start.ensures.nodes) c.in_ok-number.ensures.numbers
+    subst (λ (t : Tree). numbered_in c.args.file t ≡ Some c.number.new.root) (c.in-Ok-root_over.ensures ∙ whole-tree (g.C.Classes.classes c.args.classes.now) (chars c.args.text.now) 0 c.in-Ok.whole.nodes.items c.in-Ok.ensures.nodes refl) c.in_ok-number.ensures.numbers
 
 pub returns-clause-leaves : goal.returns-clause-leaves
 returns-clause-leaves g c =
     let k = g.C.Classes.classes c.args.classes.now in
     fresh-text c.args.file c.in-Ok-root_over.root _ c.in_ok-number.ensures.numbers
-    ∙ ap (λ (t : Tree). text_of t) (c.in-Ok-root_over.ensures ∙ whole-tree k (chars c.args.text.now) c.start.result.nodes c.in-Ok.rest.nodes.items c.in-Ok.ensures.nodes c.start.ensures.nodes)
+    ∙ ap (λ (t : Tree). text_of t) (c.in-Ok-root_over.ensures ∙ whole-tree k (chars c.args.text.now) 0 c.in-Ok.whole.nodes.items c.in-Ok.ensures.nodes refl)
     ∙ leaves k (chars c.args.text.now) ∙ encodes-chars c.args.text.now c.utf8.text
 
 pub returns-clause-numbers : goal.returns-clause-numbers

@@ -1,9 +1,9 @@
 use Rattle.std.proofs.Common.{◌∙◌, ap, sym, subst}
 use Rattle.typst_reuse.specs.Edit.{Among}
-use Rattle.typst_source.specs.Records.{AreBefore}
-use Rattle.typst_source.proofs.Kept.{among-at, before-more}
-use Rattle.typst_source.proofs.source.restarts_before.Goals as goal
-use Rattle.typst_source.proofs.source.restarts_before.Goals.{then-restart-at+in_ok-push, else-restart-at}
+use Rattle.typst_reuse.specs.Exchange.{AreBefore}
+use Rattle.typst_reuse.proofs.Chosen.{among-at, before-more}
+use Rattle.typst_reuse.proofs.edited.restarts_before.Goals as goal
+use Rattle.typst_reuse.proofs.edited.restarts_before.Goals.{then-restart-at+in_ok-push, else-restart-at}
 
 pub restarts-preserved : goal.restarts-preserved
 restarts-preserved c =

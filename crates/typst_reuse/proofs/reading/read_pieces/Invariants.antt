@@ -5,14 +5,12 @@ use Rattle.typst_grammar.specs.Markup.{markup_turn}
 use Rattle.typst_grammar.specs.Meaning.{Level}
 use Rattle.typst_grammar.specs.View.{Fills, Fits}
 use Rattle.typst_grammar.proofs.Steps.{Turning}
-use Rattle.typst_reuse.specs.Saved.{Adds}
 use Rattle.typst_reuse.proofs.Loops.{After}
-use Rattle.typst_reuse.proofs.restart.read_pieces.Given as goal
+use Rattle.typst_reuse.proofs.reading.read_pieces.Given as goal
 
 abbrev pub invariant-turns : goal.invariant-turns
 invariant-turns g l =
-    (v : Level) → Fills v (g.L.Levels.frame l.g) → Turning v (markup_turn true is_end) (l.from.at_start, l.from.nesting) l.fn.p l.state l.p
-    × (Fits v l.fn.p → After v l.from l.fn.p l.state l.p × Adds v l.from l.fn.p l.fn.restarts.items l.restarts.items)
+    (v : Level) → Fills v (g.L.Levels.frame l.g) → Turning v (markup_turn true is_end) (l.from.at_start, l.from.nesting) l.fn.p l.state l.p × (Fits v l.fn.p → After v l.from l.fn.p l.state l.p)
 
 abbrev pub decreases-turns : goal.decreases-turns
 decreases-turns g l = bytes_left l.p.place

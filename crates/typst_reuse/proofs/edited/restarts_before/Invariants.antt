@@ -1,6 +1,6 @@
 use Rattle.std.proofs.Common.{◌-◌, length}
-use Rattle.typst_source.specs.Records.{AreBefore}
-use Rattle.typst_source.proofs.source.restarts_before.Given as goal
+use Rattle.typst_reuse.specs.Exchange.{AreBefore}
+use Rattle.typst_reuse.proofs.edited.restarts_before.Given as goal
 
 abbrev pub invariant-restarts : goal.invariant-restarts
 invariant-restarts l = AreBefore l.restarts.items l.at l.kept.items

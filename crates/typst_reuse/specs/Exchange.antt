@@ -1,0 +1,75 @@
+-- What an edit of a text exchanges in its tree.
+use Rattle.std.specs.Prelude.{◌≡◌, ℕ, ◌+◌, ◌≤◌, min, List, [], ◌∷◌, ◌++◌, length, take, drop}
+use Rattle.std.specs.Str.{chars, IsUtf8, IsCharBoundary}
+use Rattle.std.specs.declared.ops.Range.{Range}
+use Rattle.typst_node.specs.Tree.{Tree, trees}
+use Rattle.typst_classes.specs.Classes.{CharClasses}
+use Rattle.typst_grammar.specs.Grammar.{tree}
+use Rattle.typst_reuse.specs.Edit.{Among}
+use Rattle.typst_reuse.specs.Restart.{AreKept, Every, IsRestart}
+use Rattle.typst_reuse.specs.Shifted.{IsShifted, IsBehind}
+use Rattle.typst_reuse.specs.declared.edited.Replacement.{Replacement}
+use Rattle.typst_reuse.specs.declared.restart.Restart.{Restart}
+
+-- in a text a stretch was replaced
+pub record IsEdited (old new : List ℕ) (e : Replacement) : Type 0 where
+  pub with : List ℕ
+  pub utf8_old : IsUtf8 old
+  pub utf8 : IsUtf8 with
+  pub start : IsCharBoundary old e.start
+  pub end : IsCharBoundary old e.old_end
+  pub ordered : e.start ≤ e.old_end
+  pub is : new ≡ take e.start old ++ (with ++ drop e.old_end old)
+  pub new_end : e.new_end ≡ e.start + length with
+
+-- these come in the place of the nodes of the range at the top of the tree, and the new text can be read anew at these restarts
+pub record Exchanges (k : CharClasses) (old new : List ℕ) (ts : List Tree) (range bytes : Range ℕ) (rs : List Restart) : Type 0 where
+  pub from : range.start ≤ range.end
+  pub to : range.end ≤ length (trees (tree k (chars old)).kids)
+  pub kids : (let was = trees (tree k (chars old)).kids in trees (tree k (chars new)).kids ≡ take range.start was ++ (ts ++ drop range.end was))
+  pub ordered : bytes.start ≤ bytes.end
+  pub within : bytes.end ≤ length new
+  pub restarts : AreKept k (chars new) rs
+
+-- ---- restarts of the old text
+
+-- the first of several, or else the start of any text
+abbrev pub IsNearest : List Restart → Restart → Type 0
+IsNearest [] r = (r.reach ≡ 0) × ((k : CharClasses) (text : List ℕ) → IsRestart k text r)
+IsNearest (q ∷ qs) r = r ≡ q
+
+-- these are some of them, and nothing that lies behind a place was looked at up to them
+abbrev pub AreBefore : List Restart → ℕ → List Restart → Type 0
+AreBefore rs at kept = Every (λ r. Among r rs × (r.reach ≤ at)) kept
+
+-- each of these is one of them behind the stretch
+pub record Shifts (rs : List Restart) (e : Replacement) (s : Restart) : Type 0 where
+  pub was : Restart
+  pub among : Among was rs
+  pub shifted : IsShifted e.old_end e.new_end was s
+
+abbrev pub AreShifted : List Restart → Replacement → List Restart → Type 0
+AreShifted rs e goals = Every (Shifts rs e) goals
+
+-- more of them, each one of the goals behind where the reading arrived
+pub record Behinds (goals : List Restart) (goal met s : Restart) : Type 0 where
+  pub was : Restart
+  pub among : Among was goals
+  pub behind : IsBehind goal met was s
+
+pub record AddsBehind (goals : List Restart) (goal met : Restart) (old new : List Restart) : Type 0 where
+  pub more : List Restart
+  pub is : new ≡ old ++ more
+  pub each : Every (Behinds goals goal met) more
+
+-- more of them, each one of those before a restart, with a lower floor
+pub record Lowered (before : List Restart) (from : Restart) (floor : ℕ) (s : Restart) : Type 0 where
+  pub was : Restart
+  pub among : Among was before
+  pub order : was.cursor ≤ from.cursor
+  pub is : s ≡ record was { floor = min was.floor floor }
+
+pub record AddsBefore (before : List Restart) (from : Restart) (floor : ℕ) (old new : List Restart) : Type 0 where
+  pub more : List Restart
+  pub is : new ≡ old ++ more
+  pub each : Every (Lowered before from floor) more
