@@ -10,6 +10,8 @@
 --   notes_law                    PieceNotes: of a whole text and of a content block; Marks: in any list of asks
 --   path_law                     Walk: the steps; Placed: what stands before a block
 --   blocks_of_texts, runs_of_texts, conditions_of_texts, rare_conditions_of_texts      computed (laws)
+--   read_text                    Parts: from one restart to the next; Passing: all that are met, and their floors; Loops: pieces until one can be kept; Fresh: what is known at one is found anew
+--   read_edited                  Exchanged: what the edit exchanges; Behind, Before: the restarts behind it and before it; Chosen: which are chosen; Onwards, Restarts, RestartBytes: what a restart is; MadeOn: pieces behind others
 pub mod Every
 pub mod Outcomes
 pub mod Wrap

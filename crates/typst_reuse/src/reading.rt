@@ -18,7 +18,7 @@ use typst_lines::Scanner;
 use typst_node::SyntaxNode;
 
 /// So many bytes lie between two restarts at least, but around an edit.
-const APART: usize = 1024;
+const APART: usize = 512;
 
 /// Room is taken at once for a node for each byte, but for so many nodes at most.
 const MOST_ROOM: usize = 100_000;
