@@ -88,6 +88,9 @@ module _ (s : List ℕ) (u : IsUtf8 s) (n k : ℕ) (size : k ≡ bytes (take n (
       let le : k ≤ length s = omega (arith, long, ap length whole, length-append front rest) in
       IsCharBoundary-from_drop s k le (drop n (chars s), ((scalars-both n (chars s) (scalars-chars s u)).1, sym front-drop))
 
+  pub front-ahead : chars (drop k s) ≡ drop n (chars s)
+  front-ahead = ap chars front-drop ∙ chars-encodes (drop n (chars s)) (scalars-both n (chars s) (scalars-chars s u)).1
+
   pub front-chars : chars (take k s) ≡ take n (chars s)
   front-chars = ap chars front-take ∙ chars-encodes (take n (chars s)) (scalars-both n (chars s) (scalars-chars s u)).0
 

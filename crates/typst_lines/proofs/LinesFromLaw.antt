@@ -12,13 +12,13 @@ use Rattle.typst_lines.specs.Lines.{utf16_len, units, bytes, line_table, lines_a
 use Rattle.typst_lines.specs.declared.lines.Line.{Line}
 
 module _ (k : ℕ) where
-  abbrev after : Line → Bool
+  abbrev pub after : Line → Bool
   after l = nat_lt k l.byte_idx
 
-  later-line : (n : ℕ) → k < n → nat_lt k n ≡ true
+  pub later-line : (n : ℕ) → k < n → nat_lt k n ≡ true
   later-line n lt = grind (arith, nat_tests)
 
-  earlier-line : (n : ℕ) → n ≤ k → nat_lt k n ≡ false
+  pub earlier-line : (n : ℕ) → n ≤ k → nat_lt k n ≡ false
   earlier-line n le = grind (arith, nat_tests)
 
   kept : (t : Bool) (x : Line) (xs : List Line) → nat_lt k x.byte_idx ≡ true → filter after xs ≡ xs → filter after (onto_if t x xs) ≡ onto_if t x xs

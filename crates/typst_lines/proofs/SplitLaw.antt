@@ -1,5 +1,5 @@
 -- The stretches between line ends, and that they make the text with the line ends put back.
-use Rattle.std.proofs.Common.{◌≡◌, Bool, length, ℕ, ◌+◌, ◌-◌, ◌&&◌, ◌==◌, if◌then◌else◌, List, [], ◌∷◌, ◌++◌, slice_get, Option, Some, None, refl, sym, ap, subst, ◌∙◌, true, false, arith, take, append_assoc, append-nil, take_at, length-append, map, Bor}
+use Rattle.std.proofs.Common.{◌≡◌, Bool, length, ℕ, ◌+◌, ◌&&◌, ◌==◌, if◌then◌else◌, List, [], ◌∷◌, ◌++◌, slice_get, Option, Some, None, refl, sym, ap, subst, ◌∙◌, true, false, arith, take, append_assoc, append-nil, take_at, length-append, map, Bor}
 use Rattle.std.proofs.lemmas.Bool.Decides.{nat_tests}
 use Rattle.std.specs.Str.{chars}
 use Rattle.typst_lines.proofs.LineTable.{place-end}

@@ -1,5 +1,5 @@
 //! The lines of a text, and positions in bytes, lines, columns and UTF-16 units.
-ghost use Rattle.std.specs.Prelude.{◌≡◌, ◌≢◌, ℕ, ◌+◌, ◌-◌, ◌≤◌, ◌<◌, ◌^◌, ◌++◌, List, length, Some, false, IsTrue, ◌↔◌, IfOk, IfSome, MatchOption, OnErr, not, take, drop, reverse, slice_get, nat_eq};
+ghost use Rattle.std.specs.Prelude.{◌≡◌, ◌≢◌, ℕ, ◌+◌, ◌-◌, ◌≤◌, ◌<◌, ◌^◌, ◌++◌, List, length, map, Some, false, IsTrue, ◌↔◌, IfOk, IfSome, MatchOption, OnErr, OnOk, not, take, drop, reverse, slice_get, nat_eq};
 ghost use Rattle.std.specs.Option.{SomeIff};
 ghost use Rattle.std.specs.Str.{IsCharBoundary, IsUtf8, chars};
 ghost use Rattle.std.specs.String.{string_bytes};
@@ -8,6 +8,7 @@ ghost use Rattle.std.specs.Cmp.Lexicographic.{pointwise, nat_list_eq_equiv};
 ghost use Rattle.std.specs.Cmp.Rules.{hashing};
 ghost use Rattle.std.specs.Hash as fed;
 ghost use Rattle.std.proofs.Common.{rules};
+ghost use Rattle.typst_lines.specs.Edited.{IsEdit, moved_line, units_at};
 ghost use Rattle.typst_lines.specs.Newline.{is_newline, ends_line};
 ghost use Rattle.typst_lines.specs.Place.{char_width, place_at, scout};
 ghost use Rattle.typst_lines.specs.Replacement.{Replaces};
@@ -374,6 +375,64 @@ impl<S: Text> Lines<S> {
     }
 }
 
+impl<S: Text> Lines<S> {
+    /// The lines of the text with another one in the place of a range of bytes, whose ends are on
+    /// character boundaries. What starts before the range stays, and what starts behind it moves.
+    pub fn edited(
+        &self,
+        alloc: Global,
+        replace: Range<usize>,
+        with: &str,
+    ) -> Result<Lines<String>, AllocError>
+        requires start { IsCharBoundary self.now replace.start }
+        requires end { IsCharBoundary self.now replace.end }
+        requires ordered { replace.start ≤ replace.end }
+        ensures { IfOk result (λ lines. lines ≡ take replace.start self.now ++ with.now ++ drop replace.end self.now) }
+    {
+        let Range { start, end } = replace;
+        let old = self.text();
+        let kept = old.len().saturating_sub(end.saturating_sub(start));
+        let mut text = String::with_capacity(alloc, kept.saturating_add(with.len()))?;
+        text.push_str(&old[..start])?;
+        text.push_str(with)?;
+        let new_end = text.len();
+        text.push_str(&old[end..])?;
+        let lines = self.edited_table(alloc, text.as_str(), start, end, new_end)?;
+        Ok(Lines { text, lines })
+    }
+
+    /// The table of the lines of an edited text, in which the stretch between two bytes ends at
+    /// another one now.
+    fn edited_table(
+        &self,
+        alloc: Global,
+        text: &str,
+        start: usize,
+        end: usize,
+        new_end: usize,
+    ) -> Result<Vec<Line>, AllocError>
+        requires edit { IsEdit self.now text.now start end new_end }
+        requires short { length text.now < 2 ^ 64 }
+        ensures { IfOk result (λ lines. lines.items ≡ line_table text.now) }
+    {
+        let old = self.lines.as_slice();
+        let before = start.saturating_sub(1);
+        let first = self.line_before(before);
+        let number = self.line_holding(before);
+        let behind = &old[self.line_holding(end) + 1..];
+        let mut lines = Vec::with_capacity(alloc, old.len())?;
+        lines.extend_from_slice(&old[..number + 1])?;
+        for line in LinesFrom::new(text, first.byte_idx, first.utf16_idx) {
+            if line.byte_idx > new_end {
+                move_lines(&mut lines, behind, end, new_end, line.utf16_idx)?;
+                return Ok(lines);
+            }
+            lines.push(line)?;
+        }
+        Ok(lines)
+    }
+}
+
 impl Lines<String> {
     /// A copy.
     pub fn try_clone(&self) -> Result<Lines<String>, AllocError>
@@ -426,13 +485,7 @@ impl Lines<String> {
         ensures err { OnErr result (self.new ≡ self.old) }
     {
         let alloc = *self.text.allocator();
-        let mut text = String::new(alloc);
-        text.push_str(&self.text.as_str()[..replace.start])?;
-        text.push_str(with)?;
-        text.push_str(&self.text.as_str()[replace.end..])?;
-        let starts = line_table(alloc, text.as_str())?;
-        self.text = text;
-        self.lines = starts;
+        *self = self.edited(alloc, replace, with)?;
         Ok(())
     }
 }
@@ -536,4 +589,31 @@ fn common_end_len(old: &str, new: &str) -> usize
         second.uneat();
     }
     old.len() - first.cursor()
+}
+
+/// Adds lines that start behind a byte where they start if that is another byte now, and the first of
+/// them stands behind so many UTF-16 units.
+fn move_lines(
+    lines: &mut Vec<Line>,
+    behind: &[Line],
+    end: usize,
+    new_end: usize,
+    utf16_idx: usize,
+) -> Result<(), AllocError>
+    ensures { OnOk result (lines.new.items ≡ lines.old.items ++ map (moved_line end new_end (units_at behind.now) utf16_idx) behind.now) }
+{
+    let base = match behind.first() {
+        Some(line) => line.utf16_idx,
+        None => 0,
+    };
+    for line in behind {
+        lines.push(Line {
+            byte_idx: line.byte_idx.saturating_sub(end).saturating_add(new_end),
+            utf16_idx: line
+                .utf16_idx
+                .saturating_sub(base)
+                .saturating_add(utf16_idx),
+        })?;
+    }
+    Ok(())
 }

@@ -40,6 +40,11 @@ pub whole_right : (xs ys : List Tree) → IsWholeForest (forest (xs ++ ys)) → 
 whole_right [] ys w = w
 whole_right (x ∷ xs) ys w = whole_right xs ys w.2
 
+-- two whole lists of trees are whole as one
+pub whole_join : (xs ys : List Tree) → IsWholeForest (forest xs) → IsWholeForest (forest ys) → IsWholeForest (forest (xs ++ ys))
+whole_join [] ys w v = v
+whole_join (x ∷ xs) ys w v = (w.0, w.1, whole_join xs ys w.2 v)
+
 -- trees are whole where they are once numbered
 pub whole_numbered : (file s a : ℕ) (ts : List Tree) → IsWholeForest (forest (numbered_list file s a ts)) → IsWholeForest (forest ts)
 whole_numbered file s a ts w =

@@ -1,5 +1,5 @@
 -- Where the clauses are proved. A function that isn't named here needs no lemma.
---   inner, and the counts of replace_at         AddedChildren: one_more; ChildlessLeaves: whole_more
+--   inner, and counts of all children           AddedChildren: one_more; ChildlessLeaves: whole_more
 --   spanless_eq                                 SpansAside: parts_from_bare, bare_from_parts, same_at, same_all
 --   synthesize                                  Forests: forest_synthesized, mapped_vec; ChildlessLeaves: whole_synthesized
 --   convert_child_to_kind                       Forests: forest_set, at_tree_past; ChildlessLeaves: whole_kind
@@ -8,6 +8,7 @@
 --   reaches, and the path of replace_at         StepDown: reached_by, reached_kid, not_reached, replaced_on
 --   replace_at: equal ones set aside            SameTree: front_more, front_none; SetAside
 --   replace_at: the stretch that is numbered    Growth: growth_found, growth_ends; Stretches: growth_has_room, cut
+--   replace_at: its counts                      MovedCounts: swapped_moved, set_moved
 --   replace_at: clause ordered, law keeps_order KeepsOrder: keeps_order
 --   law replaces_children, law replaces_text    ReplacesChildren: replaces_children, replaces_text
 --   law keeps_others                            KeepsOthers: replaced_keeps; AlongPath: along
@@ -20,6 +21,7 @@ pub mod Forests
 pub mod Growth
 pub mod KeepsOrder
 pub mod KeepsOthers
+pub mod MovedCounts
 pub mod Numbering
 pub mod NumbersInOrder
 pub mod RefusesFull

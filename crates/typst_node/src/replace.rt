@@ -1,7 +1,7 @@
 ghost use Rattle.std.specs.Prelude.{◌≡◌, ◌↔◌, ℕ, ◌+◌, ◌-◌, ◌*◌, ◌^◌, ◌<◌, ◌≤◌, ◌++◌, length, slice_range, Some, None, IfSome, OnErr, OnOk, IfErr, IsTrue, false, [], reverse, vec_len};
 ghost use Rattle.typst_node_data.specs.Head.{kept};
-ghost use Rattle.typst_node.specs.Tree.{forest, joined, count, saturated};
-ghost use Rattle.typst_node.specs.Order.{IsWholeForest, IsNumbered, AreInOrder, numbers_of};
+ghost use Rattle.typst_node.specs.Tree.{forest, joined, count, saturated, text_of, nodes};
+ghost use Rattle.typst_node.specs.Order.{IsWhole, IsWholeForest, IsNumbered, AreInOrder, numbers_of};
 ghost use Rattle.typst_node.specs.Same.{front};
 ghost use Rattle.typst_node.specs.Replace.{Reaches, replaced, replaced_at, kids_of, start_of, end_of, upper_of, left_of, right_of, wanted, room, has_room, growth, is_all, fit, IsFit, exchanged, swapped};
 
@@ -22,10 +22,17 @@ struct Stretch {
     stride: u64,
 }
 
+/// What one or several trees come to: the length of their text and how many nodes they have.
+#[derive(Clone, Copy)]
+struct Counts {
+    len: usize,
+    nodes: usize,
+}
+
 /// The lengths and the counts of nodes of `kids`, added up.
-pub(crate) fn totals(kids: &[SyntaxNode]) -> (usize, usize)
-    ensures len { result.0 ≡ saturated (length (joined (forest kids.now))) }
-    ensures nodes { result.1 ≡ saturated (count (forest kids.now)) }
+fn totals(kids: &[SyntaxNode]) -> Counts
+    ensures len { result.len ≡ saturated (length (joined (forest kids.now))) }
+    ensures nodes { result.nodes ≡ saturated (count (forest kids.now)) }
     ensures whole { IsWholeForest (forest kids.now) }
 {
     let mut len: usize = 0;
@@ -35,7 +42,17 @@ pub(crate) fn totals(kids: &[SyntaxNode]) -> (usize, usize)
         len = len.saturating_add(kid.len());
         nodes = nodes.saturating_add(kid.descendants());
     }
-    (len, nodes)
+    Counts { len, nodes }
+}
+
+/// The same of the children `from..to` alone.
+fn totals_within(kids: &[SyntaxNode], from: usize, to: usize) -> Counts
+    requires order { from ≤ to }
+    requires within { to ≤ length kids.now }
+    ensures len { result.len ≡ saturated (length (joined (forest (slice_range kids.now from to)))) }
+    ensures nodes { result.nodes ≡ saturated (count (forest (slice_range kids.now from to))) }
+{
+    totals(&kids[from..to])
 }
 
 /// How many nodes the two begin with that are the same, spans aside.
@@ -115,9 +132,9 @@ fn wanted(kids: &[SyntaxNode], from: usize, to: usize, fresh: &[SyntaxNode], by:
 {
     let left = from.saturating_sub(by);
     let right = right_of(kids, to, by);
-    let (_, between) = totals(fresh);
-    let (_, before) = totals(&kids[left..from]);
-    let (_, after) = totals(&kids[to..right]);
+    let between = totals(fresh).nodes;
+    let before = totals_within(kids, left, from).nodes;
+    let after = totals_within(kids, to, right).nodes;
     between.saturating_add(before).saturating_add(after)
 }
 
@@ -265,15 +282,52 @@ fn swap_children(
 /// Counts the text and the nodes of an inner node anew, after its children changed.
 fn renew(own: &mut Own, kids: &[SyntaxNode])
     requires { own.old.head.is_inner ≡ false → 1 < own.old.descendants }
-    ensures counts { own.new ≡ record { head = own.old.head; len = kept (length (own.old.head.text ++ joined (forest kids.now))); descendants = kept (1 + count (forest kids.now)) } }
-    ensures whole { IsWholeForest (forest kids.now) }
+    ensures { own.new ≡ record { head = own.old.head; len = kept (length (own.old.head.text ++ joined (forest kids.now))); descendants = kept (1 + count (forest kids.now)) } }
 {
-    let (len, below) = totals(kids);
+    let below = totals(kids);
     let text = own.text().len();
-    own.set_counts(text.saturating_add(len), below.saturating_add(1));
+    own.set_counts(
+        text.saturating_add(below.len),
+        below.nodes.saturating_add(1),
+    );
+}
+
+/// The same where children that came to `gone` made way for ones that come to `come`: all are
+/// counted anew only where the node keeps no exact counts.
+fn recount(own: &mut Own, kids: &[SyntaxNode], gone: Counts, come: Counts)
+    requires inner { own.old.head.is_inner ≡ false → 1 < own.old.descendants }
+    requires shorter { own.old.len < 2 ^ 32 - 1 → gone.len ≤ own.old.len }
+    requires fewer { own.old.descendants < 2 ^ 32 - 1 → gone.nodes ≤ own.old.descendants }
+    requires len { own.old.len < 2 ^ 32 - 1 → kept (own.old.len - gone.len + come.len) ≡ kept (length (own.old.head.text ++ joined (forest kids.now))) }
+    requires nodes { own.old.descendants < 2 ^ 32 - 1 → kept (own.old.descendants - gone.nodes + come.nodes) ≡ kept (1 + count (forest kids.now)) }
+    ensures { own.new ≡ record { head = own.old.head; len = kept (length (own.old.head.text ++ joined (forest kids.now))); descendants = kept (1 + count (forest kids.now)) } }
+{
+    let len = own.len();
+    let descendants = own.descendants();
+    if len >= Own::MOST || descendants >= Own::MOST {
+        renew(own, kids);
+        return;
+    }
+    own.set_counts(
+        (len - gone.len).saturating_add(come.len),
+        (descendants - gone.nodes).saturating_add(come.nodes),
+    );
 }
 
 impl SyntaxNode {
+    /// What the whole tree comes to.
+    fn counts(&self) -> Counts
+        ensures len { result.len ≡ saturated (length (text_of self.now)) }
+        ensures nodes { result.nodes ≡ saturated (nodes self.now) }
+        ensures whole { IsWhole self.now }
+    {
+        self.leaves_are_bare();
+        Counts {
+            len: self.len(),
+            nodes: self.descendants(),
+        }
+    }
+
     /// Replaces the children `from..to`, or changes nothing.
     fn replace(&mut self, from: usize, to: usize, nodes: Vec<SyntaxNode>) -> Result<(), SourceError>
         requires inner { IsTrue self.old.head.is_inner }
@@ -286,10 +340,12 @@ impl SyntaxNode {
         let Some(id) = self.own.span().id() else {
             return Err(SourceError::SpanNumbers);
         };
+        let gone = totals_within(self.kids.as_slice(), from, to);
+        let come = totals(nodes.as_slice());
         if let Err(error) = swap_children(&self.own, &mut self.kids, &id, from, to, nodes) {
             return Err(error);
         }
-        renew(&mut self.own, self.kids.as_slice());
+        recount(&mut self.own, self.kids.as_slice(), gone, come);
         Ok(())
     }
 
@@ -311,10 +367,12 @@ impl SyntaxNode {
         };
         let at = *first;
         let kid = &mut self.kids[at];
+        let gone = kid.counts();
         if let Err(error) = kid.replace_below(rest, from, to, nodes) {
             return Err(error);
         }
-        renew(&mut self.own, self.kids.as_slice());
+        let come = kid.counts();
+        recount(&mut self.own, self.kids.as_slice(), gone, come);
         Ok(())
     }
 

@@ -56,12 +56,6 @@ impl<C: Classes> Model for Source<C> {
     ghost invariant = { λ a. a.has_records ≡ true → Records (C.classes a.classes) (record { id = a.id; text = a.lines; root = a.root; classes = a.classes; has_records = a.has_records }) a.restarts.items };
 }
 
-fn out_of_memory(_refused: AllocError) -> SourceError
-    ensures { result ≡ SourceError.OutOfMemory }
-{
-    SourceError::OutOfMemory
-}
-
 /// Numbers a tree over all numbers of a file, or takes its numbers away where there is none.
 fn number(root: &mut SyntaxNode, file: Option<FileId>) -> Result<(), SourceError>
     ensures numbers { MatchResult result (λ _. numbered_in file root.old ≡ Some root.new) (λ e. (e ≡ SourceError.SpanNumbers) × (numbered_in file root.old ≡ None)) }
@@ -152,29 +146,6 @@ enum Tried {
     Done(Range<usize>),
     /// Nothing changed.
     Undone(Lines<String>),
-}
-
-/// A text with another one in the place of a range of bytes.
-fn edited(
-    alloc: Global,
-    text: &str,
-    replace: Range<usize>,
-    with: &str,
-) -> Result<String, SourceError>
-    requires start { IsCharBoundary text.now replace.start }
-    requires end { IsCharBoundary text.now replace.end }
-    requires ordered { replace.start ≤ replace.end }
-    ensures ok { IfOk result (λ made. string_bytes made ≡ edited text.now replace with.now) }
-    ensures err { IfErr result (λ e. e ≡ SourceError.OutOfMemory) }
-{
-    let gone = replace.end.saturating_sub(replace.start);
-    let size = text.len().saturating_sub(gone).saturating_add(with.len());
-    let mut made = String::with_capacity(alloc, size).map_err(out_of_memory)?;
-    made.push_str(&text[..replace.start])
-        .map_err(out_of_memory)?;
-    made.push_str(with).map_err(out_of_memory)?;
-    made.push_str(&text[replace.end..]).map_err(out_of_memory)?;
-    Ok(made)
 }
 
 impl<C: Classes + Drop> Source<C> {
@@ -357,8 +328,7 @@ impl<C: Classes> Source<C> {
         ensures refused { result ≡ Err SourceError.SpanNumbers → numbered_in (file_of self.old.root) (tree (C.classes self.old.classes) (chars (edited self.old.text replace with.now))) ≡ None }
     {
         let Range { start, end } = replace;
-        let text = edited(self.alloc, self.text(), replace, with)?;
-        let Ok(lines) = Lines::new(self.alloc, text) else {
+        let Ok(lines) = self.lines.edited(self.alloc, replace, with) else {
             return Err(SourceError::OutOfMemory);
         };
         let behind = self.lines.len_bytes().saturating_sub(end);

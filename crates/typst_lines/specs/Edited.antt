@@ -1,0 +1,24 @@
+-- The lines of a text in which a stretch was replaced.
+use Rattle.std.specs.Prelude.{◌≡◌, ℕ, ◌+◌, ◌-◌, ◌^◌, ◌≤◌, min, List, [], ◌∷◌, ◌++◌, length, take, drop}
+use Rattle.std.specs.Str.{IsUtf8, IsCharBoundary}
+use Rattle.typst_lines.specs.declared.lines.Line.{Line}
+
+-- in a text the stretch between two bytes became another one, which ends at a byte of the new text
+pub record IsEdit (old new : List ℕ) (start end new_end : ℕ) : Type 0 where
+  pub with : List ℕ
+  pub utf8_old : IsUtf8 old
+  pub utf8 : IsUtf8 with
+  pub starts : IsCharBoundary old start
+  pub ends : IsCharBoundary old end
+  pub ordered : start ≤ end
+  pub is : new ≡ take start old ++ (with ++ drop end old)
+  pub new_end_is : new_end ≡ start + length with
+
+-- the units before the first of several lines
+abbrev pub units_at : List Line → ℕ
+units_at [] = 0
+units_at (l ∷ ls) = l.utf16_idx
+
+-- as many bytes and units behind other ones as it was behind some, in numbers that a machine word holds
+abbrev pub moved_line : ℕ → ℕ → ℕ → ℕ → Line → Line
+moved_line b c u v l = record { byte_idx = min (l.byte_idx - b + c) (2 ^ 64 - 1); utf16_idx = min (l.utf16_idx - u + v) (2 ^ 64 - 1) }
