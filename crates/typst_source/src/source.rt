@@ -331,7 +331,7 @@ impl<C: Classes> Source<C> {
         let Ok(lines) = self.lines.edited(self.alloc, replace, with) else {
             return Err(SourceError::OutOfMemory);
         };
-        let behind = self.lines.len_bytes().saturating_sub(end);
+        let behind = self.text().len().saturating_sub(end);
         let edit = Replacement {
             start,
             old_end: end,
