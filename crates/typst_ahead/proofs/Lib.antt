@@ -1,9 +1,11 @@
 -- From what a contract promises to the lemma behind it:
 --   the token at hand            Trivia: reading ahead
+--   the text of trivia           Fronts: it begins what is ahead
 --   what was looked at, noted    Hulls, Logs: in bytes; Bytes: bytes and characters
 pub mod Hulls
 pub mod Logs
 pub mod Bytes
+pub mod Fronts
 pub mod Trivia
 -- What the crates above name of those below.
 pub use Rattle.typst_combinators.proofs.Backs

@@ -1,6 +1,6 @@
 //! The token that is read ahead.
 
-ghost use Rattle.std.specs.Prelude.{◌≡◌, ◌≤◌, ◌<◌, ◌^◌, ◌++◌, ◌∷◌, [], IfOk, OnOk, OnErr};
+ghost use Rattle.std.specs.Prelude.{◌≡◌, ◌≤◌, ◌<◌, ◌^◌, ◌++◌, ◌∷◌, [], IfOk, OnOk, OnErr, length, take};
 ghost use Rattle.std.specs.Str.{chars};
 ghost use Rattle.typst_combinators.specs.Nodes.{token_node};
 ghost use Rattle.typst_kinds.specs.Kinds.{is_error};
@@ -124,26 +124,35 @@ impl<'s> ReadAhead<'s> {
                 return Ok(joined(tokens, here));
             }
             let text = next.after.since(&start);
-            push_node(&mut self.trivia, alloc, next.token, text, classes)?;
+            push_node(
+                &mut self.trivia,
+                alloc,
+                next.token,
+                text,
+                start.after(),
+                classes,
+            )?;
             newlines = with_token(newlines, next.token);
             start = next.after;
         }
     }
 }
 
-/// Adds the node of a token that took the text behind the others.
+/// Adds the node of a token that took the text, which `rest` begins with, behind the others.
 #[inline(always)]
 fn push_node<C: Classes>(
     nodes: &mut Vec<SyntaxNode>,
     alloc: Global,
     token: Token,
     text: &str,
+    rest: &str,
     classes: &C,
 ) -> Result<(), AllocError>
+    requires { take (length (chars text.now)) (chars rest.now) ≡ chars text.now }
     ensures { OnOk result (nodes.new.items ≡ nodes.old.items ++ token_node (C.classes classes.now) token (chars text.now) ∷ []) }
 {
     if is_leaf(token) {
-        let node = leaf_node(alloc, token, text)?;
+        let node = leaf_node(alloc, token, text, rest)?;
         nodes.push(node)?;
         return Ok(());
     }

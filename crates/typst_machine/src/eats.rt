@@ -45,6 +45,7 @@ impl<'s> Parser<'s> {
             self.alloc,
             self.ahead.token,
             self.ahead.after.since(&self.ahead.start),
+            self.ahead.start.after(),
         )
     }
 

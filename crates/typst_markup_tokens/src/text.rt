@@ -1,6 +1,8 @@
 //! Plain text of markup.
 ghost use Rattle.std.specs.Prelude.{◌≡◌, not, if◌then◌else◌};
+ghost use Rattle.typst_kinds.specs.declared.kind.SyntaxKind.TheVariants.{Text};
 ghost use Rattle.typst_tokens.specs.Memory.Memory.{blank};
+ghost use Rattle.typst_tokens.specs.Token.{plain};
 ghost use Rattle.typst_readers.specs.Reader.Turn.{leave, go};
 ghost use Rattle.typst_readers.specs.Reads.{Reads};
 ghost use Rattle.typst_readers.specs.Sight.{regard};
@@ -52,29 +54,47 @@ impl<C: Classes> PairSet for Flow<'_, C> {
 
 /// What is left of a text.
 #[inline(always)]
-#[tactic(auto, unfolding(crate::specs::Text::text))]
 pub(crate) fn text<C: Classes>(s: &mut Cursor<'_>, classes: &C) -> Token
     ensures { Reads (spec.text (C.classes classes.now)) s.old result s.new }
+{
+    pass(s, classes);
+    Token::plain(SyntaxKind::Text)
+}
+
+/// A text that the next character begins.
+#[inline(always)]
+pub fn text_from<C: Classes>(s: &mut Cursor<'_>, classes: &C) -> Token
+    ensures { Reads (spec.text_from (C.classes classes.now)) s.old result s.new }
+{
+    pass_from(s, classes);
+    Token::plain(SyntaxKind::Text)
+}
+
+/// Goes past a text that the next character begins.
+#[inline(never)]
+#[tactic(auto, unfolding(crate::specs::Text::text_from))]
+fn pass_from<C: Classes>(s: &mut Cursor<'_>, classes: &C)
+    ensures { Reads (spec.text_from (C.classes classes.now)) s.old (plain Text) s.new }
+{
+    s.eat();
+    pass(s, classes);
+}
+
+/// Goes past what is left of a text.
+#[inline(always)]
+#[tactic(auto, unfolding(crate::specs::Text::text))]
+fn pass<C: Classes>(s: &mut Cursor<'_>, classes: &C)
+    ensures { Reads (spec.text (C.classes classes.now)) s.old (plain Text) s.new }
 {
     let flow = Flow { classes };
     let mut next = s.go_past(&flow);
     while let Some(c) = next {
         if !goes_on(c, s, classes) {
-            return Token::plain(SyntaxKind::Text);
+            return;
         }
         s.eat();
         next = s.go_past(&flow);
     }
-    Token::plain(SyntaxKind::Text)
-}
-
-/// A text that the next character begins.
-#[tactic(auto, unfolding(crate::specs::Text::text_from))]
-pub fn text_from<C: Classes>(s: &mut Cursor<'_>, classes: &C) -> Token
-    ensures { Reads (spec.text_from (C.classes classes.now)) s.old result s.new }
-{
-    s.eat();
-    text(s, classes)
 }
 
 /// Whether a text goes on through the character, which comes next.

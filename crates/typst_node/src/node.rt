@@ -1,4 +1,4 @@
-ghost use Rattle.std.specs.Prelude.{◌≡◌, ◌↔◌, IsTrue, [], ◌≤◌, ◌^◌, length, ◌++◌, IfOk, OnOk, OnErr, None, Some, false};
+ghost use Rattle.std.specs.Prelude.{◌≡◌, ◌↔◌, IsTrue, [], ◌≤◌, ◌^◌, length, ◌++◌, IfOk, OnOk, OnErr, None, Some, take, false};
 ghost use Rattle.typst_kinds.specs.Kinds.{is_error};
 ghost use Rattle.typst_node_data.specs.Diagnostic.{warning_with, hint_with};
 ghost use Rattle.typst_node.specs.Tree.{forest, text_of, nodes, saturated, bare, leaf_of, inner_of, error_of, synthesized, with_kind, at_child, made_error, remarked, advised};
@@ -48,6 +48,24 @@ impl SyntaxNode {
     {
         Ok(SyntaxNode {
             own: Own::leaf(alloc, kind, text)?,
+            kids: Vec::new(alloc),
+        })
+    }
+
+    /// A leaf of that kind, with a copy of the text, which `rest` begins with.
+    #[inline(always)]
+    pub fn front_leaf(
+        alloc: Global,
+        kind: SyntaxKind,
+        text: &str,
+        rest: &str,
+    ) -> Result<SyntaxNode, AllocError>
+        requires kind { is_error kind ≡ false }
+        requires front { take (length text.now) rest.now ≡ text.now }
+        ensures { IfOk result (λ t. t ≡ leaf_of kind text.now) }
+    {
+        Ok(SyntaxNode {
+            own: Own::front_leaf(alloc, kind, text, rest)?,
             kids: Vec::new(alloc),
         })
     }

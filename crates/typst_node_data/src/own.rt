@@ -1,4 +1,4 @@
-ghost use Rattle.std.specs.Prelude.{◌≡◌, ◌≤◌, ◌<◌, ◌^◌, ◌↔◌, IfOk, OnOk, OnErr, IsTrue, false};
+ghost use Rattle.std.specs.Prelude.{◌≡◌, ◌≤◌, ◌<◌, ◌^◌, ◌↔◌, IfOk, OnOk, OnErr, IsTrue, MatchOption, length, take, false};
 ghost use Rattle.typst_kinds.specs.Span.{number_of};
 ghost use Rattle.typst_node_data.specs.Head.{bare_head, located, spanned, leaf_head, inner_head, error_head, kept, leaf_own, with_head, diagnosed, helped};
 ghost use Rattle.typst_node_data.specs.Diagnostic.{at_last, hinted};
@@ -30,8 +30,8 @@ struct Parts {
 /// The usual nodes hold their parts in 16 bytes. An upper end takes 6 of them.
 #[derive(Drop)]
 enum Repr {
-    ShortLeaf(SyntaxKind, ShortText<13>),
-    BoxedLeaf(SyntaxKind, Box<ShortText<71>>),
+    ShortLeaf(SyntaxKind, ShortText<12>),
+    BoxedLeaf(SyntaxKind, Box<ShortText<70>>),
     LongLeaf(SyntaxKind, Box<Text>),
     Inner {
         kind: SyntaxKind,
@@ -76,23 +76,24 @@ impl Own {
     pub const MOST: usize = 0xffff_ffff;
 }
 
-impl Repr {
-    ghost use Rattle.std.specs.Prelude.{None};
-    ghost use Rattle.typst_node_data.specs.Repr.{own_of, IsOwn};
+/// A copy of a text of up to 70 bytes, which takes memory once.
+#[inline(never)]
+fn boxed(alloc: Global, text: &str) -> Result<Box<ShortText<70>>, AllocError>
+    requires { length text.now ≤ 70 }
+    ensures { IfOk result (λ b. b.value ≡ text.now) }
+{
+    let mut short = Box::new(alloc, ShortText::empty())?;
+    short.set(text);
+    Ok(short)
+}
 
-    /// The parts of a leaf whose text is too long to stand within: one of up to 71 bytes takes
-    /// memory once.
-    #[inline(never)]
-    fn apart(alloc: Global, kind: SyntaxKind, text: &str) -> Result<Repr, AllocError>
-        ensures leaf { IfOk result (λ r. own_of None r ≡ leaf_own (leaf_head kind text.now)) }
-        ensures fine { IfOk result (λ r. IsOwn r) }
-    {
-        if let Some(boxed) = ShortText::copied(text) {
-            return Ok(Repr::BoxedLeaf(kind, Box::new(alloc, boxed)?));
-        }
-        let long = Text::new(alloc, text)?;
-        Ok(Repr::LongLeaf(kind, Box::new(alloc, long)?))
-    }
+/// A copy of a text.
+#[inline(never)]
+fn long(alloc: Global, text: &str) -> Result<Box<Text>, AllocError>
+    ensures { IfOk result (λ b. b.value ≡ text.now) }
+{
+    let long = Text::new(alloc, text)?;
+    Ok(Box::new(alloc, long)?)
 }
 
 // Makers.
@@ -102,15 +103,43 @@ impl Own {
     pub fn leaf(alloc: Global, kind: SyntaxKind, text: &str) -> Result<Own, AllocError>
         ensures { IfOk result (λ o. o ≡ leaf_own (leaf_head kind text.now)) }
     {
-        if let Some(short) = ShortText::new(text) {
-            return Ok(Own {
-                span: Span::detached(),
-                repr: Repr::ShortLeaf(kind, short),
-            });
-        }
+        Own::leaf_of(alloc, kind, text, ShortText::new(text))
+    }
+
+    /// A leaf's whose text `rest` begins with. A text of up to 12 bytes takes no memory, and one of up
+    /// to 70 bytes takes it once.
+    #[inline(always)]
+    pub fn front_leaf(
+        alloc: Global,
+        kind: SyntaxKind,
+        text: &str,
+        rest: &str,
+    ) -> Result<Own, AllocError>
+        requires { take (length text.now) rest.now ≡ text.now }
+        ensures { IfOk result (λ o. o ≡ leaf_own (leaf_head kind text.now)) }
+    {
+        Own::leaf_of(alloc, kind, text, ShortText::front(text, rest))
+    }
+
+    /// A leaf's, whose text may be short enough to stand within.
+    #[inline(always)]
+    fn leaf_of(
+        alloc: Global,
+        kind: SyntaxKind,
+        text: &str,
+        short: Option<ShortText<12>>,
+    ) -> Result<Own, AllocError>
+        requires { MatchOption short (12 < length text.now) (λ t. t ≡ text.now) }
+        ensures { IfOk result (λ o. o ≡ leaf_own (leaf_head kind text.now)) }
+    {
+        let repr = match short {
+            Some(short) => Repr::ShortLeaf(kind, short),
+            None if text.len() <= 70 => Repr::BoxedLeaf(kind, boxed(alloc, text)?),
+            None => Repr::LongLeaf(kind, long(alloc, text)?),
+        };
         Ok(Own {
             span: Span::detached(),
-            repr: Repr::apart(alloc, kind, text)?,
+            repr,
         })
     }
 

@@ -1,4 +1,4 @@
-ghost use Rattle.std.specs.Prelude.{◌≡◌, ◌≤◌, ◌<◌, ◌^◌, [], ◌++◌, ◌↔◌, IfOk, OnOk, OnErr, IsTrue, MatchOption, length, string_bytes};
+ghost use Rattle.std.specs.Prelude.{◌≡◌, ◌≤◌, ◌<◌, ◌^◌, [], ◌++◌, ◌↔◌, IfOk, OnOk, OnErr, IsTrue, MatchOption, length, take, string_bytes};
 
 use std::alloc::{AllocError, Global};
 use std::marker::Model;
@@ -85,7 +85,7 @@ impl Text {
 /// A text of at most `N` bytes, which stand where it stands.
 #[derive(Drop)]
 pub struct ShortText<const N: usize> {
-    len: u8,
+    len: u16,
     bytes: [u8; N],
 }
 
@@ -100,41 +100,84 @@ impl<const N: usize> Model for ShortText<N> {
     ghost invariant = { λ t. (t.len ≤ N) × IsUtf8 (take t.len t.bytes) };
 }
 
-impl ShortText<13> {
+impl ShortText<12> {
     /// A copy of `text`, or `None` where it is longer. A text of one byte is made without memory
     /// between.
     #[inline(always)]
-    pub fn new(text: &str) -> Option<ShortText<13>>
-        ensures { MatchOption result (13 < length text.now) (λ t. t ≡ text.now) }
+    pub fn new(text: &str) -> Option<ShortText<12>>
+        ensures { MatchOption result (12 < length text.now) (λ t. t ≡ text.now) }
     {
         if let [byte] = text.as_bytes() {
             return Some(ShortText {
                 len: 1,
-                bytes: [*byte, 0, 0, 0, 0, 0, 0, 0, 0, 0, 0, 0, 0],
+                bytes: [*byte, 0, 0, 0, 0, 0, 0, 0, 0, 0, 0, 0],
             });
         }
-        ShortText::copied(text)
+        if text.len() > 12 {
+            return None;
+        }
+        let mut short = ShortText::empty();
+        short.set(text);
+        Some(short)
+    }
+
+    /// A copy of `text`, which `rest` begins with, or `None` where it is longer. Where `rest` has twelve
+    /// bytes all of them are copied, whatever the text's length is, which takes no loop.
+    #[inline(always)]
+    pub fn front(text: &str, rest: &str) -> Option<ShortText<12>>
+        requires { take (length text.now) rest.now ≡ text.now }
+        ensures { MatchOption result (12 < length text.now) (λ t. t ≡ text.now) }
+    {
+        let len = text.len();
+        if len > 12 {
+            return None;
+        }
+        let from = rest.as_bytes();
+        if from.len() < 12 {
+            return Some(ShortText::apart(text));
+        }
+        let mut bytes = [0u8; 12];
+        bytes.copy_from_slice(&from[..12]);
+        Some(ShortText {
+            len: len as u16,
+            bytes,
+        })
+    }
+
+    /// A copy of `text`.
+    #[inline(never)]
+    fn apart(text: &str) -> ShortText<12>
+        requires { length text.now ≤ 12 }
+        ensures { result ≡ text.now }
+    {
+        let mut short = ShortText::empty();
+        short.set(text);
+        short
     }
 }
 
 impl<const N: usize> ShortText<N> {
-    /// A copy of `text`, or `None` where it is longer.
+    /// The empty text.
     #[inline(always)]
-    pub fn copied(text: &str) -> Option<ShortText<N>>
-        requires { N < 2 ^ 8 }
-        ensures { MatchOption result (N < length text.now) (λ t. t ≡ text.now) }
+    pub fn empty() -> ShortText<N>
+        ensures { result ≡ [] }
     {
-        let from = text.as_bytes();
-        let len = from.len();
-        if len > N {
-            return None;
+        ShortText {
+            len: 0,
+            bytes: [0; N],
         }
-        let mut bytes = [0u8; N];
-        bytes[..len].copy_from_slice(from);
-        Some(ShortText {
-            len: len as u8,
-            bytes,
-        })
+    }
+
+    /// Becomes a copy of `text`.
+    #[inline(always)]
+    pub fn set(&mut self, text: &str)
+        requires short { length text.now ≤ N }
+        requires few { N < 2 ^ 16 }
+        ensures { self.new ≡ text.now }
+    {
+        let bytes = text.as_bytes();
+        self.bytes[..bytes.len()].copy_from_slice(bytes);
+        self.len = bytes.len() as u16;
     }
 
     /// The same text again.

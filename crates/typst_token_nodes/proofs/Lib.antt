@@ -1,11 +1,12 @@
 -- Which lemma gives which clause:
 --   nodes of faults                       TokenTexts.fault-is
---   leaf_node                             TokenTexts.leaf-is
+--   leaf_node                             TokenTexts.leaf-is, Fronts.front-bytes
 --   access_node                           Accesses
 --   suffix_start, value_of                Suffixes
 --   message of an escape                  TokenTexts.thrice
 --   read of next_node                     TokenTexts.is-read
 --   laws.TokenText                        TokenTexts.text-token
 pub mod Accesses
+pub mod Fronts
 pub mod Suffixes
 pub mod TokenTexts

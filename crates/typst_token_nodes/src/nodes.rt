@@ -1,5 +1,5 @@
 //! The nodes of tokens.
-ghost use Rattle.std.specs.Prelude.{◌≡◌, ◌||◌, true, IfOk};
+ghost use Rattle.std.specs.Prelude.{◌≡◌, ◌||◌, true, IfOk, length, take};
 ghost use Rattle.std.specs.Str.{chars};
 ghost use Rattle.typst_classes.specs.Classes.{CharClasses};
 ghost use Rattle.typst_token_nodes.specs.Nodes as spec;
@@ -24,13 +24,19 @@ pub fn is_leaf(token: Token) -> bool
     }
 }
 
-/// The node of such a token that took the text.
+/// The node of such a token that took the text, which `rest` begins with.
 #[inline(always)]
-pub fn leaf_node(alloc: Global, token: Token, text: &str) -> Result<SyntaxNode, AllocError>
-    requires { spec.is_leaf token ≡ true }
+pub fn leaf_node(
+    alloc: Global,
+    token: Token,
+    text: &str,
+    rest: &str,
+) -> Result<SyntaxNode, AllocError>
+    requires leaf { spec.is_leaf token ≡ true }
+    requires front { take (length (chars text.now)) (chars rest.now) ≡ chars text.now }
     ensures { (k : CharClasses) → IfOk result (λ node. node ≡ spec.token_node k token (chars text.now)) }
 {
-    SyntaxNode::leaf(alloc, token.kind, text)
+    SyntaxNode::front_leaf(alloc, token.kind, text, rest)
 }
 
 /// The node of a token that took the text: a leaf of its kind, the node of a raw text or of a name

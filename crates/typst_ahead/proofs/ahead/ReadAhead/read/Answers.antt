@@ -8,6 +8,7 @@ use Rattle.typst_combinators.specs.Nodes.{token_node}
 use Rattle.typst_combinators.specs.Hand.{at_trivia, len_at, text_ahead}
 use Rattle.typst_ahead.specs.Bytes.{bytes_left, joined_hull, token_hull, column_hull, whole_at}
 use Rattle.typst_ahead.proofs.Bytes.{some-bytes}
+use Rattle.typst_ahead.proofs.Fronts.{begins}
 use Rattle.typst_combinators.proofs.Places.{ahead-left}
 use Rattle.typst_ahead.proofs.Trivia.{read-place, len-most, no-trivia, no-more, some-trivia, along-start, along-next, is-ahead, whole-is, Looking, looking-first, looking-next}
 use Rattle.typst_ahead.proofs.ahead.ReadAhead.read.Goals.{then-not-is_trivia-via-then-not-is_trivia, then-not-is_trivia-via-else-not-is_trivia+then-left}
@@ -63,6 +64,12 @@ since-text-requires-clause-after g c =
     let k = g.C.Classes.classes c.args.classes.now in
     let z = place c.tokens.start in
     (len_at k c.args.held.mode z, read-place k c.args.held.mode z _ _ c.in_ok-next.ensures.reads)
+
+pub push_node-requires : goal.push_node-requires
+push_node-requires g c =
+    let k = g.C.Classes.classes c.args.classes.now in
+    let z = place c.tokens.start in
+    begins (len_at k c.args.held.mode z) z.ahead _ _ (c.since-text.ensures (len_at k c.args.held.mode z) (read-place k c.args.held.mode z _ _ c.in_ok-next.ensures.reads)) c.after.ensures.characters
 
 pub tokens-smaller : goal.tokens-smaller
 tokens-smaller g c =

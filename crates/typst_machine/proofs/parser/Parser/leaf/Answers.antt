@@ -1,11 +1,18 @@
 use Rattle.std.proofs.Common.{List, ℕ, ◌≡◌, ◌∙◌, ap, subst}
 use Rattle.std.specs.Result.{IfOk}
 use Rattle.typst_lines.specs.Place.{moved}
+use Rattle.typst_lines.specs.Scanner.{place}
 use Rattle.typst_ahead.specs.Nodes.{token_node}
 use Rattle.typst_ahead.specs.Hand.{text_ahead}
 use Rattle.typst_ahead.specs.Cursor.{distance}
+use Rattle.typst_ahead.proofs.Fronts.{begins}
 use Rattle.typst_machine.specs.View.{View}
 use Rattle.typst_machine.proofs.parser.Parser.leaf.Goals as goal
+
+pub leaf_node-requires-clause-front : goal.leaf_node-requires-clause-front
+leaf_node-requires-clause-front c =
+    let a = c.self.inside.ahead in
+    begins (distance a.start a.after) (place a.start).ahead _ _ (c.since.ensures (distance a.start a.after) c.self.invariant.stands.after) c.after.ensures.characters
 
 pub returns : goal.returns
 returns c = λ k.

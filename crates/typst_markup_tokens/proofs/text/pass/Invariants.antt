@@ -3,7 +3,7 @@ use Rattle.typst_lines.specs.Place.{scout}
 use Rattle.typst_readers.specs.Sight.{Covers, saw, sight}
 use Rattle.typst_markup_tokens.specs.Text.{text}
 use Rattle.typst_markup_tokens.proofs.Texts.{rest}
-use Rattle.typst_markup_tokens.proofs.text.text.Given as goal
+use Rattle.typst_markup_tokens.proofs.text.pass.Given as goal
 
 abbrev pub invariant-loop-next : goal.invariant-loop-next
 invariant-loop-next g l =

@@ -7,7 +7,7 @@ use Rattle.typst_readers.specs.Pairs.{went_past_pairs}
 use Rattle.typst_readers.proofs.PairRuns.{covers-pairs, pairs-seen}
 use Rattle.typst_readers.proofs.Sights.{covers-went}
 use Rattle.typst_markup_tokens.proofs.Texts.{flowing, rest, rest-past, rest-on, rest-off, rest-end, rest-text, rest-place, rest-covers, rest-shortens}
-use Rattle.typst_markup_tokens.proofs.text.text.Goals as goal
+use Rattle.typst_markup_tokens.proofs.text.pass.Goals as goal
 
 pub loop-next-init : goal.loop-next-init
 loop-next-init g c =
@@ -39,7 +39,7 @@ returns-then-not-goes_on g c =
     let v = c.loop-next.s in
     let i = c.loop-next.invariant in
     let next : Some c.in-Some.c ≡ scout 0 v.place = sym c.in-Some.is ∙ i.next in
-    sym i.reads ∙ rest-off k c.in-Some.c v c.goes_on.new.s i.covers i.seen next c.if-not-goes_on.ensures ∙ ap (λ t. (t, c.goes_on.new.s)) (sym c.plain.ensures)
+    sym i.reads ∙ rest-off k c.in-Some.c v c.goes_on.new.s i.covers i.seen next c.if-not-goes_on.ensures
 
 pub loop-next-preserved : goal.loop-next-preserved
 loop-next-preserved g c =
@@ -63,4 +63,4 @@ returns g c =
     let k = g.C.Classes.classes c.args.classes.now in
     let v = c.loop-next.s in
     let i = c.loop-next.invariant in
-    sym i.reads ∙ rest-end k v i.covers i.seen (sym c.in_default.is ∙ i.next) ∙ ap (λ t. (t, v)) (sym c.plain-2.ensures)
+    sym i.reads ∙ rest-end k v i.covers i.seen (sym c.in_default.is ∙ i.next)
