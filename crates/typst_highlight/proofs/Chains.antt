@@ -43,8 +43,7 @@ name_once a = same_name (a.number + 1) (suc a.number) a (omega arith) (omega ari
 
 -- only a hash asks for the tag of an expression
 pub needs_none : (r : Rule) (a : At) (e : Option Tag) → (r ≡ rule.Expression → ⊥) → tag_by r a None ≡ tag_by r a e
-needs_none rule.Untagged a e h = refl
-needs_none (rule.Tagged t) a e h = refl
+needs_none (rule.Fixed t) a e h = refl
 needs_none rule.Paren a e h = refl
 needs_none rule.Star a e h = refl
 needs_none rule.Underscore a e h = refl

@@ -95,8 +95,7 @@ named_so kind.MathIdent e = absurd (cc)
 named_so _ e = refl
 
 tag_closed : (u : Rule) (c : Context) (t : Tree) (r : Forest) (x y : Option Ahead) (d e : Option Tag) → name (facing x c) t r ≡ name (facing y c) t r → d ≡ e → tag_here u (facing x c) t r d ≡ tag_here u (facing y c) t r e
-tag_closed rule.Untagged c t r x y d e n f = refl
-tag_closed (rule.Tagged z) c t r x y d e n f = refl
+tag_closed (rule.Fixed z) c t r x y d e n f = refl
 tag_closed rule.Paren c t r x y d e n f = refl
 tag_closed rule.Star c t r x y d e n f = refl
 tag_closed rule.Underscore c t r x y d e n f = refl
@@ -107,8 +106,7 @@ tag_closed rule.Name c t r x y d e n f = n
 tag_closed rule.Expression c t r x y d e n f = f
 
 tag_last : (u : Rule) (c : Context) (t : Tree) (r : Forest) (x y : Option Ahead) (d : Option Tag) → by_name u ≡ false → tag_here u (facing x c) t r d ≡ tag_here u (facing y c) t r d
-tag_last rule.Untagged c t r x y d e = refl
-tag_last (rule.Tagged z) c t r x y d e = refl
+tag_last (rule.Fixed z) c t r x y d e = refl
 tag_last rule.Paren c t r x y d e = refl
 tag_last rule.Star c t r x y d e = refl
 tag_last rule.Underscore c t r x y d e = refl

@@ -23,8 +23,7 @@ use Rattle.typst_highlight.proofs.Contexts.{Fits, fits_below, fits_behind, name_
 
 -- the tag of the first of the trees by its rule
 tag_same : (root : Tree) (k : ℕ) (h : Head) (ks r : Forest) (front back : List Tree) (up : Option ℕ) (c : Context) (u : Rule) (e f : Option Tag) → Stand root k (more h ks r) front back up → Fits root k (more h ks r) up c → e ≡ f → tag_here u c (tree_of h ks) r e ≡ tag_by u (at root k) f
-tag_same root k h ks r front back up c rule.Untagged e f s w g = refl
-tag_same root k h ks r front back up c (rule.Tagged x) e f s w g = refl
+tag_same root k h ks r front back up c (rule.Fixed x) e f s w g = refl
 tag_same root k h ks r front back up c rule.Paren e f s w g = ap paren_tag (w.parent ∙ sym (ap kind_if (parent_here root k h ks r front back up s)))
 tag_same root k h ks r front back up c rule.Star e f s w g = ap star_tag (w.parent ∙ sym (ap kind_if (parent_here root k h ks r front back up s)))
 tag_same root k h ks r front back up c rule.Underscore e f s w g = ap underscore_tag (w.parent ∙ sym (ap kind_if (parent_here root k h ks r front back up s)))

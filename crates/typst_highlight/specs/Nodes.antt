@@ -79,8 +79,7 @@ expression_leaf a = option_and_then leaf_of (next_sibling a)
 
 -- the tag of a node by its rule, and, where that asks for it, by the tag of the expression behind the node
 abbrev pub tag_by : Rule → At → Option Tag → Option Tag
-tag_by rule.Untagged a e = None
-tag_by (rule.Tagged t) a e = Some t
+tag_by (rule.Fixed t) a e = t
 tag_by rule.Paren a e = paren_tag (kind_if (parent a))
 tag_by rule.Star a e = star_tag (kind_if (parent a))
 tag_by rule.Underscore a e = underscore_tag (kind_if (parent a))

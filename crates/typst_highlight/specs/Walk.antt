@@ -124,8 +124,7 @@ next_kind (more h ks r) = if is_trivia h.kind then next_kind r else Some h.kind
 
 -- the tag of a node by its rule and by the tag of the expression behind it
 abbrev pub tag_here : Rule → Context → Tree → Forest → Option Tag → Option Tag
-tag_here rule.Untagged c t r e = None
-tag_here (rule.Tagged tag) c t r e = Some tag
+tag_here (rule.Fixed tag) c t r e = tag
 tag_here rule.Paren c t r e = paren_tag c.parent
 tag_here rule.Star c t r e = star_tag c.parent
 tag_here rule.Underscore c t r e = underscore_tag c.parent
@@ -142,8 +141,7 @@ tag_outside _ = Some None
 
 -- the tag of a node where its rule and its parent's kind tell it
 abbrev pub tag_under : Rule → Option SyntaxKind → Option (Option Tag)
-tag_under rule.Untagged p = Some None
-tag_under (rule.Tagged tag) p = Some (Some tag)
+tag_under (rule.Fixed tag) p = Some tag
 tag_under rule.Paren p = Some (paren_tag p)
 tag_under rule.Star p = Some (star_tag p)
 tag_under rule.Underscore p = Some (underscore_tag p)
@@ -211,6 +209,10 @@ joined l p = record { parent = l.parent; outer = l.outer; offset = p.offset; tra
 -- what is round all nodes that stand beside a node
 abbrev pub level_of : Context → Level
 level_of c = record { parent = c.parent; outer = c.outer; ahead = c.ahead }
+
+-- what is round the children of a node of the kind, as far as that tells it
+abbrev pub level_below : SyntaxKind → Level
+level_below k = record { parent = Some k; outer = None; ahead = None }
 
 -- the last of trees that stand side by side is a leaf and no name: so none of them asks for what is behind them all
 abbrev pub closes : Forest → Bool

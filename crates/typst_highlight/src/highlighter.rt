@@ -58,8 +58,7 @@ fn tag_by_rule(node: LinkedNode) -> Option<Tag>
     ensures { result ≡ spec.tag_by (rule_of (kind_of (linked node.entry))) (linked node.entry) None }
 {
     match rule_of(node.kind()) {
-        Rule::Untagged => None,
-        Rule::Tagged(tag) => Some(tag),
+        Rule::Fixed(tag) => tag,
         Rule::Paren => paren_tag(node.parent_kind()),
         Rule::Star => star_tag(node.parent_kind()),
         Rule::Underscore => underscore_tag(node.parent_kind()),

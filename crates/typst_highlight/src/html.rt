@@ -57,7 +57,8 @@ fn write_node(
     let text = node.leaf_text();
     html.write_own(text)?;
     let end = progress.offset.saturating_add(node.len());
-    let inner = level.within(node, end, later, progress);
+    let mut inner = Level::below(node.kind());
+    inner.complete(level, node, end, later, progress);
     progress.offset = progress.offset.saturating_add(text.len());
     let mut rest = node.children();
     while let Some((kid, behind)) = rest.split_first() {
@@ -88,8 +89,7 @@ fn write_leaf(
 {
     let kind = node.kind();
     let span = match rule_of(kind) {
-        Rule::Untagged => None,
-        Rule::Tagged(tag) => spanned(Some(tag)),
+        Rule::Fixed(tag) => spanned(tag),
         Rule::Name | Rule::Expression => return write_asking(html, node, later, level, progress),
         _ => match tag_under(kind, level.parent) {
             Some(tag) => spanned(tag),

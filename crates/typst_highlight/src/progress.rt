@@ -7,7 +7,7 @@ ghost use Rattle.typst_highlight.specs.Rules.{is_name};
 ghost use Rattle.typst_highlight.specs.Walk as walk;
 
 use crate::context::{Ahead, Context, Outer, Trail, closes};
-use crate::rules::is_skipped;
+use crate::rules::{is_field_access, is_skipped};
 use crate::tags::Tag;
 use typst_kinds::SyntaxKind;
 use typst_node::SyntaxNode;
@@ -58,29 +58,46 @@ impl Level {
         }
     }
 
-    /// What is round the children of a node, which ends there, as far as they ask for it.
+    /// What is round the children of a node of the kind, as far as that tells it.
     #[inline(always)]
-    pub fn within(
-        &self,
+    pub fn below(kind: SyntaxKind) -> Level
+        ensures { result ≡ walk.level_below kind }
+    {
+        Level {
+            parent: Some(kind),
+            outer: None,
+            ahead: None,
+        }
+    }
+
+    /// Becomes what is round the children of a node, which ends there, as far as they ask for it.
+    #[inline(always)]
+    pub fn complete(
+        &mut self,
+        level: &Level,
         node: &SyntaxNode,
         end: usize,
         later: &[SyntaxNode],
         progress: &Progress,
-    ) -> Level
-        requires { end ≡ walk.end (walk.joined self.now progress.now) node.now }
-        ensures { result ≡ walk.level_within (walk.joined self.now progress.now) node.now (forest later.now) }
+    )
+        requires below { self.old ≡ walk.level_below node.now.head.kind }
+        requires end { end ≡ walk.end (walk.joined level.now progress.now) node.now }
+        ensures { self.new ≡ walk.level_within (walk.joined level.now progress.now) node.now (forest later.now) }
     {
-        let context = self.at(progress);
-        let kind = node.kind();
-        Level {
-            parent: Some(kind),
-            outer: context.outer_within(kind),
-            ahead: if closes(node.children()) {
-                None
-            } else {
-                context.next_leaf(end, later)
-            },
+        if is_field_access(node.kind()) {
+            self.outer = level.outer_below(node.kind(), progress);
         }
+        if !closes(node.children()) {
+            self.ahead = level.at(progress).next_leaf(end, later);
+        }
+    }
+
+    /// What is round the outermost of the field accesses above the children of a node of the kind.
+    #[inline(never)]
+    fn outer_below(&self, kind: SyntaxKind, progress: &Progress) -> Option<Outer>
+        ensures { result ≡ walk.outer_within (walk.joined self.now progress.now) kind }
+    {
+        self.at(progress).outer_within(kind)
     }
 }
 

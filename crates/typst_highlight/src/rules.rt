@@ -11,10 +11,8 @@ use typst_kinds::SyntaxKind;
 /// What the tag of a node depends on beside its kind.
 #[derive(Clone, Copy)]
 pub enum Rule {
-    /// Nothing: it has none.
-    Untagged,
-    /// Nothing: it is this one.
-    Tagged(Tag),
+    /// Nothing: it is this one, or there is none.
+    Fixed(Option<Tag>),
     /// The parent's kind, for a parenthesis.
     Paren,
     /// The parent's kind, for a star.
@@ -35,143 +33,143 @@ pub enum Rule {
 
 /// What the tag of a node of each kind depends on, in the order of the kinds.
 const RULES: &[Rule] = &[
-    Rule::Untagged, // End
-    Rule::Tagged(Tag::Error), // Error
-    Rule::Tagged(Tag::Comment), // Shebang
-    Rule::Tagged(Tag::Comment), // LineComment
-    Rule::Tagged(Tag::Comment), // BlockComment
+    Rule::Fixed(None), // End
+    Rule::Fixed(Some(Tag::Error)), // Error
+    Rule::Fixed(Some(Tag::Comment)), // Shebang
+    Rule::Fixed(Some(Tag::Comment)), // LineComment
+    Rule::Fixed(Some(Tag::Comment)), // BlockComment
     Rule::Term, // Markup
-    Rule::Untagged, // Text
-    Rule::Untagged, // Space
-    Rule::Tagged(Tag::Escape), // Linebreak
-    Rule::Untagged, // Parbreak
-    Rule::Tagged(Tag::Escape), // Escape
-    Rule::Tagged(Tag::Escape), // Shorthand
-    Rule::Untagged, // SmartQuote
-    Rule::Tagged(Tag::Strong), // Strong
-    Rule::Tagged(Tag::Emph), // Emph
-    Rule::Tagged(Tag::Raw), // Raw
-    Rule::Untagged, // RawLang
-    Rule::Untagged, // RawDelim
-    Rule::Untagged, // RawTrimmed
-    Rule::Tagged(Tag::Link), // Link
-    Rule::Tagged(Tag::Label), // Label
-    Rule::Tagged(Tag::Ref), // Ref
-    Rule::Untagged, // RefMarker
-    Rule::Tagged(Tag::Heading), // Heading
-    Rule::Untagged, // HeadingMarker
-    Rule::Untagged, // ListItem
-    Rule::Tagged(Tag::ListMarker), // ListMarker
-    Rule::Untagged, // EnumItem
-    Rule::Tagged(Tag::ListMarker), // EnumMarker
-    Rule::Untagged, // TermItem
-    Rule::Tagged(Tag::ListMarker), // TermMarker
-    Rule::Untagged, // Equation
-    Rule::Untagged, // Math
-    Rule::Untagged, // MathText
+    Rule::Fixed(None), // Text
+    Rule::Fixed(None), // Space
+    Rule::Fixed(Some(Tag::Escape)), // Linebreak
+    Rule::Fixed(None), // Parbreak
+    Rule::Fixed(Some(Tag::Escape)), // Escape
+    Rule::Fixed(Some(Tag::Escape)), // Shorthand
+    Rule::Fixed(None), // SmartQuote
+    Rule::Fixed(Some(Tag::Strong)), // Strong
+    Rule::Fixed(Some(Tag::Emph)), // Emph
+    Rule::Fixed(Some(Tag::Raw)), // Raw
+    Rule::Fixed(None), // RawLang
+    Rule::Fixed(None), // RawDelim
+    Rule::Fixed(None), // RawTrimmed
+    Rule::Fixed(Some(Tag::Link)), // Link
+    Rule::Fixed(Some(Tag::Label)), // Label
+    Rule::Fixed(Some(Tag::Ref)), // Ref
+    Rule::Fixed(None), // RefMarker
+    Rule::Fixed(Some(Tag::Heading)), // Heading
+    Rule::Fixed(None), // HeadingMarker
+    Rule::Fixed(None), // ListItem
+    Rule::Fixed(Some(Tag::ListMarker)), // ListMarker
+    Rule::Fixed(None), // EnumItem
+    Rule::Fixed(Some(Tag::ListMarker)), // EnumMarker
+    Rule::Fixed(None), // TermItem
+    Rule::Fixed(Some(Tag::ListMarker)), // TermMarker
+    Rule::Fixed(None), // Equation
+    Rule::Fixed(None), // Math
+    Rule::Fixed(None), // MathText
     Rule::Name, // MathIdent
-    Rule::Untagged, // MathFieldAccess
-    Rule::Tagged(Tag::Escape), // MathShorthand
-    Rule::Tagged(Tag::MathOperator), // MathAlignPoint
-    Rule::Untagged, // MathCall
-    Rule::Untagged, // MathArgs
-    Rule::Untagged, // MathDelimited
-    Rule::Untagged, // MathAttach
-    Rule::Tagged(Tag::MathOperator), // MathPrimes
-    Rule::Untagged, // MathFrac
-    Rule::Untagged, // MathRoot
+    Rule::Fixed(None), // MathFieldAccess
+    Rule::Fixed(Some(Tag::Escape)), // MathShorthand
+    Rule::Fixed(Some(Tag::MathOperator)), // MathAlignPoint
+    Rule::Fixed(None), // MathCall
+    Rule::Fixed(None), // MathArgs
+    Rule::Fixed(None), // MathDelimited
+    Rule::Fixed(None), // MathAttach
+    Rule::Fixed(Some(Tag::MathOperator)), // MathPrimes
+    Rule::Fixed(None), // MathFrac
+    Rule::Fixed(None), // MathRoot
     Rule::Expression, // Hash
-    Rule::Tagged(Tag::Punctuation), // LeftBrace
-    Rule::Tagged(Tag::Punctuation), // RightBrace
-    Rule::Tagged(Tag::Punctuation), // LeftBracket
-    Rule::Tagged(Tag::Punctuation), // RightBracket
+    Rule::Fixed(Some(Tag::Punctuation)), // LeftBrace
+    Rule::Fixed(Some(Tag::Punctuation)), // RightBrace
+    Rule::Fixed(Some(Tag::Punctuation)), // LeftBracket
+    Rule::Fixed(Some(Tag::Punctuation)), // RightBracket
     Rule::Paren, // LeftParen
     Rule::Paren, // RightParen
-    Rule::Tagged(Tag::Punctuation), // Comma
-    Rule::Tagged(Tag::Punctuation), // Semicolon
-    Rule::Tagged(Tag::Punctuation), // Colon
+    Rule::Fixed(Some(Tag::Punctuation)), // Comma
+    Rule::Fixed(Some(Tag::Punctuation)), // Semicolon
+    Rule::Fixed(Some(Tag::Punctuation)), // Colon
     Rule::Star, // Star
     Rule::Underscore, // Underscore
-    Rule::Tagged(Tag::MathDelimiter), // Dollar
-    Rule::Tagged(Tag::Operator), // Plus
-    Rule::Tagged(Tag::Operator), // Minus
+    Rule::Fixed(Some(Tag::MathDelimiter)), // Dollar
+    Rule::Fixed(Some(Tag::Operator)), // Plus
+    Rule::Fixed(Some(Tag::Operator)), // Minus
     Rule::Slash, // Slash
-    Rule::Tagged(Tag::MathOperator), // Hat
-    Rule::Tagged(Tag::Punctuation), // Dot
-    Rule::Untagged, // Bang
+    Rule::Fixed(Some(Tag::MathOperator)), // Hat
+    Rule::Fixed(Some(Tag::Punctuation)), // Dot
+    Rule::Fixed(None), // Bang
     Rule::Equals, // Eq
-    Rule::Tagged(Tag::Operator), // EqEq
-    Rule::Tagged(Tag::Operator), // ExclEq
-    Rule::Tagged(Tag::Operator), // Lt
-    Rule::Tagged(Tag::Operator), // LtEq
-    Rule::Tagged(Tag::Operator), // Gt
-    Rule::Tagged(Tag::Operator), // GtEq
-    Rule::Tagged(Tag::Operator), // PlusEq
-    Rule::Tagged(Tag::Operator), // HyphEq
-    Rule::Tagged(Tag::Operator), // StarEq
-    Rule::Tagged(Tag::Operator), // SlashEq
-    Rule::Tagged(Tag::Operator), // Dots
-    Rule::Tagged(Tag::Operator), // Arrow
-    Rule::Tagged(Tag::MathOperator), // Root
-    Rule::Tagged(Tag::Keyword), // Not
-    Rule::Tagged(Tag::Keyword), // And
-    Rule::Tagged(Tag::Keyword), // Or
-    Rule::Tagged(Tag::Keyword), // None
-    Rule::Tagged(Tag::Keyword), // Auto
-    Rule::Tagged(Tag::Keyword), // Let
-    Rule::Tagged(Tag::Keyword), // Set
-    Rule::Tagged(Tag::Keyword), // Show
-    Rule::Tagged(Tag::Keyword), // Context
-    Rule::Tagged(Tag::Keyword), // If
-    Rule::Tagged(Tag::Keyword), // Else
-    Rule::Tagged(Tag::Keyword), // For
-    Rule::Tagged(Tag::Keyword), // In
-    Rule::Tagged(Tag::Keyword), // While
-    Rule::Tagged(Tag::Keyword), // Break
-    Rule::Tagged(Tag::Keyword), // Continue
-    Rule::Tagged(Tag::Keyword), // Return
-    Rule::Tagged(Tag::Keyword), // Import
-    Rule::Tagged(Tag::Keyword), // Include
-    Rule::Tagged(Tag::Keyword), // As
-    Rule::Untagged, // Code
+    Rule::Fixed(Some(Tag::Operator)), // EqEq
+    Rule::Fixed(Some(Tag::Operator)), // ExclEq
+    Rule::Fixed(Some(Tag::Operator)), // Lt
+    Rule::Fixed(Some(Tag::Operator)), // LtEq
+    Rule::Fixed(Some(Tag::Operator)), // Gt
+    Rule::Fixed(Some(Tag::Operator)), // GtEq
+    Rule::Fixed(Some(Tag::Operator)), // PlusEq
+    Rule::Fixed(Some(Tag::Operator)), // HyphEq
+    Rule::Fixed(Some(Tag::Operator)), // StarEq
+    Rule::Fixed(Some(Tag::Operator)), // SlashEq
+    Rule::Fixed(Some(Tag::Operator)), // Dots
+    Rule::Fixed(Some(Tag::Operator)), // Arrow
+    Rule::Fixed(Some(Tag::MathOperator)), // Root
+    Rule::Fixed(Some(Tag::Keyword)), // Not
+    Rule::Fixed(Some(Tag::Keyword)), // And
+    Rule::Fixed(Some(Tag::Keyword)), // Or
+    Rule::Fixed(Some(Tag::Keyword)), // None
+    Rule::Fixed(Some(Tag::Keyword)), // Auto
+    Rule::Fixed(Some(Tag::Keyword)), // Let
+    Rule::Fixed(Some(Tag::Keyword)), // Set
+    Rule::Fixed(Some(Tag::Keyword)), // Show
+    Rule::Fixed(Some(Tag::Keyword)), // Context
+    Rule::Fixed(Some(Tag::Keyword)), // If
+    Rule::Fixed(Some(Tag::Keyword)), // Else
+    Rule::Fixed(Some(Tag::Keyword)), // For
+    Rule::Fixed(Some(Tag::Keyword)), // In
+    Rule::Fixed(Some(Tag::Keyword)), // While
+    Rule::Fixed(Some(Tag::Keyword)), // Break
+    Rule::Fixed(Some(Tag::Keyword)), // Continue
+    Rule::Fixed(Some(Tag::Keyword)), // Return
+    Rule::Fixed(Some(Tag::Keyword)), // Import
+    Rule::Fixed(Some(Tag::Keyword)), // Include
+    Rule::Fixed(Some(Tag::Keyword)), // As
+    Rule::Fixed(None), // Code
     Rule::Name, // Ident
-    Rule::Tagged(Tag::Keyword), // Bool
-    Rule::Tagged(Tag::Number), // Int
-    Rule::Tagged(Tag::Number), // Float
-    Rule::Tagged(Tag::Number), // Numeric
-    Rule::Tagged(Tag::String), // Str
-    Rule::Untagged, // CodeBlock
-    Rule::Untagged, // ContentBlock
-    Rule::Untagged, // Parenthesized
-    Rule::Untagged, // Array
-    Rule::Untagged, // Dict
-    Rule::Untagged, // Named
-    Rule::Untagged, // Keyed
-    Rule::Untagged, // Unary
-    Rule::Untagged, // Binary
-    Rule::Untagged, // FieldAccess
-    Rule::Untagged, // FuncCall
-    Rule::Untagged, // Args
-    Rule::Untagged, // Spread
-    Rule::Untagged, // Closure
-    Rule::Untagged, // Params
-    Rule::Untagged, // LetBinding
-    Rule::Untagged, // SetRule
-    Rule::Untagged, // ShowRule
-    Rule::Untagged, // Contextual
-    Rule::Untagged, // Conditional
-    Rule::Untagged, // WhileLoop
-    Rule::Untagged, // ForLoop
-    Rule::Untagged, // ModuleImport
-    Rule::Untagged, // ImportItems
-    Rule::Untagged, // ImportItemPath
-    Rule::Untagged, // RenamedImportItem
-    Rule::Untagged, // ModuleInclude
-    Rule::Untagged, // LoopBreak
-    Rule::Untagged, // LoopContinue
-    Rule::Untagged, // FuncReturn
-    Rule::Untagged, // Destructuring
-    Rule::Untagged, // DestructAssignment
+    Rule::Fixed(Some(Tag::Keyword)), // Bool
+    Rule::Fixed(Some(Tag::Number)), // Int
+    Rule::Fixed(Some(Tag::Number)), // Float
+    Rule::Fixed(Some(Tag::Number)), // Numeric
+    Rule::Fixed(Some(Tag::String)), // Str
+    Rule::Fixed(None), // CodeBlock
+    Rule::Fixed(None), // ContentBlock
+    Rule::Fixed(None), // Parenthesized
+    Rule::Fixed(None), // Array
+    Rule::Fixed(None), // Dict
+    Rule::Fixed(None), // Named
+    Rule::Fixed(None), // Keyed
+    Rule::Fixed(None), // Unary
+    Rule::Fixed(None), // Binary
+    Rule::Fixed(None), // FieldAccess
+    Rule::Fixed(None), // FuncCall
+    Rule::Fixed(None), // Args
+    Rule::Fixed(None), // Spread
+    Rule::Fixed(None), // Closure
+    Rule::Fixed(None), // Params
+    Rule::Fixed(None), // LetBinding
+    Rule::Fixed(None), // SetRule
+    Rule::Fixed(None), // ShowRule
+    Rule::Fixed(None), // Contextual
+    Rule::Fixed(None), // Conditional
+    Rule::Fixed(None), // WhileLoop
+    Rule::Fixed(None), // ForLoop
+    Rule::Fixed(None), // ModuleImport
+    Rule::Fixed(None), // ImportItems
+    Rule::Fixed(None), // ImportItemPath
+    Rule::Fixed(None), // RenamedImportItem
+    Rule::Fixed(None), // ModuleInclude
+    Rule::Fixed(None), // LoopBreak
+    Rule::Fixed(None), // LoopContinue
+    Rule::Fixed(None), // FuncReturn
+    Rule::Fixed(None), // Destructuring
+    Rule::Fixed(None), // DestructAssignment
 ];
 
 /// Where a kind stands among all kinds.

@@ -33,8 +33,7 @@ pub fn span_of(
     ensures { result ≡ spec.spanned (walk.tag (walk.joined level.now progress.now) node.now (forest later.now)) }
 {
     match rule_of(node.kind()) {
-        Rule::Untagged => None,
-        Rule::Tagged(tag) => spanned(Some(tag)),
+        Rule::Fixed(tag) => spanned(tag),
         _ => span_asked(node, later, level, progress),
     }
 }

@@ -45,13 +45,12 @@ fn next_kind(nodes: &[SyntaxNode]) -> Option<SyntaxKind>
 }
 
 /// The tag of a node of the kind, where its kind and its parent's tell it.
-#[inline(never)]
+#[inline(always)]
 pub fn tag_under(kind: SyntaxKind, parent: Option<SyntaxKind>) -> Option<Option<Tag>>
     ensures { result ≡ walk.tag_under (rule_of kind) parent }
 {
     match rule_of(kind) {
-        Rule::Untagged => Some(None),
-        Rule::Tagged(tag) => Some(Some(tag)),
+        Rule::Fixed(tag) => Some(tag),
         Rule::Paren => Some(paren_tag(parent)),
         Rule::Star => Some(star_tag(parent)),
         Rule::Underscore => Some(underscore_tag(parent)),
@@ -80,8 +79,7 @@ pub fn tag_here(node: &SyntaxNode, later: &[SyntaxNode], context: &Context) -> O
     ensures { result ≡ walk.tag context.now node.now (forest later.now) }
 {
     match rule_of(node.kind()) {
-        Rule::Untagged => None,
-        Rule::Tagged(tag) => Some(tag),
+        Rule::Fixed(tag) => tag,
         Rule::Paren => paren_tag(context.parent),
         Rule::Star => star_tag(context.parent),
         Rule::Underscore => underscore_tag(context.parent),
