@@ -85,7 +85,7 @@ fn single<C: Classes>(s: &mut Cursor<'_>, c: char, classes: &C) -> Token
 }
 
 /// What opens or closes a delimited part, or an atom.
-#[inline(always)]
+#[inline(never)]
 #[tactic(auto, unfolding(crate::specs::Math::by_class))]
 fn by_class<C: Classes>(s: &mut Cursor<'_>, c: char, classes: &C) -> Token
     requires { scout 0 s.old.place ≡ Some c }

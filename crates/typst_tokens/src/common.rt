@@ -13,7 +13,7 @@ use typst_lines::{Scanner, is_newline};
 use typst_readers::Cursor;
 
 /// A token of one character.
-#[inline(always)]
+#[inline]
 #[tactic(auto, unfolding(crate::specs::Common::sign))]
 pub fn sign(s: &mut Cursor<'_>, kind: SyntaxKind) -> Token
     ensures { Reads (spec.sign kind) s.old result s.new }
