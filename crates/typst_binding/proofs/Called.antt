@@ -7,26 +7,26 @@ use Rattle.typst_lines.proofs.Bools.{and-first, and-second}
 use Rattle.typst_lines.specs.Place.{Place, moved}
 use Rattle.typst_node.specs.Tree.{Tree}
 use Rattle.typst_classes.specs.Classes.{CharClasses}
-use Rattle.typst_code.specs.calls.Block.TheVariants as block
-use Rattle.typst_code.specs.Arguments.{argument_list, arguments, arguments_shape, begin_arguments, calls_directly, content_turn, listed_arguments, missing_arguments, opens_arguments}
-use Rattle.typst_code.specs.Depth.{is_end}
-use Rattle.typst_code.specs.Expressions.{call_tail}
-use Rattle.typst_code.specs.Hand.{Hand, AtHand, told}
-use Rattle.typst_code.specs.Point.{Point, is_nil, pending}
-use Rattle.typst_code.specs.Shape.{hinted, becomes}
-use Rattle.typst_code.specs.Sound.{Tidy, Backs}
-use Rattle.typst_code.specs.Steps.{peek, node, read_block}
-use Rattle.typst_code.specs.Syntax.{Parser, ◌>>=◌, ◌>>◌}
-use Rattle.typst_code.specs.Syntax.Parser.{gives, next, repeat}
-use Rattle.typst_code.specs.Meaning.{Outcome, Level, plain, reshaped, less, repeated, joined, followed, as_last, turns, bound, hand_of, hand_asks_of, asked, run}
-use Rattle.typst_code.proofs.Ends.{hand-again, hand-takes}
-use Rattle.typst_code.proofs.Backs.{backs-run, backs-turns}
+use Rattle.typst_grammar.specs.calls.Block.TheVariants as block
+use Rattle.typst_grammar.specs.Arguments.{argument_list, arguments, arguments_shape, begin_arguments, calls_directly, content_turn, listed_arguments, missing_arguments, opens_arguments}
+use Rattle.typst_grammar.specs.Depth.{is_end}
+use Rattle.typst_grammar.specs.Expressions.{call_tail}
+use Rattle.typst_grammar.specs.Hand.{Hand, AtHand, told}
+use Rattle.typst_grammar.specs.Point.{Point, is_nil, pending}
+use Rattle.typst_grammar.specs.Shape.{hinted, becomes}
+use Rattle.typst_grammar.specs.Sound.{Tidy, Backs}
+use Rattle.typst_grammar.specs.Steps.{peek, node, read_block}
+use Rattle.typst_grammar.specs.Syntax.{Parser, ◌>>=◌, ◌>>◌}
+use Rattle.typst_grammar.specs.Syntax.Parser.{gives, next, repeat}
+use Rattle.typst_grammar.specs.Meaning.{Outcome, Level, plain, reshaped, less, repeated, joined, followed, as_last, turns, bound, hand_of, hand_asks_of, asked, run}
+use Rattle.typst_grammar.proofs.Ends.{hand-again, hand-takes}
+use Rattle.typst_grammar.proofs.Backs.{backs-run, backs-turns}
 use Rattle.typst_grammar.specs.Grammar.{level_at}
 use Rattle.typst_grammar.proofs.CodeMoves.{moves-block}
 use Rattle.typst_grammar.proofs.Moves.{Moves, moves-next, moves-within, moves-eat}
 use Rattle.typst_binding.proofs.Fine.{All}
 use Rattle.typst_binding.proofs.FineRuns.{Still, still-hand}
-use Rattle.typst_code.proofs.Within.{on_both}
+use Rattle.typst_grammar.proofs.Within.{on_both}
 use Rattle.typst_binding.proofs.Heads.{Bare, standing-none}
 use Rattle.typst_binding.proofs.Operands.{exact-plain, exact-joined}
 use Rattle.typst_binding.proofs.Leads.{Leads, leads-joined, leads-reshaped}

@@ -4,27 +4,27 @@ use Rattle.std.proofs.Common.{◌==◌, if◌then◌else◌, codes, take, ◌≡
 use Rattle.typst_lines.specs.Place.{Place, moved}
 use Rattle.typst_node.specs.Tree.{Tree, forest}
 use Rattle.typst_classes.specs.Classes.{CharClasses}
-use Rattle.typst_code.specs.calls.Call.TheVariants.{CodeExpr}
-use Rattle.typst_code.specs.declared.heads.CodeTail.{CodeTail}
-use Rattle.typst_code.specs.declared.heads.CodeTail.TheVariants as tail
-use Rattle.typst_code.specs.Arguments.{arguments}
-use Rattle.typst_code.specs.Depth.{anywhere, skip_one, too_deep, deeper}
-use Rattle.typst_code.specs.Knot.{meaning_of}
-use Rattle.typst_code.specs.reading.AtNewline.TheVariants.{Continue}
-use Rattle.typst_code.specs.Syntax.{◌>>◌}
-use Rattle.typst_code.specs.Syntax.Parser.{gives, repeat}
-use Rattle.typst_code.specs.Expected.{expect_identifier}
-use Rattle.typst_code.specs.Expressions.{binary_expr, call_tail, code_expr, code_primary, code_tail, code_tail_turn, direct_field, not_in, tail_by}
-use Rattle.typst_code.specs.Hand.{Hand, told}
-use Rattle.typst_code.specs.Point.{Point, pending}
-use Rattle.typst_code.specs.Shape.{Shape, shaped}
-use Rattle.typst_code.specs.Shape.Shape.{fails}
-use Rattle.typst_code.specs.Statements.{field}
-use Rattle.typst_code.specs.Steps.{eat, expected, grow, node, within}
-use Rattle.typst_code.specs.Meaning.{Outcome, Level, plain, deeper_by_one, inside, reshaped, joined, bound, growths, growing, hand_of, hand_asks_of, asked, run}
-use Rattle.typst_code.proofs.Ends.{hand-again}
-use Rattle.typst_code.proofs.Knot.{sane-at}
-use Rattle.typst_code.proofs.Places.{no-end}
+use Rattle.typst_grammar.specs.calls.Call.TheVariants.{CodeExpr}
+use Rattle.typst_grammar.specs.heads.CodeTail.{CodeTail}
+use Rattle.typst_grammar.specs.heads.CodeTail.TheVariants as tail
+use Rattle.typst_grammar.specs.Arguments.{arguments}
+use Rattle.typst_grammar.specs.Depth.{anywhere, skip_one, too_deep, deeper}
+use Rattle.typst_grammar.specs.Knot.{meaning_of}
+use Rattle.typst_grammar.specs.reading.AtNewline.TheVariants.{Continue}
+use Rattle.typst_grammar.specs.Syntax.{◌>>◌}
+use Rattle.typst_grammar.specs.Syntax.Parser.{gives, repeat}
+use Rattle.typst_grammar.specs.Expected.{expect_identifier}
+use Rattle.typst_grammar.specs.Expressions.{binary_expr, call_tail, code_expr, code_primary, code_tail, code_tail_turn, direct_field, not_in, tail_by}
+use Rattle.typst_grammar.specs.Hand.{Hand, told}
+use Rattle.typst_grammar.specs.Point.{Point, pending}
+use Rattle.typst_grammar.specs.Shape.{Shape, shaped}
+use Rattle.typst_grammar.specs.Shape.Shape.{fails}
+use Rattle.typst_grammar.specs.Statements.{field}
+use Rattle.typst_grammar.specs.Steps.{eat, expected, grow, node, within}
+use Rattle.typst_grammar.specs.Meaning.{Outcome, Level, plain, deeper_by_one, inside, reshaped, joined, bound, growths, growing, hand_of, hand_asks_of, asked, run}
+use Rattle.typst_grammar.proofs.Ends.{hand-again}
+use Rattle.typst_grammar.proofs.Knot.{sane-at}
+use Rattle.typst_grammar.proofs.Places.{no-end}
 use Rattle.typst_grammar.specs.Grammar.{rules, level_at}
 use Rattle.typst_binding.specs.Binding.{any_errors}
 use Rattle.typst_binding.proofs.Fine.{All, Fines}

@@ -8,11 +8,11 @@ use Rattle.typst_node.specs.Diagnostic.{hint_with}
 use Rattle.typst_node.specs.Messages.{made_unexpected, made_expected, expected_error, expected_message, unexpected_message, is_lost_name, keyword_hint}
 use Rattle.typst_node.specs.Tree.{Tree, Forest, forest, trees, text_of, leaf_of, inner_of, error_of, topped, with_kind, made_error, advised, all_advised}
 use Rattle.typst_node.specs.Tree.Forest.{none, more}
-use Rattle.typst_code.specs.Shape.{Making, made, hinted_last, hinted, Change, is_delimited, in_parens, renamed_last, parens_renamed, without_parens, on_first, first_changed, Shape, shaped}
-use Rattle.typst_code.specs.Shape.Making.{itself, of_kind, surprise, wanted}
-use Rattle.typst_code.specs.Shape.Change.{stays, turns_wrong, is_not, renamed, unparened}
-use Rattle.typst_code.specs.Shape.Shape.{keeps, holds, lacks, warns, fails}
-use Rattle.typst_code.proofs.Within.{on_both, on_if}
+use Rattle.typst_grammar.specs.Shape.{Making, made, hinted_last, hinted, Change, is_delimited, in_parens, renamed_last, parens_renamed, without_parens, on_first, first_changed, Shape, shaped}
+use Rattle.typst_grammar.specs.Shape.Making.{itself, of_kind, surprise, wanted}
+use Rattle.typst_grammar.specs.Shape.Change.{stays, turns_wrong, is_not, renamed, unparened}
+use Rattle.typst_grammar.specs.Shape.Shape.{keeps, holds, lacks, warns, fails}
+use Rattle.typst_grammar.proofs.Within.{on_both, on_if}
 pub use Rattle.typst_binding.proofs.Lists.{All, all-append, all-take, all-drop, all-map}
 use Rattle.typst_binding.specs.Binding.{any_errors, has_errors, first_sign, operator_of, node_binds, all_bind, binds}
 

@@ -17,18 +17,18 @@ use Rattle.typst_token_nodes.specs.Fields.{field_node, fields_node, name_node, n
 use Rattle.typst_token_nodes.specs.Nodes.{token_node, plain_node, fault_node, is_raw, has_fields}
 use Rattle.typst_tokens.specs.declared.token.Fault.{Fault}
 use Rattle.typst_tokens.specs.declared.token.Token.{Token}
-use Rattle.typst_code.specs.calls.Block.{Block}
-use Rattle.typst_code.specs.calls.Call.{Call}
-use Rattle.typst_code.specs.reading.Reading.{Reading}
-use Rattle.typst_code.specs.Point.{Point, Trivia, pending}
-use Rattle.typst_code.specs.Hand.{Ahead, ahead, ahead_by, after_trivia, direct, hand_at, token_at, len_at, at_trivia, token_by, len_by}
-use Rattle.typst_code.specs.Shape.{changed, Shape, hinted, after_node, after_shape}
-use Rattle.typst_code.specs.Shape.Shape.{keeps, holds, lacks, warns, fails}
-use Rattle.typst_code.specs.Syntax.{Op, Begin, Parser}
-use Rattle.typst_code.specs.Syntax.Op.{hand, so, further, column, erred, takes, takes_so, flushes, complains, advises, marks, is_deepest}
-use Rattle.typst_code.specs.Syntax.Parser.{gives, does, next, pick, repeat, wraps, grows, nests, scoped, either, calls, block}
-use Rattle.typst_code.specs.Meaning.{Outcome, Meaning, Level, less, joined, answered, turns, as_last, bound, repeated, before, reshaped, grown, is_more, growths, growing, nestings, nesting, bounded, given_up, plain, same_mode, entered, left, taken_node, node_by, reader_so, gave, hand_of, hand_asks_of, done, run}
-use Rattle.typst_code.proofs.Within.{on_both, on_if}
+use Rattle.typst_grammar.specs.calls.Block.{Block}
+use Rattle.typst_grammar.specs.calls.Call.{Call}
+use Rattle.typst_grammar.specs.reading.Reading.{Reading}
+use Rattle.typst_grammar.specs.Point.{Point, Trivia, pending}
+use Rattle.typst_grammar.specs.Hand.{Ahead, ahead, ahead_by, after_trivia, direct, hand_at, token_at, len_at, at_trivia, token_by, len_by}
+use Rattle.typst_grammar.specs.Shape.{changed, Shape, hinted, after_node, after_shape}
+use Rattle.typst_grammar.specs.Shape.Shape.{keeps, holds, lacks, warns, fails}
+use Rattle.typst_grammar.specs.Syntax.{Op, Begin, Parser}
+use Rattle.typst_grammar.specs.Syntax.Op.{hand, so, further, column, erred, takes, takes_so, flushes, complains, advises, marks, is_deepest}
+use Rattle.typst_grammar.specs.Syntax.Parser.{gives, does, next, pick, repeat, wraps, grows, nests, scoped, either, calls, block}
+use Rattle.typst_grammar.specs.Meaning.{Outcome, Meaning, Level, less, joined, answered, turns, as_last, bound, repeated, before, reshaped, grown, is_more, growths, growing, nestings, nesting, bounded, given_up, plain, same_mode, entered, left, taken_node, node_by, reader_so, gave, hand_of, hand_asks_of, done, run}
+use Rattle.typst_grammar.proofs.Within.{on_both, on_if}
 use Rattle.typst_binding.specs.Binding.{has_errors, operator_of}
 use Rattle.typst_binding.proofs.Signs.{sign_of}
 use Rattle.typst_binding.proofs.Fine.{All, Fine, Fines, fines-all, fines-append, fines-take, fines-hinted, fines-reshaped, and-left, all-append, fine-inner, fine-error, fine-leaf, fine-made, no-operator, tame, tame_making}

@@ -5,35 +5,35 @@ use Rattle.typst_kinds.specs.declared.operator.UnOp.{UnOp}
 use Rattle.typst_lines.specs.Place.{Place, moved}
 use Rattle.typst_node.specs.Tree.{Tree}
 use Rattle.typst_classes.specs.Classes.{CharClasses}
-use Rattle.typst_code.specs.calls.Behind.{Behind}
-use Rattle.typst_code.specs.calls.Block.{Block}
-use Rattle.typst_code.specs.calls.Block.TheVariants as block
-use Rattle.typst_code.specs.calls.Call.{Call}
-use Rattle.typst_code.specs.calls.Role.{Role}
-use Rattle.typst_code.specs.Point.{Point, forgot}
-use Rattle.typst_code.specs.Shape.{hinted, Shape}
-use Rattle.typst_code.specs.Shape.Making.{itself}
-use Rattle.typst_code.specs.Sound.{Backs}
-use Rattle.typst_code.specs.Syntax.{Parser}
-use Rattle.typst_code.specs.Syntax.Parser.{next, block}
-use Rattle.typst_code.specs.Steps.{eat, read_block}
-use Rattle.typst_code.specs.Markup.{content_block}
-use Rattle.typst_code.specs.Equations.{between_dollars, equation}
-use Rattle.typst_code.specs.Bindings.{let_binding}
-use Rattle.typst_code.specs.Closures.{behind_name, behind_underscore, headed, name_shape, named, placeholder, underscore_shape}
-use Rattle.typst_code.specs.Params.{params}
-use Rattle.typst_code.specs.Patterns.{destructuring}
-use Rattle.typst_code.specs.Parens.{as_group, either_reading, parens, readings}
-use Rattle.typst_code.specs.Expressions.{unary_expr}
-use Rattle.typst_code.specs.Groups.{group}
-use Rattle.typst_code.specs.Arguments.{argument_list}
-use Rattle.typst_code.specs.Imports.{module_import}
-use Rattle.typst_code.specs.Sequences.{code_block}
-use Rattle.typst_code.specs.Statements.{field, set_rule, show_rule, contextual, conditional, conditional_turn, while_loop, for_loop, module_include, jump, func_return}
-use Rattle.typst_code.specs.Meaning.{Outcome, Level, less, joined, blockless, plain, closed, hand_of, hand_asks_of, flushed_state, run}
-use Rattle.typst_code.proofs.Hints.{length-hinted}
-use Rattle.typst_code.proofs.Knot.{sane-meaning, sane-block}
-use Rattle.typst_code.proofs.Places.{length-less}
+use Rattle.typst_grammar.specs.calls.Behind.{Behind}
+use Rattle.typst_grammar.specs.calls.Block.{Block}
+use Rattle.typst_grammar.specs.calls.Block.TheVariants as block
+use Rattle.typst_grammar.specs.calls.Call.{Call}
+use Rattle.typst_grammar.specs.calls.Role.{Role}
+use Rattle.typst_grammar.specs.Point.{Point, forgot}
+use Rattle.typst_grammar.specs.Shape.{hinted, Shape}
+use Rattle.typst_grammar.specs.Shape.Making.{itself}
+use Rattle.typst_grammar.specs.Sound.{Backs}
+use Rattle.typst_grammar.specs.Syntax.{Parser}
+use Rattle.typst_grammar.specs.Syntax.Parser.{next, block}
+use Rattle.typst_grammar.specs.Steps.{eat, read_block}
+use Rattle.typst_grammar.specs.Markup.{content_block}
+use Rattle.typst_grammar.specs.Equations.{between_dollars, equation}
+use Rattle.typst_grammar.specs.Bindings.{let_binding}
+use Rattle.typst_grammar.specs.Closures.{behind_name, behind_underscore, headed, name_shape, named, placeholder, underscore_shape}
+use Rattle.typst_grammar.specs.Params.{params}
+use Rattle.typst_grammar.specs.Patterns.{destructuring}
+use Rattle.typst_grammar.specs.Parens.{as_group, either_reading, parens, readings}
+use Rattle.typst_grammar.specs.Expressions.{unary_expr}
+use Rattle.typst_grammar.specs.Groups.{group}
+use Rattle.typst_grammar.specs.Arguments.{argument_list}
+use Rattle.typst_grammar.specs.Imports.{module_import}
+use Rattle.typst_grammar.specs.Sequences.{code_block}
+use Rattle.typst_grammar.specs.Statements.{field, set_rule, show_rule, contextual, conditional, conditional_turn, while_loop, for_loop, module_include, jump, func_return}
+use Rattle.typst_grammar.specs.Meaning.{Outcome, Level, less, joined, blockless, plain, closed, hand_of, hand_asks_of, flushed_state, run}
+use Rattle.typst_grammar.proofs.Hints.{length-hinted}
+use Rattle.typst_grammar.proofs.Knot.{sane-meaning, sane-block}
+use Rattle.typst_grammar.proofs.Places.{length-less}
 use Rattle.typst_grammar.specs.Grammar.{block_production, rules, meaning, level_at}
 use Rattle.typst_binding.proofs.Fine.{All, all-take}
 use Rattle.typst_binding.proofs.FineRuns.{still-hand}

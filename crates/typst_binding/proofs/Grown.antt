@@ -11,12 +11,12 @@ use Rattle.typst_kinds.specs.declared.kind.SyntaxKind.TheVariants as kind
 use Rattle.typst_lines.specs.Place.{Place, moved}
 use Rattle.typst_node.specs.Tree.{Tree, forest, leaf_of, inner_of}
 use Rattle.typst_classes.specs.Classes.{CharClasses}
-use Rattle.typst_code.specs.Hand.{hand_at}
-use Rattle.typst_code.specs.Point.{Point}
-use Rattle.typst_code.specs.Shape.{Shape, becomes, hinted}
-use Rattle.typst_code.specs.Meaning.{Outcome, Meaning, less, joined, answered, bound, inside, reshaped, grown, is_more, growths}
-use Rattle.typst_code.proofs.Hints.{length-hinted}
-use Rattle.typst_code.proofs.Places.{moved-sum, less-none, length-less}
+use Rattle.typst_grammar.specs.Hand.{hand_at}
+use Rattle.typst_grammar.specs.Point.{Point}
+use Rattle.typst_grammar.specs.Shape.{Shape, becomes, hinted}
+use Rattle.typst_grammar.specs.Meaning.{Outcome, Meaning, less, joined, answered, bound, inside, reshaped, grown, is_more, growths}
+use Rattle.typst_grammar.proofs.Hints.{length-hinted}
+use Rattle.typst_grammar.proofs.Places.{moved-sum, less-none, length-less}
 use Rattle.typst_binding.specs.Binding.{any_errors, has_errors, first_sign, operator_of, binds_by, right_least, node_binds}
 use Rattle.typst_binding.proofs.Signs.{sign_of, NoSign}
 use Rattle.typst_binding.proofs.Fine.{All, or-left, or-right, all-append, all-drop, all-map, fines-behind, fine-binary, leaf-operator, no-operator, is-tame, tame_kind}

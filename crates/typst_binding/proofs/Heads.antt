@@ -14,25 +14,25 @@ use Rattle.typst_token_nodes.specs.Fields.{access_node}
 use Rattle.typst_token_nodes.specs.Nodes.{token_node, plain_node, fault_node, is_raw, has_fields}
 use Rattle.typst_tokens.specs.declared.token.Token.{Token}
 use Rattle.typst_tokens.specs.declared.token.Fault.{Fault}
-use Rattle.typst_code.specs.Point.{Point, Trivia, pending}
-use Rattle.typst_code.specs.Ask.{Ask}
-use Rattle.typst_code.specs.reading.Reading.{Reading}
-use Rattle.typst_code.specs.Hand.{Hand, AtHand, told, hand_at}
-use Rattle.typst_code.specs.Shape.{Making, Shape, shaped, hinted}
-use Rattle.typst_code.specs.Shape.Change.{stays}
-use Rattle.typst_code.specs.Shape.Making.{itself}
-use Rattle.typst_code.specs.Shape.Shape.{keeps}
+use Rattle.typst_grammar.specs.Point.{Point, Trivia, pending}
+use Rattle.typst_grammar.specs.Ask.{Ask}
+use Rattle.typst_grammar.specs.reading.Reading.{Reading}
+use Rattle.typst_grammar.specs.Hand.{Hand, AtHand, told, hand_at}
+use Rattle.typst_grammar.specs.Shape.{Making, Shape, shaped, hinted}
+use Rattle.typst_grammar.specs.Shape.Change.{stays}
+use Rattle.typst_grammar.specs.Shape.Making.{itself}
+use Rattle.typst_grammar.specs.Shape.Shape.{keeps}
 use Rattle.std.proofs.lemmas.List.{take-append-drop}
-use Rattle.typst_code.specs.Syntax.{Parser}
-use Rattle.typst_code.specs.Syntax.Begin.{at_token}
-use Rattle.typst_code.specs.Syntax.Op.{hand, takes}
-use Rattle.typst_code.specs.Syntax.Parser.{gives, does, next}
-use Rattle.typst_code.specs.Steps.{peek, eat_making, eat, node, nest}
-use Rattle.typst_code.specs.Depth.{is_end}
-use Rattle.typst_code.specs.Meaning.{Outcome, Level, plain, less, standing, joined, followed, as_last, bound, inside, reshaped, wrapped, nestings, nesting, taken_node, hand_of, hand_asks_of, asked, run}
-use Rattle.typst_code.proofs.Ends.{hand-again}
-use Rattle.typst_code.proofs.Places.{no-end}
-use Rattle.typst_code.proofs.Within.{on_both}
+use Rattle.typst_grammar.specs.Syntax.{Parser}
+use Rattle.typst_grammar.specs.Syntax.Begin.{at_token}
+use Rattle.typst_grammar.specs.Syntax.Op.{hand, takes}
+use Rattle.typst_grammar.specs.Syntax.Parser.{gives, does, next}
+use Rattle.typst_grammar.specs.Steps.{peek, eat_making, eat, node, nest}
+use Rattle.typst_grammar.specs.Depth.{is_end}
+use Rattle.typst_grammar.specs.Meaning.{Outcome, Level, plain, less, standing, joined, followed, as_last, bound, inside, reshaped, wrapped, nestings, nesting, taken_node, hand_of, hand_asks_of, asked, run}
+use Rattle.typst_grammar.proofs.Ends.{hand-again}
+use Rattle.typst_grammar.proofs.Places.{no-end}
+use Rattle.typst_grammar.proofs.Within.{on_both}
 use Rattle.typst_binding.specs.Binding.{operator_of}
 use Rattle.typst_binding.proofs.Signs.{sign_of}
 use Rattle.typst_binding.proofs.Fine.{All, Steady, all-drop, no-operator}

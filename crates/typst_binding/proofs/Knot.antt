@@ -2,13 +2,13 @@
 use Rattle.std.proofs.Common.{ℕ, zero, suc, true, false, refl}
 use Rattle.typst_kinds.specs.declared.kind.SyntaxKind.TheVariants as kind
 use Rattle.typst_classes.specs.Classes.{CharClasses}
-use Rattle.typst_code.specs.calls.Call.{Call}
-use Rattle.typst_code.specs.calls.Call.TheVariants.{MarkupExpr, CodeExpr, MathExpr, Pattern}
-use Rattle.typst_code.specs.Knot.{meaning_of}
-use Rattle.typst_code.specs.Meaning.{start_point, run}
-use Rattle.typst_code.specs.Markup.{markup_reading}
-use Rattle.typst_code.specs.Sequences.{code_reading}
-use Rattle.typst_code.specs.Equations.{math_reading}
+use Rattle.typst_grammar.specs.calls.Call.{Call}
+use Rattle.typst_grammar.specs.calls.Call.TheVariants.{MarkupExpr, CodeExpr, MathExpr, Pattern}
+use Rattle.typst_grammar.specs.Knot.{meaning_of}
+use Rattle.typst_grammar.specs.Meaning.{start_point, run}
+use Rattle.typst_grammar.specs.Markup.{markup_reading}
+use Rattle.typst_grammar.specs.Sequences.{code_reading}
+use Rattle.typst_grammar.specs.Equations.{math_reading}
 use Rattle.typst_binding.specs.Binding.{BindingLaw, CodeBindingLaw, MathBindingLaw}
 use Rattle.typst_grammar.specs.Grammar.{production, level_at, max_depth, start_of, whole, whole_code, whole_math, parsed, parsed_code, parsed_math, tree, tree_code, tree_math}
 use Rattle.typst_binding.proofs.Fine.{fine-over}

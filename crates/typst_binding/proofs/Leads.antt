@@ -3,25 +3,25 @@ use Rattle.std.proofs.Common.{◌≡◌, ℕ, zero, suc, ◌+◌, ◌-◌, ◌�
 use Rattle.typst_kinds.specs.Kinds.{is_error}
 use Rattle.typst_lines.specs.Place.{Place, moved}
 use Rattle.typst_node.specs.Tree.{Tree, text_of}
-use Rattle.typst_code.specs.calls.Block.{Block}
-use Rattle.typst_code.specs.calls.Call.{Call}
-use Rattle.typst_code.specs.Hand.{Hand, AtHand, told}
-use Rattle.typst_code.specs.Point.{Point, pending}
-use Rattle.typst_code.specs.reading.Reading.{Reading}
-use Rattle.typst_code.specs.Shape.{Making, hinted_last, hinted, Shape, shaped, count_empty, after_node}
-use Rattle.typst_code.specs.Shape.Making.{itself}
-use Rattle.typst_code.specs.Sound.{Tidy, Backs}
-use Rattle.typst_code.specs.Syntax.{Parser}
-use Rattle.typst_code.specs.Syntax.Begin.{at_token}
-use Rattle.typst_code.specs.Syntax.Op.{hand, takes}
-use Rattle.typst_code.specs.Syntax.Parser.{does, next, pick, scoped, either}
-use Rattle.typst_code.specs.Steps.{eat_making, eat, within, node, nest}
-use Rattle.typst_code.specs.Meaning.{Outcome, Level, plain, less, joined, as_last, bound, entered, inside, reshaped, nestings, nesting, given_up, taken_node, hand_of, hand_asks_of, asked, run}
-use Rattle.typst_code.proofs.Backs.{backs-run, shape-counts, tidy-nestings, left-empties}
-use Rattle.typst_code.proofs.Ends.{hand-again}
-use Rattle.typst_code.proofs.Hints.{length-hinted}
-use Rattle.typst_code.proofs.Places.{length-less}
-use Rattle.typst_code.proofs.Within.{on_both}
+use Rattle.typst_grammar.specs.calls.Block.{Block}
+use Rattle.typst_grammar.specs.calls.Call.{Call}
+use Rattle.typst_grammar.specs.Hand.{Hand, AtHand, told}
+use Rattle.typst_grammar.specs.Point.{Point, pending}
+use Rattle.typst_grammar.specs.reading.Reading.{Reading}
+use Rattle.typst_grammar.specs.Shape.{Making, hinted_last, hinted, Shape, shaped, count_empty, after_node}
+use Rattle.typst_grammar.specs.Shape.Making.{itself}
+use Rattle.typst_grammar.specs.Sound.{Tidy, Backs}
+use Rattle.typst_grammar.specs.Syntax.{Parser}
+use Rattle.typst_grammar.specs.Syntax.Begin.{at_token}
+use Rattle.typst_grammar.specs.Syntax.Op.{hand, takes}
+use Rattle.typst_grammar.specs.Syntax.Parser.{does, next, pick, scoped, either}
+use Rattle.typst_grammar.specs.Steps.{eat_making, eat, within, node, nest}
+use Rattle.typst_grammar.specs.Meaning.{Outcome, Level, plain, less, joined, as_last, bound, entered, inside, reshaped, nestings, nesting, given_up, taken_node, hand_of, hand_asks_of, asked, run}
+use Rattle.typst_grammar.proofs.Backs.{backs-run, shape-counts, tidy-nestings, left-empties}
+use Rattle.typst_grammar.proofs.Ends.{hand-again}
+use Rattle.typst_grammar.proofs.Hints.{length-hinted}
+use Rattle.typst_grammar.proofs.Places.{length-less}
+use Rattle.typst_grammar.proofs.Within.{on_both}
 use Rattle.typst_binding.proofs.Fine.{All, Steady}
 use Rattle.typst_binding.proofs.FineRuns.{Still, still-hand}
 use Rattle.typst_binding.proofs.Heads.{Bare, bare-advised, standing-none}

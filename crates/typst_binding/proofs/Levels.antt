@@ -2,14 +2,14 @@
 use Rattle.std.proofs.Common.{ℕ, false, refl}
 use Rattle.typst_lines.specs.Place.{Place}
 use Rattle.typst_classes.specs.Classes.{CharClasses}
-use Rattle.typst_code.specs.calls.Block.{Block}
-use Rattle.typst_code.specs.calls.Block.TheVariants as block
-use Rattle.typst_code.specs.calls.Call.{Call}
-use Rattle.typst_code.specs.calls.Call.TheVariants.{CodeExpr}
-use Rattle.typst_code.specs.Depth.{deeper}
-use Rattle.typst_code.specs.Knot.{blocks_of}
-use Rattle.typst_code.specs.Meaning.{Meaning, blockless, run}
-use Rattle.typst_code.specs.Point.{Point, pending}
+use Rattle.typst_grammar.specs.calls.Block.{Block}
+use Rattle.typst_grammar.specs.calls.Block.TheVariants as block
+use Rattle.typst_grammar.specs.calls.Call.{Call}
+use Rattle.typst_grammar.specs.calls.Call.TheVariants.{CodeExpr}
+use Rattle.typst_grammar.specs.Depth.{deeper}
+use Rattle.typst_grammar.specs.Knot.{blocks_of}
+use Rattle.typst_grammar.specs.Meaning.{Meaning, blockless, run}
+use Rattle.typst_grammar.specs.Point.{Point, pending}
 use Rattle.typst_grammar.specs.Grammar.{block_production, rules, meaning, level_at}
 use Rattle.typst_binding.proofs.Fine.{All}
 use Rattle.typst_binding.proofs.FineRuns.{AllBind, Plain, Still, binds-run}

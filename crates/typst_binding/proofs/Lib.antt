@@ -27,3 +27,8 @@ pub mod Parens
 pub mod Primary
 pub mod Exprs
 pub mod Knot
+-- What the crates above name of those below.
+pub use Rattle.typst_grammar.proofs.Whole
+pub use Rattle.typst_grammar.proofs.WholeCode
+pub use Rattle.typst_grammar.proofs.WholeMath
+pub use Rattle.typst_grammar.proofs.AtLevels

@@ -5,13 +5,13 @@ use Rattle.typst_lines.specs.Place.{Place, moved}
 use Rattle.typst_node.specs.Diagnostic.{hint_with}
 use Rattle.typst_node.specs.Tree.{Tree, forest, advised, all_advised}
 use Rattle.typst_classes.specs.Classes.{CharClasses}
-use Rattle.typst_code.specs.Point.{Point}
-use Rattle.typst_code.specs.Shape.{Shape, hinted_last, hinted, shaped}
-use Rattle.typst_code.specs.Shape.Shape.{keeps, holds, lacks, warns, fails}
-use Rattle.typst_code.specs.Sound.{Backs}
-use Rattle.typst_code.specs.Meaning.{Outcome, Meaning, less, joined, answered, inside, grown, is_more, growths}
-use Rattle.typst_code.proofs.Places.{less-none}
-use Rattle.typst_code.proofs.Within.{on_both, on_if}
+use Rattle.typst_grammar.specs.Point.{Point}
+use Rattle.typst_grammar.specs.Shape.{Shape, hinted_last, hinted, shaped}
+use Rattle.typst_grammar.specs.Shape.Shape.{keeps, holds, lacks, warns, fails}
+use Rattle.typst_grammar.specs.Sound.{Backs}
+use Rattle.typst_grammar.specs.Meaning.{Outcome, Meaning, less, joined, answered, inside, grown, is_more, growths}
+use Rattle.typst_grammar.proofs.Places.{less-none}
+use Rattle.typst_grammar.proofs.Within.{on_both, on_if}
 use Rattle.typst_binding.specs.Binding.{any_errors}
 use Rattle.typst_binding.proofs.Fine.{Fines, or-left, or-right}
 use Rattle.typst_binding.proofs.FineRuns.{AllBind, Binds, binds-joined, still-shaped}

@@ -8,15 +8,15 @@ use Rattle.typst_lines.specs.Place.{Place, moved}
 use Rattle.typst_node.specs.Tree.{Tree, error_of}
 use Rattle.typst_token_nodes.specs.Nodes.{token_node, plain_node, fault_node}
 use Rattle.typst_tokens.specs.declared.token.Token.{Token}
-use Rattle.typst_code.specs.Hand.{Hand, AtHand, text_ahead, told}
-use Rattle.typst_code.specs.Point.{Point}
-use Rattle.typst_code.specs.Shape.Making.{itself}
-use Rattle.typst_code.specs.Depth.{is_end}
-use Rattle.typst_code.specs.Steps.{eat_making, expected}
-use Rattle.typst_code.specs.Syntax.Op.{complains}
-use Rattle.typst_code.specs.Syntax.Parser.{does}
-use Rattle.typst_code.specs.Meaning.{Outcome, Level, plain, joined, hand_of, hand_asks_of, taken_node, asked, run}
-use Rattle.typst_code.proofs.Ends.{hand-again, hand-takes}
+use Rattle.typst_grammar.specs.Hand.{Hand, AtHand, text_ahead, told}
+use Rattle.typst_grammar.specs.Point.{Point}
+use Rattle.typst_grammar.specs.Shape.Making.{itself}
+use Rattle.typst_grammar.specs.Depth.{is_end}
+use Rattle.typst_grammar.specs.Steps.{eat_making, expected}
+use Rattle.typst_grammar.specs.Syntax.Op.{complains}
+use Rattle.typst_grammar.specs.Syntax.Parser.{does}
+use Rattle.typst_grammar.specs.Meaning.{Outcome, Level, plain, joined, hand_of, hand_asks_of, taken_node, asked, run}
+use Rattle.typst_grammar.proofs.Ends.{hand-again, hand-takes}
 use Rattle.typst_binding.proofs.Heads.{fault-error, hand-kind, takes-making, standing-none}
 use Rattle.typst_binding.proofs.Operands.{Exact, exact-plain, exact-joined, making-empties}
 

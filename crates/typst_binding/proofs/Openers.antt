@@ -5,12 +5,12 @@ use Rattle.typst_kinds.specs.declared.kind.SyntaxKind.TheVariants as kind
 use Rattle.typst_kinds.specs.declared.operator.UnOp.{UnOp}
 use Rattle.typst_lines.specs.Place.{Place, moved}
 use Rattle.typst_node.specs.Tree.{Tree, text_of, error_of, advised}
-use Rattle.typst_code.specs.calls.Behind.{Behind}
-use Rattle.typst_code.specs.calls.Behind.TheVariants as behind
-use Rattle.typst_code.specs.Hand.{Hand, told}
-use Rattle.typst_code.specs.Point.{Point, forgot}
-use Rattle.typst_code.specs.calls.Block.{Block}
-use Rattle.typst_code.specs.calls.Block.TheVariants as block
+use Rattle.typst_grammar.specs.calls.Behind.{Behind}
+use Rattle.typst_grammar.specs.calls.Behind.TheVariants as behind
+use Rattle.typst_grammar.specs.Hand.{Hand, told}
+use Rattle.typst_grammar.specs.Point.{Point, forgot}
+use Rattle.typst_grammar.specs.calls.Block.{Block}
+use Rattle.typst_grammar.specs.calls.Block.TheVariants as block
 use Rattle.typst_classes.specs.Classes.{CharClasses}
 use Rattle.typst_kinds.specs.Kinds.{same, is_error}
 use Rattle.typst_kinds.specs.Names.{name_of}
@@ -18,24 +18,24 @@ use Rattle.typst_node.specs.Diagnostic.{hint_with}
 use Rattle.typst_node.specs.Messages.{made_expected, expected_error, expected_message, is_lost_name, keyword_hint}
 use Rattle.typst_grammar.specs.Grammar.{block_production, level_at}
 use Rattle.typst_binding.proofs.Signs.{sign_of}
-use Rattle.typst_code.specs.Shape.{Shape, becomes, hinted, on_first, shaped}
-use Rattle.typst_code.specs.Shape.Change.{stays, is_not}
-use Rattle.typst_code.specs.Shape.Shape.{keeps}
-use Rattle.typst_code.specs.Depth.{is_end}
-use Rattle.typst_code.specs.Syntax.{Parser, ◌>>=◌}
-use Rattle.typst_code.specs.Syntax.Parser.{gives, block}
-use Rattle.typst_code.specs.Steps.{peek, eat, node, read_block}
-use Rattle.typst_code.specs.Markup.{bracketed, content_block}
-use Rattle.typst_code.specs.Sequences.{braced, code_block}
-use Rattle.typst_code.specs.Closures.{behind_name, behind_underscore, name_shape, underscore_shape, named, placeholder, headed, closure_shape, right_side}
-use Rattle.typst_code.proofs.Within.{on_both}
-use Rattle.typst_code.specs.Equations.{equation, in_dollars}
-use Rattle.typst_code.specs.Bindings.{let_binding}
-use Rattle.typst_code.specs.Expressions.{unary_expr}
-use Rattle.typst_code.specs.Imports.{module_import}
-use Rattle.typst_code.specs.Statements.{set_rule, show_rule, show_shape, contextual, conditional, while_loop, for_loop, module_include, jump, func_return}
-use Rattle.typst_code.specs.Meaning.{Outcome, Level, plain, less, closed, flushed_state, joined, inside, reshaped, hand_of, hand_asks_of, asked, run}
-use Rattle.typst_code.proofs.Ends.{hand-again}
+use Rattle.typst_grammar.specs.Shape.{Shape, becomes, hinted, on_first, shaped}
+use Rattle.typst_grammar.specs.Shape.Change.{stays, is_not}
+use Rattle.typst_grammar.specs.Shape.Shape.{keeps}
+use Rattle.typst_grammar.specs.Depth.{is_end}
+use Rattle.typst_grammar.specs.Syntax.{Parser, ◌>>=◌}
+use Rattle.typst_grammar.specs.Syntax.Parser.{gives, block}
+use Rattle.typst_grammar.specs.Steps.{peek, eat, node, read_block}
+use Rattle.typst_grammar.specs.Markup.{bracketed, content_block}
+use Rattle.typst_grammar.specs.Sequences.{braced, code_block}
+use Rattle.typst_grammar.specs.Closures.{behind_name, behind_underscore, name_shape, underscore_shape, named, placeholder, headed, closure_shape, right_side}
+use Rattle.typst_grammar.proofs.Within.{on_both}
+use Rattle.typst_grammar.specs.Equations.{equation, in_dollars}
+use Rattle.typst_grammar.specs.Bindings.{let_binding}
+use Rattle.typst_grammar.specs.Expressions.{unary_expr}
+use Rattle.typst_grammar.specs.Imports.{module_import}
+use Rattle.typst_grammar.specs.Statements.{set_rule, show_rule, show_shape, contextual, conditional, while_loop, for_loop, module_include, jump, func_return}
+use Rattle.typst_grammar.specs.Meaning.{Outcome, Level, plain, less, closed, flushed_state, joined, inside, reshaped, hand_of, hand_asks_of, asked, run}
+use Rattle.typst_grammar.proofs.Ends.{hand-again}
 use Rattle.typst_binding.proofs.Fine.{All, all-append, all-drop, all-take, all-hinted}
 use Rattle.typst_binding.proofs.FineRuns.{still-hand}
 use Rattle.typst_binding.proofs.Heads.{Bare, bare-advised, Unary, last-behind, Single, Head, Heads, head-behind, head-gives, head-next, head-wrapped, head-reshaped, head-shaped, head-stays, head-node-at, head-node, head-nest, head-silent, standing-silent, silent-joined, silent-plain, is_plain, head-eat}

@@ -9,19 +9,19 @@ use Rattle.typst_lines.specs.Place.{Place, moved}
 use Rattle.typst_node.specs.Diagnostic.{hint_with}
 use Rattle.typst_node.specs.Tree.{Tree, text_of, leaf_of, advised, all_advised}
 use Rattle.typst_token_nodes.specs.Nodes.{token_node}
-use Rattle.typst_code.specs.Ask.{Ask}
-use Rattle.typst_code.specs.Hand.{Hand, hand_at, len_at, text_ahead}
-use Rattle.typst_code.specs.Point.{Point}
-use Rattle.typst_code.specs.Shape.{hinted_error, hinted, count_empty, after_node}
-use Rattle.typst_code.specs.Shape.Making.{itself}
-use Rattle.typst_code.specs.Steps.{eat_making, eat}
-use Rattle.typst_code.specs.Meaning.{Outcome, Level, plain, less, joined, hand_of, renewed, taken_node, run}
-use Rattle.typst_code.proofs.Ends.{hand-again}
-use Rattle.typst_code.proofs.Hints.{hinted-append}
-use Rattle.typst_code.proofs.Leaves.{text-made}
-use Rattle.typst_code.proofs.Places.{less-none, no-end}
-use Rattle.typst_code.proofs.TokenTexts.{text-token}
-use Rattle.typst_code.proofs.Within.{on_both}
+use Rattle.typst_grammar.specs.Ask.{Ask}
+use Rattle.typst_grammar.specs.Hand.{Hand, hand_at, len_at, text_ahead}
+use Rattle.typst_grammar.specs.Point.{Point}
+use Rattle.typst_grammar.specs.Shape.{hinted_error, hinted, count_empty, after_node}
+use Rattle.typst_grammar.specs.Shape.Making.{itself}
+use Rattle.typst_grammar.specs.Steps.{eat_making, eat}
+use Rattle.typst_grammar.specs.Meaning.{Outcome, Level, plain, less, joined, hand_of, renewed, taken_node, run}
+use Rattle.typst_grammar.proofs.Ends.{hand-again}
+use Rattle.typst_grammar.proofs.Hints.{hinted-append}
+use Rattle.typst_grammar.proofs.Leaves.{text-made}
+use Rattle.typst_grammar.proofs.Places.{less-none, no-end}
+use Rattle.typst_grammar.proofs.TokenTexts.{text-token}
+use Rattle.typst_grammar.proofs.Within.{on_both}
 use Rattle.typst_binding.proofs.Heads.{Leafy, takes-making, back-eat}
 
 advised-kind : (hints : List (List ℕ)) (t : Tree) → t.head.kind ≡ kind.Error → (all_advised hints t).head.kind ≡ kind.Error

@@ -5,32 +5,32 @@ use Rattle.typst_kinds.specs.declared.kind.SyntaxKind.{SyntaxKind}
 use Rattle.typst_kinds.specs.declared.kind.SyntaxKind.TheVariants as kind
 use Rattle.typst_lines.specs.Place.{Place, moved}
 use Rattle.typst_node.specs.Tree.{Tree, forest, inner_of}
-use Rattle.typst_code.specs.calls.Behind.{Behind}
-use Rattle.typst_code.specs.calls.Behind.TheVariants as behind
-use Rattle.typst_code.specs.calls.Block.{Block}
-use Rattle.typst_code.specs.calls.Call.{Call}
-use Rattle.typst_code.specs.calls.Role.{Role}
-use Rattle.typst_code.specs.declared.listing.Items.{Items}
-use Rattle.typst_code.specs.Closures.{closure_shape}
-use Rattle.typst_code.specs.Expected.{expects}
-use Rattle.typst_code.specs.Groups.{group, group_kind, group_rest, group_shape, list_kind}
-use Rattle.typst_code.specs.Hand.{Hand, AtHand, told}
-use Rattle.typst_code.specs.Params.{params, params_shape}
-use Rattle.typst_code.specs.Parens.{as_group, behind_group, behind_if, parens, readings, sign}
-use Rattle.typst_code.specs.Parts.{expression_if}
-use Rattle.typst_code.specs.Patterns.{destructuring}
-use Rattle.typst_code.specs.Point.{Point, pending}
-use Rattle.typst_code.specs.Shape.{becomes, unclosed, first_changed, hinted_last, hinted, shaped}
-use Rattle.typst_code.specs.Shape.Change.{stays, turns_wrong}
-use Rattle.typst_code.specs.Shape.Shape.{keeps}
-use Rattle.typst_code.specs.Sound.{Tidy, Backs}
-use Rattle.typst_code.specs.Steps.{peek, eat, eat_if, expect, expected, node, within}
-use Rattle.typst_code.specs.Syntax.{Parser, ◌>>=◌}
-use Rattle.typst_code.specs.Syntax.Parser.{gives, pick, either}
-use Rattle.typst_code.specs.Meaning.{Outcome, Level, plain, less, joined, inside, reshaped, given_up, hand_of, hand_asks_of, asked, run}
-use Rattle.typst_code.proofs.Backs.{backs-run}
-use Rattle.typst_code.proofs.Ends.{hand-again}
-use Rattle.typst_code.proofs.Within.{on_both}
+use Rattle.typst_grammar.specs.calls.Behind.{Behind}
+use Rattle.typst_grammar.specs.calls.Behind.TheVariants as behind
+use Rattle.typst_grammar.specs.calls.Block.{Block}
+use Rattle.typst_grammar.specs.calls.Call.{Call}
+use Rattle.typst_grammar.specs.calls.Role.{Role}
+use Rattle.typst_grammar.specs.listing.Items.{Items}
+use Rattle.typst_grammar.specs.Closures.{closure_shape}
+use Rattle.typst_grammar.specs.Expected.{expects}
+use Rattle.typst_grammar.specs.Groups.{group, group_kind, group_rest, group_shape, list_kind}
+use Rattle.typst_grammar.specs.Hand.{Hand, AtHand, told}
+use Rattle.typst_grammar.specs.Params.{params, params_shape}
+use Rattle.typst_grammar.specs.Parens.{as_group, behind_group, behind_if, parens, readings, sign}
+use Rattle.typst_grammar.specs.Parts.{expression_if}
+use Rattle.typst_grammar.specs.Patterns.{destructuring}
+use Rattle.typst_grammar.specs.Point.{Point, pending}
+use Rattle.typst_grammar.specs.Shape.{becomes, unclosed, first_changed, hinted_last, hinted, shaped}
+use Rattle.typst_grammar.specs.Shape.Change.{stays, turns_wrong}
+use Rattle.typst_grammar.specs.Shape.Shape.{keeps}
+use Rattle.typst_grammar.specs.Sound.{Tidy, Backs}
+use Rattle.typst_grammar.specs.Steps.{peek, eat, eat_if, expect, expected, node, within}
+use Rattle.typst_grammar.specs.Syntax.{Parser, ◌>>=◌}
+use Rattle.typst_grammar.specs.Syntax.Parser.{gives, pick, either}
+use Rattle.typst_grammar.specs.Meaning.{Outcome, Level, plain, less, joined, inside, reshaped, given_up, hand_of, hand_asks_of, asked, run}
+use Rattle.typst_grammar.proofs.Backs.{backs-run}
+use Rattle.typst_grammar.proofs.Ends.{hand-again}
+use Rattle.typst_grammar.proofs.Within.{on_both}
 use Rattle.typst_binding.proofs.Signs.{sign_of}
 use Rattle.typst_binding.proofs.Fine.{All, Steady, all-append, no-operator}
 use Rattle.typst_binding.proofs.FineRuns.{Gives, gives-all, gives-run, Still, still-hand}

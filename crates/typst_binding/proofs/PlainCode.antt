@@ -8,40 +8,40 @@ use Rattle.typst_kinds.specs.declared.kind.SyntaxKind.{SyntaxKind}
 use Rattle.typst_kinds.specs.declared.kind.SyntaxKind.TheVariants as kind
 use Rattle.typst_kinds.specs.declared.operator.UnOp.{UnOp}
 use Rattle.typst_names.specs.Names.{has_name}
-use Rattle.typst_code.specs.calls.ChainSet.{ChainSet}
-use Rattle.typst_code.specs.calls.Behind.{Behind}
-use Rattle.typst_code.specs.calls.Behind.TheVariants as behind
-use Rattle.typst_code.specs.declared.heads.CodeHead.{CodeHead}
-use Rattle.typst_code.specs.declared.heads.CodeHead.TheVariants as head
-use Rattle.typst_code.specs.declared.heads.CodeTail.{CodeTail}
-use Rattle.typst_code.specs.declared.heads.CodeTail.TheVariants as tail
-use Rattle.typst_code.specs.declared.listing.Items.{Items}
-use Rattle.typst_code.specs.keys.Key.{Key}
-use Rattle.typst_code.specs.keys.Key.TheVariants as key
-use Rattle.typst_code.specs.Arguments.{argument_shape, argument, argument_turn, argument_list, listed_arguments, content_turn, missing_arguments, begin_arguments, arguments, calls_directly}
-use Rattle.typst_code.specs.Expressions.{code_head, code_by, unary_expr, code_primary, dots_directly, code_tail, direct_field, call_tail, tail_by, code_tail_turn, code_expr}
-use Rattle.typst_code.specs.Expected.{expect_identifier, seeing}
-use Rattle.typst_code.specs.Hand.{AtHand}
-use Rattle.typst_code.specs.Groups.{spread, pair, when_seen, item_shape, misfit, item, group_turn, list_kind, group_kind, group_shape, group_rest, group}
-use Rattle.typst_code.specs.Imports.{path_turn, import_name, import_path, renaming, import_shape, import_turn, import_items, parens_shape, import_parens, imported, module_import}
-use Rattle.typst_code.specs.Parens.{as_group, readings, sign, parens}
-use Rattle.typst_code.specs.Sequences.{missing_break, statement_end, statement, code_turn, code_exprs, code, code_block}
-use Rattle.typst_code.specs.Statements.{any_block, field, target_turn, target, set_rule, show_shape, show_rule, contextual, other_branch, conditional_turn, conditional, while_loop, second_pattern, loop_names, for_loop, module_include, jump, func_return}
-use Rattle.typst_code.specs.Shape.{Seen, becomes}
-use Rattle.typst_code.specs.Shape.Change.{stays, turns_wrong}
-use Rattle.typst_code.specs.Shape.Making.{itself, surprise, wanted}
-use Rattle.typst_code.specs.Shape.Seen.{leaf_seen, inner_seen}
-use Rattle.typst_code.specs.Shape.Shape.{keeps, holds}
-use Rattle.typst_code.specs.Steps.{within, eat, eat_if, convert_and_eat}
-use Rattle.typst_code.proofs.Within.{on_both}
-use Rattle.typst_math.specs.Attachments.{operand, attachment_turn, attachments, primes}
-use Rattle.typst_math.specs.Delimited.{sign_kind, delimiter_kind, delimiter_sign, delimiter, body_shape, delimited_body, delimiter_if, delimited_shape, delimited}
-use Rattle.typst_math.specs.MathArguments.{value_shape, argument_exprs, argument_value, name_making, eat_name, argument_name, name_change as math_change, named_argument, spread_argument, math_argument, argument_end, math_argument_turn, math_arguments}
-use Rattle.typst_math.specs.MathExpressions.{math_head, math_text, root, math_by, math_primary, math_tail, fraction, tail_by as math_tail_by, math_tail_turn, math_grown, math_expr}
-use Rattle.typst_math.specs.declared.heads.MathHead.{MathHead}
-use Rattle.typst_math.specs.declared.heads.MathHead.TheVariants as math_heads
-use Rattle.typst_math.specs.declared.heads.MathTail.{MathTail}
-use Rattle.typst_math.specs.declared.heads.MathTail.TheVariants as math_tails
+use Rattle.typst_grammar.specs.calls.ChainSet.{ChainSet}
+use Rattle.typst_grammar.specs.calls.Behind.{Behind}
+use Rattle.typst_grammar.specs.calls.Behind.TheVariants as behind
+use Rattle.typst_grammar.specs.heads.CodeHead.{CodeHead}
+use Rattle.typst_grammar.specs.heads.CodeHead.TheVariants as head
+use Rattle.typst_grammar.specs.heads.CodeTail.{CodeTail}
+use Rattle.typst_grammar.specs.heads.CodeTail.TheVariants as tail
+use Rattle.typst_grammar.specs.listing.Items.{Items}
+use Rattle.typst_grammar.specs.keys.Key.{Key}
+use Rattle.typst_grammar.specs.keys.Key.TheVariants as key
+use Rattle.typst_grammar.specs.Arguments.{argument_shape, argument, argument_turn, argument_list, listed_arguments, content_turn, missing_arguments, begin_arguments, arguments, calls_directly}
+use Rattle.typst_grammar.specs.Expressions.{code_head, code_by, unary_expr, code_primary, dots_directly, code_tail, direct_field, call_tail, tail_by, code_tail_turn, code_expr}
+use Rattle.typst_grammar.specs.Expected.{expect_identifier, seeing}
+use Rattle.typst_grammar.specs.Hand.{AtHand}
+use Rattle.typst_grammar.specs.Groups.{spread, pair, when_seen, item_shape, misfit, item, group_turn, list_kind, group_kind, group_shape, group_rest, group}
+use Rattle.typst_grammar.specs.Imports.{path_turn, import_name, import_path, renaming, import_shape, import_turn, import_items, parens_shape, import_parens, imported, module_import}
+use Rattle.typst_grammar.specs.Parens.{as_group, readings, sign, parens}
+use Rattle.typst_grammar.specs.Sequences.{missing_break, statement_end, statement, code_turn, code_exprs, code, code_block}
+use Rattle.typst_grammar.specs.Statements.{any_block, field, target_turn, target, set_rule, show_shape, show_rule, contextual, other_branch, conditional_turn, conditional, while_loop, second_pattern, loop_names, for_loop, module_include, jump, func_return}
+use Rattle.typst_grammar.specs.Shape.{Seen, becomes}
+use Rattle.typst_grammar.specs.Shape.Change.{stays, turns_wrong}
+use Rattle.typst_grammar.specs.Shape.Making.{itself, surprise, wanted}
+use Rattle.typst_grammar.specs.Shape.Seen.{leaf_seen, inner_seen}
+use Rattle.typst_grammar.specs.Shape.Shape.{keeps, holds}
+use Rattle.typst_grammar.specs.Steps.{within, eat, eat_if, convert_and_eat}
+use Rattle.typst_grammar.proofs.Within.{on_both}
+use Rattle.typst_grammar.specs.Attachments.{operand, attachment_turn, attachments, primes}
+use Rattle.typst_grammar.specs.Delimited.{sign_kind, delimiter_kind, delimiter_sign, delimiter, body_shape, delimited_body, delimiter_if, delimited_shape, delimited}
+use Rattle.typst_grammar.specs.MathArguments.{value_shape, argument_exprs, argument_value, name_making, eat_name, argument_name, name_change as math_change, named_argument, spread_argument, math_argument, argument_end, math_argument_turn, math_arguments}
+use Rattle.typst_grammar.specs.MathExpressions.{math_head, math_text, root, math_by, math_primary, math_tail, fraction, tail_by as math_tail_by, math_tail_turn, math_grown, math_expr}
+use Rattle.typst_grammar.specs.math_heads.MathHead.{MathHead}
+use Rattle.typst_grammar.specs.math_heads.MathHead.TheVariants as math_heads
+use Rattle.typst_grammar.specs.math_heads.MathTail.{MathTail}
+use Rattle.typst_grammar.specs.math_heads.MathTail.TheVariants as math_tails
 use Rattle.typst_binding.proofs.Fine.{tame, tame_kind, tame_making}
 use Rattle.typst_binding.proofs.FineRuns.{tame_if, Gives, gives-all, Plain}
 use Rattle.typst_binding.proofs.PlainParts.{plain-making, plain-eat, plain-convert, plain-so, plain-if, plain-close, plain-unexpected, plain-expected, plain-expect, plain-within, plain-shaped, plain-node, plain-grow, plain-nest, plain-read, plain-seeing, plain-expects, plain-identifier, tame-closed, plain-deep, plain-deeper, plain-embedded, plain-exprs, plain-equation, plain-separator, plain-expression-if, plain-destructuring, plain-params, tame-closure, plain-named, plain-placeholder, plain-let}

@@ -7,33 +7,33 @@ use Rattle.typst_kinds.specs.declared.kind.SyntaxKind.TheVariants as kind
 use Rattle.typst_names.specs.Names.{has_name}
 use Rattle.typst_patterns.specs.declared.bindings.Bound.{Bound}
 use Rattle.typst_patterns.specs.declared.bindings.Bound.TheVariants as bound
-use Rattle.typst_code.specs.calls.Block.{Block}
-use Rattle.typst_code.specs.calls.Call.{Call}
-use Rattle.typst_code.specs.calls.Mark.{Mark}
-use Rattle.typst_code.specs.calls.Role.{Role}
-use Rattle.typst_code.specs.calls.Way.{Way}
-use Rattle.typst_code.specs.calls.Behind.{Behind}
-use Rattle.typst_code.specs.calls.Behind.TheVariants as behind
-use Rattle.typst_code.specs.head.MarkupHead.{MarkupHead}
-use Rattle.typst_code.specs.head.MarkupHead.TheVariants as head
-use Rattle.typst_code.specs.reading.Reading.{Reading}
-use Rattle.typst_code.specs.Bindings.{bound_name as bound_function, bound_part, equals, bound_shape, binding, let_binding}
-use Rattle.typst_code.specs.Calls.{Answer}
-use Rattle.typst_code.specs.Closures.{closure_shape, right_side, headed, name_shape, underscore_shape, behind_name, behind_underscore, named, placeholder}
-use Rattle.typst_code.specs.Depth.{anywhere, skip_one, too_deep, deeper}
-use Rattle.typst_code.specs.Embedded.{embedded_end, embedded_expr, embedded}
-use Rattle.typst_code.specs.Equations.{math_expression, math_item, math_turn, math_exprs, math, between_dollars, equation}
-use Rattle.typst_code.specs.Expected.{expects, expect_identifier, seeing}
-use Rattle.typst_code.specs.Markup.{note_piece, markup_turn, markup_exprs, markup_run, markup, markup_is_empty, emphasized, delimited, heading, item, term_item, content_block, direct_content, reference, markup_head, markup_by, markup_expr}
-use Rattle.typst_code.specs.Params.{defaulted, param, param_turn, params}
-use Rattle.typst_code.specs.Parts.{expression_if, separator}
-use Rattle.typst_code.specs.Patterns.{duplicate, bound_change, bound_name, pattern_leaf, sink, sink_shape, name_and_colon, key, key_or_pattern, named_shape, part, Found, destructuring_item, destructuring_turn, destructuring, pattern}
-use Rattle.typst_code.specs.Shape.{Making, Shape, becomes, unclosed}
-use Rattle.typst_code.specs.Shape.Change.{stays, turns_wrong}
-use Rattle.typst_code.specs.Shape.Making.{itself, of_kind, surprise, wanted}
-use Rattle.typst_code.specs.Steps.{eat_making, eat, convert_and_eat, eat_so, eat_if, close_if, unexpected, expected, expect, flush_trivia, within, node, node_with_trivia, grow, nest, note, read_block}
-use Rattle.typst_code.specs.Syntax.{Parser}
-use Rattle.typst_code.proofs.Within.{on_both}
+use Rattle.typst_grammar.specs.calls.Block.{Block}
+use Rattle.typst_grammar.specs.calls.Call.{Call}
+use Rattle.typst_grammar.specs.calls.Mark.{Mark}
+use Rattle.typst_grammar.specs.calls.Role.{Role}
+use Rattle.typst_grammar.specs.calls.Way.{Way}
+use Rattle.typst_grammar.specs.calls.Behind.{Behind}
+use Rattle.typst_grammar.specs.calls.Behind.TheVariants as behind
+use Rattle.typst_grammar.specs.head.MarkupHead.{MarkupHead}
+use Rattle.typst_grammar.specs.head.MarkupHead.TheVariants as head
+use Rattle.typst_grammar.specs.reading.Reading.{Reading}
+use Rattle.typst_grammar.specs.Bindings.{bound_name as bound_function, bound_part, equals, bound_shape, binding, let_binding}
+use Rattle.typst_grammar.specs.Calls.{Answer}
+use Rattle.typst_grammar.specs.Closures.{closure_shape, right_side, headed, name_shape, underscore_shape, behind_name, behind_underscore, named, placeholder}
+use Rattle.typst_grammar.specs.Depth.{anywhere, skip_one, too_deep, deeper}
+use Rattle.typst_grammar.specs.Embedded.{embedded_end, embedded_expr, embedded}
+use Rattle.typst_grammar.specs.Equations.{math_expression, math_item, math_turn, math_exprs, math, between_dollars, equation}
+use Rattle.typst_grammar.specs.Expected.{expects, expect_identifier, seeing}
+use Rattle.typst_grammar.specs.Markup.{note_piece, markup_turn, markup_exprs, markup_run, markup, markup_is_empty, emphasized, delimited, heading, item, term_item, content_block, direct_content, reference, markup_head, markup_by, markup_expr}
+use Rattle.typst_grammar.specs.Params.{defaulted, param, param_turn, params}
+use Rattle.typst_grammar.specs.Parts.{expression_if, separator}
+use Rattle.typst_grammar.specs.Patterns.{duplicate, bound_change, bound_name, pattern_leaf, sink, sink_shape, name_and_colon, key, key_or_pattern, named_shape, part, Found, destructuring_item, destructuring_turn, destructuring, pattern}
+use Rattle.typst_grammar.specs.Shape.{Making, Shape, becomes, unclosed}
+use Rattle.typst_grammar.specs.Shape.Change.{stays, turns_wrong}
+use Rattle.typst_grammar.specs.Shape.Making.{itself, of_kind, surprise, wanted}
+use Rattle.typst_grammar.specs.Steps.{eat_making, eat, convert_and_eat, eat_so, eat_if, close_if, unexpected, expected, expect, flush_trivia, within, node, node_with_trivia, grow, nest, note, read_block}
+use Rattle.typst_grammar.specs.Syntax.{Parser}
+use Rattle.typst_grammar.proofs.Within.{on_both}
 use Rattle.typst_binding.proofs.Fine.{tame, tame_change, tame_kind, tame_making}
 use Rattle.typst_binding.proofs.FineRuns.{tame_if, Gives, gives-all, Plain}
 

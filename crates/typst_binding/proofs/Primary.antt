@@ -6,17 +6,17 @@ use Rattle.typst_kinds.specs.declared.kind.SyntaxKind.TheVariants as kind
 use Rattle.typst_lines.specs.Place.{Place, moved}
 use Rattle.typst_node.specs.Tree.{Tree}
 use Rattle.typst_classes.specs.Classes.{CharClasses}
-use Rattle.typst_code.specs.calls.Block.TheVariants as block
-use Rattle.typst_code.specs.declared.heads.CodeHead.{CodeHead}
-use Rattle.typst_code.specs.declared.heads.CodeHead.TheVariants as head
-use Rattle.typst_code.specs.Expressions.{code_by, code_head, code_primary}
-use Rattle.typst_code.specs.Hand.{Hand, AtHand, told}
-use Rattle.typst_code.specs.Parens.{readings}
-use Rattle.typst_code.specs.Point.{Point, pending}
-use Rattle.typst_code.specs.Steps.{peek, expected}
-use Rattle.typst_code.specs.Syntax.Parser.{next}
-use Rattle.typst_code.specs.Meaning.{Outcome, Level, plain, hand_of, hand_asks_of, asked, run}
-use Rattle.typst_code.proofs.Ends.{hand-again}
+use Rattle.typst_grammar.specs.calls.Block.TheVariants as block
+use Rattle.typst_grammar.specs.heads.CodeHead.{CodeHead}
+use Rattle.typst_grammar.specs.heads.CodeHead.TheVariants as head
+use Rattle.typst_grammar.specs.Expressions.{code_by, code_head, code_primary}
+use Rattle.typst_grammar.specs.Hand.{Hand, AtHand, told}
+use Rattle.typst_grammar.specs.Parens.{readings}
+use Rattle.typst_grammar.specs.Point.{Point, pending}
+use Rattle.typst_grammar.specs.Steps.{peek, expected}
+use Rattle.typst_grammar.specs.Syntax.Parser.{next}
+use Rattle.typst_grammar.specs.Meaning.{Outcome, Level, plain, hand_of, hand_asks_of, asked, run}
+use Rattle.typst_grammar.proofs.Ends.{hand-again}
 use Rattle.typst_grammar.specs.Grammar.{level_at}
 use Rattle.typst_binding.proofs.Fine.{All, all-append, all-drop, all-map}
 use Rattle.typst_binding.proofs.FineRuns.{Binds, Still, still-hand}

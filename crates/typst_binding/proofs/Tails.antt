@@ -8,23 +8,23 @@ use Rattle.typst_kinds.specs.declared.operator.BinOp.TheVariants as binary
 use Rattle.typst_lines.specs.Place.{Place, moved}
 use Rattle.typst_node.specs.Tree.{Tree, forest}
 use Rattle.typst_classes.specs.Classes.{CharClasses}
-use Rattle.typst_code.specs.calls.Call.TheVariants.{CodeExpr}
-use Rattle.typst_code.specs.Arguments.{calls_directly}
-use Rattle.typst_code.specs.Statements.{field}
-use Rattle.typst_code.specs.declared.heads.CodeTail.{CodeTail}
-use Rattle.typst_code.specs.declared.heads.CodeTail.TheVariants as tail
-use Rattle.typst_code.specs.Depth.{deeper, is_end}
-use Rattle.typst_code.specs.Expressions.{code_tail_turn, call_tail, not_in, binary_expr, code_tail, operand_least, tail_by}
-use Rattle.typst_code.specs.Hand.{Hand, AtHand, told, text_ahead}
-use Rattle.typst_code.specs.Point.{is_nil, Point, Trivia, pending, gap_of}
-use Rattle.typst_code.specs.Shape.{Shape, becomes, hinted}
-use Rattle.typst_code.specs.Steps.{peek, eat, expected}
-use Rattle.typst_code.specs.Syntax.{Parser}
-use Rattle.typst_code.specs.Syntax.Parser.{next}
-use Rattle.typst_code.specs.Meaning.{Outcome, Level, plain, less, reshaped, joined, answered, bound, grown, is_more, hand_of, hand_asks_of, asked, run}
-use Rattle.typst_code.proofs.Ends.{hand-again, hand-takes}
-use Rattle.typst_code.proofs.Knot.{sane-at}
-use Rattle.typst_code.proofs.Places.{moved-sum, no-end}
+use Rattle.typst_grammar.specs.calls.Call.TheVariants.{CodeExpr}
+use Rattle.typst_grammar.specs.Arguments.{calls_directly}
+use Rattle.typst_grammar.specs.Statements.{field}
+use Rattle.typst_grammar.specs.heads.CodeTail.{CodeTail}
+use Rattle.typst_grammar.specs.heads.CodeTail.TheVariants as tail
+use Rattle.typst_grammar.specs.Depth.{deeper, is_end}
+use Rattle.typst_grammar.specs.Expressions.{code_tail_turn, call_tail, not_in, binary_expr, code_tail, operand_least, tail_by}
+use Rattle.typst_grammar.specs.Hand.{Hand, AtHand, told, text_ahead}
+use Rattle.typst_grammar.specs.Point.{is_nil, Point, Trivia, pending, gap_of}
+use Rattle.typst_grammar.specs.Shape.{Shape, becomes, hinted}
+use Rattle.typst_grammar.specs.Steps.{peek, eat, expected}
+use Rattle.typst_grammar.specs.Syntax.{Parser}
+use Rattle.typst_grammar.specs.Syntax.Parser.{next}
+use Rattle.typst_grammar.specs.Meaning.{Outcome, Level, plain, less, reshaped, joined, answered, bound, grown, is_more, hand_of, hand_asks_of, asked, run}
+use Rattle.typst_grammar.proofs.Ends.{hand-again, hand-takes}
+use Rattle.typst_grammar.proofs.Knot.{sane-at}
+use Rattle.typst_grammar.proofs.Places.{moved-sum, no-end}
 use Rattle.typst_grammar.specs.Grammar.{rules, level_at}
 use Rattle.typst_grammar.proofs.Moves.{Moves, moves-next, moves-peek, moves-eat}
 use Rattle.typst_binding.specs.Binding.{any_errors, has_errors, first_sign, right_least}

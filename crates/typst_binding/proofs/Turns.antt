@@ -8,10 +8,10 @@ use Rattle.typst_kinds.specs.declared.kind.SyntaxKind.TheVariants as kind
 use Rattle.typst_kinds.specs.declared.operator.BinOp.{BinOp}
 use Rattle.typst_kinds.specs.declared.operator.BinOp.TheVariants as binary
 use Rattle.typst_node.specs.Tree.{Tree, forest, trees, inner_of}
-use Rattle.typst_code.specs.declared.heads.CodeTail.{CodeTail}
-use Rattle.typst_code.specs.declared.heads.CodeTail.TheVariants as tail
-use Rattle.typst_code.specs.Arguments.{calls_directly}
-use Rattle.typst_code.specs.Expressions.{binary_tail, code_tail}
+use Rattle.typst_grammar.specs.heads.CodeTail.{CodeTail}
+use Rattle.typst_grammar.specs.heads.CodeTail.TheVariants as tail
+use Rattle.typst_grammar.specs.Arguments.{calls_directly}
+use Rattle.typst_grammar.specs.Expressions.{binary_tail, code_tail}
 use Rattle.typst_binding.specs.Binding.{any_errors, has_errors, first_sign, operator_of, binds_by, left_binds, right_binds, right_least, operands_bind, node_binds}
 use Rattle.typst_binding.proofs.Signs.{sign_of, NoSign}
 use Rattle.typst_binding.proofs.Fine.{All, or-left, or-right, or-both, and-both}

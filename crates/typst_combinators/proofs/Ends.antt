@@ -24,9 +24,9 @@ use Rattle.typst_tokens.specs.Raw.{in_raw, raw_end, raw}
 use Rattle.typst_classes.specs.Identifiers.{is_id_continue}
 use Rattle.typst_links.specs.Labels.{is_name}
 use Rattle.typst_tokens.specs.Token.{plain}
-use Rattle.typst_lexer.specs.Tokens.{of_mode, hash, slash, star, backtick, token}
+use Rattle.typst_token_nodes.specs.Tokens.{of_mode, hash, slash, star, backtick, token}
 use Rattle.typst_tokens.specs.declared.token.Token.{Token}
-use Rattle.typst_lexer.proofs.TokenEats.{token-eats}
+use Rattle.typst_token_nodes.proofs.TokenEats.{token-eats}
 use Rattle.typst_lines.proofs.Bools.{on}
 use Rattle.typst_combinators.specs.Depth.{is_end}
 use Rattle.typst_token_nodes.specs.Nodes.{token_node}

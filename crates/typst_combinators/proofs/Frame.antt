@@ -9,7 +9,7 @@ use Rattle.typst_classes.specs.Classes.{CharClasses}
 use Rattle.typst_token_nodes.specs.Nodes.{token_node}
 use Rattle.typst_tokens.specs.declared.token.Token.{Token}
 use Rattle.typst_readers.specs.Reader.{Look, look}
-use Rattle.typst_lexer.specs.Tokens.{token}
+use Rattle.typst_token_nodes.specs.Tokens.{token}
 use Rattle.typst_lines.proofs.Bools.{and-second}
 use Rattle.typst_combinators.specs.declared.reading.AtNewline.TheVariants.{Continue, Stop, ContextualContinue, StopParBreak, RequireColumn}
 use Rattle.typst_combinators.specs.declared.calls.Block.{Block}

@@ -25,7 +25,7 @@ use Rattle.typst_combinators.specs.Shape.Shape.{keeps, holds, lacks, warns, fail
 use Rattle.typst_combinators.specs.declared.reading.Reading.{Reading}
 use Rattle.typst_classes.specs.Classes.{CharClasses}
 use Rattle.typst_token_nodes.specs.Nodes.{token_node}
-use Rattle.typst_lexer.specs.Tokens.{token}
+use Rattle.typst_token_nodes.specs.Tokens.{token}
 use Rattle.typst_combinators.specs.Hand.{Hand, utf8_ahead, token_at, len_at, token_by, len_by, at_trivia, Ahead, after_trivia, direct, ahead_by, ahead, hand_at, told, column_at}
 use Rattle.typst_combinators.specs.Syntax.{Op, Begin, Parser}
 use Rattle.typst_combinators.specs.Syntax.Op.{hand, so, further, column, erred, takes, takes_so, flushes, complains, advises, marks, is_deepest}

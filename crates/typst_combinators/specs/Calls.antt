@@ -4,7 +4,7 @@ use Rattle.typst_classes.specs.Classes.{CharClasses}
 use Rattle.typst_readers.specs.Reader.{Reader}
 use Rattle.typst_tokens.specs.declared.token.Token.{Token}
 use Rattle.typst_tokens.specs.Memory.{Memory}
-use Rattle.typst_lexer.specs.Tokens.{token}
+use Rattle.typst_token_nodes.specs.Tokens.{token}
 use Rattle.typst_math_tokens.specs.Arguments.{named_argument, spread_argument}
 use Rattle.typst_combinators.specs.declared.calls.Call.{Call}
 use Rattle.typst_combinators.specs.declared.calls.Call.TheVariants.{MarkupExpr, CodeExpr, MathExpr, Pattern}

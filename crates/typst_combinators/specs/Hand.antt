@@ -13,7 +13,7 @@ use Rattle.typst_classes.specs.Classes.{CharClasses}
 unfoldable pub use Rattle.typst_readers.specs.Column.{column_at}
 pub use Rattle.typst_readers.specs.Column.{column_look}
 use Rattle.typst_readers.specs.Reader.{Reader, exec, eaten, look}
-use Rattle.typst_lexer.specs.Tokens.{token}
+use Rattle.typst_token_nodes.specs.Tokens.{token}
 use Rattle.typst_token_nodes.specs.Nodes.{token_node}
 use Rattle.typst_combinators.specs.declared.reading.AtNewline.TheVariants.{Continue, Stop, ContextualContinue, StopParBreak, RequireColumn}
 use Rattle.typst_combinators.specs.declared.reading.Newlines.{Newlines}

@@ -12,5 +12,5 @@ pub mod Knot
 pub mod Words
 pub mod Sound
 -- What the crates above name of those below.
-pub use Rattle.typst_lexer.specs.Tokens
+pub use Rattle.typst_token_nodes.specs.Tokens
 pub use Rattle.typst_token_nodes.specs.Nodes

@@ -8,7 +8,7 @@ use Rattle.typst_node.specs.Tree.{Tree, text_of, error_of}
 use Rattle.typst_classes.specs.Classes.{CharClasses}
 use Rattle.typst_readers.specs.Reader.{Reader, look}
 use Rattle.typst_token_nodes.specs.Nodes.{token_node}
-use Rattle.typst_lexer.specs.Tokens.{token}
+use Rattle.typst_token_nodes.specs.Tokens.{token}
 use Rattle.typst_tokens.specs.declared.token.Token.{Token}
 use Rattle.typst_tokens.specs.Memory.{Memory}
 use Rattle.typst_combinators.specs.declared.reading.AtNewline.{AtNewline}

@@ -8,6 +8,6 @@ mod reading;
 pub use calls::{Behind, Block, Call, ChainSet, Mark, Note, Role, Way};
 pub use laws::words_of_the_language;
 pub use reading::{AtNewline, Newlines, Reading, State};
-pub use typst_lexer::lexer::{named_argument, spread_argument, token};
-pub use typst_lexer::{Hull, LineEnd, Token};
-pub use typst_token_nodes::{is_leaf, leaf_node, make_node};
+pub use typst_token_nodes::{
+    Hull, LineEnd, Token, is_leaf, leaf_node, make_node, named_argument, spread_argument, token,
+};

@@ -1,2 +1,2 @@
 -- What the crates above name of those below.
-pub use Rattle.typst_grammar.specs.Grammar
+pub use Rattle.typst_binding.specs.Grammar

@@ -5,11 +5,11 @@ ghost use Rattle.std.specs.Str.{chars};
 ghost use Rattle.typst_kinds.specs.Kinds.{is_error};
 ghost use Rattle.typst_node.specs.Tree.{forest, inner_of, text_of};
 ghost use Rattle.typst_binding.specs.Binding.{binds, has_errors};
-ghost use Rattle.typst_grammar.specs.Grammar as spec;
+ghost use Rattle.typst_binding.specs.Grammar as spec;
 
 use std::alloc::{AllocError, Global};
+use typst_binding::{Hull, Note, read_whole, read_whole_code, read_whole_math};
 use typst_classes::Classes;
-use typst_grammar::{Hull, Note, read_whole, read_whole_code, read_whole_math};
 use typst_kinds::SyntaxKind;
 use typst_node::SyntaxNode;
 

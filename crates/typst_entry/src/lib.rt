@@ -5,4 +5,4 @@
 mod entry;
 
 pub use entry::{Noted, parse, parse_code, parse_math, parse_noted, root_over};
-pub use typst_grammar::{Block, Mark, Note};
+pub use typst_binding::{Block, Mark, Note};

@@ -7,18 +7,28 @@ pub mod Told
 -- What the crates above name of those below.
 pub use Rattle.typst_code.specs.Arguments
 pub use Rattle.typst_code.specs.Ask
+pub use Rattle.typst_code.specs.Bindings
+pub use Rattle.typst_code.specs.Bytes
 pub use Rattle.typst_code.specs.Calls
+pub use Rattle.typst_code.specs.Closures
 pub use Rattle.typst_code.specs.Depth
 pub use Rattle.typst_code.specs.Embedded
 pub use Rattle.typst_code.specs.Equations
 pub use Rattle.typst_code.specs.Expected
 pub use Rattle.typst_code.specs.Expressions
+pub use Rattle.typst_code.specs.Groups
 pub use Rattle.typst_code.specs.Hand
+pub use Rattle.typst_code.specs.Imports
+pub use Rattle.typst_code.specs.Keys
 pub use Rattle.typst_code.specs.Knot
 pub use Rattle.typst_code.specs.Log
 pub use Rattle.typst_code.specs.Markup
 pub use Rattle.typst_code.specs.Meaning
 pub use Rattle.typst_code.specs.Nodes
+pub use Rattle.typst_code.specs.Params
+pub use Rattle.typst_code.specs.Parens
+pub use Rattle.typst_code.specs.Parts
+pub use Rattle.typst_code.specs.Patterns
 pub use Rattle.typst_code.specs.Point
 pub use Rattle.typst_code.specs.Sequences
 pub use Rattle.typst_code.specs.Shape
@@ -27,7 +37,15 @@ pub use Rattle.typst_code.specs.Statements
 pub use Rattle.typst_code.specs.Steps
 pub use Rattle.typst_code.specs.Syntax
 pub use Rattle.typst_code.specs.Tokens
-pub use Rattle.typst_code.specs.calls
-pub use Rattle.typst_code.specs.head
-pub use Rattle.typst_code.specs.reading
 pub use Rattle.typst_code.specs.View
+pub use Rattle.typst_code.specs.calls
+pub use Rattle.typst_code.specs.declared.heads
+pub use Rattle.typst_code.specs.declared.listing
+pub use Rattle.typst_code.specs.head
+pub use Rattle.typst_code.specs.keys
+pub use Rattle.typst_code.specs.reading
+pub use Rattle.typst_math.specs.Attachments
+pub use Rattle.typst_math.specs.Delimited
+pub use Rattle.typst_math.specs.MathArguments
+pub use Rattle.typst_math.specs.MathExpressions
+pub use Rattle.typst_math.specs.declared.heads as math_heads

@@ -11,4 +11,6 @@ pub use laws::{
     grammar_laws, leaves_law, notes_of_texts, trees_of_code, trees_of_formulas, trees_of_names,
     trees_of_patterns, trees_of_texts,
 };
-pub use typst_code::{Block, Hull, Mark, Note};
+pub use typst_code::{
+    AtNewline, Block, Hull, Levels, Log, Mark, Note, Parser, Reading, State, Stop, markup_turn,
+};

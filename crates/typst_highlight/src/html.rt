@@ -11,7 +11,6 @@ use crate::page::Writer;
 use crate::progress::{Level, Progress};
 use crate::rules::{Rule, is_name, rule_of};
 use crate::spans::{span_asked, span_of, spanned};
-use crate::walk::tag_under;
 use std::alloc::{AllocError, Global};
 use typst_node::SyntaxNode;
 
@@ -88,14 +87,10 @@ fn write_leaf(
     ensures passed { OnOk result (walk.joined level.now progress.new ≡ walk.past (walk.joined level.now progress.old) node.now (walk.passed (walk.joined level.now progress.old) node.now (forest later.now))) }
 {
     let kind = node.kind();
-    let span = match rule_of(kind) {
-        Rule::Fixed(tag) => spanned(tag),
-        Rule::Name | Rule::Expression => return write_asking(html, node, later, level, progress),
-        _ => match tag_under(kind, level.parent) {
-            Some(tag) => spanned(tag),
-            None => return write_asking(html, node, later, level, progress),
-        },
+    let Rule::Fixed(tag) = rule_of(kind) else {
+        return write_asking(html, node, later, level, progress);
     };
+    let span = spanned(tag);
     let text = node.leaf_text();
     html.write(span, text)?;
     progress.pass(node, later, level, text.len(), None);

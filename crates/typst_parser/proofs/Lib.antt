@@ -1,0 +1,1 @@
+pub use Rattle.typst_source.proofs.Fresh

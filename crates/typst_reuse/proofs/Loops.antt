@@ -5,7 +5,7 @@ use Rattle.typst_lines.specs.Place.{Place, moved}
 use Rattle.typst_readers.specs.Sight.{position, hull_of}
 use Rattle.typst_grammar.specs.Ask.{Ask, shift}
 use Rattle.typst_grammar.specs.Ask.Ask.{looked, marked}
-use Rattle.typst_code.specs.Bytes.{bytes_left}
+use Rattle.typst_grammar.specs.Bytes.{bytes_left}
 use Rattle.typst_grammar.specs.Depth.{is_end}
 use Rattle.typst_grammar.specs.Log.{Log, with_hull, with_note, logged}
 use Rattle.typst_grammar.specs.Markup.{markup_turn}

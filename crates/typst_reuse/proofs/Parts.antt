@@ -16,7 +16,7 @@ use Rattle.typst_grammar.specs.Syntax.Parser.{repeat}
 use Rattle.typst_grammar.specs.Told.{told_at}
 use Rattle.typst_grammar.specs.View.{View, Runs}
 use Rattle.typst_grammar.specs.Grammar.{max_depth, start_of}
-use Rattle.typst_grammar.proofs.Levels.{told-run}
+use Rattle.typst_grammar.proofs.AtLevels.{told-run}
 use Rattle.typst_reuse.specs.Looks.{AllFrom}
 use Rattle.typst_reuse.specs.Parts.{LeadsTo, Ends, Goes}
 use Rattle.typst_reuse.specs.Joint.{onwards_from}

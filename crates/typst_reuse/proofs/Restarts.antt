@@ -25,7 +25,7 @@ use Rattle.typst_grammar.specs.Syntax.{◌>>=◌}
 use Rattle.typst_grammar.specs.Syntax.Parser.{repeat}
 use Rattle.typst_grammar.specs.View.{View, Runs}
 use Rattle.typst_grammar.specs.Grammar.{rules, max_depth, level_at, start_of, whole, parsed, tree}
-use Rattle.typst_grammar.proofs.Levels.{told-run}
+use Rattle.typst_grammar.proofs.AtLevels.{told-run}
 use Rattle.typst_grammar.proofs.Places.{moved-sum, less-none}
 use Rattle.typst_reuse.specs.Children.{read_from}
 use Rattle.typst_reuse.specs.Edit.{AllEndBy}

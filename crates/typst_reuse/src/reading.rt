@@ -12,8 +12,7 @@ ghost use Rattle.typst_reuse.specs.Saved.{Stood, Went};
 use crate::restart::Restart;
 use std::alloc::{AllocError, Global};
 use typst_classes::Classes;
-use typst_code::{Hull, Levels, Log, Parser, Stop, markup_turn};
-use typst_grammar::FullGrammar;
+use typst_grammar::{FullGrammar, Hull, Levels, Log, Parser, Stop, markup_turn};
 use typst_lines::Scanner;
 use typst_node::SyntaxNode;
 

@@ -6,7 +6,7 @@ ghost use Rattle.typst_grammar.specs.Markup.{markup_reading};
 ghost use Rattle.typst_reuse.specs.Restart.{IsRestart};
 ghost use Rattle.typst_reuse.specs.Shifted.{AreAlike, IsShifted, IsBehind};
 
-use typst_code::{AtNewline, Reading, State};
+use typst_grammar::{AtNewline, Reading, State};
 use typst_kinds::SyntaxMode;
 
 /// A place between two pieces of a text's run from which on it can be read anew.

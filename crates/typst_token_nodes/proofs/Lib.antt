@@ -10,3 +10,5 @@ pub mod Accesses
 pub mod Fronts
 pub mod Suffixes
 pub mod TokenTexts
+-- What the crates above name of those below.
+pub use Rattle.typst_lexer.proofs.TokenEats

@@ -6,7 +6,7 @@ use Rattle.typst_markup_tokens.specs.Markup.{markup as markup_token, heading as 
 use Rattle.typst_tokens.specs.Common.{sign}
 use Rattle.typst_tokens.specs.Escapes.{code_point, backslash}
 use Rattle.typst_markup_tokens.specs.Text.{text as text_token, text_from}
-use Rattle.typst_lexer.specs.Tokens.{of_mode, hash, slash, star, token}
+use Rattle.typst_token_nodes.specs.Tokens.{of_mode, hash, slash, star, token}
 use Rattle.typst_combinators.specs.Hand.{ahead, ahead_asks, column_at, hand_at, hand_asks}
 use Rattle.typst_combinators.specs.Meaning.{less, repeated, growing, nesting, run}
 use Rattle.typst_combinators.specs.Steps.{eat_making, eat, convert_and_eat, eat_if, close_if, unexpected, expected, expect, flush_trivia, within, node, node_with_trivia, note, grow, nest}

@@ -3,8 +3,8 @@ use Rattle.std.proofs.lemmas.Str.{encodes-chars}
 use Rattle.std.specs.Str.{chars}
 use Rattle.typst_kinds.specs.declared.kind.SyntaxKind.TheVariants as kind
 use Rattle.typst_node.specs.Tree.{Tree, forest, inner_of, text_of}
-use Rattle.typst_grammar.specs.Grammar.{tree_math}
-use Rattle.typst_grammar.proofs.WholeMath.{leaves-math}
+use Rattle.typst_binding.specs.Grammar.{tree_math}
+use Rattle.typst_binding.proofs.WholeMath.{leaves-math}
 use Rattle.typst_binding.specs.Binding.{binds, has_errors}
 use Rattle.typst_binding.proofs.Knot.{binding-math}
 use Rattle.typst_entry.proofs.entry.parse_math.Goals as goal

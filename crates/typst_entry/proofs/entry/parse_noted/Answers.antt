@@ -1,14 +1,14 @@
 use Rattle.std.proofs.Common.{◌≡◌, ◌∙◌, true, false, ap, subst, sym, List, Some}
 use Rattle.typst_readers.specs.declared.hull.Hull.{Hull}
-use Rattle.typst_code.specs.calls.Note.{Note}
-use Rattle.typst_code.specs.Log.{Log}
+use Rattle.typst_binding.specs.calls.Note.{Note}
+use Rattle.typst_binding.specs.Log.{Log}
 use Rattle.std.proofs.lemmas.Str.{encodes-chars}
 use Rattle.std.specs.Str.{chars}
 use Rattle.typst_kinds.specs.declared.kind.SyntaxKind.TheVariants as kind
 use Rattle.typst_node.specs.Tree.{Tree, forest, inner_of, text_of}
-use Rattle.typst_grammar.specs.Grammar.{tree}
-use Rattle.typst_grammar.proofs.Levels.{noted-log}
-use Rattle.typst_grammar.proofs.Whole.{leaves}
+use Rattle.typst_binding.specs.Grammar.{tree}
+use Rattle.typst_binding.proofs.AtLevels.{noted-log}
+use Rattle.typst_binding.proofs.Whole.{leaves}
 use Rattle.typst_binding.specs.Binding.{binds, has_errors}
 use Rattle.typst_binding.proofs.Knot.{binding-markup}
 use Rattle.typst_entry.proofs.entry.parse_noted.Goals as goal

@@ -2,7 +2,7 @@ use Rattle.std.proofs.Common.{◌≡◌, ◌-◌, ℕ, suc, refl, subst, arith}
 use Rattle.typst_code.specs.View.{Called}
 use Rattle.typst_code.proofs.Blocks.{calls-at}
 use Rattle.typst_grammar.specs.Told.{told_at}
-use Rattle.typst_grammar.proofs.Levels.{sound-at, blocks-at, makes-production}
+use Rattle.typst_grammar.proofs.AtLevels.{sound-at, blocks-at, makes-production}
 use Rattle.typst_grammar.proofs.grammar.+make_call.Goals as goal
 
 pub returns : goal.returns

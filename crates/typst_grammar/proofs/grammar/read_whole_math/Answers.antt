@@ -4,7 +4,7 @@ use Rattle.typst_code.proofs.Blocks.{calls-at}
 use Rattle.typst_code.specs.Equations.{math_reading}
 use Rattle.typst_grammar.specs.Told.{told_at}
 use Rattle.typst_grammar.specs.Grammar.{max_depth, whole_math}
-use Rattle.typst_grammar.proofs.Levels.{sound-at, parsed-is}
+use Rattle.typst_grammar.proofs.AtLevels.{sound-at, parsed-is}
 use Rattle.typst_grammar.proofs.grammar.read_whole_math.Goals as goal
 
 pub returns : goal.returns

@@ -42,10 +42,10 @@ use Rattle.typst_math_tokens.specs.Atoms.{cluster as token_cluster, number as to
 use Rattle.typst_math_tokens.specs.Names.{behind_name as token_behind_name, named as token_named, name as token_name}
 use Rattle.typst_math_tokens.specs.Shorthands.{hyphen as sign_hyphen, tilde as sign_tilde, colon as sign_colon, equals as sign_equals, greater as sign_greater, less_short as sign_less_short, less_middle as sign_less_middle, less as sign_less, bar as sign_bar, bracket as sign_bracket, bang as sign_bang, dot as sign_dot, several as sign_several}
 use Rattle.typst_grammar.specs.Equations.{math_expression as formula_math_expression, math_item as formula_math_item, math_turn as formula_math_turn, math_exprs as formula_math_exprs, math as formula_math, between_dollars as formula_between_dollars, equation as formula_equation}
-use Rattle.typst_math.specs.Attachments.{operand as math_operand, attachment_turn as math_attachment_turn, attachments as math_attachments, primes as math_primes}
-use Rattle.typst_math.specs.Delimited.{delimiter_sign as math_delimiter_sign, delimiter as math_delimiter, delimited_body as math_delimited_body, delimiter_if as math_delimiter_if, delimited as math_delimited}
-use Rattle.typst_math.specs.MathArguments.{argument_exprs as math_argument_exprs, argument_value as math_argument_value, eat_name as math_eat_name, argument_name as math_argument_name, named_argument as math_named_argument, spread_argument as math_spread_argument, math_argument as math_math_argument, argument_end as math_argument_end, math_argument_turn as math_math_argument_turn, math_arguments as math_math_arguments}
-use Rattle.typst_math.specs.MathExpressions.{math_text as math_math_text, root as math_root, math_primary as math_math_primary, fraction as math_fraction, math_tail_turn as math_math_tail_turn, math_grown as math_math_grown, math_expr as math_math_expr}
+use Rattle.typst_grammar.specs.Attachments.{operand as math_operand, attachment_turn as math_attachment_turn, attachments as math_attachments, primes as math_primes}
+use Rattle.typst_grammar.specs.Delimited.{delimiter_sign as math_delimiter_sign, delimiter as math_delimiter, delimited_body as math_delimited_body, delimiter_if as math_delimiter_if, delimited as math_delimited}
+use Rattle.typst_grammar.specs.MathArguments.{argument_exprs as math_argument_exprs, argument_value as math_argument_value, eat_name as math_eat_name, argument_name as math_argument_name, named_argument as math_named_argument, spread_argument as math_spread_argument, math_argument as math_math_argument, argument_end as math_argument_end, math_argument_turn as math_math_argument_turn, math_arguments as math_math_arguments}
+use Rattle.typst_grammar.specs.MathExpressions.{math_text as math_math_text, root as math_root, math_primary as math_math_primary, fraction as math_fraction, math_tail_turn as math_math_tail_turn, math_grown as math_math_grown, math_expr as math_math_expr}
 use Rattle.std.specs.Str.{chars}
 use Rattle.typst_math_tokens.specs.Arguments.{spread_argument, named_argument, before_colon}
 

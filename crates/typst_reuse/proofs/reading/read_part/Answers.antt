@@ -8,7 +8,7 @@ use Rattle.typst_grammar.specs.Point.{Point}
 use Rattle.typst_grammar.specs.Told.{told_at}
 use Rattle.typst_grammar.specs.View.{Bare}
 use Rattle.typst_grammar.proofs.Knowing.{knows-none}
-use Rattle.typst_grammar.proofs.Levels.{sound-at}
+use Rattle.typst_grammar.proofs.AtLevels.{sound-at}
 use Rattle.typst_grammar.proofs.Steps.{does-look}
 use Rattle.typst_reuse.proofs.Parts.{has-reach, goes}
 use Rattle.typst_reuse.proofs.RestartBytes.{restart-boundary, restart-place}

@@ -1,5 +1,5 @@
 use Rattle.std.proofs.Common.{◌≡◌, ◌<◌, ◌≤◌, true, arith}
-use Rattle.typst_code.specs.Bytes.{bytes_left}
+use Rattle.typst_grammar.specs.Bytes.{bytes_left}
 use Rattle.typst_grammar.proofs.Steps.{turning-next, does-last, does-next}
 use Rattle.typst_reuse.proofs.Loops.{after-next, stopped}
 use Rattle.typst_reuse.proofs.reading.read_pieces.Goals as goal

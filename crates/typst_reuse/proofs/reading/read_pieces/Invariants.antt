@@ -1,5 +1,5 @@
 use Rattle.std.proofs.Common.{true}
-use Rattle.typst_code.specs.Bytes.{bytes_left}
+use Rattle.typst_grammar.specs.Bytes.{bytes_left}
 use Rattle.typst_grammar.specs.Depth.{is_end}
 use Rattle.typst_grammar.specs.Markup.{markup_turn}
 use Rattle.typst_grammar.specs.Meaning.{Level}

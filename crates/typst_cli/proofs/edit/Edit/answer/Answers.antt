@@ -4,7 +4,7 @@ use Rattle.std.specs.String.{string_bytes}
 use Rattle.typst_classes.specs.UnicodeTables.{unicode_classes}
 use Rattle.typst_parser.specs.Grammar.{tree}
 use Rattle.typst_parser.specs.Headline.{edited, file_of, numbered_in}
-use Rattle.typst_source.proofs.Fresh.{fresh-file}
+use Rattle.typst_parser.proofs.Fresh.{fresh-file}
 use Rattle.typst_cli.specs.Asked.{edits, range_in}
 use Rattle.typst_cli.specs.PrintedEdit.{IsRange}
 use Rattle.typst_cli.proofs.FaultLemmas.{edit-refused}
