@@ -1,10 +1,10 @@
 -- What a walk through a tree carries along. Public clauses name none of it.
-use Rattle.std.specs.Prelude.{ℕ, ◌+◌, Bool, false, ◌&&◌, not, List, [], ◌++◌, Option, None, Some, length, if◌then◌else◌}
+use Rattle.std.specs.Prelude.{ℕ, ◌+◌, List, [], ◌++◌, Option, None, Some, length, if◌then◌else◌, Bool, false, ◌||◌}
 use Rattle.typst_kinds.specs.declared.kind.SyntaxKind.{SyntaxKind}
 use Rattle.typst_kinds.specs.declared.kind.SyntaxKind.TheVariants as kind
 use Rattle.typst_kinds.specs.Kinds.{is_trivia, is_hash_expr}
 use Rattle.typst_node_data.specs.Head.{Head}
-use Rattle.typst_node.specs.Tree.{Forest, none, more, Tree, text_of, saturated}
+use Rattle.typst_node.specs.Tree.{Forest, none, more, Tree, forest, text_of, saturated}
 use Rattle.typst_tree.specs.Walks.{is_leaf}
 use Rattle.typst_highlight.specs.declared.tags.Tag.{Tag}
 use Rattle.typst_highlight.specs.declared.rules.Rule.{Rule}
@@ -14,6 +14,8 @@ use Rattle.typst_highlight.specs.declared.context.Surroundings.{Surroundings}
 use Rattle.typst_highlight.specs.declared.context.Trail.{Trail}
 use Rattle.typst_highlight.specs.declared.context.Outer.{Outer}
 use Rattle.typst_highlight.specs.declared.context.Context.{Context}
+use Rattle.typst_highlight.specs.declared.progress.Behind.{Behind, Nothing, Nodes'}
+use Rattle.typst_highlight.specs.declared.progress.Later.{Later}
 use Rattle.typst_highlight.specs.declared.progress.Level.{Level}
 use Rattle.typst_highlight.specs.declared.progress.Progress.{Progress}
 use Rattle.typst_highlight.specs.Rules.{rule_of, paren_tag, star_tag, underscore_tag, slash_tag, equals_tag, term_tag, is_name, is_field_access, is_dot}
@@ -202,28 +204,25 @@ forest_html c (more h ks r) =
 abbrev pub node_html : Context → Tree → Forest → List ℕ
 node_html c t r = span_start (spanned (tag c t r)) ++ (escaped t.head.text ++ (forest_html (within c t r) t.kids ++ span_end (spanned (tag c t r))))
 
+-- the first leaf of what is behind nodes
+abbrev pub leaf_ahead : Behind → Option Ahead
+leaf_ahead Nothing = None
+leaf_ahead (Nodes' p parent start nodes behind) = first_ahead (first_leaf parent start (forest nodes.now)) (leaf_ahead behind)
+
+-- the first leaf of nodes and what is behind them
+abbrev pub later_ahead : Later → Option Ahead
+later_ahead l = first_ahead (first_leaf l.parent l.start (forest l.nodes.now)) (leaf_ahead l.behind)
+
+-- among the trees is a leaf
+abbrev pub holds_leaf : Forest → Bool
+holds_leaf none = false
+holds_leaf (more h ks r) = is_leaf (tree_of h ks) || (holds_leaf ks || holds_leaf r)
+
+-- a leaf follows the first of the trees that is no trivia
+abbrev pub is_followed : Forest → Bool
+is_followed none = false
+is_followed (more h ks r) = if is_trivia h.kind then is_followed r else holds_leaf r
+
 -- what is round the node that a walk has come to on a level
 abbrev pub joined : Level → Progress → Context
-joined l p = record { parent = l.parent; outer = l.outer; offset = p.offset; trail = p.trail; ahead = l.ahead }
-
--- what is round all nodes that stand beside a node
-abbrev pub level_of : Context → Level
-level_of c = record { parent = c.parent; outer = c.outer; ahead = c.ahead }
-
--- what is round the children of a node of the kind, as far as that tells it
-abbrev pub level_below : SyntaxKind → Level
-level_below k = record { parent = Some k; outer = None; ahead = None }
-
--- the last of trees that stand side by side is a leaf and no name: so none of them asks for what is behind them all
-abbrev pub closes : Forest → Bool
-closes none = false
-closes (more h ks none) = is_leaf (tree_of h ks) && not (is_name h.kind)
-closes (more h ks (more g is r)) = closes (more g is r)
-
--- what is ahead of trees that stand side by side, where they ask for it
-abbrev pub needed : Forest → Option Ahead → Option Ahead
-needed ks ahead = if closes ks then None else ahead
-
--- what is round the children of a node, as far as they ask for it
-abbrev pub level_within : Context → Tree → Forest → Level
-level_within c t r = record (level_of (within c t r)) { ahead = needed t.kids (next_leaf c t r) }
+joined l p = record { parent = l.parent; outer = l.outer; offset = p.offset; trail = p.trail; ahead = leaf_ahead l.behind }

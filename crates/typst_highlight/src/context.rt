@@ -89,18 +89,6 @@ pub fn is_leaf(node: &SyntaxNode) -> bool
     is_childless(node) && !is_skipped(node.kind())
 }
 
-/// Whether the last of nodes that stand side by side is a leaf and no name: then none of them asks for
-/// what is behind them all.
-#[inline(always)]
-pub fn closes(nodes: &[SyntaxNode]) -> bool
-    ensures { result ≡ walk.closes (forest nodes.now) }
-{
-    match nodes.last() {
-        Some(last) => is_leaf(last) && !is_name(last.kind()),
-        None => false,
-    }
-}
-
 /// The first leaf of nodes that stand side by side from a byte on, under a parent of this kind.
 #[cycle(leaves)]
 fn first_leaf(nodes: &[SyntaxNode], parent: Option<SyntaxKind>, offset: usize) -> Option<Ahead>
@@ -132,7 +120,7 @@ fn first_leaf(nodes: &[SyntaxNode], parent: Option<SyntaxKind>, offset: usize) -
 /// What `first_leaf` answers, at once where the first node is a leaf.
 #[cycle(leaves)]
 #[inline(always)]
-fn leaf_among(nodes: &[SyntaxNode], parent: Option<SyntaxKind>, offset: usize) -> Option<Ahead>
+pub fn leaf_among(nodes: &[SyntaxNode], parent: Option<SyntaxKind>, offset: usize) -> Option<Ahead>
     ensures { result ≡ walk.first_leaf parent offset (forest nodes.now) }
 {
     match nodes.split_first() {
@@ -144,6 +132,27 @@ fn leaf_among(nodes: &[SyntaxNode], parent: Option<SyntaxKind>, offset: usize) -
         }),
         _ => first_leaf(nodes, parent, offset),
     }
+}
+
+/// Whether there is a leaf among nodes that stand side by side.
+pub fn holds_leaf(nodes: &[SyntaxNode]) -> bool
+    ensures { result ≡ walk.holds_leaf (forest nodes.now) }
+{
+    leaf_among(nodes, None, 0).is_some()
+}
+
+/// Whether a leaf follows the first of the nodes that is no trivia.
+pub fn is_followed(nodes: &[SyntaxNode]) -> bool
+    ensures { result ≡ walk.is_followed (forest nodes.now) }
+{
+    let mut rest = nodes;
+    while let Some((node, later)) = rest.split_first() {
+        if !node.kind().is_trivia() {
+            return holds_leaf(later);
+        }
+        rest = later;
+    }
+    false
 }
 
 impl Surroundings {

@@ -38,11 +38,11 @@ fn likely_len(root: &SyntaxNode) -> usize {
 }
 
 /// Writes a node that other nodes follow under the same parent, and goes past it.
-fn write_node(
+fn write_node<'l, 't>(
     html: &mut Writer,
-    node: &SyntaxNode,
-    later: &[SyntaxNode],
-    level: &Level,
+    node: &'t SyntaxNode,
+    later: &'t [SyntaxNode],
+    level: &Level<'l, 't>,
     progress: &mut Progress,
 ) -> Result<(), AllocError>
     ensures written { OnOk result (html.new ≡ html.old ++ walk.node_html (walk.joined level.now progress.old) node.now (forest later.now)) }
@@ -56,8 +56,8 @@ fn write_node(
     let text = node.leaf_text();
     html.write_own(text)?;
     let end = progress.offset.saturating_add(node.len());
-    let mut inner = Level::below(node.kind());
-    inner.complete(level, node, end, later, progress);
+    let later = level.later(end, later);
+    let inner = level.within(node, &later, progress);
     progress.offset = progress.offset.saturating_add(text.len());
     let mut rest = node.children();
     while let Some((kid, behind)) = rest.split_first() {
@@ -112,7 +112,7 @@ fn write_asking(
 {
     let text = node.leaf_text();
     if is_name(node.kind()) {
-        let name = level.at(progress).name(node, later);
+        let name = level.name(node, later, progress);
         html.write(spanned(name), text)?;
         progress.pass(node, later, level, text.len(), name);
         return Ok(());

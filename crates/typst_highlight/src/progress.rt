@@ -6,21 +6,45 @@ ghost use Rattle.typst_tree.specs.Walks.{is_childless};
 ghost use Rattle.typst_highlight.specs.Rules.{is_name};
 ghost use Rattle.typst_highlight.specs.Walk as walk;
 
-use crate::context::{Ahead, Context, Outer, Trail, closes};
+use crate::context::{Ahead, Context, Outer, Trail, is_followed, leaf_among};
 use crate::rules::{is_field_access, is_skipped};
 use crate::tags::Tag;
+use crate::walk::tag_here;
 use typst_kinds::SyntaxKind;
 use typst_node::SyntaxNode;
 
-/// What is round nodes that stand side by side.
+/// What is round nodes that stand side by side. What is behind their parent is looked for where one
+/// of them asks for it.
 #[derive(Clone, Copy)]
-pub struct Level {
+pub struct Level<'l, 't> {
     /// Their parent's kind.
     pub parent: Option<SyntaxKind>,
     /// Where the parent is a field access, what is round the outermost one.
     pub outer: Option<Outer>,
-    /// The first leaf behind the parent.
-    pub ahead: Option<Ahead>,
+    /// What is behind the parent.
+    pub behind: Behind<'l, 't>,
+}
+
+/// What is behind nodes that stand side by side.
+#[cycle(behind)]
+#[derive(Clone, Copy)]
+pub enum Behind<'l, 't> {
+    /// Nothing, as behind a root.
+    Nothing,
+    /// The nodes that follow their parent, and what is behind those.
+    Nodes(&'l Later<'l, 't>),
+}
+
+/// The nodes that follow a node under its parent.
+#[cycle(behind)]
+#[derive(Clone, Copy)]
+pub struct Later<'l, 't> {
+    /// The parent's kind.
+    pub parent: Option<SyntaxKind>,
+    /// Where the first of them begins, in bytes.
+    pub start: usize,
+    pub nodes: &'t [SyntaxNode],
+    pub behind: Behind<'l, 't>,
 }
 
 /// How far a walk has come.
@@ -32,63 +56,125 @@ pub struct Progress {
     pub trail: Trail,
 }
 
-impl Level {
+impl<'l, 't> Behind<'l, 't> {
     ghost use Rattle.std.specs.Prelude.{◌≡◌};
+    ghost use Rattle.typst_highlight.specs.Walk as walk;
+
+    /// The first leaf.
+    fn first_leaf(&self) -> Option<Ahead>
+        ensures { result ≡ walk.leaf_ahead self.now }
+    {
+        let mut behind = self;
+        'levels: while let Behind::Nodes(later) = behind {
+            let found = leaf_among(later.nodes, later.parent, later.start);
+            if found.is_some() {
+                return found;
+            }
+            behind = &later.behind;
+        }
+        None
+    }
+}
+
+impl<'l, 't> Level<'l, 't> {
+    ghost use Rattle.std.specs.Prelude.{◌≡◌, Some};
     ghost use Rattle.typst_node.specs.Tree.{forest};
     ghost use Rattle.typst_highlight.specs.Walk as walk;
 
     /// What is round the root of a tree.
-    pub const ROOT: Level = Level {
+    pub const ROOT: Level<'static, 'static> = Level {
         parent: None,
         outer: None,
-        ahead: None,
+        behind: Behind::Nothing,
     };
 
-    /// What is round a node of the level.
+    /// The tag of a node that others follow.
+    pub fn tag(&self, node: &SyntaxNode, later: &[SyntaxNode], progress: &Progress) -> Option<Tag>
+        ensures { result ≡ walk.tag (walk.joined self.now progress.now) node.now (forest later.now) }
+    {
+        if is_followed(later) {
+            return tag_here(node, later, &self.facing(progress, None));
+        }
+        tag_here(
+            node,
+            later,
+            &self.facing(progress, self.behind.first_leaf()),
+        )
+    }
+
+    /// What is round a node of the level, with another first leaf behind the parent.
     #[inline(always)]
-    pub fn at(&self, progress: &Progress) -> Context
-        ensures { result ≡ walk.joined self.now progress.now }
+    fn facing(&self, progress: &Progress, ahead: Option<Ahead>) -> Context
+        ensures { result ≡ record (walk.joined self.now progress.now) { ahead = ahead } }
     {
         Context {
             parent: self.parent,
             outer: self.outer,
             offset: progress.offset,
             trail: progress.trail,
-            ahead: self.ahead,
+            ahead,
         }
     }
 
-    /// What is round the children of a node of the kind, as far as that tells it.
+    /// The first leaf behind a node of the level.
     #[inline(always)]
-    pub fn below(kind: SyntaxKind) -> Level
-        ensures { result ≡ walk.level_below kind }
-    {
-        Level {
-            parent: Some(kind),
-            outer: None,
-            ahead: None,
-        }
-    }
-
-    /// Becomes what is round the children of a node, which ends there, as far as they ask for it.
-    #[inline(always)]
-    pub fn complete(
-        &mut self,
-        level: &Level,
+    fn next_leaf(
+        &self,
         node: &SyntaxNode,
-        end: usize,
         later: &[SyntaxNode],
         progress: &Progress,
-    )
-        requires below { self.old ≡ walk.level_below node.now.head.kind }
-        requires end { end ≡ walk.end (walk.joined level.now progress.now) node.now }
-        ensures { self.new ≡ walk.level_within (walk.joined level.now progress.now) node.now (forest later.now) }
+    ) -> Option<Ahead>
+        ensures { result ≡ walk.next_leaf (walk.joined self.now progress.now) node.now (forest later.now) }
     {
-        if is_field_access(node.kind()) {
-            self.outer = level.outer_below(node.kind(), progress);
+        let end = progress.offset.saturating_add(node.len());
+        match leaf_among(later, self.parent, end) {
+            None => self.behind.first_leaf(),
+            found => found,
         }
-        if !closes(node.children()) {
-            self.ahead = level.at(progress).next_leaf(end, later);
+    }
+
+    /// The tag of a node of the level if it is a name.
+    pub fn name(&self, node: &SyntaxNode, later: &[SyntaxNode], progress: &Progress) -> Option<Tag>
+        ensures { result ≡ walk.name (walk.joined self.now progress.now) node.now (forest later.now) }
+    {
+        let next = self.next_leaf(node, later, progress);
+        self.facing(progress, next).name(node, &[])
+    }
+
+    /// The nodes that follow a node of the level, which ends there.
+    #[inline(always)]
+    pub fn later(&self, end: usize, nodes: &'t [SyntaxNode]) -> Later<'l, 't>
+        ensures { walk.later_ahead result ≡ walk.first_ahead (walk.first_leaf self.now.parent end (forest nodes.entry.now)) (walk.leaf_ahead self.now.behind) }
+    {
+        Later {
+            parent: self.parent,
+            start: end,
+            nodes,
+            behind: self.behind,
+        }
+    }
+
+    /// What is round the children of a node, which those nodes follow.
+    #[inline(always)]
+    pub fn within<'b>(
+        &self,
+        node: &SyntaxNode,
+        later: &'b Later<'b, 't>,
+        progress: &Progress,
+    ) -> Level<'b, 't>
+        ensures parent { result.parent ≡ Some node.now.head.kind }
+        ensures outer { result.outer ≡ walk.outer_within (walk.joined self.now progress.now) node.now.head.kind }
+        ensures ahead { walk.leaf_ahead result.behind ≡ walk.later_ahead later.now }
+    {
+        let kind = node.kind();
+        Level {
+            parent: Some(kind),
+            outer: if is_field_access(kind) {
+                self.outer_below(kind, progress)
+            } else {
+                None
+            },
+            behind: Behind::Nodes(later),
         }
     }
 
@@ -97,7 +183,7 @@ impl Level {
     fn outer_below(&self, kind: SyntaxKind, progress: &Progress) -> Option<Outer>
         ensures { result ≡ walk.outer_within (walk.joined self.now progress.now) kind }
     {
-        self.at(progress).outer_within(kind)
+        self.facing(progress, None).outer_within(kind)
     }
 }
 

@@ -8,7 +8,7 @@ ghost use Rattle.typst_highlight.specs.Walk as walk;
 use crate::progress::{Level, Progress};
 use crate::rules::{Rule, rule_of};
 use crate::tags::Tag;
-use crate::walk::{tag_here, tag_under};
+use crate::walk::tag_under;
 use typst_node::SyntaxNode;
 
 /// The tag of the span that a node of the tag stands in: an error has none.
@@ -50,6 +50,6 @@ pub fn span_asked(
 {
     match tag_under(node.kind(), level.parent) {
         Some(tag) => spanned(tag),
-        None => spanned(tag_here(node, later, &level.at(progress))),
+        None => spanned(level.tag(node, later, progress)),
     }
 }

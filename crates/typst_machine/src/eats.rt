@@ -109,7 +109,11 @@ impl<'s> Parser<'s> {
     pub fn pass<L: Levels>(&mut self, g: &L) -> Result<(), AllocError>
         ensures { (l : Level) → Fills l (L.frame g.now) → GoesIf l (Fits l) (Bare l) (does (takes false itself)) self.old result self.new }
     {
-        let node = self.node(g)?;
+        let node = if self.has_leaf() {
+            self.leaf()?
+        } else {
+            self.node(g)?
+        };
         self.take(false, node)?;
         Ok(())
     }

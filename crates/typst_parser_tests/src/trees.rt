@@ -52,10 +52,7 @@ pub(crate) fn repeated(
     count: usize,
     rest: &str,
 ) -> Result<String, AllocError> {
-    let mut text = String::new(alloc);
-    for _ in 0..count {
-        text.push_str(part)?;
-    }
+    let mut text = part.repeat(alloc, count)?;
     text.push_str(rest)?;
     Ok(text)
 }

@@ -1,21 +1,26 @@
 //! An edit that a token behind it takes in, and edits that read a part of the text.
 
-use crate::sources::{detached, edit};
+use crate::sources::{Unicode, detached, edit, edited};
 use crate::whole::is_whole;
 use std::alloc::Global;
 use std::cell::Cell;
 use std::ops::Range;
-use typst_parser::{Source, SourceError, SyntaxKind};
+use typst_parser::{Source, SourceError, Span, SyntaxKind, SyntaxNode};
 use typst_test_classes::Counting;
+
+/// Whether a node has a link as its only child.
+fn is_link_alone(root: &SyntaxNode) -> bool {
+    match root.children() {
+        [link] => link.kind() == SyntaxKind::Link,
+        _ => false,
+    }
+}
 
 /// Whether the text is a link alone once something was put behind it.
 fn grows(alloc: Global, text: &str, end: usize, with: &str) -> Result<bool, SourceError> {
     let mut source = detached(alloc, text)?;
-    let made = edit(&mut source, (end, end), with)?;
-    match source.root().children() {
-        [link] => Ok(made && link.kind() == SyntaxKind::Link),
-        _ => Ok(false),
-    }
+    let read = edit(&mut source, (end, end), with)?;
+    Ok(read.is_some() && is_link_alone(source.root()))
 }
 
 #[test]
@@ -25,34 +30,22 @@ fn a_link_grows(rt: HostRuntime) {
 
 const LINE: &str = "= Some *words*, `c` $x$ #f(e)\n";
 
-/// So many lines.
-fn lines(alloc: Global, count: usize) -> Option<String> {
-    let mut text = String::new(alloc);
-    for _ in 0..count {
-        text.push_str(LINE).ok()?;
-    }
-    Some(text)
+/// The span of the first node below the root.
+fn first_span(source: &Unicode) -> Option<Span> {
+    Some(source.root().children().first()?.span())
 }
 
 /// The part that is read for a letter put in so many bytes before the end of many lines, if the source
 /// is whole then and its first node has its span.
 fn part(alloc: Global, before: usize) -> Option<Range<usize>> {
-    let text = lines(alloc, 300)?;
+    let text = LINE.repeat(alloc, 300).ok()?;
     let mut source = detached(alloc, text.as_str()).ok()?;
-    let first = source.root().children().first()?.span();
+    let first = first_span(&source)?;
     let at = text.len().saturating_sub(before);
-    if !source.text().is_char_boundary(at) {
-        return None;
-    }
-    let answer = source.edit(at..at, "x").ok()?;
-    let mut now = String::from_str(alloc, text.get(..at)?).ok()?;
-    now.push_str("x").ok()?;
-    now.push_str(text.get(at..)?).ok()?;
-    if source.root().children().first()?.span() != first {
-        return None;
-    }
-    if is_whole(alloc, &source, now.as_str())? {
-        Some(answer)
+    let read = edit(&mut source, (at, at), "x").ok()??;
+    let now = edited(alloc, text.as_str(), (at, at), "x")?;
+    if first_span(&source)? == first && is_whole(alloc, &source, now.as_str())? {
+        Some(read)
     } else {
         None
     }
@@ -82,7 +75,7 @@ fn an_edit_is_read_from_before_it_to_behind_it(rt: HostRuntime) {
 fn calls(alloc: Global, count: usize) -> Option<(usize, usize)> {
     let calls = Cell::new(0usize);
     let classes = Counting { calls: &calls };
-    let text = lines(alloc, count)?;
+    let text = LINE.repeat(alloc, count).ok()?;
     let middle = text.len() / 2;
     let mut source = Source::detached(alloc, text, classes).ok()?;
     let whole = calls.replace(0);

@@ -1,50 +1,67 @@
 //! Numbers of nodes, bytes of numbers, and trees that were handed in.
 
-use crate::sources::{Unicode, detached, edit};
+use crate::sources::{Unicode, detached, edit, with_tree};
 use std::alloc::Global;
 use std::ops::Range;
 use typst_parser::{
-    FileId, LinkedNode, Source, SourceError, Span, SpanNumber, SubRange, UnicodeClasses,
-    is_ordered, parse,
+    FileId, LinkedNode, Span, SpanNumber, SubRange, SyntaxNode, UnicodeClasses, is_ordered, parse,
 };
 
-/// The numbers of the root of a text with one child, and of that child.
-fn two_numbers(alloc: Global, text: &str) -> Option<(u64, u64)> {
-    let source = detached(alloc, text).ok()?;
-    match source.root().children() {
-        [kid] => Some((
-            source.root().span().number()?.get(),
-            kid.span().number()?.get(),
-        )),
+/// The number of a node.
+fn number(node: &SyntaxNode) -> Option<u64> {
+    Some(node.span().number()?.get())
+}
+
+/// The numbers of a node with one child, and of that child.
+fn two_numbers(root: &SyntaxNode) -> Option<(u64, u64)> {
+    match root.children() {
+        [kid] => Some((number(root)?, number(kid)?)),
         _ => None,
     }
 }
 
+/// The numbers of the root of a text with one child, and of that child.
+fn two_numbers_of(alloc: Global, text: &str) -> Option<(u64, u64)> {
+    two_numbers(detached(alloc, text).ok()?.root())
+}
+
 #[test]
 fn numbers_lie_apart(rt: HostRuntime) {
-    assert!(rt; two_numbers(rt.alloc(), "a") == Some((17_592_186_044_417, 52_776_558_133_248)));
+    assert!(rt; two_numbers_of(rt.alloc(), "a") == Some((17_592_186_044_417, 52_776_558_133_248)));
 }
 
 /// Whether a source of the text is file 1, and finds nothing for a span without a number.
-fn is_first_file(alloc: Global, text: &str) -> Result<bool, SourceError> {
-    let source = detached(alloc, text)?;
-    Ok(source.id().get() == 1 && source.find(Span::detached()).is_none())
+fn is_first_file(alloc: Global, text: &str) -> Option<bool> {
+    let source = detached(alloc, text).ok()?;
+    Some(source.id().get() == 1 && source.find(Span::detached()).is_none())
 }
 
 #[test]
 fn a_detached_source_is_the_first_file(rt: HostRuntime) {
-    assert!(rt; is_first_file(rt.alloc(), "a") == Ok(true));
+    assert!(rt; is_first_file(rt.alloc(), "a") == Some(true));
+}
+
+/// The number of the leaf that holds a byte.
+fn leaf_number(root: &SyntaxNode, byte: usize) -> Option<SpanNumber> {
+    if root.descendants() == usize::MAX {
+        return None;
+    }
+    LinkedNode::new(root).leaf_at(byte)?.get().span().number()
+}
+
+/// Some of the bytes of the node with a number.
+fn within(
+    source: &Unicode,
+    number: SpanNumber,
+    (start, end): (usize, usize),
+) -> Option<Range<usize>> {
+    source.range(number, Some(SubRange::new(start, end)?))
 }
 
 /// Some of the bytes of the leaf that holds byte 2.
 fn within_head(alloc: Global, text: &str, sub: (usize, usize)) -> Option<Range<usize>> {
     let source = detached(alloc, text).ok()?;
-    if source.root().descendants() == usize::MAX {
-        return None;
-    }
-    let leaf = LinkedNode::new(source.root()).leaf_at(2)?;
-    let sub = SubRange::new(sub.0, sub.1)?;
-    source.range(leaf.get().span().number()?, Some(sub))
+    within(&source, leaf_number(source.root(), 2)?, sub)
 }
 
 #[test]
@@ -60,8 +77,7 @@ fn ranges_within_a_leaf(rt: HostRuntime) {
 /// Some of the bytes of the root.
 fn within_root(alloc: Global, text: &str, sub: (usize, usize)) -> Option<Range<usize>> {
     let source = detached(alloc, text).ok()?;
-    let sub = SubRange::new(sub.0, sub.1)?;
-    source.range(source.root().span().number()?, Some(sub))
+    within(&source, source.root().span().number()?, sub)
 }
 
 #[test]
@@ -84,60 +100,65 @@ fn unknown_numbers_have_no_bytes(rt: HostRuntime) {
     assert!(rt; unknown(rt.alloc(), "= head <label>") == Some(true));
 }
 
-/// A source of file 2 and the text `b`, whose tree is that of `*a*`, numbered in file 1 or not at all.
-fn handed_in(alloc: Global, numbered: bool) -> Result<Unicode, SourceError> {
-    let out = |_| SourceError::OutOfMemory;
-    let root = if numbered {
-        detached(alloc, "*a*")?.root().try_clone().map_err(out)?
-    } else {
-        parse(alloc, "*a*", &UnicodeClasses).map_err(out)?
-    };
-    let text = String::from_str(alloc, "b").map_err(out)?;
-    match FileId::new(2) {
-        Some(id) => Source::with_root(alloc, id, text, root, UnicodeClasses).map_err(out),
-        None => Err(SourceError::SpanNumbers),
-    }
+/// A source of file 2 and the text `b`, whose tree is that of `*a*`, numbered in file 1.
+fn numbered(alloc: Global) -> Option<Unicode> {
+    with_tree(alloc, "b", detached(alloc, "*a*").ok()?.root())
+}
+
+/// A source of file 2 and the text `b`, whose tree is that of `*a*`, without numbers.
+fn unnumbered(alloc: Global) -> Option<Unicode> {
+    with_tree(alloc, "b", &parse(alloc, "*a*", &UnicodeClasses).ok()?)
+}
+
+/// Whether a tree is in order, numbered in file 1, and this long.
+fn is_of_first_file(root: &SyntaxNode, len: usize) -> bool {
+    root.span().id() == FileId::new(1) && is_ordered(root) && root.len() == len
 }
 
 /// Whether a tree of another file isn't searched, and the first edit parses all and numbers it there.
-fn parses_at_first(alloc: Global) -> Result<bool, SourceError> {
-    let mut source = handed_in(alloc, true)?;
+fn parses_at_first(alloc: Global) -> Option<bool> {
+    let mut source = numbered(alloc)?;
     let span = source.root().span();
     if source.find(span).is_some() || source.root().len() != 3 {
-        return Ok(false);
+        return Some(false);
     }
-    let made = edit(&mut source, (1, 1), "c")?;
-    let is_first = source.root().span().id() == FileId::new(1);
-    Ok(made && is_first && is_ordered(source.root()) && source.root().len() == 2)
+    let read = edit(&mut source, (1, 1), "c").ok()?;
+    Some(read.is_some() && is_of_first_file(source.root(), 2))
 }
 
 #[test]
 fn a_tree_of_another_file_is_parsed_anew(rt: HostRuntime) {
-    assert!(rt; parses_at_first(rt.alloc()) == Ok(true));
+    assert!(rt; parses_at_first(rt.alloc()) == Some(true));
 }
 
 /// Whether a tree without numbers stays so.
-fn stays_without_numbers(alloc: Global) -> Result<bool, SourceError> {
-    let mut source = handed_in(alloc, false)?;
-    let made = edit(&mut source, (0, 0), "= ")?;
-    Ok(made && source.root().span().id().is_none() && source.root().len() == 3)
+fn stays_without_numbers(alloc: Global) -> Option<bool> {
+    let mut source = unnumbered(alloc)?;
+    let read = edit(&mut source, (0, 0), "= ").ok()?;
+    let root = source.root();
+    Some(read.is_some() && root.span().id().is_none() && root.len() == 3)
 }
 
 #[test]
 fn a_tree_without_numbers_stays_so(rt: HostRuntime) {
-    assert!(rt; stays_without_numbers(rt.alloc()) == Ok(true));
+    assert!(rt; stays_without_numbers(rt.alloc()) == Some(true));
+}
+
+/// Whether `Debug` prints this of a source.
+fn is_printed(alloc: Global, source: &Unicode, wanted: &str) -> Option<bool> {
+    let printed = format!(in alloc; "{source:?}").ok()?;
+    Some(printed.as_str() == wanted)
 }
 
 /// Whether a clone has text, tree, file and what `Debug` prints.
-fn clones(alloc: Global) -> Result<bool, SourceError> {
-    let source = handed_in(alloc, true)?;
-    let clone = source.try_clone().map_err(|_| SourceError::OutOfMemory)?;
-    let printed = format!(in alloc; "{clone:?}").map_err(|_| SourceError::OutOfMemory)?;
+fn clones(alloc: Global) -> Option<bool> {
+    let source = numbered(alloc)?;
+    let clone = source.try_clone().ok()?;
     let same_root = clone.root().span() == source.root().span();
-    Ok(same_root && clone.text() == "b" && printed.as_str() == "Source(2)")
+    Some(same_root && clone.text() == "b" && is_printed(alloc, &clone, "Source(2)")?)
 }
 
 #[test]
 fn sources_are_cloned(rt: HostRuntime) {
-    assert!(rt; clones(rt.alloc()) == Ok(true));
+    assert!(rt; clones(rt.alloc()) == Some(true));
 }

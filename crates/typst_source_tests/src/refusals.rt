@@ -2,11 +2,11 @@
 //!
 //! These tests pass whichever request is refused: `rt try --test --fail-alloc N`.
 
-use crate::sources::{Unicode, detached};
+use crate::sources::{Unicode, detached, edit, with_tree};
 use crate::whole::{are_same, has_lines, is_whole};
 use std::alloc::{AllocError, Global};
 use std::ops::Range;
-use typst_parser::{FileId, Source, SourceError, SyntaxNode, UnicodeClasses, parse};
+use typst_parser::{SourceError, UnicodeClasses, parse};
 
 const TEXT: &str = "*a* #b";
 
@@ -35,33 +35,36 @@ enum Way {
     Replace,
 }
 
-/// Makes `NEW` of `TEXT`.
-fn change(source: &mut Unicode, way: Way) -> Result<Range<usize>, SourceError> {
-    let text = source.text();
+/// Makes `NEW` of `TEXT`; answers which bytes were read.
+fn change(source: &mut Unicode, way: Way) -> Result<Option<Range<usize>>, SourceError> {
     match way {
-        Way::Edit if text.is_char_boundary(2) && text.is_char_boundary(3) => {
-            source.edit(2..3, "_c_")
-        }
-        _ => source.replace(NEW),
+        Way::Edit => edit(source, (2, 3), "_c_"),
+        Way::Replace => Ok(Some(source.replace(NEW)?)),
     }
 }
 
+/// Whether two sources answer a change alike, and are the same then.
+fn change_alike(alloc: Global, one: &mut Unicode, other: &mut Unicode, way: Way) -> Option<bool> {
+    let (answer, expected) = (change(one, way).ok()?, change(other, way).ok()?);
+    Some(answer == expected && are_same(alloc, one, other)?)
+}
+
 /// Whether a source that refused a change is as before, and answers the next one as its copy does.
-fn is_as_before(alloc: Global, source: &mut Unicode, mut copy: Unicode, way: Way) -> Option<bool> {
-    if !are_same(alloc, source, &copy)? || !is_whole(alloc, source, TEXT)? {
-        return Some(false);
+fn is_as_before(alloc: Global, source: &mut Unicode, copy: &mut Unicode, way: Way) -> Option<bool> {
+    if are_same(alloc, source, copy)? && is_whole(alloc, source, TEXT)? {
+        change_alike(alloc, source, copy, way)
+    } else {
+        Some(false)
     }
-    let (answer, expected) = (change(source, way).ok()?, change(&mut copy, way).ok()?);
-    Some(answer == expected && are_same(alloc, source, &copy)?)
 }
 
 /// Whether a change is made, or refused for want of memory with nothing changed.
 fn changes_or_stays(alloc: Global, way: Way) -> Option<bool> {
     let mut source = detached(alloc, TEXT).ok()?;
-    let copy = source.try_clone().ok()?;
+    let mut copy = source.try_clone().ok()?;
     let is_well = match change(&mut source, way) {
-        Ok(_) => true,
-        Err(SourceError::OutOfMemory) => is_as_before(alloc, &mut source, copy, way)?,
+        Ok(read) => read.is_some(),
+        Err(SourceError::OutOfMemory) => is_as_before(alloc, &mut source, &mut copy, way)?,
         Err(SourceError::SpanNumbers) => false,
     };
     Some(is_well && is_whole(alloc, &source, NEW)?)
@@ -81,8 +84,8 @@ fn a_refused_replacement_changes_nothing(rt: HostRuntime) {
 fn keeps_equal_text(alloc: Global) -> Option<bool> {
     let mut source = detached(alloc, TEXT).ok()?;
     let copy = source.try_clone().ok()?;
-    let answer = source.replace(TEXT);
-    Some(answer == Ok(0..0) && are_same(alloc, &source, &copy)?)
+    let is_kept = matches!(source.replace(TEXT), Ok(read) if read.start == 0 && read.end == 0);
+    Some(is_kept && are_same(alloc, &source, &copy)?)
 }
 
 #[test]
@@ -105,19 +108,12 @@ fn a_refused_clone_is_made_again(rt: HostRuntime) {
     assert!(rt; is_cloned_again(rt.alloc()) != Some(false));
 }
 
-/// A source with a text and a tree that were made before; nothing where memory for these was refused.
-fn handed_in(alloc: Global, root: &SyntaxNode) -> Option<Result<Unicode, AllocError>> {
-    let (text, root) = (String::from_str(alloc, TEXT).ok()?, root.try_clone().ok()?);
-    let id = FileId::new(2)?;
-    Some(Source::with_root(alloc, id, text, root, UnicodeClasses))
-}
-
 /// Whether a source holds the tree that it was handed, if not at once then the next time.
 fn holds_again(alloc: Global) -> Option<bool> {
     let root = parse(alloc, NEW, &UnicodeClasses).ok()?;
-    let source = match handed_in(alloc, &root)? {
-        Ok(source) => source,
-        Err(AllocError) => handed_in(alloc, &root)?.ok()?,
+    let source = match with_tree(alloc, TEXT, &root) {
+        Some(source) => source,
+        None => with_tree(alloc, TEXT, &root)?,
     };
     Some(source.root().spanless_eq(&root) && has_lines(alloc, source.lines(), TEXT)?)
 }

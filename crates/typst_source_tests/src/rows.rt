@@ -1,27 +1,9 @@
 //! Many edits in a row.
 
 use crate::draws::Draws;
-use crate::sources::{Unicode, detached, edit};
+use crate::sources::{Unicode, detached, edit, edited};
 use crate::whole::is_whole;
 use std::alloc::Global;
-
-/// A text with another one in the place of a range of bytes, character by character.
-fn edited(alloc: Global, text: &str, (start, end): (usize, usize), with: &str) -> Option<String> {
-    let (mut front, mut back) = (String::new(alloc), String::new(alloc));
-    let mut at = 0usize;
-    for c in text.chars() {
-        if at < start {
-            front.push(c).ok()?;
-        }
-        if at >= end {
-            back.push(c).ok()?;
-        }
-        at = at.saturating_add(c.len_utf8());
-    }
-    front.push_str(with).ok()?;
-    front.push_str(back.as_str()).ok()?;
-    Some(front)
-}
 
 /// Makes one edit of a source with this text, puts one of the pieces there; answers the text then, if
 /// the source is whole.
@@ -34,8 +16,8 @@ fn step(
 ) -> Option<String> {
     let (range, with) = (draws.range(text), draws.one_of(pieces));
     let text = edited(alloc, text, range, with)?;
-    let is_made = edit(source, range, with).ok()?;
-    if is_made && is_whole(alloc, source, text.as_str())? {
+    let read = edit(source, range, with).ok()?;
+    if read.is_some() && is_whole(alloc, source, text.as_str())? {
         Some(text)
     } else {
         None
@@ -119,17 +101,8 @@ fn wide_characters_stay_whole(rt: HostRuntime) {
     assert!(rt; stays_whole(rt.alloc(), WIDE, &LETTERS, 200) == Some(true));
 }
 
-/// A text so many times over.
-fn repeated(alloc: Global, text: &str, times: usize) -> Option<String> {
-    let mut all = String::new(alloc);
-    for _ in 0..times {
-        all.push_str(text).ok()?;
-    }
-    Some(all)
-}
-
 fn long_stays_whole(alloc: Global, edits: usize) -> Option<bool> {
-    let markup = repeated(alloc, MARKUP, 24)?;
+    let markup = MARKUP.repeat(alloc, 24).ok()?;
     stays_whole(alloc, markup.as_str(), &MARKS, edits)
 }
 

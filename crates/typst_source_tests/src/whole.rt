@@ -2,7 +2,7 @@
 
 use crate::sources::Unicode;
 use std::alloc::Global;
-use typst_parser::{Lines, Span, SyntaxNode, UnicodeClasses, parse};
+use typst_parser::{Lines, SyntaxNode, UnicodeClasses, parse};
 
 /// Whether the lines are those of the text, as they are made anew.
 pub fn has_lines(alloc: Global, lines: &Lines<String>, text: &str) -> Option<bool> {
@@ -91,21 +91,29 @@ pub fn is_whole(alloc: Global, source: &Unicode, text: &str) -> Option<bool> {
     Some(is_text && is_tree)
 }
 
-/// The spans of a tree's nodes, each before those of its children.
-fn spans(alloc: Global, root: &SyntaxNode) -> Option<Vec<Span>> {
-    let mut all = Vec::new(alloc);
-    for node in nodes(alloc, root)?.as_slice() {
-        all.push(node.span()).ok()?;
+/// Whether these nodes have the same spans, one by one.
+fn have_same_spans(ones: &[&SyntaxNode], others: &[&SyntaxNode]) -> bool {
+    if ones.len() != others.len() {
+        return false;
     }
-    Some(all)
+    for place in 0..ones.len() {
+        if ones[place].span() != others[place].span() {
+            return false;
+        }
+    }
+    true
+}
+
+/// Whether two trees are the same, spans too.
+fn are_same_trees(alloc: Global, one: &SyntaxNode, other: &SyntaxNode) -> Option<bool> {
+    let (ones, others) = (nodes(alloc, one)?, nodes(alloc, other)?);
+    Some(one.spanless_eq(other) && have_same_spans(ones.as_slice(), others.as_slice()))
 }
 
 /// Whether two sources have the same file, text, lines and tree, spans too; nothing where memory was
 /// refused.
 pub fn are_same(alloc: Global, one: &Unicode, other: &Unicode) -> Option<bool> {
     let is_text = one.id() == other.id() && one.text() == other.text();
-    let is_tree = one.root().spanless_eq(other.root());
-    let (ones, others) = (spans(alloc, one.root())?, spans(alloc, other.root())?);
-    let has_spans = ones.as_slice() == others.as_slice();
-    Some(is_text && is_tree && has_spans && has_lines(alloc, one.lines(), other.text())?)
+    let is_tree = are_same_trees(alloc, one.root(), other.root())?;
+    Some(is_text && is_tree && has_lines(alloc, one.lines(), other.text())?)
 }

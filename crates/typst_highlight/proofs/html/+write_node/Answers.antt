@@ -1,18 +1,23 @@
-use Rattle.std.proofs.Common.{◌≡◌, ℕ, ◌+◌, List, ap, sym, ◌∙◌, arith, length}
-use Rattle.typst_node.specs.Tree.{count, forest, saturated}
-use Rattle.typst_highlight.specs.Walk.{forest_html, joined, passed_row}
-use Rattle.typst_highlight.proofs.Closing.{html_inner, row_inner}
+use Rattle.std.proofs.Common.{◌≡◌, ℕ, ◌+◌, List, ap, sym, ◌∙◌, arith, length, refl}
+use Rattle.typst_node.specs.Tree.{count, forest, saturated, text_of}
+use Rattle.typst_highlight.specs.Walk.{first_ahead, first_leaf, forest_html, joined, leaf_ahead, next_leaf, passed_row, within}
+use Rattle.typst_highlight.proofs.Levels.{joined_within}
 use Rattle.typst_highlight.proofs.Pages.{node_put}
 use Rattle.typst_highlight.proofs.html.+write_node.Goals as goal
 
 pub loop-kid-init : goal.loop-kid-init
 loop-kid-init t c =
-    let context = joined c.args.level.now c.args.progress.now in
+    let level = c.args.level.now in
+    let context = joined level c.args.progress.now in
     let node = c.args.node.now in
-    let inner = joined c.complete.new.self (record { offset = c.saturating_add-progress.result; trail = c.args.progress.now.trail }) in
+    let later = forest c.args.later.now in
+    let inner = joined c.within-inner.result (record { offset = c.saturating_add-progress.result; trail = c.args.progress.now.trail }) in
     let offset : c.saturating_add-progress.result ≡ saturated (c.args.progress.now.offset + length node.head.text) = c.saturating_add-progress.ensures ∙ ap (λ (bs : List ℕ). saturated (c.args.progress.now.offset + length bs)) c.leaf_text-text.ensures in
+    let ends : c.saturating_add-end.result ≡ saturated (context.offset + length (text_of node)) = omega (arith, c.saturating_add-end.ensures, c.len.ensures) in
+    let ahead : leaf_ahead c.within-inner.result.behind ≡ next_leaf context node later = c.within-inner.ensures.ahead ∙ c.later-later.ensures ∙ ap (λ e. first_ahead (first_leaf level.parent e later) (leaf_ahead level.behind)) ends in
+    let same : inner ≡ within context node later = joined_within context node later c.within-inner.result _ c.within-inner.ensures.parent c.within-inner.ensures.outer offset refl ahead in
     record {
-      written = node_put _ _ _ _ _ _ _ _ _ c.in_ok-start.ensures c.in_ok-write_own.ensures c.span_of-tag.ensures c.leaf_text-text.ensures (ap (forest_html inner) c.children-rest.ensures ∙ html_inner context node (forest c.args.later.now) c.complete.new.self c.saturating_add-progress.result c.complete.ensures offset);
-      left = row_inner context node (forest c.args.later.now) c.complete.new.self c.saturating_add-progress.result c.complete.ensures offset ∙ ap (passed_row inner) (sym c.children-rest.ensures);
+      written = node_put _ _ _ _ _ _ _ _ _ c.in_ok-start.ensures c.in_ok-write_own.ensures c.span_of-tag.ensures c.leaf_text-text.ensures (ap (forest_html inner) c.children-rest.ensures ∙ ap (λ q. forest_html q node.kids) same);
+      left = ap (λ q. passed_row q node.kids) (sym same) ∙ ap (passed_row inner) (sym c.children-rest.ensures);
       smaller = omega (arith, ap count c.children-rest.ensures);
     }

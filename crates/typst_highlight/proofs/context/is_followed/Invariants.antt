@@ -1,0 +1,10 @@
+use Rattle.std.proofs.Common.{◌≡◌, length}
+use Rattle.typst_node.specs.Tree.{forest}
+use Rattle.typst_highlight.specs.Walk.{is_followed}
+use Rattle.typst_highlight.proofs.context.is_followed.Given as goal
+
+abbrev pub invariant-loop-node : goal.invariant-loop-node
+invariant-loop-node l = is_followed (forest l.nodes) ≡ is_followed (forest l.rest)
+
+abbrev pub decreases-loop-node : goal.decreases-loop-node
+decreases-loop-node l = length l.rest
