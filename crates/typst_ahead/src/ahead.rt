@@ -84,9 +84,10 @@ impl<'s> ReadAhead<'s> {
     pub fn pass(&mut self)
         ensures { self.new ≡ record self.old { is_read = false; before = self.old.after; start = self.old.after } }
     {
+        let after = self.after;
         self.is_read = false;
-        self.before = self.after;
-        self.start = self.after;
+        self.before = after;
+        self.start = after;
     }
 
     /// Reads trivia and a token, and answers all that was looked at for them.

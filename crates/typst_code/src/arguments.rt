@@ -47,7 +47,7 @@ fn argument<L: Levels>(g: &L, p: &mut Parser<'_>, names: Names) -> Result<Names,
     let from = p.marker();
     let key = pair(g, p)?;
     wrap_argument(p, from, &names, &key)?;
-    Ok(with_argument(names, &key)?)
+    Ok(with_argument(names, key)?)
 }
 
 /// Reads an argument and what separates it from the next, unless the list ends; answers whether it

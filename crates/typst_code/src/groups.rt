@@ -115,7 +115,7 @@ fn item<L: Levels>(g: &L, p: &mut Parser<'_>, items: Items) -> Result<Items, All
     let key = pair(g, p)?;
     wrap_item(p, from, &items.keys, &key)?;
     p.change(from, misfit(items.are_pairs, key.is_some()))?;
-    Ok(items.with_item(&key)?)
+    Ok(items.with_item(key)?)
 }
 
 /// Reads an item and what separates it from the next, unless the list ends; answers whether it did.

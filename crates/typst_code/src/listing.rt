@@ -46,8 +46,8 @@ impl Items {
     }
 
     /// With an item, which has a key where it is a pair.
-    pub(crate) fn with_item(self, key: &Option<Key>) -> Result<Items, AllocError>
-        ensures { IfOk result (λ items. items ≡ spec.with_item self key.now) }
+    pub(crate) fn with_item(self, key: Option<Key>) -> Result<Items, AllocError>
+        ensures { IfOk result (λ items. items ≡ spec.with_item self key) }
     {
         let mut items = self;
         items.is_plain = items.is_plain && !items.any && key.is_none();
@@ -86,12 +86,12 @@ impl Items {
     }
 }
 
-fn add_key(keys: &mut Names, key: &Key) -> Result<(), AllocError>
-    ensures { OnOk result (keys.new ≡ spec.with_key keys.old key.now) }
+fn add_key(keys: &mut Names, key: Key) -> Result<(), AllocError>
+    ensures { OnOk result (keys.new ≡ spec.with_key keys.old key) }
 {
     match key {
-        Key::Name(name) => keys.add(name.as_str())?,
-        Key::Str(text) => keys.add(text.as_str())?,
+        Key::Name(name) => keys.add(name)?,
+        Key::Str(text) => keys.add(text)?,
         Key::Other => {}
     }
     Ok(())

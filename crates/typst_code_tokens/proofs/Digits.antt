@@ -1,7 +1,6 @@
 -- Numbers, piece by piece.
-use Rattle.std.proofs.Common.{◌≡◌, ℕ, Bool, true, ◌==◌, if◌then◌else◌, List, [], ◌∷◌, length, encode_utf8_all, refl, sym, ap, ◌∙◌, arith}
-use Rattle.std.proofs.lemmas.Bool.Decides.{nat_tests}
-use Rattle.std.proofs.lemmas.Str.{encodes-chars, chars-nil}
+use Rattle.std.proofs.Common.{◌≡◌, ℕ, Bool, true, ◌==◌, if◌then◌else◌, List, length, encode_utf8_all, sym, ap, ◌∙◌}
+use Rattle.std.proofs.lemmas.Str.{encodes-chars}
 use Rattle.std.specs.Str.{chars, IsUtf8}
 use Rattle.typst_code_tokens.specs.Numbers.{in_suffix, numbered, suffixed, with_exponent, is_i64, based}
 use Rattle.typst_code_tokens.specs.declared.numbers.Numeral.{Numeral}

@@ -4,6 +4,8 @@ ghost use Rattle.typst_classes.specs.Identifiers.{is_id_continue};
 ghost use Rattle.typst_code_tokens.specs.Code as spec;
 ghost use Rattle.typst_lines.specs.Place.{passes};
 ghost use Rattle.typst_readers.specs.Reads.{Reads};
+ghost use Rattle.typst_tokens.specs.Common as common;
+ghost use Rattle.typst_tokens.specs.Token.{plain};
 
 use crate::identifiers::ident;
 use crate::invalid::invalid;
@@ -13,7 +15,6 @@ use typst_classes::classes::{Classes, is_id_continue, is_id_start};
 use typst_kinds::SyntaxKind;
 use typst_readers::Cursor;
 use typst_tokens::Token;
-use typst_tokens::common::sign;
 use typst_tokens::labels::label;
 
 /// A token of code that begins with the character, which comes next and begins no token that all
@@ -24,18 +25,31 @@ pub fn code<C: Classes>(s: &mut Cursor<'_>, c: char, classes: &C) -> Token
     ensures { Reads (spec.code (C.classes classes.now) c) s.old result s.new }
 {
     match c {
-        '<' => less(s, classes),
-        '0'..='9' => number_token(s, c, classes),
-        '.' => dot(s),
-        '"' => string(s),
-        '=' => equals(s),
-        '!' => bang(s),
-        '>' => with_equals(s, SyntaxKind::Gt, SyntaxKind::GtEq),
-        '+' => with_equals(s, SyntaxKind::Plus, SyntaxKind::PlusEq),
-        '-' | '\u{2212}' => with_equals(s, SyntaxKind::Minus, SyntaxKind::HyphEq),
-        '*' => with_equals(s, SyntaxKind::Star, SyntaxKind::StarEq),
-        '/' => with_equals(s, SyntaxKind::Slash, SyntaxKind::SlashEq),
+        '<' => again(less(s, classes)),
+        '0'..='9' => again(number_token(s, c, classes)),
+        '.' => again(dot(s)),
+        '"' => again(string(s)),
+        '=' => Token::plain(equals(s)),
+        '!' => again(bang(s)),
+        '>' => Token::plain(with_equals(s, SyntaxKind::Gt, SyntaxKind::GtEq)),
+        '+' => Token::plain(with_equals(s, SyntaxKind::Plus, SyntaxKind::PlusEq)),
+        '-' | '\u{2212}' => Token::plain(with_equals(s, SyntaxKind::Minus, SyntaxKind::HyphEq)),
+        '*' => Token::plain(with_equals(s, SyntaxKind::Star, SyntaxKind::StarEq)),
+        '/' => Token::plain(with_equals(s, SyntaxKind::Slash, SyntaxKind::SlashEq)),
         _ => single(s, c, classes),
+    }
+}
+
+/// The token, put together again from its parts, so that it meets those of the other ways in
+/// registers.
+#[inline(always)]
+fn again(token: Token) -> Token
+    ensures { result ≡ token }
+{
+    Token {
+        fault: token.fault,
+        kind: token.kind,
+        newline: token.newline,
     }
 }
 
@@ -46,19 +60,28 @@ fn single<C: Classes>(s: &mut Cursor<'_>, c: char, classes: &C) -> Token
     ensures { Reads (spec.single (C.classes classes.now) c) s.old result s.new }
 {
     match c {
-        '{' => sign(s, SyntaxKind::LeftBrace),
-        '}' => sign(s, SyntaxKind::RightBrace),
-        '[' => sign(s, SyntaxKind::LeftBracket),
-        ']' => sign(s, SyntaxKind::RightBracket),
-        '(' => sign(s, SyntaxKind::LeftParen),
-        ')' => sign(s, SyntaxKind::RightParen),
-        '$' => sign(s, SyntaxKind::Dollar),
-        ',' => sign(s, SyntaxKind::Comma),
-        ';' => sign(s, SyntaxKind::Semicolon),
-        ':' => sign(s, SyntaxKind::Colon),
-        c if is_id_start(c, classes) => ident(s, c, classes),
-        c => invalid(s, c),
+        '{' => Token::plain(sign(s, SyntaxKind::LeftBrace)),
+        '}' => Token::plain(sign(s, SyntaxKind::RightBrace)),
+        '[' => Token::plain(sign(s, SyntaxKind::LeftBracket)),
+        ']' => Token::plain(sign(s, SyntaxKind::RightBracket)),
+        '(' => Token::plain(sign(s, SyntaxKind::LeftParen)),
+        ')' => Token::plain(sign(s, SyntaxKind::RightParen)),
+        '$' => Token::plain(sign(s, SyntaxKind::Dollar)),
+        ',' => Token::plain(sign(s, SyntaxKind::Comma)),
+        ';' => Token::plain(sign(s, SyntaxKind::Semicolon)),
+        ':' => Token::plain(sign(s, SyntaxKind::Colon)),
+        c if is_id_start(c, classes) => Token::plain(ident(s, c, classes)),
+        c => again(invalid(s, c)),
     }
+}
+
+/// The kind of a sign of one character.
+#[tactic(auto, unfolding(typst_tokens::specs::Common::sign))]
+fn sign(s: &mut Cursor<'_>, kind: SyntaxKind) -> SyntaxKind
+    ensures { Reads (common.sign kind) s.old (plain result) s.new }
+{
+    s.eat();
+    kind
 }
 
 /// A label, or `<` or `<=`.
@@ -69,7 +92,7 @@ fn less<C: Classes>(s: &mut Cursor<'_>, classes: &C) -> Token
     if continues_name(s.second(), classes) {
         return label(s, classes);
     }
-    with_equals(s, SyntaxKind::Lt, SyntaxKind::LtEq)
+    Token::plain(with_equals(s, SyntaxKind::Lt, SyntaxKind::LtEq))
 }
 
 fn continues_name<C: Classes>(c: Option<char>, classes: &C) -> bool
@@ -81,16 +104,16 @@ fn continues_name<C: Classes>(c: Option<char>, classes: &C) -> bool
     }
 }
 
-/// A sign, or another one with an equals sign.
+/// The kind of a sign, or of another one with an equals sign.
 #[tactic(auto, unfolding(crate::specs::Code::with_equals))]
-fn with_equals(s: &mut Cursor<'_>, alone: SyntaxKind, both: SyntaxKind) -> Token
-    ensures { Reads (spec.with_equals alone both) s.old result s.new }
+fn with_equals(s: &mut Cursor<'_>, alone: SyntaxKind, both: SyntaxKind) -> SyntaxKind
+    ensures { Reads (spec.with_equals alone both) s.old (plain result) s.new }
 {
     s.eat();
     if s.eat_if('=') {
-        return Token::plain(both);
+        return both;
     }
-    Token::plain(alone)
+    alone
 }
 
 /// A number, two dots, or one.
@@ -116,17 +139,17 @@ fn dots(s: &mut Cursor<'_>) -> Token
 }
 
 #[tactic(auto, unfolding(crate::specs::Code::equals))]
-fn equals(s: &mut Cursor<'_>) -> Token
-    ensures { Reads spec.equals s.old result s.new }
+fn equals(s: &mut Cursor<'_>) -> SyntaxKind
+    ensures { Reads spec.equals s.old (plain result) s.new }
 {
     s.eat();
     if s.eat_if('=') {
-        return Token::plain(SyntaxKind::EqEq);
+        return SyntaxKind::EqEq;
     }
     if s.eat_if('>') {
-        return Token::plain(SyntaxKind::Arrow);
+        return SyntaxKind::Arrow;
     }
-    Token::plain(SyntaxKind::Eq)
+    SyntaxKind::Eq
 }
 
 /// `!=`, or an error.

@@ -3,18 +3,18 @@ ghost use Rattle.std.specs.Prelude.{◌≡◌, ◌∷◌, length, take};
 ghost use Rattle.std.specs.Str.{chars};
 ghost use Rattle.typst_code_tokens.specs.Identifiers as spec;
 ghost use Rattle.typst_readers.specs.Reads.{Reads};
+ghost use Rattle.typst_tokens.specs.Token.{plain};
 
 use typst_classes::classes::Classes;
 use typst_classes::sets::IdContinue;
 use typst_kinds::SyntaxKind;
 use typst_readers::Cursor;
-use typst_tokens::Token;
 
-/// A name that begins with the character, which comes next and starts names.
+/// The kind of a name that begins with the character, which comes next and starts names.
 #[inline(always)]
 #[tactic(auto, unfolding(crate::specs::Identifiers::ident))]
-pub(crate) fn ident<C: Classes>(s: &mut Cursor<'_>, c: char, classes: &C) -> Token
-    ensures { Reads (spec.ident (C.classes classes.now) c) s.old result s.new }
+pub(crate) fn ident<C: Classes>(s: &mut Cursor<'_>, c: char, classes: &C) -> SyntaxKind
+    ensures { Reads (spec.ident (C.classes classes.now) c) s.old (plain result) s.new }
 {
     s.eat();
     let rest = s.see_while(&IdContinue(classes));
@@ -28,9 +28,9 @@ pub(crate) fn ident<C: Classes>(s: &mut Cursor<'_>, c: char, classes: &C) -> Tok
 /// A keyword, or an identifier directly after `@` and directly after a single dot.
 #[inline(always)]
 #[tactic(auto, unfolding(crate::specs::Identifiers::keyword_or_name))]
-fn keyword_or_name(s: &mut Cursor<'_>, rest: &str, kind: SyntaxKind) -> Token
+fn keyword_or_name(s: &mut Cursor<'_>, rest: &str, kind: SyntaxKind) -> SyntaxKind
     requires { take (length (chars rest.now)) s.old.place.ahead ≡ chars rest.now }
-    ensures { Reads (spec.keyword_or_name (chars rest.now) kind) s.old result s.new }
+    ensures { Reads (spec.keyword_or_name (chars rest.now) kind) s.old (plain result) s.new }
 {
     let is_name = match s.second_last() {
         Some('@') => true,
@@ -39,20 +39,20 @@ fn keyword_or_name(s: &mut Cursor<'_>, rest: &str, kind: SyntaxKind) -> Token
     };
     s.skip(rest);
     if is_name {
-        return Token::plain(SyntaxKind::Ident);
+        return SyntaxKind::Ident;
     }
-    Token::plain(kind)
+    kind
 }
 
-/// A name that is no keyword, by its first character and the others.
+/// The kind of a name that is no keyword, by its first character and the others.
 #[inline(always)]
-fn named(first: char, rest: &str) -> Token
-    ensures { result ≡ spec.named (first ∷ rest.now) }
+fn named(first: char, rest: &str) -> SyntaxKind
+    ensures { plain result ≡ spec.named (first ∷ rest.now) }
 {
     if first == '_' && rest.is_empty() {
-        return Token::plain(SyntaxKind::Underscore);
+        return SyntaxKind::Underscore;
     }
-    Token::plain(SyntaxKind::Ident)
+    SyntaxKind::Ident
 }
 
 /// The keyword of the first character and the others.

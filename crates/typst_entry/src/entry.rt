@@ -13,13 +13,16 @@ use typst_classes::Classes;
 use typst_kinds::SyntaxKind;
 use typst_node::SyntaxNode;
 
+/// So many nodes are not moved out of the room in which they were read.
+const MANY: usize = 25_000;
+
 /// The root over the nodes of a text, without room for more of them: few nodes are moved, and many
 /// stay where they are.
 pub fn root_over(kind: SyntaxKind, mut nodes: Vec<SyntaxNode>) -> Result<SyntaxNode, AllocError>
     requires { is_error kind ≡ false }
     ensures { IfOk result (λ t. t ≡ inner_of kind (forest nodes.items)) }
 {
-    if nodes.len() < nodes.capacity() / 4 {
+    if nodes.len() < MANY {
         nodes = nodes.split_off(0)?;
     } else {
         nodes.shrink_to_fit();

@@ -1,7 +1,6 @@
 -- What a walk through a tree carries along. Public clauses name none of it.
 use Rattle.std.specs.Prelude.{ℕ, ◌+◌, List, [], ◌++◌, Option, None, Some, length, if◌then◌else◌, Bool, false, ◌||◌}
 use Rattle.typst_kinds.specs.declared.kind.SyntaxKind.{SyntaxKind}
-use Rattle.typst_kinds.specs.declared.kind.SyntaxKind.TheVariants as kind
 use Rattle.typst_kinds.specs.Kinds.{is_trivia, is_hash_expr}
 use Rattle.typst_node_data.specs.Head.{Head}
 use Rattle.typst_node.specs.Tree.{Forest, none, more, Tree, forest, text_of, saturated}
@@ -136,22 +135,18 @@ tag_here rule.Term c t r e = term_tag c.parent (next_kind r)
 tag_here rule.Name c t r e = name c t r
 tag_here rule.Expression c t r e = e
 
--- the tag of markup that is no term
-abbrev pub tag_outside : Option SyntaxKind → Option (Option Tag)
-tag_outside (Some kind.TermItem) = None
-tag_outside _ = Some None
-
--- the tag of a node where its rule and its parent's kind tell it
-abbrev pub tag_under : Rule → Option SyntaxKind → Option (Option Tag)
-tag_under (rule.Fixed tag) p = Some tag
-tag_under rule.Paren p = Some (paren_tag p)
-tag_under rule.Star p = Some (star_tag p)
-tag_under rule.Underscore p = Some (underscore_tag p)
-tag_under rule.Slash p = Some (slash_tag p)
-tag_under rule.Equals p = Some (equals_tag p)
-tag_under rule.Term p = tag_outside p
-tag_under rule.Name p = None
-tag_under rule.Expression p = None
+-- the tag of a node where its rule tells it with the kinds of its parent and of the next node that is
+-- no trivia
+abbrev pub tag_under : Rule → Option SyntaxKind → Option SyntaxKind → Option (Option Tag)
+tag_under (rule.Fixed tag) p n = Some tag
+tag_under rule.Paren p n = Some (paren_tag p)
+tag_under rule.Star p n = Some (star_tag p)
+tag_under rule.Underscore p n = Some (underscore_tag p)
+tag_under rule.Slash p n = Some (slash_tag p)
+tag_under rule.Equals p n = Some (equals_tag p)
+tag_under rule.Term p n = Some (term_tag p n)
+tag_under rule.Name p n = None
+tag_under rule.Expression p n = None
 
 abbrev pub if_found : Option (Option Tag) → Option (Option Tag) → Option (Option Tag)
 if_found None y = y

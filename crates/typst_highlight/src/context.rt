@@ -135,7 +135,7 @@ pub fn leaf_among(nodes: &[SyntaxNode], parent: Option<SyntaxKind>, offset: usiz
 }
 
 /// Whether there is a leaf among nodes that stand side by side.
-pub fn holds_leaf(nodes: &[SyntaxNode]) -> bool
+fn holds_leaf(nodes: &[SyntaxNode]) -> bool
     ensures { result ≡ walk.holds_leaf (forest nodes.now) }
 {
     leaf_among(nodes, None, 0).is_some()

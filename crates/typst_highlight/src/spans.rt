@@ -48,7 +48,7 @@ pub fn span_asked(
 ) -> Option<Tag>
     ensures { result ≡ spec.spanned (walk.tag (walk.joined level.now progress.now) node.now (forest later.now)) }
 {
-    match tag_under(node.kind(), level.parent) {
+    match tag_under(node.kind(), level.parent, later) {
         Some(tag) => spanned(tag),
         None => spanned(level.tag(node, later, progress)),
     }

@@ -44,10 +44,14 @@ fn next_kind(nodes: &[SyntaxNode]) -> Option<SyntaxKind>
     None
 }
 
-/// The tag of a node of the kind, where its kind and its parent's tell it.
+/// The tag of a node that others follow, where its kind, its parent's and the next one's tell it.
 #[inline(always)]
-pub fn tag_under(kind: SyntaxKind, parent: Option<SyntaxKind>) -> Option<Option<Tag>>
-    ensures { result ≡ walk.tag_under (rule_of kind) parent }
+pub fn tag_under(
+    kind: SyntaxKind,
+    parent: Option<SyntaxKind>,
+    later: &[SyntaxNode],
+) -> Option<Option<Tag>>
+    ensures { result ≡ walk.tag_under (rule_of kind) parent (walk.next_kind (forest later.now)) }
 {
     match rule_of(kind) {
         Rule::Fixed(tag) => Some(tag),
@@ -56,19 +60,8 @@ pub fn tag_under(kind: SyntaxKind, parent: Option<SyntaxKind>) -> Option<Option<
         Rule::Underscore => Some(underscore_tag(parent)),
         Rule::Slash => Some(slash_tag(parent)),
         Rule::Equals => Some(equals_tag(parent)),
-        Rule::Term => tag_outside(parent),
+        Rule::Term => Some(term_tag(parent, next_kind(later))),
         Rule::Name | Rule::Expression => None,
-    }
-}
-
-/// The tag of markup that is no term.
-#[inline(always)]
-fn tag_outside(parent: Option<SyntaxKind>) -> Option<Option<Tag>>
-    ensures { result ≡ walk.tag_outside parent }
-{
-    match parent {
-        Some(SyntaxKind::TermItem) => None,
-        _ => Some(None),
     }
 }
 

@@ -26,8 +26,12 @@ use typst_kinds::{SyntaxKind, SyntaxMode};
 use typst_lines::Scanner;
 use typst_node::SyntaxNode;
 
-/// Room is taken at once for a node for each byte of the text, but for so many nodes at most: it
-/// takes addresses, and pages where nodes are written to it.
+/// Room is taken at once for a node for so many bytes of the text: those that are inner nodes'
+/// children already don't stand in it.
+const BYTES_PER_NODE: usize = 8;
+
+/// It is taken for so many nodes at most: it takes addresses, and pages where nodes are written to
+/// it.
 const MOST_ROOM: usize = 100_000;
 
 /// A parser of a text: the nodes so far, the token at hand, and how to go on.
@@ -80,7 +84,7 @@ impl<'s> Parser<'s> {
         };
         Ok(Parser {
             alloc,
-            nodes: Vec::with_capacity(alloc, text.len().min(MOST_ROOM))?,
+            nodes: Vec::with_capacity(alloc, (text.len() / BYTES_PER_NODE).min(MOST_ROOM))?,
             ahead: ReadAhead::none(alloc, Scanner::new(text)),
             state,
             log: Log::new(alloc, keeps_notes),

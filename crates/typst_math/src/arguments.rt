@@ -143,7 +143,7 @@ fn math_argument<L: Levels>(g: &L, p: &mut Parser<'_>, names: Names) -> Result<N
         return Ok(names);
     }
     let key = Some(named_argument(g, p, name, &names)?);
-    Ok(with_argument(names, &key)?)
+    Ok(with_argument(names, key)?)
 }
 
 /// Reads what stands behind an argument, unless the list ends.

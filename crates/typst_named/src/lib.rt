@@ -36,12 +36,15 @@ pub fn wrap_named(
 }
 
 /// With the name of an argument, if it has one.
-pub fn with_argument(names: Names, key: &Option<Key>) -> Result<Names, AllocError>
-    ensures { IfOk result (λ more. more ≡ spec.with_argument names key.now) }
+pub fn with_argument(names: Names, key: Option<Key>) -> Result<Names, AllocError>
+    ensures { IfOk result (λ more. more ≡ spec.with_argument names key) }
 {
     let mut names = names;
-    if let Some(Key::Name(name)) = key {
-        names.add(name.as_str())?;
+    match key {
+        Some(Key::Name(name)) => names.add(name)?,
+        Some(Key::Str(_text)) => {}
+        Some(Key::Other) => {}
+        None => {}
     }
     Ok(names)
 }

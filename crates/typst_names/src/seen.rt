@@ -10,7 +10,6 @@ use typst_node_data::Text;
 /// The names that were seen.
 #[derive(Drop)]
 pub struct Names {
-    alloc: Global,
     names: Vec<Text>,
 }
 
@@ -28,7 +27,6 @@ impl Names {
         ensures { result ≡ [] }
     {
         Names {
-            alloc,
             names: Vec::new(alloc),
         }
     }
@@ -40,14 +38,13 @@ impl Names {
         self.names.as_slice().iter().any(|n| n.as_str() == name)
     }
 
-    /// Adds the name, unless it is one of them.
-    pub fn add(&mut self, name: &str) -> Result<(), AllocError>
-        ensures { OnOk result (self.new ≡ spec.with_name self.old name.now) }
+    /// Adds the name, which is moved, unless it is one of them.
+    pub fn add(&mut self, name: Text) -> Result<(), AllocError>
+        ensures { OnOk result (self.new ≡ spec.with_name self.old name) }
     {
-        if self.has(name) {
+        if self.has(name.as_str()) {
             return Ok(());
         }
-        let name = Text::new(self.alloc, name)?;
         self.names.push(name)?;
         Ok(())
     }

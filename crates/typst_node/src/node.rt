@@ -13,10 +13,19 @@ use typst_node_data::messages::{expected_message, is_lost_name, keyword_hint, un
 use typst_node_data::{Diagnostic, Hint, Own, Text};
 
 /// A node of a syntax tree: a leaf with a text, or an inner node with children.
-#[derive(Drop)]
 pub struct SyntaxNode {
     pub(crate) own: Own,
     pub(crate) kids: Vec<SyntaxNode>,
+}
+
+// In place where a list drops its nodes, so that a leaf costs no call.
+impl Drop for SyntaxNode {
+    #[inline(always)]
+    fn drop(self) {
+        let SyntaxNode { own, kids } = self;
+        drop(own);
+        drop(kids);
+    }
 }
 
 impl Model for SyntaxNode {

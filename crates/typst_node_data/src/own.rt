@@ -51,10 +51,28 @@ fn kept(count: usize) -> usize
 }
 
 /// What a node keeps beside its children.
-#[derive(Drop)]
 pub struct Own {
     span: Span,
     repr: Repr,
+}
+
+// The usual nodes hold no memory.
+impl Drop for Own {
+    #[inline(always)]
+    fn drop(self) {
+        let Own { span: _, repr } = self;
+        match repr {
+            Repr::ShortLeaf(_, _) => {}
+            Repr::Inner { .. } => {}
+            repr => drop_parts(repr),
+        }
+    }
+}
+
+/// Gives back the memory of a node's parts.
+#[inline(never)]
+fn drop_parts(repr: Repr) {
+    drop(repr);
 }
 
 impl Model for Own {

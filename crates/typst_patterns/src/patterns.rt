@@ -105,12 +105,12 @@ fn change_seen(
 }
 
 /// With a name, if there is one.
-fn with_bound(names: Names, name: &Option<Text>) -> Result<Names, AllocError>
-    ensures { IfOk result (λ more. more ≡ spec.with_bound names name.now) }
+fn with_bound(names: Names, name: Option<Text>) -> Result<Names, AllocError>
+    ensures { IfOk result (λ more. more ≡ spec.with_bound names name) }
 {
     let mut names = names;
     if let Some(name) = name {
-        names.add(name.as_str())?;
+        names.add(name)?;
     }
     Ok(names)
 }
@@ -130,7 +130,7 @@ fn bound_name<L: Levels>(
     p.change(from, Change::Stays)?;
     let name = name_of(p.alloc(), p.given_since(from))?;
     change_bound(p, from, role, &names, &name)?;
-    Ok(with_bound(names, &name)?)
+    Ok(with_bound(names, name)?)
 }
 
 /// Whether what stands there is assigned to.

@@ -19,7 +19,10 @@ use typst_node::SyntaxNode;
 /// So many bytes lie between two restarts at least, but around an edit.
 const APART: usize = 512;
 
-/// Room is taken at once for a node for each byte, but for so many nodes at most.
+/// Room is taken at once for a node for so many bytes.
+const BYTES_PER_NODE: usize = 8;
+
+/// It is taken for so many nodes at most.
 const MOST_ROOM: usize = 100_000;
 
 /// What was read of a text from a restart on, up to another one or to the text's end.
@@ -98,7 +101,7 @@ pub(crate) fn read_on<C: Classes>(
 /// For how many nodes room is taken at once.
 fn room_for(text: &str, goals: &Vec<Restart>) -> usize {
     if goals.is_empty() {
-        text.len().min(MOST_ROOM)
+        (text.len() / BYTES_PER_NODE).min(MOST_ROOM)
     } else {
         0
     }
