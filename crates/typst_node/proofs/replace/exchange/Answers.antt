@@ -1,4 +1,4 @@
-use Rattle.std.proofs.Common.{◌≡◌, ◌<◌, ◌+◌, ◌-◌, Some, length, arith, refl, sym, ◌∙◌}
+use Rattle.std.proofs.Common.{◌≡◌, ◌<◌, ◌+◌, ◌-◌, Some, length, arith, refl, sym, ◌∙◌, rules}
 use Rattle.std.proofs.lemmas.Bool.Decides.{nat_tests}
 use Rattle.typst_node.specs.Tree.{forest, count}
 use Rattle.typst_node.specs.Replace.{IsFit, fit}
@@ -24,3 +24,6 @@ returns-clause-ok c =
     let some : 0 < length c.args.fresh.items = grind (arith, nat_tests, c.if-is_empty.ensures, c.args.fresh.ok.0) in
     let is : fit c.args.own.now.head c.args.kids.now.items c.args.from c.args.to (count (forest c.args.fresh.items)) ≡ Some c.in-Some.stretch = rw (c.as_slice.ensures.value, c.as_slice-2.ensures.value) at (sym c.in-Some.ensures.value) in
     exchanged_some c.args.id.now c.args.own.now.head c.args.kids.now.items c.args.from c.args.to c.args.fresh.items c.number_part.new.kids.items c.in-Some.stretch some is (sym (c.number_part.ensures ∙ rw (k.before, k.part, k.behind) refl))
+
+pub returns-in_default-clause-err : goal.returns-in_default-clause-err
+returns-in_default-clause-err c = search rules

@@ -1,4 +1,4 @@
-use Rattle.std.proofs.Common.{ap, sym, ◌∙◌, arith}
+use Rattle.std.proofs.Common.{ap, sym, ◌∙◌, arith, rules}
 use Rattle.typst_node.specs.Tree.{forest, preorder}
 use Rattle.typst_tree.specs.Ordered.{climb}
 use Rattle.typst_tree.proofs.RisingNumbers.{climb_on, climb_fails}
@@ -20,3 +20,6 @@ loop-kid-preserved t c =
       small = c.in_ok-next.ensures.small;
       smaller = omega (arith, w.rest, c.loop-kid.invariant.smaller);
     }
+
+pub loop-kid-init : goal.loop-kid-init
+loop-kid-init c = search rules

@@ -1,1 +1,0 @@
--- Each production's clause is proved by its own answers, from the lemmas of typst_machine: Steps, Grows, Nests, Changes.

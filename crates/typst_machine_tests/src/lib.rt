@@ -1,5 +1,0 @@
-//! Short productions over the machine's steps, which no grammar has: each shows how a word of the
-//! language is said in code and proved.
-#![tactic(auto)]
-
-pub mod signs;
