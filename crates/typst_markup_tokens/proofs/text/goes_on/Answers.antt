@@ -1,4 +1,4 @@
-use Rattle.std.proofs.Common.{◌∙◌, ap, sym, codes}
+use Rattle.std.proofs.Common.{◌∙◌, ap, sym, codes, rules}
 use Rattle.typst_readers.specs.Sight.{regard}
 use Rattle.typst_markup_tokens.specs.Text.{text_step}
 use Rattle.typst_markup_tokens.proofs.Texts.{two-words}
@@ -12,3 +12,6 @@ returns-then-not-word_after g c =
     let second = c.word_after-then-not-word_after in
     ap (λ x. regard (text_step k x) v) c.in-h.is
     ∙ two-words (codes "ttp://") (codes "ttps://") v first.new.self second.new.self second.result (sym first.ensures.found ∙ c.if-not-word_after.true) first.ensures.sight second.ensures.found second.ensures.sight
+
+pub returns-in-Some-second : goal.returns-in-Some-second
+returns-in-Some-second c = search rules
