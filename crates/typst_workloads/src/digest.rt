@@ -1,0 +1,128 @@
+//! What is kept of results.
+
+use typst_parser::{Lines, SyntaxNode, Tag};
+
+/// A digest of numbers and texts in the order in which they came.
+#[derive(Debug, Clone, Copy)]
+pub struct Digest {
+    value: u64,
+}
+
+impl Digest {
+    /// The digest of nothing.
+    pub fn new() -> Digest {
+        Digest {
+            value: 0xcbf2_9ce4_8422_2325,
+        }
+    }
+
+    /// What it is now.
+    pub fn value(&self) -> u64 {
+        self.value
+    }
+
+    /// Takes in a number.
+    pub fn add(&mut self, number: u64) {
+        let mixed = (self.value ^ number).wrapping_mul(0x0000_0100_0000_01b3);
+        self.value = mixed ^ (mixed >> 29);
+    }
+
+    /// Takes in a place or a length.
+    pub fn add_size(&mut self, size: usize) {
+        self.add(size as u64);
+    }
+
+    /// Takes in a place that may be none.
+    pub fn add_place(&mut self, place: Option<usize>) {
+        match place {
+            None => self.add(u64::MAX),
+            Some(place) => self.add_size(place),
+        }
+    }
+
+    /// Takes in a line and a column that may be none.
+    pub fn add_line_column(&mut self, place: Option<(usize, usize)>) {
+        match place {
+            None => self.add(u64::MAX),
+            Some((line, column)) => {
+                self.add_size(line);
+                self.add_size(column);
+            }
+        }
+    }
+
+    /// Takes in a text's length and some of its bytes: each 61st, and those at its ends.
+    pub fn add_text(&mut self, text: &str) {
+        let bytes = text.as_bytes();
+        self.add_size(bytes.len());
+        for at in (0..bytes.len()).step_by(61) {
+            if let Some(byte) = bytes.get(at) {
+                self.add(u64::from(*byte));
+            }
+        }
+        if let Some(byte) = bytes.last() {
+            self.add(u64::from(*byte));
+        }
+    }
+
+    /// Takes in the length of a tree's text, the number of its nodes, and of each node at its top the
+    /// name of its kind, the length of its text and its span's number.
+    pub fn add_tree(&mut self, root: &SyntaxNode) {
+        self.add_size(root.len());
+        self.add_size(root.descendants());
+        for child in root.children() {
+            self.add_size(child.kind().name().len());
+            self.add_size(child.len());
+            if let Some(number) = child.span().number() {
+                self.add(number.get());
+            }
+        }
+    }
+
+    /// Takes in where the lines of a text start, in bytes and UTF-16 units.
+    pub fn add_lines(&mut self, lines: &Lines<String>) {
+        self.add_size(lines.len_utf16());
+        for i in 0..lines.len_lines() {
+            if let Some(line) = lines.line(i) {
+                self.add_size(line.byte_idx());
+                self.add_size(line.utf16_idx());
+            }
+        }
+    }
+
+    /// Takes in a tag that may be none.
+    pub fn add_tag(&mut self, tag: Option<Tag>) {
+        match tag {
+            None => self.add(0),
+            Some(tag) => self.add_size(tag.css_class().len()),
+        }
+    }
+}
+
+/// What came of a job.
+#[derive(Debug, Clone, Copy)]
+pub struct Outcome {
+    /// The digest of all results.
+    pub digest: Digest,
+    /// How many results were held against others that were made in another way.
+    pub held: u64,
+    /// How many of them agreed.
+    pub agreed: u64,
+}
+
+impl Outcome {
+    /// That of no work.
+    pub fn new() -> Outcome {
+        Outcome {
+            digest: Digest::new(),
+            held: 0,
+            agreed: 0,
+        }
+    }
+
+    /// Notes whether a result is what was made in another way.
+    pub fn hold(&mut self, agrees: bool) {
+        self.held = self.held.saturating_add(1);
+        self.agreed = self.agreed.saturating_add(u64::from(agrees));
+    }
+}

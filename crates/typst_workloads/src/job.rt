@@ -1,0 +1,82 @@
+//! The jobs.
+
+use crate::digest::Outcome;
+use crate::opening::opening;
+use crate::outside::outside;
+use crate::positions::positions;
+use crate::random::Random;
+use crate::typing::{blocks, typing};
+use crate::walking::walking;
+use std::alloc::Global;
+
+/// A job that users wait for.
+#[derive(Debug, Clone, Copy, PartialEq, Eq)]
+pub enum Job {
+    /// Typing into documents.
+    Typing,
+    /// Typing into texts that are one block as a whole.
+    Blocks,
+    /// Walking through trees and highlighting what is shown.
+    Walking,
+    /// Opening the files of a project and showing them as pages.
+    Opening,
+    /// Taking over what changed outside, and keeping what was.
+    Outside,
+    /// Finding positions in lines.
+    Positions,
+}
+
+/// All jobs.
+const ALL: &[Job] = &[
+    Job::Typing,
+    Job::Blocks,
+    Job::Walking,
+    Job::Opening,
+    Job::Outside,
+    Job::Positions,
+];
+
+impl Job {
+    /// The jobs that a word names: one, or all by `all`, and none by another word.
+    pub fn named(word: &str) -> &'static [Job] {
+        match word {
+            "typing" => &[Job::Typing],
+            "blocks" => &[Job::Blocks],
+            "walking" => &[Job::Walking],
+            "opening" => &[Job::Opening],
+            "outside" => &[Job::Outside],
+            "positions" => &[Job::Positions],
+            "all" => ALL,
+            _ => &[],
+        }
+    }
+
+    /// Its name.
+    pub fn word(self) -> &'static str {
+        match self {
+            Job::Typing => "typing",
+            Job::Blocks => "blocks",
+            Job::Walking => "walking",
+            Job::Opening => "opening",
+            Job::Outside => "outside",
+            Job::Positions => "positions",
+        }
+    }
+
+    /// Does the job on so many rounds of inputs, of which each seed gives others.
+    pub fn run(self, alloc: Global, seed: u64, rounds: u64) -> anyhow::Result<Outcome> {
+        let mut outcome = Outcome::new();
+        for round in 0..rounds {
+            let mut random = Random::new(seed, round);
+            match self {
+                Job::Typing => typing(alloc, &mut random, &mut outcome)?,
+                Job::Blocks => blocks(alloc, &mut random, &mut outcome)?,
+                Job::Walking => walking(alloc, &mut random, &mut outcome)?,
+                Job::Opening => opening(alloc, &mut random, &mut outcome)?,
+                Job::Outside => outside(alloc, &mut random, &mut outcome)?,
+                Job::Positions => positions(alloc, &mut random, &mut outcome)?,
+            }
+        }
+        Ok(outcome)
+    }
+}

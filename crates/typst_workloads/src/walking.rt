@@ -1,0 +1,97 @@
+//! Highlighting: each leaf of a file is asked for its tag, with its neighbours.
+
+use crate::digest::{Digest, Outcome};
+use crate::document::{Shape, document};
+use crate::random::Random;
+use std::alloc::Global;
+use typst_parser::{LinkedNode, SyntaxKind, SyntaxNode, UnicodeClasses, highlight, parse};
+
+/// So many bytes are shown on the screen.
+const SCREEN: usize = 4000;
+
+/// Walks through documents of 10 and 40 kilobytes, one that is a block, and a package, and shows what
+/// is on the screen of one of 100 kilobytes.
+pub fn walking(alloc: Global, random: &mut Random, outcome: &mut Outcome) -> anyhow::Result<()> {
+    for (shape, bytes) in [
+        (Shape::Document, 10_000),
+        (Shape::Document, 40_000),
+        (Shape::OneBlock, 20_000),
+        (Shape::Package, 20_000),
+    ] {
+        let text = document(alloc, random, shape, bytes)?;
+        let root = parse(alloc, text.as_str(), &UnicodeClasses)?;
+        walk(&root, 0, bytes, outcome);
+    }
+    for (shape, bytes) in [(Shape::Document, 100_000), (Shape::OneBlock, 100_000)] {
+        let text = document(alloc, random, shape, bytes)?;
+        let root = parse(alloc, text.as_str(), &UnicodeClasses)?;
+        let top = random.below(bytes.saturating_sub(SCREEN));
+        walk(&root, top, top.saturating_add(SCREEN), outcome);
+    }
+    Ok(())
+}
+
+/// Walks through the leaves of a tree that begin from one byte on up to another one, there and back.
+fn walk(root: &SyntaxNode, start: usize, end: usize, outcome: &mut Outcome) {
+    if root.descendants() == usize::MAX {
+        return;
+    }
+    let Some(first) = first_leaf(LinkedNode::new(root), start) else {
+        return;
+    };
+    let mut leaf = first;
+    let mut leaves = 0usize;
+    for _ in 0..root.descendants() {
+        show(leaf, &mut outcome.digest);
+        leaves = leaves.saturating_add(1);
+        match leaf.next_leaf() {
+            Some(next) if next.offset() < end => leaf = next,
+            _ => break,
+        }
+    }
+    outcome.digest.add_size(leaves);
+    for _ in 1..leaves {
+        match leaf.prev_leaf() {
+            Some(previous) => leaf = previous,
+            None => break,
+        }
+    }
+    outcome.hold(leaf.offset() == first.offset());
+}
+
+/// The first leaf that counts from a byte on.
+fn first_leaf<'a>(root: LinkedNode<'a>, byte: usize) -> Option<LinkedNode<'a>> {
+    match root.leaf_at(byte) {
+        None => root.leftmost_leaf(),
+        Some(leaf) => match leaf.prev_leaf() {
+            None => root.leftmost_leaf(),
+            Some(previous) => previous.next_leaf(),
+        },
+    }
+}
+
+/// Shows a leaf: its tag, its range, and what stands round it, and the tags of the nodes above it.
+fn show(leaf: LinkedNode<'_>, digest: &mut Digest) {
+    let range = leaf.range();
+    digest.add_size(range.start);
+    digest.add_size(range.end);
+    digest.add_tag(highlight(&leaf));
+    add_kind(digest, leaf.next_sibling_kind());
+    let mut node = leaf;
+    for _ in 0..3 {
+        match node.parent() {
+            None => return,
+            Some(parent) => node = parent,
+        }
+        add_kind(digest, Some(node.kind()));
+        digest.add_tag(highlight(&node));
+    }
+}
+
+/// Takes in a kind that may be none.
+fn add_kind(digest: &mut Digest, kind: Option<SyntaxKind>) {
+    match kind {
+        None => digest.add(0),
+        Some(kind) => digest.add_size(kind.name().len()),
+    }
+}
