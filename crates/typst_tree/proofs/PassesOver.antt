@@ -23,13 +23,13 @@ no_leaf k n a t h =
     let fails : nat_le k m ≡ false = grind (arith, nat_tests, below) in
     rw fails refl)
 
-no_number_below : (k n : ℕ) (f : Forest) → k < n → list_any (λ m. m == k) (numbers n f) ≡ false
+pub no_number_below : (k n : ℕ) (f : Forest) → k < n → list_any (λ m. m == k) (numbers n f) ≡ false
 no_number_below k n none h = refl
 no_number_below k n (more g ks r) h =
     let fails : (n == k) ≡ false = grind (arith, nat_tests, h) in
     rw (fails, no_number_below k (n + 1 + count ks) r (omega (arith, h))) refl
 
-no_number_above : (k n : ℕ) (f : Forest) → n + count f ≤ k → list_any (λ m. m == k) (numbers n f) ≡ false
+pub no_number_above : (k n : ℕ) (f : Forest) → n + count f ≤ k → list_any (λ m. m == k) (numbers n f) ≡ false
 no_number_above k n none h = refl
 no_number_above k n (more g ks r) h =
     let below : n < k = omega (arith, h) in
@@ -40,7 +40,7 @@ pub no_child_before : (k n a : ℕ) (t : Tree) → k ≤ n → first_at (has_chi
 no_child_before k n a t h =
     none_between (has_child k) n a (places t) (λ m b u l e. no_number_below k (m + 1) u.kids (omega (arith, h, l)))
 
-no_child_above : (k n a : ℕ) (f : Forest) → n + count f ≤ k → first_at (has_child k) n a (preorder f) ≡ None
+pub no_child_above : (k n a : ℕ) (f : Forest) → n + count f ≤ k → first_at (has_child k) n a (preorder f) ≡ None
 no_child_above k n a none h = refl
 no_child_above k n a (more g ks r) h =
     let here : list_any (λ m. m == k) (numbers (n + 1) ks) ≡ false = no_number_above k (n + 1) ks (omega (arith, h)) in

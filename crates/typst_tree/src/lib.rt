@@ -4,6 +4,7 @@
 mod linked;
 mod order;
 mod search;
+mod way;
 
 pub use linked::{LinkedChildren, LinkedNode};
 pub use order::is_ordered;

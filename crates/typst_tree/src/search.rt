@@ -2,7 +2,8 @@
 
 ghost use Rattle.std.specs.Prelude.{◌≡◌, ◌+◌, ◌^◌, ◌<◌, ◌-◌, true, None, IfSome, IsTrue, ◌↔◌};
 ghost use Rattle.std.specs.Option.{option_map};
-ghost use Rattle.typst_node.specs.Tree.{nodes, places};
+ghost use Rattle.typst_node.specs.Tree.{nodes, places, forest, count, preorder};
+ghost use Rattle.typst_tree.specs.Ways.{IsTreeOf};
 ghost use Rattle.typst_tree.specs.Walks.{first_at, last_leaf, is_childless, is_leaf, has_child, holds_byte, Within};
 ghost use Rattle.typst_tree.specs.Wanted.{wanted};
 ghost use Rattle.typst_tree.specs.Ordered.{IsKey};
@@ -185,4 +186,44 @@ pub fn last_leaf_in(node: &SyntaxNode, number: usize, before: usize) -> Option<u
         }
     }
     if is_leaf(node) { Some(number) } else { None }
+}
+
+/// A node that was found in one of some trees: the tree's index among them, the tree and the node.
+#[derive(Clone, Copy)]
+pub struct InRow<'a> {
+    pub index: usize,
+    pub tree: Spot<'a>,
+    pub spot: Spot<'a>,
+}
+
+/// The first node in preorder that is looked for, among some trees that stand side by side, of which
+/// the first has this number and offset.
+pub fn first_in_row<'a>(
+    row: &'a [SyntaxNode],
+    number: usize,
+    offset: usize,
+    search: &Search,
+) -> Option<InRow<'a>>
+    requires { number + count (forest row.now) < 2 ^ 64 - 1 }
+    ensures first { option_map (λ found. found.spot.number) result ≡ first_at (wanted search.now) number offset (preorder (forest row.now)) }
+    ensures tree { IfSome result (λ found. IsTreeOf row.now number offset found.tree.node.now found.tree.number found.tree.offset found.index) }
+    ensures spot { IfSome result (λ found. Within found.tree.number found.tree.offset (places found.tree.node.now) found.spot.number found.spot.offset (places found.spot.node.now)) }
+{
+    let mut at = number;
+    let mut begin = offset;
+    let mut index = 0usize;
+    for tree in row {
+        if let Some(spot) = first_in(tree, at, begin, search) {
+            let tree = Spot {
+                node: tree,
+                number: at,
+                offset: begin,
+            };
+            return Some(InRow { index, tree, spot });
+        }
+        at += tree.descendants();
+        begin = begin.saturating_add(tree.len());
+        index += 1;
+    }
+    None
 }
