@@ -1,11 +1,12 @@
 -- What an edit of a text exchanges in its tree.
-use Rattle.std.specs.Prelude.{◌≡◌, ℕ, ◌+◌, ◌≤◌, min, List, [], ◌∷◌, ◌++◌, length, take, drop}
+use Rattle.std.specs.Prelude.{◌≡◌, ℕ, ◌+◌, ◌≤◌, nat_le, min, List, [], ◌∷◌, ◌++◌, length, take, drop, Option, if◌then◌else◌}
 use Rattle.std.specs.Str.{chars, IsUtf8, IsCharBoundary}
 use Rattle.std.specs.declared.ops.Range.{Range}
 use Rattle.typst_node.specs.Tree.{Tree, trees}
 use Rattle.typst_classes.specs.Classes.{CharClasses}
 use Rattle.typst_grammar.specs.Grammar.{tree}
 use Rattle.typst_reuse.specs.Edit.{Among}
+use Rattle.typst_reuse.specs.Parts.{IsRead}
 use Rattle.typst_reuse.specs.Restart.{AreKept, Every, IsRestart}
 use Rattle.typst_reuse.specs.Shifted.{IsShifted, IsBehind}
 use Rattle.typst_reuse.specs.declared.edited.Replacement.{Replacement}
@@ -42,6 +43,11 @@ IsNearest (q ∷ qs) r = r ≡ q
 abbrev pub AreBefore : List Restart → ℕ → List Restart → Type 0
 AreBefore rs at kept = Every (λ r. Among r rs × (r.reach ≤ at)) kept
 
+-- those of them up to which nothing that lies behind a place was looked at
+abbrev pub befores : ℕ → List Restart → List Restart
+befores at [] = []
+befores at (r ∷ rs) = if nat_le r.reach at then r ∷ befores at rs else befores at rs
+
 -- each of these is one of them behind the stretch
 pub record Shifts (rs : List Restart) (e : Replacement) (s : Restart) : Type 0 where
   pub was : Restart
@@ -61,6 +67,18 @@ pub record AddsBehind (goals : List Restart) (goal met : Restart) (old new : Lis
   pub more : List Restart
   pub is : new ≡ old ++ more
   pub each : Every (Behinds goals goal met) more
+
+-- the same, where the goals are some of the restarts behind the stretch
+pub record KeepsBehind (rs : List Restart) (e : Replacement) (goal met : Restart) (old new : List Restart) : Type 0 where
+  pub goals : List Restart
+  pub shifted : AreShifted rs e goals
+  pub adds : AddsBehind goals goal met old new
+
+-- a text was read from a restart on, where it may stop at the restarts behind the stretch
+pub record ReadsOn (k : CharClasses) (text : List ℕ) (from : Restart) (rs : List Restart) (e : Replacement) (ts : List Tree) (met : List Restart) (end : Option (Restart × Restart)) : Type 0 where
+  pub goals : List Restart
+  pub shifted : AreShifted rs e goals
+  pub read : IsRead k text from goals ts met end
 
 -- more of them, each one of those before a restart, with a lower floor
 pub record Lowered (before : List Restart) (from : Restart) (floor : ℕ) (s : Restart) : Type 0 where

@@ -4,9 +4,10 @@ ghost use Rattle.std.specs.Prelude.{◌≡◌, IfOk, IfSome, OnOk, length};
 ghost use Rattle.std.specs.Str.{chars};
 ghost use Rattle.typst_grammar.specs.Grammar.{tree};
 ghost use Rattle.typst_node.specs.Tree.{trees};
-ghost use Rattle.typst_reuse.specs.Exchange.{AddsBefore, AddsBehind, AreBefore, AreShifted, Exchanges, IsEdited, IsNearest};
+ghost use Rattle.typst_reuse.specs.Exchange.{AddsBefore, Exchanges, IsEdited, IsNearest, KeepsBehind, befores};
 ghost use Rattle.typst_reuse.specs.Restart.{AreKept, IsRest};
 
+use crate::goals::Goals;
 use crate::reading::{read_on, settle};
 use crate::restart::Restart;
 use std::alloc::{AllocError, Global};
@@ -23,6 +24,17 @@ pub struct Replacement {
     pub old_end: usize,
     /// Where it ends now.
     pub new_end: usize,
+}
+
+impl Replacement {
+    /// None, at a text's start.
+    fn at_start() -> Replacement {
+        Replacement {
+            start: 0,
+            old_end: 0,
+            new_end: 0,
+        }
+    }
 }
 
 /// A text that was read as a whole.
@@ -52,7 +64,9 @@ pub fn read_text<C: Classes>(alloc: Global, text: &str, classes: &C) -> Result<R
     ensures nodes { IfOk result (λ w. IsRest (C.classes classes.now) (chars text.now) 0 w.nodes.items) }
     ensures restarts { IfOk result (λ w. AreKept (C.classes classes.now) (chars text.now) w.restarts.items) }
 {
-    let rest = read_on(alloc, text, Restart::start(), &Vec::new(alloc), classes)?;
+    let none = Vec::new(alloc);
+    let goals = Goals::new(&none, Replacement::at_start());
+    let rest = read_on(alloc, text, Restart::start(), goals, classes)?;
     let mut restarts = Vec::new(alloc);
     settle(rest.met, usize::MAX, &mut restarts)?;
     Ok(Read {
@@ -77,14 +91,14 @@ pub fn read_edited<C: Classes>(
     requires count { count ≡ length (trees (tree (C.classes classes.now) (chars old.now)).kids) }
     ensures { IfOk result (λ e. Exchanges (C.classes classes.now) old.now new.now e.nodes.items e.range e.bytes e.restarts.items) }
 {
-    let before = restarts_before(alloc, restarts, edit.start)?;
-    let goals = restarts_behind(alloc, restarts, edit)?;
-    let from = nearest(&before);
-    let rest = read_on(alloc, new, from, &goals, classes)?;
-    let mut kept = Vec::new(alloc);
+    let from = nearest(restarts, edit.start);
+    let goals = Goals::new(restarts, edit);
+    let rest = read_on(alloc, new, from, goals, classes)?;
+    let most = restarts.len().saturating_add(rest.met.len());
+    let mut kept = Vec::with_capacity(alloc, most)?;
     let Some((met, goal)) = rest.end else {
         let floor = settle(rest.met, usize::MAX, &mut kept)?;
-        keep_before(&before, from, floor, &mut kept)?;
+        keep_before(restarts, edit.start, from, floor, &mut kept)?;
         return Ok(Exchange {
             nodes: rest.nodes,
             range: from.nodes..count,
@@ -92,9 +106,9 @@ pub fn read_edited<C: Classes>(
             restarts: kept,
         });
     };
-    keep_behind(&goals, goal, met, &mut kept)?;
+    keep_behind(goals, goal, met, &mut kept)?;
     let floor = settle(rest.met, goal.floor, &mut kept)?;
-    keep_before(&before, from, floor, &mut kept)?;
+    keep_before(restarts, edit.start, from, floor, &mut kept)?;
     Ok(Exchange {
         nodes: rest.nodes,
         range: from.nodes..goal.nodes,
@@ -103,53 +117,18 @@ pub fn read_edited<C: Classes>(
     })
 }
 
-/// The first of some restarts, or else the start of the text.
-fn nearest(restarts: &Vec<Restart>) -> Restart
-    ensures { IsNearest restarts.now.items result }
+/// The first of the restarts up to which nothing was looked at behind a place, or else the start of the
+/// text.
+fn nearest(restarts: &Vec<Restart>, at: usize) -> Restart
+    ensures { IsNearest (befores at restarts.now.items) result }
 {
-    match restarts.get(0) {
-        Some(restart) => *restart,
-        None => Restart::start(),
-    }
-}
-
-/// The restarts up to which nothing was looked at behind a place.
-fn restarts_before(
-    alloc: Global,
-    restarts: &Vec<Restart>,
-    at: usize,
-) -> Result<Vec<Restart>, AllocError>
-    ensures { IfOk result (λ kept. AreBefore restarts.now.items at kept.items) }
-{
-    let mut kept = Vec::new(alloc);
     let mut index = 0usize;
     'restarts: loop {
         let Some(restart) = restarts.get(index) else {
-            return Ok(kept);
+            return Restart::start();
         };
         if restart.reach <= at {
-            kept.push(*restart)?;
-        }
-        index = index.saturating_add(1);
-    }
-}
-
-/// The restarts behind an edit, as they stand in the new text.
-fn restarts_behind(
-    alloc: Global,
-    restarts: &Vec<Restart>,
-    edit: Replacement,
-) -> Result<Vec<Restart>, AllocError>
-    ensures { IfOk result (λ goals. AreShifted restarts.now.items edit goals.items) }
-{
-    let mut goals = Vec::new(alloc);
-    let mut index = 0usize;
-    'restarts: loop {
-        let Some(restart) = restarts.get(index) else {
-            return Ok(goals);
-        };
-        if let Some(goal) = restart.shifted(edit.old_end, edit.new_end) {
-            goals.push(goal)?;
+            return *restart;
         }
         index = index.saturating_add(1);
     }
@@ -157,41 +136,40 @@ fn restarts_behind(
 
 /// Keeps the goals from the one on at which the reading stopped.
 fn keep_behind(
-    goals: &Vec<Restart>,
+    goals: Goals<'_>,
     goal: Restart,
     met: Restart,
     kept: &mut Vec<Restart>,
 ) -> Result<(), AllocError>
-    ensures { OnOk result (AddsBehind goals.now.items goal met kept.old.items kept.new.items) }
+    ensures { OnOk result (KeepsBehind goals.entry.restarts.now.items goals.entry.edit goal met kept.old.items kept.new.items) }
 {
-    let mut index = 0usize;
-    'goals: loop {
-        let Some(restart) = goals.get(index) else {
-            return Ok(());
-        };
-        if let Some(behind) = restart.behind(&goal, &met) {
-            kept.push(behind)?;
+    for index in 0..goals.len() {
+        if let Some(restart) = goals.get(index) {
+            if let Some(behind) = restart.behind(&goal, &met) {
+                kept.push(behind)?;
+            }
         }
-        index = index.saturating_add(1);
     }
+    Ok(())
 }
 
-/// Keeps the restarts up to the one from which on the text was read, with the floor of all looks
-/// behind that.
+/// Keeps the restarts up to the one from which on the text was read, of those up to which nothing was
+/// looked at behind a place, with the floor of all looks behind that.
 fn keep_before(
-    before: &Vec<Restart>,
+    restarts: &Vec<Restart>,
+    at: usize,
     from: Restart,
     floor: usize,
     kept: &mut Vec<Restart>,
 ) -> Result<(), AllocError>
-    ensures { OnOk result (AddsBefore before.now.items from floor kept.old.items kept.new.items) }
+    ensures { OnOk result (AddsBefore (befores at restarts.now.items) from floor kept.old.items kept.new.items) }
 {
     let mut index = 0usize;
     'before: loop {
-        let Some(restart) = before.get(index) else {
+        let Some(restart) = restarts.get(index) else {
             return Ok(());
         };
-        if restart.cursor <= from.cursor {
+        if restart.reach <= at && restart.cursor <= from.cursor {
             kept.push(Restart {
                 floor: restart.floor.min(floor),
                 ..*restart

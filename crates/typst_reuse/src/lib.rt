@@ -2,6 +2,7 @@
 #![tactic(auto)]
 
 mod edited;
+mod goals;
 mod laws;
 mod reading;
 mod restart;

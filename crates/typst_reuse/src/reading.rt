@@ -6,9 +6,11 @@ ghost use Rattle.typst_classes.specs.Classes.{CharClasses};
 ghost use Rattle.typst_grammar.specs.Meaning.{Level};
 ghost use Rattle.typst_grammar.specs.View.{Fills, Fits};
 ghost use Rattle.typst_reuse.specs.Restart.{Every, IsRestart};
-ghost use Rattle.typst_reuse.specs.Parts.{Floored, IsMet, IsPart, IsRead, Linked, Settles};
+ghost use Rattle.typst_reuse.specs.Parts.{Floored, IsMet, IsPart, Linked, Settles};
+ghost use Rattle.typst_reuse.specs.Exchange.{ReadsOn};
 ghost use Rattle.typst_reuse.specs.Saved.{Stood, Went};
 
+use crate::goals::Goals;
 use crate::restart::Restart;
 use std::alloc::{AllocError, Global};
 use typst_classes::Classes;
@@ -56,19 +58,20 @@ pub(crate) fn read_on<C: Classes>(
     alloc: Global,
     text: &str,
     from: Restart,
-    goals: &Vec<Restart>,
+    goals: Goals<'_>,
     classes: &C,
 ) -> Result<Rest, AllocError>
     requires { IsRestart (C.classes classes.now) (chars text.now) from }
-    ensures { IfOk result (λ r. IsRead (C.classes classes.now) (chars text.now) from goals.now.items r.nodes.items r.met.items r.end) }
+    ensures { IfOk result (λ r. ReadsOn (C.classes classes.now) (chars text.now) from goals.entry.restarts.now.items goals.entry.edit r.nodes.items r.met.items r.end) }
 {
-    let mut nodes = Vec::with_capacity(alloc, room_for(text, goals))?;
-    let mut met = Vec::new(alloc);
     let mut at = from;
-    let mut left = goals.len();
+    let mut left = skip_goals(&goals, goals.len(), at.cursor.saturating_add(1));
+    let ahead = text.len().saturating_sub(at.cursor);
+    let mut nodes = Vec::with_capacity(alloc, room_for(ahead, left))?;
+    let mut met = Vec::new(alloc);
     'parts: loop {
-        left = skip_goals(goals, left, at.cursor.saturating_add(1));
-        let until = end_of_part(goals, left, at.cursor);
+        left = skip_goals(&goals, left, at.cursor.saturating_add(1));
+        let until = end_of_part(&goals, left, at.cursor);
         let part = read_part(alloc, text, at, until, classes)?;
         let mut more = part.nodes;
         nodes.append(&mut more)?;
@@ -84,13 +87,13 @@ pub(crate) fn read_on<C: Classes>(
                 end: None,
             });
         };
-        left = skip_goals(goals, left, next.cursor);
+        left = skip_goals(&goals, left, next.cursor);
         if let Some(goal) = goals.get(left.saturating_sub(1)) {
-            if next.is_as(goal) {
+            if next.is_as(&goal) {
                 return Ok(Rest {
                     nodes,
                     met,
-                    end: Some((next, *goal)),
+                    end: Some((next, goal)),
                 });
             }
         }
@@ -98,29 +101,29 @@ pub(crate) fn read_on<C: Classes>(
     }
 }
 
-/// For how many nodes room is taken at once.
-fn room_for(text: &str, goals: &Vec<Restart>) -> usize {
-    if goals.is_empty() {
-        (text.len() / BYTES_PER_NODE).min(MOST_ROOM)
+/// For how many nodes room is taken at once, where so many bytes lie ahead and so many goals are left.
+fn room_for(ahead: usize, left: usize) -> usize {
+    if left == 0 {
+        (ahead / BYTES_PER_NODE).min(MOST_ROOM)
     } else {
         0
     }
 }
 
-/// How many goals are left that don't stand before a place.
-fn skip_goals(goals: &Vec<Restart>, left: usize, cursor: usize) -> usize {
+/// How many goals are left, the last of which doesn't stand before a place.
+fn skip_goals(goals: &Goals<'_>, left: usize, cursor: usize) -> usize {
     let mut left = left;
     'goals: while left > 0 {
         match goals.get(left - 1) {
-            Some(goal) if goal.cursor < cursor => left -= 1,
-            _ => return left,
+            Some(goal) if goal.cursor >= cursor => return left,
+            _ => left -= 1,
         }
     }
     left
 }
 
 /// Where the part that begins at a place should end: at the next goal, if that is near.
-fn end_of_part(goals: &Vec<Restart>, left: usize, cursor: usize) -> usize {
+fn end_of_part(goals: &Goals<'_>, left: usize, cursor: usize) -> usize {
     let apart = cursor.saturating_add(APART);
     match goals.get(left.saturating_sub(1)) {
         Some(goal) if left > 0 && goal.cursor <= apart.saturating_add(APART) => goal.cursor,

@@ -1,8 +1,8 @@
-use Rattle.std.proofs.Common.{sym, subst, None, Some, [], ◌++◌, arith}
+use Rattle.std.proofs.Common.{sym, subst, None, Some, [], ◌∷◌, ◌++◌, arith}
 use Rattle.std.specs.Str.{chars}
 use Rattle.typst_reuse.specs.Edit.{Among}
 use Rattle.typst_reuse.specs.Parts.{IsPart, IsRead}
-use Rattle.typst_reuse.proofs.Chosen.{among-at}
+use Rattle.typst_reuse.specs.Edit.Among.{this}
 use Rattle.typst_reuse.proofs.Passing.{Stands, stands-first, stands-next, read-to-end, read-to-goal}
 use Rattle.typst_reuse.proofs.RestartBytes.{restart-within}
 use Rattle.typst_reuse.proofs.reading.read_on.Goals as goal
@@ -19,27 +19,28 @@ returns-in_default g c =
     let k = g.C.Classes.classes c.args.classes.now in
     let s = chars c.args.text.now in
     let from = c.args.from in
-    let goals = c.args.goals.now.items in
     let p = c.in_ok-part.part in
     let part = subst (λ o. IsPart k s c.parts.at p.nodes.items p.reach p.least o) c.in_default.is c.in_ok-part.ensures in
-    subst (λ ts. IsRead k s from goals ts c.push.new.self.items None) (sym c.in_ok-append.ensures.items)
-    (subst (λ rs. IsRead k s from goals (c.parts.nodes.items ++ p.nodes.items) rs None) (sym c.in_ok-push.ensures.items)
-    (read-to-end k s from c.parts.nodes.items c.parts.met.items c.parts.at c.parts.invariant p.nodes.items p.reach p.least part.more goals part.there part.goes))
+    let read : IsRead k s from [] (c.append.new.self.items) c.push.new.self.items None = subst (λ ts. IsRead k s from [] ts c.push.new.self.items None) (sym c.in_ok-append.ensures.items)
+    (subst (λ rs. IsRead k s from [] (c.parts.nodes.items ++ p.nodes.items) rs None) (sym c.in_ok-push.ensures.items)
+    (read-to-end k s from c.parts.nodes.items c.parts.met.items c.parts.at c.parts.invariant p.nodes.items p.reach p.least part.more [] part.there part.goes)) in
+    record { goals = []; shifted = tt; read = read }
 
 pub returns-then-is_as : goal.returns-then-is_as
 returns-then-is_as g c =
     let k = g.C.Classes.classes c.args.classes.now in
     let s = chars c.args.text.now in
     let from = c.args.from in
-    let goals = c.args.goals.now.items in
     let p = c.in_ok-part.part in
     let q = c.in-Some.next in
-    let goal = c.in-Some-get.goal.now in
+    let goal = c.in-Some-get.goal in
+    let goals = goal ∷ [] in
     let part = subst (λ o. IsPart k s c.parts.at p.nodes.items p.reach p.least o) c.in-Some.is c.in_ok-part.ensures in
-    let there : Among goal goals = subst (λ xs. Among goal xs) c.deref.ensures.value (among-at c.deref.result.now c.saturating_sub.result goal c.in-Some-get.ensures.lookup.3.0 c.in-Some-get.ensures.lookup.1) in
-    subst (λ ts. IsRead k s from goals ts c.push.new.self.items (Some (q, goal))) (sym c.in_ok-append.ensures.items)
+    let there : Among goal (goal ∷ []) = this [] in
+    let read = subst (λ ts. IsRead k s from goals ts c.push.new.self.items (Some (q, goal))) (sym c.in_ok-append.ensures.items)
     (subst (λ rs. IsRead k s from goals (c.parts.nodes.items ++ p.nodes.items) rs (Some (q, goal))) (sym c.in_ok-push.ensures.items)
-    (read-to-goal k s from c.parts.nodes.items c.parts.met.items c.parts.at c.parts.invariant p.nodes.items p.reach p.least part.more goals q goal part.there part.goes there (c.is_as.ensures c.if-is_as.true)))
+    (read-to-goal k s from c.parts.nodes.items c.parts.met.items c.parts.at c.parts.invariant p.nodes.items p.reach p.least part.more goals q goal part.there part.goes there (c.is_as.ensures c.if-is_as.true))) in
+    record { goals = goals; shifted = (c.in-Some-get.ensures, tt); read = read }
 
 pub parts-smaller : goal.parts-smaller
 parts-smaller g c =
