@@ -1,8 +1,8 @@
 -- How the parts of a node stand in memory, and what contracts see of them.
-use Rattle.std.specs.Prelude.{ℕ, ◌≤◌, ◌+◌, ◌*◌, ◌^◌, true, false, List, []}
+use Rattle.std.specs.Prelude.{◌≡◌, ℕ, ◌≤◌, ◌+◌, ◌*◌, ◌^◌, true, false, List, [], length}
 use Rattle.typst_kinds.specs.declared.kind.SyntaxKind.{SyntaxKind}
 use Rattle.typst_kinds.specs.Span.{SpanValue}
-use Rattle.typst_node_data.specs.Head.{Own, leaf_own}
+use Rattle.typst_node_data.specs.Head.{Own, leaf_own, kept}
 use Rattle.typst_node_data.specs.declared.own.Parts.{Parts}
 use Rattle.typst_node_data.specs.declared.own.Repr.{Repr}
 use Rattle.typst_node_data.specs.declared.own.Repr.TheVariants.{ShortLeaf, BoxedLeaf, LongLeaf, Inner, Diagnosed}
@@ -26,15 +26,15 @@ of_parts sp k p =
 
 abbrev pub own_of : SpanValue → Repr → Own
 own_of sp (ShortLeaf k s) = plain_leaf sp k s
-own_of sp (BoxedLeaf k s) = plain_leaf sp k s.value
-own_of sp (LongLeaf k s) = plain_leaf sp k s.value
+own_of sp (BoxedLeaf k n s) = plain_leaf sp k s.value
+own_of sp (LongLeaf k n s) = plain_leaf sp k s.value
 own_of sp (Inner k high low len descendants) = plain_inner sp k (upper_end high low) len descendants
 own_of sp (Diagnosed k p) = of_parts sp k p.value
 
--- an upper end is at most the last
+-- an upper end is at most the last, and the length that stands beside a text is the text's
 abbrev pub IsOwn : Repr → Type 0
 IsOwn (ShortLeaf k s) = Unit {0}
-IsOwn (BoxedLeaf k s) = Unit {0}
-IsOwn (LongLeaf k s) = Unit {0}
+IsOwn (BoxedLeaf k n s) = n ≡ kept (length s.value)
+IsOwn (LongLeaf k n s) = n ≡ kept (length s.value)
 IsOwn (Inner k high low len descendants) = upper_end high low ≤ 2 ^ 47
 IsOwn (Diagnosed k p) = p.value.extent.upper ≤ 2 ^ 47

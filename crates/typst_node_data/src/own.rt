@@ -27,12 +27,13 @@ struct Parts {
     diagnostics: Vec<Diagnostic>,
 }
 
-/// The usual nodes hold their parts in 16 bytes. An upper end takes 6 of them.
+/// The usual nodes hold their parts in 16 bytes. An upper end takes 6 of them. A leaf whose text stands
+/// apart keeps its length here, so that rows of nodes are added up without a look at their texts.
 #[derive(Drop)]
 enum Repr {
     ShortLeaf(SyntaxKind, ShortText<12>),
-    BoxedLeaf(SyntaxKind, Box<ShortText<70>>),
-    LongLeaf(SyntaxKind, Box<Text>),
+    BoxedLeaf(SyntaxKind, u16, Box<ShortText<70>>),
+    LongLeaf(SyntaxKind, u32, Box<Text>),
     Inner {
         kind: SyntaxKind,
         upper_high: u16,
@@ -152,8 +153,10 @@ impl Own {
     {
         let repr = match short {
             Some(short) => Repr::ShortLeaf(kind, short),
-            None if text.len() <= 70 => Repr::BoxedLeaf(kind, boxed(alloc, text)?),
-            None => Repr::LongLeaf(kind, long(alloc, text)?),
+            None if text.len() <= 70 => {
+                Repr::BoxedLeaf(kind, text.len() as u16, boxed(alloc, text)?)
+            }
+            None => Repr::LongLeaf(kind, kept(text.len()) as u32, long(alloc, text)?),
         };
         Ok(Own {
             span: Span::detached(),
@@ -210,18 +213,18 @@ impl Own {
                 span,
                 repr: Repr::ShortLeaf(*kind, text.copy()),
             }),
-            Repr::BoxedLeaf(kind, text) => {
+            Repr::BoxedLeaf(kind, len, text) => {
                 let text = text.copy();
                 Ok(Own {
                     span,
-                    repr: Repr::BoxedLeaf(*kind, Box::new(alloc, text)?),
+                    repr: Repr::BoxedLeaf(*kind, *len, Box::new(alloc, text)?),
                 })
             }
-            Repr::LongLeaf(kind, text) => {
+            Repr::LongLeaf(kind, len, text) => {
                 let text = text.try_clone(alloc)?;
                 Ok(Own {
                     span,
-                    repr: Repr::LongLeaf(*kind, Box::new(alloc, text)?),
+                    repr: Repr::LongLeaf(*kind, *len, Box::new(alloc, text)?),
                 })
             }
             Repr::Inner {
@@ -273,8 +276,8 @@ impl Own {
     {
         match &self.repr {
             Repr::ShortLeaf(kind, _) => *kind,
-            Repr::BoxedLeaf(kind, _) => *kind,
-            Repr::LongLeaf(kind, _) => *kind,
+            Repr::BoxedLeaf(kind, _, _) => *kind,
+            Repr::LongLeaf(kind, _, _) => *kind,
             Repr::Inner { kind, .. } => *kind,
             Repr::Diagnosed(kind, _) => *kind,
         }
@@ -285,8 +288,8 @@ impl Own {
     {
         match &self.repr {
             Repr::ShortLeaf(_, _) => false,
-            Repr::BoxedLeaf(_, _) => false,
-            Repr::LongLeaf(_, _) => false,
+            Repr::BoxedLeaf(_, _, _) => false,
+            Repr::LongLeaf(_, _, _) => false,
             Repr::Inner { .. } => true,
             Repr::Diagnosed(_, parts) => parts.is_inner,
         }
@@ -297,8 +300,8 @@ impl Own {
     {
         match &self.repr {
             Repr::ShortLeaf(_, text) => text.as_str(),
-            Repr::BoxedLeaf(_, text) => text.as_str(),
-            Repr::LongLeaf(_, text) => text.as_str(),
+            Repr::BoxedLeaf(_, _, text) => text.as_str(),
+            Repr::LongLeaf(_, _, text) => text.as_str(),
             Repr::Inner { .. } => "",
             Repr::Diagnosed(_, parts) => parts.text.as_str(),
         }
@@ -323,8 +326,8 @@ impl Own {
     {
         match &self.repr {
             Repr::ShortLeaf(_, _) => &[],
-            Repr::BoxedLeaf(_, _) => &[],
-            Repr::LongLeaf(_, _) => &[],
+            Repr::BoxedLeaf(_, _, _) => &[],
+            Repr::LongLeaf(_, _, _) => &[],
             Repr::Inner { .. } => &[],
             Repr::Diagnosed(_, parts) => parts.diagnostics.as_slice(),
         }
@@ -336,8 +339,8 @@ impl Own {
     {
         match &self.repr {
             Repr::ShortLeaf(_, text) => text.len(),
-            Repr::BoxedLeaf(_, text) => text.len(),
-            Repr::LongLeaf(_, text) => kept(text.len()),
+            Repr::BoxedLeaf(_, len, _) => *len as usize,
+            Repr::LongLeaf(_, len, _) => *len as usize,
             Repr::Inner { len, .. } => *len as usize,
             Repr::Diagnosed(_, parts) => parts.extent.len,
         }
@@ -349,8 +352,8 @@ impl Own {
     {
         match &self.repr {
             Repr::ShortLeaf(_, _) => 1,
-            Repr::BoxedLeaf(_, _) => 1,
-            Repr::LongLeaf(_, _) => 1,
+            Repr::BoxedLeaf(_, _, _) => 1,
+            Repr::LongLeaf(_, _, _) => 1,
             Repr::Inner { descendants, .. } => *descendants as usize,
             Repr::Diagnosed(_, parts) => parts.extent.descendants,
         }
@@ -362,8 +365,8 @@ impl Own {
     {
         match &self.repr {
             Repr::ShortLeaf(_, _) => 0,
-            Repr::BoxedLeaf(_, _) => 0,
-            Repr::LongLeaf(_, _) => 0,
+            Repr::BoxedLeaf(_, _, _) => 0,
+            Repr::LongLeaf(_, _, _) => 0,
             Repr::Inner {
                 upper_high,
                 upper_low,
@@ -398,8 +401,8 @@ impl Own {
     {
         match &mut self.repr {
             Repr::ShortLeaf(old, _) => *old = kind,
-            Repr::BoxedLeaf(old, _) => *old = kind,
-            Repr::LongLeaf(old, _) => *old = kind,
+            Repr::BoxedLeaf(old, _, _) => *old = kind,
+            Repr::LongLeaf(old, _, _) => *old = kind,
             Repr::Inner { kind: old, .. } => *old = kind,
             Repr::Diagnosed(old, _) => *old = kind,
         }
@@ -413,8 +416,8 @@ impl Own {
         self.span = span;
         match &mut self.repr {
             Repr::ShortLeaf(_, _) => {}
-            Repr::BoxedLeaf(_, _) => {}
-            Repr::LongLeaf(_, _) => {}
+            Repr::BoxedLeaf(_, _, _) => {}
+            Repr::LongLeaf(_, _, _) => {}
             Repr::Inner {
                 upper_high,
                 upper_low,
@@ -440,8 +443,8 @@ impl Own {
         let new_count = kept(descendants);
         match &mut self.repr {
             Repr::ShortLeaf(_, _) => {}
-            Repr::BoxedLeaf(_, _) => {}
-            Repr::LongLeaf(_, _) => {}
+            Repr::BoxedLeaf(_, _, _) => {}
+            Repr::LongLeaf(_, _, _) => {}
             Repr::Inner {
                 len,
                 descendants,
