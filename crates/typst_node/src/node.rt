@@ -1,4 +1,4 @@
-ghost use Rattle.std.specs.Prelude.{◌≡◌, ◌↔◌, IsTrue, [], ◌≤◌, ◌^◌, length, ◌++◌, IfOk, OnOk, OnErr, None, Some, take, false};
+ghost use Rattle.std.specs.Prelude.{◌≡◌, ◌↔◌, IsTrue, [], ◌≤◌, ◌^◌, length, ◌++◌, IfOk, OnOk, OnErr, None, Some, take, true, false};
 ghost use Rattle.typst_kinds.specs.Kinds.{is_error};
 ghost use Rattle.typst_node_data.specs.Diagnostic.{warning_with, hint_with};
 ghost use Rattle.typst_node.specs.Tree.{forest, text_of, nodes, saturated, bare, leaf_of, inner_of, error_of, synthesized, with_kind, at_child, made_error, remarked, advised};
@@ -128,7 +128,7 @@ impl SyntaxNode {
         ensures { IfOk result (λ t. t ≡ self.now) }
     {
         let alloc = *self.kids.allocator();
-        let mut kids = Vec::new(alloc);
+        let mut kids = Vec::with_capacity(alloc, self.kids.len())?;
         for kid in &self.kids {
             let kid = kid.try_clone()?;
             kids.push(kid)?;
@@ -254,10 +254,22 @@ impl SyntaxNode {
         self.own.diagnostics()
     }
 
+    /// Whether the text is as long as that of another node, and the nodes are as many, by the counts
+    /// that both keep: where they aren't, nothing else needs a look.
+    #[inline]
+    fn is_as_large(&self, other: &SyntaxNode) -> bool
+        ensures { bare self.now ≡ bare other.now → result ≡ true }
+    {
+        self.own.len() == other.own.len() && self.own.descendants() == other.own.descendants()
+    }
+
     /// Whether kinds, texts, children and diagnostics are the same, whatever the spans.
     pub fn spanless_eq(&self, other: &SyntaxNode) -> bool
         ensures { IsTrue result ↔ (bare self.now ≡ bare other.now) }
     {
+        if !self.is_as_large(other) {
+            return false;
+        }
         if !self.own.same_bare(&other.own) {
             return false;
         }

@@ -19,8 +19,22 @@ pub(crate) fn stride(room: u64, count: u64) -> u64
     ensures step { 0 < result }
     ensures within { count * result ≤ room }
 {
+    if count == 1 {
+        return stride_of_one(room);
+    }
     let half = room / (2 * count);
     if half == 0 { room / count } else { half }
+}
+
+/// The same for one node, as most nodes are leaves: it takes no division by a number that varies.
+fn stride_of_one(room: u64) -> u64
+    requires { 0 < room }
+    ensures value { result ≡ stride room 1 }
+    ensures step { 0 < result }
+    ensures within { result ≤ room }
+{
+    let half = room / 2;
+    if half == 0 { room } else { half }
 }
 
 fn span_at(id: FileId, number: u64) -> Span
