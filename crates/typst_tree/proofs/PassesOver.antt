@@ -76,7 +76,7 @@ ended b n a t h =
     let fails : nat_lt b (saturated (saturated a + length (text_of t))) ≡ false = grind (arith, nat_tests, reach) in
     rw fails (and_false (is_childless t.kids) (nat_le (saturated a) b))
 
-no_byte_above : (b n a : ℕ) (f : Forest) → saturated (a + length (joined f)) ≤ b → first_at (holds_byte b) n a (preorder f) ≡ None
+pub no_byte_above : (b n a : ℕ) (f : Forest) → saturated (a + length (joined f)) ≤ b → first_at (holds_byte b) n a (preorder f) ≡ None
 no_byte_above b n a none h = refl
 no_byte_above b n a (more g ks r) h =
     let whole : length (g.text ++ (joined ks ++ joined r)) ≡ length g.text + (length (joined ks) + length (joined r)) = length-append g.text (joined ks ++ joined r) ∙ ap (λ n. length g.text + n) (length-append (joined ks) (joined r)) in

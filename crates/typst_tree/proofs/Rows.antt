@@ -1,31 +1,37 @@
 -- Children that stand side by side.
-use Rattle.std.proofs.Common.{◌≡◌, ℕ, zero, suc, ◌+◌, ◌-◌, ◌<◌, ◌≤◌, ◌^◌, List, [], ◌∷◌, ◌++◌, length, take, drop, Some, refl, ap, sym, subst, ◌∙◌, arith, append-nil, length-append, get_or}
+use Rattle.std.proofs.Common.{◌≡◌, ℕ, zero, suc, ◌+◌, ◌-◌, ◌<◌, ◌≤◌, ◌^◌, List, [], ◌∷◌, ◌++◌, length, take, drop, Some, None, refl, ap, sym, subst, ◌∙◌, arith, append-nil, length-append, get_or}
 use Rattle.std.specs.Prelude.{slice_get}
 use Rattle.std.proofs.lemmas.List.{take-append-drop, drop_more}
 use Rattle.std.proofs.lemmas.Option.{same_Some, none-some, slice_get_read}
 use Rattle.typst_node.specs.Tree.{Forest, none, more, Tree, forest, trees, count, nodes, places, preorder, joined, text_of, saturated}
 use Rattle.typst_node.proofs.SpansAside.{trees_forest}
-use Rattle.typst_tree.specs.Walks.{Stands, Within, texts}
+use Rattle.typst_tree.specs.Walks.{Stands, Within, texts, first_at, holds_byte}
 use Rattle.typst_tree.specs.Ways.{IsChild, IsTreeOf}
 use Rattle.std.proofs.Math.Seq.{take-add}
 use Rattle.typst_tree.specs.Lasts.{Covers}
 use Rattle.typst_tree.specs.declared.way.Way.{Way}
 use Rattle.typst_tree.proofs.LastLeaf.{preorder_append}
 use Rattle.typst_tree.proofs.NodesOfStretch.{stands_row}
-use Rattle.typst_tree.proofs.WalksInPreorder.{length_preorder, length_places, texts_preorder, within_first}
+use Rattle.typst_tree.proofs.WalksInPreorder.{length_preorder, length_places, texts_preorder, within_first, first_append}
+use Rattle.typst_tree.proofs.PassesOver.{no_byte_above}
 use Rattle.typst_tree.proofs.Parents.{count_split}
 
--- the children from the index i on stand behind those before them
-pub row_stands : (root o : Tree) (n b i : ℕ) (xs : List Tree) → forest xs ≡ o.kids → Stands (places root) n b (places o) → Stands (places root) (n + 1 + count (forest (take i xs))) (saturated (b + length o.head.text + length (joined (forest (take i xs))))) (preorder (forest (drop i xs)))
-row_stands root o n b i xs e s =
-    stands_row (places root) n b (n + 1 + count (forest (take i xs))) (saturated (b + length o.head.text + length (joined (forest (take i xs))))) (places o) (preorder (forest (drop i xs))) s
-    (record {
+-- the children from the index i on lie within their parent, behind those before them
+pub row_within : (o : Tree) (n b m c i : ℕ) (xs : List Tree) → forest xs ≡ o.kids → m ≡ n + 1 + count (forest (take i xs)) → c ≡ saturated (b + length o.head.text + length (joined (forest (take i xs)))) → Within n b (places o) m c (preorder (forest (drop i xs)))
+row_within o n b m c i xs e number offset =
+    record {
       front = o ∷ preorder (forest (take i xs));
       back = [];
       whole = ap (λ f. o ∷ preorder f) (sym e) ∙ ap (λ ys. o ∷ ys) (ap (λ ys. preorder (forest ys)) (sym (take-append-drop i xs)) ∙ (preorder_append (take i xs) (drop i xs) ∙ ap (λ ys. preorder (forest (take i xs)) ++ ys) (sym (append-nil (preorder (forest (drop i xs)))))));
-      number = omega (arith, length_preorder (forest (take i xs)));
-      offset = omega (arith, length-append o.head.text (texts (preorder (forest (take i xs)))), ap length (texts_preorder (forest (take i xs))));
-    })
+      number = omega (arith, number, length_preorder (forest (take i xs)));
+      offset = omega (arith, offset, length-append o.head.text (texts (preorder (forest (take i xs)))), ap length (texts_preorder (forest (take i xs))));
+    }
+
+-- and stand behind those before them
+pub row_stands : (root o : Tree) (n b i : ℕ) (xs : List Tree) → forest xs ≡ o.kids → Stands (places root) n b (places o) → Stands (places root) (n + 1 + count (forest (take i xs))) (saturated (b + length o.head.text + length (joined (forest (take i xs))))) (preorder (forest (drop i xs)))
+row_stands root o n b i xs e s =
+    stands_row (places root) n b (n + 1 + count (forest (take i xs))) (saturated (b + length o.head.text + length (joined (forest (take i xs))))) (places o) (preorder (forest (drop i xs))) s
+    (row_within o n b (n + 1 + count (forest (take i xs))) (saturated (b + length o.head.text + length (joined (forest (take i xs))))) i xs e refl refl)
 
 nothing_first : (x : Tree) (ys : List Tree) → [] ≡ x ∷ ys → ⊥
 nothing_first x ys e = let long : length {A = Tree} [] ≡ length (x ∷ ys) = ap length e in omega (arith, long)
@@ -127,7 +133,7 @@ pub kid_at : (root o : Tree) (n b i : ℕ) (xs : List Tree) (x : Tree) (m c : �
 kid_at root o n b i xs x m c e s g l p q =
     kid_of root o n b i xs x m c e s (slice_get_read xs (length xs) i x refl l g) p q
 
-count_append : (xs ys : List Tree) → count (forest (xs ++ ys)) ≡ count (forest xs) + count (forest ys)
+pub count_append : (xs ys : List Tree) → count (forest (xs ++ ys)) ≡ count (forest xs) + count (forest ys)
 count_append [] ys = omega arith
 count_append (x ∷ xs) ys = omega (arith, count_append xs ys)
 
@@ -219,3 +225,28 @@ step_back root o n b i xs x k p d l e s low high g number offset f h counted lon
       number = first;
       offset = second;
     }
+
+-- a loop from the back over a row goes on to the tree before
+pub record Prior (xs : List Tree) (i : ℕ) (x : Tree) : Type 0 where
+  pub counts : count (forest (take i xs)) ≡ count (forest (take (i - 1) xs)) + nodes x
+  pub longs : length (joined (forest (take i xs))) ≡ length (joined (forest (take (i - 1) xs))) + length (text_of x)
+
+pub prior : (xs : List Tree) (i : ℕ) (x : Tree) → 0 < i → i ≤ length xs → x ≡ get_or xs (i - 1) x → Prior xs i x
+prior xs i x low high g =
+    let short : i - 1 < length xs = omega (arith, low, high) in
+    let row : drop (i - 1) xs ≡ x ∷ drop (i - 1 + 1) xs = drop_more xs (i - 1) x short ∙ ap (λ y. y ∷ drop (i - 1 + 1) xs) (sym g) in
+    let w = first_of_row xs (i - 1) x (drop (i - 1 + 1) xs) row in
+    let next : i - 1 + 1 ≡ i = omega (arith, low) in
+    record {
+      counts = ap (λ j. count (forest (take j xs))) (sym next) ∙ w.counted;
+      longs = ap (λ j. length (joined (forest (take j xs)))) (sym next) ∙ w.long;
+    }
+
+-- trees that end before a byte or at it are passed over
+pub passed_front : (b n a i m c : ℕ) (xs : List Tree) → m ≡ n + count (forest (take i xs)) → c ≡ a + length (joined (forest (take i xs))) → c ≤ b → c < 2 ^ 64 → first_at (holds_byte b) n a (preorder (forest xs)) ≡ first_at (holds_byte b) m c (preorder (forest (drop i xs)))
+passed_front b n a i m c xs number offset h fits =
+    let whole : preorder (forest xs) ≡ preorder (forest (take i xs)) ++ preorder (forest (drop i xs)) = ap (λ ys. preorder (forest ys)) (sym (take-append-drop i xs)) ∙ preorder_append (take i xs) (drop i xs) in
+    let nothing : first_at (holds_byte b) n a (preorder (forest (take i xs))) ≡ None = no_byte_above b n a (forest (take i xs)) (omega (arith, offset, h, fits)) in
+    let first : n + length (preorder (forest (take i xs))) ≡ m = omega (arith, number, length_preorder (forest (take i xs))) in
+    let second : a + length (texts (preorder (forest (take i xs)))) ≡ c = omega (arith, offset, ap length (texts_preorder (forest (take i xs)))) in
+    ap (first_at (holds_byte b) n a) whole ∙ (first_append (holds_byte b) n a (preorder (forest (take i xs))) (preorder (forest (drop i xs))) ∙ rw (nothing, first, second) refl)

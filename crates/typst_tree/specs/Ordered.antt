@@ -1,7 +1,7 @@
 -- Numbers in order, and searches for a number.
-use Rattle.std.specs.Prelude.{◌≡◌, ℕ, ◌+◌, nat_le, nat_lt, Bool, true, IsTrue, List, [], ◌∷◌, Option, Some, None, if◌then◌else◌}
+use Rattle.std.specs.Prelude.{◌≡◌, ℕ, ◌+◌, ◌<◌, length, drop, false, nat_le, nat_lt, Bool, true, IsTrue, List, [], ◌∷◌, Option, Some, None, if◌then◌else◌}
 use Rattle.typst_kinds.specs.Span.{number_of}
-use Rattle.typst_node.specs.Tree.{Forest, none, more, Tree}
+use Rattle.typst_node.specs.Tree.{Forest, none, more, Tree, forest}
 
 -- the number behind those of some nodes, where each is above the one before it and the first at least a
 abbrev pub climb : ℕ → List Tree → Option ℕ
@@ -16,3 +16,9 @@ begins_past m (more h ks r) = nat_lt m (number_of h.span)
 -- only nodes with the number m pass the test
 abbrev pub IsKey : (ℕ → ℕ → Tree → Bool) → ℕ → Type 0
 IsKey p m = (n a : ℕ) (t : Tree) → IsTrue (p n a t) → number_of t.head.span ≡ m
+
+-- the tree of the index i begins at the key or before it, or is the first, and the next begins past it (of private clauses)
+pub record IsLastUpTo (m : ℕ) (row : List Tree) (i : ℕ) : Type 0 where
+  pub within : i < length row
+  pub begins : 0 < i → begins_past m (forest (drop i row)) ≡ false
+  pub next : begins_past m (forest (drop (i + 1) row)) ≡ true

@@ -15,6 +15,12 @@ pub record IsTreeOf (row : List Tree) (n b : ℕ) (t : Tree) (m c i : ℕ) : Typ
   pub number : m ≡ n + count (forest (take i row))
   pub offset : c ≡ saturated (b + length (joined (forest (take i row))))
 
+-- of some trees that stand side by side, of which the first has the number n and begins at byte b, the one behind the first i has the number m and begins at byte c
+pub record IsPassed (row : List Tree) (n b i m c : ℕ) : Type 0 where
+  pub within : i ≤ length row
+  pub number : m ≡ n + count (forest (take i row))
+  pub offset : c ≡ saturated (b + length (joined (forest (take i row))))
+
 -- of some steps the first ones, so many, lead from the root downwards, each to a child of the one before it
 pub record Leads (root : Tree) (steps : List Step) (len : ℕ) : Type 0 where
   pub some : 0 < len

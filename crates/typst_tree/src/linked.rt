@@ -1,13 +1,13 @@
 //! Nodes with what stands round them.
 
-ghost use Rattle.std.specs.Prelude.{◌≡◌, ◌+◌, ◌^◌, ◌<◌, ◌-◌, ◌≤◌, true, drop, take, length};
+ghost use Rattle.std.specs.Prelude.{◌≡◌, ◌+◌, ◌^◌, ◌<◌, ◌-◌, ◌≤◌, true, drop, take};
 ghost use Rattle.typst_node.specs.Tree.{nodes, forest, places, preorder, trees, count};
 ghost use Rattle.typst_node.specs.Order.{AreInOrder, numbers_of};
 ghost use Rattle.typst_tree.specs.Walks.{Stands};
 ghost use Rattle.typst_tree.specs.Lasts.{Covers};
 
 use crate::order::find_in;
-use crate::search::{Search, Spot, first_in_row, last_leaf_in};
+use crate::search::{Search, Spot, first_in_row, from_index, last_leaf_in};
 use crate::way::{KEPT, Step, Way};
 use std::ops::Range;
 use typst_kinds::{Span, SpanNumber, SyntaxKind};
@@ -543,14 +543,6 @@ impl<'a> LinkedNode<'a> {
             Some(sibling) => Some(sibling.kind()),
         }
     }
-}
-
-/// The trees of a row from an index on.
-fn from_index(row: &[SyntaxNode], index: usize) -> &[SyntaxNode]
-    requires { index ≤ length row.now }
-    ensures { result.now ≡ drop index row.now }
-{
-    &row[index..]
 }
 
 impl<'a> Iterator for LinkedChildren<'a> {

@@ -1,14 +1,15 @@
 //! Trees whose numbers are in order.
 
-ghost use Rattle.std.specs.Prelude.{◌≡◌, ◌+◌, ◌^◌, ◌<◌, ◌≤◌, ◌-◌, true, IfSome, IsTrue, ◌↔◌};
+ghost use Rattle.std.specs.Prelude.{◌≡◌, ◌+◌, ◌^◌, ◌<◌, ◌≤◌, ◌-◌, true, length, IfSome, IsTrue, ◌↔◌};
 ghost use Rattle.std.specs.Option.{option_map};
-ghost use Rattle.typst_node.specs.Tree.{nodes, places, forest};
+ghost use Rattle.typst_node.specs.Tree.{nodes, places, forest, count, joined, saturated};
+ghost use Rattle.typst_tree.specs.Ways.{IsPassed};
 ghost use Rattle.typst_node.specs.Order.{AreInOrder, numbers_of};
 ghost use Rattle.typst_tree.specs.Walks.{first_at, Within};
 ghost use Rattle.typst_tree.specs.Wanted.{wanted};
-ghost use Rattle.typst_tree.specs.Ordered.{climb, begins_past, IsKey};
+ghost use Rattle.typst_tree.specs.Ordered.{climb, IsKey, IsLastUpTo};
 
-use crate::search::{Search, Spot, first_in};
+use crate::search::{Passed, Search, Spot, first_in};
 use typst_node::SyntaxNode;
 
 /// The number behind those of the node and of all below it, if each is above the one before it
@@ -36,14 +37,106 @@ pub fn is_ordered(root: &SyntaxNode) -> bool
     climb(root, 0).is_some()
 }
 
-/// Whether there is no tree, or the first has a number above `key`.
-fn begins_past(trees: &[SyntaxNode], key: u64) -> bool
-    ensures { result ≡ begins_past key (forest trees.now) }
+/// Of trees whose numbers are in order, the last whose number isn't above `key`, or else the first.
+fn last_up_to(row: &[SyntaxNode], key: u64) -> usize
+    requires { 0 < length row.now }
+    ensures { IsLastUpTo key row.now result }
 {
-    match trees.first() {
-        None => true,
-        Some(tree) => key < tree.span().number_or_zero(),
+    let mut low = 0usize;
+    let mut high = row.len();
+    while high - low > 1 {
+        let middle = low + (high - low) / 2;
+        let tree = &row[middle];
+        if key < tree.span().number_or_zero() {
+            high = middle;
+        } else {
+            low = middle;
+        }
     }
+    low
+}
+
+/// The number and the offset of the tree of an index in a row, of which the first has this number and
+/// offset.
+fn summed_to(row: &[SyntaxNode], number: usize, offset: usize, index: usize) -> Passed
+    requires counted { number + count (forest row.now) < 2 ^ 64 - 1 }
+    requires within { index ≤ length row.now }
+    ensures { IsPassed row.now number offset index result.number result.offset }
+{
+    let mut at = number;
+    let mut begin = offset;
+    for i in 0..index {
+        let tree = &row[i];
+        at += tree.descendants();
+        begin = begin.saturating_add(tree.len());
+    }
+    Passed {
+        index,
+        number: at,
+        offset: begin,
+    }
+}
+
+/// The same from the row's end on, where the row has so many nodes and so many bytes.
+fn summed_back_to(
+    row: &[SyntaxNode],
+    number: usize,
+    offset: usize,
+    nodes: usize,
+    len: usize,
+    index: usize,
+) -> Passed
+    requires counted { number + nodes < 2 ^ 64 - 1 }
+    requires measured { offset + len < 2 ^ 64 - 1 }
+    requires nodes { nodes ≡ count (forest row.now) }
+    requires len { len ≡ length (joined (forest row.now)) }
+    requires within { index ≤ length row.now }
+    ensures { IsPassed row.now number offset index result.number result.offset }
+{
+    let mut at = number + nodes;
+    let mut begin = offset + len;
+    let mut i = row.len();
+    while i > index {
+        i -= 1;
+        let tree = &row[i];
+        at -= tree.descendants();
+        begin -= tree.len();
+    }
+    Passed {
+        index,
+        number: at,
+        offset: begin,
+    }
+}
+
+/// The number and the offset of the child of an index of a node, which has this number and offset, by way
+/// of the siblings on that side where they are fewer.
+fn before_index(
+    node: &SyntaxNode,
+    row: &[SyntaxNode],
+    number: usize,
+    offset: usize,
+    index: usize,
+) -> Passed
+    requires counted { number + nodes node.now < 2 ^ 64 - 1 }
+    requires row { forest row.now ≡ node.now.kids }
+    requires within { index ≤ length row.now }
+    ensures { IsPassed row.now (number + 1) (saturated (offset + length node.now.head.text)) index result.number result.offset }
+{
+    let text = node.leaf_text().len();
+    let len = node.len();
+    let start = offset.saturating_add(text);
+    if offset.saturating_add(len) == usize::MAX || index <= row.len() / 2 {
+        return summed_to(row, number + 1, start, index);
+    }
+    summed_back_to(
+        row,
+        number + 1,
+        start,
+        node.descendants() - 1,
+        len - text,
+        index,
+    )
 }
 
 /// `first_in` of a node whose numbers are in order, for a search that asks for the number `key`:
@@ -71,18 +164,13 @@ fn first_in_order<'a>(
             offset,
         });
     }
-    let mut at = number + 1;
-    let mut begin = offset.saturating_add(node.leaf_text().len());
-    let mut rest = node.children();
-    while let Some((kid, behind)) = rest.split_first() {
-        if begins_past(behind, key) {
-            return first_in_order(kid, at, begin, search, key);
-        }
-        at += kid.descendants();
-        begin = begin.saturating_add(kid.len());
-        rest = behind;
+    let row = node.children();
+    if row.is_empty() {
+        return None;
     }
-    None
+    let index = last_up_to(row, key);
+    let passed = before_index(node, row, number, offset, index);
+    first_in_order(&row[index], passed.number, passed.offset, search, key)
 }
 
 /// `first_in`, by the way that the numbers show where they are in order.

@@ -1,9 +1,9 @@
 //! The walk through a tree in preorder that all steps share.
 
-ghost use Rattle.std.specs.Prelude.{◌≡◌, ◌+◌, ◌^◌, ◌<◌, ◌-◌, true, None, IfSome, IsTrue, ◌↔◌};
+ghost use Rattle.std.specs.Prelude.{◌≡◌, ◌+◌, ◌^◌, ◌<◌, ◌-◌, ◌≤◌, true, None, length, drop, IfSome, IsTrue, ◌↔◌};
 ghost use Rattle.std.specs.Option.{option_map};
-ghost use Rattle.typst_node.specs.Tree.{nodes, places, forest, count, preorder};
-ghost use Rattle.typst_tree.specs.Ways.{IsTreeOf};
+ghost use Rattle.typst_node.specs.Tree.{nodes, places, forest, count, preorder, joined, saturated};
+ghost use Rattle.typst_tree.specs.Ways.{IsPassed, IsTreeOf};
 ghost use Rattle.typst_tree.specs.Walks.{first_at, last_leaf, is_childless, is_leaf, has_child, holds_byte, Within};
 ghost use Rattle.typst_tree.specs.Wanted.{wanted};
 ghost use Rattle.typst_tree.specs.Ordered.{IsKey};
@@ -128,6 +128,136 @@ fn holds_byte(byte: usize, offset: usize, node: &SyntaxNode) -> bool
     is_childless(node) && offset <= byte && byte < offset.saturating_add(node.len())
 }
 
+/// The trees of a row from an index on.
+pub fn from_index(row: &[SyntaxNode], index: usize) -> &[SyntaxNode]
+    requires { index ≤ length row.now }
+    ensures { result.now ≡ drop index row.now }
+{
+    &row[index..]
+}
+
+/// How many trees of a row are passed over, and the number and the offset of what is behind them.
+#[derive(Clone, Copy)]
+pub struct Passed {
+    pub index: usize,
+    pub number: usize,
+    pub offset: usize,
+}
+
+/// Passes over the trees at the front of a row that end before a byte or at it.
+fn passed_to_byte(row: &[SyntaxNode], number: usize, offset: usize, byte: usize) -> Passed
+    requires { number + count (forest row.now) < 2 ^ 64 - 1 }
+    ensures passed { IsPassed row.now number offset result.index result.number result.offset }
+    ensures nothing { first_at (holds_byte byte) number offset (preorder (forest row.now)) ≡ first_at (holds_byte byte) result.number result.offset (preorder (forest (drop result.index row.now))) }
+{
+    let mut at = number;
+    let mut begin = offset;
+    let mut index = 0usize;
+    for tree in row {
+        let end = begin.saturating_add(tree.len());
+        if byte < end {
+            break;
+        }
+        at += tree.descendants();
+        begin = end;
+        index += 1;
+    }
+    Passed {
+        index,
+        number: at,
+        offset: begin,
+    }
+}
+
+/// The same from the row's end on, back over the trees that begin behind the byte, where the row has so
+/// many nodes and so many bytes.
+fn passed_back_to_byte(
+    row: &[SyntaxNode],
+    number: usize,
+    offset: usize,
+    nodes: usize,
+    len: usize,
+    byte: usize,
+) -> Passed
+    requires counted { number + nodes < 2 ^ 64 - 1 }
+    requires measured { offset + len < 2 ^ 64 - 1 }
+    requires nodes { nodes ≡ count (forest row.now) }
+    requires len { len ≡ length (joined (forest row.now)) }
+    ensures passed { IsPassed row.now number offset result.index result.number result.offset }
+    ensures nothing { first_at (holds_byte byte) number offset (preorder (forest row.now)) ≡ first_at (holds_byte byte) result.number result.offset (preorder (forest (drop result.index row.now))) }
+{
+    let mut at = number + nodes;
+    let mut begin = offset + len;
+    let mut index = row.len();
+    while index > 0 && byte < begin {
+        index -= 1;
+        let tree = &row[index];
+        at -= tree.descendants();
+        begin -= tree.len();
+    }
+    Passed {
+        index,
+        number: at,
+        offset: begin,
+    }
+}
+
+/// Passes over children of a node, which has this number and offset, that end before a byte or at it:
+/// from that end of their row to which the byte is nearer.
+fn passed_below(
+    node: &SyntaxNode,
+    row: &[SyntaxNode],
+    number: usize,
+    offset: usize,
+    byte: usize,
+) -> Passed
+    requires counted { number + nodes node.now < 2 ^ 64 - 1 }
+    requires row { forest row.now ≡ node.now.kids }
+    ensures passed { IsPassed row.now (number + 1) (saturated (offset + length node.now.head.text)) result.index result.number result.offset }
+    ensures nothing { first_at (holds_byte byte) (number + 1) (saturated (offset + length node.now.head.text)) (preorder (forest row.now)) ≡ first_at (holds_byte byte) result.number result.offset (preorder (forest (drop result.index row.now))) }
+{
+    let text = node.leaf_text().len();
+    let len = node.len();
+    let end = offset.saturating_add(len);
+    let start = offset.saturating_add(text);
+    if end == usize::MAX || byte < end - len / 2 {
+        return passed_to_byte(row, number + 1, start, byte);
+    }
+    passed_back_to_byte(
+        row,
+        number + 1,
+        start,
+        node.descendants() - 1,
+        len - text,
+        byte,
+    )
+}
+
+/// Passes over the children at the front of a node's row in which nothing is looked for, where the search
+/// tells so by bytes; it passes over none where it doesn't. A row can be long, so this is a loop without
+/// calls.
+fn passed_over(
+    node: &SyntaxNode,
+    row: &[SyntaxNode],
+    number: usize,
+    offset: usize,
+    search: &Search,
+) -> Passed
+    requires counted { number + nodes node.now < 2 ^ 64 - 1 }
+    requires row { forest row.now ≡ node.now.kids }
+    ensures passed { IsPassed row.now (number + 1) (saturated (offset + length node.now.head.text)) result.index result.number result.offset }
+    ensures nothing { first_at (wanted search.now) (number + 1) (saturated (offset + length node.now.head.text)) (preorder (forest row.now)) ≡ first_at (wanted search.now) result.number result.offset (preorder (forest (drop result.index row.now))) }
+{
+    match search {
+        Search::Byte(byte) => passed_below(node, row, number, offset, *byte),
+        _ => Passed {
+            index: 0,
+            number: number + 1,
+            offset: offset.saturating_add(node.leaf_text().len()),
+        },
+    }
+}
+
 /// The first node in preorder that is looked for, among a node, which has this number and
 /// offset, and those below it.
 pub fn first_in<'a>(
@@ -150,9 +280,11 @@ pub fn first_in<'a>(
             offset,
         });
     }
-    let mut at = number + 1;
-    let mut begin = offset.saturating_add(node.leaf_text().len());
-    for kid in node.children() {
+    let row = node.children();
+    let passed = passed_over(node, row, number, offset, search);
+    let mut at = passed.number;
+    let mut begin = passed.offset;
+    for kid in from_index(row, passed.index) {
         match first_in(kid, at, begin, search) {
             Some(found) => return Some(found),
             None => {
