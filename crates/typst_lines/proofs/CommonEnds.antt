@@ -17,9 +17,6 @@ pub record Shares (cs ds us vs : List ℕ) : Type 0 where
   pub first : cs ≡ front ++ us
   pub second : ds ≡ front ++ vs
 
-pub shares-none : (cs ds us vs : List ℕ) → us ≡ cs → vs ≡ ds → Shares cs ds us vs
-shares-none cs ds us vs e f = record { front = []; first = sym e; second = sym f }
-
 pub shares-more : (cs ds us vs rest left : List ℕ) (c : ℕ) → Shares cs ds us vs → us ≡ c ∷ rest → vs ≡ c ∷ left → Shares cs ds rest left
 shares-more cs ds us vs rest left c h e f =
     record {

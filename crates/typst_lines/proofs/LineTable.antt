@@ -147,9 +147,6 @@ pub ahead-text : (s : List ℕ) → (place_at s 0).ahead ≡ chars s
 unfolding place_at
 ahead-text s = refl
 
-pub units-step : (p : Place) (c : ℕ) → Some c ≡ scout 0 p → units p.ahead ≡ utf16_len c + units (moved 1 p).ahead
-units-step p c e = let t = head-splits p.ahead c (sym e) in rw t.1 refl
-
 pub bytes-step : (p : Place) (c : ℕ) → Some c ≡ scout 0 p → bytes p.ahead ≡ char_width c + bytes (moved 1 p).ahead
 bytes-step p c e = let t = head-splits p.ahead c (sym e) in rw t.1 refl
 

@@ -1,11 +1,14 @@
 -- Facts on the lines that start after a place.
-use Rattle.std.proofs.Common.{◌≡◌, ◌≤◌, ◌<◌, Bool, length, ℕ, ◌+◌, List, [], ◌∷◌, ◌++◌, slice_get, Option, Some, None, refl, sym, ap, ◌∙◌, true, false, arith, take, drop, filter, nat_lt, get_or}
+use Rattle.std.proofs.Common.{◌≡◌, ◌≤◌, ◌<◌, Bool, length, ℕ, zero, suc, ◌+◌, List, [], ◌∷◌, ◌++◌, slice_get, Option, Some, None, refl, sym, ap, subst, ◌∙◌, true, false, arith, take, drop, filter, nat_lt, get_or}
 use Rattle.std.proofs.lemmas.Bool.Decides.{nat_tests}
 use Rattle.std.proofs.lemmas.Str.{chars-nil, IsCharBoundary-start}
 use Rattle.std.specs.Str.{chars, IsUtf8, IsCharBoundary}
+use Rattle.std.proofs.lemmas.Bool.{not-true}
+use Rattle.typst_lines.proofs.Bools.{and-first, and-second}
 use Rattle.typst_lines.proofs.LineTable.{line_at, onto_if, starts_from, line_table-starts, width-positive, chars-split, bytes-front, place-end, ahead-text}
 use Rattle.typst_lines.proofs.PlaceLemmas.{head-splits, IsStep-from_ascii}
 use Rattle.typst_lines.proofs.RoundTrip.{units-behind, units-moved}
+use Rattle.typst_lines.specs.Blocks.{is_plain_byte, IsPlainFront}
 use Rattle.typst_lines.specs.Newline.{is_newline, ends_line}
 use Rattle.typst_lines.specs.Place.{Place, place_at, moved, scout, char_width, IsStep}
 use Rattle.typst_lines.specs.Lines.{utf16_len, units, bytes, line_table, lines_after, utf16_before, IsPlainRun}
@@ -94,6 +97,23 @@ plain-step s v start i b run lt is small plain =
       none_inside = run.none_inside ∙ after-on s v i run.boundary b (i + 1) there (no-end b (scout 0 (place_at s (i + 1))) plain);
       counted = omega (arith, run.counted, more, one);
     }
+
+-- over several
+plain-steps : (s : List ℕ) → IsUtf8 s → (start i n : ℕ) → IsPlainRun s start i → i + n ≤ length s → ((k : ℕ) → i ≤ k → k < i + n → is_plain_byte (get_or s k 0) ≡ true) → IsPlainRun s start (i + n)
+plain-steps s v start i zero run room plain = let none : i ≡ i + 0 = omega arith in subst (IsPlainRun s start) none run
+plain-steps s v start i (suc n) run room plain =
+    let here = plain (i + n) (omega arith) (omega arith) in
+    let rest = plain-steps s v start i n run (omega arith) (λ k from to. plain k from (omega arith)) in
+    let more : i + n + 1 ≡ i + suc n = omega arith in
+    subst (IsPlainRun s start) more (plain-step s v start (i + n) (get_or s (i + n) 0) rest (omega arith) refl (small _ (and-first _ _ here)) (not-true _ (and-second _ _ here)))
+  where
+    small : (b : ℕ) → nat_lt b 128 ≡ true → b < 128
+    small b e = grind (arith, nat_tests)
+
+-- over those that stand first among n bytes
+pub plain-block : (s t : List ℕ) → IsUtf8 s → t ≡ s → (start i n run : ℕ) → IsPlainRun s start i → i + n ≤ length t → IsPlainFront t i n run → IsPlainRun s start (i + run)
+plain-block s t v same start i n run so_far room h =
+    plain-steps s v start i run so_far (omega (arith, ap length same, h.within)) (λ k from to. subst (λ x. is_plain_byte (get_or x k 0) ≡ true) same (h.plain k from to))
 
 pub plain-start : (s : List ℕ) (i : ℕ) → IsCharBoundary s i → IsPlainRun s i i
 plain-start s i at = record { grows = omega arith; boundary = at; none_inside = refl; counted = refl }

@@ -180,9 +180,6 @@ pub record HasPassed (cs : List ℕ) (i at : ℕ) (p : Place) : Type 0 where
   pub long : length p.ahead + i ≡ length cs
   pub byte : at + bytes p.ahead ≡ bytes cs
 
-pub HasPassed-none : (cs : List ℕ) (p : Place) → p.ahead ≡ cs → HasPassed cs 0 0 p
-HasPassed-none cs p e = record { rest = e; long = omega (arith, ap length e); byte = omega (arith, ap bytes e) }
-
 length-step : (p : Place) (c : ℕ) → Some c ≡ scout 0 p → length p.ahead ≡ 1 + length (moved 1 p).ahead
 length-step p c e = let t = head-splits p.ahead c (sym e) in rw t.1 (omega arith)
 
@@ -262,14 +259,8 @@ module _ (s t : List ℕ) (v : IsUtf8 t) (same : t ≡ s) (u : ℕ) where
     pub upto-boundary : IsCharBoundary t l.byte_idx
     upto-boundary = upto-sound.boundary
 
-    pub upto-reach : reach u (place_at t l.byte_idx) ≡ least_place s u
-    upto-reach = reach-from t v l.byte_idx u upto-sound.boundary (omega (arith, upto-sound.counted, of.before)) ∙ ap (λ x. least_place x u) same
-
     pub upto-units : units (place_at t l.byte_idx).behind ≡ l.utf16_idx
     upto-units = units-behind t l.byte_idx ∙ sym upto-sound.counted
-
-    pub upto-before : overshot u (place_at t l.byte_idx) ≡ false
-    upto-before = rw (not-past u (units (place_at t l.byte_idx).behind) 0 (omega (arith, upto-units, of.before))) refl
 
   pub utf16-found : (i : ℕ) → IsCharBoundary t i → reach u (place_at t i) ≡ least_place s u → u ≤ units (place_at t i).behind → overshot u (place_at t i) ≡ false → Some i ≡ byte_at_utf16 s u
   unfolding byte_at_utf16

@@ -1,6 +1,7 @@
 //! A cursor over a text, and the lines of a text.
 #![tactic(auto)]
 
+mod blocks;
 pub mod lines;
 pub mod newline;
 pub mod scanner;

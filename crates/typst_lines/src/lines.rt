@@ -1,5 +1,5 @@
 //! The lines of a text, and positions in bytes, lines, columns and UTF-16 units.
-ghost use Rattle.std.specs.Prelude.{◌≡◌, ◌≢◌, ℕ, ◌+◌, ◌-◌, ◌≤◌, ◌<◌, ◌^◌, ◌++◌, List, length, map, Some, false, IsTrue, ◌↔◌, IfOk, IfSome, MatchOption, OnErr, OnOk, not, take, drop, reverse, slice_get, nat_eq};
+ghost use Rattle.std.specs.Prelude.{◌≡◌, ◌≢◌, ℕ, ◌+◌, ◌-◌, ◌≤◌, ◌<◌, ◌^◌, ◌++◌, List, length, map, Some, false, IsTrue, ◌↔◌, IfOk, IfSome, MatchOption, OnErr, OnOk, not, take, drop, reverse, slice_get, slice_index, nat_eq};
 ghost use Rattle.std.specs.Option.{SomeIff};
 ghost use Rattle.std.specs.Str.{IsCharBoundary, IsUtf8, chars};
 ghost use Rattle.std.specs.String.{string_bytes};
@@ -8,12 +8,16 @@ ghost use Rattle.std.specs.Cmp.Lexicographic.{pointwise, nat_list_eq_equiv};
 ghost use Rattle.std.specs.Cmp.Rules.{hashing};
 ghost use Rattle.std.specs.Hash as fed;
 ghost use Rattle.std.proofs.Common.{rules};
+ghost use Rattle.typst_lines.specs.Blocks.{IsSharedEnd, IsSharedFront, is_plain_byte};
 ghost use Rattle.typst_lines.specs.Edited.{IsEdit, moved_line, units_at};
 ghost use Rattle.typst_lines.specs.Newline.{is_newline, ends_line};
 ghost use Rattle.typst_lines.specs.Place.{char_width, place_at, scout};
 ghost use Rattle.typst_lines.specs.Replacement.{Replaces};
 ghost use Rattle.typst_lines.specs.Lines.{IsLineOf, IsLineUpTo, IsPlainRun, utf16_len, units, line_table, lines_after, utf16_before, line_of, line_start, column_of, line_range, byte_at, byte_at_utf16, bytes, common_ends, common_front, IsCommonFront};
 
+use crate::blocks::{
+    InChars, InUnits, LANES, alike_at_end, alike_at_front, boundary_within, measured, plain_lanes,
+};
 use crate::newline::is_newline;
 use crate::scanner::{Scanner, next_char};
 use std::alloc::{AllocError, Global};
@@ -164,10 +168,27 @@ fn plain_end(text: &str, start: usize) -> usize
 {
     let bytes = text.as_bytes();
     let mut at = start;
+    while bytes.len() - at >= LANES && starts_run(bytes, at) {
+        let run = plain_lanes(bytes, at);
+        if run < LANES {
+            return at + run;
+        }
+        at += LANES;
+    }
     while at < bytes.len() && is_plain(bytes[at]) {
         at += 1;
     }
     at
+}
+
+/// Whether the next two bytes are ASCII characters that aren't newline characters. Where they aren't, the
+/// run is one byte at most, as in text of other scripts most are, and a load costs more than it saves.
+#[inline]
+fn starts_run(bytes: &[u8], at: usize) -> bool
+    requires { at + 2 ≤ length bytes.now }
+    ensures { IsTrue result ↔ (IsTrue (is_plain_byte (slice_index bytes.now at)) × IsTrue (is_plain_byte (slice_index bytes.now (at + 1)))) }
+{
+    is_plain(bytes[at]) && is_plain(bytes[at + 1])
 }
 
 /// Whether a byte is an ASCII character that isn't a newline character.
@@ -289,9 +310,9 @@ impl<S: Text> Lines<S> {
         if !text.is_char_boundary(byte_idx) {
             return None;
         }
-        let line = self.line_before(byte_idx);
+        let (number, line) = self.numbered_line(byte_idx);
         let column = count_chars(&text[line.byte_idx..byte_idx]);
-        Some((self.line_holding(byte_idx), column))
+        Some((number, column))
     }
 
     /// The byte offset with so many UTF-16 units before it; inside a pair the offset after the
@@ -300,9 +321,12 @@ impl<S: Text> Lines<S> {
         ensures { result ≡ byte_at_utf16 self.now utf16_idx }
     {
         let line = self.line_before_utf16(utf16_idx);
-        let mut scanner = Scanner::new(self.text());
-        scanner.jump(line.byte_idx);
-        let mut left = utf16_idx - line.utf16_idx;
+        let text = self.text();
+        let behind_line = utf16_idx - line.utf16_idx;
+        let (near, passed) = boundary_within::<InUnits>(&text[line.byte_idx..], behind_line);
+        let mut scanner = Scanner::new(text);
+        scanner.jump(line.byte_idx + near);
+        let mut left = behind_line - passed;
         while left > 0 {
             let units = utf16_len(scanner.eat()?);
             if units > left && scanner.done() {
@@ -340,8 +364,11 @@ impl<S: Text> Lines<S> {
     {
         let range = self.line_to_range(line_idx)?;
         let start = range.start;
-        let mut scanner = Scanner::new(&self.text()[range]);
-        for i in 0..column_idx {
+        let line = &self.text()[range];
+        let (near, passed) = boundary_within::<InChars>(line, column_idx);
+        let mut scanner = Scanner::new(line);
+        scanner.jump(near);
+        for i in passed..column_idx {
             scanner.eat()?;
         }
         Some(start + scanner.cursor())
@@ -362,7 +389,17 @@ impl<S: Text> Lines<S> {
     fn line_before(&self, byte_idx: usize) -> Line
         ensures { IsLineOf self.now byte_idx result }
     {
-        self.lines[self.line_holding(byte_idx)]
+        let (_, line) = self.numbered_line(byte_idx);
+        line
+    }
+
+    /// The number of the line that holds a byte offset, and that line.
+    fn numbered_line(&self, byte_idx: usize) -> (usize, Line)
+        ensures number { result.0 ≡ line_of self.now byte_idx }
+        ensures line { IsLineOf self.now byte_idx result.1 }
+    {
+        let number = self.line_holding(byte_idx);
+        (number, self.lines[number])
     }
 
     /// The last line that starts at or before a UTF-16 offset.
@@ -533,36 +570,25 @@ fn line_table(alloc: Global, text: &str) -> Result<Vec<Line>, AllocError>
 fn len_utf16(text: &str) -> usize
     ensures { result ≡ units (chars text.now) }
 {
-    let mut sum = text.len();
-    let mut scanner = Scanner::new(text);
-    while let Some(c) = scanner.eat() {
-        sum -= spare_bytes(c);
-    }
-    sum
+    measured::<InUnits>(text.as_bytes())
 }
 
 /// How many characters a text has.
 fn count_chars(text: &str) -> usize
     ensures { result ≡ length (chars text.now) }
 {
-    text.chars().count()
-}
-
-/// How many more bytes a character takes than UTF-16 units.
-#[inline]
-#[tactic(auto, unfolding(crate::specs::Place::char_width))]
-fn spare_bytes(c: char) -> usize
-    ensures { result + utf16_len c ≡ char_width c }
-{
-    c.len_utf8() - c.len_utf16()
+    measured::<InChars>(text.as_bytes())
 }
 
 /// The bytes of the longest front that two texts have in common, in whole characters.
 fn common_front_len(old: &str, new: &str) -> usize
     ensures { IsCommonFront old.now new.now result }
 {
+    let start = shared_front_len(old, new);
     let mut first = Scanner::new(old);
+    first.jump(start);
     let mut second = Scanner::new(new);
+    second.jump(start);
     while let Some(c) = first.peek() {
         if !second.at(c) {
             return first.cursor();
@@ -577,10 +603,11 @@ fn common_front_len(old: &str, new: &str) -> usize
 fn common_end_len(old: &str, new: &str) -> usize
     ensures { result ≡ bytes (common_front (reverse (chars old.now)) (reverse (chars new.now))) }
 {
+    let shared = shared_end_len(old, new);
     let mut first = Scanner::new(old);
-    first.jump(old.len());
+    first.jump(old.len() - shared);
     let mut second = Scanner::new(new);
-    second.jump(new.len());
+    second.jump(new.len() - shared);
     while let Some(c) = first.last() {
         if !second.is_after(c) {
             return old.len() - first.cursor();
@@ -589,6 +616,23 @@ fn common_end_len(old: &str, new: &str) -> usize
         second.uneat();
     }
     old.len() - first.cursor()
+}
+
+/// The bytes of a front that two texts have in common, in whole characters. It is short of the longest
+/// by less than a block of bytes and a character, and is found without a look at the characters.
+fn shared_front_len(old: &str, new: &str) -> usize
+    ensures { IsSharedFront old.now new.now result }
+{
+    old.floor_char_boundary(alike_at_front(old.as_bytes(), new.as_bytes()))
+}
+
+/// The bytes of an end that two texts have in common, in whole characters. It is short of the longest by
+/// less than a block of bytes and a character, and is found without a look at the characters.
+fn shared_end_len(old: &str, new: &str) -> usize
+    ensures { IsSharedEnd old.now new.now result }
+{
+    let alike = alike_at_end(old.as_bytes(), new.as_bytes());
+    old.len() - old.ceil_char_boundary(old.len() - alike)
 }
 
 /// Adds lines that start behind a byte where they start if that is another byte now, and the first of

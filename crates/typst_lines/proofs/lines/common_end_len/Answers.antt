@@ -1,16 +1,24 @@
-use Rattle.std.proofs.Common.{◌≡◌, ◌∙◌, ◌∷◌, ◌-◌, ap, sym, Some, length, slice_get, refl}
-use Rattle.typst_lines.proofs.CommonEnds.{shares-none, shares-more, common-back, differ-heads, differ-end, not-next, is-next, behind-step, behind-none, behind-all}
+use Rattle.std.proofs.Common.{◌≡◌, ◌∙◌, ◌∷◌, ◌-◌, ap, sym, subst, Some, length, slice_get, refl}
+use Rattle.std.specs.Str.{IsCharBoundary}
+use Rattle.typst_lines.proofs.Alike.{behind-shared}
+use Rattle.typst_lines.proofs.CommonEnds.{shares-more, common-back, differ-heads, differ-end, not-next, is-next, behind-step, behind-none}
 use Rattle.typst_lines.specs.Place.{place_at}
 use Rattle.typst_lines.specs.Scanner.{place}
 use Rattle.typst_lines.proofs.lines.common_end_len.Goals as goal
 
+pub jump-requires : goal.jump-requires
+jump-requires c = subst (λ t. IsCharBoundary t (length c.args.old.now - c.shared_end_len-shared.result)) (sym c.new-first.ensures.text) c.shared_end_len-shared.ensures.old_boundary
+
+pub jump-requires-2 : goal.jump-requires-2
+jump-requires-2 c = subst (λ t. IsCharBoundary t (length c.args.new.now - c.shared_end_len-shared.result)) (sym c.new-second.ensures.text) c.shared_end_len-shared.ensures.new_boundary
+
 pub loop-c-init : goal.loop-c-init
 loop-c-init c =
-    let old = c.args.old.now in
-    let new = c.args.new.now in
+    let shared = c.shared_end_len-shared in
     record {
-      shared = shares-none _ _ _ _ (ap (λ p. p.behind) (c.jump.ensures.moved ∙ ap (λ t. place_at t (length old)) c.new-first.ensures.text) ∙ behind-all old)
-          (ap (λ p. p.behind) (c.jump-2.ensures.moved ∙ ap (λ t. place_at t (length new)) c.new-second.ensures.text) ∙ behind-all new);
+      shared = behind-shared c.args.old.now c.args.new.now c.utf8.old c.utf8.new shared.result _ _ shared.ensures
+          (c.jump.ensures.moved ∙ ap (λ t. place_at t (length c.args.old.now - shared.result)) c.new-first.ensures.text)
+          (c.jump-2.ensures.moved ∙ ap (λ t. place_at t (length c.args.new.now - shared.result)) c.new-second.ensures.text);
       old_text = c.jump.ensures.same_text ∙ c.new-first.ensures.text;
     }
 

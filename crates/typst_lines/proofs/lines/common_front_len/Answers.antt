@@ -1,17 +1,27 @@
 use Rattle.std.proofs.Common.{◌≡◌, ◌∙◌, ◌∷◌, ap, sym, subst, Some}
-use Rattle.typst_lines.proofs.CommonEnds.{shares-none, shares-more, IsCommonFront-at, differ-heads, differ-end, not-next, is-next, ahead-step}
-use Rattle.typst_lines.proofs.LineTable.{ahead-text, place-end}
+use Rattle.std.specs.Str.{IsCharBoundary}
+use Rattle.typst_lines.proofs.Alike.{ahead-shared}
+use Rattle.typst_lines.proofs.CommonEnds.{shares-more, IsCommonFront-at, differ-heads, differ-end, not-next, is-next, ahead-step}
+use Rattle.typst_lines.proofs.LineTable.{place-end}
 use Rattle.typst_lines.specs.Lines.{IsCommonFront}
-use Rattle.typst_lines.specs.Place.{scout}
+use Rattle.typst_lines.specs.Place.{place_at, scout}
 use Rattle.typst_lines.specs.Scanner.{place}
 use Rattle.typst_lines.proofs.lines.common_front_len.Goals as goal
 
+pub jump-requires : goal.jump-requires
+jump-requires c = subst (λ t. IsCharBoundary t c.shared_front_len-start.result) (sym c.new-first.ensures.text) c.shared_front_len-start.ensures.old_boundary
+
+pub jump-requires-2 : goal.jump-requires-2
+jump-requires-2 c = subst (λ t. IsCharBoundary t c.shared_front_len-start.result) (sym c.new-second.ensures.text) c.shared_front_len-start.ensures.new_boundary
+
 pub loop-c-init : goal.loop-c-init
 loop-c-init c =
+    let start = c.shared_front_len-start in
     record {
-      shared = shares-none _ _ _ _ (ap (λ p. p.ahead) c.new-first.ensures.place ∙ ahead-text c.args.old.now) (ap (λ p. p.ahead) c.new-second.ensures.place ∙ ahead-text c.args.new.now);
-      old_text = c.new-first.ensures.text;
-      new_text = c.new-second.ensures.text;
+      shared = ahead-shared c.args.old.now c.args.new.now c.utf8.old c.utf8.new start.result _ _ start.ensures
+          (c.jump.ensures.moved ∙ ap (λ t. place_at t start.result) c.new-first.ensures.text) (c.jump-2.ensures.moved ∙ ap (λ t. place_at t start.result) c.new-second.ensures.text);
+      old_text = c.jump.ensures.same_text ∙ c.new-first.ensures.text;
+      new_text = c.jump-2.ensures.same_text ∙ c.new-second.ensures.text;
     }
 
 pub loop-c-preserved : goal.loop-c-preserved

@@ -1,6 +1,8 @@
-use Rattle.std.proofs.Common.{rules}
-use Rattle.std.proofs.lemmas.Str.{chars_from_encodes}
+use Rattle.std.proofs.Common.{◌∙◌, ap}
+use Rattle.std.specs.List.{sum_by}
+use Rattle.typst_lines.proofs.Counts.{chars-counted}
+use Rattle.typst_lines.specs.Blocks.{chars_begun}
 use Rattle.typst_lines.proofs.lines.count_chars.Goals as goal
 
 pub returns : goal.returns
-returns c = search (rules, chars_from_encodes)
+returns c = c.measured.ensures ∙ ap (sum_by chars_begun) c.as_bytes.ensures.value ∙ chars-counted c.args.text.now c.utf8.text

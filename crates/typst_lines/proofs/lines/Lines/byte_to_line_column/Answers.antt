@@ -6,16 +6,16 @@ use Rattle.typst_lines.proofs.lines.Lines.byte_to_line_column.Goals as goal
 
 pub range-requires-clause-start_boundary : goal.range-requires-clause-start_boundary
 range-requires-clause-start_boundary g c _ =
-    line-boundary c.args.self.now c.text-text.result.now c.text-text.utf8 c.text-text.ensures c.args.byte_idx (c.if-not-is_char_boundary.ensures.test.0 refl) c.line_before-line.result c.line_before-line.ensures
+    line-boundary c.args.self.now c.text-text.result.now c.text-text.utf8 c.text-text.ensures c.args.byte_idx (c.if-not-is_char_boundary.ensures.test.0 refl) c.numbered_line-number.result.1 c.numbered_line-number.ensures.line
 
 pub returns-clause-value : goal.returns-clause-value
 returns-clause-value g c =
     let s = c.args.self.now in
     let t = c.text-text.result.now in
     let end : IsCharBoundary t c.args.byte_idx = c.if-not-is_char_boundary.ensures.test.0 refl in
-    let column = column-at s t c.text-text.utf8 c.text-text.ensures c.args.byte_idx end c.line_before-line.result c.line_before-line.ensures c.range.result.now c.count_chars-column.result c.range.ensures.value c.count_chars-column.ensures in (
-      boundary-at s t c.text-text.utf8 c.text-text.ensures c.args.byte_idx end c.line_before-line.result c.line_before-line.ensures,
-      ap (λ n. (n, c.count_chars-column.result)) c.line_holding.ensures.value ∙ ap (λ n. (line_of s c.args.byte_idx, n)) column,
+    let column = column-at s t c.text-text.utf8 c.text-text.ensures c.args.byte_idx end c.numbered_line-number.result.1 c.numbered_line-number.ensures.line c.range.result.now c.count_chars-column.result c.range.ensures.value c.count_chars-column.ensures in (
+      boundary-at s t c.text-text.utf8 c.text-text.ensures c.args.byte_idx end c.numbered_line-number.result.1 c.numbered_line-number.ensures.line,
+      ap (λ n. (n, c.count_chars-column.result)) c.numbered_line-number.ensures.number ∙ ap (λ n. (line_of s c.args.byte_idx, n)) column,
     )
 
 pub returns-clause-back : goal.returns-clause-back
@@ -23,6 +23,6 @@ returns-clause-back g c =
     let s = c.args.self.now in
     let t = c.text-text.result.now in
     let end : IsCharBoundary t c.args.byte_idx = c.if-not-is_char_boundary.ensures.test.0 refl in
-    let column = column-at s t c.text-text.utf8 c.text-text.ensures c.args.byte_idx end c.line_before-line.result c.line_before-line.ensures c.range.result.now c.count_chars-column.result c.range.ensures.value c.count_chars-column.ensures in
-    ap (λ n. byte_at s n c.count_chars-column.result) c.line_holding.ensures.value ∙ ap (byte_at s (line_of s c.args.byte_idx)) column
-    ∙ column-back s t c.text-text.utf8 c.text-text.ensures c.args.byte_idx end c.line_before-line.result c.line_before-line.ensures
+    let column = column-at s t c.text-text.utf8 c.text-text.ensures c.args.byte_idx end c.numbered_line-number.result.1 c.numbered_line-number.ensures.line c.range.result.now c.count_chars-column.result c.range.ensures.value c.count_chars-column.ensures in
+    ap (λ n. byte_at s n c.count_chars-column.result) c.numbered_line-number.ensures.number ∙ ap (byte_at s (line_of s c.args.byte_idx)) column
+    ∙ column-back s t c.text-text.utf8 c.text-text.ensures c.args.byte_idx end c.numbered_line-number.result.1 c.numbered_line-number.ensures.line

@@ -1,35 +1,43 @@
-use Rattle.std.proofs.Common.{◌≡◌, ◌-◌, ◌∙◌, ap, sym, arith, subst, None, Some, false}
+use Rattle.std.proofs.Common.{◌≡◌, ◌+◌, ◌∙◌, ap, sym, arith, subst, None, Some, false}
 use Rattle.std.specs.Str.{IsCharBoundary}
 use Rattle.std.proofs.lemmas.Str.{IsUtf8-had}
-use Rattle.typst_lines.proofs.RoundTrip.{reach, overshot, upto-boundary, upto-reach, upto-units, upto-before, utf16-found, utf16-short, utf16-over, reach-on, units-moved, none-from, overshot-some, overshot-low}
+use Rattle.typst_lines.proofs.Counts.{near-boundary, near-reach, near-units, near-before}
+use Rattle.typst_lines.proofs.RoundTrip.{reach, overshot, upto-boundary, utf16-found, utf16-short, utf16-over, reach-on, units-moved, none-from, overshot-some, overshot-low}
 use Rattle.typst_lines.specs.Lines.{units, least_place, byte_at_utf16}
 use Rattle.typst_lines.specs.Place.{place_at, scout}
 use Rattle.typst_lines.specs.Scanner.{place}
 use Rattle.typst_lines.proofs.lines.Lines.utf16_to_byte.Goals as goal
 use Rattle.typst_lines.proofs.lines.Lines.utf16_to_byte.Goals.{else-units-left-via-then-units-left+else-done, else-units-left-via-else-units-left}
 
+pub range_from-requires : goal.range_from-requires
+range_from-requires g c _ =
+    upto-boundary c.args.self.now c.text-text.result.now c.text-text.utf8 c.text-text.ensures c.args.utf16_idx c.line_before_utf16-line.result c.line_before_utf16-line.ensures
+
 pub jump-requires : goal.jump-requires
 jump-requires g c =
-    subst (λ t. IsCharBoundary t c.line_before_utf16-line.result.byte_idx) (sym c.new-scanner.ensures.text)
-    (upto-boundary c.args.self.now c.text.result.now c.text.utf8 c.text.ensures c.args.utf16_idx c.line_before_utf16-line.result c.line_before_utf16-line.ensures)
+    let line = c.line_before_utf16-line.result in
+    let near = c.boundary_within-near in
+    subst (λ t. IsCharBoundary t (line.byte_idx + near.result.0)) (sym c.new-scanner.ensures.text)
+    (near-boundary c.args.self.now c.text-text.result.now c.text-text.utf8 c.text-text.ensures c.args.utf16_idx line c.line_before_utf16-line.ensures c.range_from.result.now c.range_from.ensures.value near.result.0 near.result.1 near.ensures.boundary near.ensures.measured near.ensures.bounded)
 
 pub loop-left-init : goal.loop-left-init
 loop-left-init g c =
-    let s = c.args.self.now in
-    let t = c.text.result.now in
     let line = c.line_before_utf16-line.result in
-    let here : place c.jump.new.self ≡ place_at t line.byte_idx = c.jump.ensures.moved ∙ ap (λ x. place_at x line.byte_idx) c.new-scanner.ensures.text in
+    let near = c.boundary_within-near in
+    let here : place c.jump.new.self ≡ place_at c.text-text.result.now (line.byte_idx + near.result.0) =
+    c.jump.ensures.moved ∙ ap (λ x. place_at x (line.byte_idx + near.result.0)) c.new-scanner.ensures.text in
+    let passed = near-units c.args.self.now c.text-text.result.now c.text-text.utf8 c.text-text.ensures c.args.utf16_idx line c.line_before_utf16-line.ensures c.range_from.result.now c.range_from.ensures.value near.result.0 near.result.1 near.ensures.boundary near.ensures.measured near.ensures.bounded in
     record {
-      found = ap (reach c.args.utf16_idx) here ∙ upto-reach s t c.text.utf8 c.text.ensures c.args.utf16_idx line c.line_before_utf16-line.ensures;
-      left = ap (λ n. c.args.utf16_idx - n) (sym (ap (λ p. units p.behind) here ∙ upto-units s t c.text.utf8 c.text.ensures c.args.utf16_idx line c.line_before_utf16-line.ensures));
-      not_over = ap (overshot c.args.utf16_idx) here ∙ upto-before s t c.text.utf8 c.text.ensures c.args.utf16_idx line c.line_before_utf16-line.ensures;
-      same_text = c.jump.ensures.same_text ∙ c.new-scanner.ensures.text ∙ c.text.ensures;
+      found = ap (reach c.args.utf16_idx) here ∙ near-reach c.args.self.now c.text-text.result.now c.text-text.utf8 c.text-text.ensures c.args.utf16_idx line c.line_before_utf16-line.ensures c.range_from.result.now c.range_from.ensures.value near.result.0 near.result.1 near.ensures.boundary near.ensures.measured near.ensures.bounded;
+      left = omega (arith, ap (λ p. units p.behind) here, passed);
+      not_over = ap (overshot c.args.utf16_idx) here ∙ near-before c.args.self.now c.text-text.result.now c.text-text.utf8 c.text-text.ensures c.args.utf16_idx line c.line_before_utf16-line.ensures c.range_from.result.now c.range_from.ensures.value near.result.0 near.result.1 near.ensures.boundary near.ensures.measured near.ensures.bounded;
+      same_text = c.jump.ensures.same_text ∙ c.new-scanner.ensures.text ∙ c.text-text.ensures;
     }
 
 pub returns-in_err-eat : goal.returns-in_err-eat
 returns-in_err-eat g c =
     let short : byte_at_utf16 c.args.self.now c.args.utf16_idx ≡ None =
-    utf16-short c.args.self.now c.text.result.now c.text.utf8 c.text.ensures c.args.utf16_idx (place c.loop-left.scanner) c.loop-left.invariant.found c.in_err-eat.ensures.next (omega (arith, c.loop-left-test.true, c.loop-left.invariant.left)) in
+    utf16-short c.args.self.now c.text-text.result.now c.text-text.utf8 c.text-text.ensures c.args.utf16_idx (place c.loop-left.scanner) c.loop-left.invariant.found c.in_err-eat.ensures.next (omega (arith, c.loop-left-test.true, c.loop-left.invariant.left)) in
     c.from_residual.ensures ∙ sym short
 
 pub returns-then-done : goal.returns-then-done
@@ -39,7 +47,7 @@ returns-then-done g c =
     let more = ap (λ p. units p.behind) c.in_ok-eat.ensures.moved ∙ units-moved p c.in_ok-eat.field-0 c.in_ok-eat.ensures.next in
     let on : reach c.args.utf16_idx q ≡ least_place c.args.self.now c.args.utf16_idx =
     ap (reach c.args.utf16_idx) c.in_ok-eat.ensures.moved ∙ reach-on c.args.utf16_idx p c.in_ok-eat.field-0 c.in_ok-eat.ensures.next (omega (arith, c.loop-left-test.true, c.loop-left.invariant.left)) ∙ c.loop-left.invariant.found in
-    sym (utf16-over c.args.self.now c.text.result.now c.text.utf8 c.text.ensures c.args.utf16_idx q on (none-from (scout 0 q) c.if-done.ensures) (omega (arith, more, c.if-units-left.true, c.utf16_len-units.ensures, c.loop-left.invariant.left, c.loop-left-test.true)))
+    sym (utf16-over c.args.self.now c.text-text.result.now c.text-text.utf8 c.text-text.ensures c.args.utf16_idx q on (none-from (scout 0 q) c.if-done.ensures) (omega (arith, more, c.if-units-left.true, c.utf16_len-units.ensures, c.loop-left.invariant.left, c.loop-left-test.true)))
 
 pub loop-left-preserved : goal.loop-left-preserved
 loop-left-preserved g c =
