@@ -95,7 +95,7 @@ impl Desk {
         Ok(())
     }
 
-    /// Where one types: at the front, at the end, behind a formula's dollar sign, or anywhere.
+    /// Where one types: at the front, at the end, before a formula's closing dollar sign, or anywhere.
     fn place(&self, random: &mut Random) -> usize {
         let text = self.source.text();
         let place = match random.below(8) {
@@ -147,8 +147,9 @@ impl Desk {
     fn ask(&self, at: usize, outcome: &mut Outcome) {
         let lines = self.source.lines();
         let digest = &mut outcome.digest;
-        digest.add_line_column(lines.byte_to_line_column(at));
-        if let Some((line, column)) = lines.byte_to_line_column(at) {
+        let position = lines.byte_to_line_column(at);
+        digest.add_line_column(position);
+        if let Some((line, column)) = position {
             digest.add_place(lines.line_column_to_byte(line, column));
         }
         if let Some(units) = lines.byte_to_utf16(at) {

@@ -70,7 +70,8 @@ fn first_leaf<'a>(root: LinkedNode<'a>, byte: usize) -> Option<LinkedNode<'a>> {
     }
 }
 
-/// Shows a leaf: its tag, its range, and what stands round it, and the tags of the nodes above it.
+/// Shows a leaf: its tag, its range, and what stands behind it, and the tags of up to three nodes above
+/// it that begin where it begins, since the others were shown with an earlier leaf.
 fn show(leaf: LinkedNode<'_>, digest: &mut Digest) {
     let range = leaf.range();
     digest.add_size(range.start);
@@ -82,6 +83,9 @@ fn show(leaf: LinkedNode<'_>, digest: &mut Digest) {
         match node.parent() {
             None => return,
             Some(parent) => node = parent,
+        }
+        if node.offset() < leaf.offset() {
+            return;
         }
         add_kind(digest, Some(node.kind()));
         digest.add_tag(highlight(&node));
