@@ -20,8 +20,7 @@ use typst_tree::LinkedNode;
 /// The tag of a node, or `None` if it has none of its own.
 ///
 /// Takes no memory. Of most kinds the kind tells the tag, in a constant time. The others ask by
-/// steps of `LinkedNode`, each of which goes through the children of the nodes above from the last known
-/// step of the node's way on:
+/// steps of `LinkedNode`, each of which goes through the children of each node above:
 /// - a parenthesis, a star, an underscore, a slash and an equals sign for the parent, and markup
 ///   also for the next sibling;
 /// - a hash for the next sibling, and then for what the first leaf of that asks for;
@@ -29,9 +28,8 @@ use typst_tree::LinkedNode;
 ///   the outermost field access and for the leaf before that, and where these don't tell, for the
 ///   two leaves before the name and for all that the name before the dot asks for.
 ///
-/// So a node whose way isn't known, as one that was found from the root, may take a time in proportion
-/// to its m siblings, and a name at the end of a chain `a.b.c` more than that. `highlight_html` asks once
-/// for all nodes of a tree, in one pass.
+/// So a node among m siblings may take a time in proportion to m, and a name at the end of a chain
+/// `a.b.c` more than that. `highlight_html` asks once for all nodes of a tree, in one pass.
 pub fn highlight(node: &LinkedNode) -> Option<Tag>
     ensures { result ≡ spec.tag_of (linked node.now) }
 {

@@ -8,16 +8,13 @@
 --   find, find_number from `ordered`     RisingNumbers: none_past, none_in_first, found_only
 --   is_ordered                           RisingNumbers: climb_on, climb_fails, decided
 -- For crates above: Inside.
-pub mod Climbs
 pub mod FindsOwnSpan
 pub mod Inside
 pub mod LastLeaf
 pub mod NodesOfStretch
-pub mod Parents
 pub mod PassesOver
 pub mod RisingNumbers
 pub mod Siblings
 pub mod Rows
 pub mod SingleNodes
 pub mod WalksInPreorder
-pub mod Ways

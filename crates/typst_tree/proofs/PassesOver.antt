@@ -23,13 +23,24 @@ no_leaf k n a t h =
     let fails : nat_le k m ≡ false = grind (arith, nat_tests, below) in
     rw fails refl)
 
+pub no_place_above : (k n a : ℕ) (f : Forest) → n + count f ≤ k → first_at (has_place k) n a (preorder f) ≡ None
+no_place_above k n a f h =
+    none_between (has_place k) n a (preorder f) (λ m b u l e. let below : m < k = omega (arith, h, e, length_preorder f) in grind (arith, nat_tests, below))
+
+pub no_leaf_above : (k n a : ℕ) (f : Forest) → n + count f ≤ k → first_at (is_leaf_from k) n a (preorder f) ≡ None
+no_leaf_above k n a f h =
+    none_between (is_leaf_from k) n a (preorder f) (λ m b u l e.
+    let below : m < k = omega (arith, h, e, length_preorder f) in
+    let fails : nat_le k m ≡ false = grind (arith, nat_tests, below) in
+    rw fails refl)
+
 pub no_number_below : (k n : ℕ) (f : Forest) → k < n → list_any (λ m. m == k) (numbers n f) ≡ false
 no_number_below k n none h = refl
 no_number_below k n (more g ks r) h =
     let fails : (n == k) ≡ false = grind (arith, nat_tests, h) in
     rw (fails, no_number_below k (n + 1 + count ks) r (omega (arith, h))) refl
 
-pub no_number_above : (k n : ℕ) (f : Forest) → n + count f ≤ k → list_any (λ m. m == k) (numbers n f) ≡ false
+no_number_above : (k n : ℕ) (f : Forest) → n + count f ≤ k → list_any (λ m. m == k) (numbers n f) ≡ false
 no_number_above k n none h = refl
 no_number_above k n (more g ks r) h =
     let below : n < k = omega (arith, h) in

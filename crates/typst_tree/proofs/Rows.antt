@@ -1,20 +1,11 @@
 -- Children that stand side by side.
-use Rattle.std.proofs.Common.{◌≡◌, ℕ, zero, suc, ◌+◌, ◌-◌, ◌<◌, ◌≤◌, ◌^◌, List, [], ◌∷◌, ◌++◌, length, take, drop, Some, None, refl, ap, sym, subst, ◌∙◌, arith, append-nil, length-append, get_or}
+use Rattle.std.proofs.Common.{◌≡◌, Bool, ℕ, zero, suc, ◌+◌, ◌-◌, ◌<◌, ◌≤◌, List, [], ◌∷◌, ◌++◌, length, take, drop, Some, None, ap, sym, ◌∙◌, arith, append-nil, length-append, get_or}
 use Rattle.std.specs.Prelude.{slice_get}
 use Rattle.std.proofs.lemmas.List.{take-append-drop, drop_more}
-use Rattle.std.proofs.lemmas.Option.{same_Some, none-some, slice_get_read}
-use Rattle.typst_node.specs.Tree.{Forest, none, more, Tree, forest, trees, count, nodes, places, preorder, joined, text_of, saturated}
-use Rattle.typst_node.proofs.SpansAside.{trees_forest}
-use Rattle.typst_tree.specs.Walks.{Stands, Within, texts, first_at, holds_byte}
-use Rattle.typst_tree.specs.Ways.{IsChild, IsTreeOf}
-use Rattle.std.proofs.Math.Seq.{take-add}
-use Rattle.typst_tree.specs.Lasts.{Covers}
-use Rattle.typst_tree.specs.declared.way.Way.{Way}
+use Rattle.typst_node.specs.Tree.{Tree, forest, count, nodes, places, preorder, joined, text_of, saturated}
+use Rattle.typst_tree.specs.Walks.{Within, texts, first_at}
 use Rattle.typst_tree.proofs.LastLeaf.{preorder_append}
-use Rattle.typst_tree.proofs.NodesOfStretch.{stands_row}
-use Rattle.typst_tree.proofs.WalksInPreorder.{length_preorder, length_places, texts_preorder, within_first, first_append}
-use Rattle.typst_tree.proofs.PassesOver.{no_byte_above}
-use Rattle.typst_tree.proofs.Parents.{count_split}
+use Rattle.typst_tree.proofs.WalksInPreorder.{length_preorder, texts_preorder, first_append, first_same}
 
 -- the children from the index i on lie within their parent, behind those before them
 pub row_within : (o : Tree) (n b m c i : ℕ) (xs : List Tree) → forest xs ≡ o.kids → m ≡ n + 1 + count (forest (take i xs)) → c ≡ saturated (b + length o.head.text + length (joined (forest (take i xs)))) → Within n b (places o) m c (preorder (forest (drop i xs)))
@@ -26,12 +17,6 @@ row_within o n b m c i xs e number offset =
       number = omega (arith, number, length_preorder (forest (take i xs)));
       offset = omega (arith, offset, length-append o.head.text (texts (preorder (forest (take i xs)))), ap length (texts_preorder (forest (take i xs))));
     }
-
--- and stand behind those before them
-pub row_stands : (root o : Tree) (n b i : ℕ) (xs : List Tree) → forest xs ≡ o.kids → Stands (places root) n b (places o) → Stands (places root) (n + 1 + count (forest (take i xs))) (saturated (b + length o.head.text + length (joined (forest (take i xs))))) (preorder (forest (drop i xs)))
-row_stands root o n b i xs e s =
-    stands_row (places root) n b (n + 1 + count (forest (take i xs))) (saturated (b + length o.head.text + length (joined (forest (take i xs))))) (places o) (preorder (forest (drop i xs))) s
-    (row_within o n b (n + 1 + count (forest (take i xs))) (saturated (b + length o.head.text + length (joined (forest (take i xs))))) i xs e refl refl)
 
 nothing_first : (x : Tree) (ys : List Tree) → [] ≡ x ∷ ys → ⊥
 nothing_first x ys e = let long : length {A = Tree} [] ≡ length (x ∷ ys) = ap length e in omega (arith, long)
@@ -69,162 +54,9 @@ first_of_row (z ∷ xs) (suc i) x ys e =
       within = omega (arith, w.within);
     }
 
--- the row from the index of a tree on begins with it
-pub row_from : (xs : List Tree) (i : ℕ) (x : Tree) → slice_get xs i ≡ Some x → drop i xs ≡ x ∷ drop (i + 1) xs
-row_from [] i x g = absurd (none-some x g)
-row_from (z ∷ xs) zero x g = ap (λ u. u ∷ xs) (same_Some z x g)
-row_from (z ∷ xs) (suc i) x g =
-    let next : suc (i + 1) ≡ suc i + 1 = omega arith in
-    row_from xs i x g ∙ ap (λ k. x ∷ drop k (z ∷ xs)) next
-
-pub index_counted : (f : Forest) (i : ℕ) → i ≤ length (trees f) → i ≤ count f
-index_counted none i h = omega (arith, h)
-index_counted (more g ks r) zero h = omega arith
-index_counted (more g ks r) (suc i) h = omega (arith, index_counted r i (omega (arith, h)))
-
--- a way covers what lies below what it covers
-pub covers_below : (w : Way) (n b : ℕ) (t : Tree) (m c : ℕ) (u : Tree) → Covers w n (nodes t) → Within n b (places t) m c (places u) → Covers w m (nodes u)
-covers_below w n b t m c u v i =
-    let whole : nodes t ≡ length i.front + (nodes u + length i.back) = omega (arith, ap length i.whole, length-append i.front (places u ++ i.back), length-append (places u) i.back, length_places t, length_places u) in
-    record {
-      from = λ s e. omega (arith, v.from s e, i.number);
-      to = λ s e. omega (arith, v.to s e, i.number, whole);
-    }
-
-pub covers_inside : (w : Way) (n : ℕ) (o : Tree) (m : ℕ) (t : Tree) → Covers w n (nodes o) → n ≤ m → m + nodes t ≤ n + nodes o → Covers w m (nodes t)
-covers_inside w n o m t v l h =
-    record {
-      from = λ s e. omega (arith, v.from s e, l);
-      to = λ s e. omega (arith, v.to s e, h);
-    }
-
--- and children
-pub covers_child : (w : Way) (n : ℕ) (o : Tree) (m : ℕ) (t : Tree) → Covers w n (nodes o) → n < m → m + nodes t ≤ n + nodes o → Covers w m (nodes t)
-covers_child w n o m t v l h = covers_inside w n o m t v (omega (arith, l)) h
-
--- a loop over the children of a node stands at one of them
-pub record Kid (root o : Tree) (n i : ℕ) (xs : List Tree) (x : Tree) (m c : ℕ) : Type 0 where
-  pub stands : Stands (places root) m c (places x)
-  pub child : IsChild o n x m i
-  pub counted : count (forest (take (i + 1) xs)) ≡ count (forest (take i xs)) + nodes x
-  pub long : length (joined (forest (take (i + 1) xs))) ≡ length (joined (forest (take i xs))) + length (text_of x)
-  pub within : m + nodes x ≤ n + nodes o
-  pub index : i < nodes o
-
-pub kid_of : (root o : Tree) (n b i : ℕ) (xs : List Tree) (x : Tree) (m c : ℕ) → forest xs ≡ o.kids → Stands (places root) n b (places o) → slice_get xs i ≡ Some x → m ≡ n + 1 + count (forest (take i xs)) → c ≡ saturated (b + length o.head.text + length (joined (forest (take i xs)))) → Kid root o n i xs x m c
-kid_of root o n b i xs x m c e s g p q =
-    let row : drop i xs ≡ x ∷ drop (i + 1) xs = row_from xs i x g in
-    let w = first_of_row xs i x (drop (i + 1) xs) row in
-    let same : trees o.kids ≡ xs = sym (ap trees e) ∙ trees_forest xs in
-    let stands : Stands (places root) m c (preorder (forest (drop i xs))) = rw (p, q) (row_stands root o n b i xs e s) in
-    let first : Stands (places root) m c (preorder (forest (x ∷ drop (i + 1) xs))) = subst (λ ys. Stands (places root) m c (preorder (forest ys))) row stands in
-    let here : slice_get (trees o.kids) i ≡ Some x = ap (λ ys. slice_get ys i) same ∙ w.here in
-    let number : m ≡ n + 1 + count (forest (take i (trees o.kids))) = p ∙ ap (λ ys. n + 1 + count (forest (take i ys))) (sym same) in
-    record {
-      stands = stands_row (places root) m c m c (preorder (forest (x ∷ drop (i + 1) xs))) (places x) first (within_first m c x (drop (i + 1) xs) (omega (arith, q)));
-      child = record { here = here; number = number };
-      counted = w.counted;
-      long = w.long;
-      within = omega (arith, number, count_split o.kids i x here);
-      index = omega (arith, w.within, ap length same, index_counted o.kids (i + 1) (omega (arith, w.within, ap length same)));
-    }
-
-pub kid_at : (root o : Tree) (n b i : ℕ) (xs : List Tree) (x : Tree) (m c : ℕ) → forest xs ≡ o.kids → Stands (places root) n b (places o) → x ≡ get_or xs i x → i < length xs → m ≡ n + 1 + count (forest (take i xs)) → c ≡ saturated (b + length o.head.text + length (joined (forest (take i xs)))) → Kid root o n i xs x m c
-kid_at root o n b i xs x m c e s g l p q =
-    kid_of root o n b i xs x m c e s (slice_get_read xs (length xs) i x refl l g) p q
-
 pub count_append : (xs ys : List Tree) → count (forest (xs ++ ys)) ≡ count (forest xs) + count (forest ys)
 count_append [] ys = omega arith
 count_append (x ∷ xs) ys = omega (arith, count_append xs ys)
-
-long_append : (xs ys : List Tree) → length (joined (forest (xs ++ ys))) ≡ length (joined (forest xs)) + length (joined (forest ys))
-long_append [] ys = omega arith
-long_append (x ∷ xs) ys =
-    omega (arith, long_append xs ys, length-append x.head.text (joined x.kids ++ joined (forest (xs ++ ys))), length-append (joined x.kids) (joined (forest (xs ++ ys))), length-append x.head.text (joined x.kids ++ joined (forest xs)), length-append (joined x.kids) (joined (forest xs)))
-
-get_drop : (xs : List Tree) (i j : ℕ) → slice_get (drop i xs) j ≡ slice_get xs (i + j)
-get_drop xs zero j = let same : j ≡ 0 + j = omega arith in ap (slice_get xs) same
-get_drop [] (suc i) j = refl
-get_drop (x ∷ xs) (suc i) j =
-    let same : suc (i + j) ≡ suc i + j = omega arith in
-    get_drop xs i j ∙ ap (slice_get (x ∷ xs)) same
-
-abbrev Starts : ℕ → Tree → ℕ → ℕ → List Tree → Type 0
-Starts b o c i xs = saturated (b + length o.head.text + length (joined (forest (take i xs)))) ≡ c
-
--- what stands beside a child: where the children behind it begin, and how far they go
-pub record Beside (root o : Tree) (n b : ℕ) (t : Tree) (m c i : ℕ) (xs : List Tree) : Type 0 where
-  pub within : i < length xs
-  pub index : length xs ≤ count o.kids
-  pub number : m ≡ n + 1 + count (forest (take i xs))
-  pub start : Starts b o c i xs
-  pub counted : m + nodes t + count (forest (drop (i + 1) xs)) ≡ n + nodes o
-  pub behind : Stands (places root) (m + nodes t) (saturated (c + length (text_of t))) (preorder (forest (drop (i + 1) xs)))
-
-pub beside : (root o : Tree) (n b : ℕ) (t : Tree) (m c i : ℕ) (xs : List Tree) → forest xs ≡ o.kids → Stands (places root) n b (places o) → IsChild o n t m i → Stands (places root) m c (places t) → Beside root o n b t m c i xs
-beside root o n b t m c i xs e s child here =
-    let same : trees o.kids ≡ xs = sym (ap trees e) ∙ trees_forest xs in
-    let get : slice_get xs i ≡ Some t = ap (λ ys. slice_get ys i) (sym same) ∙ child.here in
-    let row : drop i xs ≡ t ∷ drop (i + 1) xs = row_from xs i t get in
-    let w = first_of_row xs i t (drop (i + 1) xs) row in
-    let number : m ≡ n + 1 + count (forest (take i xs)) = child.number ∙ ap (λ ys. n + 1 + count (forest (take i ys))) same in
-    let start = row_stands root o n b i xs e s in
-    let offset : saturated (b + length o.head.text + length (joined (forest (take i xs)))) ≡ c = start.begins ∙ (ap (λ j. saturated (length (texts (take j (places root))))) (sym number) ∙ sym here.begins) in
-    let next = row_stands root o n b (i + 1) xs e s in
-    let first : n + 1 + count (forest (take (i + 1) xs)) ≡ m + nodes t = omega (arith, number, w.counted) in
-    let second : saturated (b + length o.head.text + length (joined (forest (take (i + 1) xs)))) ≡ saturated (c + length (text_of t)) = omega (arith, offset, w.long) in
-    record {
-      within = w.within;
-      index = omega (arith, index_counted o.kids (length xs) (omega (arith, ap length same)));
-      number = number;
-      start = offset;
-      counted = omega (arith, number, w.counted, ap count e, count_append (take (i + 1) xs) (drop (i + 1) xs), ap (λ ys. count (forest ys)) (take-append-drop (i + 1) xs));
-      behind = rw (sym first, sym second) next;
-    }
-
--- a tree of the row behind a child is a child
-pub kid_behind : (root o : Tree) (n b : ℕ) (t : Tree) (m c i : ℕ) (xs : List Tree) (j : ℕ) (x : Tree) (k d p : ℕ) → forest xs ≡ o.kids → Stands (places root) n b (places o) → IsChild o n t m i → Stands (places root) m c (places t) → p ≡ saturated (c + length (text_of t)) → IsTreeOf (drop (i + 1) xs) (m + nodes t) p x k d j → Kid root o n (i + 1 + j) xs x k d
-kid_behind root o n b t m c i xs j x k d p e s child here q tree =
-    let same : trees o.kids ≡ xs = sym (ap trees e) ∙ trees_forest xs in
-    let get : slice_get xs i ≡ Some t = ap (λ ys. slice_get ys i) (sym same) ∙ child.here in
-    let w = first_of_row xs i t (drop (i + 1) xs) (row_from xs i t get) in
-    let number : m ≡ n + 1 + count (forest (take i xs)) = child.number ∙ ap (λ ys. n + 1 + count (forest (take i ys))) same in
-    let start = row_stands root o n b i xs e s in
-    let offset : saturated (b + length o.head.text + length (joined (forest (take i xs)))) ≡ c = start.begins ∙ (ap (λ j. saturated (length (texts (take j (places root))))) (sym number) ∙ sym here.begins) in
-    let more = take-add (i + 1) j xs in
-    let counts : count (forest (take (i + 1 + j) xs)) ≡ count (forest (take (i + 1) xs)) + count (forest (take j (drop (i + 1) xs))) = ap (λ ys. count (forest ys)) more ∙ count_append (take (i + 1) xs) (take j (drop (i + 1) xs)) in
-    let longs : length (joined (forest (take (i + 1 + j) xs))) ≡ length (joined (forest (take (i + 1) xs))) + length (joined (forest (take j (drop (i + 1) xs)))) = ap (λ ys. length (joined (forest ys))) more ∙ long_append (take (i + 1) xs) (take j (drop (i + 1) xs)) in
-    kid_of root o n b (i + 1 + j) xs x k d e s (sym (get_drop xs (i + 1) j) ∙ tree.here)
-    (omega (arith, tree.number, number, w.counted, counts))
-    (omega (arith, tree.offset, q, offset, w.long, longs))
-
--- a loop from the back over the children of a node goes on to the one before
-pub record StepBack (root o : Tree) (n b i : ℕ) (xs : List Tree) (x : Tree) (k p d l : ℕ) : Type 0 where
-  pub kid : Kid root o n (i - 1) xs x (k - d) (p - l)
-  pub counts : d ≤ k
-  pub reaches : l ≤ p
-  pub number : k - d ≡ n + 1 + count (forest (take (i - 1) xs))
-  pub offset : p - l ≡ b + length o.head.text + length (joined (forest (take (i - 1) xs)))
-
-pub step_back : (root o : Tree) (n b i : ℕ) (xs : List Tree) (x : Tree) (k p d l : ℕ) → forest xs ≡ o.kids → Stands (places root) n b (places o) → 0 < i → i ≤ length xs → x ≡ get_or xs (i - 1) x → k ≡ n + 1 + count (forest (take i xs)) → p ≡ b + length o.head.text + length (joined (forest (take i xs))) → d ≡ saturated (nodes x) → l ≡ saturated (length (text_of x)) → k < 2 ^ 64 → p < 2 ^ 64 → StepBack root o n b i xs x k p d l
-step_back root o n b i xs x k p d l e s low high g number offset f h counted long =
-    let short : i - 1 < length xs = omega (arith, low, high) in
-    let row : drop (i - 1) xs ≡ x ∷ drop (i - 1 + 1) xs = drop_more xs (i - 1) x short ∙ ap (λ y. y ∷ drop (i - 1 + 1) xs) (sym g) in
-    let w = first_of_row xs (i - 1) x (drop (i - 1 + 1) xs) row in
-    let next : i - 1 + 1 ≡ i = omega (arith, low) in
-    let counts : count (forest (take i xs)) ≡ count (forest (take (i - 1) xs)) + nodes x = ap (λ j. count (forest (take j xs))) (sym next) ∙ w.counted in
-    let longs : length (joined (forest (take i xs))) ≡ length (joined (forest (take (i - 1) xs))) + length (text_of x) = ap (λ j. length (joined (forest (take j xs)))) (sym next) ∙ w.long in
-    let exact : d ≡ nodes x = omega (arith, f, counts, number, counted) in
-    let whole : l ≡ length (text_of x) = omega (arith, h, longs, offset, long) in
-    let first : k - d ≡ n + 1 + count (forest (take (i - 1) xs)) = omega (arith, exact, counts, number) in
-    let second : p - l ≡ b + length o.head.text + length (joined (forest (take (i - 1) xs))) = omega (arith, whole, longs, offset) in
-    record {
-      kid = kid_of root o n b (i - 1) xs x (k - d) (p - l) e s w.here first (omega (arith, second, long));
-      counts = omega (arith, exact, counts, number);
-      reaches = omega (arith, whole, longs, offset);
-      number = first;
-      offset = second;
-    }
 
 -- a loop from the back over a row goes on to the tree before
 pub record Prior (xs : List Tree) (i : ℕ) (x : Tree) : Type 0 where
@@ -242,11 +74,11 @@ prior xs i x low high g =
       longs = ap (λ j. length (joined (forest (take j xs)))) (sym next) ∙ w.long;
     }
 
--- trees that end before a byte or at it are passed over
-pub passed_front : (b n a i m c : ℕ) (xs : List Tree) → m ≡ n + count (forest (take i xs)) → c ≡ a + length (joined (forest (take i xs))) → c ≤ b → c < 2 ^ 64 → first_at (holds_byte b) n a (preorder (forest xs)) ≡ first_at (holds_byte b) m c (preorder (forest (drop i xs)))
-passed_front b n a i m c xs number offset h fits =
+-- where nothing is found in trees that are passed over, what is found is in those behind them
+pub passed_front : (p : ℕ → ℕ → Tree → Bool) (n a i m c : ℕ) (xs : List Tree) → m ≡ n + count (forest (take i xs)) → c ≡ saturated (a + length (joined (forest (take i xs)))) → first_at p n a (preorder (forest (take i xs))) ≡ None → first_at p n a (preorder (forest xs)) ≡ first_at p m c (preorder (forest (drop i xs)))
+passed_front p n a i m c xs number offset nothing =
     let whole : preorder (forest xs) ≡ preorder (forest (take i xs)) ++ preorder (forest (drop i xs)) = ap (λ ys. preorder (forest ys)) (sym (take-append-drop i xs)) ∙ preorder_append (take i xs) (drop i xs) in
-    let nothing : first_at (holds_byte b) n a (preorder (forest (take i xs))) ≡ None = no_byte_above b n a (forest (take i xs)) (omega (arith, offset, h, fits)) in
     let first : n + length (preorder (forest (take i xs))) ≡ m = omega (arith, number, length_preorder (forest (take i xs))) in
-    let second : a + length (texts (preorder (forest (take i xs)))) ≡ c = omega (arith, offset, ap length (texts_preorder (forest (take i xs)))) in
-    ap (first_at (holds_byte b) n a) whole ∙ (first_append (holds_byte b) n a (preorder (forest (take i xs))) (preorder (forest (drop i xs))) ∙ rw (nothing, first, second) refl)
+    ap (first_at p n a) whole
+    ∙ (first_append p n a (preorder (forest (take i xs))) (preorder (forest (drop i xs)))
+    ∙ rw (nothing, first) (first_same p m (a + length (texts (preorder (forest (take i xs))))) c (preorder (forest (drop i xs))) (omega (arith, offset, ap length (texts_preorder (forest (take i xs)))))))

@@ -1,8 +1,6 @@
-pub mod Climbs
-pub mod Lasts
 pub mod Linked
 pub mod Ordered
+pub mod Passed
 pub mod Steps
 pub mod Walks
 pub mod Wanted
-pub mod Ways

@@ -4,7 +4,6 @@
 mod linked;
 mod order;
 mod search;
-mod way;
 
 pub use linked::{LinkedChildren, LinkedNode};
 pub use order::is_ordered;

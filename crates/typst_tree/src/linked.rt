@@ -1,29 +1,23 @@
 //! Nodes with what stands round them.
 
-ghost use Rattle.std.specs.Prelude.{◌≡◌, ◌+◌, ◌^◌, ◌<◌, ◌-◌, ◌≤◌, true, drop, take};
-ghost use Rattle.typst_node.specs.Tree.{nodes, forest, places, preorder, trees, count};
+ghost use Rattle.std.specs.Prelude.{◌≡◌, ◌^◌, ◌<◌, ◌-◌, true};
+ghost use Rattle.typst_node.specs.Tree.{nodes, forest, places, preorder};
 ghost use Rattle.typst_node.specs.Order.{AreInOrder, numbers_of};
 ghost use Rattle.typst_tree.specs.Walks.{Stands};
-ghost use Rattle.typst_tree.specs.Lasts.{Covers};
 
 use crate::order::find_in;
-use crate::search::{Search, Spot, first_in_row, from_index, last_leaf_in};
-use crate::way::{KEPT, Step, Way};
+use crate::search::{Search, last_leaf_in};
 use std::ops::Range;
 use typst_kinds::{Span, SpanNumber, SyntaxKind};
 use typst_node::SyntaxNode;
 
 /// A node of a tree, with the way to its parent, its siblings and the leaves next to it.
 ///
-/// It holds the tree's root, the node, the node's number in the root's preorder, its offset, whether
-/// the tree's numbers are known to be in order, and of the way from the root the first steps, as far as
-/// they are known: 248 bytes, `Copy`, and no memory is taken. What reads the node itself takes a
-/// constant time. A step upwards or sideways goes from the last known step of the way; each says
-/// what it goes through. To go through a node means a constant time, and what a step says it passes
-/// over is never looked into.
-///
-/// Up to five steps below the root are kept. From a child that `children` gave, and from what a step
-/// from there leads to, they are known, but for those below the child in which a search found a node.
+/// It holds the tree's root, the node, the node's number in the root's preorder, its offset, and
+/// whether the tree's numbers are known to be in order: 40 bytes, `Copy`, and no memory is taken.
+/// What reads the node itself takes a constant time. A step upwards or sideways walks down from
+/// the root, a step downwards from the node; each says what it goes through. To go through a
+/// node means a constant time, and what a step says it passes over is never looked into.
 #[derive(Clone, Copy)]
 pub struct LinkedNode<'a> {
     root: &'a SyntaxNode,
@@ -31,12 +25,9 @@ pub struct LinkedNode<'a> {
     number: usize,
     offset: usize,
     in_order: bool,
-    way: Way<'a>,
     ghost counted: { nodes root.now < 2 ^ 64 - 1 },
     ghost stands: { Stands (places root.now) number offset (places node.now) },
     ghost ordered: { in_order ≡ true → AreInOrder (numbers_of root.now) },
-    ghost rooted: { way.root.now ≡ root.now },
-    ghost covers: { Covers way number (nodes node.now) },
 }
 
 /// The children of a node that are still to come, each as a linked node.
@@ -46,32 +37,18 @@ pub struct LinkedChildren<'a> {
     rest: &'a [SyntaxNode],
     number: usize,
     offset: usize,
-    index: usize,
-    parent: LinkedNode<'a>,
+    in_order: bool,
     ghost counted: { nodes root.now < 2 ^ 64 - 1 },
     ghost stands: { Stands (places root.now) number offset (preorder (forest rest.now)) },
-    ghost rooted: { parent.root.now ≡ root.now },
-    ghost row: { rest.now ≡ drop index (trees parent.node.now.kids) },
-    ghost before: { number ≡ parent.number + 1 + count (forest (take index (trees parent.node.now.kids))) },
-}
-
-/// The parent of a node, and which of its children the node is, from 0 on.
-#[derive(Clone, Copy)]
-struct Above<'a> {
-    parent: LinkedNode<'a>,
-    index: usize,
+    ghost ordered: { in_order ≡ true → AreInOrder (numbers_of root.now) },
 }
 
 impl<'a> LinkedNode<'a> {
-    ghost use Rattle.std.specs.Prelude.{◌≡◌, ◌+◌, ◌^◌, ◌<◌, ◌≤◌, ◌-◌, true, false, find, drop, Some, IfSome, MatchOption};
+    ghost use Rattle.std.specs.Prelude.{◌≡◌, ◌^◌, ◌<◌, ◌-◌};
     ghost use Rattle.std.specs.Option.{option_map};
-    ghost use Rattle.typst_node.specs.Tree.{nodes, places};
+    ghost use Rattle.typst_node.specs.Tree.{nodes};
     ghost use Rattle.typst_node.specs.Order.{AreInOrder, numbers_of};
     ghost use Rattle.typst_kinds.specs.Kinds.{is_hash_expr};
-    ghost use Rattle.typst_tree.specs.Walks.{Stands, Within, last_leaf};
-    ghost use Rattle.typst_tree.specs.Ways.{IsChild};
-    ghost use Rattle.typst_tree.specs.Lasts.{last_of, Covers, Ends};
-    ghost use Rattle.typst_tree.specs.Climbs.{IsAbove, leaf_after, leaf_until, parent_of};
     ghost use Rattle.typst_tree.specs.Wanted.{wanted};
     ghost use Rattle.typst_tree.specs.Steps.{at, node_of, kind_of, offset_of, end_of, first_below, parent, children, is_sibling_after, next_sibling, prev_leaf, next_leaf, leftmost_leaf, leaf_at, find_span, find_number, FindsOwn};
     ghost use Rattle.typst_tree.specs.Linked.{linked, left};
@@ -106,156 +83,14 @@ impl<'a> LinkedNode<'a> {
             number: 0,
             offset: 0,
             in_order,
-            way: Way::new(root),
         }
     }
 
-    /// Whether the way that is known ends in this node.
-    fn is_reached(&self) -> bool
-        ensures ends { result ≡ true → Ends self.now.way self.now.number }
-        ensures apart { result ≡ false → (s : Step) → last_of self.now.way ≡ Some s → s.number ≡ self.now.number → ⊥ }
+    /// The root of this node's tree.
+    fn top(self) -> LinkedNode<'a>
+        ensures { linked result ≡ at (linked self.entry).root 0 }
     {
-        let last = self.way.last();
-        last.number == self.number
-    }
-
-    /// The way to a child of this node.
-    fn way_to(self, step: Step<'a>) -> Way<'a>
-        requires stands { Stands (places self.root.now) step.number step.offset (places step.node.now) }
-        requires child { IsChild self.node.now self.number step.node.now step.number step.index }
-        ensures root { result.root.now ≡ self.entry.root.now }
-        ensures covers { Covers result step.entry.number (nodes step.entry.node.now) }
-    {
-        if self.is_reached() {
-            self.way.down(step)
-        } else {
-            self.way
-        }
-    }
-
-    /// A child of this node.
-    fn child(self, step: Step<'a>) -> LinkedNode<'a>
-        requires stands { Stands (places self.root.now) step.number step.offset (places step.node.now) }
-        requires child { IsChild self.node.now self.number step.node.now step.number step.index }
-        ensures root { result.root.now ≡ self.entry.root.now }
-        ensures number { result.number ≡ step.entry.number }
-        ensures offset { result.offset ≡ step.entry.offset }
-        ensures node { result.node.now ≡ step.entry.node.now }
-    {
-        LinkedNode {
-            root: self.root,
-            node: step.node,
-            number: step.number,
-            offset: step.offset,
-            in_order: self.in_order,
-            way: self.way_to(step),
-        }
-    }
-
-    /// This node, or one below it.
-    fn below(self, spot: Spot<'a>) -> LinkedNode<'a>
-        requires { Within self.number self.offset (places self.node.now) spot.number spot.offset (places spot.node.now) }
-        ensures { linked result ≡ at (linked self.entry).root spot.entry.number }
-    {
-        LinkedNode {
-            root: self.root,
-            node: spot.node,
-            number: spot.number,
-            offset: spot.offset,
-            in_order: self.in_order,
-            way: self.way,
-        }
-    }
-
-    /// The last node of the way that is known: this one, or one that it is below.
-    fn base(self) -> LinkedNode<'a>
-        ensures root { result.root.now ≡ self.entry.root.now }
-        ensures ends { Ends result.way result.number }
-        ensures last { (s : Step) → last_of self.entry.way ≡ Some s → s.number ≡ result.number }
-        ensures from { result.number ≤ self.entry.number }
-        ensures to { self.entry.number + nodes self.entry.node.now ≤ result.number + nodes result.node.now }
-    {
-        let last = self.way.last();
-        LinkedNode {
-            root: self.root,
-            node: last.node,
-            number: last.number,
-            offset: last.offset,
-            in_order: self.in_order,
-            way: self.way,
-        }
-    }
-
-    /// The child that has the node with this number in it, itself counted.
-    fn child_over(self, number: usize) -> Option<LinkedNode<'a>>
-        ensures { IfSome result (λ c. (c.root.now ≡ self.entry.root.now) × (c.number ≤ number) × (number < c.number + nodes c.node.now)) }
-    {
-        let mut at = self.number + 1;
-        let mut begin = self.offset.saturating_add(self.node.leaf_text().len());
-        let mut index = 0usize;
-        for kid in self.node.children() {
-            let end = at + kid.descendants();
-            if at <= number && number < end {
-                return Some(self.child(Step {
-                    node: kid,
-                    number: at,
-                    offset: begin,
-                    index,
-                }));
-            }
-            at = end;
-            begin = begin.saturating_add(kid.len());
-            index += 1;
-        }
-        None
-    }
-
-    /// The same node, with as much of its way as is kept.
-    fn reached(self) -> LinkedNode<'a>
-        ensures root { result.root.now ≡ self.entry.root.now }
-        ensures number { result.number ≡ self.entry.number }
-        ensures node { result.node.now ≡ self.entry.node.now }
-        ensures offset { result.offset ≡ self.entry.offset }
-    {
-        let mut over = self.base();
-        for _ in 1..KEPT {
-            if over.number == self.number || !over.way.has_room() {
-                break;
-            }
-            match over.child_over(self.number) {
-                None => break,
-                Some(child) => over = child,
-            }
-        }
-        LinkedNode {
-            root: self.root,
-            node: self.node,
-            number: self.number,
-            offset: self.offset,
-            in_order: self.in_order,
-            way: over.way,
-        }
-    }
-
-    /// The parent of the node that its way ends in; none at the root.
-    fn above(self) -> Option<Above<'a>>
-        requires { Ends self.way self.number }
-        ensures { MatchOption result (self.entry.number ≡ 0) (λ above. IsAbove self.entry above) }
-    {
-        let index = self.way.last().index;
-        let way = self.way.up()?;
-        let last = way.last();
-        Some(Above {
-            parent: LinkedNode {
-                root: self.root,
-                node: last.node,
-                number: last.number,
-                offset: last.offset,
-                in_order: self.in_order,
-                way,
-            },
-            index,
-        })
+        LinkedNode::at_root(self.root, self.in_order)
     }
 
     /// The node itself.
@@ -308,30 +143,21 @@ impl<'a> LinkedNode<'a> {
     {
         match find_in(self.node, self.number, self.offset, search, self.in_order) {
             None => None,
-            Some(spot) => Some(self.below(spot)),
+            Some(spot) => Some(LinkedNode {
+                root: self.root,
+                node: spot.node,
+                number: spot.number,
+                offset: spot.offset,
+                in_order: self.in_order,
+            }),
         }
     }
 
-    /// The parent, or `None` at the root. Goes through the children of each node above this one, from
-    /// the last known step of its way on.
+    /// The parent, or `None` at the root. Goes through the children of each node above this one.
     pub fn parent(self) -> Option<LinkedNode<'a>>
         ensures { option_map linked result ≡ parent (linked self.entry) }
     {
-        let node = self.reached();
-        if !node.is_reached() {
-            return node.base().first(&Search::ParentOf(self.number));
-        }
-        LinkedNode::parent_in(node.above())
-    }
-
-    /// The parent, where there is one.
-    fn parent_in(above: Option<Above<'a>>) -> Option<LinkedNode<'a>>
-        ensures { option_map linked result ≡ option_map parent_of above.entry }
-    {
-        match above {
-            None => None,
-            Some(Above { parent, index: _ }) => Some(parent),
-        }
+        self.top().first(&Search::ParentOf(self.number))
     }
 
     /// The parent's kind, or `None` at the root. Takes what `parent` takes.
@@ -346,94 +172,24 @@ impl<'a> LinkedNode<'a> {
 
     /// The first leaf that is neither trivia nor an error behind this node and all below it.
     ///
-    /// Goes through the children of each node above this one, from the last known step of its way on,
-    /// and the nodes from the end of this one to the leaf. What ends before that is passed over.
+    /// Goes through the children of each node above this one, and the nodes from the end of this
+    /// one to the leaf. What ends before that is passed over.
     pub fn next_leaf(self) -> Option<LinkedNode<'a>>
         ensures { option_map linked result ≡ next_leaf (linked self.entry) }
     {
         let end = self.number + self.node.descendants();
-        let mut inner = self.reached().base();
-        if let Some(leaf) = inner.first(&Search::LeafFrom(end)) {
-            return Some(leaf);
-        }
-        while let Some(above) = inner.above() {
-            if let Some(leaf) = inner.leaf_behind(above) {
-                return Some(leaf);
-            }
-            inner = above.parent;
-        }
-        None
-    }
-
-    /// The first leaf that counts behind this node, in its parent.
-    fn leaf_behind(self, above: Above<'a>) -> Option<LinkedNode<'a>>
-        requires { IsAbove self above }
-        ensures { MatchOption result (leaf_after self.entry.root.now (self.entry.number + nodes self.entry.node.now) ≡ leaf_after self.entry.root.now (above.entry.parent.number + nodes above.entry.parent.node.now)) (λ leaf. leaf_after self.entry.root.now (self.entry.number + nodes self.entry.node.now) ≡ Some (linked leaf)) }
-    {
-        let index = above.index + 1;
-        let behind = from_index(above.parent.node.children(), index);
-        let number = self.number + self.node.descendants();
-        let offset = self.offset.saturating_add(self.node.len());
-        let found = first_in_row(behind, number, offset, &Search::LeafFrom(0))?;
-        let kid = above.parent.child(Step {
-            node: found.tree.node,
-            number: found.tree.number,
-            offset: found.tree.offset,
-            index: index + found.index,
-        });
-        Some(kid.below(found.spot))
+        self.top().first(&Search::LeafFrom(end))
     }
 
     /// The last leaf that is neither trivia nor an error before this node.
     ///
-    /// Goes through the children of each node above this one, from the last known step of its way on,
-    /// and of each above the leaf, and the nodes from the leaf to this one.
+    /// Goes through the children of each node above this one and above the leaf, and the nodes
+    /// from the leaf to this one.
     pub fn prev_leaf(self) -> Option<LinkedNode<'a>>
         ensures { option_map linked result ≡ prev_leaf (linked self.entry) }
     {
-        let mut inner = self.reached().base();
-        if let Some(number) = last_leaf_in(inner.node, inner.number, self.number) {
-            return inner.first(&Search::Place(number));
-        }
-        while let Some(above) = inner.above() {
-            if let Some(leaf) = inner.leaf_before(above) {
-                return Some(leaf);
-            }
-            inner = above.parent;
-        }
-        None
-    }
-
-    /// The last leaf that counts before this node, in its parent.
-    fn leaf_before(self, above: Above<'a>) -> Option<LinkedNode<'a>>
-        requires { IsAbove self above }
-        ensures { MatchOption result (leaf_until self.entry.root.now self.entry.number ≡ leaf_until self.entry.root.now above.entry.parent.number) (λ leaf. leaf_until self.entry.root.now self.entry.number ≡ Some (linked leaf)) }
-    {
-        let parent = above.parent;
-        if self.offset == usize::MAX {
-            let number = last_leaf_in(parent.node, parent.number, self.number)?;
-            return parent.first(&Search::Place(number));
-        }
-        let row = parent.node.children();
-        let mut at = self.number;
-        let mut begin = self.offset;
-        let mut i = above.index;
-        while i > 0 {
-            i -= 1;
-            let kid = &row[i];
-            at -= kid.descendants();
-            begin -= kid.len();
-            if let Some(number) = last_leaf_in(kid, at, self.number) {
-                let kid = parent.child(Step {
-                    node: kid,
-                    number: at,
-                    offset: begin,
-                    index: i,
-                });
-                return kid.first(&Search::Place(number));
-            }
-        }
-        None
+        let number = last_leaf_in(self.root, 0, self.number)?;
+        self.top().first(&Search::Place(number))
     }
 
     /// The first leaf that is neither trivia nor an error, among this node and those below it.
@@ -481,8 +237,7 @@ impl<'a> LinkedNode<'a> {
             rest: self.node.children(),
             number: self.number + 1,
             offset: self.offset.saturating_add(self.node.leaf_text().len()),
-            index: 0,
-            parent: self,
+            in_order: self.in_order,
         }
     }
 
@@ -493,45 +248,17 @@ impl<'a> LinkedNode<'a> {
         self.number < child.number && !child.kind().is_trivia()
     }
 
-    /// The next sibling that is no trivia. Goes through the children of each node above this one, from
-    /// the last known step of its way on, and from there through the siblings up to that one.
+    /// The next sibling that is no trivia. Goes through the children of each node above this one.
     pub fn next_sibling(self) -> Option<LinkedNode<'a>>
         ensures { option_map linked result ≡ next_sibling (linked self.entry) }
     {
-        let node = self.reached();
-        if node.is_reached() {
-            let above = node.above()?;
-            return node.next_among(node.row(above));
-        }
-        let parent = node.parent()?;
-        node.next_among(parent.children())
-    }
-
-    /// The first of some siblings that comes after this node and is no trivia.
-    fn next_among(self, row: LinkedChildren<'a>) -> Option<LinkedNode<'a>>
-        ensures { option_map linked result ≡ find (is_sibling_after (linked self.entry)) (left row.entry) }
-    {
-        for child in row {
+        let parent = self.parent()?;
+        for child in parent.children() {
             if self.is_before(child) {
                 return Some(child);
             }
         }
         None
-    }
-
-    /// The node and its siblings behind it.
-    fn row(self, above: Above<'a>) -> LinkedChildren<'a>
-        requires { IsAbove self above }
-        ensures { left result ≡ drop above.entry.index (children (linked above.entry.parent)) }
-    {
-        LinkedChildren {
-            root: self.root,
-            rest: from_index(above.parent.node.children(), above.index),
-            number: self.number,
-            offset: self.offset,
-            index: above.index,
-            parent: above.parent,
-        }
     }
 
     /// The kind of the next sibling that is no trivia. Takes what `next_sibling` takes.
@@ -557,19 +284,19 @@ impl<'a> Iterator for LinkedChildren<'a> {
 
     fn next(&mut self) -> Option<LinkedNode<'a>> {
         let (node, rest) = self.rest.split_first()?;
-        let child = self.parent.child(Step {
+        let child = LinkedNode {
+            root: self.root,
             node,
             number: self.number,
             offset: self.offset,
-            index: self.index,
-        });
+            in_order: self.in_order,
+        };
         *self = LinkedChildren {
             root: self.root,
             rest,
             number: self.number + node.descendants(),
             offset: self.offset.saturating_add(node.len()),
-            index: self.index + 1,
-            parent: self.parent,
+            in_order: self.in_order,
         };
         Some(child)
     }

@@ -3,7 +3,7 @@
 ghost use Rattle.std.specs.Prelude.{◌≡◌, ◌+◌, ◌^◌, ◌<◌, ◌≤◌, ◌-◌, true, length, IfSome, IsTrue, ◌↔◌};
 ghost use Rattle.std.specs.Option.{option_map};
 ghost use Rattle.typst_node.specs.Tree.{nodes, places, forest, count, joined, saturated};
-ghost use Rattle.typst_tree.specs.Ways.{IsPassed};
+ghost use Rattle.typst_tree.specs.Passed.{IsPassed};
 ghost use Rattle.typst_node.specs.Order.{AreInOrder, numbers_of};
 ghost use Rattle.typst_tree.specs.Walks.{first_at, Within};
 ghost use Rattle.typst_tree.specs.Wanted.{wanted};

@@ -2,8 +2,8 @@
 
 ghost use Rattle.std.specs.Prelude.{◌≡◌, ◌+◌, ◌^◌, ◌<◌, ◌-◌, ◌≤◌, true, None, length, drop, IfSome, IsTrue, ◌↔◌};
 ghost use Rattle.std.specs.Option.{option_map};
-ghost use Rattle.typst_node.specs.Tree.{nodes, places, forest, count, preorder, joined, saturated};
-ghost use Rattle.typst_tree.specs.Ways.{IsPassed, IsTreeOf};
+ghost use Rattle.typst_node.specs.Tree.{nodes, places, forest, count, preorder, text_of, saturated};
+ghost use Rattle.typst_tree.specs.Passed.{IsPassed, FindsNothing};
 ghost use Rattle.typst_tree.specs.Walks.{first_at, last_leaf, is_childless, is_leaf, has_child, holds_byte, Within};
 ghost use Rattle.typst_tree.specs.Wanted.{wanted};
 ghost use Rattle.typst_tree.specs.Ordered.{IsKey};
@@ -58,8 +58,8 @@ fn has_child(node: &SyntaxNode, number: usize, wanted: usize) -> bool
 {
     let mut at = number + 1;
     for kid in node.children() {
-        if at == wanted {
-            return true;
+        if wanted <= at {
+            return at == wanted;
         }
         at += kid.descendants();
     }
@@ -96,6 +96,21 @@ impl Search {
             Search::ParentOf(child) => *child <= number || end <= *child,
             Search::LeafFrom(least) => end <= *least,
             Search::Byte(byte) => *byte < offset || offset.saturating_add(node.len()) <= *byte,
+            Search::Spanned(_) => false,
+            Search::Numbered(_) => false,
+        }
+    }
+
+    /// Whether it is known that nothing is looked for in trees that stand side by side, where what comes
+    /// behind them has this number and offset.
+    fn ends_by(&self, number: usize, offset: usize) -> bool
+        ensures { result ≡ true → FindsNothing self.now number offset }
+    {
+        match self {
+            Search::Place(place) => number <= *place,
+            Search::ParentOf(child) => number <= *child,
+            Search::LeafFrom(least) => number <= *least,
+            Search::Byte(byte) => offset <= *byte,
             Search::Spanned(_) => false,
             Search::Numbered(_) => false,
         }
@@ -144,98 +159,26 @@ pub struct Passed {
     pub offset: usize,
 }
 
-/// Passes over the trees at the front of a row that end before a byte or at it.
-fn passed_to_byte(row: &[SyntaxNode], number: usize, offset: usize, byte: usize) -> Passed
-    requires { number + count (forest row.now) < 2 ^ 64 - 1 }
-    ensures passed { IsPassed row.now number offset result.index result.number result.offset }
-    ensures nothing { first_at (holds_byte byte) number offset (preorder (forest row.now)) ≡ first_at (holds_byte byte) result.number result.offset (preorder (forest (drop result.index row.now))) }
-{
-    let mut at = number;
-    let mut begin = offset;
-    let mut index = 0usize;
-    for tree in row {
-        let end = begin.saturating_add(tree.len());
-        if byte < end {
-            break;
+impl Passed {
+    /// With the next tree, which is this one.
+    fn behind(&self, tree: &SyntaxNode) -> Passed
+        requires index { self.now.index < 2 ^ 64 - 1 }
+        requires counted { self.now.number + nodes tree.now < 2 ^ 64 - 1 }
+        ensures index { result.index ≡ self.now.index + 1 }
+        ensures number { result.number ≡ self.now.number + nodes tree.now }
+        ensures offset { result.offset ≡ saturated (self.now.offset + length (text_of tree.now)) }
+    {
+        Passed {
+            index: self.index + 1,
+            number: self.number + tree.descendants(),
+            offset: self.offset.saturating_add(tree.len()),
         }
-        at += tree.descendants();
-        begin = end;
-        index += 1;
-    }
-    Passed {
-        index,
-        number: at,
-        offset: begin,
     }
 }
 
-/// The same from the row's end on, back over the trees that begin behind the byte, where the row has so
-/// many nodes and so many bytes.
-fn passed_back_to_byte(
-    row: &[SyntaxNode],
-    number: usize,
-    offset: usize,
-    nodes: usize,
-    len: usize,
-    byte: usize,
-) -> Passed
-    requires counted { number + nodes < 2 ^ 64 - 1 }
-    requires measured { offset + len < 2 ^ 64 - 1 }
-    requires nodes { nodes ≡ count (forest row.now) }
-    requires len { len ≡ length (joined (forest row.now)) }
-    ensures passed { IsPassed row.now number offset result.index result.number result.offset }
-    ensures nothing { first_at (holds_byte byte) number offset (preorder (forest row.now)) ≡ first_at (holds_byte byte) result.number result.offset (preorder (forest (drop result.index row.now))) }
-{
-    let mut at = number + nodes;
-    let mut begin = offset + len;
-    let mut index = row.len();
-    while index > 0 && byte < begin {
-        index -= 1;
-        let tree = &row[index];
-        at -= tree.descendants();
-        begin -= tree.len();
-    }
-    Passed {
-        index,
-        number: at,
-        offset: begin,
-    }
-}
-
-/// Passes over children of a node, which has this number and offset, that end before a byte or at it:
-/// from that end of their row to which the byte is nearer.
-fn passed_below(
-    node: &SyntaxNode,
-    row: &[SyntaxNode],
-    number: usize,
-    offset: usize,
-    byte: usize,
-) -> Passed
-    requires counted { number + nodes node.now < 2 ^ 64 - 1 }
-    requires row { forest row.now ≡ node.now.kids }
-    ensures passed { IsPassed row.now (number + 1) (saturated (offset + length node.now.head.text)) result.index result.number result.offset }
-    ensures nothing { first_at (holds_byte byte) (number + 1) (saturated (offset + length node.now.head.text)) (preorder (forest row.now)) ≡ first_at (holds_byte byte) result.number result.offset (preorder (forest (drop result.index row.now))) }
-{
-    let text = node.leaf_text().len();
-    let len = node.len();
-    let end = offset.saturating_add(len);
-    let start = offset.saturating_add(text);
-    if end == usize::MAX || byte < end - len / 2 {
-        return passed_to_byte(row, number + 1, start, byte);
-    }
-    passed_back_to_byte(
-        row,
-        number + 1,
-        start,
-        node.descendants() - 1,
-        len - text,
-        byte,
-    )
-}
-
-/// Passes over the children at the front of a node's row in which nothing is looked for, where the search
-/// tells so by bytes; it passes over none where it doesn't. A row can be long, so this is a loop without
-/// calls.
+/// Passes over children at the front of a node's row, where the search tells by their numbers or bytes
+/// that nothing is looked for in them. A row can be long, so this goes on from both of its ends by turns
+/// until one of them has come there, and is a loop without calls.
 fn passed_over(
     node: &SyntaxNode,
     row: &[SyntaxNode],
@@ -248,14 +191,40 @@ fn passed_over(
     ensures passed { IsPassed row.now (number + 1) (saturated (offset + length node.now.head.text)) result.index result.number result.offset }
     ensures nothing { first_at (wanted search.now) (number + 1) (saturated (offset + length node.now.head.text)) (preorder (forest row.now)) ≡ first_at (wanted search.now) result.number result.offset (preorder (forest (drop result.index row.now))) }
 {
-    match search {
-        Search::Byte(byte) => passed_below(node, row, number, offset, *byte),
-        _ => Passed {
-            index: 0,
-            number: number + 1,
-            offset: offset.saturating_add(node.leaf_text().len()),
-        },
+    let text = node.leaf_text().len();
+    let len = node.len();
+    let start = offset.saturating_add(text);
+    let mut front = Passed {
+        index: 0,
+        number: number + 1,
+        offset: start,
+    };
+    if len == usize::MAX {
+        return front;
     }
+    let mut index = row.len();
+    let mut end = number + node.descendants();
+    let mut left = len - text;
+    for tree in row {
+        let next = front.behind(tree);
+        if !search.ends_by(next.number, next.offset) {
+            return front;
+        }
+        front = next;
+        let begin = start.saturating_add(left);
+        if search.ends_by(end, begin) {
+            return Passed {
+                index,
+                number: end,
+                offset: begin,
+            };
+        }
+        index -= 1;
+        let last = &row[index];
+        end -= last.descendants();
+        left -= last.len();
+    }
+    front
 }
 
 /// The first node in preorder that is looked for, among a node, which has this number and
@@ -312,50 +281,13 @@ pub fn last_leaf_in(node: &SyntaxNode, number: usize, before: usize) -> Option<u
         i -= 1;
         let kid = &kids[i];
         end -= kid.descendants();
+        if before <= end {
+            continue;
+        }
         match last_leaf_in(kid, end, before) {
             Some(found) => return Some(found),
             None => {}
         }
     }
     if is_leaf(node) { Some(number) } else { None }
-}
-
-/// A node that was found in one of some trees: the tree's index among them, the tree and the node.
-#[derive(Clone, Copy)]
-pub struct InRow<'a> {
-    pub index: usize,
-    pub tree: Spot<'a>,
-    pub spot: Spot<'a>,
-}
-
-/// The first node in preorder that is looked for, among some trees that stand side by side, of which
-/// the first has this number and offset.
-pub fn first_in_row<'a>(
-    row: &'a [SyntaxNode],
-    number: usize,
-    offset: usize,
-    search: &Search,
-) -> Option<InRow<'a>>
-    requires { number + count (forest row.now) < 2 ^ 64 - 1 }
-    ensures first { option_map (λ found. found.spot.number) result ≡ first_at (wanted search.now) number offset (preorder (forest row.now)) }
-    ensures tree { IfSome result (λ found. IsTreeOf row.now number offset found.tree.node.now found.tree.number found.tree.offset found.index) }
-    ensures spot { IfSome result (λ found. Within found.tree.number found.tree.offset (places found.tree.node.now) found.spot.number found.spot.offset (places found.spot.node.now)) }
-{
-    let mut at = number;
-    let mut begin = offset;
-    let mut index = 0usize;
-    for tree in row {
-        if let Some(spot) = first_in(tree, at, begin, search) {
-            let tree = Spot {
-                node: tree,
-                number: at,
-                offset: begin,
-            };
-            return Some(InRow { index, tree, spot });
-        }
-        at += tree.descendants();
-        begin = begin.saturating_add(tree.len());
-        index += 1;
-    }
-    None
 }

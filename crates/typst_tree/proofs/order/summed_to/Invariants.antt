@@ -1,4 +1,4 @@
-use Rattle.typst_tree.specs.Ways.{IsPassed}
+use Rattle.typst_tree.specs.Passed.{IsPassed}
 use Rattle.typst_tree.proofs.order.summed_to.Given as goal
 
 abbrev pub invariant-loop-i : goal.invariant-loop-i

@@ -16,6 +16,18 @@ last_leaf_in-requires t c =
     let w = (back c.args.before c.args.number c.args.node.now c.children-kids.result.now c.loop-i.i (c.loop-i.i - 1) c.index-kids-i.result (omega arith) c.index-kids-i.is (omega (arith, c.loop-i.invariant.bounded))) in
     (omega (arith, c.decreases, w.counted, c.loop-i.invariant.smaller), omega (arith, c.descendants-end.ensures, w.counted, c.loop-i.invariant.end_is, c.loop-i.invariant.counted))
 
+pub loop-i-preserved-then-before-end : goal.loop-i-preserved-then-before-end
+loop-i-preserved-then-before-end t c =
+    let w = (back c.args.before c.args.number c.args.node.now c.children-kids.result.now c.loop-i.i (c.loop-i.i - 1) c.index-kids-i.result (omega arith) c.index-kids-i.is (omega (arith, c.loop-i.invariant.bounded))) in
+    let number : c.loop-i.end - c.descendants-end.result ≡ c.args.number + 1 + count (forest (take (c.loop-i.i - 1) c.children-kids.result.now)) = omega (arith, c.descendants-end.ensures, w.counted, c.loop-i.invariant.end_is, c.loop-i.invariant.counted) in
+    record {
+      bounded = omega (arith, c.loop-i.invariant.bounded);
+      last = c.loop-i.invariant.last ∙ last_next c.args.before c.args.number c.args.node.now c.children-kids.result.now c.loop-i.i (c.loop-i.i - 1) c.index-kids-i.result _ w number (sym (last_none c.args.before (c.loop-i.end - c.descendants-end.result) (places c.index-kids-i.result) (omega (arith, c.if-before-end.true))));
+      end_is = number;
+      counted = omega (arith, w.counted, c.loop-i.invariant.counted);
+      smaller = omega (arith, w.counted, c.loop-i.invariant.smaller);
+    }
+
 pub returns-in-Some : goal.returns-in-Some
 returns-in-Some t c =
     let w = (back c.args.before c.args.number c.args.node.now c.children-kids.result.now c.loop-i.i (c.loop-i.i - 1) c.index-kids-i.result (omega arith) c.index-kids-i.is (omega (arith, c.loop-i.invariant.bounded))) in

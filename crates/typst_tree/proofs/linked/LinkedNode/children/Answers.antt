@@ -1,6 +1,5 @@
-use Rattle.std.proofs.Common.{◌≡◌, ◌+◌, ap, sym, ◌∙◌, arith, length, map, refl}
-use Rattle.typst_node.specs.Tree.{places, saturated, trees}
-use Rattle.typst_node.proofs.SpansAside.{trees_forest}
+use Rattle.std.proofs.Common.{◌≡◌, ◌+◌, ap, sym, ◌∙◌, arith, length, map}
+use Rattle.typst_node.specs.Tree.{places, saturated}
 use Rattle.typst_tree.specs.Steps.{at}
 use Rattle.typst_tree.specs.Walks.{numbers}
 use Rattle.typst_tree.proofs.NodesOfStretch.{node_here, stands_row}
@@ -18,9 +17,7 @@ invariant_of-result c =
       counted = c.args.self.counted;
       stands = stands_row (places c.args.self.root.now) c.args.self.number c.args.self.offset _ _ (places c.args.self.node.now) _ c.args.self.stands
           (within_children c.args.self.number c.args.self.offset _ c.args.self.node.now c.children.result.now c.children.ensures offset);
-      rooted = refl;
-      row = sym (trees_forest c.children.result.now) ∙ ap trees c.children.ensures;
-      before = omega arith;
+      ordered = c.args.self.ordered;
     }
 
 pub returns : goal.returns
