@@ -94,8 +94,7 @@ pub fn read_edited<C: Classes>(
     let from = nearest(restarts, edit.start);
     let goals = Goals::new(restarts, edit);
     let rest = read_on(alloc, new, from, goals, classes)?;
-    let most = restarts.len().saturating_add(rest.met.len());
-    let mut kept = Vec::with_capacity(alloc, most)?;
+    let mut kept = Vec::new(alloc);
     let Some((met, goal)) = rest.end else {
         let floor = settle(rest.met, usize::MAX, &mut kept)?;
         keep_before(restarts, edit.start, from, floor, &mut kept)?;

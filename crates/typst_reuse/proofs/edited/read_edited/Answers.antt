@@ -23,7 +23,7 @@ returns-in_default g c =
     let rest = c.in_ok-rest.rest in
     let there = reads-there k s from c.new-goals.result.restarts.now.items rs c.new-goals.result.edit c.args.edit rest.nodes.items rest.met.items rest.end (ap (λ v. v.items) c.new-goals.ensures.restarts) c.new-goals.ensures.edit c.in_ok-rest.ensures in
     let reads = subst (λ o. ReadsOn k s from rs c.args.edit rest.nodes.items rest.met.items o) c.in_default.is there in
-    let settles = subst (λ us. Settles k s rest.met.items None c.in_ok-floor.floor us c.settle.new.restarts.items) c.in_ok-kept.ensures.items (c.in_ok-floor.ensures k s None reads.read.each reads.read.linked tt) in
+    let settles = subst (λ us. Settles k s rest.met.items None c.in_ok-floor.floor us c.settle.new.restarts.items) c.new-kept.ensures.items (c.in_ok-floor.ensures k s None reads.read.each reads.read.linked tt) in
     exchanged-to-end k c.args.old.now c.args.new.now c.args.edit r.edit from (befores c.args.edit.start rs) reads.goals rs r.restarts (befores-are c.args.edit.start rs) reads.shifted c.nearest-from.ensures c.utf8.new
     rest.nodes.items rest.met.items c.settle.new.restarts.items c.keep_before.new.kept.items c.in_ok-floor.floor c.args.count r.count reads.read settles c.in_ok-keep_before.ensures
 
@@ -39,8 +39,8 @@ returns g c =
     let goal = c.in-Some.goal in
     let there = reads-there k s from c.new-goals.result.restarts.now.items rs c.new-goals.result.edit c.args.edit rest.nodes.items rest.met.items rest.end (ap (λ v. v.items) c.new-goals.ensures.restarts) c.new-goals.ensures.edit c.in_ok-rest.ensures in
     let reads = subst (λ o. ReadsOn k s from rs c.args.edit rest.nodes.items rest.met.items o) c.in-Some.is there in
-    let kept = keeps-there c.new-goals.result.restarts.now.items rs c.new-goals.result.edit c.args.edit goal q c.in_ok-kept.kept.items c.keep_behind.new.kept.items (ap (λ v. v.items) c.new-goals.ensures.restarts) c.new-goals.ensures.edit c.in_ok-keep_behind.ensures in
-    let behind = subst (λ us. KeepsBehind rs c.args.edit goal q us c.keep_behind.new.kept.items) c.in_ok-kept.ensures.items kept in
+    let kept = keeps-there c.new-goals.result.restarts.now.items rs c.new-goals.result.edit c.args.edit goal q c.new-kept.result.items c.keep_behind.new.kept.items (ap (λ v. v.items) c.new-goals.ensures.restarts) c.new-goals.ensures.edit c.in_ok-keep_behind.ensures in
+    let behind = subst (λ us. KeepsBehind rs c.args.edit goal q us c.keep_behind.new.kept.items) c.new-kept.ensures.items kept in
     let both = joined-goals k s from rs c.args.edit rest.nodes.items rest.met.items q goal [] c.keep_behind.new.kept.items reads behind in
     exchanged-to-goal k c.args.old.now c.args.new.now c.args.edit r.edit from (befores c.args.edit.start rs) both.goals rs r.restarts (befores-are c.args.edit.start rs) both.shifted c.nearest-from.ensures c.utf8.new
     rest.nodes.items rest.met.items c.keep_behind.new.kept.items c.settle-2.new.restarts.items c.keep_before-2.new.kept.items q goal c.in_ok-floor-2.floor both.read both.adds
