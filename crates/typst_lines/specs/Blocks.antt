@@ -1,17 +1,17 @@
--- What is found in bytes that are looked at many at a time.
+-- What is found in bytes that are looked at many at a time (of private clauses).
 use Rattle.std.specs.Prelude.{◌≡◌, ◌≢◌, ℕ, ◌+◌, ◌-◌, ◌<◌, ◌≤◌, Bool, true, false, not, ◌&&◌, ◌||◌, ◌==◌, if◌then◌else◌, nat_le, nat_lt, List, length, take, drop, slice_index, slice_range}
 use Rattle.std.specs.Int.{w64, trailing_zeros}
 use Rattle.std.specs.Str.{IsCharBoundary}
 use Rattle.typst_lines.specs.Newline.{is_newline}
 
--- two lists begin with the same n elements, and the next ones, a block of them, aren't the same in both
+-- two lists begin with the same n elements; where both go on for a block more, those blocks differ
 pub record BeginAlike (xs ys : List ℕ) (block n : ℕ) : Type 0 where
   pub in_first : n ≤ length xs
   pub in_second : n ≤ length ys
   pub same : take n xs ≡ take n ys
   pub stops : n + block ≤ length xs → n + block ≤ length ys → slice_range xs n (n + block) ≢ slice_range ys n (n + block)
 
--- two lists end with the same n elements, and those before them, a block of them, aren't the same in both
+-- two lists end with the same n elements; where both have a block more before them, those blocks differ
 pub record EndAlike (xs ys : List ℕ) (block n : ℕ) : Type 0 where
   pub in_first : n ≤ length xs
   pub in_second : n ≤ length ys
@@ -47,11 +47,11 @@ pub record IsPlainFront (bytes : List ℕ) (at n run : ℕ) : Type 0 where
 abbrev pub first_set : ℕ → ℕ → ℕ
 first_set mask n = if mask == 0 then n else trailing_zeros w64 mask
 
--- how many characters, and how many UTF-16 units, begin with a byte of UTF-8: none with one that goes on
--- with a character, and two units with one that four bytes begin with
+-- how many characters begin with a byte of UTF-8: one, but none with a byte that goes on with a character
 abbrev pub chars_begun : ℕ → ℕ
 chars_begun b = if nat_lt b 128 || nat_le 192 b then 1 else 0
 
+-- how many UTF-16 units begin with a byte of UTF-8: as many as characters, and two with the first of four bytes
 abbrev pub units_begun : ℕ → ℕ
 units_begun b = chars_begun b + (if nat_le 240 b then 1 else 0)
 
