@@ -1,17 +1,22 @@
 -- Where the clauses are proved. A function that isn't named here needs no lemma.
 --   get, range, children                 NodesOfStretch: node_here, stands_row; WalksInPreorder: length_places
 --   LinkedChildren::next                 NodesOfStretch: row, stands_same
---   next_sibling                         Siblings: find_past, find_here, next_of
---   next_leaf, leftmost_leaf, leaf_at    WalksInPreorder: found_here, found_below, found_next, turn; PassesOver
---   prev_leaf                            LastLeaf: last_here, last_next, last_within; PassesOver: place_found
+--   the place in a long row              Forks: holds_behind, open_child, placed_first, tops, begins
+--   parent                               Parents: parent_is; Branches: above_is, no_parent
+--   next_sibling                         Siblings: find_past, find_here; Branches: behind_above; Rows: beside
+--   next_leaf, leftmost_leaf, leaf_at    WalksInPreorder: found_here, found_below, found_next, turn; PassesOver; Branches: leaf_found, leaf_not_found, leaf_beside
+--   prev_leaf                            LastLeaf: last_here, last_next, last_within; PassesOver: place_found; Branches: until_found, until_not_found
 --   find: a node finds itself            FindsOwnSpan: finds_own; SingleNodes: same_span
 --   find, find_number from `ordered`     RisingNumbers: none_past, none_in_first, found_only
 --   is_ordered                           RisingNumbers: climb_on, climb_fails, decided
 -- For crates above: Inside.
+pub mod Branches
 pub mod FindsOwnSpan
+pub mod Forks
 pub mod Inside
 pub mod LastLeaf
 pub mod NodesOfStretch
+pub mod Parents
 pub mod PassesOver
 pub mod RisingNumbers
 pub mod Siblings

@@ -3,6 +3,7 @@ use Rattle.std.proofs.Common.{◌≡◌, ℕ, ◌+◌, ◌-◌, ◌<◌, ◌^◌
 use Rattle.std.specs.Prelude.{slice_get, unwrap_or}
 use Rattle.std.specs.Option.{option_map}
 use Rattle.std.proofs.lemmas.List.{take-append-drop, length-take-le}
+use Rattle.std.proofs.lemmas.Option.{same_Some}
 use Rattle.std.proofs.Math.Seq.{take-length, take-append_seam, drop-append_seam}
 use Rattle.typst_node.specs.Tree.{Tree, forest, nodes, places, preorder, saturated, text_of}
 use Rattle.typst_tree.specs.Walks.{first_at, Within, Stands}
@@ -36,12 +37,18 @@ get_seam [] t rest = refl
 get_seam (x ∷ front) t rest = get_seam front t rest
 
 -- the node that stands at a number
-pub node_here : (root : Tree) (k b : ℕ) (t : Tree) → Stands (places root) k b (places t) → node_of (at root k) ≡ t
-node_here root k b t s =
-    let w = standing (places root) k b (places t) s in
+pub stands_get : (xs : List Tree) (k b : ℕ) (t : Tree) → Stands xs k b (places t) → slice_get xs k ≡ Some t
+stands_get xs k b t s =
+    let w = standing xs k b (places t) s in
     let number : k ≡ length w.front = omega (arith, w.number) in
-    let found : slice_get (places root) k ≡ Some t = ap (slice_get (places root)) number ∙ (ap (λ xs. slice_get xs (length w.front)) w.whole ∙ get_seam w.front t _) in
-    ap (λ o. unwrap_or o root) found
+    ap (slice_get xs) number ∙ (ap (λ ys. slice_get ys (length w.front)) w.whole ∙ get_seam w.front t _)
+
+pub node_here : (root : Tree) (k b : ℕ) (t : Tree) → Stands (places root) k b (places t) → node_of (at root k) ≡ t
+node_here root k b t s = ap (λ o. unwrap_or o root) (stands_get (places root) k b t s)
+
+pub same_node : (xs : List Tree) (k m b c : ℕ) (t u : Tree) → k ≡ m → Stands xs k b (places t) → Stands xs m c (places u) → t ≡ u
+same_node xs k m b c t u e s r =
+    same_Some t u (sym (stands_get xs k b t s) ∙ (ap (slice_get xs) e ∙ stands_get xs m c u r))
 
 -- to walk through the node that stands at a number is the step from there
 pub first_here : (p : ℕ → ℕ → Tree → Bool) (root : Tree) (k b : ℕ) (t : Tree) → Stands (places root) k b (places t) → option_map (at root) (first_at p k b (places t)) ≡ first_below p (at root k)

@@ -40,7 +40,7 @@ no_number_below k n (more g ks r) h =
     let fails : (n == k) ≡ false = grind (arith, nat_tests, h) in
     rw (fails, no_number_below k (n + 1 + count ks) r (omega (arith, h))) refl
 
-no_number_above : (k n : ℕ) (f : Forest) → n + count f ≤ k → list_any (λ m. m == k) (numbers n f) ≡ false
+pub no_number_above : (k n : ℕ) (f : Forest) → n + count f ≤ k → list_any (λ m. m == k) (numbers n f) ≡ false
 no_number_above k n none h = refl
 no_number_above k n (more g ks r) h =
     let below : n < k = omega (arith, h) in

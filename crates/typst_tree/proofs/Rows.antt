@@ -1,11 +1,20 @@
 -- Children that stand side by side.
-use Rattle.std.proofs.Common.{◌≡◌, Bool, ℕ, zero, suc, ◌+◌, ◌-◌, ◌<◌, ◌≤◌, List, [], ◌∷◌, ◌++◌, length, take, drop, Some, None, ap, sym, ◌∙◌, arith, append-nil, length-append, get_or}
+use Rattle.std.proofs.Common.{◌≡◌, Bool, ℕ, zero, suc, ◌+◌, ◌-◌, ◌<◌, ◌≤◌, ◌^◌, List, [], ◌∷◌, ◌++◌, length, take, drop, Some, None, refl, ap, sym, subst, ◌∙◌, arith, append-nil, length-append, get_or, inl, inr}
 use Rattle.std.specs.Prelude.{slice_get}
+use Rattle.std.proofs.lemmas.Bool.{cases_lt}
+use Rattle.std.proofs.lemmas.Bool.Decides.{nat_tests}
 use Rattle.std.proofs.lemmas.List.{take-append-drop, drop_more}
-use Rattle.typst_node.specs.Tree.{Tree, forest, count, nodes, places, preorder, joined, text_of, saturated}
-use Rattle.typst_tree.specs.Walks.{Within, texts, first_at}
+use Rattle.std.proofs.lemmas.Option.{same_Some, none-some, slice_get_read}
+use Rattle.typst_node.specs.Tree.{Forest, none, more, Tree, forest, trees, count, nodes, places, preorder, joined, text_of, saturated}
+use Rattle.typst_node.proofs.SpansAside.{trees_forest}
+use Rattle.typst_tree.specs.Passed.{IsPassed}
+use Rattle.typst_tree.specs.Walks.{Stands, Within, texts, first_at, has_place}
+use Rattle.typst_tree.specs.Rows.{IsChild, IsTreeOf}
+use Rattle.std.proofs.Math.Seq.{take-add}
 use Rattle.typst_tree.proofs.LastLeaf.{preorder_append}
-use Rattle.typst_tree.proofs.WalksInPreorder.{length_preorder, texts_preorder, first_append, first_same}
+use Rattle.typst_tree.proofs.NodesOfStretch.{stands_row}
+use Rattle.typst_tree.proofs.WalksInPreorder.{length_preorder, texts_preorder, within_first, within_in, first_append, first_same, none_between}
+use Rattle.typst_tree.proofs.Parents.{count_split}
 
 -- the children from the index i on lie within their parent, behind those before them
 pub row_within : (o : Tree) (n b m c i : ℕ) (xs : List Tree) → forest xs ≡ o.kids → m ≡ n + 1 + count (forest (take i xs)) → c ≡ saturated (b + length o.head.text + length (joined (forest (take i xs)))) → Within n b (places o) m c (preorder (forest (drop i xs)))
@@ -17,6 +26,12 @@ row_within o n b m c i xs e number offset =
       number = omega (arith, number, length_preorder (forest (take i xs)));
       offset = omega (arith, offset, length-append o.head.text (texts (preorder (forest (take i xs)))), ap length (texts_preorder (forest (take i xs))));
     }
+
+-- and stand behind those before them
+pub row_stands : (root o : Tree) (n b i : ℕ) (xs : List Tree) → forest xs ≡ o.kids → Stands (places root) n b (places o) → Stands (places root) (n + 1 + count (forest (take i xs))) (saturated (b + length o.head.text + length (joined (forest (take i xs))))) (preorder (forest (drop i xs)))
+row_stands root o n b i xs e s =
+    stands_row (places root) n b (n + 1 + count (forest (take i xs))) (saturated (b + length o.head.text + length (joined (forest (take i xs))))) (places o) (preorder (forest (drop i xs))) s
+    (row_within o n b (n + 1 + count (forest (take i xs))) (saturated (b + length o.head.text + length (joined (forest (take i xs))))) i xs e refl refl)
 
 nothing_first : (x : Tree) (ys : List Tree) → [] ≡ x ∷ ys → ⊥
 nothing_first x ys e = let long : length {A = Tree} [] ≡ length (x ∷ ys) = ap length e in omega (arith, long)
@@ -54,9 +69,138 @@ first_of_row (z ∷ xs) (suc i) x ys e =
       within = omega (arith, w.within);
     }
 
+-- the row from the index of a tree on begins with it
+pub row_from : (xs : List Tree) (i : ℕ) (x : Tree) → slice_get xs i ≡ Some x → drop i xs ≡ x ∷ drop (i + 1) xs
+row_from [] i x g = absurd (none-some x g)
+row_from (z ∷ xs) zero x g = ap (λ u. u ∷ xs) (same_Some z x g)
+row_from (z ∷ xs) (suc i) x g =
+    let next : suc (i + 1) ≡ suc i + 1 = omega arith in
+    row_from xs i x g ∙ ap (λ k. x ∷ drop k (z ∷ xs)) next
+
+pub index_counted : (f : Forest) (i : ℕ) → i ≤ length (trees f) → i ≤ count f
+index_counted none i h = omega (arith, h)
+index_counted (more g ks r) zero h = omega arith
+index_counted (more g ks r) (suc i) h = omega (arith, index_counted r i (omega (arith, h)))
+
+-- a loop over the children of a node stands at one of them
+pub record Kid (root o : Tree) (n i : ℕ) (xs : List Tree) (x : Tree) (m c : ℕ) : Type 0 where
+  pub stands : Stands (places root) m c (places x)
+  pub child : IsChild o n x m i
+  pub counted : count (forest (take (i + 1) xs)) ≡ count (forest (take i xs)) + nodes x
+  pub long : length (joined (forest (take (i + 1) xs))) ≡ length (joined (forest (take i xs))) + length (text_of x)
+  pub within : m + nodes x ≤ n + nodes o
+  pub index : i < nodes o
+
+pub kid_of : (root o : Tree) (n b i : ℕ) (xs : List Tree) (x : Tree) (m c : ℕ) → forest xs ≡ o.kids → Stands (places root) n b (places o) → slice_get xs i ≡ Some x → m ≡ n + 1 + count (forest (take i xs)) → c ≡ saturated (b + length o.head.text + length (joined (forest (take i xs)))) → Kid root o n i xs x m c
+kid_of root o n b i xs x m c e s g p q =
+    let row : drop i xs ≡ x ∷ drop (i + 1) xs = row_from xs i x g in
+    let w = first_of_row xs i x (drop (i + 1) xs) row in
+    let same : trees o.kids ≡ xs = sym (ap trees e) ∙ trees_forest xs in
+    let stands : Stands (places root) m c (preorder (forest (drop i xs))) = rw (p, q) (row_stands root o n b i xs e s) in
+    let first : Stands (places root) m c (preorder (forest (x ∷ drop (i + 1) xs))) = subst (λ ys. Stands (places root) m c (preorder (forest ys))) row stands in
+    let here : slice_get (trees o.kids) i ≡ Some x = ap (λ ys. slice_get ys i) same ∙ w.here in
+    let number : m ≡ n + 1 + count (forest (take i (trees o.kids))) = p ∙ ap (λ ys. n + 1 + count (forest (take i ys))) (sym same) in
+    record {
+      stands = stands_row (places root) m c m c (preorder (forest (x ∷ drop (i + 1) xs))) (places x) first (within_first m c x (drop (i + 1) xs) (omega (arith, q)));
+      child = record { here = here; number = number };
+      counted = w.counted;
+      long = w.long;
+      within = omega (arith, number, count_split o.kids i x here);
+      index = omega (arith, w.within, ap length same, index_counted o.kids (i + 1) (omega (arith, w.within, ap length same)));
+    }
+
 pub count_append : (xs ys : List Tree) → count (forest (xs ++ ys)) ≡ count (forest xs) + count (forest ys)
 count_append [] ys = omega arith
 count_append (x ∷ xs) ys = omega (arith, count_append xs ys)
+
+long_append : (xs ys : List Tree) → length (joined (forest (xs ++ ys))) ≡ length (joined (forest xs)) + length (joined (forest ys))
+long_append [] ys = omega arith
+long_append (x ∷ xs) ys =
+    omega (arith, long_append xs ys, length-append x.head.text (joined x.kids ++ joined (forest (xs ++ ys))), length-append (joined x.kids) (joined (forest (xs ++ ys))), length-append x.head.text (joined x.kids ++ joined (forest xs)), length-append (joined x.kids) (joined (forest xs)))
+
+get_drop : (xs : List Tree) (i j : ℕ) → slice_get (drop i xs) j ≡ slice_get xs (i + j)
+get_drop xs zero j = let same : j ≡ 0 + j = omega arith in ap (slice_get xs) same
+get_drop [] (suc i) j = refl
+get_drop (x ∷ xs) (suc i) j =
+    let same : suc (i + j) ≡ suc i + j = omega arith in
+    get_drop xs i j ∙ ap (slice_get (x ∷ xs)) same
+
+abbrev Starts : ℕ → Tree → ℕ → ℕ → List Tree → Type 0
+Starts b o c i xs = saturated (b + length o.head.text + length (joined (forest (take i xs)))) ≡ c
+
+-- what stands beside a child: where the children behind it begin, and how far they go
+pub record Beside (root o : Tree) (n b : ℕ) (t : Tree) (m c i : ℕ) (xs : List Tree) : Type 0 where
+  pub within : i < length xs
+  pub index : length xs ≤ count o.kids
+  pub number : m ≡ n + 1 + count (forest (take i xs))
+  pub start : Starts b o c i xs
+  pub counted : m + nodes t + count (forest (drop (i + 1) xs)) ≡ n + nodes o
+  pub behind : Stands (places root) (m + nodes t) (saturated (c + length (text_of t))) (preorder (forest (drop (i + 1) xs)))
+
+pub beside : (root o : Tree) (n b : ℕ) (t : Tree) (m c i : ℕ) (xs : List Tree) → forest xs ≡ o.kids → Stands (places root) n b (places o) → IsChild o n t m i → Stands (places root) m c (places t) → Beside root o n b t m c i xs
+beside root o n b t m c i xs e s child here =
+    let same : trees o.kids ≡ xs = sym (ap trees e) ∙ trees_forest xs in
+    let get : slice_get xs i ≡ Some t = ap (λ ys. slice_get ys i) (sym same) ∙ child.here in
+    let row : drop i xs ≡ t ∷ drop (i + 1) xs = row_from xs i t get in
+    let w = first_of_row xs i t (drop (i + 1) xs) row in
+    let number : m ≡ n + 1 + count (forest (take i xs)) = child.number ∙ ap (λ ys. n + 1 + count (forest (take i ys))) same in
+    let start = row_stands root o n b i xs e s in
+    let offset : saturated (b + length o.head.text + length (joined (forest (take i xs)))) ≡ c = start.begins ∙ (ap (λ j. saturated (length (texts (take j (places root))))) (sym number) ∙ sym here.begins) in
+    let next = row_stands root o n b (i + 1) xs e s in
+    let first : n + 1 + count (forest (take (i + 1) xs)) ≡ m + nodes t = omega (arith, number, w.counted) in
+    let second : saturated (b + length o.head.text + length (joined (forest (take (i + 1) xs)))) ≡ saturated (c + length (text_of t)) = omega (arith, offset, w.long) in
+    record {
+      within = w.within;
+      index = omega (arith, index_counted o.kids (length xs) (omega (arith, ap length same)));
+      number = number;
+      start = offset;
+      counted = omega (arith, number, w.counted, ap count e, count_append (take (i + 1) xs) (drop (i + 1) xs), ap (λ ys. count (forest ys)) (take-append-drop (i + 1) xs));
+      behind = rw (sym first, sym second) next;
+    }
+
+-- a tree of the row behind a child is a child
+pub kid_behind : (root o : Tree) (n b : ℕ) (t : Tree) (m c i : ℕ) (xs : List Tree) (j : ℕ) (x : Tree) (k d p : ℕ) → forest xs ≡ o.kids → Stands (places root) n b (places o) → IsChild o n t m i → Stands (places root) m c (places t) → p ≡ saturated (c + length (text_of t)) → IsTreeOf (drop (i + 1) xs) (m + nodes t) p x k d j → Kid root o n (i + 1 + j) xs x k d
+kid_behind root o n b t m c i xs j x k d p e s child here q tree =
+    let same : trees o.kids ≡ xs = sym (ap trees e) ∙ trees_forest xs in
+    let get : slice_get xs i ≡ Some t = ap (λ ys. slice_get ys i) (sym same) ∙ child.here in
+    let w = first_of_row xs i t (drop (i + 1) xs) (row_from xs i t get) in
+    let number : m ≡ n + 1 + count (forest (take i xs)) = child.number ∙ ap (λ ys. n + 1 + count (forest (take i ys))) same in
+    let start = row_stands root o n b i xs e s in
+    let offset : saturated (b + length o.head.text + length (joined (forest (take i xs)))) ≡ c = start.begins ∙ (ap (λ j. saturated (length (texts (take j (places root))))) (sym number) ∙ sym here.begins) in
+    let more = take-add (i + 1) j xs in
+    let counts : count (forest (take (i + 1 + j) xs)) ≡ count (forest (take (i + 1) xs)) + count (forest (take j (drop (i + 1) xs))) = ap (λ ys. count (forest ys)) more ∙ count_append (take (i + 1) xs) (take j (drop (i + 1) xs)) in
+    let longs : length (joined (forest (take (i + 1 + j) xs))) ≡ length (joined (forest (take (i + 1) xs))) + length (joined (forest (take j (drop (i + 1) xs)))) = ap (λ ys. length (joined (forest ys))) more ∙ long_append (take (i + 1) xs) (take j (drop (i + 1) xs)) in
+    kid_of root o n b (i + 1 + j) xs x k d e s (sym (get_drop xs (i + 1) j) ∙ tree.here)
+    (omega (arith, tree.number, number, w.counted, counts))
+    (omega (arith, tree.offset, q, offset, w.long, longs))
+
+-- a loop from the back over the children of a node goes on to the one before
+pub record StepBack (root o : Tree) (n b i : ℕ) (xs : List Tree) (x : Tree) (k p d l : ℕ) : Type 0 where
+  pub kid : Kid root o n (i - 1) xs x (k - d) (p - l)
+  pub counts : d ≤ k
+  pub reaches : l ≤ p
+  pub number : k - d ≡ n + 1 + count (forest (take (i - 1) xs))
+  pub offset : p - l ≡ b + length o.head.text + length (joined (forest (take (i - 1) xs)))
+
+pub step_back : (root o : Tree) (n b i : ℕ) (xs : List Tree) (x : Tree) (k p d l : ℕ) → forest xs ≡ o.kids → Stands (places root) n b (places o) → 0 < i → i ≤ length xs → x ≡ get_or xs (i - 1) x → k ≡ n + 1 + count (forest (take i xs)) → p ≡ b + length o.head.text + length (joined (forest (take i xs))) → d ≡ saturated (nodes x) → l ≡ saturated (length (text_of x)) → k < 2 ^ 64 → p < 2 ^ 64 → StepBack root o n b i xs x k p d l
+step_back root o n b i xs x k p d l e s low high g number offset f h counted long =
+    let short : i - 1 < length xs = omega (arith, low, high) in
+    let row : drop (i - 1) xs ≡ x ∷ drop (i - 1 + 1) xs = drop_more xs (i - 1) x short ∙ ap (λ y. y ∷ drop (i - 1 + 1) xs) (sym g) in
+    let w = first_of_row xs (i - 1) x (drop (i - 1 + 1) xs) row in
+    let next : i - 1 + 1 ≡ i = omega (arith, low) in
+    let counts : count (forest (take i xs)) ≡ count (forest (take (i - 1) xs)) + nodes x = ap (λ j. count (forest (take j xs))) (sym next) ∙ w.counted in
+    let longs : length (joined (forest (take i xs))) ≡ length (joined (forest (take (i - 1) xs))) + length (text_of x) = ap (λ j. length (joined (forest (take j xs)))) (sym next) ∙ w.long in
+    let exact : d ≡ nodes x = omega (arith, f, counts, number, counted) in
+    let whole : l ≡ length (text_of x) = omega (arith, h, longs, offset, long) in
+    let first : k - d ≡ n + 1 + count (forest (take (i - 1) xs)) = omega (arith, exact, counts, number) in
+    let second : p - l ≡ b + length o.head.text + length (joined (forest (take (i - 1) xs))) = omega (arith, whole, longs, offset) in
+    record {
+      kid = kid_of root o n b (i - 1) xs x (k - d) (p - l) e s w.here first (omega (arith, second, long));
+      counts = omega (arith, exact, counts, number);
+      reaches = omega (arith, whole, longs, offset);
+      number = first;
+      offset = second;
+    }
 
 -- a loop from the back over a row goes on to the tree before
 pub record Prior (xs : List Tree) (i : ℕ) (x : Tree) : Type 0 where
@@ -82,3 +226,46 @@ passed_front p n a i m c xs number offset nothing =
     ap (first_at p n a) whole
     ∙ (first_append p n a (preorder (forest (take i xs))) (preorder (forest (drop i xs)))
     ∙ rw (nothing, first) (first_same p m (a + length (texts (preorder (forest (take i xs))))) c (preorder (forest (drop i xs))) (omega (arith, offset, ap length (texts_preorder (forest (take i xs)))))))
+
+all_counted : (xs : List Tree) (i : ℕ) → length xs ≤ i → count (forest (take i xs)) ≡ count (forest xs)
+all_counted [] zero h = refl
+all_counted [] (suc i) h = refl
+all_counted (x ∷ xs) zero h = absurd (omega (arith, h))
+all_counted (x ∷ xs) (suc i) h = ap (λ k. 1 + (count x.kids + k)) (all_counted xs i (omega (arith, h)))
+
+-- a tree that begins by a number of its parent's nodes is one of the row
+pub passed_inside : (o : Tree) (n a i m c k : ℕ) (xs : List Tree) → forest xs ≡ o.kids → IsPassed xs (n + 1) a i m c → m ≤ k → k < n + nodes o → i < length xs
+passed_inside o n a i m c k xs e w l h =
+    elim (cases_lt i (length xs)) [ inl short ↦ short | inr long ↦ absurd (omega (arith, w.number, all_counted xs i long, ap count e, l, h)) ]
+
+-- the tree behind those that are passed
+pub record Over (o : Tree) (n b : ℕ) (xs : List Tree) (i m c : ℕ) (x : Tree) : Type 0 where
+  pub child : IsChild o n x m i
+  pub inside : Within n b (places o) m c (places x)
+  pub fits : m + nodes x ≤ n + nodes o
+  pub next : IsPassed xs (n + 1) (saturated (b + length o.head.text)) (i + 1) (m + nodes x) (saturated (c + length (text_of x)))
+
+pub over : (o : Tree) (n b : ℕ) (xs : List Tree) (i m c : ℕ) (x : Tree) → forest xs ≡ o.kids → x ≡ get_or xs i x → i < length xs → IsPassed xs (n + 1) (saturated (b + length o.head.text)) i m c → Over o n b xs i m c x
+over o n b xs i m c x e g l w =
+    let here : slice_get xs i ≡ Some x = slice_get_read xs (length xs) i x refl l g in
+    let row : drop i xs ≡ x ∷ drop (i + 1) xs = row_from xs i x here in
+    let f = first_of_row xs i x (drop (i + 1) xs) row in
+    let same : trees o.kids ≡ xs = sym (ap trees e) ∙ trees_forest xs in
+    let kid : slice_get (trees o.kids) i ≡ Some x = ap (λ ys. slice_get ys i) same ∙ here in
+    let number : m ≡ n + 1 + count (forest (take i (trees o.kids))) = w.number ∙ ap (λ ys. n + 1 + count (forest (take i ys))) (sym same) in
+    let behind : Within n b (places o) m c (preorder (forest (drop i xs))) = row_within o n b m c i xs e w.number (omega (arith, w.offset)) in
+    let begins : Within n b (places o) m c (preorder (forest (x ∷ drop (i + 1) xs))) = subst (λ ys. Within n b (places o) m c (preorder (forest ys))) row behind in
+    record {
+      child = record { here = kid; number = number };
+      inside = within_in n b (places o) m c (preorder (forest (x ∷ drop (i + 1) xs))) m c (places x) begins (within_first m c x (drop (i + 1) xs) (omega (arith, w.offset)));
+      fits = omega (arith, number, count_split o.kids i x kid);
+      next = record { within = omega (arith, l); number = omega (arith, w.number, f.counted); offset = omega (arith, w.offset, f.long) };
+    }
+
+-- where a number's node is found behind trees that are passed, they end before it or at it
+pub place_behind : (k m c : ℕ) (xs : List Tree) → first_at (has_place k) m c xs ≡ Some k → m ≤ k
+place_behind k m c xs e =
+    elim (cases_lt k m) [
+      | inl l ↦ (let nothing : first_at (has_place k) m c xs ≡ None = none_between (has_place k) m c xs (λ j b t h g. let above : k < j = omega (arith, l, h) in grind (arith, nat_tests, above)) in absurd (none-some k (sym nothing ∙ e)))
+      | inr h ↦ h
+    ]

@@ -1,6 +1,9 @@
+pub mod Branches
+pub mod Follows
 pub mod Linked
 pub mod Ordered
 pub mod Passed
+pub mod Rows
 pub mod Steps
 pub mod Walks
 pub mod Wanted

@@ -1,6 +1,7 @@
 //! Typst's syntax tree: kinds, nodes, and nodes with what stands round them.
 #![tactic(auto)]
 
+mod known;
 mod linked;
 mod order;
 mod search;

@@ -1,33 +1,43 @@
 //! Nodes with what stands round them.
 
-ghost use Rattle.std.specs.Prelude.{◌≡◌, ◌^◌, ◌<◌, ◌-◌, true};
-ghost use Rattle.typst_node.specs.Tree.{nodes, forest, places, preorder};
+ghost use Rattle.std.specs.Prelude.{◌≡◌, ◌+◌, ◌^◌, ◌<◌, ◌-◌, nat_lt, true, drop, length, take};
+ghost use Rattle.typst_node.specs.Tree.{nodes, forest, places, preorder, trees, count};
 ghost use Rattle.typst_node.specs.Order.{AreInOrder, numbers_of};
+ghost use Rattle.typst_tree.specs.Rows.{Holds, IsNode};
 ghost use Rattle.typst_tree.specs.Walks.{Stands};
 
+use crate::known::{Known, Reach};
 use crate::order::find_in;
-use crate::search::{Search, last_leaf_in};
+use crate::search::{
+    Kid, LONG, Search, Spot, child_over, first_in, first_in_row, from_index, last_leaf_in,
+};
 use std::ops::Range;
 use typst_kinds::{Span, SpanNumber, SyntaxKind};
 use typst_node::SyntaxNode;
 
 /// A node of a tree, with the way to its parent, its siblings and the leaves next to it.
 ///
-/// It holds the tree's root, the node, the node's number in the root's preorder, its offset, and
-/// whether the tree's numbers are known to be in order: 40 bytes, `Copy`, and no memory is taken.
-/// What reads the node itself takes a constant time. A step upwards or sideways walks down from
+/// It holds the tree's root, the node, the node's number in the root's preorder, its offset, whether
+/// the tree's numbers are known to be in order, and its place in the first long row on the way from the
+/// root, where that is known: 40 bytes, `Copy`, and no memory is taken. A row of more than 128 children is
+/// long. What reads the node itself takes a constant time. A step upwards or sideways walks down from
 /// the root, a step downwards from the node; each says what it goes through. To go through a
 /// node means a constant time, and what a step says it passes over is never looked into.
+///
+/// The first long row on the way is passed in a constant time by a step from a node whose place in it is
+/// known. It is known of what a step upwards or sideways from below that row led to, of a child whose
+/// parent's place is known, and of a child of the row's owner, where no node above that was searched for.
 #[derive(Clone, Copy)]
 pub struct LinkedNode<'a> {
     root: &'a SyntaxNode,
     node: &'a SyntaxNode,
     number: usize,
     offset: usize,
-    in_order: bool,
+    known: Known,
     ghost counted: { nodes root.now < 2 ^ 64 - 1 },
     ghost stands: { Stands (places root.now) number offset (places node.now) },
-    ghost ordered: { in_order ≡ true → AreInOrder (numbers_of root.now) },
+    ghost ordered: { known.in_order ≡ true → AreInOrder (numbers_of root.now) },
+    ghost holds: { Holds root.now number (nodes node.now) known },
 }
 
 /// The children of a node that are still to come, each as a linked node.
@@ -37,18 +47,50 @@ pub struct LinkedChildren<'a> {
     rest: &'a [SyntaxNode],
     number: usize,
     offset: usize,
-    in_order: bool,
+    index: usize,
+    parent: Parent<'a>,
     ghost counted: { nodes root.now < 2 ^ 64 - 1 },
     ghost stands: { Stands (places root.now) number offset (preorder (forest rest.now)) },
-    ghost ordered: { in_order ≡ true → AreInOrder (numbers_of root.now) },
+    ghost node: { IsNode root.now parent.node.now parent.number },
+    ghost row: { rest.now ≡ drop index (trees parent.node.now.kids) },
+    ghost before: { number ≡ parent.number + 1 + count (forest (take index (trees parent.node.now.kids))) },
+    ghost ordered: { parent.known.in_order ≡ true → AreInOrder (numbers_of root.now) },
+    ghost holds: { Holds root.now parent.number (nodes parent.node.now) parent.known },
+}
+
+/// What the children of a node take of it.
+#[derive(Clone, Copy)]
+struct Parent<'a> {
+    node: &'a SyntaxNode,
+    number: usize,
+    known: Known,
+    is_long: bool,
+    ghost long: { is_long ≡ nat_lt 128 (length (trees node.now.kids)) },
+}
+
+/// The parent of a node, and which of its children the node is, from 0 on.
+#[derive(Clone, Copy)]
+struct Above<'a> {
+    parent: LinkedNode<'a>,
+    index: usize,
+}
+
+/// The tree of the first long row on the way to a node that the node is or is below, and that row's owner.
+#[derive(Clone, Copy)]
+struct Branch<'a> {
+    above: Above<'a>,
+    tree: LinkedNode<'a>,
 }
 
 impl<'a> LinkedNode<'a> {
-    ghost use Rattle.std.specs.Prelude.{◌≡◌, ◌^◌, ◌<◌, ◌-◌};
+    ghost use Rattle.std.specs.Prelude.{◌≡◌, ◌+◌, ◌^◌, ◌<◌, ◌≤◌, ◌-◌, find, drop, Some, MatchOption};
     ghost use Rattle.std.specs.Option.{option_map};
-    ghost use Rattle.typst_node.specs.Tree.{nodes};
+    ghost use Rattle.typst_node.specs.Tree.{nodes, places};
     ghost use Rattle.typst_node.specs.Order.{AreInOrder, numbers_of};
     ghost use Rattle.typst_kinds.specs.Kinds.{is_hash_expr};
+    ghost use Rattle.typst_tree.specs.Branches.{IsAbove, IsBranch, leaf_after, leaf_until, parent_of};
+    ghost use Rattle.typst_tree.specs.Rows.{IsChild, IsFork, IsOpen};
+    ghost use Rattle.typst_tree.specs.Walks.{Stands, Within};
     ghost use Rattle.typst_tree.specs.Wanted.{wanted};
     ghost use Rattle.typst_tree.specs.Steps.{at, node_of, kind_of, offset_of, end_of, first_below, parent, children, is_sibling_after, next_sibling, prev_leaf, next_leaf, leftmost_leaf, leaf_at, find_span, find_number, FindsOwn};
     ghost use Rattle.typst_tree.specs.Linked.{linked, left};
@@ -82,7 +124,7 @@ impl<'a> LinkedNode<'a> {
             node: root,
             number: 0,
             offset: 0,
-            in_order,
+            known: Known::open(in_order),
         }
     }
 
@@ -90,7 +132,160 @@ impl<'a> LinkedNode<'a> {
     fn top(self) -> LinkedNode<'a>
         ensures { linked result ≡ at (linked self.entry).root 0 }
     {
-        LinkedNode::at_root(self.root, self.in_order)
+        LinkedNode::at_root(self.root, self.known.in_order)
+    }
+
+    /// The node with its number and offset.
+    fn spot(self) -> Spot<'a>
+        ensures node { result.node.now ≡ self.entry.node.now }
+        ensures number { result.number ≡ self.entry.number }
+        ensures offset { result.offset ≡ self.entry.offset }
+    {
+        Spot {
+            node: self.node,
+            number: self.number,
+            offset: self.offset,
+        }
+    }
+
+    /// This node, or one below it.
+    fn below(self, spot: Spot<'a>) -> LinkedNode<'a>
+        requires { Within self.number self.offset (places self.node.now) spot.number spot.offset (places spot.node.now) }
+        ensures { linked result ≡ at (linked self.entry).root spot.entry.number }
+    {
+        LinkedNode {
+            root: self.root,
+            node: spot.node,
+            number: spot.number,
+            offset: spot.offset,
+            known: self.known.behind(spot.number - self.number),
+        }
+    }
+
+    /// What its children take of it.
+    #[inline(always)]
+    fn as_parent(self) -> Parent<'a>
+        ensures node { result.node.now ≡ self.entry.node.now }
+        ensures number { result.number ≡ self.entry.number }
+        ensures known { result.known ≡ self.entry.known }
+    {
+        Parent {
+            node: self.node,
+            number: self.number,
+            known: self.known,
+            is_long: self.node.children().len() > LONG,
+        }
+    }
+
+    /// A child of this node.
+    fn child(self, kid: Kid<'a>) -> LinkedNode<'a>
+        requires stands { Stands (places self.root.now) kid.spot.number kid.spot.offset (places kid.spot.node.now) }
+        requires child { IsChild self.node.now self.number kid.spot.node.now kid.spot.number kid.index }
+        ensures root { result.root.now ≡ self.entry.root.now }
+        ensures number { result.number ≡ kid.entry.spot.number }
+        ensures offset { result.offset ≡ kid.entry.spot.offset }
+        ensures node { result.node.now ≡ kid.entry.spot.node.now }
+    {
+        LinkedNode {
+            root: self.root,
+            node: kid.spot.node,
+            number: kid.spot.number,
+            offset: kid.spot.offset,
+            known: self.as_parent().known_of(kid.index, kid.spot.number),
+        }
+    }
+
+    /// The first node on the way from the root to this one that has a long row.
+    fn fork(self) -> Option<LinkedNode<'a>>
+        ensures { MatchOption result (IsOpen self.entry.root.now self.entry.number) (λ o. (o.root.now ≡ self.entry.root.now) × IsFork self.entry.root.now self.entry.number o.node.now o.number) }
+    {
+        if let Reach::Open = self.known.reach {
+            return None;
+        }
+        let mut over = self.top();
+        while over.number < self.number {
+            if over.node.children().len() > LONG {
+                return Some(over);
+            }
+            over = over.child(child_over(over.spot(), self.number));
+        }
+        None
+    }
+
+    /// The tree that this node is or is below, in the first long row on the way to it.
+    fn tree_of(self, owner: LinkedNode<'a>) -> Kid<'a>
+        requires root { owner.root.now ≡ self.root.now }
+        requires fork { IsFork self.root.now self.number owner.node.now owner.number }
+        ensures child { IsChild owner.entry.node.now owner.entry.number result.spot.node.now result.spot.number result.index }
+        ensures stands { Stands (places self.entry.root.now) result.spot.number result.spot.offset (places result.spot.node.now) }
+        ensures from { result.spot.number ≤ self.entry.number }
+        ensures to { self.entry.number < result.spot.number + nodes result.spot.node.now }
+    {
+        if let Reach::Placed = self.known.reach
+            && self.offset < usize::MAX
+        {
+            let index = self.known.index as usize;
+            let below = usize::from(self.known.below);
+            let node = &owner.node.children()[index];
+            if let Some(inner) = first_in(node, 0, 0, &Search::Place(below)) {
+                let spot = Spot {
+                    node,
+                    number: self.number - below,
+                    offset: self.offset - inner.offset,
+                };
+                return Kid { spot, index };
+            }
+        }
+        child_over(owner.spot(), self.number)
+    }
+
+    /// The tree of the first long row on the way to this node, where there is one.
+    fn branch(self) -> Option<Branch<'a>>
+        ensures { MatchOption result (IsOpen self.entry.root.now self.entry.number) (λ branch. IsBranch self.entry branch) }
+    {
+        let owner = self.fork()?;
+        let kid = self.tree_of(owner);
+        Some(Branch {
+            above: Above {
+                parent: owner,
+                index: kid.index,
+            },
+            tree: owner.child(kid),
+        })
+    }
+
+    /// The parent, where this node is below another one.
+    fn above_in(self, over: LinkedNode<'a>) -> Above<'a>
+        requires root { over.root.now ≡ self.root.now }
+        requires from { over.number < self.number }
+        requires to { self.number < over.number + nodes over.node.now }
+        ensures { IsAbove self.entry result }
+    {
+        let mut parent = over;
+        loop {
+            let kid = child_over(parent.spot(), self.number);
+            if kid.spot.number == self.number {
+                return Above {
+                    parent,
+                    index: kid.index,
+                };
+            }
+            parent = parent.child(kid);
+        }
+    }
+
+    /// The parent, with this node's index; none at the root.
+    fn above(self) -> Option<Above<'a>>
+        ensures { MatchOption result (self.entry.number ≡ 0) (λ above. IsAbove self.entry above) }
+    {
+        if self.number == 0 {
+            return None;
+        }
+        Some(match self.branch() {
+            None => self.above_in(self.top()),
+            Some(branch) if branch.tree.number == self.number => branch.above,
+            Some(branch) => self.above_in(branch.tree),
+        })
     }
 
     /// The node itself.
@@ -141,15 +336,10 @@ impl<'a> LinkedNode<'a> {
     fn first(self, search: &Search) -> Option<LinkedNode<'a>>
         ensures { option_map linked result ≡ first_below (wanted search.now) (linked self.entry) }
     {
-        match find_in(self.node, self.number, self.offset, search, self.in_order) {
+        let in_order = self.known.in_order;
+        match find_in(self.node, self.number, self.offset, search, in_order) {
             None => None,
-            Some(spot) => Some(LinkedNode {
-                root: self.root,
-                node: spot.node,
-                number: spot.number,
-                offset: spot.offset,
-                in_order: self.in_order,
-            }),
+            Some(spot) => Some(self.below(spot)),
         }
     }
 
@@ -157,7 +347,10 @@ impl<'a> LinkedNode<'a> {
     pub fn parent(self) -> Option<LinkedNode<'a>>
         ensures { option_map linked result ≡ parent (linked self.entry) }
     {
-        self.top().first(&Search::ParentOf(self.number))
+        match self.above() {
+            None => None,
+            Some(above) => Some(above.parent),
+        }
     }
 
     /// The parent's kind, or `None` at the root. Takes what `parent` takes.
@@ -178,7 +371,35 @@ impl<'a> LinkedNode<'a> {
         ensures { option_map linked result ≡ next_leaf (linked self.entry) }
     {
         let end = self.number + self.node.descendants();
+        let Some(branch) = self.branch() else {
+            return self.top().first(&Search::LeafFrom(end));
+        };
+        if let Some(leaf) = branch.tree.first(&Search::LeafFrom(end)) {
+            return Some(leaf);
+        }
+        if let Some(leaf) = branch.tree.leaf_behind(branch.above) {
+            return Some(leaf);
+        }
+        let owner = branch.above.parent;
+        let end = owner.number + owner.node.descendants();
         self.top().first(&Search::LeafFrom(end))
+    }
+
+    /// The first leaf that counts behind this node, in its parent.
+    fn leaf_behind(self, above: Above<'a>) -> Option<LinkedNode<'a>>
+        requires { IsAbove self above }
+        ensures { MatchOption result (leaf_after self.entry.root.now (self.entry.number + nodes self.entry.node.now) ≡ leaf_after self.entry.root.now (above.entry.parent.number + nodes above.entry.parent.node.now)) (λ leaf. leaf_after self.entry.root.now (self.entry.number + nodes self.entry.node.now) ≡ Some (linked leaf)) }
+    {
+        let index = above.index + 1;
+        let behind = from_index(above.parent.node.children(), index);
+        let number = self.number + self.node.descendants();
+        let offset = self.offset.saturating_add(self.node.len());
+        let found = first_in_row(behind, number, offset, &Search::LeafFrom(0))?;
+        let kid = above.parent.child(Kid {
+            spot: found.tree.spot,
+            index: index + found.tree.index,
+        });
+        Some(kid.below(found.spot))
     }
 
     /// The last leaf that is neither trivia nor an error before this node.
@@ -188,8 +409,57 @@ impl<'a> LinkedNode<'a> {
     pub fn prev_leaf(self) -> Option<LinkedNode<'a>>
         ensures { option_map linked result ≡ prev_leaf (linked self.entry) }
     {
-        let number = last_leaf_in(self.root, 0, self.number)?;
-        self.top().first(&Search::Place(number))
+        let Some(branch) = self.branch() else {
+            return self.leaf_until(self.number);
+        };
+        let tree = branch.tree;
+        if let Some(number) = last_leaf_in(tree.node, tree.number, self.number) {
+            return tree.first(&Search::Place(number));
+        }
+        if let Some(leaf) = tree.leaf_before(branch.above) {
+            return Some(leaf);
+        }
+        self.leaf_until(branch.above.parent.number)
+    }
+
+    /// The last leaf of the tree that counts and has a lower number than this.
+    fn leaf_until(self, number: usize) -> Option<LinkedNode<'a>>
+        ensures { option_map linked result ≡ leaf_until self.entry.root.now number }
+    {
+        let place = last_leaf_in(self.root, 0, number)?;
+        self.top().first(&Search::Place(place))
+    }
+
+    /// The last leaf that counts before this node, in its parent.
+    fn leaf_before(self, above: Above<'a>) -> Option<LinkedNode<'a>>
+        requires { IsAbove self above }
+        ensures { MatchOption result (leaf_until self.entry.root.now self.entry.number ≡ leaf_until self.entry.root.now above.entry.parent.number) (λ leaf. leaf_until self.entry.root.now self.entry.number ≡ Some (linked leaf)) }
+    {
+        let parent = above.parent;
+        if self.offset == usize::MAX {
+            let number = last_leaf_in(parent.node, parent.number, self.number)?;
+            return parent.first(&Search::Place(number));
+        }
+        let row = parent.node.children();
+        let mut at = self.number;
+        let mut begin = self.offset;
+        let mut i = above.index;
+        while i > 0 {
+            i -= 1;
+            let node = &row[i];
+            at -= node.descendants();
+            begin -= node.len();
+            if let Some(number) = last_leaf_in(node, at, self.number) {
+                let spot = Spot {
+                    node,
+                    number: at,
+                    offset: begin,
+                };
+                let kid = parent.child(Kid { spot, index: i });
+                return kid.first(&Search::Place(number));
+            }
+        }
+        None
     }
 
     /// The first leaf that is neither trivia nor an error, among this node and those below it.
@@ -229,6 +499,7 @@ impl<'a> LinkedNode<'a> {
     }
 
     /// The children, in order. The call and each child take a constant time.
+    #[inline(always)]
     pub fn children(self) -> LinkedChildren<'a>
         ensures { left result ≡ children (linked self.entry) }
     {
@@ -237,7 +508,8 @@ impl<'a> LinkedNode<'a> {
             rest: self.node.children(),
             number: self.number + 1,
             offset: self.offset.saturating_add(self.node.leaf_text().len()),
-            in_order: self.in_order,
+            index: 0,
+            parent: self.as_parent(),
         }
     }
 
@@ -252,13 +524,35 @@ impl<'a> LinkedNode<'a> {
     pub fn next_sibling(self) -> Option<LinkedNode<'a>>
         ensures { option_map linked result ≡ next_sibling (linked self.entry) }
     {
-        let parent = self.parent()?;
-        for child in parent.children() {
+        let above = self.above()?;
+        self.next_among(self.row(above))
+    }
+
+    /// The first of some siblings that comes after this node and is no trivia.
+    fn next_among(self, row: LinkedChildren<'a>) -> Option<LinkedNode<'a>>
+        ensures { option_map linked result ≡ find (is_sibling_after (linked self.entry)) (left row.entry) }
+    {
+        for child in row {
             if self.is_before(child) {
                 return Some(child);
             }
         }
         None
+    }
+
+    /// The node and its siblings behind it.
+    fn row(self, above: Above<'a>) -> LinkedChildren<'a>
+        requires { IsAbove self above }
+        ensures { left result ≡ drop above.entry.index (children (linked above.entry.parent)) }
+    {
+        LinkedChildren {
+            root: self.root,
+            rest: from_index(above.parent.node.children(), above.index),
+            number: self.number,
+            offset: self.offset,
+            index: above.index,
+            parent: above.parent.as_parent(),
+        }
     }
 
     /// The kind of the next sibling that is no trivia. Takes what `next_sibling` takes.
@@ -272,6 +566,22 @@ impl<'a> LinkedNode<'a> {
     }
 }
 
+impl<'a> Parent<'a> {
+    ghost use Rattle.std.specs.Prelude.{◌≡◌, ◌-◌, ◌<◌};
+    ghost use Rattle.typst_tree.specs.Follows.{Follows};
+
+    /// What is known of the way to the child of an index, where that has a number.
+    #[inline(always)]
+    fn known_of(&self, index: usize, number: usize) -> Known
+        requires { self.now.number < number }
+        ensures in_order { result.in_order ≡ self.now.known.in_order }
+        ensures follows { Follows self.now.known self.now.is_long index (number - self.now.number) result }
+    {
+        let numbers = number - self.number;
+        self.known.of_child(self.is_long, index, numbers)
+    }
+}
+
 impl<'a> Iterator for LinkedChildren<'a> {
     ghost use Rattle.std.specs.Iterator.{YieldsFirstBy, item_count};
     ghost use Rattle.typst_tree.specs.Linked.{linked, left};
@@ -282,6 +592,7 @@ impl<'a> Iterator for LinkedChildren<'a> {
 
     ghost remaining = { item_count left };
 
+    #[inline(always)]
     fn next(&mut self) -> Option<LinkedNode<'a>> {
         let (node, rest) = self.rest.split_first()?;
         let child = LinkedNode {
@@ -289,14 +600,15 @@ impl<'a> Iterator for LinkedChildren<'a> {
             node,
             number: self.number,
             offset: self.offset,
-            in_order: self.in_order,
+            known: self.parent.known_of(self.index, self.number),
         };
         *self = LinkedChildren {
             root: self.root,
             rest,
             number: self.number + node.descendants(),
             offset: self.offset.saturating_add(node.len()),
-            in_order: self.in_order,
+            index: self.index + 1,
+            parent: self.parent,
         };
         Some(child)
     }

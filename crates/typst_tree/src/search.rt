@@ -1,23 +1,26 @@
 //! The walk through a tree in preorder that all steps share.
 
-ghost use Rattle.std.specs.Prelude.{◌≡◌, ◌+◌, ◌^◌, ◌<◌, ◌-◌, ◌≤◌, true, None, length, drop, IfSome, IsTrue, ◌↔◌};
+ghost use Rattle.std.specs.Prelude.{◌≡◌, ◌+◌, ◌^◌, ◌<◌, ◌-◌, ◌≤◌, true, None, length, drop, take, IfSome, IsTrue, ◌↔◌};
 ghost use Rattle.std.specs.Option.{option_map};
 ghost use Rattle.typst_node.specs.Tree.{nodes, places, forest, count, preorder, text_of, saturated};
 ghost use Rattle.typst_tree.specs.Passed.{IsPassed, FindsNothing};
-ghost use Rattle.typst_tree.specs.Walks.{first_at, last_leaf, is_childless, is_leaf, has_child, holds_byte, Within};
+ghost use Rattle.typst_tree.specs.Walks.{first_at, last_leaf, is_childless, is_leaf, holds_byte, Within};
+ghost use Rattle.typst_tree.specs.Rows.{IsChild, IsTreeOf};
 ghost use Rattle.typst_tree.specs.Wanted.{wanted};
 ghost use Rattle.typst_tree.specs.Ordered.{IsKey};
 
 use typst_kinds::{Span, SpanNumber};
 use typst_node::SyntaxNode;
 
+/// A row of more children than this is long. A linked node keeps its place in the first long row on its
+/// way, and a search passes over a long row from both ends.
+pub const LONG: usize = 128;
+
 /// What a walk looks for, by numbers in preorder.
 #[derive(Clone, Copy)]
 pub enum Search {
     /// The node with this number.
     Place(usize),
-    /// The node with a child of this number.
-    ParentOf(usize),
     /// A leaf that is neither trivia nor an error, from this number on.
     LeafFrom(usize),
     /// A leaf whose range holds this byte.
@@ -51,21 +54,6 @@ pub fn is_leaf(node: &SyntaxNode) -> bool
     is_childless(node) && !kind.is_trivia() && !kind.is_error()
 }
 
-/// Whether a child of the node has the number `wanted`, where the node itself has `number`.
-fn has_child(node: &SyntaxNode, number: usize, wanted: usize) -> bool
-    requires { number + nodes node.now < 2 ^ 64 - 1 }
-    ensures { result ≡ has_child wanted number 0 node.now }
-{
-    let mut at = number + 1;
-    for kid in node.children() {
-        if wanted <= at {
-            return at == wanted;
-        }
-        at += kid.descendants();
-    }
-    false
-}
-
 impl Search {
     /// Whether the node with this number and offset is one that is looked for.
     pub fn wants(&self, number: usize, offset: usize, node: &SyntaxNode) -> bool
@@ -74,7 +62,6 @@ impl Search {
     {
         match self {
             Search::Place(place) => number == *place,
-            Search::ParentOf(child) => has_child(node, number, *child),
             Search::LeafFrom(least) => *least <= number && is_leaf(node),
             Search::Byte(byte) => holds_byte(*byte, offset, node),
             Search::Spanned(span) => same_span(node.span(), *span),
@@ -93,7 +80,6 @@ impl Search {
         let end = number + node.descendants();
         match self {
             Search::Place(place) => *place < number || end <= *place,
-            Search::ParentOf(child) => *child <= number || end <= *child,
             Search::LeafFrom(least) => end <= *least,
             Search::Byte(byte) => *byte < offset || offset.saturating_add(node.len()) <= *byte,
             Search::Spanned(_) => false,
@@ -108,7 +94,6 @@ impl Search {
     {
         match self {
             Search::Place(place) => number <= *place,
-            Search::ParentOf(child) => number <= *child,
             Search::LeafFrom(least) => number <= *least,
             Search::Byte(byte) => offset <= *byte,
             Search::Spanned(_) => false,
@@ -151,6 +136,13 @@ pub fn from_index(row: &[SyntaxNode], index: usize) -> &[SyntaxNode]
     &row[index..]
 }
 
+/// A tree of a row, and which of them it is, from 0 on.
+#[derive(Clone, Copy)]
+pub struct Kid<'a> {
+    pub spot: Spot<'a>,
+    pub index: usize,
+}
+
 /// How many trees of a row are passed over, and the number and the offset of what is behind them.
 #[derive(Clone, Copy)]
 pub struct Passed {
@@ -160,6 +152,23 @@ pub struct Passed {
 }
 
 impl Passed {
+    /// The next tree, which is this one.
+    fn tree<'a>(&self, node: &'a SyntaxNode) -> Kid<'a>
+        ensures node { result.spot.node.now ≡ node.now }
+        ensures number { result.spot.number ≡ self.now.number }
+        ensures offset { result.spot.offset ≡ self.now.offset }
+        ensures index { result.index ≡ self.now.index }
+    {
+        Kid {
+            spot: Spot {
+                node,
+                number: self.number,
+                offset: self.offset,
+            },
+            index: self.index,
+        }
+    }
+
     /// With the next tree, which is this one.
     fn behind(&self, tree: &SyntaxNode) -> Passed
         requires index { self.now.index < 2 ^ 64 - 1 }
@@ -176,10 +185,31 @@ impl Passed {
     }
 }
 
-/// Passes over children at the front of a node's row, where the search tells by their numbers or bytes
-/// that nothing is looked for in them. A row can be long, so this goes on from both of its ends by turns
-/// until one of them has come there, and is a loop without calls.
-fn passed_over(
+/// Passes over trees at the front of a row, where the search tells by their numbers or bytes that nothing
+/// is looked for in them.
+fn passed_from_front(row: &[SyntaxNode], number: usize, offset: usize, search: &Search) -> Passed
+    requires { number + count (forest row.now) < 2 ^ 64 - 1 }
+    ensures passed { IsPassed row.now number offset result.index result.number result.offset }
+    ensures nothing { first_at (wanted search.now) number offset (preorder (forest (take result.index row.now))) ≡ None }
+{
+    let mut front = Passed {
+        index: 0,
+        number,
+        offset,
+    };
+    for tree in row {
+        let next = front.behind(tree);
+        if !search.ends_by(next.number, next.offset) {
+            return front;
+        }
+        front = next;
+    }
+    front
+}
+
+/// The same in a node's row, which is long: it goes on from both ends of the row by turns until one of
+/// them has come there, and is a loop without calls.
+fn passed_in_long(
     node: &SyntaxNode,
     row: &[SyntaxNode],
     number: usize,
@@ -189,7 +219,7 @@ fn passed_over(
     requires counted { number + nodes node.now < 2 ^ 64 - 1 }
     requires row { forest row.now ≡ node.now.kids }
     ensures passed { IsPassed row.now (number + 1) (saturated (offset + length node.now.head.text)) result.index result.number result.offset }
-    ensures nothing { first_at (wanted search.now) (number + 1) (saturated (offset + length node.now.head.text)) (preorder (forest row.now)) ≡ first_at (wanted search.now) result.number result.offset (preorder (forest (drop result.index row.now))) }
+    ensures nothing { first_at (wanted search.now) (number + 1) (saturated (offset + length node.now.head.text)) (preorder (forest (take result.index row.now))) ≡ None }
 {
     let text = node.leaf_text().len();
     let len = node.len();
@@ -227,6 +257,61 @@ fn passed_over(
     front
 }
 
+/// Passes over children at the front of a node's row, where the search tells by their numbers or bytes
+/// that nothing is looked for in them. The length of the node as a whole is asked for only where its row
+/// is long.
+fn passed_over(
+    node: &SyntaxNode,
+    row: &[SyntaxNode],
+    number: usize,
+    offset: usize,
+    search: &Search,
+) -> Passed
+    requires counted { number + nodes node.now < 2 ^ 64 - 1 }
+    requires row { forest row.now ≡ node.now.kids }
+    ensures passed { IsPassed row.now (number + 1) (saturated (offset + length node.now.head.text)) result.index result.number result.offset }
+    ensures nothing { first_at (wanted search.now) (number + 1) (saturated (offset + length node.now.head.text)) (preorder (forest row.now)) ≡ first_at (wanted search.now) result.number result.offset (preorder (forest (drop result.index row.now))) }
+{
+    let start = offset.saturating_add(node.leaf_text().len());
+    match search {
+        Search::Spanned(_) | Search::Numbered(_) => Passed {
+            index: 0,
+            number: number + 1,
+            offset: start,
+        },
+        _ if row.len() > LONG => passed_in_long(node, row, number, offset, search),
+        _ => passed_from_front(row, number + 1, start, search),
+    }
+}
+
+/// The child of a node that has the node with the number `wanted` in it, itself counted.
+pub fn child_over<'a>(over: Spot<'a>, wanted: usize) -> Kid<'a>
+    requires counted { over.number + nodes over.node.now < 2 ^ 64 - 1 }
+    requires from { over.number < wanted }
+    requires to { wanted < over.number + nodes over.node.now }
+    ensures child { IsChild over.entry.node.now over.entry.number result.spot.node.now result.spot.number result.index }
+    ensures spot { Within over.entry.number over.entry.offset (places over.entry.node.now) result.spot.number result.spot.offset (places result.spot.node.now) }
+    ensures from { result.spot.number ≤ wanted }
+    ensures to { wanted < result.spot.number + nodes result.spot.node.now }
+{
+    let row = over.node.children();
+    let mut at = passed_over(
+        over.node,
+        row,
+        over.number,
+        over.offset,
+        &Search::Place(wanted),
+    );
+    loop {
+        let node = &row[at.index];
+        let next = at.behind(node);
+        if wanted < next.number {
+            return at.tree(node);
+        }
+        at = next;
+    }
+}
+
 /// The first node in preorder that is looked for, among a node, which has this number and
 /// offset, and those below it.
 pub fn first_in<'a>(
@@ -250,6 +335,9 @@ pub fn first_in<'a>(
         });
     }
     let row = node.children();
+    if row.is_empty() {
+        return None;
+    }
     let passed = passed_over(node, row, number, offset, search);
     let mut at = passed.number;
     let mut begin = passed.offset;
@@ -290,4 +378,41 @@ pub fn last_leaf_in(node: &SyntaxNode, number: usize, before: usize) -> Option<u
         }
     }
     if is_leaf(node) { Some(number) } else { None }
+}
+
+/// A node that was found in one of some trees that stand side by side, and that tree.
+#[derive(Clone, Copy)]
+pub struct InRow<'a> {
+    pub tree: Kid<'a>,
+    pub spot: Spot<'a>,
+}
+
+/// The first node in preorder that is looked for, among some trees that stand side by side, of which
+/// the first has this number and offset.
+pub fn first_in_row<'a>(
+    row: &'a [SyntaxNode],
+    number: usize,
+    offset: usize,
+    search: &Search,
+) -> Option<InRow<'a>>
+    requires { number + count (forest row.now) < 2 ^ 64 - 1 }
+    ensures first { option_map (λ found. found.spot.number) result ≡ first_at (wanted search.now) number offset (preorder (forest row.now)) }
+    ensures tree { IfSome result (λ found. IsTreeOf row.now number offset found.tree.spot.node.now found.tree.spot.number found.tree.spot.offset found.tree.index) }
+    ensures spot { IfSome result (λ found. Within found.tree.spot.number found.tree.spot.offset (places found.tree.spot.node.now) found.spot.number found.spot.offset (places found.spot.node.now)) }
+{
+    let mut at = Passed {
+        index: 0,
+        number,
+        offset,
+    };
+    for node in row {
+        if let Some(spot) = first_in(node, at.number, at.offset, search) {
+            return Some(InRow {
+                tree: at.tree(node),
+                spot,
+            });
+        }
+        at = at.behind(node);
+    }
+    None
 }

@@ -1,23 +1,17 @@
-use Rattle.std.proofs.Common.{ap, sym, ◌∙◌, refl}
-use Rattle.std.specs.Prelude.{find}
-use Rattle.typst_tree.specs.Linked.{linked, left}
-use Rattle.typst_tree.specs.Steps.{is_sibling_after}
-use Rattle.typst_tree.proofs.Siblings.{find_past, find_here, next_of}
+use Rattle.std.proofs.Common.{ap, sym, ◌∙◌}
+use Rattle.std.specs.Prelude.{find, option_and_then}
+use Rattle.typst_tree.specs.Linked.{linked}
+use Rattle.typst_tree.specs.Steps.{children, is_sibling_after}
+use Rattle.typst_tree.proofs.Branches.{above_is, behind_above, no_parent}
 use Rattle.typst_tree.proofs.linked.LinkedNode.next_sibling.Goals as goal
 
-pub loop-child-init : goal.loop-child-init
-loop-child-init c = (tt, tt, refl)
-
-pub loop-child-preserved : goal.loop-child-preserved
-loop-child-preserved c =
-    (tt, tt, c.loop-child.invariant.2 ∙ find_past (is_sibling_after (linked c.args.self)) (linked c.in-Some.child) _ _ c.in-Some.ensures.steps c.if-is_before.ensures)
-
-pub returns-then-is_before : goal.returns-then-is_before
-returns-then-is_before c =
-    sym (next_of (linked c.args.self) (linked c.in_ok-parent.parent) _ _ c.in_ok-parent.ensures (ap left c.into_iter-child-iterator.ensures.into_iter_gives ∙ c.children-child-items.ensures) c.loop-child.invariant.2
-    ∙ find_here (is_sibling_after (linked c.args.self)) (linked c.in-Some.child) _ _ c.in-Some.ensures.steps c.if-is_before.ensures)
+pub returns-in_err-above : goal.returns-in_err-above
+returns-in_err-above c =
+    rw c.from_residual.ensures (ap (option_and_then (λ p. find (is_sibling_after (linked c.args.self)) (children p))) (no_parent c.args.self c.in_err-above.ensures))
 
 pub returns : goal.returns
 returns c =
-    sym (next_of (linked c.args.self) (linked c.in_ok-parent.parent) _ _ c.in_ok-parent.ensures (ap left c.into_iter-child-iterator.ensures.into_iter_gives ∙ c.children-child-items.ensures) c.loop-child.invariant.2
-    ∙ ap (find (is_sibling_after (linked c.args.self))) c.in-None.ensures.steps.0)
+    c.next_among.ensures
+    ∙ (ap (find (is_sibling_after (linked c.args.self))) c.row.ensures
+    ∙ (sym (behind_above c.args.self c.in_ok-above.above c.in_ok-above.ensures)
+    ∙ ap (option_and_then (λ p. find (is_sibling_after (linked c.args.self)) (children p))) (above_is c.args.self c.in_ok-above.above c.in_ok-above.ensures)))

@@ -4,7 +4,7 @@ use Rattle.typst_node.specs.Tree.{Forest, preorder}
 use Rattle.typst_tree.specs.Walks.{first_at}
 use Rattle.typst_tree.specs.Wanted.{wanted}
 use Rattle.typst_tree.specs.declared.search.Search.{Search}
-use Rattle.typst_tree.proofs.PassesOver.{no_place_above, no_leaf_above, no_child_above, no_byte_above}
+use Rattle.typst_tree.proofs.PassesOver.{no_place_above, no_leaf_above, no_byte_above}
 use Rattle.typst_tree.proofs.search.Search.ends_by.Goals as goal
 
 asked : (n a : ℕ) (f : Forest) {s r : Search} → s ≡ r → first_at (wanted s) n a (preorder f) ≡ first_at (wanted r) n a (preorder f)
@@ -13,10 +13,6 @@ asked n a f e = ap (λ s. first_at (wanted s) n a (preorder f)) e
 pub returns-in-Place : goal.returns-in-Place
 returns-in-Place c = λ h n a f e _.
     asked n a f c.in-Place.is ∙ no_place_above c.in-Place.place n a f (let end : c.args.number ≤ c.in-Place.place = grind (arith, nat_tests, h) in omega (arith, end, e))
-
-pub returns-in-ParentOf : goal.returns-in-ParentOf
-returns-in-ParentOf c = λ h n a f e _.
-    asked n a f c.in-ParentOf.is ∙ no_child_above c.in-ParentOf.child n a f (let end : c.args.number ≤ c.in-ParentOf.child = grind (arith, nat_tests, h) in omega (arith, end, e))
 
 pub returns-in-LeafFrom : goal.returns-in-LeafFrom
 returns-in-LeafFrom c = λ h n a f e _.

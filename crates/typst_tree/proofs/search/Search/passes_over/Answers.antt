@@ -4,7 +4,7 @@ use Rattle.typst_node.specs.Tree.{Tree, places}
 use Rattle.typst_tree.specs.Walks.{first_at}
 use Rattle.typst_tree.specs.Wanted.{wanted}
 use Rattle.typst_tree.specs.declared.search.Search.{Search}
-use Rattle.typst_tree.proofs.PassesOver.{no_place_before, no_place_after, no_leaf, no_child_before, no_child_after, no_byte_before, no_byte_after}
+use Rattle.typst_tree.proofs.PassesOver.{no_place_before, no_place_after, no_leaf, no_byte_before, no_byte_after}
 use Rattle.typst_tree.proofs.search.Search.passes_over.Goals as goal
 
 asked : (n a : ℕ) (t : Tree) {s r : Search} → s ≡ r → first_at (wanted s) n a (places t) ≡ first_at (wanted r) n a (places t)
@@ -17,14 +17,6 @@ returns-then-place-number c = λ h.
 pub returns-else-place-number : goal.returns-else-place-number
 returns-else-place-number c = λ h.
     asked c.args.number c.args.offset c.args.node.now c.in-Place.is ∙ (no_place_after c.in-Place.place c.args.number c.args.offset c.args.node.now (let end : c.args.number + c.descendants.result ≤ c.in-Place.place = grind (arith, nat_tests, h) in omega (arith, end, c.descendants.ensures, c.requires)))
-
-pub returns-then-child-number : goal.returns-then-child-number
-returns-then-child-number c = λ h.
-    asked c.args.number c.args.offset c.args.node.now c.in-ParentOf.is ∙ (no_child_before c.in-ParentOf.child c.args.number c.args.offset c.args.node.now (grind (arith, nat_tests, h)))
-
-pub returns-else-child-number : goal.returns-else-child-number
-returns-else-child-number c = λ h.
-    asked c.args.number c.args.offset c.args.node.now c.in-ParentOf.is ∙ (no_child_after c.in-ParentOf.child c.args.number c.args.offset c.args.node.now (let end : c.args.number + c.descendants.result ≤ c.in-ParentOf.child = grind (arith, nat_tests, h) in omega (arith, end, c.descendants.ensures, c.requires)))
 
 pub returns-in-LeafFrom : goal.returns-in-LeafFrom
 returns-in-LeafFrom c = λ h.

@@ -3,7 +3,7 @@ use Rattle.typst_node.specs.Tree.{forest, count, preorder, joined}
 use Rattle.typst_tree.specs.Passed.{IsPassed}
 use Rattle.typst_tree.specs.Walks.{first_at}
 use Rattle.typst_tree.specs.Wanted.{wanted}
-use Rattle.typst_tree.proofs.search.passed_over.Given as goal
+use Rattle.typst_tree.proofs.search.passed_in_long.Given as goal
 
 abbrev pub invariant-loop-tree : goal.invariant-loop-tree
 invariant-loop-tree l = record {

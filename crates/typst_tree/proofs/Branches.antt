@@ -1,0 +1,231 @@
+-- Steps up from a node.
+use Rattle.std.proofs.Common.{◌≡◌, ℕ, zero, suc, ◌+◌, ◌-◌, ◌^◌, ◌<◌, ◌≤◌, List, [], ◌∷◌, ◌++◌, true, false, length, take, drop, Option, Some, None, refl, ap, sym, subst, ◌∙◌, arith, append_assoc, length-append}
+use Rattle.std.proofs.lemmas.List.{drop-append-le, length-drop, take-append-drop}
+use Rattle.typst_tree.proofs.LastLeaf.{last_append, last_none, last_alone, preorder_append}
+use Rattle.typst_tree.proofs.PassesOver.{place_found}
+use Rattle.std.proofs.Math.Seq.{drop-append_seam, drop-append-add}
+use Rattle.std.specs.Prelude.{slice_get, nat_le, nat_lt, MatchOption, find}
+use Rattle.typst_node.proofs.SpansAside.{forest_trees}
+use Rattle.typst_tree.proofs.Siblings.{find_behind}
+use Rattle.std.proofs.lemmas.Bool.Decides.{nat_tests}
+use Rattle.std.specs.Option.{option_map}
+use Rattle.std.proofs.lemmas.Option.{none-some}
+use Rattle.typst_node.specs.Tree.{Forest, none, more, Tree, trees, nodes, places, forest, count, preorder, saturated, text_of}
+use Rattle.typst_tree.proofs.Rows.{Beside, beside, Kid, kid_behind}
+use Rattle.typst_tree.specs.Walks.{first_at, last_leaf, is_leaf, is_leaf_from, is_childless, has_place, if_none, Stands}
+use Rattle.typst_tree.specs.Rows.{IsChild, IsTreeOf}
+use Rattle.typst_tree.specs.Branches.{IsAbove, leaf_after, leaf_until}
+use Rattle.typst_tree.specs.Linked.{linked}
+use Rattle.typst_tree.specs.Steps.{At, at, children, is_sibling_after, parent, first_below, start_of, node_of, next_leaf}
+use Rattle.typst_tree.specs.declared.linked.LinkedNode.{LinkedNode}
+use Rattle.typst_tree.specs.declared.linked.Above.{Above}
+use Rattle.typst_tree.proofs.WalksInPreorder.{first_append, length_places, length_preorder}
+use Rattle.typst_tree.proofs.NodesOfStretch.{node_here, same_node, standing, stands_whole}
+use Rattle.typst_tree.proofs.Parents.{parent_is, none_from}
+
+pub above_is : (a : LinkedNode) (b : Above) → IsAbove a b → Some (linked b.parent) ≡ parent (linked a)
+above_is a b w =
+    let up = parent_is b.parent.root.now b.parent.node.now b.parent.number b.parent.offset a.node.now a.number b.index b.parent.stands w.child in
+    sym up ∙ ap (λ r. parent (at r a.number)) w.root
+
+pub no_parent : (a : LinkedNode) → a.number ≡ 0 → None ≡ parent (linked a)
+no_parent a e = ap (option_map (at a.root.now)) (sym (none_from a.number 0 0 (places a.root.now) (omega (arith, e))))
+
+pub linked_at : (a : LinkedNode) (root : Tree) (n : ℕ) → a.root.now ≡ root → a.number ≡ n → linked a ≡ at root n
+linked_at a root n p q = λ i. record { root = p i; number = q i }
+
+-- the first leaf from a number on, where some trees begin there
+leaf_free : (n a b : ℕ) (k j : ℕ) (xs : List Tree) → k ≤ n → j ≤ n → first_at (is_leaf_from k) n a xs ≡ first_at (is_leaf_from j) n b xs
+leaf_free n a b k j [] h l = refl
+leaf_free n a b k j (x ∷ xs) h l =
+    let first : nat_le k n ≡ true = grind (arith, nat_tests, h) in
+    let second : nat_le j n ≡ true = grind (arith, nat_tests, l) in
+    rw (first, second, leaf_free (n + 1) (a + length x.head.text) (b + length x.head.text) k j xs (omega (arith, h)) (omega (arith, l))) refl
+
+-- leaves are looked for from the number k on: what stands before it doesn't count
+pub leaf_drop : (k n a m : ℕ) (xs : List Tree) → k ≡ n + m → m ≤ length xs → first_at (is_leaf_from k) n a xs ≡ first_at (is_leaf_from 0) k 0 (drop m xs)
+leaf_drop k n a zero xs e h =
+    let same : n ≡ k = omega (arith, e) in
+    leaf_free n a 0 k 0 xs (omega (arith, e)) (omega arith) ∙ ap (λ j. first_at (is_leaf_from 0) j 0 xs) same
+leaf_drop k n a (suc m) [] e h = absurd (omega (arith, h))
+leaf_drop k n a (suc m) (x ∷ xs) e h =
+    let fails : nat_le k n ≡ false = grind (arith, nat_tests, e) in
+    rw fails (leaf_drop k (n + 1) (a + length x.head.text) m xs (omega (arith, e)) (omega (arith, h)))
+
+pub leaf_split : (k : ℕ) (xs ys zs : List Tree) → xs ≡ ys ++ zs → first_at (is_leaf_from 0) k 0 xs ≡ if_none (first_at (is_leaf_from 0) k 0 ys) (first_at (is_leaf_from 0) (k + length ys) 0 zs)
+leaf_split k xs ys zs e =
+    ap (first_at (is_leaf_from 0) k 0) e ∙ (first_append (is_leaf_from 0) k 0 ys zs ∙ ap (if_none (first_at (is_leaf_from 0) k 0 ys)) (leaf_free (k + length ys) _ 0 0 0 zs (omega arith) (omega arith)))
+
+-- the nodes from a number on, where some trees' nodes begin there
+pub cut : (xs : List Tree) (k b m : ℕ) (ys : List Tree) → Stands xs k b ys → m ≡ k + length ys → drop k xs ≡ ys ++ drop m xs
+cut xs k b m ys s e =
+    let w = standing xs k b ys s in
+    let front : length w.front ≡ k = omega (arith, w.number) in
+    let both : length (w.front ++ ys) ≡ m = omega (arith, front, e, length-append w.front ys) in
+    let behind : drop m xs ≡ w.back = ap (λ j. drop j xs) (sym both) ∙ (ap (drop (length (w.front ++ ys))) (w.whole ∙ sym (append_assoc w.front ys w.back)) ∙ drop-append_seam (w.front ++ ys) w.back) in
+    let here : drop k xs ≡ ys ++ w.back = ap (λ j. drop j xs) (sym front) ∙ (ap (drop (length w.front)) w.whole ∙ drop-append_seam w.front (ys ++ w.back)) in
+    here ∙ ap (λ zs. ys ++ zs) (sym behind)
+
+-- the same within them
+cut_within : (xs : List Tree) (k b d m : ℕ) (ys : List Tree) → Stands xs k b ys → d ≤ length ys → m ≡ k + length ys → drop (k + d) xs ≡ drop d ys ++ drop m xs
+cut_within xs k b d m ys s l e =
+    let w = standing xs k b ys s in
+    let front : length w.front + d ≡ k + d = omega (arith, w.number) in
+    let both : length (w.front ++ ys) ≡ m = omega (arith, w.number, e, length-append w.front ys) in
+    let behind : drop m xs ≡ w.back = ap (λ j. drop j xs) (sym both) ∙ (ap (drop (length (w.front ++ ys))) (w.whole ∙ sym (append_assoc w.front ys w.back)) ∙ drop-append_seam (w.front ++ ys) w.back) in
+    ap (λ j. drop j xs) (sym front) ∙ (ap (drop (length w.front + d)) w.whole ∙ (drop-append-add w.front (ys ++ w.back) d ∙ (drop-append-le d ys w.back l ∙ ap (λ zs. drop d ys ++ zs) (sym behind))))
+
+-- of the leaves from a number on, those of a row that begins there come first
+pub leaf_row : (root : Tree) (k b m : ℕ) (ys : List Tree) → Stands (places root) k b ys → m ≡ k + length ys → leaf_after root k ≡ option_map (at root) (if_none (first_at (is_leaf_from 0) k b ys) (first_at (is_leaf_from 0) m 0 (drop m (places root))))
+leaf_row root k b m ys s e =
+    let behind : k + length ys ≡ m = omega (arith, e) in
+    ap (option_map (at root)) (leaf_split k (drop k (places root)) ys (drop m (places root)) (cut (places root) k b m ys s e)
+    ∙ (ap (λ o. if_none o (first_at (is_leaf_from 0) (k + length ys) 0 (drop m (places root)))) (leaf_free k 0 b 0 0 ys (omega arith) (omega arith))
+    ∙ ap (λ j. if_none (first_at (is_leaf_from 0) k b ys) (first_at (is_leaf_from 0) j 0 (drop m (places root)))) behind))
+
+-- and those below a node come before those behind it
+pub leaf_within : (b : LinkedNode) (k m : ℕ) → b.number ≤ k → k ≤ b.number + nodes b.node.now → m ≡ b.number + nodes b.node.now → leaf_after b.root.now k ≡ option_map (at b.root.now) (if_none (first_at (is_leaf_from k) b.number (start_of (linked b)) (places b.node.now)) (first_at (is_leaf_from 0) m 0 (drop m (places b.root.now))))
+leaf_within b k m l h e =
+    let d : ℕ = k - b.number in
+    let there : k ≡ b.number + (k - b.number) = omega (arith, l) in
+    let short : k - b.number ≤ length (places b.node.now) = omega (arith, l, h, length_places b.node.now) in
+    let end : m ≡ b.number + length (places b.node.now) = omega (arith, e, length_places b.node.now) in
+    let rest : drop k (places b.root.now) ≡ drop (k - b.number) (places b.node.now) ++ drop m (places b.root.now) =
+    ap (λ j. drop j (places b.root.now)) there ∙ cut_within (places b.root.now) b.number b.offset (k - b.number) m (places b.node.now) b.stands short end in
+    let behind : k + length (drop (k - b.number) (places b.node.now)) ≡ m = omega (arith, end, there, short, length-drop (k - b.number) (places b.node.now)) in
+    ap (option_map (at b.root.now)) (leaf_split k (drop k (places b.root.now)) (drop (k - b.number) (places b.node.now)) (drop m (places b.root.now)) rest
+    ∙ (ap (λ o. if_none o (first_at (is_leaf_from 0) (k + length (drop (k - b.number) (places b.node.now))) 0 (drop m (places b.root.now)))) (sym (leaf_drop k b.number (start_of (linked b)) (k - b.number) (places b.node.now) there short))
+    ∙ ap (λ j. if_none (first_at (is_leaf_from k) b.number (start_of (linked b)) (places b.node.now)) (first_at (is_leaf_from 0) j 0 (drop m (places b.root.now)))) behind))
+
+-- the next leaf is the first one behind the node
+pub next_is : (a : LinkedNode) (k : ℕ) → k ≡ a.number + nodes a.node.now → next_leaf (linked a) ≡ leaf_after a.root.now k
+next_is a k e =
+    let end : a.number + nodes (node_of (linked a)) ≡ k = omega (arith, e, ap nodes (node_here a.root.now a.number a.offset a.node.now a.stands)) in
+    ap (λ j. option_map (at a.root.now) (first_at (is_leaf_from j) 0 0 (places a.root.now))) end
+    ∙ ap (option_map (at a.root.now)) (leaf_drop k 0 0 k (places a.root.now) (omega arith) (omega (arith, e, a.stands.within, length_places a.node.now)))
+
+-- and so is the search for a leaf from a number on
+pub leaf_from_root : (root : Tree) (k : ℕ) → k ≤ nodes root → option_map (at root) (first_at (is_leaf_from k) 0 0 (places root)) ≡ leaf_after root k
+leaf_from_root root k h = ap (option_map (at root)) (leaf_drop k 0 0 k (places root) (omega arith) (omega (arith, h, length_places root)))
+
+pub root_node : (a : LinkedNode) → a.number ≡ 0 → a.node.now ≡ a.root.now
+root_node a z = same_node (places a.root.now) a.number 0 a.offset 0 a.node.now a.root.now z a.stands (stands_whole a.root.now)
+
+pub room : (a : LinkedNode) → a.number + nodes a.node.now < 2 ^ 64 - 1
+room a = omega (arith, a.stands.within, length_places a.node.now, length_places a.root.now, a.counted)
+
+-- a node's number is below the count of its tree's nodes
+pub inside_root : (a : LinkedNode) → a.number < nodes a.root.now
+inside_root a = omega (arith, a.stands.within, length_places a.node.now, length_places a.root.now)
+
+pub above_stands : (a : LinkedNode) (b : Above) → IsAbove a b → Stands (places a.root.now) b.parent.number b.parent.offset (places b.parent.node.now)
+above_stands a b w = subst (λ r. Stands (places r) b.parent.number b.parent.offset (places b.parent.node.now)) w.root b.parent.stands
+
+pub beside_of : (a : LinkedNode) (b : Above) (xs : List Tree) → IsAbove a b → forest xs ≡ b.parent.node.now.kids → Beside a.root.now b.parent.node.now b.parent.number b.parent.offset a.node.now a.number a.offset b.index xs
+beside_of a b xs w e =
+    beside a.root.now b.parent.node.now b.parent.number b.parent.offset a.node.now a.number a.offset b.index xs e (above_stands a b w) w.child a.stands
+
+pub kid_of_row : (a : LinkedNode) (b : Above) (xs ys : List Tree) (j : ℕ) (x : Tree) (k d p : ℕ) → IsAbove a b → forest xs ≡ b.parent.node.now.kids → ys ≡ drop (b.index + 1) xs → p ≡ saturated (a.offset + length (text_of a.node.now)) → IsTreeOf ys (a.number + nodes a.node.now) p x k d j → Kid a.root.now b.parent.node.now b.parent.number (b.index + 1 + j) xs x k d
+kid_of_row a b xs ys j x k d p w e f q tree =
+    kid_behind a.root.now b.parent.node.now b.parent.number b.parent.offset a.node.now a.number a.offset b.index xs j x k d p e (above_stands a b w) w.child a.stands q (subst (λ zs. IsTreeOf zs (a.number + nodes a.node.now) p x k d j) f tree)
+
+-- of the leaves behind a node, those of its siblings come first
+pub leaf_beside : (a : LinkedNode) (b : Above) (xs ys : List Tree) (k p : ℕ) → IsAbove a b → forest xs ≡ b.parent.node.now.kids → ys ≡ drop (b.index + 1) xs → k ≡ a.number + nodes a.node.now → p ≡ saturated (a.offset + length (text_of a.node.now)) → leaf_after a.root.now (a.number + nodes a.node.now) ≡ option_map (at a.root.now) (if_none (first_at (is_leaf_from 0) k p (preorder (forest ys))) (first_at (is_leaf_from 0) (b.parent.number + nodes b.parent.node.now) 0 (drop (b.parent.number + nodes b.parent.node.now) (places a.root.now))))
+leaf_beside a b xs ys k p w e f n q =
+    let s = beside_of a b xs w e in
+    let row : Stands (places a.root.now) k p (preorder (forest ys)) = rw (n, q, f) s.behind in
+    ap (leaf_after a.root.now) (sym n) ∙ leaf_row a.root.now k p (b.parent.number + nodes b.parent.node.now) (preorder (forest ys)) row (omega (arith, s.counted, n, length_preorder (forest ys), ap (λ zs. count (forest zs)) f))
+
+map_some : (f : ℕ → At) (x y : Option ℕ) (a : At) → Some a ≡ option_map f x → option_map f (if_none x y) ≡ Some a
+map_some f None y a e = cc
+map_some f (Some n) y a e = sym e
+
+map_none : (f : ℕ → At) (x y : Option ℕ) → None ≡ option_map f x → option_map f (if_none x y) ≡ option_map f y
+map_none f None y e = refl
+map_none f (Some n) y e = cc
+
+leaf_here : (b : LinkedNode) (k : ℕ) → first_below (is_leaf_from k) (linked b) ≡ option_map (at b.root.now) (first_at (is_leaf_from k) b.number (start_of (linked b)) (places b.node.now))
+leaf_here b k =
+    ap (λ t. option_map (at b.root.now) (first_at (is_leaf_from k) b.number (start_of (linked b)) (places t))) (node_here b.root.now b.number b.offset b.node.now b.stands)
+
+-- what is found within a node comes before what is behind it
+pub leaf_found : (b : LinkedNode) (k : ℕ) (a : At) → b.number ≤ k → k ≤ b.number + nodes b.node.now → Some a ≡ first_below (is_leaf_from k) (linked b) → leaf_after b.root.now k ≡ Some a
+leaf_found b k a l h e =
+    leaf_within b k (b.number + nodes b.node.now) l h refl
+    ∙ map_some (at b.root.now) _ _ a (e ∙ leaf_here b k)
+
+pub leaf_not_found : (b : LinkedNode) (k : ℕ) → b.number ≤ k → k ≤ b.number + nodes b.node.now → None ≡ first_below (is_leaf_from k) (linked b) → leaf_after b.root.now k ≡ leaf_after b.root.now (b.number + nodes b.node.now)
+leaf_not_found b k l h e =
+    leaf_within b k (b.number + nodes b.node.now) l h refl
+    ∙ map_none (at b.root.now) _ _ (e ∙ leaf_here b k)
+
+-- a bound above all numbers is no bound
+unbounded : (b d n : ℕ) (xs : List Tree) → n + length xs ≤ b → n + length xs ≤ d → last_leaf b n xs ≡ last_leaf d n xs
+unbounded b d n [] h l = refl
+unbounded b d n (x ∷ xs) h l =
+    let first : nat_lt n b ≡ true = grind (arith, nat_tests, h) in
+    let second : nat_lt n d ≡ true = grind (arith, nat_tests, l) in
+    rw (first, second, unbounded b d (n + 1) xs (omega (arith, h)) (omega (arith, l))) refl
+
+if_none_right : (x y z : Option ℕ) → x ≡ None → y ≡ z → if_none x y ≡ z
+if_none_right x y z e f = ap (λ o. if_none o y) e ∙ f
+
+-- the leaves before a number within a row come after those before the row
+pub until_within : (xs : List Tree) (k b m : ℕ) (ys : List Tree) → Stands xs k b ys → k ≤ m → m ≤ k + length ys → last_leaf m 0 xs ≡ if_none (last_leaf m k ys) (last_leaf k 0 xs)
+until_within xs k b m ys s l h =
+    let w = standing xs k b ys s in
+    let front : 0 + length w.front ≡ k = omega (arith, w.number) in
+    let whole : last_leaf m 0 xs ≡ if_none (last_leaf m k (ys ++ w.back)) (last_leaf m 0 w.front) =
+    ap (last_leaf m 0) w.whole ∙ (last_append m 0 w.front (ys ++ w.back) ∙ ap (λ j. if_none (last_leaf m j (ys ++ w.back)) (last_leaf m 0 w.front)) front) in
+    let here : last_leaf m k (ys ++ w.back) ≡ last_leaf m k ys =
+    last_append m k ys w.back ∙ if_none_right (last_leaf m (k + length ys) w.back) (last_leaf m k ys) (last_leaf m k ys) (last_none m (k + length ys) w.back h) refl in
+    let before : last_leaf k 0 xs ≡ last_leaf k 0 w.front =
+    ap (last_leaf k 0) w.whole ∙ (last_append k 0 w.front (ys ++ w.back) ∙ if_none_right (last_leaf k (0 + length w.front) (ys ++ w.back)) (last_leaf k 0 w.front) (last_leaf k 0 w.front) (last_none k (0 + length w.front) (ys ++ w.back) (omega (arith, front))) refl) in
+    let same : last_leaf m 0 w.front ≡ last_leaf k 0 w.front = unbounded m k 0 w.front (omega (arith, front, l)) (omega (arith, front)) in
+    whole ∙ (ap (λ o. if_none o (last_leaf m 0 w.front)) here ∙ ap (if_none (last_leaf m k ys)) (same ∙ sym before))
+
+pub until_found : (b : LinkedNode) (m f : ℕ) → b.number ≤ m → m ≤ b.number + nodes b.node.now → Some f ≡ last_leaf m b.number (places b.node.now) → leaf_until b.root.now m ≡ Some (at b.root.now f)
+until_found b m f l h e =
+    ap (option_map (at b.root.now)) (until_within (places b.root.now) b.number b.offset m (places b.node.now) b.stands l (omega (arith, h, length_places b.node.now)) ∙ ap (λ o. if_none o (last_leaf b.number 0 (places b.root.now))) (sym e))
+
+pub until_not_found : (b : LinkedNode) (m : ℕ) → b.number ≤ m → m ≤ b.number + nodes b.node.now → None ≡ last_leaf m b.number (places b.node.now) → leaf_until b.root.now m ≡ leaf_until b.root.now b.number
+until_not_found b m l h e =
+    ap (option_map (at b.root.now)) (until_within (places b.root.now) b.number b.offset m (places b.node.now) b.stands l (omega (arith, h, length_places b.node.now)) ∙ ap (λ o. if_none o (last_leaf b.number 0 (places b.root.now))) (sym e))
+
+-- a loop over the children before one begins with those before it
+pub until_row : (o : Tree) (n m i : ℕ) (xs : List Tree) → forest xs ≡ o.kids → m ≡ n + 1 + count (forest (take i xs)) → last_leaf m n (places o) ≡ last_leaf m n (o ∷ preorder (forest (take i xs)))
+until_row o n m i xs e h =
+    let rows : places o ≡ (o ∷ preorder (forest (take i xs))) ++ preorder (forest (drop i xs)) =
+    ap (λ f. o ∷ preorder f) (sym e) ∙ ap (λ ys. o ∷ ys) (ap (λ ys. preorder (forest ys)) (sym (take-append-drop i xs)) ∙ preorder_append (take i xs) (drop i xs)) in
+    let past : m ≤ n + length (o ∷ preorder (forest (take i xs))) = omega (arith, h, length_preorder (forest (take i xs))) in
+    ap (last_leaf m n) rows ∙ (last_append m n (o ∷ preorder (forest (take i xs))) (preorder (forest (drop i xs)))
+    ∙ if_none_right _ (last_leaf m n (o ∷ preorder (forest (take i xs)))) _ (last_none m _ (preorder (forest (drop i xs))) past) refl)
+
+childless_not : (f : Forest) (i : ℕ) (t : Tree) → slice_get (trees f) i ≡ Some t → is_childless f ≡ false
+childless_not none i t g = absurd (none-some t g)
+childless_not (more h ks r) i t g = refl
+
+-- a node with a child is no leaf
+pub not_leaf : (o : Tree) (n m i : ℕ) (t : Tree) → IsChild o n t m i → is_leaf o ≡ false
+not_leaf o n m i t c = rw (childless_not o.kids i t c.here) refl
+
+pub none_alone : (o : Tree) (n m j : ℕ) (t : Tree) (k : ℕ) (xs : List Tree) {i : ℕ} → IsChild o n t m i → n < k → j ≡ 0 → last_leaf k n (o ∷ preorder (forest (take j xs))) ≡ None
+none_alone o n m j t k xs {i} c l e =
+    last_alone k n o xs j l e ∙ rw (not_leaf o n m i t c) refl
+
+-- a place that is looked for within a node is found there
+pub place_here : (b : LinkedNode) (k : ℕ) → b.number ≤ k → k < b.number + nodes b.node.now → first_below (has_place k) (linked b) ≡ Some (at b.root.now k)
+place_here b k l h =
+    ap (λ t. option_map (at b.root.now) (first_at (has_place k) b.number (start_of (linked b)) (places t))) (node_here b.root.now b.number b.offset b.node.now b.stands)
+    ∙ ap (option_map (at b.root.now)) (place_found k b.number (start_of (linked b)) (places b.node.now) l (omega (arith, h, length_places b.node.now)))
+
+pub match_found : (r : Option LinkedNode) (x : Option At) (a : At) (p : Type 0) → option_map linked r ≡ Some a → x ≡ Some a → MatchOption r p (λ leaf. x ≡ Some (linked leaf))
+match_found None x a p e f = cc
+match_found (Some leaf) x a p e f = f ∙ sym e
+
+-- the siblings up to a node aren't behind it
+pub behind_above : (a : LinkedNode) (b : Above) → IsAbove a b → find (is_sibling_after (linked a)) (children (linked b.parent)) ≡ find (is_sibling_after (linked a)) (drop b.index (children (linked b.parent)))
+behind_above a b w =
+    let here : (node_of (linked b.parent)).kids ≡ forest (trees b.parent.node.now.kids) = ap (λ t. t.kids) (node_here b.parent.root.now b.parent.number b.parent.offset b.parent.node.now b.parent.stands) ∙ sym (forest_trees b.parent.node.now.kids) in
+    let s = beside_of a b (trees b.parent.node.now.kids) w (forest_trees b.parent.node.now.kids) in
+    rw here (find_behind (linked a) b.parent.root.now (b.parent.number + 1) b.index (trees b.parent.node.now.kids) (omega (arith, s.number)))

@@ -1,0 +1,43 @@
+use Rattle.std.proofs.Common.{◌≡◌, ◌+◌, ap, sym, ◌∙◌, arith, drop, map, subst, take}
+use Rattle.typst_node.specs.Tree.{forest, trees, count, nodes}
+use Rattle.typst_node.specs.Order.{AreInOrder, numbers_of}
+use Rattle.typst_node.proofs.SpansAside.{trees_forest}
+use Rattle.typst_tree.specs.Steps.{at}
+use Rattle.typst_tree.specs.Walks.{numbers}
+use Rattle.typst_tree.proofs.Branches.{above_stands, beside_of}
+use Rattle.typst_tree.specs.Rows.{Holds}
+use Rattle.typst_tree.proofs.Forks.{is_node}
+use Rattle.typst_tree.proofs.NodesOfStretch.{node_here}
+use Rattle.typst_tree.proofs.Rows.{row_stands}
+use Rattle.typst_tree.proofs.Siblings.{drop_numbers}
+use Rattle.typst_tree.proofs.linked.LinkedNode.row.Goals as goal
+
+pub from_index-requires : goal.from_index-requires
+from_index-requires c =
+    let b = beside_of c.args.self c.args.above c.children.result.now c.requires c.children.ensures in
+    omega (arith, b.within)
+
+pub invariant_of-result : goal.invariant_of-result
+invariant_of-result c =
+    let b = beside_of c.args.self c.args.above c.children.result.now c.requires c.children.ensures in
+    let same : c.children.result.now ≡ trees c.args.above.parent.node.now.kids = sym (trees_forest c.children.result.now) ∙ ap trees c.children.ensures in
+    let above = c.args.above.parent in
+    let p = c.as_parent.ensures in
+    record {
+      counted = c.args.self.counted;
+      stands = rw (b.number, sym b.start, c.from_index.ensures) (row_stands c.args.self.root.now c.args.above.parent.node.now c.args.above.parent.number c.args.above.parent.offset c.args.above.index c.children.result.now c.children.ensures (above_stands c.args.self c.args.above c.requires));
+      node = rw (p.node, p.number) (is_node c.args.self.root.now above.number above.offset above.node.now (above_stands c.args.self c.args.above c.requires));
+      row = c.from_index.ensures ∙ (ap (drop c.args.above.index) same ∙ ap (λ t. drop c.args.above.index (trees t.kids)) (sym p.node));
+      before = rw (p.node, p.number) (b.number ∙ ap (λ xs. c.args.above.parent.number + 1 + count (forest (take c.args.above.index xs))) same);
+      ordered = λ e. subst (λ r. AreInOrder (numbers_of r)) c.requires.root (above.ordered (ap (λ k. k.in_order) (sym p.known) ∙ e));
+      holds = rw (p.node, p.number, p.known) (subst (λ r. Holds r above.number (nodes above.node.now) above.known) c.requires.root above.holds);
+    }
+
+pub returns : goal.returns
+returns c =
+    let b = beside_of c.args.self c.args.above c.children.result.now c.requires c.children.ensures in
+    sym (ap (λ f. drop c.args.above.index (map (at c.args.above.parent.root.now) (numbers (c.args.above.parent.number + 1) f))) (ap (λ t. t.kids) (node_here c.args.above.parent.root.now c.args.above.parent.number c.args.above.parent.offset c.args.above.parent.node.now c.args.above.parent.stands) ∙ sym c.children.ensures)
+    ∙ (drop_numbers c.args.above.parent.root.now (c.args.above.parent.number + 1) c.args.above.index c.children.result.now
+    ∙ (ap (λ m. map (at c.args.above.parent.root.now) (numbers m (forest (drop c.args.above.index c.children.result.now)))) (sym b.number)
+    ∙ (ap (λ r. map (at r) (numbers c.args.self.number (forest (drop c.args.above.index c.children.result.now)))) c.requires.root
+    ∙ ap (λ ys. map (at c.args.self.root.now) (numbers c.args.self.number (forest ys))) (sym c.from_index.ensures)))))
