@@ -1,8 +1,7 @@
 -- Restarts that are chosen from others, one by one.
-use Rattle.std.proofs.Common.{◌≡◌, ℕ, zero, suc, ◌+◌, ◌<◌, ◌≤◌, true, false, if◌then◌else◌, drop, Option, Some, min, List, [], ◌∷◌, ◌++◌, length, append_assoc, append-nil, refl, ap, sym, ◌∙◌, subst, arith}
+use Rattle.std.proofs.Common.{◌≡◌, ℕ, zero, suc, ◌<◌, ◌≤◌, true, false, if◌then◌else◌, Option, Some, min, List, [], ◌∷◌, ◌++◌, length, append_assoc, append-nil, refl, ap, sym, ◌∙◌, subst, arith}
 use Rattle.std.specs.Prelude.{slice_index_or, nat_le}
 use Rattle.std.proofs.lemmas.Bool.Decides.{nat_tests}
-use Rattle.std.proofs.lemmas.List.{drop_more}
 use Rattle.typst_node.specs.Tree.{Tree}
 use Rattle.typst_classes.specs.Classes.{CharClasses}
 use Rattle.typst_reuse.specs.Parts.{IsRead}
@@ -10,7 +9,7 @@ use Rattle.typst_reuse.specs.Restart.{Every}
 use Rattle.typst_reuse.specs.Edit.{Among}
 use Rattle.typst_reuse.specs.Edit.Among.{this, that}
 use Rattle.typst_reuse.specs.Exchange.{AreBefore, AreShifted, Shifts, Behinds, AddsBehind, Lowered, AddsBefore, KeepsBehind, ReadsOn, befores}
-use Rattle.typst_reuse.specs.Shifted.{IsShifted, IsBehind}
+use Rattle.typst_reuse.specs.Shifted.{IsBehind}
 use Rattle.typst_reuse.specs.declared.edited.Replacement.{Replacement}
 use Rattle.typst_reuse.specs.declared.restart.Restart.{Restart}
 use Rattle.typst_reuse.proofs.Every.{every-append, every-by}
@@ -22,12 +21,6 @@ at-or (x ∷ xs) (suc i) d h = that x xs (at-or xs i d (omega (arith, h)))
 
 pub among-at : {X : Type 0} (xs : List X) (i : ℕ) (x : X) → i < length xs → x ≡ slice_index_or xs i x → Among x xs
 among-at xs i x h e = subst (λ y. Among y xs) (sym e) (at-or xs i x h)
-
-pub before-more : (rs : List Restart) (at : ℕ) (kept : List Restart) (r : Restart) → AreBefore rs at kept → Among r rs → r.reach ≤ at → AreBefore rs at (kept ++ r ∷ [])
-before-more rs at kept r h i m = every-append (λ q. Among q rs × (q.reach ≤ at)) kept (r ∷ []) h ((i, m), tt)
-
-pub shifted-more : (rs : List Restart) (e : Replacement) (goals : List Restart) (r s : Restart) → AreShifted rs e goals → Among r rs → IsShifted e.old_end e.new_end r s → AreShifted rs e (goals ++ s ∷ [])
-shifted-more rs e goals r s h i m = every-append (Shifts rs e) goals (s ∷ []) h (record { was = r; among = i; shifted = m }, tt)
 
 pub behind-none : (goals : List Restart) (goal met : Restart) (rs : List Restart) → AddsBehind goals goal met rs rs
 behind-none goals goal met rs = record { more = []; is = sym (append-nil rs); each = tt }
@@ -71,21 +64,6 @@ among-befores at r ys (that q rs i) h =
       | true ↦ that q (befores at rs) (among-befores at r rs i h)
       | false ↦ among-befores at r rs i h
     ]
-
--- a search for the first of them goes on, and finds it
-pub befores-past : (at i : ℕ) (rs : List Restart) (r : Restart) → i < length rs → r ≡ slice_index_or rs i r → (r.reach ≤ at → ⊥) → befores at (drop i rs) ≡ befores at (drop (i + 1) rs)
-befores-past at i rs r l e h =
-    let fails : nat_le r.reach at ≡ false = grind (arith, nat_tests, h) in
-    ap (befores at) (drop_more rs i r l ∙ ap (λ q. q ∷ drop (i + 1) rs) (sym e)) ∙ rw fails refl
-
-pub befores-here : (at i : ℕ) (rs : List Restart) (r : Restart) → i < length rs → r ≡ slice_index_or rs i r → r.reach ≤ at → befores at (drop i rs) ≡ r ∷ befores at (drop (i + 1) rs)
-befores-here at i rs r l e h =
-    let holds : nat_le r.reach at ≡ true = grind (arith, nat_tests, h) in
-    ap (befores at) (drop_more rs i r l ∙ ap (λ q. q ∷ drop (i + 1) rs) (sym e)) ∙ rw holds refl
-
--- goals that were found one by one
-pub goal-alone : (rs : List Restart) (e : Replacement) (s : Restart) → Shifts rs e s → AreShifted rs e (s ∷ [])
-goal-alone rs e s h = (h, tt)
 
 among-left : {X : Type 0} (x : X) (xs ys : List X) → Among x xs → Among x (xs ++ ys)
 among-left x us ys (this xs) = this (xs ++ ys)

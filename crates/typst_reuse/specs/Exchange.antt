@@ -1,5 +1,5 @@
 -- What an edit of a text exchanges in its tree.
-use Rattle.std.specs.Prelude.{◌≡◌, ℕ, ◌+◌, ◌≤◌, nat_le, min, List, [], ◌∷◌, ◌++◌, length, take, drop, Option, if◌then◌else◌}
+use Rattle.std.specs.Prelude.{◌≡◌, ℕ, ◌+◌, ◌^◌, ◌<◌, ◌≤◌, nat_le, min, List, [], ◌∷◌, ◌++◌, length, take, drop, Option, Some, slice_get, if◌then◌else◌}
 use Rattle.std.specs.Str.{chars, IsUtf8, IsCharBoundary}
 use Rattle.std.specs.declared.ops.Range.{Range}
 use Rattle.typst_node.specs.Tree.{Tree, trees}
@@ -8,7 +8,7 @@ use Rattle.typst_grammar.specs.Grammar.{tree}
 use Rattle.typst_reuse.specs.Edit.{Among}
 use Rattle.typst_reuse.specs.Parts.{IsRead}
 use Rattle.typst_reuse.specs.Restart.{AreKept, Every, IsRestart}
-use Rattle.typst_reuse.specs.Shifted.{IsShifted, IsBehind}
+use Rattle.typst_reuse.specs.Shifted.{HasNoPlace, IsShifted, IsBehind}
 use Rattle.typst_reuse.specs.declared.edited.Replacement.{Replacement}
 use Rattle.typst_reuse.specs.declared.restart.Restart.{Restart}
 
@@ -53,6 +53,26 @@ pub record Shifts (rs : List Restart) (e : Replacement) (s : Restart) : Type 0 w
   pub was : Restart
   pub among : Among was rs
   pub shifted : IsShifted e.old_end e.new_end was s
+
+-- the one of an index, as it stands behind the edit
+pub record IsGoal (rs : List Restart) (e : Replacement) (i : ℕ) (s : Restart) : Type 0 where
+  pub was : Restart
+  pub here : slice_get rs i ≡ Some was
+  pub shifted : IsShifted e.old_end e.new_end was s
+
+-- it stands at a place or behind it
+pub record StandsFrom (rs : List Restart) (e : Replacement) (i cursor : ℕ) : Type 0 where
+  pub goal : Restart
+  pub is : IsGoal rs e i goal
+  pub far : cursor ≤ goal.cursor
+
+-- it stands before that place, or has none
+abbrev pub StandsBefore : List Restart → Replacement → ℕ → ℕ → Type 0
+StandsBefore rs e cursor i = (r s : Restart) → slice_get rs i ≡ Some r → IsShifted e.old_end e.new_end r s → e.old_end ≤ r.reach → s.cursor < 2 ^ 64 → s.reach < 2 ^ 64 → s.floor < 2 ^ 64 → s.cursor < cursor
+
+-- the one of an index has no place there
+abbrev pub HasNone : List Restart → Replacement → ℕ → Type 0
+HasNone rs e i = (r : Restart) → slice_get rs i ≡ Some r → HasNoPlace e.old_end e.new_end r
 
 abbrev pub AreShifted : List Restart → Replacement → List Restart → Type 0
 AreShifted rs e goals = Every (Shifts rs e) goals

@@ -1,5 +1,5 @@
 -- Restarts behind an edit.
-use Rattle.std.specs.Prelude.{◌≡◌, ℕ, ◌+◌, ◌<◌, ◌≤◌, max}
+use Rattle.std.specs.Prelude.{◌≡◌, ℕ, ◌+◌, ◌^◌, ◌<◌, ◌≤◌, max}
 use Rattle.typst_reuse.specs.declared.restart.Restart.{Restart}
 
 -- both stand at one place and go on alike
@@ -20,6 +20,10 @@ pub record IsShifted (old_end new_end : ℕ) (r s : Restart) : Type 0 where
   pub at_start : s.at_start ≡ r.at_start
   pub nesting : s.nesting ≡ r.nesting
   pub state : s.state ≡ r.state
+
+-- it has no place behind the stretch: it lies before the stretch's end, something is looked at from there on that does, or a number would be too large
+abbrev pub HasNoPlace : ℕ → ℕ → Restart → Type 0
+HasNoPlace old_end new_end r = (s : Restart) → IsShifted old_end new_end r s → old_end ≤ r.reach → s.cursor < 2 ^ 64 → s.reach < 2 ^ 64 → s.floor < 2 ^ 64 → ⊥
 
 -- the same where a text was read anew up to `met`, which goes on as `goal` did
 pub record IsBehind (goal met r s : Restart) : Type 0 where

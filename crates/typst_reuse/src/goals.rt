@@ -1,7 +1,7 @@
 //! Where the reading of an edited text may stop.
 
-ghost use Rattle.std.specs.Prelude.{◌≡◌, IfSome};
-ghost use Rattle.typst_reuse.specs.Exchange.{Shifts};
+ghost use Rattle.std.specs.Prelude.{◌≡◌, None, IfSome, length};
+ghost use Rattle.typst_reuse.specs.Exchange.{HasNone, IsGoal, Shifts};
 
 use crate::edited::Replacement;
 use crate::restart::Restart;
@@ -24,14 +24,18 @@ impl<'a> Goals<'a> {
     }
 
     /// How many places there are at most.
-    pub(crate) fn len(&self) -> usize {
+    pub(crate) fn len(&self) -> usize
+        ensures { result ≡ length self.now.restarts.now.items }
+    {
         self.restarts.len()
     }
 
     /// The restart of an index as it stands now; none where it doesn't stand behind the edit, or where
     /// something is looked at from there on that lies before the stretch's end.
     pub(crate) fn get(&self, index: usize) -> Option<Restart>
-        ensures { IfSome result (λ goal. Shifts self.now.restarts.now.items self.now.edit goal) }
+        ensures shifts { IfSome result (λ goal. Shifts self.now.restarts.now.items self.now.edit goal) }
+        ensures is { IfSome result (λ goal. IsGoal self.now.restarts.now.items self.now.edit index goal) }
+        ensures none { result ≡ None → HasNone self.now.restarts.now.items self.now.edit index }
     {
         let restart = self.restarts.get(index)?;
         restart.shifted(self.edit.old_end, self.edit.new_end)

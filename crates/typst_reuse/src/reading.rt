@@ -1,13 +1,13 @@
 //! Reading a text from a restart on, up to another one or to its end.
 
-ghost use Rattle.std.specs.Prelude.{ℕ, List, IfOk, IfSome, Option};
+ghost use Rattle.std.specs.Prelude.{ℕ, ◌-◌, ◌<◌, ◌≤◌, List, IfOk, IfSome, Option};
 ghost use Rattle.std.specs.Str.{chars};
 ghost use Rattle.typst_classes.specs.Classes.{CharClasses};
 ghost use Rattle.typst_grammar.specs.Meaning.{Level};
 ghost use Rattle.typst_grammar.specs.View.{Fills, Fits};
 ghost use Rattle.typst_reuse.specs.Restart.{Every, IsRestart};
 ghost use Rattle.typst_reuse.specs.Parts.{Floored, IsMet, IsPart, Linked, Settles};
-ghost use Rattle.typst_reuse.specs.Exchange.{ReadsOn};
+ghost use Rattle.typst_reuse.specs.Exchange.{ReadsOn, StandsBefore, StandsFrom};
 ghost use Rattle.typst_reuse.specs.Saved.{Stood, Went};
 
 use crate::goals::Goals;
@@ -111,7 +111,11 @@ fn room_for(ahead: usize, left: usize) -> usize {
 }
 
 /// How many goals are left, the last of which doesn't stand before a place.
-fn skip_goals(goals: &Goals<'_>, left: usize, cursor: usize) -> usize {
+fn skip_goals(goals: &Goals<'_>, left: usize, cursor: usize) -> usize
+    ensures most { result ≤ left }
+    ensures skipped { (i : ℕ) → result ≤ i → i < left → StandsBefore goals.now.restarts.now.items goals.now.edit cursor i }
+    ensures stops { 0 < result → StandsFrom goals.now.restarts.now.items goals.now.edit (result - 1) cursor }
+{
     let mut left = left;
     'goals: while left > 0 {
         match goals.get(left - 1) {

@@ -1,10 +1,10 @@
 //! Places from which on a text can be read anew.
 
-ghost use Rattle.std.specs.Prelude.{◌≡◌, ℕ, List, true, IfSome};
+ghost use Rattle.std.specs.Prelude.{◌≡◌, ℕ, List, true, None, IfSome};
 ghost use Rattle.typst_classes.specs.Classes.{CharClasses};
 ghost use Rattle.typst_grammar.specs.Markup.{markup_reading};
 ghost use Rattle.typst_reuse.specs.Restart.{IsRestart};
-ghost use Rattle.typst_reuse.specs.Shifted.{AreAlike, IsShifted, IsBehind};
+ghost use Rattle.typst_reuse.specs.Shifted.{AreAlike, HasNoPlace, IsShifted, IsBehind};
 
 use typst_grammar::{AtNewline, Reading, State};
 use typst_kinds::SyntaxMode;
@@ -60,7 +60,8 @@ impl Restart {
     /// The same behind a stretch that ends at another place now; none where something is looked at
     /// from there on that lies before the stretch's end.
     pub(crate) fn shifted(self, old_end: usize, new_end: usize) -> Option<Restart>
-        ensures { IfSome result (λ r. IsShifted old_end new_end self r) }
+        ensures shifted { IfSome result (λ r. IsShifted old_end new_end self r) }
+        ensures none { result ≡ None → HasNoPlace old_end new_end self }
     {
         if self.floor <= old_end || self.cursor < old_end || self.reach < old_end {
             return None;

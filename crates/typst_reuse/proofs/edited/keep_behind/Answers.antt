@@ -14,7 +14,7 @@ loop-index-preserved c =
     let old = c.args.kept.now.items in
     elim c.match-get.branch [
       | in-Some+in-Some-behind+in_ok-push w ↦ subst (λ ks. KeepsBehind rs e c.args.goal c.args.met old ks) (sym (ap (λ v. v.items) w.kept-is ∙ w.in_ok-push.ensures.items))
-          (keeps-more rs e c.args.goal c.args.met old c.loop-index.kept.items w.in-Some.restart w.in-Some-behind.behind c.loop-index.invariant w.in-Some.ensures w.in-Some-behind.ensures)
+          (keeps-more rs e c.args.goal c.args.met old c.loop-index.kept.items w.in-Some.restart w.in-Some-behind.behind c.loop-index.invariant w.in-Some.ensures.shifts w.in-Some-behind.ensures)
       | in-Some+in_default-behind w ↦ subst (λ ks. KeepsBehind rs e c.args.goal c.args.met old ks) (sym (ap (λ v. v.items) w.kept-is)) c.loop-index.invariant
       | in_default w ↦ subst (λ ks. KeepsBehind rs e c.args.goal c.args.met old ks) (sym (ap (λ v. v.items) w.kept-is)) c.loop-index.invariant
     ]

@@ -40,7 +40,7 @@ returns-then-is_as g c =
     let read = subst (λ ts. IsRead k s from goals ts c.push.new.self.items (Some (q, goal))) (sym c.in_ok-append.ensures.items)
     (subst (λ rs. IsRead k s from goals (c.parts.nodes.items ++ p.nodes.items) rs (Some (q, goal))) (sym c.in_ok-push.ensures.items)
     (read-to-goal k s from c.parts.nodes.items c.parts.met.items c.parts.at c.parts.invariant p.nodes.items p.reach p.least part.more goals q goal part.there part.goes there (c.is_as.ensures c.if-is_as.true))) in
-    record { goals = goals; shifted = (c.in-Some-get.ensures, tt); read = read }
+    record { goals = goals; shifted = (c.in-Some-get.ensures.shifts, tt); read = read }
 
 pub parts-smaller : goal.parts-smaller
 parts-smaller g c =

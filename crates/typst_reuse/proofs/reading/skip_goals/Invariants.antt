@@ -1,7 +1,12 @@
+use Rattle.std.proofs.Common.{ℕ, ◌<◌, ◌≤◌}
+use Rattle.typst_reuse.specs.Exchange.{StandsBefore}
 use Rattle.typst_reuse.proofs.reading.skip_goals.Given as goal
 
 abbrev pub invariant-goals : goal.invariant-goals
-invariant-goals l = Unit {0}
+invariant-goals l = record {
+  most : l.left ≤ l.initial.left;
+  skipped : (i : ℕ) → l.left ≤ i → i < l.initial.left → StandsBefore l.goals.restarts.now.items l.goals.edit l.cursor i;
+}
 
 abbrev pub decreases-goals : goal.decreases-goals
 decreases-goals l = l.left
