@@ -20,7 +20,8 @@ use typst_tree::LinkedNode;
 /// The tag of a node, or `None` if it has none of its own.
 ///
 /// Takes no memory. Of most kinds the kind tells the tag, in a constant time. The others ask by
-/// steps of `LinkedNode`, each of which goes through the children of each node above:
+/// steps of `LinkedNode`, each of which goes through the children of each node above, mostly but for
+/// the first long row:
 /// - a parenthesis, a star, an underscore, a slash and an equals sign for the parent, and markup
 ///   also for the next sibling;
 /// - a hash for the next sibling, and then for what the first leaf of that asks for;

@@ -24,9 +24,12 @@ use typst_node::SyntaxNode;
 /// the root, a step downwards from the node; each says what it goes through. To go through a
 /// node means a constant time, and what a step says it passes over is never looked into.
 ///
-/// The first long row on the way is passed in a constant time by a step from a node whose place in it is
-/// known. It is known of what a step upwards or sideways from below that row led to, of a child whose
-/// parent's place is known, and of a child of the row's owner, where no node above that was searched for.
+/// A step upwards or sideways from a node whose place in the first long row is known doesn't go through
+/// that row. The place is known of the row's children, as `children` gives them, and of what lies below
+/// them and steps within the row lead to; but not of a node with a number of 2^16 or more above that of
+/// its tree in the row, nor in a tree with an index of 2^32 or more. Of what `leaf_at`, `find` or
+/// `find_number` found from above the row, and of what a step led to that left the row, it isn't known
+/// either: the next step goes through the row.
 #[derive(Clone, Copy)]
 pub struct LinkedNode<'a> {
     root: &'a SyntaxNode,
