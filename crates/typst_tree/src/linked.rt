@@ -284,11 +284,15 @@ impl<'a> LinkedNode<'a> {
         if self.number == 0 {
             return None;
         }
-        Some(match self.branch() {
-            None => self.above_in(self.top()),
-            Some(branch) if branch.tree.number == self.number => branch.above,
-            Some(branch) => self.above_in(branch.tree),
-        })
+        if let Reach::Placed = self.known.reach
+            && let Some(branch) = self.branch()
+        {
+            if branch.tree.number == self.number {
+                return Some(branch.above);
+            }
+            return Some(self.above_in(branch.tree));
+        }
+        Some(self.above_in(self.top()))
     }
 
     /// The node itself.

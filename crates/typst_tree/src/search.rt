@@ -1,6 +1,6 @@
 //! The walk through a tree in preorder that all steps share.
 
-ghost use Rattle.std.specs.Prelude.{◌≡◌, ◌+◌, ◌^◌, ◌<◌, ◌-◌, ◌≤◌, true, None, length, drop, take, IfSome, IsTrue, ◌↔◌};
+ghost use Rattle.std.specs.Prelude.{◌≡◌, ◌+◌, ◌^◌, ◌<◌, ◌-◌, ◌≤◌, true, false, None, Some, length, drop, take, IfSome, IsTrue, ◌↔◌};
 ghost use Rattle.std.specs.Option.{option_map};
 ghost use Rattle.typst_node.specs.Tree.{nodes, places, forest, count, preorder, text_of, saturated};
 ghost use Rattle.typst_tree.specs.Passed.{IsPassed, FindsNothing};
@@ -259,7 +259,8 @@ fn passed_in_long(
 
 /// Passes over children at the front of a node's row, where the search tells by their numbers or bytes
 /// that nothing is looked for in them. The length of the node as a whole is asked for only where its row
-/// is long.
+/// is long. It stands apart from `goes_to`, which calls itself, so that this one's frame stays small.
+#[inline(never)]
 fn passed_over(
     node: &SyntaxNode,
     row: &[SyntaxNode],
@@ -324,33 +325,53 @@ pub fn first_in<'a>(
     ensures first { option_map (λ spot. spot.number) result ≡ first_at (wanted search.now) number offset (places node.now) }
     ensures spot { IfSome result (λ spot. Within number offset (places node.now) spot.number spot.offset (places spot.node.now)) }
 {
-    if search.passes_over(number, offset, node) {
-        return None;
+    let mut spot = Spot {
+        node,
+        number,
+        offset,
+    };
+    if spot.goes_to(search) {
+        Some(spot)
+    } else {
+        None
     }
-    if search.wants(number, offset, node) {
-        return Some(Spot {
+}
+
+impl<'a> Spot<'a> {
+    /// Goes to the first node in preorder that is looked for, among this one and those below it, and says
+    /// whether there is one. It calls itself for each level of the tree, so what it holds meanwhile is little.
+    fn goes_to(&mut self, search: &Search) -> bool
+        requires { self.old.number + nodes self.old.node.now < 2 ^ 64 - 1 }
+        ensures first { result ≡ true → first_at (wanted search.now) self.old.number self.old.offset (places self.old.node.now) ≡ Some self.new.number }
+        ensures spot { result ≡ true → Within self.old.number self.old.offset (places self.old.node.now) self.new.number self.new.offset (places self.new.node.now) }
+        ensures none { result ≡ false → first_at (wanted search.now) self.old.number self.old.offset (places self.old.node.now) ≡ None }
+    {
+        let Spot {
             node,
             number,
             offset,
-        });
-    }
-    let row = node.children();
-    if row.is_empty() {
-        return None;
-    }
-    let passed = passed_over(node, row, number, offset, search);
-    let mut at = passed.number;
-    let mut begin = passed.offset;
-    for kid in from_index(row, passed.index) {
-        match first_in(kid, at, begin, search) {
-            Some(found) => return Some(found),
-            None => {
-                at += kid.descendants();
-                begin = begin.saturating_add(kid.len());
-            }
+        } = *self;
+        if search.passes_over(number, offset, node) {
+            return false;
         }
+        if search.wants(number, offset, node) {
+            return true;
+        }
+        let row = node.children();
+        if row.is_empty() {
+            return false;
+        }
+        let mut at = passed_over(node, row, number, offset, search);
+        while at.index < row.len() {
+            let kid = &row[at.index];
+            *self = at.tree(kid).spot;
+            if self.goes_to(search) {
+                return true;
+            }
+            at = at.behind(kid);
+        }
+        false
     }
-    None
 }
 
 /// The number of the last leaf with a number below `before` that is neither trivia nor an error,

@@ -1,0 +1,80 @@
+use Rattle.std.proofs.Common.{◌≡◌, ◌+◌, Some, ap, sym, ◌∙◌, arith, drop, drop_of_length-le, None, refl}
+use Rattle.typst_node.specs.Tree.{forest, nodes, places, preorder}
+use Rattle.typst_tree.specs.Walks.{first_at}
+use Rattle.typst_tree.specs.Wanted.{wanted}
+use Rattle.typst_tree.proofs.Parents.{child_bounds}
+use Rattle.typst_tree.proofs.Rows.{over}
+use Rattle.typst_tree.proofs.WalksInPreorder.{within_self, within_in, found_below, found_here, found_next, turn}
+use Rattle.typst_tree.proofs.search.Spot.+goes_to.Goals as goal
+
+pub returns-then-wants-clause-spot : goal.returns-then-wants-clause-spot
+returns-then-wants-clause-spot t c = λ _.
+    within_self c.args.self.now.number c.args.self.now.offset (places c.args.self.now.node.now) (omega (arith, c.fits-self))
+
+pub loop-at-init : goal.loop-at-init
+loop-at-init t c =
+    let s = c.args.self.now in
+    record {
+      found = found_below (wanted c.args.search.now) s.number s.offset _ s.node.now c.children-row.result.now (omega (arith, c.fits-self)) c.if-wants.ensures c.children-row.ensures refl
+          ∙ c.passed_over-at.ensures.nothing;
+      passed = c.passed_over-at.ensures.passed;
+    }
+
+pub goes_to-requires : goal.goes_to-requires
+goes_to-requires t c =
+    let s = c.args.self.now in
+    let at = c.loop-at.at in
+    let o = over s.node.now s.number s.offset c.children-row.result.now at.index at.number at.offset c.index-row-at.result c.children-row.ensures c.index-row-at.is c.loop-at-test.true c.loop-at.invariant.passed in
+    let bounds = child_bounds s.node.now s.number c.index-row-at.result at.number at.index o.child in
+    (omega (arith, c.decreases, bounds.from, bounds.to, ap nodes c.tree.ensures.node), omega (arith, o.fits, c.requires, c.tree.ensures.number, ap nodes c.tree.ensures.node))
+
+pub returns-then-goes_to-clause-first : goal.returns-then-goes_to-clause-first
+returns-then-goes_to-clause-first t c = λ _.
+    let s = c.args.self.now in
+    let at = c.loop-at.at in
+    let row = c.children-row.result.now in
+    let w = turn row at.index c.index-row-at.result c.index-row-at.is c.loop-at-test.true in
+    let found : first_at (wanted c.args.search.now) at.number at.offset (places c.index-row-at.result) ≡ Some c.goes_to.new.self.number =
+    rw (sym c.tree.ensures.number, sym c.tree.ensures.offset, sym c.tree.ensures.node) (c.goes_to.ensures.first c.if-goes_to.true) in
+    c.loop-at.invariant.found
+    ∙ (ap (λ ys. first_at (wanted c.args.search.now) at.number at.offset (preorder (forest ys))) w.first
+    ∙ sym (found_here (wanted c.args.search.now) at.number at.offset _ c.index-row-at.result (drop (at.index + 1) row) (sym found)))
+
+pub returns-then-goes_to-clause-spot : goal.returns-then-goes_to-clause-spot
+returns-then-goes_to-clause-spot t c = λ _.
+    let s = c.args.self.now in
+    let at = c.loop-at.at in
+    let o = over s.node.now s.number s.offset c.children-row.result.now at.index at.number at.offset c.index-row-at.result c.children-row.ensures c.index-row-at.is c.loop-at-test.true c.loop-at.invariant.passed in
+    within_in s.number s.offset (places s.node.now) at.number at.offset (places c.index-row-at.result) _ _ _ o.inside
+    (rw (sym c.tree.ensures.number, sym c.tree.ensures.offset, sym c.tree.ensures.node) (c.goes_to.ensures.spot c.if-goes_to.true))
+
+pub behind-at-requires-clause-counted : goal.behind-at-requires-clause-counted
+behind-at-requires-clause-counted t c =
+    let s = c.args.self.now in
+    let at = c.loop-at.at in
+    let o = over s.node.now s.number s.offset c.children-row.result.now at.index at.number at.offset c.index-row-at.result c.children-row.ensures c.index-row-at.is c.loop-at-test.true c.loop-at.invariant.passed in
+    omega (arith, o.fits, c.requires)
+
+pub loop-at-preserved : goal.loop-at-preserved
+loop-at-preserved t c =
+    let s = c.args.self.now in
+    let at = c.loop-at.at in
+    let next = c.behind-at in
+    let row = c.children-row.result.now in
+    let w = turn row at.index c.index-row-at.result c.index-row-at.is c.loop-at-test.true in
+    let o = over s.node.now s.number s.offset row at.index at.number at.offset c.index-row-at.result c.children-row.ensures c.index-row-at.is c.loop-at-test.true c.loop-at.invariant.passed in
+    let nothing : first_at (wanted c.args.search.now) at.number at.offset (places c.index-row-at.result) ≡ None =
+    rw (sym c.tree.ensures.number, sym c.tree.ensures.offset, sym c.tree.ensures.node) (c.goes_to.ensures.none c.if-goes_to.false) in
+    record {
+      found = c.loop-at.invariant.found
+          ∙ (ap (λ ys. first_at (wanted c.args.search.now) at.number at.offset (preorder (forest ys))) w.first
+          ∙ (found_next (wanted c.args.search.now) at.number at.offset next.result.number next.result.offset c.index-row-at.result (drop (at.index + 1) row) next.ensures.number next.ensures.offset nothing
+          ∙ ap (λ i. first_at (wanted c.args.search.now) next.result.number next.result.offset (preorder (forest (drop i row)))) (sym next.ensures.index)));
+      passed = rw (next.ensures.index, next.ensures.number, next.ensures.offset) o.next;
+    }
+
+pub returns-clause-none : goal.returns-clause-none
+returns-clause-none t c = λ _.
+    let at = c.loop-at.at in
+    let row = c.children-row.result.now in
+    c.loop-at.invariant.found ∙ ap (λ ys. first_at (wanted c.args.search.now) at.number at.offset (preorder (forest ys))) (drop_of_length-le row c.loop-at-test.false)
