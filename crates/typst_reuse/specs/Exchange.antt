@@ -66,7 +66,7 @@ pub record StandsFrom (rs : List Restart) (e : Replacement) (i cursor : ℕ) : T
   pub is : IsGoal rs e i goal
   pub far : cursor ≤ goal.cursor
 
--- it stands before that place, or has none
+-- it stands before that place, or has none there, since it lies before the edit's end, something is looked at from there on that does, or a number would be too large
 abbrev pub StandsBefore : List Restart → Replacement → ℕ → ℕ → Type 0
 StandsBefore rs e cursor i = (r s : Restart) → slice_get rs i ≡ Some r → IsShifted e.old_end e.new_end r s → e.old_end ≤ r.reach → s.cursor < 2 ^ 64 → s.reach < 2 ^ 64 → s.floor < 2 ^ 64 → s.cursor < cursor
 

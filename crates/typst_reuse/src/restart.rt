@@ -57,8 +57,8 @@ impl Restart {
         }
     }
 
-    /// The same behind a stretch that ends at another place now; none where something is looked at
-    /// from there on that lies before the stretch's end.
+    /// The same behind a stretch that ends at another place now; none where it lies before the
+    /// stretch's end or something is looked at from there on that does, and where a number is too large.
     pub(crate) fn shifted(self, old_end: usize, new_end: usize) -> Option<Restart>
         ensures shifted { IfSome result (λ r. IsShifted old_end new_end self r) }
         ensures none { result ≡ None → HasNoPlace old_end new_end self }

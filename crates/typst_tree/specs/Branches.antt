@@ -3,7 +3,6 @@ use Rattle.std.specs.Prelude.{◌≡◌, ℕ, ◌+◌, ◌≤◌, drop, Option}
 use Rattle.std.specs.Option.{option_map}
 use Rattle.typst_node.specs.Tree.{Tree, nodes, places}
 use Rattle.typst_tree.specs.Walks.{first_at, last_leaf, is_leaf_from}
-use Rattle.typst_tree.specs.Linked.{linked}
 use Rattle.typst_tree.specs.Rows.{IsChild, IsFork}
 use Rattle.typst_tree.specs.Steps.{At, at}
 use Rattle.typst_tree.specs.declared.linked.Above.{Above}
@@ -30,7 +29,3 @@ leaf_after root m = option_map (at root) (first_at (is_leaf_from 0) m 0 (drop m 
 -- the last leaf that counts below the number m
 abbrev pub leaf_until : Tree → ℕ → Option At
 leaf_until root m = option_map (at root) (last_leaf m 0 (places root))
-
--- the parent alone
-abbrev pub parent_of : Above → At
-parent_of b = linked b.parent

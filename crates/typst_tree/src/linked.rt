@@ -25,11 +25,11 @@ use typst_node::SyntaxNode;
 /// node means a constant time, and what a step says it passes over is never looked into.
 ///
 /// A step upwards or sideways from a node whose place in the first long row is known doesn't go through
-/// that row. The place is known of the row's children, as `children` gives them, and of what lies below
-/// them and steps within the row lead to; but not of a node with a number of 2^16 or more above that of
-/// its tree in the row, nor in a tree with an index of 2^32 or more. Of what `leaf_at`, `find` or
-/// `find_number` found from above the row, and of what a step led to that left the row, it isn't known
-/// either: the next step goes through the row.
+/// that row, but where the tree in it that the node is below has more nodes than the row has children. The
+/// place is known of what `children` gives, from the root down, of what a step within the row leads
+/// to, and of what `children` gives of that. It isn't known of a node that `leaf_at`, `find` or `find_number`
+/// found from above the row, that a step led to from outside of it, whose number is by 2^16 or more above
+/// that of its tree in the row, or whose tree has an index of 2^32 or more: then a step goes through the row.
 #[derive(Clone, Copy)]
 pub struct LinkedNode<'a> {
     root: &'a SyntaxNode,
@@ -91,7 +91,7 @@ impl<'a> LinkedNode<'a> {
     ghost use Rattle.typst_node.specs.Tree.{nodes, places};
     ghost use Rattle.typst_node.specs.Order.{AreInOrder, numbers_of};
     ghost use Rattle.typst_kinds.specs.Kinds.{is_hash_expr};
-    ghost use Rattle.typst_tree.specs.Branches.{IsAbove, IsBranch, leaf_after, leaf_until, parent_of};
+    ghost use Rattle.typst_tree.specs.Branches.{IsAbove, IsBranch, leaf_after, leaf_until};
     ghost use Rattle.typst_tree.specs.Rows.{IsChild, IsFork, IsOpen};
     ghost use Rattle.typst_tree.specs.Walks.{Stands, Within};
     ghost use Rattle.typst_tree.specs.Wanted.{wanted};
@@ -215,7 +215,9 @@ impl<'a> LinkedNode<'a> {
         None
     }
 
-    /// The tree that this node is or is below, in the first long row on the way to it.
+    /// The tree that this node is or is below, in the first long row on the way to it. Where the node's
+    /// place in the row is known, the tree's offset is found by the way from the tree to the node, if the
+    /// tree is no larger than the row is long: else it is sooner found by the row.
     fn tree_of(self, owner: LinkedNode<'a>) -> Kid<'a>
         requires root { owner.root.now ≡ self.root.now }
         requires fork { IsFork self.root.now self.number owner.node.now owner.number }
@@ -227,10 +229,13 @@ impl<'a> LinkedNode<'a> {
         if let Reach::Placed = self.known.reach
             && self.offset < usize::MAX
         {
+            let row = owner.node.children();
             let index = self.known.index as usize;
             let below = usize::from(self.known.below);
-            let node = &owner.node.children()[index];
-            if let Some(inner) = first_in(node, 0, 0, &Search::Place(below)) {
+            let node = &row[index];
+            if node.descendants() <= row.len()
+                && let Some(inner) = first_in(node, 0, 0, &Search::Place(below))
+            {
                 let spot = Spot {
                     node,
                     number: self.number - below,

@@ -9,7 +9,7 @@ ghost use Rattle.typst_tree.specs.Walks.{first_at, Within};
 ghost use Rattle.typst_tree.specs.Wanted.{wanted};
 ghost use Rattle.typst_tree.specs.Ordered.{climb, IsKey, IsLastUpTo};
 
-use crate::search::{Passed, Search, Spot, first_in};
+use crate::search::{LONG, Passed, Search, Spot, first_in};
 use typst_node::SyntaxNode;
 
 /// The number behind those of the node and of all below it, if each is above the one before it
@@ -124,9 +124,12 @@ fn before_index(
     ensures { IsPassed row.now (number + 1) (saturated (offset + length node.now.head.text)) index result.number result.offset }
 {
     let text = node.leaf_text().len();
-    let len = node.len();
     let start = offset.saturating_add(text);
-    if offset.saturating_add(len) == usize::MAX || index <= row.len() / 2 {
+    if row.len() <= LONG || index <= row.len() / 2 {
+        return summed_to(row, number + 1, start, index);
+    }
+    let len = node.len();
+    if offset.saturating_add(len) == usize::MAX {
         return summed_to(row, number + 1, start, index);
     }
     summed_back_to(

@@ -208,7 +208,7 @@ fn passed_from_front(row: &[SyntaxNode], number: usize, offset: usize, search: &
 }
 
 /// The same in a node's row, which is long: it goes on from both ends of the row by turns until one of
-/// them has come there, and is a loop without calls.
+/// them has come to what the search is for, and doesn't call itself.
 fn passed_in_long(
     node: &SyntaxNode,
     row: &[SyntaxNode],
@@ -339,7 +339,8 @@ pub fn first_in<'a>(
 
 impl<'a> Spot<'a> {
     /// Goes to the first node in preorder that is looked for, among this one and those below it, and says
-    /// whether there is one. It calls itself for each level of the tree, so what it holds meanwhile is little.
+    /// whether there is one; if not, it ends somewhere. It calls itself for each level of the tree, so what it
+    /// holds meanwhile is little.
     fn goes_to(&mut self, search: &Search) -> bool
         requires { self.old.number + nodes self.old.node.now < 2 ^ 64 - 1 }
         ensures first { result ≡ true → first_at (wanted search.now) self.old.number self.old.offset (places self.old.node.now) ≡ Some self.new.number }
