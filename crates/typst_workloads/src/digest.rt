@@ -108,6 +108,8 @@ pub struct Outcome {
     pub held: u64,
     /// How many of them agreed.
     pub agreed: u64,
+    /// What the first that differed was.
+    pub differing: Option<&'static str>,
 }
 
 impl Outcome {
@@ -117,12 +119,16 @@ impl Outcome {
             digest: Digest::new(),
             held: 0,
             agreed: 0,
+            differing: None,
         }
     }
 
-    /// Notes whether a result is what was made in another way.
-    pub fn hold(&mut self, agrees: bool) {
+    /// Notes whether a result, of which it is told what it is, is what was made in another way.
+    pub fn hold(&mut self, what: &'static str, agrees: bool) {
         self.held = self.held.saturating_add(1);
         self.agreed = self.agreed.saturating_add(u64::from(agrees));
+        if !agrees && self.differing.is_none() {
+            self.differing = Some(what);
+        }
     }
 }

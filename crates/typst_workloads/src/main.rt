@@ -13,6 +13,7 @@ mod random;
 mod typing;
 mod walking;
 
+use digest::Outcome;
 use job::Job;
 use std::alloc::Global;
 use std::env;
@@ -22,7 +23,7 @@ const USAGE: &str =
 
 /// Reads the words `JOB SEED ROUNDS`, does the job on so many rounds of inputs, and prints how many
 /// results were held against others made anew, how many agreed, and the digest of all results. The word
-/// `check` behind them leaves the digest out.
+/// `check` behind them leaves the digest out. Where a result differs, it ends with an error.
 fn main(rt: HostRuntime) -> anyhow::Result<()> {
     let alloc = rt.alloc();
     let words = words(&rt, alloc)?;
@@ -33,15 +34,29 @@ fn main(rt: HostRuntime) -> anyhow::Result<()> {
     };
     let seed = seed.as_str().parse::<u64>()?;
     let rounds = rounds.as_str().parse::<u64>()?;
+    let mut all_agree = true;
     for job in Job::named(name.as_str()) {
         let outcome = job.run(alloc, seed, rounds)?;
-        let (word, held, agreed) = (job.word(), outcome.held, outcome.agreed);
-        print!(rt; "{word} held {held} agreed {agreed}")?;
-        if !is_check {
-            let digest = outcome.digest.value();
-            print!(rt; " digest {digest}")?;
-        }
-        println!(rt; "")?;
+        report(&rt, *job, &outcome, is_check)?;
+        all_agree = all_agree && outcome.differing.is_none();
+    }
+    if !all_agree {
+        anyhow::bail!("some results differ from those made in another way");
+    }
+    Ok(())
+}
+
+/// Prints what came of a job, and on standard error what differed.
+fn report(rt: &HostRuntime, job: Job, outcome: &Outcome, is_check: bool) -> anyhow::Result<()> {
+    let (word, held, agreed) = (job.word(), outcome.held, outcome.agreed);
+    print!(rt; "{word} held {held} agreed {agreed}")?;
+    if !is_check {
+        let digest = outcome.digest.value();
+        print!(rt; " digest {digest}")?;
+    }
+    println!(rt; "")?;
+    if let Some(what) = outcome.differing {
+        eprintln!(rt; "{word}: {agreed} of {held} agree, and the first that doesn't is {what}")?;
     }
     Ok(())
 }

@@ -44,6 +44,9 @@ fn open(
     outcome.digest.add_size(source.lines().len_utf16());
     let page = highlight_html(alloc, source.root())?;
     outcome.digest.add_text(page.as_str());
-    outcome.hold(source.root().len() == source.text().len());
+    outcome.hold(
+        "the length of a source's tree",
+        source.root().len() == source.text().len(),
+    );
     Ok(())
 }

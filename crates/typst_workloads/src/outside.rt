@@ -21,8 +21,11 @@ pub fn outside(alloc: Global, random: &mut Random, outcome: &mut Outcome) -> any
         replace_some(alloc, random, &mut source, outcome)?;
         outcome.digest.add_tree(kept.root());
         let anew = parse(alloc, source.text(), &UnicodeClasses)?;
-        outcome.hold(anew.spanless_eq(source.root()));
-        outcome.hold(kept.root().len() == kept.text().len());
+        outcome.hold("a tree after replacements", anew.spanless_eq(source.root()));
+        outcome.hold(
+            "the length of a kept tree",
+            kept.root().len() == kept.text().len(),
+        );
     }
     Ok(())
 }

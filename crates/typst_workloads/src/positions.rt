@@ -26,7 +26,7 @@ pub fn positions(alloc: Global, random: &mut Random, outcome: &mut Outcome) -> a
         outcome.digest.add(u64::from(changed));
         outcome.digest.add_lines(&lines);
         ask_all(random, &lines, queries, outcome);
-        outcome.hold(lines.text() == new.as_str());
+        outcome.hold("a text after its replacement", lines.text() == new.as_str());
     }
     Ok(())
 }
@@ -41,7 +41,7 @@ fn ask_all(random: &mut Random, lines: &Lines<String>, queries: usize, outcome: 
             .digest
             .add_place(lines.utf16_to_byte(random.below(lines.len_utf16())));
     }
-    outcome.hold(agrees);
+    outcome.hold("the way back from a position", agrees);
 }
 
 /// Asks for the line, the column and the UTF-16 offset of a byte and for the ways back, and tells

@@ -66,7 +66,7 @@ fn type_into(
     outcome.digest.add_text(desk.source.text());
     outcome.digest.add_tree(desk.source.root());
     let anew = parse(alloc, desk.source.text(), &UnicodeClasses)?;
-    outcome.hold(anew.spanless_eq(desk.source.root()));
+    outcome.hold("a tree after edits", anew.spanless_eq(desk.source.root()));
     Ok(())
 }
 

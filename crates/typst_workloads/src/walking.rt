@@ -56,7 +56,10 @@ fn walk(root: &SyntaxNode, start: usize, end: usize, outcome: &mut Outcome) {
             None => break,
         }
     }
-    outcome.hold(leaf.offset() == first.offset());
+    outcome.hold(
+        "the leaf at the end of the way back",
+        leaf.offset() == first.offset(),
+    );
 }
 
 /// The first leaf that counts from a byte on.
