@@ -64,15 +64,15 @@ impl Job {
     }
 
     /// Does the job on so many rounds of inputs, of which each seed gives others.
-    pub fn run(self, alloc: Global, seed: u64, rounds: u64) -> anyhow::Result<Outcome> {
+    pub fn run(self, alloc: Global, seed: u64, rounds: usize) -> anyhow::Result<Outcome> {
         let mut outcome = Outcome::new();
         for round in 0..rounds {
-            let mut random = Random::new(seed, round);
+            let mut random = Random::new(seed, round as u64);
             match self {
                 Job::Typing => typing(alloc, &mut random, &mut outcome)?,
                 Job::Blocks => blocks(alloc, &mut random, &mut outcome)?,
                 Job::Walking => walking(alloc, &mut random, &mut outcome)?,
-                Job::Opening => opening(alloc, &mut random, &mut outcome)?,
+                Job::Opening => opening(alloc, &mut random, round, &mut outcome)?,
                 Job::Outside => outside(alloc, &mut random, &mut outcome)?,
                 Job::Positions => positions(alloc, &mut random, &mut outcome)?,
             }

@@ -33,7 +33,7 @@ fn main(rt: HostRuntime) -> anyhow::Result<()> {
         _ => anyhow::bail!("{USAGE}"),
     };
     let seed = seed.as_str().parse::<u64>()?;
-    let rounds = rounds.as_str().parse::<u64>()?;
+    let rounds = rounds.as_str().parse::<usize>()?;
     let mut all_agree = true;
     for job in Job::named(name.as_str()) {
         let outcome = job.run(alloc, seed, rounds)?;

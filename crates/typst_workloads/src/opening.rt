@@ -5,41 +5,53 @@ use crate::document::{Shape, document};
 use crate::random::Random;
 use crate::typing::told;
 use std::alloc::Global;
-use typst_parser::{Source, UnicodeClasses, highlight_html};
+use typst_parser::{Source, UnicodeClasses, highlight_html, parse};
+
+/// So many files has a project.
+const FILES: usize = 22;
 
 /// Opens a project: documents of 2 to 50 kilobytes, packages, comments, formulas, nests, prose in other
-/// scripts, and a document of a megabyte.
-pub fn opening(alloc: Global, random: &mut Random, outcome: &mut Outcome) -> anyhow::Result<()> {
-    for _ in 0..12 {
-        let bytes = random.between(2000, 50_000);
-        open(alloc, random, Shape::Document, bytes, outcome)?;
-    }
-    for _ in 0..4 {
-        let bytes = random.between(5000, 100_000);
-        open(alloc, random, Shape::Package, bytes, outcome)?;
-    }
-    for shape in [
-        Shape::Comments,
-        Shape::Formulas,
-        Shape::Nested,
-        Shape::WideProse,
-        Shape::OneBlock,
-    ] {
-        open(alloc, random, shape, 50_000, outcome)?;
-    }
-    open(alloc, random, Shape::Document, 1_000_000, outcome)
-}
-
-/// Makes a source of a text and its page.
-fn open(
+/// scripts, and a document of a megabyte. Of one in ten files the tree is held against one that is parsed
+/// anew, in each round of others.
+pub fn opening(
     alloc: Global,
     random: &mut Random,
-    shape: Shape,
-    bytes: usize,
+    round: usize,
     outcome: &mut Outcome,
 ) -> anyhow::Result<()> {
-    let text = document(alloc, random, shape, bytes)?;
-    let source = Source::detached(alloc, text, UnicodeClasses).map_err(told)?;
+    for file in 0..FILES {
+        let (shape, bytes) = file_of_project(random, file);
+        let text = document(alloc, random, shape, bytes)?;
+        let source = Source::detached(alloc, text, UnicodeClasses).map_err(told)?;
+        show(alloc, &source, outcome)?;
+        if file % 10 == round % 10 {
+            let anew = parse(alloc, source.text(), &UnicodeClasses)?;
+            outcome.hold("a source's tree", anew.spanless_eq(source.root()));
+        }
+    }
+    Ok(())
+}
+
+/// The shape and the size of one of a project's files.
+fn file_of_project(random: &mut Random, file: usize) -> (Shape, usize) {
+    match file {
+        0..12 => (Shape::Document, random.between(2000, 50_000)),
+        12..16 => (Shape::Package, random.between(5000, 100_000)),
+        16 => (Shape::Comments, 50_000),
+        17 => (Shape::Formulas, 50_000),
+        18 => (Shape::Nested, 50_000),
+        19 => (Shape::WideProse, 50_000),
+        20 => (Shape::OneBlock, 50_000),
+        _ => (Shape::Document, 1_000_000),
+    }
+}
+
+/// Makes the page of a source.
+fn show(
+    alloc: Global,
+    source: &Source<UnicodeClasses>,
+    outcome: &mut Outcome,
+) -> anyhow::Result<()> {
     outcome.digest.add_tree(source.root());
     outcome.digest.add_size(source.lines().len_utf16());
     let page = highlight_html(alloc, source.root())?;
