@@ -81,7 +81,6 @@ impl Digest {
 
     /// Takes in where the lines of a text start, in bytes and UTF-16 units.
     pub fn add_lines(&mut self, lines: &Lines<String>) {
-        self.add_size(lines.len_utf16());
         for i in 0..lines.len_lines() {
             if let Some(line) = lines.line(i) {
                 self.add_size(line.byte_idx());

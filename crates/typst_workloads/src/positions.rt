@@ -19,27 +19,28 @@ pub fn positions(alloc: Global, random: &mut Random, outcome: &mut Outcome) -> a
     ] {
         let text = document(alloc, random, shape, bytes)?;
         let mut lines = Lines::new(alloc, text)?;
-        outcome.digest.add_lines(&lines);
-        ask_all(random, &lines, queries, outcome);
+        show(random, &lines, queries, outcome);
         let new = formatted(alloc, random, lines.text(), 20)?;
         let changed = lines.replace(new.as_str())?;
         outcome.digest.add(u64::from(changed));
-        outcome.digest.add_lines(&lines);
-        ask_all(random, &lines, queries, outcome);
+        show(random, &lines, queries, outcome);
         outcome.hold("a text after its replacement", lines.text() == new.as_str());
     }
     Ok(())
 }
 
-/// Asks for so many positions.
-fn ask_all(random: &mut Random, lines: &Lines<String>, queries: usize, outcome: &mut Outcome) {
+/// Asks for all lines, the text's length in UTF-16, and so many positions.
+fn show(random: &mut Random, lines: &Lines<String>, queries: usize, outcome: &mut Outcome) {
+    let units = lines.len_utf16();
+    outcome.digest.add_size(units);
+    outcome.digest.add_lines(lines);
     let mut agrees = true;
     for _ in 0..queries {
         let byte = boundary(lines.text(), random.below(lines.len_bytes()));
         agrees = agrees && ask(lines, byte, outcome);
         outcome
             .digest
-            .add_place(lines.utf16_to_byte(random.below(lines.len_utf16())));
+            .add_place(lines.utf16_to_byte(random.below(units)));
     }
     outcome.hold("the way back from a position", agrees);
 }
@@ -49,7 +50,6 @@ fn ask_all(random: &mut Random, lines: &Lines<String>, queries: usize, outcome: 
 fn ask(lines: &Lines<String>, byte: usize, outcome: &mut Outcome) -> bool {
     let digest = &mut outcome.digest;
     digest.add_place(lines.byte_to_line(byte));
-    digest.add_place(lines.byte_to_column(byte));
     let place = lines.byte_to_line_column(byte);
     digest.add_line_column(place);
     let units = lines.byte_to_utf16(byte);
