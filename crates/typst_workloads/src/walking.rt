@@ -55,6 +55,7 @@ fn walk(root: &SyntaxNode, start: usize, end: usize, outcome: &mut Outcome) {
             Some(previous) => leaf = previous,
             None => break,
         }
+        outcome.digest.add_size(leaf.offset());
     }
     outcome.hold(
         "the leaf at the end of the way back",
