@@ -1,6 +1,6 @@
 //! What is kept of results.
 
-use typst_parser::{Lines, SyntaxNode, Tag};
+use typst_parser::{Lines, SyntaxKind, SyntaxNode, Tag};
 
 /// A digest of numbers and texts in the order in which they came.
 #[derive(Debug, Clone, Copy)]
@@ -65,13 +65,28 @@ impl Digest {
         }
     }
 
+    /// Takes in a short text as a whole.
+    fn add_name(&mut self, name: &str) {
+        for byte in name.bytes() {
+            self.add(u64::from(byte));
+        }
+    }
+
+    /// Takes in a kind that may be none by its name.
+    pub fn add_kind(&mut self, kind: Option<SyntaxKind>) {
+        match kind {
+            None => self.add(0),
+            Some(kind) => self.add_name(kind.name()),
+        }
+    }
+
     /// Takes in the length of a tree's text, the number of its nodes, and of each node at its top the
-    /// name of its kind, the length of its text and its span's number.
+    /// kind, the length of its text and its span's number.
     pub fn add_tree(&mut self, root: &SyntaxNode) {
         self.add_size(root.len());
         self.add_size(root.descendants());
         for child in root.children() {
-            self.add_size(child.kind().name().len());
+            self.add_kind(Some(child.kind()));
             self.add_size(child.len());
             if let Some(number) = child.span().number() {
                 self.add(number.get());
@@ -89,11 +104,11 @@ impl Digest {
         }
     }
 
-    /// Takes in a tag that may be none.
+    /// Takes in a tag that may be none by its name.
     pub fn add_tag(&mut self, tag: Option<Tag>) {
         match tag {
             None => self.add(0),
-            Some(tag) => self.add_size(tag.css_class().len()),
+            Some(tag) => self.add_name(tag.css_class()),
         }
     }
 }

@@ -172,7 +172,7 @@ impl Desk {
         }
         if let Some(found) = self.source.find(leaf.get().span()) {
             digest.add_size(found.offset());
-            digest.add_size(found.kind().name().len());
+            digest.add_kind(Some(found.kind()));
         }
     }
 }

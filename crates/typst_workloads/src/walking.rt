@@ -4,7 +4,7 @@ use crate::digest::{Digest, Outcome};
 use crate::document::{Shape, document};
 use crate::random::Random;
 use std::alloc::Global;
-use typst_parser::{LinkedNode, SyntaxKind, SyntaxNode, UnicodeClasses, highlight, parse};
+use typst_parser::{LinkedNode, SyntaxNode, UnicodeClasses, highlight, parse};
 
 /// So many bytes are shown on the screen.
 const SCREEN: usize = 4000;
@@ -81,7 +81,7 @@ fn show(leaf: LinkedNode<'_>, digest: &mut Digest) {
     digest.add_size(range.start);
     digest.add_size(range.end);
     digest.add_tag(highlight(&leaf));
-    add_kind(digest, leaf.next_sibling_kind());
+    digest.add_kind(leaf.next_sibling_kind());
     let mut node = leaf;
     for _ in 0..3 {
         match node.parent() {
@@ -91,15 +91,7 @@ fn show(leaf: LinkedNode<'_>, digest: &mut Digest) {
         if node.offset() < leaf.offset() {
             return;
         }
-        add_kind(digest, Some(node.kind()));
+        digest.add_kind(Some(node.kind()));
         digest.add_tag(highlight(&node));
-    }
-}
-
-/// Takes in a kind that may be none.
-fn add_kind(digest: &mut Digest, kind: Option<SyntaxKind>) {
-    match kind {
-        None => digest.add(0),
-        Some(kind) => digest.add_size(kind.name().len()),
     }
 }
