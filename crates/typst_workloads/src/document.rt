@@ -77,6 +77,9 @@ const OPERATORS: &[&str] = &[
     " + ", " - ", " <= ", " = ", " dot ", " ", " / ", " => ", ", ",
 ];
 
+/// So many bytes of prose stand above a long table: more than 128 nodes.
+const PROSE_BYTES: usize = 12_000;
+
 /// What a text is like.
 #[derive(Debug, Clone, Copy, PartialEq, Eq)]
 pub enum Shape {
@@ -84,6 +87,8 @@ pub enum Shape {
     Document,
     /// A document, all of it in one content block.
     OneBlock,
+    /// A page of prose, and below it one long table.
+    LongTable,
     /// Functions of code, one after another.
     Package,
     /// Functions of code, all of them in one code block.
@@ -116,11 +121,15 @@ pub fn document(
         Shape::LongLine => "#let data = (",
         _ => "",
     })?;
+    if shape == Shape::LongTable {
+        push_parts(&mut text, random, Shape::Document, PROSE_BYTES)?;
+        text.push_str("#table(\n  columns: 3,\n")?;
+    }
     push_parts(&mut text, random, shape, bytes)?;
     text.push_str(match shape {
         Shape::OneBlock => "]\n",
         Shape::OnePackage => "}\n",
-        Shape::LongLine => ")",
+        Shape::LongLine | Shape::LongTable => ")",
         _ => "",
     })?;
     Ok(text)
@@ -146,6 +155,7 @@ fn push_parts(
 fn push_part(text: &mut String, random: &mut Random, shape: Shape) -> Result<(), AllocError> {
     match shape {
         Shape::Document | Shape::OneBlock => push_mixed(text, random),
+        Shape::LongTable => push_row(text, random),
         Shape::Package => {
             text.push_str("#let ")?;
             push_function(text, random)
@@ -266,13 +276,18 @@ fn push_statement(text: &mut String, random: &mut Random) -> Result<(), AllocErr
 fn push_figure(text: &mut String, random: &mut Random) -> Result<(), AllocError> {
     text.push_str("#figure(\n  table(columns: (auto, 1fr, 40%), align: center,\n")?;
     for _ in 0..random.between(1, 4) {
-        text.push_str("    [*")?;
-        text.push_str(random.pick(PLAIN))?;
-        text.push_str("*], [#calc.pow(2, 3)], [$x^2$],\n")?;
+        push_row(text, random)?;
     }
     text.push_str("  ),\n  caption: [A table of ")?;
     text.push_str(random.pick(PLAIN))?;
     text.push_str("],\n) <tab>\n\n")
+}
+
+/// Writes a row of a table of three columns.
+fn push_row(text: &mut String, random: &mut Random) -> Result<(), AllocError> {
+    text.push_str("    [*")?;
+    text.push_str(random.pick(PLAIN))?;
+    text.push_str("*], [#calc.pow(2, 3)], [$x^2$],\n")
 }
 
 /// Writes a raw text of some lines.

@@ -9,14 +9,15 @@ use typst_parser::{LinkedNode, SyntaxNode, UnicodeClasses, highlight, parse};
 /// So many bytes are shown on the screen.
 const SCREEN: usize = 4000;
 
-/// Walks through documents of 10 and 40 kilobytes, one that is a block, and a package, and shows what
-/// is on the screen of one of 100 kilobytes.
+/// Walks through documents of 10 and 40 kilobytes, one that is a block, a package, and a page of prose
+/// above a table of more than a hundred cells, and shows what is on the screen of documents of 100 kilobytes.
 pub fn walking(alloc: Global, random: &mut Random, outcome: &mut Outcome) -> anyhow::Result<()> {
     for (shape, bytes) in [
         (Shape::Document, 10_000),
         (Shape::Document, 40_000),
         (Shape::OneBlock, 20_000),
         (Shape::Package, 20_000),
+        (Shape::LongTable, 15_000),
     ] {
         let text = document(alloc, random, shape, bytes)?;
         let root = parse(alloc, text.as_str(), &UnicodeClasses)?;
