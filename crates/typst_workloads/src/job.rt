@@ -69,8 +69,8 @@ impl Job {
         for round in 0..rounds {
             let mut random = Random::new(seed, round as u64);
             match self {
-                Job::Typing => typing(alloc, &mut random, &mut outcome)?,
-                Job::Blocks => blocks(alloc, &mut random, &mut outcome)?,
+                Job::Typing => typing(alloc, &mut random, round, &mut outcome)?,
+                Job::Blocks => blocks(alloc, &mut random, round, &mut outcome)?,
                 Job::Walking => walking(alloc, &mut random, &mut outcome)?,
                 Job::Opening => opening(alloc, &mut random, round, &mut outcome)?,
                 Job::Outside => outside(alloc, &mut random, &mut outcome)?,

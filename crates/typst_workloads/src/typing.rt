@@ -4,7 +4,7 @@ use crate::digest::Outcome;
 use crate::document::{Shape, document};
 use crate::random::Random;
 use std::alloc::Global;
-use typst_parser::{LinkedNode, Source, SourceError, UnicodeClasses, parse};
+use typst_parser::{LinkedNode, Source, SourceError, SyntaxKind, UnicodeClasses, parse};
 
 /// What is typed letter by letter, of which the last letters are taken out again.
 const WORDS: &[&str] = &[
@@ -19,79 +19,170 @@ const WORDS: &[&str] = &[
     "item",
 ];
 
-/// What is typed letter by letter and opens and closes something.
+/// What is typed letter by letter and opens and closes something, each in its turn.
 const MARKED: &[&str] = &[
     "$a+b$", "*bold*", "_so_", "`raw`", "#f(x)", "[in]", "\"said\"", "// so", "= ",
 ];
 
+/// So many keystrokes lie between two words that open and close something.
+const BETWEEN_MARKED: usize = 300;
+
 /// Types into documents of 20, 100 and 300 kilobytes.
-pub fn typing(alloc: Global, random: &mut Random, outcome: &mut Outcome) -> anyhow::Result<()> {
+pub fn typing(
+    alloc: Global,
+    random: &mut Random,
+    round: usize,
+    outcome: &mut Outcome,
+) -> anyhow::Result<()> {
     for bytes in [20_000, 100_000, 300_000] {
-        type_into(alloc, random, Shape::Document, bytes, 1500, outcome)?;
+        let task = Task {
+            shape: Shape::Document,
+            bytes,
+            keystrokes: 1500,
+            turn: round.wrapping_mul(5),
+        };
+        type_into(alloc, random, task, outcome)?;
     }
     Ok(())
 }
 
 /// Types into documents and packages that are one block as a whole, of 20 and 60 kilobytes.
-pub fn blocks(alloc: Global, random: &mut Random, outcome: &mut Outcome) -> anyhow::Result<()> {
+pub fn blocks(
+    alloc: Global,
+    random: &mut Random,
+    round: usize,
+    outcome: &mut Outcome,
+) -> anyhow::Result<()> {
+    let mut turn = round.wrapping_mul(4);
     for bytes in [20_000, 60_000] {
-        type_into(alloc, random, Shape::OneBlock, bytes, 200, outcome)?;
-        type_into(alloc, random, Shape::OnePackage, bytes, 200, outcome)?;
+        for shape in [Shape::OneBlock, Shape::OnePackage] {
+            let task = Task {
+                shape,
+                bytes,
+                keystrokes: 200,
+                turn,
+            };
+            type_into(alloc, random, task, outcome)?;
+            turn = turn.wrapping_add(1);
+        }
     }
     Ok(())
 }
 
-/// Makes a source of a text of a shape, does so many keystrokes, and holds the tree against the one that
-/// is parsed anew.
-fn type_into(
-    alloc: Global,
-    random: &mut Random,
+/// A text into which one types, and how much.
+#[derive(Debug, Clone, Copy)]
+struct Task {
     shape: Shape,
     bytes: usize,
     keystrokes: usize,
+    /// Which of the words that open and close something is the first.
+    turn: usize,
+}
+
+/// Makes a source of a text, does so many keystrokes, and holds the tree against the one that is parsed
+/// anew.
+fn type_into(
+    alloc: Global,
+    random: &mut Random,
+    task: Task,
     outcome: &mut Outcome,
 ) -> anyhow::Result<()> {
-    let text = document(alloc, random, shape, bytes)?;
+    let text = document(alloc, random, task.shape, task.bytes)?;
     let source = Source::detached(alloc, text, UnicodeClasses).map_err(told)?;
     let mut desk = Desk {
         source,
-        left: keystrokes,
+        left: task.keystrokes,
+        until_marked: BETWEEN_MARKED / 2,
+        turn: task.turn,
     };
-    for _ in 0..keystrokes {
+    for _ in 0..task.keystrokes {
         if desk.left == 0 {
             break;
         }
         desk.session(random, outcome)?;
     }
-    outcome.digest.add_text(desk.source.text());
-    outcome.digest.add_tree(desk.source.root());
-    let anew = parse(alloc, desk.source.text(), &UnicodeClasses)?;
-    outcome.hold("a tree after edits", anew.spanless_eq(desk.source.root()));
-    Ok(())
+    desk.hold(alloc, outcome)
 }
 
-/// A source into which one types, and how many keystrokes are left.
+/// A source into which one types.
 #[derive(Drop)]
 struct Desk {
     source: Source<UnicodeClasses>,
+    /// How many keystrokes are left.
     left: usize,
+    /// How many keystrokes come before the next word that opens and closes something.
+    until_marked: usize,
+    /// Which word that is.
+    turn: usize,
 }
 
 impl Desk {
-    /// Types a word somewhere, and takes some of its last letters out again.
+    /// Types a word somewhere. In plain text its last letters are taken out again, and elsewhere all of
+    /// it, so that the text stays well-formed.
     fn session(&mut self, random: &mut Random, outcome: &mut Outcome) -> anyhow::Result<()> {
         let start = self.place(random);
-        let is_marked = random.one_in(40);
-        let word = random.pick(if is_marked { MARKED } else { WORDS });
+        if self.until_marked == 0 {
+            return self.marked_session(start, outcome);
+        }
+        let is_plain = match self.leaf_before(start) {
+            None => false,
+            Some(leaf) => leaf.kind() == SyntaxKind::Text,
+        };
+        let word = random.pick(WORDS);
+        let taken = if is_plain {
+            random.below(word.len())
+        } else {
+            word.len()
+        };
+        let end = self.type_letters(start, word, outcome)?;
+        self.take_out(end, taken, outcome)?;
+        Ok(())
+    }
+
+    /// Types what opens and closes something, and takes it out again as a whole.
+    fn marked_session(&mut self, start: usize, outcome: &mut Outcome) -> anyhow::Result<()> {
+        let word = in_turn(MARKED, self.turn);
+        self.until_marked = BETWEEN_MARKED;
+        self.turn = self.turn.wrapping_add(1);
+        let end = self.type_letters(start, word, outcome)?;
+        self.keystroke(start, end, "", outcome)?;
+        Ok(())
+    }
+
+    /// Types a word letter by letter, and gives where it ends.
+    fn type_letters(
+        &mut self,
+        start: usize,
+        word: &str,
+        outcome: &mut Outcome,
+    ) -> anyhow::Result<usize> {
         let mut at = start;
         for letter in word.split("") {
             at = self.keystroke(at, at, letter, outcome)?;
         }
-        if !is_marked {
-            for _ in 1..random.between(1, word.len()) {
-                at = self.keystroke(at.saturating_sub(1), at, "", outcome)?;
-            }
+        Ok(at)
+    }
+
+    /// Takes out so many letters of one byte before a place, one by one, and gives where that leads.
+    fn take_out(
+        &mut self,
+        end: usize,
+        letters: usize,
+        outcome: &mut Outcome,
+    ) -> anyhow::Result<usize> {
+        let mut at = end;
+        for _ in 0..letters {
+            at = self.keystroke(at.saturating_sub(1), at, "", outcome)?;
         }
+        Ok(at)
+    }
+
+    /// Holds the tree against the one that is parsed anew, and digests both text and tree.
+    fn hold(&self, alloc: Global, outcome: &mut Outcome) -> anyhow::Result<()> {
+        outcome.digest.add_text(self.source.text());
+        outcome.digest.add_tree(self.source.root());
+        let anew = parse(alloc, self.source.text(), &UnicodeClasses)?;
+        outcome.hold("a tree after edits", anew.spanless_eq(self.source.root()));
         Ok(())
     }
 
@@ -125,15 +216,15 @@ impl Desk {
         outcome: &mut Outcome,
     ) -> anyhow::Result<usize> {
         let text = self.source.text();
-        if self.left == 0
-            || start > end
+        if start > end
             || start == end && with.is_empty()
             || !text.is_char_boundary(start)
             || !text.is_char_boundary(end)
         {
             return Ok(start);
         }
-        self.left -= 1;
+        self.left = self.left.saturating_sub(1);
+        self.until_marked = self.until_marked.saturating_sub(1);
         let parsed = self.source.edit(start..end, with).map_err(told)?;
         outcome.digest.add_size(parsed.start);
         outcome.digest.add_size(parsed.end);
@@ -156,10 +247,7 @@ impl Desk {
             digest.add_size(units);
             digest.add_place(lines.utf16_to_byte(units));
         }
-        if self.source.root().descendants() == usize::MAX {
-            return;
-        }
-        let Some(leaf) = LinkedNode::new(self.source.root()).leaf_at(at.saturating_sub(1)) else {
+        let Some(leaf) = self.leaf_before(at) else {
             return;
         };
         let Some(number) = leaf.get().span().number() else {
@@ -174,6 +262,22 @@ impl Desk {
             digest.add_size(found.offset());
             digest.add_kind(Some(found.kind()));
         }
+    }
+
+    /// The leaf that ends at a place or beyond it and begins before it.
+    fn leaf_before(&self, at: usize) -> Option<LinkedNode<'_>> {
+        if self.source.root().descendants() == usize::MAX {
+            return None;
+        }
+        LinkedNode::new(self.source.root()).leaf_at(at.saturating_sub(1))
+    }
+}
+
+/// The text whose turn it is, or the empty text where there are none.
+fn in_turn(options: &[&'static str], turn: usize) -> &'static str {
+    match options.get(turn % options.len().max(1)) {
+        Some(option) => *option,
+        None => "",
     }
 }
 
