@@ -1,5 +1,6 @@
 //! The jobs.
 
+use crate::broken::broken;
 use crate::digest::Outcome;
 use crate::opening::opening;
 use crate::outside::outside;
@@ -16,6 +17,8 @@ pub enum Job {
     Typing,
     /// Typing into texts that are one block as a whole.
     Blocks,
+    /// Typing behind something that is open.
+    Broken,
     /// Walking through trees and highlighting what is shown.
     Walking,
     /// Opening the files of a project and showing them as pages.
@@ -30,6 +33,7 @@ pub enum Job {
 const ALL: &[Job] = &[
     Job::Typing,
     Job::Blocks,
+    Job::Broken,
     Job::Walking,
     Job::Opening,
     Job::Outside,
@@ -42,6 +46,7 @@ impl Job {
         match word {
             "typing" => &[Job::Typing],
             "blocks" => &[Job::Blocks],
+            "broken" => &[Job::Broken],
             "walking" => &[Job::Walking],
             "opening" => &[Job::Opening],
             "outside" => &[Job::Outside],
@@ -56,6 +61,7 @@ impl Job {
         match self {
             Job::Typing => "typing",
             Job::Blocks => "blocks",
+            Job::Broken => "broken",
             Job::Walking => "walking",
             Job::Opening => "opening",
             Job::Outside => "outside",
@@ -71,6 +77,7 @@ impl Job {
             match self {
                 Job::Typing => typing(alloc, &mut random, round, &mut outcome)?,
                 Job::Blocks => blocks(alloc, &mut random, round, &mut outcome)?,
+                Job::Broken => broken(alloc, &mut random, &mut outcome)?,
                 Job::Walking => walking(alloc, &mut random, &mut outcome)?,
                 Job::Opening => opening(alloc, &mut random, round, &mut outcome)?,
                 Job::Outside => outside(alloc, &mut random, &mut outcome)?,

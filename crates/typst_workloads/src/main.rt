@@ -2,6 +2,7 @@
 //! digest of all that came out.
 #![tactic(auto)]
 
+mod broken;
 mod changed;
 mod digest;
 mod document;
@@ -19,7 +20,7 @@ use std::alloc::Global;
 use std::env;
 
 const USAGE: &str =
-    "usage: typst_workloads typing|blocks|walking|opening|outside|positions|all SEED ROUNDS [check]";
+    "usage: typst_workloads typing|blocks|broken|walking|opening|outside|positions|all SEED ROUNDS [check]";
 
 /// Reads the words `JOB SEED ROUNDS`, does the job on so many rounds of inputs, and prints how many
 /// results were held against others made anew, how many agreed, and the digest of all results. The word

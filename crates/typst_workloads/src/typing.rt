@@ -89,12 +89,7 @@ fn type_into(
 ) -> anyhow::Result<()> {
     let text = document(alloc, random, task.shape, task.bytes)?;
     let source = Source::detached(alloc, text, UnicodeClasses).map_err(told)?;
-    let mut desk = Desk {
-        source,
-        left: task.keystrokes,
-        until_marked: BETWEEN_MARKED / 2,
-        turn: task.turn,
-    };
+    let mut desk = Desk::new(source, task.keystrokes, task.turn);
     for _ in 0..task.keystrokes {
         if desk.left == 0 {
             break;
@@ -106,7 +101,7 @@ fn type_into(
 
 /// A source into which one types.
 #[derive(Drop)]
-struct Desk {
+pub struct Desk {
     source: Source<UnicodeClasses>,
     /// How many keystrokes are left.
     left: usize,
@@ -117,6 +112,22 @@ struct Desk {
 }
 
 impl Desk {
+    /// A source into which nothing was typed yet, how many keystrokes are to come, and which of the words
+    /// that open and close something is the first.
+    pub fn new(source: Source<UnicodeClasses>, left: usize, turn: usize) -> Desk {
+        Desk {
+            source,
+            left,
+            until_marked: BETWEEN_MARKED / 2,
+            turn,
+        }
+    }
+
+    /// The text as it is now.
+    pub fn text(&self) -> &str {
+        self.source.text()
+    }
+
     /// Types a word somewhere. In plain text its last letters are taken out again, and elsewhere all of
     /// it, so that the text stays well-formed.
     fn session(&mut self, random: &mut Random, outcome: &mut Outcome) -> anyhow::Result<()> {
@@ -128,15 +139,26 @@ impl Desk {
             None => false,
             Some(leaf) => leaf.kind() == SyntaxKind::Text,
         };
+        if is_plain {
+            self.type_word(start, random, outcome)?;
+            return Ok(());
+        }
         let word = random.pick(WORDS);
-        let taken = if is_plain {
-            random.below(word.len())
-        } else {
-            word.len()
-        };
         let end = self.type_letters(start, word, outcome)?;
-        self.take_out(end, taken, outcome)?;
+        self.take_out(end, word.len(), outcome)?;
         Ok(())
+    }
+
+    /// Types a word, takes some of its last letters out again, and gives where the rest ends.
+    fn type_word(
+        &mut self,
+        start: usize,
+        random: &mut Random,
+        outcome: &mut Outcome,
+    ) -> anyhow::Result<usize> {
+        let word = random.pick(WORDS);
+        let end = self.type_letters(start, word, outcome)?;
+        self.take_out(end, random.below(word.len()), outcome)
     }
 
     /// Types what opens and closes something, and takes it out again as a whole.
@@ -150,7 +172,7 @@ impl Desk {
     }
 
     /// Types a word letter by letter, and gives where it ends.
-    fn type_letters(
+    pub fn type_letters(
         &mut self,
         start: usize,
         word: &str,
@@ -164,7 +186,7 @@ impl Desk {
     }
 
     /// Takes out so many letters of one byte before a place, one by one, and gives where that leads.
-    fn take_out(
+    pub fn take_out(
         &mut self,
         end: usize,
         letters: usize,
@@ -178,7 +200,7 @@ impl Desk {
     }
 
     /// Holds the tree against the one that is parsed anew, and digests both text and tree.
-    fn hold(&self, alloc: Global, outcome: &mut Outcome) -> anyhow::Result<()> {
+    pub fn hold(&self, alloc: Global, outcome: &mut Outcome) -> anyhow::Result<()> {
         outcome.digest.add_text(self.source.text());
         outcome.digest.add_tree(self.source.root());
         let anew = parse(alloc, self.source.text(), &UnicodeClasses)?;
