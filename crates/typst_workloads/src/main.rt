@@ -24,11 +24,16 @@ const USAGE: &str =
 
 /// Reads the words `JOB SEED ROUNDS`, does the job on so many rounds of inputs, and prints how many
 /// results were held against others made anew, how many agreed, and the digest of all results. The word
-/// `check` behind them leaves the digest out. Where a result differs, it ends with an error.
+/// `check` behind them leaves the digest out. Where a result differs, it ends with an error. Without words
+/// it prints which ones it takes.
 fn main(rt: HostRuntime) -> anyhow::Result<()> {
     let alloc = rt.alloc();
     let words = words(&rt, alloc)?;
     let (name, seed, rounds, is_check) = match words.as_slice() {
+        [] => {
+            println!(rt; "{USAGE}")?;
+            return Ok(());
+        }
         [name, seed, rounds] => (name, seed, rounds, false),
         [name, seed, rounds, check] if check.as_str() == "check" => (name, seed, rounds, true),
         _ => anyhow::bail!("{USAGE}"),
