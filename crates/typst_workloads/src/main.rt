@@ -40,8 +40,12 @@ fn main(rt: HostRuntime) -> anyhow::Result<()> {
     };
     let seed = seed.as_str().parse::<u64>()?;
     let rounds = rounds.as_str().parse::<usize>()?;
+    let jobs = Job::named(name.as_str());
+    if jobs.is_empty() {
+        anyhow::bail!("{USAGE}");
+    }
     let mut all_agree = true;
-    for job in Job::named(name.as_str()) {
+    for job in jobs {
         let outcome = job.run(alloc, seed, rounds)?;
         report(&rt, *job, &outcome, is_check)?;
         all_agree = all_agree && outcome.differing.is_none();
