@@ -1,20 +1,22 @@
 -- Steps up from a node.
-use Rattle.std.proofs.Common.{◌≡◌, ℕ, zero, suc, ◌+◌, ◌-◌, ◌^◌, ◌<◌, ◌≤◌, List, [], ◌∷◌, ◌++◌, true, false, length, take, drop, Option, Some, None, refl, ap, sym, subst, ◌∙◌, arith, append_assoc, length-append}
+use Rattle.std.proofs.Common.{◌≡◌, ℕ, zero, suc, ◌+◌, ◌-◌, ◌^◌, ◌<◌, ◌≤◌, List, [], ◌∷◌, ◌++◌, true, false, length, take, drop, Option, Some, None, refl, ap, sym, subst, ◌∙◌, arith, append_assoc, length-append, get_or}
 use Rattle.std.proofs.lemmas.List.{drop-append-le, length-drop, take-append-drop}
 use Rattle.typst_tree.proofs.LastLeaf.{last_append, last_none, last_alone, preorder_append}
-use Rattle.typst_tree.proofs.PassesOver.{place_found}
 use Rattle.std.proofs.Math.Seq.{drop-append_seam, drop-append-add}
 use Rattle.std.specs.Prelude.{slice_get, nat_le, nat_lt, MatchOption, find}
-use Rattle.typst_node.proofs.SpansAside.{forest_trees}
+use Rattle.typst_node.proofs.SpansAside.{forest_trees, trees_forest}
 use Rattle.typst_tree.proofs.Siblings.{find_behind}
 use Rattle.std.proofs.lemmas.Bool.Decides.{nat_tests}
 use Rattle.std.specs.Option.{option_map}
 use Rattle.std.proofs.lemmas.Option.{none-some}
-use Rattle.typst_node.specs.Tree.{Forest, none, more, Tree, trees, nodes, places, forest, count, preorder, saturated, text_of}
-use Rattle.typst_tree.proofs.Rows.{Beside, beside, Kid, kid_behind}
-use Rattle.typst_tree.specs.Walks.{first_at, last_leaf, is_leaf, is_leaf_from, is_childless, has_place, if_none, Stands}
-use Rattle.typst_tree.specs.Rows.{IsChild, IsTreeOf}
+use Rattle.typst_node.specs.Tree.{Forest, none, more, Tree, trees, nodes, places, forest, count, preorder}
+use Rattle.typst_tree.proofs.Rows.{Beside, beside, Over, over_at}
+use Rattle.typst_tree.specs.Walks.{first_at, last_leaf, is_leaf, is_leaf_from, is_childless, if_none, Stands}
+use Rattle.typst_tree.specs.Rows.{IsChild, IsFork}
 use Rattle.typst_tree.specs.Branches.{IsAbove, leaf_after, leaf_until}
+use Rattle.typst_tree.specs.Follows.{reach_of, index_of}
+use Rattle.typst_tree.specs.declared.known.Reach.TheVariants as reach
+use Rattle.typst_tree.proofs.Forks.{Tops, tops}
 use Rattle.typst_tree.specs.Linked.{linked}
 use Rattle.typst_tree.specs.Steps.{At, at, children, is_sibling_after, parent, first_below, start_of, node_of, next_leaf}
 use Rattle.typst_tree.specs.declared.linked.LinkedNode.{LinkedNode}
@@ -30,6 +32,11 @@ above_is a b w =
 
 pub no_parent : (a : LinkedNode) → a.number ≡ 0 → None ≡ parent (linked a)
 no_parent a e = ap (option_map (at a.root.now)) (sym (none_from a.number 0 0 (places a.root.now) (omega (arith, e))))
+
+-- the tree of the first long row that a node is or is below, where its place is known
+pub tops_of : (a o : LinkedNode) (xs : List Tree) (x : Tree) → o.root.now ≡ a.root.now → reach_of a.known ≡ reach.Placed → IsFork a.root.now a.number o.node.now o.number → forest xs ≡ o.node.now.kids → x ≡ get_or xs (index_of a.known) x → a.offset < 2 ^ 64 - 1 → Tops a.root.now o.node.now o.number a.number a.offset (nodes a.node.now) a.known x
+tops_of a o xs x root e f g at small =
+    tops a.root.now a.number a.offset (nodes a.node.now) a.known o.node.now o.number o.offset xs x a.holds e f (subst (λ r. Stands (places r) o.number o.offset (places o.node.now)) root o.stands) g at small
 
 pub linked_at : (a : LinkedNode) (root : Tree) (n : ℕ) → a.root.now ≡ root → a.number ≡ n → linked a ≡ at root n
 linked_at a root n p q = λ i. record { root = p i; number = q i }
@@ -125,16 +132,13 @@ pub beside_of : (a : LinkedNode) (b : Above) (xs : List Tree) → IsAbove a b �
 beside_of a b xs w e =
     beside a.root.now b.parent.node.now b.parent.number b.parent.offset a.node.now a.number a.offset b.index xs e (above_stands a b w) w.child a.stands
 
-pub kid_of_row : (a : LinkedNode) (b : Above) (xs ys : List Tree) (j : ℕ) (x : Tree) (k d p : ℕ) → IsAbove a b → forest xs ≡ b.parent.node.now.kids → ys ≡ drop (b.index + 1) xs → p ≡ saturated (a.offset + length (text_of a.node.now)) → IsTreeOf ys (a.number + nodes a.node.now) p x k d j → Kid a.root.now b.parent.node.now b.parent.number (b.index + 1 + j) xs x k d
-kid_of_row a b xs ys j x k d p w e f q tree =
-    kid_behind a.root.now b.parent.node.now b.parent.number b.parent.offset a.node.now a.number a.offset b.index xs j x k d p e (above_stands a b w) w.child a.stands q (subst (λ zs. IsTreeOf zs (a.number + nodes a.node.now) p x k d j) f tree)
-
--- of the leaves behind a node, those of its siblings come first
-pub leaf_beside : (a : LinkedNode) (b : Above) (xs ys : List Tree) (k p : ℕ) → IsAbove a b → forest xs ≡ b.parent.node.now.kids → ys ≡ drop (b.index + 1) xs → k ≡ a.number + nodes a.node.now → p ≡ saturated (a.offset + length (text_of a.node.now)) → leaf_after a.root.now (a.number + nodes a.node.now) ≡ option_map (at a.root.now) (if_none (first_at (is_leaf_from 0) k p (preorder (forest ys))) (first_at (is_leaf_from 0) (b.parent.number + nodes b.parent.node.now) 0 (drop (b.parent.number + nodes b.parent.node.now) (places a.root.now))))
-leaf_beside a b xs ys k p w e f n q =
+-- the siblings before a node are passed over, and the node is the next
+pub over_above : (a : LinkedNode) (b : Above) (xs : List Tree) → IsAbove a b → forest xs ≡ b.parent.node.now.kids → Over b.parent.node.now b.parent.number b.parent.offset xs b.index a.number a.offset a.node.now
+over_above a b xs w e =
     let s = beside_of a b xs w e in
-    let row : Stands (places a.root.now) k p (preorder (forest ys)) = rw (n, q, f) s.behind in
-    ap (leaf_after a.root.now) (sym n) ∙ leaf_row a.root.now k p (b.parent.number + nodes b.parent.node.now) (preorder (forest ys)) row (omega (arith, s.counted, n, length_preorder (forest ys), ap (λ zs. count (forest zs)) f))
+    let same : trees b.parent.node.now.kids ≡ xs = sym (ap trees e) ∙ trees_forest xs in
+    over_at b.parent.node.now b.parent.number b.parent.offset xs b.index a.number a.offset a.node.now e (ap (λ ys. slice_get ys b.index) (sym same) ∙ w.child.here)
+    (record { within = omega (arith, s.within); number = s.number; offset = omega (arith, s.start, a.stands.begins) })
 
 map_some : (f : ℕ → At) (x y : Option ℕ) (a : At) → Some a ≡ option_map f x → option_map f (if_none x y) ≡ Some a
 map_some f None y a e = cc
@@ -192,6 +196,12 @@ pub until_not_found : (b : LinkedNode) (m : ℕ) → b.number ≤ m → m ≤ b.
 until_not_found b m l h e =
     ap (option_map (at b.root.now)) (until_within (places b.root.now) b.number b.offset m (places b.node.now) b.stands l (omega (arith, h, length_places b.node.now)) ∙ ap (λ o. if_none o (last_leaf b.number 0 (places b.root.now))) (sym e))
 
+-- before the root there is no leaf
+pub until_top : (r : Option LinkedNode) (root t : Tree) (n z : ℕ) → t ≡ root → z ≡ 0 → MatchOption r (leaf_until t n ≡ leaf_until t z) (λ leaf. leaf_until t n ≡ Some (linked leaf)) → option_map linked r ≡ leaf_until root n
+until_top None root t n z e f w =
+    sym (ap (λ x. leaf_until x n) (sym e) ∙ (w ∙ (ap (leaf_until t) f ∙ ap (option_map (at t)) (last_none 0 0 (places t) (omega arith)))))
+until_top (Some leaf) root t n z e f w = sym (ap (λ x. leaf_until x n) (sym e) ∙ w)
+
 -- a loop over the children before one begins with those before it
 pub until_row : (o : Tree) (n m i : ℕ) (xs : List Tree) → forest xs ≡ o.kids → m ≡ n + 1 + count (forest (take i xs)) → last_leaf m n (places o) ≡ last_leaf m n (o ∷ preorder (forest (take i xs)))
 until_row o n m i xs e h =
@@ -212,16 +222,6 @@ not_leaf o n m i t c = rw (childless_not o.kids i t c.here) refl
 pub none_alone : (o : Tree) (n m j : ℕ) (t : Tree) (k : ℕ) (xs : List Tree) {i : ℕ} → IsChild o n t m i → n < k → j ≡ 0 → last_leaf k n (o ∷ preorder (forest (take j xs))) ≡ None
 none_alone o n m j t k xs {i} c l e =
     last_alone k n o xs j l e ∙ rw (not_leaf o n m i t c) refl
-
--- a place that is looked for within a node is found there
-pub place_here : (b : LinkedNode) (k : ℕ) → b.number ≤ k → k < b.number + nodes b.node.now → first_below (has_place k) (linked b) ≡ Some (at b.root.now k)
-place_here b k l h =
-    ap (λ t. option_map (at b.root.now) (first_at (has_place k) b.number (start_of (linked b)) (places t))) (node_here b.root.now b.number b.offset b.node.now b.stands)
-    ∙ ap (option_map (at b.root.now)) (place_found k b.number (start_of (linked b)) (places b.node.now) l (omega (arith, h, length_places b.node.now)))
-
-pub match_found : (r : Option LinkedNode) (x : Option At) (a : At) (p : Type 0) → option_map linked r ≡ Some a → x ≡ Some a → MatchOption r p (λ leaf. x ≡ Some (linked leaf))
-match_found None x a p e f = cc
-match_found (Some leaf) x a p e f = f ∙ sym e
 
 -- the siblings up to a node aren't behind it
 pub behind_above : (a : LinkedNode) (b : Above) → IsAbove a b → find (is_sibling_after (linked a)) (children (linked b.parent)) ≡ find (is_sibling_after (linked a)) (drop b.index (children (linked b.parent)))

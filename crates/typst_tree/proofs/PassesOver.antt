@@ -1,36 +1,18 @@
 -- Where a walk finds nothing for sure.
-use Rattle.std.proofs.Common.{◌≡◌, ℕ, ◌+◌, ◌<◌, ◌≤◌, ◌==◌, Bool, true, false, ◌&&◌, List, [], ◌∷◌, ◌++◌, length, None, Some, refl, inl, inr, eq-eqb, ap, ◌∙◌, arith, length-append}
-use Rattle.std.specs.Prelude.{nat_le, nat_lt}
+use Rattle.std.proofs.Common.{◌≡◌, ℕ, ◌+◌, ◌<◌, ◌≤◌, ◌==◌, Bool, true, false, ◌&&◌, List, [], ◌∷◌, ◌++◌, length, ◌^◌, None, Some, refl, inl, inr, eq-eqb, ap, sym, ◌∙◌, arith, length-append}
+use Rattle.std.specs.Prelude.{nat_le, nat_lt, if◌then◌else◌}
 use Rattle.std.specs.List.{list_any}
 use Rattle.std.proofs.lemmas.Bool.{cases_eq}
 use Rattle.std.proofs.lemmas.Bool.Decides.{nat_tests}
-use Rattle.typst_node.specs.Tree.{Forest, none, more, Tree, count, nodes, joined, text_of, preorder, places, saturated}
-use Rattle.typst_tree.specs.Walks.{numbers, texts, first_at, has_place, has_child, is_leaf_from, holds_byte, is_childless}
-use Rattle.typst_tree.proofs.WalksInPreorder.{length_preorder, length_places, texts_preorder, first_append, none_between}
-
-pub no_place_before : (k n a : ℕ) (t : Tree) → k < n → first_at (has_place k) n a (places t) ≡ None
-no_place_before k n a t h =
-    none_between (has_place k) n a (places t) (λ m b u l e. grind (arith, nat_tests, h, l))
-
-pub no_place_after : (k n a : ℕ) (t : Tree) → n + nodes t ≤ k → first_at (has_place k) n a (places t) ≡ None
-no_place_after k n a t h =
-    none_between (has_place k) n a (places t) (λ m b u l e. let below : m < k = omega (arith, h, e, length_places t) in grind (arith, nat_tests, below))
+use Rattle.typst_node.specs.Tree.{Forest, none, more, Tree, forest, count, nodes, joined, text_of, preorder, places, saturated}
+use Rattle.typst_tree.specs.Walks.{numbers, texts, first_at, if_none, has_place, has_child, is_leaf_from, holds_byte, is_childless}
+use Rattle.typst_tree.proofs.LastLeaf.{if_none_nothing}
+use Rattle.typst_tree.proofs.WalksInPreorder.{length_preorder, length_places, texts_preorder, first_append, first_of_more, first_same, found_next, none_between, usize_saturated}
 
 pub no_leaf : (k n a : ℕ) (t : Tree) → n + nodes t ≤ k → first_at (is_leaf_from k) n a (places t) ≡ None
 no_leaf k n a t h =
     none_between (is_leaf_from k) n a (places t) (λ m b u l e.
     let below : m < k = omega (arith, h, e, length_places t) in
-    let fails : nat_le k m ≡ false = grind (arith, nat_tests, below) in
-    rw fails refl)
-
-pub no_place_above : (k n a : ℕ) (f : Forest) → n + count f ≤ k → first_at (has_place k) n a (preorder f) ≡ None
-no_place_above k n a f h =
-    none_between (has_place k) n a (preorder f) (λ m b u l e. let below : m < k = omega (arith, h, e, length_preorder f) in grind (arith, nat_tests, below))
-
-pub no_leaf_above : (k n a : ℕ) (f : Forest) → n + count f ≤ k → first_at (is_leaf_from k) n a (preorder f) ≡ None
-no_leaf_above k n a f h =
-    none_between (is_leaf_from k) n a (preorder f) (λ m b u l e.
-    let below : m < k = omega (arith, h, e, length_preorder f) in
     let fails : nat_le k m ≡ false = grind (arith, nat_tests, below) in
     rw fails refl)
 
@@ -101,6 +83,35 @@ pub no_byte_after : (b n a : ℕ) (t : Tree) → saturated (a + length (text_of 
 no_byte_after b n a t h =
     let own : length (t.head.text ++ joined t.kids) ≡ length t.head.text + length (joined t.kids) = length-append t.head.text (joined t.kids) in
     rw (ended b n a t h) (no_byte_above b (n + 1) (a + length t.head.text) t.kids (omega (arith, h, own)))
+
+-- of a first tree and those behind it, only the first can hold a byte before its end
+pub byte_first : (b n a c : ℕ) (x : Tree) (rest : List Tree) → c ≡ saturated (a + length (text_of x)) → b < c → first_at (holds_byte b) n a (preorder (forest (x ∷ rest))) ≡ first_at (holds_byte b) n a (places x)
+byte_first b n a c x rest e h =
+    first_of_more (holds_byte b) n a x rest
+    ∙ (ap (if_none (first_at (holds_byte b) n a (places x))) (no_byte_before b (n + nodes x) (a + length (text_of x)) (preorder (forest rest)) (omega (arith, e, h))) ∙ if_none_nothing (first_at (holds_byte b) n a (places x)))
+
+-- and those behind it where it ends by the byte
+pub byte_next : (b n a m c : ℕ) (x : Tree) (rest : List Tree) → m ≡ n + nodes x → c ≡ saturated (a + length (text_of x)) → c ≤ b → first_at (holds_byte b) n a (preorder (forest (x ∷ rest))) ≡ first_at (holds_byte b) m c (preorder (forest rest))
+byte_next b n a m c x rest e f h =
+    found_next (holds_byte b) n a m c x rest e f (no_byte_after b n a x (omega (arith, f, h)))
+
+-- a node with children doesn't hold it itself
+pub byte_below : (b n a : ℕ) (t : Tree) (xs : List Tree) → forest xs ≡ t.kids → 0 < length xs → first_at (holds_byte b) n a (places t) ≡ first_at (holds_byte b) (n + 1) (saturated (a + length t.head.text)) (preorder (forest xs))
+byte_below b n a t [] e h = absurd (omega (arith, h))
+byte_below b n a t (x ∷ xs) e h =
+    let fails : is_childless t.kids ≡ false = ap is_childless (sym e) in
+    let own : first_at (holds_byte b) n a (places t) ≡ first_at (holds_byte b) (n + 1) (a + length t.head.text) (preorder t.kids) = rw fails refl in
+    own ∙ (first_same (holds_byte b) (n + 1) (a + length t.head.text) (saturated (a + length t.head.text)) (preorder t.kids) (omega arith)
+    ∙ ap (λ f. first_at (holds_byte b) (n + 1) (saturated (a + length t.head.text)) (preorder f)) (sym e))
+
+-- where its children don't hold it, it is the one that may
+pub byte_none : (b n a : ℕ) (t : Tree) (xs : List Tree) → forest xs ≡ t.kids → a < 2 ^ 64 → first_at (holds_byte b) (n + 1) (saturated (a + length t.head.text)) (preorder (forest xs)) ≡ None → first_at (holds_byte b) n a (places t) ≡ if holds_byte b 0 a t then Some n else None
+byte_none b n a t [] e h nothing =
+    let same : saturated a ≡ a = usize_saturated a h in
+    rw (same, sym e) refl
+byte_none b n a t (x ∷ xs) e h nothing =
+    let fails : is_childless t.kids ≡ false = ap is_childless (sym e) in
+    byte_below b n a t (x ∷ xs) e (omega arith) ∙ (nothing ∙ rw fails refl)
 
 -- the node with a number is found
 pub place_found : (k n a : ℕ) (xs : List Tree) → n ≤ k → k < n + length xs → first_at (has_place k) n a xs ≡ Some k

@@ -2,19 +2,21 @@
 use Rattle.std.proofs.Common.{◌≡◌, Bool, ℕ, zero, suc, ◌+◌, ◌-◌, ◌<◌, ◌≤◌, ◌^◌, List, [], ◌∷◌, ◌++◌, length, take, drop, Some, None, refl, ap, sym, subst, ◌∙◌, arith, append-nil, length-append, get_or, inl, inr}
 use Rattle.std.specs.Prelude.{slice_get}
 use Rattle.std.proofs.lemmas.Bool.{cases_lt}
-use Rattle.std.proofs.lemmas.Bool.Decides.{nat_tests}
 use Rattle.std.proofs.lemmas.List.{take-append-drop, drop_more}
 use Rattle.std.proofs.lemmas.Option.{same_Some, none-some, slice_get_read}
 use Rattle.typst_node.specs.Tree.{Forest, none, more, Tree, forest, trees, count, nodes, places, preorder, joined, text_of, saturated}
 use Rattle.typst_node.proofs.SpansAside.{trees_forest}
 use Rattle.typst_tree.specs.Passed.{IsPassed}
-use Rattle.typst_tree.specs.Walks.{Stands, Within, texts, first_at, has_place}
-use Rattle.typst_tree.specs.Rows.{IsChild, IsTreeOf}
-use Rattle.std.proofs.Math.Seq.{take-add}
+use Rattle.typst_tree.specs.Walks.{Stands, Within, texts, first_at}
+use Rattle.typst_tree.specs.Rows.{IsChild}
 use Rattle.typst_tree.proofs.LastLeaf.{preorder_append}
 use Rattle.typst_tree.proofs.NodesOfStretch.{stands_row}
-use Rattle.typst_tree.proofs.WalksInPreorder.{length_preorder, texts_preorder, within_first, within_in, first_append, first_same, none_between}
+use Rattle.typst_tree.proofs.WalksInPreorder.{length_preorder, texts_preorder, within_first, within_in, first_append, first_same}
 use Rattle.typst_tree.proofs.Parents.{count_split}
+
+-- before any tree of a row is passed over
+pub passed_none : (xs : List Tree) (n b i m c : ℕ) → i ≡ 0 → m ≡ n → c ≡ saturated b → IsPassed xs n (saturated b) i m c
+passed_none xs n b i m c e f g = rw (e, f, g) (record { within = omega arith; number = omega arith; offset = omega arith })
 
 -- the children from the index i on lie within their parent, behind those before them
 pub row_within : (o : Tree) (n b m c i : ℕ) (xs : List Tree) → forest xs ≡ o.kids → m ≡ n + 1 + count (forest (take i xs)) → c ≡ saturated (b + length o.head.text + length (joined (forest (take i xs)))) → Within n b (places o) m c (preorder (forest (drop i xs)))
@@ -158,50 +160,6 @@ beside root o n b t m c i xs e s child here =
       behind = rw (sym first, sym second) next;
     }
 
--- a tree of the row behind a child is a child
-pub kid_behind : (root o : Tree) (n b : ℕ) (t : Tree) (m c i : ℕ) (xs : List Tree) (j : ℕ) (x : Tree) (k d p : ℕ) → forest xs ≡ o.kids → Stands (places root) n b (places o) → IsChild o n t m i → Stands (places root) m c (places t) → p ≡ saturated (c + length (text_of t)) → IsTreeOf (drop (i + 1) xs) (m + nodes t) p x k d j → Kid root o n (i + 1 + j) xs x k d
-kid_behind root o n b t m c i xs j x k d p e s child here q tree =
-    let same : trees o.kids ≡ xs = sym (ap trees e) ∙ trees_forest xs in
-    let get : slice_get xs i ≡ Some t = ap (λ ys. slice_get ys i) (sym same) ∙ child.here in
-    let w = first_of_row xs i t (drop (i + 1) xs) (row_from xs i t get) in
-    let number : m ≡ n + 1 + count (forest (take i xs)) = child.number ∙ ap (λ ys. n + 1 + count (forest (take i ys))) same in
-    let start = row_stands root o n b i xs e s in
-    let offset : saturated (b + length o.head.text + length (joined (forest (take i xs)))) ≡ c = start.begins ∙ (ap (λ j. saturated (length (texts (take j (places root))))) (sym number) ∙ sym here.begins) in
-    let more = take-add (i + 1) j xs in
-    let counts : count (forest (take (i + 1 + j) xs)) ≡ count (forest (take (i + 1) xs)) + count (forest (take j (drop (i + 1) xs))) = ap (λ ys. count (forest ys)) more ∙ count_append (take (i + 1) xs) (take j (drop (i + 1) xs)) in
-    let longs : length (joined (forest (take (i + 1 + j) xs))) ≡ length (joined (forest (take (i + 1) xs))) + length (joined (forest (take j (drop (i + 1) xs)))) = ap (λ ys. length (joined (forest ys))) more ∙ long_append (take (i + 1) xs) (take j (drop (i + 1) xs)) in
-    kid_of root o n b (i + 1 + j) xs x k d e s (sym (get_drop xs (i + 1) j) ∙ tree.here)
-    (omega (arith, tree.number, number, w.counted, counts))
-    (omega (arith, tree.offset, q, offset, w.long, longs))
-
--- a loop from the back over the children of a node goes on to the one before
-pub record StepBack (root o : Tree) (n b i : ℕ) (xs : List Tree) (x : Tree) (k p d l : ℕ) : Type 0 where
-  pub kid : Kid root o n (i - 1) xs x (k - d) (p - l)
-  pub counts : d ≤ k
-  pub reaches : l ≤ p
-  pub number : k - d ≡ n + 1 + count (forest (take (i - 1) xs))
-  pub offset : p - l ≡ b + length o.head.text + length (joined (forest (take (i - 1) xs)))
-
-pub step_back : (root o : Tree) (n b i : ℕ) (xs : List Tree) (x : Tree) (k p d l : ℕ) → forest xs ≡ o.kids → Stands (places root) n b (places o) → 0 < i → i ≤ length xs → x ≡ get_or xs (i - 1) x → k ≡ n + 1 + count (forest (take i xs)) → p ≡ b + length o.head.text + length (joined (forest (take i xs))) → d ≡ saturated (nodes x) → l ≡ saturated (length (text_of x)) → k < 2 ^ 64 → p < 2 ^ 64 → StepBack root o n b i xs x k p d l
-step_back root o n b i xs x k p d l e s low high g number offset f h counted long =
-    let short : i - 1 < length xs = omega (arith, low, high) in
-    let row : drop (i - 1) xs ≡ x ∷ drop (i - 1 + 1) xs = drop_more xs (i - 1) x short ∙ ap (λ y. y ∷ drop (i - 1 + 1) xs) (sym g) in
-    let w = first_of_row xs (i - 1) x (drop (i - 1 + 1) xs) row in
-    let next : i - 1 + 1 ≡ i = omega (arith, low) in
-    let counts : count (forest (take i xs)) ≡ count (forest (take (i - 1) xs)) + nodes x = ap (λ j. count (forest (take j xs))) (sym next) ∙ w.counted in
-    let longs : length (joined (forest (take i xs))) ≡ length (joined (forest (take (i - 1) xs))) + length (text_of x) = ap (λ j. length (joined (forest (take j xs)))) (sym next) ∙ w.long in
-    let exact : d ≡ nodes x = omega (arith, f, counts, number, counted) in
-    let whole : l ≡ length (text_of x) = omega (arith, h, longs, offset, long) in
-    let first : k - d ≡ n + 1 + count (forest (take (i - 1) xs)) = omega (arith, exact, counts, number) in
-    let second : p - l ≡ b + length o.head.text + length (joined (forest (take (i - 1) xs))) = omega (arith, whole, longs, offset) in
-    record {
-      kid = kid_of root o n b (i - 1) xs x (k - d) (p - l) e s w.here first (omega (arith, second, long));
-      counts = omega (arith, exact, counts, number);
-      reaches = omega (arith, whole, longs, offset);
-      number = first;
-      offset = second;
-    }
-
 -- a loop from the back over a row goes on to the tree before
 pub record Prior (xs : List Tree) (i : ℕ) (x : Tree) : Type 0 where
   pub counts : count (forest (take i xs)) ≡ count (forest (take (i - 1) xs)) + nodes x
@@ -218,6 +176,27 @@ prior xs i x low high g =
       longs = ap (λ j. length (joined (forest (take j xs)))) (sym next) ∙ w.long;
     }
 
+-- a loop from the back over the children of a node goes on to the one before
+pub record StepBack (root o : Tree) (n b i : ℕ) (xs : List Tree) (x : Tree) (k p : ℕ) : Type 0 where
+  pub kid : Kid root o n (i - 1) xs x (k - nodes x) (p - length (text_of x))
+  pub counts : nodes x ≤ k
+  pub reaches : length (text_of x) ≤ p
+  pub number : k - nodes x ≡ n + 1 + count (forest (take (i - 1) xs))
+  pub offset : p - length (text_of x) ≡ b + length o.head.text + length (joined (forest (take (i - 1) xs)))
+
+pub step_back : (root o : Tree) (n b i : ℕ) (xs : List Tree) (x : Tree) (k p : ℕ) → forest xs ≡ o.kids → Stands (places root) n b (places o) → 0 < i → i ≤ length xs → x ≡ get_or xs (i - 1) x → k ≡ n + 1 + count (forest (take i xs)) → p ≡ b + length o.head.text + length (joined (forest (take i xs))) → p < 2 ^ 64 → StepBack root o n b i xs x k p
+step_back root o n b i xs x k p e s low high g number offset fits =
+    let w = prior xs i x low high g in
+    let first : k - nodes x ≡ n + 1 + count (forest (take (i - 1) xs)) = omega (arith, w.counts, number) in
+    let second : p - length (text_of x) ≡ b + length o.head.text + length (joined (forest (take (i - 1) xs))) = omega (arith, w.longs, offset) in
+    record {
+      kid = kid_of root o n b (i - 1) xs x (k - nodes x) (p - length (text_of x)) e s (slice_get_read xs (length xs) (i - 1) x refl (omega (arith, low, high)) g) first (omega (arith, second, fits));
+      counts = omega (arith, w.counts, number);
+      reaches = omega (arith, w.longs, offset);
+      number = first;
+      offset = second;
+    }
+
 -- where nothing is found in trees that are passed over, what is found is in those behind them
 pub passed_front : (p : ℕ → ℕ → Tree → Bool) (n a i m c : ℕ) (xs : List Tree) → m ≡ n + count (forest (take i xs)) → c ≡ saturated (a + length (joined (forest (take i xs)))) → first_at p n a (preorder (forest (take i xs))) ≡ None → first_at p n a (preorder (forest xs)) ≡ first_at p m c (preorder (forest (drop i xs)))
 passed_front p n a i m c xs number offset nothing =
@@ -227,7 +206,7 @@ passed_front p n a i m c xs number offset nothing =
     ∙ (first_append p n a (preorder (forest (take i xs))) (preorder (forest (drop i xs)))
     ∙ rw (nothing, first) (first_same p m (a + length (texts (preorder (forest (take i xs))))) c (preorder (forest (drop i xs))) (omega (arith, offset, ap length (texts_preorder (forest (take i xs)))))))
 
-all_counted : (xs : List Tree) (i : ℕ) → length xs ≤ i → count (forest (take i xs)) ≡ count (forest xs)
+pub all_counted : (xs : List Tree) (i : ℕ) → length xs ≤ i → count (forest (take i xs)) ≡ count (forest xs)
 all_counted [] zero h = refl
 all_counted [] (suc i) h = refl
 all_counted (x ∷ xs) zero h = absurd (omega (arith, h))
@@ -245,9 +224,8 @@ pub record Over (o : Tree) (n b : ℕ) (xs : List Tree) (i m c : ℕ) (x : Tree)
   pub fits : m + nodes x ≤ n + nodes o
   pub next : IsPassed xs (n + 1) (saturated (b + length o.head.text)) (i + 1) (m + nodes x) (saturated (c + length (text_of x)))
 
-pub over : (o : Tree) (n b : ℕ) (xs : List Tree) (i m c : ℕ) (x : Tree) → forest xs ≡ o.kids → x ≡ get_or xs i x → i < length xs → IsPassed xs (n + 1) (saturated (b + length o.head.text)) i m c → Over o n b xs i m c x
-over o n b xs i m c x e g l w =
-    let here : slice_get xs i ≡ Some x = slice_get_read xs (length xs) i x refl l g in
+pub over_at : (o : Tree) (n b : ℕ) (xs : List Tree) (i m c : ℕ) (x : Tree) → forest xs ≡ o.kids → slice_get xs i ≡ Some x → IsPassed xs (n + 1) (saturated (b + length o.head.text)) i m c → Over o n b xs i m c x
+over_at o n b xs i m c x e here w =
     let row : drop i xs ≡ x ∷ drop (i + 1) xs = row_from xs i x here in
     let f = first_of_row xs i x (drop (i + 1) xs) row in
     let same : trees o.kids ≡ xs = sym (ap trees e) ∙ trees_forest xs in
@@ -259,13 +237,8 @@ over o n b xs i m c x e g l w =
       child = record { here = kid; number = number };
       inside = within_in n b (places o) m c (preorder (forest (x ∷ drop (i + 1) xs))) m c (places x) begins (within_first m c x (drop (i + 1) xs) (omega (arith, w.offset)));
       fits = omega (arith, number, count_split o.kids i x kid);
-      next = record { within = omega (arith, l); number = omega (arith, w.number, f.counted); offset = omega (arith, w.offset, f.long) };
+      next = record { within = omega (arith, f.within); number = omega (arith, w.number, f.counted); offset = omega (arith, w.offset, f.long) };
     }
 
--- where a number's node is found behind trees that are passed, they end before it or at it
-pub place_behind : (k m c : ℕ) (xs : List Tree) → first_at (has_place k) m c xs ≡ Some k → m ≤ k
-place_behind k m c xs e =
-    elim (cases_lt k m) [
-      | inl l ↦ (let nothing : first_at (has_place k) m c xs ≡ None = none_between (has_place k) m c xs (λ j b t h g. let above : k < j = omega (arith, l, h) in grind (arith, nat_tests, above)) in absurd (none-some k (sym nothing ∙ e)))
-      | inr h ↦ h
-    ]
+pub over : (o : Tree) (n b : ℕ) (xs : List Tree) (i m c : ℕ) (x : Tree) → forest xs ≡ o.kids → x ≡ get_or xs i x → i < length xs → IsPassed xs (n + 1) (saturated (b + length o.head.text)) i m c → Over o n b xs i m c x
+over o n b xs i m c x e g l w = over_at o n b xs i m c x e (slice_get_read xs (length xs) i x refl l g) w

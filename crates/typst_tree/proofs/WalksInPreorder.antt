@@ -99,6 +99,9 @@ turn xs i x e h =
     let first : drop i xs ≡ x ∷ drop (i + 1) xs = drop_more xs i x h ∙ ap (λ y. y ∷ drop (i + 1) xs) (sym e) in
     record { first = first; rest = rw first (omega arith) }
 
+pub found_self : (p : ℕ → ℕ → Tree → Bool) (n a : ℕ) (t : Tree) → true ≡ p n (saturated a) t → first_at p n a (places t) ≡ Some n
+found_self p n a t holds = rw (sym holds) refl
+
 -- where a node itself doesn't pass the test, the walk goes on with its children
 pub found_below : (p : ℕ → ℕ → Tree → Bool) (n a c : ℕ) (t : Tree) (ts : List Tree) → a < 2 ^ 64 → false ≡ p n a t → forest ts ≡ t.kids → c ≡ saturated (a + length t.head.text) → first_at p n a (places t) ≡ first_at p (n + 1) c (preorder (forest ts))
 found_below p n a c t ts h fails e f =

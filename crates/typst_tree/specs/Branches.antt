@@ -22,6 +22,10 @@ pub record IsBranch (a : LinkedNode) (b : Branch) : Type 0 where
   pub from : b.tree.number ≤ a.number
   pub to : a.number + nodes a.node.now ≤ b.tree.number + nodes b.tree.node.now
 
+-- no node above the one with the number n has a long row and ends behind the number k
+abbrev pub EndsBy : Tree → ℕ → ℕ → Type 0
+EndsBy root n k = (o : Tree) (m : ℕ) → IsFork root n o m → m + nodes o ≤ k
+
 -- the first leaf that counts from the number m on
 abbrev pub leaf_after : Tree → ℕ → Option At
 leaf_after root m = option_map (at root) (first_at (is_leaf_from 0) m 0 (drop m (places root)))

@@ -1,11 +1,29 @@
--- What is known of the way to a child, by what is known of the way to its parent (of private clauses).
-use Rattle.std.specs.Prelude.{◌≡◌, ℕ, ◌+◌, Bool, true, false}
+-- What is known of the way to a node, and to a child of one (of private clauses).
+use Rattle.std.specs.Prelude.{◌≡◌, ℕ, ◌+◌, ◌/◌, ◌%◌, ◌==◌, Bool, true, false, if◌then◌else◌}
 use Rattle.typst_tree.specs.declared.known.Known.{Known}
 use Rattle.typst_tree.specs.declared.known.Reach.TheVariants as reach
 
--- where a is known of the way to a node, whose row is long or isn't, k is known of the way to the child with the index i, so many numbers behind
-pub record Follows (a : Known) (is_long : Bool) (i numbers : ℕ) (k : Known) : Type 0 where
-  pub at_open : k.reach ≡ reach.Open → (a.reach ≡ reach.Open) × (is_long ≡ false)
-  pub first : k.reach ≡ reach.Placed → a.reach ≡ reach.Open → (is_long ≡ true) × ((k.index ≡ i) × (k.below ≡ 0))
-  pub further : k.reach ≡ reach.Placed → a.reach ≡ reach.Placed → (k.index ≡ a.index) × (k.below ≡ a.below + numbers)
-  pub kept : k.reach ≡ reach.Placed → a.reach ≡ reach.Lost → ⊥
+-- the lowest bit of a word
+abbrev pub bit : Bool → ℕ
+bit true = 1
+bit false = 0
+
+-- what the two bits above it tell
+abbrev pub told : ℕ → reach.the_data
+told flag = if flag == 0 then reach.Open else if flag == 1 then reach.Placed else reach.Lost
+
+abbrev pub reach_of : Known → reach.the_data
+reach_of k = told (k.word / 2 % 4)
+
+abbrev pub index_of : Known → ℕ
+index_of k = k.word / 8
+
+abbrev pub in_order_of : Known → Bool
+in_order_of k = k.word % 2 == 1
+
+-- where a is known of the way to a node, whose row is long or isn't, k is known of the way to the child with the index i, so many numbers and bytes behind
+pub record Follows (a : Known) (is_long : Bool) (i numbers bytes : ℕ) (k : Known) : Type 0 where
+  pub at_open : reach_of k ≡ reach.Open → (reach_of a ≡ reach.Open) × (is_long ≡ false)
+  pub first : reach_of k ≡ reach.Placed → reach_of a ≡ reach.Open → (is_long ≡ true) × ((index_of k ≡ i) × ((k.below ≡ 0) × (k.begins ≡ 0)))
+  pub further : reach_of k ≡ reach.Placed → reach_of a ≡ reach.Placed → (index_of k ≡ index_of a) × ((k.below ≡ a.below + numbers) × (k.begins ≡ a.begins + bytes))
+  pub kept : reach_of k ≡ reach.Placed → reach_of a ≡ reach.Lost → ⊥

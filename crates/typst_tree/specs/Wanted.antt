@@ -1,13 +1,11 @@
 -- What each kind of search looks for.
 use Rattle.std.specs.Prelude.{ℕ, Bool}
 use Rattle.typst_node.specs.Tree.{Tree}
-use Rattle.typst_tree.specs.Walks.{has_place, is_leaf_from, holds_byte, has_span, has_number}
+use Rattle.typst_tree.specs.Walks.{is_leaf_from, has_span, has_number}
 use Rattle.typst_tree.specs.declared.search.Search.{Search}
 use Rattle.typst_tree.specs.declared.search.Search.TheVariants as search
 
 abbrev pub wanted : Search → ℕ → ℕ → Tree → Bool
-wanted (search.Place k) = has_place k
 wanted (search.LeafFrom k) = is_leaf_from k
-wanted (search.Byte b) = holds_byte b
 wanted (search.Spanned span) = has_span span
 wanted (search.Numbered m) = has_number m

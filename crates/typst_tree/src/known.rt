@@ -1,8 +1,15 @@
 //! What a linked node knows of the way to it.
 
 ghost use Rattle.std.specs.Prelude.{◌≡◌, ◌+◌, ◌^◌, ◌<◌};
-ghost use Rattle.typst_tree.specs.Follows.{Follows};
+ghost use Rattle.typst_tree.specs.Follows.{Follows, reach_of, index_of, in_order_of, bit};
 ghost use Rattle.typst_tree.specs.declared.known.Reach.TheVariants as reach;
+
+/// A row of more children than this is long. A linked node keeps its place in the first long row on its
+/// way, and a search for a byte passes over a long row from both ends.
+pub const LONG: usize = 128;
+
+/// From this on an index doesn't fit beside the flags.
+const MOST: u32 = 1 << 29;
 
 /// How much is known of the way from a tree's root to a node.
 #[derive(Clone, Copy)]
@@ -15,108 +22,167 @@ pub enum Reach {
     Lost,
 }
 
-/// What is known of the way to a node, in 8 bytes: the index of the tree in the first long row on the
-/// way that the node is or is below, and by how much the node's number is above that tree's. Where one
-/// of them is too large for its field, nothing is known. Beside them stands whether the tree's numbers
-/// are known to be in order.
+/// What is known of the way to a node: the index of the tree in the first long row on the way that the
+/// node is or is below, and by how many numbers and bytes the node is behind that tree. Where one of them
+/// is too large, nothing is known.
+///
+/// A linked node has 8 bytes for it. So `word` is the index times 8 and three bits: two for what `reach`
+/// tells, and the lowest for whether the tree's numbers are known to be in order. Only `open`, `lost`,
+/// `at_index` and the readers below speak of it.
 #[derive(Clone, Copy)]
 pub struct Known {
-    pub index: u32,
+    word: u32,
     pub below: u16,
-    pub reach: Reach,
-    pub in_order: bool,
+    pub begins: u16,
+}
+
+/// The lowest bit.
+#[inline(always)]
+fn bit(in_order: bool) -> u32
+    ensures { result ≡ bit in_order }
+{
+    if in_order { 1 } else { 0 }
 }
 
 impl Known {
     /// That no row on the way is long.
     #[inline(always)]
     pub fn open(in_order: bool) -> Known
-        ensures reach { result.reach ≡ reach.Open }
-        ensures in_order { result.in_order ≡ in_order }
+        ensures reach { reach_of result ≡ reach.Open }
+        ensures in_order { in_order_of result ≡ in_order }
     {
         Known {
-            index: 0,
+            word: bit(in_order),
             below: 0,
-            reach: Reach::Open,
-            in_order,
+            begins: 0,
         }
     }
 
     /// Nothing of the way.
     #[inline(always)]
-    pub fn lost(in_order: bool) -> Known
-        ensures reach { result.reach ≡ reach.Lost }
-        ensures in_order { result.in_order ≡ in_order }
+    fn lost(in_order: bool) -> Known
+        ensures reach { reach_of result ≡ reach.Lost }
+        ensures in_order { in_order_of result ≡ in_order }
     {
         Known {
-            index: 0,
+            word: 4 + bit(in_order),
             below: 0,
-            reach: Reach::Lost,
-            in_order,
+            begins: 0,
         }
     }
 
-    /// The index of a tree in the first long row, and how far behind the tree's own number.
+    /// The tree of this index in the first long row itself.
     #[inline(always)]
-    pub fn placed(in_order: bool, index: usize, below: usize) -> Known
-        ensures in_order { result.in_order ≡ in_order }
-        ensures not_open { result.reach ≡ reach.Open → ⊥ }
-        ensures index { result.reach ≡ reach.Placed → result.index ≡ index }
-        ensures below { result.reach ≡ reach.Placed → result.below ≡ below }
-        ensures small { index < 2 ^ 32 → below < 2 ^ 16 → result.reach ≡ reach.Placed }
+    fn at_index(in_order: bool, index: u32) -> Known
+        requires { index < 2 ^ 29 }
+        ensures reach { reach_of result ≡ reach.Placed }
+        ensures in_order { in_order_of result ≡ in_order }
+        ensures index { index_of result ≡ index }
+        ensures below { result.below ≡ 0 }
+        ensures begins { result.begins ≡ 0 }
     {
-        match (u32::try_from(index), u16::try_from(below)) {
-            (Ok(index), Ok(below)) => Known {
-                index,
-                below,
-                reach: Reach::Placed,
-                in_order,
-            },
+        Known {
+            word: index * 8 + 2 + bit(in_order),
+            below: 0,
+            begins: 0,
+        }
+    }
+
+    /// How much is known.
+    #[inline(always)]
+    pub fn reach(self) -> Reach
+        ensures { result ≡ reach_of self }
+    {
+        let flag = self.word / 2 % 4;
+        if flag == 0 {
+            Reach::Open
+        } else if flag == 1 {
+            Reach::Placed
+        } else {
+            Reach::Lost
+        }
+    }
+
+    /// The index of the tree in the first long row.
+    #[inline(always)]
+    pub fn index(self) -> usize
+        ensures { result ≡ index_of self }
+    {
+        (self.word / 8) as usize
+    }
+
+    /// Whether the tree's numbers are known to be in order.
+    #[inline(always)]
+    pub fn in_order(self) -> bool
+        ensures { result ≡ in_order_of self }
+    {
+        self.word % 2 == 1
+    }
+
+    /// The tree of an index in the first long row.
+    #[inline(always)]
+    fn placed(in_order: bool, index: usize) -> Known
+        ensures in_order { in_order_of result ≡ in_order }
+        ensures not_open { reach_of result ≡ reach.Open → ⊥ }
+        ensures index { reach_of result ≡ reach.Placed → index_of result ≡ index }
+        ensures below { reach_of result ≡ reach.Placed → result.below ≡ 0 }
+        ensures begins { reach_of result ≡ reach.Placed → result.begins ≡ 0 }
+        ensures small { index < 2 ^ 29 → reach_of result ≡ reach.Placed }
+    {
+        match u32::try_from(index) {
+            Ok(index) if index < MOST => Known::at_index(in_order, index),
             _ => Known::lost(in_order),
         }
     }
 
-    /// What is known of a node below this one, so many numbers behind it.
+    /// What is known of this node or one below it, so many numbers and bytes behind it.
     #[inline(always)]
-    pub fn behind(self, numbers: usize) -> Known
-        ensures in_order { result.in_order ≡ self.in_order }
-        ensures opens { result.reach ≡ reach.Open → (self.reach ≡ reach.Open) × (numbers ≡ 0) }
-        ensures placed { result.reach ≡ reach.Placed → (self.reach ≡ reach.Placed) × ((result.index ≡ self.index) × (result.below ≡ self.below + numbers)) }
+    pub fn behind(self, numbers: usize, bytes: usize) -> Known
+        ensures in_order { in_order_of result ≡ in_order_of self }
+        ensures opens { reach_of result ≡ reach.Open → (reach_of self ≡ reach.Open) × (numbers ≡ 0) }
+        ensures placed { reach_of result ≡ reach.Placed → (reach_of self ≡ reach.Placed) × ((index_of result ≡ index_of self) × ((result.below ≡ self.below + numbers) × (result.begins ≡ self.begins + bytes))) }
     {
-        match self.reach {
-            Reach::Placed => self.further(numbers),
+        match self.reach() {
+            Reach::Placed => self.further(numbers, bytes),
             Reach::Open if numbers == 0 => self,
-            Reach::Open | Reach::Lost => Known::lost(self.in_order),
+            Reach::Open | Reach::Lost => Known::lost(self.in_order()),
         }
     }
 
-    /// The same place, so many numbers further behind its tree's own.
+    /// The same place, so many numbers and bytes further behind its tree.
     #[inline(always)]
-    fn further(self, numbers: usize) -> Known
-        ensures in_order { result.in_order ≡ self.in_order }
-        ensures not_open { self.reach ≡ reach.Placed → result.reach ≡ reach.Open → ⊥ }
-        ensures index { result.reach ≡ reach.Placed → result.index ≡ self.index }
-        ensures below { result.reach ≡ reach.Placed → result.below ≡ self.below + numbers }
-        ensures small { self.reach ≡ reach.Placed → self.below + numbers < 2 ^ 16 → result.reach ≡ reach.Placed }
+    fn further(self, numbers: usize, bytes: usize) -> Known
+        requires { reach_of self ≡ reach.Placed }
+        ensures in_order { in_order_of result ≡ in_order_of self }
+        ensures not_open { reach_of result ≡ reach.Open → ⊥ }
+        ensures index { reach_of result ≡ reach.Placed → index_of result ≡ index_of self }
+        ensures below { reach_of result ≡ reach.Placed → result.below ≡ self.below + numbers }
+        ensures begins { reach_of result ≡ reach.Placed → result.begins ≡ self.begins + bytes }
+        ensures small { self.below + numbers < 2 ^ 16 → self.begins + bytes < 2 ^ 16 → reach_of result ≡ reach.Placed }
     {
         let below = usize::from(self.below).saturating_add(numbers);
-        match u16::try_from(below) {
-            Ok(below) => Known { below, ..self },
-            Err(_) => Known::lost(self.in_order),
+        let begins = usize::from(self.begins).saturating_add(bytes);
+        match (u16::try_from(below), u16::try_from(begins)) {
+            (Ok(below), Ok(begins)) => Known {
+                below,
+                begins,
+                ..self
+            },
+            _ => Known::lost(self.in_order()),
         }
     }
 
-    /// What is known of a child of this node: the one with this index in its row, so many numbers behind.
+    /// What is known of a child of this node: the one with this index in its row, so many numbers and bytes
+    /// behind.
     #[inline(always)]
-    pub fn of_child(self, is_long: bool, index: usize, numbers: usize) -> Known
-        requires { 0 < numbers }
-        ensures in_order { result.in_order ≡ self.in_order }
-        ensures follows { Follows self is_long index numbers result }
+    pub fn of_child(self, is_long: bool, index: usize, numbers: usize, bytes: usize) -> Known
+        ensures in_order { in_order_of result ≡ in_order_of self }
+        ensures follows { Follows self is_long index numbers bytes result }
     {
-        match self.reach {
-            Reach::Open if is_long => Known::placed(self.in_order, index, 0),
+        match self.reach() {
+            Reach::Open if is_long => Known::placed(self.in_order(), index),
             Reach::Open | Reach::Lost => self,
-            Reach::Placed => self.further(numbers),
+            Reach::Placed => self.further(numbers, bytes),
         }
     }
 }

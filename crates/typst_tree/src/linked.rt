@@ -3,13 +3,14 @@
 ghost use Rattle.std.specs.Prelude.{◌≡◌, ◌+◌, ◌^◌, ◌<◌, ◌-◌, nat_lt, true, drop, length, take};
 ghost use Rattle.typst_node.specs.Tree.{nodes, forest, places, preorder, trees, count};
 ghost use Rattle.typst_node.specs.Order.{AreInOrder, numbers_of};
-ghost use Rattle.typst_tree.specs.Rows.{Holds, IsNode};
+ghost use Rattle.typst_tree.specs.Follows.{in_order_of};
+ghost use Rattle.typst_tree.specs.Rows.{Holds, long};
 ghost use Rattle.typst_tree.specs.Walks.{Stands};
 
-use crate::known::{Known, Reach};
+use crate::known::{Known, LONG, Reach};
 use crate::order::find_in;
 use crate::search::{
-    Kid, LONG, Search, Spot, child_over, first_in, first_in_row, from_index, last_leaf_in,
+    Kid, Passed, Search, Spot, child_at, child_over, from_index, holds_byte, last_leaf_in,
 };
 use std::ops::Range;
 use typst_kinds::{Span, SpanNumber, SyntaxKind};
@@ -25,11 +26,11 @@ use typst_node::SyntaxNode;
 /// node means a constant time, and what a step says it passes over is never looked into.
 ///
 /// A step upwards or sideways from a node whose place in the first long row is known doesn't go through
-/// that row, but where the tree in it that the node is below has more nodes than the row has children. The
-/// place is known of what `children` gives, from the root down, of what a step within the row leads
-/// to, and of what `children` gives of that. It isn't known of a node that `leaf_at`, `find` or `find_number`
-/// found from above the row, that a step led to from outside of it, whose number is by 2^16 or more above
-/// that of its tree in the row, or whose tree has an index of 2^32 or more: then a step goes through the row.
+/// that row. The place is known of what `children`, `leaf_at` and a step downwards by numbers give, from the
+/// root or from within the row. It isn't known of what `find`, `find_number` or `leftmost_leaf` found from
+/// above the row, nor of what `next_leaf` led to from outside of it, nor of a node that is by 2^16 numbers or
+/// bytes or more behind its tree in the row, nor where that tree has an index of 2^29 or more: then a step
+/// goes through the row.
 #[derive(Clone, Copy)]
 pub struct LinkedNode<'a> {
     root: &'a SyntaxNode,
@@ -39,8 +40,8 @@ pub struct LinkedNode<'a> {
     known: Known,
     ghost counted: { nodes root.now < 2 ^ 64 - 1 },
     ghost stands: { Stands (places root.now) number offset (places node.now) },
-    ghost ordered: { known.in_order ≡ true → AreInOrder (numbers_of root.now) },
-    ghost holds: { Holds root.now number (nodes node.now) known },
+    ghost ordered: { in_order_of known ≡ true → AreInOrder (numbers_of root.now) },
+    ghost holds: { Holds root.now number offset (nodes node.now) known },
 }
 
 /// The children of a node that are still to come, each as a linked node.
@@ -54,11 +55,11 @@ pub struct LinkedChildren<'a> {
     parent: Parent<'a>,
     ghost counted: { nodes root.now < 2 ^ 64 - 1 },
     ghost stands: { Stands (places root.now) number offset (preorder (forest rest.now)) },
-    ghost node: { IsNode root.now parent.node.now parent.number },
+    ghost node: { Stands (places root.now) parent.number parent.offset (places parent.node.now) },
     ghost row: { rest.now ≡ drop index (trees parent.node.now.kids) },
     ghost before: { number ≡ parent.number + 1 + count (forest (take index (trees parent.node.now.kids))) },
-    ghost ordered: { parent.known.in_order ≡ true → AreInOrder (numbers_of root.now) },
-    ghost holds: { Holds root.now parent.number (nodes parent.node.now) parent.known },
+    ghost ordered: { in_order_of parent.known ≡ true → AreInOrder (numbers_of root.now) },
+    ghost holds: { Holds root.now parent.number parent.offset (nodes parent.node.now) parent.known },
 }
 
 /// What the children of a node take of it.
@@ -66,9 +67,10 @@ pub struct LinkedChildren<'a> {
 struct Parent<'a> {
     node: &'a SyntaxNode,
     number: usize,
+    offset: usize,
     known: Known,
     is_long: bool,
-    ghost long: { is_long ≡ nat_lt 128 (length (trees node.now.kids)) },
+    ghost many: { is_long ≡ nat_lt long (length (trees node.now.kids)) },
 }
 
 /// The parent of a node, and which of its children the node is, from 0 on.
@@ -91,8 +93,8 @@ impl<'a> LinkedNode<'a> {
     ghost use Rattle.typst_node.specs.Tree.{nodes, places};
     ghost use Rattle.typst_node.specs.Order.{AreInOrder, numbers_of};
     ghost use Rattle.typst_kinds.specs.Kinds.{is_hash_expr};
-    ghost use Rattle.typst_tree.specs.Branches.{IsAbove, IsBranch, leaf_after, leaf_until};
-    ghost use Rattle.typst_tree.specs.Rows.{IsChild, IsFork, IsOpen};
+    ghost use Rattle.typst_tree.specs.Branches.{IsAbove, IsBranch, EndsBy, leaf_after, leaf_until};
+    ghost use Rattle.typst_tree.specs.Rows.{IsChild, IsFork};
     ghost use Rattle.typst_tree.specs.Walks.{Stands, Within};
     ghost use Rattle.typst_tree.specs.Wanted.{wanted};
     ghost use Rattle.typst_tree.specs.Steps.{at, node_of, kind_of, offset_of, end_of, first_below, parent, children, is_sibling_after, next_sibling, prev_leaf, next_leaf, leftmost_leaf, leaf_at, find_span, find_number, FindsOwn};
@@ -135,7 +137,7 @@ impl<'a> LinkedNode<'a> {
     fn top(self) -> LinkedNode<'a>
         ensures { linked result ≡ at (linked self.entry).root 0 }
     {
-        LinkedNode::at_root(self.root, self.known.in_order)
+        LinkedNode::at_root(self.root, self.known.in_order())
     }
 
     /// The node with its number and offset.
@@ -161,7 +163,9 @@ impl<'a> LinkedNode<'a> {
             node: spot.node,
             number: spot.number,
             offset: spot.offset,
-            known: self.known.behind(spot.number - self.number),
+            known: self
+                .known
+                .behind(spot.number - self.number, spot.offset - self.offset),
         }
     }
 
@@ -170,11 +174,13 @@ impl<'a> LinkedNode<'a> {
     fn as_parent(self) -> Parent<'a>
         ensures node { result.node.now ≡ self.entry.node.now }
         ensures number { result.number ≡ self.entry.number }
+        ensures offset { result.offset ≡ self.entry.offset }
         ensures known { result.known ≡ self.entry.known }
     {
         Parent {
             node: self.node,
             number: self.number,
+            offset: self.offset,
             known: self.known,
             is_long: self.node.children().len() > LONG,
         }
@@ -194,30 +200,66 @@ impl<'a> LinkedNode<'a> {
             node: kid.spot.node,
             number: kid.spot.number,
             offset: kid.spot.offset,
-            known: self.as_parent().known_of(kid.index, kid.spot.number),
+            known: self
+                .as_parent()
+                .known_of(kid.index, kid.spot.number, kid.spot.offset),
         }
     }
 
-    /// The first node on the way from the root to this one that has a long row.
-    fn fork(self) -> Option<LinkedNode<'a>>
-        ensures { MatchOption result (IsOpen self.entry.root.now self.entry.number) (λ o. (o.root.now ≡ self.entry.root.now) × IsFork self.entry.root.now self.entry.number o.node.now o.number) }
+    /// Where its nodes end: the number behind them.
+    fn end(self) -> usize
+        ensures { result ≡ self.entry.number + nodes self.entry.node.now }
     {
-        if let Reach::Open = self.known.reach {
+        self.number + self.node.descendants()
+    }
+
+    /// The child that the node with this number is or is below.
+    fn child_over(self, number: usize) -> Kid<'a>
+        requires from { self.number < number }
+        requires to { number < self.number + nodes self.node.now }
+        ensures child { IsChild self.entry.node.now self.entry.number result.spot.node.now result.spot.number result.index }
+        ensures stands { Stands (places self.entry.root.now) result.spot.number result.spot.offset (places result.spot.node.now) }
+        ensures from { result.spot.number ≤ number }
+        ensures to { number < result.spot.number + nodes result.spot.node.now }
+    {
+        child_over(self.spot(), number)
+    }
+
+    /// The node with this number, which is this one or below it.
+    fn down_to(self, number: usize) -> LinkedNode<'a>
+        requires from { self.number ≤ number }
+        requires to { number < self.number + nodes self.node.now }
+        ensures { linked result ≡ at self.entry.root.now number }
+    {
+        let mut over = self;
+        while over.number < number {
+            over = over.child(over.child_over(number));
+        }
+        over
+    }
+
+    /// The first node on the way from the root to this one that has a long row, if it ends behind the number
+    /// `least`: the way is gone no further than that.
+    fn fork(self, least: usize) -> Option<LinkedNode<'a>>
+        ensures { MatchOption result (EndsBy self.entry.root.now self.entry.number least) (λ o. (o.root.now ≡ self.entry.root.now) × IsFork self.entry.root.now self.entry.number o.node.now o.number) }
+    {
+        if let Reach::Open = self.known.reach() {
             return None;
         }
         let mut over = self.top();
         while over.number < self.number {
+            if over.end() <= least {
+                return None;
+            }
             if over.node.children().len() > LONG {
                 return Some(over);
             }
-            over = over.child(child_over(over.spot(), self.number));
+            over = over.child(over.child_over(self.number));
         }
         None
     }
 
-    /// The tree that this node is or is below, in the first long row on the way to it. Where the node's
-    /// place in the row is known, the tree's offset is found by the way from the tree to the node, if the
-    /// tree is no larger than the row is long: else it is sooner found by the row.
+    /// The tree that this node is or is below, in the first long row on the way to it.
     fn tree_of(self, owner: LinkedNode<'a>) -> Kid<'a>
         requires root { owner.root.now ≡ self.root.now }
         requires fork { IsFork self.root.now self.number owner.node.now owner.number }
@@ -226,32 +268,26 @@ impl<'a> LinkedNode<'a> {
         ensures from { result.spot.number ≤ self.entry.number }
         ensures to { self.entry.number < result.spot.number + nodes result.spot.node.now }
     {
-        if let Reach::Placed = self.known.reach
+        if let Reach::Placed = self.known.reach()
             && self.offset < usize::MAX
         {
-            let row = owner.node.children();
-            let index = self.known.index as usize;
-            let below = usize::from(self.known.below);
-            let node = &row[index];
-            if node.descendants() <= row.len()
-                && let Some(inner) = first_in(node, 0, 0, &Search::Place(below))
-            {
-                let spot = Spot {
-                    node,
-                    number: self.number - below,
-                    offset: self.offset - inner.offset,
-                };
-                return Kid { spot, index };
-            }
+            let index = self.known.index();
+            let spot = Spot {
+                node: &owner.node.children()[index],
+                number: self.number - usize::from(self.known.below),
+                offset: self.offset - usize::from(self.known.begins),
+            };
+            return Kid { spot, index };
         }
-        child_over(owner.spot(), self.number)
+        owner.child_over(self.number)
     }
 
-    /// The tree of the first long row on the way to this node, where there is one.
-    fn branch(self) -> Option<Branch<'a>>
-        ensures { MatchOption result (IsOpen self.entry.root.now self.entry.number) (λ branch. IsBranch self.entry branch) }
+    /// The tree of the first long row on the way to this node, where there is one whose owner ends behind the
+    /// number `least`.
+    fn branch(self, least: usize) -> Option<Branch<'a>>
+        ensures { MatchOption result (EndsBy self.entry.root.now self.entry.number least) (λ branch. IsBranch self.entry branch) }
     {
-        let owner = self.fork()?;
+        let owner = self.fork(least)?;
         let kid = self.tree_of(owner);
         Some(Branch {
             above: Above {
@@ -271,7 +307,7 @@ impl<'a> LinkedNode<'a> {
     {
         let mut parent = over;
         loop {
-            let kid = child_over(parent.spot(), self.number);
+            let kid = parent.child_over(self.number);
             if kid.spot.number == self.number {
                 return Above {
                     parent,
@@ -289,8 +325,8 @@ impl<'a> LinkedNode<'a> {
         if self.number == 0 {
             return None;
         }
-        if let Reach::Placed = self.known.reach
-            && let Some(branch) = self.branch()
+        if let Reach::Placed = self.known.reach()
+            && let Some(branch) = self.branch(self.number)
         {
             if branch.tree.number == self.number {
                 return Some(branch.above);
@@ -348,7 +384,7 @@ impl<'a> LinkedNode<'a> {
     fn first(self, search: &Search) -> Option<LinkedNode<'a>>
         ensures { option_map linked result ≡ first_below (wanted search.now) (linked self.entry) }
     {
-        let in_order = self.known.in_order;
+        let in_order = self.known.in_order();
         match find_in(self.node, self.number, self.offset, search, in_order) {
             None => None,
             Some(spot) => Some(self.below(spot)),
@@ -382,8 +418,8 @@ impl<'a> LinkedNode<'a> {
     pub fn next_leaf(self) -> Option<LinkedNode<'a>>
         ensures { option_map linked result ≡ next_leaf (linked self.entry) }
     {
-        let end = self.number + self.node.descendants();
-        let Some(branch) = self.branch() else {
+        let end = self.end();
+        let Some(branch) = self.branch(end) else {
             return self.top().first(&Search::LeafFrom(end));
         };
         if let Some(leaf) = branch.tree.first(&Search::LeafFrom(end)) {
@@ -392,9 +428,8 @@ impl<'a> LinkedNode<'a> {
         if let Some(leaf) = branch.tree.leaf_behind(branch.above) {
             return Some(leaf);
         }
-        let owner = branch.above.parent;
-        let end = owner.number + owner.node.descendants();
-        self.top().first(&Search::LeafFrom(end))
+        self.top()
+            .first(&Search::LeafFrom(branch.above.parent.end()))
     }
 
     /// The first leaf that counts behind this node, in its parent.
@@ -402,16 +437,32 @@ impl<'a> LinkedNode<'a> {
         requires { IsAbove self above }
         ensures { MatchOption result (leaf_after self.entry.root.now (self.entry.number + nodes self.entry.node.now) ≡ leaf_after self.entry.root.now (above.entry.parent.number + nodes above.entry.parent.node.now)) (λ leaf. leaf_after self.entry.root.now (self.entry.number + nodes self.entry.node.now) ≡ Some (linked leaf)) }
     {
-        let index = above.index + 1;
-        let behind = from_index(above.parent.node.children(), index);
-        let number = self.number + self.node.descendants();
-        let offset = self.offset.saturating_add(self.node.len());
-        let found = first_in_row(behind, number, offset, &Search::LeafFrom(0))?;
-        let kid = above.parent.child(Kid {
-            spot: found.tree.spot,
-            index: index + found.tree.index,
-        });
-        Some(kid.below(found.spot))
+        let parent = above.parent;
+        let row = parent.node.children();
+        let mut at = self.passed(above).behind(self.node);
+        while at.index < row.len() {
+            let node = &row[at.index];
+            let kid = parent.child(at.tree(node));
+            if let Some(leaf) = kid.first(&Search::LeafFrom(at.number)) {
+                return Some(leaf);
+            }
+            at = at.behind(node);
+        }
+        None
+    }
+
+    /// The siblings before this node, passed over.
+    fn passed(self, above: Above<'a>) -> Passed
+        requires { IsAbove self above }
+        ensures index { result.index ≡ above.entry.index }
+        ensures number { result.number ≡ self.entry.number }
+        ensures offset { result.offset ≡ self.entry.offset }
+    {
+        Passed {
+            index: above.index,
+            number: self.number,
+            offset: self.offset,
+        }
     }
 
     /// The last leaf that is neither trivia nor an error before this node.
@@ -421,25 +472,26 @@ impl<'a> LinkedNode<'a> {
     pub fn prev_leaf(self) -> Option<LinkedNode<'a>>
         ensures { option_map linked result ≡ prev_leaf (linked self.entry) }
     {
-        let Some(branch) = self.branch() else {
-            return self.leaf_until(self.number);
+        let Some(branch) = self.branch(self.number) else {
+            return self.top().last_leaf(self.number);
         };
-        let tree = branch.tree;
-        if let Some(number) = last_leaf_in(tree.node, tree.number, self.number) {
-            return tree.first(&Search::Place(number));
-        }
-        if let Some(leaf) = tree.leaf_before(branch.above) {
+        if let Some(leaf) = branch.tree.last_leaf(self.number) {
             return Some(leaf);
         }
-        self.leaf_until(branch.above.parent.number)
+        if let Some(leaf) = branch.tree.leaf_before(branch.above) {
+            return Some(leaf);
+        }
+        self.top().last_leaf(branch.above.parent.number)
     }
 
-    /// The last leaf of the tree that counts and has a lower number than this.
-    fn leaf_until(self, number: usize) -> Option<LinkedNode<'a>>
-        ensures { option_map linked result ≡ leaf_until self.entry.root.now number }
+    /// The last leaf that counts and has a lower number than this, among this node and those below it.
+    fn last_leaf(self, before: usize) -> Option<LinkedNode<'a>>
+        requires from { self.number ≤ before }
+        requires to { before ≤ self.number + nodes self.node.now }
+        ensures { MatchOption result (leaf_until self.entry.root.now before ≡ leaf_until self.entry.root.now self.entry.number) (λ leaf. leaf_until self.entry.root.now before ≡ Some (linked leaf)) }
     {
-        let place = last_leaf_in(self.root, 0, number)?;
-        self.top().first(&Search::Place(place))
+        let number = last_leaf_in(self.node, self.number, before)?;
+        Some(self.down_to(number))
     }
 
     /// The last leaf that counts before this node, in its parent.
@@ -449,26 +501,17 @@ impl<'a> LinkedNode<'a> {
     {
         let parent = above.parent;
         if self.offset == usize::MAX {
-            let number = last_leaf_in(parent.node, parent.number, self.number)?;
-            return parent.first(&Search::Place(number));
+            return parent.last_leaf(self.number);
         }
         let row = parent.node.children();
-        let mut at = self.number;
-        let mut begin = self.offset;
-        let mut i = above.index;
-        while i > 0 {
-            i -= 1;
-            let node = &row[i];
-            at -= node.descendants();
-            begin -= node.len();
-            if let Some(number) = last_leaf_in(node, at, self.number) {
-                let spot = Spot {
-                    node,
-                    number: at,
-                    offset: begin,
-                };
-                let kid = parent.child(Kid { spot, index: i });
-                return kid.first(&Search::Place(number));
+        let mut at = self.passed(above);
+        while at.index > 0 {
+            let node = &row[at.index - 1];
+            let before = at.number;
+            at = at.before(node);
+            let kid = parent.child(at.tree(node));
+            if let Some(leaf) = kid.last_leaf(before) {
+                return Some(leaf);
             }
         }
         None
@@ -487,7 +530,18 @@ impl<'a> LinkedNode<'a> {
     pub fn leaf_at(self, byte: usize) -> Option<LinkedNode<'a>>
         ensures { option_map linked result ≡ leaf_at byte (linked self.entry) }
     {
-        self.first(&Search::Byte(byte))
+        if byte < self.offset || self.offset.saturating_add(self.node.len()) <= byte {
+            return None;
+        }
+        let mut over = self;
+        while let Some(kid) = child_at(over.spot(), byte) {
+            over = over.child(kid);
+        }
+        if holds_byte(byte, over.offset, over.node) {
+            Some(over)
+        } else {
+            None
+        }
     }
 
     /// The first node with this span, among this node and those below it.
@@ -579,18 +633,20 @@ impl<'a> LinkedNode<'a> {
 }
 
 impl<'a> Parent<'a> {
-    ghost use Rattle.std.specs.Prelude.{◌≡◌, ◌-◌, ◌<◌};
-    ghost use Rattle.typst_tree.specs.Follows.{Follows};
+    ghost use Rattle.std.specs.Prelude.{◌≡◌, ◌-◌, ◌≤◌};
+    ghost use Rattle.typst_tree.specs.Follows.{Follows, in_order_of};
 
-    /// What is known of the way to the child of an index, where that has a number.
+    /// What is known of the way to the child of an index, where that has a number and an offset.
     #[inline(always)]
-    fn known_of(&self, index: usize, number: usize) -> Known
-        requires { self.now.number < number }
-        ensures in_order { result.in_order ≡ self.now.known.in_order }
-        ensures follows { Follows self.now.known self.now.is_long index (number - self.now.number) result }
+    fn known_of(&self, index: usize, number: usize, offset: usize) -> Known
+        requires number { self.now.number ≤ number }
+        requires offset { self.now.offset ≤ offset }
+        ensures in_order { in_order_of result ≡ in_order_of self.now.known }
+        ensures follows { Follows self.now.known self.now.is_long index (number - self.now.number) (offset - self.now.offset) result }
     {
         let numbers = number - self.number;
-        self.known.of_child(self.is_long, index, numbers)
+        let bytes = offset - self.offset;
+        self.known.of_child(self.is_long, index, numbers, bytes)
     }
 }
 
@@ -612,7 +668,7 @@ impl<'a> Iterator for LinkedChildren<'a> {
             node,
             number: self.number,
             offset: self.offset,
-            known: self.parent.known_of(self.index, self.number),
+            known: self.parent.known_of(self.index, self.number, self.offset),
         };
         *self = LinkedChildren {
             root: self.root,

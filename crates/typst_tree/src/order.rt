@@ -9,7 +9,7 @@ ghost use Rattle.typst_tree.specs.Walks.{first_at, Within};
 ghost use Rattle.typst_tree.specs.Wanted.{wanted};
 ghost use Rattle.typst_tree.specs.Ordered.{climb, IsKey, IsLastUpTo};
 
-use crate::search::{LONG, Passed, Search, Spot, first_in};
+use crate::search::{Passed, Search, Spot, first_in};
 use typst_node::SyntaxNode;
 
 /// The number behind those of the node and of all below it, if each is above the one before it
@@ -55,6 +55,10 @@ fn last_up_to(row: &[SyntaxNode], key: u64) -> usize
     }
     low
 }
+
+/// How many nodes the children of a node may have, one with another, for the node's length to be asked for.
+/// Where that isn't kept, it is added up anew, and so from no more than these.
+const MANY: usize = 64;
 
 /// The number and the offset of the tree of an index in a row, of which the first has this number and
 /// offset.
@@ -125,21 +129,15 @@ fn before_index(
 {
     let text = node.leaf_text().len();
     let start = offset.saturating_add(text);
-    if row.len() <= LONG || index <= row.len() / 2 {
+    let all = node.descendants();
+    if index <= row.len() / 2 || row.len() < all / MANY {
         return summed_to(row, number + 1, start, index);
     }
     let len = node.len();
     if offset.saturating_add(len) == usize::MAX {
         return summed_to(row, number + 1, start, index);
     }
-    summed_back_to(
-        row,
-        number + 1,
-        start,
-        node.descendants() - 1,
-        len - text,
-        index,
-    )
+    summed_back_to(row, number + 1, start, all - 1, len - text, index)
 }
 
 /// `first_in` of a node whose numbers are in order, for a search that asks for the number `key`:
@@ -160,7 +158,7 @@ fn first_in_order<'a>(
     if key < node.span().number_or_zero() {
         return None;
     }
-    if search.wants(number, offset, node) {
+    if search.wants(number, node) {
         return Some(Spot {
             node,
             number,

@@ -1,30 +1,23 @@
 //! The walk through a tree in preorder that all steps share.
 
-ghost use Rattle.std.specs.Prelude.{◌≡◌, ◌+◌, ◌^◌, ◌<◌, ◌-◌, ◌≤◌, true, false, None, Some, length, drop, take, IfSome, IsTrue, ◌↔◌};
+ghost use Rattle.std.specs.Prelude.{◌≡◌, ℕ, ◌+◌, ◌^◌, ◌<◌, ◌-◌, ◌≤◌, true, false, None, Some, length, take, drop, IfSome, IsTrue, ◌↔◌, if◌then◌else◌};
 ghost use Rattle.std.specs.Option.{option_map};
-ghost use Rattle.typst_node.specs.Tree.{nodes, places, forest, count, preorder, text_of, saturated};
-ghost use Rattle.typst_tree.specs.Passed.{IsPassed, FindsNothing};
+ghost use Rattle.typst_node.specs.Tree.{nodes, places, forest, count, preorder, joined, text_of, saturated};
+ghost use Rattle.typst_tree.specs.Passed.{IsPassed, FindsChild};
 ghost use Rattle.typst_tree.specs.Walks.{first_at, last_leaf, is_childless, is_leaf, holds_byte, Within};
-ghost use Rattle.typst_tree.specs.Rows.{IsChild, IsTreeOf};
+ghost use Rattle.typst_tree.specs.Rows.{IsChild};
 ghost use Rattle.typst_tree.specs.Wanted.{wanted};
 ghost use Rattle.typst_tree.specs.Ordered.{IsKey};
 
+use crate::known::LONG;
 use typst_kinds::{Span, SpanNumber};
 use typst_node::SyntaxNode;
 
-/// A row of more children than this is long. A linked node keeps its place in the first long row on its
-/// way, and a search passes over a long row from both ends.
-pub const LONG: usize = 128;
-
-/// What a walk looks for, by numbers in preorder.
+/// What a walk in preorder looks for.
 #[derive(Clone, Copy)]
 pub enum Search {
-    /// The node with this number.
-    Place(usize),
     /// A leaf that is neither trivia nor an error, from this number on.
     LeafFrom(usize),
-    /// A leaf whose range holds this byte.
-    Byte(usize),
     /// A node with this span.
     Spanned(Span),
     /// A node whose span has this number.
@@ -55,15 +48,13 @@ pub fn is_leaf(node: &SyntaxNode) -> bool
 }
 
 impl Search {
-    /// Whether the node with this number and offset is one that is looked for.
-    pub fn wants(&self, number: usize, offset: usize, node: &SyntaxNode) -> bool
+    /// Whether the node with this number is one that is looked for.
+    pub fn wants(&self, number: usize, node: &SyntaxNode) -> bool
         requires { number + nodes node.now < 2 ^ 64 - 1 }
-        ensures { result ≡ wanted self.now number offset node.now }
+        ensures { (a : ℕ) → result ≡ wanted self.now number a node.now }
     {
         match self {
-            Search::Place(place) => number == *place,
             Search::LeafFrom(least) => *least <= number && is_leaf(node),
-            Search::Byte(byte) => holds_byte(*byte, offset, node),
             Search::Spanned(span) => same_span(node.span(), *span),
             Search::Numbered(wanted) => match node.span().number() {
                 None => false,
@@ -73,31 +64,14 @@ impl Search {
     }
 
     /// Whether it is known that neither the node nor one below it is looked for.
-    fn passes_over(&self, number: usize, offset: usize, node: &SyntaxNode) -> bool
+    #[inline(always)]
+    fn passes_over(&self, number: usize, node: &SyntaxNode) -> bool
         requires { number + nodes node.now < 2 ^ 64 - 1 }
-        ensures { result ≡ true → first_at (wanted self.now) number offset (places node.now) ≡ None }
-    {
-        let end = number + node.descendants();
-        match self {
-            Search::Place(place) => *place < number || end <= *place,
-            Search::LeafFrom(least) => end <= *least,
-            Search::Byte(byte) => *byte < offset || offset.saturating_add(node.len()) <= *byte,
-            Search::Spanned(_) => false,
-            Search::Numbered(_) => false,
-        }
-    }
-
-    /// Whether it is known that nothing is looked for in trees that stand side by side, where what comes
-    /// behind them has this number and offset.
-    fn ends_by(&self, number: usize, offset: usize) -> bool
-        ensures { result ≡ true → FindsNothing self.now number offset }
+        ensures { result ≡ true → (a : ℕ) → first_at (wanted self.now) number a (places node.now) ≡ None }
     {
         match self {
-            Search::Place(place) => number <= *place,
-            Search::LeafFrom(least) => number <= *least,
-            Search::Byte(byte) => offset <= *byte,
-            Search::Spanned(_) => false,
-            Search::Numbered(_) => false,
+            Search::LeafFrom(least) => number + node.descendants() <= *least,
+            Search::Spanned(_) | Search::Numbered(_) => false,
         }
     }
 
@@ -122,7 +96,7 @@ fn same_span(a: Span, b: Span) -> bool
 }
 
 /// Whether the node is a leaf whose range holds the byte.
-fn holds_byte(byte: usize, offset: usize, node: &SyntaxNode) -> bool
+pub fn holds_byte(byte: usize, offset: usize, node: &SyntaxNode) -> bool
     ensures { result ≡ holds_byte byte 0 offset node.now }
 {
     is_childless(node) && offset <= byte && byte < offset.saturating_add(node.len())
@@ -152,8 +126,23 @@ pub struct Passed {
 }
 
 impl Passed {
+    /// None of the children of a node, which has this number and offset.
+    #[inline(always)]
+    fn front(node: &SyntaxNode, number: usize, offset: usize) -> Passed
+        requires { number < 2 ^ 64 - 1 }
+        ensures index { result.index ≡ 0 }
+        ensures number { result.number ≡ number + 1 }
+        ensures offset { result.offset ≡ saturated (offset + length node.now.head.text) }
+    {
+        Passed {
+            index: 0,
+            number: number + 1,
+            offset: offset.saturating_add(node.leaf_text().len()),
+        }
+    }
+
     /// The next tree, which is this one.
-    fn tree<'a>(&self, node: &'a SyntaxNode) -> Kid<'a>
+    pub fn tree<'a>(&self, node: &'a SyntaxNode) -> Kid<'a>
         ensures node { result.spot.node.now ≡ node.now }
         ensures number { result.spot.number ≡ self.now.number }
         ensures offset { result.spot.offset ≡ self.now.offset }
@@ -170,7 +159,7 @@ impl Passed {
     }
 
     /// With the next tree, which is this one.
-    fn behind(&self, tree: &SyntaxNode) -> Passed
+    pub fn behind(&self, tree: &SyntaxNode) -> Passed
         requires index { self.now.index < 2 ^ 64 - 1 }
         requires counted { self.now.number + nodes tree.now < 2 ^ 64 - 1 }
         ensures index { result.index ≡ self.now.index + 1 }
@@ -183,66 +172,53 @@ impl Passed {
             offset: self.offset.saturating_add(tree.len()),
         }
     }
-}
 
-/// Passes over trees at the front of a row, where the search tells by their numbers or bytes that nothing
-/// is looked for in them.
-fn passed_from_front(row: &[SyntaxNode], number: usize, offset: usize, search: &Search) -> Passed
-    requires { number + count (forest row.now) < 2 ^ 64 - 1 }
-    ensures passed { IsPassed row.now number offset result.index result.number result.offset }
-    ensures nothing { first_at (wanted search.now) number offset (preorder (forest (take result.index row.now))) ≡ None }
-{
-    let mut front = Passed {
-        index: 0,
-        number,
-        offset,
-    };
-    for tree in row {
-        let next = front.behind(tree);
-        if !search.ends_by(next.number, next.offset) {
-            return front;
+    /// Without the last tree, which is this one.
+    pub fn before(self, tree: &SyntaxNode) -> Passed
+        requires index { 0 < self.index }
+        requires counted { nodes tree.now ≤ self.number }
+        requires measured { length (text_of tree.now) ≤ self.offset }
+        ensures index { result.index ≡ self.index - 1 }
+        ensures number { result.number ≡ self.number - nodes tree.now }
+        ensures offset { result.offset ≡ self.offset - length (text_of tree.now) }
+    {
+        Passed {
+            index: self.index - 1,
+            number: self.number - tree.descendants(),
+            offset: self.offset - tree.len(),
         }
-        front = next;
     }
-    front
 }
 
-/// The same in a node's row, which is long: it goes on from both ends of the row by turns until one of
-/// them has come to what the search is for, and doesn't call itself.
-fn passed_in_long(
-    node: &SyntaxNode,
-    row: &[SyntaxNode],
-    number: usize,
-    offset: usize,
-    search: &Search,
-) -> Passed
-    requires counted { number + nodes node.now < 2 ^ 64 - 1 }
-    requires row { forest row.now ≡ node.now.kids }
-    ensures passed { IsPassed row.now (number + 1) (saturated (offset + length node.now.head.text)) result.index result.number result.offset }
-    ensures nothing { first_at (wanted search.now) (number + 1) (saturated (offset + length node.now.head.text)) (preorder (forest (take result.index row.now))) ≡ None }
+/// Passes over children at the front of a long row, which end by a byte. It goes on from both ends of the row
+/// by turns until one of them has come to the byte.
+fn passed_by_turns(over: Spot, row: &[SyntaxNode], byte: usize) -> Passed
+    requires counted { over.number + nodes over.node.now < 2 ^ 64 - 1 }
+    requires row { forest row.now ≡ over.node.now.kids }
+    ensures passed { IsPassed row.now (over.entry.number + 1) (saturated (over.entry.offset + length over.entry.node.now.head.text)) result.index result.number result.offset }
+    ensures nothing { first_at (holds_byte byte) (over.entry.number + 1) (saturated (over.entry.offset + length over.entry.node.now.head.text)) (preorder (forest (take result.index row.now))) ≡ None }
 {
-    let text = node.leaf_text().len();
-    let len = node.len();
-    let start = offset.saturating_add(text);
-    let mut front = Passed {
-        index: 0,
-        number: number + 1,
-        offset: start,
-    };
+    let mut front = Passed::front(over.node, over.number, over.offset);
+    let start = front.offset;
+    if row.len() <= LONG {
+        return front;
+    }
+    let text = over.node.leaf_text().len();
+    let len = over.node.len();
     if len == usize::MAX {
         return front;
     }
     let mut index = row.len();
-    let mut end = number + node.descendants();
+    let mut end = over.number + over.node.descendants();
     let mut left = len - text;
     for tree in row {
         let next = front.behind(tree);
-        if !search.ends_by(next.number, next.offset) {
+        if byte < next.offset {
             return front;
         }
         front = next;
         let begin = start.saturating_add(left);
-        if search.ends_by(end, begin) {
+        if begin <= byte {
             return Passed {
                 index,
                 number: end,
@@ -257,35 +233,27 @@ fn passed_in_long(
     front
 }
 
-/// Passes over children at the front of a node's row, where the search tells by their numbers or bytes
-/// that nothing is looked for in them. The length of the node as a whole is asked for only where its row
-/// is long. It stands apart from `goes_to`, which calls itself, so that this one's frame stays small.
-#[inline(never)]
-fn passed_over(
-    node: &SyntaxNode,
-    row: &[SyntaxNode],
-    number: usize,
-    offset: usize,
-    search: &Search,
-) -> Passed
-    requires counted { number + nodes node.now < 2 ^ 64 - 1 }
-    requires row { forest row.now ≡ node.now.kids }
-    ensures passed { IsPassed row.now (number + 1) (saturated (offset + length node.now.head.text)) result.index result.number result.offset }
-    ensures nothing { first_at (wanted search.now) (number + 1) (saturated (offset + length node.now.head.text)) (preorder (forest row.now)) ≡ first_at (wanted search.now) result.number result.offset (preorder (forest (drop result.index row.now))) }
+/// The child of a node that has the leaf whose range holds the byte, if there is one.
+pub fn child_at<'a>(over: Spot<'a>, byte: usize) -> Option<Kid<'a>>
+    requires { over.number + nodes over.node.now < 2 ^ 64 - 1 }
+    ensures none { result ≡ None → first_at (holds_byte byte) over.entry.number over.entry.offset (places over.entry.node.now) ≡ if holds_byte byte 0 over.entry.offset over.entry.node.now then Some over.entry.number else None }
+    ensures kid { IfSome result (λ kid. FindsChild byte over.entry kid.spot kid.index) }
 {
-    let start = offset.saturating_add(node.leaf_text().len());
-    match search {
-        Search::Spanned(_) | Search::Numbered(_) => Passed {
-            index: 0,
-            number: number + 1,
-            offset: start,
-        },
-        _ if row.len() > LONG => passed_in_long(node, row, number, offset, search),
-        _ => passed_from_front(row, number + 1, start, search),
+    let row = over.node.children();
+    let mut at = passed_by_turns(over, row, byte);
+    while at.index < row.len() {
+        let node = &row[at.index];
+        let next = at.behind(node);
+        if byte < next.offset {
+            return Some(at.tree(node));
+        }
+        at = next;
     }
+    None
 }
 
-/// The child of a node that has the node with the number `wanted` in it, itself counted.
+/// The child of a node that has the node with the number `wanted` in it, itself counted. Lengths are asked
+/// for only of the children before it.
 pub fn child_over<'a>(over: Spot<'a>, wanted: usize) -> Kid<'a>
     requires counted { over.number + nodes over.node.now < 2 ^ 64 - 1 }
     requires from { over.number < wanted }
@@ -296,20 +264,13 @@ pub fn child_over<'a>(over: Spot<'a>, wanted: usize) -> Kid<'a>
     ensures to { wanted < result.spot.number + nodes result.spot.node.now }
 {
     let row = over.node.children();
-    let mut at = passed_over(
-        over.node,
-        row,
-        over.number,
-        over.offset,
-        &Search::Place(wanted),
-    );
+    let mut at = Passed::front(over.node, over.number, over.offset);
     loop {
         let node = &row[at.index];
-        let next = at.behind(node);
-        if wanted < next.number {
+        if wanted < at.number + node.descendants() {
             return at.tree(node);
         }
-        at = next;
+        at = at.behind(node);
     }
 }
 
@@ -325,6 +286,9 @@ pub fn first_in<'a>(
     ensures first { option_map (λ spot. spot.number) result ≡ first_at (wanted search.now) number offset (places node.now) }
     ensures spot { IfSome result (λ spot. Within number offset (places node.now) spot.number spot.offset (places spot.node.now)) }
 {
+    if search.passes_over(number, node) {
+        return None;
+    }
     let mut spot = Spot {
         node,
         number,
@@ -339,8 +303,8 @@ pub fn first_in<'a>(
 
 impl<'a> Spot<'a> {
     /// Goes to the first node in preorder that is looked for, among this one and those below it, and says
-    /// whether there is one; if not, it ends somewhere. It calls itself for each level of the tree, so what it
-    /// holds meanwhile is little.
+    /// whether there is one; if not, it ends somewhere. It calls itself for no child that is passed over, and
+    /// holds little meanwhile.
     fn goes_to(&mut self, search: &Search) -> bool
         requires { self.old.number + nodes self.old.node.now < 2 ^ 64 - 1 }
         ensures first { result ≡ true → first_at (wanted search.now) self.old.number self.old.offset (places self.old.node.now) ≡ Some self.new.number }
@@ -352,22 +316,18 @@ impl<'a> Spot<'a> {
             number,
             offset,
         } = *self;
-        if search.passes_over(number, offset, node) {
-            return false;
-        }
-        if search.wants(number, offset, node) {
+        if search.wants(number, node) {
             return true;
         }
         let row = node.children();
-        if row.is_empty() {
-            return false;
-        }
-        let mut at = passed_over(node, row, number, offset, search);
+        let mut at = Passed::front(node, number, offset);
         while at.index < row.len() {
             let kid = &row[at.index];
-            *self = at.tree(kid).spot;
-            if self.goes_to(search) {
-                return true;
+            if !search.passes_over(at.number, kid) {
+                *self = at.tree(kid).spot;
+                if self.goes_to(search) {
+                    return true;
+                }
             }
             at = at.behind(kid);
         }
@@ -400,41 +360,4 @@ pub fn last_leaf_in(node: &SyntaxNode, number: usize, before: usize) -> Option<u
         }
     }
     if is_leaf(node) { Some(number) } else { None }
-}
-
-/// A node that was found in one of some trees that stand side by side, and that tree.
-#[derive(Clone, Copy)]
-pub struct InRow<'a> {
-    pub tree: Kid<'a>,
-    pub spot: Spot<'a>,
-}
-
-/// The first node in preorder that is looked for, among some trees that stand side by side, of which
-/// the first has this number and offset.
-pub fn first_in_row<'a>(
-    row: &'a [SyntaxNode],
-    number: usize,
-    offset: usize,
-    search: &Search,
-) -> Option<InRow<'a>>
-    requires { number + count (forest row.now) < 2 ^ 64 - 1 }
-    ensures first { option_map (λ found. found.spot.number) result ≡ first_at (wanted search.now) number offset (preorder (forest row.now)) }
-    ensures tree { IfSome result (λ found. IsTreeOf row.now number offset found.tree.spot.node.now found.tree.spot.number found.tree.spot.offset found.tree.index) }
-    ensures spot { IfSome result (λ found. Within found.tree.spot.number found.tree.spot.offset (places found.tree.spot.node.now) found.spot.number found.spot.offset (places found.spot.node.now)) }
-{
-    let mut at = Passed {
-        index: 0,
-        number,
-        offset,
-    };
-    for node in row {
-        if let Some(spot) = first_in(node, at.number, at.offset, search) {
-            return Some(InRow {
-                tree: at.tree(node),
-                spot,
-            });
-        }
-        at = at.behind(node);
-    }
-    None
 }

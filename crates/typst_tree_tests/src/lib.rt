@@ -9,6 +9,8 @@ mod html;
 #[cfg(test)]
 mod kinds;
 #[cfg(test)]
+mod long_rows;
+#[cfg(test)]
 mod nodes;
 #[cfg(test)]
 mod numbers;

@@ -38,7 +38,7 @@ returns-clause-first t c =
     let all = rising_below c.args.node.now xs c.children-row.ensures c.requires.in_order in
     let rising = rising_from_index i xs x (drop (i + 1) xs) row all in
     c.first_in_order.ensures.first
-    ∙ sym (found_below p c.args.number c.args.offset (saturated (c.args.offset + length c.args.node.now.head.text)) c.args.node.now xs (omega (arith, c.ranges.offset)) c.if-wants.ensures c.children-row.ensures refl
+    ∙ sym (found_below p c.args.number c.args.offset (saturated (c.args.offset + length c.args.node.now.head.text)) c.args.node.now xs (omega (arith, c.ranges.offset)) (c.if-wants.ensures c.args.offset) c.children-row.ensures refl
     ∙ (order_ahead p c.args.key (c.args.number + 1) (saturated (c.args.offset + length c.args.node.now.head.text)) i c.before_index-passed.result.number c.before_index-passed.result.offset xs x (drop (i + 1) xs) c.requires.keyed all row c.last_up_to-index.ensures.begins c.before_index-passed.ensures.number c.before_index-passed.ensures.offset
     ∙ found_only p c.args.key c.before_index-passed.result.number c.before_index-passed.result.offset x (drop (i + 1) xs) c.requires.keyed (sym c.last_up_to-index.ensures.next) rising))
 

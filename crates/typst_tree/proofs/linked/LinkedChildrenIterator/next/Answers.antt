@@ -3,7 +3,7 @@ use Rattle.typst_node.specs.Tree.{forest, places, count, nodes, trees, saturated
 use Rattle.typst_tree.specs.Steps.{at}
 use Rattle.typst_tree.specs.Walks.{numbers}
 use Rattle.typst_tree.specs.Rows.{IsChild}
-use Rattle.typst_tree.proofs.Forks.{holds_child}
+use Rattle.typst_tree.proofs.Forks.{holds_child, later}
 use Rattle.typst_tree.proofs.NodesOfStretch.{row, stands_same}
 use Rattle.typst_tree.proofs.Rows.{first_of_row, index_counted}
 use Rattle.typst_tree.proofs.WalksInPreorder.{length_places}
@@ -20,7 +20,12 @@ overflow_add-self-2 c =
     omega (arith, index_counted c.args.self.now.parent.node.now.kids (c.args.self.now.index + 1) (omega (arith, w.within)), c.args.self.now.node.within, length_places c.args.self.now.parent.node.now, length_places c.args.self.now.root.now, c.args.self.now.counted)
 
 pub known_of-requires : goal.known_of-requires
-known_of-requires c = omega (arith, c.args.self.now.before)
+known_of-requires c =
+    let s = c.args.self.now in
+    record {
+      number = omega (arith, s.before);
+      offset = later (places s.root.now) s.parent.number s.parent.offset s.number s.offset _ _ s.node s.stands (omega (arith, s.before));
+    }
 
 pub invariant_of-child : goal.invariant_of-child
 invariant_of-child c =
@@ -34,7 +39,7 @@ invariant_of-child c =
       counted = s.counted;
       stands = r.first;
       ordered = λ e. s.ordered (sym c.known_of.ensures.in_order ∙ e);
-      holds = holds_child s.root.now p.node.now p.number _ p.known p.is_long t s.number s.index c.known_of.result p.long s.node child s.holds c.known_of.ensures.follows;
+      holds = holds_child s.root.now p.node.now p.number p.offset p.known p.is_long t s.number s.offset s.index c.known_of.result p.many s.node r.first child s.holds c.known_of.ensures.follows;
     }
 
 pub invariant_of-self-2 : goal.invariant_of-self-2

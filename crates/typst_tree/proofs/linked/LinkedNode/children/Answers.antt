@@ -3,7 +3,7 @@ use Rattle.typst_node.specs.Tree.{places, saturated, trees}
 use Rattle.typst_node.proofs.SpansAside.{trees_forest}
 use Rattle.typst_tree.specs.Steps.{at}
 use Rattle.typst_tree.specs.Walks.{numbers}
-use Rattle.typst_tree.proofs.Forks.{is_node}
+use Rattle.typst_tree.specs.Follows.{in_order_of}
 use Rattle.typst_tree.proofs.NodesOfStretch.{node_here, stands_row}
 use Rattle.typst_tree.proofs.WalksInPreorder.{length_places, within_children}
 use Rattle.typst_tree.proofs.linked.LinkedNode.children.Goals as goal
@@ -19,11 +19,11 @@ invariant_of-result c =
       counted = c.args.self.counted;
       stands = stands_row (places c.args.self.root.now) c.args.self.number c.args.self.offset _ _ (places c.args.self.node.now) _ c.args.self.stands
           (within_children c.args.self.number c.args.self.offset _ c.args.self.node.now c.children.result.now c.children.ensures offset);
-      node = rw (c.as_parent.ensures.node, c.as_parent.ensures.number) (is_node c.args.self.root.now c.args.self.number c.args.self.offset c.args.self.node.now c.args.self.stands);
+      node = rw (c.as_parent.ensures.node, c.as_parent.ensures.number, c.as_parent.ensures.offset) c.args.self.stands;
       row = sym (trees_forest c.children.result.now) ∙ (ap trees c.children.ensures ∙ ap (λ t. trees t.kids) (sym c.as_parent.ensures.node));
       before = omega (arith, c.as_parent.ensures.number);
-      ordered = λ e. c.args.self.ordered (ap (λ k. k.in_order) (sym c.as_parent.ensures.known) ∙ e);
-      holds = rw (c.as_parent.ensures.node, c.as_parent.ensures.number, c.as_parent.ensures.known) c.args.self.holds;
+      ordered = λ e. c.args.self.ordered (ap in_order_of (sym c.as_parent.ensures.known) ∙ e);
+      holds = rw (c.as_parent.ensures.node, c.as_parent.ensures.number, c.as_parent.ensures.offset, c.as_parent.ensures.known) c.args.self.holds;
     }
 
 pub returns : goal.returns

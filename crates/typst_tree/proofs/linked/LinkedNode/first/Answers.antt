@@ -1,4 +1,4 @@
-use Rattle.std.proofs.Common.{ap, ◌∙◌, arith, Some}
+use Rattle.std.proofs.Common.{ap, ◌∙◌, arith, Some, sym}
 use Rattle.std.specs.Option.{option_map}
 use Rattle.typst_tree.specs.Steps.{at}
 use Rattle.typst_tree.specs.Wanted.{wanted}
@@ -13,7 +13,7 @@ find_in-requires-clause-counted c =
 
 pub find_in-requires-clause-ordered : goal.find_in-requires-clause-ordered
 find_in-requires-clause-ordered c = λ e.
-    in_order_here c.args.self.root.now c.args.self.number c.args.self.offset c.args.self.node.now c.args.self.stands (c.args.self.ordered e)
+    in_order_here c.args.self.root.now c.args.self.number c.args.self.offset c.args.self.node.now c.args.self.stands (c.args.self.ordered (sym c.in_order-in_order.ensures ∙ e))
 
 pub returns-in-None : goal.returns-in-None
 returns-in-None c =

@@ -3,9 +3,9 @@ use Rattle.typst_node.specs.Tree.{nodes, places, trees}
 use Rattle.typst_node.proofs.SpansAside.{trees_forest}
 use Rattle.typst_tree.specs.Rows.{IsChild, IsOpen}
 use Rattle.typst_tree.specs.Walks.{Stands}
-use Rattle.typst_tree.proofs.Branches.{inside_root, room, root_node}
-use Rattle.typst_tree.proofs.Forks.{open_child, open_root}
-use Rattle.typst_tree.proofs.NodesOfStretch.{stands_get, stands_row}
+use Rattle.typst_tree.proofs.Branches.{inside_root, root_node}
+use Rattle.typst_tree.proofs.Forks.{ends_by, ends_open, open_child, open_root}
+use Rattle.typst_tree.proofs.NodesOfStretch.{stands_get}
 use Rattle.typst_tree.proofs.linked.LinkedNode.fork.Goals as goal
 
 pub loop-over-init : goal.loop-over-init
@@ -28,33 +28,35 @@ returns-then-children-gt-LONG c =
       record {
         here = ap (λ r. slice_get (places r) c.loop-over.over.number) (sym i.root) ∙ stands_get (places c.loop-over.over.root.now) c.loop-over.over.number c.loop-over.over.offset c.loop-over.over.node.now c.loop-over.over.stands;
         first = i.clear;
-        long = omega (arith, c.if-children-gt-LONG.true, ap length rows);
+        many = omega (arith, c.if-children-gt-LONG.true, ap length rows);
         from = omega (arith, c.loop-over-test.true);
         to = i.to;
       },
     )
 
-pub child_over-requires-clause-counted : goal.child_over-requires-clause-counted
-child_over-requires-clause-counted c =
-    omega (arith, room c.loop-over.over, c.spot.ensures.number, ap nodes c.spot.ensures.node)
-
-pub child-over-requires-clause-stands : goal.child-over-requires-clause-stands
-child-over-requires-clause-stands c =
+pub returns-then-end-least : goal.returns-then-end-least
+returns-then-end-least c =
     let over = c.loop-over.over in
-    stands_row (places over.root.now) c.spot.result.number c.spot.result.offset c.child_over.result.spot.number c.child_over.result.spot.offset (places c.spot.result.node.now) (places c.child_over.result.spot.node.now)
-    (rw (c.spot.ensures.number, c.spot.ensures.offset, c.spot.ensures.node) over.stands) c.child_over.ensures.spot
+    let i = c.loop-over.invariant in
+    let stands : Stands (places c.args.self.root.now) over.number over.offset (places over.node.now) = subst (λ r. Stands (places r) over.number over.offset (places over.node.now)) i.root over.stands in
+    ends_by c.args.self.root.now c.args.self.number c.args.least over.node.now over.number over.offset stands i.clear i.from i.to (omega (arith, c.if-end-least.true, c.end.ensures))
+
+pub returns : goal.returns
+returns c =
+    let same : c.loop-over.over.number ≡ c.args.self.number = omega (arith, c.loop-over-test.false, c.loop-over.invariant.from) in
+    ends_open c.args.self.root.now c.args.self.number c.args.least (subst (IsOpen c.args.self.root.now) same c.loop-over.invariant.clear)
 
 pub loop-over-preserved : goal.loop-over-preserved
 loop-over-preserved c =
     let over = c.loop-over.over in
     let i = c.loop-over.invariant in
+    let kid = c.child_over.result in
     let rows : c.children.result.now ≡ trees over.node.now.kids = sym (trees_forest c.children.result.now) ∙ ap trees c.children.ensures in
     let stands : Stands (places c.args.self.root.now) over.number over.offset (places over.node.now) = subst (λ r. Stands (places r) over.number over.offset (places over.node.now)) i.root over.stands in
-    let child : IsChild over.node.now over.number c.child_over.result.spot.node.now c.child-over.result.number c.child_over.result.index =
-    rw (sym c.spot.ensures.node, sym c.spot.ensures.number, c.child-over.ensures.number) c.child_over.ensures.child in
+    let child : IsChild over.node.now over.number kid.spot.node.now c.child-over.result.number kid.index = rw (c.child-over.ensures.number) c.child_over.ensures.child in
     record {
       root = c.child-over.ensures.root ∙ i.root;
       from = omega (arith, c.child-over.ensures.number, c.child_over.ensures.from);
       to = omega (arith, c.child-over.ensures.number, ap nodes c.child-over.ensures.node, c.child_over.ensures.to);
-      clear = open_child c.args.self.root.now over.node.now over.number over.offset c.child_over.result.spot.node.now c.child-over.result.number c.child_over.result.index stands child i.clear (omega (arith, c.if-children-gt-LONG.false, ap length rows));
+      clear = open_child c.args.self.root.now over.node.now over.number over.offset kid.spot.node.now c.child-over.result.number kid.index stands child i.clear (omega (arith, c.if-children-gt-LONG.false, ap length rows));
     }

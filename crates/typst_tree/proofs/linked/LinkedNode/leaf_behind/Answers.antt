@@ -1,71 +1,77 @@
-use Rattle.std.proofs.Common.{ℕ, Option, ◌≡◌, ◌+◌, ap, sym, ◌∙◌, arith, subst, Some, length, drop}
-use Rattle.std.specs.Option.{option_map}
-use Rattle.typst_node.specs.Tree.{nodes, count, forest, places, saturated, text_of, trees}
-use Rattle.typst_node.proofs.SpansAside.{forest_trees}
+use Rattle.std.proofs.Common.{◌≡◌, ◌+◌, ap, arith, sym, ◌∙◌}
+use Rattle.typst_node.specs.Tree.{count, nodes, places}
 use Rattle.typst_tree.specs.Branches.{leaf_after}
-use Rattle.typst_tree.specs.Rows.{IsTreeOf}
-use Rattle.typst_tree.specs.Walks.{Stands, first_at, if_none, is_leaf_from}
-use Rattle.typst_tree.specs.Steps.{at}
-use Rattle.typst_tree.proofs.Branches.{beside_of, kid_of_row, leaf_beside, room}
+use Rattle.typst_tree.specs.Linked.{linked}
+use Rattle.typst_tree.proofs.Branches.{leaf_found, leaf_not_found, over_above, room}
+use Rattle.typst_tree.proofs.NodesOfStretch.{stands_row}
+use Rattle.typst_tree.proofs.Rows.{all_counted, over}
 use Rattle.typst_tree.proofs.linked.LinkedNode.leaf_behind.Goals as goal
 
-pub overflow_add-index : goal.overflow_add-index
-overflow_add-index c =
-    let s = beside_of c.args.self c.args.above (trees c.args.above.parent.node.now.kids) c.requires (forest_trees c.args.above.parent.node.now.kids) in
-    omega (arith, s.within, s.index, room c.args.above.parent)
+pub behind-at-requires-clause-index : goal.behind-at-requires-clause-index
+behind-at-requires-clause-index c =
+    let o = over_above c.args.self c.args.above c.children-row.result.now c.requires c.children-row.ensures in
+    omega (arith, c.passed.ensures.index, o.next.within)
 
-pub from_index-behind-requires : goal.from_index-behind-requires
-from_index-behind-requires c =
-    let s = beside_of c.args.self c.args.above c.children.result.now c.requires c.children.ensures in
-    omega (arith, s.within)
+pub behind-at-requires-clause-counted : goal.behind-at-requires-clause-counted
+behind-at-requires-clause-counted c = omega (arith, c.passed.ensures.number, room c.args.self)
 
-pub overflow_add-number : goal.overflow_add-number
-overflow_add-number c = omega (arith, room c.args.self, c.descendants.ensures)
-
-pub first_in_row-requires : goal.first_in_row-requires
-first_in_row-requires c =
-    let s = beside_of c.args.self c.args.above c.children.result.now c.requires c.children.ensures in
-    omega (arith, s.counted, room c.args.above.parent, c.descendants.ensures, ap (λ ys. count (forest ys)) c.from_index-behind.ensures)
-
-pub returns-in_err-found : goal.returns-in_err-found
-returns-in_err-found c =
-    let offset : c.saturating_add-offset.result ≡ saturated (c.args.self.offset + length (text_of c.args.self.node.now)) = omega (arith, c.saturating_add-offset.ensures, c.len.ensures) in
-    let number : c.args.self.number + c.descendants.result ≡ c.args.self.number + nodes c.args.self.node.now = omega (arith, c.descendants.ensures, room c.args.self) in
-    let leaves = leaf_beside c.args.self c.args.above c.children.result.now c.from_index-behind.result.now (c.args.self.number + c.descendants.result) c.saturating_add-offset.result c.requires c.children.ensures c.from_index-behind.ensures number offset in
-    let behind : Option ℕ = first_at (is_leaf_from 0) (c.args.above.parent.number + nodes c.args.above.parent.node.now) 0 (drop (c.args.above.parent.number + nodes c.args.above.parent.node.now) (places c.args.self.root.now)) in
-    let none : leaf_after c.args.self.root.now (c.args.self.number + nodes c.args.self.node.now) ≡ leaf_after c.args.self.root.now (c.args.above.parent.number + nodes c.args.above.parent.node.now) =
-    leaves ∙ ap (λ o. option_map (at c.args.self.root.now) (if_none o behind)) (sym c.in_err-found.ensures.first) in
-    rw c.from_residual.ensures none
-
-pub overflow_add-index-2 : goal.overflow_add-index-2
-overflow_add-index-2 c =
-    let offset : c.saturating_add-offset.result ≡ saturated (c.args.self.offset + length (text_of c.args.self.node.now)) = omega (arith, c.saturating_add-offset.ensures, c.len.ensures) in
-    let number : c.args.self.number + c.descendants.result ≡ c.args.self.number + nodes c.args.self.node.now = omega (arith, c.descendants.ensures, room c.args.self) in
-    let tree : IsTreeOf c.from_index-behind.result.now (c.args.self.number + nodes c.args.self.node.now) c.saturating_add-offset.result c.in_ok-found.found.tree.spot.node.now c.in_ok-found.found.tree.spot.number c.in_ok-found.found.tree.spot.offset c.in_ok-found.found.tree.index = subst (λ m. IsTreeOf c.from_index-behind.result.now m c.saturating_add-offset.result c.in_ok-found.found.tree.spot.node.now c.in_ok-found.found.tree.spot.number c.in_ok-found.found.tree.spot.offset c.in_ok-found.found.tree.index) number c.in_ok-found.ensures.tree in
-    let kid = kid_of_row c.args.self c.args.above c.children.result.now c.from_index-behind.result.now c.in_ok-found.found.tree.index c.in_ok-found.found.tree.spot.node.now c.in_ok-found.found.tree.spot.number c.in_ok-found.found.tree.spot.offset c.saturating_add-offset.result c.requires c.children.ensures c.from_index-behind.ensures offset tree in
-    omega (arith, kid.index, room c.args.above.parent)
+pub loop-at-init : goal.loop-at-init
+loop-at-init c =
+    let o = over_above c.args.self c.args.above c.children-row.result.now c.requires c.children-row.ensures in
+    let b = c.behind-at.ensures in
+    let p = c.passed.ensures in
+    record {
+      passed = rw (b.index, b.number, b.offset, p.index, p.number, p.offset) o.next;
+      found = ap (leaf_after c.args.self.root.now) (sym (b.number ∙ ap (λ m. m + nodes c.args.self.node.now) p.number));
+    }
 
 pub child-kid-requires-clause-stands : goal.child-kid-requires-clause-stands
 child-kid-requires-clause-stands c =
-    let offset : c.saturating_add-offset.result ≡ saturated (c.args.self.offset + length (text_of c.args.self.node.now)) = omega (arith, c.saturating_add-offset.ensures, c.len.ensures) in
-    let number : c.args.self.number + c.descendants.result ≡ c.args.self.number + nodes c.args.self.node.now = omega (arith, c.descendants.ensures, room c.args.self) in
-    let tree : IsTreeOf c.from_index-behind.result.now (c.args.self.number + nodes c.args.self.node.now) c.saturating_add-offset.result c.in_ok-found.found.tree.spot.node.now c.in_ok-found.found.tree.spot.number c.in_ok-found.found.tree.spot.offset c.in_ok-found.found.tree.index = subst (λ m. IsTreeOf c.from_index-behind.result.now m c.saturating_add-offset.result c.in_ok-found.found.tree.spot.node.now c.in_ok-found.found.tree.spot.number c.in_ok-found.found.tree.spot.offset c.in_ok-found.found.tree.index) number c.in_ok-found.ensures.tree in
-    let kid = kid_of_row c.args.self c.args.above c.children.result.now c.from_index-behind.result.now c.in_ok-found.found.tree.index c.in_ok-found.found.tree.spot.node.now c.in_ok-found.found.tree.spot.number c.in_ok-found.found.tree.spot.offset c.saturating_add-offset.result c.requires c.children.ensures c.from_index-behind.ensures offset tree in
-    subst (λ r. Stands (places r) c.in_ok-found.found.tree.spot.number c.in_ok-found.found.tree.spot.offset (places c.in_ok-found.found.tree.spot.node.now)) (sym c.requires.root) kid.stands
+    let p = c.args.above.parent in
+    let at = c.loop-at.at in
+    let o = over p.node.now p.number p.offset c.children-row.result.now at.index at.number at.offset c.index-row-at.result c.children-row.ensures c.index-row-at.is c.loop-at-test.true c.loop-at.invariant.passed in
+    rw (c.tree.ensures.node, c.tree.ensures.number, c.tree.ensures.offset) (stands_row (places p.root.now) p.number p.offset at.number at.offset (places p.node.now) (places c.index-row-at.result) p.stands o.inside)
 
 pub child-kid-requires-clause-child : goal.child-kid-requires-clause-child
 child-kid-requires-clause-child c =
-    let offset : c.saturating_add-offset.result ≡ saturated (c.args.self.offset + length (text_of c.args.self.node.now)) = omega (arith, c.saturating_add-offset.ensures, c.len.ensures) in
-    let number : c.args.self.number + c.descendants.result ≡ c.args.self.number + nodes c.args.self.node.now = omega (arith, c.descendants.ensures, room c.args.self) in
-    let tree : IsTreeOf c.from_index-behind.result.now (c.args.self.number + nodes c.args.self.node.now) c.saturating_add-offset.result c.in_ok-found.found.tree.spot.node.now c.in_ok-found.found.tree.spot.number c.in_ok-found.found.tree.spot.offset c.in_ok-found.found.tree.index = subst (λ m. IsTreeOf c.from_index-behind.result.now m c.saturating_add-offset.result c.in_ok-found.found.tree.spot.node.now c.in_ok-found.found.tree.spot.number c.in_ok-found.found.tree.spot.offset c.in_ok-found.found.tree.index) number c.in_ok-found.ensures.tree in
-    let kid = kid_of_row c.args.self c.args.above c.children.result.now c.from_index-behind.result.now c.in_ok-found.found.tree.index c.in_ok-found.found.tree.spot.node.now c.in_ok-found.found.tree.spot.number c.in_ok-found.found.tree.spot.offset c.saturating_add-offset.result c.requires c.children.ensures c.from_index-behind.ensures offset tree in
-    kid.child
+    let p = c.args.above.parent in
+    let at = c.loop-at.at in
+    let o = over p.node.now p.number p.offset c.children-row.result.now at.index at.number at.offset c.index-row-at.result c.children-row.ensures c.index-row-at.is c.loop-at-test.true c.loop-at.invariant.passed in
+    rw (c.tree.ensures.node, c.tree.ensures.number, c.tree.ensures.index) o.child
+
+pub returns-in-Some : goal.returns-in-Some
+returns-in-Some c =
+    let root : c.child-kid.result.root.now ≡ c.args.self.root.now = c.child-kid.ensures.root ∙ c.requires.root in
+    let number : c.child-kid.result.number ≡ c.loop-at.at.number = c.child-kid.ensures.number ∙ c.tree.ensures.number in
+    c.loop-at.invariant.found ∙ (ap (λ r. leaf_after r c.loop-at.at.number) (sym root)
+    ∙ leaf_found c.child-kid.result c.loop-at.at.number (linked c.in-Some.leaf) (omega (arith, number)) (omega (arith, number)) c.in-Some.ensures)
+
+pub behind-at-requires-in-loop-at-clause-counted : goal.behind-at-requires-in-loop-at-clause-counted
+behind-at-requires-in-loop-at-clause-counted c =
+    let p = c.args.above.parent in
+    let at = c.loop-at.at in
+    let o = over p.node.now p.number p.offset c.children-row.result.now at.index at.number at.offset c.index-row-at.result c.children-row.ensures c.index-row-at.is c.loop-at-test.true c.loop-at.invariant.passed in
+    omega (arith, o.fits, room p)
+
+pub loop-at-preserved : goal.loop-at-preserved
+loop-at-preserved c =
+    let p = c.args.above.parent in
+    let at = c.loop-at.at in
+    let o = over p.node.now p.number p.offset c.children-row.result.now at.index at.number at.offset c.index-row-at.result c.children-row.ensures c.index-row-at.is c.loop-at-test.true c.loop-at.invariant.passed in
+    let root : c.child-kid.result.root.now ≡ c.args.self.root.now = c.child-kid.ensures.root ∙ c.requires.root in
+    let number : c.child-kid.result.number ≡ c.loop-at.at.number = c.child-kid.ensures.number ∙ c.tree.ensures.number in
+    let next = c.behind-at-in-loop-at in
+    let end : c.child-kid.result.number + nodes c.child-kid.result.node.now ≡ next.result.number = omega (arith, number, ap nodes (c.child-kid.ensures.node ∙ c.tree.ensures.node), next.ensures.number) in
+    record {
+      passed = rw (next.ensures.index, next.ensures.number, next.ensures.offset) o.next;
+      found = c.loop-at.invariant.found ∙ (ap (λ r. leaf_after r at.number) (sym root)
+          ∙ (leaf_not_found c.child-kid.result at.number (omega (arith, number)) (omega (arith, number)) c.in_default.ensures
+          ∙ (ap (leaf_after c.child-kid.result.root.now) end ∙ ap (λ r. leaf_after r next.result.number) root)));
+    }
 
 pub returns : goal.returns
 returns c =
-    let offset : c.saturating_add-offset.result ≡ saturated (c.args.self.offset + length (text_of c.args.self.node.now)) = omega (arith, c.saturating_add-offset.ensures, c.len.ensures) in
-    let number : c.args.self.number + c.descendants.result ≡ c.args.self.number + nodes c.args.self.node.now = omega (arith, c.descendants.ensures, room c.args.self) in
-    let leaves = leaf_beside c.args.self c.args.above c.children.result.now c.from_index-behind.result.now (c.args.self.number + c.descendants.result) c.saturating_add-offset.result c.requires c.children.ensures c.from_index-behind.ensures number offset in
-    let behind : Option ℕ = first_at (is_leaf_from 0) (c.args.above.parent.number + nodes c.args.above.parent.node.now) 0 (drop (c.args.above.parent.number + nodes c.args.above.parent.node.now) (places c.args.self.root.now)) in
-    let root = c.child-kid.ensures.root ∙ c.requires.root in
-    leaves ∙ (ap (λ o. option_map (at c.args.self.root.now) (if_none o behind)) (sym c.in_ok-found.ensures.first) ∙ ap (λ a. Some a) (ap (λ r. at r c.in_ok-found.found.spot.number) (sym root) ∙ sym c.below.ensures))
+    let p = c.args.above.parent in
+    let at = c.loop-at.at in
+    let end : c.loop-at.at.number ≡ c.args.above.parent.number + nodes c.args.above.parent.node.now = omega (arith, c.loop-at.invariant.passed.number, all_counted c.children-row.result.now at.index (omega (arith, c.loop-at-test.false)), ap count c.children-row.ensures) in
+    c.loop-at.invariant.found ∙ ap (leaf_after c.args.self.root.now) end

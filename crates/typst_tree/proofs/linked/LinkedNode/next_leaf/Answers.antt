@@ -1,46 +1,35 @@
-use Rattle.std.proofs.Common.{◌≡◌, ◌+◌, ◌≤◌, ap, sym, ◌∙◌, arith}
+use Rattle.std.proofs.Common.{◌≤◌, ap, sym, ◌∙◌, arith}
 use Rattle.typst_node.specs.Tree.{nodes}
 use Rattle.typst_tree.specs.Branches.{leaf_after}
 use Rattle.typst_tree.specs.Linked.{linked}
 use Rattle.typst_tree.specs.Steps.{first_below}
 use Rattle.typst_tree.specs.Walks.{is_leaf_from}
-use Rattle.typst_tree.proofs.Branches.{leaf_found, leaf_from_root, leaf_not_found, next_is, room}
+use Rattle.typst_tree.proofs.Branches.{leaf_found, leaf_from_root, leaf_not_found, next_is}
 use Rattle.typst_tree.proofs.WalksInPreorder.{length_places}
 use Rattle.typst_tree.proofs.linked.LinkedNode.next_leaf.Goals as goal
-
-pub overflow_add-end : goal.overflow_add-end
-overflow_add-end c = omega (arith, room c.args.self, c.descendants.ensures)
 
 pub returns-in_default-branch : goal.returns-in_default-branch
 returns-in_default-branch c =
     let a = c.args.self in
-    let k = a.number + c.descendants.result in
-    let end : k ≡ a.number + nodes a.node.now = omega (arith, room a, c.descendants.ensures) in
+    let k = c.end-end.result in
     c.first.ensures ∙ (ap (first_below (is_leaf_from k)) c.top.ensures
-    ∙ (leaf_from_root a.root.now k (omega (arith, end, a.stands.within, length_places a.node.now, length_places a.root.now)) ∙ sym (next_is a k end)))
+    ∙ (leaf_from_root a.root.now k (omega (arith, c.end-end.ensures, a.stands.within, length_places a.node.now, length_places a.root.now)) ∙ sym (next_is a k c.end-end.ensures)))
 
 pub returns-in-Some : goal.returns-in-Some
 returns-in-Some c =
-    let a = c.args.self in
     let t = c.in_Some-branch.branch.tree in
     let w = c.in_Some-branch.ensures in
-    let k = a.number + c.descendants.result in
-    let end : k ≡ a.number + nodes a.node.now = omega (arith, room a, c.descendants.ensures) in
-    let found = leaf_found t k (linked c.in-Some.leaf) (omega (arith, w.from)) (omega (arith, end, w.to)) c.in-Some.ensures in
-    sym (next_is a k end ∙ (ap (λ r. leaf_after r k) (sym w.root) ∙ found))
+    let k = c.end-end.result in
+    let found = leaf_found t k (linked c.in-Some.leaf) (omega (arith, w.from, c.end-end.ensures)) (omega (arith, c.end-end.ensures, w.to)) c.in-Some.ensures in
+    sym (next_is c.args.self k c.end-end.ensures ∙ (ap (λ r. leaf_after r k) (sym w.root) ∙ found))
 
 pub returns-in-Some-leaf_behind : goal.returns-in-Some-leaf_behind
 returns-in-Some-leaf_behind c =
-    let a = c.args.self in
     let t = c.in_Some-branch.branch.tree in
     let w = c.in_Some-branch.ensures in
-    let k = a.number + c.descendants.result in
-    let end : k ≡ a.number + nodes a.node.now = omega (arith, room a, c.descendants.ensures) in
-    let none = leaf_not_found t k (omega (arith, w.from)) (omega (arith, end, w.to)) c.in_default.ensures in
-    sym (next_is a k end ∙ (ap (λ r. leaf_after r k) (sym w.root) ∙ (none ∙ c.in-Some-leaf_behind.ensures)))
-
-pub overflow_add-end-2 : goal.overflow_add-end-2
-overflow_add-end-2 c = omega (arith, room c.in_Some-branch.branch.above.parent, c.descendants-2.ensures)
+    let k = c.end-end.result in
+    let none = leaf_not_found t k (omega (arith, w.from, c.end-end.ensures)) (omega (arith, c.end-end.ensures, w.to)) c.in_default.ensures in
+    sym (next_is c.args.self k c.end-end.ensures ∙ (ap (λ r. leaf_after r k) (sym w.root) ∙ (none ∙ c.in-Some-leaf_behind.ensures)))
 
 pub returns : goal.returns
 returns c =
@@ -49,12 +38,10 @@ returns c =
     let o = c.in_Some-branch.branch.above.parent in
     let w = c.in_Some-branch.ensures in
     let root = w.above.root ∙ w.root in
-    let k = a.number + c.descendants.result in
-    let end : k ≡ a.number + nodes a.node.now = omega (arith, room a, c.descendants.ensures) in
-    let none = leaf_not_found t k (omega (arith, w.from)) (omega (arith, end, w.to)) c.in_default.ensures in
-    let j = o.number + c.descendants-2.result in
-    let past : o.number + nodes o.node.now ≡ j = omega (arith, room o, c.descendants-2.ensures) in
-    let inside : j ≤ nodes a.root.now = omega (arith, past, o.stands.within, length_places o.node.now, length_places o.root.now, ap nodes root) in
+    let k = c.end-end.result in
+    let j = c.end.result in
+    let none = leaf_not_found t k (omega (arith, w.from, c.end-end.ensures)) (omega (arith, c.end-end.ensures, w.to)) c.in_default.ensures in
+    let inside : c.end.result ≤ nodes c.args.self.root.now = omega (arith, c.end.ensures, o.stands.within, length_places o.node.now, length_places o.root.now, ap nodes root) in
     c.first-3.ensures ∙ (ap (first_below (is_leaf_from j)) c.top-2.ensures
     ∙ (leaf_from_root a.root.now j inside
-    ∙ sym (next_is a k end ∙ (ap (λ r. leaf_after r k) (sym w.root) ∙ (none ∙ (c.in_default-leaf_behind.ensures ∙ (ap (leaf_after t.root.now) past ∙ ap (λ r. leaf_after r j) w.root)))))))
+    ∙ sym (next_is a k c.end-end.ensures ∙ (ap (λ r. leaf_after r k) (sym w.root) ∙ (none ∙ (c.in_default-leaf_behind.ensures ∙ (ap (leaf_after t.root.now) (sym c.end.ensures) ∙ ap (λ r. leaf_after r j) w.root)))))))

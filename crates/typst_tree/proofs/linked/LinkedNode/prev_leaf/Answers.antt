@@ -1,39 +1,37 @@
-use Rattle.std.proofs.Common.{◌≡◌, Some, ap, sym, ◌∙◌, arith}
-use Rattle.typst_node.specs.Tree.{places}
+use Rattle.std.proofs.Common.{ap, sym, ◌∙◌, arith}
+use Rattle.typst_node.specs.Tree.{nodes}
 use Rattle.typst_tree.specs.Branches.{leaf_until}
-use Rattle.typst_tree.specs.Steps.{at}
-use Rattle.typst_tree.proofs.Branches.{place_here, room, until_found, until_not_found}
-use Rattle.typst_tree.proofs.LastLeaf.{last_within}
-use Rattle.typst_tree.proofs.WalksInPreorder.{length_places}
+use Rattle.typst_tree.proofs.Branches.{inside_root, root_node, until_top}
 use Rattle.typst_tree.proofs.linked.LinkedNode.prev_leaf.Goals as goal
 
-pub last_leaf_in-requires : goal.last_leaf_in-requires
-last_leaf_in-requires c = omega (arith, room c.in_Some-branch.branch.tree)
+pub last_leaf-requires-clause-to : goal.last_leaf-requires-clause-to
+last_leaf-requires-clause-to c =
+    let root = ap (λ a. a.root) c.top.ensures in
+    let number = ap (λ a. a.number) c.top.ensures in
+    omega (arith, number, ap nodes (root_node c.top.result number ∙ root), inside_root c.args.self)
+
+pub returns-in_default-branch : goal.returns-in_default-branch
+returns-in_default-branch c =
+    until_top c.last_leaf.result c.args.self.root.now c.top.result.root.now c.args.self.number c.top.result.number (ap (λ a. a.root) c.top.ensures) (ap (λ a. a.number) c.top.ensures) c.last_leaf.ensures
 
 pub returns-in-Some : goal.returns-in-Some
 returns-in-Some c =
-    let m = c.args.self.number in
-    let t = c.in_Some-branch.branch.tree in
-    let w = c.in_Some-branch.ensures in
-    let f = c.in-Some.number in
-    let found : leaf_until t.root.now m ≡ Some (at t.root.now f) = until_found t m f w.from (omega (arith, w.to)) c.in-Some.ensures in
-    let inside = last_within m t.number f (places t.node.now) (sym c.in-Some.ensures) in
-    let place = place_here t f inside.0 (omega (arith, inside.1, length_places t.node.now)) in
-    c.first.ensures ∙ (place ∙ (sym found ∙ ap (λ r. leaf_until r m) w.root))
+    sym (ap (λ r. leaf_until r c.args.self.number) (sym c.in_Some-branch.ensures.root) ∙ c.in-Some.ensures)
 
 pub returns-in-Some-leaf_before : goal.returns-in-Some-leaf_before
 returns-in-Some-leaf_before c =
-    let m = c.args.self.number in
-    let t = c.in_Some-branch.branch.tree in
+    sym (ap (λ r. leaf_until r c.args.self.number) (sym c.in_Some-branch.ensures.root) ∙ (c.in_default.ensures ∙ c.in-Some-leaf_before.ensures))
+
+pub last_leaf-requires-3-clause-to : goal.last_leaf-requires-3-clause-to
+last_leaf-requires-3-clause-to c =
     let w = c.in_Some-branch.ensures in
-    let none : leaf_until t.root.now m ≡ leaf_until t.root.now t.number = until_not_found t m w.from (omega (arith, w.to)) c.in_default.ensures in
-    sym (sym (ap (λ r. leaf_until r m) w.root) ∙ (none ∙ c.in-Some-leaf_before.ensures))
+    let root = ap (λ a. a.root) c.top-2.ensures in
+    let number = ap (λ a. a.number) c.top-2.ensures in
+    omega (arith, number, ap nodes (root_node c.top-2.result number ∙ root), inside_root c.in_Some-branch.branch.above.parent, ap nodes (w.above.root ∙ w.root))
 
 pub returns : goal.returns
 returns c =
-    let m = c.args.self.number in
-    let t = c.in_Some-branch.branch.tree in
-    let w = c.in_Some-branch.ensures in
-    let none : leaf_until t.root.now m ≡ leaf_until t.root.now t.number = until_not_found t m w.from (omega (arith, w.to)) c.in_default.ensures in
-    c.leaf_until-2.ensures ∙ (ap (λ r. leaf_until r c.in_Some-branch.branch.above.parent.number) (sym w.root)
-    ∙ sym (sym (ap (λ r. leaf_until r m) w.root) ∙ (none ∙ c.in_default-leaf_before.ensures)))
+    let n = c.in_Some-branch.branch.above.parent.number in
+    let root = c.in_Some-branch.ensures.root in
+    until_top c.last_leaf-3.result c.args.self.root.now c.top-2.result.root.now n c.top-2.result.number (ap (λ a. a.root) c.top-2.ensures) (ap (λ a. a.number) c.top-2.ensures) c.last_leaf-3.ensures
+    ∙ (ap (λ r. leaf_until r n) (sym root) ∙ sym (ap (λ r. leaf_until r c.args.self.number) (sym root) ∙ (c.in_default.ensures ∙ c.in_default-leaf_before.ensures)))

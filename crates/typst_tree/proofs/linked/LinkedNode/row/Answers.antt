@@ -6,7 +6,7 @@ use Rattle.typst_tree.specs.Steps.{at}
 use Rattle.typst_tree.specs.Walks.{numbers}
 use Rattle.typst_tree.proofs.Branches.{above_stands, beside_of}
 use Rattle.typst_tree.specs.Rows.{Holds}
-use Rattle.typst_tree.proofs.Forks.{is_node}
+use Rattle.typst_tree.specs.Follows.{in_order_of}
 use Rattle.typst_tree.proofs.NodesOfStretch.{node_here}
 use Rattle.typst_tree.proofs.Rows.{row_stands}
 use Rattle.typst_tree.proofs.Siblings.{drop_numbers}
@@ -26,11 +26,11 @@ invariant_of-result c =
     record {
       counted = c.args.self.counted;
       stands = rw (b.number, sym b.start, c.from_index.ensures) (row_stands c.args.self.root.now c.args.above.parent.node.now c.args.above.parent.number c.args.above.parent.offset c.args.above.index c.children.result.now c.children.ensures (above_stands c.args.self c.args.above c.requires));
-      node = rw (p.node, p.number) (is_node c.args.self.root.now above.number above.offset above.node.now (above_stands c.args.self c.args.above c.requires));
+      node = rw (p.node, p.number, p.offset) (above_stands c.args.self c.args.above c.requires);
       row = c.from_index.ensures ∙ (ap (drop c.args.above.index) same ∙ ap (λ t. drop c.args.above.index (trees t.kids)) (sym p.node));
       before = rw (p.node, p.number) (b.number ∙ ap (λ xs. c.args.above.parent.number + 1 + count (forest (take c.args.above.index xs))) same);
-      ordered = λ e. subst (λ r. AreInOrder (numbers_of r)) c.requires.root (above.ordered (ap (λ k. k.in_order) (sym p.known) ∙ e));
-      holds = rw (p.node, p.number, p.known) (subst (λ r. Holds r above.number (nodes above.node.now) above.known) c.requires.root above.holds);
+      ordered = λ e. subst (λ r. AreInOrder (numbers_of r)) c.requires.root (above.ordered (ap in_order_of (sym p.known) ∙ e));
+      holds = rw (p.node, p.number, p.offset, p.known) (subst (λ r. Holds r above.number above.offset (nodes above.node.now) above.known) c.requires.root above.holds);
     }
 
 pub returns : goal.returns

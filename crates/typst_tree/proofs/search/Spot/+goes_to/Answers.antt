@@ -1,24 +1,37 @@
-use Rattle.std.proofs.Common.{◌≡◌, ◌+◌, Some, ap, sym, ◌∙◌, arith, drop, drop_of_length-le, None, refl}
-use Rattle.typst_node.specs.Tree.{forest, nodes, places, preorder}
+use Rattle.std.proofs.Common.{◌≡◌, ◌+◌, Some, ap, sym, ◌∙◌, arith, drop, drop_of_length-le, None}
+use Rattle.typst_node.specs.Tree.{forest, nodes, places, preorder, saturated}
 use Rattle.typst_tree.specs.Walks.{first_at}
 use Rattle.typst_tree.specs.Wanted.{wanted}
 use Rattle.typst_tree.proofs.Parents.{child_bounds}
-use Rattle.typst_tree.proofs.Rows.{over}
-use Rattle.typst_tree.proofs.WalksInPreorder.{within_self, within_in, found_below, found_here, found_next, turn}
+use Rattle.typst_tree.proofs.Rows.{over, passed_none}
+use Rattle.typst_tree.proofs.WalksInPreorder.{found_self, within_self, within_in, found_below, found_here, found_next, turn}
 use Rattle.typst_tree.proofs.search.Spot.+goes_to.Goals as goal
+use Rattle.typst_tree.proofs.search.Spot.+goes_to.Goals.{then-not-passes_over+else-goes_to, else-not-passes_over}
 
 pub returns-then-wants-clause-spot : goal.returns-then-wants-clause-spot
 returns-then-wants-clause-spot t c = λ _.
     within_self c.args.self.now.number c.args.self.now.offset (places c.args.self.now.node.now) (omega (arith, c.fits-self))
 
+pub returns-then-wants-clause-first : goal.returns-then-wants-clause-first
+returns-then-wants-clause-first t c = λ _.
+    let s = c.args.self.now in
+    found_self (wanted c.args.search.now) s.number s.offset s.node.now (c.if-wants.ensures (saturated s.offset))
+
 pub loop-at-init : goal.loop-at-init
 loop-at-init t c =
     let s = c.args.self.now in
+    let f = c.front-at.ensures in
     record {
-      found = found_below (wanted c.args.search.now) s.number s.offset _ s.node.now c.children-row.result.now (omega (arith, c.fits-self)) c.if-wants.ensures c.children-row.ensures refl
-          ∙ c.passed_over-at.ensures.nothing;
-      passed = c.passed_over-at.ensures.passed;
+      found = rw (f.index, f.number) (found_below (wanted c.args.search.now) s.number s.offset c.front-at.result.offset s.node.now c.children-row.result.now (omega (arith, c.fits-self)) (c.if-wants.ensures s.offset) c.children-row.ensures f.offset);
+      passed = passed_none c.children-row.result.now (s.number + 1) _ _ _ _ f.index f.number f.offset;
     }
+
+pub passes_over-requires : goal.passes_over-requires
+passes_over-requires t c =
+    let s = c.args.self.now in
+    let at = c.loop-at.at in
+    let o = over s.node.now s.number s.offset c.children-row.result.now at.index at.number at.offset c.index-row-at.result c.children-row.ensures c.index-row-at.is c.loop-at-test.true c.loop-at.invariant.passed in
+    omega (arith, o.fits, c.requires)
 
 pub goes_to-requires : goal.goes_to-requires
 goes_to-requires t c =
@@ -61,14 +74,17 @@ loop-at-preserved t c =
     let at = c.loop-at.at in
     let next = c.behind-at in
     let row = c.children-row.result.now in
-    let w = turn row at.index c.index-row-at.result c.index-row-at.is c.loop-at-test.true in
-    let o = over s.node.now s.number s.offset row at.index at.number at.offset c.index-row-at.result c.children-row.ensures c.index-row-at.is c.loop-at-test.true c.loop-at.invariant.passed in
-    let nothing : first_at (wanted c.args.search.now) at.number at.offset (places c.index-row-at.result) ≡ None =
-    rw (sym c.tree.ensures.number, sym c.tree.ensures.offset, sym c.tree.ensures.node) (c.goes_to.ensures.none c.if-goes_to.false) in
+    let x = c.index-row-at.result in
+    let w = turn row at.index x c.index-row-at.is c.loop-at-test.true in
+    let o = over s.node.now s.number s.offset row at.index at.number at.offset x c.children-row.ensures c.index-row-at.is c.loop-at-test.true c.loop-at.invariant.passed in
+    let nothing : first_at (wanted c.args.search.now) c.loop-at.at.number c.loop-at.at.offset (places c.index-row-at.result) ≡ None = elim c.if-not-passes_over.branch [
+      | then-not-passes_over+else-goes_to b ↦ rw (sym b.tree.ensures.number, sym b.tree.ensures.offset, sym b.tree.ensures.node) (b.goes_to.ensures.none b.if-goes_to.false)
+      | else-not-passes_over b ↦ c.passes_over.ensures b.if-not-passes_over.false at.offset
+    ] in
     record {
       found = c.loop-at.invariant.found
           ∙ (ap (λ ys. first_at (wanted c.args.search.now) at.number at.offset (preorder (forest ys))) w.first
-          ∙ (found_next (wanted c.args.search.now) at.number at.offset next.result.number next.result.offset c.index-row-at.result (drop (at.index + 1) row) next.ensures.number next.ensures.offset nothing
+          ∙ (found_next (wanted c.args.search.now) at.number at.offset next.result.number next.result.offset x (drop (at.index + 1) row) next.ensures.number next.ensures.offset nothing
           ∙ ap (λ i. first_at (wanted c.args.search.now) next.result.number next.result.offset (preorder (forest (drop i row)))) (sym next.ensures.index)));
       passed = rw (next.ensures.index, next.ensures.number, next.ensures.offset) o.next;
     }

@@ -13,6 +13,6 @@ decreases-loop-at l = length l.row - l.at.index
 
 abbrev pub invariant-loop-at : goal.invariant-loop-at
 invariant-loop-at l = record {
-  found : first_at (wanted l.search) l.number l.offset (places l.fn.self.node.now) ≡ first_at (wanted l.search) l.at.number l.at.offset (preorder (forest (drop l.at.index l.row)));
-  passed : IsPassed l.row (l.number + 1) (saturated (l.offset + length l.fn.self.node.now.head.text)) l.at.index l.at.number l.at.offset;
+  found : first_at (wanted l.search) l.fn.self.number l.fn.self.offset (places l.fn.self.node.now) ≡ first_at (wanted l.search) l.at.number l.at.offset (preorder (forest (drop l.at.index l.row)));
+  passed : IsPassed l.row (l.fn.self.number + 1) (saturated (l.fn.self.offset + length l.fn.self.node.now.head.text)) l.at.index l.at.number l.at.offset;
 }

@@ -1,24 +1,23 @@
 use Rattle.std.proofs.Common.{◌≡◌, ◌+◌, ap, sym, ◌∙◌, arith, length, take, drop, get_or}
 use Rattle.std.proofs.lemmas.List.{take-append-drop}
 use Rattle.typst_node.specs.Tree.{nodes, forest, count, preorder, joined, text_of, saturated}
-use Rattle.typst_tree.specs.Walks.{first_at}
-use Rattle.typst_tree.specs.Wanted.{wanted}
+use Rattle.typst_tree.specs.Walks.{first_at, holds_byte}
+use Rattle.typst_tree.proofs.PassesOver.{no_byte_above}
 use Rattle.typst_tree.proofs.Rows.{count_append, first_of_row, prior}
 use Rattle.typst_tree.proofs.WalksInPreorder.{turn}
-use Rattle.typst_tree.proofs.search.passed_in_long.Goals as goal
+use Rattle.typst_tree.proofs.search.passed_by_turns.Goals as goal
 
-pub returns-then-not-ends_by-clause-nothing : goal.returns-then-not-ends_by-clause-nothing
-returns-then-not-ends_by-clause-nothing c =
-    let start : saturated (c.args.offset + length c.args.node.now.head.text) ≡ c.saturating_add-start.result = omega (arith, c.saturating_add-start.ensures, ap length c.leaf_text-text.ensures) in
-    ap (λ a. first_at (wanted c.args.search.now) (c.args.number + 1) a (preorder (forest (take c.loop-tree.front.index c.args.row.now)))) start
+pub returns-then-byte-next-clause-nothing : goal.returns-then-byte-next-clause-nothing
+returns-then-byte-next-clause-nothing c =
+    let start : saturated (c.args.over.offset + length c.args.over.node.now.head.text) ≡ c.front-front.result.offset = sym c.front-front.ensures.offset in
+    ap (λ a. first_at (holds_byte c.args.byte) (c.args.over.number + 1) a (preorder (forest (take c.loop-tree.front.index c.args.row.now)))) start
     ∙ c.loop-tree.invariant.nothing
 
-pub returns-then-ends_by-clause-nothing : goal.returns-then-ends_by-clause-nothing
-returns-then-ends_by-clause-nothing c =
-    let start : saturated (c.args.offset + length c.args.node.now.head.text) ≡ c.saturating_add-start.result = omega (arith, c.saturating_add-start.ensures, ap length c.leaf_text-text.ensures) in
-    let offset : c.saturating_add-begin.result ≡ saturated (c.saturating_add-start.result + length (joined (forest (take c.loop-tree.index c.args.row.now)))) = omega (arith, c.saturating_add-begin.ensures, c.loop-tree.invariant.offset) in
-    ap (λ a. first_at (wanted c.args.search.now) (c.args.number + 1) a (preorder (forest (take c.loop-tree.index c.args.row.now)))) start
-    ∙ c.ends_by-in-loop-tree.ensures c.if-ends_by.true (c.args.number + 1) c.saturating_add-start.result (forest (take c.loop-tree.index c.args.row.now)) c.loop-tree.invariant.number offset
+pub returns-then-begin-byte-clause-nothing : goal.returns-then-begin-byte-clause-nothing
+returns-then-begin-byte-clause-nothing c =
+    let start : saturated (c.args.over.offset + length c.args.over.node.now.head.text) ≡ c.front-front.result.offset = sym c.front-front.ensures.offset in
+    ap (λ a. first_at (holds_byte c.args.byte) (c.args.over.number + 1) a (preorder (forest (take c.loop-tree.index c.args.row.now)))) start
+    ∙ no_byte_above c.args.byte (c.args.over.number + 1) c.front-front.result.offset (forest (take c.loop-tree.index c.args.row.now)) (omega (arith, c.saturating_add-begin.ensures, c.loop-tree.invariant.offset, c.if-begin-byte.true))
 
 pub overflow_sub-end : goal.overflow_sub-end
 overflow_sub-end c =
@@ -36,20 +35,20 @@ loop-tree-preserved c =
     let t = turn c.args.row.now c.loop-tree.front.index c.tree-item.result is (omega (arith, c.loop-tree.invariant.front)) in
     let r = first_of_row c.args.row.now c.loop-tree.front.index c.tree-item.result _ t.first in
     let w = prior c.args.row.now c.loop-tree.index c.index-row-index.result (omega (arith, c.loop-tree.invariant.back)) (omega (arith, c.loop-tree.invariant.back)) c.index-row-index.is in
-    let all : count (forest (take c.loop-tree.index c.args.row.now)) + count (forest (drop c.loop-tree.index c.args.row.now)) ≡ count c.args.node.now.kids =
+    let all : count (forest (take c.loop-tree.index c.args.row.now)) + count (forest (drop c.loop-tree.index c.args.row.now)) ≡ count c.args.over.node.now.kids =
     omega (arith, ap count c.requires.row, count_append (take c.loop-tree.index c.args.row.now) (drop c.loop-tree.index c.args.row.now), ap (λ ys. count (forest ys)) (take-append-drop c.loop-tree.index c.args.row.now)) in
     let many : c.descendants-end.result ≡ nodes c.index-row-index.result = omega (arith, c.descendants-end.ensures, w.counts, all, c.requires.counted) in
     let long : c.len-left.result ≡ length (text_of c.index-row-index.result) = omega (arith, c.len-left.ensures, w.longs, c.loop-tree.invariant.offset, c.loop-tree.auto.left-fits) in
     let next : take c.behind-next.result.index c.args.row.now ≡ take (c.loop-tree.front.index + 1) c.args.row.now = ap (λ i. take i c.args.row.now) c.behind-next.ensures.index in
-    let number : c.behind-next.result.number ≡ c.args.number + 1 + count (forest (take c.behind-next.result.index c.args.row.now)) = omega (arith, c.behind-next.ensures.number, c.loop-tree.invariant.passed.number, r.counted, ap (λ ys. count (forest ys)) next) in
-    let offset : c.behind-next.result.offset ≡ saturated (c.saturating_add-start.result + length (joined (forest (take c.behind-next.result.index c.args.row.now)))) = omega (arith, c.behind-next.ensures.offset, c.loop-tree.invariant.passed.offset, r.long, ap (λ ys. length (joined (forest ys))) next) in
+    let number : c.behind-next.result.number ≡ c.args.over.number + 1 + count (forest (take c.behind-next.result.index c.args.row.now)) = omega (arith, c.behind-next.ensures.number, c.loop-tree.invariant.passed.number, r.counted, ap (λ ys. count (forest ys)) next) in
+    let offset : c.behind-next.result.offset ≡ saturated (c.front-front.result.offset + length (joined (forest (take c.behind-next.result.index c.args.row.now)))) = omega (arith, c.behind-next.ensures.offset, c.loop-tree.invariant.passed.offset, r.long, ap (λ ys. length (joined (forest ys))) next) in
     record {
       passed = record {
         within = omega (arith, c.behind-next.ensures.index, r.within);
         number = number;
         offset = offset;
       };
-      nothing = c.ends_by.ensures c.if-not-ends_by.false (c.args.number + 1) c.saturating_add-start.result (forest (take c.behind-next.result.index c.args.row.now)) number offset;
+      nothing = no_byte_above c.args.byte (c.args.over.number + 1) c.front-front.result.offset (forest (take c.behind-next.result.index c.args.row.now)) (omega (arith, offset, c.if-byte-next.false));
       front = omega (arith, c.behind-next.ensures.index, c.loop-tree.invariant.front);
       counted = omega (arith, c.behind-next.ensures.number, t.rest, c.loop-tree.invariant.counted, ap (λ i. count (forest (drop i c.args.row.now))) c.behind-next.ensures.index);
       back = omega (arith, c.loop-tree.invariant.back);

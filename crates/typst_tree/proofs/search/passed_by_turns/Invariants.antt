@@ -1,17 +1,16 @@
 use Rattle.std.proofs.Common.{◌≡◌, ◌+◌, ◌^◌, ◌<◌, ◌-◌, None, length, take, drop}
 use Rattle.typst_node.specs.Tree.{forest, count, preorder, joined}
 use Rattle.typst_tree.specs.Passed.{IsPassed}
-use Rattle.typst_tree.specs.Walks.{first_at}
-use Rattle.typst_tree.specs.Wanted.{wanted}
-use Rattle.typst_tree.proofs.search.passed_in_long.Given as goal
+use Rattle.typst_tree.specs.Walks.{first_at, holds_byte}
+use Rattle.typst_tree.proofs.search.passed_by_turns.Given as goal
 
 abbrev pub invariant-loop-tree : goal.invariant-loop-tree
 invariant-loop-tree l = record {
-  passed : IsPassed l.row (l.number + 1) l.start l.front.index l.front.number l.front.offset;
-  nothing : first_at (wanted l.search) (l.number + 1) l.start (preorder (forest (take l.front.index l.row))) ≡ None;
+  passed : IsPassed l.row (l.fn.over.number + 1) l.start l.front.index l.front.number l.front.offset;
+  nothing : first_at (holds_byte l.byte) (l.fn.over.number + 1) l.start (preorder (forest (take l.front.index l.row))) ≡ None;
   front : l.front.index ≡ l.tree-index;
   counted : l.front.number + count (forest (drop l.front.index l.row)) < 2 ^ 64 - 1;
   back : l.index + l.tree-index ≡ length l.row;
-  number : l.end ≡ l.number + 1 + count (forest (take l.index l.row));
+  number : l.end ≡ l.fn.over.number + 1 + count (forest (take l.index l.row));
   offset : l.left ≡ length (joined (forest (take l.index l.row)));
 }

@@ -1,0 +1,55 @@
+use Rattle.std.proofs.Common.{◌≡◌, None, Some, ap, arith, sym, ◌∙◌}
+use Rattle.std.specs.Prelude.{if◌then◌else◌}
+use Rattle.std.specs.Option.{option_map}
+use Rattle.typst_node.specs.Tree.{nodes, places}
+use Rattle.typst_tree.specs.Steps.{at}
+use Rattle.typst_tree.specs.Walks.{first_at, holds_byte}
+use Rattle.typst_tree.proofs.Branches.{room}
+use Rattle.typst_tree.proofs.NodesOfStretch.{first_here, stands_row}
+use Rattle.typst_tree.proofs.Parents.{child_bounds}
+use Rattle.typst_tree.proofs.PassesOver.{no_byte_after, no_byte_before}
+use Rattle.typst_tree.proofs.linked.LinkedNode.leaf_at.Goals as goal
+use Rattle.typst_tree.proofs.linked.LinkedNode.leaf_at.Goals.{then-byte-self-via-then-byte-self, then-byte-self-via-else-byte-self+then-saturating_add-byte}
+
+pub returns-then-byte-self : goal.returns-then-byte-self
+returns-then-byte-self c =
+    let a = c.args.self in
+    let nothing : first_at (holds_byte c.args.byte) c.args.self.number c.args.self.offset (places c.args.self.node.now) ≡ None = elim c.then-byte-self.branch [
+      | then-byte-self-via-then-byte-self w ↦ no_byte_before c.args.byte a.number a.offset (places a.node.now) (omega (arith, w.if-byte-self.true, a.stands.begins))
+      | then-byte-self-via-else-byte-self+then-saturating_add-byte w ↦ no_byte_after c.args.byte a.number a.offset a.node.now (omega (arith, w.if-saturating_add-byte.true, w.saturating_add.ensures, w.len.ensures))
+    ] in
+    ap (option_map (at a.root.now)) (sym nothing) ∙ first_here (holds_byte c.args.byte) a.root.now a.number a.offset a.node.now a.stands
+
+pub child_at-requires : goal.child_at-requires
+child_at-requires c = omega (arith, room c.loop-kid.over, c.spot.ensures.number, ap nodes c.spot.ensures.node)
+
+pub child-over-requires-clause-stands : goal.child-over-requires-clause-stands
+child-over-requires-clause-stands c =
+    let over = c.loop-kid.over in
+    let kid = c.in-Some.kid.spot in
+    stands_row (places over.root.now) c.spot.result.number c.spot.result.offset kid.number kid.offset (places c.spot.result.node.now) (places kid.node.now)
+    (rw (c.spot.ensures.number, c.spot.ensures.offset, c.spot.ensures.node) over.stands) c.in-Some.ensures.kid.within
+
+pub loop-kid-smaller : goal.loop-kid-smaller
+loop-kid-smaller c =
+    let kid = c.in-Some.kid in
+    let bounds = child_bounds c.spot.result.node.now c.spot.result.number kid.spot.node.now kid.spot.number kid.index c.in-Some.ensures.kid.child in
+    omega (arith, bounds.from, bounds.to, ap nodes c.spot.ensures.node, ap nodes c.child-over.ensures.node)
+
+pub returns-then-holds_byte : goal.returns-then-holds_byte
+returns-then-holds_byte c =
+    let a = c.args.self in
+    let o = c.loop-kid.over in
+    let own : first_at (holds_byte c.args.byte) c.loop-kid.over.number c.loop-kid.over.offset (places c.loop-kid.over.node.now) ≡ (if holds_byte c.args.byte 0 c.loop-kid.over.offset c.loop-kid.over.node.now then Some c.loop-kid.over.number else None) =
+    rw (sym c.spot.ensures.node, sym c.spot.ensures.number, sym c.spot.ensures.offset) (c.child_at.ensures.none c.in_default.is) in
+    let found = c.loop-kid.invariant.found ∙ (own ∙ ap (λ h. if h then Some o.number else None) (sym c.if-holds_byte.ensures)) in
+    ap (λ r. Some (at r o.number)) c.loop-kid.invariant.root ∙ (ap (option_map (at a.root.now)) (sym found) ∙ first_here (holds_byte c.args.byte) a.root.now a.number a.offset a.node.now a.stands)
+
+pub returns-else-holds_byte : goal.returns-else-holds_byte
+returns-else-holds_byte c =
+    let a = c.args.self in
+    let o = c.loop-kid.over in
+    let own : first_at (holds_byte c.args.byte) c.loop-kid.over.number c.loop-kid.over.offset (places c.loop-kid.over.node.now) ≡ (if holds_byte c.args.byte 0 c.loop-kid.over.offset c.loop-kid.over.node.now then Some c.loop-kid.over.number else None) =
+    rw (sym c.spot.ensures.node, sym c.spot.ensures.number, sym c.spot.ensures.offset) (c.child_at.ensures.none c.in_default.is) in
+    let found = c.loop-kid.invariant.found ∙ (own ∙ ap (λ h. if h then Some o.number else None) (sym c.if-holds_byte.ensures)) in
+    ap (option_map (at a.root.now)) (sym found) ∙ first_here (holds_byte c.args.byte) a.root.now a.number a.offset a.node.now a.stands

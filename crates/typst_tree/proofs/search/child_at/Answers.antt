@@ -1,0 +1,52 @@
+use Rattle.std.proofs.Common.{◌+◌, ap, arith, drop, drop_of_length-le, sym, ◌∙◌}
+use Rattle.typst_node.specs.Tree.{forest, preorder}
+use Rattle.typst_tree.specs.Walks.{first_at, holds_byte}
+use Rattle.typst_tree.proofs.PassesOver.{byte_below, byte_first, byte_next, byte_none}
+use Rattle.typst_tree.proofs.Rows.{over, passed_front}
+use Rattle.typst_tree.proofs.WalksInPreorder.{turn}
+use Rattle.typst_tree.proofs.search.child_at.Goals as goal
+
+pub loop-at-init : goal.loop-at-init
+loop-at-init c =
+    let r = c.passed_by_turns-at.result in
+    let p = c.passed_by_turns-at.ensures.passed in
+    record {
+      found = passed_front (holds_byte c.args.byte) (c.args.over.number + 1) _ r.index r.number r.offset c.children-row.result.now p.number p.offset c.passed_by_turns-at.ensures.nothing;
+      passed = p;
+    }
+
+pub behind-next-requires-clause-counted : goal.behind-next-requires-clause-counted
+behind-next-requires-clause-counted c =
+    let at = c.loop-at.at in
+    let o = over c.args.over.node.now c.args.over.number c.args.over.offset c.children-row.result.now at.index at.number at.offset c.index-row-at.result c.children-row.ensures c.index-row-at.is c.loop-at-test.true c.loop-at.invariant.passed in
+    omega (arith, o.fits, c.requires)
+
+pub returns-then-byte-next-clause-kid : goal.returns-then-byte-next-clause-kid
+returns-then-byte-next-clause-kid c =
+    let at = c.loop-at.at in
+    let o = over c.args.over.node.now c.args.over.number c.args.over.offset c.children-row.result.now at.index at.number at.offset c.index-row-at.result c.children-row.ensures c.index-row-at.is c.loop-at-test.true c.loop-at.invariant.passed in
+    let w = turn c.children-row.result.now at.index c.index-row-at.result c.index-row-at.is c.loop-at-test.true in
+    let first = byte_first c.args.byte at.number at.offset c.behind-next.result.offset c.index-row-at.result (drop (at.index + 1) c.children-row.result.now) c.behind-next.ensures.offset (omega (arith, c.if-byte-next.true)) in
+    let found = byte_below c.args.byte c.args.over.number c.args.over.offset c.args.over.node.now c.children-row.result.now c.children-row.ensures (omega (arith, c.loop-at-test.true))
+    ∙ (c.loop-at.invariant.found ∙ (ap (λ ys. first_at (holds_byte c.args.byte) at.number at.offset (preorder (forest ys))) w.first ∙ first)) in
+    rw (c.tree.ensures.node, c.tree.ensures.number, c.tree.ensures.offset, c.tree.ensures.index) (record { child = o.child; within = o.inside; found = found })
+
+pub loop-at-preserved : goal.loop-at-preserved
+loop-at-preserved c =
+    let at = c.loop-at.at in
+    let o = over c.args.over.node.now c.args.over.number c.args.over.offset c.children-row.result.now at.index at.number at.offset c.index-row-at.result c.children-row.ensures c.index-row-at.is c.loop-at-test.true c.loop-at.invariant.passed in
+    let w = turn c.children-row.result.now at.index c.index-row-at.result c.index-row-at.is c.loop-at-test.true in
+    let next = c.behind-next in
+    record {
+      found = c.loop-at.invariant.found
+          ∙ (ap (λ ys. first_at (holds_byte c.args.byte) at.number at.offset (preorder (forest ys))) w.first
+          ∙ (byte_next c.args.byte at.number at.offset next.result.number next.result.offset c.index-row-at.result (drop (at.index + 1) c.children-row.result.now) next.ensures.number next.ensures.offset (omega (arith, c.if-byte-next.false))
+          ∙ ap (λ i. first_at (holds_byte c.args.byte) next.result.number next.result.offset (preorder (forest (drop i c.children-row.result.now)))) (sym next.ensures.index)));
+      passed = rw (next.ensures.index, next.ensures.number, next.ensures.offset) o.next;
+    }
+
+pub returns-clause-none : goal.returns-clause-none
+returns-clause-none c = λ _.
+    let at = c.loop-at.at in
+    byte_none c.args.byte c.args.over.number c.args.over.offset c.args.over.node.now c.children-row.result.now c.children-row.ensures (omega arith)
+    (c.loop-at.invariant.found ∙ ap (λ ys. first_at (holds_byte c.args.byte) at.number at.offset (preorder (forest ys))) (drop_of_length-le c.children-row.result.now c.loop-at-test.false))
