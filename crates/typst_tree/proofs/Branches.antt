@@ -63,17 +63,7 @@ pub leaf_split : (k : ℕ) (xs ys zs : List Tree) → xs ≡ ys ++ zs → first_
 leaf_split k xs ys zs e =
     ap (first_at (is_leaf_from 0) k 0) e ∙ (first_append (is_leaf_from 0) k 0 ys zs ∙ ap (if_none (first_at (is_leaf_from 0) k 0 ys)) (leaf_free (k + length ys) _ 0 0 0 zs (omega arith) (omega arith)))
 
--- the nodes from a number on, where some trees' nodes begin there
-pub cut : (xs : List Tree) (k b m : ℕ) (ys : List Tree) → Stands xs k b ys → m ≡ k + length ys → drop k xs ≡ ys ++ drop m xs
-cut xs k b m ys s e =
-    let w = standing xs k b ys s in
-    let front : length w.front ≡ k = omega (arith, w.number) in
-    let both : length (w.front ++ ys) ≡ m = omega (arith, front, e, length-append w.front ys) in
-    let behind : drop m xs ≡ w.back = ap (λ j. drop j xs) (sym both) ∙ (ap (drop (length (w.front ++ ys))) (w.whole ∙ sym (append_assoc w.front ys w.back)) ∙ drop-append_seam (w.front ++ ys) w.back) in
-    let here : drop k xs ≡ ys ++ w.back = ap (λ j. drop j xs) (sym front) ∙ (ap (drop (length w.front)) w.whole ∙ drop-append_seam w.front (ys ++ w.back)) in
-    here ∙ ap (λ zs. ys ++ zs) (sym behind)
-
--- the same within them
+-- the nodes from a number on that is within some trees' nodes
 cut_within : (xs : List Tree) (k b d m : ℕ) (ys : List Tree) → Stands xs k b ys → d ≤ length ys → m ≡ k + length ys → drop (k + d) xs ≡ drop d ys ++ drop m xs
 cut_within xs k b d m ys s l e =
     let w = standing xs k b ys s in
@@ -82,15 +72,7 @@ cut_within xs k b d m ys s l e =
     let behind : drop m xs ≡ w.back = ap (λ j. drop j xs) (sym both) ∙ (ap (drop (length (w.front ++ ys))) (w.whole ∙ sym (append_assoc w.front ys w.back)) ∙ drop-append_seam (w.front ++ ys) w.back) in
     ap (λ j. drop j xs) (sym front) ∙ (ap (drop (length w.front + d)) w.whole ∙ (drop-append-add w.front (ys ++ w.back) d ∙ (drop-append-le d ys w.back l ∙ ap (λ zs. drop d ys ++ zs) (sym behind))))
 
--- of the leaves from a number on, those of a row that begins there come first
-pub leaf_row : (root : Tree) (k b m : ℕ) (ys : List Tree) → Stands (places root) k b ys → m ≡ k + length ys → leaf_after root k ≡ option_map (at root) (if_none (first_at (is_leaf_from 0) k b ys) (first_at (is_leaf_from 0) m 0 (drop m (places root))))
-leaf_row root k b m ys s e =
-    let behind : k + length ys ≡ m = omega (arith, e) in
-    ap (option_map (at root)) (leaf_split k (drop k (places root)) ys (drop m (places root)) (cut (places root) k b m ys s e)
-    ∙ (ap (λ o. if_none o (first_at (is_leaf_from 0) (k + length ys) 0 (drop m (places root)))) (leaf_free k 0 b 0 0 ys (omega arith) (omega arith))
-    ∙ ap (λ j. if_none (first_at (is_leaf_from 0) k b ys) (first_at (is_leaf_from 0) j 0 (drop m (places root)))) behind))
-
--- and those below a node come before those behind it
+-- of the leaves from a number on, those below a node come before those behind it
 pub leaf_within : (b : LinkedNode) (k m : ℕ) → b.number ≤ k → k ≤ b.number + nodes b.node.now → m ≡ b.number + nodes b.node.now → leaf_after b.root.now k ≡ option_map (at b.root.now) (if_none (first_at (is_leaf_from k) b.number (start_of (linked b)) (places b.node.now)) (first_at (is_leaf_from 0) m 0 (drop m (places b.root.now))))
 leaf_within b k m l h e =
     let d : ℕ = k - b.number in

@@ -119,9 +119,6 @@ pub found_only : (p : ℕ → ℕ → Tree → Bool) (m k b : ℕ) (x : Tree) (t
 found_only p m k b x ts key e h =
     first_of_more p k b x ts ∙ rw (none_behind p m (k + nodes x) (b + length (text_of x)) ts key e (rising_back 0 (places x) (preorder (forest ts)) h)) (if_none_nothing (first_at p k b (places x)))
 
-pub rising_rest : (x : Tree) (ts : List Tree) → Rising 0 (preorder (forest (x ∷ ts))) → Rising 0 (preorder (forest ts))
-rising_rest x ts h = rising_back 0 (places x) (preorder (forest ts)) h
-
 pub in_order_first : (x : Tree) (ts : List Tree) → Rising 0 (preorder (forest (x ∷ ts))) → AreInOrder (numbers_of x)
 in_order_first x ts h = in_order_from 0 x (rising_front 0 (places x) (preorder (forest ts)) h)
 
@@ -154,16 +151,6 @@ rises a (x ∷ xs) e =
 pub decided : (b : Bool) (t : Tree) → b ≡ is_some (climb 0 (places t)) → IsTrue b ↔ AreInOrder (numbers_of t)
 decided b t e =
     (λ h. in_order_from 0 t (rises 0 (places t) (sym e ∙ h)), λ h. e ∙ climbs 0 (places t) (rising_from t h))
-
-pub climb_stops : (a n : ℕ) (t : Tree) → n ≡ number_of t.head.span → n < a → None ≡ climb a (places t)
-climb_stops a n t e l =
-    let fails : nat_le a (number t) ≡ false = grind (arith, nat_tests, e, l) in
-    rw fails refl
-
-pub climb_below : (a n : ℕ) (t : Tree) (ts : List Tree) → n ≡ number_of t.head.span → a ≤ n → forest ts ≡ t.kids → climb a (places t) ≡ climb (n + 1) (preorder (forest ts))
-climb_below a n t ts e l f =
-    let holds : nat_le a (number t) ≡ true = grind (arith, nat_tests, e, l) in
-    rw (holds, f, e) refl
 
 pub climb_on : (a b : ℕ) (x : Tree) (ts : List Tree) → Some b ≡ climb a (places x) → climb a (preorder (forest (x ∷ ts))) ≡ climb b (preorder (forest ts))
 climb_on a b x ts e = climb_append a (places x) (preorder (forest ts)) ∙ rw (sym e) refl

@@ -88,10 +88,6 @@ index_counted (more g ks r) (suc i) h = omega (arith, index_counted r i (omega (
 pub record Kid (root o : Tree) (n i : ℕ) (xs : List Tree) (x : Tree) (m c : ℕ) : Type 0 where
   pub stands : Stands (places root) m c (places x)
   pub child : IsChild o n x m i
-  pub counted : count (forest (take (i + 1) xs)) ≡ count (forest (take i xs)) + nodes x
-  pub long : length (joined (forest (take (i + 1) xs))) ≡ length (joined (forest (take i xs))) + length (text_of x)
-  pub within : m + nodes x ≤ n + nodes o
-  pub index : i < nodes o
 
 pub kid_of : (root o : Tree) (n b i : ℕ) (xs : List Tree) (x : Tree) (m c : ℕ) → forest xs ≡ o.kids → Stands (places root) n b (places o) → slice_get xs i ≡ Some x → m ≡ n + 1 + count (forest (take i xs)) → c ≡ saturated (b + length o.head.text + length (joined (forest (take i xs)))) → Kid root o n i xs x m c
 kid_of root o n b i xs x m c e s g p q =
@@ -105,27 +101,11 @@ kid_of root o n b i xs x m c e s g p q =
     record {
       stands = stands_row (places root) m c m c (preorder (forest (x ∷ drop (i + 1) xs))) (places x) first (within_first m c x (drop (i + 1) xs) (omega (arith, q)));
       child = record { here = here; number = number };
-      counted = w.counted;
-      long = w.long;
-      within = omega (arith, number, count_split o.kids i x here);
-      index = omega (arith, w.within, ap length same, index_counted o.kids (i + 1) (omega (arith, w.within, ap length same)));
     }
 
 pub count_append : (xs ys : List Tree) → count (forest (xs ++ ys)) ≡ count (forest xs) + count (forest ys)
 count_append [] ys = omega arith
 count_append (x ∷ xs) ys = omega (arith, count_append xs ys)
-
-long_append : (xs ys : List Tree) → length (joined (forest (xs ++ ys))) ≡ length (joined (forest xs)) + length (joined (forest ys))
-long_append [] ys = omega arith
-long_append (x ∷ xs) ys =
-    omega (arith, long_append xs ys, length-append x.head.text (joined x.kids ++ joined (forest (xs ++ ys))), length-append (joined x.kids) (joined (forest (xs ++ ys))), length-append x.head.text (joined x.kids ++ joined (forest xs)), length-append (joined x.kids) (joined (forest xs)))
-
-get_drop : (xs : List Tree) (i j : ℕ) → slice_get (drop i xs) j ≡ slice_get xs (i + j)
-get_drop xs zero j = let same : j ≡ 0 + j = omega arith in ap (slice_get xs) same
-get_drop [] (suc i) j = refl
-get_drop (x ∷ xs) (suc i) j =
-    let same : suc (i + j) ≡ suc i + j = omega arith in
-    get_drop xs i j ∙ ap (slice_get (x ∷ xs)) same
 
 abbrev Starts : ℕ → Tree → ℕ → ℕ → List Tree → Type 0
 Starts b o c i xs = saturated (b + length o.head.text + length (joined (forest (take i xs)))) ≡ c
@@ -133,11 +113,8 @@ Starts b o c i xs = saturated (b + length o.head.text + length (joined (forest (
 -- what stands beside a child: where the children behind it begin, and how far they go
 pub record Beside (root o : Tree) (n b : ℕ) (t : Tree) (m c i : ℕ) (xs : List Tree) : Type 0 where
   pub within : i < length xs
-  pub index : length xs ≤ count o.kids
   pub number : m ≡ n + 1 + count (forest (take i xs))
   pub start : Starts b o c i xs
-  pub counted : m + nodes t + count (forest (drop (i + 1) xs)) ≡ n + nodes o
-  pub behind : Stands (places root) (m + nodes t) (saturated (c + length (text_of t))) (preorder (forest (drop (i + 1) xs)))
 
 pub beside : (root o : Tree) (n b : ℕ) (t : Tree) (m c i : ℕ) (xs : List Tree) → forest xs ≡ o.kids → Stands (places root) n b (places o) → IsChild o n t m i → Stands (places root) m c (places t) → Beside root o n b t m c i xs
 beside root o n b t m c i xs e s child here =
@@ -148,16 +125,10 @@ beside root o n b t m c i xs e s child here =
     let number : m ≡ n + 1 + count (forest (take i xs)) = child.number ∙ ap (λ ys. n + 1 + count (forest (take i ys))) same in
     let start = row_stands root o n b i xs e s in
     let offset : saturated (b + length o.head.text + length (joined (forest (take i xs)))) ≡ c = start.begins ∙ (ap (λ j. saturated (length (texts (take j (places root))))) (sym number) ∙ sym here.begins) in
-    let next = row_stands root o n b (i + 1) xs e s in
-    let first : n + 1 + count (forest (take (i + 1) xs)) ≡ m + nodes t = omega (arith, number, w.counted) in
-    let second : saturated (b + length o.head.text + length (joined (forest (take (i + 1) xs)))) ≡ saturated (c + length (text_of t)) = omega (arith, offset, w.long) in
     record {
       within = w.within;
-      index = omega (arith, index_counted o.kids (length xs) (omega (arith, ap length same)));
       number = number;
       start = offset;
-      counted = omega (arith, number, w.counted, ap count e, count_append (take (i + 1) xs) (drop (i + 1) xs), ap (λ ys. count (forest ys)) (take-append-drop (i + 1) xs));
-      behind = rw (sym first, sym second) next;
     }
 
 -- a loop from the back over a row goes on to the tree before

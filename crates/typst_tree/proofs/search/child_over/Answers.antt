@@ -1,4 +1,5 @@
-use Rattle.std.proofs.Common.{◌<◌, arith, length}
+use Rattle.std.proofs.Common.{◌<◌, ap, arith, length}
+use Rattle.typst_node.specs.Tree.{nodes}
 use Rattle.typst_tree.proofs.Rows.{over, passed_inside, passed_none}
 use Rattle.typst_tree.proofs.search.child_over.Goals as goal
 
@@ -25,19 +26,18 @@ behind-at-requires-clause-counted c =
     let o = over c.args.over.node.now c.args.over.number c.args.over.offset c.children-row.result.now at.index at.number at.offset c.index-row-at.result c.children-row.ensures c.index-row-at.is inside c.loop-at.invariant.passed in
     omega (arith, o.fits, c.requires.counted)
 
-pub returns-then-wanted-at-clause-child : goal.returns-then-wanted-at-clause-child
-returns-then-wanted-at-clause-child c =
+pub returns-then-wanted-at : goal.returns-then-wanted-at
+returns-then-wanted-at c =
     let at = c.loop-at.at in
     let inside : c.loop-at.at.index < length c.children-row.result.now = passed_inside c.args.over.node.now c.args.over.number _ c.loop-at.at.index c.loop-at.at.number c.loop-at.at.offset c.args.wanted c.children-row.result.now c.children-row.ensures c.loop-at.invariant.passed c.loop-at.invariant.before c.requires.to in
     let o = over c.args.over.node.now c.args.over.number c.args.over.offset c.children-row.result.now at.index at.number at.offset c.index-row-at.result c.children-row.ensures c.index-row-at.is inside c.loop-at.invariant.passed in
-    rw (c.tree.ensures.node, c.tree.ensures.number, c.tree.ensures.index) o.child
-
-pub returns-then-wanted-at-clause-spot : goal.returns-then-wanted-at-clause-spot
-returns-then-wanted-at-clause-spot c =
-    let at = c.loop-at.at in
-    let inside : c.loop-at.at.index < length c.children-row.result.now = passed_inside c.args.over.node.now c.args.over.number _ c.loop-at.at.index c.loop-at.at.number c.loop-at.at.offset c.args.wanted c.children-row.result.now c.children-row.ensures c.loop-at.invariant.passed c.loop-at.invariant.before c.requires.to in
-    let o = over c.args.over.node.now c.args.over.number c.args.over.offset c.children-row.result.now at.index at.number at.offset c.index-row-at.result c.children-row.ensures c.index-row-at.is inside c.loop-at.invariant.passed in
-    rw (c.tree.ensures.node, c.tree.ensures.number, c.tree.ensures.offset) o.inside
+    let t = c.tree.ensures in
+    record {
+      child = rw (t.node, t.number, t.index) o.child;
+      spot = rw (t.node, t.number, t.offset) o.inside;
+      from = omega (arith, t.number, c.loop-at.invariant.before);
+      to = omega (arith, t.number, ap nodes t.node, c.descendants.ensures, c.if-wanted-at.true);
+    }
 
 pub loop-at-preserved : goal.loop-at-preserved
 loop-at-preserved c =

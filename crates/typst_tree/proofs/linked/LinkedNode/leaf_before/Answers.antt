@@ -31,37 +31,26 @@ loop-at-init c =
       small = omega (arith, f.offset, c.args.self.stands.begins);
     }
 
-pub before-at-requires-clause-counted : goal.before-at-requires-clause-counted
-before-at-requires-clause-counted c =
+pub before-at-requires : goal.before-at-requires
+before-at-requires c =
     let p = c.args.above.parent in
     let at = c.loop-at.at in
     let i = c.loop-at.invariant in
     let s = step_back p.root.now p.node.now p.number p.offset at.index c.children-row.result.now c.index-row-at.result at.number at.offset c.children-row.ensures p.stands (omega (arith, c.loop-at-test.true)) i.within c.index-row-at.is i.number i.offset i.small in
-    s.counts
+    record { index = omega (arith, c.loop-at-test.true); counted = s.counts; measured = s.reaches }
 
-pub before-at-requires-clause-measured : goal.before-at-requires-clause-measured
-before-at-requires-clause-measured c =
+pub child-kid-requires : goal.child-kid-requires
+child-kid-requires c =
     let p = c.args.above.parent in
     let at = c.loop-at.at in
     let i = c.loop-at.invariant in
     let s = step_back p.root.now p.node.now p.number p.offset at.index c.children-row.result.now c.index-row-at.result at.number at.offset c.children-row.ensures p.stands (omega (arith, c.loop-at-test.true)) i.within c.index-row-at.is i.number i.offset i.small in
-    s.reaches
-
-pub child-kid-requires-clause-stands : goal.child-kid-requires-clause-stands
-child-kid-requires-clause-stands c =
-    let p = c.args.above.parent in
-    let at = c.loop-at.at in
-    let i = c.loop-at.invariant in
-    let s = step_back p.root.now p.node.now p.number p.offset at.index c.children-row.result.now c.index-row-at.result at.number at.offset c.children-row.ensures p.stands (omega (arith, c.loop-at-test.true)) i.within c.index-row-at.is i.number i.offset i.small in
-    rw (c.tree.ensures.node, c.tree.ensures.number, c.tree.ensures.offset, c.before-at.ensures.number, c.before-at.ensures.offset) s.kid.stands
-
-pub child-kid-requires-clause-child : goal.child-kid-requires-clause-child
-child-kid-requires-clause-child c =
-    let p = c.args.above.parent in
-    let at = c.loop-at.at in
-    let i = c.loop-at.invariant in
-    let s = step_back p.root.now p.node.now p.number p.offset at.index c.children-row.result.now c.index-row-at.result at.number at.offset c.children-row.ensures p.stands (omega (arith, c.loop-at-test.true)) i.within c.index-row-at.is i.number i.offset i.small in
-    rw (c.tree.ensures.node, c.tree.ensures.number, c.tree.ensures.index, c.before-at.ensures.number, c.before-at.ensures.index) s.kid.child
+    let t = c.tree.ensures in
+    let b = c.before-at.ensures in
+    record {
+      stands = rw (t.node, t.number, t.offset, b.number, b.offset) s.kid.stands;
+      child = rw (t.node, t.number, t.index, b.number, b.index) s.kid.child;
+    }
 
 pub last_leaf-requires-in-loop-at : goal.last_leaf-requires-in-loop-at
 last_leaf-requires-in-loop-at c =

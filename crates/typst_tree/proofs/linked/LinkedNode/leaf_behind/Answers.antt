@@ -7,13 +7,11 @@ use Rattle.typst_tree.proofs.NodesOfStretch.{stands_row}
 use Rattle.typst_tree.proofs.Rows.{all_counted, over}
 use Rattle.typst_tree.proofs.linked.LinkedNode.leaf_behind.Goals as goal
 
-pub behind-at-requires-clause-index : goal.behind-at-requires-clause-index
-behind-at-requires-clause-index c =
+pub behind-at-requires : goal.behind-at-requires
+behind-at-requires c =
     let o = over_above c.args.self c.args.above c.children-row.result.now c.requires c.children-row.ensures in
-    omega (arith, c.passed.ensures.index, o.next.within)
-
-pub behind-at-requires-clause-counted : goal.behind-at-requires-clause-counted
-behind-at-requires-clause-counted c = omega (arith, c.passed.ensures.number, room c.args.self)
+    let p = c.passed.ensures in
+    record { index = omega (arith, p.index, o.next.within); counted = omega (arith, p.number, room c.args.self) }
 
 pub loop-at-init : goal.loop-at-init
 loop-at-init c =
@@ -25,19 +23,16 @@ loop-at-init c =
       found = ap (leaf_after c.args.self.root.now) (sym (b.number ∙ ap (λ m. m + nodes c.args.self.node.now) p.number));
     }
 
-pub child-kid-requires-clause-stands : goal.child-kid-requires-clause-stands
-child-kid-requires-clause-stands c =
+pub child-kid-requires : goal.child-kid-requires
+child-kid-requires c =
     let p = c.args.above.parent in
     let at = c.loop-at.at in
     let o = over p.node.now p.number p.offset c.children-row.result.now at.index at.number at.offset c.index-row-at.result c.children-row.ensures c.index-row-at.is c.loop-at-test.true c.loop-at.invariant.passed in
-    rw (c.tree.ensures.node, c.tree.ensures.number, c.tree.ensures.offset) (stands_row (places p.root.now) p.number p.offset at.number at.offset (places p.node.now) (places c.index-row-at.result) p.stands o.inside)
-
-pub child-kid-requires-clause-child : goal.child-kid-requires-clause-child
-child-kid-requires-clause-child c =
-    let p = c.args.above.parent in
-    let at = c.loop-at.at in
-    let o = over p.node.now p.number p.offset c.children-row.result.now at.index at.number at.offset c.index-row-at.result c.children-row.ensures c.index-row-at.is c.loop-at-test.true c.loop-at.invariant.passed in
-    rw (c.tree.ensures.node, c.tree.ensures.number, c.tree.ensures.index) o.child
+    let t = c.tree.ensures in
+    record {
+      stands = rw (t.node, t.number, t.offset) (stands_row (places p.root.now) p.number p.offset at.number at.offset (places p.node.now) (places c.index-row-at.result) p.stands o.inside);
+      child = rw (t.node, t.number, t.index) o.child;
+    }
 
 pub returns-in-Some : goal.returns-in-Some
 returns-in-Some c =

@@ -29,32 +29,19 @@ overflow_sub-spot-2 c =
     let w = tops_of a o xs x c.requires.root (sym c.reach.ensures ∙ c.in-Placed.is) c.requires.fork c.children.ensures (c.index-children-index.is ∙ ap (λ i. get_or xs i x) c.index-index.ensures) (omega (arith, c.if-self-lt18446744073709551615.true)) in
     omega (arith, w.far, c.from-2.ensures)
 
-pub returns-clause-child : goal.returns-clause-child
-returns-clause-child c =
+pub returns : goal.returns
+returns c =
     let a = c.args.self in
     let o = c.args.owner in
     let x = c.index-children-index.result in
     let xs = c.children.result.now in
     let w = tops_of a o xs x c.requires.root (sym c.reach.ensures ∙ c.in-Placed.is) c.requires.fork c.children.ensures (c.index-children-index.is ∙ ap (λ i. get_or xs i x) c.index-index.ensures) (omega (arith, c.if-self-lt18446744073709551615.true)) in
-    rw (c.from.ensures, c.index-index.ensures) w.child
-
-pub returns-clause-stands : goal.returns-clause-stands
-returns-clause-stands c =
-    let a = c.args.self in
-    let o = c.args.owner in
-    let x = c.index-children-index.result in
-    let xs = c.children.result.now in
-    let w = tops_of a o xs x c.requires.root (sym c.reach.ensures ∙ c.in-Placed.is) c.requires.fork c.children.ensures (c.index-children-index.is ∙ ap (λ i. get_or xs i x) c.index-index.ensures) (omega (arith, c.if-self-lt18446744073709551615.true)) in
-    rw (c.from.ensures, c.from-2.ensures) w.stands
-
-pub returns-clause-to : goal.returns-clause-to
-returns-clause-to c =
-    let a = c.args.self in
-    let o = c.args.owner in
-    let x = c.index-children-index.result in
-    let xs = c.children.result.now in
-    let w = tops_of a o xs x c.requires.root (sym c.reach.ensures ∙ c.in-Placed.is) c.requires.fork c.children.ensures (c.index-children-index.is ∙ ap (λ i. get_or xs i x) c.index-index.ensures) (omega (arith, c.if-self-lt18446744073709551615.true)) in
-    omega (arith, w.after, w.fits, c.from.ensures)
+    record {
+      child = rw (c.from.ensures, c.index-index.ensures) w.child;
+      stands = rw (c.from.ensures, c.from-2.ensures) w.stands;
+      from = omega arith;
+      to = omega (arith, w.after, w.fits, c.from.ensures);
+    }
 
 pub returns-2-clause-stands : goal.returns-2-clause-stands
 returns-2-clause-stands c =
