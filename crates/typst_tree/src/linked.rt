@@ -385,10 +385,8 @@ impl<'a> LinkedNode<'a> {
         ensures { option_map linked result ≡ first_below (wanted search.now) (linked self.entry) }
     {
         let in_order = self.known.in_order();
-        match find_in(self.node, self.number, self.offset, search, in_order) {
-            None => None,
-            Some(spot) => Some(self.below(spot)),
-        }
+        let spot = find_in(self.node, self.number, self.offset, search, in_order)?;
+        Some(self.below(spot))
     }
 
     /// The parent, or `None` at the root. Goes through the children of each node above this one.
@@ -405,10 +403,8 @@ impl<'a> LinkedNode<'a> {
     pub fn parent_kind(self) -> Option<SyntaxKind>
         ensures { result ≡ option_map kind_of (parent (linked self.entry)) }
     {
-        match self.parent() {
-            None => None,
-            Some(parent) => Some(parent.kind()),
-        }
+        let parent = self.parent()?;
+        Some(parent.kind())
     }
 
     /// The first leaf that is neither trivia nor an error behind this node and all below it.
@@ -625,10 +621,8 @@ impl<'a> LinkedNode<'a> {
     pub fn next_sibling_kind(self) -> Option<SyntaxKind>
         ensures { result ≡ option_map kind_of (next_sibling (linked self.entry)) }
     {
-        match self.next_sibling() {
-            None => None,
-            Some(sibling) => Some(sibling.kind()),
-        }
+        let sibling = self.next_sibling()?;
+        Some(sibling.kind())
     }
 }
 

@@ -15,10 +15,10 @@ pub find_in-requires-clause-ordered : goal.find_in-requires-clause-ordered
 find_in-requires-clause-ordered c = λ e.
     in_order_here c.args.self.root.now c.args.self.number c.args.self.offset c.args.self.node.now c.args.self.stands (c.args.self.ordered (sym c.in_order-in_order.ensures ∙ e))
 
-pub returns-in-None : goal.returns-in-None
-returns-in-None c =
-    ap (option_map (at c.args.self.root.now)) c.in-None.ensures.first ∙ first_here (wanted c.args.search.now) c.args.self.root.now c.args.self.number c.args.self.offset c.args.self.node.now c.args.self.stands
+pub returns-in_err-spot : goal.returns-in_err-spot
+returns-in_err-spot c =
+    rw c.from_residual.ensures (ap (option_map (at c.args.self.root.now)) c.in_err-spot.ensures.first ∙ first_here (wanted c.args.search.now) c.args.self.root.now c.args.self.number c.args.self.offset c.args.self.node.now c.args.self.stands)
 
-pub returns-in-Some : goal.returns-in-Some
-returns-in-Some c =
-    ap (λ a. Some a) c.below.ensures ∙ (ap (option_map (at c.args.self.root.now)) c.in-Some.ensures.first ∙ first_here (wanted c.args.search.now) c.args.self.root.now c.args.self.number c.args.self.offset c.args.self.node.now c.args.self.stands)
+pub returns : goal.returns
+returns c =
+    ap (λ a. Some a) c.below.ensures ∙ (ap (option_map (at c.args.self.root.now)) c.in_ok-spot.ensures.first ∙ first_here (wanted c.args.search.now) c.args.self.root.now c.args.self.number c.args.self.offset c.args.self.node.now c.args.self.stands)
