@@ -29,6 +29,10 @@ no_number_above k n (more g ks r) h =
     let fails : (n == k) ≡ false = grind (arith, nat_tests, below) in
     rw (fails, no_number_above k (n + 1 + count ks) r (omega (arith, h))) refl
 
+pub no_child_before : (k n a : ℕ) (t : Tree) → k ≤ n → first_at (has_child k) n a (places t) ≡ None
+no_child_before k n a t h =
+    none_between (has_child k) n a (places t) (λ m b u l e. no_number_below k (m + 1) u.kids (omega (arith, h, l)))
+
 pub no_child_above : (k n a : ℕ) (f : Forest) → n + count f ≤ k → first_at (has_child k) n a (preorder f) ≡ None
 no_child_above k n a none h = refl
 no_child_above k n a (more g ks r) h =
@@ -36,6 +40,11 @@ no_child_above k n a (more g ks r) h =
     let below : first_at (has_child k) (n + 1) (a + length g.text) (preorder ks) ≡ None = no_child_above k (n + 1) (a + length g.text) ks (omega (arith, h)) in
     rw (here, first_append (has_child k) (n + 1) (a + length g.text) (preorder ks) (preorder r), below)
     (no_child_above k (n + 1 + length (preorder ks)) (a + length g.text + length (texts (preorder ks))) r (omega (arith, h, length_preorder ks)))
+
+pub no_child_after : (k n a : ℕ) (t : Tree) → n + nodes t ≤ k → first_at (has_child k) n a (places t) ≡ None
+no_child_after k n a t h =
+    let here : list_any (λ m. m == k) (numbers (n + 1) t.kids) ≡ false = no_number_above k (n + 1) t.kids (omega (arith, h)) in
+    rw here (no_child_above k (n + 1) (a + length t.head.text) t.kids (omega (arith, h)))
 
 and_false : (x y : Bool) → (x && (y && false)) ≡ false
 and_false true true = refl

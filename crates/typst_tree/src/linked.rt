@@ -26,11 +26,11 @@ use typst_node::SyntaxNode;
 /// node means a constant time, and what a step says it passes over is never looked into.
 ///
 /// A step upwards or sideways from a node whose place in the first long row is known doesn't go through
-/// that row. The place is known of what `children`, `leaf_at` and a step downwards by numbers give, from the
-/// root or from within the row. It isn't known of what `find`, `find_number` or `leftmost_leaf` found from
-/// above the row, nor of what `next_leaf` led to from outside of it, nor of a node that is by 2^16 numbers or
-/// bytes or more behind its tree in the row, nor where that tree has an index of 2^29 or more: then a step
-/// goes through the row.
+/// that row. The place is known of what `children` and `leaf_at` give, from the root or from within the row,
+/// and of what a step within the row leads to. It isn't known of what `find`, `find_number` or
+/// `leftmost_leaf` found from above the row, nor of what `next_leaf` led to from outside of it, nor of a node
+/// that is by 2^16 numbers or bytes or more behind its tree in the row, nor where that tree has an index of
+/// 2^29 or more: then a step goes through the row.
 #[derive(Clone, Copy)]
 pub struct LinkedNode<'a> {
     root: &'a SyntaxNode,

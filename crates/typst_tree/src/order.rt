@@ -129,8 +129,11 @@ fn before_index(
 {
     let text = node.leaf_text().len();
     let start = offset.saturating_add(text);
+    if index <= row.len() / 2 {
+        return summed_to(row, number + 1, start, index);
+    }
     let all = node.descendants();
-    if index <= row.len() / 2 || row.len() < all / MANY {
+    if row.len() < all / MANY {
         return summed_to(row, number + 1, start, index);
     }
     let len = node.len();
