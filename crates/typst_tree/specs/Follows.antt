@@ -9,7 +9,7 @@ bit true = 1
 bit false = 0
 
 -- what the two bits above it tell
-abbrev pub told : ℕ → reach.the_data
+unfoldable pub told : ℕ → reach.the_data
 told flag = if flag == 0 then reach.Open else if flag == 1 then reach.Placed else reach.Lost
 
 abbrev pub reach_of : Known → reach.the_data

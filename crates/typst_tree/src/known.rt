@@ -46,6 +46,7 @@ fn bit(in_order: bool) -> u32
 
 impl Known {
     /// That no row on the way is long.
+    #[tactic(auto, unfolding(crate::specs::Follows::told))]
     #[inline(always)]
     pub fn open(in_order: bool) -> Known
         ensures reach { reach_of result ≡ reach.Open }
@@ -59,6 +60,7 @@ impl Known {
     }
 
     /// Nothing of the way.
+    #[tactic(auto, unfolding(crate::specs::Follows::told))]
     #[inline(always)]
     fn lost(in_order: bool) -> Known
         ensures reach { reach_of result ≡ reach.Lost }
@@ -72,6 +74,7 @@ impl Known {
     }
 
     /// The tree of this index in the first long row itself.
+    #[tactic(auto, unfolding(crate::specs::Follows::told))]
     #[inline(always)]
     fn at_index(in_order: bool, index: u32) -> Known
         requires { index < 2 ^ 29 }
@@ -89,6 +92,7 @@ impl Known {
     }
 
     /// How much is known.
+    #[tactic(auto, unfolding(crate::specs::Follows::told))]
     #[inline(always)]
     pub fn reach(self) -> Reach
         ensures { result ≡ reach_of self }
