@@ -79,15 +79,30 @@ fn places(alloc: Global, root: &SyntaxNode) -> Result<Vec<Place>, AllocError> {
     Ok(all)
 }
 
-/// The first place from one on and before another whose node passes a test.
-fn first_place(
-    places: &[Place],
-    from: usize,
-    to: usize,
-    test: impl Fn(&Place) -> bool,
-) -> Option<usize> {
+/// What a step looks for.
+#[derive(Clone, Copy)]
+enum Aim {
+    /// A child of this node that is no trivia.
+    Child(Option<usize>),
+    /// A leaf that counts.
+    Leaf,
+    /// A leaf that holds the byte.
+    Byte(usize),
+}
+
+/// Whether a node is what a step looks for.
+fn meets(aim: Aim, place: &Place) -> bool {
+    match aim {
+        Aim::Child(parent) => place.parent == parent && !place.is_trivia,
+        Aim::Leaf => place.counts,
+        Aim::Byte(byte) => place.is_leaf && place.begin <= byte && byte < place.end,
+    }
+}
+
+/// The first place from one on and before another whose node is looked for.
+fn first_place(places: &[Place], from: usize, to: usize, aim: Aim) -> Option<usize> {
     for place in from..to {
-        if test(places.get(place)?) {
+        if meets(aim, places.get(place)?) {
             return Some(place);
         }
     }
@@ -109,19 +124,13 @@ fn leaf_before(places: &[Place], to: usize) -> Option<usize> {
 fn wanted(places: &[Place], place: usize) -> Option<[Option<usize>; 6]> {
     let own = *places.get(place)?;
     let all = places.len();
-    let begin = own.begin;
-    let parent = own.parent;
     Some([
-        parent,
-        first_place(places, own.behind, all, |other| {
-            other.parent == parent && !other.is_trivia
-        }),
+        own.parent,
+        first_place(places, own.behind, all, Aim::Child(own.parent)),
         leaf_before(places, place),
-        first_place(places, own.behind, all, |other| other.counts),
-        first_place(places, place, own.behind, |other| other.counts),
-        first_place(places, place, own.behind, |other| {
-            other.is_leaf && other.begin <= begin && begin < other.end
-        }),
+        first_place(places, own.behind, all, Aim::Leaf),
+        first_place(places, place, own.behind, Aim::Leaf),
+        first_place(places, place, own.behind, Aim::Byte(own.begin)),
     ])
 }
 
