@@ -8,12 +8,12 @@ use Rattle.typst_lines.specs.Place.{Place, moved}
 use Rattle.typst_node.specs.Tree.{Tree}
 use Rattle.typst_classes.specs.Classes.{CharClasses}
 use Rattle.typst_grammar.specs.calls.Block.TheVariants as block
-use Rattle.typst_grammar.specs.Arguments.{argument_list, arguments, arguments_shape, begin_arguments, calls_directly, content_turn, listed_arguments, missing_arguments, opens_arguments}
+use Rattle.typst_grammar.specs.Arguments.{argument_list, arguments, begin_arguments, calls_directly, content_turn, listed_arguments, missing_arguments, opens_arguments}
 use Rattle.typst_grammar.specs.Depth.{is_end}
 use Rattle.typst_grammar.specs.Expressions.{call_tail}
 use Rattle.typst_grammar.specs.Hand.{Hand, AtHand, told}
 use Rattle.typst_grammar.specs.Point.{Point, is_nil, pending}
-use Rattle.typst_grammar.specs.Shape.{hinted, becomes}
+use Rattle.typst_grammar.specs.Shape.{hinted, becomes, encloses}
 use Rattle.typst_grammar.specs.Sound.{Tidy, Backs}
 use Rattle.typst_grammar.specs.Steps.{peek, node, read_block}
 use Rattle.typst_grammar.specs.Syntax.{Parser, ◌>>=◌, ◌>>◌}
@@ -171,26 +171,26 @@ module _ (k : CharClasses) (levels : ℕ) where
     unfolding run listed_arguments
     takes-inner s a = listed-by s a (same kind.LeftParen (hand_of l w s).kind) (sym (ap (λ (v : Hand). same kind.LeftParen v.kind) a.hand))
 
-    takes-node : (s : Point) → At s → Takes n (run l (node arguments_shape inner) w s)
+    takes-node : (s : Point) → At s → Takes n (run l (node (encloses kind.Args) inner) w s)
     unfolding run node
     takes-node s a =
         let t = next_of s in
         let o = run l inner w t in
         let first = takes-inner t (at-next s a) in
-        let r = reshaped (arguments_shape o.value) n o in
-        let lead = takes-of n r (leads-reshaped n (arguments_shape o.value) o (leads-of n o first)) first.taken in
+        let r = reshaped (encloses kind.Args o.value) n o in
+        let lead = takes-of n r (leads-reshaped n (encloses kind.Args o.value) o (leads-of n o first)) first.taken in
         let again = ap (λ (v : Hand). length v.trivia) a.hand in
-        subst (λ (m : ℕ). Takes n (joined (look s) (joined (reshaped (arguments_shape o.value) m o) (plain o.value (reshaped (arguments_shape o.value) m o).state)))) (sym again)
+        subst (λ (m : ℕ). Takes n (joined (look s) (joined (reshaped (encloses kind.Args o.value) m o) (plain o.value (reshaped (encloses kind.Args o.value) m o).state)))) (sym again)
         (takes-look s (joined r (plain o.value r.state)) (takes-joined n r (plain o.value r.state) lead (record { back = omega arith; left = omega arith })))
 
     abbrev rest : Parser (Unit {0})
-    rest = node arguments_shape inner >>= λ _. gives tt
+    rest = node (encloses kind.Args) inner >>= λ _. gives tt
 
     begun-by : (s : Point) → At s → (b : Bool) → b ≡ true → Takes {A = Unit {0}} n (followed (joined (look s) (if b then plain (tt {0}) (next_of s) else run l missing_arguments w (next_of s))) (λ _. run l rest) w)
     unfolding run
     begun-by s a true f =
         let t = next_of s in
-        let o = run l (node arguments_shape inner) w t in
+        let o = run l (node (encloses kind.Args) inner) w t in
         takes-after n (joined (look s) (plain (tt {0}) t)) _ (looked-nodes s (tt {0})) refl (takes-joined n o (plain (tt {0}) o.state) (takes-node t (at-next s a)) (record { back = omega arith; left = omega arith }))
     begun-by s a false f = absurd (cc)
 

@@ -18,18 +18,18 @@ use Rattle.typst_node.specs.Diagnostic.{hint_with}
 use Rattle.typst_node.specs.Messages.{made_expected, expected_error, expected_message, is_lost_name, keyword_hint}
 use Rattle.typst_grammar.specs.Grammar.{block_production, level_at}
 use Rattle.typst_binding.proofs.Signs.{sign_of}
-use Rattle.typst_grammar.specs.Shape.{Shape, becomes, hinted, on_first, shaped}
+use Rattle.typst_grammar.specs.Shape.{Shape, becomes, hinted, on_first, shaped, encloses}
 use Rattle.typst_grammar.specs.Shape.Change.{stays, is_not}
 use Rattle.typst_grammar.specs.Shape.Shape.{keeps}
 use Rattle.typst_grammar.specs.Depth.{is_end}
 use Rattle.typst_grammar.specs.Syntax.{Parser, ◌>>=◌}
 use Rattle.typst_grammar.specs.Syntax.Parser.{gives, block}
 use Rattle.typst_grammar.specs.Steps.{peek, eat, node, read_block}
-use Rattle.typst_grammar.specs.Markup.{bracketed, content_block}
-use Rattle.typst_grammar.specs.Sequences.{braced, code_block}
+use Rattle.typst_grammar.specs.Markup.{content_block}
+use Rattle.typst_grammar.specs.Sequences.{code_block}
 use Rattle.typst_grammar.specs.Closures.{behind_name, behind_underscore, name_shape, underscore_shape, named, placeholder, headed, closure_shape, right_side}
 use Rattle.typst_grammar.proofs.Within.{on_both}
-use Rattle.typst_grammar.specs.Equations.{equation, in_dollars}
+use Rattle.typst_grammar.specs.Equations.{equation}
 use Rattle.typst_grammar.specs.Bindings.{let_binding}
 use Rattle.typst_grammar.specs.Expressions.{unary_expr}
 use Rattle.typst_grammar.specs.Imports.{module_import}
@@ -100,13 +100,13 @@ module _ (l : Level) (i : SyntaxKind) where
   unfolding func_return
   head-return = head-node l i _ _ (λ a ts. (refl, refl))
 
-  single-dollars : (closed : Bool) (ts : List Tree) → Single (shaped (in_dollars closed) ts)
+  single-dollars : (closed : Bool) (ts : List Tree) → Single (shaped (encloses kind.Equation closed) ts)
   single-dollars true ts = (refl, refl)
   single-dollars false ts = (refl, refl)
 
   pub head-equation : Heads l i equation
   unfolding equation
-  head-equation = head-next l i (node in_dollars _) _ (head-node l i in_dollars _ single-dollars)
+  head-equation = head-next l i (node (encloses kind.Equation) _) _ (head-node l i (encloses kind.Equation) _ single-dollars)
 
 -- ---- blocks
 
@@ -126,18 +126,18 @@ module _ (k : CharClasses) (levels : ℕ) where
   abbrev within_it : Level
   within_it = within_blocks k levels
 
-  single-bracketed : (closed : Bool) (ts : List Tree) → Single (shaped (bracketed closed) ts)
+  single-bracketed : (closed : Bool) (ts : List Tree) → Single (shaped (encloses kind.ContentBlock closed) ts)
   single-bracketed true ts = (refl, refl)
   single-bracketed false ts = (refl, refl)
 
-  single-braced : (closed : Bool) (ts : List Tree) → Single (shaped (braced closed) ts)
+  single-braced : (closed : Bool) (ts : List Tree) → Single (shaped (encloses kind.CodeBlock closed) ts)
   single-braced true ts = (refl, refl)
   single-braced false ts = (refl, refl)
 
   head-block : (b : Block) (r : Point) (z : Place) (s : Point) → Head (length (hand_of within_it z s).trivia) r (run within_it (block_production b) z s)
   unfolding run content_block code_block
-  head-block block.Content r z s = let x = run within_it (node bracketed _) z s in head-gives _ r x (tt {0}) (head-node-at within_it r bracketed _ single-bracketed z s)
-  head-block block.Code r z s = let x = run within_it (node braced _) z s in head-gives _ r x (tt {0}) (head-node-at within_it r braced _ single-braced z s)
+  head-block block.Content r z s = let x = run within_it (node (encloses kind.ContentBlock) _) z s in head-gives _ r x (tt {0}) (head-node-at within_it r (encloses kind.ContentBlock) _ single-bracketed z s)
+  head-block block.Code r z s = let x = run within_it (node (encloses kind.CodeBlock) _) z s in head-gives _ r x (tt {0}) (head-node-at within_it r (encloses kind.CodeBlock) _ single-braced z s)
 
   head-inside : (b : Block) (r : Point) (z : Place) (s : Point) → Head (length (hand_of within_it z (forgot s)).trivia) r (here.blocks b z (forgot s))
   unfolding run

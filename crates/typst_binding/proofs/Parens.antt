@@ -15,12 +15,12 @@ use Rattle.typst_grammar.specs.Closures.{closure_shape}
 use Rattle.typst_grammar.specs.Expected.{expects}
 use Rattle.typst_grammar.specs.Groups.{group, group_kind, group_rest, group_shape, list_kind}
 use Rattle.typst_grammar.specs.Hand.{Hand, AtHand, told}
-use Rattle.typst_grammar.specs.Params.{params, params_shape}
+use Rattle.typst_grammar.specs.Params.{params}
 use Rattle.typst_grammar.specs.Parens.{as_group, behind_group, behind_if, parens, readings, sign}
 use Rattle.typst_grammar.specs.Parts.{expression_if}
 use Rattle.typst_grammar.specs.Patterns.{destructuring}
 use Rattle.typst_grammar.specs.Point.{Point, pending}
-use Rattle.typst_grammar.specs.Shape.{becomes, unclosed, first_changed, hinted_last, hinted, shaped}
+use Rattle.typst_grammar.specs.Shape.{encloses, first_changed, hinted_last, hinted, shaped}
 use Rattle.typst_grammar.specs.Shape.Change.{stays, turns_wrong}
 use Rattle.typst_grammar.specs.Shape.Shape.{keeps}
 use Rattle.typst_grammar.specs.Sound.{Tidy, Backs}
@@ -88,11 +88,11 @@ head-then n s o q lead h tidy all some =
 
 -- ---- what may stand in parens
 
-single-closed : (k : SyntaxKind) → sign_of k ≡ None → same kind.Binary k ≡ false → (closed : Bool) (ts : List Tree) → Single (shaped (if closed then becomes k else unclosed k) ts)
+single-closed : (k : SyntaxKind) → sign_of k ≡ None → same kind.Binary k ≡ false → (closed : Bool) (ts : List Tree) → Single (shaped (encloses k closed) ts)
 single-closed k e f true ts = (e, no-operator (inner_of k (forest ts)) f)
 single-closed k e f false ts = (e, no-operator (inner_of k (forest (first_changed (turns_wrong (codes "unclosed delimiter")) ts))) f)
 
-single-parts : (alone closed : Bool) (ts : List Tree) → Single (shaped (if closed then becomes (if alone then kind.Parenthesized else kind.Destructuring) else unclosed (if alone then kind.Parenthesized else kind.Destructuring)) ts)
+single-parts : (alone closed : Bool) (ts : List Tree) → Single (shaped (encloses (if alone then kind.Parenthesized else kind.Destructuring) closed) ts)
 single-parts true closed ts = single-closed kind.Parenthesized refl refl closed ts
 single-parts false closed ts = single-closed kind.Destructuring refl refl closed ts
 
@@ -115,7 +115,7 @@ gives-rest = gives-all _ (λ _ items. gives-all _ (λ closed h. quiet-group item
 module _ (l : Level) (i : SyntaxKind) where
   head-params : Heads l i params
   unfolding params
-  head-params = head-next l i (node params_shape _) _ (head-node l i params_shape _ (λ c ts. single-closed kind.Params refl refl c ts))
+  head-params = head-next l i (node (encloses kind.Params) _) _ (head-node l i (encloses kind.Params) _ (λ c ts. single-closed kind.Params refl refl c ts))
 
   head-destructuring : (role : Role) (names : List (List ℕ)) → Heads l i (destructuring role names)
   unfolding destructuring

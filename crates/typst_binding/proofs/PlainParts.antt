@@ -28,7 +28,7 @@ use Rattle.typst_grammar.specs.Markup.{note_piece, markup_turn, markup_exprs, ma
 use Rattle.typst_grammar.specs.Params.{defaulted, param, param_turn, params}
 use Rattle.typst_grammar.specs.Parts.{expression_if, separator}
 use Rattle.typst_grammar.specs.Patterns.{duplicate, bound_change, bound_name, pattern_leaf, sink, sink_shape, name_and_colon, key, key_or_pattern, named_shape, part, Found, destructuring_item, destructuring_turn, destructuring, pattern}
-use Rattle.typst_grammar.specs.Shape.{Making, Shape, becomes, unclosed}
+use Rattle.typst_grammar.specs.Shape.{Making, Shape, encloses}
 use Rattle.typst_grammar.specs.Shape.Change.{stays, turns_wrong}
 use Rattle.typst_grammar.specs.Shape.Making.{itself, of_kind, surprise, wanted}
 use Rattle.typst_grammar.specs.Steps.{eat_making, eat, convert_and_eat, eat_so, eat_if, close_if, unexpected, expected, expect, flush_trivia, within, node, node_with_trivia, grow, nest, note, read_block}
@@ -124,7 +124,7 @@ unfolding expect_identifier
 plain-identifier = (refl, λ _. ((plain-making true (wanted (codes "identifier")) refl, λ _. tt), plain-expects (same kind.Ident) (codes "identifier")))
 
 -- where the second delimiter is missing the first is an error
-pub tame-closed : (k : SyntaxKind) → tame_kind k ≡ true → (closed : Bool) → tame (if closed then becomes k else unclosed k) ≡ true
+pub tame-closed : (k : SyntaxKind) → tame_kind k ≡ true → (closed : Bool) → tame (encloses k closed) ≡ true
 tame-closed k e true = e
 tame-closed k e false = e
 
@@ -327,7 +327,7 @@ plain-destructuring-turn : (role : Role) (found : Found) → Plain (destructurin
 unfolding destructuring_turn
 plain-destructuring-turn role found = (refl, λ _. (tt, ((plain-destructuring-item role found, λ _. (plain-separator, λ _. tt)), (plain-unexpected [], λ _. tt))))
 
-tame-parts : (alone closed : Bool) → tame (if closed then becomes (if alone then kind.Parenthesized else kind.Destructuring) else unclosed (if alone then kind.Parenthesized else kind.Destructuring)) ≡ true
+tame-parts : (alone closed : Bool) → tame (encloses (if alone then kind.Parenthesized else kind.Destructuring) closed) ≡ true
 tame-parts true closed = tame-closed kind.Parenthesized refl closed
 tame-parts false closed = tame-closed kind.Destructuring refl closed
 

@@ -1,11 +1,11 @@
 -- Arguments of calls.
-use Rattle.std.specs.Prelude.{ℕ, Bool, true, false, not, ◌||◌, ◌&&◌, if◌then◌else◌, List, [], Option, Some, None, codes}
+use Rattle.std.specs.Prelude.{ℕ, Bool, true, false, not, ◌||◌, ◌&&◌, List, [], Option, Some, None, codes}
 use Rattle.typst_kinds.specs.Kinds.{same, is_terminator}
 use Rattle.typst_kinds.specs.declared.kind.SyntaxKind.{SyntaxKind}
 use Rattle.typst_kinds.specs.declared.kind.SyntaxKind.TheVariants as kind
 use Rattle.typst_markup.specs.calls.Block.TheVariants as block
 use Rattle.typst_markup.specs.reading.AtNewline.TheVariants as newline
-use Rattle.typst_markup.specs.Shape.{Change, Shape, becomes, unclosed}
+use Rattle.typst_markup.specs.Shape.{Change, Shape, encloses}
 use Rattle.typst_markup.specs.Shape.Change.{stays, is_not}
 use Rattle.typst_markup.specs.Shape.Shape.{keeps, holds}
 use Rattle.typst_markup.specs.Syntax.{Parser, ◌>>=◌, ◌>>◌}
@@ -74,10 +74,6 @@ content_turn x = do
   ahead ← peek
   pick (opens_directly ahead) (read_block block.Content >> gives (true, tt)) (gives (false, tt))
 
--- without the second paren the first is an error
-abbrev pub arguments_shape : Bool → Shape
-arguments_shape closed = if closed then becomes kind.Args else unclosed kind.Args
-
 -- arguments that are missing, or stand behind a space
 unfoldable pub missing_arguments : Parser (Unit {0})
 missing_arguments = do
@@ -94,7 +90,7 @@ begin_arguments = do
 unfoldable pub arguments : Parser (Unit {0})
 arguments = do
   begun ← begin_arguments
-  closed ← node arguments_shape (do
+  closed ← node (encloses kind.Args) (do
     closed ← listed_arguments
     blocks ← repeat content_turn tt
     gives closed)

@@ -4,7 +4,7 @@ use Rattle.typst_kinds.specs.Kinds.{same, is_terminator}
 use Rattle.typst_kinds.specs.declared.kind.SyntaxKind.{SyntaxKind}
 use Rattle.typst_kinds.specs.declared.kind.SyntaxKind.TheVariants as kind
 use Rattle.typst_markup.specs.reading.AtNewline.TheVariants as newline
-use Rattle.typst_markup.specs.Shape.{Change, Shape, becomes, unclosed}
+use Rattle.typst_markup.specs.Shape.{Change, Shape, becomes, encloses}
 use Rattle.typst_markup.specs.Shape.Change.{stays, turns_wrong, is_not}
 use Rattle.typst_markup.specs.Shape.Shape.{keeps, holds}
 use Rattle.typst_markup.specs.Syntax.{Parser, ◌>>=◌, ◌>>◌}
@@ -124,9 +124,9 @@ list_kind (Some false) = kind.Array
 abbrev pub group_kind : Items → SyntaxKind
 group_kind items = if items.any && items.is_plain then kind.Parenthesized else list_kind items.are_pairs
 
--- where the second paren is missing the first is an error
+-- what stands in parens, of which the second may be missing
 abbrev pub group_shape : Bool × SyntaxKind → Shape
-group_shape x = if x.0 then becomes x.1 else unclosed x.1
+group_shape x = encloses x.1 x.0
 
 -- what stands behind the first paren; answers whether the second one comes, and what it is
 unfoldable pub group_rest : Parser (Bool × SyntaxKind)

@@ -1,12 +1,12 @@
 -- Sequences of code, and code blocks.
-use Rattle.std.specs.Prelude.{Bool, true, false, ◌||◌, if◌then◌else◌, [], codes}
+use Rattle.std.specs.Prelude.{Bool, true, false, ◌||◌, [], codes}
 use Rattle.typst_kinds.specs.Kinds.{same}
 use Rattle.typst_kinds.specs.declared.kind.SyntaxKind.{SyntaxKind}
 use Rattle.typst_kinds.specs.declared.kind.SyntaxKind.TheVariants as kind
 use Rattle.typst_kinds.specs.declared.mode.SyntaxMode.TheVariants as mode
 use Rattle.typst_markup.specs.reading.AtNewline.TheVariants as newline
 use Rattle.typst_markup.specs.reading.Reading.{Reading}
-use Rattle.typst_markup.specs.Shape.{Shape, becomes, unclosed}
+use Rattle.typst_markup.specs.Shape.{becomes, encloses}
 use Rattle.typst_markup.specs.Syntax.{Parser, ◌>>=◌, ◌>>◌}
 use Rattle.typst_markup.specs.Syntax.Op.{advises, is_deepest}
 use Rattle.typst_markup.specs.Syntax.Parser.{gives, does, pick, repeat, scoped}
@@ -60,17 +60,13 @@ code_exprs stops = do
 unfoldable pub code : (SyntaxKind → Bool) → Parser (Unit {0})
 code stops = node (λ _. becomes kind.Code) (code_exprs stops)
 
--- `{ .. }`: where the second brace is missing the first is an error
-abbrev pub braced : Bool → Shape
-braced closed = if closed then becomes kind.CodeBlock else unclosed kind.CodeBlock
-
 abbrev pub code_reading : Reading
 code_reading = record { mode = mode.Code; at_newline = newline.Continue }
 
--- behind the second brace the token is asked for as it is read around the block
+-- `{ .. }`: behind the second brace the token is asked for as it is read around the block
 unfoldable pub code_block : Parser (Unit {0})
 code_block = do
-  closed ← node braced (scoped (λ _. code_reading) (do
+  closed ← node (encloses kind.CodeBlock) (scoped (λ _. code_reading) (do
     brace ← eat
     inside ← code ends_code
     close_if (same kind.RightBrace)))

@@ -147,7 +147,7 @@ pub(crate) fn arguments<L: Levels>(g: &L, p: &mut Parser<'_>) -> Result<(), Allo
     let from = p.marker();
     let closed = listed_arguments(g, p)?;
     content_turns(g, p)?;
-    wrap_arguments(p, from, closed)?;
+    p.wrap_enclosed(from, SyntaxKind::Args, closed)?;
     Ok(())
 }
 
@@ -170,16 +170,4 @@ fn listed_arguments<L: Levels>(g: &L, p: &mut Parser<'_>) -> Result<bool, AllocE
         return Ok(true);
     }
     Ok(argument_list(g, p)?)
-}
-
-/// Makes one node of arguments, where the second paren may be missing.
-fn wrap_arguments(p: &mut Parser<'_>, from: usize, closed: bool) -> Result<(), AllocError>
-    ensures { OnOk result (Rewrapped from (spec.arguments_shape closed) p.old p.new) }
-{
-    if closed {
-        p.wrap(from, SyntaxKind::Args)?;
-        return Ok(());
-    }
-    p.wrap_unclosed(from, SyntaxKind::Args)?;
-    Ok(())
 }

@@ -168,24 +168,6 @@ pub(crate) fn group<L: Levels>(g: &L, p: &mut Parser<'_>) -> Result<SyntaxKind, 
     let closed = p.eat_if(p.current() == SyntaxKind::RightParen, g)?;
     p.leave(outer, g)?;
     let kind = items.kind();
-    wrap_group(p, from, closed, kind)?;
+    p.wrap_enclosed(from, kind, closed)?;
     Ok(kind)
-}
-
-/// Makes one node of what stands in parens, where the second may be missing.
-fn wrap_group(
-    p: &mut Parser<'_>,
-    from: usize,
-    closed: bool,
-    kind: SyntaxKind,
-) -> Result<(), AllocError>
-    requires { is_error kind ≡ false }
-    ensures { OnOk result (Rewrapped from (spec.group_shape (closed, kind)) p.old p.new) }
-{
-    if closed {
-        p.wrap(from, kind)?;
-        return Ok(());
-    }
-    p.wrap_unclosed(from, kind)?;
-    Ok(())
 }

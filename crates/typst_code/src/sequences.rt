@@ -1,9 +1,9 @@
 //! Sequences of code, and code blocks.
 
-ghost use Rattle.std.specs.Prelude.{◌≡◌, OnOk};
+ghost use Rattle.std.specs.Prelude.{◌≡◌};
 ghost use Rattle.typst_markup.specs.Steps.{read_block};
 ghost use Rattle.typst_markup.specs.Syntax.Parser.{repeat};
-ghost use Rattle.typst_markup.specs.View.{Means, MeansBy, MeansLast, Rewrapped};
+ghost use Rattle.typst_markup.specs.View.{Means, MeansBy, MeansLast};
 ghost use Rattle.typst_code.specs.Sequences as spec;
 ghost use Rattle.typst_code.specs.Outside.{MeansAround};
 ghost use Rattle.typst_code.specs.Stops.{stops_at};
@@ -112,7 +112,7 @@ pub fn code_block<L: Levels>(g: &L, p: &mut Parser<'_>) -> Result<(), AllocError
     code(g, p)?;
     let closed = p.close_if(p.current() == SyntaxKind::RightBrace, g)?;
     p.leave_unasked(outer);
-    wrap_braced(p, from, closed)?;
+    p.wrap_enclosed(from, SyntaxKind::CodeBlock, closed)?;
     Ok(())
 }
 
@@ -124,18 +124,6 @@ fn code<L: Levels>(g: &L, p: &mut Parser<'_>) -> Result<(), AllocError>
     let from = p.marker();
     code_exprs(g, p, CodeStop::Block)?;
     p.wrap(from, SyntaxKind::Code)?;
-    Ok(())
-}
-
-/// Makes one node of what stands in braces, where the second may be missing.
-fn wrap_braced(p: &mut Parser<'_>, from: usize, closed: bool) -> Result<(), AllocError>
-    ensures { OnOk result (Rewrapped from (spec.braced closed) p.old p.new) }
-{
-    if closed {
-        p.wrap(from, SyntaxKind::CodeBlock)?;
-        return Ok(());
-    }
-    p.wrap_unclosed(from, SyntaxKind::CodeBlock)?;
     Ok(())
 }
 

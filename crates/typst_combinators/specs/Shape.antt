@@ -77,6 +77,10 @@ becomes kind = holds stays kind
 abbrev pub unclosed : SyntaxKind → Shape
 unclosed kind = holds (turns_wrong (codes "unclosed delimiter")) kind
 
+-- what stands between two delimiters, of which the second may be missing
+abbrev pub encloses : SyntaxKind → Bool → Shape
+encloses kind closed = if closed then becomes kind else unclosed kind
+
 abbrev pub is_delimited : SyntaxKind → Bool
 is_delimited kind.MathDelimited = true
 is_delimited _ = false

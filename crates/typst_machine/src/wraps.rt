@@ -3,7 +3,7 @@
 ghost use Rattle.std.specs.Prelude.{◌≡◌, if◌then◌else◌, [], ◌∷◌, ◌++◌, take, drop, OnOk, IfOk, false};
 ghost use Rattle.typst_kinds.specs.Kinds.{is_error};
 ghost use Rattle.typst_node.specs.Tree.{text_of};
-ghost use Rattle.typst_ahead.specs.Shape.{after_node, becomes, unclosed};
+ghost use Rattle.typst_ahead.specs.Shape.{after_node, becomes, encloses, unclosed};
 ghost use Rattle.typst_ahead.specs.Point.{is_nil};
 ghost use Rattle.typst_ahead.specs.Shape.Change.{stays};
 ghost use Rattle.typst_ahead.specs.Shape.Shape.{fails, holds, keeps, lacks, warns};
@@ -48,16 +48,6 @@ impl<'s> Parser<'s> {
         Ok(())
     }
 
-    /// The same, where the first of them becomes the error that it was not closed.
-    #[cold]
-    pub fn wrap_unclosed(&mut self, from: usize, kind: SyntaxKind) -> Result<(), AllocError>
-        requires { is_error kind ≡ false }
-        ensures { OnOk result (Rewrapped from (unclosed kind) self.old self.new) }
-    {
-        self.wrap_changed(from, Change::TurnsWrong("unclosed delimiter"), kind)?;
-        Ok(())
-    }
-
     /// The same, with an empty error behind the first so many of them.
     #[cold]
     pub fn wrap_lacking(
@@ -95,6 +85,34 @@ impl<'s> Parser<'s> {
         node.warn(message)?;
         node.hint(hint)?;
         self.give(node)?;
+        Ok(())
+    }
+
+    /// The same of what stands between two delimiters: where the second one is missing the first
+    /// becomes the error that it was not closed.
+    pub fn wrap_enclosed(
+        &mut self,
+        from: usize,
+        kind: SyntaxKind,
+        closed: bool,
+    ) -> Result<(), AllocError>
+        requires { is_error kind ≡ false }
+        ensures { OnOk result (Rewrapped from (encloses kind closed) self.old self.new) }
+    {
+        if closed {
+            self.wrap(from, kind)?;
+            return Ok(());
+        }
+        self.wrap_unclosed(from, kind)?;
+        Ok(())
+    }
+
+    #[cold]
+    fn wrap_unclosed(&mut self, from: usize, kind: SyntaxKind) -> Result<(), AllocError>
+        requires { is_error kind ≡ false }
+        ensures { OnOk result (Rewrapped from (unclosed kind) self.old self.new) }
+    {
+        self.wrap_changed(from, Change::TurnsWrong("unclosed delimiter"), kind)?;
         Ok(())
     }
 

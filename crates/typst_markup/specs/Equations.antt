@@ -1,5 +1,5 @@
 -- Formulas between dollars, and sequences of their expressions.
-use Rattle.std.specs.Prelude.{ℕ, Bool, true, false, ◌||◌, if◌then◌else◌, []}
+use Rattle.std.specs.Prelude.{ℕ, Bool, true, false, ◌||◌, []}
 use Rattle.typst_kinds.specs.Kinds.{among, same}
 use Rattle.typst_kinds.specs.Sets.{math_expr}
 use Rattle.typst_kinds.specs.declared.kind.SyntaxKind.{SyntaxKind}
@@ -9,7 +9,7 @@ use Rattle.typst_machine.specs.calls.Call.TheVariants.{MathExpr}
 use Rattle.typst_machine.specs.calls.ChainSet.{ChainSet}
 use Rattle.typst_machine.specs.reading.AtNewline.TheVariants as newline
 use Rattle.typst_machine.specs.reading.Reading.{Reading}
-use Rattle.typst_machine.specs.Shape.{Shape, becomes, unclosed}
+use Rattle.typst_machine.specs.Shape.{becomes, encloses}
 use Rattle.typst_machine.specs.Syntax.{Parser, ◌>>=◌, ◌>>◌}
 use Rattle.typst_machine.specs.Syntax.Op.{is_deepest}
 use Rattle.typst_machine.specs.Syntax.Parser.{gives, does, pick, repeat}
@@ -79,10 +79,6 @@ math = node (λ _. becomes kind.Math) (math_exprs ends_equation >> gives tt)
 abbrev pub math_reading : Reading
 math_reading = record { mode = mode.Math; at_newline = newline.Continue }
 
--- where the second dollar is missing the first is an error
-abbrev pub in_dollars : Bool → Shape
-in_dollars closed = if closed then becomes kind.Equation else unclosed kind.Equation
-
 -- `$ .. $`, read as a formula whatever stands around it; answers whether the second dollar came, behind which the token is asked for as it is read around the formula
 unfoldable pub between_dollars : Parser Bool
 between_dollars = within (λ _. math_reading) (do
@@ -93,5 +89,5 @@ between_dollars = within (λ _. math_reading) (do
 -- the same as one node
 unfoldable pub equation : Parser (Unit {0})
 equation = do
-  closed ← node in_dollars between_dollars
+  closed ← node (encloses kind.Equation) between_dollars
   gives tt

@@ -12,7 +12,7 @@ use Rattle.typst_machine.specs.calls.Mark.TheVariants as mark
 use Rattle.typst_machine.specs.reading.Reading.{Reading}
 use Rattle.typst_machine.specs.Hand.{AtHand}
 use Rattle.typst_machine.specs.Point.{is_nil}
-use Rattle.typst_machine.specs.Shape.{Shape, becomes, unclosed}
+use Rattle.typst_machine.specs.Shape.{Shape, becomes, encloses}
 use Rattle.typst_machine.specs.Shape.Making.{itself}
 use Rattle.typst_machine.specs.Shape.Shape.{warns}
 use Rattle.typst_machine.specs.Syntax.{Parser, ◌>>=◌, ◌>>◌}
@@ -102,7 +102,7 @@ at_newline rule r = record r { at_newline = rule }
 
 -- what stands between two delimiters: where the second is missing the first is an error, and where nothing stands between them there is a warning
 abbrev pub emphasized : SyntaxKind → List ℕ → List ℕ → Bool × Bool → Shape
-emphasized k warning hint x = if x.0 then (if x.1 then warns k warning hint else becomes k) else unclosed k
+emphasized k warning hint x = if x.0 && x.1 then warns k warning hint else encloses k x.0
 
 -- what stands between two tokens of a kind, which doesn't go past a parbreak
 unfoldable pub delimited : SyntaxKind → (SyntaxKind → Bool) → SyntaxKind → List ℕ → List ℕ → Parser (Unit {0})
@@ -141,17 +141,13 @@ term_item = do
     colon ← expect (same kind.Colon) (codes "colon")
     markup true ends_block))
 
--- `[ .. ]`, which is markup whatever stands around it: where the second bracket is missing the first is an error
-abbrev pub bracketed : Bool → Shape
-bracketed closed = if closed then becomes kind.ContentBlock else unclosed kind.ContentBlock
-
 abbrev pub markup_reading : Reading
 markup_reading = record { mode = mode.Markup; at_newline = newline.Continue }
 
--- the tokens of the brackets are taken so that nothing is asked behind them: behind the first one its run begins, and behind the second one the token is asked for as it is read around the block
+-- `[ .. ]`, which is markup whatever stands around it: the tokens of the brackets are taken so that nothing is asked behind them: behind the first one its run begins, and behind the second one the token is asked for as it is read around the block
 unfoldable pub content_block : Parser (Unit {0})
 content_block = do
-  closed ← node bracketed (scoped (λ _. markup_reading) (do
+  closed ← node (encloses kind.ContentBlock) (scoped (λ _. markup_reading) (do
     bracket ← does (takes false itself)
     is_empty ← markup_is_empty (markup_run ends_block)
     close_if (same kind.RightBracket)))

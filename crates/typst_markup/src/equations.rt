@@ -1,10 +1,10 @@
 //! Formulas between dollars, and sequences of their expressions.
 
-ghost use Rattle.std.specs.Prelude.{◌≡◌, OnOk};
+ghost use Rattle.std.specs.Prelude.{◌≡◌};
 ghost use Rattle.typst_kinds.specs.Kinds.{among};
 ghost use Rattle.typst_kinds.specs.Sets.{math_expr};
 ghost use Rattle.typst_machine.specs.Syntax.Parser.{repeat};
-ghost use Rattle.typst_machine.specs.View.{Means, Rewrapped};
+ghost use Rattle.typst_machine.specs.View.{Means};
 ghost use Rattle.typst_markup.specs.Equations as spec;
 ghost use Rattle.typst_markup.specs.Stops.{math_stops_at};
 
@@ -138,18 +138,6 @@ pub fn equation<L: Levels>(g: &L, p: &mut Parser<'_>) -> Result<(), AllocError>
 {
     let from = p.marker();
     let closed = between_dollars(g, p)?;
-    wrap_in_dollars(p, from, closed)?;
-    Ok(())
-}
-
-/// Makes one node of what stands in dollars, where the second may be missing.
-fn wrap_in_dollars(p: &mut Parser<'_>, from: usize, closed: bool) -> Result<(), AllocError>
-    ensures { OnOk result (Rewrapped from (spec.in_dollars closed) p.old p.new) }
-{
-    if closed {
-        p.wrap(from, SyntaxKind::Equation)?;
-        return Ok(());
-    }
-    p.wrap_unclosed(from, SyntaxKind::Equation)?;
+    p.wrap_enclosed(from, SyntaxKind::Equation, closed)?;
     Ok(())
 }

@@ -88,15 +88,11 @@ fn wrap_emphasized(
     requires { is_error kind ≡ false }
     ensures { OnOk result (Rewrapped from (spec.emphasized kind warning.now hint.now (closed, is_empty)) p.old p.new) }
 {
-    if !closed {
-        p.wrap_unclosed(from, kind)?;
-        return Ok(());
-    }
-    if is_empty {
+    if closed && is_empty {
         p.wrap_with_warning(from, kind, warning, hint)?;
         return Ok(());
     }
-    p.wrap(from, kind)?;
+    p.wrap_enclosed(from, kind, closed)?;
     Ok(())
 }
 

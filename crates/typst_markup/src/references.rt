@@ -1,9 +1,9 @@
 //! References, and content blocks.
 
-ghost use Rattle.std.specs.Prelude.{◌≡◌, ◌<◌, OnOk};
+ghost use Rattle.std.specs.Prelude.{◌≡◌, ◌<◌};
 ghost use Rattle.typst_machine.specs.Steps.{read_block};
 ghost use Rattle.typst_machine.specs.Hand.{told};
-ghost use Rattle.typst_machine.specs.View.{MeansLast, Rewrapped};
+ghost use Rattle.typst_machine.specs.View.{MeansLast};
 ghost use Rattle.typst_markup.specs.Markup as spec;
 ghost use Rattle.typst_markup.specs.Outside.{MeansOutside};
 
@@ -27,19 +27,7 @@ pub fn content_block<L: Levels>(g: &L, p: &mut Parser<'_>) -> Result<(), AllocEr
     run_with_trivia(g, p, Stop::Block)?;
     let closed = p.close_if(p.current() == SyntaxKind::RightBracket, g)?;
     p.leave_unasked(outer);
-    wrap_bracketed(p, from, closed)?;
-    Ok(())
-}
-
-/// Makes one node of what stands in brackets, where the second may be missing.
-fn wrap_bracketed(p: &mut Parser<'_>, from: usize, closed: bool) -> Result<(), AllocError>
-    ensures { OnOk result (Rewrapped from (spec.bracketed closed) p.old p.new) }
-{
-    if closed {
-        p.wrap(from, SyntaxKind::ContentBlock)?;
-        return Ok(());
-    }
-    p.wrap_unclosed(from, SyntaxKind::ContentBlock)?;
+    p.wrap_enclosed(from, SyntaxKind::ContentBlock, closed)?;
     Ok(())
 }
 

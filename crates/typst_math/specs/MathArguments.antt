@@ -4,7 +4,7 @@ use Rattle.typst_kinds.specs.Kinds.{same}
 use Rattle.typst_kinds.specs.declared.kind.SyntaxKind.{SyntaxKind}
 use Rattle.typst_kinds.specs.declared.kind.SyntaxKind.TheVariants as kind
 use Rattle.typst_markup.specs.calls.Way.TheVariants as way
-use Rattle.typst_markup.specs.Shape.{Change, Making, Shape, becomes, unclosed}
+use Rattle.typst_markup.specs.Shape.{Change, Making, Shape, becomes, encloses}
 use Rattle.typst_markup.specs.Shape.Change.{stays}
 use Rattle.typst_markup.specs.Shape.Making.{itself, wanted}
 use Rattle.typst_markup.specs.Shape.Shape.{keeps, holds}
@@ -99,14 +99,10 @@ math_argument_turn names = do
     separator ← argument_end
     gives (true, more))
 
--- without the second paren the first is an error
-abbrev pub list_shape : Bool → Shape
-list_shape closed = if closed then becomes kind.MathArgs else unclosed kind.MathArgs
-
 -- `( .. )` behind a name
 unfoldable pub math_arguments : Parser (Unit {0})
 math_arguments = do
-  closed ← node list_shape (do
+  closed ← node (encloses kind.MathArgs) (do
     paren ← eat
     names ← repeat math_argument_turn []
     eat_if (same kind.RightParen))

@@ -207,18 +207,6 @@ pub(crate) fn math_arguments<L: Levels>(g: &L, p: &mut Parser<'_>) -> Result<(),
     p.eat(g)?;
     math_argument_turns(g, p, Names::new(p.alloc()))?;
     let closed = p.eat_if(p.current() == SyntaxKind::RightParen, g)?;
-    wrap_list(p, from, closed)?;
-    Ok(())
-}
-
-/// Makes one node of arguments, where the second paren may be missing.
-fn wrap_list(p: &mut Parser<'_>, from: usize, closed: bool) -> Result<(), AllocError>
-    ensures { OnOk result (Rewrapped from (spec.list_shape closed) p.old p.new) }
-{
-    if closed {
-        p.wrap(from, SyntaxKind::MathArgs)?;
-        return Ok(());
-    }
-    p.wrap_unclosed(from, SyntaxKind::MathArgs)?;
+    p.wrap_enclosed(from, SyntaxKind::MathArgs, closed)?;
     Ok(())
 }

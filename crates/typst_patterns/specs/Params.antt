@@ -1,11 +1,11 @@
 -- Parameters of closures.
-use Rattle.std.specs.Prelude.{ℕ, Bool, true, false, if◌then◌else◌, List, [], Option, Some, None, is_some, codes}
+use Rattle.std.specs.Prelude.{ℕ, Bool, true, false, List, [], Option, Some, None, is_some, codes}
 use Rattle.typst_kinds.specs.Kinds.{same, among, is_terminator}
 use Rattle.typst_kinds.specs.Sets as set
 use Rattle.typst_kinds.specs.declared.kind.SyntaxKind.{SyntaxKind}
 use Rattle.typst_kinds.specs.declared.kind.SyntaxKind.TheVariants as kind
 use Rattle.typst_machine.specs.calls.Role.TheVariants as role
-use Rattle.typst_machine.specs.Shape.{Shape, becomes, unclosed}
+use Rattle.typst_machine.specs.Shape.{encloses}
 use Rattle.typst_machine.specs.Syntax.{Parser, ◌>>=◌, ◌>>◌}
 use Rattle.typst_machine.specs.Syntax.Parser.{gives, pick, repeat}
 use Rattle.typst_machine.specs.Steps.{peek, eat, eat_if, unexpected, within, node}
@@ -44,14 +44,10 @@ param_turn so_far = do
     gives (true, more))
       (unexpected [] >> gives (true, so_far)))
 
--- where the second paren is missing the first is an error
-abbrev pub params_shape : Bool → Shape
-params_shape closed = if closed then becomes kind.Params else unclosed kind.Params
-
 -- `( .. )`
 unfoldable pub params : Parser (Unit {0})
 params = do
-  closed ← node params_shape (within in_parens (do
+  closed ← node (encloses kind.Params) (within in_parens (do
     paren ← eat
     read ← repeat param_turn (false, [])
     eat_if (same kind.RightParen)))

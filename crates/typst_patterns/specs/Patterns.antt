@@ -8,7 +8,7 @@ use Rattle.typst_names.specs.Names.{has_name, with_name}
 use Rattle.typst_machine.specs.calls.Call.TheVariants.{Pattern}
 use Rattle.typst_machine.specs.calls.Role.{Role}
 use Rattle.typst_machine.specs.calls.Role.TheVariants as role
-use Rattle.typst_machine.specs.Shape.{Change, Shape, Seen, becomes, unclosed}
+use Rattle.typst_machine.specs.Shape.{Change, Shape, Seen, becomes, encloses}
 use Rattle.typst_machine.specs.Shape.Change.{stays, turns_wrong, is_not}
 use Rattle.typst_machine.specs.Shape.Making.{wanted}
 use Rattle.typst_machine.specs.Shape.Seen.{leaf_seen, inner_seen}
@@ -178,14 +178,10 @@ role_below role.Parameter = role.Binding
 abbrev pub parts_kind : Parts → SyntaxKind
 parts_kind parts = if parts.any && parts.is_plain then kind.Parenthesized else kind.Destructuring
 
--- where the second paren is missing the first is an error
-abbrev pub parts_shape : Bool → Parts → Shape
-parts_shape closed parts = if closed then becomes (parts_kind parts) else unclosed (parts_kind parts)
-
 -- `( .. )`; answers the names that were seen
 unfoldable pub destructuring : Role → List (List ℕ) → Parser (List (List ℕ))
 destructuring role names = do
-  x ← node (λ (x : Bool × Found). parts_shape x.0 x.1.0) (within in_parens (do
+  x ← node (λ (x : Bool × Found). encloses (parts_kind x.1.0) x.0) (within in_parens (do
     paren ← eat
     found ← repeat (destructuring_turn (role_below role)) (no_parts, names)
     closed ← eat_if (same kind.RightParen)

@@ -1,9 +1,9 @@
 //! Parameters of closures.
 
-ghost use Rattle.std.specs.Prelude.{◌≡◌, OnOk, is_some, map};
+ghost use Rattle.std.specs.Prelude.{◌≡◌, is_some, map};
 ghost use Rattle.typst_machine.specs.Shape.{seen};
 ghost use Rattle.typst_machine.specs.Syntax.Parser.{repeat};
-ghost use Rattle.typst_machine.specs.View.{Means, Rewrapped};
+ghost use Rattle.typst_machine.specs.View.{Means};
 ghost use Rattle.typst_patterns.specs.Params as spec;
 ghost use Rattle.typst_patterns.specs.Patterns.{name_of, name_of_one};
 
@@ -140,18 +140,6 @@ pub fn params<L: Levels>(g: &L, p: &mut Parser<'_>) -> Result<(), AllocError>
     param_turns(g, p, (false, Names::new(p.alloc())))?;
     let closed = p.eat_if(p.current() == SyntaxKind::RightParen, g)?;
     p.leave(outer, g)?;
-    wrap_params(p, from, closed)?;
-    Ok(())
-}
-
-/// Makes one node of parameters, where the second paren may be missing.
-fn wrap_params(p: &mut Parser<'_>, from: usize, closed: bool) -> Result<(), AllocError>
-    ensures { OnOk result (Rewrapped from (spec.params_shape closed) p.old p.new) }
-{
-    if closed {
-        p.wrap(from, SyntaxKind::Params)?;
-        return Ok(());
-    }
-    p.wrap_unclosed(from, SyntaxKind::Params)?;
+    p.wrap_enclosed(from, SyntaxKind::Params, closed)?;
     Ok(())
 }

@@ -397,20 +397,8 @@ pub fn destructuring<L: Levels>(
     let (parts, seen) = destructuring_items(g, p, role_below(role), (Parts::none(), names))?;
     let closed = p.eat_if(p.current() == SyntaxKind::RightParen, g)?;
     p.leave(outer, g)?;
-    wrap_parts(p, from, closed, parts)?;
+    p.wrap_enclosed(from, parts.kind(), closed)?;
     Ok(seen)
-}
-
-/// Makes one node of patterns in parens, where the second paren may be missing.
-fn wrap_parts(p: &mut Parser<'_>, from: usize, closed: bool, parts: Parts) -> Result<(), AllocError>
-    ensures { OnOk result (Rewrapped from (spec.parts_shape closed parts) p.old p.new) }
-{
-    if closed {
-        p.wrap(from, parts.kind())?;
-        return Ok(());
-    }
-    p.wrap_unclosed(from, parts.kind())?;
-    Ok(())
 }
 
 /// Reads a pattern; answers the names that were seen.

@@ -1,12 +1,12 @@
 -- Each block of the grammar ends in its node.
-use Rattle.std.proofs.Common.{◌≡◌, ℕ, ◌+◌, Bool, true, false, if◌then◌else◌, List, [], ◌∷◌, ◌++◌, take, append-nil, append_assoc, refl, ap, sym, ◌∙◌}
+use Rattle.std.proofs.Common.{◌≡◌, ℕ, ◌+◌, Bool, true, false, List, [], ◌∷◌, ◌++◌, take, append-nil, append_assoc, refl, ap, sym, ◌∙◌}
 use Rattle.typst_node.specs.Tree.{Tree}
 use Rattle.typst_lines.specs.Place.{Place, moved}
 use Rattle.typst_classes.specs.Classes.{CharClasses}
 use Rattle.typst_grammar.specs.calls.Block.{Block}
 use Rattle.typst_grammar.specs.calls.Block.TheVariants as block
 use Rattle.typst_grammar.specs.Point.{Point}
-use Rattle.typst_grammar.specs.Shape.{Shape, hinted, shaped, becomes, unclosed}
+use Rattle.typst_grammar.specs.Shape.{Shape, hinted, shaped, encloses}
 use Rattle.typst_grammar.specs.Steps.{peek, node}
 use Rattle.typst_grammar.specs.Syntax.{Parser, ◌>>◌}
 use Rattle.typst_grammar.specs.Syntax.Begin.{at_token}
@@ -66,7 +66,7 @@ ends-plain b a o e = record {
 
 -- what stands between the delimiters of a block: where the second is missing the first is an error
 abbrev pub enclosing : Block → Bool → Shape
-enclosing b closed = if closed then becomes (kind_of b) else unclosed (kind_of b)
+enclosing b closed = encloses (kind_of b) closed
 
 -- it becomes one node
 ends-enclosing : (b : Block) (n : ℕ) (closed : Bool) (o : Outcome Bool) → o.value ≡ closed → EndsIn b (wrapped (enclosing b) n o)

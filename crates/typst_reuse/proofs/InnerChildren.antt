@@ -11,7 +11,7 @@ use Rattle.typst_grammar.specs.calls.Mark.TheVariants as mark
 use Rattle.typst_grammar.specs.Ask.Ask.{marked}
 use Rattle.typst_grammar.specs.Hand.{Hand, told}
 use Rattle.typst_grammar.specs.Point.{Trivia, Point, is_nil, point_of, state_of, gap_of, pending}
-use Rattle.typst_grammar.specs.Shape.{hinted, shaped, becomes, after_node}
+use Rattle.typst_grammar.specs.Shape.{hinted, shaped, becomes, after_node, encloses}
 use Rattle.typst_grammar.specs.Shape.Making.{itself}
 use Rattle.typst_grammar.specs.Steps.{flush_trivia, close_if}
 use Rattle.typst_grammar.specs.Syntax.Op.{takes}
@@ -22,7 +22,7 @@ use Rattle.typst_grammar.proofs.Backs.{backs-joined}
 use Rattle.typst_grammar.proofs.Hints.{standing-joined}
 use Rattle.typst_grammar.proofs.Knot.{sane-meaning, sane-plain}
 use Rattle.typst_grammar.proofs.Places.{less-none}
-use Rattle.typst_grammar.specs.Markup.{bracketed, ends_block, markup_turn, markup_reading}
+use Rattle.typst_grammar.specs.Markup.{ends_block, markup_turn, markup_reading}
 use Rattle.typst_grammar.specs.Grammar.{rules, max_depth, start_of, whole, tree, parsed}
 use Rattle.typst_reuse.specs.BlockRuns.{inner, look_again, bracket, inner_lead, inner_run, inner_tail, inner_close, run_of, body_of, content_with, run_at, tail_at, close_at}
 use Rattle.typst_reuse.specs.Children.{exchanged, with_children, Settles}
@@ -72,7 +72,7 @@ quiet-joined o p q r =
 
 -- ---- the node of a content block
 
-shaped-is : (closed : Bool) (lb : Tree) (kids ends : List Tree) → shaped (bracketed closed) (lb ∷ inner_of kind.Markup (forest kids) ∷ ends) ≡ block_with closed lb kids ends ∷ []
+shaped-is : (closed : Bool) (lb : Tree) (kids ends : List Tree) → shaped (encloses kind.ContentBlock closed) (lb ∷ inner_of kind.Markup (forest kids) ∷ ends) ≡ block_with closed lb kids ends ∷ []
 shaped-is true lb kids ends = refl
 shaped-is false lb kids ends = refl
 
@@ -188,10 +188,10 @@ module _ (k : CharClasses) (levels : ℕ) (z : Place) (s : Point) where
       let second = look_again k levels z s in
       let left = left_to second.state.reading all in
       let n = length (pending second.state.known) in
-      let block = wrapped bracketed n left in
+      let block = wrapped (encloses kind.ContentBlock) n left in
       let zero_more : n + all.back ≡ 0 = ap (λ a. a + all.back) b.pending_none ∙ ap (λ a. 0 + a) quiet_all.back in
       let block_nodes : block.nodes ≡ block_with close.value b.node kids close.nodes ∷ [] =
-      ap (λ a. take a all.nodes ++ shaped (bracketed close.value) (drop a all.nodes)) zero_more ∙ ap (λ ts. shaped (bracketed close.value) ts) all_nodes ∙ shaped-is close.value b.node kids close.nodes in
+      ap (λ a. take a all.nodes ++ shaped (encloses kind.ContentBlock close.value) (drop a all.nodes)) zero_more ∙ ap (λ ts. shaped (encloses kind.ContentBlock close.value) ts) all_nodes ∙ shaped-is close.value b.node kids close.nodes in
       let quiet_block : Quiet block = record { back = quiet_all.back; hints = quiet_all.hints } in
       let value = plain block.value.0 block.state in
       let done = plain (tt {0}) block.state in

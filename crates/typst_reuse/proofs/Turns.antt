@@ -14,7 +14,7 @@ use Rattle.typst_grammar.specs.Depth.{anywhere, too_deep, deeper, is_end}
 use Rattle.typst_node.specs.Tree.{Tree}
 use Rattle.typst_grammar.specs.Hand.{AtHand, told, len_at, hand_at, hand_asks}
 use Rattle.typst_grammar.specs.Point.{Trivia, Point, is_nil}
-use Rattle.typst_grammar.specs.Shape.{Making, hinted, Shape, becomes, after_node}
+use Rattle.typst_grammar.specs.Shape.{Making, hinted, Shape, becomes, after_node, encloses}
 use Rattle.typst_grammar.specs.Shape.Making.{itself, of_kind, surprise}
 use Rattle.typst_grammar.specs.Steps.{eat_making, eat, convert_and_eat, unexpected, flush_trivia, node, within}
 use Rattle.typst_grammar.specs.Syntax.{Parser, ◌>>=◌, ◌>>◌}
@@ -29,7 +29,7 @@ use Rattle.typst_grammar.specs.head.MarkupHead.{MarkupHead}
 use Rattle.typst_grammar.specs.head.MarkupHead.TheVariants as head
 use Rattle.typst_grammar.specs.Markup.{ends, markup_turn, markup_head, markup_by, markup_expr, delimited, emphasized, heading, item, term_item, reference, strong, emph}
 use Rattle.typst_grammar.specs.Embedded.{embedded}
-use Rattle.typst_grammar.specs.Equations.{between_dollars, equation, in_dollars}
+use Rattle.typst_grammar.specs.Equations.{between_dollars, equation}
 use Rattle.typst_reuse.specs.Joint.{minds}
 use Rattle.typst_reuse.specs.Occurrences.{goes}
 use Rattle.typst_reuse.proofs.Led.{trivia_with, before_trivia, none-less, none-of, Led, led-then, led-asked, Counts_less, Takes, asks-behind, takes-token, takes-next, takes-peek, takes-column, takes-scoped, takes-wraps, takes-calls}
@@ -46,7 +46,7 @@ emphasized-counts k warning hint (true, true) ts s = omega arith
 emphasized-counts k warning hint (true, false) ts s = omega arith
 emphasized-counts k warning hint (false, b) ts s = omega arith
 
-dollars-counts : (closed : Bool) → Counts_less (in_dollars closed)
+dollars-counts : (closed : Bool) → Counts_less (encloses kind.Equation closed)
 dollars-counts true ts s = omega arith
 dollars-counts false ts s = omega arith
 
@@ -115,7 +115,7 @@ module _ (l : Level) (sd : (c : Call) → Sane (l.deeper c)) (sb : (b : Block) �
 
     takes-equation : Takes h z t us false (run l equation)
     unfolding equation between_dollars
-    takes-equation = goes-on false (node in_dollars _) _ (takes-node in_dollars _ dollars-counts (takes-within _ _ (goes-on false eat _ takes-eat)))
+    takes-equation = goes-on false (node (encloses kind.Equation) _) _ (takes-node (encloses kind.Equation) _ dollars-counts (takes-within _ _ (goes-on false eat _ takes-eat)))
 
     takes-by : (nesting : ℕ) (x : MarkupHead) → Takes h z t us (minds x) (run l (markup_by nesting x))
     takes-by nesting head.Itself = goes-on false eat _ takes-eat

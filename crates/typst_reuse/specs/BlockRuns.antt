@@ -11,12 +11,12 @@ use Rattle.typst_grammar.specs.Ask.Ask.{marked}
 use Rattle.typst_grammar.specs.Hand.{AtHand}
 use Rattle.typst_grammar.specs.Knot.{meaning_of}
 use Rattle.typst_grammar.specs.Point.{Point, point_of, state_of, pending, gap_of, is_nil}
-use Rattle.typst_grammar.specs.Shape.{becomes, after_node}
+use Rattle.typst_grammar.specs.Shape.{becomes, after_node, encloses}
 use Rattle.typst_grammar.specs.Shape.Making.{itself}
 use Rattle.typst_grammar.specs.Steps.{peek, flush_trivia, close_if}
 use Rattle.typst_grammar.specs.Syntax.Op.{takes}
 use Rattle.typst_grammar.specs.Meaning.{Outcome, Level, plain, joined, wrapped, blockless, entered, left_to, done, run}
-use Rattle.typst_grammar.specs.Markup.{ends_block, bracketed, markup_reading}
+use Rattle.typst_grammar.specs.Markup.{ends_block, markup_reading}
 use Rattle.typst_grammar.specs.Grammar.{rules, max_depth}
 use Rattle.typst_reuse.specs.Edit.{Among, text_with, AllEndBy, AllBeginIn, Passes}
 use Rattle.typst_reuse.specs.Laws.{blocks_of_text, Kept}
@@ -68,7 +68,7 @@ body_of o = let w = wrapped (λ _. becomes kind.Markup) 0 o in joined (joined w 
 abbrev pub content_of : Outcome AtHand → Outcome AtHand → Outcome (Unit {0}) → Outcome Bool → Outcome Bool → Outcome (Unit {0})
 content_of first second opening body close =
     let s = second.state in
-    let w = wrapped bracketed (length (pending s.known)) (left_to s.reading (joined opening (joined body close))) in
+    let w = wrapped (encloses kind.ContentBlock) (length (pending s.known)) (left_to s.reading (joined opening (joined body close))) in
     joined first (joined (joined second (joined w (plain w.value.0 w.state))) (plain (tt {0}) w.state))
 
 -- a content block at a place and a point, by its run and what comes behind it

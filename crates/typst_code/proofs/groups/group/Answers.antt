@@ -18,4 +18,4 @@ returns g c l h =
     (does-next (c.in_ok-eat.ensures l h) (does-next (c.in_ok-colon.ensures colon (c.eq.ensures ∙ ap colon c.current.ensures) l h)
     (does-next (rw c.new.ensures at c.in_ok-items.ensures l h) (does-next (c.in_ok-closed.ensures closer (c.eq-2.ensures ∙ ap closer c.current-2.ensures) l h) does-gives))))
     c.enter_rule-outer.ensures.outer (c.in_ok-leave.ensures l h))
-    (rw (sym c.kind-kind.ensures.kind) c.in_ok-wrap_group.ensures)) (does-value c.kind-kind.ensures.kind does-gives)
+    (rw (sym c.kind-kind.ensures.kind) c.in_ok-wrap_enclosed.ensures)) (does-value c.kind-kind.ensures.kind does-gives)

@@ -1,7 +1,9 @@
+use Rattle.typst_kinds.specs.declared.kind.SyntaxKind.TheVariants as kind
+use Rattle.typst_machine.specs.Shape.{encloses}
 use Rattle.typst_machine.proofs.Steps.{does-next, does-gives, does-node}
-use Rattle.typst_markup.specs.Equations.{equation, in_dollars}
+use Rattle.typst_markup.specs.Equations.{equation}
 use Rattle.typst_markup.proofs.equations.equation.Goals as goal
 
 pub returns : goal.returns
 unfolding equation
-returns g c l h = does-next (does-node in_dollars h.sound c.marker-from.ensures.few c.marker-from.ensures.marker (c.in_ok-closed.ensures l h) c.in_ok-wrap_in_dollars.ensures) does-gives
+returns g c l h = does-next (does-node (encloses kind.Equation) h.sound c.marker-from.ensures.few c.marker-from.ensures.marker (c.in_ok-closed.ensures l h) c.in_ok-wrap_enclosed.ensures) does-gives
