@@ -292,12 +292,12 @@ looking-next k m from z w tokens h t e =
 pub looking-end : (k : CharClasses) (m : SyntaxMode) (from z : Place) (tokens : Hull) → Looking k m from z tokens → at_trivia k m z ≡ false → tokens_at k m from ≡ tokens
 looking-end k m from z tokens h t = h.all ∙ ap (joined_hull tokens) (tokens-stop k m z t) ∙ same-hull _ _ _ _ (omega (arith, h.last.reach)) (omega (arith, h.last.least))
 
-pub is-ahead : (k : CharClasses) (held : Reading) (from : Scanner) (a : Front) → a.before ≡ from → a.is_read ≡ true
-    → a.own ≡ token_hull k held.mode (place a.start) → a.here ≡ column_hull held a.newlines (place a.start) a.own → Along k held.mode a.newlines a.trivia.items (place a.before) (place a.start)
+pub is-ahead : (k : CharClasses) (held : Reading) (from : Scanner) (ts : List Tree) (a : Front) → a.before ≡ from → a.is_read ≡ true
+    → a.own ≡ token_hull k held.mode (place a.start) → a.here ≡ column_hull held a.newlines (place a.start) a.own → Along k held.mode a.newlines ts (place a.before) (place a.start)
     → at_trivia k held.mode (place a.start) ≡ false → exec (token k held.mode) (place a.start) ≡ (a.token, place a.after)
     → a.kind ≡ judged held a.newlines a.token.kind (column_at (place a.start)) → a.start.text.now ≡ a.before.text.now → a.after.text.now ≡ a.start.text.now → a.line.text.now ≡ a.before.text.now
-    → IsAhead k held from a
-is-ahead k held begin a same is_read own-is here-is along stop read kind-is one two three =
+    → IsAhead k held from ts a
+is-ahead k held begin ts a same is_read own-is here-is along stop read kind-is one two three =
     let m = held.mode in
     let from = place a.before in
     let z = place a.start in
@@ -310,7 +310,7 @@ is-ahead k held begin a same is_read own-is here-is along stop read kind-is one 
       before = same;
       is_read = is_read;
       stands = record { start = start-at; after = after-is ∙ ap (λ n. moved n z) (sym len-is); start_text = one; after_text = two; line_text = three };
-      hand = same-hand _ _ _ _ _ _ _ _ _ _ _ _ (kind-is ∙ ap (λ (u : Token). judged held a.newlines u.kind (column_at z)) (sym t)) refl gap-is len-is refl (sym t) ∙ along-end k held a.newlines a.trivia.items from z along stop ∙ ap (λ (s : Scanner). hand_at k held None (place s)) same;
+      hand = same-hand _ _ _ _ _ _ _ _ _ _ _ _ (kind-is ∙ ap (λ (u : Token). judged held a.newlines u.kind (column_at z)) (sym t)) refl gap-is len-is refl (sym t) ∙ along-end k held a.newlines ts from z along stop ∙ ap (λ (s : Scanner). hand_at k held None (place s)) same;
       own = own-is ∙ ap (token_hull k m) start-at ∙ ap (λ (s : Scanner). token_hull k m (moved (distance a.before a.start) (place s))) same;
       here = here-is ∙ ap (λ (p : Place). column_hull held a.newlines p a.own) start-at ∙ ap (λ (s : Scanner). column_hull held a.newlines (moved (distance a.before a.start) (place s)) a.own) same;
     }

@@ -1,9 +1,10 @@
 -- The token that is read ahead.
-use Rattle.std.specs.Prelude.{◌≡◌, ◌-◌, ℕ, true, None, length}
+use Rattle.std.specs.Prelude.{◌≡◌, ◌-◌, ℕ, List, true, None, length}
 use Rattle.typst_lines.specs.Place.{moved}
 use Rattle.typst_lines.specs.Scanner.{place}
 use Rattle.typst_lines.specs.declared.scanner.Scanner.{Scanner}
 use Rattle.typst_classes.specs.Classes.{CharClasses}
+use Rattle.typst_node.specs.Tree.{Tree}
 use Rattle.typst_combinators.specs.declared.reading.Reading.{Reading}
 use Rattle.typst_combinators.specs.Hand.{Hand, hand_at}
 use Rattle.typst_ahead.specs.declared.ahead.ReadAhead.{ReadAhead}
@@ -13,11 +14,11 @@ use Rattle.typst_ahead.specs.Bytes.{token_hull, column_hull}
 abbrev pub distance : Scanner → Scanner → ℕ
 distance from to = length (place to).behind - length (place from).behind
 
--- the token that was read ahead
-abbrev pub hand_of_ahead : ReadAhead → Hand
-hand_of_ahead a = record {
+-- the token that was read ahead, with the trivia before it
+abbrev pub hand_of_ahead : ReadAhead → List Tree → Hand
+hand_of_ahead a trivia = record {
   kind = a.kind;
-  trivia = a.trivia.items;
+  trivia = trivia;
   gap = distance a.before a.start;
   len = distance a.start a.after;
   newlines = a.newlines;
@@ -33,10 +34,10 @@ pub record Stands (a : ReadAhead) : Type 0 where
   pub line_text : a.line.text.now ≡ a.before.text.now
 
 -- trivia and token are those at a place of which nothing was known
-pub record IsAhead (k : CharClasses) (held : Reading) (from : Scanner) (a : ReadAhead) : Type 0 where
+pub record IsAhead (k : CharClasses) (held : Reading) (from : Scanner) (trivia : List Tree) (a : ReadAhead) : Type 0 where
   pub before : a.before ≡ from
   pub is_read : a.is_read ≡ true
   pub stands : Stands a
-  pub hand : hand_of_ahead a ≡ hand_at k held None (place from)
-  pub own : a.own ≡ token_hull k held.mode (moved (hand_of_ahead a).gap (place from))
-  pub here : a.here ≡ column_hull held a.newlines (moved (hand_of_ahead a).gap (place from)) a.own
+  pub hand : hand_of_ahead a trivia ≡ hand_at k held None (place from)
+  pub own : a.own ≡ token_hull k held.mode (moved (distance a.before a.start) (place from))
+  pub here : a.here ≡ column_hull held a.newlines (moved (distance a.before a.start) (place from)) a.own

@@ -24,8 +24,8 @@ use typst_lines::Scanner;
 use typst_node::SyntaxNode;
 use typst_readers::column::column;
 
-/// The token at hand, with the trivia before it.
-#[derive(Drop)]
+/// The token at hand, without the nodes of the trivia before it.
+#[derive(Clone, Copy)]
 pub struct ReadAhead<'s> {
     /// Whether the token was asked for. If not, it stands for nothing.
     pub is_read: bool,
@@ -35,8 +35,6 @@ pub struct ReadAhead<'s> {
     pub start: Scanner<'s>,
     /// Where it ends.
     pub after: Scanner<'s>,
-    /// The nodes of the trivia.
-    pub trivia: Vec<SyntaxNode>,
     /// The newlines before the token, also those that became nodes already.
     pub newlines: Newlines,
     pub token: Token,
@@ -54,7 +52,7 @@ impl<'s> ReadAhead<'s> {
     ghost use Rattle.std.specs.Prelude.{false};
 
     /// Nothing, at a place.
-    pub fn none(alloc: Global, at: Scanner<'s>) -> ReadAhead<'s>
+    pub fn none(at: Scanner<'s>) -> ReadAhead<'s>
         ensures stands { Stands result }
         ensures before { result.before ≡ at.entry }
         ensures unread { result.is_read ≡ false }
@@ -65,7 +63,6 @@ impl<'s> ReadAhead<'s> {
             before: at,
             start: at,
             after: at,
-            trivia: Vec::new(alloc),
             newlines: no_newlines(),
             token: Token {
                 kind: SyntaxKind::End,
@@ -90,19 +87,21 @@ impl<'s> ReadAhead<'s> {
         self.start = after;
     }
 
-    /// Reads trivia and a token, and answers all that was looked at for them.
+    /// Reads trivia, of which these become the nodes, and a token, and answers all that was looked
+    /// at for them.
     pub fn read<C: Classes>(
         &mut self,
+        trivia: &mut Vec<SyntaxNode>,
         alloc: Global,
         held: Reading,
         classes: &C,
     ) -> Result<Hull, AllocError>
         requires { self.old.line.text.now ≡ self.old.before.text.now }
-        ensures read { OnOk result (IsAhead (C.classes classes.now) held self.old.before self.new) }
+        ensures read { OnOk result (IsAhead (C.classes classes.now) held self.old.before trivia.new.items self.new) }
         ensures hull { IfOk result (λ u. u ≡ bytes.whole_at (C.classes classes.now) held (place self.old.before)) }
         ensures refused { OnErr result (Stands self.old → Stands self.new) }
     {
-        self.trivia.clear();
+        trivia.clear();
         let mut newlines = no_newlines();
         let mut start = self.before;
         let mut tokens = Hull {
@@ -125,14 +124,7 @@ impl<'s> ReadAhead<'s> {
                 return Ok(joined(tokens, here));
             }
             let text = next.after.since(&start);
-            push_node(
-                &mut self.trivia,
-                alloc,
-                next.token,
-                text,
-                start.after(),
-                classes,
-            )?;
+            push_node(trivia, alloc, next.token, text, start.after(), classes)?;
             newlines = with_token(newlines, next.token);
             start = next.after;
         }

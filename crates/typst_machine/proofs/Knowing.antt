@@ -10,7 +10,7 @@ use Rattle.typst_ahead.specs.reading.Reading.{Reading}
 use Rattle.typst_ahead.specs.Ask.{Ask, only_looks}
 use Rattle.typst_ahead.specs.Ask.Ask.{looked, marked}
 use Rattle.typst_ahead.specs.Bytes.{LiesIn, bytes_left}
-use Rattle.typst_ahead.specs.Cursor.{Stands, distance, hand_of_ahead}
+use Rattle.typst_ahead.specs.Cursor.{Stands, distance}
 use Rattle.typst_ahead.specs.declared.ahead.ReadAhead.{ReadAhead}
 use Rattle.typst_ahead.specs.Log.{Log, logged, with_hull}
 use Rattle.typst_ahead.specs.Nodes.{is_leaf}
@@ -59,7 +59,7 @@ pub only-place : (z w : Place) → end_of z ≡ end_of w → bytes_left z ≡ by
 only-place z w e f = elim (order (length w.ahead) (length z.ahead)) [ inl h ↦ no-more z w e f h | inr h ↦ sym (no-more w z (sym e) (sym f) h) ]
 
 -- where the token at hand ends
-pub place-behind : (a : ReadAhead) → Stands a → place a.after ≡ moved ((hand_of_ahead a).gap + (hand_of_ahead a).len) (place a.before)
+pub place-behind : (a : ReadAhead) → Stands a → place a.after ≡ moved (distance a.before a.start + distance a.start a.after) (place a.before)
 place-behind a s = s.after ∙ ap (moved (distance a.start a.after)) s.start ∙ sym (moved-sum (distance a.before a.start) (distance a.start a.after) (place a.before))
 
 -- ---- what is remembered

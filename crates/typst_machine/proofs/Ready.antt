@@ -189,7 +189,7 @@ after-wrong i text s e = rw e refl
 -- where the trivia are known, the token was read
 pub was-read : {l : Level} (i : Inside) → Fits l (view_of i) → i.ahead.is_read ≡ true
 was-read i f =
-    let h = hand_of_ahead i.ahead in
+    let h = hand_of_ahead i.ahead i.trivia.items in
     let t : Trivia = record { nodes = h.trivia; gap = h.gap; newlines = h.newlines } in
     by-test i.ahead.is_read t t f.known
   where

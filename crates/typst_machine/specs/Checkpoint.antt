@@ -1,8 +1,6 @@
 -- A place of a text to go back to.
-use Rattle.std.specs.Prelude.{◌≡◌, ℕ, ◌-◌, ◌==◌, min, Bool, true, false, if◌then◌else◌, List, [], length, take, drop, Option, Some, None}
-use Rattle.typst_lines.specs.Place.{Place, moved}
-use Rattle.typst_lines.specs.Scanner.{place}
-use Rattle.typst_lines.specs.declared.scanner.Scanner.{Scanner}
+use Rattle.std.specs.Prelude.{◌≡◌, ℕ, ◌==◌, min, Bool, true, false, if◌then◌else◌, List, [], length, take, drop, Option, Some, None}
+use Rattle.typst_lines.specs.Place.{Place}
 use Rattle.typst_node.specs.Tree.{Tree}
 use Rattle.typst_readers.specs.declared.hull.Hull.{Hull}
 use Rattle.typst_ahead.specs.reading.State.{State}
@@ -84,10 +82,3 @@ pub record Leaves (old mid : View) : Type 0 where
 -- what was noted since is dropped
 abbrev pub forgot_notes : Saved → View → View
 forgot_notes c v = record v { log = unnoted c.notes v.log }
-
--- a token stands behind its trivia, between these places
-pub record AreBehind (before start after : Scanner) : Type 0 where
-  pub start_place : place start ≡ moved (length (place start).behind - length (place before).behind) (place before)
-  pub after_place : place after ≡ moved (length (place after).behind - length (place start).behind) (place start)
-  pub start_text : start.text.now ≡ before.text.now
-  pub after_text : after.text.now ≡ start.text.now

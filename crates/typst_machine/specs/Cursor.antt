@@ -2,6 +2,7 @@
 use Rattle.std.specs.Prelude.{◌≡◌, ◌≤◌, ℕ, Bool, if◌then◌else◌, List, [], Option, None, length}
 use Rattle.std.specs.Str.{chars}
 use Rattle.typst_lines.specs.Scanner.{place}
+use Rattle.typst_node.specs.Tree.{Tree}
 use Rattle.typst_ahead.specs.reading.Reading.{Reading}
 use Rattle.typst_ahead.specs.reading.State.{State}
 use Rattle.typst_ahead.specs.Point.{Point, Trivia}
@@ -14,18 +15,18 @@ use Rattle.typst_ahead.specs.Cursor.{Stands, hand_of_ahead}
 use Rattle.typst_machine.specs.View.{View}
 
 -- what is known of the trivia, once the token was asked for
-abbrev pub known_of : ReadAhead → Option Trivia
-known_of a = if a.is_read then known_by (hand_of_ahead a) else None
+abbrev pub known_of : ReadAhead → List Tree → Option Trivia
+known_of a trivia = if a.is_read then known_by (hand_of_ahead a trivia) else None
 
-abbrev pub point_of_ahead : State → ReadAhead → Point
-point_of_ahead s a = record { reading = s.reading; held = s.held; empties = s.empties; is_after_error = s.is_after_error; known = known_of a }
+abbrev pub point_of_ahead : State → ReadAhead → List Tree → Point
+point_of_ahead s a trivia = record { reading = s.reading; held = s.held; empties = s.empties; is_after_error = s.is_after_error; known = known_of a trivia }
 
 abbrev pub view_of : Inside → View
 view_of i = record {
   nodes = i.nodes.items;
   place = place i.ahead.before;
-  state = point_of_ahead i.state i.ahead;
-  hand = hand_of_ahead i.ahead;
+  state = point_of_ahead i.state i.ahead i.trivia.items;
+  hand = hand_of_ahead i.ahead i.trivia.items;
   own = i.ahead.own;
   here = i.ahead.here;
   log = i.log;

@@ -1,13 +1,12 @@
 //! A place to go back to.
 
 ghost use Rattle.std.specs.Prelude.{◌≡◌, ◌≤◌, ◌-◌, ◌^◌, OnOk, length};
-ghost use Rattle.typst_machine.specs.Checkpoint.{AreBehind, first_of, forgot_notes, saved, went_back};
+ghost use Rattle.typst_ahead.specs.Cursor.{Stands};
+ghost use Rattle.typst_machine.specs.Checkpoint.{first_of, forgot_notes, saved, went_back};
 
 use crate::parser::Parser;
 use std::alloc::AllocError;
-use typst_ahead::{Hull, LineEnd, Newlines, State, Token};
-use typst_kinds::SyntaxKind;
-use typst_lines::Scanner;
+use typst_ahead::{ReadAhead, State};
 use typst_node::SyntaxNode;
 
 /// Where a parser stood: how many nodes and notes there were, and the token at hand. It keeps no
@@ -21,18 +20,8 @@ pub struct Checkpoint<'s> {
     /// How many notes there were.
     notes: usize,
     state: State,
-    is_read: bool,
-    before: Scanner<'s>,
-    start: Scanner<'s>,
-    after: Scanner<'s>,
-    newlines: Newlines,
-    token: Token,
-    kind: SyntaxKind,
-    own: Hull,
-    here: Hull,
-    line: LineEnd<'s>,
-    ghost behind: { AreBehind before start after },
-    ghost line_text: { line.text.now ≡ before.text.now },
+    ahead: ReadAhead<'s>,
+    ghost stands: { Stands ahead },
 }
 
 impl<'s> Parser<'s> {
@@ -46,19 +35,10 @@ impl<'s> Parser<'s> {
     {
         Checkpoint {
             nodes: self.nodes.len(),
-            trivia: self.ahead.trivia.len(),
+            trivia: self.trivia.len(),
             notes: self.log.count(),
             state: self.state,
-            is_read: self.ahead.is_read,
-            before: self.ahead.before,
-            start: self.ahead.start,
-            after: self.ahead.after,
-            newlines: self.ahead.newlines,
-            token: self.ahead.token,
-            kind: self.ahead.kind,
-            own: self.ahead.own,
-            here: self.ahead.here,
-            line: self.ahead.line,
+            ahead: self.ahead,
         }
     }
 
@@ -71,17 +51,8 @@ impl<'s> Parser<'s> {
         self.state.empties = 0;
         let at = to.nodes.min(self.nodes.len());
         let given = self.nodes.split_off(at)?;
-        put_back(&mut self.ahead.trivia, given, to.trivia);
-        self.ahead.is_read = to.is_read;
-        self.ahead.before = to.before;
-        self.ahead.start = to.start;
-        self.ahead.after = to.after;
-        self.ahead.newlines = to.newlines;
-        self.ahead.token = to.token;
-        self.ahead.kind = to.kind;
-        self.ahead.own = to.own;
-        self.ahead.here = to.here;
-        self.ahead.line = to.line;
+        put_back(&mut self.trivia, given, to.trivia);
+        self.ahead = to.ahead;
         self.state = to.state;
         self.state.empties = to.state.empties.min(self.nodes.len());
         self.log.drop_notes(to.notes);

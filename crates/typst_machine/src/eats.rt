@@ -69,7 +69,7 @@ impl<'s> Parser<'s> {
         let count = if trims { self.state.empties } else { 0 };
         self.state.empties = 0;
         trim(&mut self.nodes, count);
-        push_all(&mut self.nodes, &mut self.ahead.trivia)?;
+        push_all(&mut self.nodes, &mut self.trivia)?;
         give(&mut self.nodes, &mut self.state, node)?;
         self.state.held = self.state.reading;
         self.ahead.pass();
@@ -314,12 +314,12 @@ impl<'s> Parser<'s> {
         ensures { (l : Level) → OnOk result (Fits l self.old → Flushed self.old self.new) }
     {
         self.ahead.before = self.ahead.start;
-        if is_none(self.ahead.trivia.as_slice()) {
+        if is_none(self.trivia.as_slice()) {
             return Ok(());
         }
         self.state.empties = 0;
         self.state.is_after_error = false;
-        push_all(&mut self.nodes, &mut self.ahead.trivia)?;
+        push_all(&mut self.nodes, &mut self.trivia)?;
         Ok(())
     }
 }

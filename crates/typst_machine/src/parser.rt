@@ -43,6 +43,8 @@ pub struct Parser<'s> {
     /// Without the trivia before the token at hand.
     pub(crate) nodes: Vec<SyntaxNode>,
     pub(crate) ahead: ReadAhead<'s>,
+    /// The nodes of the trivia before it.
+    pub(crate) trivia: Vec<SyntaxNode>,
     pub(crate) state: State,
     pub(crate) log: Log,
     /// First readings that turned out wrong, those first that have more bytes left.
@@ -85,7 +87,8 @@ impl<'s> Parser<'s> {
         Ok(Parser {
             alloc,
             nodes: Vec::with_capacity(alloc, (text.len() / BYTES_PER_NODE).min(MOST_ROOM))?,
-            ahead: ReadAhead::none(alloc, Scanner::new(text)),
+            ahead: ReadAhead::none(Scanner::new(text)),
+            trivia: Vec::new(alloc),
             state,
             log: Log::new(alloc, keeps_notes),
             memo: Vec::new(alloc),
@@ -112,7 +115,8 @@ impl<'s> Parser<'s> {
         Parser {
             alloc,
             nodes,
-            ahead: ReadAhead::none(alloc, at),
+            ahead: ReadAhead::none(at),
+            trivia: Vec::new(alloc),
             state,
             log,
             memo: Vec::new(alloc),
@@ -175,7 +179,7 @@ impl<'s> Parser<'s> {
     pub fn had_trivia(&self) -> bool
         ensures { result ≡ not (is_nil self.now.hand.trivia) }
     {
-        !is_none(self.ahead.trivia.as_slice())
+        !is_none(self.trivia.as_slice())
     }
 
     /// How many bytes there are from the pending trivia on.
@@ -208,7 +212,9 @@ impl<'s> Parser<'s> {
     pub(crate) fn read<C: Classes>(&mut self, classes: &C) -> Result<(), AllocError>
         ensures { (l : Level) → l.classes ≡ C.classes classes.now → OnOk result (Looked l (unasked self.old) self.new) }
     {
-        let hull = self.ahead.read(self.alloc, self.state.held, classes)?;
+        let hull = self
+            .ahead
+            .read(&mut self.trivia, self.alloc, self.state.held, classes)?;
         self.log.look(hull);
         Ok(())
     }
@@ -238,7 +244,7 @@ impl<'s> Parser<'s> {
         ensures marker { result ≡ length self.now.nodes + length self.now.hand.trivia }
         ensures few { self.now.state.empties ≤ length self.now.nodes }
     {
-        self.nodes.len().saturating_add(self.ahead.trivia.len())
+        self.nodes.len().saturating_add(self.trivia.len())
     }
 
     /// The number that the first node of the pending trivia will have.

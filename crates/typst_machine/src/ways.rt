@@ -73,7 +73,7 @@ impl<'s> Parser<'s> {
         ensures { OnOk result (GaveUpTo (place after.entry) node self.old self.new) }
     {
         self.state.empties = 0;
-        push_all(&mut self.nodes, &mut self.ahead.trivia)?;
+        push_all(&mut self.nodes, &mut self.trivia)?;
         give(&mut self.nodes, &mut self.state, node)?;
         self.state.held = self.state.reading;
         self.ahead.after = after;

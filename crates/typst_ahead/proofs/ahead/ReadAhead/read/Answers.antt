@@ -39,7 +39,7 @@ returns-then-not-is_trivia-clause-read g c =
       | then-not-is_trivia-via-then-not-is_trivia w ↦ no-trivia k m z _ _ next.ensures.reads (sym c.is_trivia.ensures ∙ w.if-not-is_trivia.true)
       | then-not-is_trivia-via-else-not-is_trivia+then-left w ↦ no-more k m z _ _ next.ensures.reads (omega (arith, w.left.ensures, w.left-else-not-is_trivia.ensures, w.if-left.true))
     ] in
-    is-ahead k c.args.held c.args.self.now.before _ i.before refl next.ensures.hull c.judged-kind.ensures.here i.along stopped next.ensures.reads c.judged-kind.ensures.kind i.text next.ensures.same_text (next.ensures.line_text ∙ i.line)
+    is-ahead k c.args.held c.args.self.now.before _ _ i.before refl next.ensures.hull c.judged-kind.ensures.here i.along stopped next.ensures.reads c.judged-kind.ensures.kind i.text next.ensures.same_text (next.ensures.line_text ∙ i.line)
 
 pub returns-then-not-is_trivia-clause-hull : goal.returns-then-not-is_trivia-clause-hull
 returns-then-not-is_trivia-clause-hull g c =
@@ -56,7 +56,7 @@ returns-then-not-is_trivia-clause-hull g c =
     let looks = subst (Looking k m (place c.tokens.self.before) z) (sym (c.joined-tokens.ensures ∙ ap (joined_hull c.tokens.tokens) next.ensures.hull)) (i.looks own) in
     c.joined.ensures
     ∙ ap (joined_hull c.joined-tokens.result) (c.judged-kind.ensures.here ∙ ap (column_hull c.args.held c.tokens.newlines z) next.ensures.hull)
-    ∙ whole-is k c.args.held c.tokens.newlines c.tokens.self.trivia.items (place c.tokens.self.before) z _ i.along stopped looks
+    ∙ whole-is k c.args.held c.tokens.newlines c.tokens.trivia.items (place c.tokens.self.before) z _ i.along stopped looks
     ∙ ap (λ (s : Scanner). whole_at k c.args.held (place s)) i.before
 
 pub since-text-requires-clause-after : goal.since-text-requires-clause-after
@@ -95,14 +95,14 @@ tokens-preserved g c =
     let at = some-trivia k m z _ _ next.ensures.reads (sym c.is_trivia.ensures ∙ c.if-not-is_trivia.false) (omega (arith, c.left.ensures, c.left-else-not-is_trivia.ensures, c.if-left.false)) in
     let text = c.since-text.ensures l p in
     let node = ap (token_node k next.next.token) text ∙ ap (λ u. token_node k u (text_ahead l z)) (sym t) in
-    let items = c.in_ok-push_node.ensures ∙ ap (λ (n : Tree). c.tokens.self.trivia.items ++ n ∷ []) node in
+    let items = c.in_ok-push_node.ensures ∙ ap (λ (n : Tree). c.tokens.trivia.items ++ n ∷ []) node in
     let w = place next.next.after in
     let tokens = c.joined-tokens.ensures ∙ ap (joined_hull c.tokens.tokens) next.ensures.hull in
     let own : (token_hull k m z).least ≤ 2 ^ 64 - 1 = omega (arith, next.ensures.fits, ap (λ (u : Hull). u.least) next.ensures.hull) in
     let line = next.ensures.line_text ∙ i.line in
     record {
       before = i.before;
-      along = rw (items, c.with_token-newlines.ensures, sym t) (along-next k m c.tokens.newlines c.tokens.self.trivia.items from z _ _ i.along at p refl);
+      along = rw (items, c.with_token-newlines.ensures, sym t) (along-next k m c.tokens.newlines c.tokens.trivia.items from z _ _ i.along at p refl);
       text = next.ensures.same_text ∙ i.text;
       line = line;
       looks = λ h. subst (λ u. Looking k m from w (joined_hull u (token_hull k m w))) (sym tokens) (looking-next k m from z w _ (i.looks own) at p);

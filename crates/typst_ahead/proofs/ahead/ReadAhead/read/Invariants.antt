@@ -12,7 +12,7 @@ invariant-tokens g l =
     let own = token_hull k m (place l.start) in
     record {
       before : l.self.before ≡ l.fn.self.before;
-      along : Along k m l.newlines l.self.trivia.items (place l.self.before) (place l.start);
+      along : Along k m l.newlines l.trivia.items (place l.self.before) (place l.start);
       text : l.start.text.now ≡ l.self.before.text.now;
       line : l.self.line.text.now ≡ l.self.before.text.now;
       looks : own.least ≤ 2 ^ 64 - 1 → Looking k m (place l.self.before) (place l.start) (joined_hull l.tokens own);

@@ -23,6 +23,6 @@ returns g c l h =
     let here = c.judged-kind.ensures.here ∙ ap (λ (p : Place). column_hull held i.ahead.newlines p i.ahead.own) z in
     rw (sym c.self.view_is)
     (λ f. left-judged l c.args.outer _ _ (sym c.same_mode.ensures ∙ c.if-not-same_mode.false) (sym c.same_rule.ensures ∙ c.if-same_rule.false) refl refl
-    (ap (λ (r : Bool). record { reading = c.args.outer; held = held; empties = i.state.empties; is_after_error = i.state.is_after_error; known = if r then known_by (record (hand_of_ahead i.ahead) { kind = c.judged-kind.result.0 }) else None }) (was-read i f))
+    (ap (λ (r : Bool). record { reading = c.args.outer; held = held; empties = i.state.empties; is_after_error = i.state.is_after_error; known = if r then known_by (record (hand_of_ahead i.ahead i.trivia.items) { kind = c.judged-kind.result.0 }) else None }) (was-read i f))
     (same-hand _ _ _ _ _ _ _ _ _ _ _ _ (c.judged-kind.ensures.kind ∙ ap (λ (p : Place). judged held i.ahead.newlines i.ahead.token.kind (column_at p)) z) refl refl refl refl refl)
     refl here c.look.ensures refl f)

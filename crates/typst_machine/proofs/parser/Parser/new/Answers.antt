@@ -10,7 +10,7 @@ pub returns : goal.returns
 returns c = record {
   nodes = c.in_ok-with_capacity.ensures.items;
   place = ap (λ (s : Scanner). place s) c.none.ensures.before ∙ c.new.ensures.place ∙ start-is c.args.text.now;
-  state = ap (λ (r : Bool). record { reading = c.args.reading; held = c.args.reading; empties = 0; is_after_error = false; known = if r then known_by (hand_of_ahead c.none.result) else None }) c.none.ensures.unread;
-  log = c.new-2.ensures;
-  memo = c.new-3.ensures.items;
+  state = ap (λ (r : Bool). record { reading = c.args.reading; held = c.args.reading; empties = 0; is_after_error = false; known = if r then known_by (hand_of_ahead c.none.result c.new-2.result.items) else None }) c.none.ensures.unread;
+  log = c.new-3.ensures;
+  memo = c.new-4.ensures.items;
 }

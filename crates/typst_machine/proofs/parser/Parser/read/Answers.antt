@@ -8,7 +8,7 @@ use Rattle.typst_ahead.specs.Hand.{hand_at, known_by}
 use Rattle.typst_ahead.specs.Log.{with_hull}
 use Rattle.typst_ahead.specs.Bytes.{token_hull, whole_at}
 use Rattle.typst_machine.specs.Cursor.{view_of}
-use Rattle.typst_ahead.specs.Cursor.{hand_of_ahead}
+use Rattle.typst_ahead.specs.Cursor.{distance, hand_of_ahead}
 use Rattle.typst_machine.proofs.Ready.{looked-is}
 use Rattle.typst_machine.proofs.parser.Parser.read.Goals as goal
 
@@ -18,10 +18,10 @@ returns g c l k =
     let a = c.read.new.self in
     let b = c.in_ok-hull.ensures.read in
     let from = place i.ahead.before in
-    let gap = (hand_of_ahead a).gap in
+    let gap = distance a.before a.start in
     rw (sym c.self.view_is)
     (looked-is l (view_of i) _ refl (ap (λ (s : Scanner). place s) b.before)
-    (ap (λ (r : Bool). record { reading = i.state.reading; held = i.state.held; empties = i.state.empties; is_after_error = i.state.is_after_error; known = if r then known_by (hand_of_ahead a) else None }) b.is_read)
+    (ap (λ (r : Bool). record { reading = i.state.reading; held = i.state.held; empties = i.state.empties; is_after_error = i.state.is_after_error; known = if r then known_by (hand_of_ahead a c.read.new.trivia.items) else None }) b.is_read)
     (b.hand ∙ ap (λ (q : CharClasses). hand_at q i.state.held None from) (sym k))
     (b.own ∙ ap (λ (q : CharClasses). token_hull q i.state.held.mode (moved gap from)) (sym k))
     b.here

@@ -15,6 +15,6 @@ returns c =
     let at = c.min-at.ensures ∙ ap (min to.nodes) (c.len.ensures ∙ i.nodes.ok.0) in
     let nodes = c.in_ok-given.ensures.items ∙ ap (λ n. take n all) at ∙ take_min to.nodes all in
     let given = c.in_ok-given.ensures.tail ∙ ap (λ n. drop n all) at ∙ drop_min to.nodes all in
-    let trivia = c.put_back.ensures ∙ ap (λ (ts : List Tree). first_of to.trivia ts i.ahead.trivia.items) given in
+    let trivia = c.put_back.ensures ∙ ap (λ (ts : List Tree). first_of to.trivia ts i.trivia.items) given in
     rw (sym c.self.view_is)
     (back-is (saved_by to) (view_of i) _ _ _ _ nodes trivia (c.min-self-inside.ensures ∙ ap (min to.state.empties) (c.len-2.ensures ∙ c.split_off.new.self.ok.0)) c.drop_notes.ensures)
