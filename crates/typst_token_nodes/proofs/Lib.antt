@@ -4,7 +4,6 @@
 --   access_node                           Accesses
 --   suffix_start, value_of                Suffixes
 --   message of an escape                  TokenTexts.thrice
---   read of next_node                     TokenTexts.is-read
 --   laws.TokenText                        TokenTexts.text-token
 pub mod Accesses
 pub mod Fronts

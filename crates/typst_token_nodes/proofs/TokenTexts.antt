@@ -1,15 +1,15 @@
 -- Facts on the texts of error tokens.
-use Rattle.std.proofs.Common.{◌≡◌, ℕ, Bool, true, false, not, ◌&&◌, ◌||◌, if◌then◌else◌, List, [], ◌∷◌, append-nil, encode_utf8_all, take, refl, ap, sym, ◌∙◌, Option, Some, None}
+use Rattle.std.proofs.Common.{◌≡◌, ℕ, Bool, true, false, not, ◌&&◌, ◌||◌, if◌then◌else◌, List, [], ◌∷◌, append-nil, encode_utf8_all, refl, ap, sym, ◌∙◌, Option, Some, None}
 use Rattle.std.specs.Str.{chars}
 use Rattle.typst_lines.proofs.Bools.{on}
-use Rattle.typst_lines.specs.Place.{Place, place_at, moved}
+use Rattle.typst_lines.specs.Place.{place_at, moved}
 use Rattle.typst_readers.proofs.Moves.{moved-more}
-use Rattle.typst_token_nodes.specs.Nodes.{IsRead, is_leaf, token_node, plain_node, fault_node, is_raw, has_fields}
+use Rattle.typst_token_nodes.specs.Nodes.{is_leaf, token_node, plain_node, fault_node, is_raw, has_fields}
 use Rattle.typst_token_nodes.specs.Faults.{hints, message}
 use Rattle.typst_token_nodes.specs.Fields.{access_node}
 use Rattle.typst_token_nodes.proofs.Accesses.{text-access}
 use Rattle.typst_token_nodes.proofs.Suffixes.{start-of}
-use Rattle.typst_readers.specs.Reader.{Reader, exec, eaten, place}
+use Rattle.typst_readers.specs.Reader.{place}
 use Rattle.typst_tokens.specs.declared.token.Token.{Token}
 use Rattle.typst_tokens.specs.declared.token.Fault.{Fault}
 use Rattle.typst_raw.proofs.Leaves.{raw-leaves}
@@ -19,7 +19,6 @@ use Rattle.typst_node.specs.Diagnostic.{hint_with}
 use Rattle.typst_classes.specs.Classes.{CharClasses}
 use Rattle.typst_node.specs.Tree.{Tree, text_of, leaf_of, error_of, all_advised}
 use Rattle.typst_node.proofs.Texts.{text_all_advised}
-use Rattle.typst_tokens.specs.Memory.{Memory}
 
 -- three characters on from a text's start
 pub thrice : (text : List ℕ) → moved 1 (moved 1 (moved 1 (place_at text 0))) ≡ moved 3 (place [] (chars text))
@@ -27,14 +26,6 @@ thrice text =
     ap (λ p. moved 1 (moved 1 (moved 1 p))) (start-of text)
     ∙ ap (moved 1) (moved-more 1 1 [] (chars text))
     ∙ moved-more 2 1 [] (chars text)
-
--- a token that was read, with the node that was made of its characters
-pub is-read : (k : CharClasses) (r : Reader Memory Token) (p q : Place) (t : Token) (node : Tree) (taken : List ℕ) → exec r p ≡ (t, q) → node ≡ token_node k t taken → taken ≡ take (eaten r p) p.ahead → IsRead k r p q t.kind node
-is-read k r p q t node taken e made same = record {
-  kind_is = sym (ap (λ x. x.0.kind) e);
-  node_is = made ∙ ap (token_node k t) same ∙ sym (ap (λ x. token_node k x.0 (take (eaten r p) p.ahead)) e);
-  place_is = sym (ap (λ x. x.1) e);
-}
 
 -- ---- the text of a node
 

@@ -1,18 +1,15 @@
 -- The node that a token makes of the characters that it took.
-use Rattle.std.specs.Prelude.{◌≡◌, ℕ, Bool, true, false, not, ◌&&◌, ◌||◌, if◌then◌else◌, List, [], ◌∷◌, take, Some, None, encode_utf8_all}
+use Rattle.std.specs.Prelude.{ℕ, Bool, true, false, not, ◌&&◌, ◌||◌, if◌then◌else◌, List, [], ◌∷◌, Some, None, encode_utf8_all}
 use Rattle.typst_classes.specs.Classes.{CharClasses}
 use Rattle.typst_kinds.specs.Kinds.{is_error}
 use Rattle.typst_kinds.specs.declared.kind.SyntaxKind.{SyntaxKind}
 use Rattle.typst_kinds.specs.declared.kind.SyntaxKind.TheVariants as kind
-use Rattle.typst_lines.specs.Place.{Place}
 use Rattle.typst_node.specs.Tree.{Tree, leaf_of, error_of, all_advised}
 use Rattle.typst_raw.specs.Raw.{raw_node}
-use Rattle.typst_readers.specs.Reader.{Reader, exec, eaten}
 use Rattle.typst_tokens.specs.declared.token.Token.{Token}
 use Rattle.typst_tokens.specs.declared.token.Fault.{Fault}
 use Rattle.typst_token_nodes.specs.Faults.{hints, message}
 use Rattle.typst_token_nodes.specs.Fields.{access_node}
-use Rattle.typst_tokens.specs.Memory.{Memory}
 
 -- An error leaf of the characters, with message and hints.
 abbrev pub fault_node : Fault → List ℕ → Tree
@@ -41,9 +38,3 @@ is_leaf t = elim t.fault [ None ↦ not (is_error t.kind) && not (is_raw t.kind 
 -- The node of a token: its own, or an error leaf.
 abbrev pub token_node : CharClasses → Token → List ℕ → Tree
 token_node k t taken = elim t.fault [ None ↦ plain_node k t taken | Some f ↦ fault_node f taken ]
-
--- The token of a reader was read: kind and node are its own, and the place is behind it.
-pub record IsRead (k : CharClasses) (r : Reader Memory Token) (old new : Place) (kind : SyntaxKind) (node : Tree) : Type 0 where
-  pub kind_is : kind ≡ (exec r old).0.kind
-  pub node_is : node ≡ token_node k (exec r old).0 (take (eaten r old) old.ahead)
-  pub place_is : new ≡ (exec r old).1

@@ -4,11 +4,9 @@
 mod faults;
 mod fields;
 pub mod laws;
-mod next;
 mod nodes;
 mod numbers;
 
-pub use next::next_node;
 pub use nodes::{is_leaf, leaf_node, make_node};
 pub use typst_lexer::lexer::{named_argument, spread_argument, token};
 pub use typst_lexer::{Hull, LineEnd, Token};
