@@ -1,6 +1,6 @@
 //! The token that is read ahead.
 
-ghost use Rattle.std.specs.Prelude.{◌≡◌, ◌≤◌, ◌<◌, ◌^◌, ◌++◌, ◌∷◌, [], IfOk, OnOk, OnErr, length, take};
+ghost use Rattle.std.specs.Prelude.{◌≡◌, ◌++◌, ◌∷◌, [], IfOk, OnOk, OnErr, length, take};
 ghost use Rattle.std.specs.Str.{chars};
 ghost use Rattle.typst_combinators.specs.Nodes.{token_node};
 ghost use Rattle.typst_kinds.specs.Kinds.{is_error};
@@ -9,8 +9,6 @@ ghost use Rattle.typst_combinators.specs.Hand as spec;
 ghost use Rattle.typst_combinators.specs.Point as point;
 ghost use Rattle.typst_ahead.specs.Bytes as bytes;
 ghost use Rattle.typst_ahead.specs.Bytes.{bytes_left};
-ghost use Rattle.typst_readers.specs.Reader.{exec};
-ghost use Rattle.typst_combinators.specs.Tokens.{token};
 ghost use Rattle.typst_ahead.specs.Cursor.{IsAhead, Stands};
 
 use crate::log::joined;
@@ -109,7 +107,7 @@ impl<'s> ReadAhead<'s> {
             least: usize::MAX,
         };
         'tokens: loop {
-            let next = read_token(alloc, start, &mut self.line, held.mode, classes)?;
+            let next = token(alloc, start, &mut self.line, held.mode, classes)?;
             tokens = joined(tokens, next.hull);
             if !next.token.kind.is_trivia() || left(&start) <= left(&next.after) {
                 let (kind, here) = judged(held, newlines, next.token.kind, &start, next.hull);
@@ -152,35 +150,6 @@ fn push_node<C: Classes>(
     let node = make_node(alloc, token, text, classes)?;
     nodes.push(node)?;
     Ok(())
-}
-
-/// A token that was read, where it ends, and what was looked at for it.
-#[derive(Clone, Copy)]
-pub struct Read<'s> {
-    pub token: Token,
-    pub after: Scanner<'s>,
-    pub hull: Hull,
-}
-
-/// Reads one token.
-#[inline(always)]
-pub fn read_token<'s, C: Classes>(
-    alloc: Global,
-    start: Scanner<'s>,
-    line: &mut LineEnd<'s>,
-    mode: SyntaxMode,
-    classes: &C,
-) -> Result<Read<'s>, AllocError>
-    requires { line.old.text.now ≡ start.text.now }
-    ensures reads { IfOk result (λ r. exec (token (C.classes classes.now) mode) (place start.entry) ≡ (r.token, place r.after)) }
-    ensures hull { IfOk result (λ r. r.hull ≡ bytes.token_hull (C.classes classes.now) mode (place start.entry)) }
-    ensures fits { IfOk result (λ r. r.hull.least < 2 ^ 64) }
-    ensures same_text { IfOk result (λ r. r.after.text.now ≡ start.entry.text.now) }
-    ensures line_text { line.new.text.now ≡ line.old.text.now }
-{
-    let mut after = start;
-    let (token, hull) = token(alloc, &mut after, line, mode, classes)?;
-    Ok(Read { token, after, hull })
 }
 
 /// How many bytes are ahead.

@@ -9,5 +9,6 @@ pub use calls::{Behind, Block, Call, ChainSet, Mark, Note, Role, Way};
 pub use laws::words_of_the_language;
 pub use reading::{AtNewline, Newlines, Reading, State};
 pub use typst_token_nodes::{
-    Hull, LineEnd, Token, is_leaf, leaf_node, make_node, named_argument, spread_argument, token,
+    Hull, LineEnd, Read, Token, is_leaf, leaf_node, make_node, named_argument, spread_argument,
+    token,
 };

@@ -1,12 +1,17 @@
 //! The lexer: what comes next in a text, token by token.
-ghost use Rattle.std.specs.Prelude.{◌≡◌, ◌≤◌, IfOk, OnOk, OnErr, IsSome, false, take};
+ghost use Rattle.std.specs.Prelude.{◌≡◌, ◌≤◌, ◌<◌, ◌^◌, IfOk, OnOk, OnErr, IsSome, false, take};
 ghost use Rattle.std.specs.Str.{chars, IsCharBoundary};
 ghost use Rattle.typst_readers.specs.Column.{column_at};
-ghost use Rattle.typst_readers.specs.Reader.{exec, eaten};
+ghost use Rattle.typst_readers.specs.Reader.{Reader, exec, eaten};
 ghost use Rattle.typst_readers.specs.Reads.{Reads, Scans};
 ghost use Rattle.typst_lexer.specs.Tokens as spec;
 ghost use Rattle.typst_math_tokens.specs.Arguments.{named_argument as named, spread_argument as spread};
 ghost use Rattle.typst_lines.specs.Place.{place_at, scout};
+ghost use Rattle.typst_lines.specs.Scanner.{place as place_of};
+ghost use Rattle.typst_lines.specs.declared.scanner.Scanner.{Scanner as Start};
+ghost use Rattle.typst_readers.specs.Sight.{fresh};
+ghost use Rattle.typst_tokens.specs.Memory.{Memory};
+ghost use Rattle.typst_tokens.specs.declared.token.Token.{Token};
 
 use std::alloc::{AllocError, Global};
 use typst_classes::classes::Classes;
@@ -143,38 +148,56 @@ impl<'a, C: Classes> Lexer<'a, C> {
         ensures classes { self.new.classes.now ≡ self.old.classes.now }
         ensures refused { OnErr result (self.new ≡ self.old) }
     {
-        let mut s = self.at.s;
         let mut line = self.at.line;
-        let (token, _) = token(alloc, &mut s, &mut line, self.mode, self.classes)?;
-        let text = s.since(&self.at.s);
-        self.at = Spot { s, line };
-        self.newline = token.newline;
-        Ok((token, text))
+        let read = token(alloc, self.at.s, &mut line, self.mode, self.classes)?;
+        let text = read.after.since(&self.at.s);
+        self.at = Spot {
+            s: read.after,
+            line,
+        };
+        self.newline = read.token.newline;
+        Ok((read.token, text))
     }
 }
 
-/// The token of the mode that comes next, and the bytes that were looked at for it. This takes no
-/// memory but for the brackets of a link. Where memory is refused the scanner stays. What is known
-/// of the end of a line goes from token to token, so that each line is gone through once for it.
+/// A token that was read, where it ends, and the bytes that were looked at for it.
+#[derive(Clone, Copy)]
+pub struct Read<'a> {
+    pub token: Token,
+    pub after: Scanner<'a>,
+    pub hull: Hull,
+}
+
+/// The token of the mode that comes next. This takes no memory but for the brackets of a link. What
+/// is known of the end of a line goes from token to token, so that each line is gone through once
+/// for it.
 #[inline(always)]
 pub fn token<'a, C: Classes>(
     alloc: Global,
-    s: &mut Scanner<'a>,
+    start: Scanner<'a>,
     line: &mut LineEnd<'a>,
     mode: SyntaxMode,
     classes: &C,
-) -> Result<(Token, Hull), AllocError>
-    requires { line.old.text.now ≡ s.old.text.now }
-    ensures scans { IfOk result (λ r. Scans (spec.token (C.classes classes.now) mode) s.old r.0 r.1 s.new) }
-    ensures same_text { line.new.text.now ≡ line.old.text.now }
-    ensures refused { OnErr result (s.new ≡ s.old) }
+) -> Result<Read<'a>, AllocError>
+    requires { line.old.text.now ≡ start.text.now }
+    ensures scans { IfOk result (λ r. Scans (spec.token (C.classes classes.now) mode) start.entry r.token r.hull r.after) }
+    ensures fits { IfOk result (λ r. r.hull.least < 2 ^ 64) }
+    ensures line_text { line.new.text.now ≡ line.old.text.now }
 {
-    let mut cursor = Cursor::on_line(*s, *line);
+    let mut cursor = Cursor::on_line(start, *line);
     let token = next_token(alloc, &mut cursor, mode, classes)?;
     *line = cursor.line();
+    Ok(read_up_to(cursor, token))
+}
+
+/// A token that was read up to a cursor's place.
+#[inline(always)]
+fn read_up_to(cursor: Cursor<'_>, token: Token) -> Read<'_>
+    ensures scans { (r : Reader Memory Token) (start : Start) → Reads r (fresh (place_of start)) token cursor.entry → Scans r start result.token result.hull result.after }
+    ensures fits { result.hull.least < 2 ^ 64 }
+{
     let (after, hull) = cursor.finish();
-    *s = after;
-    Ok((token, hull))
+    Read { token, after, hull }
 }
 
 /// The token of the mode that comes next.
@@ -294,26 +317,20 @@ fn backtick<C: Classes>(
     }
 }
 
-/// The name of a named argument of a formula that begins here, or End where none does, and the bytes
-/// that were looked at for it.
-pub fn named_argument<C: Classes>(s: &mut Scanner<'_>, classes: &C) -> (Token, Hull)
-    ensures { Scans (named (C.classes classes.now)) s.old result.0 result.1 s.new }
+/// The name of a named argument of a formula that begins here, or End where none does.
+pub fn named_argument<'a, C: Classes>(start: Scanner<'a>, classes: &C) -> Read<'a>
+    ensures { Scans (named (C.classes classes.now)) start.entry result.token result.hull result.after }
 {
-    let mut cursor = Cursor::new(*s);
+    let mut cursor = Cursor::new(start);
     let token = arguments::named_argument(&mut cursor, classes);
-    let (after, hull) = cursor.finish();
-    *s = after;
-    (token, hull)
+    read_up_to(cursor, token)
 }
 
-/// The dots of an argument of a formula that is spread, or End where none begins here, and the bytes
-/// that were looked at for them.
-pub fn spread_argument(s: &mut Scanner<'_>) -> (Token, Hull)
-    ensures { Scans spread s.old result.0 result.1 s.new }
+/// The dots of an argument of a formula that is spread, or End where none begins here.
+pub fn spread_argument(start: Scanner<'_>) -> Read<'_>
+    ensures { Scans spread start.entry result.token result.hull result.after }
 {
-    let mut cursor = Cursor::new(*s);
+    let mut cursor = Cursor::new(start);
     let token = arguments::spread_argument(&mut cursor);
-    let (after, hull) = cursor.finish();
-    *s = after;
-    (token, hull)
+    read_up_to(cursor, token)
 }

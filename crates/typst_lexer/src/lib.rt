@@ -4,7 +4,7 @@
 pub mod laws;
 pub mod lexer;
 
-pub use lexer::Lexer;
+pub use lexer::{Lexer, Read};
 pub use typst_classes::{
     Classes, MathClass, UnicodeClasses, is_id_continue, is_id_start, is_ident,
 };

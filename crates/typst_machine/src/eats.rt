@@ -20,7 +20,7 @@ use crate::depth::Levels;
 use crate::nodes::{give, is_none, push_all, trim};
 use crate::parser::Parser;
 use std::alloc::AllocError;
-use typst_ahead::{is_leaf, leaf_node, make_node, read_token};
+use typst_ahead::{is_leaf, leaf_node, make_node, token};
 use typst_classes::Classes;
 use typst_kinds::SyntaxKind;
 use typst_node::SyntaxNode;
@@ -296,7 +296,7 @@ impl<'s> Parser<'s> {
         ensures { Means (L.frame g.now) (does further) self.old result self.new }
     {
         let mode = self.state.reading.mode;
-        let next = read_token(self.alloc, self.ahead.after, &mut self.ahead.line, mode, g)?;
+        let next = token(self.alloc, self.ahead.after, &mut self.ahead.line, mode, g)?;
         self.log.look(next.hull);
         Ok(next.token.kind)
     }

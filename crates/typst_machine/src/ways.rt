@@ -2,22 +2,21 @@
 
 ghost use Rattle.std.specs.Prelude.{◌≡◌, IfOk, OnOk};
 ghost use Rattle.typst_lines.specs.Scanner.{place};
-ghost use Rattle.typst_readers.specs.Reader.{exec, look};
-ghost use Rattle.typst_readers.specs.Sight.{hull_of, text_of};
+ghost use Rattle.typst_readers.specs.Reads.{Scans};
+ghost use Rattle.typst_readers.specs.Sight.{text_of};
 ghost use Rattle.typst_ahead.specs.Calls.{token_so};
 ghost use Rattle.typst_ahead.specs.Shape.Making.{itself, wanted};
 ghost use Rattle.typst_ahead.specs.Steps as spec;
 ghost use Rattle.typst_ahead.specs.Syntax.Op.{so};
 ghost use Rattle.typst_ahead.specs.Syntax.Parser.{does};
 ghost use Rattle.typst_machine.specs.View.{Means};
-ghost use Rattle.typst_classes.specs.Classes.{CharClasses};
-ghost use Rattle.typst_machine.specs.Ways.{GaveUpTo, IsReadBy};
+ghost use Rattle.typst_machine.specs.Ways.{GaveUpTo};
 
 use crate::depth::Levels;
 use crate::nodes::{give, push_all};
 use crate::parser::Parser;
 use std::alloc::{AllocError, Global};
-use typst_ahead::{LineEnd, Read, Way, make_node, named_argument, read_token, spread_argument};
+use typst_ahead::{LineEnd, Read, Way, make_node, named_argument, spread_argument, token};
 use typst_classes::Classes;
 use typst_kinds::SyntaxKind;
 use typst_lines::Scanner;
@@ -91,35 +90,15 @@ fn read_so<'s, C: Classes>(
     classes: &C,
 ) -> Result<Read<'s>, AllocError>
     requires { line.old.text.now ≡ start.text.now }
-    ensures reads { IfOk result (λ r. exec (token_so (C.classes classes.now) way) (place start.entry) ≡ (r.token, place r.after)) }
-    ensures hull { IfOk result (λ r. r.hull ≡ hull_of (look (token_so (C.classes classes.now) way) (place start.entry)) (place start.entry)) }
-    ensures same_text { IfOk result (λ r. r.after.text.now ≡ start.entry.text.now) }
+    ensures scans { IfOk result (λ r. Scans (token_so (C.classes classes.now) way) start.entry r.token r.hull r.after) }
     ensures line_text { line.new.text.now ≡ line.old.text.now }
 {
     match way {
         Way::InMode(mode) => {
-            let found = read_token(alloc, start, line, mode, classes)?;
+            let found = token(alloc, start, line, mode, classes)?;
             Ok(found)
         }
-        Way::NamedArgument => Ok(read_named(start, classes)),
-        Way::SpreadArgument => Ok(read_spread(start)),
+        Way::NamedArgument => Ok(named_argument(start, classes)),
+        Way::SpreadArgument => Ok(spread_argument(start)),
     }
-}
-
-/// Reads the name of an argument of a formula.
-fn read_named<'s, C: Classes>(start: Scanner<'s>, classes: &C) -> Read<'s>
-    ensures { IsReadBy (token_so (C.classes classes.now) Way.NamedArgument) start.entry result }
-{
-    let mut after = start;
-    let (token, hull) = named_argument(&mut after, classes);
-    Read { token, after, hull }
-}
-
-/// Reads the dots of an argument of a formula.
-fn read_spread(start: Scanner<'_>) -> Read<'_>
-    ensures { (k : CharClasses) → IsReadBy (token_so k Way.SpreadArgument) start.entry result }
-{
-    let mut after = start;
-    let (token, hull) = spread_argument(&mut after);
-    Read { token, after, hull }
 }

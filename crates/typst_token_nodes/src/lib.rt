@@ -9,4 +9,4 @@ mod numbers;
 
 pub use nodes::{is_leaf, leaf_node, make_node};
 pub use typst_lexer::lexer::{named_argument, spread_argument, token};
-pub use typst_lexer::{Hull, LineEnd, Token};
+pub use typst_lexer::{Hull, LineEnd, Read, Token};

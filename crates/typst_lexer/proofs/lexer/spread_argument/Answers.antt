@@ -1,21 +1,7 @@
 use Rattle.std.proofs.Common.{◌∙◌, ap, sym}
-use Rattle.std.proofs.lemmas.Str.{IsUtf8-had}
-use Rattle.typst_lines.specs.Scanner.{place}
 use Rattle.typst_math_tokens.specs.Arguments.{spread_argument as spread}
-use Rattle.typst_readers.specs.Sight.{sight, text_of}
-use Rattle.typst_readers.proofs.Sights.{read-is, hull-is, text-is, text-read}
+use Rattle.typst_readers.specs.Sight.{sight}
 use Rattle.typst_lexer.proofs.lexer.spread_argument.Goals as goal
 
 pub returns : goal.returns
-returns c =
-    let r = spread in
-    let s = c.args.s.now in
-    let z = place s in
-    let v = c.spread_argument-token.new.s in
-    let e = ap (sight r) (sym c.new-cursor.ensures) ∙ c.spread_argument-token.ensures in
-    let f = read-is r z c.spread_argument-token.result v e in
-    record {
-      reads = f ∙ ap (λ w. (c.spread_argument-token.result, w)) (sym c.finish.ensures.place);
-      hull = c.finish.ensures.hull ∙ hull-is r z c.spread_argument-token.result v e;
-      same_text = c.finish.ensures.text ∙ ap text_of (sym (ap (λ p. p.1) f)) ∙ text-read r z ∙ sym (text-is s.text.now s.cursor (IsUtf8-had _ s.utf8) s.boundary);
-    }
+returns c = c.read_up_to.ensures.scans spread c.args.start (ap (sight spread) (sym c.new-cursor.ensures) ∙ c.spread_argument-token.ensures)

@@ -36,10 +36,10 @@ returns-then-not-is_trivia-clause-read g c =
     let i = c.tokens.invariant in
     let next = c.in_ok-next in
     let stopped : at_trivia k m z ≡ false = elim c.then-not-is_trivia.branch [
-      | then-not-is_trivia-via-then-not-is_trivia w ↦ no-trivia k m z _ _ next.ensures.reads (sym c.is_trivia.ensures ∙ w.if-not-is_trivia.true)
-      | then-not-is_trivia-via-else-not-is_trivia+then-left w ↦ no-more k m z _ _ next.ensures.reads (omega (arith, w.left.ensures, w.left-else-not-is_trivia.ensures, w.if-left.true))
+      | then-not-is_trivia-via-then-not-is_trivia w ↦ no-trivia k m z _ _ next.ensures.scans.reads (sym c.is_trivia.ensures ∙ w.if-not-is_trivia.true)
+      | then-not-is_trivia-via-else-not-is_trivia+then-left w ↦ no-more k m z _ _ next.ensures.scans.reads (omega (arith, w.left.ensures, w.left-else-not-is_trivia.ensures, w.if-left.true))
     ] in
-    is-ahead k c.args.held c.args.self.now.before _ _ i.before refl next.ensures.hull c.judged-kind.ensures.here i.along stopped next.ensures.reads c.judged-kind.ensures.kind i.text next.ensures.same_text (next.ensures.line_text ∙ i.line)
+    is-ahead k c.args.held c.args.self.now.before _ _ i.before refl next.ensures.scans.hull c.judged-kind.ensures.here i.along stopped next.ensures.scans.reads c.judged-kind.ensures.kind i.text next.ensures.scans.same_text (next.ensures.line_text ∙ i.line)
 
 pub returns-then-not-is_trivia-clause-hull : goal.returns-then-not-is_trivia-clause-hull
 returns-then-not-is_trivia-clause-hull g c =
@@ -49,13 +49,13 @@ returns-then-not-is_trivia-clause-hull g c =
     let i = c.tokens.invariant in
     let next = c.in_ok-next in
     let stopped : at_trivia k m z ≡ false = elim c.then-not-is_trivia.branch [
-      | then-not-is_trivia-via-then-not-is_trivia w ↦ no-trivia k m z _ _ next.ensures.reads (sym c.is_trivia.ensures ∙ w.if-not-is_trivia.true)
-      | then-not-is_trivia-via-else-not-is_trivia+then-left w ↦ no-more k m z _ _ next.ensures.reads (omega (arith, w.left.ensures, w.left-else-not-is_trivia.ensures, w.if-left.true))
+      | then-not-is_trivia-via-then-not-is_trivia w ↦ no-trivia k m z _ _ next.ensures.scans.reads (sym c.is_trivia.ensures ∙ w.if-not-is_trivia.true)
+      | then-not-is_trivia-via-else-not-is_trivia+then-left w ↦ no-more k m z _ _ next.ensures.scans.reads (omega (arith, w.left.ensures, w.left-else-not-is_trivia.ensures, w.if-left.true))
     ] in
-    let own : (token_hull k m z).least ≤ 2 ^ 64 - 1 = omega (arith, next.ensures.fits, ap (λ (u : Hull). u.least) next.ensures.hull) in
-    let looks = subst (Looking k m (place c.tokens.self.before) z) (sym (c.joined-tokens.ensures ∙ ap (joined_hull c.tokens.tokens) next.ensures.hull)) (i.looks own) in
+    let own : (token_hull k m z).least ≤ 2 ^ 64 - 1 = omega (arith, next.ensures.fits, ap (λ (u : Hull). u.least) next.ensures.scans.hull) in
+    let looks = subst (Looking k m (place c.tokens.self.before) z) (sym (c.joined-tokens.ensures ∙ ap (joined_hull c.tokens.tokens) next.ensures.scans.hull)) (i.looks own) in
     c.joined.ensures
-    ∙ ap (joined_hull c.joined-tokens.result) (c.judged-kind.ensures.here ∙ ap (column_hull c.args.held c.tokens.newlines z) next.ensures.hull)
+    ∙ ap (joined_hull c.joined-tokens.result) (c.judged-kind.ensures.here ∙ ap (column_hull c.args.held c.tokens.newlines z) next.ensures.scans.hull)
     ∙ whole-is k c.args.held c.tokens.newlines c.tokens.trivia.items (place c.tokens.self.before) z _ i.along stopped looks
     ∙ ap (λ (s : Scanner). whole_at k c.args.held (place s)) i.before
 
@@ -63,20 +63,20 @@ pub since-text-requires-clause-after : goal.since-text-requires-clause-after
 since-text-requires-clause-after g c =
     let k = g.C.Classes.classes c.args.classes.now in
     let z = place c.tokens.start in
-    (len_at k c.args.held.mode z, read-place k c.args.held.mode z _ _ c.in_ok-next.ensures.reads)
+    (len_at k c.args.held.mode z, read-place k c.args.held.mode z _ _ c.in_ok-next.ensures.scans.reads)
 
 pub push_node-requires : goal.push_node-requires
 push_node-requires g c =
     let k = g.C.Classes.classes c.args.classes.now in
     let z = place c.tokens.start in
-    begins (len_at k c.args.held.mode z) z.ahead _ _ (c.since-text.ensures (len_at k c.args.held.mode z) (read-place k c.args.held.mode z _ _ c.in_ok-next.ensures.reads)) c.after.ensures.characters
+    begins (len_at k c.args.held.mode z) z.ahead _ _ (c.since-text.ensures (len_at k c.args.held.mode z) (read-place k c.args.held.mode z _ _ c.in_ok-next.ensures.scans.reads)) c.after.ensures.characters
 
 pub tokens-smaller : goal.tokens-smaller
 tokens-smaller g c =
     let k = g.C.Classes.classes c.args.classes.now in
     let z = place c.tokens.start in
     let l = len_at k c.args.held.mode z in
-    let p = read-place k c.args.held.mode z _ _ c.in_ok-next.ensures.reads in
+    let p = read-place k c.args.held.mode z _ _ c.in_ok-next.ensures.scans.reads in
     let fewer : bytes_left (moved l z) < bytes_left z = omega (arith, c.left.ensures, c.left-else-not-is_trivia.ensures, c.if-left.false, ap bytes_left p) in
     let some = some-bytes l z fewer in
     omega (arith, ap (λ (q : Place). length q.ahead) p, ahead-left l z, len-most k c.args.held.mode z, some)
@@ -90,20 +90,20 @@ tokens-preserved g c =
     let i = c.tokens.invariant in
     let next = c.in_ok-next in
     let l = len_at k m z in
-    let p = read-place k m z _ _ next.ensures.reads in
-    let t = ap (λ q. q.0) next.ensures.reads in
-    let at = some-trivia k m z _ _ next.ensures.reads (sym c.is_trivia.ensures ∙ c.if-not-is_trivia.false) (omega (arith, c.left.ensures, c.left-else-not-is_trivia.ensures, c.if-left.false)) in
+    let p = read-place k m z _ _ next.ensures.scans.reads in
+    let t = ap (λ q. q.0) next.ensures.scans.reads in
+    let at = some-trivia k m z _ _ next.ensures.scans.reads (sym c.is_trivia.ensures ∙ c.if-not-is_trivia.false) (omega (arith, c.left.ensures, c.left-else-not-is_trivia.ensures, c.if-left.false)) in
     let text = c.since-text.ensures l p in
     let node = ap (token_node k next.next.token) text ∙ ap (λ u. token_node k u (text_ahead l z)) (sym t) in
     let items = c.in_ok-push_node.ensures ∙ ap (λ (n : Tree). c.tokens.trivia.items ++ n ∷ []) node in
     let w = place next.next.after in
-    let tokens = c.joined-tokens.ensures ∙ ap (joined_hull c.tokens.tokens) next.ensures.hull in
-    let own : (token_hull k m z).least ≤ 2 ^ 64 - 1 = omega (arith, next.ensures.fits, ap (λ (u : Hull). u.least) next.ensures.hull) in
+    let tokens = c.joined-tokens.ensures ∙ ap (joined_hull c.tokens.tokens) next.ensures.scans.hull in
+    let own : (token_hull k m z).least ≤ 2 ^ 64 - 1 = omega (arith, next.ensures.fits, ap (λ (u : Hull). u.least) next.ensures.scans.hull) in
     let line = next.ensures.line_text ∙ i.line in
     record {
       before = i.before;
       along = rw (items, c.with_token-newlines.ensures, sym t) (along-next k m c.tokens.newlines c.tokens.trivia.items from z _ _ i.along at p refl);
-      text = next.ensures.same_text ∙ i.text;
+      text = next.ensures.scans.same_text ∙ i.text;
       line = line;
       looks = λ h. subst (λ u. Looking k m from w (joined_hull u (token_hull k m w))) (sym tokens) (looking-next k m from z w _ (i.looks own) at p);
       stands = λ s. let t = i.stands s in record { start = t.start; after = t.after; start_text = t.start_text; after_text = t.after_text; line_text = line };

@@ -22,16 +22,16 @@ returns g c l h =
     let log = ap (λ (x : Log). record (view_of i) { log = x }) c.look.ensures in
     rw (sym c.self.view_is)
     (does-eat_so (eaten-so l _ c.args.way (wanted thing) (view_of i) _ _ (place i.ahead.start) (place found.after) found.token found.hull (chars c.since-text.result.now) c.expected.new.self k c.self.invariant.stands.start
-    c.in_ok-found.ensures.reads c.in_ok-found.ensures.hull c.since-text.ensures node log c.in_ok-take_so.ensures)
+    c.in_ok-found.ensures.scans.reads c.in_ok-found.ensures.scans.hull c.since-text.ensures node log c.in_ok-take_so.ensures)
     (c.in_ok-read.ensures l k))
 
 pub since-text-requires-clause-after : goal.since-text-requires-clause-after
 since-text-requires-clause-after g c =
     let k = g.L.Classes.classes c.args.g.now in
     let from = place c.self.inside.ahead.start in
-    (len_by (token_so k c.args.way) from, end-so k c.args.way from _ _ c.in_ok-found.ensures.reads)
+    (len_by (token_so k c.args.way) from, end-so k c.args.way from _ _ c.in_ok-found.ensures.scans.reads)
 
 pub take_so-requires : goal.take_so-requires
 take_so-requires g c =
     let b = c.self.inside.ahead.before in
-    c.in_ok-found.ensures.same_text ∙ c.self.invariant.stands.start_text ∙ text-is b.text.now b.cursor (IsUtf8-had _ b.utf8) b.boundary
+    c.in_ok-found.ensures.scans.same_text ∙ c.self.invariant.stands.start_text ∙ text-is b.text.now b.cursor (IsUtf8-had _ b.utf8) b.boundary

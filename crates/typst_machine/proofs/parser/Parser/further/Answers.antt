@@ -22,7 +22,7 @@ returns g c l h =
     let gap = distance a.before a.start in
     let len = distance a.start a.after in
     let there : place a.after ≡ moved (gap + len) (place a.before) = s.after ∙ ap (moved len) s.start ∙ sym (moved-sum gap len (place a.before)) in
-    let hull = c.in_ok-next.ensures.hull ∙ ap (λ (q : CharClasses). token_hull q m (place a.after)) (sym k) ∙ ap (λ (z : Place). token_hull l.classes m z) there in
+    let hull = c.in_ok-next.ensures.scans.hull ∙ ap (λ (q : CharClasses). token_hull q m (place a.after)) (sym k) ∙ ap (λ (z : Place). token_hull l.classes m z) there in
     rw (sym c.self.view_is)
-    (further-is l _ _ _ (ap (λ r. r.0.kind) (sym c.in_ok-next.ensures.reads) ∙ ap (λ (q : CharClasses). (token_at q m (place a.after)).kind) (sym k) ∙ ap (λ (z : Place). (token_at l.classes m z).kind) there)
+    (further-is l _ _ _ (ap (λ r. r.0.kind) (sym c.in_ok-next.ensures.scans.reads) ∙ ap (λ (q : CharClasses). (token_at q m (place a.after)).kind) (sym k) ∙ ap (λ (z : Place). (token_at l.classes m z).kind) there)
     (ap (λ (x : Log). record (view_of i) { log = x }) (c.look.ensures ∙ ap (λ (u : Hull). with_hull u i.log) hull)))
