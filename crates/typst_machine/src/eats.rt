@@ -224,7 +224,7 @@ impl<'s> Parser<'s> {
         }
         let mut message = String::from_str(self.alloc, "expected ")?;
         message.push_str(thing)?;
-        let node = SyntaxNode::error(self.alloc, message.as_str(), "")?;
+        let node = SyntaxNode::error_saying(self.alloc, message, "")?;
         self.nodes.push(node)?;
         self.state.empties += 1;
         self.state.is_after_error = true;

@@ -1,4 +1,4 @@
-ghost use Rattle.std.specs.Prelude.{◌≡◌, ◌↔◌, IsTrue, [], ◌≤◌, ◌^◌, length, ◌++◌, IfOk, OnOk, OnErr, None, Some, take, true, false};
+ghost use Rattle.std.specs.Prelude.{◌≡◌, ◌↔◌, IsTrue, [], ◌≤◌, ◌^◌, length, ◌++◌, IfOk, OnOk, OnErr, None, Some, string_bytes, take, true, false};
 ghost use Rattle.typst_kinds.specs.Kinds.{is_error};
 ghost use Rattle.typst_node_data.specs.Diagnostic.{warning_with, hint_with};
 ghost use Rattle.typst_node.specs.Tree.{forest, text_of, nodes, saturated, bare, leaf_of, inner_of, error_of, synthesized, with_kind, at_child, made_error, remarked, advised};
@@ -102,6 +102,19 @@ impl SyntaxNode {
         ensures { IfOk result (λ t. t ≡ error_of message.now text.now) }
     {
         let said = Text::new(alloc, message)?;
+        let text = Text::new(alloc, text)?;
+        SyntaxNode::error_from(alloc, said, text)
+    }
+
+    /// An error leaf of a message, which is moved, and a text.
+    pub fn error_saying(
+        alloc: Global,
+        message: String,
+        text: &str,
+    ) -> Result<SyntaxNode, AllocError>
+        ensures { IfOk result (λ t. t ≡ error_of (string_bytes message) text.now) }
+    {
+        let said = Text::from_string(message);
         let text = Text::new(alloc, text)?;
         SyntaxNode::error_from(alloc, said, text)
     }

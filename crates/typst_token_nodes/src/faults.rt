@@ -23,7 +23,7 @@ pub(crate) fn fault_node(alloc: Global, fault: Fault, text: &str) -> Result<Synt
         Fault::UnclosedEscape => SyntaxNode::error(alloc, "unclosed Unicode escape sequence", text),
         Fault::InvalidEscape => {
             let message = code_point_message(alloc, text)?;
-            SyntaxNode::error(alloc, message.as_str(), text)
+            SyntaxNode::error_saying(alloc, message, text)
         }
         Fault::UnbalancedLink => SyntaxNode::error(
             alloc,
@@ -105,7 +105,7 @@ fn invalid_character(alloc: Global, text: &str) -> Result<SyntaxNode, AllocError
     ensures { IfOk result (λ node. node ≡ error_of (spec.invalid_character text.now) text.now) }
 {
     let message = format!(in alloc; "the character `{text}` is not valid in code")?;
-    SyntaxNode::error(alloc, message.as_str(), text)
+    SyntaxNode::error_saying(alloc, message, text)
 }
 
 /// An operator of other languages.
@@ -113,7 +113,7 @@ fn operator_node(alloc: Global, text: &str) -> Result<SyntaxNode, AllocError>
     ensures { IfOk result (λ node. node ≡ fault_node fault.InvalidOperator (chars text.now)) }
 {
     let message = format!(in alloc; "`{text}` is not valid in code")?;
-    let mut node = SyntaxNode::error(alloc, message.as_str(), text)?;
+    let mut node = SyntaxNode::error_saying(alloc, message, text)?;
     hint_at_operator(&mut node, text)?;
     Ok(node)
 }

@@ -28,7 +28,7 @@ pub(crate) fn number_node(
     let split = suffix_start(found, text);
     let (before, suffix) = (split.before(), split.after());
     let message = number_message(alloc, found, before, suffix)?;
-    let mut node = SyntaxNode::error(alloc, message.as_str(), text)?;
+    let mut node = SyntaxNode::error_saying(alloc, message, text)?;
     add_hint(alloc, &mut node, found, before, suffix)?;
     Ok(node)
 }

@@ -9,7 +9,7 @@ returns-in-UnclosedEscape c = rw (c.in-UnclosedEscape.is, encodes-chars c.args.t
 
 pub returns-in_ok-message-in-InvalidEscape : goal.returns-in_ok-message-in-InvalidEscape
 returns-in_ok-message-in-InvalidEscape c =
-    rw (c.in-InvalidEscape.is, encodes-chars c.args.text.now c.utf8.text, ← c.in_ok-message-in-InvalidEscape.ensures, ← c.as_str.ensures.value) c.error-in-InvalidEscape.ensures
+    rw (c.in-InvalidEscape.is, encodes-chars c.args.text.now c.utf8.text, ← c.in_ok-message-in-InvalidEscape.ensures) c.error_saying.ensures
 
 pub returns-in-UnbalancedLink : goal.returns-in-UnbalancedLink
 returns-in-UnbalancedLink c = rw (c.in-UnbalancedLink.is, encodes-chars c.args.text.now c.utf8.text) c.error-in-UnbalancedLink.ensures

@@ -20,5 +20,5 @@ returns-then-self g c l h =
 pub returns : goal.returns
 unfolding expected
 returns g c l h =
-    rw (sym c.self.view_is, c.in_ok-push.ensures.items, c.in_ok-node-2.ensures, c.as_str.ensures.value, c.in_ok-push_str.ensures.bytes, c.in_ok-message.ensures.ok)
+    rw (sym c.self.view_is, c.in_ok-push.ensures.items, c.in_ok-node-2.ensures, c.in_ok-push_str.ensures.bytes, c.in_ok-message.ensures.ok)
     (does-next (does-peek _) (does-other (sym c.is_error.ensures ∙ c.if-is_error.false) (does-next (does-erred _) (does-other c.if-self.false (does-complains _ _)))))
