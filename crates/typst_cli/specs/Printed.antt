@@ -6,7 +6,7 @@ use Rattle.typst_lines.specs.Lines.{line_table, units}
 use Rattle.typst_lines.specs.declared.lines.Line.{Line}
 use Rattle.typst_cli.specs.declared.command.Command.{Command}
 use Rattle.typst_cli.specs.declared.command.Command.TheVariants.{Lines, Tree, Html}
-use Rattle.typst_classes.specs.UnicodeTables.{unicode_classes}
+use Rattle.typst_lines.specs.UnicodeTables.{unicode_classes}
 use Rattle.typst_cli.specs.PrintedHtml.{html_printed}
 use Rattle.typst_cli.specs.PrintedTree.{tree_printed}
 

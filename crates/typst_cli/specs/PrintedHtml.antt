@@ -1,7 +1,7 @@
 -- The HTML of a text as it is printed.
 use Rattle.std.specs.Prelude.{ℕ, List, ◌++◌, codes}
 use Rattle.std.specs.Str.{chars}
-use Rattle.typst_classes.specs.Classes.{CharClasses}
+use Rattle.typst_lines.specs.Classes.{CharClasses}
 use Rattle.typst_parser.specs.Grammar.{tree}
 use Rattle.typst_highlight.specs.Html.{html_of}
 

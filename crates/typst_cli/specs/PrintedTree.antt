@@ -3,12 +3,12 @@ use Rattle.std.specs.Prelude.{ℕ, ◌+◌, List, [], ◌∷◌, ◌++◌, lengt
 use Rattle.std.specs.Str.{chars}
 use Rattle.std.specs.Fmt.{decimal}
 use Rattle.typst_lines.specs.Newline.{is_newline}
-use Rattle.typst_node_data.specs.declared.diagnostic.Severity.{Severity}
-use Rattle.typst_node_data.specs.declared.diagnostic.Severity.TheVariants as severity
-use Rattle.typst_node.specs.Diagnostic.{Diagnostic, Hint}
-use Rattle.typst_node_data.specs.Head.{Head}
-use Rattle.typst_node.specs.Tree.{Forest, none, more, Tree, joined, text_of}
-use Rattle.typst_classes.specs.Classes.{CharClasses}
+use Rattle.typst_kinds.specs.declared.diagnostic.Severity.{Severity}
+use Rattle.typst_kinds.specs.declared.diagnostic.Severity.TheVariants as severity
+use Rattle.typst_tree.specs.Diagnostic.{Diagnostic, Hint}
+use Rattle.typst_kinds.specs.Head.{Head}
+use Rattle.typst_tree.specs.Tree.{Forest, none, more, Tree, joined, text_of}
+use Rattle.typst_lines.specs.Classes.{CharClasses}
 use Rattle.typst_parser.specs.Grammar.{tree, tree_code, tree_math}
 use Rattle.typst_cli.specs.Variants.{variant_name}
 

@@ -1,14 +1,14 @@
 -- First readings, which leave what stood before them.
 use Rattle.std.proofs.Common.{◌≡◌, false, refl}
-use Rattle.typst_markup.specs.reading.AtNewline.TheVariants as newline
-use Rattle.typst_markup.specs.Depth.{is_end}
+use Rattle.typst_language.specs.declared.reading.AtNewline.TheVariants as newline
+use Rattle.typst_language.specs.Depth.{is_end}
 use Rattle.typst_markup.specs.Markup.{at_newline}
-use Rattle.typst_markup.specs.Meaning.{Level, entered, run}
-use Rattle.typst_markup.specs.Sound.{Sound}
-use Rattle.typst_markup.specs.Steps.{node, within}
-use Rattle.typst_markup.specs.View.{View, Fits}
-use Rattle.typst_patterns.proofs.Begins.{Begins, begins-gives, begins-peek, begins-scoped, begins-then, begins-wraps}
-use Rattle.typst_patterns.proofs.Firsts.{begins-some}
+use Rattle.typst_language.specs.Meaning.{Level, entered, run}
+use Rattle.typst_language.specs.Sound.{Sound}
+use Rattle.typst_language.specs.Steps.{node, within}
+use Rattle.typst_lookahead.specs.View.{View, Fits}
+use Rattle.typst_lookahead.proofs.Begins.{Begins, begins-gives, begins-peek, begins-scoped, begins-then, begins-wraps}
+use Rattle.typst_code.proofs.PatternFirsts.{begins-some}
 use Rattle.typst_code.specs.Groups.{group}
 use Rattle.typst_code.specs.Parens.{as_group}
 

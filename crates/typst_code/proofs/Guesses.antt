@@ -2,26 +2,26 @@
 use Rattle.std.proofs.Common.{◌≡◌, ℕ, ◌+◌, Bool, true, false, List, [], ◌++◌, Option, Some, refl, ap, sym, ◌∙◌, subst}
 use Rattle.typst_kinds.specs.declared.kind.SyntaxKind.{SyntaxKind}
 use Rattle.typst_lines.specs.Place.{Place, moved}
-use Rattle.typst_readers.specs.declared.hull.Hull.{Hull}
-use Rattle.typst_markup.specs.calls.Behind.{Behind}
-use Rattle.typst_markup.specs.reading.AtNewline.TheVariants as newline
-use Rattle.typst_markup.specs.reading.Reading.{Reading}
-use Rattle.typst_markup.specs.Hand.{Hand, told}
+use Rattle.typst_language.specs.hull.Hull.{Hull}
+use Rattle.typst_language.specs.declared.calls.Behind.{Behind}
+use Rattle.typst_language.specs.declared.reading.AtNewline.TheVariants as newline
+use Rattle.typst_language.specs.declared.reading.Reading.{Reading}
+use Rattle.typst_language.specs.Hand.{Hand, told}
 use Rattle.typst_markup.specs.Markup.{at_newline}
-use Rattle.typst_markup.specs.Meaning.{Guess, Level, Outcome, asked, before, entered, hand_asks_of, hand_of, inside, left, run, start_point}
-use Rattle.typst_markup.specs.Nodes.{is_leaf}
-use Rattle.typst_markup.specs.Noted.{hull_in}
-use Rattle.typst_markup.specs.Point.{Point}
-use Rattle.typst_markup.specs.Remembered.{Comes, LooksIn}
-use Rattle.typst_markup.specs.Shape.{after_shape}
-use Rattle.typst_markup.specs.Steps.{eat, eat_making, node, peek, within}
-use Rattle.typst_markup.specs.Syntax.{Parser, ◌>>◌}
-use Rattle.typst_markup.specs.Syntax.Parser.{gives, next, wraps}
-use Rattle.typst_markup.specs.Syntax.Begin.{at_token}
-use Rattle.typst_markup.specs.View.{View, Fits, Found, at, behind_paren}
-use Rattle.typst_markup.proofs.Runs.{asked-same, shape-held, shape-known}
-use Rattle.typst_patterns.proofs.Either.{Passed, paren-looks}
-use Rattle.typst_patterns.proofs.Tails.{AllIn, Is, hulls, hulls-looks, in-both, in-first, in-second, is-gives, is-next, is-peek, is-scoped, is-self, is-takes, is-wraps, looks-hulls}
+use Rattle.typst_language.specs.Meaning.{Guess, Level, Outcome, asked, before, entered, hand_asks_of, hand_of, inside, left, run, start_point}
+use Rattle.typst_language.specs.Nodes.{is_leaf}
+use Rattle.typst_lookahead.specs.Noted.{hull_in}
+use Rattle.typst_language.specs.Point.{Point}
+use Rattle.typst_lookahead.specs.Remembered.{Comes, LooksIn}
+use Rattle.typst_language.specs.Shape.{after_shape}
+use Rattle.typst_language.specs.Steps.{eat, eat_making, node, peek, within}
+use Rattle.typst_language.specs.Syntax.{Parser, ◌>>◌}
+use Rattle.typst_language.specs.Syntax.Parser.{gives, next, wraps}
+use Rattle.typst_language.specs.Syntax.Begin.{at_token}
+use Rattle.typst_lookahead.specs.View.{View, Fits, Found, at, behind_paren}
+use Rattle.typst_lookahead.proofs.Runs.{asked-same, shape-held, shape-known}
+use Rattle.typst_lookahead.proofs.Either.{Passed, paren-looks}
+use Rattle.typst_lookahead.proofs.Tails.{AllIn, Is, hulls, hulls-looks, in-both, in-first, in-second, is-gives, is-next, is-peek, is-scoped, is-self, is-takes, is-wraps, looks-hulls}
 use Rattle.typst_code.specs.Groups.{group, group_rest, group_shape}
 use Rattle.typst_code.specs.Parens.{after_paren, as_group, behind_group, guess_of}
 

@@ -3,20 +3,20 @@ use Rattle.std.specs.Prelude.{ℕ, Bool, true, false, not, ◌||◌, ◌&&◌, L
 use Rattle.typst_kinds.specs.Kinds.{same, is_terminator}
 use Rattle.typst_kinds.specs.declared.kind.SyntaxKind.{SyntaxKind}
 use Rattle.typst_kinds.specs.declared.kind.SyntaxKind.TheVariants as kind
-use Rattle.typst_markup.specs.calls.Block.TheVariants as block
-use Rattle.typst_markup.specs.reading.AtNewline.TheVariants as newline
-use Rattle.typst_markup.specs.Shape.{Change, Shape, encloses}
-use Rattle.typst_markup.specs.Shape.Change.{stays, is_not}
-use Rattle.typst_markup.specs.Shape.Shape.{keeps, holds}
-use Rattle.typst_markup.specs.Syntax.{Parser, ◌>>=◌, ◌>>◌}
-use Rattle.typst_markup.specs.Syntax.Op.{advises}
-use Rattle.typst_markup.specs.Syntax.Parser.{gives, does, pick, repeat}
-use Rattle.typst_markup.specs.Steps.{peek, eat, eat_if, unexpected, expected, within, node, read_block}
+use Rattle.typst_language.specs.declared.calls.Block.TheVariants as block
+use Rattle.typst_language.specs.declared.reading.AtNewline.TheVariants as newline
+use Rattle.typst_language.specs.Shape.{Change, Shape, encloses}
+use Rattle.typst_language.specs.Shape.Change.{stays, is_not}
+use Rattle.typst_language.specs.Shape.Shape.{keeps, holds}
+use Rattle.typst_language.specs.Syntax.{Parser, ◌>>=◌, ◌>>◌}
+use Rattle.typst_language.specs.Syntax.Op.{advises}
+use Rattle.typst_language.specs.Syntax.Parser.{gives, does, pick, repeat}
+use Rattle.typst_language.specs.Steps.{peek, eat, eat_if, unexpected, expected, within, node, read_block}
 use Rattle.typst_markup.specs.Markup.{at_newline, opens_directly}
-use Rattle.typst_named.specs.keys.Key.{Key}
-use Rattle.typst_named.specs.keys.Key.TheVariants as key
-use Rattle.typst_named.specs.Named.{when_named, with_argument}
-use Rattle.typst_patterns.specs.Parts.{separator}
+use Rattle.typst_markup.specs.declared.keys.Key.{Key}
+use Rattle.typst_markup.specs.declared.keys.Key.TheVariants as key
+use Rattle.typst_markup.specs.Named.{when_named, with_argument}
+use Rattle.typst_code.specs.Parts.{separator}
 use Rattle.typst_code.specs.Groups.{begins_item, spread, pair}
 
 -- arguments begin with a paren or a bracket

@@ -9,17 +9,17 @@ use Rattle.typst_kinds.specs.declared.operator.BinOp.{BinOp}
 use Rattle.typst_kinds.specs.declared.operator.BinOp.TheVariants as binary
 use Rattle.typst_kinds.specs.declared.operator.UnOp.{UnOp}
 use Rattle.typst_kinds.specs.declared.operator.UnOp.TheVariants as unary
-use Rattle.typst_markup.specs.calls.Block.TheVariants as block
-use Rattle.typst_markup.specs.calls.Call.TheVariants.{CodeExpr}
-use Rattle.typst_markup.specs.Shape.{Shape, becomes}
-use Rattle.typst_markup.specs.Syntax.{Parser, ◌>>=◌, ◌>>◌}
-use Rattle.typst_markup.specs.Syntax.Op.{further}
-use Rattle.typst_markup.specs.Syntax.Parser.{gives, does, pick}
-use Rattle.typst_markup.specs.Steps.{peek, eat, unexpected, expected, node, grow, read_block}
-use Rattle.typst_markup.specs.Depth.{deeper}
+use Rattle.typst_language.specs.declared.calls.Block.TheVariants as block
+use Rattle.typst_language.specs.declared.calls.Call.TheVariants.{CodeExpr}
+use Rattle.typst_language.specs.Shape.{Shape, becomes}
+use Rattle.typst_language.specs.Syntax.{Parser, ◌>>=◌, ◌>>◌}
+use Rattle.typst_language.specs.Syntax.Op.{further}
+use Rattle.typst_language.specs.Syntax.Parser.{gives, does, pick}
+use Rattle.typst_language.specs.Steps.{peek, eat, unexpected, expected, node, grow, read_block}
+use Rattle.typst_language.specs.Depth.{deeper}
 use Rattle.typst_markup.specs.Equations.{equation}
-use Rattle.typst_patterns.specs.Bindings.{let_binding}
-use Rattle.typst_patterns.specs.Closures.{named, placeholder}
+use Rattle.typst_code.specs.Bindings.{let_binding}
+use Rattle.typst_code.specs.Closures.{named, placeholder}
 use Rattle.typst_code.specs.declared.heads.CodeHead.{CodeHead}
 use Rattle.typst_code.specs.declared.heads.CodeHead.TheVariants as head
 use Rattle.typst_code.specs.declared.heads.CodeTail.{CodeTail}

@@ -3,22 +3,22 @@ use Rattle.std.specs.Prelude.{ℕ, Bool, true, false, not, ◌||◌, ◌&&◌, i
 use Rattle.typst_kinds.specs.Kinds.{same, is_terminator}
 use Rattle.typst_kinds.specs.declared.kind.SyntaxKind.{SyntaxKind}
 use Rattle.typst_kinds.specs.declared.kind.SyntaxKind.TheVariants as kind
-use Rattle.typst_markup.specs.reading.AtNewline.TheVariants as newline
-use Rattle.typst_markup.specs.Shape.{Change, Shape, becomes, encloses}
-use Rattle.typst_markup.specs.Shape.Change.{stays, turns_wrong, is_not}
-use Rattle.typst_markup.specs.Shape.Shape.{keeps, holds}
-use Rattle.typst_markup.specs.Syntax.{Parser, ◌>>=◌, ◌>>◌}
-use Rattle.typst_markup.specs.Syntax.Parser.{gives, pick, repeat}
-use Rattle.typst_markup.specs.Steps.{peek, eat, eat_if, unexpected, within, node}
-use Rattle.typst_markup.specs.Expected.{seeing}
+use Rattle.typst_language.specs.declared.reading.AtNewline.TheVariants as newline
+use Rattle.typst_language.specs.Shape.{Change, Shape, becomes, encloses}
+use Rattle.typst_language.specs.Shape.Change.{stays, turns_wrong, is_not}
+use Rattle.typst_language.specs.Shape.Shape.{keeps, holds}
+use Rattle.typst_language.specs.Syntax.{Parser, ◌>>=◌, ◌>>◌}
+use Rattle.typst_language.specs.Syntax.Parser.{gives, pick, repeat}
+use Rattle.typst_language.specs.Steps.{peek, eat, eat_if, unexpected, within, node}
+use Rattle.typst_lookahead.specs.Expected.{seeing}
 use Rattle.typst_markup.specs.Markup.{at_newline}
 use Rattle.typst_markup.specs.Starts.{begins_code}
 use Rattle.typst_code.specs.declared.listing.Items.{Items}
-use Rattle.typst_named.specs.keys.Key.{Key}
-use Rattle.typst_named.specs.keys.Key.TheVariants as key
-use Rattle.typst_named.specs.Keys.{key_of}
-use Rattle.typst_names.specs.Names.{has_name, with_name}
-use Rattle.typst_patterns.specs.Parts.{code_expression, separator}
+use Rattle.typst_markup.specs.declared.keys.Key.{Key}
+use Rattle.typst_markup.specs.declared.keys.Key.TheVariants as key
+use Rattle.typst_markup.specs.Keys.{key_of}
+use Rattle.typst_kinds.specs.SeenNames.{has_name, with_name}
+use Rattle.typst_code.specs.Parts.{code_expression, separator}
 
 -- ---- what lists have in common
 

@@ -2,16 +2,16 @@
 use Rattle.std.specs.Prelude.{Bool, true, false, if◌then◌else◌, [], codes}
 use Rattle.typst_kinds.specs.Kinds.{same, is_terminator}
 use Rattle.typst_kinds.specs.declared.kind.SyntaxKind.TheVariants as kind
-use Rattle.typst_markup.specs.reading.AtNewline.TheVariants as newline
-use Rattle.typst_markup.specs.Shape.{Shape, becomes}
-use Rattle.typst_markup.specs.Shape.Change.{stays, turns_wrong}
-use Rattle.typst_markup.specs.Shape.Shape.{keeps}
-use Rattle.typst_markup.specs.Syntax.{Parser, ◌>>=◌, ◌>>◌}
-use Rattle.typst_markup.specs.Syntax.Parser.{gives, pick, repeat}
-use Rattle.typst_markup.specs.Steps.{peek, eat, eat_if, unexpected, within, node}
-use Rattle.typst_markup.specs.Expected.{expect_identifier}
+use Rattle.typst_language.specs.declared.reading.AtNewline.TheVariants as newline
+use Rattle.typst_language.specs.Shape.{Shape, becomes}
+use Rattle.typst_language.specs.Shape.Change.{stays, turns_wrong}
+use Rattle.typst_language.specs.Shape.Shape.{keeps}
+use Rattle.typst_language.specs.Syntax.{Parser, ◌>>=◌, ◌>>◌}
+use Rattle.typst_language.specs.Syntax.Parser.{gives, pick, repeat}
+use Rattle.typst_language.specs.Steps.{peek, eat, eat_if, unexpected, within, node}
+use Rattle.typst_lookahead.specs.Expected.{expect_identifier}
 use Rattle.typst_markup.specs.Markup.{at_newline}
-use Rattle.typst_patterns.specs.Parts.{code_expression, separator}
+use Rattle.typst_code.specs.Parts.{code_expression, separator}
 
 -- a dot and a name
 unfoldable pub path_turn : Unit {0} → Parser (Bool × Unit {0})

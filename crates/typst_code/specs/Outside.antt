@@ -1,16 +1,16 @@
 -- What productions of code read where blocks may be read.
 use Rattle.std.specs.Prelude.{◌≡◌, Result}
 use Rattle.std.specs.declared.alloc.AllocError.{AllocError}
-use Rattle.typst_markup.specs.calls.Block.TheVariants as block
-use Rattle.typst_markup.specs.calls.Call.{Call}
-use Rattle.typst_markup.specs.Calls.{Answer}
-use Rattle.typst_markup.specs.Meaning.{Level}
-use Rattle.typst_markup.specs.Syntax.{Parser}
-use Rattle.typst_markup.specs.depth.Answered.{Answered}
-use Rattle.typst_markup.specs.View.{View, Frame, Fills, ReadsBlock, Reads, ReadsAs, ReadsBy}
+use Rattle.typst_language.specs.declared.calls.Block.TheVariants as block
+use Rattle.typst_language.specs.declared.calls.Call.{Call}
+use Rattle.typst_language.specs.Calls.{Answer}
+use Rattle.typst_language.specs.Meaning.{Level}
+use Rattle.typst_language.specs.Syntax.{Parser}
+use Rattle.typst_lookahead.specs.declared.depth.Answered.{Answered}
+use Rattle.typst_lookahead.specs.View.{View, Frame, Fills, ReadsBlock, Reads, ReadsAs, ReadsBy}
 use Rattle.typst_markup.specs.Markup.{content_block}
 use Rattle.typst_lines.specs.Place.{Place}
-use Rattle.typst_markup.specs.reading.Reading.{Reading}
+use Rattle.typst_language.specs.declared.reading.Reading.{Reading}
 use Rattle.typst_code.specs.Parens.{guess_of}
 use Rattle.typst_code.specs.Sequences.{code_block}
 

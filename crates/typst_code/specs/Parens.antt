@@ -3,22 +3,22 @@ use Rattle.std.specs.Prelude.{Bool, true, false, not, ◌&&◌, if◌then◌else
 use Rattle.typst_kinds.specs.Kinds.{same}
 use Rattle.typst_kinds.specs.declared.kind.SyntaxKind.{SyntaxKind}
 use Rattle.typst_kinds.specs.declared.kind.SyntaxKind.TheVariants as kind
-use Rattle.typst_markup.specs.calls.Role.TheVariants as role
-use Rattle.typst_markup.specs.Syntax.{Parser, ◌>>=◌, ◌>>◌}
-use Rattle.typst_markup.specs.Syntax.Parser.{gives, pick, either}
-use Rattle.typst_markup.specs.Steps.{peek, node, within}
+use Rattle.typst_language.specs.declared.calls.Role.TheVariants as role
+use Rattle.typst_language.specs.Syntax.{Parser, ◌>>=◌, ◌>>◌}
+use Rattle.typst_language.specs.Syntax.Parser.{gives, pick, either}
+use Rattle.typst_language.specs.Steps.{peek, node, within}
 use Rattle.typst_markup.specs.Markup.{at_newline}
-use Rattle.typst_markup.specs.Meaning.{Guess, Level, run, start_point}
-use Rattle.typst_markup.specs.reading.AtNewline.TheVariants as newline
-use Rattle.typst_markup.specs.reading.Reading.{Reading}
+use Rattle.typst_language.specs.Meaning.{Guess, Level, run, start_point}
+use Rattle.typst_language.specs.declared.reading.AtNewline.TheVariants as newline
+use Rattle.typst_language.specs.declared.reading.Reading.{Reading}
 use Rattle.typst_lines.specs.Place.{Place}
-use Rattle.typst_markup.specs.Expected.{expects}
-use Rattle.typst_markup.specs.calls.Behind.{Behind}
-use Rattle.typst_markup.specs.calls.Behind.TheVariants as behind
-use Rattle.typst_patterns.specs.Closures.{closure_shape}
-use Rattle.typst_patterns.specs.Params.{params}
-use Rattle.typst_patterns.specs.Parts.{expression_if}
-use Rattle.typst_patterns.specs.Patterns.{destructuring}
+use Rattle.typst_lookahead.specs.Expected.{expects}
+use Rattle.typst_language.specs.declared.calls.Behind.{Behind}
+use Rattle.typst_language.specs.declared.calls.Behind.TheVariants as behind
+use Rattle.typst_code.specs.Closures.{closure_shape}
+use Rattle.typst_code.specs.Params.{params}
+use Rattle.typst_code.specs.Parts.{expression_if}
+use Rattle.typst_code.specs.Patterns.{destructuring}
 use Rattle.typst_code.specs.Groups.{group, group_rest}
 
 -- an arrow makes parameters of what stands before it; an equals sign makes it what is assigned to, unless it is one expression in parens

@@ -4,17 +4,17 @@ use Rattle.typst_kinds.specs.Kinds.{same}
 use Rattle.typst_kinds.specs.declared.kind.SyntaxKind.{SyntaxKind}
 use Rattle.typst_kinds.specs.declared.kind.SyntaxKind.TheVariants as kind
 use Rattle.typst_kinds.specs.declared.mode.SyntaxMode.TheVariants as mode
-use Rattle.typst_markup.specs.reading.AtNewline.TheVariants as newline
-use Rattle.typst_markup.specs.reading.Reading.{Reading}
-use Rattle.typst_markup.specs.Shape.{becomes, encloses}
-use Rattle.typst_markup.specs.Syntax.{Parser, ◌>>=◌, ◌>>◌}
-use Rattle.typst_markup.specs.Syntax.Op.{advises, is_deepest}
-use Rattle.typst_markup.specs.Syntax.Parser.{gives, does, pick, repeat, scoped}
-use Rattle.typst_markup.specs.Steps.{peek, eat, close_if, unexpected, expected, within, node}
-use Rattle.typst_markup.specs.Depth.{is_end, too_deep}
+use Rattle.typst_language.specs.declared.reading.AtNewline.TheVariants as newline
+use Rattle.typst_language.specs.declared.reading.Reading.{Reading}
+use Rattle.typst_language.specs.Shape.{becomes, encloses}
+use Rattle.typst_language.specs.Syntax.{Parser, ◌>>=◌, ◌>>◌}
+use Rattle.typst_language.specs.Syntax.Op.{advises, is_deepest}
+use Rattle.typst_language.specs.Syntax.Parser.{gives, does, pick, repeat, scoped}
+use Rattle.typst_language.specs.Steps.{peek, eat, close_if, unexpected, expected, within, node}
+use Rattle.typst_language.specs.Depth.{is_end, too_deep}
 use Rattle.typst_markup.specs.Markup.{at_newline}
 use Rattle.typst_markup.specs.Starts.{begins_code}
-use Rattle.typst_patterns.specs.Parts.{code_expression}
+use Rattle.typst_code.specs.Parts.{code_expression}
 
 -- a code block ends at any closing delimiter
 abbrev pub ends_code : SyntaxKind → Bool

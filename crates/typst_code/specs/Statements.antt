@@ -4,21 +4,21 @@ use Rattle.typst_kinds.specs.Kinds.{same, among}
 use Rattle.typst_kinds.specs.Sets as set
 use Rattle.typst_kinds.specs.declared.kind.SyntaxKind.{SyntaxKind}
 use Rattle.typst_kinds.specs.declared.kind.SyntaxKind.TheVariants as kind
-use Rattle.typst_markup.specs.calls.Block.TheVariants as block
-use Rattle.typst_markup.specs.calls.Call.TheVariants.{CodeExpr}
-use Rattle.typst_markup.specs.calls.Role.TheVariants as role
-use Rattle.typst_markup.specs.Shape.{Shape, becomes}
-use Rattle.typst_markup.specs.Shape.Making.{surprise}
-use Rattle.typst_markup.specs.Shape.Shape.{lacks}
-use Rattle.typst_markup.specs.Syntax.{Parser, ◌>>=◌, ◌>>◌}
-use Rattle.typst_markup.specs.Syntax.Parser.{gives, pick}
-use Rattle.typst_markup.specs.Steps.{peek, eat, eat_if, eat_making, expect, expected, node, grow, nest, read_block}
-use Rattle.typst_markup.specs.Depth.{deeper}
-use Rattle.typst_markup.specs.Expected.{expect_identifier}
+use Rattle.typst_language.specs.declared.calls.Block.TheVariants as block
+use Rattle.typst_language.specs.declared.calls.Call.TheVariants.{CodeExpr}
+use Rattle.typst_language.specs.declared.calls.Role.TheVariants as role
+use Rattle.typst_language.specs.Shape.{Shape, becomes}
+use Rattle.typst_language.specs.Shape.Making.{surprise}
+use Rattle.typst_language.specs.Shape.Shape.{lacks}
+use Rattle.typst_language.specs.Syntax.{Parser, ◌>>=◌, ◌>>◌}
+use Rattle.typst_language.specs.Syntax.Parser.{gives, pick}
+use Rattle.typst_language.specs.Steps.{peek, eat, eat_if, eat_making, expect, expected, node, grow, nest, read_block}
+use Rattle.typst_language.specs.Depth.{deeper}
+use Rattle.typst_lookahead.specs.Expected.{expect_identifier}
 use Rattle.typst_markup.specs.Starts.{begins_code}
 use Rattle.typst_code.specs.Arguments.{arguments}
-use Rattle.typst_patterns.specs.Parts.{code_expression, expression_if}
-use Rattle.typst_patterns.specs.Patterns.{deeper_pattern}
+use Rattle.typst_code.specs.Parts.{code_expression, expression_if}
+use Rattle.typst_code.specs.Patterns.{deeper_pattern}
 
 -- `{ .. }` or `[ .. ]`
 unfoldable pub any_block : Parser (Unit {0})

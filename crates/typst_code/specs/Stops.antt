@@ -1,7 +1,7 @@
 -- Where the sequences of the code stop.
 use Rattle.std.specs.Prelude.{Bool}
 use Rattle.typst_kinds.specs.declared.kind.SyntaxKind.{SyntaxKind}
-use Rattle.typst_markup.specs.Depth.{is_end}
+use Rattle.typst_language.specs.Depth.{is_end}
 use Rattle.typst_code.specs.declared.stops.CodeStop.{CodeStop}
 use Rattle.typst_code.specs.declared.stops.CodeStop.TheVariants as stop
 use Rattle.typst_code.specs.Sequences.{ends_code}

@@ -2,21 +2,21 @@
 
 ghost use Rattle.std.specs.Prelude.{◌≡◌, IfOk, OnOk};
 ghost use Rattle.typst_kinds.specs.declared.kind.SyntaxKind.TheVariants as kind;
-ghost use Rattle.typst_markup.specs.Shape.Shape.{holds};
-ghost use Rattle.typst_markup.specs.Syntax.Parser.{repeat};
-ghost use Rattle.typst_markup.specs.View.{Means, MeansBy, Rewrapped};
+ghost use Rattle.typst_language.specs.Shape.Shape.{holds};
+ghost use Rattle.typst_language.specs.Syntax.Parser.{repeat};
+ghost use Rattle.typst_lookahead.specs.View.{Means, MeansBy, Rewrapped};
 ghost use Rattle.typst_code.specs.Arguments as spec;
 ghost use Rattle.typst_code.specs.Outside.{MeansAround, MeansAroundBy};
 
 use crate::groups::{begins_item, pair, spread};
 use crate::heads::{calls_directly, opens_arguments};
+use crate::separator;
 use crate::sequences::read_content;
 use std::alloc::AllocError;
-use typst_kinds::SyntaxKind;
-use typst_markup::{AtNewline, Change, Levels, Parser, opens_directly};
-use typst_named::{Key, with_argument, wrap_named};
-use typst_names::Names;
-use typst_patterns::separator;
+use typst_kinds::{Names, SyntaxKind};
+use typst_language::{AtNewline, Change};
+use typst_lookahead::{Levels, Parser};
+use typst_markup::{Key, opens_directly, with_argument, wrap_named};
 
 /// Makes a named argument of an argument that has a key, which has to be a name that wasn't seen.
 fn wrap_argument(

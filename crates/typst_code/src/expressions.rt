@@ -2,7 +2,7 @@
 
 ghost use Rattle.std.specs.Prelude.{◌≡◌, IfOk, IfSome, false};
 ghost use Rattle.typst_kinds.specs.Kinds.{is_error};
-ghost use Rattle.typst_markup.specs.View.{Means, MeansBy, bare_growth};
+ghost use Rattle.typst_lookahead.specs.View.{Means, MeansBy, bare_growth};
 ghost use Rattle.typst_code.specs.Expressions as spec;
 ghost use Rattle.typst_code.specs.Outside.{MeansAround, MeansAroundBy};
 
@@ -16,10 +16,12 @@ use crate::statements::{
     conditional, contextual, field, for_loop, func_return, jump, module_include, set_rule,
     show_rule, while_loop,
 };
+use crate::{let_binding, named, placeholder};
 use std::alloc::AllocError;
 use typst_kinds::{Assoc, BinOp, SyntaxKind, UnOp};
-use typst_markup::{Answered, Call, Levels, Parser, deeper, equation};
-use typst_patterns::{let_binding, named, placeholder};
+use typst_language::Call;
+use typst_lookahead::{Answered, Levels, Parser, deeper};
+use typst_markup::equation;
 
 /// An operator and its operand.
 fn unary_expr<L: Levels>(g: &L, p: &mut Parser<'_>, op: UnOp) -> Result<(), AllocError>

@@ -2,19 +2,19 @@
 
 ghost use Rattle.std.specs.Prelude.{◌≡◌, OnOk, false};
 ghost use Rattle.typst_kinds.specs.Kinds.{is_error};
-ghost use Rattle.typst_markup.specs.Shape.Shape.{holds};
-ghost use Rattle.typst_markup.specs.Syntax.Parser.{repeat};
-ghost use Rattle.typst_markup.specs.Changes.{IsFine, meant};
-ghost use Rattle.typst_markup.specs.View.{Means, Rewrapped};
+ghost use Rattle.typst_language.specs.Shape.Shape.{holds};
+ghost use Rattle.typst_language.specs.Syntax.Parser.{repeat};
+ghost use Rattle.typst_language.specs.Changes.{IsFine, meant};
+ghost use Rattle.typst_lookahead.specs.View.{Means, Rewrapped};
 ghost use Rattle.typst_code.specs.Groups as spec;
 
 use crate::listing::Items;
+use crate::{code_expression, separator};
 use std::alloc::AllocError;
-use typst_kinds::SyntaxKind;
-use typst_markup::{AtNewline, Change, Levels, Parser, begins_code};
-use typst_named::{Key, key_of};
-use typst_names::Names;
-use typst_patterns::{code_expression, separator};
+use typst_kinds::{Names, SyntaxKind};
+use typst_language::{AtNewline, Change};
+use typst_lookahead::{Levels, Parser};
+use typst_markup::{Key, begins_code, key_of};
 
 /// Whether an item begins at this token.
 pub(crate) fn begins_item(kind: SyntaxKind) -> bool

@@ -5,9 +5,8 @@ ghost use Rattle.typst_kinds.specs.Kinds.{is_error};
 ghost use Rattle.typst_code.specs.Groups as spec;
 
 use std::alloc::{AllocError, Global};
-use typst_kinds::SyntaxKind;
-use typst_named::Key;
-use typst_names::Names;
+use typst_kinds::{Names, SyntaxKind};
+use typst_markup::Key;
 
 /// What the items in parens were found to be so far.
 #[derive(Drop)]

@@ -1,17 +1,17 @@
 //! What begins with a paren: a group, a closure or an assignment.
 
 ghost use Rattle.std.specs.Prelude.{◌≡◌};
-ghost use Rattle.typst_markup.specs.View.{Means};
+ghost use Rattle.typst_lookahead.specs.View.{Means};
 ghost use Rattle.typst_kinds.specs.declared.kind.SyntaxKind.TheVariants as kind;
 ghost use Rattle.typst_code.specs.Outside.{MeansAround};
 ghost use Rattle.typst_code.specs.Parens as spec;
 
 use crate::groups::group;
+use crate::{destructuring, expression_if, params, wrap_closure};
 use std::alloc::AllocError;
-use typst_kinds::SyntaxKind;
-use typst_markup::{Behind, Levels, Parser, Role};
-use typst_names::Names;
-use typst_patterns::{destructuring, expression_if, params, wrap_closure};
+use typst_kinds::{Names, SyntaxKind};
+use typst_language::{Behind, Role};
+use typst_lookahead::{Levels, Parser};
 
 /// What comes behind a group of this kind.
 fn behind_group(group: SyntaxKind, kind: SyntaxKind) -> Behind

@@ -1,20 +1,20 @@
 //! Sequences of code, and code blocks.
 
 ghost use Rattle.std.specs.Prelude.{◌≡◌};
-ghost use Rattle.typst_markup.specs.Steps.{read_block};
-ghost use Rattle.typst_markup.specs.Syntax.Parser.{repeat};
-ghost use Rattle.typst_markup.specs.View.{Means, MeansBy, MeansLast};
+ghost use Rattle.typst_language.specs.Steps.{read_block};
+ghost use Rattle.typst_language.specs.Syntax.Parser.{repeat};
+ghost use Rattle.typst_lookahead.specs.View.{Means, MeansBy, MeansLast};
 ghost use Rattle.typst_code.specs.Sequences as spec;
 ghost use Rattle.typst_code.specs.Outside.{MeansAround};
 ghost use Rattle.typst_code.specs.Stops.{stops_at};
 
+use crate::code_expression;
 use crate::stops::CodeStop;
 use std::alloc::AllocError;
 use typst_kinds::{SyntaxKind, SyntaxMode};
-use typst_markup::{
-    AtNewline, Block, Levels, Parser, Reading, Stops, begins_code, content_block, too_deep,
-};
-use typst_patterns::code_expression;
+use typst_language::{AtNewline, Block, Reading};
+use typst_lookahead::{Levels, Parser, Stops, too_deep};
+use typst_markup::{begins_code, content_block};
 
 /// Reads statements up to a stop.
 pub fn code_exprs<L: Levels>(g: &L, p: &mut Parser<'_>, stop: CodeStop) -> Result<(), AllocError>

@@ -2,18 +2,19 @@
 
 ghost use Rattle.std.specs.Prelude.{◌≡◌, OnOk, IfOk, IfSome, false};
 ghost use Rattle.typst_kinds.specs.Kinds.{is_error};
-ghost use Rattle.typst_markup.specs.Hand.{told};
-ghost use Rattle.typst_markup.specs.View.{Means, MeansBy, Rewrapped, bare_growth};
+ghost use Rattle.typst_language.specs.Hand.{told};
+ghost use Rattle.typst_lookahead.specs.View.{Means, MeansBy, Rewrapped, bare_growth};
 ghost use Rattle.typst_code.specs.Statements as spec;
 ghost use Rattle.typst_code.specs.Outside.{MeansAround, MeansAroundBy};
 
 use crate::arguments::arguments;
 use crate::sequences::{read_code, read_content};
+use crate::{code_expression, deeper_pattern, expression_if};
 use std::alloc::AllocError;
-use typst_kinds::{SyntaxKind, set};
-use typst_markup::{Answered, Call, Levels, Parser, Role, begins_code, deeper};
-use typst_names::Names;
-use typst_patterns::{code_expression, deeper_pattern, expression_if};
+use typst_kinds::{Names, SyntaxKind, set};
+use typst_language::{Call, Role};
+use typst_lookahead::{Answered, Levels, Parser, deeper};
+use typst_markup::begins_code;
 
 /// `{ .. }` or `[ .. ]`
 fn any_block<L: Levels>(g: &L, p: &mut Parser<'_>) -> Result<(), AllocError>

@@ -3,29 +3,29 @@ use Rattle.std.proofs.Common.{◌≡◌, ℕ, suc, ◌-◌, Bool, true, Option, 
 use Rattle.std.specs.Prelude.{◌∷◌, IsSome}
 use Rattle.std.specs.Str.{chars}
 use Rattle.typst_lines.specs.Place.{Place, moved}
-use Rattle.typst_readers.specs.Sight.{hull_of}
-use Rattle.typst_node.specs.Tree.{Tree}
-use Rattle.typst_classes.specs.Classes.{CharClasses}
-use Rattle.typst_code.specs.calls.Call.{Call}
-use Rattle.typst_code.specs.calls.Note.{Note}
-use Rattle.typst_code.specs.Point.{Point}
-use Rattle.typst_code.specs.Ask.{Ask}
-use Rattle.typst_code.specs.Ask.Ask.{looked, marked}
-use Rattle.typst_code.specs.reading.Reading.{Reading}
-use Rattle.typst_code.specs.Log.{Log, no_log, with_more, with_hull, with_note, logged}
-use Rattle.typst_code.specs.Knot.{meaning_of}
-use Rattle.typst_code.specs.Meaning.{Guess, Meaning, Outcome, apart, less, standing, start_point, run}
-use Rattle.typst_code.specs.calls.Behind.{Behind}
-use Rattle.typst_code.specs.Calls.{Answer}
-use Rattle.typst_code.specs.Steps.{peek}
+use Rattle.typst_tokens.specs.Sight.{hull_of}
+use Rattle.typst_tree.specs.Tree.{Tree}
+use Rattle.typst_lines.specs.Classes.{CharClasses}
+use Rattle.typst_language.specs.declared.calls.Call.{Call}
+use Rattle.typst_language.specs.declared.calls.Note.{Note}
+use Rattle.typst_language.specs.Point.{Point}
+use Rattle.typst_language.specs.Ask.{Ask}
+use Rattle.typst_language.specs.Ask.Ask.{looked, marked}
+use Rattle.typst_language.specs.declared.reading.Reading.{Reading}
+use Rattle.typst_language.specs.Log.{Log, no_log, with_more, with_hull, with_note, logged}
+use Rattle.typst_language.specs.Knot.{meaning_of}
+use Rattle.typst_language.specs.Meaning.{Guess, Meaning, Outcome, apart, less, standing, start_point, run}
+use Rattle.typst_language.specs.declared.calls.Behind.{Behind}
+use Rattle.typst_language.specs.Calls.{Answer}
+use Rattle.typst_language.specs.Steps.{peek}
 use Rattle.typst_code.specs.Markup.{content_block}
 use Rattle.typst_code.specs.Sequences.{code_block}
 use Rattle.typst_code.specs.Parens.{after_paren}
-use Rattle.typst_code.specs.Shape.{hinted}
-use Rattle.typst_code.specs.Sound.{Sound}
-use Rattle.typst_code.specs.Syntax.{Parser, ◌>>◌}
-use Rattle.typst_code.proofs.Blind.{run-blind}
-use Rattle.typst_code.proofs.Knot.{sound-level}
+use Rattle.typst_language.specs.Shape.{hinted}
+use Rattle.typst_language.specs.Sound.{Sound}
+use Rattle.typst_language.specs.Syntax.{Parser, ◌>>◌}
+use Rattle.typst_language.proofs.Blind.{run-blind}
+use Rattle.typst_language.proofs.Knot.{sound-level}
 use Rattle.typst_code.proofs.Knowing.{knows-none}
 use Rattle.typst_code.specs.depth.Answered.{Answered}
 use Rattle.typst_code.specs.Cursor.{IsStart}

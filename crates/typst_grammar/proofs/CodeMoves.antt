@@ -6,25 +6,25 @@ use Rattle.typst_kinds.specs.declared.kind.SyntaxKind.TheVariants as kind
 use Rattle.typst_kinds.specs.declared.mode.SyntaxMode.{SyntaxMode}
 use Rattle.typst_kinds.specs.declared.operator.UnOp.{UnOp}
 use Rattle.typst_lines.specs.Place.{Place, moved}
-use Rattle.typst_node.specs.Tree.{Tree}
-use Rattle.typst_classes.specs.Classes.{CharClasses}
-use Rattle.typst_code.specs.calls.Block.{Block}
-use Rattle.typst_code.specs.calls.Block.TheVariants as block
-use Rattle.typst_code.specs.calls.Role.{Role}
-use Rattle.typst_code.specs.reading.Reading.{Reading}
-use Rattle.typst_code.specs.Point.{Point, Trivia, forgot}
-use Rattle.typst_code.specs.Hand.{Hand, hand_at, ahead, ahead_by, at_trivia, len_at}
-use Rattle.typst_code.specs.Shape.{Shape}
-use Rattle.typst_code.specs.Shape.Making.{itself}
-use Rattle.typst_code.specs.Syntax.{Parser}
-use Rattle.typst_code.specs.Syntax.Parser.{next}
-use Rattle.typst_code.specs.Steps.{eat, read_block}
-use Rattle.typst_code.specs.Meaning.{Level, apart, hand_of, asked, flushed_state, run}
-use Rattle.typst_code.proofs.Ends.{hand-again}
+use Rattle.typst_tree.specs.Tree.{Tree}
+use Rattle.typst_lines.specs.Classes.{CharClasses}
+use Rattle.typst_language.specs.declared.calls.Block.{Block}
+use Rattle.typst_language.specs.declared.calls.Block.TheVariants as block
+use Rattle.typst_language.specs.declared.calls.Role.{Role}
+use Rattle.typst_language.specs.declared.reading.Reading.{Reading}
+use Rattle.typst_language.specs.Point.{Point, Trivia, forgot}
+use Rattle.typst_language.specs.Hand.{Hand, hand_at, ahead, ahead_by, at_trivia, len_at}
+use Rattle.typst_language.specs.Shape.{Shape}
+use Rattle.typst_language.specs.Shape.Making.{itself}
+use Rattle.typst_language.specs.Syntax.{Parser}
+use Rattle.typst_language.specs.Syntax.Parser.{next}
+use Rattle.typst_language.specs.Steps.{eat, read_block}
+use Rattle.typst_language.specs.Meaning.{Level, apart, hand_of, asked, flushed_state, run}
+use Rattle.typst_language.proofs.Ends.{hand-again}
 use Rattle.typst_code.specs.Markup.{content_block}
 use Rattle.typst_code.specs.Starts.{begins_code}
 use Rattle.typst_code.specs.Equations.{between_dollars, equation}
-use Rattle.typst_code.specs.calls.Behind.{Behind}
+use Rattle.typst_language.specs.declared.calls.Behind.{Behind}
 use Rattle.typst_code.specs.Bindings.{let_binding}
 use Rattle.typst_code.specs.Closures.{behind_name, behind_underscore, headed, name_shape, named, placeholder, underscore_shape}
 use Rattle.typst_code.specs.Params.{params}

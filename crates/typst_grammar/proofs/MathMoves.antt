@@ -5,16 +5,16 @@ use Rattle.typst_kinds.specs.Sets.{math_expr as math_kinds}
 use Rattle.typst_kinds.specs.declared.kind.SyntaxKind.{SyntaxKind}
 use Rattle.typst_kinds.specs.declared.kind.SyntaxKind.TheVariants as kind
 use Rattle.typst_lines.specs.Place.{Place, moved}
-use Rattle.typst_classes.specs.Classes.{CharClasses}
-use Rattle.typst_code.specs.calls.ChainSet.{ChainSet}
-use Rattle.typst_code.specs.Point.{Point}
-use Rattle.typst_code.specs.Hand.{Hand}
-use Rattle.typst_code.specs.Steps.{eat, convert_and_eat}
-use Rattle.typst_code.specs.Meaning.{Level, hand_of, asked, run}
+use Rattle.typst_lines.specs.Classes.{CharClasses}
+use Rattle.typst_language.specs.declared.calls.ChainSet.{ChainSet}
+use Rattle.typst_language.specs.Point.{Point}
+use Rattle.typst_language.specs.Hand.{Hand}
+use Rattle.typst_language.specs.Steps.{eat, convert_and_eat}
+use Rattle.typst_language.specs.Meaning.{Level, hand_of, asked, run}
 use Rattle.typst_code.specs.Embedded.{embedded}
-use Rattle.typst_code.proofs.Ends.{hand-again}
-use Rattle.typst_math.specs.Delimited.{delimiter_sign, delimiter, delimited}
-use Rattle.typst_math.specs.MathExpressions.{math_head, math_text, root, math_by, math_primary, math_tail_turn, math_grown, math_expr}
+use Rattle.typst_language.proofs.Ends.{hand-again}
+use Rattle.typst_code.specs.Delimited.{delimiter_sign, delimiter, delimited}
+use Rattle.typst_code.specs.MathExpressions.{math_head, math_text, root, math_by, math_primary, math_tail_turn, math_grown, math_expr}
 use Rattle.typst_grammar.proofs.Moves.{Moves, Each, ◌also◌, of-each, left-again, moves-next, moves-eat, moves-within, moves-node, moves-grow, moves-seeing, moves-convert}
 
 module _ (l : Level) where

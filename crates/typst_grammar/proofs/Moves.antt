@@ -4,19 +4,19 @@ use Rattle.typst_kinds.proofs.Sameness.{same-is}
 use Rattle.typst_kinds.specs.Kinds.{among, same}
 use Rattle.typst_kinds.specs.declared.kind.SyntaxKind.{SyntaxKind}
 use Rattle.typst_lines.specs.Place.{Place, moved}
-use Rattle.typst_code.specs.reading.Reading.{Reading}
-use Rattle.typst_code.specs.Point.{Point}
-use Rattle.typst_code.specs.Hand.{Hand, AtHand, told}
-use Rattle.typst_code.specs.Shape.{Making, Shape}
-use Rattle.typst_code.specs.Shape.Making.{itself, of_kind, surprise}
+use Rattle.typst_language.specs.declared.reading.Reading.{Reading}
+use Rattle.typst_language.specs.Point.{Point}
+use Rattle.typst_language.specs.Hand.{Hand, AtHand, told}
+use Rattle.typst_language.specs.Shape.{Making, Shape}
+use Rattle.typst_language.specs.Shape.Making.{itself, of_kind, surprise}
 use Rattle.typst_code.specs.Expected.{seeing}
-use Rattle.typst_code.specs.Syntax.{Begin, Parser}
-use Rattle.typst_code.specs.Syntax.Begin.{at_token}
-use Rattle.typst_code.specs.Syntax.Op.{hand, takes}
-use Rattle.typst_code.specs.Syntax.Parser.{does, either, next, pick, scoped, wraps}
-use Rattle.typst_code.specs.Steps.{eat, eat_making, convert_and_eat, unexpected, within, node, grow, nest}
-use Rattle.typst_code.specs.Meaning.{Outcome, Meaning, Level, given_up, before, entered, hand_of, asked, answered, joined, followed, as_last, bound, grown, growths, growing, is_more, nestings, nesting, run}
-use Rattle.typst_code.proofs.Ends.{hand-again}
+use Rattle.typst_language.specs.Syntax.{Begin, Parser}
+use Rattle.typst_language.specs.Syntax.Begin.{at_token}
+use Rattle.typst_language.specs.Syntax.Op.{hand, takes}
+use Rattle.typst_language.specs.Syntax.Parser.{does, either, next, pick, scoped, wraps}
+use Rattle.typst_language.specs.Steps.{eat, eat_making, convert_and_eat, unexpected, within, node, grow, nest}
+use Rattle.typst_language.specs.Meaning.{Outcome, Meaning, Level, given_up, before, entered, hand_of, asked, answered, joined, followed, as_last, bound, grown, growths, growing, is_more, nestings, nesting, run}
+use Rattle.typst_language.proofs.Ends.{hand-again}
 
 -- where something is left, trivia or a token, something is taken
 abbrev pub Moves : {A : Type 0} → Level → Parser A → Type 0

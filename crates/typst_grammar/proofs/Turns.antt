@@ -4,21 +4,21 @@ use Rattle.std.proofs.lemmas.Bool.Decides.{nat_tests}
 use Rattle.typst_kinds.specs.declared.kind.SyntaxKind.{SyntaxKind}
 use Rattle.typst_kinds.specs.declared.mode.SyntaxMode.{SyntaxMode}
 use Rattle.typst_lines.specs.Place.{Place, moved}
-use Rattle.typst_classes.specs.Classes.{CharClasses}
-use Rattle.typst_code.specs.reading.AtNewline.TheVariants as newline
-use Rattle.typst_code.specs.reading.Reading.{Reading}
-use Rattle.typst_code.specs.Point.{Point}
-use Rattle.typst_code.specs.Hand.{Hand, AtHand, hand_at, told}
-use Rattle.typst_code.specs.Syntax.{Parser, ◌>>◌}
-use Rattle.typst_code.specs.Syntax.Op.{hand, is_deepest}
-use Rattle.typst_code.specs.Syntax.Parser.{gives, does, next, pick, repeat}
-use Rattle.typst_code.specs.Steps.{flush_trivia}
-use Rattle.typst_code.specs.Depth.{is_end}
-use Rattle.typst_code.specs.Meaning.{Outcome, Level, joined, turns, as_last, bound, repeated, hand_of, asked, start_point, run}
-use Rattle.typst_code.proofs.Places.{moved-sum, ahead-left}
-use Rattle.typst_code.proofs.Ends.{hand-takes, hand-ends, hand-again}
-use Rattle.typst_code.proofs.Knot.{sane-at}
-use Rattle.typst_code.proofs.Rests.{Rests}
+use Rattle.typst_lines.specs.Classes.{CharClasses}
+use Rattle.typst_language.specs.declared.reading.AtNewline.TheVariants as newline
+use Rattle.typst_language.specs.declared.reading.Reading.{Reading}
+use Rattle.typst_language.specs.Point.{Point}
+use Rattle.typst_language.specs.Hand.{Hand, AtHand, hand_at, told}
+use Rattle.typst_language.specs.Syntax.{Parser, ◌>>◌}
+use Rattle.typst_language.specs.Syntax.Op.{hand, is_deepest}
+use Rattle.typst_language.specs.Syntax.Parser.{gives, does, next, pick, repeat}
+use Rattle.typst_language.specs.Steps.{flush_trivia}
+use Rattle.typst_language.specs.Depth.{is_end}
+use Rattle.typst_language.specs.Meaning.{Outcome, Level, joined, turns, as_last, bound, repeated, hand_of, asked, start_point, run}
+use Rattle.typst_language.proofs.Places.{moved-sum, ahead-left}
+use Rattle.typst_language.proofs.Ends.{hand-takes, hand-ends, hand-again}
+use Rattle.typst_language.proofs.Knot.{sane-at}
+use Rattle.typst_language.proofs.Rests.{Rests}
 use Rattle.typst_grammar.specs.Grammar.{rules, level_at, max_depth, start_of}
 
 on_false : {A : Type 0} (P : A → Type 0) (b : Bool) (x y : A) → b ≡ false → P y → P (if b then x else y)

@@ -3,19 +3,19 @@ use Rattle.std.proofs.Common.{◌≡◌, ℕ, ◌<◌, ◌≤◌, Bool, true, fa
 use Rattle.typst_kinds.specs.declared.kind.SyntaxKind.{SyntaxKind}
 use Rattle.typst_kinds.specs.declared.kind.SyntaxKind.TheVariants as kind
 use Rattle.typst_lines.specs.Place.{moved}
-use Rattle.typst_node.specs.Tree.{text_of}
-use Rattle.typst_classes.specs.Classes.{CharClasses}
-use Rattle.typst_code.specs.calls.Call.TheVariants.{MarkupExpr}
-use Rattle.typst_code.specs.Knot.{meaning_of}
-use Rattle.typst_code.specs.Shape.Making.{itself, of_kind, surprise}
-use Rattle.typst_code.specs.Syntax.{Parser, ◌>>=◌, ◌>>◌}
-use Rattle.typst_code.specs.Syntax.Parser.{gives, next, repeat}
-use Rattle.typst_code.specs.Steps.{peek, eat, convert_and_eat, unexpected}
-use Rattle.typst_code.specs.Depth.{is_end, too_deep, deeper}
-use Rattle.typst_code.specs.Meaning.{Level, start_point, run}
-use Rattle.typst_code.proofs.Places.{take-all}
-use Rattle.typst_code.proofs.Knot.{sane-at}
-use Rattle.typst_code.proofs.Eats.{Eats, eats-next, eats-peek, eats-column, eats-making, eats-within, eats-node}
+use Rattle.typst_tree.specs.Tree.{text_of}
+use Rattle.typst_lines.specs.Classes.{CharClasses}
+use Rattle.typst_language.specs.declared.calls.Call.TheVariants.{MarkupExpr}
+use Rattle.typst_language.specs.Knot.{meaning_of}
+use Rattle.typst_language.specs.Shape.Making.{itself, of_kind, surprise}
+use Rattle.typst_language.specs.Syntax.{Parser, ◌>>=◌, ◌>>◌}
+use Rattle.typst_language.specs.Syntax.Parser.{gives, next, repeat}
+use Rattle.typst_language.specs.Steps.{peek, eat, convert_and_eat, unexpected}
+use Rattle.typst_language.specs.Depth.{is_end, too_deep, deeper}
+use Rattle.typst_language.specs.Meaning.{Level, start_point, run}
+use Rattle.typst_language.proofs.Places.{take-all}
+use Rattle.typst_language.proofs.Knot.{sane-at}
+use Rattle.typst_language.proofs.Eats.{Eats, eats-next, eats-peek, eats-column, eats-making, eats-within, eats-node}
 use Rattle.typst_code.specs.head.MarkupHead.{MarkupHead}
 use Rattle.typst_code.specs.head.MarkupHead.TheVariants as head
 use Rattle.typst_code.specs.Embedded.{embedded}

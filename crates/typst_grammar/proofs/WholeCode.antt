@@ -2,18 +2,18 @@
 use Rattle.std.proofs.Common.{◌≡◌, ℕ, ◌+◌, ◌<◌, ◌≤◌, Bool, true, List, [], length, encode_utf8_all, refl, ap, ◌∙◌, arith}
 use Rattle.typst_kinds.specs.declared.mode.SyntaxMode.TheVariants as mode
 use Rattle.typst_lines.specs.Place.{Place, moved}
-use Rattle.typst_node.specs.Tree.{text_of}
-use Rattle.typst_classes.specs.Classes.{CharClasses}
-use Rattle.typst_code.specs.reading.AtNewline.TheVariants as newline
-use Rattle.typst_code.specs.Point.{Point}
-use Rattle.typst_code.specs.Knot.{meaning_of}
-use Rattle.typst_code.specs.Syntax.{Parser, ◌>>=◌, ◌>>◌}
-use Rattle.typst_code.specs.Syntax.Parser.{gives, repeat}
-use Rattle.typst_code.specs.Steps.{peek, unexpected, within}
-use Rattle.typst_code.specs.Depth.{is_end, too_deep, deeper}
-use Rattle.typst_code.specs.Meaning.{hand_of, start_point, run}
-use Rattle.typst_code.proofs.Places.{take-all}
-use Rattle.typst_code.proofs.Knot.{sane-at}
+use Rattle.typst_tree.specs.Tree.{text_of}
+use Rattle.typst_lines.specs.Classes.{CharClasses}
+use Rattle.typst_language.specs.declared.reading.AtNewline.TheVariants as newline
+use Rattle.typst_language.specs.Point.{Point}
+use Rattle.typst_language.specs.Knot.{meaning_of}
+use Rattle.typst_language.specs.Syntax.{Parser, ◌>>=◌, ◌>>◌}
+use Rattle.typst_language.specs.Syntax.Parser.{gives, repeat}
+use Rattle.typst_language.specs.Steps.{peek, unexpected, within}
+use Rattle.typst_language.specs.Depth.{is_end, too_deep, deeper}
+use Rattle.typst_language.specs.Meaning.{hand_of, start_point, run}
+use Rattle.typst_language.proofs.Places.{take-all}
+use Rattle.typst_language.proofs.Knot.{sane-at}
 use Rattle.typst_code.specs.Markup.{at_newline}
 use Rattle.typst_code.specs.Starts.{begins_code}
 use Rattle.typst_code.specs.Parts.{code_expression}

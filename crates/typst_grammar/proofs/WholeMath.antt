@@ -4,18 +4,18 @@ use Rattle.typst_kinds.specs.Kinds.{among}
 use Rattle.typst_kinds.specs.Sets.{math_expr as math_kinds}
 use Rattle.typst_kinds.specs.declared.mode.SyntaxMode.TheVariants as mode
 use Rattle.typst_lines.specs.Place.{Place, moved}
-use Rattle.typst_node.specs.Tree.{text_of}
-use Rattle.typst_classes.specs.Classes.{CharClasses}
-use Rattle.typst_code.specs.Point.{Point}
-use Rattle.typst_code.specs.Knot.{meaning_of}
-use Rattle.typst_code.specs.Syntax.{Parser, ◌>>◌}
-use Rattle.typst_code.specs.Syntax.Parser.{gives, repeat}
-use Rattle.typst_code.specs.Steps.{peek, unexpected}
-use Rattle.typst_code.specs.Depth.{is_end, one_more, too_deep, deeper}
+use Rattle.typst_tree.specs.Tree.{text_of}
+use Rattle.typst_lines.specs.Classes.{CharClasses}
+use Rattle.typst_language.specs.Point.{Point}
+use Rattle.typst_language.specs.Knot.{meaning_of}
+use Rattle.typst_language.specs.Syntax.{Parser, ◌>>◌}
+use Rattle.typst_language.specs.Syntax.Parser.{gives, repeat}
+use Rattle.typst_language.specs.Steps.{peek, unexpected}
+use Rattle.typst_language.specs.Depth.{is_end, one_more, too_deep, deeper}
 use Rattle.typst_code.specs.Equations.{math_expression, math_item, math_turn, math_exprs, math_reading, no_signs}
-use Rattle.typst_code.specs.Meaning.{hand_of, start_point, run}
-use Rattle.typst_code.proofs.Places.{take-all}
-use Rattle.typst_code.proofs.Knot.{sane-at}
+use Rattle.typst_language.specs.Meaning.{hand_of, start_point, run}
+use Rattle.typst_language.proofs.Places.{take-all}
+use Rattle.typst_language.proofs.Knot.{sane-at}
 use Rattle.typst_grammar.specs.Grammar.{rules, level_at, max_depth, start_of, whole_math, parsed_math, tree_math}
 use Rattle.typst_grammar.proofs.MathMoves.{moves-math}
 use Rattle.typst_grammar.proofs.Moves.{Moves, left-again, moves-unexpected}

@@ -2,9 +2,9 @@
 use Rattle.std.specs.Prelude.{◌≡◌, ℕ, List, [], ◌∷◌, None, codes}
 use Rattle.typst_kinds.specs.declared.kind.SyntaxKind.{SyntaxKind}
 use Rattle.typst_kinds.specs.declared.kind.SyntaxKind.TheVariants as kind
-use Rattle.typst_node.specs.Diagnostic.{warning_with, hint_with}
-use Rattle.typst_node.specs.Tree.{Tree, forest, leaf_of, inner_of, error_of, remarked, advised}
-use Rattle.typst_classes.specs.Classes.{CharClasses, by_law}
+use Rattle.typst_tree.specs.Diagnostic.{warning_with, hint_with}
+use Rattle.typst_tree.specs.Tree.{Tree, forest, leaf_of, inner_of, error_of, remarked, advised}
+use Rattle.typst_lines.specs.Classes.{CharClasses, by_law}
 use Rattle.typst_grammar.specs.Grammar.{tree, tree_code, tree_math}
 
 -- an inner node

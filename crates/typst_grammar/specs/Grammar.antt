@@ -2,25 +2,25 @@
 use Rattle.std.specs.Prelude.{ℕ, Bool, true, List, []}
 use Rattle.typst_kinds.specs.declared.kind.SyntaxKind.TheVariants as kind
 use Rattle.typst_lines.specs.Place.{Place}
-use Rattle.typst_node.specs.Tree.{Tree, forest, inner_of}
-use Rattle.typst_classes.specs.Classes.{CharClasses}
-use Rattle.typst_code.specs.calls.Block.{Block}
-use Rattle.typst_code.specs.calls.Block.TheVariants as block
-use Rattle.typst_code.specs.calls.Call.{Call}
-use Rattle.typst_code.specs.calls.Call.TheVariants.{MarkupExpr, CodeExpr, MathExpr, Pattern}
-use Rattle.typst_code.specs.Calls.{Answer}
-use Rattle.typst_code.specs.Syntax.{Parser, ◌>>◌}
-use Rattle.typst_code.specs.Steps.{peek, flush_trivia}
-use Rattle.typst_code.specs.Depth.{is_end}
-use Rattle.typst_code.specs.Log.{Log, no_log, logged}
-use Rattle.typst_code.specs.Meaning.{Outcome, Meaning, Level, start_point, run}
-use Rattle.typst_code.specs.Knot.{Rules, meaning_of, level_of}
+use Rattle.typst_tree.specs.Tree.{Tree, forest, inner_of}
+use Rattle.typst_lines.specs.Classes.{CharClasses}
+use Rattle.typst_language.specs.declared.calls.Block.{Block}
+use Rattle.typst_language.specs.declared.calls.Block.TheVariants as block
+use Rattle.typst_language.specs.declared.calls.Call.{Call}
+use Rattle.typst_language.specs.declared.calls.Call.TheVariants.{MarkupExpr, CodeExpr, MathExpr, Pattern}
+use Rattle.typst_language.specs.Calls.{Answer}
+use Rattle.typst_language.specs.Syntax.{Parser, ◌>>◌}
+use Rattle.typst_language.specs.Steps.{peek, flush_trivia}
+use Rattle.typst_language.specs.Depth.{is_end}
+use Rattle.typst_language.specs.Log.{Log, no_log, logged}
+use Rattle.typst_language.specs.Meaning.{Outcome, Meaning, Level, start_point, run}
+use Rattle.typst_language.specs.Knot.{Rules, meaning_of, level_of}
 use Rattle.typst_code.specs.Markup.{content_block, markup_expr, markup_run, markup_reading}
 use Rattle.typst_code.specs.Patterns.{pattern}
 use Rattle.typst_code.specs.Sequences.{code_block, code_exprs, code_reading}
 use Rattle.typst_code.specs.Expressions.{code_expr}
 use Rattle.typst_code.specs.Equations.{math_exprs, math_reading}
-use Rattle.typst_math.specs.MathExpressions.{math_expr}
+use Rattle.typst_code.specs.MathExpressions.{math_expr}
 
 -- what a call reads
 abbrev pub production : CharClasses → (call : Call) → Parser (Answer call)

@@ -1,11 +1,11 @@
 -- Laws of the grammar.
 use Rattle.std.specs.Prelude.{◌≡◌, ℕ, Bool, List, encode_utf8_all}
 use Rattle.typst_kinds.specs.declared.kind.SyntaxKind.{SyntaxKind}
-use Rattle.typst_node.specs.Tree.{text_of}
-use Rattle.typst_classes.specs.Classes.{CharClasses}
-use Rattle.typst_code.specs.calls.Call.{Call}
-use Rattle.typst_code.specs.Meaning.{Meaning, run}
-use Rattle.typst_code.specs.Sound.{Lawful}
+use Rattle.typst_tree.specs.Tree.{text_of}
+use Rattle.typst_lines.specs.Classes.{CharClasses}
+use Rattle.typst_language.specs.declared.calls.Call.{Call}
+use Rattle.typst_language.specs.Meaning.{Meaning, run}
+use Rattle.typst_language.specs.Sound.{Lawful}
 use Rattle.typst_code.specs.Markup.{markup_turn, markup_exprs, markup_run}
 use Rattle.typst_grammar.specs.Grammar.{level_at, meaning, tree, tree_code, tree_math}
 

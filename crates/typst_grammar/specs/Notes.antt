@@ -1,11 +1,11 @@
 -- What is noted of short texts, as it follows from the definitions.
 use Rattle.std.specs.Prelude.{◌≡◌, ℕ, ◌-◌, ◌^◌, List, [], ◌∷◌, Some, None, codes, map, Bool, true, false}
-use Rattle.typst_classes.specs.Classes.{CharClasses, by_law}
-use Rattle.typst_code.specs.calls.Mark.{Mark}
-use Rattle.typst_code.specs.calls.Mark.TheVariants as mark
-use Rattle.typst_code.specs.calls.Block.TheVariants as block
-use Rattle.typst_code.specs.calls.Note.{Note}
-use Rattle.typst_code.specs.Log.{Log, no_log, logged}
+use Rattle.typst_lines.specs.Classes.{CharClasses, by_law}
+use Rattle.typst_language.specs.declared.calls.Mark.{Mark}
+use Rattle.typst_language.specs.declared.calls.Mark.TheVariants as mark
+use Rattle.typst_language.specs.declared.calls.Block.TheVariants as block
+use Rattle.typst_language.specs.declared.calls.Note.{Note}
+use Rattle.typst_language.specs.Log.{Log, no_log, logged}
 use Rattle.typst_grammar.specs.Grammar.{log, parsed, start_of}
 
 -- a note but for its state

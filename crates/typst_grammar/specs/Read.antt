@@ -1,7 +1,7 @@
 -- What a parser shows that read a whole text.
 use Rattle.std.specs.Prelude.{◌≡◌, ℕ, Bool, List}
-use Rattle.typst_code.specs.Log.{blank_log, logged}
-use Rattle.typst_code.specs.Meaning.{Outcome}
+use Rattle.typst_language.specs.Log.{blank_log, logged}
+use Rattle.typst_language.specs.Meaning.{Outcome}
 use Rattle.typst_code.specs.View.{View}
 use Rattle.typst_grammar.specs.Grammar.{max_depth, start_of}
 

@@ -1,7 +1,7 @@
 -- What the parser of the code knows of first readings of parens, at each level.
 use Rattle.std.specs.Prelude.{ℕ}
-use Rattle.typst_classes.specs.Classes.{CharClasses}
-use Rattle.typst_code.specs.Meaning.{Guessing, Level, guessing}
+use Rattle.typst_lines.specs.Classes.{CharClasses}
+use Rattle.typst_language.specs.Meaning.{Guessing, Level, guessing}
 use Rattle.typst_code.specs.Parens.{guess_of}
 use Rattle.typst_grammar.specs.Grammar.{level_at}
 

@@ -7,8 +7,9 @@ ghost use Rattle.typst_grammar.specs.Told.{told_at};
 
 use crate::grammar::{MAX_DEPTH, make_call};
 use std::alloc::AllocError;
-use typst_classes::{Classes, MathClass};
-use typst_code::{Answered, Call, Levels, Parser};
+use typst_code::{Answered, Levels, Parser};
+use typst_language::Call;
+use typst_lines::{Classes, MathClass};
 
 /// The whole grammar, with all levels left, by a class value: by it what lies at the top of a text
 /// is read.

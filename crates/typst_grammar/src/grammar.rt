@@ -9,13 +9,13 @@ ghost use Rattle.typst_grammar.specs.Read.{IsParsed};
 ghost use Rattle.typst_grammar.specs.Told.{told_at};
 
 use std::alloc::{AllocError, Global};
-use typst_classes::Classes;
 use typst_code::{
-    Answered, AtNewline, Call, CodeStop, Grammar, Levels, MathStop, Parser, Reading, Stop,
-    code_expr, code_exprs, markup_expr, markup_run, math_exprs, pattern,
+    Answered, CodeStop, Grammar, Levels, MathStop, Parser, Stop, code_expr, code_exprs,
+    markup_expr, markup_run, math_expr, math_exprs, pattern,
 };
 use typst_kinds::SyntaxMode;
-use typst_math::math_expr;
+use typst_language::{AtNewline, Call, Reading};
+use typst_lines::Classes;
 
 /// How deep calls may nest.
 pub(crate) const MAX_DEPTH: usize = 256;

@@ -1,6 +1,6 @@
 //! Laws of the grammar.
 
-ghost use Rattle.typst_classes.specs.Classes.{CharClasses};
+ghost use Rattle.typst_lines.specs.Classes.{CharClasses};
 ghost use Rattle.typst_grammar.specs.Examples.{CodeTrees, MathTrees, NamedTrees, PatternTrees, Trees};
 ghost use Rattle.typst_grammar.specs.Laws.{CallLaws, CodeLeavesLaw, LeavesLaw, MathLeavesLaw, PieceLaws, RunLaws, SequenceLaws};
 ghost use Rattle.typst_grammar.specs.Notes.{Notes};

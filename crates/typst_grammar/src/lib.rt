@@ -1,16 +1,20 @@
-//! The grammar: what its calls read, and the laws of the definition of trees.
+//! The grammar: what its calls read, the laws of the definition of trees, how the operands of binary
+//! operators bind, and the entry points: the syntax tree of a whole text of markup, of code or of a
+//! formula.
 #![tactic(auto)]
 
+mod binding_laws;
+mod entry;
 mod full;
 mod grammar;
 mod laws;
 
+pub use binding_laws::{binding_law, bindings_of_texts};
+pub use entry::{Noted, parse, parse_code, parse_math, parse_noted, root_over};
 pub use full::FullGrammar;
 pub use grammar::{make_call, production, read_whole, read_whole_code, read_whole_math};
 pub use laws::{
     grammar_laws, leaves_law, notes_of_texts, trees_of_code, trees_of_formulas, trees_of_names,
     trees_of_patterns, trees_of_texts,
 };
-pub use typst_code::{
-    AtNewline, Block, Hull, Levels, Log, Mark, Note, Parser, Reading, State, Stop, markup_turn,
-};
+pub use typst_code::{Levels, Log, Parser, Stop, markup_turn};

@@ -5,7 +5,7 @@ use Rattle.std.specs.List.{list_any}
 use Rattle.std.proofs.lemmas.Bool.{cases_eq}
 use Rattle.std.proofs.lemmas.Bool.Decides.{nat_tests}
 use Rattle.std.proofs.lemmas.Option.{same_Some, none-some}
-use Rattle.typst_node.specs.Tree.{Forest, none, more, Tree, count, places, saturated}
+use Rattle.typst_tree.specs.Tree.{Forest, none, more, Tree, count, places, saturated}
 use Rattle.typst_tree.specs.Walks.{numbers, first_at, last_leaf, if_none, has_child, is_leaf, is_leaf_from}
 use Rattle.typst_tree.specs.Steps.{At, at, kind_of, node_of, start_of, parent, children, is_sibling_after, next_sibling, prev_leaf, leftmost_leaf}
 use Rattle.typst_highlight.specs.Rules.{is_name, is_field_access, is_dot}
@@ -34,10 +34,6 @@ member_until k n (more g ks r) h =
           let w : k < n + 1 + count ks + count r = member_until k (n + 1 + count ks) r (rw fails at h) in
           omega (arith, w))
     ]
-
-pub not_behind : (k n : ℕ) (f : Forest) → n + count f ≤ k → member k (numbers n f) ≡ false
-not_behind k n f h =
-    bool_cases (member k (numbers n f)) (λ e. absurd (omega (arith, h, member_until k n f e))) (λ e. e)
 
 pub not_before : (k n : ℕ) (f : Forest) → k < n → member k (numbers n f) ≡ false
 not_before k n f h =

@@ -8,10 +8,6 @@ pub and_first : (p q : Bool) → (p && q) ≡ true → p ≡ true
 and_first true q e = refl
 and_first false q e = e
 
-pub or_false : (p q : Bool) → (p || q) ≡ false → (p ≡ false) × (q ≡ false)
-or_false true q e = absurd (cc)
-or_false false q e = (refl, e)
-
 pub bool_cases : (b : Bool) → {P : Type 0} → (b ≡ true → P) → (b ≡ false → P) → P
 bool_cases true f g = f refl
 bool_cases false f g = g refl
@@ -37,14 +33,3 @@ map_some (Some a) f b e = (a, (refl, same_Some (f a) b e))
 pub same_then : {A B : Type 0} (o : Option A) (f g : A → Option B) → ((a : A) → o ≡ Some a → f a ≡ g a) → option_and_then f o ≡ option_and_then g o
 same_then None f g h = refl
 same_then (Some a) f g h = h a refl
-
-pub map_then : {A B C : Type 0} (o : Option A) (f : A → B) (g : B → Option C) → option_and_then g (option_map f o) ≡ option_and_then (λ a. g (f a)) o
-map_then None f g = refl
-map_then (Some a) f g = refl
-
-pub map_map : {A B C : Type 0} (o : Option A) (f : A → B) (g : B → C) → option_map g (option_map f o) ≡ option_map (λ a. g (f a)) o
-map_map None f g = refl
-map_map (Some a) f g = refl
-
-pub then_both : {A B : Type 0} (o : Option A) (f : A → Option B) (a : A) (b : B) → Some a ≡ o → Some b ≡ f a → option_and_then f o ≡ Some b
-then_both o f a b e g = ap (option_and_then f) (sym e) ∙ sym g

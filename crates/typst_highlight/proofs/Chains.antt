@@ -1,7 +1,7 @@
 -- How many steps are allowed makes no difference where they are enough.
 use Rattle.std.proofs.Common.{◌≡◌, ℕ, suc, zero, ◌+◌, ◌<◌, ◌≤◌, Option, None, Some, refl, ap, sym, ◌∙◌, arith}
 use Rattle.std.specs.Prelude.{option_and_then}
-use Rattle.typst_node.specs.Tree.{nodes}
+use Rattle.typst_tree.specs.Tree.{nodes}
 use Rattle.typst_tree.specs.Steps.{At, kind_of, parent}
 use Rattle.typst_highlight.specs.declared.tags.Tag.{Tag}
 use Rattle.typst_highlight.specs.declared.rules.Rule.{Rule}
@@ -84,12 +84,6 @@ hash_step (suc m) a b h l e f =
     let w = expression_after a b (sym f) in
     let rest : Option Tag = option_and_then (tag_within m) (expression_leaf a) in
     (m, (ap (λ u. tag_by u a rest) (sym e) ∙ ap (option_and_then (tag_within m)) (sym f), omega (arith, l, w.0, ap nodes w.1)))
-
-pub hash_none : (n : ℕ) (a : At) → a.number < nodes a.root → nodes a.root ≤ n + a.number → rule.Expression ≡ rule_of (kind_of a) → None ≡ expression_leaf a → None ≡ tag_within n a
-hash_none zero a h l e f = absurd (omega (arith, h, l))
-hash_none (suc m) a h l e f =
-    let rest : Option Tag = option_and_then (tag_within m) (expression_leaf a) in
-    ap (option_and_then (tag_within m)) f ∙ ap (λ u. tag_by u a rest) e
 
 -- another node has the tag of its rule
 pub hash_end : (n : ℕ) (a : At) → a.number < nodes a.root → nodes a.root ≤ n + a.number → (rule_of (kind_of a) ≡ rule.Expression → ⊥) → tag_by (rule_of (kind_of a)) a None ≡ tag_within n a

@@ -2,8 +2,8 @@
 use Rattle.std.proofs.Common.{◌≡◌, ℕ, suc, zero, ◌+◌, ◌<◌, Bool, true, false, List, [], ◌∷◌, ◌++◌, length, Option, None, Some, refl, ap, sym, ◌∙◌, arith, cond, append-nil}
 use Rattle.std.specs.Prelude.{option_and_then}
 use Rattle.std.specs.Option.{option_map}
-use Rattle.typst_node_data.specs.Head.{Head}
-use Rattle.typst_node.specs.Tree.{Forest, none, more, Tree, count, places, preorder, text_of}
+use Rattle.typst_kinds.specs.Head.{Head}
+use Rattle.typst_tree.specs.Tree.{Forest, none, more, Tree, count, places, preorder, text_of}
 use Rattle.typst_tree.specs.Walks.{is_leaf}
 use Rattle.typst_tree.specs.Steps.{At, at, node_of, kind_of, offset_of, end_of, parent, prev_leaf, next_leaf}
 use Rattle.typst_tree.proofs.LastLeaf.{last_none}

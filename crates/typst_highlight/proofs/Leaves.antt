@@ -4,8 +4,8 @@ use Rattle.std.specs.Prelude.{nat_le, nat_lt, option_and_then}
 use Rattle.std.specs.Option.{option_map}
 use Rattle.std.proofs.lemmas.Bool.Decides.{nat_tests}
 use Rattle.typst_kinds.specs.declared.kind.SyntaxKind.{SyntaxKind}
-use Rattle.typst_node_data.specs.Head.{Head}
-use Rattle.typst_node.specs.Tree.{Forest, none, more, Tree, count, nodes, places, preorder, saturated, text_of}
+use Rattle.typst_kinds.specs.Head.{Head}
+use Rattle.typst_tree.specs.Tree.{Forest, none, more, Tree, count, nodes, places, preorder, saturated, text_of}
 use Rattle.typst_tree.specs.Walks.{texts, first_at, if_none, last_leaf, is_leaf, is_leaf_from}
 use Rattle.typst_tree.specs.Steps.{At, at, kind_of, offset_of, prev_leaf, next_leaf}
 use Rattle.typst_tree.proofs.WalksInPreorder.{texts_append, texts_places, none_between}

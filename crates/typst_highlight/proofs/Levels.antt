@@ -4,7 +4,7 @@ use Rattle.std.specs.Option.{is_some}
 use Rattle.typst_kinds.specs.declared.kind.SyntaxKind.{SyntaxKind}
 use Rattle.typst_kinds.specs.declared.kind.SyntaxKind.TheVariants as kind
 use Rattle.typst_kinds.specs.Kinds.{is_trivia, is_hash_expr}
-use Rattle.typst_node.specs.Tree.{Forest, none, more, Tree, saturated, text_of}
+use Rattle.typst_tree.specs.Tree.{Forest, none, more, Tree, saturated, text_of}
 use Rattle.typst_tree.specs.Walks.{is_leaf}
 use Rattle.typst_highlight.specs.declared.tags.Tag.{Tag}
 use Rattle.typst_highlight.specs.declared.rules.Rule.{Rule}

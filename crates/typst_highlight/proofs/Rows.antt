@@ -6,8 +6,8 @@ use Rattle.std.proofs.Math.Seq.{take-append_seam}
 use Rattle.std.proofs.lemmas.Bool.{cases_eq}
 use Rattle.std.proofs.lemmas.Bool.Decides.{nat_tests}
 use Rattle.typst_kinds.specs.Kinds.{is_trivia}
-use Rattle.typst_node_data.specs.Head.{Head}
-use Rattle.typst_node.specs.Tree.{Forest, none, more, Tree, count, places, preorder, saturated}
+use Rattle.typst_kinds.specs.Head.{Head}
+use Rattle.typst_tree.specs.Tree.{Forest, none, more, Tree, count, places, preorder, saturated}
 use Rattle.typst_tree.specs.Walks.{texts, numbers, first_at, if_none, has_child}
 use Rattle.typst_tree.specs.Steps.{At, at, node_of, kind_of, start_of, parent, children, is_sibling_after, next_sibling}
 use Rattle.typst_tree.proofs.WalksInPreorder.{length_places, first_append}

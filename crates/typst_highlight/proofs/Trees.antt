@@ -3,8 +3,8 @@ use Rattle.std.proofs.Common.{◌≡◌, ℕ, suc, zero, ◌+◌, ◌<◌, ◌�
 use Rattle.std.specs.Prelude.{option_and_then, codes}
 use Rattle.std.specs.Option.{option_map}
 use Rattle.typst_kinds.specs.Kinds.{is_trivia, is_hash_expr}
-use Rattle.typst_node_data.specs.Head.{Head}
-use Rattle.typst_node.specs.Tree.{Forest, none, more, Tree, count, nodes, places, preorder}
+use Rattle.typst_kinds.specs.Head.{Head}
+use Rattle.typst_tree.specs.Tree.{Forest, none, more, Tree, count, nodes, places, preorder}
 use Rattle.typst_tree.specs.Walks.{first_at, if_none, is_leaf, is_leaf_from, numbers}
 use Rattle.typst_tree.specs.Steps.{At, at, kind_of, start_of, parent, next_sibling, leftmost_leaf}
 use Rattle.typst_tree.proofs.WalksInPreorder.{length_places, first_append}

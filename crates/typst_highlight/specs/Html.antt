@@ -1,7 +1,7 @@
 -- A tree's text as HTML, and what a reader sees of HTML.
 use Rattle.std.specs.Prelude.{ℕ, ◌+◌, ◌==◌, List, [], ◌∷◌, ◌++◌, Option, None, Some, codes, if◌then◌else◌}
 use Rattle.std.specs.Str.{bytes_eq}
-use Rattle.typst_node.specs.Tree.{Forest, none, more, Tree, count}
+use Rattle.typst_tree.specs.Tree.{Forest, none, more, Tree, count}
 use Rattle.typst_tree.specs.Steps.{at}
 use Rattle.typst_highlight.specs.declared.tags.Tag.{Tag}
 use Rattle.typst_highlight.specs.declared.tags.Tag.TheVariants as tag

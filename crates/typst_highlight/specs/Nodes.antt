@@ -3,7 +3,7 @@ use Rattle.std.specs.Prelude.{ℕ, zero, suc, ◌+◌, Option, None, Some, optio
 use Rattle.std.specs.Option.{option_map}
 use Rattle.typst_kinds.specs.declared.kind.SyntaxKind.{SyntaxKind}
 use Rattle.typst_kinds.specs.Kinds.{is_hash_expr}
-use Rattle.typst_node.specs.Tree.{nodes}
+use Rattle.typst_tree.specs.Tree.{nodes}
 use Rattle.typst_tree.specs.Steps.{At, kind_of, offset_of, end_of, parent, next_sibling, prev_leaf, next_leaf, leftmost_leaf}
 use Rattle.typst_highlight.specs.declared.tags.Tag.{Tag}
 use Rattle.typst_highlight.specs.declared.rules.Rule.{Rule}

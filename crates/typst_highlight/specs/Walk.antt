@@ -2,8 +2,8 @@
 use Rattle.std.specs.Prelude.{ℕ, ◌+◌, List, [], ◌++◌, Option, None, Some, length, if◌then◌else◌, Bool, false, ◌||◌}
 use Rattle.typst_kinds.specs.declared.kind.SyntaxKind.{SyntaxKind}
 use Rattle.typst_kinds.specs.Kinds.{is_trivia, is_hash_expr}
-use Rattle.typst_node_data.specs.Head.{Head}
-use Rattle.typst_node.specs.Tree.{Forest, none, more, Tree, forest, text_of, saturated}
+use Rattle.typst_kinds.specs.Head.{Head}
+use Rattle.typst_tree.specs.Tree.{Forest, none, more, Tree, forest, text_of, saturated}
 use Rattle.typst_tree.specs.Walks.{is_leaf}
 use Rattle.typst_highlight.specs.declared.tags.Tag.{Tag}
 use Rattle.typst_highlight.specs.declared.rules.Rule.{Rule}

@@ -1,7 +1,7 @@
 //! What a walk knows of a node that it has come to.
 
 ghost use Rattle.std.specs.Prelude.{◌≡◌};
-ghost use Rattle.typst_node.specs.Tree.{forest};
+ghost use Rattle.typst_tree.specs.Tree.{forest};
 ghost use Rattle.typst_tree.specs.Walks.{is_childless, is_leaf};
 ghost use Rattle.typst_highlight.specs.Names.{is_called, is_shown, kind_ahead, name_alone};
 ghost use Rattle.typst_highlight.specs.Walk as walk;
@@ -12,7 +12,7 @@ use crate::rules::{
 };
 use crate::tags::Tag;
 use typst_kinds::SyntaxKind;
-use typst_node::SyntaxNode;
+use typst_tree::SyntaxNode;
 
 /// A leaf as the name before it sees it: its kind, its parent's, and where it begins, in bytes.
 #[derive(Clone, Copy)]
@@ -207,7 +207,7 @@ impl Surroundings {
 
 impl Context {
     ghost use Rattle.std.specs.Prelude.{◌≡◌};
-    ghost use Rattle.typst_node.specs.Tree.{forest};
+    ghost use Rattle.typst_tree.specs.Tree.{forest};
     ghost use Rattle.typst_highlight.specs.Walk as walk;
 
     /// The kind of what the node, or the outermost of the field accesses above it, stands in.
@@ -331,7 +331,7 @@ impl Context {
 
 impl Context {
     ghost use Rattle.std.specs.Prelude.{◌≡◌, true, length};
-    ghost use Rattle.typst_node.specs.Tree.{forest};
+    ghost use Rattle.typst_tree.specs.Tree.{forest};
     ghost use Rattle.typst_tree.specs.Walks.{is_childless};
     ghost use Rattle.typst_highlight.specs.Walk as walk;
 

@@ -1,7 +1,7 @@
 //! A tree's text as HTML.
 
 ghost use Rattle.std.specs.Prelude.{◌≡◌, ◌++◌, IfOk, OnOk, string_bytes, true};
-ghost use Rattle.typst_node.specs.Tree.{text_of, forest};
+ghost use Rattle.typst_tree.specs.Tree.{text_of, forest};
 ghost use Rattle.typst_tree.specs.Walks.{is_childless};
 ghost use Rattle.typst_highlight.specs.Html as spec;
 ghost use Rattle.typst_highlight.specs.Walk as walk;
@@ -12,7 +12,7 @@ use crate::progress::{Level, Progress};
 use crate::rules::{Rule, is_name, rule_of};
 use crate::spans::{span_asked, span_of, spanned};
 use std::alloc::{AllocError, Global};
-use typst_node::SyntaxNode;
+use typst_tree::SyntaxNode;
 
 /// The text of a tree as HTML: an element `code`, in which each node that has a tag, unless it is
 /// an error, stands in a `span` of the tag's class.

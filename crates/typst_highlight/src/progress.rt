@@ -1,7 +1,7 @@
 //! How far a walk through a tree has come.
 
 ghost use Rattle.std.specs.Prelude.{◌≡◌, None, true, length, if◌then◌else◌};
-ghost use Rattle.typst_node.specs.Tree.{forest};
+ghost use Rattle.typst_tree.specs.Tree.{forest};
 ghost use Rattle.typst_tree.specs.Walks.{is_childless};
 ghost use Rattle.typst_highlight.specs.Rules.{is_name};
 ghost use Rattle.typst_highlight.specs.Walk as walk;
@@ -11,7 +11,7 @@ use crate::rules::{is_field_access, is_skipped};
 use crate::tags::Tag;
 use crate::walk::tag_here;
 use typst_kinds::SyntaxKind;
-use typst_node::SyntaxNode;
+use typst_tree::SyntaxNode;
 
 /// What is round nodes that stand side by side. What is behind their parent is looked for where one
 /// of them asks for it.
@@ -78,7 +78,7 @@ impl<'l, 't> Behind<'l, 't> {
 
 impl<'l, 't> Level<'l, 't> {
     ghost use Rattle.std.specs.Prelude.{◌≡◌, Some};
-    ghost use Rattle.typst_node.specs.Tree.{forest};
+    ghost use Rattle.typst_tree.specs.Tree.{forest};
     ghost use Rattle.typst_highlight.specs.Walk as walk;
 
     /// What is round the root of a tree.
@@ -189,7 +189,7 @@ impl<'l, 't> Level<'l, 't> {
 
 impl Progress {
     ghost use Rattle.std.specs.Prelude.{◌≡◌, None, true, length, if◌then◌else◌};
-    ghost use Rattle.typst_node.specs.Tree.{forest};
+    ghost use Rattle.typst_tree.specs.Tree.{forest};
     ghost use Rattle.typst_tree.specs.Walks.{is_childless};
     ghost use Rattle.typst_highlight.specs.Rules.{is_name};
     ghost use Rattle.typst_highlight.specs.Walk as walk;

@@ -1,7 +1,7 @@
 //! The spans that nodes stand in.
 
 ghost use Rattle.std.specs.Prelude.{◌≡◌};
-ghost use Rattle.typst_node.specs.Tree.{forest};
+ghost use Rattle.typst_tree.specs.Tree.{forest};
 ghost use Rattle.typst_highlight.specs.Html as spec;
 ghost use Rattle.typst_highlight.specs.Walk as walk;
 
@@ -9,7 +9,7 @@ use crate::progress::{Level, Progress};
 use crate::rules::{Rule, rule_of};
 use crate::tags::Tag;
 use crate::walk::tag_under;
-use typst_node::SyntaxNode;
+use typst_tree::SyntaxNode;
 
 /// The tag of the span that a node of the tag stands in: an error has none.
 #[inline(always)]

@@ -1,7 +1,7 @@
 //! The tag of a node that a walk has come to, found from what the walk knows.
 
 ghost use Rattle.std.specs.Prelude.{◌≡◌};
-ghost use Rattle.typst_node.specs.Tree.{forest};
+ghost use Rattle.typst_tree.specs.Tree.{forest};
 ghost use Rattle.typst_highlight.specs.Rules.{rule_of};
 ghost use Rattle.typst_highlight.specs.Walk as walk;
 
@@ -11,7 +11,7 @@ use crate::rules::{
 };
 use crate::tags::Tag;
 use typst_kinds::SyntaxKind;
-use typst_node::SyntaxNode;
+use typst_tree::SyntaxNode;
 
 /// The last leaves behind a node.
 pub fn passed(node: &SyntaxNode, later: &[SyntaxNode], context: Context) -> Trail

@@ -4,3 +4,8 @@ pub mod Names
 pub mod Operators
 pub mod Sets
 pub mod Span
+pub mod Diagnostic
+pub mod Head
+pub mod Messages
+pub mod Repr
+pub mod SeenNames

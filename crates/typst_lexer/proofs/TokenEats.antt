@@ -7,16 +7,16 @@ use Rattle.typst_kinds.specs.declared.mode.SyntaxMode.{SyntaxMode}
 use Rattle.typst_kinds.specs.declared.mode.SyntaxMode.TheVariants.{Markup, Math, Code}
 use Rattle.typst_lines.specs.Place.{Place, scout, passes}
 use Rattle.typst_tokens.specs.Characters.{is_space}
-use Rattle.typst_classes.specs.Classes.{CharClasses, in_line}
+use Rattle.typst_lines.specs.Classes.{CharClasses, in_line}
 use Rattle.typst_tokens.specs.Common.{whitespace, shebang, line_comment, block_comment, comment_end}
-use Rattle.typst_readers.specs.Reader.{Reader, eaten}
-use Rattle.typst_readers.specs.Reader.Reader.{answer}
+use Rattle.typst_tokens.specs.Reader.{Reader, eaten}
+use Rattle.typst_tokens.specs.Reader.Reader.{answer}
 use Rattle.typst_tokens.specs.Raw.{raw}
 use Rattle.typst_tokens.specs.Token.{plain}
-use Rattle.typst_code_tokens.proofs.Eats.{code-eats}
-use Rattle.typst_markup_tokens.proofs.Eats.{markup-eats}
-use Rattle.typst_math_tokens.proofs.Eats.{math-eats}
-use Rattle.typst_tokens.proofs.Eats.{either, some-ahead, run-ahead, line-eats}
+use Rattle.typst_tokens.proofs.CodeEats.{code-eats}
+use Rattle.typst_tokens.proofs.MarkupEats.{markup-eats}
+use Rattle.typst_lexer.proofs.Eats.{math-eats}
+use Rattle.typst_tokens.proofs.CommonEats.{either, some-ahead, run-ahead, line-eats}
 use Rattle.typst_lexer.specs.Tokens.{of_mode, hash, slash, star, backtick, token}
 use Rattle.typst_tokens.specs.declared.token.Token.{Token}
 use Rattle.typst_tokens.specs.Memory.{Memory}

@@ -1,3 +1,22 @@
-pub mod Laws
+pub mod ArgumentTokens
+pub mod Atoms
+pub mod MathLaws
+pub mod Math
+pub mod MathNames
+pub mod Shorthands
+pub mod TokenLaws
 pub mod Lexer
 pub mod Tokens
+pub mod RawLines
+pub mod LastLine
+pub mod RawTag
+pub mod Raw
+pub mod RawLaws
+pub mod Faults
+pub mod Fields
+pub mod TextLaws
+pub mod Nodes
+-- What the crates above name of those below.
+pub use Rattle.typst_tree.specs.Diagnostic
+pub use Rattle.typst_tree.specs.Messages
+pub use Rattle.typst_tree.specs.Tree

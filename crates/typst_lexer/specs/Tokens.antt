@@ -5,14 +5,14 @@ use Rattle.typst_kinds.specs.declared.mode.SyntaxMode.{SyntaxMode}
 use Rattle.typst_kinds.specs.declared.mode.SyntaxMode.TheVariants.{Markup, Math, Code}
 use Rattle.typst_lines.specs.Place.{passes}
 use Rattle.typst_tokens.specs.Characters.{is_space}
-use Rattle.typst_classes.specs.Classes.{CharClasses}
+use Rattle.typst_lines.specs.Classes.{CharClasses}
 use Rattle.typst_tokens.specs.Common.{whitespace, shebang, line_comment, block_comment, comment_end}
-use Rattle.typst_code_tokens.specs.Code.{code}
-use Rattle.typst_markup_tokens.specs.Markup.{markup}
+use Rattle.typst_tokens.specs.Code.{code}
+use Rattle.typst_tokens.specs.Markup.{markup}
 use Rattle.typst_tokens.specs.Raw.{raw}
-use Rattle.typst_math_tokens.specs.Math.{math}
-use Rattle.typst_readers.specs.Reader.{Reader}
-use Rattle.typst_readers.specs.Reader.Reader.{answer, peek, glance}
+use Rattle.typst_lexer.specs.Math.{math}
+use Rattle.typst_tokens.specs.Reader.{Reader}
+use Rattle.typst_tokens.specs.Reader.Reader.{answer, peek, glance}
 use Rattle.typst_tokens.specs.Token.{plain}
 use Rattle.typst_tokens.specs.declared.token.Token.{Token}
 use Rattle.typst_tokens.specs.Memory.{Memory}

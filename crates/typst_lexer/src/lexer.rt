@@ -1,32 +1,31 @@
 //! The lexer: what comes next in a text, token by token.
 ghost use Rattle.std.specs.Prelude.{◌≡◌, ◌≤◌, ◌<◌, ◌^◌, IfOk, OnOk, OnErr, IsSome, false, take};
 ghost use Rattle.std.specs.Str.{chars, IsCharBoundary};
-ghost use Rattle.typst_readers.specs.Column.{column_at};
-ghost use Rattle.typst_readers.specs.Reader.{Reader, exec, eaten};
-ghost use Rattle.typst_readers.specs.Reads.{Reads, Scans};
+ghost use Rattle.typst_tokens.specs.Column.{column_at};
+ghost use Rattle.typst_tokens.specs.Reader.{Reader, exec, eaten};
+ghost use Rattle.typst_tokens.specs.Reads.{Reads, Scans};
 ghost use Rattle.typst_lexer.specs.Tokens as spec;
-ghost use Rattle.typst_math_tokens.specs.Arguments.{named_argument as named, spread_argument as spread};
+ghost use Rattle.typst_lexer.specs.ArgumentTokens.{named_argument as named, spread_argument as spread};
 ghost use Rattle.typst_lines.specs.Place.{place_at, scout};
 ghost use Rattle.typst_lines.specs.Scanner.{place as place_of};
 ghost use Rattle.typst_lines.specs.declared.scanner.Scanner.{Scanner as Start};
-ghost use Rattle.typst_readers.specs.Sight.{fresh};
+ghost use Rattle.typst_tokens.specs.Sight.{fresh};
 ghost use Rattle.typst_tokens.specs.Memory.{Memory};
 ghost use Rattle.typst_tokens.specs.declared.token.Token.{Token};
 
+use crate::math::math;
+use crate::math_arguments;
 use std::alloc::{AllocError, Global};
-use typst_classes::classes::Classes;
-use typst_code_tokens::code::code;
 use typst_kinds::{SyntaxKind, SyntaxMode};
 use typst_lines::Scanner;
-use typst_markup_tokens::markup::markup;
-use typst_math_tokens::arguments;
-use typst_math_tokens::math::math;
-use typst_readers::column::column;
-use typst_readers::{Cursor, Hull, LineEnd};
-use typst_tokens::Token;
+use typst_lines::classes::Classes;
+use typst_tokens::code::code;
+use typst_tokens::column::column;
 use typst_tokens::common::{block_comment, comment_end, line_comment, shebang, whitespace};
+use typst_tokens::markup::markup;
 use typst_tokens::raw::raw;
 use typst_tokens::sets::is_space;
+use typst_tokens::{Cursor, Hull, LineEnd, Token};
 
 /// A place in a text, and the end of a line of it that is known.
 #[derive(Clone, Copy)]
@@ -322,7 +321,7 @@ pub fn named_argument<'a, C: Classes>(start: Scanner<'a>, classes: &C) -> Read<'
     ensures { Scans (named (C.classes classes.now)) start.entry result.token result.hull result.after }
 {
     let mut cursor = Cursor::new(start);
-    let token = arguments::named_argument(&mut cursor, classes);
+    let token = math_arguments::named_argument(&mut cursor, classes);
     read_up_to(cursor, token)
 }
 
@@ -331,6 +330,6 @@ pub fn spread_argument(start: Scanner<'_>) -> Read<'_>
     ensures { Scans spread start.entry result.token result.hull result.after }
 {
     let mut cursor = Cursor::new(start);
-    let token = arguments::spread_argument(&mut cursor);
+    let token = math_arguments::spread_argument(&mut cursor);
     read_up_to(cursor, token)
 }

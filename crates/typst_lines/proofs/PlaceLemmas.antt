@@ -104,16 +104,6 @@ past-step test p c e t =
     let s = head-splits p.ahead c e in
     rw s.1 (sym (past_list test p.behind s.0 c t))
 
-no_prefix : (test : ℕ → Bool) (ahead : List ℕ) → passes test (slice_get ahead 0) ≡ false → prefix_len test ahead ≡ 0
-no_prefix test [] e = refl
-no_prefix test (c ∷ rest) e = rw e refl
-
-pub past-stop : (test : ℕ → Bool) (p : Place) → passes test (scout 0 p) ≡ false → past test p ≡ p
-past-stop test p e = rw (no_prefix test p.ahead e) refl
-
-pub past-end : (test : ℕ → Bool) (p : Place) → scout 0 p ≡ None → past test p ≡ p
-past-end test p e = past-stop test p (rw e refl)
-
 moved-ahead : (n : ℕ) (xs ys : List ℕ) → (moved_from n xs ys).ahead ≡ drop n ys
 moved-ahead zero xs ys = refl
 moved-ahead (suc n) xs [] = refl

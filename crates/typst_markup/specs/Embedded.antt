@@ -4,13 +4,13 @@ use Rattle.typst_kinds.specs.Kinds.{same}
 use Rattle.typst_kinds.specs.declared.kind.SyntaxKind.{SyntaxKind}
 use Rattle.typst_kinds.specs.declared.kind.SyntaxKind.TheVariants as kind
 use Rattle.typst_kinds.specs.declared.mode.SyntaxMode.TheVariants as mode
-use Rattle.typst_machine.specs.calls.Call.TheVariants.{CodeExpr}
-use Rattle.typst_machine.specs.reading.AtNewline.TheVariants as newline
-use Rattle.typst_machine.specs.reading.Reading.{Reading}
-use Rattle.typst_machine.specs.Syntax.{Parser, ◌>>=◌, ◌>>◌}
-use Rattle.typst_machine.specs.Syntax.Parser.{gives, pick}
-use Rattle.typst_machine.specs.Steps.{peek, eat, expected, within}
-use Rattle.typst_machine.specs.Depth.{is_end, deeper}
+use Rattle.typst_language.specs.declared.calls.Call.TheVariants.{CodeExpr}
+use Rattle.typst_language.specs.declared.reading.AtNewline.TheVariants as newline
+use Rattle.typst_language.specs.declared.reading.Reading.{Reading}
+use Rattle.typst_language.specs.Syntax.{Parser, ◌>>=◌, ◌>>◌}
+use Rattle.typst_language.specs.Syntax.Parser.{gives, pick}
+use Rattle.typst_language.specs.Steps.{peek, eat, expected, within}
+use Rattle.typst_language.specs.Depth.{is_end, deeper}
 use Rattle.typst_markup.specs.Starts.{begins_statement}
 
 -- embedded code ends with its line

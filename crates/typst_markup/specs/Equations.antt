@@ -5,16 +5,16 @@ use Rattle.typst_kinds.specs.Sets.{math_expr}
 use Rattle.typst_kinds.specs.declared.kind.SyntaxKind.{SyntaxKind}
 use Rattle.typst_kinds.specs.declared.kind.SyntaxKind.TheVariants as kind
 use Rattle.typst_kinds.specs.declared.mode.SyntaxMode.TheVariants as mode
-use Rattle.typst_machine.specs.calls.Call.TheVariants.{MathExpr}
-use Rattle.typst_machine.specs.calls.ChainSet.{ChainSet}
-use Rattle.typst_machine.specs.reading.AtNewline.TheVariants as newline
-use Rattle.typst_machine.specs.reading.Reading.{Reading}
-use Rattle.typst_machine.specs.Shape.{becomes, encloses}
-use Rattle.typst_machine.specs.Syntax.{Parser, ◌>>=◌, ◌>>◌}
-use Rattle.typst_machine.specs.Syntax.Op.{is_deepest}
-use Rattle.typst_machine.specs.Syntax.Parser.{gives, does, pick, repeat}
-use Rattle.typst_machine.specs.Steps.{peek, eat, close_if, unexpected, within, node}
-use Rattle.typst_machine.specs.Depth.{is_end, one_more, too_deep, deeper}
+use Rattle.typst_language.specs.declared.calls.Call.TheVariants.{MathExpr}
+use Rattle.typst_language.specs.declared.calls.ChainSet.{ChainSet}
+use Rattle.typst_language.specs.declared.reading.AtNewline.TheVariants as newline
+use Rattle.typst_language.specs.declared.reading.Reading.{Reading}
+use Rattle.typst_language.specs.Shape.{becomes, encloses}
+use Rattle.typst_language.specs.Syntax.{Parser, ◌>>=◌, ◌>>◌}
+use Rattle.typst_language.specs.Syntax.Op.{is_deepest}
+use Rattle.typst_language.specs.Syntax.Parser.{gives, does, pick, repeat}
+use Rattle.typst_language.specs.Steps.{peek, eat, close_if, unexpected, within, node}
+use Rattle.typst_language.specs.Depth.{is_end, one_more, too_deep, deeper}
 
 -- ---- where sequences stop
 

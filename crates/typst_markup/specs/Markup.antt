@@ -3,23 +3,23 @@ use Rattle.std.specs.Prelude.{ℕ, ◌-◌, Bool, true, false, not, ◌||◌, �
 use Rattle.typst_kinds.specs.Kinds.{same}
 use Rattle.typst_kinds.specs.declared.kind.SyntaxKind.{SyntaxKind}
 use Rattle.typst_kinds.specs.declared.kind.SyntaxKind.TheVariants as kind
-use Rattle.typst_machine.specs.reading.AtNewline.{AtNewline}
-use Rattle.typst_machine.specs.reading.AtNewline.TheVariants as newline
+use Rattle.typst_language.specs.declared.reading.AtNewline.{AtNewline}
+use Rattle.typst_language.specs.declared.reading.AtNewline.TheVariants as newline
 use Rattle.typst_kinds.specs.declared.mode.SyntaxMode.TheVariants as mode
-use Rattle.typst_machine.specs.calls.Block.TheVariants as block
-use Rattle.typst_machine.specs.calls.Call.TheVariants.{MarkupExpr}
-use Rattle.typst_machine.specs.calls.Mark.TheVariants as mark
-use Rattle.typst_machine.specs.reading.Reading.{Reading}
-use Rattle.typst_machine.specs.Hand.{AtHand}
-use Rattle.typst_machine.specs.Point.{is_nil}
-use Rattle.typst_machine.specs.Shape.{Shape, becomes, encloses}
-use Rattle.typst_machine.specs.Shape.Making.{itself}
-use Rattle.typst_machine.specs.Shape.Shape.{warns}
-use Rattle.typst_machine.specs.Syntax.{Parser, ◌>>=◌, ◌>>◌}
-use Rattle.typst_machine.specs.Syntax.Op.{column, takes, marks, is_deepest}
-use Rattle.typst_machine.specs.Syntax.Parser.{gives, does, pick, repeat, scoped}
-use Rattle.typst_machine.specs.Steps.{peek, eat, convert_and_eat, eat_if, close_if, unexpected, expect, within, node, node_with_trivia, note, read_block}
-use Rattle.typst_machine.specs.Depth.{is_end, one_more, too_deep, deeper}
+use Rattle.typst_language.specs.declared.calls.Block.TheVariants as block
+use Rattle.typst_language.specs.declared.calls.Call.TheVariants.{MarkupExpr}
+use Rattle.typst_language.specs.declared.calls.Mark.TheVariants as mark
+use Rattle.typst_language.specs.declared.reading.Reading.{Reading}
+use Rattle.typst_language.specs.Hand.{AtHand}
+use Rattle.typst_language.specs.Point.{is_nil}
+use Rattle.typst_language.specs.Shape.{Shape, becomes, encloses}
+use Rattle.typst_language.specs.Shape.Making.{itself}
+use Rattle.typst_language.specs.Shape.Shape.{warns}
+use Rattle.typst_language.specs.Syntax.{Parser, ◌>>=◌, ◌>>◌}
+use Rattle.typst_language.specs.Syntax.Op.{column, takes, marks, is_deepest}
+use Rattle.typst_language.specs.Syntax.Parser.{gives, does, pick, repeat, scoped}
+use Rattle.typst_language.specs.Steps.{peek, eat, convert_and_eat, eat_if, close_if, unexpected, expect, within, node, node_with_trivia, note, read_block}
+use Rattle.typst_language.specs.Depth.{is_end, one_more, too_deep, deeper}
 use Rattle.typst_markup.specs.declared.head.MarkupHead.{MarkupHead}
 use Rattle.typst_markup.specs.declared.head.MarkupHead.TheVariants as head
 use Rattle.typst_markup.specs.Embedded.{embedded}

@@ -1,13 +1,13 @@
 -- What productions read where blocks may be read.
 use Rattle.std.specs.Prelude.{Result}
 use Rattle.std.specs.declared.alloc.AllocError.{AllocError}
-use Rattle.typst_machine.specs.calls.Block.TheVariants as block
-use Rattle.typst_machine.specs.calls.Call.{Call}
-use Rattle.typst_machine.specs.Calls.{Answer}
-use Rattle.typst_machine.specs.Meaning.{Level}
-use Rattle.typst_machine.specs.Syntax.{Parser}
-use Rattle.typst_machine.specs.declared.depth.Answered.{Answered}
-use Rattle.typst_machine.specs.View.{View, Frame, Fills, ReadsBlock, Reads, ReadsAs}
+use Rattle.typst_language.specs.declared.calls.Block.TheVariants as block
+use Rattle.typst_language.specs.declared.calls.Call.{Call}
+use Rattle.typst_language.specs.Calls.{Answer}
+use Rattle.typst_language.specs.Meaning.{Level}
+use Rattle.typst_language.specs.Syntax.{Parser}
+use Rattle.typst_lookahead.specs.declared.depth.Answered.{Answered}
+use Rattle.typst_lookahead.specs.View.{View, Frame, Fills, ReadsBlock, Reads, ReadsAs}
 use Rattle.typst_markup.specs.Markup.{content_block}
 
 -- each block may be read there

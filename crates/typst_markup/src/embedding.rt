@@ -1,13 +1,14 @@
 //! Code that is embedded in text by a hash.
 
 ghost use Rattle.std.specs.Prelude.{◌≡◌};
-ghost use Rattle.typst_machine.specs.View.{Means};
+ghost use Rattle.typst_lookahead.specs.View.{Means};
 ghost use Rattle.typst_markup.specs.Embedded as spec;
 
 use crate::starts::begins_statement;
 use std::alloc::AllocError;
 use typst_kinds::{SyntaxKind, SyntaxMode};
-use typst_machine::{Answered, AtNewline, Call, Levels, Parser, Reading, deeper, is_end};
+use typst_language::{AtNewline, Call, Reading};
+use typst_lookahead::{Answered, Levels, Parser, deeper, is_end};
 
 /// A hash and an expression of code.
 pub fn embedded<L: Levels>(g: &L, p: &mut Parser<'_>) -> Result<(), AllocError>

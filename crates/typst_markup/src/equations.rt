@@ -3,17 +3,16 @@
 ghost use Rattle.std.specs.Prelude.{◌≡◌};
 ghost use Rattle.typst_kinds.specs.Kinds.{among};
 ghost use Rattle.typst_kinds.specs.Sets.{math_expr};
-ghost use Rattle.typst_machine.specs.Syntax.Parser.{repeat};
-ghost use Rattle.typst_machine.specs.View.{Means};
+ghost use Rattle.typst_language.specs.Syntax.Parser.{repeat};
+ghost use Rattle.typst_lookahead.specs.View.{Means};
 ghost use Rattle.typst_markup.specs.Equations as spec;
 ghost use Rattle.typst_markup.specs.Stops.{math_stops_at};
 
 use crate::stops::MathStop;
 use std::alloc::AllocError;
 use typst_kinds::{SyntaxKind, SyntaxMode, set};
-use typst_machine::{
-    Answered, AtNewline, Call, ChainSet, Levels, Parser, Reading, Stops, deeper, too_deep,
-};
+use typst_language::{AtNewline, Call, ChainSet, Reading};
+use typst_lookahead::{Answered, Levels, Parser, Stops, deeper, too_deep};
 
 /// No signs of attachments.
 pub fn no_signs() -> ChainSet

@@ -1,15 +1,16 @@
 //! Sequences of markup.
 
 ghost use Rattle.std.specs.Prelude.{◌≡◌};
-ghost use Rattle.typst_machine.specs.Syntax.Parser.{repeat};
-ghost use Rattle.typst_machine.specs.View.{Means, MeansFirst};
+ghost use Rattle.typst_language.specs.Syntax.Parser.{repeat};
+ghost use Rattle.typst_lookahead.specs.View.{Means, MeansFirst};
 ghost use Rattle.typst_markup.specs.Markup as spec;
 ghost use Rattle.typst_markup.specs.Stops.{stops_at};
 
 use crate::stops::Stop;
 use std::alloc::AllocError;
 use typst_kinds::SyntaxKind;
-use typst_machine::{Answered, Call, Levels, Mark, Parser, Stops, deeper, too_deep};
+use typst_language::{Call, Mark};
+use typst_lookahead::{Answered, Levels, Parser, Stops, deeper, too_deep};
 
 /// Reads expressions up to a stop.
 pub fn markup_exprs<L: Levels>(

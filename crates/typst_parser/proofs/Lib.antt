@@ -1,1 +1,11 @@
-pub use Rattle.typst_source.proofs.Fresh
+-- From what a contract promises to the lemma behind it:
+--   the headline's tree, leaves and numbers   Fresh: fresh-bare, fresh-text, fresh-file, fresh-numbers
+--   a node is found by its own span           Own: finds-own
+--   a node's bytes by its own number          Own: gives-own
+--   what a call of a source answers          Answered: not-found, looked-for, part-given, replaced, same-file
+--   what an edit leaves of a tree            Reparsed: records-again; Replaced: spans and numbers of a node whose children were replaced
+pub mod Replaced
+pub mod Fresh
+pub mod Reparsed
+pub mod Own
+pub mod Answered

@@ -1,2 +1,9 @@
-pub use Rattle.typst_source.specs.Grammar
-pub use Rattle.typst_source.specs.Headline
+pub mod Held
+pub mod Headline
+pub mod Records
+pub mod Tried
+pub mod Find
+pub mod Found
+-- What the crates above name of those below.
+pub use Rattle.typst_reparser.specs.Grammar
+pub use Rattle.typst_tree.specs.Tree

@@ -1,3 +1,4 @@
+//! A text with its lines and its syntax tree, kept together from edit to edit.
 //! The parser layer of Typst, as programs use it.
 //!
 //! - [`parse`] makes the syntax tree of a text of markup. Any text has one; errors, warnings and hints
@@ -22,15 +23,17 @@
 //! `AllocError` where memory is refused.
 #![tactic(auto)]
 
+mod source;
+
+pub use source::Source;
 pub use typst_highlight::{Tag, highlight, highlight_html};
-pub use typst_lexer::{Classes, MathClass, UnicodeClasses, is_id_continue, is_id_start, is_ident};
-pub use typst_lines::{Line, Lines, Text, is_newline, split_newlines};
-pub use typst_links::{is_valid_label_literal_id, link_prefix};
-pub use typst_source::{
-    Block, Mark, Note, Noted, Source, parse, parse_code, parse_math, parse_noted,
+pub use typst_kinds::{
+    Assoc, BinOp, Diagnostic, FileId, Hint, Severity, SourceError, Span, SpanNumber, SubRange,
+    SyntaxKind, SyntaxMode, SyntaxSet, UnOp, set,
 };
-pub use typst_tree::{
-    Assoc, BinOp, Diagnostic, FileId, Hint, LinkedChildren, LinkedNode, Severity, SourceError,
-    Span, SpanNumber, SubRange, SyntaxKind, SyntaxMode, SyntaxNode, SyntaxSet, UnOp, is_ordered,
-    set,
+pub use typst_lines::{
+    Classes, Line, Lines, MathClass, Text, UnicodeClasses, is_id_continue, is_id_start, is_ident,
+    is_newline, is_valid_label_literal_id, link_prefix, split_newlines,
 };
+pub use typst_reparser::{Block, Mark, Note, Noted, parse, parse_code, parse_math, parse_noted};
+pub use typst_tree::{LinkedChildren, LinkedNode, SyntaxNode, is_ordered};

@@ -1,6 +1,6 @@
 -- The children of a node come after it in its tree.
 use Rattle.std.proofs.Common.{◌≡◌, ℕ, ◌+◌, ◌<◌, List, [], ◌∷◌, map, refl, subst, arith}
-use Rattle.typst_node.specs.Tree.{Forest, none, more, count}
+use Rattle.typst_tree.specs.Tree.{Forest, none, more, count}
 use Rattle.typst_tree.specs.Walks.{numbers}
 use Rattle.typst_tree.specs.Steps.{At, at}
 

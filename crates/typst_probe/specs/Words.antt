@@ -1,7 +1,7 @@
 -- The words of the program, and what they answer.
 use Rattle.std.specs.Prelude.{ℕ, List, codes, Option, None, Some, if◌then◌else◌}
 use Rattle.std.specs.Str.{bytes_eq}
-use Rattle.typst_classes.specs.UnicodeTables.{unicode_classes}
+use Rattle.typst_lines.specs.UnicodeTables.{unicode_classes}
 use Rattle.typst_cli.specs.Printed.{printed}
 use Rattle.typst_cli.specs.PrintedTree.{code_tree_printed, math_tree_printed}
 use Rattle.typst_cli.specs.declared.command.Command.TheVariants as command

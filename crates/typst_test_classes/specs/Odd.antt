@@ -1,6 +1,6 @@
 -- What the class values that answer unlike Unicode answer.
 use Rattle.std.specs.Prelude.{true, false, length, None}
-use Rattle.typst_classes.specs.Classes.{CharClasses, by_law}
+use Rattle.typst_lines.specs.Classes.{CharClasses, by_law}
 
 -- Every other character is a letter and never numeric, and a line is one cluster.
 abbrev pub wide_classes : CharClasses

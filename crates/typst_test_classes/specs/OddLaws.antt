@@ -1,7 +1,7 @@
 -- The class values that answer unlike Unicode keep the law.
 use Rattle.std.proofs.Common.{arith}
-use Rattle.typst_classes.specs.ClassLaws.{IsLawful-by_law}
-use Rattle.typst_classes.specs.Classes.{IsLawful}
+use Rattle.typst_lines.specs.ClassLaws.{IsLawful-by_law}
+use Rattle.typst_lines.specs.Classes.{IsLawful}
 use Rattle.typst_test_classes.specs.Odd.{wide_classes, narrow_classes}
 
 pub IsLawful-wide_classes : IsLawful wide_classes

@@ -2,7 +2,7 @@
 ghost use Rattle.std.specs.Prelude.{◌≡◌};
 
 use std::cell::Cell;
-use typst_classes::{Classes, MathClass, UnicodeClasses};
+use typst_lines::{Classes, MathClass, UnicodeClasses};
 
 /// Answers as `UnicodeClasses` does and counts the calls in a cell that is lent to it, up to
 /// `usize::MAX`.
@@ -19,8 +19,8 @@ impl Counting<'_> {
 }
 
 impl Classes for Counting<'_> {
-    ghost use Rattle.typst_classes.specs.UnicodeTables.{unicode_classes};
-    ghost use Rattle.typst_classes.specs.UnicodeLaws.{IsLawful-unicode_classes};
+    ghost use Rattle.typst_lines.specs.UnicodeTables.{unicode_classes};
+    ghost use Rattle.typst_lines.specs.UnicodeLaws.{IsLawful-unicode_classes};
 
     ghost classes = { λ _. unicode_classes };
 

@@ -1,7 +1,7 @@
 //! Only ASCII characters are in a class.
 ghost use Rattle.std.specs.Prelude.{◌≡◌};
 
-use typst_classes::classes::{Classes, MathClass, ascii_math_class};
+use typst_lines::classes::{Classes, MathClass, ascii_math_class};
 
 /// Past ASCII no character is in a class, and a cluster is always one character.
 #[derive(Debug, Clone, Copy, PartialEq, Eq)]

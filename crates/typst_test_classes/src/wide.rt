@@ -1,7 +1,7 @@
 //! Nearly every character is a letter.
 ghost use Rattle.std.specs.Prelude.{◌≡◌};
 
-use typst_classes::classes::{Classes, MathClass, ascii_math_class};
+use typst_lines::classes::{Classes, MathClass, ascii_math_class};
 
 /// Past ASCII each character that isn't white space starts and continues identifiers, is
 /// alphabetic, alphanumeric and of a word; none is numeric or has a class in formulas. A line that

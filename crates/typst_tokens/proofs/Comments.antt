@@ -4,14 +4,14 @@ use Rattle.std.proofs.lemmas.Bool.{ne_eqb}
 use Rattle.typst_kinds.specs.declared.kind.SyntaxKind.TheVariants as kind
 use Rattle.typst_lines.specs.Place.{scout}
 use Rattle.typst_tokens.specs.Common.{comment_turn, comment_step, in_comment, block_comment}
-use Rattle.typst_readers.specs.Reader.{Reader, eat_span}
+use Rattle.typst_tokens.specs.Reader.{Reader, eat_span}
 use Rattle.typst_tokens.specs.Memory.Memory.{blank, comment}
-use Rattle.typst_readers.specs.Reader.Turn.{last, go}
-use Rattle.typst_readers.specs.Reader.Reader.{answer}
-use Rattle.typst_readers.specs.Sight.{Sight, Covers, went, sight}
+use Rattle.typst_tokens.specs.Reader.Turn.{last, go}
+use Rattle.typst_tokens.specs.Reader.Reader.{answer}
+use Rattle.typst_tokens.specs.Sight.{Sight, Covers, went, sight}
 use Rattle.typst_tokens.specs.Token.{plain}
 use Rattle.typst_tokens.specs.declared.token.Token.{Token}
-use Rattle.typst_readers.proofs.Steps.{step-go, step-last, step-end, end-seen}
+use Rattle.typst_tokens.proofs.Steps.{step-go, step-last, step-end, end-seen}
 use Rattle.typst_tokens.specs.Memory.{Memory}
 
 abbrev pub done : Memory → Reader Memory Token
@@ -56,8 +56,3 @@ comment-stop before depth c v w h e f t = step-last comment_step (comment before
 -- the text ends
 pub comment-end : (before depth : ℕ) (v w : Sight) → Covers v → None ≡ scout 0 v.place → w ≡ went 1 v → sight (rest before depth) v ≡ (plain kind.BlockComment, w)
 comment-end before depth v w h e f = step-end comment_step (comment before depth) done v h e ∙ ap (λ x. (plain kind.BlockComment, x)) (end-seen v e ∙ sym f)
-
--- two characters begin it
-pub comment-begins : (v : Sight) → sight (rest 0 0) (went 2 v) ≡ sight block_comment v
-unfolding block_comment
-comment-begins v = refl

@@ -8,14 +8,6 @@ use Rattle.typst_lines.specs.Place.{Place, place_at, moved, scout}
 use Rattle.typst_lines.specs.Newline.{is_newline}
 use Rattle.typst_tokens.specs.Common.{line_ends}
 
-pub line_ends-nil : (b : Bool) → line_ends b [] ≡ 0
-unfolding line_ends
-line_ends-nil b = refl
-
-pub line_ends-cons : (b : Bool) (c : ℕ) (cs : List ℕ) → line_ends b (c ∷ cs) ≡ (if is_newline c && not (b && c == 10) then suc (line_ends (c == 13) cs) else line_ends (c == 13) cs)
-unfolding line_ends
-line_ends-cons b c cs = refl
-
 pub line_ends-le : (b : Bool) (cs : List ℕ) → line_ends b cs ≤ length cs
 unfolding line_ends
 line_ends-le b [] = omega arith

@@ -5,19 +5,19 @@ use Rattle.std.proofs.lemmas.Bool.Decides.{nat_tests}
 use Rattle.std.proofs.lemmas.Str.{encodes-chars}
 use Rattle.std.specs.Prelude.{encode_utf8_all}
 use Rattle.std.specs.Str.{chars, IsUtf8}
-use Rattle.typst_classes.proofs.AsciiRuns.{run-width}
+use Rattle.typst_lines.proofs.AsciiRuns.{run-width}
 use Rattle.typst_kinds.specs.declared.kind.SyntaxKind.TheVariants as kind
 use Rattle.typst_tokens.specs.Raw.{fence_turn, fence_step, in_raw, raw_end, raw}
 use Rattle.typst_tokens.specs.Token.{plain, faulty}
 use Rattle.typst_tokens.specs.declared.token.Token.{Token}
 use Rattle.typst_tokens.specs.declared.token.Fault.TheVariants as fault
 use Rattle.typst_lines.specs.Place.{Place, scout, run}
-use Rattle.typst_readers.specs.Reader.{Reader, eat_span}
+use Rattle.typst_tokens.specs.Reader.{Reader, eat_span}
 use Rattle.typst_tokens.specs.Memory.Memory.{blank, fence}
-use Rattle.typst_readers.specs.Reader.Turn.{last, go}
-use Rattle.typst_readers.specs.Reader.Reader.{answer}
-use Rattle.typst_readers.specs.Sight.{Sight, Covers, went, went_past, sight}
-use Rattle.typst_readers.proofs.Steps.{step-go, step-last, step-end, end-seen}
+use Rattle.typst_tokens.specs.Reader.Turn.{last, go}
+use Rattle.typst_tokens.specs.Reader.Reader.{answer}
+use Rattle.typst_tokens.specs.Sight.{Sight, Covers, went, went_past, sight}
+use Rattle.typst_tokens.proofs.Steps.{step-go, step-last, step-end, end-seen}
 use Rattle.typst_tokens.specs.Memory.{Memory}
 
 abbrev pub closing : Memory → Reader Memory Token

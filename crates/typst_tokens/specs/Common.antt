@@ -6,10 +6,10 @@ use Rattle.typst_kinds.specs.declared.mode.SyntaxMode.{SyntaxMode}
 use Rattle.typst_kinds.specs.declared.mode.SyntaxMode.TheVariants.{Markup, Math, Code}
 use Rattle.typst_lines.specs.Newline.{is_newline}
 use Rattle.typst_tokens.specs.Characters.{is_space}
-use Rattle.typst_classes.specs.Classes.{in_line}
-use Rattle.typst_readers.specs.Reader.{Reader, Machine, Turn, by_character, eat_span}
-use Rattle.typst_readers.specs.Reader.Reader.{answer, eat, skip, eat_run}
-use Rattle.typst_readers.specs.Reader.Turn.{leave, last, go}
+use Rattle.typst_lines.specs.Classes.{in_line}
+use Rattle.typst_tokens.specs.Reader.{Reader, Machine, Turn, by_character, eat_span}
+use Rattle.typst_tokens.specs.Reader.Reader.{answer, eat, skip, eat_run}
+use Rattle.typst_tokens.specs.Reader.Turn.{leave, last, go}
 use Rattle.typst_tokens.specs.Memory.Memory.{blank, comment}
 use Rattle.typst_tokens.specs.Token.{plain, faulty}
 use Rattle.typst_tokens.specs.declared.token.Token.{Token}

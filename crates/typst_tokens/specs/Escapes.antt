@@ -3,8 +3,8 @@ use Rattle.std.specs.Prelude.{ℕ, not, if◌then◌else◌, ◌==◌, List, cod
 use Rattle.std.specs.Char.{is_ascii_alphanumeric, is_whitespace}
 use Rattle.typst_kinds.specs.declared.kind.SyntaxKind.TheVariants as kind
 use Rattle.typst_lines.specs.Place.{passes}
-use Rattle.typst_readers.specs.Reader.{Reader, if_next, at_word}
-use Rattle.typst_readers.specs.Reader.Reader.{answer, peek, eat, skip, eat_run}
+use Rattle.typst_tokens.specs.Reader.{Reader, if_next, at_word}
+use Rattle.typst_tokens.specs.Reader.Reader.{answer, peek, eat, skip, eat_run}
 use Rattle.typst_tokens.specs.Characters.{is_code_point}
 use Rattle.typst_tokens.specs.Token.{plain, faulty}
 use Rattle.typst_tokens.specs.declared.token.Token.{Token}

@@ -1,10 +1,10 @@
 -- Labels.
 use Rattle.std.specs.Prelude.{◌==◌}
-use Rattle.typst_classes.specs.Classes.{CharClasses}
+use Rattle.typst_lines.specs.Classes.{CharClasses}
 use Rattle.typst_kinds.specs.declared.kind.SyntaxKind.TheVariants as kind
-use Rattle.typst_links.specs.Labels.{is_name}
-use Rattle.typst_readers.specs.Reader.{Reader, if_next}
-use Rattle.typst_readers.specs.Reader.Reader.{answer, eat, eat_run}
+use Rattle.typst_lines.specs.Labels.{is_name}
+use Rattle.typst_tokens.specs.Reader.{Reader, if_next}
+use Rattle.typst_tokens.specs.Reader.Reader.{answer, eat, eat_run}
 use Rattle.typst_tokens.specs.Token.{plain, faulty}
 use Rattle.typst_tokens.specs.declared.token.Token.{Token}
 use Rattle.typst_tokens.specs.declared.token.Fault.TheVariants as fault

@@ -1,3 +1,11 @@
+pub mod Column
+pub mod Cursor
+pub mod ColumnLaws
+pub mod Line
+pub mod Pairs
+pub mod Reader
+pub mod Reads
+pub mod Sight
 pub mod Characters
 pub mod Common
 pub mod Escapes
@@ -5,3 +13,15 @@ pub mod Labels
 pub mod Memory
 pub mod Raw
 pub mod Token
+pub mod Flow
+pub mod LinkLaws
+pub mod Link
+pub mod Markup
+pub mod Names
+pub mod Text
+pub mod Code
+pub mod Identifiers
+pub mod Invalid
+pub mod CodeLaws
+pub mod Numbers
+pub mod Strings

@@ -4,9 +4,9 @@ use Rattle.typst_kinds.specs.declared.kind.SyntaxKind.TheVariants as kind
 use Rattle.typst_tokens.specs.Token.{plain, faulty}
 use Rattle.typst_tokens.specs.declared.token.Token.{Token}
 use Rattle.typst_tokens.specs.declared.token.Fault.TheVariants as fault
-use Rattle.typst_readers.specs.Reader.{Reader, Machine, Turn, by_character, eat_span}
-use Rattle.typst_readers.specs.Reader.Reader.{answer, eat_run}
-use Rattle.typst_readers.specs.Reader.Turn.{leave, last, go}
+use Rattle.typst_tokens.specs.Reader.{Reader, Machine, Turn, by_character, eat_span}
+use Rattle.typst_tokens.specs.Reader.Reader.{answer, eat_run}
+use Rattle.typst_tokens.specs.Reader.Turn.{leave, last, go}
 use Rattle.typst_tokens.specs.Memory.Memory.{blank, fence}
 use Rattle.typst_tokens.specs.Memory.{Memory}
 

@@ -2,15 +2,15 @@
 ghost use Rattle.std.specs.Prelude.{◌≡◌, false};
 ghost use Rattle.std.specs.Str.{chars};
 ghost use Rattle.typst_tokens.specs.Common as spec;
-ghost use Rattle.typst_readers.specs.Reads.{Reads};
+ghost use Rattle.typst_tokens.specs.Reads.{Reads};
 ghost use Rattle.typst_tokens.specs.declared.token.Token.{Token};
 
+use crate::Cursor;
 use crate::sets::Whitespace;
 use crate::token::{Fault, Token};
-use typst_classes::sets::InLine;
 use typst_kinds::{SyntaxKind, SyntaxMode};
+use typst_lines::sets::InLine;
 use typst_lines::{Scanner, is_newline};
-use typst_readers::Cursor;
 
 /// A token of one character.
 #[inline]

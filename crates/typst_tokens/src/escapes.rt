@@ -1,12 +1,12 @@
 //! Escapes.
 ghost use Rattle.std.specs.Str.{chars};
-ghost use Rattle.typst_readers.specs.Reads.{Reads};
+ghost use Rattle.typst_tokens.specs.Reads.{Reads};
 ghost use Rattle.typst_tokens.specs.Escapes as spec;
 
+use crate::Cursor;
 use crate::sets::{AsciiAlphanumeric, is_code_point};
 use crate::token::{Fault, Token};
 use typst_kinds::SyntaxKind;
-use typst_readers::Cursor;
 
 /// A backslash: an escape, or a line break.
 #[tactic(auto, unfolding(crate::specs::Escapes::backslash))]

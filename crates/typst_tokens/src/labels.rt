@@ -1,12 +1,12 @@
 //! Labels.
-ghost use Rattle.typst_readers.specs.Reads.{Reads};
+ghost use Rattle.typst_tokens.specs.Reads.{Reads};
 ghost use Rattle.typst_tokens.specs.Labels as spec;
 
+use crate::Cursor;
 use crate::token::{Fault, Token};
-use typst_classes::classes::Classes;
 use typst_kinds::SyntaxKind;
-use typst_links::labels::InName;
-use typst_readers::Cursor;
+use typst_lines::classes::Classes;
+use typst_lines::labels::InName;
 
 /// A label, from `<` to `>`.
 #[tactic(auto, unfolding(crate::specs::Labels::label))]

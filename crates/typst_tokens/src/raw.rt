@@ -1,11 +1,11 @@
 //! How far a raw text goes.
 ghost use Rattle.std.specs.Prelude.{◌≡◌};
 ghost use Rattle.typst_tokens.specs.Raw as spec;
-ghost use Rattle.typst_readers.specs.Reads.{Reads};
+ghost use Rattle.typst_tokens.specs.Reads.{Reads};
 
+use crate::Cursor;
 use crate::token::{Fault, Token};
 use typst_kinds::SyntaxKind;
-use typst_readers::Cursor;
 
 /// A raw text: two backticks, or all from some backticks to as many in a row.
 pub fn raw(s: &mut Cursor<'_>) -> Token

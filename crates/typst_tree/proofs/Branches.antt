@@ -4,12 +4,12 @@ use Rattle.std.proofs.lemmas.List.{drop-append-le, length-drop, take-append-drop
 use Rattle.typst_tree.proofs.LastLeaf.{last_append, last_none, last_alone, preorder_append}
 use Rattle.std.proofs.Math.Seq.{drop-append_seam, drop-append-add}
 use Rattle.std.specs.Prelude.{slice_get, nat_le, nat_lt, MatchOption, find}
-use Rattle.typst_node.proofs.SpansAside.{forest_trees, trees_forest}
+use Rattle.typst_tree.proofs.SpansAside.{forest_trees, trees_forest}
 use Rattle.typst_tree.proofs.Siblings.{find_behind}
 use Rattle.std.proofs.lemmas.Bool.Decides.{nat_tests}
 use Rattle.std.specs.Option.{option_map}
 use Rattle.std.proofs.lemmas.Option.{none-some}
-use Rattle.typst_node.specs.Tree.{Forest, none, more, Tree, trees, nodes, places, forest, count, preorder}
+use Rattle.typst_tree.specs.Tree.{Forest, none, more, Tree, trees, nodes, places, forest, count, preorder}
 use Rattle.typst_tree.proofs.Rows.{Beside, beside, Over, over_at}
 use Rattle.typst_tree.specs.Walks.{first_at, last_leaf, is_leaf, is_leaf_from, is_childless, if_none, Stands}
 use Rattle.typst_tree.specs.Rows.{IsChild, IsFork}

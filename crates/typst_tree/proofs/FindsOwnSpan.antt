@@ -3,7 +3,7 @@ use Rattle.std.proofs.Common.{◌≡◌, ℕ, zero, suc, ◌+◌, List, [], ◌�
 use Rattle.std.specs.Prelude.{slice_get}
 use Rattle.std.specs.Option.{option_map}
 use Rattle.std.proofs.lemmas.Option.{none-some, same_Some}
-use Rattle.typst_node.specs.Tree.{Tree, places}
+use Rattle.typst_tree.specs.Tree.{Tree, places}
 use Rattle.typst_tree.specs.Walks.{first_at, has_span, same_place}
 use Rattle.typst_tree.specs.Steps.{At, at, node_of, start_of, find_span, SpansDiffer, FindsOwn}
 use Rattle.typst_tree.proofs.SingleNodes.{place_self, place_same}

@@ -7,8 +7,8 @@ use Rattle.std.proofs.lemmas.List.{take-append-drop}
 use Rattle.std.proofs.lemmas.Option.{same_Some, none-some, slice_get_read}
 use Rattle.std.proofs.Math.Logic.{∥∥₁_elim, ∥∥₁_map}
 use Rattle.std.proofs.Props.{props}
-use Rattle.typst_node.specs.Tree.{Tree, forest, trees, nodes, places, count, preorder, joined, saturated}
-use Rattle.typst_node.proofs.SpansAside.{forest_trees, trees_forest}
+use Rattle.typst_tree.specs.Tree.{Tree, forest, trees, nodes, places, count, preorder, joined, saturated}
+use Rattle.typst_tree.proofs.SpansAside.{forest_trees, trees_forest}
 use Rattle.typst_tree.specs.Walks.{texts, Stands}
 use Rattle.typst_tree.specs.Follows.{Follows, reach_of, index_of}
 use Rattle.typst_tree.specs.Branches.{EndsBy}

@@ -1,6 +1,6 @@
 -- A linked node is one of its tree's nodes.
 use Rattle.std.proofs.Common.{◌<◌, arith}
-use Rattle.typst_node.specs.Tree.{nodes}
+use Rattle.typst_tree.specs.Tree.{nodes}
 use Rattle.typst_tree.specs.Linked.{linked}
 use Rattle.typst_tree.specs.declared.linked.LinkedNode.{LinkedNode}
 use Rattle.typst_tree.proofs.WalksInPreorder.{length_places}

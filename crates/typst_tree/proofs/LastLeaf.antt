@@ -5,7 +5,7 @@ use Rattle.std.proofs.lemmas.List.{take_more}
 use Rattle.std.proofs.lemmas.Bool.Decides.{nat_tests}
 use Rattle.std.proofs.lemmas.Option.{same_Some, none-some}
 use native.Mathlib.Numerals.{unary_clauses}
-use Rattle.typst_node.specs.Tree.{Tree, forest, nodes, count, places, preorder}
+use Rattle.typst_tree.specs.Tree.{Tree, forest, nodes, count, places, preorder}
 use Rattle.typst_tree.specs.Walks.{last_leaf, if_none, is_leaf}
 use Rattle.typst_tree.proofs.WalksInPreorder.{length_preorder}
 

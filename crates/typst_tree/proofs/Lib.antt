@@ -1,4 +1,20 @@
 -- Where the clauses are proved. A function that isn't named here needs no lemma.
+--   inner, and counts of all children           AddedChildren: one_more; ChildlessLeaves: whole_more
+--   spanless_eq                                 SpansAside: parts_from_bare, bare_from_parts, same_at, same_all
+--   synthesize                                  Forests: forest_synthesized, mapped_vec; ChildlessLeaves: whole_synthesized
+--   convert_child_to_kind                       Forests: forest_set, at_tree_past; ChildlessLeaves: whole_kind
+--   numberize: its numbers                      Numbering: numbered_more, numbered_vec
+--   numberize: distinct and in order            NumbersInOrder: numbered_is, numbers_in_order
+--   reaches, and the path of replace_at         StepDown: reached_by, reached_kid, not_reached, replaced_on
+--   replace_at: equal ones set aside            SameTree: front_more, front_none; SetAside
+--   replace_at: the stretch that is numbered    Growth: growth_found, growth_ends; Stretches: growth_has_room, cut
+--   replace_at: its counts                      MovedCounts: swapped_moved, set_moved
+--   replace_at: clause ordered, law keeps_order KeepsOrder: keeps_order
+--   law replaces_children, law replaces_text    ReplacesChildren: replaces_children, replaces_text
+--   law keeps_others                            KeepsOthers: replaced_keeps; AlongPath: along
+--   law refuses_full                            RefusesFull: replaced_full; AlongPath: refused_along
+-- Texts serves the crates above.
+-- Where the clauses are proved. A function that isn't named here needs no lemma.
 --   get, range, children                 NodesOfStretch: node_here, stands_row; WalksInPreorder: length_places
 --   LinkedChildren::next                 NodesOfStretch: row, stands_same
 --   the place in a long row              Forks: holds_behind, open_child, placed_first, tops, ends_by
@@ -11,6 +27,24 @@
 --   find, find_number from `ordered`     RisingNumbers: none_past, none_in_first, found_only
 --   is_ordered                           RisingNumbers: climb_on, climb_fails, decided
 -- For crates above: Inside; LastLeaf: last_append, last_none; PassesOver: no_child_before, no_child_after; RisingNumbers: rising_from; SingleNodes; WalksInPreorder.
+pub mod AddedChildren
+pub mod AlongPath
+pub mod ChildlessLeaves
+pub mod Forests
+pub mod Growth
+pub mod KeepsOrder
+pub mod KeepsOthers
+pub mod MovedCounts
+pub mod Numbering
+pub mod NumbersInOrder
+pub mod RefusesFull
+pub mod ReplacesChildren
+pub mod SameTree
+pub mod SetAside
+pub mod SpansAside
+pub mod StepDown
+pub mod Stretches
+pub mod Texts
 pub mod Branches
 pub mod FindsOwnSpan
 pub mod Forks

@@ -5,7 +5,7 @@ use Rattle.std.specs.Option.{option_map}
 use Rattle.std.proofs.lemmas.List.{take-append-drop, length-take-le}
 use Rattle.std.proofs.lemmas.Option.{same_Some}
 use Rattle.std.proofs.Math.Seq.{take-length, take-append_seam, drop-append_seam}
-use Rattle.typst_node.specs.Tree.{Tree, forest, nodes, places, preorder, saturated, text_of}
+use Rattle.typst_tree.specs.Tree.{Tree, forest, nodes, places, preorder, saturated, text_of}
 use Rattle.typst_tree.specs.Walks.{first_at, Within, Stands}
 use Rattle.typst_tree.specs.Steps.{at, node_of, start_of, first_below}
 use Rattle.typst_tree.proofs.WalksInPreorder.{first_same, within_in, within_first, within_rest, length_preorder}

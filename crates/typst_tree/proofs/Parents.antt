@@ -6,7 +6,7 @@ use Rattle.std.specs.List.{list_any}
 use Rattle.std.proofs.lemmas.Bool.{cases_lt}
 use Rattle.std.proofs.lemmas.Bool.Decides.{nat_tests}
 use Rattle.std.proofs.lemmas.Option.{same_Some, none-some}
-use Rattle.typst_node.specs.Tree.{Forest, none, more, Tree, forest, trees, count, nodes, places, preorder}
+use Rattle.typst_tree.specs.Tree.{Forest, none, more, Tree, forest, trees, count, nodes, places, preorder}
 use Rattle.typst_tree.specs.Walks.{numbers, first_at, has_child, Stands, if_none}
 use Rattle.typst_tree.specs.Rows.{IsChild}
 use Rattle.typst_tree.specs.Steps.{at, parent}

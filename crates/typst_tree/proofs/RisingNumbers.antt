@@ -6,8 +6,8 @@ use Rattle.std.proofs.lemmas.List.Elements.{All-cons}
 use Rattle.std.proofs.lemmas.List.Kept.{AllPairs-cons}
 use Rattle.std.proofs.lemmas.Bool.Decides.{nat_tests}
 use Rattle.typst_kinds.specs.Span.{number_of}
-use Rattle.typst_node.specs.Tree.{Forest, none, more, Tree, forest, places, preorder, nodes, text_of, saturated, count, joined}
-use Rattle.typst_node.specs.Order.{numbers, numbers_of, AreInOrder}
+use Rattle.typst_tree.specs.Tree.{Forest, none, more, Tree, forest, places, preorder, nodes, text_of, saturated, count, joined}
+use Rattle.typst_tree.specs.Order.{numbers, numbers_of, AreInOrder}
 use Rattle.typst_tree.specs.Walks.{first_at, Stands, texts}
 use Rattle.typst_tree.specs.Ordered.{climb, begins_past, IsKey}
 use Rattle.typst_tree.proofs.LastLeaf.{if_none_nothing, preorder_append}
@@ -100,13 +100,6 @@ in_order_here root k b t s h =
 pub none_past : (p : ℕ → ℕ → Tree → Bool) (m n a : ℕ) (t : Tree) → IsKey p m → m < number_of t.head.span → AreInOrder (numbers_of t) → first_at p n a (places t) ≡ None
 none_past p m n a t key l h =
     none_above p m n a (number t) (places t) key l (omega arith, (rising_from t h).1)
-
--- of a row of trees, the first has nothing where the next begins at the key or before it
-pub none_in_first : (p : ℕ → ℕ → Tree → Bool) (m k b : ℕ) (x : Tree) (ts : List Tree) → IsKey p m → false ≡ begins_past m (forest ts) → Rising 0 (preorder (forest (x ∷ ts))) → first_at p k b (places x) ≡ None
-none_in_first p m k b x [] key e h = absurd (cc)
-none_in_first p m k b x (y ∷ ts) key e h =
-    let least : number y ≤ m = grind (arith, nat_tests, e) in
-    none_before p m k b 0 (places x) y (preorder y.kids ++ preorder (forest ts)) key least h
 
 none_behind : (p : ℕ → ℕ → Tree → Bool) (m k b : ℕ) (ts : List Tree) → IsKey p m → true ≡ begins_past m (forest ts) → Rising 0 (preorder (forest ts)) → first_at p k b (preorder (forest ts)) ≡ None
 none_behind p m k b [] key e h = refl

@@ -2,7 +2,7 @@
 use Rattle.std.proofs.Common.{◌≡◌, ℕ, zero, suc, ◌+◌, ◌≤◌, List, [], ◌∷◌, Some, true, false, Bool, refl, ap, sym, ◌∙◌, arith, map, take, drop}
 use Rattle.std.specs.Prelude.{find, nat_lt}
 use Rattle.std.proofs.lemmas.Bool.Decides.{nat_tests}
-use Rattle.typst_node.specs.Tree.{Tree, forest, count}
+use Rattle.typst_tree.specs.Tree.{Tree, forest, count}
 use Rattle.typst_tree.specs.Walks.{numbers}
 use Rattle.typst_tree.specs.Steps.{At, at, is_sibling_after}
 

@@ -1,7 +1,7 @@
 -- Equations of single nodes: children, and spans.
 use Rattle.std.proofs.Common.{◌≡◌, ℕ, suc, ◌==◌, Bool, true, false, ◌&&◌, List, [], ◌∷◌, length, Option, None, Some, refl, ap, sym, subst, arith, IsTrue, ◌↔◌, eq-eqb}
 use Rattle.std.proofs.lemmas.Bool.Decides.{nat_tests}
-use Rattle.typst_node.specs.Tree.{Tree, forest}
+use Rattle.typst_tree.specs.Tree.{Tree, forest}
 use Rattle.typst_tree.specs.Walks.{is_childless, same_place}
 
 pub childless_forest : (ts : List Tree) → is_childless (forest ts) ≡ (length ts == 0)

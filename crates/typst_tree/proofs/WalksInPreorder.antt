@@ -2,7 +2,7 @@
 use Rattle.std.proofs.Common.{◌≡◌, ℕ, suc, ◌+◌, ◌<◌, ◌≤◌, ◌^◌, Bool, true, false, cond, List, [], ◌∷◌, ◌++◌, length, drop, Some, None, refl, ap, sym, subst, ◌∙◌, arith, length-append, append_assoc, append-nil, get_or}
 use Rattle.std.proofs.lemmas.List.{drop_more}
 use native.Mathlib.Numerals.{unary_clauses}
-use Rattle.typst_node.specs.Tree.{Forest, none, more, Tree, forest, count, nodes, joined, text_of, preorder, places, saturated}
+use Rattle.typst_tree.specs.Tree.{Forest, none, more, Tree, forest, count, nodes, joined, text_of, preorder, places, saturated}
 use Rattle.typst_tree.specs.Walks.{texts, first_at, if_none, Within}
 
 pub length_preorder : (f : Forest) → length (preorder f) ≡ count f

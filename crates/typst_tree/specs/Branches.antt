@@ -1,7 +1,7 @@
 -- Where steps upwards and sideways go from, and what lies beside it (of private clauses).
 use Rattle.std.specs.Prelude.{◌≡◌, ℕ, ◌+◌, ◌≤◌, drop, Option}
 use Rattle.std.specs.Option.{option_map}
-use Rattle.typst_node.specs.Tree.{Tree, nodes, places}
+use Rattle.typst_tree.specs.Tree.{Tree, nodes, places}
 use Rattle.typst_tree.specs.Walks.{first_at, last_leaf, is_leaf_from}
 use Rattle.typst_tree.specs.Rows.{IsChild, IsFork}
 use Rattle.typst_tree.specs.Steps.{At, at}

@@ -1,6 +1,6 @@
 -- What a linked node and a row of children stand for.
 use Rattle.std.specs.Prelude.{List, map}
-use Rattle.typst_node.specs.Tree.{forest}
+use Rattle.typst_tree.specs.Tree.{forest}
 use Rattle.typst_tree.specs.Walks.{numbers}
 use Rattle.typst_tree.specs.Steps.{At, at}
 use Rattle.typst_tree.specs.declared.linked.LinkedNode.{LinkedNode}

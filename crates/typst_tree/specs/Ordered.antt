@@ -1,7 +1,7 @@
 -- Numbers in order, and searches for a number.
 use Rattle.std.specs.Prelude.{◌≡◌, ℕ, ◌+◌, ◌<◌, length, drop, false, nat_le, nat_lt, Bool, true, IsTrue, List, [], ◌∷◌, Option, Some, None, if◌then◌else◌}
 use Rattle.typst_kinds.specs.Span.{number_of}
-use Rattle.typst_node.specs.Tree.{Forest, none, more, Tree, forest}
+use Rattle.typst_tree.specs.Tree.{Forest, none, more, Tree, forest}
 
 -- the number behind those of some nodes, where each is above the one before it and the first at least a
 abbrev pub climb : ℕ → List Tree → Option ℕ

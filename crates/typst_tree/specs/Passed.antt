@@ -1,6 +1,6 @@
 -- Trees of a row that a search passes over (of private clauses).
 use Rattle.std.specs.Prelude.{◌≡◌, ℕ, ◌+◌, ◌≤◌, List, length, take}
-use Rattle.typst_node.specs.Tree.{Tree, forest, count, joined, places, saturated}
+use Rattle.typst_tree.specs.Tree.{Tree, forest, count, joined, places, saturated}
 use Rattle.typst_tree.specs.Walks.{first_at, holds_byte, Within}
 use Rattle.typst_tree.specs.Rows.{IsChild}
 use Rattle.typst_tree.specs.declared.search.Spot.{Spot}

@@ -1,6 +1,6 @@
 -- Children in their parent's row, and the first long row on a way (of private clauses).
 use Rattle.std.specs.Prelude.{◌≡◌, ℕ, ◌+◌, ◌-◌, ◌<◌, ◌≤◌, length, take, Some, slice_get}
-use Rattle.typst_node.specs.Tree.{Tree, nodes, places, forest, trees, count, saturated}
+use Rattle.typst_tree.specs.Tree.{Tree, nodes, places, forest, trees, count, saturated}
 use Rattle.typst_tree.specs.Walks.{Stands}
 use Rattle.typst_tree.specs.Follows.{reach_of, index_of}
 use Rattle.typst_tree.specs.declared.known.Known.{Known}

@@ -3,7 +3,7 @@ use Rattle.std.specs.Prelude.{◌≡◌, ℕ, ◌+◌, nat_lt, Bool, ◌&&◌, n
 use Rattle.std.specs.Option.{option_map}
 use Rattle.typst_kinds.specs.Kinds.{is_trivia}
 use Rattle.typst_kinds.specs.declared.kind.SyntaxKind.{SyntaxKind}
-use Rattle.typst_node.specs.Tree.{Tree, text_of, nodes, places, saturated}
+use Rattle.typst_tree.specs.Tree.{Tree, text_of, nodes, places, saturated}
 use Rattle.typst_tree.specs.Walks.{texts, numbers, first_at, last_leaf, has_child, is_leaf_from, holds_byte, has_span, has_number}
 
 -- a node of a tree, by its number among the tree's nodes in preorder

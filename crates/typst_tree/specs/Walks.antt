@@ -2,7 +2,7 @@
 use Rattle.std.specs.Prelude.{◌≡◌, ℕ, ◌+◌, ◌==◌, nat_le, nat_lt, Bool, true, false, ◌&&◌, not, List, [], ◌∷◌, ◌++◌, ◌≤◌, length, take, drop, Option, None, Some, if◌then◌else◌}
 use Rattle.std.specs.List.{list_any}
 use Rattle.typst_kinds.specs.Kinds.{is_error, is_trivia}
-use Rattle.typst_node.specs.Tree.{Forest, none, more, Tree, count, text_of, saturated}
+use Rattle.typst_tree.specs.Tree.{Forest, none, more, Tree, count, text_of, saturated}
 
 -- the texts of nodes themselves, without their children's
 abbrev pub texts : List Tree → List ℕ

@@ -1,6 +1,6 @@
 -- What each kind of search looks for.
 use Rattle.std.specs.Prelude.{ℕ, Bool}
-use Rattle.typst_node.specs.Tree.{Tree}
+use Rattle.typst_tree.specs.Tree.{Tree}
 use Rattle.typst_tree.specs.Walks.{is_leaf_from, has_span, has_number}
 use Rattle.typst_tree.specs.declared.search.Search.{Search}
 use Rattle.typst_tree.specs.declared.search.Search.TheVariants as search

@@ -1,15 +1,19 @@
-//! Typst's syntax tree: kinds, nodes, and nodes with what stands round them.
+//! The nodes of Typst's syntax tree, and nodes with what stands round them.
+//!
+//! Contracts see a node as plain data, a `Tree` of `specs/Tree.antt`: a head (kind, text, span,
+//! diagnostics) and the children.
 #![tactic(auto)]
 
+mod items;
 mod known;
+pub mod laws;
 mod linked;
+mod node;
+mod numbers;
 mod order;
+mod replace;
 mod search;
 
 pub use linked::{LinkedChildren, LinkedNode};
+pub use node::SyntaxNode;
 pub use order::is_ordered;
-pub use typst_kinds::{
-    Assoc, BinOp, FileId, SourceError, Span, SpanNumber, SubRange, SyntaxKind, SyntaxMode,
-    SyntaxSet, UnOp, set,
-};
-pub use typst_node::{Diagnostic, Hint, Severity, SyntaxNode};

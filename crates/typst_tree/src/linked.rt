@@ -1,12 +1,13 @@
 //! Nodes with what stands round them.
 
 ghost use Rattle.std.specs.Prelude.{◌≡◌, ◌+◌, ◌^◌, ◌<◌, ◌-◌, nat_lt, true, drop, length, take};
-ghost use Rattle.typst_node.specs.Tree.{nodes, forest, places, preorder, trees, count};
-ghost use Rattle.typst_node.specs.Order.{AreInOrder, numbers_of};
+ghost use Rattle.typst_tree.specs.Tree.{nodes, forest, places, preorder, trees, count};
+ghost use Rattle.typst_tree.specs.Order.{AreInOrder, numbers_of};
 ghost use Rattle.typst_tree.specs.Follows.{in_order_of};
 ghost use Rattle.typst_tree.specs.Rows.{Holds, long};
 ghost use Rattle.typst_tree.specs.Walks.{Stands};
 
+use crate::SyntaxNode;
 use crate::known::{Known, LONG, Reach};
 use crate::order::find_in;
 use crate::search::{
@@ -14,7 +15,6 @@ use crate::search::{
 };
 use std::ops::Range;
 use typst_kinds::{Span, SpanNumber, SyntaxKind};
-use typst_node::SyntaxNode;
 
 /// A node of a tree, with the way to its parent, its siblings and the leaves next to it.
 ///
@@ -90,8 +90,8 @@ struct Branch<'a> {
 impl<'a> LinkedNode<'a> {
     ghost use Rattle.std.specs.Prelude.{◌≡◌, ◌+◌, ◌^◌, ◌<◌, ◌≤◌, ◌-◌, find, drop, Some, MatchOption};
     ghost use Rattle.std.specs.Option.{option_map};
-    ghost use Rattle.typst_node.specs.Tree.{nodes, places};
-    ghost use Rattle.typst_node.specs.Order.{AreInOrder, numbers_of};
+    ghost use Rattle.typst_tree.specs.Tree.{nodes, places};
+    ghost use Rattle.typst_tree.specs.Order.{AreInOrder, numbers_of};
     ghost use Rattle.typst_kinds.specs.Kinds.{is_hash_expr};
     ghost use Rattle.typst_tree.specs.Branches.{IsAbove, IsBranch, EndsBy, leaf_after, leaf_until};
     ghost use Rattle.typst_tree.specs.Rows.{IsChild, IsFork};

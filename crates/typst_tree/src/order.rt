@@ -2,15 +2,15 @@
 
 ghost use Rattle.std.specs.Prelude.{◌≡◌, ◌+◌, ◌^◌, ◌<◌, ◌≤◌, ◌-◌, true, length, IfSome, IsTrue, ◌↔◌};
 ghost use Rattle.std.specs.Option.{option_map};
-ghost use Rattle.typst_node.specs.Tree.{nodes, places, forest, count, joined, saturated};
+ghost use Rattle.typst_tree.specs.Tree.{nodes, places, forest, count, joined, saturated};
 ghost use Rattle.typst_tree.specs.Passed.{IsPassed};
-ghost use Rattle.typst_node.specs.Order.{AreInOrder, numbers_of};
+ghost use Rattle.typst_tree.specs.Order.{AreInOrder, numbers_of};
 ghost use Rattle.typst_tree.specs.Walks.{first_at, Within};
 ghost use Rattle.typst_tree.specs.Wanted.{wanted};
 ghost use Rattle.typst_tree.specs.Ordered.{climb, IsKey, IsLastUpTo};
 
+use crate::SyntaxNode;
 use crate::search::{Passed, Search, Spot, first_in};
-use typst_node::SyntaxNode;
 
 /// The number behind those of the node and of all below it, if each is above the one before it
 /// and the first is at least `least`.

@@ -2,16 +2,16 @@
 
 ghost use Rattle.std.specs.Prelude.{◌≡◌, ℕ, ◌+◌, ◌^◌, ◌<◌, ◌-◌, ◌≤◌, true, false, None, Some, length, take, drop, IfSome, IsTrue, ◌↔◌, if◌then◌else◌};
 ghost use Rattle.std.specs.Option.{option_map};
-ghost use Rattle.typst_node.specs.Tree.{nodes, places, forest, count, preorder, joined, text_of, saturated};
+ghost use Rattle.typst_tree.specs.Tree.{nodes, places, forest, count, preorder, joined, text_of, saturated};
 ghost use Rattle.typst_tree.specs.Passed.{IsPassed, FindsChild};
 ghost use Rattle.typst_tree.specs.Walks.{first_at, last_leaf, is_childless, is_leaf, holds_byte, Within};
 ghost use Rattle.typst_tree.specs.Rows.{IsChild};
 ghost use Rattle.typst_tree.specs.Wanted.{wanted};
 ghost use Rattle.typst_tree.specs.Ordered.{IsKey};
 
+use crate::SyntaxNode;
 use crate::known::LONG;
 use typst_kinds::{Span, SpanNumber};
-use typst_node::SyntaxNode;
 
 /// What a walk in preorder looks for.
 #[derive(Clone, Copy)]

@@ -1,5 +1,5 @@
 use Rattle.std.proofs.Common.{◌<◌, drop}
-use Rattle.typst_node.specs.Tree.{forest, count, nodes}
+use Rattle.typst_parser.specs.Tree.{forest, count, nodes}
 use Rattle.typst_example.proofs.+tell.Given as goal
 
 abbrev pub decreases-tell : goal.decreases-tell

@@ -1,6 +1,6 @@
 use Rattle.std.proofs.Common.{◌≡◌, ◌≤◌, true, arith}
-use Rattle.typst_markup.specs.Bytes.{bytes_left}
-use Rattle.typst_markup.proofs.Steps.{turning-next, does-last}
+use Rattle.typst_lookahead.specs.Bytes.{bytes_left}
+use Rattle.typst_lookahead.proofs.Steps.{turning-next, does-last}
 use Rattle.typst_code.proofs.arguments.content_turns.Goals as goal
 use Rattle.typst_code.proofs.arguments.content_turns.Goals.{then-not-more-via-then-not-more, then-not-more-via-else-not-more+then-left-before}
 

@@ -1,10 +1,10 @@
 use Rattle.std.proofs.Common.{refl, ap, sym, ◌∙◌}
 use Rattle.typst_kinds.specs.declared.kind.SyntaxKind.TheVariants as kind
-use Rattle.typst_markup.specs.Depth.{is_end}
-use Rattle.typst_markup.proofs.Steps.{does-next, does-gives}
-use Rattle.typst_markup.proofs.Values.{does-value}
-use Rattle.typst_patterns.proofs.Begins.{begins-leaves}
-use Rattle.typst_patterns.proofs.Either.{back-changed, does-chosen, does-either, goes-back}
+use Rattle.typst_language.specs.Depth.{is_end}
+use Rattle.typst_lookahead.proofs.Steps.{does-next, does-gives}
+use Rattle.typst_lookahead.proofs.Values.{does-value}
+use Rattle.typst_lookahead.proofs.Begins.{begins-leaves}
+use Rattle.typst_lookahead.proofs.Either.{back-changed, does-chosen, does-either, goes-back}
 use Rattle.typst_code.specs.Parens.{is_arrow, is_eq}
 use Rattle.typst_code.proofs.Firsts.{begins-as_group}
 use Rattle.typst_code.proofs.Guesses.{passed-found}

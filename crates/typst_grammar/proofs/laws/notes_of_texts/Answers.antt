@@ -1,30 +1,30 @@
 use lib.Utf8.{encode}
 use Rattle.std.proofs.Common.{refl}
-use Rattle.typst_readers.specs.Sight.{position, width, stretch, far, near}
+use Rattle.typst_tokens.specs.Sight.{position, width, stretch, far, near}
 use Rattle.typst_lines.specs.Place.{char_width}
 use Rattle.typst_tokens.specs.Characters.{number_after}
 use Rattle.typst_tokens.specs.Common.{line_ends, whitespace, shebang, line_comment, block_comment, comment_end}
-use Rattle.typst_markup_tokens.specs.Markup.{markup as markup_token, heading as heading_token, dot, marker_or_text, marker, hyphen, minus, emphasis, numbering}
+use Rattle.typst_tokens.specs.Markup.{markup as markup_token, heading as heading_token, dot, marker_or_text, marker, hyphen, minus, emphasis, numbering}
 use Rattle.typst_tokens.specs.Common.{sign}
 use Rattle.typst_tokens.specs.Escapes.{code_point, backslash}
-use Rattle.typst_markup_tokens.specs.Text.{text as text_token, text_from}
-use Rattle.typst_code.specs.Tokens.{of_mode, hash, slash, star, token}
-use Rattle.typst_code.specs.Hand.{ahead, ahead_asks, column_at, hand_at, hand_asks}
-use Rattle.typst_code.specs.Knot.{meaning_of}
-use Rattle.typst_code.specs.Meaning.{less, repeated, run}
-use Rattle.typst_code.specs.Steps.{eat_making, eat, convert_and_eat, eat_if, close_if, unexpected, expected, expect, flush_trivia, within, node, node_with_trivia, note}
-use Rattle.typst_code.specs.Depth.{deeper, too_deep, skip_one}
+use Rattle.typst_tokens.specs.Text.{text as text_token, text_from}
+use Rattle.typst_lexer.specs.Tokens.{of_mode, hash, slash, star, token}
+use Rattle.typst_language.specs.Hand.{ahead, ahead_asks, column_at, hand_at, hand_asks}
+use Rattle.typst_language.specs.Knot.{meaning_of}
+use Rattle.typst_language.specs.Meaning.{less, repeated, run}
+use Rattle.typst_language.specs.Steps.{eat_making, eat, convert_and_eat, eat_if, close_if, unexpected, expected, expect, flush_trivia, within, node, node_with_trivia, note}
+use Rattle.typst_language.specs.Depth.{deeper, too_deep, skip_one}
 use Rattle.typst_code.specs.Markup.{note_piece, markup_turn, markup_exprs, markup_run, markup, markup_is_empty, delimited, heading, item, term_item, markup_expr}
 use Rattle.typst_grammar.specs.Grammar.{whole, tree, log}
 use Rattle.typst_grammar.proofs.laws.notes_of_texts.Goals as goal
-use Rattle.typst_markup_tokens.specs.Link.{link, link_or_text}
-use Rattle.typst_markup_tokens.specs.Names.{label_or_text, ref_marker, ref_or_text}
+use Rattle.typst_tokens.specs.Link.{link, link_or_text}
+use Rattle.typst_tokens.specs.Names.{label_or_text, ref_marker, ref_or_text}
 use Rattle.typst_tokens.specs.Labels.{label}
 use Rattle.typst_tokens.specs.Raw.{raw}
-use Rattle.typst_code.specs.Tokens.{backtick}
-use Rattle.typst_raw.specs.Lines.{later_rows, inline_leaves}
-use Rattle.typst_raw.specs.Raw.{raw_node}
-use Rattle.typst_code.specs.Steps.{read_block}
+use Rattle.typst_lexer.specs.Tokens.{backtick}
+use Rattle.typst_lexer.specs.RawLines.{later_rows, inline_leaves}
+use Rattle.typst_lexer.specs.Raw.{raw_node}
+use Rattle.typst_language.specs.Steps.{read_block}
 use Rattle.typst_code.specs.Markup.{content_block, direct_content, reference}
 
 pub returns : goal.returns

@@ -2,33 +2,33 @@ use lib.Utf8.{encode}
 use Rattle.std.proofs.Common.{refl}
 use Rattle.typst_tokens.specs.Characters.{number_after}
 use Rattle.typst_tokens.specs.Common.{line_ends, whitespace, shebang, line_comment, block_comment, comment_end}
-use Rattle.typst_markup_tokens.specs.Markup.{markup as markup_token, heading as heading_token, dot, marker_or_text, marker, hyphen, minus, emphasis, numbering}
+use Rattle.typst_tokens.specs.Markup.{markup as markup_token, heading as heading_token, dot, marker_or_text, marker, hyphen, minus, emphasis, numbering}
 use Rattle.typst_tokens.specs.Common.{sign}
 use Rattle.typst_tokens.specs.Escapes.{code_point, backslash}
-use Rattle.typst_markup_tokens.specs.Text.{text as text_token, text_from}
-use Rattle.typst_code.specs.Tokens.{of_mode, hash, slash, star, token}
-use Rattle.typst_code.specs.Hand.{ahead, ahead_asks, column_at, hand_at, hand_asks}
-use Rattle.typst_code.specs.Knot.{meaning_of}
-use Rattle.typst_code.specs.Meaning.{less, repeated, growing, nesting, run}
-use Rattle.typst_code.specs.Steps.{eat_making, eat, convert_and_eat, eat_if, close_if, unexpected, expected, expect, flush_trivia, within, node, node_with_trivia, note, grow, nest}
-use Rattle.typst_code.specs.Depth.{deeper}
+use Rattle.typst_tokens.specs.Text.{text as text_token, text_from}
+use Rattle.typst_lexer.specs.Tokens.{of_mode, hash, slash, star, token}
+use Rattle.typst_language.specs.Hand.{ahead, ahead_asks, column_at, hand_at, hand_asks}
+use Rattle.typst_language.specs.Knot.{meaning_of}
+use Rattle.typst_language.specs.Meaning.{less, repeated, growing, nesting, run}
+use Rattle.typst_language.specs.Steps.{eat_making, eat, convert_and_eat, eat_if, close_if, unexpected, expected, expect, flush_trivia, within, node, node_with_trivia, note, grow, nest}
+use Rattle.typst_language.specs.Depth.{deeper}
 use Rattle.typst_code.specs.Markup.{note_piece, markup_turn, markup_exprs, markup_run, markup, markup_is_empty, delimited, heading, item, term_item, markup_expr}
 use Rattle.typst_grammar.specs.Grammar.{whole, whole_code, tree, tree_code}
 use Rattle.typst_grammar.proofs.laws.trees_of_code.Goals as goal
-use Rattle.typst_markup_tokens.specs.Link.{link, link_or_text}
-use Rattle.typst_markup_tokens.specs.Names.{label_or_text, ref_marker, ref_or_text}
+use Rattle.typst_tokens.specs.Link.{link, link_or_text}
+use Rattle.typst_tokens.specs.Names.{label_or_text, ref_marker, ref_or_text}
 use Rattle.typst_tokens.specs.Labels.{label}
 use Rattle.typst_tokens.specs.Raw.{raw}
-use Rattle.typst_code.specs.Tokens.{backtick}
-use Rattle.typst_raw.specs.Lines.{later_rows, inline_leaves}
-use Rattle.typst_raw.specs.Raw.{raw_node}
-use Rattle.typst_code.specs.Steps.{read_block}
+use Rattle.typst_lexer.specs.Tokens.{backtick}
+use Rattle.typst_lexer.specs.RawLines.{later_rows, inline_leaves}
+use Rattle.typst_lexer.specs.Raw.{raw_node}
+use Rattle.typst_language.specs.Steps.{read_block}
 use Rattle.typst_code.specs.Markup.{content_block, direct_content, reference}
-use Rattle.typst_code_tokens.specs.Code.{code as code_token, single, less as less_token, with_equals, dots, dot as code_dot, equals, bang}
-use Rattle.typst_code_tokens.specs.Identifiers.{keyword_or_name, ident}
-use Rattle.typst_code_tokens.specs.Invalid.{foreign, invalid}
-use Rattle.typst_code_tokens.specs.Numbers.{suffixed, exponent_digits, signed_digits, exponent, fraction, decimal, dotted, in_base, zero_first, number_token}
-use Rattle.typst_code_tokens.specs.Strings.{string}
+use Rattle.typst_tokens.specs.Code.{code as code_token, single, less as less_token, with_equals, dots, dot as code_dot, equals, bang}
+use Rattle.typst_tokens.specs.Identifiers.{keyword_or_name, ident}
+use Rattle.typst_tokens.specs.Invalid.{foreign, invalid}
+use Rattle.typst_tokens.specs.Numbers.{suffixed, exponent_digits, signed_digits, exponent, fraction, decimal, dotted, in_base, zero_first, number_token}
+use Rattle.typst_tokens.specs.Strings.{string}
 use Rattle.typst_code.specs.Expected.{expects, expect_identifier, seeing}
 use Rattle.typst_code.specs.Embedded.{embedded_end, embedded_expr, embedded}
 use Rattle.typst_code.specs.Keys.{string_key}

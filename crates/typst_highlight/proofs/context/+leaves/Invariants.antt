@@ -1,5 +1,5 @@
 use Rattle.std.proofs.Common.{◌≡◌, ◌+◌, ◌*◌, ◌≤◌, length}
-use Rattle.typst_node.specs.Tree.{forest, count}
+use Rattle.typst_tree.specs.Tree.{forest, count}
 use Rattle.typst_highlight.specs.Walk.{first_leaf}
 use Rattle.typst_highlight.proofs.context.+leaves.Given as goal
 

@@ -1,6 +1,6 @@
 use Rattle.std.proofs.Common.{ap, ◌∙◌, None}
 use Rattle.std.specs.Option.{is_some}
-use Rattle.typst_node.specs.Tree.{forest}
+use Rattle.typst_tree.specs.Tree.{forest}
 use Rattle.typst_highlight.proofs.Levels.{leaf_held}
 use Rattle.typst_highlight.proofs.context.holds_leaf.Goals as goal
 

@@ -1,5 +1,5 @@
 use Rattle.std.proofs.Common.{◌≡◌, length}
-use Rattle.typst_node.specs.Tree.{forest}
+use Rattle.typst_tree.specs.Tree.{forest}
 use Rattle.typst_highlight.specs.Walk.{is_followed}
 use Rattle.typst_highlight.proofs.context.is_followed.Given as goal
 

@@ -1,5 +1,5 @@
 use Rattle.std.proofs.Common.{◌-◌, ◌<◌, refl, ap, sym, ◌∙◌, arith}
-use Rattle.typst_node.specs.Tree.{nodes}
+use Rattle.typst_tree.specs.Tree.{nodes}
 use Rattle.typst_tree.specs.Linked.{linked}
 use Rattle.typst_tree.proofs.Inside.{inside}
 use Rattle.typst_highlight.specs.Rules.{rule_of}

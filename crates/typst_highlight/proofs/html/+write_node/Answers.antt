@@ -1,5 +1,5 @@
 use Rattle.std.proofs.Common.{◌≡◌, ℕ, ◌+◌, List, ap, sym, ◌∙◌, arith, length, refl}
-use Rattle.typst_node.specs.Tree.{count, forest, saturated, text_of}
+use Rattle.typst_tree.specs.Tree.{count, forest, saturated, text_of}
 use Rattle.typst_highlight.specs.Walk.{first_ahead, first_leaf, forest_html, joined, leaf_ahead, next_leaf, passed_row, within}
 use Rattle.typst_highlight.proofs.Levels.{joined_within}
 use Rattle.typst_highlight.proofs.Pages.{node_put}

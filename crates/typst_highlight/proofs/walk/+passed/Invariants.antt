@@ -1,5 +1,5 @@
 use Rattle.std.proofs.Common.{◌≡◌, ◌<◌, length}
-use Rattle.typst_node.specs.Tree.{forest, count, nodes}
+use Rattle.typst_tree.specs.Tree.{forest, count, nodes}
 use Rattle.typst_highlight.specs.Walk.{passed_row, within}
 use Rattle.typst_highlight.proofs.walk.+passed.Given as goal
 

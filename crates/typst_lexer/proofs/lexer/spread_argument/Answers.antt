@@ -1,6 +1,6 @@
 use Rattle.std.proofs.Common.{◌∙◌, ap, sym}
-use Rattle.typst_math_tokens.specs.Arguments.{spread_argument as spread}
-use Rattle.typst_readers.specs.Sight.{sight}
+use Rattle.typst_lexer.specs.ArgumentTokens.{spread_argument as spread}
+use Rattle.typst_tokens.specs.Sight.{sight}
 use Rattle.typst_lexer.proofs.lexer.spread_argument.Goals as goal
 
 pub returns : goal.returns

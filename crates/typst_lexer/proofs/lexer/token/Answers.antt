@@ -1,9 +1,9 @@
 use Rattle.std.proofs.Common.{◌∙◌, ap, sym}
 use Rattle.std.proofs.lemmas.Str.{IsUtf8-had}
 use Rattle.typst_lines.specs.Scanner.{place}
-use Rattle.typst_readers.specs.Sight.{sight, text_of}
+use Rattle.typst_tokens.specs.Sight.{sight, text_of}
 use Rattle.typst_lexer.specs.Tokens.{token}
-use Rattle.typst_readers.proofs.Sights.{read-is, text-is, text-read}
+use Rattle.typst_tokens.proofs.Sights.{read-is, text-is, text-read}
 use Rattle.typst_lexer.proofs.lexer.token.Goals as goal
 
 pub returns-clause-scans : goal.returns-clause-scans

@@ -1,5 +1,5 @@
 use Rattle.std.proofs.Common.{◌+◌, ◌-◌, ◌<◌, ap, sym, subst, arith}
-use Rattle.typst_node.specs.Tree.{nodes}
+use Rattle.typst_tree.specs.Tree.{nodes}
 use Rattle.typst_tree.specs.Linked.{linked, left}
 use Rattle.typst_tree.specs.Steps.{node_of}
 use Rattle.typst_tree.proofs.Inside.{inside}

@@ -1,5 +1,5 @@
 use Rattle.std.proofs.Common.{◌-◌}
-use Rattle.typst_node.specs.Tree.{nodes}
+use Rattle.typst_tree.specs.Tree.{nodes}
 use Rattle.typst_tree.specs.Linked.{linked, left}
 use Rattle.typst_probe.proofs.Below.{AllBehind}
 use Rattle.typst_probe.proofs.tags.+print_tags.Given as goal

@@ -1,6 +1,6 @@
 use Rattle.std.proofs.Common.{◌≡◌, ◌==◌, ◌&&◌, false, sym, ap, ◌∙◌, arith}
 use Rattle.typst_tokens.proofs.Comments.{turn-last, turn-closes, turn-opens, turn-on, no-first, no-second, comment-on, comment-stop, comment-end}
-use Rattle.typst_readers.proofs.Steps.{step-grows}
+use Rattle.typst_tokens.proofs.Steps.{step-grows}
 use Rattle.typst_tokens.proofs.common.block_comment.Goals.{else-before-eq42-via-then-before-eq42+else-c-eq47, else-before-eq42-via-else-before-eq42, else-before-eq47-via-then-before-eq47+else-c-eq42, else-before-eq47-via-else-before-eq47}
 use Rattle.typst_tokens.proofs.common.block_comment.Goals as goal
 

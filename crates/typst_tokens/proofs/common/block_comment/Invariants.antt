@@ -1,6 +1,6 @@
 use Rattle.std.proofs.Common.{◌≡◌, ◌≤◌, length}
 use Rattle.typst_tokens.specs.Common.{block_comment}
-use Rattle.typst_readers.specs.Sight.{Covers, position, sight}
+use Rattle.typst_tokens.specs.Sight.{Covers, position, sight}
 use Rattle.typst_tokens.proofs.Comments.{rest}
 use Rattle.typst_tokens.proofs.common.block_comment.Given as goal
 

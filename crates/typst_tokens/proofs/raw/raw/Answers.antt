@@ -1,6 +1,6 @@
 use Rattle.std.proofs.Common.{◌+◌, length, sym, ap, ◌∙◌, arith}
 use Rattle.typst_tokens.proofs.RawTexts.{ticks-long, turn-none, turn-last, turn-more, raw-on, raw-stop, raw-open, raw-two, raw-more}
-use Rattle.typst_readers.proofs.Steps.{step-grows}
+use Rattle.typst_tokens.proofs.Steps.{step-grows}
 use Rattle.typst_tokens.proofs.raw.raw.Goals as goal
 
 pub returns-then-backticks-eq2 : goal.returns-then-backticks-eq2

@@ -1,6 +1,6 @@
 use Rattle.std.proofs.Common.{◌<◌, ◌≡◌, length, arith, refl}
 use Rattle.std.proofs.lemmas.Bool.Decides.{nat_tests}
-use Rattle.typst_tokens.proofs.Numbers.{some-chars, no-chars}
+use Rattle.typst_tokens.proofs.SpelledNumbers.{some-chars, no-chars}
 use Rattle.typst_tokens.proofs.sets.is_code_point.Goals as goal
 
 pub returns-then-not-is_empty : goal.returns-then-not-is_empty

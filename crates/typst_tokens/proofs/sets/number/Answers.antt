@@ -1,6 +1,6 @@
 use Rattle.std.proofs.Common.{sym, ap, ◌∙◌, arith}
 use Rattle.typst_lines.specs.Scanner.{place}
-use Rattle.typst_tokens.proofs.Numbers.{number_from, number_from-more, number_from-none, number_from-end, number_from-start, with_digit-fits}
+use Rattle.typst_tokens.proofs.SpelledNumbers.{number_from, number_from-more, number_from-none, number_from-end, number_from-start, with_digit-fits}
 use Rattle.typst_tokens.proofs.sets.number.Goals as goal
 
 pub loop-c-init : goal.loop-c-init

@@ -2,7 +2,7 @@ use Rattle.std.proofs.Common.{◌≡◌, ◌<◌, ◌^◌, ◌-◌, length}
 use Rattle.std.specs.Str.{chars}
 use Rattle.typst_lines.specs.Scanner.{place}
 use Rattle.typst_tokens.specs.Characters.{number}
-use Rattle.typst_tokens.proofs.Numbers.{number_from}
+use Rattle.typst_tokens.proofs.SpelledNumbers.{number_from}
 use Rattle.typst_tokens.proofs.sets.number.Given as goal
 
 abbrev pub invariant-loop-c : goal.invariant-loop-c

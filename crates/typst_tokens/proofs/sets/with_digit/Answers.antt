@@ -1,7 +1,7 @@
 use Rattle.std.proofs.Common.{◌≡◌, ◌<◌, ◌+◌, ◌*◌, ◌^◌, ap, subst, arith}
 use Rattle.std.specs.Char.{digit_value}
 use Rattle.std.specs.Option.{SomeIff}
-use Rattle.typst_tokens.proofs.Numbers.{with_digit-sum}
+use Rattle.typst_tokens.proofs.SpelledNumbers.{with_digit-sum}
 use Rattle.typst_tokens.proofs.sets.with_digit.Goals as goal
 
 pub returns : goal.returns

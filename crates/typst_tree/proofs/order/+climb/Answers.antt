@@ -1,5 +1,5 @@
 use Rattle.std.proofs.Common.{ap, sym, ◌∙◌, arith, rules}
-use Rattle.typst_node.specs.Tree.{forest, preorder}
+use Rattle.typst_tree.specs.Tree.{forest, preorder}
 use Rattle.typst_tree.specs.Ordered.{climb}
 use Rattle.typst_tree.proofs.RisingNumbers.{climb_on, climb_fails}
 use Rattle.typst_tree.proofs.WalksInPreorder.{turn}

@@ -1,5 +1,5 @@
 use Rattle.std.proofs.Common.{◌≡◌, ◌^◌, ◌<◌, ◌≤◌, drop}
-use Rattle.typst_node.specs.Tree.{forest, count, nodes, places, preorder}
+use Rattle.typst_tree.specs.Tree.{forest, count, nodes, places, preorder}
 use Rattle.typst_tree.specs.Ordered.{climb}
 use Rattle.typst_tree.proofs.order.+climb.Given as goal
 

@@ -1,7 +1,7 @@
 use Rattle.std.proofs.Common.{◌≡◌, ◌+◌, ◌<◌, ◌≤◌, ◌^◌, ◌∷◌, ap, sym, ◌∙◌, arith, length, drop, take, refl}
 use Rattle.std.proofs.lemmas.List.{drop_more, take-append-drop}
 use Rattle.typst_kinds.specs.Span.{number_of}
-use Rattle.typst_node.specs.Tree.{forest, places, saturated, count}
+use Rattle.typst_tree.specs.Tree.{forest, places, saturated, count}
 use Rattle.typst_tree.specs.Walks.{Within}
 use Rattle.typst_tree.specs.Wanted.{wanted}
 use Rattle.typst_tree.proofs.RisingNumbers.{if_some, in_order_first, none_past, found_only, order_ahead, rising_below, rising_from_index}

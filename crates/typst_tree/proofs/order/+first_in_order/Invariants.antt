@@ -1,4 +1,4 @@
-use Rattle.typst_node.specs.Tree.{nodes}
+use Rattle.typst_tree.specs.Tree.{nodes}
 use Rattle.typst_tree.proofs.order.+first_in_order.Given as goal
 
 abbrev pub decreases-first_in_order : goal.decreases-first_in_order

@@ -1,5 +1,5 @@
 use Rattle.std.proofs.Common.{◌≡◌, ◌-◌, ◌<◌, ◌≤◌, length, drop, true, false}
-use Rattle.typst_node.specs.Tree.{forest}
+use Rattle.typst_tree.specs.Tree.{forest}
 use Rattle.typst_tree.specs.Ordered.{begins_past}
 use Rattle.typst_tree.proofs.order.last_up_to.Given as goal
 

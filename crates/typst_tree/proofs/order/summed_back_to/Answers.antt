@@ -1,5 +1,5 @@
 use Rattle.std.proofs.Common.{◌≡◌, arith, length}
-use Rattle.typst_node.specs.Tree.{nodes, text_of}
+use Rattle.typst_tree.specs.Tree.{nodes, text_of}
 use Rattle.typst_tree.proofs.Rows.{prior}
 use Rattle.typst_tree.proofs.order.summed_back_to.Goals as goal
 

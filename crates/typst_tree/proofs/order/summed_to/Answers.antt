@@ -1,6 +1,6 @@
 use Rattle.std.proofs.Common.{◌≡◌, ◌+◌, ◌∷◌, ◌≤◌, ap, sym, ◌∙◌, arith, drop, take}
 use Rattle.std.proofs.lemmas.List.{drop_more, take-append-drop}
-use Rattle.typst_node.specs.Tree.{count, forest}
+use Rattle.typst_tree.specs.Tree.{count, forest}
 use Rattle.typst_tree.proofs.Rows.{count_append, first_of_row}
 use Rattle.typst_tree.proofs.order.summed_to.Goals as goal
 

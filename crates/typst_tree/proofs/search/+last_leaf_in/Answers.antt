@@ -1,5 +1,5 @@
 use Rattle.std.proofs.Common.{◌≡◌, ◌+◌, ◌-◌, sym, ◌∙◌, arith, take, refl}
-use Rattle.typst_node.specs.Tree.{forest, count, places}
+use Rattle.typst_tree.specs.Tree.{forest, count, places}
 use Rattle.typst_tree.proofs.LastLeaf.{last_none, back, last_here, last_next, last_alone}
 use Rattle.typst_tree.proofs.search.+last_leaf_in.Goals as goal
 

@@ -1,5 +1,5 @@
 use Rattle.std.proofs.Common.{◌≡◌, ◌+◌, ◌-◌, ◌^◌, ◌<◌, ◌≤◌, take, length, ◌∷◌}
-use Rattle.typst_node.specs.Tree.{forest, count, nodes, places, preorder}
+use Rattle.typst_tree.specs.Tree.{forest, count, nodes, places, preorder}
 use Rattle.typst_tree.specs.Walks.{last_leaf}
 use Rattle.typst_tree.proofs.search.+last_leaf_in.Given as goal
 

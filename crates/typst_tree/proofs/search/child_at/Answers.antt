@@ -1,5 +1,5 @@
 use Rattle.std.proofs.Common.{◌+◌, ap, arith, drop, drop_of_length-le, sym, ◌∙◌}
-use Rattle.typst_node.specs.Tree.{forest, preorder}
+use Rattle.typst_tree.specs.Tree.{forest, preorder}
 use Rattle.typst_tree.specs.Walks.{first_at, holds_byte}
 use Rattle.typst_tree.proofs.PassesOver.{byte_below, byte_first, byte_next, byte_none}
 use Rattle.typst_tree.proofs.Rows.{over, passed_front}

@@ -1,5 +1,5 @@
 use Rattle.std.proofs.Common.{◌≡◌, ◌+◌, ◌-◌, drop, length}
-use Rattle.typst_node.specs.Tree.{forest, preorder, saturated}
+use Rattle.typst_tree.specs.Tree.{forest, preorder, saturated}
 use Rattle.typst_tree.specs.Passed.{IsPassed}
 use Rattle.typst_tree.specs.Walks.{first_at, holds_byte}
 use Rattle.typst_tree.proofs.search.child_at.Given as goal

@@ -1,5 +1,5 @@
 use Rattle.std.proofs.Common.{◌<◌, ap, arith, length}
-use Rattle.typst_node.specs.Tree.{nodes}
+use Rattle.typst_tree.specs.Tree.{nodes}
 use Rattle.typst_tree.proofs.Rows.{over, passed_inside, passed_none}
 use Rattle.typst_tree.proofs.search.child_over.Goals as goal
 

@@ -1,5 +1,5 @@
 use Rattle.std.proofs.Common.{◌+◌, ◌-◌, ◌≤◌, length}
-use Rattle.typst_node.specs.Tree.{saturated}
+use Rattle.typst_tree.specs.Tree.{saturated}
 use Rattle.typst_tree.specs.Passed.{IsPassed}
 use Rattle.typst_tree.proofs.search.child_over.Given as goal
 

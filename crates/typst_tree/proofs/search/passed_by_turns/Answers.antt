@@ -1,6 +1,6 @@
 use Rattle.std.proofs.Common.{◌≡◌, ◌+◌, ap, sym, ◌∙◌, arith, length, take, drop, get_or}
 use Rattle.std.proofs.lemmas.List.{take-append-drop}
-use Rattle.typst_node.specs.Tree.{nodes, forest, count, preorder, joined, text_of, saturated}
+use Rattle.typst_tree.specs.Tree.{nodes, forest, count, preorder, joined, text_of, saturated}
 use Rattle.typst_tree.specs.Walks.{first_at, holds_byte}
 use Rattle.typst_tree.proofs.PassesOver.{no_byte_above}
 use Rattle.typst_tree.proofs.Rows.{count_append, first_of_row, prior}

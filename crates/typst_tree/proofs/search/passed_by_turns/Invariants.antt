@@ -1,5 +1,5 @@
 use Rattle.std.proofs.Common.{◌≡◌, ◌+◌, ◌^◌, ◌<◌, ◌-◌, None, length, take, drop}
-use Rattle.typst_node.specs.Tree.{forest, count, preorder, joined}
+use Rattle.typst_tree.specs.Tree.{forest, count, preorder, joined}
 use Rattle.typst_tree.specs.Passed.{IsPassed}
 use Rattle.typst_tree.specs.Walks.{first_at, holds_byte}
 use Rattle.typst_tree.proofs.search.passed_by_turns.Given as goal

@@ -1,5 +1,5 @@
 use Rattle.std.proofs.Common.{ap, ◌∙◌}
-use Rattle.typst_node.specs.Tree.{forest, none}
+use Rattle.typst_tree.specs.Tree.{forest, none}
 use Rattle.typst_highlight.specs.Walk.{joined, name}
 use Rattle.typst_highlight.proofs.Levels.{name_facing}
 use Rattle.typst_highlight.proofs.progress.Level.name.Goals as goal

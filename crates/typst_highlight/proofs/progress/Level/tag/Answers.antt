@@ -1,5 +1,5 @@
 use Rattle.std.proofs.Common.{ap, sym, ◌∙◌, None}
-use Rattle.typst_node.specs.Tree.{forest}
+use Rattle.typst_tree.specs.Tree.{forest}
 use Rattle.typst_highlight.specs.Walk.{joined, leaf_ahead, tag}
 use Rattle.typst_highlight.proofs.Levels.{tag_followed}
 use Rattle.typst_highlight.proofs.progress.Level.tag.Goals as goal

@@ -1,8 +1,8 @@
 use Rattle.std.proofs.Common.{◌∙◌, ap, sym}
 use Rattle.typst_lines.specs.Scanner.{place}
-use Rattle.typst_readers.proofs.Moves.{exec-moved}
+use Rattle.typst_tokens.proofs.Moves.{exec-moved}
 use Rattle.typst_lexer.proofs.TokenEats.{token-eats}
-use Rattle.typst_readers.specs.Reader.{eaten}
+use Rattle.typst_tokens.specs.Reader.{eaten}
 use Rattle.typst_lexer.specs.Tokens.{token}
 use Rattle.typst_lexer.proofs.lexer.Lexer.scan.Goals as goal
 

@@ -1,8 +1,8 @@
 use Rattle.std.proofs.Common.{◌∙◌, ap, length, arith}
 use Rattle.std.proofs.lemmas.Iterator.{YieldsList-from_chars}
 use Rattle.std.specs.Str.{chars}
-use Rattle.typst_classes.proofs.CharsLemmas.{after_first, after_last}
-use Rattle.typst_classes.proofs.ClusterLemmas.{first_character, more}
+use Rattle.typst_lines.proofs.CharsLemmas.{after_first, after_last}
+use Rattle.typst_lines.proofs.ClusterLemmas.{first_character, more}
 use Rattle.typst_test_classes.proofs.narrow.NarrowClasses.cluster.Goals as goal
 
 pub returns-in-Some : goal.returns-in-Some

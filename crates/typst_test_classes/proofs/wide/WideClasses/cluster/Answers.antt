@@ -1,5 +1,5 @@
 use Rattle.std.proofs.Common.{length}
-use Rattle.typst_classes.proofs.ClusterLemmas.{ascii_cluster, whole_line}
+use Rattle.typst_lines.proofs.ClusterLemmas.{ascii_cluster, whole_line}
 use Rattle.typst_test_classes.proofs.wide.WideClasses.cluster.Goals as goal
 
 pub returns-then-is_ascii : goal.returns-then-is_ascii

@@ -1,5 +1,5 @@
 use Rattle.std.proofs.Common.{◌≡◌, ◌+◌, ◌∷◌, ap, sym, ◌∙◌, arith, length, map, refl}
-use Rattle.typst_node.specs.Tree.{forest, places, count, nodes, trees, saturated, text_of}
+use Rattle.typst_tree.specs.Tree.{forest, places, count, nodes, trees, saturated, text_of}
 use Rattle.typst_tree.specs.Steps.{at}
 use Rattle.typst_tree.specs.Walks.{numbers}
 use Rattle.typst_tree.specs.Rows.{IsChild}

@@ -1,5 +1,5 @@
 use Rattle.std.proofs.Common.{ap, arith, ◌∙◌}
-use Rattle.typst_node.specs.Tree.{nodes}
+use Rattle.typst_tree.specs.Tree.{nodes}
 use Rattle.typst_tree.proofs.Branches.{inside_root, root_node}
 use Rattle.typst_tree.proofs.linked.LinkedNode.above.Goals as goal
 

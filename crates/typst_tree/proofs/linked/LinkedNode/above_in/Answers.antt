@@ -1,5 +1,5 @@
 use Rattle.std.proofs.Common.{◌≡◌, arith, subst, sym}
-use Rattle.typst_node.specs.Tree.{places}
+use Rattle.typst_tree.specs.Tree.{places}
 use Rattle.typst_tree.specs.Rows.{IsChild}
 use Rattle.typst_tree.specs.Walks.{Stands}
 use Rattle.typst_tree.proofs.NodesOfStretch.{same_node}

@@ -1,8 +1,8 @@
 use Rattle.std.proofs.Common.{ap, length, sym, ◌∙◌}
 use Rattle.std.specs.Prelude.{nat_lt}
-use Rattle.typst_node.specs.Tree.{trees}
+use Rattle.typst_tree.specs.Tree.{trees}
 use Rattle.typst_tree.specs.Rows.{long}
-use Rattle.typst_node.proofs.SpansAside.{trees_forest}
+use Rattle.typst_tree.proofs.SpansAside.{trees_forest}
 use Rattle.typst_tree.proofs.linked.LinkedNode.as_parent.Goals as goal
 
 pub invariant_of-result : goal.invariant_of-result

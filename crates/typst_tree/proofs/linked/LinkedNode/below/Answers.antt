@@ -1,5 +1,5 @@
 use Rattle.std.proofs.Common.{◌≡◌, ◌+◌, ◌++◌, arith, ap, sym, ◌∙◌, length, length-append}
-use Rattle.typst_node.specs.Tree.{nodes, places}
+use Rattle.typst_tree.specs.Tree.{nodes, places}
 use Rattle.typst_tree.proofs.Forks.{holds_behind}
 use Rattle.typst_tree.proofs.NodesOfStretch.{stands_row}
 use Rattle.typst_tree.proofs.WalksInPreorder.{length_places}

@@ -1,5 +1,5 @@
 use Rattle.std.proofs.Common.{◌≡◌, ap, arith, sym, ◌∙◌}
-use Rattle.typst_node.specs.Tree.{nodes, places}
+use Rattle.typst_tree.specs.Tree.{nodes, places}
 use Rattle.typst_tree.specs.Walks.{Stands}
 use Rattle.typst_tree.proofs.Parents.{nested}
 use Rattle.typst_tree.proofs.linked.LinkedNode.branch.Goals as goal

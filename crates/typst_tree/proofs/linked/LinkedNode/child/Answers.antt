@@ -1,6 +1,6 @@
 use Rattle.std.proofs.Common.{◌≡◌, ◌-◌, ap, arith, sym, ◌∙◌, length}
 use Rattle.std.specs.Prelude.{nat_lt}
-use Rattle.typst_node.specs.Tree.{places, trees}
+use Rattle.typst_tree.specs.Tree.{places, trees}
 use Rattle.typst_tree.specs.Follows.{Follows, in_order_of}
 use Rattle.typst_tree.specs.Rows.{long}
 use Rattle.typst_tree.proofs.Forks.{holds_child, later}

@@ -1,6 +1,6 @@
 use Rattle.std.proofs.Common.{◌≡◌, ◌+◌, ap, sym, ◌∙◌, arith, length, map}
-use Rattle.typst_node.specs.Tree.{places, saturated, trees}
-use Rattle.typst_node.proofs.SpansAside.{trees_forest}
+use Rattle.typst_tree.specs.Tree.{places, saturated, trees}
+use Rattle.typst_tree.proofs.SpansAside.{trees_forest}
 use Rattle.typst_tree.specs.Steps.{at}
 use Rattle.typst_tree.specs.Walks.{numbers}
 use Rattle.typst_tree.specs.Follows.{in_order_of}

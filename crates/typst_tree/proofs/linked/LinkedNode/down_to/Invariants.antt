@@ -1,5 +1,5 @@
 use Rattle.std.proofs.Common.{◌≡◌, ◌+◌, ◌-◌, ◌<◌, ◌≤◌}
-use Rattle.typst_node.specs.Tree.{nodes}
+use Rattle.typst_tree.specs.Tree.{nodes}
 use Rattle.typst_tree.proofs.linked.LinkedNode.down_to.Given as goal
 
 abbrev pub decreases-loop-over : goal.decreases-loop-over

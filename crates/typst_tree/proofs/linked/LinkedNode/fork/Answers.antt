@@ -1,6 +1,6 @@
 use Rattle.std.proofs.Common.{◌≡◌, ◌∙◌, ap, arith, length, slice_get, subst, sym}
-use Rattle.typst_node.specs.Tree.{nodes, places, trees}
-use Rattle.typst_node.proofs.SpansAside.{trees_forest}
+use Rattle.typst_tree.specs.Tree.{nodes, places, trees}
+use Rattle.typst_tree.proofs.SpansAside.{trees_forest}
 use Rattle.typst_tree.specs.Rows.{IsChild, IsOpen}
 use Rattle.typst_tree.specs.Walks.{Stands}
 use Rattle.typst_tree.proofs.Branches.{inside_root, root_node}

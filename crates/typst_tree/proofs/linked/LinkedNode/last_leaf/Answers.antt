@@ -1,5 +1,5 @@
 use Rattle.std.proofs.Common.{Some, ap, arith, sym, ◌∙◌}
-use Rattle.typst_node.specs.Tree.{places}
+use Rattle.typst_tree.specs.Tree.{places}
 use Rattle.typst_tree.proofs.Branches.{room, until_found, until_not_found}
 use Rattle.typst_tree.proofs.LastLeaf.{last_within}
 use Rattle.typst_tree.proofs.WalksInPreorder.{length_places}

@@ -1,7 +1,7 @@
 use Rattle.std.proofs.Common.{◌≡◌, None, Some, ap, arith, sym, ◌∙◌}
 use Rattle.std.specs.Prelude.{if◌then◌else◌}
 use Rattle.std.specs.Option.{option_map}
-use Rattle.typst_node.specs.Tree.{nodes, places}
+use Rattle.typst_tree.specs.Tree.{nodes, places}
 use Rattle.typst_tree.specs.Steps.{at}
 use Rattle.typst_tree.specs.Walks.{first_at, holds_byte}
 use Rattle.typst_tree.proofs.Branches.{room}

@@ -1,5 +1,5 @@
 use Rattle.std.proofs.Common.{◌≡◌}
-use Rattle.typst_node.specs.Tree.{nodes, places}
+use Rattle.typst_tree.specs.Tree.{nodes, places}
 use Rattle.typst_tree.specs.Walks.{first_at, holds_byte}
 use Rattle.typst_tree.proofs.linked.LinkedNode.leaf_at.Given as goal
 

@@ -1,6 +1,6 @@
 use Rattle.std.proofs.Common.{◌≡◌, ◌+◌, ap, arith, refl, subst, sym, take, ◌∙◌}
 use Rattle.std.specs.Prelude.{MatchOption, Some}
-use Rattle.typst_node.specs.Tree.{count, forest, nodes}
+use Rattle.typst_tree.specs.Tree.{count, forest, nodes}
 use Rattle.typst_tree.specs.Branches.{leaf_until}
 use Rattle.typst_tree.specs.Linked.{linked}
 use Rattle.typst_tree.proofs.Branches.{beside_of, none_alone, until_not_found, until_row}

@@ -1,5 +1,5 @@
 use Rattle.std.proofs.Common.{◌≡◌, ◌+◌, ◌≤◌, ◌<◌, ◌^◌, take, length}
-use Rattle.typst_node.specs.Tree.{forest, count, joined}
+use Rattle.typst_tree.specs.Tree.{forest, count, joined}
 use Rattle.typst_tree.specs.Branches.{leaf_until}
 use Rattle.typst_tree.proofs.linked.LinkedNode.leaf_before.Given as goal
 

@@ -1,5 +1,5 @@
 use Rattle.std.proofs.Common.{◌≡◌, ◌+◌, ap, arith, sym, ◌∙◌}
-use Rattle.typst_node.specs.Tree.{count, nodes, places}
+use Rattle.typst_tree.specs.Tree.{count, nodes, places}
 use Rattle.typst_tree.specs.Branches.{leaf_after}
 use Rattle.typst_tree.specs.Linked.{linked}
 use Rattle.typst_tree.proofs.Branches.{leaf_found, leaf_not_found, over_above, room}

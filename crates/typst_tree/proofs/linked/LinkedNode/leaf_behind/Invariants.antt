@@ -1,5 +1,5 @@
 use Rattle.std.proofs.Common.{◌≡◌, ◌+◌, ◌-◌, length}
-use Rattle.typst_node.specs.Tree.{nodes, saturated}
+use Rattle.typst_tree.specs.Tree.{nodes, saturated}
 use Rattle.typst_tree.specs.Branches.{leaf_after}
 use Rattle.typst_tree.specs.Passed.{IsPassed}
 use Rattle.typst_tree.proofs.linked.LinkedNode.leaf_behind.Given as goal

@@ -1,5 +1,5 @@
 use Rattle.std.proofs.Common.{ap, sym, ◌∙◌, arith}
-use Rattle.typst_node.specs.Tree.{nodes}
+use Rattle.typst_tree.specs.Tree.{nodes}
 use Rattle.typst_tree.specs.Branches.{leaf_until}
 use Rattle.typst_tree.proofs.Branches.{inside_root, root_node, until_top}
 use Rattle.typst_tree.proofs.linked.LinkedNode.prev_leaf.Goals as goal

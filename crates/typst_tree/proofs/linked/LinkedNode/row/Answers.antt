@@ -1,7 +1,7 @@
 use Rattle.std.proofs.Common.{◌≡◌, ◌+◌, ap, sym, ◌∙◌, arith, drop, map, subst, take}
-use Rattle.typst_node.specs.Tree.{forest, trees, count, nodes}
-use Rattle.typst_node.specs.Order.{AreInOrder, numbers_of}
-use Rattle.typst_node.proofs.SpansAside.{trees_forest}
+use Rattle.typst_tree.specs.Tree.{forest, trees, count, nodes}
+use Rattle.typst_tree.specs.Order.{AreInOrder, numbers_of}
+use Rattle.typst_tree.proofs.SpansAside.{trees_forest}
 use Rattle.typst_tree.specs.Steps.{at}
 use Rattle.typst_tree.specs.Walks.{numbers}
 use Rattle.typst_tree.proofs.Branches.{above_stands, beside_of}

@@ -1,5 +1,5 @@
 use Rattle.std.proofs.Common.{ap, arith, get_or, subst, sym, ◌∙◌}
-use Rattle.typst_node.specs.Tree.{nodes, places}
+use Rattle.typst_tree.specs.Tree.{nodes, places}
 use Rattle.typst_tree.specs.Walks.{Stands}
 use Rattle.typst_tree.proofs.Branches.{tops_of}
 use Rattle.typst_tree.proofs.Forks.{index_within}

@@ -1,5 +1,5 @@
 use Rattle.std.proofs.Common.{◌≡◌, ◌+◌, Some, ap, sym, ◌∙◌, arith, drop, drop_of_length-le, None}
-use Rattle.typst_node.specs.Tree.{forest, nodes, places, preorder, saturated}
+use Rattle.typst_tree.specs.Tree.{forest, nodes, places, preorder, saturated}
 use Rattle.typst_tree.specs.Walks.{first_at}
 use Rattle.typst_tree.specs.Wanted.{wanted}
 use Rattle.typst_tree.proofs.Parents.{child_bounds}

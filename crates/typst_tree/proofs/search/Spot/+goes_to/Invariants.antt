@@ -1,5 +1,5 @@
 use Rattle.std.proofs.Common.{◌≡◌, ◌+◌, ◌-◌, length, drop}
-use Rattle.typst_node.specs.Tree.{forest, nodes, places, preorder, saturated}
+use Rattle.typst_tree.specs.Tree.{forest, nodes, places, preorder, saturated}
 use Rattle.typst_tree.specs.Passed.{IsPassed}
 use Rattle.typst_tree.specs.Walks.{first_at}
 use Rattle.typst_tree.specs.Wanted.{wanted}

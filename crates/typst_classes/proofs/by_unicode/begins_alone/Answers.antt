@@ -1,9 +1,0 @@
-use Rattle.std.proofs.Common.{rules, tests}
-use Rattle.std.proofs.lemmas.Iterator.{YieldsList-from_chars, YieldsList-from_take}
-use Rattle.std.proofs.lemmas.Iterator.Search.{all_from_yields_List}
-use Rattle.std.specs.Char.{is_ascii}
-use Rattle.typst_classes.proofs.by_unicode.begins_alone.Goals as goal
-
-pub returns : goal.returns
-returns c =
-    all_from_yields_List is_ascii _ _ _ c.all.ensures.ran (YieldsList-from_take 2 (YieldsList-from_chars c.args.line.now c.utf8.line cc) cc) (λ x b q w. search (rules, tests))

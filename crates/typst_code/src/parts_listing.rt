@@ -1,0 +1,75 @@
+//! What several patterns in parens were found to be.
+
+ghost use Rattle.std.specs.Prelude.{◌≡◌, false};
+ghost use Rattle.typst_kinds.specs.Kinds.{is_error};
+ghost use Rattle.typst_code.specs.Patterns as spec;
+
+use typst_kinds::SyntaxKind;
+
+/// What several patterns in parens were found to be so far.
+#[derive(Debug, Clone, Copy, PartialEq, Eq)]
+pub struct Parts {
+    /// Whether there is any.
+    pub any: bool,
+    /// Whether they may be one pattern in parens: no comma, no dots, no colon, no second one.
+    pub is_plain: bool,
+    /// Whether one of them has two dots.
+    pub has_sink: bool,
+}
+
+impl Parts {
+    /// None.
+    pub(crate) fn none() -> Parts
+        ensures { result ≡ spec.no_parts }
+    {
+        Parts {
+            any: false,
+            is_plain: true,
+            has_sink: false,
+        }
+    }
+
+    /// With one that has two dots.
+    pub(crate) fn with_sink(self) -> Parts
+        ensures { result ≡ spec.with_sink self }
+    {
+        Parts {
+            any: true,
+            is_plain: false,
+            has_sink: true,
+        }
+    }
+
+    /// With one more, which has a colon or not.
+    pub(crate) fn with_part(self, is_named: bool) -> Parts
+        ensures { result ≡ spec.with_part is_named self }
+    {
+        Parts {
+            any: true,
+            is_plain: self.is_plain && !self.any && !is_named,
+            has_sink: self.has_sink,
+        }
+    }
+
+    /// With a comma behind the last, if there is one.
+    pub(crate) fn with_comma(self, comma: bool) -> Parts
+        ensures { result ≡ spec.with_comma comma self }
+    {
+        Parts {
+            any: self.any,
+            is_plain: self.is_plain && !comma,
+            has_sink: self.has_sink,
+        }
+    }
+
+    /// What all of them make.
+    pub(crate) fn kind(self) -> SyntaxKind
+        ensures kind { result ≡ spec.parts_kind self }
+        ensures fine { is_error result ≡ false }
+    {
+        if self.any && self.is_plain {
+            return SyntaxKind::Parenthesized;
+        }
+        SyntaxKind::Destructuring
+    }
+}

@@ -1,7 +1,0 @@
-use Rattle.std.proofs.Common.{rules}
-use Rattle.typst_code_tokens.specs.Code.{with_equals}
-use Rattle.typst_code_tokens.proofs.code.with_equals.Goals as goal
-
-pub returns-then-eat_if : goal.returns-then-eat_if
-unfolding with_equals
-returns-then-eat_if c = search rules

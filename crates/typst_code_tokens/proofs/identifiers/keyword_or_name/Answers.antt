@@ -1,7 +1,0 @@
-use Rattle.std.proofs.Common.{rules}
-use Rattle.typst_code_tokens.specs.Identifiers.{keyword_or_name}
-use Rattle.typst_code_tokens.proofs.identifiers.keyword_or_name.Goals as goal
-
-pub returns : goal.returns
-unfolding keyword_or_name
-returns c = search rules

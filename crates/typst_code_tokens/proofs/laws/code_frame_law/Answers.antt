@@ -1,6 +1,0 @@
-use Rattle.typst_code_tokens.specs.Code.{code}
-use Rattle.typst_readers.proofs.Frame.{frame}
-use Rattle.typst_code_tokens.proofs.laws.code_frame_law.Goals as goal
-
-pub returns : goal.returns
-returns c = λ k d p q g. frame (code k d) p q g

@@ -1,9 +1,0 @@
-//! Examples of the language.
-
-ghost use Rattle.typst_classes.specs.Classes.{CharClasses};
-ghost use Rattle.typst_combinators.specs.Words.{Words};
-
-/// What the words of the language give for short texts, which follows from the definitions.
-pub fn words_of_the_language()
-    ensures { (beyond : CharClasses) → Words beyond }
-{}

@@ -1,0 +1,458 @@
+-- The notes where pieces of a run end, and what their numbers say.
+use Rattle.std.proofs.Common.{◌≡◌, ◌==◌, ℕ, zero, suc, ◌+◌, ◌-◌, ◌<◌, ◌≤◌, ◌^◌, max, Bool, true, false, ◌&&◌, if◌then◌else◌, nat_lt, List, [], ◌∷◌, ◌++◌, length, take, append_assoc, append-nil, Some, refl, ap, sym, ◌∙◌, subst, arith}
+use Rattle.std.proofs.lemmas.List.{map-append}
+use Rattle.typst_kinds.specs.declared.kind.SyntaxKind.{SyntaxKind}
+use Rattle.typst_lines.specs.Place.{Place, moved}
+use Rattle.typst_lines.specs.Classes.{CharClasses}
+use Rattle.typst_tokens.specs.Sight.{width, position}
+use Rattle.typst_language.specs.declared.calls.Call.TheVariants.{MarkupExpr}
+use Rattle.typst_language.specs.declared.calls.Mark.{Mark}
+use Rattle.typst_language.specs.declared.calls.Mark.TheVariants as mark
+use Rattle.typst_language.specs.declared.calls.Note.{Note}
+use Rattle.typst_language.specs.declared.reading.State.{State}
+use Rattle.typst_language.specs.Ask.{Ask, shift, shift_one, sunk}
+use Rattle.typst_language.specs.Ask.Ask.{looked, marked}
+use Rattle.typst_language.specs.Depth.{deeper}
+use Rattle.typst_language.specs.Hand.{AtHand, told, known_by}
+use Rattle.typst_language.specs.Log.{Log, no_log, with_note, logged}
+use Rattle.typst_language.specs.Meaning.{Outcome, Meaning, Level, plain, joined, as_last, repeated, hand_of, hand_asks_of, asked, start_point, run}
+use Rattle.typst_language.specs.Point.{Trivia, Point, gap_of, state_of}
+use Rattle.typst_language.specs.Steps.{note}
+use Rattle.typst_language.proofs.Ends.{hand-again}
+use Rattle.typst_language.proofs.Places.{moved-sum}
+use Rattle.typst_grammar.specs.Markup.{ends, note_piece, markup_turn, markup_reading}
+use Rattle.typst_grammar.specs.Grammar.{rules, max_depth, start_of, whole, parsed, log}
+use Rattle.typst_edits.specs.Bytes.{lowest}
+use Rattle.typst_edits.specs.Edit.{AllEndBy}
+use Rattle.typst_edits.specs.Runs.{made, AllGo, End, end_of, asks_of, chain}
+use Rattle.typst_edits.specs.Sequence.{Sequence, turn_of, first_of, first_end}
+use Rattle.typst_edits.proofs.Bytes.{logged-append, noted-by, noted-more, AllReach, reach-by, reach-to, end-by, end-to, AllFrom, least-by, newly}
+use Rattle.typst_edits.proofs.Marks.{AllMarks, marks-append, marks-shift, marks-sunk, none-hand}
+use Rattle.typst_edits.proofs.Outcomes.{shift-zero, shift-twice}
+use Rattle.typst_edits.proofs.Spots.{if-true, if-false}
+use Rattle.typst_edits.proofs.Widths.{width-moved}
+use Rattle.typst_edits.proofs.Within.{AllAt, at-first, at-second, in-level}
+
+-- some trivia are known at a point
+pub record KnownAt (s : Point) : Type 0 where
+  pub trivia : Trivia
+  pub is : s.known ≡ Some trivia
+
+-- ---- where a piece ends
+
+-- the note where pieces end, so many characters on
+abbrev pub piece_mark : ℕ → Bool × ℕ → Point → Ask
+piece_mark at x s = marked at (gap_of s.known) 0 (mark.Piece x.0 x.1) (state_of s)
+
+-- what was asked up to a place ends with a note of a piece between these looks, asked twice
+pub record Ends (asks : List Ask) (at : ℕ) (x : Bool × ℕ) (s : Point) (looks : List Ask) : Type 0 where
+  pub early : List Ask
+  pub is : asks ≡ early ++ (shift at looks ++ piece_mark at x s ∷ shift at looks)
+
+module _ (l : Level) (stops : SyntaxKind → Bool) (x : Bool × ℕ) (z : Place) (s : Point) where
+  abbrev ahead : AtHand
+  ahead = told (hand_of l z s)
+
+  -- a piece, by what is read one level deeper
+  abbrev deep : Outcome ℕ
+  deep = run l (deeper (MarkupExpr x.0 x.1) x.1) z (asked (hand_of l z s) s)
+
+  abbrev there : Place
+  there = moved deep.taken z
+
+  abbrev after : Point
+  after = asked (hand_of l there deep.state) deep.state
+
+  abbrev carried : Bool × ℕ
+  carried = ((told (hand_of l there deep.state)).newlines.any, deep.value)
+
+  again : asked (hand_of l there after) after ≡ after
+  again = ap (λ h. record deep.state { known = known_by h }) (hand-again l.classes deep.state.held deep.state.known there)
+
+  -- what it asks, and where it ends
+  abbrev last : Point
+  last = asked (hand_of l there (asked (hand_of l there after) after)) (asked (hand_of l there after) after)
+
+  abbrev peeked : Place → Point → Outcome AtHand
+  peeked w r = record (plain (told (hand_of l w r)) (asked (hand_of l w r) r)) { asks = hand_asks_of l w r }
+
+  abbrev noting : Outcome (Unit {0})
+  noting =
+      let t = asked (hand_of l there after) after in
+      joined (peeked there after) (joined (record (plain (tt {0}) t) { asks = marked 0 (gap_of t.known) 0 (mark.Piece carried.0 carried.1) (state_of t) ∷ [] }) (joined (peeked there t) (plain (tt {0}) last)))
+
+  abbrev gone : Outcome (Bool × (Bool × ℕ))
+  gone = joined (peeked z s) (joined deep (joined (peeked there deep.state) (joined noting (plain (true, carried) last))))
+
+  turn-is : ends stops x.1 ahead.kind ≡ false → run l (markup_turn true stops x) z s ≡ gone
+  unfolding run markup_turn note_piece note
+  turn-is h = ap (joined (peeked z s)) (if-false (ends stops x.1 ahead.kind) _ _ h)
+
+  pub stopped-is : ends stops x.1 ahead.kind ≡ true → (run l (markup_turn true stops x) z s).value.0 ≡ false
+  unfolding run markup_turn
+  stopped-is h = ap (λ (o : Outcome (Bool × (Bool × ℕ))). o.value.0) (if-true (ends stops x.1 ahead.kind) _ _ h)
+
+  last-is : last ≡ after
+  last-is = ap (λ t. asked (hand_of l there t) t) again ∙ again
+
+  -- what is asked in it before the last looks
+  abbrev early_asks : List Ask
+  early_asks = hand_asks_of l z s ++ (deep.asks ++ shift deep.taken (hand_asks_of l there deep.state))
+
+  gone-asks : (let looks = hand_asks_of l there after in gone.asks ≡ early_asks ++ (shift gone.taken looks ++ piece_mark gone.taken carried last ∷ shift gone.taken looks))
+  gone-asks =
+      let looks = hand_asks_of l there after in
+      let t = asked (hand_of l there after) after in
+      let d = deep.taken in
+      let gap = gap_of t.known in
+      let mk = marked 0 gap 0 (mark.Piece carried.0 carried.1) (state_of t) in
+      let first = hand_asks_of l z s in
+      let second = hand_asks_of l there deep.state in
+      let same : hand_asks_of l there t ≡ looks = ap (hand_asks_of l there) again in
+      let took : 0 + (d + (0 + ((0 + (0 + (0 + 0))) + 0))) ≡ d = omega arith in
+      let third = hand_asks_of l there t in
+      let from_mark = mk ∷ shift 0 (third ++ []) in
+      let noted = (looks ++ shift 0 from_mark) ++ [] in
+      let own : noted ≡ looks ++ mk ∷ looks =
+      append-nil (looks ++ shift 0 from_mark) ∙ ap (λ ls. looks ++ ls) (shift-zero from_mark ∙ ap (λ ls. mk ∷ ls) (shift-zero (third ++ []) ∙ append-nil third ∙ same)) in
+      let moved_own : shift d (second ++ (looks ++ mk ∷ looks)) ≡ shift d second ++ (shift d looks ++ shift_one d mk ∷ shift d looks) =
+      map-append (shift_one d) second (looks ++ mk ∷ looks) ∙ ap (λ ls. shift d second ++ ls) (map-append (shift_one d) looks (mk ∷ looks)) in
+      let all : gone.asks ≡ (first ++ (deep.asks ++ shift d second)) ++ (shift d looks ++ shift_one d mk ∷ shift d looks) =
+      ap (λ ls. first ++ ls) (shift-zero (deep.asks ++ shift d (second ++ shift 0 noted)) ∙ ap (λ ls. deep.asks ++ shift d (second ++ ls)) (shift-zero noted ∙ own) ∙ ap (λ ls. deep.asks ++ ls) moved_own
+      ∙ sym (append_assoc deep.asks (shift d second) (shift d looks ++ shift_one d mk ∷ shift d looks)))
+      ∙ sym (append_assoc first (deep.asks ++ shift d second) (shift d looks ++ shift_one d mk ∷ shift d looks)) in
+      let at_is : d + 0 ≡ d = omega arith in
+      all ∙ ap (λ n. early_asks ++ (shift d looks ++ piece_mark n carried t ∷ shift d looks)) at_is ∙ ap (λ n. early_asks ++ (shift n looks ++ piece_mark n carried t ∷ shift n looks)) (sym took)
+      ∙ ap (λ p. early_asks ++ (shift gone.taken looks ++ piece_mark gone.taken carried p ∷ shift gone.taken looks)) (again ∙ sym last-is)
+
+  gone-ends : Ends gone.asks gone.taken gone.value.1 gone.state (hand_asks_of l (moved gone.taken z) gone.state)
+  gone-ends =
+      let took : 0 + (deep.taken + (0 + ((0 + (0 + (0 + 0))) + 0))) ≡ deep.taken = omega arith in
+      let ahead_is : hand_asks_of l (moved gone.taken z) gone.state ≡ hand_asks_of l there after = ap (λ n. hand_asks_of l (moved n z) last) took ∙ ap (hand_asks_of l there) last-is in
+      subst (Ends gone.asks gone.taken gone.value.1 gone.state) (sym ahead_is) (record { early = early_asks; is = gone-asks })
+
+  -- what a stopped one asks
+  pub stopped-asks : ends stops x.1 ahead.kind ≡ true → (run l (markup_turn true stops x) z s).asks ≡ hand_asks_of l z s ++ []
+  unfolding run markup_turn
+  stopped-asks h = ap (λ (o : Outcome (Bool × (Bool × ℕ))). o.asks) (ap (joined (peeked z s)) (if-true (ends stops x.1 ahead.kind) _ _ h))
+
+  pub turn-goes : ends stops x.1 ahead.kind ≡ false → (run l (markup_turn true stops x) z s).value.0 ≡ true
+  turn-goes h = ap (λ (o : Outcome (Bool × (Bool × ℕ))). o.value.0) (turn-is h)
+
+  -- its marks: one at its end, and those of what is read one level deeper
+  deep-marks : (P : ℕ → ℕ → Mark → State → Type 0) → (l.levels == 0) ≡ false → ((at fewer : ℕ) (m : Mark) (p : State) → P at (suc fewer) m p) → AllMarks P deep.asks
+  unfolding run deeper
+  deep-marks P some f =
+      let p = asked (hand_of l z s) s in
+      let called = (l.deeper (MarkupExpr x.0 x.1) (moved 0 z) p).asks in
+      let is : deep.asks ≡ shift 0 (sunk called) = ap (λ (o : Outcome ℕ). shift 0 o.asks) (if-false (l.levels == 0) _ _ some) in
+      subst (λ u. AllMarks P u) (sym is) (marks-shift P 0 (sunk called) (marks-sunk (λ at fewer m p. P (0 + at) fewer m p) (λ at fewer m p. f (0 + at) fewer m p) called))
+
+  gone-marks : (P : ℕ → ℕ → Mark → State → Type 0) → (l.levels == 0) ≡ false → ((at fewer : ℕ) (m : Mark) (p : State) → P at (suc fewer) m p) → P gone.taken 0 (mark.Piece carried.0 carried.1) (state_of last) → AllMarks P gone.asks
+  gone-marks P some f own =
+      let looks = hand_asks_of l there after in
+      let n = gone.taken in
+      let second = hand_asks_of l there deep.state in
+      let shifted = λ (d : ℕ) (at fewer : ℕ) (m : Mark) (p : State). P (d + at) fewer m p in
+      let behind = marks-shift P n looks (none-hand (shifted n) l.classes after.held after.known there) in
+      let early = marks-append P (hand_asks_of l z s) _ (none-hand P l.classes s.held s.known z)
+      (marks-append P deep.asks (shift deep.taken second) (deep-marks P some f) (marks-shift P deep.taken second (none-hand (shifted deep.taken) l.classes deep.state.held deep.state.known there))) in
+      subst (λ u. AllMarks P u) (sym gone-asks) (marks-append P early_asks _ early (marks-append P (shift n looks) _ behind (own, behind)))
+
+  pub turn-marks : (P : ℕ → ℕ → Mark → State → Type 0) → (l.levels == 0) ≡ false → ((at fewer : ℕ) (m : Mark) (p : State) → P at (suc fewer) m p) → ends stops x.1 ahead.kind ≡ false
+      → (let o = run l (markup_turn true stops x) z s in P o.taken 0 (mark.Piece o.value.1.0 o.value.1.1) (state_of o.state) → AllMarks P o.asks)
+  turn-marks P some f go = subst (λ (o : Outcome (Bool × (Bool × ℕ))). P o.taken 0 (mark.Piece o.value.1.0 o.value.1.1) (state_of o.state) → AllMarks P o.asks) (sym (turn-is go)) (gone-marks P some f)
+
+  turn-by : (b : Bool) → ends stops x.1 ahead.kind ≡ b → (run l (markup_turn true stops x) z s).value.0 ≡ true
+      → (let o = run l (markup_turn true stops x) z s in Ends o.asks o.taken o.value.1 o.state (hand_asks_of l (moved o.taken z) o.state))
+  turn-by true e h = let f : true ≡ false = sym h ∙ stopped-is e in cc
+  turn-by false e h = subst (λ (o : Outcome (Bool × (Bool × ℕ))). Ends o.asks o.taken o.value.1 o.state (hand_asks_of l (moved o.taken z) o.state)) (sym (turn-is e)) gone-ends
+
+  pub turn-ends : (run l (markup_turn true stops x) z s).value.0 ≡ true → (let o = run l (markup_turn true stops x) z s in Ends o.asks o.taken o.value.1 o.state (hand_asks_of l (moved o.taken z) o.state))
+  turn-ends h = turn-by (ends stops x.1 ahead.kind) refl h
+
+  known-by : (b : Bool) → ends stops x.1 ahead.kind ≡ b → (run l (markup_turn true stops x) z s).value.0 ≡ true → KnownAt (run l (markup_turn true stops x) z s).state
+  known-by true e h = let f : true ≡ false = sym h ∙ stopped-is e in cc
+  known-by false e h = subst (λ (o : Outcome (Bool × (Bool × ℕ))). KnownAt o.state) (sym (turn-is e)) (record { trivia = _; is = refl })
+
+  -- the trivia behind it are known
+  pub turn-known : (run l (markup_turn true stops x) z s).value.0 ≡ true → KnownAt (run l (markup_turn true stops x) z s).state
+  turn-known h = known-by (ends stops x.1 ahead.kind) refl h
+
+-- ---- several pieces
+
+pub first-of : (b c : Bool) → (b && c) ≡ true → b ≡ true
+first-of true c h = refl
+first-of false c h = cc
+
+later-ends : (asks ls looks : List Ask) (a b : ℕ) (x : Bool × ℕ) (s : Point) → Ends asks b x s looks → Ends (ls ++ shift a asks) (a + b) x s looks
+later-ends asks ls looks a b x s e =
+    let m = piece_mark b x s in
+    let q = shift b looks ++ m ∷ shift b looks in
+    record {
+      early = ls ++ shift a e.early;
+      is = ap (λ u. ls ++ shift a u) e.is ∙ ap (λ u. ls ++ u) (map-append (shift_one a) e.early q ∙ ap (λ u. shift a e.early ++ u) (map-append (shift_one a) (shift b looks) (m ∷ shift b looks)
+          ∙ ap (λ u. u ++ shift_one a m ∷ shift a (shift b looks)) (shift-twice a b looks) ∙ ap (λ u. shift (a + b) looks ++ shift_one a m ∷ u) (shift-twice a b looks)))
+          ∙ sym (append_assoc ls (shift a e.early) (shift (a + b) looks ++ shift_one a m ∷ shift (a + b) looks));
+    }
+
+module _ (m : Bool × ℕ → Meaning (Bool × (Bool × ℕ))) (looks : Place → Point → List Ask)
+    (each : (x : Bool × ℕ) (z : Place) (s : Point) → (m x z s).value.0 ≡ true → (let o = m x z s in Ends o.asks o.taken o.value.1 o.state (looks (moved o.taken z) o.state))) where
+  -- the last of several pieces ends so
+  pub made-ends : (n : ℕ) (x : Bool × ℕ) (z : Place) (s : Point) → AllGo (made m (suc n) x z s) → (let os = made m (suc n) x z s in let e = end_of x s os in Ends (asks_of os) e.taken e.value e.state (looks (moved e.taken z) e.state))
+  made-ends zero x z s g =
+      let o = m x z s in
+      let e = each x z s (first-of o.value.0 (nat_lt 0 o.taken) g.0) in
+      let n : o.taken + 0 ≡ o.taken = omega arith in
+      subst (λ k. Ends (o.asks ++ []) k o.value.1 o.state (looks (moved k z) o.state)) (sym n)
+      (subst (λ ls. Ends ls o.taken o.value.1 o.state (looks (moved o.taken z) o.state)) (sym (append-nil o.asks)) e)
+  made-ends (suc n) x z s g =
+      let o = m x z s in
+      let os = made m (suc n) o.value.1 (moved o.taken z) o.state in
+      let e = end_of o.value.1 o.state os in
+      let place = moved-sum o.taken e.taken z in
+      subst (λ w. Ends (o.asks ++ shift o.taken (asks_of os)) (o.taken + e.taken) e.value e.state (looks w e.state)) (sym place)
+      (later-ends (asks_of os) o.asks (looks (moved e.taken (moved o.taken z)) e.state) o.taken e.taken e.value e.state (made-ends n o.value.1 (moved o.taken z) o.state g.1))
+
+  -- pieces behind others
+  pub made-add : (i n : ℕ) (x : Bool × ℕ) (z : Place) (s : Point) → (let e = end_of x s (made m i x z s) in let f = end_of e.value e.state (made m n e.value (moved e.taken z) e.state) in
+      end_of x s (made m (i + n) x z s) ≡ record f { taken = e.taken + f.taken })
+  made-add zero n x z s =
+      let f = end_of x s (made m n x z s) in
+      let a : 0 + n ≡ n = omega arith in
+      let b : f.taken ≡ 0 + f.taken = omega arith in
+      ap (λ j. end_of x s (made m j x z s)) a ∙ ap (λ j. record f { taken = j }) b
+  made-add (suc i) n x z s =
+      let o = m x z s in
+      let y = moved o.taken z in
+      let e = end_of o.value.1 o.state (made m i o.value.1 y o.state) in
+      let f = end_of e.value e.state (made m n e.value (moved e.taken y) e.state) in
+      let a : suc i + n ≡ suc (i + n) = omega arith in
+      let b : o.taken + (e.taken + f.taken) ≡ (o.taken + e.taken) + f.taken = omega arith in
+      let g = end_of e.value e.state (made m n e.value (moved (o.taken + e.taken) z) e.state) in
+      ap (λ j. end_of x s (made m j x z s)) a
+      ∙ ap (λ (u : End (Bool × ℕ)). record u { taken = o.taken + u.taken }) (made-add i n o.value.1 y o.state)
+      ∙ ap (λ j. record f { taken = j }) b
+      ∙ ap (λ w. (let u = end_of e.value e.state (made m n e.value w e.state) in record u { taken = (o.taken + e.taken) + u.taken })) (sym (moved-sum o.taken e.taken z))
+
+  pub go-add : (i n : ℕ) (x : Bool × ℕ) (z : Place) (s : Point) → AllGo (made m i x z s) → (let e = end_of x s (made m i x z s) in AllGo (made m n e.value (moved e.taken z) e.state) → AllGo (made m (i + n) x z s))
+  go-add zero n x z s g h = let a : 0 + n ≡ n = omega arith in subst (λ j. AllGo (made m j x z s)) (sym a) h
+  go-add (suc i) n x z s g h =
+      let o = m x z s in
+      let e = end_of o.value.1 o.state (made m i o.value.1 (moved o.taken z) o.state) in
+      let a : suc i + n ≡ suc (i + n) = omega arith in
+      subst (λ j. AllGo (made m j x z s)) (sym a) (g.0, go-add i n o.value.1 (moved o.taken z) o.state g.1 (subst (λ w. AllGo (made m n e.value w e.state)) (moved-sum o.taken e.taken z) h))
+
+pub chain-asks : (x : Bool × ℕ) (s : Point) (os : List (Outcome (Bool × (Bool × ℕ)))) (q : Outcome (Bool × ℕ)) → (chain os q).asks ≡ asks_of os ++ shift (end_of x s os).taken q.asks
+chain-asks x s [] q = sym (shift-zero q.asks)
+chain-asks x s (o ∷ os) q =
+    let e = end_of o.value.1 o.state os in
+    ap (λ u. o.asks ++ shift o.taken u) (chain-asks o.value.1 o.state os q)
+    ∙ ap (λ u. o.asks ++ u) (map-append (shift_one o.taken) (asks_of os) (shift e.taken q.asks) ∙ ap (λ u. shift o.taken (asks_of os) ++ u) (shift-twice o.taken e.taken q.asks))
+    ∙ sym (append_assoc o.asks (shift o.taken (asks_of os)) (shift (o.taken + e.taken) q.asks))
+
+-- ---- what is asked first
+
+pub record Begins (ls asks : List Ask) : Type 0 where
+  pub more : List Ask
+  pub is : asks ≡ ls ++ more
+
+pub begins-append : (ls asks ks : List Ask) → Begins ls asks → Begins ls (asks ++ ks)
+begins-append ls asks ks b = record { more = b.more ++ ks; is = ap (λ u. u ++ ks) b.is ∙ append_assoc ls b.more ks }
+
+begins-shift : (n : ℕ) (ls asks : List Ask) → Begins ls asks → Begins (shift n ls) (shift n asks)
+begins-shift n ls asks b = record { more = shift n b.more; is = ap (shift n) b.is ∙ map-append (shift_one n) ls b.more }
+
+begins-either : {A : Type 0} (b : Bool) (ls : List Ask) (o q : Outcome A) → Begins ls o.asks → Begins ls q.asks → Begins ls (if b then o else q).asks
+begins-either true ls o q h i = h
+begins-either false ls o q h i = i
+
+-- pieces begin by asking for the token at hand
+module _ (r : Sequence) where
+  abbrev pub looks_in : Place → Point → List Ask
+  looks_in z s = hand_asks_of r.level z s
+
+  piece-begins : (x : Bool × ℕ) (z : Place) (s : Point) → Begins (looks_in z s) (turn_of r x z s).asks
+  unfolding run markup_turn
+  piece-begins x z s = record { more = _; is = refl }
+
+  pub pieces-begin : (x : Bool × ℕ) (z : Place) (s : Point) → Begins (looks_in z s) (repeated (turn_of r) x z s).asks
+  unfolding repeated
+  pieces-begin x z s =
+      let o = turn_of r x z s in
+      let b = piece-begins x z s in
+      begins-either (o.value.0 && nat_lt 0 o.taken) (looks_in z s) _ (as_last o) (begins-append (looks_in z s) o.asks _ b) b
+
+  pub each-ends : (x : Bool × ℕ) (z : Place) (s : Point) → (turn_of r x z s).value.0 ≡ true → (let o = turn_of r x z s in Ends o.asks o.taken o.value.1 o.state (looks_in (moved o.taken z) o.state))
+  each-ends x z s h = turn-ends r.level r.stops x z s h
+
+-- ---- looks in one list and another
+
+-- looks of one list and of another, counted from so many characters before
+pub end-split : (n d : ℕ) (ls ks : List Ask) → AllEndBy n (shift d (ls ++ ks)) → AllEndBy n (shift d ls) × AllEndBy n (shift d ks)
+end-split n d [] ks h = (tt, h)
+end-split n d (looked at look ∷ ls) ks h = let i = end-split n d ls ks h.1 in ((h.0, i.0), i.1)
+end-split n d (marked at gap fewer m s ∷ ls) ks h = end-split n d ls ks h
+
+pub end-both : (n d : ℕ) (ls ks : List Ask) → AllEndBy n (shift d ls) → AllEndBy n (shift d ks) → AllEndBy n (shift d (ls ++ ks))
+end-both n d [] ks h i = i
+end-both n d (looked at look ∷ ls) ks h i = (h.0, end-both n d ls ks h.1 i)
+end-both n d (marked at gap fewer m s ∷ ls) ks h i = end-both n d ls ks h i
+
+pub from-first : (b d : ℕ) (z : Place) (ls ks : List Ask) → AllFrom b z (shift d (ls ++ ks)) → AllFrom b z (shift d ls)
+from-first b d z [] ks h = tt
+from-first b d z (looked at look ∷ ls) ks h = (h.0, from-first b d z ls ks h.1)
+from-first b d z (marked at gap fewer m s ∷ ls) ks h = from-first b d z ls ks h
+
+pub from-both : (b : ℕ) (z : Place) (ls ks : List Ask) → AllFrom b z ls → AllFrom b z ks → AllFrom b z (ls ++ ks)
+from-both b z [] ks h i = i
+from-both b z (looked at look ∷ ls) ks h i = (h.0, from-both b z ls ks h.1 i)
+from-both b z (marked at gap fewer m s ∷ ls) ks h i = from-both b z ls ks h i
+
+pub from-second : (b : ℕ) (z : Place) (ls ks : List Ask) → AllFrom b z (ls ++ ks) → AllFrom b z ks
+from-second b z [] ks h = h
+from-second b z (looked at look ∷ ls) ks h = from-second b z ls ks h.1
+from-second b z (marked at gap fewer m s ∷ ls) ks h = from-second b z ls ks h
+
+-- ---- one note of a log
+
+module _ (lv : ℕ) (z : Place) (ls ks : List Ask) (at gap fewer : ℕ) (m : Mark) (s : State) where
+  abbrev log_before : Log
+  log_before = logged lv z no_log ls
+
+  abbrev the_note : Note
+  the_note = record { mark = m; before = position (moved at z); start = position (moved gap (moved at z)); levels = lv - fewer; state = s; reach = log_before.reach; least = log_before.least }
+
+  abbrev log_all : Log
+  log_all = logged lv z no_log (ls ++ marked at gap fewer m s ∷ ks)
+
+  record OneNote : Type 0 where
+    earlier : List Note
+    later : List Note
+    notes : log_all.notes ≡ Some (earlier ++ the_note ∷ later)
+    all : (b : ℕ) → b < lowest later log_all.least → AllFrom b z ks
+    back : (b : ℕ) → b < 2 ^ 64 - 1 → AllFrom b z ks → b < lowest later log_all.least
+
+  -- the notes behind it, whatever they are compared with
+  one-note : OneNote
+  one-note =
+      let h = with_note gap (lv - fewer) m s (moved at z) log_before in
+      let one = noted-by lv z ls no_log [] refl in
+      let ns = one.more ++ the_note ∷ [] in
+      let is : log_all ≡ logged lv z h ks = logged-append lv z no_log ls (marked at gap fewer m s ∷ ks) in
+      let kept : h.notes ≡ Some ns = noted-more the_note log_before.notes one.more one.is in
+      let two = least-by lv z ks h ns kept in
+      record {
+        earlier = one.more;
+        later = two.more;
+        notes = ap (λ (u : Log). u.notes) is ∙ two.is ∙ ap Some (append_assoc one.more (the_note ∷ []) two.more);
+        all = λ b l. two.all b (subst (λ (u : Log). b < lowest two.more u.least) is l);
+        back = λ b big f. subst (λ (u : Log). b < lowest two.more u.least) (sym is) (two.back b big (newly b log_before.notes one.more log_before.least one.is big) f);
+      }
+
+-- ---- the note where pieces of a run end
+
+-- by the point before the look at its first token, and that look
+module _ (r : Sequence) (first : Point) (same : state_of first ≡ state_of r.point) (ls : List Ask) where
+  -- what is asked in the run, where this is asked behind j pieces
+  abbrev pub asks_in : ℕ → List Ask → List Ask
+  asks_in j behind = piece_mark 0 (true, 0) first ∷ ((ls ++ asks_of (first_of j r)) ++ shift (first_end j r).taken behind)
+
+  -- what was asked before the note and behind it, counted from so many characters before
+  pub record Boundary (j : ℕ) (behind : List Ask) : Type 0 where
+    pub early : List Ask
+    pub gap : ℕ
+    pub late : List Ask
+    pub is : (let e = first_end j r in asks_in j behind ≡ early ++ marked e.taken gap 0 (mark.Piece e.value.0 e.value.1) (state_of e.state) ∷ (late ++ shift e.taken behind))
+    pub gap_is : 0 < j → gap ≡ gap_of (first_end j r).state.known
+    pub ended : (n d : ℕ) → 0 < j → AllEndBy n (shift d early) → AllEndBy n (shift d (ls ++ asks_of (first_of j r)))
+    pub ends_too : (n d : ℕ) → (0 < j → AllEndBy n (shift d (ls ++ asks_of (first_of j r)))) → AllEndBy n (shift d early)
+    pub late_from : (b d : ℕ) (z : Place) → 0 < j → AllFrom b z (shift d (shift (first_end j r).taken behind)) → AllFrom b z (shift d late)
+
+  pub boundary : (j : ℕ) (behind : List Ask) → AllGo (first_of j r) → Begins (looks_in r (moved (first_end j r).taken r.place) (first_end j r).state) behind → Boundary j behind
+  boundary zero behind g begins = record {
+    early = [];
+    gap = gap_of first.known;
+    late = ls ++ [];
+    is = ap (λ s. marked 0 (gap_of first.known) 0 (mark.Piece true 0) s ∷ ((ls ++ []) ++ shift 0 behind)) same;
+    gap_is = λ l. absurd (omega (arith, l));
+    ended = λ n d l. absurd (omega (arith, l));
+    ends_too = λ n d h. tt;
+    late_from = λ b d z l. absurd (omega (arith, l));
+  }
+  boundary (suc j) behind g begins =
+      let os = first_of (suc j) r in
+      let e = first_end (suc j) r in
+      let b = made-ends (turn_of r) (looks_in r) (each-ends r) j (true, 0) r.place r.point g in
+      let ahead = looks_in r (moved e.taken r.place) e.state in
+      let looks = shift e.taken ahead in
+      let next = begins-shift e.taken ahead behind begins in
+      let m = piece_mark e.taken e.value e.state in
+      let rest = shift e.taken behind in
+      let start = piece_mark 0 (true, 0) first in
+      record {
+        early = start ∷ (ls ++ (b.early ++ looks));
+        gap = gap_of e.state.known;
+        late = looks;
+        is = ap (λ u. start ∷ ((ls ++ u) ++ rest)) (b.is ∙ sym (append_assoc b.early looks (m ∷ looks)))
+            ∙ ap (λ u. start ∷ u) (ap (λ u. u ++ rest) (sym (append_assoc ls (b.early ++ looks) (m ∷ looks))) ∙ append_assoc (ls ++ (b.early ++ looks)) (m ∷ looks) rest);
+        gap_is = λ l. refl;
+        ended = λ n d l h.
+            (let one = end-split n d ls (b.early ++ looks) h in
+            let two = end-split n d b.early looks one.1 in
+            end-both n d ls (asks_of os) one.0 (subst (λ u. AllEndBy n (shift d u)) (sym b.is) (end-both n d b.early (looks ++ m ∷ looks) two.0 (end-both n d looks (m ∷ looks) two.1 two.1))));
+        ends_too = λ n d h.
+            (let one = end-split n d ls (asks_of os) (h (omega arith)) in
+            let two = end-split n d b.early (looks ++ m ∷ looks) (subst (λ u. AllEndBy n (shift d u)) b.is one.1) in
+            end-both n d ls (b.early ++ looks) one.0 (end-both n d b.early looks two.0 (end-split n d looks (m ∷ looks) two.1).0));
+        late_from = λ n d z l h. from-first n d z looks next.more (subst (λ u. AllFrom n z (shift d u)) next.is h);
+      }
+
+-- ---- a note of a text, and what its numbers say of what was asked before it and behind it
+
+module _ (k : CharClasses) (text : List ℕ) where
+  pub record Told (early behind : List Ask) (at gap fewer : ℕ) (m : Mark) (s : State) : Type 0 where
+    pub earlier : List Note
+    pub note : Note
+    pub later : List Note
+    pub notes : (log k text).notes ≡ Some (earlier ++ note ∷ later)
+    pub mark : note.mark ≡ m
+    pub before : note.before ≡ width (take at text)
+    pub start : note.start ≡ width (take (at + gap) text)
+    pub levels : note.levels ≡ max_depth - fewer
+    pub state : note.state ≡ s
+    pub reached : (front more : List ℕ) → text ≡ front ++ more → note.reach ≤ width front → AllEndBy (length front) early
+    pub reached_too : (front more : List ℕ) → text ≡ front ++ more → AllEndBy (length front) early → note.reach ≤ width front
+    pub begun : (b : ℕ) → b < lowest later (log k text).least → AllFrom b (start_of text) behind
+    pub begun_too : (b : ℕ) → b < 2 ^ 64 - 1 → AllFrom b (start_of text) behind → b < lowest later (log k text).least
+    pub placed : AllAt (length text) behind
+
+  early-ends : (front more : List ℕ) (early : List Ask) (t : List ℕ) → t ≡ front ++ more → AllAt (length t) early → (logged max_depth (start_of t) no_log early).reach ≤ width front → AllEndBy (length front) early
+  early-ends front more early t same a h =
+      end-by front more early (subst (λ u. AllAt (length u) early) same a) (reach-by max_depth (width front) (start_of (front ++ more)) early no_log (subst (λ u. (logged max_depth (start_of u) no_log early).reach ≤ width front) same h)).all
+
+  pub told-at : (early behind : List Ask) (at gap fewer : ℕ) (m : Mark) (s : State) → (parsed k max_depth text).asks ≡ early ++ marked at gap fewer m s ∷ behind → Told early behind at gap fewer m s
+  unfolding log position
+  told-at early behind at gap fewer m s is =
+      let z = start_of text in
+      let b = one-note max_depth z early behind at gap fewer m s in
+      let log_is : logged max_depth z no_log (parsed k max_depth text).asks ≡ log_all max_depth z early behind at gap fewer m s = ap (logged max_depth z no_log) is in
+      let long : max 0 (length text) ≡ length text = omega arith in
+      let inside = subst (λ n. AllAt n (parsed k max_depth text).asks) long (in-level (rules k) k max_depth whole z (start_point markup_reading)) in
+      let all = subst (λ ls. AllAt (length text) ls) is inside in
+      record {
+        earlier = b.earlier;
+        note = the_note max_depth z early behind at gap fewer m s;
+        later = b.later;
+        notes = ap (λ (h : Log). h.notes) log_is ∙ b.notes;
+        mark = refl;
+        before = width-moved at text;
+        start = ap position (sym (moved-sum at gap z)) ∙ width-moved (at + gap) text;
+        levels = refl;
+        state = refl;
+        reached = λ front more same h. early-ends front more early text same (at-first (length text) early _ all) h;
+        reached_too = λ front more same h. reach-to max_depth (width front) z early no_log (omega arith) (subst (λ u. AllReach (width front) (start_of u) early) (sym same) (end-to front more early h));
+        begun = λ n l. b.all n (subst (λ (h : Log). n < lowest b.later h.least) log_is l);
+        begun_too = λ n big f. subst (λ (h : Log). n < lowest b.later h.least) (sym log_is) (b.back n big f);
+        placed = at-second (length text) early _ all;
+      }

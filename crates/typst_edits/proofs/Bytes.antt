@@ -1,0 +1,273 @@
+-- The test of an edit in bytes, by the notes of a reading.
+use Rattle.std.proofs.Common.{◌≡◌, ℕ, ◌+◌, ◌-◌, ◌<◌, ◌≤◌, ◌^◌, max, min, List, [], ◌∷◌, ◌++◌, length, length-append, append_assoc, append-nil, Option, Some, refl, ap, sym, ◌∙◌, subst, arith}
+use Rattle.typst_lines.specs.Place.{Place, moved}
+use Rattle.typst_lines.specs.Classes.{CharClasses}
+use Rattle.typst_tokens.specs.Sight.{width, position, near, hull_of}
+use Rattle.typst_language.specs.declared.calls.Mark.{Mark}
+use Rattle.typst_language.specs.declared.calls.Mark.TheVariants as mark
+use Rattle.typst_language.specs.declared.calls.Note.{Note}
+use Rattle.typst_language.specs.declared.reading.State.{State}
+use Rattle.typst_language.specs.Ask.{Ask, shift}
+use Rattle.typst_language.specs.Ask.Ask.{looked, marked}
+use Rattle.typst_language.specs.Log.{Log, no_log, least_behind, with_more, with_hull, with_note, logged_one, logged}
+use Rattle.typst_language.specs.Meaning.{start_point}
+use Rattle.typst_language.specs.Point.{state_of}
+use Rattle.typst_grammar.specs.Markup.{markup_reading}
+use Rattle.typst_grammar.specs.Grammar.{rules, max_depth, start_of, whole, parsed, log}
+use Rattle.typst_edits.specs.Bytes.{lowest, Decided, DecisionLaw}
+use Rattle.typst_edits.specs.Edit.{text_with, AllEndBy, AllBeginIn}
+use Rattle.typst_edits.specs.Laws.{blocks_of_text, block_at}
+pub use Rattle.typst_edits.specs.Looks.{AllReach, AllFrom}
+use Rattle.typst_edits.specs.Named.{Named}
+use Rattle.typst_edits.specs.Spot.{Spot, unit_at, around, lowered}
+use Rattle.typst_edits.proofs.Blocks.{ends}
+use Rattle.typst_edits.proofs.Edit.{among, onto, past-is}
+use Rattle.typst_edits.proofs.Inside.{Lawful}
+use Rattle.typst_edits.proofs.Law.{inside-level}
+use Rattle.typst_edits.proofs.Names.{named-level}
+use Rattle.typst_edits.proofs.Widths.{width-none, width-append, width-onto, width-moved, far-by, far-to, near-by, near-to}
+use Rattle.typst_edits.proofs.Within.{AllAt, at-first, at-second, in-level}
+
+-- ---- the log of asks one behind the other
+
+pub logged-append : (lv : ℕ) (z : Place) (h : Log) (ls ks : List Ask) → logged lv z h (ls ++ ks) ≡ logged lv z (logged lv z h ls) ks
+logged-append lv z h [] ks = refl
+logged-append lv z h (ask ∷ ls) ks = logged-append lv z (logged_one lv z h ask) ls ks
+
+-- so many notes more
+pub record Noted (ns : List Note) (h : Log) : Type 0 where
+  pub more : List Note
+  pub is : h.notes ≡ Some (ns ++ more)
+
+pub noted-more : (note : Note) (o : Option (List Note)) (ns : List Note) → o ≡ Some ns → with_more note o ≡ Some (ns ++ note ∷ [])
+noted-more note o ns e = ap (with_more note) e
+
+pub noted-by : (lv : ℕ) (z : Place) (asks : List Ask) (h : Log) (ns : List Note) → h.notes ≡ Some ns → Noted ns (logged lv z h asks)
+noted-by lv z [] h ns e = record { more = []; is = e ∙ ap Some (sym (append-nil ns)) }
+noted-by lv z (looked at look ∷ asks) h ns e = noted-by lv z asks (with_hull (hull_of look (moved at z)) h) ns e
+noted-by lv z (marked at gap fewer m s ∷ asks) h ns e =
+    let k = with_note gap (lv - fewer) m s (moved at z) h in
+    let note : Note = record { mark = m; before = position (moved at z); start = position (moved gap (moved at z)); levels = lv - fewer; state = s; reach = h.reach; least = h.least } in
+    let i = noted-by lv z asks k (ns ++ note ∷ []) (noted-more note h.notes ns e) in
+    record { more = note ∷ i.more; is = i.is ∙ ap Some (append_assoc ns (note ∷ []) i.more) }
+
+-- ---- where looks end
+
+pub record Reach (b : ℕ) (z : Place) (h : Log) (asks : List Ask) : Type 0 where
+  pub before : h.reach ≤ b
+  pub all : AllReach b z asks
+
+pub reach-by : (lv b : ℕ) (z : Place) (asks : List Ask) (h : Log) → (logged lv z h asks).reach ≤ b → Reach b z h asks
+reach-by lv b z [] h e = record { before = e; all = tt }
+reach-by lv b z (looked at look ∷ asks) h e =
+    let i = reach-by lv b z asks (with_hull (hull_of look (moved at z)) h) e in
+    record { before = omega (arith, i.before); all = (omega (arith, i.before), i.all) }
+reach-by lv b z (marked at gap fewer m s ∷ asks) h e =
+    let i = reach-by lv b z asks (with_note gap (lv - fewer) m s (moved at z) h) e in
+    record { before = i.before; all = i.all }
+
+pub reach-to : (lv b : ℕ) (z : Place) (asks : List Ask) (h : Log) → h.reach ≤ b → AllReach b z asks → (logged lv z h asks).reach ≤ b
+reach-to lv b z [] h e a = e
+reach-to lv b z (looked at look ∷ asks) h e a = let d = a.0 in reach-to lv b z asks (with_hull (hull_of look (moved at z)) h) (omega (arith, e, d)) a.1
+reach-to lv b z (marked at gap fewer m s ∷ asks) h e a = reach-to lv b z asks (with_note gap (lv - fewer) m s (moved at z) h) e a
+
+pub end-to : (front more : List ℕ) (asks : List Ask) → AllEndBy (length front) asks → AllReach (width front) (start_of (front ++ more)) asks
+end-to front more [] a = tt
+end-to front more (looked at look ∷ asks) a = (far-to at look.front front more a.0, end-to front more asks a.1)
+end-to front more (marked at gap fewer m s ∷ asks) a = end-to front more asks a
+
+mark-end : (n : ℕ) (asks : List Ask) (at gap fewer : ℕ) (m : Mark) (s : State) → AllEndBy n (asks ++ marked at gap fewer m s ∷ []) → AllEndBy n asks
+mark-end n [] at gap fewer m s h = tt
+mark-end n (looked i look ∷ asks) at gap fewer m s h = (h.0, mark-end n asks at gap fewer m s h.1)
+mark-end n (marked i g f l t ∷ asks) at gap fewer m s h = mark-end n asks at gap fewer m s h
+
+pub end-by : (front more : List ℕ) (asks : List Ask) → AllAt (length (front ++ more)) asks → AllReach (width front) (start_of (front ++ more)) asks → AllEndBy (length front) asks
+end-by front more [] a r = tt
+end-by front more (looked at look ∷ asks) a r = (far-by at look.front front more a.0 r.0, end-by front more asks a.1 r.1)
+end-by front more (marked at gap fewer m s ∷ asks) a r = end-by front more asks a r
+
+end-mark : (n : ℕ) (asks : List Ask) (at gap fewer : ℕ) (m : Mark) (s : State) → AllEndBy n asks → AllEndBy n (asks ++ marked at gap fewer m s ∷ [])
+end-mark n [] at gap fewer m s h = tt
+end-mark n (looked i look ∷ asks) at gap fewer m s h = (h.0, end-mark n asks at gap fewer m s h.1)
+end-mark n (marked i g f l t ∷ asks) at gap fewer m s h = end-mark n asks at gap fewer m s h
+
+-- ---- where looks begin
+
+-- with the notes since
+pub record Least (lv : ℕ) (z : Place) (h : Log) (ns : List Note) (asks : List Ask) : Type 0 where
+  pub more : List Note
+  pub is : (logged lv z h asks).notes ≡ Some (ns ++ more)
+  pub before : (b : ℕ) → b < lowest more (logged lv z h asks).least → b < h.least
+  pub all : (b : ℕ) → b < lowest more (logged lv z h asks).least → AllFrom b z asks
+  pub back : (b : ℕ) → b < 2 ^ 64 - 1 → b < h.least → AllFrom b z asks → b < lowest more (logged lv z h asks).least
+
+below : (b m n : ℕ) → b < min m n → (b < m) × (b < n)
+below b m n h = (omega (arith, h), omega (arith, h))
+
+above : (b m n : ℕ) → b < m → b < n → b < min m n
+above b m n h k = omega (arith, h, k)
+
+-- behind a note nothing was looked at yet
+pub newly : (b : ℕ) (notes : Option (List Note)) (ns : List Note) (least : ℕ) → notes ≡ Some ns → b < 2 ^ 64 - 1 → b < least_behind notes least
+newly b notes ns least e big = subst (λ o. b < least_behind o least) (sym e) big
+
+pub least-by : (lv : ℕ) (z : Place) (asks : List Ask) (h : Log) (ns : List Note) → h.notes ≡ Some ns → Least lv z h ns asks
+least-by lv z [] h ns e = record { more = []; is = e ∙ ap Some (sym (append-nil ns)); before = λ b l. l; all = λ b l. tt; back = λ b big l f. l }
+least-by lv z (looked at look ∷ asks) h ns e =
+    let i = least-by lv z asks (with_hull (hull_of look (moved at z)) h) ns e in
+    record {
+      more = i.more;
+      is = i.is;
+      before = λ b l. (below b h.least (near look.back (moved at z)) (i.before b l)).0;
+      all = λ b l. ((below b h.least (near look.back (moved at z)) (i.before b l)).1, i.all b l);
+      back = λ b big l f. i.back b big (above b h.least (near look.back (moved at z)) l f.0) f.1;
+    }
+least-by lv z (marked at gap fewer m s ∷ asks) h ns e =
+    let k = with_note gap (lv - fewer) m s (moved at z) h in
+    let note : Note = record { mark = m; before = position (moved at z); start = position (moved gap (moved at z)); levels = lv - fewer; state = s; reach = h.reach; least = h.least } in
+    let i = least-by lv z asks k (ns ++ note ∷ []) (noted-more note h.notes ns e) in
+    let last = (logged lv z k asks).least in
+    record {
+      more = note ∷ i.more;
+      is = i.is ∙ ap Some (append_assoc ns (note ∷ []) i.more);
+      before = λ b l. (below b h.least (lowest i.more last) l).0;
+      all = λ b l. i.all b (below b h.least (lowest i.more last) l).1;
+      back = λ b big l f. above b h.least (lowest i.more last) l (i.back b big (newly b h.notes ns h.least e big) f);
+    }
+
+-- behind a stretch
+pub begin-by : (front old rest : List ℕ) (end past : ℕ) (asks : List Ask) → end ≡ (length front + length old) + past → AllAt (length (front ++ (old ++ rest))) (shift end asks) → AllFrom (width (front ++ old)) (text_with front old rest) (shift end asks)
+    → AllBeginIn past rest asks
+begin-by front old rest end past [] e a f = tt
+begin-by front old rest end past (looked at look ∷ asks) e a f =
+    let d = past + at in
+    let there : end + at ≡ (length front + length old) + d = omega (arith, e) in
+    let place : moved (end + at) (text_with front old rest) ≡ moved d (record { behind = onto old (onto front []); ahead = rest }) = ap (λ n. moved n (text_with front old rest)) there ∙ past-is d front old rest in
+    let one = length-append front (old ++ rest) in
+    let two = length-append old rest in
+    let room : d ≤ length rest = omega (arith, a.0, there, one, two) in
+    let early : width (front ++ old) ≡ width (onto old (onto front [])) = omega (arith, width-append front old, width-onto old (onto front []), width-onto front [], width-none) in
+    let begins : width (onto old (onto front [])) < near look.back (moved d (record { behind = onto old (onto front []); ahead = rest })) = subst (λ n. n < near look.back (moved d (record { behind = onto old (onto front []); ahead = rest }))) early (subst (λ y. width (front ++ old) < near look.back y) place f.0) in
+    (near-by look.back d (onto old (onto front [])) rest room begins, room, begin-by front old rest end past asks e a.1 f.1)
+begin-by front old rest end past (marked at gap fewer m s ∷ asks) e a f = begin-by front old rest end past asks e a f
+
+pub begin-to : (front old rest : List ℕ) (end past : ℕ) (asks : List Ask) → end ≡ (length front + length old) + past → AllBeginIn past rest asks → AllFrom (width (front ++ old)) (text_with front old rest) (shift end asks)
+begin-to front old rest end past [] e f = tt
+begin-to front old rest end past (looked at look ∷ asks) e f =
+    let d = past + at in
+    let there : end + at ≡ (length front + length old) + d = omega (arith, e) in
+    let place : moved (end + at) (text_with front old rest) ≡ moved d (record { behind = onto old (onto front []); ahead = rest }) = ap (λ n. moved n (text_with front old rest)) there ∙ past-is d front old rest in
+    let early : width (front ++ old) ≡ width (onto old (onto front [])) = omega (arith, width-append front old, width-onto old (onto front []), width-onto front [], width-none) in
+    let begins = near-to look.back d (onto old (onto front [])) rest f.0 f.1 in
+    (subst (λ y. width (front ++ old) < near look.back y) (sym place) (subst (λ n. n < near look.back (moved d (record { behind = onto old (onto front []); ahead = rest }))) (sym early) begins), begin-to front old rest end past asks e f.2)
+begin-to front old rest end past (marked at gap fewer m s ∷ asks) e f = begin-to front old rest end past asks e f
+
+-- ---- the two notes of a block
+
+-- a log whose asks are these, with a mark between the first and the second, and one between the second and the third
+record Split (lv : ℕ) (z : Place) (h : Log) (first second third : List Ask) (at fewer end gap less : ℕ) (m n : Mark) (s t : State) : Type 0 where
+  is : h ≡ logged lv z (with_note gap (lv - less) n t (moved end z) (logged lv z (with_note 0 (lv - fewer) m s (moved at z) (logged lv z no_log first)) second)) third
+
+split-log : (lv : ℕ) (z : Place) (asks first second third : List Ask) (at fewer end gap less : ℕ) (m n : Mark) (s t : State)
+    → asks ≡ first ++ (marked at 0 fewer m s ∷ (second ++ marked end gap less n t ∷ third)) → Split lv z (logged lv z no_log asks) first second third at fewer end gap less m n s t
+split-log lv z asks first second third at fewer end gap less m n s t e = record {
+  is = ap (logged lv z no_log) e ∙ logged-append lv z no_log first _ ∙ logged-append lv z (with_note 0 (lv - fewer) m s (moved at z) (logged lv z no_log first)) second _;
+}
+
+module _ (lv : ℕ) (z : Place) (first second third : List Ask) (at fewer end gap less : ℕ) (m n : Mark) (s t : State) where
+  abbrev log_one : Log
+  log_one = logged lv z no_log first
+
+  abbrev note_one : Note
+  note_one = record { mark = m; before = position (moved at z); start = position (moved 0 (moved at z)); levels = lv - fewer; state = s; reach = log_one.reach; least = log_one.least }
+
+  abbrev log_two : Log
+  log_two = logged lv z (with_note 0 (lv - fewer) m s (moved at z) log_one) second
+
+  abbrev note_two : Note
+  note_two = record { mark = n; before = position (moved end z); start = position (moved gap (moved end z)); levels = lv - less; state = t; reach = log_two.reach; least = log_two.least }
+
+  abbrev log_three : Log
+  log_three = logged lv z (with_note gap (lv - less) n t (moved end z) log_two) third
+
+  record Between (b : ℕ) : Type 0 where
+    earlier : List Note
+    inner : List Note
+    later : List Note
+    notes : log_three.notes ≡ Some (earlier ++ note_one ∷ (inner ++ note_two ∷ later))
+    all : b < lowest later log_three.least → AllFrom b z third
+    back : b < 2 ^ 64 - 1 → AllFrom b z third → b < lowest later log_three.least
+
+  between : (b : ℕ) → Between b
+  between b =
+      let one = noted-by lv z first no_log [] refl in
+      let two = noted-by lv z second (with_note 0 (lv - fewer) m s (moved at z) log_one) (one.more ++ note_one ∷ []) (noted-more note_one log_one.notes one.more one.is) in
+      let three = least-by lv z third (with_note gap (lv - less) n t (moved end z) log_two) (((one.more ++ note_one ∷ []) ++ two.more) ++ note_two ∷ []) (noted-more note_two log_two.notes ((one.more ++ note_one ∷ []) ++ two.more) two.is) in
+      record {
+        earlier = one.more;
+        inner = two.more;
+        later = three.more;
+        notes = three.is ∙ ap Some (append_assoc ((one.more ++ note_one ∷ []) ++ two.more) (note_two ∷ []) three.more ∙ append_assoc (one.more ++ note_one ∷ []) two.more (note_two ∷ three.more) ∙ append_assoc one.more (note_one ∷ []) (two.more ++ note_two ∷ three.more));
+        all = three.all b;
+        back = λ big f. three.back b big (newly b log_two.notes _ log_two.least two.is big) f;
+      }
+
+pub asks-are : (os bs es own cs ls : List Ask) (a c : Ask) → os ≡ bs ++ (own ++ cs) → bs ≡ es ++ a ∷ [] → cs ≡ c ∷ ls → os ≡ es ++ (a ∷ (own ++ c ∷ ls))
+asks-are os bs es own cs ls a c e f g = e ∙ ap (λ u. u ++ (own ++ cs)) f ∙ append_assoc es (a ∷ []) (own ++ cs) ∙ ap (λ u. es ++ (a ∷ (own ++ u))) g
+
+decided : (k : CharClasses) (front old rest : List ℕ) (c : Spot (Unit {0})) (past : ℕ) → (let z = text_with front old rest in
+    parsed k max_depth (front ++ (old ++ rest)) ≡ around c (unit_at c z) c.node → Named (block_at k) max_depth c → AllAt (length (front ++ (old ++ rest))) (parsed k max_depth (front ++ (old ++ rest))).asks
+    → (unit_at c z).taken + c.at ≡ (length front + length old) + past → Decided (log k (front ++ (old ++ rest))) front old rest c past)
+unfolding log position
+decided k front old rest c past o n a e =
+    let z = text_with front old rest in
+    let text = front ++ (old ++ rest) in
+    let u = unit_at c z in
+    let end = c.at + u.taken in
+    let own = shift c.at (lowered c.fewer u.asks) in
+    let late = shift end n.later in
+    let start_mark = mark.Opens c.name in
+    let asks = ap (λ q. q.asks) o in
+    let closes_at = ap (shift end) n.closed in
+    let e0 = asks-are _ c.before n.earlier own (shift end c.after) late (marked c.at 0 c.fewer start_mark c.start) (marked (end + 0) 0 c.fewer mark.Closes (state_of c.reached)) asks n.opened closes_at in
+    let split = split-log max_depth z _ n.earlier own late c.at c.fewer (end + 0) 0 c.fewer start_mark mark.Closes c.start (state_of c.reached) e0 in
+    let b = between max_depth z n.earlier own late c.at c.fewer (end + 0) 0 c.fewer start_mark mark.Closes c.start (state_of c.reached) (width (front ++ old)) in
+    let one = log_one max_depth z n.earlier own late c.at c.fewer (end + 0) 0 c.fewer start_mark mark.Closes c.start (state_of c.reached) in
+    let three = log_three max_depth z n.earlier own late c.at c.fewer (end + 0) 0 c.fewer start_mark mark.Closes c.start (state_of c.reached) in
+    let within = subst (λ ls. AllAt (length text) ls) e0 a in
+    let within_before = at-first (length text) n.earlier _ within in
+    let within_after = at-second (length text) own _ (at-second (length text) n.earlier _ within) in
+    let there : end ≡ (length front + length old) + past = omega (arith, e) in
+    record {
+      earlier = b.earlier;
+      opens = note_one max_depth z n.earlier own late c.at c.fewer (end + 0) 0 c.fewer start_mark mark.Closes c.start (state_of c.reached);
+      inner = b.inner;
+      closes = note_two max_depth z n.earlier own late c.at c.fewer (end + 0) 0 c.fewer start_mark mark.Closes c.start (state_of c.reached);
+      later = b.later;
+      notes = ap (λ (h : Log). h.notes) split.is ∙ b.notes;
+      name = refl;
+      start = width-moved c.at text;
+      levels = refl;
+      state = refl;
+      name_end = refl;
+      before = λ h. subst (λ ls. AllEndBy (length front) ls) (sym n.opened) (end-mark (length front) n.earlier c.at 0 c.fewer start_mark c.start
+          (end-by front (old ++ rest) n.earlier within_before (reach-by max_depth (width front) z n.earlier no_log h).all));
+      before_too = λ h. reach-to max_depth (width front) z n.earlier no_log (omega arith)
+          (end-to front (old ++ rest) n.earlier (mark-end (length front) n.earlier c.at 0 c.fewer start_mark c.start (subst (λ ls. AllEndBy (length front) ls) n.opened h)));
+      after_too = λ big h. subst (λ (l : Log). width (front ++ old) < lowest b.later l.least) (sym split.is)
+          (b.back big (begin-to front old rest end past n.later there (subst (λ ls. AllBeginIn past rest ls) n.closed h)));
+      after = λ h. subst (λ ls. AllBeginIn past rest ls) (sym n.closed)
+          (begin-by front old rest end past n.later there within_after (b.all (subst (λ (l : Log). width (front ++ old) < lowest b.later l.least) split.is h)));
+    }
+
+pub decision-law : DecisionLaw
+unfolding blocks_of_text
+decision-law k front old rest c past i e =
+    let z = text_with front old rest in
+    let s = start_point markup_reading in
+    let o = parsed k max_depth (front ++ (old ++ rest)) in
+    let l = among (Lawful z z o o) c _ i (inside-level (rules k) k (ends k) max_depth whole z z s) in
+    let n = among (Named (block_at k) max_depth) c _ i (named-level (rules k) k max_depth whole z s) in
+    let b : max 0 (length (front ++ (old ++ rest))) ≡ length (front ++ (old ++ rest)) = omega arith in
+    let within = subst (λ n. AllAt n o.asks) b (in-level (rules k) k max_depth whole z s) in
+    decided k front old rest c past l.old n within e

@@ -1,0 +1,230 @@
+-- A tree where some pieces of its run are read again: one stretch of its children exchanged.
+use Rattle.std.proofs.Common.{◌≡◌, inl, inr, ℕ, zero, suc, ◌+◌, ◌-◌, ◌<◌, ◌≤◌, ◌==◌, Bool, true, false, nat_lt, List, [], ◌∷◌, ◌++◌, length, take, drop, length-append, append_assoc, Some, refl, ap, sym, ◌∙◌, subst, arith}
+use Rattle.typst_kinds.specs.declared.kind.SyntaxKind.{SyntaxKind}
+use Rattle.typst_kinds.specs.declared.kind.SyntaxKind.TheVariants as kind
+use Rattle.typst_lines.specs.Place.{Place, moved}
+use Rattle.typst_tree.specs.Tree.{Tree, forest, trees, inner_of}
+use Rattle.typst_lines.specs.Classes.{CharClasses}
+use Rattle.typst_language.specs.declared.calls.Block.{Block}
+use Rattle.typst_language.specs.declared.calls.Call.{Call}
+use Rattle.typst_language.specs.declared.calls.Call.TheVariants.{MarkupExpr}
+use Rattle.typst_language.specs.declared.reading.Reading.{Reading}
+use Rattle.typst_language.specs.Depth.{is_end}
+use Rattle.typst_language.specs.Hand.{told, len_at, hand_at}
+use Rattle.typst_language.specs.Point.{Trivia, Point}
+use Rattle.typst_language.specs.Shape.{hinted}
+use Rattle.typst_language.specs.Steps.{flush_trivia}
+use Rattle.typst_language.specs.Syntax.{◌>>=◌}
+use Rattle.typst_language.specs.Syntax.Parser.{repeat}
+use Rattle.typst_language.specs.Meaning.{Outcome, Meaning, Level, plain, less, standing, joined, hand_of, run}
+use Rattle.typst_language.specs.Sound.{Tidy, Backs}
+use Rattle.typst_language.proofs.Backs.{backs-joined}
+use Rattle.typst_language.proofs.Ends.{hand-takes}
+use Rattle.typst_language.proofs.Knot.{Sane, sane-at, sane-run, sane-meaning, sane-block}
+use Rattle.typst_language.proofs.Places.{less-append, less-none}
+use Rattle.typst_grammar.specs.Markup.{ends, markup_turn, markup_head}
+use Rattle.typst_grammar.specs.Grammar.{rules, max_depth, level_at, start_of, tree}
+use Rattle.typst_edits.specs.Children.{exchanged, Settles, with_children, together, read_from, standing_before, nodes_with, ChildrenLaw, BackLaw}
+use Rattle.typst_edits.specs.Edit.{text_with}
+use Rattle.typst_edits.specs.Joint.{minds, place_from, onwards_from}
+use Rattle.typst_edits.specs.RunTrees.{given}
+use Rattle.typst_edits.specs.Runs.{made, piece_at, AllGo, end_of, lead, pieces, end_at, pieces_from, end_from}
+use Rattle.typst_edits.proofs.Boundary.{KnownAt, first-of, stopped-is, turn-known}
+use Rattle.typst_edits.proofs.Edit.{trees-of}
+use Rattle.typst_edits.proofs.Joint.{joint-law, onwards-is, takes-call, known-is}
+use Rattle.typst_edits.proofs.Led.{trivia_with, before_trivia, Led, led-joined, Takes}
+use Rattle.typst_edits.proofs.RunTrees.{standing-chain, standing-still, tree-is}
+use Rattle.typst_edits.proofs.Runs.{chain-state}
+use Rattle.typst_edits.proofs.Turns.{takes-turn, end-by}
+
+-- ---- stretches of nodes
+
+less-inside : (n : ℕ) (xs ys : List Tree) → n ≤ length ys → less n (xs ++ ys) ≡ xs ++ less n ys
+less-inside n xs ys h =
+    let e : n - length ys ≡ 0 = omega (arith, h) in
+    less-append n xs ys ∙ ap (λ j. less j xs ++ less n ys) e ∙ ap (λ u. u ++ less n ys) (less-none xs)
+
+pub take-front : (xs ys : List Tree) → take (length xs) (xs ++ ys) ≡ xs
+take-front [] ys = refl
+take-front (x ∷ xs) ys = ap (λ u. x ∷ u) (take-front xs ys)
+
+drop-both : (xs ys zs : List Tree) (n : ℕ) → n ≡ length xs + length ys → drop n (xs ++ (ys ++ zs)) ≡ zs
+drop-both [] [] zs n e = ap (λ j. drop j zs) e
+drop-both [] (y ∷ ys) zs zero e = absurd (omega (arith, e))
+drop-both [] (y ∷ ys) zs (suc n) e = drop-both [] ys zs n (omega (arith, e))
+drop-both (x ∷ xs) ys zs zero e = absurd (omega (arith, e))
+drop-both (x ∷ xs) ys zs (suc n) e = drop-both xs ys zs n (omega (arith, e))
+
+pub exchanged-is : (xs ys news zs : List Tree) → exchanged (length xs) (length xs + length ys) news (xs ++ (ys ++ zs)) ≡ xs ++ (news ++ zs)
+exchanged-is xs ys news zs = ap (λ u. u ++ (news ++ drop (length xs + length ys) (xs ++ (ys ++ zs)))) (take-front xs (ys ++ zs)) ∙ ap (λ u. xs ++ (news ++ u)) (drop-both xs ys zs (length xs + length ys) refl)
+
+-- ---- several pieces as one outcome
+
+pub given-together : {A : Type 0} (s : Point) (os : List (Outcome (Bool × A))) (ts : List Tree) → given os ts ≡ standing (together s os) ts
+given-together s os ts = sym (standing-chain os (plain (tt {0}) s) ts ∙ standing-still (plain (tt {0}) s) (given os ts) refl refl refl)
+
+pub tidy-together : {A : Type 0} (m : A → Meaning (Bool × A)) → ((x : A) → Backs (m x)) → (n : ℕ) (x : A) (z : Place) (s : Point)
+    → (let os = made m n x z s in Tidy s (together (end_of x s os).state os))
+tidy-together m b zero x z s = record { back = omega arith; left = omega arith }
+tidy-together m b (suc n) x z s =
+    let o = m x z s in
+    backs-joined s o (together (end_of o.value.1 o.state (made m n o.value.1 (moved o.taken z) o.state)).state (made m n o.value.1 (moved o.taken z) o.state)) (b x z s) (tidy-together m b n o.value.1 (moved o.taken z) o.state)
+
+-- what it gives: no hint, and at its end fewer empty errors than nodes
+pub record Gives (o : Outcome (Unit {0})) : Type 0 where
+  pub hints : o.hints ≡ []
+  pub few : o.state.empties < length o.nodes
+
+-- a run on a level where each expression takes the token at hand
+module _ (l : Level) (sd : (c : Call) → Sane (l.deeper c)) (sb : (b : Block) → Sane (l.blocks b)) (deep : (l.levels == 0) ≡ false) (stops : SyntaxKind → Bool) (end_stops : stops kind.End ≡ true)
+    (call : (h : Reading) (z : Place) (t : Trivia) (x : Bool × ℕ) → 0 < len_at l.classes h.mode (moved t.gap z) → Takes h z t t.nodes (minds (markup_head x.0 x.1 (hand_at l.classes h (Some t) z).kind)) (l.deeper (MarkupExpr x.0 x.1))) where
+  abbrev turn : Bool × ℕ → Meaning (Bool × (Bool × ℕ))
+  turn x = run l (markup_turn true stops x)
+
+  -- where the pieces end, these trivia are known
+  pub known-behind : (n : ℕ) (x : Bool × ℕ) (z : Place) (s : Point) → KnownAt s → AllGo (made turn n x z s) → KnownAt (end_of x s (made turn n x z s)).state
+  known-behind zero x z s known g = known
+  known-behind (suc n) x z s known g =
+      let o = turn x z s in
+      known-behind n o.value.1 (moved o.taken z) o.state (turn-known l stops x z s (first-of o.value.0 (nat_lt 0 o.taken) g.0)) g.1
+
+  goes-on : (x : Bool × ℕ) (z : Place) (s : Point) (b : Bool) → ends stops x.1 (told (hand_of l z s)).kind ≡ b → (turn x z s).value.0 ≡ true → ends stops x.1 (told (hand_of l z s)).kind ≡ false
+  goes-on x z s true e h = let f : true ≡ false = sym h ∙ stopped-is l stops x z s e in cc
+  goes-on x z s false e h = e
+
+  -- a turn that goes on gives the trivia before it, and takes the token behind them
+  pub turn-led : (x : Bool × ℕ) (z : Place) (r h : Reading) (e : ℕ) (a : Bool) (t : Trivia) → (let s = before_trivia r h e a t in ends stops x.1 (told (hand_of l z s)).kind ≡ false
+      → Led t t.nodes (minds (markup_head x.0 x.1 (hand_at l.classes h (Some t) z).kind)) (turn x z s) (turn x (moved t.gap z) (before_trivia r h e a (trivia_with t.nodes t))))
+  unfolding hand_at
+  turn-led x z r h e a t go =
+      let s = before_trivia r h e a t in
+      let some = hand-takes l.classes h (Some t) z (end-by stops end_stops x.1 (told (hand_of l z s)).kind go) in
+      let trims = minds (markup_head x.0 x.1 (hand_at l.classes h (Some t) z).kind) in
+      takes-turn l sd sb h z t t.nodes refl deep stops x trims (call h z t x some) go r e e a a (λ p. refl)
+
+  gives-before : (n : ℕ) (x : Bool × ℕ) (z : Place) (r h : Reading) (e : ℕ) (a : Bool) (t : Trivia) → (let s = before_trivia r h e a t in let os = made turn (suc n) x z s in AllGo os → Gives (together (end_of x s os).state os))
+  gives-before n x z r h e a t g =
+      let s = before_trivia r h e a t in
+      let o = turn x z s in
+      let y = moved o.taken z in
+      let os = made turn n o.value.1 y o.state in
+      let q = together (end_of o.value.1 o.state os).state os in
+      let go = goes-on x z s (ends stops x.1 (told (hand_of l z s)).kind) refl (first-of o.value.0 (nat_lt 0 o.taken) g.0) in
+      let trims = minds (markup_head x.0 x.1 (hand_at l.classes h (Some t) z).kind) in
+      let c = turn x (moved t.gap z) (before_trivia r h e a (trivia_with t.nodes t)) in
+      let one : Led t t.nodes trims o c = turn-led x z r h e a t go in
+      let tidy = tidy-together turn (λ v. (sane-run l sd sb (markup_turn true stops v)).backs) n o.value.1 y o.state in
+      let all = led-joined t t.nodes trims o c q one (subst (λ p. Tidy p q) one.state tidy) in
+      let few = all.few in
+      let long : length (joined o q).nodes ≡ length (t.nodes ++ all.rest) = ap length all.nodes in
+      let sum = length-append t.nodes all.rest in
+      record { hints = all.hints; few = omega (arith, few, long, sum) }
+
+  -- some pieces that begin where trivia are known
+  pub gives-pieces : (n : ℕ) (x : Bool × ℕ) (z : Place) (s : Point) → 0 < n → KnownAt s → (let os = made turn n x z s in AllGo os → Gives (together (end_of x s os).state os))
+  gives-pieces zero x z s some known g = absurd (omega (arith, some))
+  gives-pieces (suc n) x z s some known g =
+      let t = known.trivia in
+      let is = known-is l.classes s t known.is in
+      subst (λ p. (let os = made turn (suc n) x z p in Gives (together (end_of x p os).state os))) (sym is)
+      (gives-before n x z s.reading s.held s.empties s.is_after_error t (subst (λ p. AllGo (made turn (suc n) x z p)) is g))
+
+-- some pieces as one outcome, and what is behind them: no hint, and nothing taken back that stands before them
+pub record Apart (p o : Outcome (Unit {0})) : Type 0 where
+  pub hints : p.hints ≡ []
+  pub few : o.back ≤ length p.nodes
+
+pub made-none : {A : Type 0} (m : A → Meaning (Bool × A)) (n : ℕ) (x : A) (z : Place) (s : Point) → n ≡ 0 → made m n x z s ≡ []
+made-none m zero x z s e = refl
+made-none m (suc n) x z s e = absurd (omega (arith, e))
+
+pub settled : {A : Type 0} (n : ℕ) (s : Point) (os : List (Outcome (Bool × A))) (o : Outcome (Unit {0})) → Settles n o → (n ≡ 0 → os ≡ []) → (0 < n → Gives (together s os)) → o.back ≤ (together s os).state.empties → Apart (together s os) o
+settled zero s os o (inl some) none gives back = absurd (omega (arith, some))
+settled zero s os o (inr e) none gives back = record { hints = ap (λ us. (together s us).hints) (none refl); few = omega (arith, e) }
+settled (suc n) s os o h none gives back = let g = gives (omega arith) in let few = g.few in record { hints = g.hints; few = omega (arith, few, back) }
+
+-- the nodes behind some pieces and all behind them, which has trivia before it
+pub stretch-is : (ts rest : List Tree) (p o : Outcome (Unit {0})) (t : Trivia) → Apart p o → o.hints ≡ [] → o.nodes ≡ t.nodes ++ rest
+    → standing o (standing p ts) ≡ less p.back ts ++ ((less o.back p.nodes ++ t.nodes) ++ rest)
+stretch-is ts rest p o t g hints nodes =
+    let before = less p.back ts in
+    let own = less o.back p.nodes in
+    ap (λ hs. standing o (hinted hs before ++ p.nodes)) g.hints ∙ ap (λ hs. hinted hs (less o.back (before ++ p.nodes)) ++ o.nodes) hints
+    ∙ ap (λ us. us ++ o.nodes) (less-inside o.back before p.nodes g.few) ∙ ap (λ us. (before ++ own) ++ us) nodes
+    ∙ append_assoc before own (t.nodes ++ rest) ∙ ap (λ us. before ++ us) (sym (append_assoc own t.nodes rest))
+
+-- ---- the run of a text
+
+module _ (k : CharClasses) where
+  abbrev top : Level
+  top = level_at k max_depth
+
+  pub top-known : (i : ℕ) (z : Place) → AllGo (pieces k i z) → KnownAt (end_at k i z).state
+  unfolding run
+  top-known i z g = known-behind top (sane-meaning (rules k) k max_depth) (sane-block (rules k) k max_depth) refl is_end refl (λ h y t x some. takes-call k 255 h y t t.nodes refl x.0 x.1 some) i (true, 0) z (lead k z).state (record { trivia = _; is = refl }) g
+
+  pub top-gives : (i n : ℕ) (z : Place) → AllGo (pieces k i z) → AllGo (pieces_from k i n z) → 0 < n → Gives (read_from k i n z)
+  unfolding run
+  top-gives i n z g h some =
+      let e = end_at k i z in
+      gives-pieces top (sane-meaning (rules k) k max_depth) (sane-block (rules k) k max_depth) refl is_end refl (λ r y t x more. takes-call k 255 r y t t.nodes refl x.0 x.1 more) n e.value (moved e.taken z) e.state some (top-known i z g) h
+
+  -- what is behind takes back no more than stands there
+  behind-back : (i n : ℕ) (z : Place) → (onwards_from k i n z).back ≤ (end_from k i n z).state.empties
+  behind-back i n z =
+      let f = end_from k i n z in
+      let tidy = (sane-at (rules k) k max_depth (repeat (markup_turn true is_end) f.value >>= λ _. flush_trivia)).backs (place_from k i n z) f.state in
+      let back = tidy.back in
+      let is = ap (λ (o : Outcome (Unit {0})). o.back) (onwards-is k i n z) in
+      omega (arith, back, is)
+
+  top-back : (i n : ℕ) (z : Place) → (onwards_from k i n z).back ≤ (read_from k i n z).state.empties
+  top-back i n z =
+      let f = end_from k i n z in
+      let state : (read_from k i n z).state ≡ f.state = chain-state (pieces_from k i n z) (plain (tt {0}) f.state) in
+      let back = behind-back i n z in
+      let same = ap (λ (s : Point). s.empties) state in
+      omega (arith, back, same)
+
+  top-apart : (i n : ℕ) (z : Place) → Settles n (onwards_from k i n z) → AllGo (pieces k i z) → AllGo (pieces_from k i n z) → Apart (read_from k i n z) (onwards_from k i n z)
+  top-apart i n z some g h =
+      let e = end_at k i z in
+      settled n (end_from k i n z).state (pieces_from k i n z) (onwards_from k i n z) some (λ none. made-none (piece_at k) n e.value (moved e.taken z) e.state none) (top-gives i n z g h) (top-back i n z)
+
+pub children-law : ChildrenLaw
+children-law k front old new rest i n m past t u h some more same =
+    let z = text_with front old rest in
+    let w = text_with front new rest in
+    let kept = joint-law k front old new rest i n m past t u h in
+    let new_first : AllGo (pieces k i w) = subst (λ os. AllGo os) (sym kept.first) h.first_go in
+    let p = read_from k i n z in
+    let q = read_from k i m w in
+    let o = onwards_from k i n z in
+    let v = onwards_from k i m w in
+    let x = kept.behind in
+    let ts = given (pieces k i z) [] in
+    let before = standing_before k i n z in
+    let olds = nodes_with k i n t z in
+    let news = nodes_with k i m u w in
+    let made_tree = λ (us : List Tree). inner_of kind.Markup (forest us) in
+    let was : tree k (front ++ (old ++ rest)) ≡ made_tree (before ++ (olds ++ x.rest)) =
+    tree-is k (front ++ (old ++ rest)) i n h.first_go h.old_go ∙ ap (λ us. made_tree (standing o us)) (given-together (end_from k i n z).state (pieces_from k i n z) ts)
+    ∙ ap made_tree (stretch-is ts x.rest p o t (top-apart k i n z some h.first_go h.old_go) x.hints x.nodes) in
+    let now : tree k (front ++ (new ++ rest)) ≡ made_tree (before ++ (news ++ x.rest)) =
+    tree-is k (front ++ (new ++ rest)) i m new_first h.new_go ∙ ap (λ os. made_tree (standing v (given (pieces_from k i m w) (given os [])))) kept.first
+    ∙ ap (λ us. made_tree (standing v us)) (given-together (end_from k i m w).state (pieces_from k i m w) ts)
+    ∙ ap made_tree (stretch-is ts x.rest q v u (top-apart k i m w more new_first h.new_go) x.hints_now x.nodes_now)
+    ∙ ap (λ b. made_tree (less b ts ++ (news ++ x.rest))) same in
+    let first = length before in
+    record {
+      behind = x.rest;
+      children = ap (λ (y : Tree). trees y.kids) was ∙ trees-of (before ++ (olds ++ x.rest));
+      tree_now = now ∙ ap made_tree (sym (ap (exchanged first (first + length olds) news) (trees-of (before ++ (olds ++ x.rest))) ∙ exchanged-is before olds news x.rest)) ∙ ap (with_children [] first (first + length olds) news) (sym was);
+    }
+
+pub back-law : BackLaw
+back-law k text i n =
+    let z = start_of text in
+    let e = end_at k i z in
+    let tidy = tidy-together (piece_at k) (λ v. (sane-at (rules k) k max_depth (markup_turn true is_end v)).backs) n e.value (moved e.taken z) e.state in
+    record { pieces_back = tidy.back; behind_back = behind-back k i n z }

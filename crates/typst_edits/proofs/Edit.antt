@@ -1,0 +1,129 @@
+-- A stretch of a text replaced: what ends before it and what begins after it shows the same.
+use Rattle.std.proofs.Common.{◌≡◌, ℕ, zero, suc, ◌+◌, ◌≤◌, List, [], ◌∷◌, ◌++◌, length, take, Some, refl, ap, sym, ◌∙◌, arith}
+use Rattle.typst_tree.specs.Tree.{Tree, forest, trees}
+use Rattle.typst_lines.specs.Place.{Place, moved}
+use Rattle.typst_tokens.specs.Reader.{Look, Agree, marked as ended_by_mark}
+use Rattle.typst_language.specs.Ask.{Ask, SameIn}
+use Rattle.typst_language.specs.Ask.Ask.{looked, marked}
+use Rattle.typst_language.specs.Meaning.{Outcome}
+use Rattle.typst_language.proofs.Places.{moved-sum}
+use Rattle.typst_edits.specs.Hole.{Deep, fill, Hole, plug, path_in, path_of}
+use Rattle.typst_edits.specs.Hole.Deep.{bare, under}
+use Rattle.typst_edits.specs.Spot.{Spot, Fits, unit_at}
+use Rattle.typst_edits.specs.Edit.{Among, text_with, AllEndBy, AllBeginIn, Passes, alter, put, replaced, Edited}
+use Rattle.typst_edits.specs.Edit.Among.{this, that}
+use Rattle.typst_edits.proofs.Every.{Every}
+use Rattle.typst_edits.proofs.Inside.{Edits, Lawful}
+
+-- ---- before it
+
+take-front : (n : ℕ) (xs ys zs : List ℕ) → n ≤ length xs → take n (ended_by_mark (xs ++ ys)) ≡ take n (ended_by_mark (xs ++ zs))
+take-front zero xs ys zs h = refl
+take-front (suc n) [] ys zs h = absurd (omega arith)
+take-front (suc n) (x ∷ xs) ys zs h = let l : n ≤ length xs = omega arith in ap (λ u. Some x ∷ u) (take-front n xs ys zs l)
+
+same-before : (at : ℕ) (look : Look) (behind front ys zs : List ℕ) → at + look.front ≤ length front → Agree look (moved at (record { behind = behind; ahead = front ++ ys })) (moved at (record { behind = behind; ahead = front ++ zs }))
+same-before zero look behind front ys zs h = record { behind = refl; ahead = take-front look.front front ys zs (omega arith) }
+same-before (suc n) look behind [] ys zs h = absurd (omega arith)
+same-before (suc n) look behind (c ∷ front) ys zs h = same-before n look (c ∷ behind) front ys zs (omega arith)
+
+pub before-same : (asks : List Ask) (front old new rest : List ℕ) → AllEndBy (length front) asks → SameIn asks (text_with front old rest) (text_with front new rest)
+before-same [] front old new rest h = tt
+before-same (looked at look ∷ asks) front old new rest h = (same-before at look [] front (old ++ rest) (new ++ rest) h.0, before-same asks front old new rest h.1)
+before-same (marked at gap fewer mark s ∷ asks) front old new rest h = (tt, before-same asks front old new rest h)
+
+-- ---- after it
+
+abbrev pub onto : List ℕ → List ℕ → List ℕ
+onto [] behind = behind
+onto (c ∷ cs) behind = onto cs (c ∷ behind)
+
+moved-over : (xs ys behind : List ℕ) → moved (length xs) (record { behind = behind; ahead = xs ++ ys }) ≡ record { behind = onto xs behind; ahead = ys }
+moved-over [] ys behind = refl
+moved-over (c ∷ xs) ys behind =
+    let e : length (c ∷ xs) ≡ suc (length xs) = omega arith in
+    ap (λ n. moved n (record { behind = behind; ahead = (c ∷ xs) ++ ys })) e ∙ moved-over xs ys (c ∷ behind)
+
+same-after : (n : ℕ) (look : Look) (known bs cs rest : List ℕ) → look.back ≤ n + length known → n ≤ length rest
+    → Agree look (moved n (record { behind = known ++ bs; ahead = rest })) (moved n (record { behind = known ++ cs; ahead = rest }))
+same-after zero look known bs cs rest h k = record { behind = take-front look.back known bs cs (omega arith); ahead = refl }
+same-after (suc n) look known bs cs [] h k = absurd (omega arith)
+same-after (suc n) look known bs cs (c ∷ rest) h k = same-after n look (c ∷ known) bs cs rest (omega arith) (omega arith)
+
+after-look : (at : ℕ) (look : Look) (d : ℕ) (bs cs rest : List ℕ) → look.back ≤ d + at → d + at ≤ length rest
+    → Agree look (moved at (moved d (record { behind = bs; ahead = rest }))) (moved at (moved d (record { behind = cs; ahead = rest })))
+after-look at look d bs cs rest h k =
+    rw (← moved-sum d at (record { behind = bs; ahead = rest }), ← moved-sum d at (record { behind = cs; ahead = rest })) (same-after (d + at) look [] bs cs rest (omega arith) k)
+
+after-looks : (asks : List Ask) (d : ℕ) (bs cs rest : List ℕ) → AllBeginIn d rest asks → SameIn asks (moved d (record { behind = bs; ahead = rest })) (moved d (record { behind = cs; ahead = rest }))
+after-looks [] d bs cs rest h = tt
+after-looks (looked at look ∷ asks) d bs cs rest h = (after-look at look d bs cs rest h.0 h.1, after-looks asks d bs cs rest h.2)
+after-looks (marked at gap fewer mark s ∷ asks) d bs cs rest h = (tt, after-looks asks d bs cs rest h)
+
+-- so many characters past the edit
+pub past-is : (d : ℕ) (front mid rest : List ℕ) → moved ((length front + length mid) + d) (text_with front mid rest) ≡ moved d (record { behind = onto mid (onto front []); ahead = rest })
+past-is d front mid rest =
+    moved-sum (length front + length mid) d _ ∙ ap (moved d) (moved-sum (length front) (length mid) _ ∙ ap (moved (length mid)) (moved-over front (mid ++ rest) []) ∙ moved-over mid rest (onto front []))
+
+pub same_in-to : (asks : List Ask) (z y w v : Place) → z ≡ y → w ≡ v → SameIn asks y v → SameIn asks z w
+same_in-to asks z y w v e f h = rw (e, f) h
+
+pub after-same : (asks : List Ask) (d m k : ℕ) (front old new rest : List ℕ) → m ≡ (length front + length old) + d → k ≡ (length front + length new) + d → AllBeginIn d rest asks
+    → SameIn asks (moved m (text_with front old rest)) (moved k (text_with front new rest))
+after-same asks d m k front old new rest e f h =
+    same_in-to asks _ _ _ _ (ap (λ n. moved n (text_with front old rest)) e ∙ past-is d front old rest) (ap (λ n. moved n (text_with front new rest)) f ∙ past-is d front new rest)
+    (after-looks asks d (onto old (onto front [])) (onto new (onto front [])) rest h)
+
+-- ---- the path
+
+pub trees-of : (ts : List Tree) → trees (forest ts) ≡ ts
+trees-of [] = refl
+trees-of (t ∷ ts) = ap (λ l. t ∷ l) (trees-of ts)
+
+pub alter-at : (f : Tree → Tree) (left : List Tree) (y : Tree) (right : List Tree) → alter (length left) f (left ++ y ∷ right) ≡ left ++ f y ∷ right
+alter-at f [] y right = refl
+alter-at f (l ∷ left) y right =
+    let e : length (l ∷ left) ≡ suc (length left) = omega arith in
+    ap (λ n. alter n f ((l ∷ left) ++ y ∷ right)) e ∙ ap (λ u. l ∷ u) (alter-at f left y right)
+
+put-fill : (d : Deep) (x y : Tree) → put (path_in d) x (fill d y) ≡ fill d x
+put-fill bare x y = refl
+put-fill (under head left d right) x y =
+    ap (λ ts. record { head = head; kids = forest ts })
+    (ap (alter (length left) (put (path_in d) x)) (trees-of (left ++ fill d y ∷ right)) ∙ alter-at (put (path_in d) x) left (fill d y) right ∙ ap (λ u. left ++ u ∷ right) (put-fill d x y))
+
+pub replaced-plug : (h : Hole) (x y : Tree) → replaced (path_of h) x (plug h y) ≡ plug h x
+replaced-plug h x y = alter-at (put (path_in h.deep) x) h.left (fill h.deep y) h.right ∙ ap (λ u. h.left ++ u ∷ h.right) (put-fill h.deep x y)
+
+-- ---- the law
+
+pub among : {X : Type 0} (P : X → Type 0) (x : X) (xs : List X) → Among x xs → Every P xs → P x
+among P x ys (this xs) h = h.0
+among P x ys (that y xs i) h = among P x xs i h.1
+
+pub edited : {A : Type 0} (front old new rest : List ℕ) (o n : Outcome A) (cs : List (Spot A)) → Every (Lawful (text_with front old rest) (text_with front new rest) o n) cs
+    → (c : Spot A) (past : ℕ) (x : Tree) → Among c cs → Passes front old new rest c past → Fits c (unit_at c (text_with front new rest)) x → Edited o n c (unit_at c (text_with front old rest)) (unit_at c (text_with front new rest)) x
+edited front old new rest o n cs laws c past x i h fits =
+    let z = text_with front old rest in
+    let w = text_with front new rest in
+    let l = among (Lawful z w o n) c cs i laws in
+    let t = h.ends in
+    let u = h.shifted in
+    let a = h.starts in
+    let g = h.goes_on in
+    let e : Edits z w c x = record {
+      before = before-same c.before front old new rest h.before;
+      fits = fits;
+      covers = omega arith;
+      some = omega arith;
+      after = after-same c.after past (c.at + (unit_at c z).taken) (c.at + (unit_at c w).taken) front old new rest (omega arith) (omega arith) h.after;
+    } in
+    let m = l.swaps x e in
+    record {
+      value = ap (λ o. o.value) m ∙ sym (ap (λ o. o.value) l.old);
+      state = ap (λ o. o.state) m ∙ sym (ap (λ o. o.state) l.old);
+      back = ap (λ o. o.back) m ∙ sym (ap (λ o. o.back) l.old);
+      nodes = ap (λ o. o.nodes) m ∙ sym (replaced-plug c.hole x c.node) ∙ sym (ap (λ o. replaced (path_of c.hole) x o.nodes) l.old);
+      was = ap (λ o. o.asks) l.old;
+      log = ap (λ o. o.asks) m;
+    }

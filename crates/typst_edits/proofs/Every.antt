@@ -1,0 +1,37 @@
+-- What holds of each element of a list.
+use Rattle.std.proofs.Common.{◌≡◌, Bool, true, false, if◌then◌else◌, List, [], ◌∷◌, ◌++◌, map, refl}
+use Rattle.std.specs.List.{flat_map}
+pub use Rattle.typst_edits.specs.Every.{Every}
+
+pub every-append : {X : Type 0} (P : X → Type 0) (xs ys : List X) → Every P xs → Every P ys → Every P (xs ++ ys)
+every-append P [] ys h k = k
+every-append P (x ∷ xs) ys h k = (h.0, every-append P xs ys h.1 k)
+
+pub every-by : {X : Type 0} {P Q : X → Type 0} → ((x : X) → P x → Q x) → (xs : List X) → Every P xs → Every Q xs
+every-by f [] h = tt
+every-by f (x ∷ xs) h = (f x h.0, every-by f xs h.1)
+
+pub every-map : {X Y : Type 0} (P : X → Type 0) (Q : Y → Type 0) (f : X → Y) → ((x : X) → P x → Q (f x)) → (xs : List X) → Every P xs → Every Q (map f xs)
+every-map P Q f g [] h = tt
+every-map P Q f g (x ∷ xs) h = (g x h.0, every-map P Q f g xs h.1)
+
+pub every-flat : {X Y : Type 0} (P : X → Type 0) (Q : Y → Type 0) (f : X → List Y) → ((x : X) → P x → Every Q (f x)) → (xs : List X) → Every P xs → Every Q (flat_map f xs)
+every-flat P Q f g [] h = tt
+every-flat P Q f g (x ∷ xs) h = every-append Q (f x) (flat_map f xs) (g x h.0) (every-flat P Q f g xs h.1)
+
+pub every-if : {X : Type 0} (P : X → Type 0) (b : Bool) (xs ys : List X) → (b ≡ true → Every P xs) → (b ≡ false → Every P ys) → Every P (if b then xs else ys)
+every-if P true xs ys h k = h refl
+every-if P false xs ys h k = k refl
+
+pub every-any : {X : Type 0} (xs : List X) → Every (λ x. Unit {0}) xs
+every-any [] = tt
+every-any (x ∷ xs) = (tt, every-any xs)
+
+-- one of them
+pub data Among {X : Type 0} (x : X) : List X → Type 0 where
+  this : (xs : List X) → Among x (x ∷ xs)
+  that : (y : X) (xs : List X) → Among x xs → Among x (y ∷ xs)
+
+pub among : {X : Type 0} (P : X → Type 0) (x : X) (xs : List X) → Among x xs → Every P xs → P x
+among P x ys (this xs) h = h.0
+among P x ys (that y xs i) h = among P x xs i h.1

@@ -1,0 +1,336 @@
+-- What begins by taking the token at hand: of the trivia before it, and of the errors before these, it gives the trivia and asks nothing else.
+use Rattle.std.proofs.Common.{◌≡◌, ℕ, zero, suc, ◌+◌, ◌-◌, ◌<◌, ◌≤◌, Bool, true, false, not, ◌||◌, if◌then◌else◌, nat_lt, List, [], ◌∷◌, ◌++◌, length, take, drop, map, length-append, length-take, append_assoc, encode_utf8_all, Some, refl, ap, sym, ◌∙◌, subst, arith}
+use Rattle.std.proofs.lemmas.List.{map-append}
+use Rattle.std.proofs.lemmas.Str.{length-le-encodes}
+use Rattle.typst_kinds.specs.Kinds.{is_error}
+use Rattle.typst_lines.specs.Place.{Place, moved}
+use Rattle.typst_tree.specs.Tree.{Tree, text_of}
+use Rattle.typst_tokens.specs.Reader.{Look}
+use Rattle.typst_lexer.proofs.TokenTexts.{text-token}
+use Rattle.typst_lexer.specs.Nodes.{token_node}
+use Rattle.typst_language.specs.declared.calls.Call.{Call}
+use Rattle.typst_language.specs.declared.reading.Reading.{Reading}
+use Rattle.typst_language.specs.Ask.{Ask, shift, shift_one, sunk}
+use Rattle.typst_language.specs.Ask.Ask.{looked}
+use Rattle.typst_language.specs.Hand.{AtHand, told, len_at, text_ahead, hand_at, hand_asks, asks_column, column_look, column_at}
+use Rattle.typst_language.specs.Point.{Trivia, Point, is_nil}
+use Rattle.typst_language.specs.Shape.{Making, hinted, Shape, shaped, after_shape, after_node, count_empty, seen}
+use Rattle.typst_language.specs.Steps.{peek}
+use Rattle.typst_language.specs.Syntax.{Parser}
+use Rattle.typst_language.specs.Syntax.Begin.{at_token}
+use Rattle.typst_language.specs.Syntax.Op.{column, takes}
+use Rattle.typst_language.specs.Syntax.Parser.{does, next, wraps, scoped, calls}
+use Rattle.typst_language.specs.Meaning.{Outcome, Meaning, Level, plain, less, standing, joined, followed, inside, wrapped, renewed, left, taken_node, run}
+use Rattle.typst_language.specs.Sound.{Tidy, Backs}
+use Rattle.typst_language.proofs.Backs.{left-empties}
+use Rattle.typst_language.proofs.HintedNodes.{length-hinted, hinted-append}
+use Rattle.typst_language.proofs.Leaves.{text-made}
+use Rattle.typst_language.proofs.Places.{moved-sum, less-append, less-none, length-less}
+use Rattle.typst_edits.proofs.Outcomes.{shift-zero, shift-twice, sunk-shift, hints-first}
+
+-- nothing of the trivia is seen but whether there are any, and their newlines
+abbrev pub trivia_with : List Tree → Trivia → Trivia
+trivia_with us t = record { nodes = us; gap = 0; newlines = t.newlines }
+
+-- a point before some trivia
+abbrev pub before_trivia : Reading → Reading → ℕ → Bool → Trivia → Point
+before_trivia r h e a t = record { reading = r; held = h; empties = e; is_after_error = a; known = Some t }
+
+-- ---- lists
+
+take-none : {A : Type 0} (n : ℕ) → ◌≡◌ {A = List A} (take n []) []
+take-none zero = refl
+take-none (suc n) = refl
+
+pub none-less : {A : Type 0} (n : ℕ) → ◌≡◌ {A = List A} (less n []) []
+unfolding less
+none-less n = take-none (0 - n)
+
+less-behind : (n : ℕ) (xs ys : List Tree) → n < length ys → less n (xs ++ ys) ≡ xs ++ less n ys
+less-behind n xs ys h =
+    let e : n - length ys ≡ 0 = omega (arith, h) in
+    less-append n xs ys ∙ ap (λ j. less j xs ++ less n ys) e ∙ ap (λ u. u ++ less n ys) (less-none xs)
+
+pub drop-front : {A : Type 0} (xs ys : List A) (n : ℕ) → n ≡ length xs → drop n (xs ++ ys) ≡ ys
+drop-front [] ys n e = ap (λ j. drop j ys) e
+drop-front (x ∷ xs) ys zero e = absurd (omega (arith, e))
+drop-front (x ∷ xs) ys (suc n) e = drop-front xs ys n (omega (arith, e))
+
+take-front : {A : Type 0} (xs ys : List A) (n : ℕ) → n ≡ length xs → take n (xs ++ ys) ≡ xs
+take-front [] ys n e = ap (λ j. take j ys) e
+take-front (x ∷ xs) ys zero e = absurd (omega (arith, e))
+take-front (x ∷ xs) ys (suc n) e = ap (λ u. x ∷ u) (take-front xs ys n (omega (arith, e)))
+
+pub none-of : (b c : Bool) (hs js : List (List ℕ)) → hs ≡ [] → js ≡ [] → (if b then hs else (if c then js else hs ++ js)) ≡ []
+none-of true c hs js e f = e
+none-of false true hs js e f = f
+none-of false false hs js e f = ap (λ u. u ++ js) e ∙ f
+
+-- ---- one outcome behind the trivia, and one that has them before it
+
+-- `back` says that no error is taken back, but where that is said of the token
+pub record Led {A : Type 0} (t : Trivia) (us : List Tree) (trims : Bool) (o c : Outcome A) : Type 0 where
+  pub value : o.value ≡ c.value
+  pub taken : o.taken ≡ t.gap + c.taken
+  pub some : 0 < c.taken
+  pub state : o.state ≡ c.state
+  pub back : o.back ≡ c.back
+  pub none : trims ≡ false → c.back ≡ 0
+  pub hints : o.hints ≡ []
+  pub hints_too : c.hints ≡ []
+  pub rest : List Tree
+  pub nodes : o.nodes ≡ t.nodes ++ rest
+  pub nodes_too : c.nodes ≡ us ++ rest
+  pub few : c.state.empties < length rest
+  pub asks : o.asks ≡ shift t.gap c.asks
+  pub met : o.met ≡ c.met
+
+standing-led : {A B : Type 0} (xs rest : List Tree) (o : Outcome B) (q : Outcome A) → o.nodes ≡ xs ++ rest → q.back < length rest → standing q o.nodes ≡ xs ++ (hinted q.hints (less q.back rest) ++ q.nodes)
+standing-led xs rest o q e h =
+    let some : 0 < length (less q.back rest) = omega (arith, length-less q.back rest, h) in
+    ap (λ ts. hinted q.hints (less q.back ts) ++ q.nodes) e ∙ ap (λ ts. hinted q.hints ts ++ q.nodes) (less-behind q.back xs rest h)
+    ∙ ap (λ ts. ts ++ q.nodes) (hinted-append q.hints xs (less q.back rest) some) ∙ append_assoc xs (hinted q.hints (less q.back rest)) q.nodes
+
+-- behind it all is the same
+pub led-joined : {A B : Type 0} (t : Trivia) (us : List Tree) (trims : Bool) (o c : Outcome B) (q : Outcome A) → Led t us trims o c → Tidy c.state q → Led t us trims (joined o q) (joined c q)
+led-joined t us trims o c q h tidy =
+    let few = h.few in
+    let less_back = tidy.back in
+    let left = tidy.left in
+    let short : q.back < length h.rest = omega (arith, few, less_back) in
+    let one = length-append t.nodes h.rest in
+    let two = length-append us h.rest in
+    let long : length o.nodes ≡ length (t.nodes ++ h.rest) = ap length h.nodes in
+    let long_too : length c.nodes ≡ length (us ++ h.rest) = ap length h.nodes_too in
+    let more = length-append (hinted q.hints (less q.back h.rest)) q.nodes in
+    let kept = length-less q.back h.rest in
+    let same = length-hinted q.hints (less q.back h.rest) in
+    let taken = h.taken in
+    let some = h.some in
+    let back = h.back in
+    record {
+      value = refl;
+      taken = omega (arith, taken);
+      some = omega (arith, some);
+      state = refl;
+      back = omega (arith, back, short, one, two, long, long_too);
+      none = λ f. (let none = h.none f in omega (arith, none, short, two, long_too));
+      hints = hints-first o q (omega (arith, short, one, long)) ∙ h.hints;
+      hints_too = hints-first c q (omega (arith, short, two, long_too)) ∙ h.hints_too;
+      rest = hinted q.hints (less q.back h.rest) ++ q.nodes;
+      nodes = standing-led t.nodes h.rest o q h.nodes short;
+      nodes_too = standing-led us h.rest c q h.nodes_too short;
+      few = omega (arith, few, less_back, left, more, kept, same);
+      asks = ap (λ ls. ls ++ shift o.taken q.asks) h.asks ∙ ap (λ n. shift t.gap c.asks ++ shift n q.asks) h.taken
+          ∙ ap (λ ls. shift t.gap c.asks ++ ls) (sym (shift-twice t.gap c.taken q.asks)) ∙ sym (map-append (shift_one t.gap) c.asks (shift c.taken q.asks));
+      met = ap (λ b. b || q.met) h.met;
+    }
+
+pub led-then : {A B : Type 0} (t : Trivia) (us : List Tree) (trims : Bool) (z : Place) (o c : Outcome B) (f : B → Meaning A) → ((b : B) → Backs (f b)) → Led t us trims o c → Led t us trims (followed o f z) (followed c f (moved t.gap z))
+led-then t us trims z o c f tidy h =
+    let w = moved t.gap z in
+    let there : moved o.taken z ≡ moved c.taken w = ap (λ n. moved n z) h.taken ∙ moved-sum t.gap c.taken z in
+    let same : f o.value (moved o.taken z) o.state ≡ f c.value (moved c.taken w) c.state =
+    ap (λ v. f v (moved o.taken z) o.state) h.value ∙ ap (λ y. f c.value y o.state) there ∙ ap (f c.value (moved c.taken w)) h.state in
+    subst (λ q. Led t us trims (joined o q) (joined c (f c.value (moved c.taken w) c.state))) (sym same) (led-joined t us trims o c _ h (tidy c.value (moved c.taken w) c.state))
+
+-- behind a question
+pub led-asked : {A B : Type 0} (t : Trivia) (us : List Tree) (trims : Bool) (v : B) (s r : Point) (ls ks : List Ask) (m : Bool) (o c : Outcome A) → ls ≡ shift t.gap ks → Led t us trims o c
+    → Led t us trims (joined (record (plain v s) { asks = ls; met = m }) o) (joined (record (plain v r) { asks = ks; met = m }) c)
+led-asked t us trims v s r ls ks m o c e h =
+    let taken = h.taken in
+    let some = h.some in
+    let back = h.back in
+    record {
+      value = h.value;
+      taken = omega (arith, taken);
+      some = omega (arith, some);
+      state = h.state;
+      back = omega (arith, back);
+      none = λ f. (let none = h.none f in omega (arith, none));
+      hints = none-of (nat_lt o.back 0) (nat_lt 0 o.back) [] o.hints refl h.hints;
+      hints_too = none-of (nat_lt c.back 0) (nat_lt 0 c.back) [] c.hints refl h.hints_too;
+      rest = h.rest;
+      nodes = ap (λ hs. hinted hs (less o.back []) ++ o.nodes) h.hints ∙ ap (λ ts. ts ++ o.nodes) (none-less o.back) ∙ h.nodes;
+      nodes_too = ap (λ hs. hinted hs (less c.back []) ++ c.nodes) h.hints_too ∙ ap (λ ts. ts ++ c.nodes) (none-less c.back) ∙ h.nodes_too;
+      few = h.few;
+      asks = ap (λ js. js ++ shift 0 o.asks) e ∙ ap (λ js. shift t.gap ks ++ js) (shift-zero o.asks ∙ h.asks ∙ ap (shift t.gap) (sym (shift-zero c.asks))) ∙ sym (map-append (shift_one t.gap) ks (shift 0 c.asks));
+      met = ap (λ b. m || b) h.met;
+    }
+
+-- ---- nodes
+
+-- a node that holds something stands there for sure
+abbrev pub Counts_less : Shape → Type 0
+Counts_less shape = (ts : List Tree) (s : Point) → (after_shape shape ts s).empties < length (shaped shape ts)
+
+pub led-wrapped : {A : Type 0} (t : Trivia) (us : List Tree) (f : A → Shape) (n m : ℕ) (o c : Outcome A) → ((v : A) → Counts_less (f v)) → n ≡ length t.nodes → m ≡ length us → Led t us false o c → Led t us false (wrapped f n o) (wrapped f m c)
+led-wrapped t us f n m o c shapes e d h =
+    let none = h.none refl in
+    let back = h.back in
+    let i : n + o.back ≡ length t.nodes = omega (arith, none, back, e) in
+    let j : m + c.back ≡ length us = omega (arith, none, d) in
+    let in_o : inside n o ≡ h.rest = ap (drop (n + o.back)) h.nodes ∙ drop-front t.nodes h.rest (n + o.back) i in
+    let in_c : inside m c ≡ h.rest = ap (drop (m + c.back)) h.nodes_too ∙ drop-front us h.rest (m + c.back) j in
+    record {
+      value = ap (λ v. (v, map seen (inside n o))) h.value ∙ ap (λ ts. (c.value, map seen ts)) (in_o ∙ sym in_c);
+      taken = h.taken;
+      some = h.some;
+      state = ap (λ v. after_shape (f v) (inside n o) o.state) h.value ∙ ap (λ ts. after_shape (f c.value) ts o.state) (in_o ∙ sym in_c) ∙ ap (after_shape (f c.value) (inside m c)) h.state;
+      back = h.back;
+      none = h.none;
+      hints = h.hints;
+      hints_too = h.hints_too;
+      rest = shaped (f c.value) h.rest;
+      nodes = ap (λ ts. take (n + o.back) o.nodes ++ shaped (f o.value) ts) in_o ∙ ap (λ v. take (n + o.back) o.nodes ++ shaped (f v) h.rest) h.value
+          ∙ ap (λ ts. ts ++ shaped (f c.value) h.rest) (ap (take (n + o.back)) h.nodes ∙ take-front t.nodes h.rest (n + o.back) i);
+      nodes_too = ap (λ ts. take (m + c.back) c.nodes ++ shaped (f c.value) ts) in_c
+          ∙ ap (λ ts. ts ++ shaped (f c.value) h.rest) (ap (take (m + c.back)) h.nodes_too ∙ take-front us h.rest (m + c.back) j);
+      few = subst (λ ts. (after_shape (f c.value) ts c.state).empties < length (shaped (f c.value) h.rest)) (sym in_c) (shapes c.value h.rest c.state);
+      asks = h.asks;
+      met = h.met;
+    }
+
+-- ---- words
+
+-- what is read before trivia gives them, and else does as behind them, whatever errors stand before them; where `trims` says so only their number matters
+abbrev pub Takes : {A : Type 0} → Reading → Place → Trivia → List Tree → Bool → Meaning A → Type 0
+Takes h z t us trims m = (r : Reading) (e d : ℕ) (a b : Bool) → (trims ≡ true → e ≡ d) → Led t us trims (m z (before_trivia r h e a t)) (m (moved t.gap z) (before_trivia r h d b (trivia_with us t)))
+
+same-renewed : (b : Bool) (text : List ℕ) (r h : Reading) (e d : ℕ) (i j : Bool) (t u : Trivia) → renewed (after_node b text (before_trivia r h e i t)) ≡ renewed (after_node b text (before_trivia r h d j u))
+same-renewed true text r h e d i j t u = refl
+same-renewed false text r h e d i j t u = refl
+
+no-empties : (b : Bool) (text : List ℕ) (s : Point) → count_empty text ≡ 0 → (renewed (after_node b text s)).empties ≡ 0
+no-empties true text s e = e
+no-empties false text s e = refl
+
+some-text : (xs : List ℕ) → 0 < length xs → count_empty xs ≡ 0
+some-text [] h = absurd (omega arith)
+some-text (x ∷ xs) h = refl
+
+same-back : (trims : Bool) (e d : ℕ) → (trims ≡ true → e ≡ d) → (if trims then e else 0) ≡ (if trims then d else 0)
+same-back true e d h = h refl
+same-back false e d h = refl
+
+no-back : (trims : Bool) (d : ℕ) → trims ≡ false → (if trims then d else 0) ≡ 0
+no-back true d h = cc
+no-back false d h = refl
+
+two-asks : (b : Bool) (g : ℕ) (x y : Look) → (looked g x ∷ []) ++ (if b then looked g y ∷ [] else []) ≡ shift g ((looked 0 x ∷ []) ++ (if b then looked 0 y ∷ [] else []))
+two-asks true g x y = let e : g ≡ g + 0 = omega arith in ap (λ n. looked n x ∷ looked n y ∷ []) e
+two-asks false g x y = let e : g ≡ g + 0 = omega arith in ap (λ n. looked n x ∷ []) e
+
+module _ (l : Level) (h : Reading) (z : Place) (t : Trivia) (us : List Tree) where
+  -- the looks at the token are the same
+  pub asks-behind : hand_asks l.classes h (Some t) z ≡ shift t.gap (hand_asks l.classes h (Some (trivia_with us t)) (moved t.gap z))
+  unfolding hand_asks
+  asks-behind = two-asks (asks_column h t.newlines) t.gap _ (column_look (moved t.gap z))
+
+  pub told-behind : is_nil t.nodes ≡ is_nil us → told (hand_at l.classes h (Some t) z) ≡ told (hand_at l.classes h (Some (trivia_with us t)) (moved t.gap z))
+  unfolding hand_at
+  told-behind nil = ap (λ b. record { kind = (hand_at l.classes h (Some t) z).kind; has_trivia = not b; newlines = t.newlines }) nil
+
+  module _ (some : 0 < len_at l.classes h.mode (moved t.gap z)) where
+    pub takes-token : (trims : Bool) (making : Making) → Takes h z t us trims (run l (does (takes trims making)))
+    unfolding run hand_at
+    takes-token trims making r e d a b same =
+        let x = hand_at l.classes h (Some t) z in
+        let s = before_trivia r h e a t in
+        let y = before_trivia r h d b (trivia_with us t) in
+        let tree = taken_node l.classes making x z in
+        let n = len_at l.classes h.mode (moved t.gap z) in
+        let text = text_ahead n (moved t.gap z) in
+        let within : n ≤ length (moved t.gap z).ahead = omega arith in
+        let long : length text ≡ n = omega (arith, within, length-take n (moved t.gap z).ahead) in
+        let full : count_empty (text_of tree) ≡ 0 = ap count_empty (text-made making (token_node l.classes x.token text) ∙ text-token l.classes x.token text) ∙ some-text (encode_utf8_all text) (omega (arith, long, some, length-le-encodes text)) in
+        let few : (renewed (after_node (is_error tree.head.kind) (text_of tree) y)).empties ≡ 0 = no-empties (is_error tree.head.kind) (text_of tree) y full in
+        record {
+          value = refl;
+          taken = omega arith;
+          some = omega (arith, some);
+          state = same-renewed (is_error tree.head.kind) (text_of tree) r h e d a b t (trivia_with us t);
+          back = same-back trims e d same;
+          none = no-back trims d;
+          hints = refl;
+          hints_too = refl;
+          rest = tree ∷ [];
+          nodes = refl;
+          nodes_too = refl;
+          few = omega (arith, few);
+          asks = asks-behind;
+          met = refl;
+        }
+
+  pub takes-next : {A B : Type 0} (trims : Bool) (p : Parser B) (f : B → Parser A) → ((b : B) → Backs (run l (f b))) → Takes h z t us trims (run l p) → Takes h z t us trims (run l (next p f))
+  unfolding run
+  takes-next trims p f tidy k r e d a b same = led-then t us trims z _ _ (λ v. run l (f v)) tidy (k r e d a b same)
+
+  pub takes-peek : {A : Type 0} (trims : Bool) (f : AtHand → Parser A) → is_nil t.nodes ≡ is_nil us → Takes h z t us trims (run l (f (told (hand_at l.classes h (Some t) z)))) → Takes h z t us trims (run l (next peek f))
+  unfolding run hand_at
+  takes-peek trims f nil k r e d a b same =
+      let w = moved t.gap z in
+      let u = trivia_with us t in
+      let v = told (hand_at l.classes h (Some t) z) in
+      subst (λ x. Led t us trims (run l (next peek f) z (before_trivia r h e a t)) (joined (record (plain x (before_trivia r h d b u)) { asks = hand_asks l.classes h (Some u) w }) (run l (f x) w (before_trivia r h d b u)))) (told-behind nil)
+      (led-asked t us trims v (before_trivia r h e a t) (before_trivia r h d b u) _ _ false _ _ asks-behind (k r e d a b same))
+
+  pub takes-column : {A : Type 0} (trims : Bool) (f : ℕ → Parser A) → ((n : ℕ) → Takes h z t us trims (run l (f n))) → Takes h z t us trims (run l (next (does column) f))
+  unfolding run hand_at
+  takes-column trims f k r e d a b same =
+      let w = moved t.gap z in
+      let u = trivia_with us t in
+      let zero_more : t.gap ≡ t.gap + 0 = omega arith in
+      led-asked t us trims (column_at w) (before_trivia r h e a t) (before_trivia r h d b u) _ _ false _ _
+      (ap (λ ls. ls ++ looked t.gap (column_look w) ∷ []) asks-behind ∙ ap (λ n. shift t.gap (hand_asks l.classes h (Some u) w) ++ looked n (column_look w) ∷ []) zero_more ∙ sym (map-append (shift_one t.gap) (hand_asks l.classes h (Some u) w) (looked 0 (column_look w) ∷ [])))
+      (k (column_at w) r e d a b same)
+
+  pub takes-scoped : {A : Type 0} (trims : Bool) (f : Reading → Reading) (p : Parser A) → Takes h z t us trims (run l p) → Takes h z t us trims (run l (scoped f p))
+  unfolding run
+  takes-scoped trims f p k r e d a b same =
+      let i = k (f r) e d a b same in
+      let w = moved t.gap z in
+      let c = run l p w (before_trivia (f r) h d b (trivia_with us t)) in
+      let less_left = left-empties r c.state in
+      let few = i.few in
+      record {
+        value = i.value;
+        taken = i.taken;
+        some = i.some;
+        state = ap (left r) i.state;
+        back = i.back;
+        none = i.none;
+        hints = i.hints;
+        hints_too = i.hints_too;
+        rest = i.rest;
+        nodes = i.nodes;
+        nodes_too = i.nodes_too;
+        few = omega (arith, less_left, few);
+        asks = i.asks;
+        met = i.met;
+      }
+
+  pub takes-wraps : {A : Type 0} (f : A → Shape) (p : Parser A) → ((v : A) → Counts_less (f v)) → Takes h z t us false (run l p) → Takes h z t us false (run l (wraps f at_token p))
+  unfolding run
+  takes-wraps f p shapes k r e d a b same = led-wrapped t us f (length t.nodes) (length us) _ _ shapes refl refl (k r e d a b same)
+
+  pub takes-calls : (trims : Bool) (c : Call) → Takes h z t us trims (l.deeper c) → Takes h z t us trims (run l (calls c))
+  unfolding run
+  takes-calls trims c k r e d a b same =
+      let i = k r e d a b same in
+      record {
+        value = i.value;
+        taken = i.taken;
+        some = i.some;
+        state = i.state;
+        back = i.back;
+        none = i.none;
+        hints = i.hints;
+        hints_too = i.hints_too;
+        rest = i.rest;
+        nodes = i.nodes;
+        nodes_too = i.nodes_too;
+        few = i.few;
+        asks = ap sunk i.asks ∙ sunk-shift t.gap (l.deeper c (moved t.gap z) (before_trivia r h d b (trivia_with us t))).asks;
+        met = i.met;
+      }

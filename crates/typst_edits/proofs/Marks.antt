@@ -1,0 +1,109 @@
+-- The marks in a list of asks.
+use Rattle.std.proofs.Common.{◌≡◌, ℕ, zero, suc, ◌+◌, ◌-◌, Bool, true, false, if◌then◌else◌, List, [], ◌∷◌, ◌++◌, length, append_assoc, append-nil, Option, Some, None, refl, ap, sym, ◌∙◌}
+use Rattle.typst_kinds.specs.declared.mode.SyntaxMode.{SyntaxMode}
+use Rattle.typst_lines.specs.Place.{Place, moved}
+use Rattle.typst_lines.specs.Classes.{CharClasses}
+use Rattle.typst_tokens.specs.Sight.{position, hull_of}
+use Rattle.typst_language.specs.declared.calls.Mark.{Mark}
+use Rattle.typst_language.specs.declared.calls.Note.{Note}
+use Rattle.typst_language.specs.declared.reading.Newlines.{Newlines}
+use Rattle.typst_language.specs.declared.reading.Reading.{Reading}
+use Rattle.typst_language.specs.declared.reading.State.{State}
+use Rattle.typst_language.specs.Ask.{Ask, shift, sunk}
+use Rattle.typst_language.specs.Ask.Ask.{looked, marked}
+use Rattle.typst_language.specs.Hand.{len_at, at_trivia, asks_by, ahead_asks, ahead_of, asks_column, column_asks, hand_asks}
+use Rattle.typst_language.specs.Log.{Log, with_hull, with_note, logged}
+use Rattle.typst_language.specs.Point.{Trivia}
+use Rattle.typst_edits.specs.Spot.{lowered}
+use Rattle.typst_edits.proofs.Bytes.{noted-more}
+use Rattle.typst_edits.proofs.Every.{Every}
+
+-- each of them keeps to this, by its place, how many levels fewer are left there, what it says, and the state
+abbrev pub AllMarks : (ℕ → ℕ → Mark → State → Type 0) → List Ask → Type 0
+AllMarks P [] = Unit {0}
+AllMarks P (looked at look ∷ asks) = AllMarks P asks
+AllMarks P (marked at gap fewer m s ∷ asks) = P at fewer m s × AllMarks P asks
+
+pub marks-append : (P : ℕ → ℕ → Mark → State → Type 0) (ls ks : List Ask) → AllMarks P ls → AllMarks P ks → AllMarks P (ls ++ ks)
+marks-append P [] ks h i = i
+marks-append P (looked at look ∷ ls) ks h i = marks-append P ls ks h i
+marks-append P (marked at gap fewer m s ∷ ls) ks h i = (h.0, marks-append P ls ks h.1 i)
+
+pub marks-by : (P Q : ℕ → ℕ → Mark → State → Type 0) → ((at fewer : ℕ) (m : Mark) (s : State) → P at fewer m s → Q at fewer m s) → (ls : List Ask) → AllMarks P ls → AllMarks Q ls
+marks-by P Q f [] h = tt
+marks-by P Q f (looked at look ∷ ls) h = marks-by P Q f ls h
+marks-by P Q f (marked at gap fewer m s ∷ ls) h = (f at fewer m s h.0, marks-by P Q f ls h.1)
+
+-- counted from so many characters before
+pub marks-shift : (P : ℕ → ℕ → Mark → State → Type 0) (d : ℕ) (ls : List Ask) → AllMarks (λ at fewer m s. P (d + at) fewer m s) ls → AllMarks P (shift d ls)
+marks-shift P d [] h = tt
+marks-shift P d (looked at look ∷ ls) h = marks-shift P d ls h
+marks-shift P d (marked at gap fewer m s ∷ ls) h = (h.0, marks-shift P d ls h.1)
+
+-- and from where more levels are left
+pub marks-lowered : (P : ℕ → ℕ → Mark → State → Type 0) (n : ℕ) (ls : List Ask) → AllMarks (λ at fewer m s. P at (n + fewer) m s) ls → AllMarks P (lowered n ls)
+marks-lowered P n [] h = tt
+marks-lowered P n (looked at look ∷ ls) h = marks-lowered P n ls h
+marks-lowered P n (marked at gap fewer m s ∷ ls) h = (h.0, marks-lowered P n ls h.1)
+
+pub marks-sunk : (P : ℕ → ℕ → Mark → State → Type 0) → ((at fewer : ℕ) (m : Mark) (s : State) → P at (suc fewer) m s) → (ls : List Ask) → AllMarks P (sunk ls)
+marks-sunk P f [] = tt
+marks-sunk P f (looked at look ∷ ls) = marks-sunk P f ls
+marks-sunk P f (marked at gap fewer m s ∷ ls) = (f at fewer m s, marks-sunk P f ls)
+
+pub marks-if : (P : ℕ → ℕ → Mark → State → Type 0) (b : Bool) (ls ks : List Ask) → AllMarks P ls → AllMarks P ks → AllMarks P (if b then ls else ks)
+marks-if P true ls ks h i = h
+marks-if P false ls ks h i = i
+
+-- ---- looks alone
+
+-- whatever is said of marks
+pub none-trivia : (P : ℕ → ℕ → Mark → State → Type 0) (k : CharClasses) (m : SyntaxMode) (n : ℕ) (z : Place) → AllMarks P (asks_by k m n z)
+none-trivia P k m zero z = tt
+none-trivia P k m (suc n) z =
+    let n_len = len_at k m z in
+    let rest = asks_by k m n (moved n_len z) in
+    marks-if P (at_trivia k m z) (shift n_len rest) [] (marks-shift P n_len rest (none-trivia (λ at fewer m s. P (n_len + at) fewer m s) k m n (moved n_len z))) tt
+
+none-column : (P : ℕ → ℕ → Mark → State → Type 0) (held : Reading) (newlines : Newlines) (gap : ℕ) (z : Place) → AllMarks P (column_asks held newlines gap z)
+none-column P held newlines gap z = marks-if P (asks_column held newlines) _ [] tt tt
+
+pub none-hand : (P : ℕ → ℕ → Mark → State → Type 0) (k : CharClasses) (held : Reading) (known : Option Trivia) (z : Place) → AllMarks P (hand_asks k held known z)
+unfolding hand_asks ahead_asks
+none-hand P k held None z =
+    let a = ahead_of k held.mode None z in
+    marks-append P (asks_by k held.mode (length z.ahead) z) (column_asks held a.newlines a.gap z) (none-trivia P k held.mode (length z.ahead) z) (none-column P held a.newlines a.gap z)
+none-hand P k held (Some t) z = none-column P held t.newlines t.gap z
+
+-- ---- the notes of a log
+
+-- a note is that of a mark
+pub record NoteOf (P : ℕ → ℕ → Mark → State → Type 0) (lv : ℕ) (z : Place) (n : Note) : Type 0 where
+  pub at : ℕ
+  pub fewer : ℕ
+  pub says : Mark
+  pub told : State
+  pub holds : P at fewer says told
+  pub mark : n.mark ≡ says
+  pub before : n.before ≡ position (moved at z)
+  pub levels : n.levels ≡ lv - fewer
+  pub state : n.state ≡ told
+
+-- so many notes more, each that of a mark
+pub record NotedEach (P : ℕ → ℕ → Mark → State → Type 0) (lv : ℕ) (z : Place) (ns : List Note) (h : Log) : Type 0 where
+  pub more : List Note
+  pub is : h.notes ≡ Some (ns ++ more)
+  pub each : Every (NoteOf P lv z) more
+
+pub noted-each : (P : ℕ → ℕ → Mark → State → Type 0) (lv : ℕ) (z : Place) (asks : List Ask) (h : Log) (ns : List Note) → h.notes ≡ Some ns → AllMarks P asks → NotedEach P lv z ns (logged lv z h asks)
+noted-each P lv z [] h ns e a = record { more = []; is = e ∙ ap Some (sym (append-nil ns)); each = tt }
+noted-each P lv z (looked at look ∷ asks) h ns e a = noted-each P lv z asks (with_hull (hull_of look (moved at z)) h) ns e a
+noted-each P lv z (marked at gap fewer m s ∷ asks) h ns e a =
+    let k = with_note gap (lv - fewer) m s (moved at z) h in
+    let note : Note = record { mark = m; before = position (moved at z); start = position (moved gap (moved at z)); levels = lv - fewer; state = s; reach = h.reach; least = h.least } in
+    let i = noted-each P lv z asks k (ns ++ note ∷ []) (noted-more note h.notes ns e) a.1 in
+    record {
+      more = note ∷ i.more;
+      is = i.is ∙ ap Some (append_assoc ns (note ∷ []) i.more);
+      each = (record { at = at; fewer = fewer; says = m; told = s; holds = a.0; mark = refl; before = refl; levels = refl; state = refl }, i.each);
+    }

@@ -1,0 +1,157 @@
+-- A block in a larger whole.
+use Rattle.std.proofs.Common.{◌≡◌, ℕ, suc, ◌+◌, ◌-◌, ◌<◌, ◌≤◌, Bool, true, false, ◌||◌, List, [], ◌∷◌, ◌++◌, length, map, take, length-append, append_assoc, refl, ap, sym, ◌∙◌, arith}
+use Rattle.std.proofs.lemmas.List.{map-append}
+use borrow.Author.Tests.{lt-ltb}
+use Rattle.typst_kinds.specs.Kinds.{is_error}
+use Rattle.typst_kinds.specs.Head.{Head}
+use Rattle.typst_tree.specs.Tree.{Tree}
+use Rattle.typst_language.specs.Ask.{Ask, shift, shift_one, sunk, sink_one}
+use Rattle.typst_language.specs.Ask.Ask.{looked, marked}
+use Rattle.typst_language.specs.Point.{Point}
+use Rattle.typst_language.specs.Shape.{hinted_error, hinted_last, hinted, seen}
+use Rattle.typst_language.specs.Meaning.{Outcome, less, hints_before, joined}
+use Rattle.typst_edits.specs.Hole.{Deep, fill, top, Hole, plug}
+use Rattle.typst_edits.specs.Hole.Deep.{bare, under}
+use Rattle.typst_edits.specs.Spot.{Spot, around, then_spot, after_spot, lower, lowered}
+
+-- ---- outcomes that are the same
+
+pub same-outcome : {A : Type 0} (v : A) (t u : ℕ) (s r : Point) (b d : ℕ) (hs js : List (List ℕ)) (ns ms : List Tree) (ls ks : List Ask) (m k : Bool) → t ≡ u → s ≡ r → b ≡ d → hs ≡ js → ns ≡ ms → ls ≡ ks → m ≡ k
+    → ◌≡◌ {A = Outcome A} (record { value = v; taken = t; state = s; back = b; hints = hs; nodes = ns; asks = ls; met = m }) (record { value = v; taken = u; state = r; back = d; hints = js; nodes = ms; asks = ks; met = k })
+same-outcome v t u s r b d hs js ns ms ls ks m k e f g h i j l = rw (e, f, g, h, i, j, l) refl
+
+-- ---- lists of asks
+
+one-zero : (ask : Ask) → shift_one 0 ask ≡ ask
+one-zero (looked at look) = let e : 0 + at ≡ at = omega arith in ap (λ n. looked n look) e
+one-zero (marked at gap fewer mark s) = let e : 0 + at ≡ at = omega arith in ap (λ n. marked n gap fewer mark s) e
+
+pub shift-zero : (ls : List Ask) → shift 0 ls ≡ ls
+shift-zero [] = refl
+shift-zero (l ∷ ls) = rw (one-zero l, shift-zero ls) refl
+
+one-twice : (m n : ℕ) (ask : Ask) → shift_one m (shift_one n ask) ≡ shift_one (m + n) ask
+one-twice m n (looked at look) = let e : m + (n + at) ≡ (m + n) + at = omega arith in ap (λ k. looked k look) e
+one-twice m n (marked at gap fewer mark s) = let e : m + (n + at) ≡ (m + n) + at = omega arith in ap (λ k. marked k gap fewer mark s) e
+
+pub shift-twice : (m n : ℕ) (ls : List Ask) → shift m (shift n ls) ≡ shift (m + n) ls
+shift-twice m n [] = refl
+shift-twice m n (l ∷ ls) = rw (one-twice m n l, shift-twice m n ls) refl
+
+lower-zero : (ask : Ask) → lower 0 ask ≡ ask
+lower-zero (looked at look) = refl
+lower-zero (marked at gap fewer mark s) = let e : 0 + fewer ≡ fewer = omega arith in ap (λ n. marked at gap n mark s) e
+
+pub lowered-zero : (ls : List Ask) → lowered 0 ls ≡ ls
+lowered-zero [] = refl
+lowered-zero (l ∷ ls) = rw (lower-zero l, lowered-zero ls) refl
+
+sink-lower : (n : ℕ) (ask : Ask) → sink_one (lower n ask) ≡ lower (suc n) ask
+sink-lower n (looked at look) = refl
+sink-lower n (marked at gap fewer mark s) = let e : suc (n + fewer) ≡ suc n + fewer = omega arith in ap (λ k. marked at gap k mark s) e
+
+pub sunk-lowered : (n : ℕ) (ls : List Ask) → sunk (lowered n ls) ≡ lowered (suc n) ls
+sunk-lowered n [] = refl
+sunk-lowered n (l ∷ ls) = rw (sink-lower n l, sunk-lowered n ls) refl
+
+sink-shift : (n : ℕ) (ask : Ask) → sink_one (shift_one n ask) ≡ shift_one n (sink_one ask)
+sink-shift n (looked at look) = refl
+sink-shift n (marked at gap fewer mark s) = refl
+
+pub sunk-shift : (n : ℕ) (ls : List Ask) → sunk (shift n ls) ≡ shift n (sunk ls)
+sunk-shift n [] = refl
+sunk-shift n (l ∷ ls) = rw (sink-shift n l, sunk-shift n ls) refl
+
+-- ---- facts of either
+
+pub or-false : (m : Bool) → m ≡ (m || false)
+or-false true = refl
+or-false false = refl
+
+pub or-assoc : (a b c : Bool) → ((a || b) || c) ≡ (a || (b || c))
+or-assoc true b c = refl
+or-assoc false b c = refl
+
+or-then : (a b c d : Bool) → ((a || (b || c)) || d) ≡ (a || (b || (c || d)))
+or-then true b c d = refl
+or-then false b c d = or-assoc b c d
+
+-- ---- the ends of lists with a hole
+
+pub less-skip : (k : ℕ) (y : Tree) (ys : List Tree) → k ≤ length ys → less k (y ∷ ys) ≡ y ∷ less k ys
+unfolding less
+less-skip k y ys h = let e : length (y ∷ ys) - k ≡ suc (length ys - k) = omega arith in ap (λ j. take j (y ∷ ys)) e
+
+pub less-plug : (k : ℕ) (left : List Tree) (y : Tree) (right : List Tree) → k ≤ length right → less k (left ++ y ∷ right) ≡ left ++ y ∷ less k right
+less-plug k [] y right h = less-skip k y right h
+less-plug k (l ∷ left) y right h =
+    let e = length-append left (y ∷ right) in
+    less-skip k l (left ++ y ∷ right) (omega (arith, e)) ∙ ap (λ r. l ∷ r) (less-plug k left y right h)
+
+no-error : (hs : List (List ℕ)) (y : Tree) → is_error y.head.kind ≡ false → hinted_error hs y ≡ y
+no-error hs y h = rw h refl
+
+last-plug : (hs : List (List ℕ)) (left : List Tree) (y : Tree) (right : List Tree) → is_error y.head.kind ≡ false → hinted_last hs (left ++ y ∷ right) ≡ left ++ y ∷ hinted_last hs right
+last-plug hs [] y [] h = ap (λ u. u ∷ []) (no-error hs y h)
+last-plug hs [] y (r ∷ right) h = refl
+last-plug hs (l ∷ []) y right h = ap (λ u. l ∷ u) (last-plug hs [] y right h)
+last-plug hs (l ∷ m ∷ left) y right h = ap (λ u. l ∷ u) (last-plug hs (m ∷ left) y right h)
+
+-- a hint passes by a node that is no error
+pub hinted-plug : (hs : List (List ℕ)) (left : List Tree) (y : Tree) (right : List Tree) → is_error y.head.kind ≡ false → hinted hs (left ++ y ∷ right) ≡ left ++ y ∷ hinted hs right
+hinted-plug [] left y right h = refl
+hinted-plug (x ∷ hs) left y right h = last-plug (x ∷ hs) left y right h
+
+-- ---- heads
+
+pub head-fill : (d : Deep) (x : Tree) (h : Head) → x.head ≡ h → (fill d x).head ≡ top d h
+head-fill bare x h e = e
+head-fill (under above left d right) x h e = refl
+
+pub seen-head : (x y : Tree) → x.head ≡ y.head → seen x ≡ seen y
+seen-head x y e = rw e refl
+
+pub seen-plug : (h : Hole) (x y : Tree) (a : Head) → x.head ≡ a → y.head ≡ a → map seen (plug h x) ≡ map seen (plug h y)
+seen-plug h x y a e f =
+    let g = seen-head (fill h.deep x) (fill h.deep y) (head-fill h.deep x a e ∙ sym (head-fill h.deep y a f)) in
+    map-append seen h.left (fill h.deep x ∷ h.right) ∙ ap (λ u. map seen h.left ++ u ∷ map seen h.right) g ∙ sym (map-append seen h.left (fill h.deep y ∷ h.right))
+
+-- ---- the whole of a larger whole
+
+looks-then : (bs ls ks qs : List Ask) (m k r : ℕ) → (bs ++ (shift m ls ++ shift (m + k) ks)) ++ shift (m + (k + r)) qs ≡ bs ++ (shift m ls ++ shift (m + k) (ks ++ shift r qs))
+looks-then bs ls ks qs m k r =
+    let f : (m + k) + r ≡ m + (k + r) = omega arith in
+    let e : shift (m + k) (ks ++ shift r qs) ≡ shift (m + k) ks ++ shift (m + (k + r)) qs = map-append (shift_one (m + k)) ks (shift r qs) ∙ ap (λ u. shift (m + k) ks ++ u) (shift-twice (m + k) r qs ∙ ap (λ j. shift j qs) f) in
+    append_assoc bs (shift m ls ++ shift (m + k) ks) (shift (m + (k + r)) qs)
+    ∙ ap (λ u. bs ++ u) (append_assoc (shift m ls) (shift (m + k) ks) (shift (m + (k + r)) qs) ∙ ap (λ u. shift m ls ++ u) (sym e))
+
+looks-after : (os bs ls ks : List Ask) (t m k : ℕ) → os ++ shift t (bs ++ (shift m ls ++ shift (m + k) ks)) ≡ (os ++ shift t bs) ++ (shift (t + m) ls ++ shift ((t + m) + k) ks)
+looks-after os bs ls ks t m k =
+    let f : t + (m + k) ≡ (t + m) + k = omega arith in
+    let e : shift t (shift m ls ++ shift (m + k) ks) ≡ shift (t + m) ls ++ shift ((t + m) + k) ks = map-append (shift_one t) (shift m ls) (shift (m + k) ks) ∙ ap (λ u. u ++ shift t (shift (m + k) ks)) (shift-twice t m ls) ∙ ap (λ u. shift (t + m) ls ++ u) (shift-twice t (m + k) ks ∙ ap (λ j. shift j ks) f) in
+    ap (λ u. os ++ u) (map-append (shift_one t) bs (shift m ls ++ shift (m + k) ks)) ∙ sym (append_assoc os (shift t bs) (shift t (shift m ls ++ shift (m + k) ks))) ∙ ap (λ u. (os ++ shift t bs) ++ u) e
+
+pub hints-first : {A B : Type 0} (o : Outcome B) (q : Outcome A) → q.back < length o.nodes → hints_before o q ≡ o.hints
+hints-first o q h = rw (lt-ltb q.back (length o.nodes) h) refl
+
+pub then-around : {A B : Type 0} (c : Spot B) (b : Outcome (Unit {0})) (x : Tree) (q : Outcome A) → q.back ≤ length c.hole.right → is_error (fill c.hole.deep x).head.kind ≡ false
+    → joined (around c b x) q ≡ around (then_spot c q) b x
+then-around c b x q h solid =
+    let y = fill c.hole.deep x in
+    let e = length-append c.hole.left (y ∷ c.hole.right) in
+    let few : q.back < length (plug c.hole x) = omega (arith, e, h) in
+    let ns : hinted q.hints (less q.back (c.hole.left ++ y ∷ c.hole.right)) ++ q.nodes ≡ c.hole.left ++ y ∷ (hinted q.hints (less q.back c.hole.right) ++ q.nodes) =
+    ap (λ u. hinted q.hints u ++ q.nodes) (less-plug q.back c.hole.left y c.hole.right h) ∙ ap (λ u. u ++ q.nodes) (hinted-plug q.hints c.hole.left y (less q.back c.hole.right) solid)
+    ∙ append_assoc c.hole.left (y ∷ hinted q.hints (less q.back c.hole.right)) q.nodes in
+    same-outcome q.value _ _ q.state q.state _ _ _ _ _ _ _ _ _ _
+    (omega arith) refl (omega (arith, few)) (hints-first (around c b x) q few) ns
+    (looks-then c.before (lowered c.fewer b.asks) c.after q.asks c.at b.taken c.rest)
+    (or-then c.met_before b.met c.met_after q.met)
+
+pub after-around : {A B : Type 0} (o : Outcome B) (c : Spot A) (b : Outcome (Unit {0})) (x : Tree) → joined o (around c b x) ≡ around (after_spot o c) b x
+after-around o c b x =
+    same-outcome c.value _ _ c.state c.state _ _ _ _ _ _ _ _ _ _
+    (omega arith) refl refl refl
+    (sym (append_assoc (hinted c.hints (less c.back o.nodes)) c.hole.left (fill c.hole.deep x ∷ c.hole.right)))
+    (looks-after o.asks c.before (lowered c.fewer b.asks) c.after o.taken c.at b.taken)
+    (sym (or-assoc o.met c.met_before (b.met || c.met_after)))

@@ -1,0 +1,144 @@
+-- A text's tree and log, where pieces of its run are exchanged.
+use Rattle.std.proofs.Common.{◌≡◌, ℕ, ◌+◌, Bool, true, false, List, [], ◌∷◌, ◌++◌, append_assoc, append-nil, refl, ap, sym, ◌∙◌, arith}
+use Rattle.std.proofs.lemmas.List.{map-append}
+use Rattle.typst_kinds.specs.declared.kind.SyntaxKind.TheVariants as kind
+use Rattle.typst_tree.specs.Tree.{Tree, forest, inner_of}
+use Rattle.typst_lines.specs.Place.{Place}
+use Rattle.typst_lines.specs.Classes.{CharClasses}
+use Rattle.typst_language.specs.Ask.{Ask, shift, shift_one}
+use Rattle.typst_language.specs.Log.{no_log, logged}
+use Rattle.typst_language.specs.Meaning.{Outcome, plain, less, standing, joined, run}
+use Rattle.typst_language.specs.Point.{Point}
+use Rattle.typst_language.specs.Shape.{hinted}
+use Rattle.typst_language.proofs.HintedNodes.{standing-joined}
+use Rattle.typst_language.proofs.Places.{less-none}
+use Rattle.typst_grammar.specs.Grammar.{max_depth, start_of, parsed, tree, log}
+use Rattle.typst_edits.specs.Edit.{text_with}
+use Rattle.typst_edits.specs.Joint.{onwards_from}
+use Rattle.typst_edits.specs.RunTrees.{given, tree_by, run_mark, RunTreeLaw}
+use Rattle.typst_edits.specs.Runs.{start, AllGo, End, end_of, asks_of, chain, lead, pieces, end_at, pieces_from, end_from, rest_from, tail, whole_of}
+use Rattle.typst_edits.proofs.Led.{none-less}
+use Rattle.typst_edits.proofs.Outcomes.{shift-zero, shift-twice}
+use Rattle.typst_edits.proofs.Root.{run-law, whole-is, split-at, split-taken}
+use Rattle.typst_edits.proofs.Boundary.{chain-asks}
+use Rattle.typst_edits.proofs.Runs.{chain-state, chain-taken}
+
+-- ---- nodes
+
+pub hinted-none : (hs : List (List ℕ)) → ◌≡◌ {A = List Tree} (hinted hs []) []
+hinted-none [] = refl
+hinted-none (h ∷ hs) = refl
+
+-- an outcome's nodes alone
+pub standing-none : {A : Type 0} (o : Outcome A) → standing o [] ≡ o.nodes
+standing-none o = ap (λ ts. hinted o.hints ts ++ o.nodes) (none-less o.back) ∙ ap (λ ts. ts ++ o.nodes) (hinted-none o.hints)
+
+-- what gives nothing and takes nothing back
+pub standing-still : {A : Type 0} (o : Outcome A) (ts : List Tree) → o.hints ≡ [] → o.back ≡ 0 → o.nodes ≡ [] → standing o ts ≡ ts
+standing-still o ts e f g =
+    ap (λ hs. hinted hs (less o.back ts) ++ o.nodes) e ∙ ap (λ n. less n ts ++ o.nodes) f ∙ ap (λ us. less 0 ts ++ us) g ∙ append-nil (less 0 ts) ∙ less-none ts
+
+pub standing-chain : {A B : Type 0} (os : List (Outcome (Bool × A))) (q : Outcome B) (ts : List Tree) → standing (chain os q) ts ≡ standing q (given os ts)
+standing-chain [] q ts = refl
+standing-chain (o ∷ os) q ts = standing-joined o (chain os q) ts ∙ standing-chain os q (standing o ts)
+
+-- ---- a text's reading
+
+module _ (k : CharClasses) (y : Place) (c : Outcome (Bool × ℕ)) (t : Outcome (Unit {0})) where
+  whole-nodes : (whole_of (lead k y) c t).nodes ≡ standing t (standing c [])
+  unfolding run
+  whole-nodes =
+      let none : List Tree = [] in
+      let one = plain false start in
+      let two = record (plain (tt {0}) start) { asks = run_mark ∷ [] } in
+      let first = lead k y in
+      let four = joined c (plain (tt {0}) c.state) in
+      let three = joined first four in
+      sym (standing-none (whole_of first c t))
+      ∙ standing-joined (joined one (joined two three)) t none
+      ∙ ap (standing t) (standing-joined one (joined two three) none ∙ ap (standing (joined two three)) (standing-still one none refl refl refl)
+      ∙ standing-joined two three none ∙ ap (standing three) (standing-still two none refl refl refl)
+      ∙ standing-joined first four none ∙ ap (standing four) (standing-still first none refl refl refl)
+      ∙ standing-joined c (plain (tt {0}) c.state) none ∙ standing-still (plain (tt {0}) c.state) (standing c none) refl refl refl)
+
+  pub whole-asks : (whole_of (lead k y) c t).asks ≡ run_mark ∷ (((lead k y).asks ++ c.asks) ++ shift c.taken t.asks)
+  unfolding run
+  whole-asks =
+      let ls = (lead k y).asks in
+      let sum : 0 + (0 + (0 + (c.taken + 0))) ≡ c.taken = omega arith in
+      let inner : shift 0 (run_mark ∷ shift 0 (ls ++ shift 0 (c.asks ++ []))) ≡ run_mark ∷ (ls ++ c.asks) =
+      shift-zero (run_mark ∷ shift 0 (ls ++ shift 0 (c.asks ++ []))) ∙ ap (λ u. run_mark ∷ u) (shift-zero (ls ++ shift 0 (c.asks ++ [])) ∙ ap (λ u. ls ++ u) (shift-zero (c.asks ++ []) ∙ append-nil c.asks)) in
+      ap (λ u. u ++ shift (0 + (0 + (0 + (c.taken + 0)))) t.asks) inner ∙ ap (λ n. (run_mark ∷ (ls ++ c.asks)) ++ shift n t.asks) sum
+
+-- what is asked in pieces, those behind them, all behind these, and the trivia at the end
+chained-asks : (ls : List Ask) (x v : Bool × ℕ) (s r : Point) (os ps : List (Outcome (Bool × (Bool × ℕ)))) (q : Outcome (Bool × ℕ)) (t : Outcome (Unit {0})) → (let c = chain os (chain ps q) in
+    (ls ++ c.asks) ++ shift c.taken t.asks ≡ (ls ++ asks_of os) ++ shift (end_of x s os).taken (asks_of ps ++ shift (end_of v r ps).taken (q.asks ++ shift q.taken t.asks)))
+chained-asks ls x v s r os ps q t =
+    let c = chain os (chain ps q) in
+    let a = (end_of x s os).taken in
+    let b = (end_of v r ps).taken in
+    let first = asks_of os in
+    let second = asks_of ps ++ shift b q.asks in
+    let last = shift (a + (b + q.taken)) t.asks in
+    let asks : c.asks ≡ first ++ shift a second = chain-asks x s os (chain ps q) ∙ ap (λ u. first ++ shift a u) (chain-asks v r ps q) in
+    let taken : c.taken ≡ a + (b + q.taken) = chain-taken x s os (chain ps q) ∙ ap (λ n. a + n) (chain-taken v r ps q) in
+    let inner : asks_of ps ++ shift b (q.asks ++ shift q.taken t.asks) ≡ second ++ shift (b + q.taken) t.asks =
+    ap (λ u. asks_of ps ++ u) (map-append (shift_one b) q.asks (shift q.taken t.asks) ∙ ap (λ u. shift b q.asks ++ u) (shift-twice b q.taken t.asks))
+    ∙ sym (append_assoc (asks_of ps) (shift b q.asks) (shift (b + q.taken) t.asks)) in
+    let outer : shift a (asks_of ps ++ shift b (q.asks ++ shift q.taken t.asks)) ≡ shift a second ++ last =
+    ap (shift a) inner ∙ map-append (shift_one a) second (shift (b + q.taken) t.asks) ∙ ap (λ u. shift a second ++ u) (shift-twice a (b + q.taken) t.asks) in
+    ap (λ u. (ls ++ u) ++ shift c.taken t.asks) asks ∙ ap (λ n. (ls ++ (first ++ shift a second)) ++ shift n t.asks) taken
+    ∙ ap (λ u. u ++ last) (sym (append_assoc ls first (shift a second))) ∙ append_assoc (ls ++ first) (shift a second) last ∙ ap (λ u. (ls ++ first) ++ u) (sym outer)
+
+-- a text's tree, by its pieces and all behind them
+pub tree-is : (k : CharClasses) (text : List ℕ) (i n : ℕ) → (let z = start_of text in AllGo (pieces k i z) → AllGo (pieces_from k i n z) → tree k text ≡ tree_by (pieces k i z) (pieces_from k i n z) (onwards_from k i n z))
+unfolding tree
+tree-is k text i n g h =
+    let z = start_of text in
+    let os = pieces k i z in
+    let ps = pieces_from k i n z in
+    let q = rest_from k i n z in
+    let r = chain os (chain ps q) in
+    let u = tail k (((end_at k i z).taken + (end_from k i n z).taken) + q.taken) q.state z in
+    let tail_is : tail k r.taken r.state z ≡ u =
+    ap (λ a. tail k a r.state z) (split-taken k i n z) ∙ ap (λ s. tail k (((end_at k i z).taken + (end_from k i n z).taken) + q.taken) s z) (chain-state os (chain ps q) ∙ chain-state ps q) in
+    let is : parsed k max_depth text ≡ whole_of (lead k z) r u =
+    whole-is k text ∙ ap (λ o. whole_of (lead k z) o (tail k o.taken o.state z)) (split-at k i n z g h) ∙ ap (whole_of (lead k z) r) tail_is in
+    ap (λ (o : Outcome (Unit {0})). inner_of kind.Markup (forest o.nodes)) is
+    ∙ ap (λ ts. inner_of kind.Markup (forest ts)) (whole-nodes k z r u ∙ ap (standing u) (standing-chain os (chain ps q) [] ∙ standing-chain ps q (given os [])) ∙ sym (standing-joined q u (given ps (given os []))))
+
+pub run-tree-law : RunTreeLaw
+unfolding tree log
+run-tree-law k front old new rest i n m past h =
+    let z = text_with front old rest in
+    let w = text_with front new rest in
+    let kept = run-law k front old new rest i n m past h in
+    let os = pieces k i z in
+    let ps = pieces_from k i n z in
+    let qs = pieces_from k i m w in
+    let e = end_at k i z in
+    let f = end_from k i n z in
+    let g = end_at k i w in
+    let j = end_from k i m w in
+    let q = rest_from k i n z in
+    let r = chain os (chain ps q) in
+    let u = tail k ((e.taken + f.taken) + q.taken) q.state z in
+    -- the trivia at the end
+    let taken : r.taken ≡ (e.taken + f.taken) + q.taken = split-taken k i n z in
+    let state : r.state ≡ q.state = chain-state os (chain ps q) ∙ chain-state ps q in
+    let tail_is : tail k r.taken r.state z ≡ u = ap (λ a. tail k a r.state z) taken ∙ ap (λ s. tail k ((e.taken + f.taken) + q.taken) s z) state in
+    let was : parsed k max_depth (front ++ (old ++ rest)) ≡ whole_of (lead k z) r u = kept.was ∙ ap (whole_of (lead k z) r) tail_is in
+    let now : parsed k max_depth (front ++ (new ++ rest)) ≡ whole_of (lead k w) (chain os (chain qs q)) u = kept.now ∙ ap (whole_of (lead k w) (chain os (chain qs q))) tail_is in
+    let nodes : (y : Place) (xs : List (Outcome (Bool × (Bool × ℕ)))) → (whole_of (lead k y) (chain os (chain xs q)) u).nodes ≡ standing (joined q u) (given xs (given os [])) = λ y xs.
+    whole-nodes k y (chain os (chain xs q)) u ∙ ap (standing u) (standing-chain os (chain xs q) [] ∙ standing-chain xs q (given os [])) ∙ sym (standing-joined q u (given xs (given os []))) in
+    let made_tree = λ (ts : List Tree). inner_of kind.Markup (forest ts) in
+    let same_end : end_of (true, 0) (lead k w).state os ≡ end_of (true, 0) (lead k w).state (pieces k i w) = ap (end_of (true, 0) (lead k w).state) (sym kept.first) in
+    record {
+      tree_was = ap (λ (o : Outcome (Unit {0})). made_tree o.nodes) was ∙ ap made_tree (nodes z ps);
+      tree_now = ap (λ (o : Outcome (Unit {0})). made_tree o.nodes) now ∙ ap made_tree (nodes w qs);
+      log_was = ap (λ (o : Outcome (Unit {0})). logged max_depth z no_log o.asks) was
+          ∙ ap (logged max_depth z no_log) (whole-asks k z r u ∙ ap (λ ls. run_mark ∷ ls) (chained-asks (lead k z).asks (true, 0) e.value (lead k z).state e.state os ps q u));
+      log_now = ap (λ (o : Outcome (Unit {0})). logged max_depth w no_log o.asks) now
+          ∙ ap (logged max_depth w no_log) (whole-asks k w (chain os (chain qs q)) u ∙ ap (λ ls. run_mark ∷ ls) (chained-asks (lead k w).asks (true, 0) g.value (lead k w).state g.state os qs q u)
+          ∙ ap (λ (v : End (Bool × ℕ)). run_mark ∷ (((lead k w).asks ++ asks_of os) ++ shift v.taken (asks_of qs ++ shift j.taken (q.asks ++ shift q.taken u.asks)))) same_end);
+    }

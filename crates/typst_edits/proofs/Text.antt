@@ -1,0 +1,40 @@
+-- The block law of a whole text.
+use Rattle.std.proofs.Common.{◌<◌, ◌++◌, ap, arith}
+use Rattle.typst_kinds.specs.declared.kind.SyntaxKind.TheVariants as kind
+use Rattle.typst_tree.specs.Tree.{forest, inner_of}
+use Rattle.typst_language.specs.Meaning.{start_point}
+use Rattle.typst_grammar.specs.Markup.{markup_reading}
+use Rattle.typst_grammar.specs.Grammar.{rules, max_depth, start_of, whole, parsed, tree}
+use Rattle.typst_edits.specs.Edit.{text_with}
+use Rattle.typst_edits.specs.Laws.{blocks_of_text, BlockLaw, NamesLaw, block_at}
+use Rattle.typst_edits.specs.Named.{Named}
+use Rattle.typst_edits.proofs.Blocks.{ends}
+use Rattle.typst_edits.proofs.Law.{inside-level}
+use Rattle.typst_edits.specs.Spot.{unit_at}
+use Rattle.typst_edits.proofs.Clear.{Clear, clear-level}
+use Rattle.typst_edits.proofs.Edit.{among, before-same, edited}
+use Rattle.typst_edits.proofs.Fitting.{fitting}
+use Rattle.typst_edits.proofs.Inside.{Lawful}
+use Rattle.typst_edits.proofs.Names.{named-level}
+
+pub block-law : BlockLaw
+unfolding blocks_of_text tree
+block-law k front old new rest c past i h =
+    let o = parsed k max_depth (front ++ (old ++ rest)) in
+    let n = parsed k max_depth (front ++ (new ++ rest)) in
+    let z = text_with front old rest in
+    let w = text_with front new rest in
+    let s = start_point markup_reading in
+    let laws = inside-level (rules k) k (ends k) max_depth whole z w s in
+    let a = among (Lawful z w o n) c _ i laws in
+    let named = among (Named (block_at k) max_depth) c _ i (named-level (rules k) k max_depth whole z s) in
+    let clear = among (Clear k z) c _ i (clear-level (rules k) k max_depth whole z s tt) in
+    let some : 0 < (unit_at c z).taken = omega (arith, h.starts, h.ends) in
+    let more : 0 < (unit_at c w).taken = omega (arith, h.starts, h.shifted) in
+    let f = fitting k max_depth c z w named clear a.fits (before-same c.before front old new rest h.before) some more in
+    let e = edited front old new rest o n _ laws c past _ i h f in
+    record { fits = f; reading = e; tree = ap (λ ts. inner_of kind.Markup (forest ts)) e.nodes }
+
+pub names-law : NamesLaw
+unfolding blocks_of_text
+names-law k text c i = among (Named (block_at k) max_depth) c _ i (named-level (rules k) k max_depth whole (start_of text) (start_point markup_reading))

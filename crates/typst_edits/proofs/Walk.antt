@@ -1,0 +1,254 @@
+-- The steps by places lead to each block that covers the stretch strictly.
+use Rattle.std.proofs.Common.{◌≡◌, ℕ, zero, suc, ◌+◌, ◌-◌, ◌<◌, ◌≤◌, Bool, true, false, max, ◌&&◌, if◌then◌else◌, nat_lt, List, [], ◌∷◌, ◌++◌, length, map, take, drop, length-append, length-take, append_assoc, encode_utf8, encode_utf8_all, option_map, Some, None, refl, ap, sym, ◌∙◌, subst, arith}
+use Rattle.std.proofs.lemmas.Bool.Decides.{nat_tests}
+use Rattle.std.proofs.lemmas.Str.{length-encode}
+use Rattle.typst_lines.specs.Place.{Place, char_width, moved}
+use Rattle.typst_lines.proofs.LineTable.{width-positive}
+use Rattle.typst_tree.specs.Tree.{Tree, trees, text_of}
+use Rattle.typst_tokens.specs.Sight.{width}
+use Rattle.typst_language.specs.Hand.{utf8_ahead}
+use Rattle.typst_language.specs.Meaning.{Outcome, start_point}
+use Rattle.typst_language.specs.Point.{point_of}
+use Rattle.typst_language.proofs.Knot.{sane-block}
+use Rattle.typst_language.proofs.Leaves.{texts, texts-append, texts-one, texts-first, text-add}
+use Rattle.typst_language.proofs.Places.{moved-ahead}
+use Rattle.typst_grammar.specs.Markup.{markup_reading}
+use Rattle.typst_grammar.specs.Grammar.{rules, max_depth, whole, parsed}
+use Rattle.typst_edits.specs.Edit.{text_with}
+use Rattle.typst_edits.specs.Hole.{Deep, fill, Hole, plug, path_in, path_of}
+use Rattle.typst_edits.specs.Hole.Deep.{bare, under}
+use Rattle.typst_edits.specs.Laws.{blocks_of_text, block_at}
+use Rattle.typst_edits.specs.Named.{Named}
+use Rattle.typst_edits.specs.Spot.{ended, unit_at}
+use Rattle.typst_edits.specs.Walk.{Step, over, walk, walk_to, WalkLaw}
+use Rattle.typst_edits.proofs.Blocks.{ends}
+use Rattle.typst_edits.proofs.Clear.{Clear, clear-level}
+use Rattle.typst_edits.proofs.Edit.{among, trees-of}
+use Rattle.typst_edits.proofs.Fitting.{no-front}
+use Rattle.typst_edits.proofs.Inside.{Lawful}
+use Rattle.typst_edits.proofs.Law.{inside-level}
+use Rattle.typst_edits.proofs.Names.{named-level}
+use Rattle.typst_edits.proofs.Placed.{deep_text, left_text, Placed, placed-level}
+use Rattle.typst_edits.proofs.Widths.{width-append}
+
+-- ---- among several nodes
+
+less-is : (a b : ℕ) → a < b → nat_lt a b ≡ true
+less-is a b h = grind (arith, nat_tests)
+
+less-not : (a b : ℕ) → b ≤ a → nat_lt a b ≡ false
+less-not a b h = grind (arith, nat_tests)
+
+first-if : {A : Type 0} (a b : Bool) (x y : A) → a ≡ true → b ≡ true → (if a && b then x else y) ≡ x
+first-if true true x y h k = refl
+first-if true false x y h k = cc
+first-if false b x y h k = cc
+
+second-if : {A : Type 0} (a b : Bool) (x y : A) → b ≡ false → (if a && b then x else y) ≡ y
+second-if true true x y h = cc
+second-if true false x y h = refl
+second-if false b x y h = refl
+
+length-texts : (t : Tree) (ts : List Tree) → length (texts (t ∷ ts)) ≡ length (text_of t) + length (texts ts)
+length-texts t ts = ap length (texts-first t ts) ∙ length-append (text_of t) (texts ts)
+
+module _ (from to : ℕ) (order : from ≤ to) where
+  over-at : (at : ℕ) (left : List Tree) (y : Tree) (right : List Tree) → at + length (texts left) < from → to < (at + length (texts left)) + length (text_of y)
+      → over from to at (left ++ y ∷ right) ≡ Some (record { index = length left; start = at + length (texts left); node = y })
+  over-at at [] y right h i =
+      let e : at ≡ at + 0 = omega arith in
+      first-if (nat_lt at from) (nat_lt to (at + length (text_of y))) _ _ (less-is at from (omega (arith, h))) (less-is to (at + length (text_of y)) (omega (arith, i)))
+      ∙ ap (λ n. Some (record { index = 0; start = n; node = y })) e
+  over-at at (t ∷ left) y right h i =
+      let end = at + length (text_of t) in
+      let l = length-texts t left in
+      let e : end + length (texts left) ≡ at + length (texts (t ∷ left)) = omega (arith, l) in
+      let next = over-at end left y right (omega (arith, l, h)) (omega (arith, l, i)) in
+      second-if (nat_lt at from) (nat_lt to end) _ _ (less-not to end (omega (arith, l, h, order)))
+      ∙ ap (option_map (λ (s : Step). record s { index = suc s.index })) next
+      ∙ ap (λ n. Some (record { index = suc (length left); start = n; node = y })) e
+
+  -- ---- down to a hole
+
+  abbrev steps_in : Deep → Tree → ℕ → List Step
+  steps_in bare x at = []
+  steps_in (under head left d right) x at =
+      let next = (at + length head.text) + length (texts left) in
+      record { index = length left; start = next; node = fill d x } ∷ steps_in d x next
+
+  size-fill : (d : Deep) (x : Tree) → length (deep_text d) + length (text_of x) ≤ length (text_of (fill d x))
+  size-fill bare x = omega arith
+  size-fill (under head left d right) x =
+      let i = size-fill d x in
+      let a = length-append head.text (texts (left ++ fill d x ∷ right)) in
+      let b = ap length (texts-append left (fill d x ∷ right)) in
+      let c = length-append (texts left) (texts (fill d x ∷ right)) in
+      let e = length-texts (fill d x) right in
+      let f = length-append head.text (texts left ++ deep_text d) in
+      let g = length-append (texts left) (deep_text d) in
+      omega (arith, i, a, b, c, e, f, g)
+
+  walk-over : (n at : ℕ) (left : List Tree) (y : Tree) (right : List Tree) → at + length (texts left) < from → to < (at + length (texts left)) + length (text_of y)
+      → walk (suc n) from to at (left ++ y ∷ right) ≡ record { index = length left; start = at + length (texts left); node = y } ∷ walk n from to ((at + length (texts left)) + length y.head.text) (trees y.kids)
+  walk-over n at left y right h i =
+      ap (λ o. elim o as (λ _. List Step) [ None ↦ [] | Some s ↦ s ∷ walk n from to (s.start + length s.node.head.text) (trees s.node.kids) ]) (over-at at left y right h i)
+
+  walk-in : (d : Deep) (x : Tree) (at : ℕ) → at + length (deep_text d) < from → to < (at + length (deep_text d)) + length (text_of x)
+      → walk (length (path_in d)) from to (at + length (fill d x).head.text) (trees (fill d x).kids) ≡ steps_in d x at
+  walk-in bare x at h i = refl
+  walk-in (under head left d right) x at h i =
+      let y = fill d x in
+      let here = at + length head.text in
+      let next = here + length (texts left) in
+      let f = length-append head.text (texts left ++ deep_text d) in
+      let g = length-append (texts left) (deep_text d) in
+      let s = size-fill d x in
+      ap (walk (suc (length (path_in d))) from to here) (trees-of (left ++ y ∷ right))
+      ∙ walk-over (length (path_in d)) here left y right (omega (arith, h, f, g)) (omega (arith, i, f, g, s))
+      ∙ ap (λ ss. record { index = length left; start = next; node = y } ∷ ss) (walk-in d x next (omega (arith, h, f, g)) (omega (arith, i, f, g)))
+
+  abbrev steps_of : Hole → Tree → List Step
+  steps_of h x = let next = length (texts h.left) in record { index = length h.left; start = next; node = fill h.deep x } ∷ steps_in h.deep x next
+
+  walk-hole : (h : Hole) (x : Tree) → length (left_text h) < from → to < length (left_text h) + length (text_of x) → walk (length (path_of h)) from to 0 (plug h x) ≡ steps_of h x
+  walk-hole h x i j =
+      let y = fill h.deep x in
+      let next = length (texts h.left) in
+      let g = length-append (texts h.left) (deep_text h.deep) in
+      let s = size-fill h.deep x in
+      let long : length (path_of h) ≡ suc (length (path_in h.deep)) = omega arith in
+      let zero_is : 0 + next ≡ next = omega arith in
+      ap (λ n. walk n from to 0 (plug h x)) long
+      ∙ walk-over (length (path_in h.deep)) 0 h.left y h.right (omega (arith, i, g)) (omega (arith, j, g, s))
+      ∙ ap (λ n. record { index = length h.left; start = n; node = y } ∷ walk (length (path_in h.deep)) from to (n + length y.head.text) (trees y.kids)) zero_is
+      ∙ ap (λ ss. record { index = length h.left; start = next; node = y } ∷ ss) (walk-in h.deep x next (omega (arith, i, g)) (omega (arith, j, g)))
+
+  -- ---- the steps
+
+  path-in : (d : Deep) (x : Tree) (at : ℕ) → map (λ (s : Step). s.index) (steps_in d x at) ≡ path_in d
+  path-in bare x at = refl
+  path-in (under head left d right) x at = ap (λ is. length left ∷ is) (path-in d x _)
+
+  record Last (ss : List Step) (start : ℕ) (x : Tree) : Type 0 where
+    earlier : List Step
+    index : ℕ
+    is : ss ≡ earlier ++ record { index = index; start = start; node = x } ∷ []
+
+  last-in : (i : ℕ) (d : Deep) (x : Tree) (at : ℕ) → Last (record { index = i; start = at; node = fill d x } ∷ steps_in d x at) (at + length (deep_text d)) x
+  last-in i bare x at = let e : at ≡ at + 0 = omega arith in record { earlier = []; index = i; is = ap (λ n. record { index = i; start = n; node = x } ∷ []) e }
+  last-in i (under head left d right) x at =
+      let next = (at + length head.text) + length (texts left) in
+      let r = last-in (length left) d x next in
+      let f = length-append head.text (texts left ++ deep_text d) in
+      let g = length-append (texts left) (deep_text d) in
+      let e : next + length (deep_text d) ≡ at + length (head.text ++ (texts left ++ deep_text d)) = omega (arith, f, g) in
+      let first : Step = record { index = i; start = at; node = fill (under head left d right) x } in
+      record { earlier = first ∷ r.earlier; index = r.index; is = ap (λ ss. first ∷ ss) r.is ∙ ap (λ n. first ∷ (r.earlier ++ record { index = r.index; start = n; node = x } ∷ [])) e }
+
+-- ---- places in bytes
+
+width-encodes : (xs : List ℕ) → length (encode_utf8_all xs) ≡ width xs
+unfolding width char_width
+width-encodes [] = refl
+width-encodes (c ∷ xs) = omega (arith, length-append (encode_utf8 c) (encode_utf8_all xs), length-encode c, width-encodes xs)
+
+width-some : (xs : List ℕ) → 0 < length xs → 0 < width xs
+unfolding width
+width-some [] h = absurd (omega arith)
+width-some (c ∷ xs) h = omega (arith, width-positive c)
+
+-- what ends before a stretch does so in bytes
+width-before : (n : ℕ) (front more : List ℕ) → n < length front → width (take n (front ++ more)) < width front
+unfolding width
+width-before n [] more h = absurd (omega arith)
+width-before zero (c ∷ front) more h = omega (arith, width-positive c)
+width-before (suc n) (c ∷ front) more h = let i = width-before n front more (omega (arith, h)) in omega (arith, i)
+
+width-over : (front : List ℕ) (past : ℕ) (more : List ℕ) → width (take (length front + past) (front ++ more)) ≡ width front + width (take past more)
+unfolding width
+width-over [] past more =
+    let none : List ℕ = [] in
+    let e : length none + past ≡ past = omega arith in
+    let i = ap (λ n. width (take n more)) e in
+    omega (arith, i)
+width-over (c ∷ front) past more =
+    let i = width-over front past more in
+    let e : length (c ∷ front) + past ≡ suc (length front + past) = omega arith in
+    ap (λ n. width (take n (c ∷ (front ++ more)))) e ∙ (let f : char_width c + width (take (length front + past) (front ++ more)) ≡ (char_width c + width front) + width (take past more) = omega (arith, i) in f)
+
+moved-long : (n : ℕ) (z : Place) → length (moved n z).ahead ≡ length z.ahead - n
+moved-long n z = ap length (moved-ahead n z) ∙ long n z.ahead
+  where
+    long : (n : ℕ) (xs : List ℕ) → length (drop n xs) ≡ length xs - n
+    long zero xs = omega arith
+    long (suc n) [] = omega arith
+    long (suc n) (x ∷ xs) = let i = long n xs in omega (arith, i)
+
+pub walk-law : WalkLaw
+unfolding blocks_of_text
+walk-law k front old rest c past among_them starts ends_at goes_on =
+    let z = text_with front old rest in
+    let text = front ++ (old ++ rest) in
+    let s = start_point markup_reading in
+    let o = parsed k max_depth text in
+    let u = unit_at c z in
+    let y = moved c.at z in
+    let p = point_of c.start in
+    let l = among (Lawful z z o o) c _ among_them (inside-level (rules k) k (ends k) max_depth whole z z s) in
+    let n = among (Named (block_at k) max_depth) c _ among_them (named-level (rules k) k max_depth whole z s) in
+    let clear = among (Clear k z) c _ among_them (clear-level (rules k) k max_depth whole z s tt) in
+    let placed = among (Placed z s) c _ among_them (placed-level (rules k) k max_depth whole z s tt) in
+    let some : 0 < u.taken = omega (arith, starts, ends_at) in
+    let none : c.front ≡ [] = no-front k max_depth c z n clear l.fits some in
+    let levels = max_depth - c.fewer in
+    let sane = sane-block (rules k) k levels c.name in
+    let read : u ≡ ended (block_at k levels c.name y p) = ap (λ r. r y p) n.reads in
+    -- its node holds its characters
+    let held : text_of c.node ≡ utf8_ahead u.taken y =
+    sym (texts-one c.node) ∙ ap (λ ts. texts (ts ++ c.node ∷ [])) (sym none) ∙ ap texts (sym l.fits.nodes) ∙ ap (λ (q : Outcome (Unit {0})). texts q.nodes) read
+    ∙ (sane.kept y p tt).text ∙ ap (λ (q : Outcome (Unit {0})). utf8_ahead q.taken y) (sym read) in
+    let before : left_text c.hole ≡ utf8_ahead c.at z = placed.left ∙ ap (λ ts. utf8_ahead c.at z ++ texts ts) none ∙ append-none (utf8_ahead c.at z) in
+    let room : u.taken ≤ max 0 (length y.ahead) = subst (λ (q : Outcome (Unit {0})). q.taken ≤ max 0 (length y.ahead)) (sym read) (within-is _ _ _ (sane.within y p)) in
+    let long = moved-long c.at z in
+    let one = length-append front (old ++ rest) in
+    let two = length-append old rest in
+    let three = length-append front old in
+    let all : past ≤ length rest = omega (arith, room, long, one, two, starts, ends_at) in
+    let end_at : c.at + u.taken ≡ length (front ++ old) + past = omega (arith, ends_at, three) in
+    let same_text : (front ++ old) ++ rest ≡ text = append_assoc front old rest in
+    let left_is : length (left_text c.hole) ≡ width (take c.at text) = ap length before ∙ width-encodes (take c.at text) in
+    let both : width (take c.at text) + length (text_of c.node) ≡ width (take (c.at + u.taken) text) =
+    (let a = ap length held in
+    let b = width-encodes (take c.at text) in
+    let d = width-encodes (take (c.at + u.taken) text) in
+    let e = ap length (text-add c.at u.taken z) in
+    let f = length-append (utf8_ahead c.at z) (utf8_ahead u.taken y) in
+    omega (arith, a, b, d, e, f)) in
+    let far : width (take (c.at + u.taken) text) ≡ width (front ++ old) + width (take past rest) =
+    ap (λ j. width (take j text)) end_at ∙ ap (λ xs. width (take (length (front ++ old) + past) xs)) (sym same_text) ∙ width-over (front ++ old) past rest in
+    let more : 0 < width (take past rest) = width-some (take past rest) (let t = length-take past rest in omega (arith, t, all, goes_on)) in
+    let early : length (left_text c.hole) < width front = (let b = width-before c.at front (old ++ rest) starts in omega (arith, left_is, b)) in
+    let late : width (front ++ old) < length (left_text c.hole) + length (text_of c.node) = omega (arith, left_is, both, far, more) in
+    let order : width front ≤ width (front ++ old) = (let w = width-append front old in omega (arith, w)) in
+    let nodes : o.nodes ≡ plug c.hole c.node = ap (λ (q : Outcome (Unit {0})). q.nodes) l.old in
+    let steps : walk_to (length (path_of c.hole)) k front old rest ≡ steps_of (width front) (width (front ++ old)) order c.hole c.node =
+    ap (walk (length (path_of c.hole)) (width front) (width (front ++ old)) 0) nodes ∙ walk-hole (width front) (width (front ++ old)) order c.hole c.node early late in
+    let last = last-in (width front) (width (front ++ old)) order (length c.hole.left) c.hole.deep c.node (length (texts c.hole.left)) in
+    let at_is : length (texts c.hole.left) + length (deep_text c.hole.deep) ≡ width (take c.at text) = (let g = length-append (texts c.hole.left) (deep_text c.hole.deep) in omega (arith, g, left_is)) in
+    record {
+      path = ap (map (λ (t : Step). t.index)) steps ∙ ap (λ is. length c.hole.left ∷ is) (path-in (width front) (width (front ++ old)) order c.hole.deep c.node (length (texts c.hole.left)));
+      earlier = last.earlier;
+      last = record { index = last.index; start = length (texts c.hole.left) + length (deep_text c.hole.deep); node = c.node };
+      steps = steps ∙ last.is;
+      node = refl;
+      kind = l.fits.head;
+      start = at_is;
+      end = omega (arith, at_is, both);
+    }
+  where
+    append-none : (xs : List ℕ) → xs ++ [] ≡ xs
+    append-none [] = refl
+    append-none (x ∷ xs) = ap (λ ys. x ∷ ys) (append-none xs)
+
+    within-is : (a b c : ℕ) → a + b ≤ c → a ≤ c
+    within-is a b c h = omega (arith, h)

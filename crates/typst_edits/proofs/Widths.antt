@@ -1,0 +1,122 @@
+-- Places in characters and in bytes.
+use Rattle.std.proofs.Common.{◌≡◌, ℕ, zero, suc, ◌+◌, ◌<◌, ◌≤◌, List, [], ◌∷◌, ◌++◌, length, take, length-append, append_assoc, refl, sym, ◌∙◌, subst, arith}
+use Rattle.typst_lines.specs.Place.{moved, moved_from}
+use Rattle.typst_lines.proofs.LineTable.{width-positive}
+use Rattle.typst_tokens.specs.Sight.{width, position, stretch, far, near}
+use Rattle.typst_edits.proofs.Edit.{onto}
+
+pub width-append : (xs ys : List ℕ) → width (xs ++ ys) ≡ width xs + width ys
+unfolding width
+width-append [] ys = omega arith
+width-append (c ∷ xs) ys = let e = width-append xs ys in omega (arith, e)
+
+pub width-none : width [] ≡ 0
+unfolding width
+width-none = refl
+
+-- a stretch that ends by a place in bytes ends by it in characters
+stretch-by : (n : ℕ) (front more : List ℕ) → stretch n (front ++ more) ≤ width front → n ≤ length front
+unfolding stretch width
+stretch-by zero front more h = omega arith
+stretch-by (suc n) [] [] h = absurd (omega (arith, h))
+stretch-by (suc n) [] (c ∷ more) h = absurd (omega (arith, h, width-positive c))
+stretch-by (suc n) (c ∷ front) more h = let i = stretch-by n front more (omega (arith, h)) in omega (arith, i)
+
+behind-most : (n : ℕ) (b a : List ℕ) → width b ≤ width (moved_from n b a).behind
+unfolding width
+behind-most zero b a = omega arith
+behind-most (suc n) b [] = omega arith
+behind-most (suc n) b (c ∷ a) = let i = behind-most n (c ∷ b) a in omega (arith, i)
+
+abbrev end_by : ℕ → ℕ → List ℕ → List ℕ → ℕ
+end_by at n b a = width (moved_from at b a).behind + stretch n (moved_from at b a).ahead
+
+ends-by : (at n : ℕ) (b front more : List ℕ) → at ≤ length (front ++ more) → end_by at n b (front ++ more) ≤ width b + width front → at + n ≤ length front
+unfolding width
+ends-by zero n b front more l h = omega (arith, stretch-by n front more (omega (arith, h)))
+ends-by (suc at) n b [] [] l h = absurd (omega (arith, l))
+ends-by (suc at) n b [] (c ∷ more) l h = absurd (omega (arith, h, behind-most at (c ∷ b) more, width-positive c))
+ends-by (suc at) n b (c ∷ front) more l h = let i = ends-by at n (c ∷ b) front more (omega (arith, l)) (omega (arith, h)) in omega (arith, i)
+
+-- a look that ends by a place in bytes ends by it in characters
+pub far-by : (at n : ℕ) (front more : List ℕ) → at ≤ length (front ++ more) → far n (moved at (record { behind = []; ahead = front ++ more })) ≤ width front → at + n ≤ length front
+unfolding far position width
+far-by at n front more l h = ends-by at n [] front more l (omega (arith, h))
+
+-- and the other way round
+pub stretch-to : (n : ℕ) (front more : List ℕ) → n ≤ length front → stretch n (front ++ more) ≤ width front
+unfolding stretch width
+stretch-to zero front more h = omega arith
+stretch-to (suc n) [] more h = absurd (omega (arith, h))
+stretch-to (suc n) (c ∷ front) more h = let i = stretch-to n front more (omega (arith, h)) in omega (arith, i)
+
+ends-to : (at n : ℕ) (b front more : List ℕ) → at + n ≤ length front → end_by at n b (front ++ more) ≤ width b + width front
+unfolding width
+ends-to zero n b front more h = let i = stretch-to n front more (omega (arith, h)) in omega (arith, i)
+ends-to (suc at) n b [] more h = absurd (omega (arith, h))
+ends-to (suc at) n b (c ∷ front) more h = let i = ends-to at n (c ∷ b) front more (omega (arith, h)) in omega (arith, i)
+
+pub far-to : (at n : ℕ) (front more : List ℕ) → at + n ≤ length front → far n (moved at (record { behind = []; ahead = front ++ more })) ≤ width front
+unfolding far position width
+far-to at n front more h = let i = ends-to at n [] front more h in omega (arith, i)
+
+-- ---- behind
+
+-- what was passed since
+record Since (n : ℕ) (b a : List ℕ) : Type 0 where
+  late : List ℕ
+  is : (moved_from n b a).behind ≡ late ++ b
+  long : length late ≡ n
+
+since : (n : ℕ) (b a : List ℕ) → n ≤ length a → Since n b a
+since zero b a h = record { late = []; is = refl; long = refl }
+since (suc n) b [] h = absurd (omega arith)
+since (suc n) b (c ∷ a) h =
+    let s = since n (c ∷ b) a (omega (arith, h)) in
+    record { late = s.late ++ c ∷ []; is = s.is ∙ sym (append_assoc s.late (c ∷ []) b); long = omega (arith, length-append s.late (c ∷ []), s.long) }
+
+begins-by : (n : ℕ) (late early : List ℕ) → stretch n (late ++ early) + width early ≤ width (late ++ early) → n ≤ length late
+unfolding stretch width
+begins-by zero late early h = omega arith
+begins-by (suc n) [] [] h = absurd (omega (arith, h))
+begins-by (suc n) [] (c ∷ early) h = absurd (omega (arith, h, width-positive c))
+begins-by (suc n) (c ∷ late) early h = let i = begins-by n late early (omega (arith, h)) in omega (arith, i)
+
+pub width-onto : (xs b : List ℕ) → width (onto xs b) ≡ width xs + width b
+unfolding width
+width-onto [] b = omega arith
+width-onto (c ∷ xs) b = let i = width-onto xs (c ∷ b) in omega (arith, i)
+
+begins-late : (n m : ℕ) (early rest : List ℕ) → m ≤ length rest → stretch n (moved_from m early rest).behind + width early ≤ width (moved_from m early rest).behind → n ≤ m
+begins-late n m early rest l h =
+    let s = since m early rest l in
+    omega (arith, s.long, begins-by n s.late early (subst (λ xs. stretch n xs + width early ≤ width xs) s.is h))
+
+-- a look from a place behind begins behind it in characters, where it does in bytes
+pub near-by : (n m : ℕ) (early rest : List ℕ) → m ≤ length rest → width early < near n (moved m (record { behind = early; ahead = rest })) → n ≤ m
+unfolding near position
+near-by n m early rest l h = begins-late n m early rest l (omega (arith, h))
+
+-- and the other way round
+begins-early : (n m : ℕ) (early rest : List ℕ) → n ≤ m → m ≤ length rest → stretch n (moved_from m early rest).behind + width early ≤ width (moved_from m early rest).behind
+begins-early n m early rest h l =
+    let s = since m early rest l in
+    let i = stretch-to n s.late early (omega (arith, h, s.long)) in
+    let w = width-append s.late early in
+    let both : stretch n (s.late ++ early) + width early ≤ width (s.late ++ early) = omega (arith, i, w) in
+    subst (λ xs. stretch n xs + width early ≤ width xs) (sym s.is) both
+
+pub near-to : (n m : ℕ) (early rest : List ℕ) → n ≤ m → m ≤ length rest → width early < near n (moved m (record { behind = early; ahead = rest }))
+unfolding near position
+near-to n m early rest h l = let i = begins-early n m early rest h l in omega (arith, i)
+
+moved-width : (n : ℕ) (b a : List ℕ) → width (moved_from n b a).behind ≡ width (take n a) + width b
+unfolding width
+moved-width zero b a = omega arith
+moved-width (suc n) b [] = omega arith
+moved-width (suc n) b (c ∷ a) = let i = moved-width n (c ∷ b) a in omega (arith, i)
+
+-- the byte offset of a character of a text
+pub width-moved : (n : ℕ) (text : List ℕ) → width (moved n (record { behind = []; ahead = text })).behind ≡ width (take n text)
+unfolding width
+width-moved n text = omega (arith, moved-width n [] text)

@@ -1,0 +1,201 @@
+-- Every look is at a place of the text, or at its end.
+use Rattle.std.proofs.Common.{ℕ, zero, suc, ◌+◌, ◌≤◌, max, Bool, true, false, ◌&&◌, if◌then◌else◌, nat_lt, List, [], ◌∷◌, ◌++◌, length, Option, Some, None, arith}
+use Rattle.typst_kinds.specs.declared.mode.SyntaxMode.{SyntaxMode}
+use Rattle.typst_lines.specs.Place.{Place, moved}
+use Rattle.typst_lines.specs.Classes.{CharClasses}
+use Rattle.typst_tokens.specs.Reader.{look}
+use Rattle.typst_language.specs.declared.calls.Block.{Block}
+use Rattle.typst_language.specs.declared.calls.Call.{Call}
+use Rattle.typst_language.specs.declared.reading.Reading.{Reading}
+use Rattle.typst_language.specs.Ask.{Ask, shift, sunk, only_looks}
+use Rattle.typst_language.specs.Ask.Ask.{looked, marked}
+use Rattle.typst_language.specs.Hand.{len_at, at_trivia, asks_by, ahead_asks, ahead_of, ahead_asks_of, asks_column, column_look, hand_at, hand_asks}
+use Rattle.typst_language.specs.Knot.{Rules, meaning_of, level_of, blocks_of}
+use Rattle.typst_language.specs.Point.{Trivia, Point, gap_of, forgot}
+use Rattle.typst_language.specs.Shape.{Shape}
+use Rattle.typst_language.specs.Shape.Making.{itself}
+use Rattle.typst_language.specs.Steps.{peek}
+use Rattle.typst_language.specs.Syntax.{Op, Begin, Parser, ◌>>◌}
+use Rattle.typst_language.specs.Syntax.Op.{hand, so, further, column, erred, takes, takes_so, flushes, complains, advises, marks, is_deepest}
+use Rattle.typst_language.specs.Syntax.Parser.{gives, does, next, pick, repeat, wraps, grows, nests, scoped, either, calls, block}
+use Rattle.typst_language.specs.Meaning.{Outcome, Meaning, Level, plain, joined, answered, turns, as_last, bound, repeated, before, grown, is_more, growths, growing, nestings, nesting, given_up, bounded, blockless, entered, hand_of, hand_asks_of, done, run}
+use Rattle.typst_language.specs.Sound.{Within}
+use Rattle.typst_language.proofs.Knot.{Sane, sane-run, sane-meaning, sane-block, sane-plain}
+use Rattle.typst_language.proofs.Places.{ahead-left}
+use Rattle.typst_language.proofs.Within.{on_both, grew, enough-grew}
+
+-- every look is at most so many characters on
+abbrev pub AllAt : ℕ → List Ask → Type 0
+AllAt n [] = Unit {0}
+AllAt n (looked at look ∷ asks) = (at ≤ n) × AllAt n asks
+AllAt n (marked at gap fewer mark s ∷ asks) = AllAt n asks
+
+at-append : (n : ℕ) (ls ks : List Ask) → AllAt n ls → AllAt n ks → AllAt n (ls ++ ks)
+at-append n [] ks h k = k
+at-append n (looked at look ∷ ls) ks h k = (h.0, at-append n ls ks h.1 k)
+at-append n (marked at gap fewer mark s ∷ ls) ks h k = at-append n ls ks h k
+
+pub at-shift : (d m n : ℕ) (ls : List Ask) → d + m ≤ n → AllAt m ls → AllAt n (shift d ls)
+at-shift d m n [] e h = tt
+at-shift d m n (looked at look ∷ ls) e h = (omega (arith, h.0), at-shift d m n ls e h.1)
+at-shift d m n (marked at gap fewer mark s ∷ ls) e h = at-shift d m n ls e h
+
+at-more : (m n : ℕ) (ls : List Ask) → m ≤ n → AllAt m ls → AllAt n ls
+at-more m n [] e h = tt
+at-more m n (looked at look ∷ ls) e h = (omega (arith, h.0), at-more m n ls e h.1)
+at-more m n (marked at gap fewer mark s ∷ ls) e h = at-more m n ls e h
+
+at-sunk : (n : ℕ) (ls : List Ask) → AllAt n ls → AllAt n (sunk ls)
+at-sunk n [] h = tt
+at-sunk n (looked at look ∷ ls) h = (h.0, at-sunk n ls h.1)
+at-sunk n (marked at gap fewer mark s ∷ ls) h = at-sunk n ls h
+
+at-only : (n : ℕ) (ls : List Ask) → AllAt n ls → AllAt n (only_looks ls)
+at-only n [] h = tt
+at-only n (looked at look ∷ ls) h = (h.0, at-only n ls h.1)
+at-only n (marked at gap fewer mark s ∷ ls) h = at-only n ls h
+
+pub at-second : (n : ℕ) (ls ks : List Ask) → AllAt n (ls ++ ks) → AllAt n ks
+at-second n [] ks h = h
+at-second n (looked at look ∷ ls) ks h = at-second n ls ks h.1
+at-second n (marked at gap fewer mark s ∷ ls) ks h = at-second n ls ks h
+
+pub at-first : (n : ℕ) (ls ks : List Ask) → AllAt n (ls ++ ks) → AllAt n ls
+at-first n [] ks h = tt
+at-first n (looked at look ∷ ls) ks h = (h.0, at-first n ls ks h.1)
+at-first n (marked at gap fewer mark s ∷ ls) ks h = at-first n ls ks h
+
+-- ---- the token at hand
+
+if-asks : (n : ℕ) (b : Bool) (ls : List Ask) → AllAt n ls → AllAt n (if b then ls else [])
+if-asks n true ls h = h
+if-asks n false ls h = tt
+
+trivia-within : (k : CharClasses) (m : SyntaxMode) (n : ℕ) (z : Place) → AllAt (length z.ahead) (asks_by k m n z)
+trivia-within k m zero z = (omega arith, tt)
+trivia-within k m (suc n) z =
+    let l = len_at k m z in
+    let left = ahead-left l z in
+    (omega arith, if-asks (length z.ahead) (at_trivia k m z) _ (at-shift l (length (moved l z).ahead) (length z.ahead) (asks_by k m n (moved l z)) (omega (arith, left)) (trivia-within k m n (moved l z))))
+
+ahead-within : (k : CharClasses) (m : SyntaxMode) (known : Option Trivia) (z : Place) → AllAt (max (gap_of known) (length z.ahead)) (ahead_asks_of k m known z)
+unfolding ahead_asks
+ahead-within k m None z = at-more (length z.ahead) (max 0 (length z.ahead)) (asks_by k m (length z.ahead) z) (omega arith) (trivia-within k m (length z.ahead) z)
+ahead-within k m (Some t) z = (omega arith, tt)
+
+hand-within : (k : CharClasses) (held : Reading) (known : Option Trivia) (z : Place) → (hand_at k held known z).gap ≤ max (gap_of known) (length z.ahead) → AllAt (max (gap_of known) (length z.ahead)) (hand_asks k held known z)
+unfolding hand_at hand_asks
+hand-within k held known z h =
+    let a = ahead_of k held.mode known z in
+    at-append _ (ahead_asks_of k held.mode known z) _ (ahead-within k held.mode known z) (if-asks _ (asks_column held a.newlines) (looked a.gap (column_look (moved a.gap z)) ∷ []) (h, tt))
+
+-- ---- whatever the language can say
+
+-- no look is further on than what there is
+abbrev pub Inbound : {A : Type 0} → Meaning A → Type 0
+Inbound m = (z : Place) (s : Point) → AllAt (bound z s) (m z s).asks
+
+in-joined : {A B : Type 0} (n : ℕ) (z : Place) (o : Outcome B) (p : Outcome A) → o.taken + bound (moved o.taken z) o.state ≤ n → AllAt n o.asks → AllAt (bound (moved o.taken z) o.state) p.asks → AllAt n (joined o p).asks
+in-joined n z o p e h k = at-append n o.asks _ h (at-shift o.taken (bound (moved o.taken z) o.state) n p.asks e k)
+
+in-turns : {A : Type 0} (m : A → Meaning (Bool × A)) → ((x : A) → Within (m x)) → ((x : A) → Inbound (m x)) → (n : ℕ) (x : A) → Inbound (turns m n x)
+in-turns m w h zero x z s = tt
+in-turns m w h (suc n) x z s =
+    let o = m x z s in
+    let p = turns m n o.value.1 (moved o.taken z) o.state in
+    on_both (λ u. AllAt (bound z s) u.asks) (o.value.0 && nat_lt 0 o.taken) (joined o p) (as_last o) (in-joined (bound z s) z o p (w x z s) (h x z s) (in-turns m w h n o.value.1 (moved o.taken z) o.state)) (h x z s)
+
+in-grown : {A : Type 0} (n i : ℕ) (shape : Option Shape) (o : Outcome A) → AllAt n o.asks → AllAt n (grown i shape o).asks
+in-grown n i None o h = h
+in-grown n i (Some shape) o h = h
+
+in-growths : {A : Type 0} (m : A → Meaning (Option Shape × A)) → ((x : A) → Within (m x)) → ((x : A) → Inbound (m x)) → (n i : ℕ) (o : Outcome A) (z : Place) (known : ℕ)
+    → o.taken + bound (moved o.taken z) o.state ≤ max known (length z.ahead) → AllAt (max known (length z.ahead)) o.asks → AllAt (max known (length z.ahead)) (growths m n i o z).asks
+in-growths m w h n zero o z known e k = k
+in-growths m w h n (suc i) o z known e k =
+    let p = m o.value (moved o.taken z) o.state in
+    let most = max known (length z.ahead) in
+    let f = enough-grew z known n o p e (w o.value (moved o.taken z) o.state) in
+    let all = in-grown most n p.value.0 (answered p.value.1 (joined o p)) (in-joined most z o p e k (h o.value (moved o.taken z) o.state)) in
+    on_both (λ u. AllAt most u.asks) (is_more p.value.0 && nat_lt 0 p.taken) (growths m n i (grew n o p) z) (grew n o p) (in-growths m w h n i (grew n o p) z known f all) all
+
+in-nestings : {A : Type 0} (f : A → Shape) (begin : Begin) (m : A → Meaning (Bool × A)) → ((x : A) → Within (m x)) → ((x : A) → Inbound (m x)) → (n : ℕ) (x : A) → Inbound (nestings f begin m n x)
+in-nestings f begin m w h zero x z s = tt
+in-nestings f begin m w h (suc n) x z s =
+    let o = m x z s in
+    let p = nestings f begin m n o.value.1 (moved o.taken z) o.state in
+    let b = o.value.0 && nat_lt 0 o.taken in
+    on_both (λ u. AllAt (bound z s) u.asks) b (joined o p) (as_last o) (in-joined (bound z s) z o p (w x z s) (h x z s) (in-nestings f begin m w h n o.value.1 (moved o.taken z) o.state)) (h x z s)
+
+module _ (l : Level) (d : (c : Call) → Sane (l.deeper c)) (e : (b : Block) → Sane (l.blocks b)) where
+  w-run : {A : Type 0} (p : Parser A) → Within (run l p)
+  w-run p = (sane-run l d e p).within
+
+  gap-within : (z : Place) (s : Point) → (hand_of l z s).gap ≤ bound z s
+  unfolding run
+  gap-within z s = let w = w-run (does flushes) z s in omega (arith, w)
+
+  len-within : (z : Place) (s : Point) → (hand_of l z s).gap + (hand_of l z s).len ≤ bound z s
+  unfolding run
+  len-within z s = let w = w-run (does (takes false itself)) z s in omega (arith, w)
+
+  in-hand : (z : Place) (s : Point) → AllAt (bound z s) (hand_asks_of l z s)
+  in-hand z s = hand-within l.classes s.held s.known z (gap-within z s)
+
+  in-done : {A : Type 0} (o : Op A) → Inbound (done l o)
+  in-done hand z s = in-hand z s
+  in-done (so way) z s = at-append _ (hand_asks_of l z s) _ (in-hand z s) (gap-within z s, tt)
+  in-done further z s = at-append _ (hand_asks_of l z s) _ (in-hand z s) (len-within z s, tt)
+  in-done column z s = at-append _ (hand_asks_of l z s) _ (in-hand z s) (gap-within z s, tt)
+  in-done erred z s = tt
+  in-done (takes trims making) z s = in-hand z s
+  in-done (takes_so way making) z s = at-append _ (hand_asks_of l z s) _ (in-hand z s) (gap-within z s, tt)
+  in-done flushes z s = in-hand z s
+  in-done (complains message) z s = tt
+  in-done (advises hint) z s = tt
+  in-done (marks mark) z s = tt
+  in-done is_deepest z s = tt
+
+  module _ (i : (c : Call) → Inbound (l.deeper c)) (j : (b : Block) → Inbound (l.blocks b)) where
+    in-bounded : (b : Block) → Inbound (bounded b (l.blocks b))
+    in-bounded b z s = at-append _ (l.blocks b z (forgot s)).asks _ (at-more (bound z (forgot s)) (bound z s) (l.blocks b z (forgot s)).asks (omega arith) (j b z (forgot s))) tt
+
+    pub in-run : {A : Type 0} (p : Parser A) → Inbound (run l p)
+    unfolding run repeated growing nesting
+    in-run (gives a) z s = tt
+    in-run (does o) z s = in-done o z s
+    in-run (next p f) z s =
+        let o = run l p z s in
+        in-joined (bound z s) z o (run l (f o.value) (moved o.taken z) o.state) (w-run p z s) (in-run p z s) (in-run (f o.value) (moved o.taken z) o.state)
+    in-run (pick b p q) z s = on_both (λ o. AllAt (bound z s) o.asks) b (run l p z s) (run l q z s) (in-run p z s) (in-run q z s)
+    in-run (repeat p x) z s = in-turns (λ y. run l (p y)) (λ y. w-run (p y)) (λ y. in-run (p y)) (suc (bound z s)) x z s
+    in-run (wraps f begin p) z s = in-run p z s
+    in-run (grows begin p f) z s = in-growths (λ y. run l (f y)) (λ y. w-run (f y)) (λ y. in-run (f y)) (before begin s) (suc (bound z s)) (run l p z s) z (gap_of s.known) (w-run p z s) (in-run p z s)
+    in-run (nests f begin p x) z s = in-nestings f begin (λ y. run l (p y)) (λ y. w-run (p y)) (λ y. in-run (p y)) (suc (bound z s)) x z s
+    in-run (scoped f p) z s = in-run p z (entered (f s.reading) s)
+    in-run (either p is_wrong q) z s =
+        let o = run l p z s in
+        on_both (λ u. AllAt (bound z s) u.asks) (is_wrong o.value) (given_up o (run l q z s)) o (at-only (bound z s) (o.asks ++ (run l q z s).asks) (at-append (bound z s) o.asks _ (in-run p z s) (in-run q z s))) (in-run p z s)
+    in-run (calls c) z s = at-sunk (bound z s) (l.deeper c z s).asks (i c z s)
+    in-run (block b) z s =
+        let o = done l flushes z s in
+        let p = bounded b (l.blocks b) (moved o.taken z) o.state in
+        on_both (λ u. AllAt (bound z s) u.asks) (l.has b) (joined o p) (plain tt s) (in-joined (bound z s) z o p (flush-within z s) (in-done flushes z s) (in-bounded b (moved o.taken z) o.state)) tt
+      where
+        flush-within : (z : Place) (s : Point) → (done l flushes z s).taken + bound (moved (done l flushes z s).taken z) (done l flushes z s).state ≤ bound z s
+        flush-within z s = w-run (does flushes) z s
+
+-- ---- by any rules, at every level
+
+module _ (r : Rules) (k : CharClasses) where
+  in-block : (levels : ℕ) → ((call : Call) → Inbound (meaning_of r k levels call)) → (b : Block) → Inbound (blocks_of r k levels (meaning_of r k levels) b)
+  in-block levels i b = in-run (blockless k levels (meaning_of r k levels)) (sane-meaning r k levels) (λ c. sane-plain tt) i (λ c z s. tt) (peek >> r.block_production b)
+
+  pub in-meaning : (levels : ℕ) (call : Call) → Inbound (meaning_of r k levels call)
+  unfolding meaning_of
+  in-meaning zero call z s = tt
+  in-meaning (suc levels) call z s = in-run (level_of r k levels) (sane-meaning r k levels) (sane-block r k levels) (in-meaning levels) (in-block levels (in-meaning levels)) (r.production call) z s
+
+  -- no look of a parser is further on than what there is
+  pub in-level : {A : Type 0} (levels : ℕ) (p : Parser A) → Inbound (run (level_of r k levels) p)
+  in-level levels p = in-run (level_of r k levels) (sane-meaning r k levels) (sane-block r k levels) (in-meaning levels) (in-block levels (in-meaning levels)) p

@@ -1,0 +1,44 @@
+-- The test of an edit in bytes, by the notes of a reading.
+use Rattle.std.specs.Prelude.{◌≡◌, ℕ, ◌+◌, ◌-◌, ◌<◌, ◌≤◌, ◌^◌, min, List, [], ◌∷◌, ◌++◌, length, take, Some}
+use Rattle.typst_lines.specs.Classes.{CharClasses}
+use Rattle.typst_tokens.specs.Sight.{width}
+use Rattle.typst_language.specs.declared.calls.Mark.TheVariants as mark
+use Rattle.typst_language.specs.declared.calls.Note.{Note}
+use Rattle.typst_language.specs.Log.{Log}
+use Rattle.typst_grammar.specs.Grammar.{max_depth, log}
+use Rattle.typst_edits.specs.Edit.{Among, text_with, AllEndBy, AllBeginIn}
+use Rattle.typst_edits.specs.Laws.{blocks_of_text}
+use Rattle.typst_edits.specs.Spot.{Spot, unit_at}
+
+-- where the looks of some notes, and those since the last of them, begin
+abbrev pub lowest : List Note → ℕ → ℕ
+lowest [] last = last
+lowest (n ∷ ns) last = min n.least (lowest ns last)
+
+-- The two notes of a block that covers a stretch of a text, and what their numbers decide: where the stretch begins in bytes
+-- with `reach`, and where it ends with `least`.
+pub record Decided {A : Type 0} (h : Log) (front old rest : List ℕ) (c : Spot A) (past : ℕ) : Type 0 where
+  pub earlier : List Note
+  pub opens : Note
+  pub inner : List Note
+  pub closes : Note
+  pub later : List Note
+  pub notes : h.notes ≡ Some (earlier ++ opens ∷ (inner ++ closes ∷ later))
+  -- the first says which block begins where, how many levels are left, and in which state
+  pub name : opens.mark ≡ mark.Opens c.name
+  pub start : opens.start ≡ width (take c.at (front ++ (old ++ rest)))
+  pub levels : opens.levels ≡ max_depth - c.fewer
+  pub state : opens.state ≡ c.start
+  -- the second says that it ends
+  pub name_end : closes.mark ≡ mark.Closes
+  -- the two tests of looks
+  pub before : opens.reach ≤ width front → AllEndBy (length front) c.before
+  pub after : width (front ++ old) < lowest later h.least → AllBeginIn past rest c.after
+  -- and the other way round, in a text that a machine word counts
+  pub before_too : AllEndBy (length front) c.before → opens.reach ≤ width front
+  pub after_too : width (front ++ old) < 2 ^ 64 - 1 → AllBeginIn past rest c.after → width (front ++ old) < lowest later h.least
+
+-- The law of the decision: each block of a text has two notes, whose numbers say exactly whether what was looked at before it and behind it passes the test.
+abbrev pub DecisionLaw : Type 0
+DecisionLaw = (k : CharClasses) (front old rest : List ℕ) (c : Spot (Unit {0})) (past : ℕ) → Among c (blocks_of_text k (front ++ (old ++ rest)))
+    → (unit_at c (text_with front old rest)).taken + c.at ≡ (length front + length old) + past → Decided (log k (front ++ (old ++ rest))) front old rest c past

@@ -1,0 +1,113 @@
+-- Pieces that are read again, and those behind them, where other trivia or other errors stand between them than before.
+use Rattle.std.specs.Prelude.{◌≡◌, ℕ, ◌+◌, ◌<◌, Bool, true, false, List, [], ◌++◌, length, Some}
+use Rattle.typst_lines.specs.Place.{Place, moved}
+use Rattle.typst_tree.specs.Tree.{Tree}
+use Rattle.typst_lines.specs.Classes.{CharClasses}
+use Rattle.typst_language.specs.Ask.{Ask, shift}
+use Rattle.typst_language.specs.Depth.{is_end}
+use Rattle.typst_language.specs.Point.{Trivia, Point, is_nil}
+use Rattle.typst_language.specs.Steps.{flush_trivia}
+use Rattle.typst_language.specs.Syntax.{◌>>=◌}
+use Rattle.typst_language.specs.Syntax.Parser.{repeat}
+use Rattle.typst_language.specs.Meaning.{Outcome, Meaning, joined, hand_of, run}
+use Rattle.typst_grammar.specs.head.MarkupHead.{MarkupHead}
+use Rattle.typst_grammar.specs.head.MarkupHead.TheVariants as head
+use Rattle.typst_grammar.specs.Markup.{markup_turn, markup_head}
+use Rattle.typst_grammar.specs.Grammar.{level_at, max_depth, parsed}
+use Rattle.typst_edits.specs.Edit.{text_with, AllEndBy, AllBeginIn}
+use Rattle.typst_edits.specs.Runs.{AllGo, End, asks_of, chain, lead, pieces, end_at, pieces_from, end_from, rest_from, tail, whole_of}
+use Rattle.typst_edits.specs.Sequence.{Sequence}
+
+-- what takes back the empty errors before it: an expression that wasn't expected
+abbrev pub minds : MarkupHead → Bool
+minds head.Stray = true
+minds head.Unexpected = true
+minds _ = false
+
+-- the expressions from a place on, and the trivia behind them
+abbrev pub onwards : Sequence → Bool × ℕ → Meaning (Unit {0})
+onwards r x = run r.level (repeat (markup_turn true r.stops) x >>= λ _. flush_trivia)
+
+-- behind these trivia, of which stays known what is told of them
+abbrev pub passed : Trivia → Point → Point
+passed t s = record s { known = Some (record t { gap = 0 }) }
+
+-- what is the same but for the trivia before it
+pub record Exchanged {A : Type 0} (t u : Trivia) (o n : Outcome A) : Type 0 where
+  pub value : n.value ≡ o.value
+  pub more : ℕ
+  pub taken : o.taken ≡ t.gap + more
+  pub taken_now : n.taken ≡ u.gap + more
+  pub back : n.back ≡ o.back
+  pub hints : o.hints ≡ []
+  pub hints_now : n.hints ≡ []
+  pub rest : List Tree
+  pub nodes : o.nodes ≡ t.nodes ++ rest
+  pub nodes_now : n.nodes ≡ u.nodes ++ rest
+  pub looks : List Ask
+  pub asks : o.asks ≡ shift t.gap looks
+  pub asks_now : n.asks ≡ shift u.gap looks
+  pub met : n.met ≡ o.met
+
+-- What may differ where pieces end, before the expressions behind them: the trivia, but not whether there are any nor their newlines, and the errors before them.
+pub record Meets (r : Sequence) (w : Place) (e f : End (Bool × ℕ)) (t u : Trivia) : Type 0 where
+  pub known : e.state.known ≡ Some t
+  pub known_now : f.state.known ≡ Some u
+  pub newlines : u.newlines ≡ t.newlines
+  pub some : is_nil u.nodes ≡ is_nil t.nodes
+  pub value : f.value ≡ e.value
+  pub reading : f.state.reading ≡ e.state.reading
+  pub held : f.state.held ≡ e.state.held
+  -- the number of empty errors matters only where the next expression takes them back
+  pub errors : minds (markup_head f.value.0 f.value.1 (hand_of r.level w f.state).kind) ≡ true → f.state.empties ≡ e.state.empties
+
+-- ---- the run of a text
+
+abbrev pub text_run : CharClasses → Place → Sequence
+text_run k z = record { level = level_at k max_depth; stops = is_end; place = z; point = (lead k z).state }
+
+-- where n pieces behind i end
+abbrev pub place_from : CharClasses → ℕ → ℕ → Place → Place
+place_from k i n z = moved (end_from k i n z).taken (moved (end_at k i z).taken z)
+
+-- The test: behind i pieces stand n that go on, with the trivia behind them, so many characters past a stretch `old`, which becomes `new`, and m pieces are to take their place.
+pub record PassesJoint (k : CharClasses) (front old new rest : List ℕ) (i n m past : ℕ) (t u : Trivia) : Type 0 where
+  -- these are pieces of the run, in both texts
+  pub first_go : AllGo (pieces k i (text_with front old rest))
+  pub old_go : AllGo (pieces_from k i n (text_with front old rest))
+  pub new_go : AllGo (pieces_from k i m (text_with front new rest))
+  -- what was looked at before them ends at the stretch or before it; the look at the first token belongs to the first piece
+  pub before : 0 < i → AllEndBy (length front) ((lead k (text_with front old rest)).asks ++ asks_of (pieces k i (text_with front old rest)))
+  -- what is looked at from behind the trivia on begins at the stretch's end or behind it
+  pub ends : ((end_at k i (text_with front old rest)).taken + (end_from k i n (text_with front old rest)).taken) + t.gap ≡ (length front + length old) + past
+  pub after : (let z = text_with front old rest in let e = end_from k i n z in
+      AllBeginIn past rest (onwards (text_run k z) e.value (moved t.gap (place_from k i n z)) (passed t e.state)).asks)
+  -- the new ones end at the shifted end, with their trivia, and meet what is behind them
+  pub shifted : ((end_at k i (text_with front new rest)).taken + (end_from k i m (text_with front new rest)).taken) + u.gap ≡ (length front + length new) + past
+  pub meets : (let z = text_with front old rest in let w = text_with front new rest in Meets (text_run k z) (place_from k i m w) (end_from k i n z) (end_from k i m w) t u)
+
+-- all behind n pieces behind i, with the trivia at the text's end
+abbrev pub onwards_from : CharClasses → ℕ → ℕ → Place → Outcome (Unit {0})
+onwards_from k i n z =
+    let r = rest_from k i n z in
+    joined r (tail k (((end_at k i z).taken + (end_from k i n z).taken) + r.taken) r.state z)
+
+-- What the readings of both texts are then.
+pub record KeptJoint (k : CharClasses) (front old new rest : List ℕ) (i n m past : ℕ) (t u : Trivia) : Type 0 where
+  -- the pieces before them are the same, and so is the look at the first token where there are some
+  pub first : pieces k i (text_with front new rest) ≡ pieces k i (text_with front old rest)
+  pub lead_same : 0 < i → lead k (text_with front new rest) ≡ lead k (text_with front old rest)
+  -- each text is read as its pieces and all behind them
+  pub was : (let z = text_with front old rest in
+      let r = chain (pieces k i z) (chain (pieces_from k i n z) (rest_from k i n z)) in
+      parsed k max_depth (front ++ (old ++ rest)) ≡ whole_of (lead k z) r (tail k r.taken r.state z))
+  pub now : (let z = text_with front old rest in
+      let w = text_with front new rest in
+      let r = chain (pieces k i z) (chain (pieces_from k i m w) (rest_from k i m w)) in
+      parsed k max_depth (front ++ (new ++ rest)) ≡ whole_of (lead k w) r (tail k r.taken r.state w))
+  -- and all behind them is the same, but for the trivia before it
+  pub behind : Exchanged t u (onwards_from k i n (text_with front old rest)) (onwards_from k i m (text_with front new rest))
+
+-- The law of the joint: where the new pieces end before other trivia or behind other errors, all behind them is what it was, behind those trivia.
+abbrev pub JointLaw : Type 0
+JointLaw = (k : CharClasses) (front old new rest : List ℕ) (i n m past : ℕ) (t u : Trivia) → PassesJoint k front old new rest i n m past t u → KeptJoint k front old new rest i n m past t u

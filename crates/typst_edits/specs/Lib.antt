@@ -1,0 +1,33 @@
+pub mod Hole
+pub mod Spot
+pub mod Every
+pub mod Occurrences
+pub mod Edit
+pub mod Named
+pub mod Runs
+pub mod Sequence
+pub mod Bytes
+pub mod RunBytes
+pub mod Laws
+pub mod Lost
+pub mod Walk
+pub mod BlockRuns
+pub mod Joint
+pub mod JointBytes
+pub mod RunTrees
+pub mod Children
+pub mod InnerJoint
+pub mod InnerBytes
+pub mod PieceNotes
+pub mod InnerChildren
+pub mod Examples
+pub mod RunExamples
+pub mod Conditions
+pub mod RareConditions
+pub mod Looks
+-- What the crates above name of those below.
+pub use Rattle.typst_grammar.specs.Bytes as Bytes-of-lookahead
+pub use Rattle.typst_grammar.specs.Grammar
+pub use Rattle.typst_grammar.specs.Markup
+pub use Rattle.typst_grammar.specs.Told
+pub use Rattle.typst_grammar.specs.View

@@ -1,0 +1,49 @@
+-- A text's tree and log, where pieces of its run are exchanged.
+use Rattle.std.specs.Prelude.{◌≡◌, ℕ, Bool, true, List, [], ◌∷◌, ◌++◌}
+use Rattle.typst_kinds.specs.declared.kind.SyntaxKind.TheVariants as kind
+use Rattle.typst_tree.specs.Tree.{Tree, forest, inner_of}
+use Rattle.typst_lines.specs.Place.{Place}
+use Rattle.typst_lines.specs.Classes.{CharClasses}
+use Rattle.typst_language.specs.declared.calls.Mark.TheVariants as mark
+use Rattle.typst_language.specs.Ask.{Ask, shift}
+use Rattle.typst_language.specs.Ask.Ask.{marked}
+use Rattle.typst_language.specs.Log.{no_log, logged}
+use Rattle.typst_language.specs.Meaning.{Outcome, standing}
+use Rattle.typst_language.specs.Point.{gap_of, state_of}
+use Rattle.typst_grammar.specs.Grammar.{max_depth, tree, log}
+use Rattle.typst_edits.specs.Edit.{text_with}
+use Rattle.typst_edits.specs.Joint.{onwards_from}
+use Rattle.typst_edits.specs.Runs.{start, asks_of, lead, pieces, end_at, pieces_from, end_from, PassesRun}
+
+-- the nodes that stand behind several outcomes, by those before them
+abbrev pub given : {A : Type 0} → List (Outcome (Bool × A)) → List Tree → List Tree
+given [] ts = ts
+given (o ∷ os) ts = given os (standing o ts)
+
+-- a text's tree, by the nodes of its first pieces, the pieces behind them, and all behind these
+abbrev pub tree_by : List (Outcome (Bool × (Bool × ℕ))) → List (Outcome (Bool × (Bool × ℕ))) → Outcome (Unit {0}) → Tree
+tree_by first second behind = inner_of kind.Markup (forest (standing behind (given second (given first []))))
+
+-- the note where a text's run begins
+abbrev pub run_mark : Ask
+run_mark = marked 0 (gap_of start.known) 0 (mark.Piece true 0) (state_of start)
+
+-- what is asked in reading a text, by the look at its first token, its first pieces, and what is asked behind them
+abbrev pub asks_by : CharClasses → ℕ → Place → List (Outcome (Bool × (Bool × ℕ))) → List Ask → List Ask
+asks_by k i z first behind = run_mark ∷ (((lead k z).asks ++ asks_of first) ++ shift (end_at k i z).taken behind)
+
+-- What the trees and the logs of both texts are, where an edit inside some pieces passes the test.
+pub record KeptTree (k : CharClasses) (front old new rest : List ℕ) (i n m : ℕ) : Type 0 where
+  -- the same nodes stand before the pieces, and the same is read behind them
+  pub tree_was : (let z = text_with front old rest in tree k (front ++ (old ++ rest)) ≡ tree_by (pieces k i z) (pieces_from k i n z) (onwards_from k i n z))
+  pub tree_now : (let z = text_with front old rest in tree k (front ++ (new ++ rest)) ≡ tree_by (pieces k i z) (pieces_from k i m (text_with front new rest)) (onwards_from k i n z))
+  -- in the log the old pieces' part is exchanged for the new ones', and what is behind it is moved
+  pub log_was : (let z = text_with front old rest in
+      log k (front ++ (old ++ rest)) ≡ logged max_depth z no_log (asks_by k i z (pieces k i z) (asks_of (pieces_from k i n z) ++ shift (end_from k i n z).taken (onwards_from k i n z).asks)))
+  pub log_now : (let z = text_with front old rest in
+      let w = text_with front new rest in
+      log k (front ++ (new ++ rest)) ≡ logged max_depth w no_log (asks_by k i w (pieces k i z) (asks_of (pieces_from k i m w) ++ shift (end_from k i m w).taken (onwards_from k i n z).asks)))
+
+-- The law of a run's tree and log: where an edit inside some pieces of a text's run passes the test, both have the new pieces' part in place of the old ones'.
+abbrev pub RunTreeLaw : Type 0
+RunTreeLaw = (k : CharClasses) (front old new rest : List ℕ) (i n m past : ℕ) → PassesRun k front old new rest i n m past → KeptTree k front old new rest i n m

@@ -1,0 +1,39 @@
+-- The pieces of any run.
+use Rattle.std.specs.Prelude.{ℕ, Bool, true, List}
+use Rattle.typst_kinds.specs.declared.kind.SyntaxKind.{SyntaxKind}
+use Rattle.typst_lines.specs.Place.{Place, moved}
+use Rattle.typst_language.specs.Point.{Point}
+use Rattle.typst_language.specs.Meaning.{Outcome, Meaning, Level, repeated, run}
+use Rattle.typst_grammar.specs.Markup.{markup_turn}
+use Rattle.typst_edits.specs.Runs.{made, End, end_of}
+
+-- where the pieces of a run are read: how deep, where they stop, and the place and the point at the first of them
+pub record Sequence : Type 0 where
+  pub level : Level
+  pub stops : SyntaxKind → Bool
+  pub place : Place
+  pub point : Point
+
+-- one of them, with whether a line begins there and in how many brackets it stands
+abbrev pub turn_of : Sequence → Bool × ℕ → Meaning (Bool × (Bool × ℕ))
+turn_of r x = run r.level (markup_turn true r.stops x)
+
+-- the first n, those behind them, and all behind these
+abbrev pub first_of : ℕ → Sequence → List (Outcome (Bool × (Bool × ℕ)))
+first_of n r = made (turn_of r) n (true, 0) r.place r.point
+
+abbrev pub first_end : ℕ → Sequence → End (Bool × ℕ)
+first_end n r = end_of (true, 0) r.point (first_of n r)
+
+abbrev pub then_of : ℕ → ℕ → Sequence → List (Outcome (Bool × (Bool × ℕ)))
+then_of i n r = let e = first_end i r in made (turn_of r) n e.value (moved e.taken r.place) e.state
+
+abbrev pub then_end : ℕ → ℕ → Sequence → End (Bool × ℕ)
+then_end i n r = let e = first_end i r in end_of e.value e.state (then_of i n r)
+
+-- where those end
+abbrev pub then_place : ℕ → ℕ → Sequence → Place
+then_place i n r = moved (then_end i n r).taken (moved (first_end i r).taken r.place)
+
+abbrev pub rest_of : ℕ → ℕ → Sequence → Outcome (Bool × ℕ)
+rest_of i n r = let f = then_end i n r in repeated (turn_of r) f.value (then_place i n r) f.state

@@ -1,2 +1,0 @@
--- From what a contract promises to the lemma behind it:
---   parse, parse_code, parse_math, parse_noted   typst_grammar: Whole, WholeCode, WholeMath, AtLevels; typst_binding: Knot

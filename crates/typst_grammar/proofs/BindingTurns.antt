@@ -1,0 +1,246 @@
+-- A binary node that an operator makes binds.
+use Rattle.std.proofs.Common.{◌≡◌, ℕ, suc, Bool, true, false, ◌||◌, if◌then◌else◌, nat_lt, nat_le, List, [], ◌∷◌, ◌++◌, Option, Some, None, refl, ap, ◌∙◌, subst, arith}
+use Rattle.std.proofs.lemmas.Bool.Decides.{nat_tests}
+use Rattle.typst_kinds.specs.Kinds.{same, is_error, is_trivia}
+use Rattle.typst_kinds.specs.Operators.{binary_of, binary_precedence}
+use Rattle.typst_kinds.specs.declared.kind.SyntaxKind.{SyntaxKind}
+use Rattle.typst_kinds.specs.declared.kind.SyntaxKind.TheVariants as kind
+use Rattle.typst_kinds.specs.declared.operator.BinOp.{BinOp}
+use Rattle.typst_kinds.specs.declared.operator.BinOp.TheVariants as binary
+use Rattle.typst_tree.specs.Tree.{Tree, forest, trees, inner_of}
+use Rattle.typst_code.specs.declared.heads.CodeTail.{CodeTail}
+use Rattle.typst_code.specs.declared.heads.CodeTail.TheVariants as tail
+use Rattle.typst_code.specs.Arguments.{calls_directly}
+use Rattle.typst_code.specs.Expressions.{binary_tail, code_tail}
+use Rattle.typst_grammar.specs.Binding.{any_errors, has_errors, first_sign, operator_of, binds_by, left_binds, right_binds, right_least, operands_bind, node_binds}
+use Rattle.typst_grammar.proofs.Signs.{sign_of, NoSign}
+use Rattle.typst_grammar.proofs.Fine.{All, or-left, or-right, or-both, and-both}
+use Rattle.typst_grammar.proofs.Heads.{LastIs}
+
+-- ---- children of a binary node
+
+trees-of : (ts : List Tree) → trees (forest ts) ≡ ts
+trees-of [] = refl
+trees-of (t ∷ ts) = ap (λ us. t ∷ us) (trees-of ts)
+
+abbrev pub BindsBy : ℕ → Tree → Type 0
+BindsBy n t = binds_by n t ≡ true
+
+module _ (sgn : Tree) (rs : List Tree) where
+  left-is : (n : ℕ) (ls : List Tree) → All (BindsBy n) ls → BindsBy n sgn → is_trivia sgn.head.kind ≡ false → left_binds n (ls ++ sgn ∷ rs) ≡ true
+  left-is n [] h b e = rw e b
+  left-is n (t ∷ ls) h b e = by-trivia (is_trivia t.head.kind) (left-is n ls h.1 b e)
+    where
+      by-trivia : (x : Bool) → left_binds n (ls ++ sgn ∷ rs) ≡ true → (if x then left_binds n (ls ++ sgn ∷ rs) else binds_by n t) ≡ true
+      by-trivia true r = r
+      by-trivia false r = h.0
+
+-- the last of them
+right-of : (n : ℕ) (rs : List Tree) → LastIs (Unit {0}) (BindsBy n) rs → right_binds n rs ≡ true
+right-of n [] h = refl
+right-of n (r ∷ []) h = h
+right-of n (r ∷ v ∷ rs) h = right-of n (v ∷ rs) h
+
+last-behind : (n : ℕ) (ls : List Tree) (sgn : Tree) (rs : List Tree) → LastIs (Unit {0}) (BindsBy n) rs → BindsBy n sgn → LastIs (Unit {0}) (BindsBy n) (ls ++ sgn ∷ rs)
+last-behind n [] sgn [] h b = b
+last-behind n [] sgn (r ∷ rs) h b = h
+last-behind n (t ∷ []) sgn rs h b = last-behind n [] sgn rs h b
+last-behind n (t ∷ u ∷ ls) sgn rs h b = last-behind n (u ∷ ls) sgn rs h b
+
+pub bare-binds : (n : ℕ) (t : Tree) → operator_of t ≡ None → BindsBy n t
+bare-binds n t e = rw (e, binds_by) refl
+
+-- an operator between what binds as it asks for
+pub binary-binds : (op : BinOp) (ls : List Tree) (sgn : Tree) (rs : List Tree) → first_sign false (ls ++ sgn ∷ rs) ≡ Some op → is_trivia sgn.head.kind ≡ false → operator_of sgn ≡ None → All NoSign ls → All (BindsBy (binary_precedence op)) ls → LastIs (Unit {0}) (BindsBy (right_least op)) rs
+    → (operator_of (inner_of kind.Binary (forest (ls ++ sgn ∷ rs))) ≡ Some op) × (node_binds (inner_of kind.Binary (forest (ls ++ sgn ∷ rs))) ≡ true)
+binary-binds op ls sgn rs s e none no_signs left right =
+    let ts = ls ++ sgn ∷ rs in
+    let is : operator_of (inner_of kind.Binary (forest ts)) ≡ Some op = ap (first_sign false) (trees-of ts) ∙ s in
+    let bare : (n : ℕ) → BindsBy n sgn = (λ n. bare-binds n sgn none) in
+    let both : operands_bind op ts ≡ true = and-both (left_binds (binary_precedence op) ts) (right_binds (right_least op) ts)
+    (left-is sgn rs (binary_precedence op) ls left (bare (binary_precedence op)) e)
+    (right-of (right_least op) ts (last-behind (right_least op) ls sgn rs right (bare (right_least op)))) in
+    (is, rw (is, node_binds) (ap (operands_bind op) (trees-of ts) ∙ both))
+
+-- ---- errors
+
+abbrev pub Sane : Tree → Type 0
+Sane t = has_errors t ≡ false
+
+pub all-sane : (ts : List Tree) → any_errors (forest ts) ≡ false → All Sane ts
+all-sane [] e = tt
+all-sane (t ∷ ts) e =
+    let k = is_error t.head.kind in
+    let a = any_errors t.kids in
+    let r = any_errors (forest ts) in
+    let e2 = or-right k (a || r) e in
+    (or-both k a (or-left k (a || r) e) (or-left a r e2), all-sane ts (or-right a r e2))
+
+-- what holds where there are no errors
+pub all-with : (P : Tree → Type 0) (ts : List Tree) → All (λ t. Sane t → P t) ts → All Sane ts → All P ts
+all-with P [] h e = tt
+all-with P (t ∷ ts) h e = (h.0 e.0, all-with P ts h.1 e.1)
+
+pub last-with : (E : Type 0) (P : Tree → Type 0) (ts : List Tree) → LastIs E (λ t. Sane t → P t) ts → All Sane ts → LastIs E P ts
+last-with E P [] h e = h
+last-with E P (t ∷ []) h e = h e.0
+last-with E P (t ∷ u ∷ ts) h e = last-with E P (u ∷ ts) h e.1
+
+pub all-left : (P : Tree → Type 0) (ts us : List Tree) → All P (ts ++ us) → All P ts
+all-left P [] us h = tt
+all-left P (t ∷ ts) us h = (h.0, all-left P ts us h.1)
+
+pub all-right : (P : Tree → Type 0) (ts us : List Tree) → All P (ts ++ us) → All P us
+all-right P [] us h = h
+all-right P (t ∷ ts) us h = all-right P ts us h.1
+
+-- ---- which operator comes
+
+-- what begins with a token of this kind binds less tightly
+abbrev pub below : ℕ → SyntaxKind → Bool
+below least k = elim (sign_of k) [ None ↦ true | Some op ↦ nat_lt (binary_precedence op) least ]
+
+-- where a node's operator stands to the left of such a token, it binds at least as tightly
+abbrev pub Tight : SyntaxKind → Tree → Type 0
+Tight k t = elim (operator_of t) [ None ↦ Unit {0} | Some op ↦ below (suc (binary_precedence op)) k ≡ true ]
+
+pub tight-binds : (k : SyntaxKind) (op : BinOp) (t : Tree) → sign_of k ≡ Some op → Tight k t → BindsBy (binary_precedence op) t
+tight-binds k op t e h = by-operator (operator_of t) h
+  where
+    at-least : (a b : ℕ) → nat_lt a (suc b) ≡ true → nat_le a b ≡ true
+    at-least a b l = grind (arith, nat_tests)
+
+    by-sign : (b : ℕ) (o : Option BinOp) → o ≡ Some op → (elim o as (λ _. Bool) [ None ↦ true | Some x ↦ nat_lt (binary_precedence x) (suc b) ]) ≡ true → nat_le (binary_precedence op) b ≡ true
+    by-sign b o i l = at-least (binary_precedence op) b (subst (λ (x : Option BinOp). (elim x as (λ _. Bool) [ None ↦ true | Some y ↦ nat_lt (binary_precedence y) (suc b) ]) ≡ true) i l)
+
+    by-operator : (o : Option BinOp) → (elim o as (λ _. Type 0) [ None ↦ Unit {0} | Some x ↦ below (suc (binary_precedence x)) k ≡ true ]) → (elim o as (λ _. Bool) [ None ↦ true | Some x ↦ nat_le (binary_precedence op) (binary_precedence x) ]) ≡ true
+    by-operator None l = refl
+    by-operator (Some x) l = by-sign (binary_precedence x) (sign_of k) e l
+
+module _ (least : ℕ) where
+  -- no tail: what comes binds less tightly
+  nothing-by : (a b c : Bool) (o : Option BinOp)
+      → (if a then tail.Call else (if b then tail.Field else (if c then (if nat_lt (binary_precedence binary.NotIn) least then tail.Nothing else tail.NotIn) else binary_tail least o))) ≡ tail.Nothing
+      → (elim (if c then Some binary.NotIn else o) as (λ _. Bool) [ None ↦ true | Some op ↦ nat_lt (binary_precedence op) least ]) ≡ true
+  nothing-by true b c o h = absurd (cc)
+  nothing-by false true c o h = absurd (cc)
+  nothing-by false false true o h = by-less (nat_lt (binary_precedence binary.NotIn) least) h
+    where
+      by-less : (x : Bool) → (if x then tail.Nothing else tail.NotIn) ≡ tail.Nothing → x ≡ true
+      by-less true i = refl
+      by-less false i = absurd (cc)
+  nothing-by false false false None h = refl
+  nothing-by false false false (Some op) h = by-less (nat_lt (binary_precedence op) least) h
+    where
+      by-less : (x : Bool) → (if x then tail.Nothing else tail.Binary op) ≡ tail.Nothing → x ≡ true
+      by-less true i = refl
+      by-less false i = absurd (cc)
+
+  pub nothing-below : (k : SyntaxKind) (has_trivia : Bool) → code_tail false least k has_trivia ≡ tail.Nothing → below least k ≡ true
+  nothing-below k has_trivia h = nothing-by (calls_directly k has_trivia) (same kind.Dot k) (same kind.Not k) (binary_of k) h
+
+-- ---- which tail comes
+
+module _ (least : ℕ) where
+  abbrev tail_of : Bool → Bool → Bool → Option BinOp → CodeTail
+  tail_of a b c o = if a then tail.Call else (if b then tail.Field else (if c then (if nat_lt (binary_precedence binary.NotIn) least then tail.Nothing else tail.NotIn) else binary_tail least o))
+
+  calls-by : (a b c : Bool) (o : Option BinOp) → tail_of a b c o ≡ tail.Call → a ≡ true
+  calls-by true b c o h = refl
+  calls-by false true c o h = absurd (cc)
+  calls-by false false true o h = absurd (by-less (nat_lt (binary_precedence binary.NotIn) least) h)
+    where
+      by-less : (x : Bool) → (if x then tail.Nothing else tail.NotIn) ≡ tail.Call → ⊥
+      by-less true i = cc
+      by-less false i = cc
+  calls-by false false false None h = absurd (cc)
+  calls-by false false false (Some op) h = absurd (by-less (nat_lt (binary_precedence op) least) h)
+    where
+      by-less : (x : Bool) → (if x then tail.Nothing else tail.Binary op) ≡ tail.Call → ⊥
+      by-less true i = cc
+      by-less false i = cc
+
+  fields-by : (a b c : Bool) (o : Option BinOp) → tail_of a b c o ≡ tail.Field → b ≡ true
+  fields-by true b c o h = absurd (cc)
+  fields-by false true c o h = refl
+  fields-by false false true o h = absurd (by-less (nat_lt (binary_precedence binary.NotIn) least) h)
+    where
+      by-less : (x : Bool) → (if x then tail.Nothing else tail.NotIn) ≡ tail.Field → ⊥
+      by-less true i = cc
+      by-less false i = cc
+  fields-by false false false None h = absurd (cc)
+  fields-by false false false (Some op) h = absurd (by-less (nat_lt (binary_precedence op) least) h)
+    where
+      by-less : (x : Bool) → (if x then tail.Nothing else tail.Binary op) ≡ tail.Field → ⊥
+      by-less true i = cc
+      by-less false i = cc
+
+  direct-by : (a b c : Bool) (o : Option BinOp) → tail_of a b c o ≡ tail.DirectField → ⊥
+  direct-by true b c o h = cc
+  direct-by false true c o h = cc
+  direct-by false false true o h = by-less (nat_lt (binary_precedence binary.NotIn) least) h
+    where
+      by-less : (x : Bool) → (if x then tail.Nothing else tail.NotIn) ≡ tail.DirectField → ⊥
+      by-less true i = cc
+      by-less false i = cc
+  direct-by false false false None h = cc
+  direct-by false false false (Some op) h = by-less (nat_lt (binary_precedence op) least) h
+    where
+      by-less : (x : Bool) → (if x then tail.Nothing else tail.Binary op) ≡ tail.DirectField → ⊥
+      by-less true i = cc
+      by-less false i = cc
+
+  enough : (b : ℕ) → nat_lt b least ≡ false → nat_le least b ≡ true
+  enough b l = grind (arith, nat_tests)
+
+  not-by : (a b c : Bool) (o : Option BinOp) → tail_of a b c o ≡ tail.NotIn → (c ≡ true) × (nat_le least (binary_precedence binary.NotIn) ≡ true)
+  not-by true b c o h = absurd (cc)
+  not-by false true c o h = absurd (cc)
+  not-by false false true o h = (refl, enough (binary_precedence binary.NotIn) (by-less (nat_lt (binary_precedence binary.NotIn) least) h))
+    where
+      by-less : (x : Bool) → (if x then tail.Nothing else tail.NotIn) ≡ tail.NotIn → x ≡ false
+      by-less true i = absurd (cc)
+      by-less false i = refl
+  not-by false false false None h = absurd (cc)
+  not-by false false false (Some op) h = absurd (by-less (nat_lt (binary_precedence op) least) h)
+    where
+      by-less : (x : Bool) → (if x then tail.Nothing else tail.Binary op) ≡ tail.NotIn → ⊥
+      by-less true i = cc
+      by-less false i = cc
+
+  abbrev operator_in : CodeTail → BinOp
+  operator_in (tail.Binary op) = op
+  operator_in _ = binary.NotIn
+
+  signs-by : (op : BinOp) (a b c : Bool) (o : Option BinOp) → tail_of a b c o ≡ tail.Binary op → ((if c then Some binary.NotIn else o) ≡ Some op) × ((o ≡ Some op) × (nat_le least (binary_precedence op) ≡ true))
+  signs-by op true b c o h = absurd (cc)
+  signs-by op false true c o h = absurd (cc)
+  signs-by op false false true o h = absurd (by-less (nat_lt (binary_precedence binary.NotIn) least) h)
+    where
+      by-less : (x : Bool) → (if x then tail.Nothing else tail.NotIn) ≡ tail.Binary op → ⊥
+      by-less true i = cc
+      by-less false i = cc
+  signs-by op false false false None h = absurd (cc)
+  signs-by op false false false (Some found) h = by-less (nat_lt (binary_precedence found) least) refl h
+    where
+      by-less : (x : Bool) → nat_lt (binary_precedence found) least ≡ x → (if x then tail.Nothing else tail.Binary found) ≡ tail.Binary op → (Some found ≡ Some op) × ((Some found ≡ Some op) × (nat_le least (binary_precedence op) ≡ true))
+      by-less true e i = absurd (cc)
+      by-less false e i =
+          let same : found ≡ op = ap operator_in i in
+          (ap (λ x. Some x) same, (ap (λ x. Some x) same, subst (λ (x : BinOp). nat_le least (binary_precedence x) ≡ true) same (enough (binary_precedence found) e)))
+
+  module _ (k : SyntaxKind) (has_trivia : Bool) where
+    pub call-comes : code_tail false least k has_trivia ≡ tail.Call → calls_directly k has_trivia ≡ true
+    call-comes h = calls-by (calls_directly k has_trivia) (same kind.Dot k) (same kind.Not k) (binary_of k) h
+
+    pub dot-comes : code_tail false least k has_trivia ≡ tail.Field → same kind.Dot k ≡ true
+    dot-comes h = fields-by (calls_directly k has_trivia) (same kind.Dot k) (same kind.Not k) (binary_of k) h
+
+    pub no-direct : code_tail false least k has_trivia ≡ tail.DirectField → ⊥
+    no-direct h = direct-by (calls_directly k has_trivia) (same kind.Dot k) (same kind.Not k) (binary_of k) h
+
+    pub not-comes : code_tail false least k has_trivia ≡ tail.NotIn → (same kind.Not k ≡ true) × (nat_le least (binary_precedence binary.NotIn) ≡ true)
+    not-comes h = not-by (calls_directly k has_trivia) (same kind.Dot k) (same kind.Not k) (binary_of k) h
+
+    pub sign-comes : (op : BinOp) → code_tail false least k has_trivia ≡ tail.Binary op → (sign_of k ≡ Some op) × ((binary_of k ≡ Some op) × (nat_le least (binary_precedence op) ≡ true))
+    sign-comes op h = signs-by op (calls_directly k has_trivia) (same kind.Dot k) (same kind.Not k) (binary_of k) h

@@ -1,0 +1,182 @@
+-- Expressions with operators bind.
+use Rattle.std.proofs.lemmas.Bool.Decides.{nat_tests}
+use Rattle.std.proofs.Common.{◌==◌, if◌then◌else◌, codes, take, ◌≡◌, ℕ, suc, ◌+◌, ◌≤◌, Bool, true, false, List, [], length, Option, refl, ap, sym, ◌∙◌, ◌⊎◌, inl, inr, subst, arith}
+use Rattle.typst_lines.specs.Place.{Place, moved}
+use Rattle.typst_tree.specs.Tree.{Tree, forest}
+use Rattle.typst_lines.specs.Classes.{CharClasses}
+use Rattle.typst_language.specs.declared.calls.Call.TheVariants.{CodeExpr}
+use Rattle.typst_code.specs.declared.heads.CodeTail.{CodeTail}
+use Rattle.typst_code.specs.declared.heads.CodeTail.TheVariants as tail
+use Rattle.typst_code.specs.Arguments.{arguments}
+use Rattle.typst_language.specs.Depth.{anywhere, skip_one, too_deep, deeper}
+use Rattle.typst_language.specs.Knot.{meaning_of}
+use Rattle.typst_language.specs.declared.reading.AtNewline.TheVariants.{Continue}
+use Rattle.typst_language.specs.Syntax.{◌>>◌}
+use Rattle.typst_language.specs.Syntax.Parser.{gives, repeat}
+use Rattle.typst_code.specs.Expected.{expect_identifier}
+use Rattle.typst_code.specs.Expressions.{binary_expr, call_tail, code_expr, code_primary, code_tail, code_tail_turn, direct_field, not_in, tail_by}
+use Rattle.typst_language.specs.Hand.{Hand, told}
+use Rattle.typst_language.specs.Point.{Point, pending}
+use Rattle.typst_language.specs.Shape.{Shape, shaped}
+use Rattle.typst_language.specs.Shape.Shape.{fails}
+use Rattle.typst_code.specs.Statements.{field}
+use Rattle.typst_language.specs.Steps.{eat, expected, grow, node, within}
+use Rattle.typst_language.specs.Meaning.{Outcome, Level, plain, deeper_by_one, inside, reshaped, joined, bound, growths, growing, hand_of, hand_asks_of, asked, run}
+use Rattle.typst_language.proofs.Ends.{hand-again}
+use Rattle.typst_language.proofs.Knot.{sane-at}
+use Rattle.typst_language.proofs.Places.{no-end}
+use Rattle.typst_grammar.specs.Grammar.{rules, level_at}
+use Rattle.typst_grammar.specs.Binding.{any_errors}
+use Rattle.typst_grammar.proofs.Fine.{All, Fines}
+use Rattle.typst_grammar.proofs.FineRuns.{Gives, gives-all, gives-run, Plain, Still, still-hand}
+use Rattle.typst_grammar.proofs.Heads.{LastIs, standing-none}
+use Rattle.typst_grammar.proofs.PlainParts.{plain-eat, plain-expected, plain-deep, plain-deeper}
+use Rattle.typst_grammar.proofs.PlainCode.{plain-field, plain-call}
+use Rattle.typst_grammar.proofs.Grown.{errors-behind, kind_at, Ended, Grown, Operand, operand-growths}
+use Rattle.typst_grammar.proofs.BindingLevels.{CallsBind, DeeperOperands, level-binds}
+use Rattle.typst_grammar.proofs.Lost.{Holds, Lost, operand-lost}
+use Rattle.typst_grammar.proofs.Primary.{primary-begins}
+use Rattle.typst_grammar.proofs.Tails.{turn-turned}
+
+-- ---- what a turn reads and says
+
+plain-binary : (op : _) → Plain (binary_expr op)
+unfolding binary_expr
+plain-binary op = (plain-eat, λ _. (plain-deeper _ _, λ _. tt))
+
+plain-not : Plain not_in
+unfolding not_in
+plain-not = (plain-eat, λ _. (refl, λ _. (plain-binary _, (plain-expected _, λ _. tt))))
+
+plain-direct : Plain direct_field
+unfolding direct_field
+plain-direct = (refl, λ _. (plain-field, tt))
+
+plain-tail : (t : CodeTail) → Plain (tail_by t)
+plain-tail tail.Call = plain-call
+plain-tail tail.Field = plain-field
+plain-tail tail.DirectField = plain-direct
+plain-tail tail.NotIn = plain-not
+plain-tail (tail.Binary op) = plain-binary op
+plain-tail tail.Nothing = tt
+
+plain-turn : (least : ℕ) (x : Unit {0}) → Plain (code_tail_turn false least x)
+unfolding code_tail_turn
+plain-turn least x = (refl, λ a. plain-tail (code_tail false least a.kind a.has_trivia))
+
+abbrev Says : Option Shape × Unit {0} → Type 0
+Says v = Holds v.0
+
+says-call : Gives Says call_tail
+unfolding call_tail
+says-call = gives-all _ (λ _. tt) arguments
+
+says-field : Gives Says field
+unfolding field
+says-field = gives-all _ (λ _. gives-all _ (λ _. tt) expect_identifier) eat
+
+says-direct : Gives Says direct_field
+unfolding direct_field
+says-direct = λ _. (says-field, tt)
+
+says-binary : (op : _) → Gives Says (binary_expr op)
+unfolding binary_expr
+says-binary op = gives-all _ (λ _. gives-all _ (λ _. tt) (deeper _ _)) eat
+
+says-not : Gives Says not_in
+unfolding not_in
+says-not = gives-all _ (λ _ _. (says-binary _, gives-all _ (λ _. tt) (expected _))) eat
+
+says-tail : (t : CodeTail) → Gives Says (tail_by t)
+says-tail tail.Call = says-call
+says-tail tail.Field = says-field
+says-tail tail.DirectField = says-direct
+says-tail tail.NotIn = says-not
+says-tail (tail.Binary op) = says-binary op
+says-tail tail.Nothing = tt
+
+says-turn : (least : ℕ) (x : Unit {0}) → Gives Says (code_tail_turn false least x)
+unfolding code_tail_turn
+says-turn least x = λ a. says-tail (code_tail false least a.kind a.has_trivia)
+
+-- ---- expressions
+
+-- behind a look
+operand-behind : (k : CharClasses) (least : ℕ) {A B : Type 0} (z : Place) (s t : Point) (b : B) (asks : List _) (m : Bool) (o : Outcome A) → t.is_after_error ≡ s.is_after_error → Operand k least z t o → Operand k least z s (joined (record (plain b t) { asks = asks; met = m }) o)
+operand-behind k least z s t b asks m o e h =
+    let e2 = standing-none o in
+    let same : 0 + o.taken ≡ o.taken = omega arith in
+    let there = ap (λ (n : ℕ). kind_at k least (moved n z) o.state) same in
+    let f = h.last in
+    record {
+      binds = record { nodes = subst (λ (ts : List Tree). Fines ts) (sym e2) h.binds.nodes; known = h.binds.known };
+      last = λ sane. subst (λ (ts : List Tree). LastIs (s.is_after_error ≡ true) (Ended k least (kind_at k least (moved (0 + o.taken) z) o.state)) ts) (sym e2)
+          (subst (λ i. LastIs (s.is_after_error ≡ true) (Ended k least i) o.nodes) (sym there)
+          (subst (λ (a : Bool). LastIs (a ≡ true) (Ended k least (kind_at k least (moved o.taken z) o.state)) o.nodes) e (f (subst (λ (ts : List Tree). any_errors (forest ts) ≡ false) e2 sane))));
+    }
+
+module _ (k : CharClasses) (levels : ℕ) (d : CallsBind k levels) (ops : DeeperOperands k levels) (least : ℕ) where
+  abbrev l : Level
+  l = level_at k levels
+
+  abbrev turns_by : Unit {0} → Place → Point → Outcome (Option Shape × Unit {0})
+  turns_by x = run l (code_tail_turn false least x)
+
+  grown-operand : (z : Place) (s : Point) (n : ℕ) (o : Outcome (Unit {0})) → bound (moved o.taken z) o.state ≤ bound z s → Grown k least n z s o ⊎ Lost k least n z s o → Operand k least z s (growths turns_by n (suc (bound z s)) o z)
+  grown-operand z s n o h (inl g) = operand-growths k least turns_by n z s (λ x y. turn-turned k levels d ops least n z s x y) (suc (bound z s)) o (omega (arith, h)) g
+  grown-operand z s n o h (inr g) =
+      operand-lost k least n z s turns_by (λ x. level-binds k levels d (code_tail_turn false least x) (plain-turn least x)) (λ x. (sane-at (rules k) k levels (code_tail_turn false least x)).backs)
+      (λ x w t. gives-run l Says (code_tail_turn false least x) (says-turn least x) w t) (suc (bound z s)) o g
+
+  pub expr-binds : (z : Place) (s : Point) → All Still (pending s.known) → Operand k least z s (run l (code_expr false least) z s)
+  unfolding run code_expr grow growing
+  expr-binds z s still =
+      let h = hand_of l z s in
+      let t = asked h s in
+      let o = run l (code_primary false) z t in
+      let known = still-hand l z s still in
+      let first = primary-begins k levels d least z t known in
+      let n = length h.trivia in
+      let begun = subst (λ (v : Hand). Grown k least (length v.trivia) z t o ⊎ Lost k least (length v.trivia) z t o) (hand-again k s.held s.known z) first in
+      let within = (sane-at (rules k) k levels (code_primary false)).within z t in
+      operand-behind k least z s t (told h) (hand_asks_of l z s) false (growths turns_by n (suc (bound z t)) o z) refl (grown-operand z t n o (omega (arith, within)) begun)
+
+-- ---- one level deeper
+
+module _ (k : CharClasses) where
+  is-some : (n : ℕ) → (suc n == 0) ≡ false
+  is-some n = grind (arith, nat_tests)
+
+  by-depth : (least : ℕ) (z : Place) (s : Point) (a : Outcome (Unit {0})) (c : Outcome (Unit {0})) → Operand k least z s c → (b : Bool) → b ≡ false → Operand k least z s (joined (record (plain b s) { met = b }) (if b then a else c))
+  by-depth least z s a c h true e = absurd (cc)
+  by-depth least z s a c h false e = operand-behind k least z s s false [] false c refl h
+
+  call-binds : (levels : ℕ) (d : CallsBind k levels) → DeeperOperands k levels → (least : ℕ) (z : Place) (s : Point) → All Still (pending s.known) → Operand k least z s (deeper_by_one (meaning_of (rules k) k (suc levels) (CodeExpr false least) z s))
+  unfolding meaning_of
+  call-binds levels d ops least z s still = let o = expr-binds k levels d ops least z s still in record { binds = record { nodes = o.binds.nodes; known = o.binds.known }; last = o.last }
+
+  pub deeper-binds : (levels : ℕ) (d : CallsBind k levels) → DeeperOperands k levels → DeeperOperands k (suc levels)
+  unfolding run deeper
+  deeper-binds levels d ops least z s still = by-depth least z s _ _ (call-binds levels d ops least z s still) (suc levels == 0) (is-some levels)
+
+  too-wrong : (z : Place) (s : Point) → any_errors (forest (run (level_at k 0) (too_deep anywhere >> gives (tt {0})) z s).nodes) ≡ false → ⊥
+  unfolding run too_deep node
+  too-wrong z s sane =
+      let l = level_at k 0 in
+      let t = asked (hand_of l z s) s in
+      let n = length (hand_of l z s).trivia in
+      let o = run l (within (λ r. record r { at_newline = Continue }) (repeat (skip_one anywhere) 0)) z t in
+      let w = reshaped (fails (codes "maximum parsing depth exceeded")) n o in
+      let x = run l (node (λ _. fails (codes "maximum parsing depth exceeded")) (within (λ r. record r { at_newline = Continue }) (repeat (skip_one anywhere) 0))) z s in
+      let y = run l (too_deep anywhere) z s in
+      let inner : x.nodes ≡ w.nodes = standing-none (joined w (plain o.value w.state)) ∙ sym (no-end w.nodes) in
+      let all : (run l (too_deep anywhere >> gives (tt {0})) z s).nodes ≡ w.nodes = sym (no-end y.nodes) ∙ sym (no-end x.nodes) ∙ inner in
+      let last = errors-behind (take (n + o.back) o.nodes) (shaped (fails (codes "maximum parsing depth exceeded")) (inside n o)) (subst (λ (ts : List Tree). any_errors (forest ts) ≡ false) all sane) in
+      cc
+
+  pub limit-binds : CallsBind k 0 → DeeperOperands k 0
+  unfolding run deeper
+  limit-binds d least z s still =
+      let l = level_at k 0 in
+      operand-behind k least z s s true [] true (run l (too_deep anywhere >> gives (tt {0})) z s) refl
+      (record { binds = level-binds k 0 d (too_deep anywhere >> gives (tt {0})) (plain-deep anywhere, λ _. tt) z s still; last = λ sane. absurd (too-wrong z s sane) })

@@ -1,0 +1,323 @@
+-- Trees that bind where they have no errors.
+use Rattle.std.proofs.Common.{◌≡◌, ℕ, zero, suc, Bool, true, false, ◌&&◌, ◌||◌, if◌then◌else◌, List, [], ◌∷◌, ◌++◌, take, drop, None, refl, ap, sym, subst, ◌⊎◌, inl, inr}
+use Rattle.typst_kinds.specs.Kinds.{same, is_error}
+use Rattle.typst_kinds.specs.Names.{name_of}
+use Rattle.typst_kinds.specs.declared.kind.SyntaxKind.{SyntaxKind}
+use Rattle.typst_kinds.specs.declared.kind.SyntaxKind.TheVariants as kind
+use Rattle.typst_tree.specs.Diagnostic.{hint_with}
+use Rattle.typst_tree.specs.Messages.{made_unexpected, made_expected, expected_error, expected_message, unexpected_message, is_lost_name, keyword_hint}
+use Rattle.typst_tree.specs.Tree.{Tree, Forest, forest, trees, text_of, leaf_of, inner_of, error_of, topped, with_kind, made_error, advised, all_advised}
+use Rattle.typst_tree.specs.Tree.Forest.{none, more}
+use Rattle.typst_language.specs.Shape.{Making, made, hinted_last, hinted, Change, is_delimited, in_parens, renamed_last, parens_renamed, without_parens, on_first, first_changed, Shape, shaped}
+use Rattle.typst_language.specs.Shape.Making.{itself, of_kind, surprise, wanted}
+use Rattle.typst_language.specs.Shape.Change.{stays, turns_wrong, is_not, renamed, unparened}
+use Rattle.typst_language.specs.Shape.Shape.{keeps, holds, lacks, warns, fails}
+use Rattle.typst_language.proofs.Within.{on_both, on_if}
+pub use Rattle.typst_grammar.proofs.Lists.{All, all-append, all-take, all-drop, all-map}
+use Rattle.typst_grammar.specs.Binding.{any_errors, has_errors, first_sign, operator_of, node_binds, all_bind, binds}
+
+-- ---- tests
+
+pub or-left : (a b : Bool) → (a || b) ≡ false → a ≡ false
+or-left true b h = absurd (cc)
+or-left false b h = refl
+
+pub or-right : (a b : Bool) → (a || b) ≡ false → b ≡ false
+or-right true b h = absurd (cc)
+or-right false b h = h
+
+pub or-both : (a b : Bool) → a ≡ false → b ≡ false → (a || b) ≡ false
+or-both true b h i = absurd (cc)
+or-both false b h i = i
+
+pub and-left : (a b : Bool) → (a && b) ≡ true → a ≡ true
+and-left true b h = refl
+and-left false b h = absurd (cc)
+
+pub and-right : (a b : Bool) → (a && b) ≡ true → b ≡ true
+and-right true b h = h
+and-right false b h = absurd (cc)
+
+pub and-both : (a b : Bool) → a ≡ true → b ≡ true → (a && b) ≡ true
+and-both true b h i = i
+and-both false b h i = absurd (cc)
+
+-- ---- several trees
+
+-- what holds of a tree with hints too
+abbrev pub Steady : (Tree → Type 0) → Type 0
+Steady P = (hints : List (List ℕ)) (t : Tree) → P t → P (all_advised hints t)
+
+all-last : (P : Tree → Type 0) → Steady P → (hints : List (List ℕ)) (ts : List Tree) → All P ts → All P (hinted_last hints ts)
+all-last P f hints [] h = tt
+all-last P f hints (t ∷ []) h = (on_both P (is_error t.head.kind) (all_advised hints t) t (f hints t h.0) h.0, tt)
+all-last P f hints (t ∷ u ∷ ts) h = (h.0, all-last P f hints (u ∷ ts) h.1)
+
+pub all-hinted : (P : Tree → Type 0) → Steady P → (hints : List (List ℕ)) (ts : List Tree) → All P ts → All P (hinted hints ts)
+all-hinted P f [] ts h = h
+all-hinted P f (hint ∷ hints) ts h = all-last P f (hint ∷ hints) ts h
+
+-- ---- trees that bind where they have no errors
+
+abbrev pub Fine : Tree → Type 0
+Fine t = has_errors t ≡ false → binds t ≡ true
+
+pub fine-advised : Steady Fine
+fine-advised [] t h = h
+fine-advised (hint ∷ hints) t h = fine-advised hints (advised (hint_with None hint) t) h
+
+-- a node that is no binary one has no operator
+pub no-operator : (t : Tree) → same kind.Binary t.head.kind ≡ false → operator_of t ≡ None
+no-operator t e = rw e refl
+
+pub binds-bare : (t : Tree) → operator_of t ≡ None → node_binds t ≡ true
+binds-bare t e = rw (e, node_binds) refl
+
+abbrev all-bind-fine : (ts : List Tree) → All Fine ts → any_errors (forest ts) ≡ false → all_bind (forest ts) ≡ true
+all-bind-fine [] h e = refl
+all-bind-fine (t ∷ ts) h e =
+    let k = is_error t.head.kind in
+    let a = any_errors t.kids in
+    let r = any_errors (forest ts) in
+    let e2 = or-right k (a || r) e in
+    let f = h.0 (or-both k a (or-left k (a || r) e) (or-left a r e2)) in
+    and-both (node_binds t) (all_bind t.kids && all_bind (forest ts)) (and-left (node_binds t) (all_bind t.kids) f)
+    (and-both (all_bind t.kids) (all_bind (forest ts)) (and-right (node_binds t) (all_bind t.kids) f) (all-bind-fine ts h.1 (or-right a r e2)))
+
+-- an inner node over them that is no binary one
+pub fine-inner : (k : SyntaxKind) (ts : List Tree) → same kind.Binary k ≡ false → All Fine ts → Fine (inner_of k (forest ts))
+fine-inner k ts e h n =
+    and-both (node_binds (inner_of k (forest ts))) (all_bind (forest ts)) (binds-bare (inner_of k (forest ts)) (no-operator (inner_of k (forest ts)) e))
+    (all-bind-fine ts h (or-right (is_error k) (any_errors (forest ts)) n))
+
+-- trees of which each binds, up to the first error among them
+abbrev pub Fines : List Tree → Type 0
+Fines [] = Unit {0}
+Fines (t ∷ ts) = Fine t × ((is_error t.head.kind ≡ true) ⊎ Fines ts)
+
+pub fines-all : (ts : List Tree) → All Fine ts → Fines ts
+fines-all [] h = tt
+fines-all (t ∷ ts) h = (h.0, inr (fines-all ts h.1))
+
+pub fines-append : (ts us : List Tree) → Fines ts → Fines us → Fines (ts ++ us)
+fines-append [] us h k = k
+fines-append (t ∷ ts) us (f, inl e) k = (f, inl e)
+fines-append (t ∷ ts) us (f, inr h) k = (f, inr (fines-append ts us h k))
+
+pub fines-take : (n : ℕ) (ts : List Tree) → Fines ts → Fines (take n ts)
+fines-take zero ts h = tt
+fines-take (suc n) [] h = tt
+fines-take (suc n) (t ∷ ts) (f, inl e) = (f, inl e)
+fines-take (suc n) (t ∷ ts) (f, inr h) = (f, inr (fines-take n ts h))
+
+hinted-error : (hints : List (List ℕ)) (t : Tree) → is_error t.head.kind ≡ true → is_error (all_advised hints t).head.kind ≡ true
+hinted-error [] t e = e
+hinted-error (hint ∷ hints) t e = hinted-error hints (advised (hint_with None hint) t) e
+
+fines-last : (hints : List (List ℕ)) (ts : List Tree) → Fines ts → Fines (hinted_last hints ts)
+fines-last hints [] h = tt
+fines-last hints (t ∷ []) h = (on_both Fine (is_error t.head.kind) (all_advised hints t) t (fine-advised hints t h.0) h.0, inr tt)
+fines-last hints (t ∷ u ∷ ts) (f, inl e) = (f, inl e)
+fines-last hints (t ∷ u ∷ ts) (f, inr h) = (f, inr (fines-last hints (u ∷ ts) h))
+
+pub fines-hinted : (hints : List (List ℕ)) (ts : List Tree) → Fines ts → Fines (hinted hints ts)
+fines-hinted [] ts h = h
+fines-hinted (hint ∷ hints) ts h = fines-last (hint ∷ hints) ts h
+
+-- where there is none they all do
+pub fines-sane : (ts : List Tree) → any_errors (forest ts) ≡ false → Fines ts → All Fine ts
+fines-sane [] n h = tt
+fines-sane (t ∷ ts) n (f, inl e) = let x = or-left (is_error t.head.kind) (any_errors t.kids || any_errors (forest ts)) n in absurd (cc)
+fines-sane (t ∷ ts) n (f, inr h) = (f, fines-sane ts (or-right (any_errors t.kids) (any_errors (forest ts)) (or-right (is_error t.head.kind) (any_errors t.kids || any_errors (forest ts)) n)) h)
+
+pub fine-over : (k : SyntaxKind) (ts : List Tree) → same kind.Binary k ≡ false → Fines ts → Fine (inner_of k (forest ts))
+fine-over k ts e h n = fine-inner k ts e (fines-sane ts (or-right (is_error k) (any_errors (forest ts)) n) h) n
+
+pub fine-binary : (ts : List Tree) → Fines ts → (any_errors (forest ts) ≡ false → node_binds (inner_of kind.Binary (forest ts)) ≡ true) → Fine (inner_of kind.Binary (forest ts))
+fine-binary ts h b n = and-both (node_binds (inner_of kind.Binary (forest ts))) (all_bind (forest ts)) (b n) (all-bind-fine ts (fines-sane ts n h) n)
+
+pub fine-error : (message text : List ℕ) → Fine (error_of message text)
+fine-error message text n = absurd (cc)
+
+-- a leaf has no operator
+pub leaf-operator : (k : SyntaxKind) (s : List ℕ) → operator_of (leaf_of k s) ≡ None
+leaf-operator k s = on_both (λ o. o ≡ None) (same kind.Binary k) (first_sign false []) None refl refl
+
+pub fine-leaf : (k : SyntaxKind) (s : List ℕ) → Fine (leaf_of k s)
+fine-leaf k s n = and-both (node_binds (leaf_of k s)) true (binds-bare (leaf_of k s) (leaf-operator k s)) refl
+
+-- ---- what becomes of a node
+
+-- a node of another kind
+module _ (k : SyntaxKind) (e : same kind.Binary k ≡ false) (t : Tree) where
+  abbrev renamed-to : Tree
+  renamed-to = topped t (record t.head { kind = k })
+
+  binds-renamed : binds t ≡ true → binds renamed-to ≡ true
+  binds-renamed b = and-both (node_binds renamed-to) (all_bind t.kids) (binds-bare renamed-to (no-operator renamed-to e)) (and-right (node_binds t) (all_bind t.kids) b)
+
+  pub binds-kind : binds t ≡ true → binds (with_kind k t) ≡ true
+  binds-kind b = on_both (λ (u : Tree). binds u ≡ true) (is_error t.head.kind) t renamed-to b (binds-renamed b)
+
+  pub fine-kind : Fine t → Fine (with_kind k t)
+  fine-kind h =
+      on_if Fine (is_error t.head.kind) t renamed-to (λ _. h)
+      (λ i n. binds-renamed (h (or-both (is_error t.head.kind) (any_errors t.kids) i (or-right (is_error k) (any_errors t.kids) n))))
+
+  -- it has errors where it had them
+  pub errors-kind : has_errors (with_kind k t) ≡ false → has_errors t ≡ false
+  errors-kind =
+      on_if (λ (u : Tree). has_errors u ≡ false → has_errors t ≡ false) (is_error t.head.kind) t renamed-to (λ _ n. n)
+      (λ i n. or-both (is_error t.head.kind) (any_errors t.kids) i (or-right (is_error k) (any_errors t.kids) n))
+
+pub fine-wrong : (message : List ℕ) (t : Tree) → Fine t → Fine (made_error message t)
+fine-wrong message t h = on_both Fine (is_error t.head.kind) t (error_of message (text_of t)) h (fine-error message (text_of t))
+
+pub fine-wanted : (thing : List ℕ) (t : Tree) → Fine t → Fine (made_expected thing t)
+fine-wanted thing t h =
+    on_both Fine (is_error t.head.kind) t (expected_error thing t) h
+    (on_both Fine (is_lost_name t.head.kind thing)
+    (advised (hint_with None (keyword_hint (text_of t))) (error_of (expected_message thing (name_of t.head.kind)) (text_of t)))
+    (error_of (expected_message thing (name_of t.head.kind)) (text_of t)) (λ n. absurd (cc)) (λ n. absurd (cc)))
+
+-- several of which some have another kind
+abbrev Kept : List Tree → List Tree → Type 0
+Kept ts us = (any_errors (forest us) ≡ false → any_errors (forest ts) ≡ false) × (all_bind (forest ts) ≡ true → all_bind (forest us) ≡ true)
+
+kept-first : (t u : Tree) (ts us : List Tree) → (has_errors u ≡ false → has_errors t ≡ false) → (binds t ≡ true → binds u ≡ true) → Kept ts us → Kept (t ∷ ts) (u ∷ us)
+kept-first t u ts us e b h = (
+  λ n.
+      (let k = is_error u.head.kind in
+      let a = any_errors u.kids in
+      let r = any_errors (forest us) in
+      let n2 = or-right k (a || r) n in
+      let old = e (or-both k a (or-left k (a || r) n) (or-left a r n2)) in
+      or-both (is_error t.head.kind) (any_errors t.kids || any_errors (forest ts)) (or-left (is_error t.head.kind) (any_errors t.kids) old)
+      (or-both (any_errors t.kids) (any_errors (forest ts)) (or-right (is_error t.head.kind) (any_errors t.kids) old) (h.0 (or-right a r n2)))),
+  λ n.
+      (let x = node_binds t in
+      let a = all_bind t.kids in
+      let r = all_bind (forest ts) in
+      let n2 = and-right x (a && r) n in
+      let new = b (and-both x a (and-left x (a && r) n) (and-left a r n2)) in
+      and-both (node_binds u) (all_bind u.kids && all_bind (forest us)) (and-left (node_binds u) (all_bind u.kids) new)
+      (and-both (all_bind u.kids) (all_bind (forest us)) (and-right (node_binds u) (all_bind u.kids) new) (h.1 (and-right a r n2)))),
+)
+
+kept-last : (k : SyntaxKind) → same kind.Binary k ≡ false → (ts : List Tree) → Kept ts (renamed_last k ts)
+kept-last k e [] = (λ n. n, λ n. n)
+kept-last k e (t ∷ []) = kept-first t (with_kind k t) [] [] (errors-kind k e t) (binds-kind k e t) (λ n. n, λ n. n)
+kept-last k e (t ∷ u ∷ ts) = kept-first t t (u ∷ ts) (renamed_last k (u ∷ ts)) (λ n. n) (λ n. n) (kept-last k e (u ∷ ts))
+
+kept-parens : (ts : List Tree) → Kept ts (parens_renamed ts)
+kept-parens [] = (λ n. n, λ n. n)
+kept-parens (t ∷ ts) = kept-first t (with_kind kind.LeftParen t) ts (renamed_last kind.RightParen ts) (errors-kind kind.LeftParen refl t) (binds-kind kind.LeftParen refl t) (kept-last kind.RightParen refl ts)
+
+trees-forest : (f : Forest) → forest (trees f) ≡ f
+trees-forest none = refl
+trees-forest (more h ks r) = ap (more h ks) (trees-forest r)
+
+delimited-sound : (k : SyntaxKind) → is_delimited k ≡ true → is_error k ≡ false
+delimited-sound kind.MathDelimited h = refl
+delimited-sound _ h = absurd (cc)
+
+fine-parens : (t : Tree) → Fine t → Fine (without_parens t)
+fine-parens t h =
+    let ts = trees t.kids in
+    let new : Tree = record { head = record t.head { kind = kind.Math }; kids = forest (parens_renamed ts) } in
+    on_if Fine (is_delimited t.head.kind && in_parens ts) new t
+    (λ d n.
+    (let k = kept-parens ts in
+    let same-kids = trees-forest t.kids in
+    let old = subst (λ (f : Forest). any_errors f ≡ false) same-kids (k.0 n) in
+    let b = h (or-both (is_error t.head.kind) (any_errors t.kids) (delimited-sound t.head.kind (and-left (is_delimited t.head.kind) (in_parens ts) d)) old) in
+    k.1 (subst (λ (f : Forest). all_bind f ≡ true) (sym same-kids) (and-right (node_binds t) (all_bind t.kids) b))))
+    (λ _. h)
+
+-- ---- what becomes of several nodes
+
+-- nothing becomes a binary node
+abbrev pub tame_change : Change → Bool
+tame_change (renamed k) = if same kind.Binary k then false else true
+tame_change _ = true
+
+abbrev pub tame_kind : SyntaxKind → Bool
+tame_kind k = if same kind.Binary k then false else true
+
+pub is-tame : (k : SyntaxKind) → tame_kind k ≡ true → same kind.Binary k ≡ false
+is-tame k h = by-test (same kind.Binary k) h
+  where
+    by-test : (b : Bool) → (if b then false else true) ≡ true → b ≡ false
+    by-test true h = absurd (cc)
+    by-test false h = refl
+
+abbrev pub tame : Shape → Bool
+tame (keeps change) = tame_change change
+tame (holds change k) = tame_change change && tame_kind k
+tame (lacks count message k) = tame_kind k
+tame (warns k message hint) = tame_kind k
+tame (fails message) = true
+
+-- an error stays one
+abbrev Wrong : Tree → Type 0
+Wrong t = is_error t.head.kind ≡ true
+
+wrong-wrong : (message : List ℕ) (t : Tree) → Wrong t → Wrong (made_error message t)
+wrong-wrong message t e = on_both Wrong (is_error t.head.kind) t (error_of message (text_of t)) e refl
+
+wrong-wanted : (thing : List ℕ) (t : Tree) → Wrong t → Wrong (made_expected thing t)
+wrong-wanted thing t e =
+    on_both Wrong (is_error t.head.kind) t (expected_error thing t) e
+    (on_both Wrong (is_lost_name t.head.kind thing) (advised (hint_with None (keyword_hint (text_of t))) (error_of (expected_message thing (name_of t.head.kind)) (text_of t)))
+    (error_of (expected_message thing (name_of t.head.kind)) (text_of t)) refl refl)
+
+wrong-kind : (k : SyntaxKind) (t : Tree) → Wrong t → Wrong (with_kind k t)
+wrong-kind k t e = on_if Wrong (is_error t.head.kind) t (topped t (record t.head { kind = k })) (λ _. e) (λ i. absurd (cc))
+
+wrong-parens : (t : Tree) → Wrong t → Wrong (without_parens t)
+wrong-parens t e =
+    on_if Wrong (is_delimited t.head.kind && in_parens (trees t.kids)) _ t
+    (λ d. let x = delimited-sound t.head.kind (and-left (is_delimited t.head.kind) (in_parens (trees t.kids)) d) in absurd (cc)) (λ _. e)
+
+fines-first : (f : Tree → Tree) → ((t : Tree) → Fine t → Fine (f t)) → ((t : Tree) → Wrong t → Wrong (f t)) → (ts : List Tree) → Fines ts → Fines (on_first f ts)
+fines-first f g w [] h = tt
+fines-first f g w (t ∷ ts) (x, inl e) = (g t x, inl (w t e))
+fines-first f g w (t ∷ ts) (x, inr h) = (g t x, inr h)
+
+fines-change : (change : Change) (ts : List Tree) → tame_change change ≡ true → Fines ts → Fines (first_changed change ts)
+fines-change stays ts e h = h
+fines-change (turns_wrong message) ts e h = fines-first (made_error message) (fine-wrong message) (wrong-wrong message) ts h
+fines-change (is_not thing) ts e h = fines-first (made_expected thing) (fine-wanted thing) (wrong-wanted thing) ts h
+fines-change (renamed k) ts e h = fines-first (with_kind k) (fine-kind k (is-tame k e)) (wrong-kind k) ts h
+fines-change unparened ts e h = fines-first without_parens fine-parens wrong-parens ts h
+
+fines-shaped : (shape : Shape) (ts : List Tree) → tame shape ≡ true → Fines ts → Fines (shaped shape ts)
+fines-shaped (keeps change) ts e h = fines-change change ts e h
+fines-shaped (holds change k) ts e h =
+    (fine-over k (first_changed change ts) (is-tame k (and-right (tame_change change) (tame_kind k) e)) (fines-change change ts (and-left (tame_change change) (tame_kind k) e) h), inr tt)
+fines-shaped (lacks count message k) ts e h =
+    (fine-over k (take count ts ++ error_of message [] ∷ drop count ts) (is-tame k e) (fines-append (take count ts) (error_of message [] ∷ drop count ts) (fines-take count ts h) (fine-error message [], inl refl)), inr tt)
+fines-shaped (warns k message hint) ts e h = (fine-over k ts (is-tame k e) h, inr tt)
+fines-shaped (fails message) ts e h = (λ n. absurd (cc), inl refl)
+
+-- what stands before them stays
+pub fines-behind : (m : ℕ) (ts us : List Tree) → Fines ts → (Fines (drop m ts) → Fines us) → Fines (take m ts ++ us)
+fines-behind zero ts us h f = f h
+fines-behind (suc m) [] us h f = f tt
+fines-behind (suc m) (t ∷ ts) us (x, inl e) f = (x, inl e)
+fines-behind (suc m) (t ∷ ts) us (x, inr h) f = (x, inr (fines-behind m ts us h f))
+
+pub fines-reshaped : (m : ℕ) (shape : Shape) (ts : List Tree) → tame shape ≡ true → Fines ts → Fines (take m ts ++ shaped shape (drop m ts))
+fines-reshaped m shape ts e h = fines-behind m ts (shaped shape (drop m ts)) h (fines-shaped shape (drop m ts) e)
+
+-- ---- what becomes of a token
+
+abbrev pub tame_making : Making → Bool
+tame_making (of_kind k) = tame_kind k
+tame_making _ = true
+
+pub fine-made : (m : Making) (t : Tree) → tame_making m ≡ true → Fine t → Fine (made m t)
+fine-made itself t e h = h
+fine-made (of_kind k) t e h = fine-kind k (is-tame k e) t h
+fine-made (surprise hints) t e h = fine-advised hints (made_unexpected t) (fine-wrong (unexpected_message (name_of t.head.kind)) t h)
+fine-made (wanted thing) t e h = fine-wanted thing t h

@@ -1,0 +1,403 @@
+-- Parsers that give trees which bind where they have no errors: the words of the language.
+use Rattle.std.proofs.Common.{◌≡◌, ℕ, zero, suc, ◌+◌, ◌-◌, Bool, true, false, if◌then◌else◌, nat_lt, List, [], ◌∷◌, ◌++◌, length, take, drop, Option, Some, None, refl, ap, sym, subst, encode_utf8_all, ◌==◌, ◌&&◌, inl, inr}
+use Rattle.std.specs.Prelude.{codes}
+use Rattle.typst_lines.specs.Classes.{CharClasses}
+use Rattle.typst_kinds.specs.Kinds.{same, is_error, is_trivia}
+use Rattle.typst_kinds.specs.declared.kind.SyntaxKind.{SyntaxKind}
+use Rattle.typst_kinds.specs.declared.kind.SyntaxKind.TheVariants as kind
+use Rattle.typst_kinds.specs.declared.mode.SyntaxMode.{SyntaxMode}
+use Rattle.typst_lines.specs.Place.{Place, moved}
+use Rattle.typst_tree.specs.Diagnostic.{hint_with}
+use Rattle.typst_tree.specs.Tree.{Tree, leaf_of, error_of, advised, all_advised}
+use Rattle.typst_lexer.specs.Raw.{raw_node, delimited_node, closed_node, block_node, inline_node, delimited, two_delimiters, tag_leaves, is_pair, before_ticks, ticks}
+use Rattle.typst_lexer.specs.RawLines.{leaf, Row, trimmed, first_line, later_rows, is_blank, dedent, front, closing, line_leaves, first_leaves, block_of, block_leaves, inline_leaves}
+use Rattle.typst_lexer.specs.RawTag.{tag, next_tag, warned, changes, is_some_text, is_whole, cut_tag, no_tag, only_tag}
+use Rattle.typst_lexer.specs.Faults.{hints, message}
+use Rattle.typst_lexer.specs.Fields.{field_node, fields_node, name_node, named_node, names_of, access_node}
+use Rattle.typst_lexer.specs.Nodes.{token_node, plain_node, fault_node, is_raw, has_fields}
+use Rattle.typst_tokens.specs.declared.token.Fault.{Fault}
+use Rattle.typst_tokens.specs.declared.token.Token.{Token}
+use Rattle.typst_language.specs.declared.calls.Block.{Block}
+use Rattle.typst_language.specs.declared.calls.Call.{Call}
+use Rattle.typst_language.specs.declared.reading.Reading.{Reading}
+use Rattle.typst_language.specs.Point.{Point, Trivia, pending}
+use Rattle.typst_language.specs.Hand.{Ahead, ahead, ahead_by, after_trivia, direct, hand_at, token_at, len_at, at_trivia, token_by, len_by}
+use Rattle.typst_language.specs.Shape.{changed, Shape, hinted, after_node, after_shape}
+use Rattle.typst_language.specs.Shape.Shape.{keeps, holds, lacks, warns, fails}
+use Rattle.typst_language.specs.Syntax.{Op, Begin, Parser}
+use Rattle.typst_language.specs.Syntax.Op.{hand, so, further, column, erred, takes, takes_so, flushes, complains, advises, marks, is_deepest}
+use Rattle.typst_language.specs.Syntax.Parser.{gives, does, next, pick, repeat, wraps, grows, nests, scoped, either, calls, block}
+use Rattle.typst_language.specs.Meaning.{Outcome, Meaning, Level, less, joined, answered, turns, as_last, bound, repeated, before, reshaped, grown, is_more, growths, growing, nestings, nesting, bounded, given_up, plain, same_mode, entered, left, taken_node, node_by, reader_so, gave, hand_of, hand_asks_of, done, run}
+use Rattle.typst_language.proofs.Within.{on_both, on_if}
+use Rattle.typst_grammar.specs.Binding.{has_errors, operator_of}
+use Rattle.typst_grammar.proofs.Signs.{sign_of}
+use Rattle.typst_grammar.proofs.Fine.{All, Fine, Fines, fines-all, fines-append, fines-take, fines-hinted, fines-reshaped, and-left, all-append, fine-inner, fine-error, fine-leaf, fine-made, no-operator, tame, tame_making}
+
+-- ---- nodes of tokens
+
+-- with hints or a warning the same holds
+hints-wrong : (hints : List (List ℕ)) (t : Tree) → has_errors t ≡ true → has_errors (all_advised hints t) ≡ true
+hints-wrong [] t h = h
+hints-wrong (hint ∷ hints) t h = hints-wrong hints (advised (hint_with None hint) t) h
+
+pub fault-wrong : (f : Fault) (taken : List ℕ) → has_errors (fault_node f taken) ≡ true
+fault-wrong f taken = hints-wrong (hints f taken) (error_of (message f taken) (encode_utf8_all taken)) refl
+
+fine-fault : (f : Fault) (taken : List ℕ) → Fine (fault_node f taken)
+fine-fault f taken n = let e = fault-wrong f taken in absurd (cc)
+
+-- names with fields
+fine-fields : (left : Tree) (names : List (List ℕ)) → Fine left → Fine (fields_node left names)
+fine-fields left [] h = h
+fine-fields left (name ∷ names) h =
+    fine-fields (field_node left name) names (fine-inner kind.MathFieldAccess (left ∷ leaf_of kind.Dot (codes ".") ∷ name_node name ∷ []) refl (h, (λ n. refl, (λ n. refl, tt))))
+
+fine-access : (taken : List ℕ) → Fine (access_node taken)
+unfolding access_node
+fine-access taken = by-names (names_of taken)
+  where
+    by-names : (names : List (List ℕ)) → Fine (named_node names)
+    by-names [] = λ n. refl
+    by-names (name ∷ names) = fine-fields (name_node name) names (λ n. refl)
+
+-- raw texts
+fine-trimmed : (cs : List ℕ) → All Fine (trimmed cs)
+fine-trimmed [] = tt
+fine-trimmed (c ∷ cs) = (λ n. refl, tt)
+
+fine-lines : (d : ℕ) (held : List ℕ) (rs : List Row) (closing : List ℕ) → All Fine (line_leaves d held rs closing)
+fine-lines d held [] closing = fine-trimmed (held ++ closing)
+fine-lines d held (r ∷ rs) closing = (λ n. refl, (λ n. refl, fine-lines d [] rs closing))
+
+fine-start : (cs : List ℕ) → All Fine (first_leaves cs)
+fine-start [] = (λ n. refl, tt)
+fine-start (c ∷ cs) = on_both (All Fine) (c == 32) _ _ (λ n. refl, (λ n. refl, tt)) (λ n. refl, tt)
+
+fine-block : (cs : List ℕ) → All Fine (block_leaves cs)
+unfolding block_leaves
+fine-block cs = by-parts (dedent cs) (first_line (front cs)) (later_rows (front cs)) (closing cs)
+  where
+    by-parts : (d : ℕ) (first : List ℕ) (rs : List Row) (closing : List ℕ) → All Fine (block_of d first rs closing)
+    by-parts d first rs closing = on_both (All Fine) (is_blank first) _ _ (fine-lines d first rs closing) (all-append Fine (first_leaves first) (line_leaves d [] rs closing) (fine-start first) (fine-lines d [] rs closing))
+
+fine-inline : (cs : List ℕ) → All Fine (inline_leaves cs)
+unfolding inline_leaves
+fine-inline cs = (λ n. refl, fine-lines 0 [] (later_rows cs) [])
+
+fine-tag : (cs : List ℕ) → All Fine (tag_leaves cs)
+fine-tag [] = tt
+fine-tag (c ∷ cs) = (λ n. refl, tt)
+
+fine-delimited : (delim : List ℕ) (leaves : List Tree) → All Fine leaves → Fine (delimited delim leaves)
+fine-delimited delim leaves h =
+    fine-inner kind.Raw (leaf kind.RawDelim delim ∷ (leaves ++ leaf kind.RawDelim delim ∷ [])) refl
+    (λ n. refl, all-append Fine leaves (leaf kind.RawDelim delim ∷ []) h (λ n. refl, tt))
+
+fine-warned : (n : ℕ) (now later cs : List ℕ) (t : Tree) → Fine t → Fine (warned n now later cs t)
+unfolding warned
+fine-warned n now later cs t h =
+    on_both Fine (changes now later) (if is_some_text now then cut_tag n now later t else no_tag n later t) (if is_whole now cs then only_tag n now t else t)
+    (on_both Fine (is_some_text now) (cut_tag n now later t) (no_tag n later t) h h) (on_both Fine (is_whole now cs) (only_tag n now t) t h h)
+
+fine-closed : (k : CharClasses) (delim inner : List ℕ) → Fine (closed_node k delim inner)
+fine-closed k delim inner =
+    on_both Fine (nat_lt 2 (length delim)) (block_node k delim inner) (inline_node delim inner)
+    (fine-warned (length delim) (tag k inner) (next_tag inner) inner _
+    (fine-delimited delim _ (all-append Fine (tag_leaves (tag k inner)) (block_leaves (drop (length (tag k inner)) inner)) (fine-tag (tag k inner)) (fine-block (drop (length (tag k inner)) inner)))))
+    (fine-delimited delim _ (fine-inline inner))
+
+fine-raw : (k : CharClasses) (cs : List ℕ) → Fine (raw_node k cs)
+unfolding raw_node
+fine-raw k cs = by-sides (ticks cs) (drop (length (ticks cs)) cs)
+  where
+    by-end : (delim message text : List ℕ) (o : Option (List ℕ)) → Fine (elim o as (λ _. Tree) [ None ↦ error_of message text | Some inner ↦ closed_node k delim inner ])
+    by-end delim message text None = λ n. absurd (cc)
+    by-end delim message text (Some inner) = fine-closed k delim inner
+
+    by-sides : (delim rest : List ℕ) → Fine (delimited_node k cs delim rest)
+    by-sides delim rest = on_both Fine (is_pair delim rest) two_delimiters _ (λ n. refl) (by-end delim _ _ (before_ticks (length delim) rest))
+
+-- the node of a token
+pub fine-token : (k : CharClasses) (t : Token) (taken : List ℕ) → Fine (token_node k t taken)
+fine-token k t taken = elim t.fault as (λ o. Fine (elim o as (λ _. Tree) [ None ↦ plain_node k t taken | Some f ↦ fault_node f taken ])) [
+  | None ↦ on_both Fine (is_error t.kind) (error_of [] (encode_utf8_all taken)) _ (fine-error [] (encode_utf8_all taken))
+      (on_both Fine (is_raw t.kind) (raw_node k taken) _ (fine-raw k taken)
+      (on_both Fine (has_fields t.kind) (access_node taken) (leaf_of t.kind (encode_utf8_all taken)) (fine-access taken) (fine-leaf t.kind (encode_utf8_all taken))))
+  | Some f ↦ fine-fault f taken
+]
+
+-- ---- trivia
+
+-- it binds, is no operator, and has none
+pub record Still (t : Tree) : Type 0 where
+  pub fine : Fine t
+  pub no_sign : sign_of t.head.kind ≡ None
+  pub no_operator : operator_of t ≡ None
+
+still-hints : (hints : List (List ℕ)) (t : Tree) → t.head.kind ≡ kind.Error → (all_advised hints t).head.kind ≡ kind.Error
+still-hints [] t h = h
+still-hints (hint ∷ hints) t h = still-hints hints (advised (hint_with None hint) t) h
+
+still-error : (t : Tree) → Fine t → t.head.kind ≡ kind.Error → Still t
+still-error t f e = record { fine = f; no_sign = ap sign_of e; no_operator = no-operator t (ap (same kind.Binary) e) }
+
+still-plain : (k : CharClasses) (i : SyntaxKind) (taken : List ℕ) → is_trivia i ≡ true
+    → Still (if is_error i then error_of [] (encode_utf8_all taken) else (if is_raw i then raw_node k taken else (if has_fields i then access_node taken else leaf_of i (encode_utf8_all taken))))
+still-plain k kind.Space taken h = record { fine = λ n. refl; no_sign = refl; no_operator = refl }
+still-plain k kind.Parbreak taken h = record { fine = λ n. refl; no_sign = refl; no_operator = refl }
+still-plain k kind.LineComment taken h = record { fine = λ n. refl; no_sign = refl; no_operator = refl }
+still-plain k kind.BlockComment taken h = record { fine = λ n. refl; no_sign = refl; no_operator = refl }
+still-plain k _ taken h = absurd (cc)
+
+still-token : (k : CharClasses) (t : Token) (taken : List ℕ) → is_trivia t.kind ≡ true → Still (token_node k t taken)
+still-token k t taken h = elim t.fault as (λ o. Still (elim o as (λ _. Tree) [ None ↦ plain_node k t taken | Some f ↦ fault_node f taken ])) [
+  | None ↦ still-plain k t.kind taken h
+  | Some f ↦ still-error (fault_node f taken) (fine-fault f taken) (still-hints (hints f taken) (error_of (message f taken) (encode_utf8_all taken)) refl)
+]
+
+still-ahead : (k : CharClasses) (m : SyntaxMode) (n : ℕ) (z : Place) → All Still (ahead_by k m n z).trivia
+still-ahead k m zero z = tt
+still-ahead k m (suc n) z =
+    let t = token_at k m z in
+    let l = len_at k m z in
+    let node = token_node k t (take l z.ahead) in
+    on_if (λ (a : Ahead). All Still a.trivia) (at_trivia k m z) (after_trivia t l node (ahead_by k m n (moved l z))) (direct t l)
+    (λ e. (still-token k t (take l z.ahead) (and-left (is_trivia t.kind) (nat_lt 0 l) e), still-ahead k m n (moved l z))) (λ e. tt)
+
+still-known : (k : CharClasses) (held : Reading) (known : Option Trivia) (z : Place) → All Still (pending known) → All Still (hand_at k held known z).trivia
+unfolding hand_at ahead
+still-known k held None z h = still-ahead k held.mode (length z.ahead) z
+still-known k held (Some t) z h = h
+
+pub still-hand : (l : Level) (z : Place) (s : Point) → All Still (pending s.known) → All Still (hand_of l z s).trivia
+still-hand l z s h = still-known l.classes s.held s.known z h
+
+pub fine-still : (ts : List Tree) → All Still ts → All Fine ts
+fine-still [] h = tt
+fine-still (t ∷ ts) h = (h.0.fine, fine-still ts h.1)
+
+-- ---- what is given
+
+-- the nodes bind, and so do those that are known to come
+pub record Binds {A : Type 0} (o : Outcome A) : Type 0 where
+  pub nodes : Fines o.nodes
+  pub known : All Still (pending o.state.known)
+
+abbrev pub AllBind : {A : Type 0} → Meaning A → Type 0
+AllBind m = (z : Place) (s : Point) → All Still (pending s.known) → Binds (m z s)
+
+fines-less : (n : ℕ) (ts : List Tree) → Fines ts → Fines (less n ts)
+unfolding less
+fines-less n ts h = fines-take (length ts - n) ts h
+
+pub binds-joined : {A B : Type 0} (o : Outcome B) (p : Outcome A) → Binds o → Binds p → Binds (joined o p)
+binds-joined o p h k = record {
+  nodes = fines-append (hinted p.hints (less p.back o.nodes)) p.nodes (fines-hinted p.hints (less p.back o.nodes) (fines-less p.back o.nodes h.nodes)) k.nodes;
+  known = k.known;
+}
+
+binds-if : {A : Type 0} (b : Bool) (x y : Outcome A) → Binds x → Binds y → Binds (if b then x else y)
+binds-if b x y p q = on_both Binds b x y p q
+
+binds-plain : {A : Type 0} (a : A) (s : Point) → All Still (pending s.known) → Binds (plain a s)
+binds-plain a s h = record { nodes = tt; known = h }
+
+binds-turns : {A : Type 0} (m : A → Meaning (Bool × A)) → ((x : A) → AllBind (m x)) → (n : ℕ) (x : A) → AllBind (turns m n x)
+binds-turns m h zero x z s k = binds-plain x s k
+binds-turns m h (suc n) x z s k =
+    let o = m x z s in
+    let first = h x z s k in
+    binds-if (o.value.0 && nat_lt 0 o.taken) (joined o (turns m n o.value.1 (moved o.taken z) o.state)) (as_last o)
+    (binds-joined o (turns m n o.value.1 (moved o.taken z) o.state) first (binds-turns m h n o.value.1 (moved o.taken z) o.state first.known))
+    (record { nodes = first.nodes; known = first.known })
+
+after-node-known : (b : Bool) (text : List ℕ) (s : Point) → (after_node b text s).known ≡ s.known
+after-node-known true text s = refl
+after-node-known false text s = refl
+
+pub after-shape-known : (shape : Shape) (ts : List Tree) (s : Point) → (after_shape shape ts s).known ≡ s.known
+after-shape-known (keeps change) [] s = refl
+after-shape-known (keeps change) (t ∷ []) s =
+    on_both (λ (u : Point). u.known ≡ s.known) (is_error t.head.kind) s (after_node (is_error (changed change t).head.kind) _ s) refl (after-node-known (is_error (changed change t).head.kind) _ s)
+after-shape-known (keeps change) (t ∷ u ∷ ts) s = refl
+after-shape-known (holds change k) ts s = refl
+after-shape-known (lacks count message k) ts s = refl
+after-shape-known (warns k message hint) ts s = refl
+after-shape-known (fails message) ts s = refl
+
+pub still-shaped : (shape : Shape) (ts : List Tree) (s : Point) → All Still (pending s.known) → All Still (pending (after_shape shape ts s).known)
+still-shaped shape ts s h = subst (λ (x : Option Trivia). All Still (pending x)) (sym (after-shape-known shape ts s)) h
+
+pub binds-reshaped : {A : Type 0} (shape : Shape) → tame shape ≡ true → (n : ℕ) (o : Outcome A) → Binds o → Binds (reshaped shape n o)
+binds-reshaped shape e n o h =
+    let m = n + o.back in
+    record {
+      nodes = fines-reshaped m shape o.nodes e h.nodes;
+      known = still-shaped shape (drop m o.nodes) o.state h.known;
+    }
+
+still-left : (outer : Reading) (s : Point) → All Still (pending s.known) → All Still (pending (left outer s).known)
+still-left outer s h = on_both (λ (t : Point). All Still (pending t.known)) (same_mode s.reading.mode outer.mode) _ _ h tt
+
+abbrev pub tame_if : Option Shape → Bool
+tame_if None = true
+tame_if (Some shape) = tame shape
+
+binds-grown : {A : Type 0} (n : ℕ) (shape : Option Shape) → tame_if shape ≡ true → (o : Outcome A) → Binds o → Binds (grown n shape o)
+binds-grown n None e o h = h
+binds-grown n (Some shape) e o h = binds-reshaped shape e n o h
+
+binds-growths : {A : Type 0} (m : A → Meaning (Option Shape × A)) → ((x : A) → AllBind (m x)) → ((x : A) (z : Place) (s : Point) → tame_if (m x z s).value.0 ≡ true) → (n k : ℕ) (o : Outcome A) (z : Place) → Binds o → Binds (growths m n k o z)
+binds-growths m f e n zero o z h = h
+binds-growths m f e n (suc k) o z h =
+    let p = m o.value (moved o.taken z) o.state in
+    let j = binds-joined o p h (f o.value (moved o.taken z) o.state h.known) in
+    let more = grown n p.value.0 (answered p.value.1 (joined o p)) in
+    let g = binds-grown n p.value.0 (e o.value (moved o.taken z) o.state) (answered p.value.1 (joined o p)) (record { nodes = j.nodes; known = j.known }) in
+    binds-if (is_more p.value.0 && nat_lt 0 p.taken) (growths m n k more z) more (binds-growths m f e n k more z g) g
+
+binds-nestings : {A : Type 0} (f : A → Shape) → ((a : A) → tame (f a) ≡ true) → (begin : Begin) (m : A → Meaning (Bool × A)) → ((x : A) → AllBind (m x)) → (n : ℕ) (x : A) → AllBind (nestings f begin m n x)
+binds-nestings f e begin m g zero x z s h = binds-plain x s h
+binds-nestings f e begin m g (suc n) x z s h =
+    let o = m x z s in
+    let w = moved o.taken z in
+    let p = nestings f begin m n o.value.1 w o.state in
+    let t = o.value.0 && nat_lt 0 o.taken in
+    let q = if t then joined o p else as_last o in
+    let first = g x z s h in
+    binds-reshaped (f q.value) (e q.value) (before begin s) q
+    (binds-if t (joined o p) (as_last o) (binds-joined o p first (binds-nestings f e begin m g n o.value.1 w o.state first.known)) (record { nodes = first.nodes; known = first.known }))
+
+-- ---- what a parser may answer, and what it makes
+
+-- this holds of all that it answers
+abbrev pub Gives : {A : Type 0} → (A → Type 0) → Parser A → Type 0
+Gives Q (gives a) = Q a
+Gives {A} Q (does o) = (a : A) → Q a
+Gives Q (next p f) = Gives (λ b. Gives Q (f b)) p
+Gives Q (pick b p q) = Gives Q p × Gives Q q
+Gives {A} Q (repeat p x) = (a : A) → Q a
+Gives {A} Q (wraps f begin p) = (a : A) → Q a
+Gives {A} Q (grows begin p f) = (a : A) → Q a
+Gives {A} Q (nests f begin p x) = (a : A) → Q a
+Gives Q (scoped f p) = Gives Q p
+Gives Q (either p is_wrong q) = Gives Q p × Gives Q q
+Gives {A} Q (calls c) = (a : A) → Q a
+Gives {A} Q (block b) = (a : A) → Q a
+
+pub gives-all : {A : Type 0} (Q : A → Type 0) → ((a : A) → Q a) → (p : Parser A) → Gives Q p
+gives-all Q h (gives a) = h a
+gives-all Q h (does o) = h
+gives-all Q h (next p f) = gives-all (λ b. Gives Q (f b)) (λ b. gives-all Q h (f b)) p
+gives-all Q h (pick b p q) = (gives-all Q h p, gives-all Q h q)
+gives-all Q h (repeat p x) = h
+gives-all Q h (wraps f begin p) = h
+gives-all Q h (grows begin p f) = h
+gives-all Q h (nests f begin p x) = h
+gives-all Q h (scoped f p) = gives-all Q h p
+gives-all Q h (either p is_wrong q) = (gives-all Q h p, gives-all Q h q)
+gives-all Q h (calls c) = h
+gives-all Q h (block b) = h
+
+-- no token becomes a binary node
+abbrev pub tame_op : {A : Type 0} → Op A → Bool
+tame_op (takes trims making) = tame_making making
+tame_op (takes_so way making) = tame_making making
+tame_op _ = true
+
+-- it makes no binary node
+abbrev pub Plain : {A : Type 0} → Parser A → Type 0
+Plain (gives a) = Unit {0}
+Plain (does o) = tame_op o ≡ true
+Plain (next p f) = Plain p × ((b : _) → Plain (f b))
+Plain (pick b p q) = Plain p × Plain q
+Plain (repeat p x) = (y : _) → Plain (p y)
+Plain (wraps f begin p) = Gives (λ a. tame (f a) ≡ true) p × Plain p
+Plain (grows begin p f) = Plain p × ((x : _) → Gives (λ v. tame_if v.0 ≡ true) (f x) × Plain (f x))
+Plain (nests f begin p x) = ((a : _) → tame (f a) ≡ true) × ((y : _) → Plain (p y))
+Plain (scoped f p) = Plain p
+Plain (either p is_wrong q) = Plain p × Plain q
+Plain (calls c) = Unit {0}
+Plain (block b) = Unit {0}
+
+module _ (l : Level) where
+  -- what may be answered is answered
+  pub gives-run : {A : Type 0} (Q : A → Type 0) (p : Parser A) → Gives Q p → (z : Place) (s : Point) → Q (run l p z s).value
+  unfolding run
+  gives-run Q (gives a) h z s = h
+  gives-run Q (does o) h z s = h _
+  gives-run Q (next p f) h z s =
+      let o = run l p z s in
+      gives-run Q (f o.value) (gives-run (λ b. Gives Q (f b)) p h z s) (moved o.taken z) o.state
+  gives-run Q (pick true p q) h z s = gives-run Q p h.0 z s
+  gives-run Q (pick false p q) h z s = gives-run Q q h.1 z s
+  gives-run Q (repeat p x) h z s = h _
+  gives-run Q (wraps f begin p) h z s = h _
+  gives-run Q (grows begin p f) h z s = h _
+  gives-run Q (nests f begin p x) h z s = h _
+  gives-run Q (scoped f p) h z s = gives-run Q p h z (entered (f s.reading) s)
+  gives-run Q (either p is_wrong q) h z s =
+      on_both (λ o. Q o.value) (is_wrong (run l p z s).value) (given_up (run l p z s) (run l q z s)) (run l p z s) (gives-run Q q h.1 z s) (gives-run Q p h.0 z s)
+  gives-run Q (calls c) h z s = h _
+  gives-run Q (block b) h z s = h _
+
+  binds-gave : (z : Place) (s : Point) (trims : Bool) (len : ℕ) (node : Tree) (asks : List _) → All Still (pending s.known) → Fine node → Binds (gave (hand_of l z s) trims len node asks s)
+  binds-gave z s trims len node asks k f = let h = hand_of l z s in record { nodes = fines-append h.trivia (node ∷ []) (fines-all h.trivia (fine-still h.trivia (still-hand l z s k))) (f, inr tt); known = tt }
+
+  binds-done : {A : Type 0} (o : Op A) → tame_op o ≡ true → AllBind (done l o)
+  binds-done hand e z s h = record { nodes = tt; known = still-hand l z s h }
+  binds-done (so way) e z s h = record { nodes = tt; known = still-hand l z s h }
+  binds-done further e z s h = record { nodes = tt; known = still-hand l z s h }
+  binds-done column e z s h = record { nodes = tt; known = still-hand l z s h }
+  binds-done erred e z s h = record { nodes = tt; known = h }
+  binds-done (takes trims making) e z s h =
+      let x = hand_of l z s in
+      let taken = take x.len (moved x.gap z).ahead in
+      binds-gave z s trims x.len (taken_node l.classes making x z) (hand_asks_of l z s) h (fine-made making (token_node l.classes x.token taken) e (fine-token l.classes x.token taken))
+  binds-done (takes_so way making) e z s h =
+      let x = hand_of l z s in
+      let w = moved x.gap z in
+      let r = reader_so l way in
+      let taken = take (len_by r w) w.ahead in
+      binds-gave z s false (len_by r w) (node_by l.classes making (token_by r w) (len_by r w) w) _ h
+      (fine-made making (token_node l.classes (token_by r w) taken) e (fine-token l.classes (token_by r w) taken))
+  binds-done flushes e z s h = record { nodes = fines-all (hand_of l z s).trivia (fine-still (hand_of l z s).trivia (still-hand l z s h)); known = tt }
+  binds-done (complains message) e z s h = record { nodes = (fine-error message [], inl refl); known = h }
+  binds-done (advises hint) e z s h = record { nodes = tt; known = h }
+  binds-done (marks mark) e z s h = record { nodes = tt; known = h }
+  binds-done is_deepest e z s h = record { nodes = tt; known = h }
+
+  module _ (d : (c : Call) → AllBind (l.deeper c)) (e : (x : Block) → AllBind (l.blocks x)) where
+    -- what makes no binary node gives trees that bind where all that it calls does
+    pub binds-run : {A : Type 0} (p : Parser A) → Plain p → AllBind (run l p)
+    unfolding run repeated growing nesting
+    binds-run (gives a) w z s h = binds-plain a s h
+    binds-run (does o) w z s h = binds-done o w z s h
+    binds-run (next p f) w z s h =
+        let o = run l p z s in
+        let k = binds-run p w.0 z s h in
+        binds-joined o (run l (f o.value) (moved o.taken z) o.state) k (binds-run (f o.value) (w.1 o.value) (moved o.taken z) o.state k.known)
+    binds-run (pick t p q) w z s h = binds-if t (run l p z s) (run l q z s) (binds-run p w.0 z s h) (binds-run q w.1 z s h)
+    binds-run (repeat p x) w z s h = binds-turns (λ y. run l (p y)) (λ y. binds-run (p y) (w y)) (suc (bound z s)) x z s h
+    binds-run (wraps f begin p) w z s h =
+        let o = run l p z s in
+        let k = binds-reshaped (f o.value) (gives-run (λ a. tame (f a) ≡ true) p w.0 z s) (before begin s) o (binds-run p w.1 z s h) in
+        record { nodes = k.nodes; known = k.known }
+    binds-run (grows begin p f) w z s h =
+        binds-growths (λ y. run l (f y)) (λ y. binds-run (f y) (w.1 y).1) (λ y. gives-run (λ v. tame_if v.0 ≡ true) (f y) (w.1 y).0) (before begin s) (suc (bound z s)) (run l p z s) z (binds-run p w.0 z s h)
+    binds-run (nests f begin p x) w z s h = binds-nestings f w.0 begin (λ y. run l (p y)) (λ y. binds-run (p y) (w.1 y)) (suc (bound z s)) x z s h
+    binds-run (scoped f p) w z s h =
+        let o = run l p z (entered (f s.reading) s) in
+        let k = binds-run p w z (entered (f s.reading) s) h in
+        record { nodes = k.nodes; known = still-left s.reading o.state k.known }
+    binds-run (either p is_wrong q) w z s h =
+        let o = run l p z s in
+        let k = binds-run q w.1 z s h in
+        binds-if (is_wrong o.value) (given_up o (run l q z s)) o (record { nodes = k.nodes; known = k.known }) (binds-run p w.0 z s h)
+    binds-run (calls x) w z s h = let k = d x z s h in record { nodes = k.nodes; known = k.known }
+    binds-run (block x) w z s h =
+        let o = done l flushes z s in
+        let first = binds-done flushes refl z s h in
+        let k = e x (moved o.taken z) (record o.state { known = None }) tt in
+        binds-if (l.has x) (joined o (bounded x (l.blocks x) (moved o.taken z) o.state)) (plain tt s)
+        (binds-joined o (bounded x (l.blocks x) (moved o.taken z) o.state) first (record { nodes = k.nodes; known = tt })) (binds-plain tt s h)

@@ -1,0 +1,74 @@
+-- All that is read binds.
+use Rattle.std.proofs.Common.{ℕ, zero, suc, true, false, refl}
+use Rattle.typst_kinds.specs.declared.kind.SyntaxKind.TheVariants as kind
+use Rattle.typst_lines.specs.Classes.{CharClasses}
+use Rattle.typst_language.specs.declared.calls.Call.{Call}
+use Rattle.typst_language.specs.declared.calls.Call.TheVariants.{MarkupExpr, CodeExpr, MathExpr, Pattern}
+use Rattle.typst_language.specs.Knot.{meaning_of}
+use Rattle.typst_language.specs.Meaning.{start_point, run}
+use Rattle.typst_code.specs.Markup.{markup_reading}
+use Rattle.typst_code.specs.Sequences.{code_reading}
+use Rattle.typst_code.specs.Equations.{math_reading}
+use Rattle.typst_grammar.specs.Binding.{BindingLaw, CodeBindingLaw, MathBindingLaw}
+use Rattle.typst_grammar.specs.Grammar.{production, level_at, max_depth, start_of, whole, whole_code, whole_math, parsed, parsed_code, parsed_math, tree, tree_code, tree_math}
+use Rattle.typst_grammar.proofs.Fine.{fine-over}
+use Rattle.typst_grammar.proofs.BindingLevels.{CallsBind, DeeperOperands, level-binds}
+use Rattle.typst_grammar.proofs.Exprs.{expr-binds, deeper-binds, limit-binds}
+use Rattle.typst_grammar.proofs.FineRuns.{AllBind, Plain}
+use Rattle.typst_grammar.proofs.PlainParts.{plain-flush, plain-run, plain-exprs, plain-markup-expr, plain-pattern}
+use Rattle.typst_grammar.proofs.PlainCode.{plain-code-exprs, plain-atomic, plain-math-expr}
+
+-- ---- whole texts
+
+plain-whole : Plain whole
+unfolding whole
+plain-whole = (plain-run _, λ _. plain-flush)
+
+plain-whole-code : Plain whole_code
+unfolding whole_code
+plain-whole-code = ((refl, λ _. plain-code-exprs _), λ _. plain-flush)
+
+plain-whole-math : Plain whole_math
+unfolding whole_math
+plain-whole-math = ((refl, λ _. plain-exprs _), λ _. plain-flush)
+
+-- ---- each level
+
+-- what is read one level deeper binds, and its operands bind as tightly as they should
+record Bound (k : CharClasses) (levels : ℕ) : Type 0 where
+  calls : CallsBind k levels
+  operands : DeeperOperands k levels
+
+module _ (k : CharClasses) where
+  production-binds : (levels : ℕ) → Bound k levels → (c : Call) → AllBind (run (level_at k levels) (production k c))
+  production-binds levels d (MarkupExpr at_start nesting) = level-binds k levels d.calls _ (plain-markup-expr at_start nesting)
+  production-binds levels d (CodeExpr true least) = level-binds k levels d.calls _ (plain-atomic least)
+  production-binds levels d (CodeExpr false least) = λ z s h. (expr-binds k levels d.calls d.operands least z s h).binds
+  production-binds levels d (MathExpr least stops) = level-binds k levels d.calls _ (plain-math-expr k least stops)
+  production-binds levels d (Pattern role names) = level-binds k levels d.calls _ (plain-pattern role names)
+
+  limit-calls : CallsBind k 0
+  unfolding meaning_of
+  limit-calls c z s h = record { nodes = tt; known = h }
+
+  next-calls : (levels : ℕ) → Bound k levels → CallsBind k (suc levels)
+  unfolding meaning_of
+  next-calls levels d c z s h = production-binds levels d c z s h
+
+  all-bound : (levels : ℕ) → Bound k levels
+  all-bound zero = record { calls = limit-calls; operands = limit-binds k limit-calls }
+  all-bound (suc levels) = let d = all-bound levels in record { calls = next-calls levels d; operands = deeper-binds k levels d.calls d.operands }
+
+-- ---- the laws
+
+pub binding-markup : BindingLaw
+unfolding tree
+binding-markup k text = fine-over kind.Markup (parsed k max_depth text).nodes refl (level-binds k max_depth (all-bound k max_depth).calls whole plain-whole (start_of text) (start_point markup_reading) tt).nodes
+
+pub binding-code : CodeBindingLaw
+unfolding tree_code
+binding-code k text = fine-over kind.Code (parsed_code k max_depth text).nodes refl (level-binds k max_depth (all-bound k max_depth).calls whole_code plain-whole-code (start_of text) (start_point code_reading) tt).nodes
+
+pub binding-math : MathBindingLaw
+unfolding tree_math
+binding-math k text = fine-over kind.Math (parsed_math k max_depth text).nodes refl (level-binds k max_depth (all-bound k max_depth).calls whole_math plain-whole-math (start_of text) (start_point math_reading) tt).nodes

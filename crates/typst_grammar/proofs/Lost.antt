@@ -1,0 +1,126 @@
+-- Behind an error that stands before a node, nothing is said of it.
+use Rattle.std.proofs.Common.{◌≡◌, ℕ, zero, suc, ◌+◌, Bool, true, false, ◌&&◌, ◌||◌, nat_lt, List, [], ◌∷◌, ◌++◌, take, Option, Some, None, refl, ap, sym, ◌∙◌, ◌⊎◌, inl, inr, subst, arith}
+use Rattle.typst_kinds.specs.Kinds.{is_error}
+use Rattle.typst_lines.specs.Place.{Place, moved}
+use Rattle.typst_tree.specs.Diagnostic.{hint_with}
+use Rattle.typst_tree.specs.Tree.{Tree, forest, advised, all_advised}
+use Rattle.typst_lines.specs.Classes.{CharClasses}
+use Rattle.typst_language.specs.Point.{Point}
+use Rattle.typst_language.specs.Shape.{Shape, hinted_last, hinted, shaped}
+use Rattle.typst_language.specs.Shape.Shape.{keeps, holds, lacks, warns, fails}
+use Rattle.typst_language.specs.Sound.{Backs}
+use Rattle.typst_language.specs.Meaning.{Outcome, Meaning, less, joined, answered, inside, grown, is_more, growths}
+use Rattle.typst_language.proofs.Places.{less-none}
+use Rattle.typst_language.proofs.Within.{on_both, on_if}
+use Rattle.typst_grammar.specs.Binding.{any_errors}
+use Rattle.typst_grammar.proofs.Fine.{Fines, or-left, or-right}
+use Rattle.typst_grammar.proofs.FineRuns.{AllBind, Binds, binds-joined, still-shaped}
+use Rattle.typst_grammar.proofs.Grown.{Operand}
+
+-- an error is among the first so many nodes
+abbrev pub Stuck : ℕ → List Tree → Type 0
+Stuck zero ts = ⊥
+Stuck (suc m) [] = ⊥
+Stuck (suc m) (t ∷ ts) = (is_error t.head.kind ≡ true) ⊎ Stuck m ts
+
+stuck-append : (m : ℕ) (ts us : List Tree) → Stuck m ts → Stuck m (ts ++ us)
+stuck-append zero ts us h = absurd h
+stuck-append (suc m) [] us h = absurd h
+stuck-append (suc m) (t ∷ ts) us (inl e) = inl e
+stuck-append (suc m) (t ∷ ts) us (inr h) = inr (stuck-append m ts us h)
+
+stuck-take : (m : ℕ) (ts us : List Tree) → Stuck m ts → Stuck m (take m ts ++ us)
+stuck-take zero ts us h = absurd h
+stuck-take (suc m) [] us h = absurd h
+stuck-take (suc m) (t ∷ ts) us (inl e) = inl e
+stuck-take (suc m) (t ∷ ts) us (inr h) = inr (stuck-take m ts us h)
+
+advised-error : (hints : List (List ℕ)) (t : Tree) → is_error t.head.kind ≡ true → is_error (all_advised hints t).head.kind ≡ true
+advised-error [] t e = e
+advised-error (hint ∷ hints) t e = advised-error hints (advised (hint_with None hint) t) e
+
+stuck-last : (hints : List (List ℕ)) (m : ℕ) (ts : List Tree) → Stuck m ts → Stuck m (hinted_last hints ts)
+stuck-last hints zero ts h = absurd h
+stuck-last hints (suc m) [] h = absurd h
+stuck-last hints (suc m) (t ∷ []) (inl e) = inl (on_both (λ (u : Tree). is_error u.head.kind ≡ true) (is_error t.head.kind) (all_advised hints t) t (advised-error hints t e) e)
+stuck-last hints (suc m) (t ∷ []) (inr h) = inr h
+stuck-last hints (suc m) (t ∷ u ∷ ts) (inl e) = inl e
+stuck-last hints (suc m) (t ∷ u ∷ ts) (inr h) = inr (stuck-last hints m (u ∷ ts) h)
+
+stuck-hinted : (hints : List (List ℕ)) (m : ℕ) (ts : List Tree) → Stuck m ts → Stuck m (hinted hints ts)
+stuck-hinted [] m ts h = h
+stuck-hinted (hint ∷ hints) m ts h = stuck-last (hint ∷ hints) m ts h
+
+fines-stuck : (m : ℕ) (ts us : List Tree) → Stuck m ts → Fines ts → Fines (take m ts ++ us)
+fines-stuck zero ts us h f = absurd h
+fines-stuck (suc m) [] us h f = absurd h
+fines-stuck (suc m) (t ∷ ts) us (inl e) f = (f.0, inl e)
+fines-stuck (suc m) (t ∷ ts) us (inr h) (x, inl e) = (x, inl e)
+fines-stuck (suc m) (t ∷ ts) us (inr h) (x, inr f) = (x, inr (fines-stuck m ts us h f))
+
+stuck-wrong : (m : ℕ) (ts : List Tree) → Stuck m ts → any_errors (forest ts) ≡ false → ⊥
+stuck-wrong zero ts h n = h
+stuck-wrong (suc m) [] h n = h
+stuck-wrong (suc m) (t ∷ ts) (inl e) n = let x = or-left (is_error t.head.kind) (any_errors t.kids || any_errors (forest ts)) n in cc
+stuck-wrong (suc m) (t ∷ ts) (inr h) n = stuck-wrong m ts h (or-right (any_errors t.kids) (any_errors (forest ts)) (or-right (is_error t.head.kind) (any_errors t.kids || any_errors (forest ts)) n))
+
+-- a shape that makes a node over all
+abbrev pub Holds : Option Shape → Type 0
+Holds None = Unit {0}
+Holds (Some (holds change k)) = Unit {0}
+Holds (Some _) = ⊥
+
+module _ (k : CharClasses) (least : ℕ) {A : Type 0} (n : ℕ) (z : Place) (s : Point) where
+  -- an error stands among what stays before each node that is made
+  pub record Lost (o : Outcome A) : Type 0 where
+    pub binds : Binds o
+    pub stuck : Stuck (n + o.back) o.nodes
+    pub few : o.state.empties ≡ 0
+
+  operand-stuck : (m : ℕ) (o : Outcome A) → Binds o → Stuck m o.nodes → Operand k least z s o
+  operand-stuck m o b h = record { binds = b; last = λ sane. absurd (stuck-wrong m o.nodes h sane) }
+
+  module _ (m : A → Meaning (Option Shape × A)) (binds : (x : A) → AllBind (m x)) (tidy : (x : A) → Backs (m x)) (shapes : (x : A) (w : Place) (t : Point) → Holds (m x w t).value.0) where
+    stuck-joined : (o : Outcome A) (p : Outcome (Option Shape × A)) → p.back ≡ 0 → Stuck (n + o.back) o.nodes → Stuck (n + (joined o p).back) (joined o p).nodes
+    stuck-joined o p e h =
+        let same : n + o.back ≡ n + (joined o p).back = omega (arith, e) in
+        stuck-append (n + (joined o p).back) (hinted p.hints (less p.back o.nodes)) p.nodes (stuck-hinted p.hints (n + (joined o p).back) (less p.back o.nodes)
+        (subst (λ (i : ℕ). Stuck i (less p.back o.nodes)) same (subst (λ (ts : List Tree). Stuck (n + o.back) ts) (sym (ap (λ (i : ℕ). less i o.nodes) e ∙ less-none o.nodes)) h)))
+
+    next-lost : (v : Option Shape) → Holds v → (o : Outcome A) → Binds o → Stuck (n + o.back) o.nodes → Binds (grown n v o) × Stuck (n + (grown n v o).back) (grown n v o).nodes
+    next-lost None e o b h = (b, h)
+    next-lost (Some (holds change i)) e o b h = (
+      record { nodes = fines-stuck (n + o.back) o.nodes (shaped (holds change i) (inside n o)) h b.nodes; known = still-shaped (holds change i) (inside n o) o.state b.known },
+      stuck-take (n + o.back) o.nodes (shaped (holds change i) (inside n o)) h,
+    )
+    next-lost (Some (keeps change)) e o b h = absurd e
+    next-lost (Some (lacks count message i)) e o b h = absurd e
+    next-lost (Some (warns i message hint)) e o b h = absurd e
+    next-lost (Some (fails message)) e o b h = absurd e
+
+    few-more : (v : Option Shape) → Holds v → (o : Outcome A) → is_more v ≡ true → (grown n v o).state.empties ≡ 0
+    few-more None e o f = absurd (cc)
+    few-more (Some (holds change i)) e o f = refl
+    few-more (Some (keeps change)) e o f = absurd e
+    few-more (Some (lacks count message i)) e o f = absurd e
+    few-more (Some (warns i message hint)) e o f = absurd e
+    few-more (Some (fails message)) e o f = absurd e
+
+    and-true : (a b : Bool) → (a && b) ≡ true → a ≡ true
+    and-true true b e = refl
+    and-true false b e = absurd (cc)
+
+    pub operand-lost : (fuel : ℕ) (o : Outcome A) → Lost o → Operand k least z s (growths m n fuel o z)
+    operand-lost zero o h = operand-stuck (n + o.back) o h.binds h.stuck
+    operand-lost (suc fuel) o h =
+        let w = moved o.taken z in
+        let p = m o.value w o.state in
+        let back = (tidy o.value w o.state).back in
+        let few = h.few in
+        let x = answered p.value.1 (joined o p) in
+        let all = binds-joined o p h.binds (binds o.value w o.state h.binds.known) in
+        let next = next-lost p.value.0 (shapes o.value w o.state) x (record { nodes = all.nodes; known = all.known }) (stuck-joined o p (omega (arith, back, few)) h.stuck) in
+        let grew = grown n p.value.0 x in
+        on_if (λ (u : Outcome A). Operand k least z s u) (is_more p.value.0 && nat_lt 0 p.taken) (growths m n fuel grew z) grew
+        (λ c. operand-lost fuel grew (record { binds = next.0; stuck = next.1; few = few-more p.value.0 (shapes o.value w o.state) x (and-true (is_more p.value.0) (nat_lt 0 p.taken) c) }))
+        (λ c. operand-stuck (n + grew.back) grew next.0 next.1)

@@ -1,0 +1,193 @@
+-- What an expression begins with.
+use Rattle.std.proofs.Common.{◌≡◌, ℕ, zero, suc, ◌+◌, ◌<◌, ◌≤◌, true, false, List, [], ◌∷◌, ◌++◌, length, drop, codes, refl, ap, sym, ◌∙◌, ◌⊎◌, inl, inr, subst, arith, length-append}
+use Rattle.typst_kinds.specs.Kinds.{is_error}
+use Rattle.typst_kinds.specs.declared.kind.SyntaxKind.{SyntaxKind}
+use Rattle.typst_kinds.specs.declared.kind.SyntaxKind.TheVariants as kind
+use Rattle.typst_lines.specs.Place.{Place, moved}
+use Rattle.typst_tree.specs.Tree.{Tree}
+use Rattle.typst_lines.specs.Classes.{CharClasses}
+use Rattle.typst_language.specs.declared.calls.Block.TheVariants as block
+use Rattle.typst_code.specs.declared.heads.CodeHead.{CodeHead}
+use Rattle.typst_code.specs.declared.heads.CodeHead.TheVariants as head
+use Rattle.typst_code.specs.Expressions.{code_by, code_head, code_primary}
+use Rattle.typst_language.specs.Hand.{Hand, AtHand, told}
+use Rattle.typst_code.specs.Parens.{readings}
+use Rattle.typst_language.specs.Point.{Point, pending}
+use Rattle.typst_language.specs.Steps.{peek, expected}
+use Rattle.typst_language.specs.Syntax.Parser.{next}
+use Rattle.typst_language.specs.Meaning.{Outcome, Level, plain, hand_of, hand_asks_of, asked, run}
+use Rattle.typst_language.proofs.Ends.{hand-again}
+use Rattle.typst_grammar.specs.Grammar.{level_at}
+use Rattle.typst_grammar.proofs.Fine.{All, all-append, all-drop, all-map}
+use Rattle.typst_grammar.proofs.FineRuns.{Binds, Still, still-hand}
+use Rattle.typst_grammar.proofs.PlainCode.{plain-primary, plain-readings}
+use Rattle.typst_grammar.proofs.Heads.{Bare, Unary, LastIs, last-map, last-one, bare-error, Head, Heads, head-peek, head-eat, head-raw, standing-none}
+use Rattle.typst_grammar.proofs.BindingTurns.{Sane, BindsBy, bare-binds}
+use Rattle.typst_grammar.proofs.Leads.{Leads, Fills, all-bare, fills-peek, fills-eat}
+use Rattle.typst_grammar.proofs.Firsts.{calls-back, blocks-back, fills-read, fills-parens, fills-named, fills-placeholder, fills-let, fills-for, fills-equation, fills-set, fills-show, fills-context, fills-conditional, fills-while, fills-import, fills-include, fills-jump, fills-return, fills-unary}
+use Rattle.typst_grammar.proofs.Grown.{kind_at, Grown, Leftward, tight-none}
+use Rattle.typst_grammar.proofs.BindingLevels.{CallsBind, level-binds}
+use Rattle.typst_grammar.proofs.Lost.{Lost, Stuck}
+use Rattle.typst_grammar.proofs.Missing.{Missed, missed}
+use Rattle.typst_grammar.proofs.Openers.{head-unary, head-let, head-set, head-show, head-context, head-conditional, head-while, head-for, head-import, head-include, head-break, head-continue, head-return, head-equation, head-read, head-named, head-placeholder}
+use Rattle.typst_grammar.proofs.Parens.{head-parens}
+
+stuck-behind : (m : ℕ) (ts : List Tree) (t : Tree) → is_error t.head.kind ≡ true → length ts < m → Stuck m (ts ++ t ∷ [])
+stuck-behind zero ts t e h = absurd (omega arith)
+stuck-behind (suc m) [] t e h = inl e
+stuck-behind (suc m) (u ∷ ts) t e h = inr (stuck-behind m ts t e (omega arith))
+
+module _ (k : CharClasses) (levels : ℕ) (d : CallsBind k levels) (least : ℕ) where
+  abbrev l : Level
+  l = level_at k levels
+
+  -- ---- by the token at hand
+
+  -- where a token of this kind is at hand, this is no operator and has none, behind the trivia
+  abbrev Opens : SyntaxKind → CodeHead → Type 0
+  Opens i h = Heads l i (code_by false h) × Fills l (code_by false h)
+
+  abbrev Table : SyntaxKind → Type 0
+  Table i = Opens i (code_head false i) ⊎ (code_head false i ≡ head.Missing)
+
+  table : (i : SyntaxKind) → Table i
+  table kind.Plus = inl (head-unary l kind.Plus _, fills-unary l (calls-back k levels) (blocks-back k levels) _)
+  table kind.Minus = inl (head-unary l kind.Minus _, fills-unary l (calls-back k levels) (blocks-back k levels) _)
+  table kind.Not = inl (head-unary l kind.Not _, fills-unary l (calls-back k levels) (blocks-back k levels) _)
+  table kind.Ident = inl (head-named l, fills-named l (calls-back k levels) (blocks-back k levels))
+  table kind.Raw = inl (head-raw l, fills-eat l (calls-back k levels) (blocks-back k levels))
+  table kind.None = inl (head-eat l kind.None refl refl refl refl, fills-eat l (calls-back k levels) (blocks-back k levels))
+  table kind.Auto = inl (head-eat l kind.Auto refl refl refl refl, fills-eat l (calls-back k levels) (blocks-back k levels))
+  table kind.Int = inl (head-eat l kind.Int refl refl refl refl, fills-eat l (calls-back k levels) (blocks-back k levels))
+  table kind.Float = inl (head-eat l kind.Float refl refl refl refl, fills-eat l (calls-back k levels) (blocks-back k levels))
+  table kind.Bool = inl (head-eat l kind.Bool refl refl refl refl, fills-eat l (calls-back k levels) (blocks-back k levels))
+  table kind.Numeric = inl (head-eat l kind.Numeric refl refl refl refl, fills-eat l (calls-back k levels) (blocks-back k levels))
+  table kind.Str = inl (head-eat l kind.Str refl refl refl refl, fills-eat l (calls-back k levels) (blocks-back k levels))
+  table kind.Label = inl (head-eat l kind.Label refl refl refl refl, fills-eat l (calls-back k levels) (blocks-back k levels))
+  table kind.LeftBrace = inl (head-read k levels kind.LeftBrace block.Code, fills-read k levels block.Code)
+  table kind.LeftBracket = inl (head-read k levels kind.LeftBracket block.Content, fills-read k levels block.Content)
+  table kind.Dollar = inl (head-equation l kind.Dollar, fills-equation l (calls-back k levels) (blocks-back k levels))
+  table kind.LeftParen = inl (head-parens l (calls-back k levels) (blocks-back k levels) (λ z s still. (level-binds k levels d readings plain-readings z s still).known) kind.LeftParen, fills-parens l (calls-back k levels) (blocks-back k levels))
+  table kind.Let = inl (head-let l kind.Let, fills-let l (calls-back k levels) (blocks-back k levels))
+  table kind.Set = inl (head-set l kind.Set, fills-set l (calls-back k levels) (blocks-back k levels))
+  table kind.Show = inl (head-show l kind.Show, fills-show l (calls-back k levels) (blocks-back k levels))
+  table kind.Context = inl (head-context l kind.Context, fills-context l (calls-back k levels) (blocks-back k levels) false)
+  table kind.If = inl (head-conditional l kind.If, fills-conditional l (calls-back k levels) (blocks-back k levels))
+  table kind.While = inl (head-while l kind.While, fills-while l (calls-back k levels) (blocks-back k levels))
+  table kind.For = inl (head-for l kind.For, fills-for l (calls-back k levels) (blocks-back k levels))
+  table kind.Import = inl (head-import l kind.Import, fills-import l (calls-back k levels) (blocks-back k levels))
+  table kind.Include = inl (head-include l kind.Include, fills-include l (calls-back k levels) (blocks-back k levels))
+  table kind.Break = inl (head-break l kind.Break, fills-jump l (calls-back k levels) (blocks-back k levels) kind.LoopBreak)
+  table kind.Continue = inl (head-continue l kind.Continue, fills-jump l (calls-back k levels) (blocks-back k levels) kind.LoopContinue)
+  table kind.Return = inl (head-return l kind.Return, fills-return l (calls-back k levels) (blocks-back k levels))
+  table kind.Underscore = inl (head-placeholder l, fills-placeholder l (calls-back k levels) (blocks-back k levels))
+  table _ = inr refl
+
+  -- ---- what is given
+
+  module _ (z : Place) (s : Point) (still : All Still (pending s.known)) where
+    abbrev h : Hand
+    h = hand_of l z s
+
+    abbrev n : ℕ
+    n = length h.trivia
+
+    abbrev t : Point
+    t = asked h s
+
+    abbrev first : Outcome AtHand
+    first = record (plain (told h) t) { asks = hand_asks_of l z s }
+
+    again : hand_of l z t ≡ h
+    again = hand-again k s.held s.known z
+
+    abbrev by_head : CodeHead → Outcome (Unit {0})
+    by_head c = run l (next peek (λ _. code_by false c)) z s
+
+    -- a token that begins an expression
+    grown-head : (o : Outcome (Unit {0})) → Binds o → Head n s o → Leads n o → Grown k least n z s o
+    grown-head o b x lead =
+        let none = lead.none in
+        let room = lead.room in
+        let j = kind_at k least (moved o.taken z) o.state in
+        record {
+          binds = b;
+          inside = all-map Bare (Leftward k least j) (λ u c. (c.0, λ y. tight-none k least j u c.1)) (drop (n + o.back) o.nodes) x.inside;
+          last = last-map (s.is_after_error ≡ true) (s.is_after_error ≡ true) Unary (λ u. Sane u → BindsBy least u) (λ y. y) (λ u c y. bare-binds least u c) o.nodes x.last;
+          enough = omega (arith, none, room);
+        }
+
+    opened : (i : SyntaxKind) → h.kind ≡ i → (c : CodeHead) → Opens i c → Binds (by_head c) → Grown k least n z s (by_head c)
+    opened i e c x b =
+        grown-head (by_head c) b (head-peek l i (λ _. code_by false c) (λ a f. x.0) z s still e) (fills-peek l (λ _. code_by false c) (λ a. x.1) z s still)
+
+    -- none begins there
+    grown-bare : (o : Outcome (Unit {0})) → Binds o → All Bare o.nodes → LastIs (s.is_after_error ≡ true) Unary o.nodes → n + o.back ≤ length o.nodes + length (hand_of l (moved o.taken z) o.state).trivia → Grown k least n z s o
+    grown-bare o b all x m =
+        let j = kind_at k least (moved o.taken z) o.state in
+        record {
+          binds = b;
+          inside = all-map Bare (Leftward k least j) (λ u c. (c.0, λ y. tight-none k least j u c.1)) (drop (n + o.back) o.nodes) (all-drop Bare (n + o.back) o.nodes all);
+          last = last-map (s.is_after_error ≡ true) (s.is_after_error ≡ true) Unary (λ u. Sane u → BindsBy least u) (λ y. y) (λ u c y. bare-binds least u c) o.nodes x;
+          enough = m;
+        }
+
+    same-trivia : (run l (expected (codes "expression")) z t).taken ≡ 0 → hand_of l z (run l (expected (codes "expression")) z t).state ≡ hand_of l z t → length (hand_of l (moved (by_head head.Missing).taken z) (by_head head.Missing).state).trivia ≡ n
+    unfolding run
+    same-trivia e f =
+        let x = run l (expected (codes "expression")) z t in
+        let none : 0 + x.taken ≡ 0 = omega (arith, e) in
+        ap (λ (m : ℕ). length (hand_of l (moved m z) x.state).trivia) none ∙ ap (λ (v : Hand). length v.trivia) f ∙ ap (λ (v : Hand). length v.trivia) again
+
+    missing : Missed l z t (run l (expected (codes "expression")) z t) → Binds (by_head head.Missing) → Grown k least n z s (by_head head.Missing) ⊎ Lost k least n z s (by_head head.Missing)
+    unfolding run
+    missing (inl x) b = by-empties s.empties refl
+      where
+        p : Outcome (Unit {0})
+        p = by_head head.Missing
+
+        nodes : p.nodes ≡ (hand_of l z t).trivia ++ x.node ∷ []
+        nodes = standing-none (run l (expected (codes "expression")) z t) ∙ x.nodes
+
+        long : length (hand_of l z t).trivia ≡ n
+        long = ap (λ (v : Hand). length v.trivia) again
+
+        by-empties : (m : ℕ) → s.empties ≡ m → Grown k least n z s p ⊎ Lost k least n z s p
+        by-empties zero f =
+            let e = ap length nodes in
+            let c = length-append (hand_of l z t).trivia (x.node ∷ []) in
+            let back = x.back in
+            let bare = bare-error x.node x.is_wrong in
+            inl (grown-bare p b (subst (All Bare) (sym nodes) (all-append Bare (hand_of l z t).trivia (x.node ∷ []) (all-bare (hand_of l z t).trivia (still-hand l z t (still-hand l z s still))) (bare, tt)))
+            (subst (LastIs (s.is_after_error ≡ true) Unary) (sym nodes) (last-one (s.is_after_error ≡ true) Unary (hand_of l z t).trivia x.node bare.1)) (omega (arith, e, c, back, f, long)))
+        by-empties (suc m) f =
+            let back = x.back in
+            inr (record {
+              binds = b;
+              stuck = subst (Stuck (n + p.back)) (sym nodes) (stuck-behind (n + p.back) (hand_of l z t).trivia x.node (ap is_error x.is_wrong) (omega (arith, long, back, f)));
+              few = x.empties;
+            })
+    missing (inr (inl x)) b =
+        let p = by_head head.Missing in
+        let nodes = standing-none (run l (expected (codes "expression")) z t) ∙ x.exact.nodes in
+        let bare = bare-error x.node x.is_wrong in
+        let back = x.exact.back in
+        let one = ap length nodes in
+        let after = same-trivia x.taken x.same in
+        inl (grown-bare p b (subst (All Bare) (sym nodes) (bare, tt)) (subst (LastIs (s.is_after_error ≡ true) Unary) (sym nodes) bare.1) (omega (arith, back, one, after)))
+    missing (inr (inr x)) b =
+        let p = by_head head.Missing in
+        let nodes = standing-none (run l (expected (codes "expression")) z t) ∙ x.exact.nodes in
+        let back = x.exact.back in
+        let after = same-trivia x.taken x.same in
+        inl (grown-bare p b (subst (All Bare) (sym nodes) tt) (subst (LastIs (s.is_after_error ≡ true) Unary) (sym nodes) x.after) (omega (arith, back, after)))
+
+    by-table : Table h.kind → Binds (by_head (code_head false h.kind)) → Grown k least n z s (by_head (code_head false h.kind)) ⊎ Lost k least n z s (by_head (code_head false h.kind))
+    by-table (inl x) b = inl (opened h.kind refl (code_head false h.kind) x b)
+    by-table (inr e) b =
+        subst (λ (c : CodeHead). Grown k least n z s (by_head c) ⊎ Lost k least n z s (by_head c)) (sym e)
+        (missing (missed l (codes "expression") z t) (subst (λ (c : CodeHead). Binds (by_head c)) e b))
+
+  pub primary-begins : (z : Place) (s : Point) → All Still (pending s.known) → let n = length (hand_of (level_at k levels) z s).trivia in let o = run (level_at k levels) (code_primary false) z s in Grown k least n z s o ⊎ Lost k least n z s o
+  unfolding run code_primary
+  primary-begins z s still = by-table z s still (table (hand_of (level_at k levels) z s).kind) (level-binds k levels d (code_primary false) (plain-primary false) z s still)

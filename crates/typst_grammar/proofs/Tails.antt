@@ -1,0 +1,430 @@
+-- What takes an expression into its node, turn by turn.
+use Rattle.std.proofs.Common.{codes, append_assoc, ◌≡◌, ℕ, ◌+◌, ◌≤◌, ◌<◌, max, Bool, true, false, ◌||◌, not, if◌then◌else◌, List, [], ◌∷◌, ◌++◌, length, Option, Some, None, refl, ap, sym, ◌∙◌, ◌⊎◌, inl, inr, subst, arith, encode_utf8_all}
+use Rattle.typst_kinds.specs.Kinds.{same, is_error}
+use Rattle.typst_kinds.specs.declared.kind.SyntaxKind.{SyntaxKind}
+use Rattle.typst_kinds.specs.declared.kind.SyntaxKind.TheVariants as kind
+use Rattle.typst_kinds.specs.declared.operator.BinOp.{BinOp}
+use Rattle.typst_kinds.specs.declared.operator.BinOp.TheVariants as binary
+use Rattle.typst_lines.specs.Place.{Place, moved}
+use Rattle.typst_tree.specs.Tree.{Tree, forest}
+use Rattle.typst_lines.specs.Classes.{CharClasses}
+use Rattle.typst_language.specs.declared.calls.Call.TheVariants.{CodeExpr}
+use Rattle.typst_code.specs.Arguments.{calls_directly}
+use Rattle.typst_code.specs.Statements.{field}
+use Rattle.typst_code.specs.declared.heads.CodeTail.{CodeTail}
+use Rattle.typst_code.specs.declared.heads.CodeTail.TheVariants as tail
+use Rattle.typst_language.specs.Depth.{deeper, is_end}
+use Rattle.typst_code.specs.Expressions.{code_tail_turn, call_tail, not_in, binary_expr, code_tail, operand_least, tail_by}
+use Rattle.typst_language.specs.Hand.{Hand, AtHand, told, text_ahead}
+use Rattle.typst_language.specs.Point.{is_nil, Point, Trivia, pending, gap_of}
+use Rattle.typst_language.specs.Shape.{Shape, becomes, hinted}
+use Rattle.typst_language.specs.Steps.{peek, eat, expected}
+use Rattle.typst_language.specs.Syntax.{Parser}
+use Rattle.typst_language.specs.Syntax.Parser.{next}
+use Rattle.typst_language.specs.Meaning.{Outcome, Level, plain, less, reshaped, joined, answered, bound, grown, is_more, hand_of, hand_asks_of, asked, run}
+use Rattle.typst_language.proofs.Ends.{hand-again, hand-takes}
+use Rattle.typst_language.proofs.Knot.{sane-at}
+use Rattle.typst_language.proofs.Places.{moved-sum, no-end}
+use Rattle.typst_grammar.specs.Grammar.{rules, level_at}
+use Rattle.typst_grammar.proofs.Moves.{Moves, moves-next, moves-peek, moves-eat}
+use Rattle.typst_grammar.specs.Binding.{any_errors, has_errors, first_sign, right_least}
+use Rattle.typst_grammar.proofs.Signs.{sign_of, NoSign, reads-sign, reads-not}
+use Rattle.typst_grammar.proofs.Fine.{All, all-map, or-left}
+use Rattle.typst_grammar.proofs.FineRuns.{Binds, binds-joined, Plain, Still, still-hand, after-shape-known}
+use Rattle.typst_grammar.proofs.PlainParts.{plain-eat, plain-expected, plain-deeper}
+use Rattle.typst_grammar.proofs.Heads.{standing-none, silent-joined, silent-plain, Leafy, LastIs, last-map, is_plain, leafy-token, hand-kind}
+use Rattle.typst_grammar.proofs.BindingTurns.{Sane, all-sane, below, nothing-below, sign-comes, not-comes, call-comes, dot-comes, no-direct}
+use Rattle.typst_grammar.proofs.Operands.{Exact, exact-plain, exact-gives, exact-joined, taken_sign, exact-eat, eat-empties, eat-error, last_hinted, leafy-last, last-kind, operation-exact}
+use Rattle.typst_grammar.proofs.Grown.{grown-other, errors-second, errors-behind, kind_at, Grown, Ended, Stopped, WentOn, turned, grown-binary, stopped-silent}
+use Rattle.typst_grammar.proofs.PlainCode.{plain-field, plain-call}
+use Rattle.typst_grammar.proofs.Leads.{fills-peek}
+use Rattle.typst_grammar.proofs.Firsts.{calls-back, blocks-back, fills-field}
+use Rattle.typst_grammar.proofs.Called.{called-back}
+use Rattle.typst_grammar.proofs.Missing.{Missed, missed, error-kind}
+use Rattle.typst_grammar.proofs.BindingLevels.{CallsBind, DeeperOperands, level-binds}
+
+-- ---- kinds of operators
+
+-- the token of an operator is no end, and becomes a leaf
+sign-leaf : (i : SyntaxKind) (op : BinOp) → sign_of i ≡ Some op → (is_end i || is_plain i) ≡ false
+sign-leaf kind.End op h = absurd (cc)
+sign-leaf kind.Error op h = absurd (cc)
+sign-leaf kind.Raw op h = absurd (cc)
+sign-leaf kind.MathFieldAccess op h = absurd (cc)
+sign-leaf _ op h = refl
+
+first-false : (a b : Bool) → (a || b) ≡ false → a ≡ false
+first-false true b h = absurd (cc)
+first-false false b h = refl
+
+second-false : (a b : Bool) → (a || b) ≡ false → b ≡ false
+second-false true b h = absurd (cc)
+second-false false b h = h
+
+no-error : (t : Tree) → t.head.kind ≡ kind.Error → any_errors (forest (t ∷ [])) ≡ false → ⊥
+no-error t e n = let x = or-left (is_error t.head.kind) (any_errors t.kids || false) n in let y = ap is_error e in cc
+
+-- the last of several nodes behind one without errors
+last-front : (E : Type 0) (P : Tree → Type 0) (ts : List Tree) (u : Tree) (us : List Tree) → Sane u → LastIs (has_errors u ≡ true) P us → LastIs E P (ts ++ u ∷ us)
+last-front E P [] u [] n h = absurd (cc)
+last-front E P [] u (v ∷ us) n h = last-map (has_errors u ≡ true) E P P (λ e. absurd (cc)) (λ t x. x) (v ∷ us) h
+last-front E P (t ∷ []) u us n h = last-front E P [] u us n h
+last-front E P (t ∷ v ∷ ts) u us n h = last-front E P (v ∷ ts) u us n h
+
+or-true : (a b : Bool) → a ≡ true → (a || b) ≡ true
+or-true true b h = refl
+or-true false b h = absurd (cc)
+
+module _ (k : CharClasses) (levels : ℕ) (d : CallsBind k levels) (ops : DeeperOperands k levels) where
+  abbrev l : Level
+  l = level_at k levels
+
+  -- ---- an operator and its right operand
+
+  module _ (op : BinOp) (v : Place) (y : Point) (still : All Still (pending y.known)) (e : (is_end (hand_of l v y).kind || is_plain (hand_of l v y).kind) ≡ false) where
+    abbrev i : SyntaxKind
+    i = (hand_of l v y).kind
+
+    no_end : is_end i ≡ false
+    no_end = first-false (is_end i) (is_plain i) e
+
+    some : 0 < (hand_of l v y).len
+    some = hand-takes k y.held y.known v no_end
+
+    abbrev eaten : Outcome (Unit {0})
+    eaten = run l eat v y
+
+    abbrev behind : Place
+    behind = moved eaten.taken v
+
+    abbrev operand : Outcome (Unit {0})
+    operand = run l (deeper (CodeExpr false (operand_least op)) tt) behind eaten.state
+
+    none : operand.back ≡ 0
+    none = let t = ((sane-at (rules k) k levels (deeper (CodeExpr false (operand_least op)) tt)).backs behind eaten.state).back in let f = eat-empties l v y some in omega (arith, t, f)
+
+    abbrev pub sgn : Tree
+    sgn = last_hinted operand.hints (taken_sign l v y)
+
+    abbrev pub operands : List Tree
+    operands = operand.nodes
+
+    abbrev pub text : List ℕ
+    text = encode_utf8_all (text_ahead (hand_of l v y).len (moved (hand_of l v y).gap v))
+
+    abbrev pub whole : Outcome (Option Shape × Unit {0})
+    whole = run l (binary_expr op) v y
+
+    pub whole-exact : Exact whole ((hand_of l v y).trivia ++ sgn ∷ operands)
+    unfolding run binary_expr
+    whole-exact = operation-exact l v y operand (Some (becomes kind.Binary), tt) none
+
+    pub whole-leafy : Leafy i text sgn
+    whole-leafy =
+        leafy-last operand.hints i text (taken_sign l v y) (first-false (is_error i) _ (second-false (is_end i) (is_plain i) e))
+        (leafy-token k (hand_of l v y).token (text_ahead (hand_of l v y).len (moved (hand_of l v y).gap v)) i (hand-kind k y.held y.known v i no_end refl) (second-false (is_end i) (is_plain i) e))
+
+    wrong-sign : eaten.state.is_after_error ≡ true → has_errors sgn ≡ true
+    wrong-sign a = or-true (is_error sgn.head.kind) (any_errors sgn.kids) (last-kind operand.hints (taken_sign l v y) (sym (eat-error l v y) ∙ a))
+
+    whole-taken : whole.taken ≡ eaten.taken + operand.taken
+    unfolding run binary_expr
+    whole-taken = omega arith
+
+    whole-state : whole.state ≡ operand.state
+    unfolding run binary_expr
+    whole-state = refl
+
+    whole-kind : kind_at k 0 (moved whole.taken v) whole.state ≡ kind_at k 0 (moved operand.taken behind) operand.state
+    whole-kind = ap (λ (t : Point). kind_at k 0 (moved whole.taken v) t) whole-state ∙ ap (λ (p : Place). kind_at k 0 p operand.state) (ap (λ (n : ℕ). moved n v) whole-taken ∙ moved-sum eaten.taken operand.taken v)
+
+    pub whole-right : any_errors (forest operands) ≡ false → LastIs (has_errors sgn ≡ true) (Ended k (right_least op) (kind_at k 0 (moved whole.taken v) whole.state)) operands
+    whole-right n =
+        let o = ops (operand_least op) behind eaten.state (level-binds k levels d eat plain-eat v y still).known in
+        last-map (eaten.state.is_after_error ≡ true) (has_errors sgn ≡ true) (Ended k (right_least op) (kind_at k 0 (moved operand.taken behind) operand.state)) (Ended k (right_least op) (kind_at k 0 (moved whole.taken v) whole.state))
+        wrong-sign (λ t h x. ((h x).0, ap (below (right_least op)) whole-kind ∙ (h x).1)) operands (o.last n)
+
+  -- ---- each turn
+
+  module _ (least : ℕ) where
+    abbrev turn_by : CodeTail → Parser (Option Shape × Unit {0})
+    turn_by t = next peek (λ _. tail_by t)
+
+    module _ (n : ℕ) (z : Place) (s : Point) (o : Outcome (Unit {0})) (g : Grown k least n z s o) where
+      abbrev w : Place
+      w = moved o.taken z
+
+      abbrev h : Hand
+      h = hand_of l w o.state
+
+      abbrev p_of : CodeTail → Outcome (Option Shape × Unit {0})
+      p_of t = run l (turn_by t) w o.state
+
+      -- no more is taken than there is
+      abbrev Fits : Outcome (Option Shape × Unit {0}) → Type 0
+      Fits p = p.taken + bound (moved p.taken w) p.state ≤ bound w o.state
+
+      fits : (t : CodeTail) → Fits (p_of t)
+      fits t = (sane-at (rules k) k levels (turn_by t)).within w o.state
+
+      -- it stops, or goes on with less to come
+      abbrev pub Turned : Outcome (Option Shape × Unit {0}) → Type 0
+      Turned p =
+          Stopped k least z s p (turned k least n o p)
+          ⊎ (WentOn k least n z s p (turned k least n o p) × (p.taken + bound (moved (turned k least n o p).taken z) (turned k least n o p).state ≤ bound w o.state))
+
+      bound-by : (p : Outcome (Option Shape × Unit {0})) (v : Option Shape) → bound (moved (grown n v (answered p.value.1 (joined o p))).taken z) (grown n v (answered p.value.1 (joined o p))).state ≡ bound (moved p.taken w) p.state
+      bound-by p None = ap (λ (x : Place). bound x p.state) (moved-sum o.taken p.taken z)
+      bound-by p (Some shape) =
+          ap (λ (x : Option Trivia). max (gap_of x) (length (moved (o.taken + p.taken) z).ahead)) (after-shape-known shape _ p.state) ∙ ap (λ (x : Place). bound x p.state) (moved-sum o.taken p.taken z)
+
+      went : (p : Outcome (Option Shape × Unit {0})) → Fits p → is_more p.value.0 ≡ true → 0 < p.taken → Grown k least n z s (turned k least n o p) → Turned p
+      went p less says taken grew = let same = bound-by p p.value.0 in inr (record { says = says; taken = taken; grown = grew }, omega (arith, less, same))
+
+      -- the token at hand once it was asked for
+      abbrev t : Point
+      t = asked h o.state
+
+      again : hand_of l w t ≡ h
+      again = hand-again k o.state.held o.state.known w
+
+      still : All Still h.trivia
+      still = still-hand l w o.state g.binds.known
+
+      abbrev nothing : Option Shape × Unit {0}
+      nothing = (None, tt {0})
+
+      turn-nothing : (has_trivia : Bool) → code_tail false least h.kind has_trivia ≡ tail.Nothing → Turned (p_of tail.Nothing)
+      unfolding run
+      turn-nothing has_trivia e =
+          let p = p_of tail.Nothing in
+          let first = record (plain (told h) t) { asks = hand_asks_of l w o.state } in
+          inl (stopped-silent k least n z s o p g (silent-joined first (plain nothing t) (record { nodes = refl; back = refl; hints = refl }) (silent-plain nothing t)) refl
+          (level-binds k levels d (turn_by tail.Nothing) (refl, λ _. tt) w o.state g.binds.known) (ap (λ (x : Hand). x.kind) again) (nothing-below least h.kind has_trivia e))
+
+      -- the token at hand takes something
+      comes : is_end h.kind ≡ false → 0 < h.gap + h.len
+      comes e = let x = hand-takes k o.state.held o.state.known w e in omega (arith, x)
+
+      plain-binary : (op : BinOp) → Plain (binary_expr op)
+      unfolding binary_expr
+      plain-binary op = (plain-eat, λ _. (plain-deeper _ _, λ _. tt))
+
+      moves-binary : (op : BinOp) → Moves l (binary_expr op)
+      unfolding binary_expr
+      moves-binary op = moves-next l eat _ (moves-eat l)
+
+      turn-binary : (op : BinOp) (has_trivia : Bool) → code_tail false least h.kind has_trivia ≡ tail.Binary op → Turned (p_of (tail.Binary op))
+      unfolding run binary_expr
+      turn-binary op has_trivia e =
+          let c = sign-comes least h.kind has_trivia op e in
+          let p = p_of (tail.Binary op) in
+          let first = record (plain (told h) t) { asks = hand_asks_of l w o.state } in
+          let there : (is_end (hand_of l w t).kind || is_plain (hand_of l w t).kind) ≡ false = ap (λ (x : Hand). is_end x.kind || is_plain x.kind) again ∙ sign-leaf h.kind op c.0 in
+          let q = run l (binary_expr op) w t in
+          let x = exact-joined first q [] ((hand_of l w t).trivia ++ sgn op w t still there ∷ operands op w t still there) (exact-plain (told h) t (hand_asks_of l w o.state)) (whole-exact op w t still there) in
+          let same_taken : 0 + q.taken ≡ q.taken = omega arith in
+          let same_kind : kind_at k 0 (moved p.taken w) p.state ≡ kind_at k 0 (moved q.taken w) q.state = ap (λ (m : ℕ). kind_at k 0 (moved m w) q.state) same_taken in
+          went p (fits (tail.Binary op)) refl (moves-peek l (λ _. binary_expr op) (λ a. moves-binary op) w o.state (comes (first-false (is_end h.kind) (is_plain h.kind) (sign-leaf h.kind op c.0))))
+          (grown-binary k least n z s o p (tt {0}) g op (text op w t still there) (sgn op w t still there) (operands op w t still there) c.0
+          (λ sane is ls no_signs. ap (λ (u : Tree). first_sign false (ls ++ u ∷ operands op w t still there)) is ∙ reads-sign op h.kind c.1.0 (text op w t still there) ls no_signs (operands op w t still there)) c.1.1
+          (subst (λ (v : SyntaxKind). Leafy v (text op w t still there) (sgn op w t still there)) (ap (λ (v : Hand). v.kind) again) (whole-leafy op w t still there)) still
+          (x.nodes ∙ ap (λ (v : Hand). v.trivia ++ sgn op w t still there ∷ operands op w t still there) again) x.back x.hints
+          (level-binds k levels d (turn_by (tail.Binary op)) (refl, λ _. plain-binary op) w o.state g.binds.known)
+          (λ sane. subst (λ (v : SyntaxKind). LastIs (has_errors (sgn op w t still there) ≡ true) (Ended k (right_least op) v) (operands op w t still there)) (sym same_kind) (whole-right op w t still there sane)))
+
+      -- ---- `not in`
+
+      module _ (has_trivia : Bool) (e : code_tail false least h.kind has_trivia ≡ tail.NotIn) where
+        sign_not : sign_of h.kind ≡ Some binary.NotIn
+        sign_not = let x = (not-comes least h.kind has_trivia e).0 in rw x refl
+
+        leaf_not : (is_end (hand_of l w t).kind || is_plain (hand_of l w t).kind) ≡ false
+        leaf_not = ap (λ (x : Hand). is_end x.kind || is_plain x.kind) again ∙ sign-leaf h.kind binary.NotIn sign_not
+
+        no_end_not : is_end (hand_of l w t).kind ≡ false
+        no_end_not = first-false (is_end (hand_of l w t).kind) (is_plain (hand_of l w t).kind) leaf_not
+
+        some_not : 0 < (hand_of l w t).len
+        some_not = hand-takes k t.held t.known w no_end_not
+
+        -- behind `not`
+        abbrev e1 : Outcome (Unit {0})
+        e1 = run l eat w t
+
+        abbrev w2 : Place
+        w2 = moved e1.taken w
+
+        abbrev h2 : Hand
+        h2 = hand_of l w2 e1.state
+
+        abbrev t2 : Point
+        t2 = asked h2 e1.state
+
+        abbrev pk1 : Outcome AtHand
+        pk1 = record (plain (told h) t) { asks = hand_asks_of l w o.state }
+
+        abbrev pk2 : Outcome AtHand
+        pk2 = record (plain (told h2) t2) { asks = hand_asks_of l w2 e1.state }
+
+        abbrev not_sign : Tree
+        not_sign = taken_sign l w t
+
+        still1 : All Still (pending e1.state.known)
+        still1 = (level-binds k levels d eat plain-eat w t still).known
+
+        still2 : All Still (pending t2.known)
+        still2 = still-hand l w2 e1.state still1
+
+        again2 : hand_of l w2 t2 ≡ h2
+        again2 = hand-again k e1.state.held e1.state.known w2
+
+        -- with what comes behind it
+        abbrev behind_not : Outcome (Option Shape × Unit {0}) → Outcome (Option Shape × Unit {0})
+        behind_not r = joined pk1 (joined e1 (joined pk2 r))
+
+        exact-behind : (r : Outcome (Option Shape × Unit {0})) (ts : List Tree) → Exact r ts → Exact (behind_not r) (h.trivia ++ not_sign ∷ ts)
+        exact-behind r ts x =
+            let y = exact-joined pk1 (joined e1 (joined pk2 r)) [] (((hand_of l w t).trivia ++ not_sign ∷ []) ++ ts) (exact-plain (told h) t (hand_asks_of l w o.state))
+            (exact-joined e1 (joined pk2 r) ((hand_of l w t).trivia ++ not_sign ∷ []) ts (exact-eat l w t) (exact-joined pk2 r [] ts (exact-plain (told h2) t2 (hand_asks_of l w2 e1.state)) x)) in
+            record { nodes = y.nodes ∙ append_assoc (hand_of l w t).trivia (not_sign ∷ []) ts ∙ ap (λ (v : Hand). v.trivia ++ not_sign ∷ ts) again; back = y.back; hints = y.hints }
+
+        abbrev with_in : Outcome (Option Shape × Unit {0})
+        with_in = run l (binary_expr binary.NotIn) w2 t2
+
+        abbrev missing : Outcome (Unit {0})
+        missing = run l (expected (codes "keyword `in`")) w2 t2
+
+        abbrev without_in : Outcome (Option Shape × Unit {0})
+        without_in = joined missing (plain nothing missing.state)
+
+        leafy_not : Leafy h.kind (encode_utf8_all (text_ahead (hand_of l w t).len (moved (hand_of l w t).gap w))) not_sign
+        leafy_not =
+            subst (λ (v : SyntaxKind). Leafy v (encode_utf8_all (text_ahead (hand_of l w t).len (moved (hand_of l w t).gap w))) not_sign) (ap (λ (v : Hand). v.kind) again)
+            (leafy-token k (hand_of l w t).token (text_ahead (hand_of l w t).len (moved (hand_of l w t).gap w)) (hand_of l w t).kind (hand-kind k t.held t.known w (hand_of l w t).kind no_end_not refl) (second-false (is_end (hand_of l w t).kind) (is_plain (hand_of l w t).kind) leaf_not))
+
+        in-leaf : (i : SyntaxKind) → same kind.In i ≡ true → (is_end i || is_plain i) ≡ false
+        in-leaf kind.End x = absurd (cc)
+        in-leaf kind.Error x = absurd (cc)
+        in-leaf kind.Raw x = absurd (cc)
+        in-leaf kind.MathFieldAccess x = absurd (cc)
+        in-leaf _ x = refl
+
+        says-more : is_more (behind_not with_in).value.0 ≡ true
+        unfolding run binary_expr
+        says-more = refl
+
+        grown-more : Grown k least n z s (reshaped (becomes kind.Binary) n (answered (tt {0}) (joined o (behind_not with_in)))) → Grown k least n z s (turned k least n o (behind_not with_in))
+        unfolding run binary_expr
+        grown-more x = x
+
+        -- it is `in` indeed
+        is-in : (there : (is_end (hand_of l w2 t2).kind || is_plain (hand_of l w2 t2).kind) ≡ false) → same kind.In h2.kind ≡ true → Sane (sgn binary.NotIn w2 t2 still2 there) → same kind.In (sgn binary.NotIn w2 t2 still2 there).head.kind ≡ true
+        is-in there f sane = by-leaf (whole-leafy binary.NotIn w2 t2 still2 there)
+          where
+            u : Tree
+            u = sgn binary.NotIn w2 t2 still2 there
+
+            by-leaf : Leafy (hand_of l w2 t2).kind (text binary.NotIn w2 t2 still2 there) u → same kind.In u.head.kind ≡ true
+            by-leaf (inl x) = absurd (let a = or-left (is_error u.head.kind) (any_errors u.kids) sane in let b = ap is_error x in cc)
+            by-leaf (inr x) = ap (λ (v : Tree). same kind.In v.head.kind) x ∙ ap (λ (v : Hand). same kind.In v.kind) again2 ∙ f
+
+        went-in : same kind.In h2.kind ≡ true → Fits (behind_not with_in) → Binds (behind_not with_in) → Turned (behind_not with_in)
+        went-in is_in less b =
+            let there : (is_end (hand_of l w2 t2).kind || is_plain (hand_of l w2 t2).kind) ≡ false = in-leaf (hand_of l w2 t2).kind (ap (λ (v : Hand). same kind.In v.kind) again2 ∙ is_in) in
+            let in_sign = sgn binary.NotIn w2 t2 still2 there in
+            let right = operands binary.NotIn w2 t2 still2 there in
+            let before = (hand_of l w2 t2).trivia in
+            let p = behind_not with_in in
+            let x = exact-behind with_in (before ++ in_sign ∷ right) (whole-exact binary.NotIn w2 t2 still2 there) in
+            let sum : p.taken ≡ e1.taken + with_in.taken = omega arith in
+            let same_kind : kind_at k 0 (moved p.taken w) p.state ≡ kind_at k 0 (moved with_in.taken w2) with_in.state = ap (λ (v : Place). kind_at k 0 v with_in.state) (ap (λ (m : ℕ). moved m w) sum ∙ moved-sum e1.taken with_in.taken w) in
+            let gap = ap (λ (v : Hand). v.len) again in
+            let some = moves-eat l w t (omega (arith, some_not)) in
+            went p less says-more (omega (arith, sum, some))
+            (grown-more (grown-binary k least n z s o p (tt {0}) g binary.NotIn (encode_utf8_all (text_ahead (hand_of l w t).len (moved (hand_of l w t).gap w))) not_sign (before ++ in_sign ∷ right) sign_not (λ sane is ls no_signs. ap (λ (u : Tree). first_sign false (ls ++ u ∷ (before ++ in_sign ∷ right))) is ∙ reads-not h.kind (not-comes least h.kind has_trivia e).0 (encode_utf8_all (text_ahead (hand_of l w t).len (moved (hand_of l w t).gap w))) ls no_signs before (all-map Still NoSign (λ u x. x.no_sign) before (still-hand l w2 t2 still2)) in_sign (is-in there is_in (all-sane (in_sign ∷ right) (errors-behind before (in_sign ∷ right) sane)).0) right) (not-comes least h.kind has_trivia e).1 leafy_not still
+            x.nodes x.back x.hints b
+            (λ sane. (let rest = errors-behind before (in_sign ∷ right) sane in
+            subst (λ (v : SyntaxKind). LastIs (has_errors not_sign ≡ true) (Ended k (right_least binary.NotIn) v) (before ++ in_sign ∷ right)) (sym same_kind)
+            (last-front (has_errors not_sign ≡ true) (Ended k (right_least binary.NotIn) (kind_at k 0 (moved with_in.taken w2) with_in.state)) before in_sign right (all-sane (in_sign ∷ right) rest).0 (whole-right binary.NotIn w2 t2 still2 there (errors-second in_sign right rest)))))))
+
+        left-over : (r : Outcome (Option Shape × Unit {0})) → any_errors (forest (behind_not r).nodes) ≡ false → any_errors (forest r.nodes) ≡ false
+        left-over r n =
+            let q = joined pk2 r in
+            let a = subst (λ (ts : List Tree). any_errors (forest ts) ≡ false) (standing-none (joined e1 q)) n in
+            subst (λ (ts : List Tree). any_errors (forest ts) ≡ false) (standing-none r) (errors-behind (hinted q.hints (less q.back e1.nodes)) q.nodes a)
+
+        missing-left : any_errors (forest (behind_not without_in).nodes) ≡ false → any_errors (forest missing.nodes) ≡ false
+        missing-left n = subst (λ (ts : List Tree). any_errors (forest ts) ≡ false) (sym (no-end missing.nodes)) (left-over without_in n)
+
+        never : Missed l w2 t2 missing → any_errors (forest (behind_not without_in).nodes) ≡ false → ⊥
+        never (inl x) n = no-error x.node x.is_wrong (errors-behind (hand_of l w2 t2).trivia (x.node ∷ []) (subst (λ (ts : List Tree). any_errors (forest ts) ≡ false) x.nodes (missing-left n)))
+        never (inr (inl x)) n = no-error x.node x.is_wrong (subst (λ (ts : List Tree). any_errors (forest ts) ≡ false) x.exact.nodes (missing-left n))
+        never (inr (inr x)) n =
+            let y = exact-behind without_in [] (exact-gives missing nothing [] x.exact) in
+            let wrong : is_error not_sign.head.kind ≡ true = sym (eat-error l w t) ∙ x.after in
+            no-error not_sign (error-kind not_sign.head.kind wrong) (errors-behind h.trivia (not_sign ∷ []) (subst (λ (ts : List Tree). any_errors (forest ts) ≡ false) y.nodes n))
+
+        stopped-in : Binds (behind_not without_in) → Turned (behind_not without_in)
+        stopped-in b =
+            let p = behind_not without_in in
+            let all = binds-joined o p g.binds b in
+            inl (record {
+              says = refl;
+              operand = record {
+                binds = record { nodes = all.nodes; known = all.known };
+                last = λ sane. absurd (never (missed l (codes "keyword `in`") w2 t2) (errors-behind (hinted p.hints (less p.back o.nodes)) p.nodes sane));
+              };
+            })
+
+        by-in : (b : Bool) → same kind.In h2.kind ≡ b → Fits (behind_not (if b then with_in else without_in)) → Binds (behind_not (if b then with_in else without_in)) → Turned (behind_not (if b then with_in else without_in))
+        by-in true is less b = went-in is less b
+        by-in false is less b = stopped-in b
+
+        plain-not : Plain not_in
+        unfolding not_in
+        plain-not = (plain-eat, λ _. (refl, λ _. (plain-binary binary.NotIn, (plain-expected _, λ _. tt))))
+
+        turn-not : Turned (p_of tail.NotIn)
+        unfolding run not_in
+        turn-not = by-in (same kind.In h2.kind) refl (fits tail.NotIn) (level-binds k levels d (turn_by tail.NotIn) (refl, λ _. plain-not) w o.state g.binds.known)
+
+      -- ---- calls and fields
+
+      same-dot : (i : SyntaxKind) → same kind.Dot i ≡ true → is_end i ≡ false
+      same-dot kind.End x = absurd (cc)
+      same-dot _ x = refl
+
+      moves-field : Moves l field
+      unfolding field
+      moves-field = moves-next l eat _ (moves-eat l)
+
+      turn-field : (has_trivia : Bool) → code_tail false least h.kind has_trivia ≡ tail.Field → Turned (p_of tail.Field)
+      unfolding run field
+      turn-field has_trivia e =
+          let p = p_of tail.Field in
+          let lead = fills-peek l (λ _. field) (λ a. fills-field l (calls-back k levels) (blocks-back k levels)) w o.state g.binds.known in
+          let room = lead.room in
+          went p (fits tail.Field) refl (moves-peek l (λ _. field) (λ a. moves-field) w o.state (comes (same-dot h.kind (dot-comes least h.kind has_trivia e))))
+          (grown-other k least n z s o p (tt {0}) g kind.FieldAccess refl refl lead.none (omega (arith, room)) (level-binds k levels d (turn_by tail.Field) (refl, λ _. plain-field) w o.state g.binds.known))
+
+      turn-call : (has_trivia : Bool) → has_trivia ≡ not (is_nil h.trivia) → code_tail false least h.kind has_trivia ≡ tail.Call → Turned (p_of tail.Call)
+      unfolding run call_tail
+      turn-call has_trivia f e =
+          let p = p_of tail.Call in
+          let c = called-back k levels w o.state g.binds.known (ap (calls_directly h.kind) (sym f) ∙ call-comes least h.kind has_trivia e) in
+          let back = c.none in let room = c.room in
+          went p (fits tail.Call) refl c.taken
+          (grown-other k least n z s o p (tt {0}) g kind.FuncCall refl refl back (omega (arith, room)) (level-binds k levels d (turn_by tail.Call) (refl, λ _. plain-call) w o.state g.binds.known))
+
+      by-tail : (t : CodeTail) → code_tail false least h.kind (not (is_nil h.trivia)) ≡ t → Turned (p_of t)
+      by-tail tail.Call e = turn-call (not (is_nil h.trivia)) refl e
+      by-tail tail.Field e = turn-field (not (is_nil h.trivia)) e
+      by-tail tail.DirectField e = absurd (no-direct least h.kind (not (is_nil h.trivia)) e)
+      by-tail tail.NotIn e = turn-not (not (is_nil h.trivia)) e
+      by-tail (tail.Binary op) e = turn-binary op (not (is_nil h.trivia)) e
+      by-tail tail.Nothing e = turn-nothing (not (is_nil h.trivia)) e
+
+      pub turn-turned : Turned (run l (code_tail_turn false least tt) w o.state)
+      unfolding run code_tail_turn
+      turn-turned = by-tail (code_tail false least h.kind (not (is_nil h.trivia))) refl

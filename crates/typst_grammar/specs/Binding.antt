@@ -1,0 +1,150 @@
+-- How the operands of binary operators bind.
+use Rattle.std.specs.Prelude.{◌≡◌, ℕ, suc, Bool, true, false, ◌&&◌, ◌||◌, if◌then◌else◌, nat_le, List, [], ◌∷◌, Option, Some, None, codes}
+use Rattle.typst_kinds.specs.Kinds.{same, is_error, is_trivia}
+use Rattle.typst_kinds.specs.Operators.{binary_of, binary_precedence, assoc_of}
+use Rattle.typst_kinds.specs.declared.kind.SyntaxKind.{SyntaxKind}
+use Rattle.typst_kinds.specs.declared.kind.SyntaxKind.TheVariants as kind
+use Rattle.typst_kinds.specs.declared.operator.Assoc.TheVariants.{Left, Right}
+use Rattle.typst_kinds.specs.declared.operator.BinOp.{BinOp}
+use Rattle.typst_kinds.specs.declared.operator.BinOp.TheVariants as binary
+use Rattle.typst_tree.specs.Tree.{Tree, Forest, trees, leaf_of, inner_of, forest}
+use Rattle.typst_tree.specs.Tree.Forest.{none, more}
+use Rattle.typst_lines.specs.Classes.{CharClasses, by_law}
+use Rattle.typst_grammar.specs.Grammar.{tree, tree_code, tree_math}
+
+-- ---- errors
+
+-- whether one of several trees has an error in it
+abbrev pub any_errors : Forest → Bool
+any_errors none = false
+any_errors (more h ks r) = is_error h.kind || (any_errors ks || any_errors r)
+
+-- whether a tree has an error in it
+abbrev pub has_errors : Tree → Bool
+has_errors t = is_error t.head.kind || any_errors t.kids
+
+-- ---- operators and operands
+
+-- the binary operator that a node of this kind is, where `not` stands before it or not: `in` behind `not` is `not in`
+abbrev pub sign_behind : Bool → SyntaxKind → Option BinOp
+sign_behind behind_not k = if behind_not && same kind.In k then Some binary.NotIn else binary_of k
+
+-- the first operator among several nodes; `not` alone is none, and is remembered
+abbrev pub first_sign : Bool → List Tree → Option BinOp
+first_sign behind_not [] = None
+first_sign behind_not (t ∷ ts) = elim (sign_behind behind_not t.head.kind) [ None ↦ first_sign (behind_not || same kind.Not t.head.kind) ts | Some op ↦ Some op ]
+
+-- the operator of a node, if it is a binary one
+abbrev pub operator_of : Tree → Option BinOp
+operator_of t = if same kind.Binary t.head.kind then first_sign false (trees t.kids) else None
+
+-- whether a node, where it is a binary one, binds at least so tightly
+abbrev pub binds_by : ℕ → Tree → Bool
+binds_by least t = elim (operator_of t) [ None ↦ true | Some op ↦ nat_le least (binary_precedence op) ]
+
+-- the same of the left operand: the first of several nodes that is no trivia
+abbrev pub left_binds : ℕ → List Tree → Bool
+left_binds least [] = true
+left_binds least (t ∷ ts) = if is_trivia t.head.kind then left_binds least ts else binds_by least t
+
+-- the same of the right operand: the last of them
+abbrev pub right_binds : ℕ → List Tree → Bool
+right_binds least [] = true
+right_binds least (t ∷ []) = binds_by least t
+right_binds least (t ∷ u ∷ ts) = right_binds least (u ∷ ts)
+
+-- how tightly a right operand binds at least: more tightly than its operator, or as tightly where that is taken from the right
+abbrev pub right_least : BinOp → ℕ
+right_least op = elim (assoc_of op) [ Left ↦ suc (binary_precedence op) | Right ↦ binary_precedence op ]
+
+-- whether the operands of an operator, among the children of its node, bind as tightly as it asks for
+abbrev pub operands_bind : BinOp → List Tree → Bool
+operands_bind op ts = left_binds (binary_precedence op) ts && right_binds (right_least op) ts
+
+-- ---- trees
+
+-- whether the operands of a node, if it is a binary one, do so
+abbrev pub node_binds : Tree → Bool
+node_binds t = elim (operator_of t) [ None ↦ true | Some op ↦ operands_bind op (trees t.kids) ]
+
+-- whether those of each node of several trees do so
+abbrev pub all_bind : Forest → Bool
+all_bind none = true
+all_bind (more h ks r) = node_binds (record { head = h; kids = ks }) && (all_bind ks && all_bind r)
+
+-- whether those of each node of a tree do so
+abbrev pub binds : Tree → Bool
+binds t = node_binds t && all_bind t.kids
+
+-- ---- the law
+
+-- In the tree of a text, where it has no errors, the operands of each operator bind as tightly as it asks for.
+abbrev pub BindingLaw : Type 0
+BindingLaw = (k : CharClasses) (text : List ℕ) → has_errors (tree k text) ≡ false → binds (tree k text) ≡ true
+
+-- The same of a text of code.
+abbrev pub CodeBindingLaw : Type 0
+CodeBindingLaw = (k : CharClasses) (text : List ℕ) → has_errors (tree_code k text) ≡ false → binds (tree_code k text) ≡ true
+
+-- The same of the text of a formula.
+abbrev pub MathBindingLaw : Type 0
+MathBindingLaw = (k : CharClasses) (text : List ℕ) → has_errors (tree_math k text) ≡ false → binds (tree_math k text) ≡ true
+
+-- ---- what it says of short texts
+
+abbrev pub name : List ℕ → Tree
+name s = leaf_of kind.Ident s
+
+-- two operands and the signs between them
+abbrev pub between : Tree → List Tree → Tree → Tree
+between left signs right = inner_of kind.Binary (forest (left ∷ with_right signs right))
+  where
+    with_right : List Tree → Tree → List Tree
+    with_right [] right = right ∷ []
+    with_right (t ∷ ts) right = t ∷ with_right ts right
+
+abbrev pub sign : SyntaxKind → List ℕ → List Tree
+sign k s = leaf_of k s ∷ []
+
+abbrev pub star : List Tree
+star = sign kind.Star (codes "*")
+
+abbrev pub plus : List Tree
+plus = sign kind.Plus (codes "+")
+
+abbrev pub equals : List Tree
+equals = sign kind.Eq (codes "=")
+
+abbrev pub not_in : List Tree
+not_in = leaf_of kind.Not (codes "not") ∷ leaf_of kind.Space (codes " ") ∷ leaf_of kind.In (codes "in") ∷ []
+
+abbrev pub a : Tree
+a = name (codes "a")
+
+abbrev pub b : Tree
+b = name (codes "b")
+
+abbrev pub c : Tree
+c = name (codes "c")
+
+-- Which nodes bind, and that the trees of short texts of code do, for every class value that keeps the law on ASCII.
+pub record Bindings (beyond : CharClasses) : Type 0 where
+  -- a product is an operand of a sum, and a sum none of a product
+  pub product_left : binds (between (between a star b) plus c) ≡ true
+  pub sum_left : binds (between (between a plus b) star c) ≡ false
+  pub product_right : binds (between a plus (between b star c)) ≡ true
+  pub sum_right : binds (between a star (between b plus c)) ≡ false
+  -- sums are taken from the left, and assignments from the right
+  pub sums_left : binds (between (between a plus b) plus c) ≡ true
+  pub sums_right : binds (between a plus (between b plus c)) ≡ false
+  pub assigned_right : binds (between a equals (between b equals c)) ≡ true
+  -- `not in` is one operator, which binds more tightly than `or`
+  pub not_in_left : binds (between (between a not_in b) (sign kind.Or (codes "or")) c) ≡ true
+  pub not_in_right : binds (between a not_in (between b (sign kind.Or (codes "or")) c)) ≡ false
+  -- the trees of these texts
+  pub products : binds (tree_code (by_law beyond) (codes "a * b + c")) ≡ true
+  pub sums : binds (tree_code (by_law beyond) (codes "a + b * c")) ≡ true
+  pub assignments : binds (tree_code (by_law beyond) (codes "a = b = c")) ≡ true
+  pub negation : binds (tree_code (by_law beyond) (codes "a not in b or c")) ≡ true
+  -- what is missing is an error
+  pub missing : has_errors (tree_code (by_law beyond) (codes "a not b")) ≡ true

@@ -1,0 +1,163 @@
+-- The law of depth, for whatever the language can say.
+use Rattle.std.proofs.Common.{None, Some, ◌≡◌, ℕ, zero, suc, Bool, true, false, ◌&&◌, ◌||◌, if◌then◌else◌, nat_lt, refl, ap, sym, ◌∙◌, subst, Option, Some}
+use Rattle.typst_lines.specs.Place.{Place, moved}
+use Rattle.typst_lines.specs.Classes.{CharClasses}
+use Rattle.typst_language.specs.declared.calls.Block.{Block}
+use Rattle.typst_language.specs.declared.calls.Call.{Call}
+use Rattle.typst_language.specs.Point.{Point, forgot}
+use Rattle.typst_language.specs.Syntax.{Op, Begin, Parser}
+use Rattle.typst_language.specs.Syntax.Op.{hand, so, further, column, erred, takes, takes_so, flushes, complains, advises, marks, is_deepest}
+use Rattle.typst_language.specs.Syntax.Parser.{gives, does, next, pick, repeat, wraps, grows, nests, scoped, either, calls, block}
+use Rattle.typst_language.specs.Meaning.{Outcome, Meaning, Level, joined, answered, followed, turns, as_last, bound, repeated, before, wrapped, grown, is_more, growths, growing, nestings, nesting, closed, bounded, deeper_by_one, given_up, chosen, entered, left_to, plain, no_guess, done, run}
+use Rattle.typst_language.specs.Sound.{Alike}
+use Rattle.typst_language.specs.Calls.{Answer}
+use Rattle.typst_language.specs.Shape.{Shape}
+use Rattle.typst_language.proofs.Within.{grew, nest}
+
+or-first : (a b : Bool) → (a || b) ≡ false → a ≡ false
+or-first true b h = cc
+or-first false b h = refl
+
+or-second : (a b : Bool) → (a || b) ≡ false → b ≡ false
+or-second true b h = cc
+or-second false b h = h
+
+alike-followed : {A B : Type 0} (m n : Meaning B) (f g : B → Meaning A) → Alike m n → ((b : B) → Alike (f b) (g b))
+    → (z : Place) (s : Point) → (followed (m z s) f z).met ≡ false → (followed (n z s) g z).met ≡ false → followed (m z s) f z ≡ followed (n z s) g z
+alike-followed m n f g first rest z s h k =
+    let o = n z s in
+    let e = first z s (or-first (m z s).met _ h) (or-first o.met _ k) in
+    let h2 = subst (λ u. (followed u f z).met ≡ false) e h in
+    rw e (ap (joined o) (rest o.value (moved o.taken z) o.state (or-second o.met _ h2) (or-second o.met _ k)))
+
+both-alike : {A : Type 0} (b : Bool) (x y u v : Outcome A) → (if b then x else u).met ≡ false → (if b then y else v).met ≡ false
+    → (x.met ≡ false → y.met ≡ false → x ≡ y) → (u.met ≡ false → v.met ≡ false → u ≡ v) → (if b then x else u) ≡ (if b then y else v)
+both-alike true x y u v h k f g = f h k
+both-alike false x y u v h k f g = g h k
+
+if-alike : {A : Type 0} (b : Bool) (x y u : Outcome A) → (if b then x else u).met ≡ false → (if b then y else u).met ≡ false
+    → (x.met ≡ false → y.met ≡ false → x ≡ y) → (if b then x else u) ≡ (if b then y else u)
+if-alike true x y u h k f = f h k
+if-alike false x y u h k f = refl
+
+first-met : {A : Type 0} (b : Bool) (x u : Outcome A) (m : Bool) → (x.met ≡ false → m ≡ false) → (u.met ≡ false → m ≡ false) → (if b then x else u).met ≡ false → m ≡ false
+first-met true x u m f g h = f h
+first-met false x u m f g h = g h
+
+alike-turns : {A : Type 0} (m n : A → Meaning (Bool × A)) → ((x : A) → Alike (m x) (n x)) → (k : ℕ) (x : A) → Alike (turns m k x) (turns n k x)
+alike-turns m n f zero x z s h i = refl
+alike-turns m n f (suc k) x z s h i =
+    let o = n x z s in
+    let u = m x z s in
+    let b = o.value.0 && nat_lt 0 o.taken in
+    let e = f x z s (first-met (u.value.0 && nat_lt 0 u.taken) _ _ u.met (or-first u.met _) (λ l. l) h) (first-met b _ _ o.met (or-first o.met _) (λ l. l) i) in
+    let h2 = subst (λ u. (if u.value.0 && nat_lt 0 u.taken then followed u (λ v. turns m k v.1) z else as_last u).met ≡ false) e h in
+    rw e (if-alike b _ _ _ h2 i (λ l j. ap (joined o) (alike-turns m n f k o.value.1 (moved o.taken z) o.state (or-second o.met _ l) (or-second o.met _ j))))
+
+chosen-met : {A : Type 0} (b : Bool) (o x : Outcome A) → (if b then given_up o x else o).met ≡ false → o.met ≡ false
+chosen-met true o x h = or-first o.met x.met h
+chosen-met false o x h = h
+
+chosen-alike : {A : Type 0} (b : Bool) (o x y : Outcome A) → (if b then given_up o x else o).met ≡ false → (if b then given_up o y else o).met ≡ false
+    → (x.met ≡ false → y.met ≡ false → x ≡ y) → (if b then given_up o x else o) ≡ (if b then given_up o y else o)
+chosen-alike true o x y h k f = ap (given_up o) (f (or-second o.met _ h) (or-second o.met _ k))
+chosen-alike false o x y h k f = refl
+
+-- what grows meets the limit where what it began with does
+grown-met : {A : Type 0} (n : ℕ) (shape : Option Shape) (o : Outcome A) → (grown n shape o).met ≡ o.met
+grown-met n None o = refl
+grown-met n (Some shape) o = refl
+
+grew-met : {A : Type 0} (n : ℕ) (o : Outcome A) (p : Outcome (Option Shape × A)) → (grew n o p).met ≡ false → (o.met || p.met) ≡ false
+grew-met n o p h = sym (grown-met n p.value.0 (answered p.value.1 (joined o p))) ∙ h
+
+growths-met : {A : Type 0} (m : A → Meaning (Option Shape × A)) (n k : ℕ) (o : Outcome A) (z : Place) → (growths m n k o z).met ≡ false → o.met ≡ false
+growths-met m n zero o z h = h
+growths-met m n (suc k) o z h =
+    let p = m o.value (moved o.taken z) o.state in
+    first-met (is_more p.value.0 && nat_lt 0 p.taken) (growths m n k (grew n o p) z) (grew n o p) o.met
+    (λ l. or-first o.met p.met (grew-met n o p (growths-met m n k (grew n o p) z l))) (λ l. or-first o.met p.met (grew-met n o p l)) h
+
+turn-met : {A : Type 0} (m : A → Meaning (Option Shape × A)) (n k : ℕ) (o : Outcome A) (z : Place) (p : Outcome (Option Shape × A))
+    → (if is_more p.value.0 && nat_lt 0 p.taken then growths m n k (grew n o p) z else grew n o p).met ≡ false → p.met ≡ false
+turn-met m n k o z p h =
+    first-met (is_more p.value.0 && nat_lt 0 p.taken) (growths m n k (grew n o p) z) (grew n o p) p.met
+    (λ l. or-second o.met p.met (grew-met n o p (growths-met m n k (grew n o p) z l))) (λ l. or-second o.met p.met (grew-met n o p l)) h
+
+alike-growths : {A : Type 0} (m n : A → Meaning (Option Shape × A)) → ((x : A) → Alike (m x) (n x)) → (b k : ℕ) (o : Outcome A) (z : Place)
+    → (growths m b k o z).met ≡ false → (growths n b k o z).met ≡ false → growths m b k o z ≡ growths n b k o z
+alike-growths m n f b zero o z h i = refl
+alike-growths m n f b (suc k) o z h i =
+    let p = m o.value (moved o.taken z) o.state in
+    let q = n o.value (moved o.taken z) o.state in
+    let e = f o.value (moved o.taken z) o.state (turn-met m b k o z p h) (turn-met n b k o z q i) in
+    let h2 = subst (λ u. (if is_more u.value.0 && nat_lt 0 u.taken then growths m b k (grew b o u) z else grew b o u).met ≡ false) e h in
+    rw e (if-alike (is_more q.value.0 && nat_lt 0 q.taken) _ _ (grew b o q) h2 i (λ l j. alike-growths m n f b k (grew b o q) z l j))
+
+alike-growing : {A : Type 0} (m n : A → Meaning (Option Shape × A)) → ((x : A) → Alike (m x) (n x)) → (b k : ℕ) (o u : Outcome A) (z : Place)
+    → (o.met ≡ false → u.met ≡ false → o ≡ u) → (growths m b k o z).met ≡ false → (growths n b k u z).met ≡ false → growths m b k o z ≡ growths n b k u z
+alike-growing m n f b k o u z first h i =
+    let e = first (growths-met m b k o z h) (growths-met n b k u z i) in
+    let h2 = subst (λ x. (growths m b k x z).met ≡ false) e h in
+    rw e (alike-growths m n f b k u z h2 i)
+
+alike-nestings : {A : Type 0} (f : A → Shape) (begin : Begin) (m n : A → Meaning (Bool × A)) → ((x : A) → Alike (m x) (n x)) → (k : ℕ) (x : A) → Alike (nestings f begin m k x) (nestings f begin n k x)
+alike-nestings f begin m n g zero x z s h i = refl
+alike-nestings f begin m n g (suc k) x z s h i =
+    let o = n x z s in
+    let u = m x z s in
+    let b = o.value.0 && nat_lt 0 o.taken in
+    let e = g x z s (first-met (u.value.0 && nat_lt 0 u.taken) _ (as_last u) u.met (or-first u.met _) (λ l. l) h) (first-met b _ (as_last o) o.met (or-first o.met _) (λ l. l) i) in
+    let h2 = subst (λ u. (if u.value.0 && nat_lt 0 u.taken then followed u (λ v. nestings f begin m k v.1) z else as_last u).met ≡ false) e h in
+    rw e (ap (nest f (before begin s)) (if-alike b _ _ (as_last o) h2 i (λ l j. ap (joined o) (alike-nestings f begin m n g k o.value.1 (moved o.taken z) o.state (or-second o.met _ l) (or-second o.met _ j)))))
+
+alike-bounded : (b : Block) (m n : Meaning (Unit {0})) → Alike m n → Alike (bounded b m) (bounded b n)
+alike-bounded b m n f z s h i = ap (λ o. closed b s o) (f z (forgot s) h i)
+
+-- two levels that differ in how many are left
+module _ (k : CharClasses) (i j : ℕ) (d e : (c : Call) → Meaning (Answer c)) (has : Block → Bool) (a b : Block → Meaning (Unit {0})) where
+  abbrev one : Level
+  one = record { classes = k; levels = i; deeper = d; has = has; blocks = a; guess = no_guess }
+
+  abbrev other : Level
+  other = record { classes = k; levels = j; deeper = e; has = has; blocks = b; guess = no_guess }
+
+  alike-done : {A : Type 0} (o : Op A) → Alike (done one o) (done other o)
+  alike-done hand z s h g = refl
+  alike-done (so way) z s h g = refl
+  alike-done further z s h g = refl
+  alike-done column z s h g = refl
+  alike-done erred z s h g = refl
+  alike-done (takes trims making) z s h g = refl
+  alike-done (takes_so way making) z s h g = refl
+  alike-done flushes z s h g = refl
+  alike-done (complains message) z s h g = refl
+  alike-done (advises hint) z s h g = refl
+  alike-done (marks mark) z s h g = refl
+  alike-done is_deepest z s h g = ap (λ t. record (plain t s) { met = t }) (h ∙ sym g)
+
+  module _ (f : (c : Call) → Alike (d c) (e c)) (g : (x : Block) → Alike (a x) (b x)) where
+    -- the law of depth
+    pub alike-run : {A : Type 0} (p : Parser A) → Alike (run one p) (run other p)
+    unfolding run repeated growing nesting
+    alike-run (gives x) z s h i = refl
+    alike-run (does o) z s h i = alike-done o z s h i
+    alike-run (next p q) z s h i = alike-followed (run one p) (run other p) (λ x. run one (q x)) (λ x. run other (q x)) (alike-run p) (λ x. alike-run (q x)) z s h i
+    alike-run (pick t p q) z s h i = both-alike t _ _ _ _ h i (alike-run p z s) (alike-run q z s)
+    alike-run (repeat p x) z s h i = alike-turns (λ y. run one (p y)) (λ y. run other (p y)) (λ y. alike-run (p y)) (suc (bound z s)) x z s h i
+    alike-run (wraps w begin p) z s h i = ap (wrapped w (before begin s)) (alike-run p z s h i)
+    alike-run (grows begin p q) z s h i =
+        alike-growing (λ y. run one (q y)) (λ y. run other (q y)) (λ y. alike-run (q y)) (before begin s) (suc (bound z s)) (run one p z s) (run other p z s) z (alike-run p z s) h i
+    alike-run (nests w begin p x) z s h i = alike-nestings w begin (λ y. run one (p y)) (λ y. run other (p y)) (λ y. alike-run (p y)) (suc (bound z s)) x z s h i
+    alike-run (scoped w p) z s h i = ap (left_to s.reading) (alike-run p z (entered (w s.reading) s) h i)
+    alike-run (either p is_wrong q) z s h i =
+        let o = run other p z s in
+        let u = run one p z s in
+        let first = alike-run p z s (chosen-met (is_wrong u.value) u (run one q z s) h) (chosen-met (is_wrong o.value) o (run other q z s) i) in
+        let h2 = subst (λ u. (chosen is_wrong u (run one q z s)).met ≡ false) first h in
+        rw first (chosen-alike (is_wrong o.value) o (run one q z s) (run other q z s) h2 i (alike-run q z s))
+    alike-run (calls c) z s h i = ap deeper_by_one (f c z s h i)
+    alike-run (block x) z s h i =
+        let o = done other flushes z s in
+        both-alike (has x) (followed o (λ _. bounded x (a x)) z) (followed o (λ _. bounded x (b x)) z) (plain tt s) (plain tt s) h i
+        (λ l m. ap (joined o) (alike-bounded x (a x) (b x) (g x) (moved o.taken z) o.state (or-second o.met _ l) (or-second o.met _ m))) (λ l m. refl)

@@ -1,0 +1,6 @@
+use Rattle.std.proofs.Common.{arith}
+use Rattle.std.proofs.lemmas.Grind.{common_steps}
+use Rattle.typst_language.proofs.change.change_first.Goals as goal
+
+pub returns-clause-changed : goal.returns-clause-changed
+returns-clause-changed c = grind (arith, common_steps)

@@ -1,0 +1,23 @@
+-- What the code's changes mean.
+use Rattle.std.specs.Prelude.{◌≡◌, false}
+use Rattle.typst_kinds.specs.Kinds.{is_error}
+use Rattle.typst_language.specs.Shape.{Change}
+use Rattle.typst_language.specs.Shape.Change.{stays, turns_wrong, is_not, renamed, unparened}
+use Rattle.typst_language.specs.declared.change.Change.{Change as Changed}
+use Rattle.typst_language.specs.declared.change.Change.TheVariants.{Stays, TurnsWrong, IsNot, Renamed, Unparened}
+
+-- the change of the language that the code's is
+abbrev pub meant : Changed → Change
+meant Stays = stays
+meant (TurnsWrong message) = turns_wrong message.now
+meant (IsNot thing) = is_not thing.now
+meant (Renamed kind) = renamed kind
+meant Unparened = unparened
+
+-- a node is renamed to a kind that is no error
+abbrev pub IsFine : Changed → Type 0
+IsFine Stays = Unit {0}
+IsFine (TurnsWrong message) = Unit {0}
+IsFine (IsNot thing) = Unit {0}
+IsFine (Renamed kind) = is_error kind ≡ false
+IsFine Unparened = Unit {0}

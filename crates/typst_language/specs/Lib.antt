@@ -1,0 +1,19 @@
+pub mod Calls
+pub mod Point
+pub mod Ask
+pub mod Hand
+pub mod Log
+pub mod Shape
+pub mod Syntax
+pub mod Meaning
+pub mod Steps
+pub mod Depth
+pub mod Knot
+pub mod Words
+pub mod Sound
+pub mod Changes
+-- What the crates above name of those below.
+pub use Rattle.typst_lexer.specs.Nodes
+pub use Rattle.typst_lexer.specs.Tokens
+pub use Rattle.typst_tokens.specs.Characters
+pub use Rattle.typst_tokens.specs.declared.hull

@@ -1,0 +1,108 @@
+//! What the grammar adds to the language: what may be called, what is noted, and how else a token is read.
+
+use crate::reading::State;
+use typst_kinds::{Names, SyntaxMode};
+
+/// What the names of a pattern are.
+#[derive(Debug, Clone, Copy, PartialEq, Eq)]
+pub enum Role {
+    /// What is assigned to: any expression may stand there.
+    Target,
+    /// New names.
+    Binding,
+    /// New names of what a closure is called with.
+    Parameter,
+}
+
+/// What is read one level deeper.
+#[derive(Drop)]
+pub enum Call {
+    /// An expression of markup, whether at the start of a line, and in how many brackets. It
+    /// answers in how many brackets what comes after it stands.
+    MarkupExpr(bool, usize),
+    /// An expression of code, whether atomic, and how tightly its operators bind at least. It answers
+    /// nothing.
+    CodeExpr(bool, u8),
+    /// An expression of a formula, how tightly its operators bind at least, and at which signs of
+    /// attachments it ends. It answers nothing.
+    MathExpr(u8, ChainSet),
+    /// A pattern, what its names are, and which names were seen before it. It answers which were seen
+    /// behind it.
+    Pattern(Role, Names),
+}
+
+/// What comes behind a name, an underscore or parens.
+#[derive(Debug, Clone, Copy, PartialEq, Eq)]
+pub enum Behind {
+    /// `=>`, which makes a closure of it.
+    Arrow,
+    /// `=`, which makes an assignment of it.
+    Eq,
+    /// Neither.
+    Nothing,
+}
+
+/// Signs of attachments.
+#[derive(Debug, Clone, Copy, PartialEq, Eq)]
+pub struct ChainSet {
+    /// Whether `^` is one of them.
+    pub hat: bool,
+    /// Whether `_` is one of them.
+    pub underscore: bool,
+}
+
+/// What is noted as one block.
+#[derive(Debug, Clone, Copy, PartialEq, Eq)]
+pub enum Block {
+    /// `{ .. }`
+    Code,
+    /// `[ .. ]`
+    Content,
+}
+
+/// In which other way the token at hand is read from its start.
+#[derive(Debug, Clone, Copy, PartialEq, Eq)]
+pub enum Way {
+    /// As a token of this mode.
+    InMode(SyntaxMode),
+    /// As the name of an argument of a call in a formula, directly before its colon.
+    NamedArgument,
+    /// As the dots before an argument of a call in a formula that is spread.
+    SpreadArgument,
+}
+
+/// What begins or ends at a place.
+#[derive(Debug, Clone, Copy, PartialEq, Eq)]
+pub enum Mark {
+    /// A piece of a run begins: an expression of markup, whether at the start of a line, and in how
+    /// many brackets. Behind the last expression of a run stands one more, which no expression
+    /// follows: there the run ends.
+    Piece(bool, usize),
+    /// A block begins.
+    Opens(Block),
+    /// A block ends.
+    Closes,
+}
+
+/// What was noted where a unit begins or ends. Places are bytes from the text's start, but for
+/// `least`. Before the text's first and after its last character stands a mark, each as long as a
+/// byte, at which a look may begin or end.
+#[derive(Debug, Clone, Copy, PartialEq, Eq)]
+pub struct Note {
+    /// What begins or ends.
+    pub mark: Mark,
+    /// Where the trivia before it begin, as far as they were looked at already.
+    pub before: usize,
+    /// Where they end.
+    pub start: usize,
+    /// How many levels are left for calls: 256 at the text's start, one less within each call.
+    pub levels: usize,
+    /// What the parser goes on from.
+    pub state: State,
+    /// Where all looks before it end; one more than the text's length where one saw the mark behind
+    /// the text.
+    pub reach: usize,
+    /// Where all looks since the note before it begin, counted from the mark before the text, which
+    /// is 0; the largest number where nothing was looked at.
+    pub least: usize,
+}

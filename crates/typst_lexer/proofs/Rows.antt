@@ -1,0 +1,171 @@
+-- Facts on the lines of characters.
+use Rattle.std.proofs.Common.{◌≡◌, ℕ, suc, ◌+◌, ◌-◌, Bool, true, false, ◌&&◌, ◌==◌, List, [], ◌∷◌, ◌++◌, length, take, drop, reverse, slice_get, refl, sym, ap, subst, ◌∙◌, arith, append_assoc, append-nil, take_at, length-append}
+use Rattle.std.proofs.lemmas.Bool.Decides.{nat_tests}
+use Rattle.std.proofs.lemmas.List.{reverse-reverse, reverse-append}
+use Rattle.std.specs.List.{prefix_len}
+use Rattle.typst_lines.specs.Classes.{in_line}
+use Rattle.typst_lines.specs.Newline.{is_newline, stretches, line_ends, onto_first}
+use Rattle.typst_lines.specs.Place.{passes}
+use Rattle.typst_lexer.specs.RawLines.{Row, paired, first_line, later_rows, last_of, last_row, is_blank, has_spare_space, end_of, closing, front}
+use Rattle.typst_lines.proofs.Bools.{and-second}
+
+abbrev pub row : List ℕ → List ℕ → Row
+row ending line = record { ending = ending; line = line }
+
+-- a carriage return that a line feed follows
+abbrev pub crlf : ℕ → List ℕ → Bool
+crlf c rest = c == 13 && passes (λ d. d == 10) (slice_get rest 0)
+
+pub ten : (d : ℕ) → (d == 10) ≡ true → d ≡ 10
+ten d t = grind (arith, nat_tests)
+
+-- ---- the first line
+
+pub first-plain : (c : ℕ) (cs : List ℕ) → is_newline c ≡ false → first_line (c ∷ cs) ≡ c ∷ first_line cs
+first-plain c cs n = let more : 1 + prefix_len in_line cs ≡ suc (prefix_len in_line cs) = omega arith in rw (n, more) refl
+
+pub first-end : (c : ℕ) (cs : List ℕ) → is_newline c ≡ true → first_line (c ∷ cs) ≡ []
+first-end c cs n = rw n refl
+
+-- ---- one character before others
+
+stretch-plain : (c : ℕ) (cs : List ℕ) → is_newline c ≡ false → stretches (c ∷ cs) ≡ onto_first c (stretches cs)
+stretch-plain c cs n = rw n refl
+
+ends-plain : (c : ℕ) (cs : List ℕ) → is_newline c ≡ false → line_ends (c ∷ cs) ≡ line_ends cs
+ends-plain c cs n = rw n refl
+
+stretch-lone : (c : ℕ) (cs : List ℕ) → is_newline c ≡ true → crlf c cs ≡ false → stretches (c ∷ cs) ≡ [] ∷ stretches cs
+stretch-lone c cs n e = rw (n, e) refl
+
+ends-lone : (c : ℕ) (cs : List ℕ) → is_newline c ≡ true → crlf c cs ≡ false → line_ends (c ∷ cs) ≡ (c ∷ []) ∷ line_ends cs
+ends-lone c cs n e = rw (n, e) refl
+
+stretch-both : (c : ℕ) (cs : List ℕ) → is_newline c ≡ true → crlf c (10 ∷ cs) ≡ true → stretches (c ∷ 10 ∷ cs) ≡ [] ∷ stretches cs
+stretch-both c cs n e = rw (n, e) refl
+
+ends-both : (c : ℕ) (cs : List ℕ) → is_newline c ≡ true → crlf c (10 ∷ cs) ≡ true → line_ends (c ∷ 10 ∷ cs) ≡ (c ∷ 10 ∷ []) ∷ line_ends cs
+ends-both c cs n e = rw (n, e) refl
+
+-- a property of all texts, by what their first characters are
+pub by_lines : (P : List ℕ → Type 0) → P [] → ((c : ℕ) (cs : List ℕ) → is_newline c ≡ false → P cs → P (c ∷ cs))
+    → ((c : ℕ) (cs : List ℕ) → is_newline c ≡ true → crlf c cs ≡ false → P cs → P (c ∷ cs))
+    → ((c : ℕ) (cs : List ℕ) → is_newline c ≡ true → crlf c (10 ∷ cs) ≡ true → P cs → P (c ∷ 10 ∷ cs)) → (cs : List ℕ) → P cs
+by_lines P none plain lone both [] = none
+by_lines P none plain lone both (c ∷ []) = ending (is_newline c) refl
+  where
+    no-second : (b : Bool) → (b && false) ≡ false
+    no-second true = refl
+    no-second false = refl
+
+    ending : (n : Bool) → is_newline c ≡ n → P (c ∷ [])
+    ending true n = lone c [] n (no-second (c == 13)) none
+    ending false n = plain c [] n none
+by_lines P none plain lone both (c ∷ d ∷ cs) = ending (is_newline c) (crlf c (d ∷ cs)) refl refl (by_lines P none plain lone both (d ∷ cs)) (by_lines P none plain lone both cs)
+  where
+    ending : (n b : Bool) → is_newline c ≡ n → crlf c (d ∷ cs) ≡ b → P (d ∷ cs) → P cs → P (c ∷ d ∷ cs)
+    ending false b n e h k = plain c (d ∷ cs) n h
+    ending true false n e h k = lone c (d ∷ cs) n e h
+    ending true true n e h k =
+        let is : d ≡ 10 = ten d (and-second (c == 13) (d == 10) e) in
+        subst (λ x. P (c ∷ x ∷ cs)) (sym is) (both c cs n (ap (λ x. crlf c (x ∷ cs)) (sym is) ∙ e) k)
+
+-- the stretches begin with the first line
+pub stretches-first : (cs : List ℕ) → stretches cs ≡ first_line cs ∷ drop 1 (stretches cs)
+stretches-first = by_lines (λ cs. stretches cs ≡ first_line cs ∷ drop 1 (stretches cs)) refl
+    (λ c cs n h. stretch-plain c cs n ∙ ap (onto_first c) h ∙ ap (λ l. l ∷ drop 1 (stretches cs)) (sym (first-plain c cs n)) ∙ ap (λ t. first_line (c ∷ cs) ∷ t) (sym (ap (drop 1) (stretch-plain c cs n ∙ ap (onto_first c) h))))
+    (λ c cs n e h. stretch-lone c cs n e ∙ ap (λ t. t ∷ stretches cs) (sym (first-end c cs n)) ∙ ap (λ t. first_line (c ∷ cs) ∷ t) (sym (ap (drop 1) (stretch-lone c cs n e))))
+    (λ c cs n e h. stretch-both c cs n e ∙ ap (λ t. t ∷ stretches cs) (sym (first-end c (10 ∷ cs) n)) ∙ ap (λ t. first_line (c ∷ 10 ∷ cs) ∷ t) (sym (ap (drop 1) (stretch-both c cs n e))))
+
+pub later-none : later_rows [] ≡ []
+unfolding later_rows
+later-none = refl
+
+drop-onto : (c : ℕ) (texts : List (List ℕ)) → drop 1 (onto_first c texts) ≡ drop 1 texts
+drop-onto c [] = refl
+drop-onto c (text ∷ texts) = refl
+
+pub later-plain : (c : ℕ) (cs : List ℕ) → is_newline c ≡ false → later_rows (c ∷ cs) ≡ later_rows cs
+unfolding later_rows
+later-plain c cs n = ap (λ t. paired t (drop 1 (stretches (c ∷ cs)))) (ends-plain c cs n) ∙ ap (λ t. paired (line_ends cs) (drop 1 t)) (stretch-plain c cs n) ∙ ap (paired (line_ends cs)) (drop-onto c (stretches cs))
+
+pub later-lone : (c : ℕ) (cs : List ℕ) → is_newline c ≡ true → crlf c cs ≡ false → later_rows (c ∷ cs) ≡ row (c ∷ []) (first_line cs) ∷ later_rows cs
+unfolding later_rows
+later-lone c cs n e = ap (λ t. paired t (drop 1 (stretches (c ∷ cs)))) (ends-lone c cs n e) ∙ ap (λ t. paired ((c ∷ []) ∷ line_ends cs) (drop 1 t)) (stretch-lone c cs n e) ∙ ap (paired ((c ∷ []) ∷ line_ends cs)) (stretches-first cs)
+
+pub later-both : (c : ℕ) (cs : List ℕ) → is_newline c ≡ true → crlf c (10 ∷ cs) ≡ true → later_rows (c ∷ 10 ∷ cs) ≡ row (c ∷ 10 ∷ []) (first_line cs) ∷ later_rows cs
+unfolding later_rows
+later-both c cs n e = ap (λ t. paired t (drop 1 (stretches (c ∷ 10 ∷ cs)))) (ends-both c cs n e) ∙ ap (λ t. paired ((c ∷ 10 ∷ []) ∷ line_ends cs) (drop 1 t)) (stretch-both c cs n e) ∙ ap (paired ((c ∷ 10 ∷ []) ∷ line_ends cs)) (stretches-first cs)
+
+-- ---- the lines joined
+
+abbrev pub row_chars : List Row → List ℕ
+row_chars [] = []
+row_chars (r ∷ rs) = r.ending ++ (r.line ++ row_chars rs)
+
+-- the lines with their line ends are the characters
+pub lines-joined : (cs : List ℕ) → first_line cs ++ row_chars (later_rows cs) ≡ cs
+lines-joined = by_lines (λ cs. first_line cs ++ row_chars (later_rows cs) ≡ cs) (ap row_chars later-none)
+    (λ c cs n h. ap (λ t. first_line (c ∷ cs) ++ row_chars t) (later-plain c cs n) ∙ ap (λ t. t ++ row_chars (later_rows cs)) (first-plain c cs n) ∙ ap (λ t. c ∷ t) h)
+    (λ c cs n e h. ap (λ t. first_line (c ∷ cs) ++ row_chars t) (later-lone c cs n e) ∙ ap (λ t. t ++ (c ∷ (first_line cs ++ row_chars (later_rows cs)))) (first-end c cs n) ∙ ap (λ t. c ∷ t) h)
+    (λ c cs n e h. ap (λ t. first_line (c ∷ 10 ∷ cs) ++ row_chars t) (later-both c cs n e) ∙ ap (λ t. t ++ (c ∷ 10 ∷ (first_line cs ++ row_chars (later_rows cs)))) (first-end c (10 ∷ cs) n) ∙ ap (λ t. c ∷ 10 ∷ t) h)
+
+-- a list ends in another
+pub record EndsIn (cs end : List ℕ) : Type 0 where
+  pub before : List ℕ
+  pub is : cs ≡ before ++ end
+
+abbrev pub chars_of : Row → List ℕ
+chars_of r = r.ending ++ r.line
+
+pub last-ends : (r : Row) (rs : List Row) → EndsIn (chars_of r ++ row_chars rs) (chars_of (last_of r rs))
+last-ends r [] = record { before = []; is = append-nil (chars_of r) }
+last-ends r (s ∷ rs) =
+    let h = last-ends s rs in
+    record { before = chars_of r ++ h.before; is = ap (λ t. chars_of r ++ t) (sym (append_assoc s.ending s.line (row_chars rs)) ∙ h.is) ∙ sym (append_assoc (chars_of r) h.before (chars_of (last_of s rs))) }
+
+-- characters end in their last line with the line end before it
+pub ends-row : (cs : List ℕ) → EndsIn cs (chars_of (last_row cs))
+unfolding last_row
+ends-row cs = let h = last-ends (row [] (first_line cs)) (later_rows cs) in record { before = h.before; is = sym (lines-joined cs) ∙ h.is }
+
+-- ---- what is trimmed at the end
+
+pub spare-is : (line : List ℕ) → has_spare_space line ≡ true → (rest : List ℕ) × (reverse line ≡ 32 ∷ rest)
+spare-is line e = head-is (reverse line) (and-first _ _ e)
+  where
+    and-first : (a b : Bool) → (a && b) ≡ true → a ≡ true
+    and-first true b e = refl
+    and-first false b e = absurd (cc)
+
+    head-is : (xs : List ℕ) → passes (λ c. c == 32) (slice_get xs 0) ≡ true → (rest : List ℕ) × (xs ≡ 32 ∷ rest)
+    head-is [] e = absurd (cc)
+    head-is (x ∷ xs) e = let is : x ≡ 32 = grind (arith, nat_tests) in (xs, ap (λ y. y ∷ xs) is)
+
+ends-space : (cs ending line : List ℕ) → has_spare_space line ≡ true → EndsIn cs (ending ++ line) → EndsIn cs (32 ∷ [])
+ends-space cs ending line e h =
+    let t = spare-is line e in
+    let is : line ≡ reverse t.0 ++ 32 ∷ [] = sym (reverse-reverse line) ∙ ap reverse t.1 ∙ reverse-cons 32 t.0 in
+    record { before = h.before ++ (ending ++ reverse t.0); is = h.is ∙ ap (λ l. h.before ++ (ending ++ l)) is ∙ ap (λ l. h.before ++ l) (sym (append_assoc ending (reverse t.0) (32 ∷ []))) ∙ sym (append_assoc h.before (ending ++ reverse t.0) (32 ∷ [])) }
+  where
+    reverse-cons : (c : ℕ) (xs : List ℕ) → reverse (c ∷ xs) ≡ reverse xs ++ c ∷ []
+    reverse-cons c xs = reverse-append (c ∷ []) xs
+
+ends-of : (cs : List ℕ) (r : Row) (blank spare : Bool) → is_blank r.line ≡ blank → has_spare_space r.line ≡ spare → EndsIn cs (chars_of r) → EndsIn cs (end_of r)
+ends-of cs r true spare b e h = rw b h
+ends-of cs r false true b e h = rw (b, e) (ends-space cs r.ending r.line e h)
+ends-of cs r false false b e h = rw (b, e) (record { before = cs; is = sym (append-nil cs) })
+
+pub ends-closing : (cs : List ℕ) → EndsIn cs (closing cs)
+unfolding closing
+ends-closing cs = ends-of cs (last_row cs) (is_blank (last_row cs).line) (has_spare_space (last_row cs).line) refl refl (ends-row cs)
+
+-- what stands before the closing is the front
+pub front-is : (cs before : List ℕ) → cs ≡ before ++ closing cs → front cs ≡ before
+unfolding front
+front-is cs before e =
+    let size : length cs - length (closing cs) ≡ length before = omega (arith, ap length e, length-append before (closing cs)) in
+    ap (λ n. take n cs) size ∙ ap (take (length before)) e ∙ take_at before (closing cs) (length before) refl
+
+pub front-closing : (cs : List ℕ) → front cs ++ closing cs ≡ cs
+front-closing cs = let h = ends-closing cs in ap (λ t. t ++ closing cs) (front-is cs h.before h.is) ∙ sym h.is

@@ -1,0 +1,46 @@
+-- A number and its suffix.
+use Rattle.std.proofs.Common.{◌≡◌, ℕ, Bool, List, [], ◌∷◌, drop, refl, sym, ap, ◌∙◌, Option, Some, None}
+use Rattle.std.proofs.lemmas.Str.{encodes-chars}
+use Rattle.std.specs.Prelude.{encode_utf8_all}
+use Rattle.std.specs.Str.{chars, IsUtf8}
+use Rattle.typst_lines.specs.Place.{Place, place_at, moved, moved_from, past}
+use Rattle.typst_tokens.proofs.Moves.{moved-more}
+use Rattle.typst_tokens.specs.Reader.{place}
+use Rattle.typst_lexer.specs.Faults.{without_suffix, suffix_of, value_of, number_message, number_hints, message, hints}
+use Rattle.typst_tokens.specs.declared.token.Fault.TheVariants.{Number}
+use Rattle.typst_tokens.specs.declared.token.NumberFault.{NumberFault}
+use Rattle.typst_tokens.specs.Characters.{number}
+use Rattle.typst_tokens.specs.Token.{radix_of}
+use Rattle.typst_tokens.specs.declared.token.Base.{Base}
+
+pub start-of : (text : List ℕ) → place_at text 0 ≡ place [] (chars text)
+unfolding place_at chars
+start-of text = refl
+
+-- ---- the digits of a base
+
+pub second-on : (p : Place) → (moved 1 (moved 1 p)).ahead ≡ drop 2 p.ahead
+second-on p = by p.behind p.ahead
+  where
+    by : (b a : List ℕ) → (moved 1 (moved_from 1 b a)).ahead ≡ drop 2 a
+    by b [] = refl
+    by b (c ∷ []) = refl
+    by b (c ∷ d ∷ a) = refl
+
+pub start-ahead : (text : List ℕ) → (place_at text 0).ahead ≡ chars text
+unfolding place_at
+start-ahead text = refl
+
+abbrev or_zero : Option ℕ → ℕ
+or_zero o = elim o [ Some n ↦ n | None ↦ 0 ]
+
+pub value-is : (b : Base) (r : ℕ) (ds cs : List ℕ) (o : Option ℕ) → o ≡ number r ds → r ≡ radix_of b → ds ≡ drop 2 cs → or_zero o ≡ value_of b (drop 2 cs)
+value-is b r ds cs o e f g = ap or_zero (e ∙ ap (λ x. number x ds) f ∙ ap (number (radix_of b)) g)
+
+-- what is said of a number, by its pieces
+pub said : (f : NumberFault) (taken before suffix : List ℕ) → IsUtf8 before → IsUtf8 suffix → chars before ≡ without_suffix f taken → chars suffix ≡ suffix_of f taken
+    → (number_message f before suffix ≡ message (Number f) taken) × (number_hints f (chars before) suffix ≡ hints (Number f) taken)
+said f taken before suffix u v b s =
+    let before-is : before ≡ encode_utf8_all (without_suffix f taken) = sym (encodes-chars before u) ∙ ap encode_utf8_all b in
+    let suffix-is : suffix ≡ encode_utf8_all (suffix_of f taken) = sym (encodes-chars suffix v) ∙ ap encode_utf8_all s in
+    (ap (λ x. number_message f x suffix) before-is ∙ ap (number_message f (encode_utf8_all (without_suffix f taken))) suffix-is, ap (λ x. number_hints f x suffix) b ∙ ap (number_hints f (without_suffix f taken)) suffix-is)

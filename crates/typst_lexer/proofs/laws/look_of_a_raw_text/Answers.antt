@@ -1,8 +1,0 @@
-use Rattle.std.proofs.Common.{refl}
-use Rattle.typst_tokens.specs.Raw.{raw}
-use Rattle.typst_lexer.specs.Tokens.{token, backtick}
-use Rattle.typst_lexer.proofs.laws.look_of_a_raw_text.Goals as goal
-
-pub returns : goal.returns
-unfolding token backtick raw
-returns c = λ k. record { closed = refl; unclosed = refl; two = refl; shorter = record { agree = record { behind = refl; ahead = refl }; first = refl; second = refl; first_taken = refl; second_taken = refl } }

@@ -1,0 +1,13 @@
+use Rattle.std.proofs.Common.{ap, ◌∙◌}
+use Rattle.std.specs.Str.{chars}
+use Rattle.typst_lines.specs.Scanner.{place}
+use Rattle.typst_lexer.proofs.Moves.{start-ahead, past-end}
+use Rattle.typst_lexer.proofs.Loops.{inline-is}
+use Rattle.typst_lexer.proofs.raw_lines.push_inline.Goals as goal
+
+pub push_lines-requires-clause-at_end : goal.push_lines-requires-clause-at_end
+push_lines-requires-clause-at_end c = past-end (place c.new-s.result) (place c.eat_while.new.self) c.eat_while.ensures.moved
+
+pub returns : goal.returns
+returns c =
+    inline-is (chars c.args.text.now) (place c.new-s.result) (place c.eat_while.new.self) (chars c.eat_while.result.now) _ _ _ (ap (λ p. p.ahead) c.new-s.ensures.place ∙ start-ahead c.args.text.now) c.eat_while.ensures.moved c.eat_while.ensures.taken c.in_ok-push_leaf.ensures c.in_ok-push_lines.ensures

@@ -1,0 +1,14 @@
+-- What is known of the last line of a text.
+use Rattle.std.specs.Prelude.{◌≡◌, ℕ, List, [], ◌++◌, reverse}
+use Rattle.std.specs.Str.{chars}
+use Rattle.typst_lines.specs.Scanner.{place}
+use Rattle.typst_lexer.specs.RawLines.{last_row}
+use Rattle.typst_lexer.specs.declared.raw_lines.LastLine.{LastLine}
+
+-- It is the last line of these characters.
+pub record IsLastLine (cs : List ℕ) (l : LastLine) : Type 0 where
+  pub line : chars l.line.now ≡ (last_row cs).line
+  pub from_start : (place l.start).ahead ≡ (last_row cs).ending ++ (last_row cs).line
+  pub whole : reverse (place l.start).behind ++ (place l.start).ahead ≡ cs
+  pub to_end : (place l.end).behind ≡ reverse cs
+  pub nothing_left : (place l.end).ahead ≡ []

@@ -1,0 +1,46 @@
+//! Sets of characters.
+ghost use Rattle.std.specs.Prelude.{◌≡◌};
+ghost use Rattle.std.specs.Char.{is_whitespace};
+ghost use Rattle.typst_lexer.specs.RawLines.{is_tick};
+ghost use Rattle.typst_lexer.specs.RawTag.{in_next_tag};
+
+use typst_lines::CharSet;
+
+/// Backticks.
+#[derive(Clone, Copy)]
+pub(crate) struct Tick;
+
+impl CharSet for Tick {
+    ghost members = { λ _. is_tick };
+
+    #[inline]
+    fn has(&self, c: char) -> bool {
+        c == '`'
+    }
+}
+
+/// What has the property White_Space.
+#[derive(Clone, Copy)]
+pub(crate) struct Whitespace;
+
+impl CharSet for Whitespace {
+    ghost members = { λ _. is_whitespace };
+
+    #[inline]
+    fn has(&self, c: char) -> bool {
+        c.is_whitespace()
+    }
+}
+
+/// What the tag in the next version of Typst is made of.
+#[derive(Clone, Copy)]
+pub(crate) struct InNextTag;
+
+impl CharSet for InNextTag {
+    ghost members = { λ _. in_next_tag };
+
+    #[inline]
+    fn has(&self, c: char) -> bool {
+        !c.is_whitespace() && c != '`'
+    }
+}

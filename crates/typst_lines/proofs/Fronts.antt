@@ -1,0 +1,104 @@
+-- Steps over the characters of a link.
+use Rattle.std.proofs.Common.{◌≡◌, ℕ, zero, suc, Bool, true, false, not, ◌&&◌, ◌==◌, List, [], ◌∷◌, ◌++◌, length, take, reverse, slice_get, Option, Some, None, refl, sym, ap, ◌∙◌, arith, append_assoc, append-nil}
+use Rattle.std.proofs.lemmas.List.{reverse-append}
+use Rattle.std.proofs.lemmas.Str.{chars-nil, encodes-chars}
+use Rattle.std.proofs.lemmas.Bool.Decides.{nat_tests}
+use Rattle.std.specs.Prelude.{encode_utf8_all}
+use Rattle.std.specs.List.{list_all}
+use Rattle.std.specs.Str.{chars, IsUtf8}
+use Rattle.typst_lines.specs.Classes.{CharClasses}
+use Rattle.typst_lines.specs.Place.{Place, place_at, moved, moved_from, scout}
+use Rattle.typst_lines.specs.Labels.{is_name, is_label_id}
+use Rattle.typst_lines.specs.Links.{after, front, without_last_signs, link_prefix}
+
+abbrev at : List ℕ → List ℕ → Place
+at behind ahead = record { behind = behind; ahead = ahead }
+
+pub front-step : (awaited inside cs : List ℕ) (c : ℕ) → after awaited c ≡ Some inside → front awaited (c ∷ cs) ≡ (c ∷ (front inside cs).0, (front inside cs).1)
+front-step awaited inside cs c e = rw (e, front) refl
+
+pub front-stop : (awaited cs : List ℕ) (c : ℕ) → after awaited c ≡ None → front awaited (c ∷ cs) ≡ ([], awaited)
+front-stop awaited cs c e = rw (e, front) refl
+
+-- a front is the beginning
+pub front-taken : (awaited cs : List ℕ) → take (length (front awaited cs).0) cs ≡ (front awaited cs).0
+front-taken awaited [] = refl
+front-taken awaited (c ∷ cs) = cases (after awaited c) refl (λ inside. front-taken inside cs)
+  where
+    cases : (o : Option (List ℕ)) → after awaited c ≡ o → ((inside : List ℕ) → take (length (front inside cs).0) cs ≡ (front inside cs).0) → take (length (front awaited (c ∷ cs)).0) (c ∷ cs) ≡ (front awaited (c ∷ cs)).0
+    cases None e h = rw (front-stop awaited cs c e) refl
+    cases (Some inside) e h = rw (front-step awaited inside cs c e) (ap (λ t. c ∷ t) (h inside))
+
+-- what is still to be read of a link
+pub record Left (awaited : List ℕ) (p : Place) (start : Place) : Type 0 where
+  pub ends : moved (length (front awaited p.ahead).0) p ≡ moved (length (front [] start.ahead).0) start
+  pub brackets : (front awaited p.ahead).1 ≡ (front [] start.ahead).1
+
+pub left-step : (awaited inside : List ℕ) (p q start : Place) (c : ℕ) → Left awaited p start → Some c ≡ scout 0 p → after awaited c ≡ Some inside → q ≡ moved 1 p → Left inside q start
+left-step awaited inside p q start c h s e m = from p.ahead refl
+  where
+    from : (ys : List ℕ) → p.ahead ≡ ys → Left inside q start
+    from [] a = let bad : Some c ≡ None = s ∙ ap (λ x. slice_get x 0) a in absurd (cc)
+    from (d ∷ ys) a =
+        let same : Some c ≡ Some d = s ∙ ap (λ x. slice_get x 0) a in
+        let is : d ≡ c = cc in
+        let here : p.ahead ≡ c ∷ ys = a ∙ ap (λ x. x ∷ ys) is in
+        let there : q ≡ at (c ∷ p.behind) ys = m ∙ ap (moved_from 1 p.behind) here in
+        let split : front awaited p.ahead ≡ (c ∷ (front inside ys).0, (front inside ys).1) = ap (front awaited) here ∙ front-step awaited inside ys c e in
+        record {
+          ends =
+              ap (λ x. moved (length (front inside x.ahead).0) x) there ∙ sym (ap (λ x. moved_from (length (front awaited x).0) p.behind x) here ∙ ap (λ r. moved_from (length r.0) p.behind (c ∷ ys)) (front-step awaited inside ys c e)) ∙ h.ends;
+          brackets = ap (λ x. (front inside x.ahead).1) there ∙ sym (ap (λ r. r.1) split) ∙ h.brackets;
+        }
+
+pub left-stop : (awaited : List ℕ) (p start : Place) (c : ℕ) → Left awaited p start → Some c ≡ scout 0 p → after awaited c ≡ None → (p ≡ moved (length (front [] start.ahead).0) start) × (awaited ≡ (front [] start.ahead).1)
+left-stop awaited p start c h s e = from p.ahead refl
+  where
+    from : (ys : List ℕ) → p.ahead ≡ ys → (p ≡ moved (length (front [] start.ahead).0) start) × (awaited ≡ (front [] start.ahead).1)
+    from [] a = let bad : Some c ≡ None = s ∙ ap (λ x. slice_get x 0) a in absurd (cc)
+    from (d ∷ ys) a =
+        let same : Some c ≡ Some d = s ∙ ap (λ x. slice_get x 0) a in
+        let is : d ≡ c = cc in
+        let split : front awaited p.ahead ≡ ([], awaited) = ap (front awaited) (a ∙ ap (λ x. x ∷ ys) is) ∙ front-stop awaited ys c e in
+        (sym (ap (λ r. moved (length r.0) p) split) ∙ h.ends, sym (ap (λ r. r.1) split) ∙ h.brackets)
+
+pub left-end : (awaited : List ℕ) (p start : Place) → Left awaited p start → None ≡ scout 0 p → (p ≡ moved (length (front [] start.ahead).0) start) × (awaited ≡ (front [] start.ahead).1)
+left-end awaited p start h s = from p.ahead refl
+  where
+    from : (ys : List ℕ) → p.ahead ≡ ys → (p ≡ moved (length (front [] start.ahead).0) start) × (awaited ≡ (front [] start.ahead).1)
+    from [] a =
+        let split : front awaited p.ahead ≡ ([], awaited) = ap (front awaited) a in
+        (sym (ap (λ r. moved (length r.0) p) split) ∙ h.ends, sym (ap (λ r. r.1) split) ∙ h.brackets)
+    from (d ∷ ys) a = let bad : None ≡ Some d = s ∙ ap (λ x. slice_get x 0) a in absurd (cc)
+
+-- ---- the characters behind
+
+behind-from : (n : ℕ) (xs ys : List ℕ) → reverse (moved_from n xs ys).behind ≡ reverse xs ++ take n ys
+behind-from zero xs ys = sym (append-nil (reverse xs))
+behind-from (suc n) xs [] = sym (append-nil (reverse xs))
+behind-from (suc n) xs (c ∷ ys) = behind-from n (c ∷ xs) ys ∙ ap (λ t. t ++ take n ys) (reverse-append (c ∷ []) xs) ∙ append_assoc (reverse xs) (c ∷ []) (take n ys)
+
+start-of : (text : List ℕ) → place_at text 0 ≡ at [] (chars text)
+unfolding place_at
+start-of text = ap (λ x. at (reverse x) (chars text)) chars-nil
+
+-- the front of a text
+pub front-behind : (text : List ℕ) (p q : Place) → p ≡ place_at text 0 → q ≡ moved (length (front [] p.ahead).0) p → reverse q.behind ≡ (front [] (chars text)).0
+front-behind text p q e m =
+    let here : p ≡ at [] (chars text) = e ∙ start-of text in
+    ap (λ x. reverse x.behind) (m ∙ ap (λ x. moved (length (front [] x.ahead).0) x) here) ∙ behind-from (length (front [] (chars text)).0) [] (chars text) ∙ front-taken [] (chars text)
+
+pub front-of : (text : List ℕ) (p : Place) → p ≡ place_at text 0 → p.ahead ≡ chars text
+front-of text p e = ap (λ x. x.ahead) (e ∙ start-of text)
+
+pub link-is : (cs link : List ℕ) (b : Bool) → link ≡ without_last_signs (front [] cs).0 → b ≡ (length (front [] cs).1 == 0) → (link, b) ≡ link_prefix cs
+unfolding link_prefix
+link-is cs link b e f = ap (λ x. (x, b)) e ∙ ap (λ x. (without_last_signs (front [] cs).0, x)) f
+
+-- ---- names
+
+pub label-some : (k : CharClasses) (cs : List ℕ) (b : Bool) → (length cs == 0) ≡ false → b ≡ list_all (is_name k) cs → b ≡ is_label_id k cs
+label-some k cs b e f = f ∙ sym (ap (λ x. not x && list_all (is_name k) cs) e)
+
+pub label-none : (k : CharClasses) (cs : List ℕ) → (length cs == 0) ≡ true → false ≡ is_label_id k cs
+label-none k cs e = sym (ap (λ x. not x && list_all (is_name k) cs) e)

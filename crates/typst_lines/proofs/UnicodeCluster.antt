@@ -1,0 +1,35 @@
+-- The first grapheme cluster of a line in bytes and in characters.
+use Rattle.std.proofs.Common.{◌≡◌, ◌<◌, ℕ, true, false, List, [], ◌∷◌, map, take, length, refl, sym, ap, ◌∙◌, arith, take_at}
+use Rattle.std.specs.Char.{is_ascii}
+use Rattle.std.specs.List.{concat, list_all}
+use Rattle.std.specs.Prelude.{encode_utf8_all}
+use Rattle.std.specs.Str.{chars, IsUtf8}
+use Rattle.unicode_segmentation.specs.Grapheme.{is_grapheme_break}
+use Rattle.unicode_segmentation.specs.Segments.{cut}
+use Rattle.typst_lines.specs.Classes.{kept_cluster}
+use Rattle.typst_lines.specs.UnicodeLaws.{AreCut, cut-front}
+use Rattle.typst_lines.specs.UnicodeTables.{first_len, unicode_cluster}
+use Rattle.typst_lines.proofs.ClusterLemmas.{more}
+
+first_piece : (cs : List ℕ) (pieces : List (List ℕ)) (piece : List ℕ) (rest : List (List ℕ)) → concat pieces ≡ cs → map encode_utf8_all pieces ≡ piece ∷ rest
+    → length piece ≡ length (encode_utf8_all (take (first_len pieces) cs))
+first_piece cs [] piece rest e m = absurd (cc)
+first_piece cs (p ∷ ps) piece rest e m =
+    let same : encode_utf8_all p ≡ piece = cc in
+    ap length (sym same ∙ ap encode_utf8_all (sym (take_at p (concat ps) (length p) refl) ∙ ap (take (length p)) e))
+
+no_piece : (cs : List ℕ) (pieces : List (List ℕ)) → concat pieces ≡ cs → 0 < length cs → map encode_utf8_all pieces ≡ [] → ⊥
+no_piece cs [] e some m = let none : 0 ≡ length cs = ap length e in omega arith
+no_piece cs (p ∷ ps) e some m = cc
+
+module _ (line : List ℕ) (u : IsUtf8 line) (some : 0 < length line) where
+  cut_line : AreCut (chars line) (cut (is_grapheme_break true) [] (chars line) [])
+  cut_line = cut-front (is_grapheme_break true) [] (chars line) [] (more line u some)
+
+  pub first_cluster : (piece : List ℕ) (rest : List (List ℕ)) → list_all is_ascii (chars line) ≡ false → map encode_utf8_all (cut (is_grapheme_break true) [] (chars line) []) ≡ piece ∷ rest
+      → length piece ≡ length (encode_utf8_all (take (kept_cluster unicode_cluster (chars line)) (chars line)))
+  unfolding unicode_cluster
+  first_cluster piece rest n e = rw n (first_piece (chars line) _ piece rest cut_line.joins e)
+
+  pub no_cluster : map encode_utf8_all (cut (is_grapheme_break true) [] (chars line) []) ≡ [] → ⊥
+  no_cluster e = no_piece (chars line) _ cut_line.joins (more line u some) e

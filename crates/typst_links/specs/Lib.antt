@@ -1,4 +1,0 @@
-pub mod Ends
-pub mod Labels
-pub mod Laws
-pub mod Links

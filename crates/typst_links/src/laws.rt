@@ -1,7 +1,0 @@
-//! Laws of the definitions, each the contract of a function that does nothing.
-ghost use Rattle.typst_links.specs.Laws as law;
-
-/// How far some links go.
-pub fn some_links()
-    ensures { law.SomeLinks }
-{}

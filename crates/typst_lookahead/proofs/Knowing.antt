@@ -1,0 +1,127 @@
+-- What stays true of what is remembered of first readings.
+use Rattle.std.proofs.Common.{◌≡◌, ◌⊎◌, inl, inr, ℕ, zero, suc, ◌+◌, ◌-◌, ◌≤◌, ◌<◌, min, true, List, [], ◌∷◌, ◌++◌, Option, Some, None, length, take, drop, refl, ap, sym, ◌∙◌, subst, arith}
+use Rattle.std.specs.Prelude.{insert, slice_get, OnOk, OnSome, Result, Ok, Err}
+use Rattle.typst_lines.specs.Place.{Place, moved, moved_from, moved_back}
+use Rattle.typst_lines.specs.Scanner.{place}
+use Rattle.typst_tokens.specs.Sight.{hull_of}
+use Rattle.typst_tokens.specs.declared.hull.Hull.{Hull}
+use Rattle.typst_language.specs.declared.calls.Behind.{Behind}
+use Rattle.typst_language.specs.declared.reading.Reading.{Reading}
+use Rattle.typst_language.specs.Ask.{Ask, only_looks}
+use Rattle.typst_language.specs.Ask.Ask.{looked, marked}
+use Rattle.typst_lookahead.specs.Bytes.{LiesIn, bytes_left}
+use Rattle.typst_lookahead.specs.AheadCursor.{Stands, distance}
+use Rattle.typst_lookahead.specs.declared.ahead.ReadAhead.{ReadAhead}
+use Rattle.typst_language.specs.Log.{Log, logged, with_hull}
+use Rattle.typst_language.specs.Nodes.{is_leaf}
+use Rattle.typst_lookahead.specs.Noted.{hull_in}
+use Rattle.typst_language.specs.Meaning.{Guess, Guessing, Level}
+use Rattle.typst_lookahead.specs.declared.memo.Guessed.{Guessed}
+use Rattle.typst_lookahead.specs.Remembered.{AllSo, Comes, IsSo, Knows, LooksIn, end_of}
+use Rattle.typst_lookahead.specs.View.{View, Dropped, Fits, Found, Remembers, behind_paren}
+use Rattle.typst_lookahead.proofs.Bytes.{none-bytes}
+use Rattle.typst_lookahead.proofs.Logs.{Among, is-among}
+use Rattle.typst_language.proofs.Places.{ahead-left, moved-min, moved-sum}
+
+-- ---- places of one text
+
+pub end-moved : (n : ℕ) (z : Place) → end_of (moved n z) ≡ end_of z
+end-moved n z =
+    let k = length (moved n z).ahead in
+    let left = ahead-left n z in
+    let all : min (n + k) (length z.ahead) ≡ length z.ahead = omega arith in
+    sym (moved-sum n k z) ∙ sym (moved-min (n + k) z) ∙ ap (λ m. moved m z) all
+
+place-by : (b a c d : List ℕ) → moved_from (length a) b a ≡ moved_from (length d) c d → length a ≡ length d → ◌≡◌ {A = Place} (record { behind = b; ahead = a }) (record { behind = c; ahead = d })
+place-by b [] c [] e l = e
+place-by b [] c (y ∷ d) e l = absurd (omega arith)
+place-by b (x ∷ a) c [] e l = absurd (omega arith)
+place-by b (x ∷ a) c (y ∷ d) e l = ap moved_back (place-by (x ∷ b) a (y ∷ c) d e (omega arith))
+
+order : (m n : ℕ) → (m ≤ n) ⊎ (n ≤ m)
+order zero n = inl (omega arith)
+order (suc m) zero = inr (omega arith)
+order (suc m) (suc n) = elim (order m n) [ inl h ↦ inl (omega arith) | inr h ↦ inr (omega arith) ]
+
+-- of two places of one text with as many bytes left, the one with more characters ahead has no more
+no-more : (z w : Place) → end_of z ≡ end_of w → bytes_left z ≡ bytes_left w → length w.ahead ≤ length z.ahead → z ≡ w
+no-more z w e f h =
+    let n = length z.ahead - length w.ahead in
+    let left = ahead-left n z in
+    let long : length (moved n z).ahead ≡ length w.ahead = omega arith in
+    let same = place-by (moved n z).behind (moved n z).ahead w.behind w.ahead (end-moved n z ∙ e) long in
+    let bytes = ap bytes_left same in
+    let none = none-bytes n z (omega arith) (omega arith) in
+    ap (λ m. moved m z) (sym none) ∙ same
+
+-- a place of a text is the only one with so many bytes left
+pub only-place : (z w : Place) → end_of z ≡ end_of w → bytes_left z ≡ bytes_left w → z ≡ w
+only-place z w e f = elim (order (length w.ahead) (length z.ahead)) [ inl h ↦ no-more z w e f h | inr h ↦ sym (no-more w z (sym e) (sym f) h) ]
+
+-- where the token at hand ends
+pub place-behind : (a : ReadAhead) → Stands a → place a.after ≡ moved (distance a.before a.start + distance a.start a.after) (place a.before)
+place-behind a s = s.after ∙ ap (moved (distance a.start a.after)) s.start ∙ sym (moved-sum (distance a.before a.start) (distance a.start a.after) (place a.before))
+
+-- ---- what is remembered
+
+pub knows-at : {g : Guessing} {a b : Place} {xs ys : List Guessed} → xs ≡ ys → a ≡ b → Knows g b ys → Knows g a xs
+knows-at {g = g} {a = a} {b = b} {xs = xs} {ys = ys} e f k = subst (λ (x : Place). Knows g x xs) (sym f) (subst (λ (zs : List Guessed). Knows g b zs) (sym e) k)
+
+pub knows-none : {g : Guessing} {a : Place} {xs : List Guessed} → xs ≡ [] → Knows g a xs
+knows-none {g = g} {a = a} e = subst (λ (zs : List Guessed). Knows g a zs) (sym e) (record { all = tt })
+
+so-get : (g : Guessing) (a : Place) (es : List Guessed) (k : ℕ) (e : Guessed) → AllSo g a es → slice_get es k ≡ Some e → IsSo g a e
+so-get g a [] k e h f = absurd (cc)
+so-get g a (x ∷ es) zero e h f = subst (λ (y : Guessed). IsSo g a y) (some-is x e f) h.0
+  where
+    some-is : (x y : Guessed) → ◌≡◌ {A = Option Guessed} (Some x) (Some y) → x ≡ y
+    some-is x y f = cc
+so-get g a (x ∷ es) (suc k) e h f = so-get g a es k e h.1 f
+
+so-insert : (g : Guessing) (a : Place) (es : List Guessed) (k : ℕ) (e : Guessed) → AllSo g a es → IsSo g a e → AllSo g a (insert es k e)
+so-insert g a [] zero e h i = (i, tt)
+so-insert g a [] (suc k) e h i = (i, tt)
+so-insert g a (x ∷ es) zero e h i = (i, h)
+so-insert g a (x ∷ es) (suc k) e h i = (h.0, so-insert g a es k e h.1 i)
+
+lies-through : {u v w : Hull} → LiesIn u v → LiesIn v w → LiesIn u w
+lies-through h i = record { reach = omega (arith, h.reach, i.reach); least = omega (arith, h.least, i.least) }
+
+pub looks-more : (u v : Hull) (z : Place) (asks : List Ask) → LiesIn u v → LooksIn u z asks → LooksIn v z asks
+looks-more u v z [] i h = tt
+looks-more u v z (looked at look ∷ asks) i h = (lies-through h.0 i, looks-more u v z asks i h.1)
+looks-more u v z (marked at gap fewer mark s ∷ asks) i h = looks-more u v z asks i h
+
+-- where all looks lie in what was looked at, nothing is new
+pub looks-again : (n : ℕ) (z : Place) (h : Log) (asks : List Ask) → LooksIn (hull_in h) z asks → logged n z h (only_looks asks) ≡ h
+looks-again n z h [] i = refl
+looks-again n z h (looked at look ∷ asks) i =
+    let u = hull_of look (moved at z) in
+    ap (λ (x : Log). logged n z x (only_looks asks)) (is-among u h (record { reach = let r = i.0.reach in omega arith; least = let l = i.0.least in omega arith })) ∙ looks-again n z h asks i.1
+looks-again n z h (marked at gap fewer mark s ∷ asks) i = looks-again n z h asks i
+
+-- what is remembered of the parens at hand comes behind them
+pub found-is : {l : Level} {v : View} (e : Guessed) (k levels left : ℕ) → Fits l v → slice_get v.memo k ≡ Some e → e.left ≡ left → left ≡ bytes_left (behind_paren v)
+    → is_leaf v.hand.token ≡ true → l.levels ≡ levels → e.levels ≡ levels → e.outer ≡ v.state.reading → LiesIn e.hull (hull_in v.log) → Found l v e.behind
+found-is {l = l} {v = v} e k levels left f at is here leaf m n o lies =
+    let z = behind_paren v in
+    let comes : Comes (l.guess e.levels z e.outer) e.hull z e.behind = so-get l.guess (end_of v.place) v.memo k e f.knows.all at z (end-moved (v.hand.gap + v.hand.len) v.place) (sym (is ∙ here)) in
+    let same : l.guess e.levels z e.outer ≡ l.guess l.levels z v.state.reading = rw (o, n, m) refl in
+    let found : Comes (l.guess l.levels z v.state.reading) e.hull z e.behind = subst (λ (x : Guess). Comes x e.hull z e.behind) same comes in
+    record { leaf = leaf; comes = record { behind = found.behind; looks = looks-more e.hull (hull_in v.log) z (l.guess l.levels z v.state.reading).asks lies found.looks } }
+
+-- one more is remembered
+pub remembers-more : {v w : View} (levels : ℕ) (b : Behind) (e : Guessed) (k : ℕ) → w ≡ record v { memo = insert v.memo k e } → is_leaf v.hand.token ≡ true
+    → e.left ≡ bytes_left (behind_paren v) → e.levels ≡ levels → e.outer ≡ v.state.reading → e.behind ≡ b → e.hull ≡ hull_in v.log → Remembers levels b v w
+remembers-more {v = v} {w = w} levels b e k is leaf left n o c h = record {
+  same = is ∙ ap (λ (es : List Guessed). record v { memo = es }) (sym (ap (λ (x : View). x.memo) is));
+  knows = λ l m found all.
+      let z = behind_paren v in
+      let so : IsSo l.guess (end_of v.place) e = λ y end bytes.
+      let here = only-place y z (end ∙ sym (end-moved (v.hand.gap + v.hand.len) v.place)) (bytes ∙ left) in
+      rw (here, n, sym m, o, c, h) (found leaf).comes in
+      knows-at (ap (λ (x : View). x.memo) is) refl (record { all = so-insert l.guess (end_of v.place) v.memo k e all.all so });
+}
+
+pub remembers-same : {v w : View} (levels : ℕ) (b : Behind) → w ≡ v → Remembers levels b v w
+remembers-same {v = v} levels b e = rw e (record { same = refl; knows = λ l m found all. all })

@@ -1,0 +1,12 @@
+pub mod Bytes
+pub mod Noted
+pub mod AheadCodes
+pub mod AheadCursor
+pub mod Remembered
+pub mod View
+pub mod Codes
+pub mod Cursor
+pub mod Checkpoint
+pub mod Saved
+pub mod Ways
+pub mod Expected

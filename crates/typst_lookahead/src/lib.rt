@@ -1,0 +1,21 @@
+//! The parser that follows the language of parsers, with one token read ahead, and what was looked at
+//! and noted.
+#![tactic(auto)]
+
+mod ahead;
+mod checkpoint;
+mod depth;
+mod eats;
+mod log;
+mod memo;
+mod nodes;
+mod parser;
+mod ways;
+mod wraps;
+
+pub use ahead::{ReadAhead, judged, left, no_newlines};
+pub use checkpoint::Checkpoint;
+pub use depth::{Answered, Anywhere, Grammar, Levels, Stops, deeper, is_end, too_deep};
+pub use log::Log;
+pub use memo::Guessed;
+pub use parser::Parser;

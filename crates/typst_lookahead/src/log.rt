@@ -1,0 +1,159 @@
+//! What was looked at and noted.
+
+ghost use Rattle.std.specs.Prelude.{◌≡◌, ◌≤◌, ◌-◌, ◌^◌, OnOk, length, true};
+ghost use Rattle.typst_language.specs.Log.{blank_log, with_hull};
+ghost use Rattle.typst_lookahead.specs.Bytes.{LiesIn, joined_hull};
+ghost use Rattle.typst_lookahead.specs.Noted as spec;
+ghost use Rattle.typst_lookahead.specs.Noted.{hull_in, listed, unnoted, with_noted};
+
+use std::alloc::{AllocError, Global};
+use std::marker::Model;
+use typst_language::{Mark, Note, State};
+use typst_tokens::Hull;
+
+/// What was looked at and noted so far.
+#[derive(Drop)]
+pub struct Log {
+    /// Where all looks end, and where those since the last note begin; all, where no notes are kept.
+    hull: Hull,
+    /// What was noted, in order, where notes are kept.
+    notes: Option<Vec<Note>>,
+}
+
+impl Model for Log {
+    ghost use Rattle.std.specs.Prelude.{option_map};
+    ghost use Rattle.typst_language.specs.Log.{Log as Logged};
+    ghost use Rattle.typst_lookahead.specs.AheadCodes.{log_code};
+
+    ghost Value = { Logged };
+
+    ghost coded = { log_code };
+
+    ghost view = { λ l. record { reach = l.hull.reach; least = l.hull.least; notes = option_map (λ ns. ns.items) l.notes } };
+}
+
+impl Log {
+    /// Nothing.
+    pub fn new(alloc: Global, keeps_notes: bool) -> Log
+        ensures { result ≡ blank_log keeps_notes }
+    {
+        let hull = Hull {
+            reach: 0,
+            least: usize::MAX,
+        };
+        let notes = if keeps_notes {
+            Some(Vec::new(alloc))
+        } else {
+            None
+        };
+        Log { hull, notes }
+    }
+
+    /// This was looked at.
+    #[inline(always)]
+    pub fn look(&mut self, hull: Hull)
+        ensures { self.new ≡ with_hull hull self.old }
+    {
+        self.hull = joined(self.hull, hull);
+    }
+
+    /// Something begins or ends: the trivia before it at one place, and the token at another, in
+    /// bytes from the text's start.
+    pub fn note(
+        &mut self,
+        mark: Mark,
+        before: usize,
+        start: usize,
+        levels: usize,
+        state: State,
+    ) -> Result<(), AllocError>
+        ensures { OnOk result (self.new ≡ with_noted mark before start levels state self.old) }
+    {
+        let note = Note {
+            mark,
+            before,
+            start,
+            levels,
+            state,
+            reach: self.hull.reach,
+            least: self.hull.least,
+        };
+        if let Some(notes) = &mut self.notes {
+            notes.push(note)?;
+            self.hull.least = usize::MAX;
+        }
+        Ok(())
+    }
+
+    /// Where all looks end, and where those since the last note begin; all, where no notes are kept.
+    pub fn hull(&self) -> Hull
+        ensures { result ≡ hull_in self.now }
+    {
+        self.hull
+    }
+
+    /// Whether all of this was looked at since the last note, or ever, where no notes are kept.
+    pub fn holds(&self, hull: Hull) -> bool
+        ensures { result ≡ true → LiesIn hull (hull_in self.now) }
+    {
+        hull.reach <= self.hull.reach && self.hull.least <= hull.least
+    }
+
+    /// How many notes are kept.
+    pub fn count(&self) -> usize
+        ensures count { result ≡ length (listed self.now.notes) }
+        ensures least { self.now.least ≤ 2 ^ 64 - 1 }
+    {
+        let _least = self.hull.least;
+        match &self.notes {
+            Some(notes) => notes.len(),
+            None => 0,
+        }
+    }
+
+    /// Keeps the first so many notes alone. What was looked at before the others counts as looked at
+    /// since the last of these.
+    pub fn drop_notes(&mut self, count: usize)
+        ensures { self.new ≡ unnoted count self.old }
+    {
+        if let Some(notes) = &mut self.notes {
+            let at = count.min(notes.len());
+            self.hull.least = least_of(self.hull.least, &notes[at..]);
+            notes.truncate(at);
+        }
+    }
+
+    /// What was noted, none where no notes are kept; where all looks end, and where those since the
+    /// last note begin.
+    pub fn finish(self, alloc: Global) -> (Vec<Note>, Hull)
+        ensures notes { result.0.items ≡ listed self.notes }
+        ensures hull { result.1 ≡ record { reach = self.reach; least = self.least } }
+    {
+        let Log { hull, notes } = self;
+        match notes {
+            Some(notes) => (notes, hull),
+            None => (Vec::new(alloc), hull),
+        }
+    }
+}
+
+/// Where the looks begin before which these were noted, and those since.
+fn least_of(since: usize, notes: &[Note]) -> usize
+    ensures { result ≡ spec.least_of since notes.now }
+{
+    let mut least = since;
+    for note in notes {
+        least = least.min(note.least);
+    }
+    least
+}
+
+/// Both stretches, and what lies between them.
+pub(crate) fn joined(a: Hull, b: Hull) -> Hull
+    ensures { result ≡ joined_hull a b }
+{
+    Hull {
+        reach: a.reach.max(b.reach),
+        least: a.least.min(b.least),
+    }
+}

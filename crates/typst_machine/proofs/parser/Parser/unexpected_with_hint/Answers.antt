@@ -1,6 +1,0 @@
-use Rattle.typst_ahead.specs.Steps.{unexpected}
-use Rattle.typst_machine.proofs.parser.Parser.unexpected_with_hint.Goals as goal
-
-pub returns : goal.returns
-unfolding unexpected
-returns g c = c.in_ok-eat_surprise.ensures

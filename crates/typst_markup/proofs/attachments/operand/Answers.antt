@@ -1,0 +1,10 @@
+use Rattle.std.proofs.Common.{refl}
+use Rattle.typst_language.specs.Shape.Change.{unparened}
+use Rattle.typst_language.specs.Shape.Shape.{keeps}
+use Rattle.typst_lookahead.proofs.Steps.{does-node}
+use Rattle.typst_markup.specs.Attachments.{operand}
+use Rattle.typst_markup.proofs.attachments.operand.Goals as goal
+
+pub returns : goal.returns
+unfolding operand
+returns g c l h = does-node (λ _. keeps unparened) h.sound c.marker-from.ensures.few c.marker-from.ensures.marker ((c.in_ok-deeper.ensures tt refl l h).does) c.in_ok-change.ensures

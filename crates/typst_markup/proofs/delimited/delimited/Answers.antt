@@ -1,0 +1,10 @@
+use Rattle.typst_lookahead.proofs.Steps.{does-next, does-gives, does-node}
+use Rattle.typst_markup.specs.Delimited.{delimited, delimited_shape}
+use Rattle.typst_markup.proofs.delimited.delimited.Goals as goal
+
+pub returns : goal.returns
+unfolding delimited
+returns g c l h =
+    does-next (does-node delimited_shape h.sound c.marker-from.ensures.few c.marker-from.ensures.marker
+    (does-next (c.in_ok-delimiter.ensures l h) (does-next (c.in_ok-closed.ensures l h) (does-next (c.in_ok-delimiter_if.ensures l h) does-gives)))
+    c.in_ok-wrap_delimited.ensures) does-gives

@@ -1,0 +1,13 @@
+use Rattle.std.proofs.Common.{ap, ◌∙◌}
+use Rattle.typst_lookahead.proofs.Steps.{does-next, does-gives, does-node, does-peek}
+use Rattle.typst_markup.specs.Equations.{is_closer}
+use Rattle.typst_lookahead.proofs.Values.{does-value}
+use Rattle.typst_markup.specs.Delimited.{delimited_body, body_shape}
+use Rattle.typst_markup.proofs.delimited.delimited_body.Goals as goal
+
+pub returns : goal.returns
+unfolding delimited_body
+returns g c l h =
+    does-node body_shape h.sound c.marker-from.ensures.few c.marker-from.ensures.marker
+    (does-next (c.in_ok-math_exprs.ensures l h) (does-next (does-peek _) (does-value (c.is_closer-closed.ensures ∙ ap is_closer c.current.ensures) does-gives)))
+    c.in_ok-wrap_body.ensures

@@ -1,0 +1,11 @@
+use Rattle.std.proofs.Common.{◌≡◌, ◌++◌, length}
+use Rattle.std.specs.String.{string_bytes}
+use Rattle.typst_lines.specs.Scanner.{place}
+use Rattle.typst_markup.specs.Keys.{unescaped, string_key}
+use Rattle.typst_markup.proofs.escapes.string_key.Given as goal
+
+abbrev pub invariant-loop-c : goal.invariant-loop-c
+invariant-loop-c l = string_bytes l.key ++ unescaped 0 (place l.s).ahead ≡ string_key l.fn.text
+
+abbrev pub decreases-loop-c : goal.decreases-loop-c
+decreases-loop-c l = length (place l.s).ahead

@@ -1,0 +1,12 @@
+use Rattle.typst_language.specs.Meaning.{Level}
+use Rattle.typst_lookahead.specs.Bytes.{bytes_left}
+use Rattle.typst_lookahead.specs.View.{Fills}
+use Rattle.typst_lookahead.proofs.Grows.{Grows}
+use Rattle.typst_markup.specs.MathExpressions.{math_primary, math_tail_turn}
+use Rattle.typst_markup.proofs.formulas.math_grown.Given as goal
+
+abbrev pub invariant-turns : goal.invariant-turns
+invariant-turns g l = (v : Level) → Fills v (g.L.Levels.frame l.g) → Grows v (math_primary (g.L.Levels.frame l.g).classes) (math_tail_turn l.least l.stops) l.from l.fn.p l.callee l.p
+
+abbrev pub decreases-turns : goal.decreases-turns
+decreases-turns g l = bytes_left l.p.place

@@ -1,0 +1,11 @@
+use Rattle.typst_kinds.specs.declared.kind.SyntaxKind.TheVariants as kind
+use Rattle.typst_language.specs.Shape.{becomes}
+use Rattle.typst_lookahead.proofs.Steps.{does-next, does-node}
+use Rattle.typst_markup.specs.MathArguments.{spread_argument}
+use Rattle.typst_markup.proofs.math_arguments.spread_argument.Goals as goal
+
+pub returns : goal.returns
+unfolding spread_argument
+returns g c l h =
+    does-node (λ _. becomes kind.Spread) h.sound c.marker-from.ensures.few c.marker-from.ensures.marker
+    (does-next (c.in_ok-eat_so.ensures l h) (c.in_ok-argument_value.ensures l h)) c.in_ok-wrap.ensures.wrapped

@@ -1,5 +1,0 @@
-use Rattle.typst_markup_tokens.proofs.Links.{link-prefix-is}
-use Rattle.typst_markup_tokens.proofs.laws.links_are_prefixes.Goals as goal
-
-pub returns : goal.returns
-returns c = link-prefix-is

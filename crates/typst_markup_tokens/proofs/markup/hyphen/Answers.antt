@@ -1,7 +1,0 @@
-use Rattle.std.proofs.Common.{rules}
-use Rattle.typst_markup_tokens.specs.Markup.{hyphen}
-use Rattle.typst_markup_tokens.proofs.markup.hyphen.Goals as goal
-
-pub returns-in-Some : goal.returns-in-Some
-unfolding hyphen
-returns-in-Some c = search rules

@@ -1,5 +1,0 @@
-use Rattle.typst_markup_tokens.proofs.Pairs.{tables-tell}
-use Rattle.typst_markup_tokens.proofs.sets.passes_before.Goals as goal
-
-pub returns : goal.returns
-returns c = tables-tell c.args.c c.args.next c.ranges.c.fits c.ranges.next.fits

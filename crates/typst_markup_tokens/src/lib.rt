@@ -1,9 +1,0 @@
-//! The tokens that only markup has.
-#![tactic(auto)]
-
-pub mod laws;
-mod link;
-pub mod markup;
-mod names;
-mod sets;
-pub mod text;

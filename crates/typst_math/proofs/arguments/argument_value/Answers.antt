@@ -1,7 +1,0 @@
-use Rattle.typst_markup.proofs.Steps.{does-next, does-gives, does-node}
-use Rattle.typst_math.specs.MathArguments.{argument_value, value_shape}
-use Rattle.typst_math.proofs.arguments.argument_value.Goals as goal
-
-pub returns : goal.returns
-unfolding argument_value
-returns g c l h = does-next (does-node value_shape h.sound c.marker-from.ensures.few c.marker-from.ensures.marker (c.in_ok-count.ensures l h) c.in_ok-wrap_value.ensures) does-gives

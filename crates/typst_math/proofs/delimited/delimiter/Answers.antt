@@ -1,9 +1,0 @@
-use Rattle.typst_markup.specs.Shape.Change.{renamed}
-use Rattle.typst_markup.specs.Shape.Shape.{keeps}
-use Rattle.typst_markup.proofs.Steps.{does-next, does-gives, does-node}
-use Rattle.typst_math.specs.Delimited.{delimiter}
-use Rattle.typst_math.proofs.delimited.delimiter.Goals as goal
-
-pub returns : goal.returns
-unfolding delimiter
-returns g c l h = does-next (does-node (λ k. keeps (renamed k)) h.sound c.marker-from.ensures.few c.marker-from.ensures.marker (c.in_ok-kind.ensures.means l h) c.in_ok-change.ensures) does-gives

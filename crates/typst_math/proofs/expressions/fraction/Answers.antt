@@ -1,8 +1,0 @@
-use Rattle.std.proofs.Common.{sym}
-use Rattle.typst_markup.proofs.Steps.{does-next}
-use Rattle.typst_math.specs.MathExpressions.{fraction}
-use Rattle.typst_math.proofs.expressions.fraction.Goals as goal
-
-pub returns : goal.returns
-unfolding fraction
-returns g c l h = does-next (c.in_ok-eat.ensures l h) (rw (sym c.no_signs.ensures) (c.in_ok-operand.ensures l h))

@@ -1,7 +1,0 @@
-use Rattle.typst_markup.proofs.Steps.{does-next, does-gives}
-use Rattle.typst_math.specs.MathExpressions.{math_expr}
-use Rattle.typst_math.proofs.expressions.math_expr.Goals as goal
-
-pub returns : goal.returns
-unfolding math_expr
-returns g c l h = does-next (c.in_ok-math_grown.ensures l h) does-gives

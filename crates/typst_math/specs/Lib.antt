@@ -1,4 +1,0 @@
-pub mod Delimited
-pub mod MathArguments
-pub mod Attachments
-pub mod MathExpressions

@@ -1,6 +1,0 @@
-use Rattle.std.proofs.Common.{sym, ◌∙◌}
-use Rattle.typst_lines.proofs.Empty.{none-is}
-use Rattle.typst_math_tokens.proofs.arguments.has_nothing.Goals as goal
-
-pub returns : goal.returns
-returns c = c.is_empty.ensures ∙ sym (none-is c.args.text.now c.utf8.text)

@@ -1,1 +1,0 @@
--- From what a contract promises to the lemma behind it: nothing yet.

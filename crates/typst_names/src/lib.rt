@@ -1,6 +1,0 @@
-//! Names that were seen.
-#![tactic(auto)]
-
-mod seen;
-
-pub use seen::Names;

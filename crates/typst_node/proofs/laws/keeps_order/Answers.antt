@@ -1,5 +1,0 @@
-use Rattle.typst_node.proofs.KeepsOrder.{keeps_order}
-use Rattle.typst_node.proofs.laws.keeps_order.Goals as goal
-
-pub returns : goal.returns
-returns c = λ path from to new t u w r e o. keeps_order path from to new t u w r e o

@@ -1,5 +1,0 @@
-use Rattle.typst_node.proofs.ReplacesChildren.{replaces_children}
-use Rattle.typst_node.proofs.laws.replaces_children.Goals as goal
-
-pub returns : goal.returns
-returns c = λ path from to new t u r e. replaces_children path from to new t u r e

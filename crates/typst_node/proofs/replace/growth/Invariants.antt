@@ -1,8 +1,0 @@
-use Rattle.std.proofs.Common.{◌≡◌, ◌-◌}
-use Rattle.typst_node.specs.Tree.{forest, count}
-use Rattle.typst_node.specs.Replace.{growth}
-use Rattle.typst_node.proofs.replace.growth.Given as goal
-
-abbrev pub invariant-loop : goal.invariant-loop
-invariant-loop l =
-    growth l.own.head l.kids l.from l.to (count (forest l.fresh)) l.tries 0 ≡ growth l.own.head l.kids l.from l.to (count (forest l.fresh)) (l.tries - l.counter) l.by

@@ -1,6 +1,0 @@
-use Rattle.std.proofs.Common.{◌≡◌, ◌+◌, drop, reverse}
-use Rattle.typst_node.specs.Same.{front}
-use Rattle.typst_node.proofs.replace.shared_back.Given as goal
-
-abbrev pub invariant-loop-i : goal.invariant-loop-i
-invariant-loop-i l = front (reverse l.old) (reverse l.new) ≡ l.i + front (drop l.i (reverse l.old)) (drop l.i (reverse l.new))

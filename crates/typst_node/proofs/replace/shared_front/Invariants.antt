@@ -1,6 +1,0 @@
-use Rattle.std.proofs.Common.{◌≡◌, ◌+◌, drop}
-use Rattle.typst_node.specs.Same.{front}
-use Rattle.typst_node.proofs.replace.shared_front.Given as goal
-
-abbrev pub invariant-loop-i : goal.invariant-loop-i
-invariant-loop-i l = front l.old l.new ≡ l.i + front (drop l.i l.old) (drop l.i l.new)

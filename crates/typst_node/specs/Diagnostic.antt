@@ -1,2 +1,0 @@
--- Diagnostics, passed on.
-pub use Rattle.typst_node_data.specs.Diagnostic.{Hint, Diagnostic, hint_code, diagnostic_code, error_with, warning_with, hint_with, hinted, at_last}

@@ -1,8 +1,0 @@
-pub mod Diagnostic
-pub mod Tree
-pub mod Messages
-pub mod Numbers
-pub mod Same
-pub mod Replace
-pub mod Order
-pub mod Laws

@@ -1,5 +1,0 @@
-use Rattle.std.proofs.Common.{rules}
-use Rattle.typst_node_data.proofs.diagnostic.Hint.new.Goals as goal
-
-pub returns : goal.returns
-returns c = search rules

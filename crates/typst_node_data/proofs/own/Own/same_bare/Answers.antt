@@ -1,5 +1,0 @@
-use Rattle.std.proofs.Common.{rules}
-use Rattle.typst_node_data.proofs.own.Own.same_bare.Goals as goal
-
-pub returns-then-is_inner : goal.returns-then-is_inner
-returns-then-is_inner c = search rules

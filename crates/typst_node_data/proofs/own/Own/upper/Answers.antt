@@ -1,5 +1,0 @@
-use Rattle.std.proofs.Common.{rules}
-use Rattle.typst_node_data.proofs.own.Own.upper.Goals as goal
-
-pub returns-in-Inner-clause-value : goal.returns-in-Inner-clause-value
-returns-in-Inner-clause-value c = search rules

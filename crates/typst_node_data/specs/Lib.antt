@@ -1,4 +1,0 @@
-pub mod Diagnostic
-pub mod Head
-pub mod Messages
-pub mod Repr

@@ -1,0 +1,142 @@
+-- A node whose children were replaced: its spans, its head and how many nodes it has.
+use Rattle.std.proofs.Common.{◌≡◌, ℕ, ◌+◌, ◌-◌, ◌*◌, ◌/◌, ◌^◌, ◌<◌, ◌≤◌, Bool, true, false, if◌then◌else◌, List, [], ◌∷◌, ◌++◌, take, drop, Option, Some, None, refl, ap, sym, subst, ◌∙◌, arith}
+use Rattle.std.specs.Prelude.{All, nat_le, option_map, slice_range}
+use Rattle.std.proofs.lemmas.List.Elements.{All-nil, All-cons, All-head, All-tail, All-append, All-take, All-drop}
+use Rattle.typst_kinds.specs.Span.{number_of}
+use Rattle.typst_kinds.specs.Head.{Head}
+use Rattle.typst_tree.specs.Tree.{Forest, none, more, Tree, forest, trees, places, preorder, count, nodes}
+use Rattle.typst_tree.specs.Numbers.{placed, stride, numbered, numbered_forest, numbered_list, numberized}
+use Rattle.typst_tree.specs.Order.{upper_at, IsOrdered, IsNumbered}
+use Rattle.typst_tree.specs.Same.{front}
+use Rattle.typst_tree.specs.Replace.{kids_of, with_kids, in_file, swapped, exchanged, middle, back, replaced_at, Reaches}
+use Rattle.typst_tree.proofs.AlongPath.{exchange_some, exchange_none}
+use Rattle.typst_tree.proofs.KeepsOrder.{replaced_numbered}
+
+-- ---- numbered nodes name the file
+
+abbrev pub IsOf : ℕ → Tree → Type 0
+IsOf file n = n.head.span ≡ Some (file, number_of n.head.span)
+
+placed-by : (file m n e : ℕ) (h : Head) (b : Bool) →
+    (if b then record h { span = Some (file, m); upper = e } else record h { span = Some (file, n); upper = 0 }).span ≡ Some (file, number_of (if b then record h { span = Some (file, m); upper = e } else record h { span = Some (file, n); upper = 0 }).span)
+placed-by file m n e h true = refl
+placed-by file m n e h false = refl
+
+pub placed-span : (file s a e : ℕ) (h : Head) → (placed file s a e h).span ≡ Some (file, number_of (placed file s a e h).span)
+placed-span file s a e h = placed-by file (a + s / 2) ((a + e) / 2) e h h.is_inner
+
+forest-spans : (file s a : ℕ) (f : Forest) → All (IsOf file) (preorder (numbered_forest file s a f))
+forest-spans file s a none = All-nil (IsOf file)
+forest-spans file s a (more h ks r) =
+    let n = 1 + count ks in
+    let inner = stride (n * s) n in
+    All-cons (IsOf file) (record { head = placed file inner a (a + n * s) h; kids = numbered_forest file inner (a + inner) ks })
+    (preorder (numbered_forest file inner (a + inner) ks) ++ preorder (numbered_forest file s (a + n * s) r))
+    (placed-span file inner a (a + n * s) h)
+    (All-append (IsOf file) (preorder (numbered_forest file inner (a + inner) ks)) (preorder (numbered_forest file s (a + n * s) r)) (forest-spans file inner (a + inner) ks) (forest-spans file s (a + n * s) r))
+
+pub numbered-spans : (file a p : ℕ) (t : Tree) → All (IsOf file) (places (numbered file a p t))
+numbered-spans file a p t =
+    let s = stride p (nodes t) in
+    All-cons (IsOf file) (numbered file a p t) (preorder (numbered_forest file s (a + s) t.kids)) (placed-span file s a (a + p) t.head) (forest-spans file s (a + s) t.kids)
+
+-- ---- the trees of a list name the file
+
+-- each node of a tree names the file
+abbrev IsAllOf : ℕ → Tree → Type 0
+IsAllOf file t = All (IsOf file) (places t)
+
+list-spans : (file s a : ℕ) (ts : List Tree) → All (IsAllOf file) (numbered_list file s a ts)
+list-spans file s a [] = All-nil (IsAllOf file)
+list-spans file s a (t ∷ ts) =
+    All-cons (IsAllOf file) (numbered file a (nodes t * s) t) (numbered_list file s (a + nodes t * s) ts) (numbered-spans file a (nodes t * s) t) (list-spans file s (a + nodes t * s) ts)
+
+all-left : {X : Type 0} (P : X → Type 0) (xs ys : List X) → All P (xs ++ ys) → All P xs
+all-left P [] ys h = All-nil P
+all-left P (x ∷ xs) ys h = All-cons P x xs (All-head P x (xs ++ ys) h) (all-left P xs ys (All-tail P x (xs ++ ys) h))
+
+all-right : {X : Type 0} (P : X → Type 0) (xs ys : List X) → All P (xs ++ ys) → All P ys
+all-right P [] ys h = h
+all-right P (x ∷ xs) ys h = all-right P xs ys (All-tail P x (xs ++ ys) h)
+
+-- between the nodes of a forest and those of each of its trees
+spans-of-trees : (file : ℕ) (f : Forest) → All (IsOf file) (preorder f) → All (IsAllOf file) (trees f)
+spans-of-trees file none h = All-nil (IsAllOf file)
+spans-of-trees file (more h ks r) all =
+    let t : Tree = record { head = h; kids = ks } in
+    let below : All (IsOf file) (preorder ks ++ preorder r) = All-tail (IsOf file) t (preorder ks ++ preorder r) all in
+    All-cons (IsAllOf file) t (trees r)
+    (All-cons (IsOf file) t (preorder ks) (All-head (IsOf file) t (preorder ks ++ preorder r) all) (all-left (IsOf file) (preorder ks) (preorder r) below))
+    (spans-of-trees file r (all-right (IsOf file) (preorder ks) (preorder r) below))
+
+spans-of-forest : (file : ℕ) (ts : List Tree) → All (IsAllOf file) ts → All (IsOf file) (preorder (forest ts))
+spans-of-forest file [] h = All-nil (IsOf file)
+spans-of-forest file (t ∷ ts) h =
+    All-append (IsOf file) (places t) (preorder (forest ts)) (All-head (IsAllOf file) t ts h) (spans-of-forest file ts (All-tail (IsAllOf file) t ts h))
+
+-- ---- the children after a replacement name the file
+
+parts-spans : (file s a l r : ℕ) (xs new : List Tree) → All (IsAllOf file) xs → All (IsAllOf file) (take l xs ++ (numbered_list file s a new ++ drop r xs))
+parts-spans file s a l r xs new all =
+    All-append (IsAllOf file) (take l xs) (numbered_list file s a new ++ drop r xs) (All-take (IsAllOf file) l xs all)
+    (All-append (IsAllOf file) (numbered_list file s a new) (drop r xs) (list-spans file s a new) (All-drop (IsAllOf file) r xs all))
+
+exchanged-spans : (file : ℕ) (h : Head) (xs : List Tree) (from to : ℕ) (ns ys : List Tree) → exchanged file h xs from to ns ≡ Some ys → All (IsAllOf file) xs → All (IsAllOf file) ys
+exchanged-spans file h xs from to [] ys e all =
+    subst (All (IsAllOf file)) (exchange_none file h xs from to ys e) (All-append (IsAllOf file) (take from xs) (drop to xs) (All-take (IsAllOf file) from xs all) (All-drop (IsAllOf file) to xs all))
+exchanged-spans file h xs from to (n ∷ ns) ys e all =
+    let x = exchange_some file h xs from to n ns ys e in
+    let w = x.window in
+    subst (All (IsAllOf file)) x.is
+    (parts-spans file w.stride w.start w.left w.right xs (slice_range xs w.left from ++ ((n ∷ ns) ++ slice_range xs to w.right)) all)
+
+-- where the children were swapped, each node of the result names the file
+kids-spans : (file from to : ℕ) (new : List Tree) (t u : Tree) (r : Option (List Tree)) →
+    swapped file t.head (kids_of t) from to (slice_range (kids_of t) from to) new ≡ r → option_map (with_kids t) r ≡ Some u → All (IsOf file) (places t) → All (IsOf file) (places u)
+kids-spans file from to new t u None s e all = absurd (cc)
+kids-spans file from to new t u (Some ys) s e all =
+    let is : with_kids t ys ≡ u = cc in
+    let a = front (slice_range (kids_of t) from to) new in
+    let b = back a (slice_range (kids_of t) from to) new in
+    let old : All (IsAllOf file) (kids_of t) = spans-of-trees file t.kids (All-tail (IsOf file) t (preorder t.kids) all) in
+    let kids : All (IsAllOf file) ys = exchanged-spans file t.head (kids_of t) (from + a) (to - b) (middle a b new) ys s old in
+    subst (λ (v : Tree). All (IsOf file) (places v)) is
+    (All-cons (IsOf file) (with_kids t ys) (preorder (forest ys)) (All-head (IsOf file) t (preorder t.kids) all) (spans-of-forest file ys kids))
+
+-- a tree whose nodes all name the file stays so
+pub replaced-spans : (file : ℕ) (from to : ℕ) (new : List Tree) (t u : Tree) → Reaches [] from to t → replaced_at [] from to new t ≡ Some u → All (IsOf file) (places t) → All (IsOf file) (places u)
+replaced-spans file from to new t u r e all =
+    let span : t.head.span ≡ Some (file, number_of t.head.span) = All-head (IsOf file) t (preorder t.kids) all in
+    kids-spans file from to new t u (swapped file t.head (kids_of t) from to (slice_range (kids_of t) from to) new) refl
+    (ap (λ sp. option_map (with_kids t) (in_file sp t.head (kids_of t) from to new)) (sym span) ∙ e) all
+
+-- the node itself stays as it is
+pub replaced-head : (from to : ℕ) (new : List Tree) (t u : Tree) → Reaches [] from to t → replaced_at [] from to new t ≡ Some u → u.head ≡ t.head
+replaced-head from to new t u r e = (replaced_numbered from to new t u r e).head
+
+-- ---- how many nodes there are
+
+-- a stretch in which numbers stand in order has a number for each of the nodes
+pub count-within : (a e : ℕ) (f : Forest) → IsOrdered a f e → a + count f ≤ e
+count-within a e none o = omega (arith, o)
+count-within a e (more h ks r) o =
+    omega (arith, o.0, count-within (number_of h.span + 1) (upper_at h) ks o.1, count-within (upper_at h) e r o.2)
+
+-- so a numbered tree has fewer nodes than there are numbers
+pub few-nodes : (t : Tree) → IsNumbered t → 1 ≤ number_of t.head.span → upper_at t.head ≤ 2 ^ 47 → nodes t < 2 ^ 47
+few-nodes t o low high = omega (arith, low, high, count-within (number_of t.head.span + 1) (upper_at t.head) t.kids o)
+
+-- ---- the root of a tree that was numbered over all numbers
+
+placed-inner : (file s a e : ℕ) (h : Head) → h.is_inner ≡ true → 1 ≤ a → (1 ≤ number_of (placed file s a e h).span) × (upper_at (placed file s a e h) ≤ e)
+placed-inner file s a e h inner low = rw inner (omega arith, omega arith)
+
+-- its number and its upper end are within them
+pub numbered-head : (file : ℕ) (t u : Tree) → numberized file 2 (2 ^ 47) t ≡ Some u → t.head.is_inner ≡ true → (1 ≤ number_of u.head.span) × (upper_at u.head ≤ 2 ^ 47)
+numbered-head file t u is inner = by-room (nat_le (nodes t) (2 ^ 47 - 2)) is
+  where
+    by-room : (b : Bool) → (if b then Some (numbered file 2 (2 ^ 47 - 2) t) else None) ≡ Some u → (1 ≤ number_of u.head.span) × (upper_at u.head ≤ 2 ^ 47)
+    by-room true e =
+        let same : numbered file 2 (2 ^ 47 - 2) t ≡ u = cc in
+        subst (λ (v : Tree). (1 ≤ number_of v.head.span) × (upper_at v.head ≤ 2 ^ 47)) same (placed-inner file (stride (2 ^ 47 - 2) (nodes t)) 2 (2 ^ 47) t.head inner (omega arith))
+    by-room false e = absurd (cc)

@@ -1,0 +1,49 @@
+-- What a source promises of its tree.
+use Rattle.std.specs.Prelude.{◌≡◌, ℕ, ◌^◌, ◌<◌, List, ◌++◌, take, drop, All, Option, Some, None, option_map}
+use Rattle.std.specs.Str.{chars}
+use Rattle.std.specs.declared.ops.Range.{Range}
+use Rattle.typst_kinds.specs.Span.{number_of}
+use Rattle.typst_tree.specs.Tree.{Tree, places, nodes, bare, text_of, synthesized}
+use Rattle.typst_tree.specs.Numbers.{numberized}
+use Rattle.typst_tree.specs.Order.{AreInOrder, numbers_of}
+use Rattle.typst_lines.specs.Classes.{CharClasses}
+use Rattle.typst_reparser.specs.Grammar.{tree}
+use Rattle.typst_parser.specs.Held.{Held}
+
+-- the text with another one in the place of a range of bytes
+abbrev pub edited : List ℕ → Range ℕ → List ℕ → List ℕ
+edited text range new = take range.start text ++ new ++ drop range.end text
+
+-- the file in which a tree is numbered
+abbrev pub file_of : Tree → Option ℕ
+file_of t = option_map (λ place. place.0) t.head.span
+
+-- each node has a number of the file, above those of the nodes before it in preorder
+pub record IsNumberedIn (file : ℕ) (t : Tree) : Type 0 where
+  pub spans : All (λ n. n.head.span ≡ Some (file, number_of n.head.span)) (places t)
+  pub order : AreInOrder (numbers_of t)
+  pub few : nodes t < 2 ^ 47
+
+-- the same, or no node has a number where there is no file
+abbrev pub AreNumbered : Option ℕ → Tree → Type 0
+AreNumbered None t = All (λ n. n.head.span ≡ None) (places t)
+AreNumbered (Some file) t = IsNumberedIn file t
+
+-- where there is a file, the numbers are in order
+abbrev pub AreOrdered : Option ℕ → Tree → Type 0
+AreOrdered None t = Unit {0}
+AreOrdered (Some file) t = AreInOrder (numbers_of t)
+
+-- the tree numbered over all numbers of the file, if they are enough; without numbers where there is
+-- no file
+abbrev pub numbered_in : Option ℕ → Tree → Option Tree
+numbered_in None t = Some (synthesized None t)
+numbered_in (Some file) t = numberized file 2 (2 ^ 47) t
+
+-- THE HEADLINE. The tree is, spans aside, the tree that the written grammar gives to the whole present
+-- text, and its leaves joined are that text. Its nodes are numbered in order. The line table is that of
+-- the text: lines are seen as their text alone, with the table made anew
+pub record Headline {C : Type 0} (k : CharClasses) (s : Held C) : Type 0 where
+  pub tree : bare s.root ≡ bare (tree k (chars s.text))
+  pub leaves : text_of s.root ≡ s.text
+  pub numbers : AreNumbered (file_of s.root) s.root

@@ -1,0 +1,431 @@
+//! Sources: what an editor holds of a file.
+ghost use Rattle.std.specs.Prelude.{◌≡◌, ◌+◌, ◌-◌, ◌^◌, ◌<◌, ◌≤◌, ◌++◌, [], length, take, drop, true, false, Some, None, IfOk, IfErr, IfSome, OnOk, OnErr, MatchResult, MatchOption, nat_eq, not, IsTrue};
+ghost use Rattle.std.specs.Str.{IsCharBoundary, chars};
+ghost use Rattle.std.specs.String.{string_bytes};
+ghost use Rattle.typst_tree.specs.Tree.{text_of, bare, nodes};
+ghost use Rattle.typst_reparser.specs.Grammar.{tree};
+ghost use Rattle.typst_reparser.specs.Exchange.{IsEdited};
+ghost use Rattle.typst_reparser.specs.Restart.{AreKept};
+ghost use Rattle.typst_tree.specs.Replace.{kids_of};
+ghost use Rattle.typst_parser.specs.Headline.{Headline, edited, file_of, AreNumbered, AreOrdered, numbered_in};
+ghost use Rattle.typst_parser.specs.Tried.{Tries};
+ghost use Rattle.typst_parser.specs.Records.{Edits, IsPlaced, IsPlacedBy, Replaced};
+
+use std::alloc::{AllocError, Global};
+use std::fmt;
+use std::marker::Model;
+use std::ops::Range;
+use typst_kinds::{FileId, SourceError, Span, SpanNumber, SubRange, SyntaxKind};
+use typst_lines::{Classes, Lines};
+use typst_reparser::{Replacement, Restart, read_edited, read_text, root_over};
+use typst_tree::{LinkedNode, SyntaxNode};
+
+/// The numbers that nodes can have.
+const NUMBERS: Range<u64> = 2..1 << 47;
+
+/// The text of a file with its lines and its syntax tree, whose nodes are numbered.
+///
+/// Edits keep the three together: the tree is always the one of the present text. Positions are in
+/// bytes. After an error nothing has changed.
+#[derive(Drop)]
+pub struct Source<C: Classes> {
+    alloc: Global,
+    id: FileId,
+    lines: Lines<String>,
+    root: SyntaxNode,
+    classes: C,
+    has_records: bool,
+    /// Where the text can be read anew, from its end to its start.
+    restarts: Vec<Restart>,
+}
+
+impl<C: Classes> Model for Source<C> {
+    ghost use Rattle.std.specs.Prelude.{◌≡◌, true};
+    ghost use Rattle.typst_parser.specs.Held.{Held, held_code};
+    ghost use Rattle.typst_parser.specs.Records.{Records};
+
+    ghost Value = { Held C };
+
+    ghost coded = { held_code C.code };
+
+    ghost view = { λ a. record { id = a.id; text = a.lines; root = a.root; classes = a.classes; has_records = a.has_records } };
+
+    ghost invariant = { λ a. a.has_records ≡ true → Records (C.classes a.classes) (record { id = a.id; text = a.lines; root = a.root; classes = a.classes; has_records = a.has_records }) a.restarts.items };
+}
+
+/// Numbers a tree over all numbers of a file, or takes its numbers away where there is none.
+fn number(root: &mut SyntaxNode, file: Option<FileId>) -> Result<(), SourceError>
+    ensures numbers { MatchResult result (λ _. numbered_in file root.old ≡ Some root.new) (λ e. (e ≡ SourceError.SpanNumbers) × (numbered_in file root.old ≡ None)) }
+    ensures order { OnOk result (AreOrdered file root.new) }
+    ensures numbered { OnOk result (IsPlacedBy file root.new) }
+{
+    match file {
+        Some(id) => root.numberize(id, NUMBERS)?,
+        None => root.synthesize(Span::detached()),
+    }
+    Ok(())
+}
+
+/// The tree of a text, numbered in a file, or without numbers where there is none, and where the
+/// text can be read anew.
+#[derive(Drop)]
+struct Parsed {
+    root: SyntaxNode,
+    restarts: Vec<Restart>,
+}
+
+/// The tree of a text, numbered in a file, or without numbers where there is none.
+fn parse_anew<C: Classes>(
+    alloc: Global,
+    text: &str,
+    file: Option<FileId>,
+    classes: &C,
+) -> Result<Parsed, SourceError>
+    ensures tree { IfOk result (λ made. numbered_in file (tree (C.classes classes.now) (chars text.now)) ≡ Some made.root) }
+    ensures leaves { IfOk result (λ made. text_of made.root ≡ text.now) }
+    ensures numbers { IfOk result (λ made. AreNumbered file made.root) }
+    ensures placed { IfOk result (λ made. IsPlaced file made.root) }
+    ensures restarts { IfOk result (λ made. AreKept (C.classes classes.now) (chars text.now) made.restarts.items) }
+    ensures refused { result ≡ Err SourceError.SpanNumbers → numbered_in file (tree (C.classes classes.now) (chars text.now)) ≡ None }
+{
+    let Ok(whole) = read_text(alloc, text, classes) else {
+        return Err(SourceError::OutOfMemory);
+    };
+    let Ok(mut root) = root_over(SyntaxKind::Markup, whole.nodes) else {
+        return Err(SourceError::OutOfMemory);
+    };
+    number(&mut root, file)?;
+    Ok(Parsed {
+        root,
+        restarts: whole.restarts,
+    })
+}
+
+/// Reads of an edited text what the edit may have changed, and puts the nodes in the place of those
+/// that stood there. It answers which bytes of the new text were read, or none where the nodes find
+/// no numbers: then the tree and the restarts stay as they were.
+fn reparse<C: Classes>(
+    alloc: Global,
+    root: &mut SyntaxNode,
+    old: &str,
+    new: &str,
+    edit: Replacement,
+    restarts: &mut Vec<Restart>,
+    classes: &C,
+) -> Result<Option<Range<usize>>, SourceError>
+    requires edit { IsEdited old.now new.now edit }
+    requires restarts { AreKept (C.classes classes.now) (chars old.now) restarts.old.items }
+    requires inner { IsTrue root.old.head.is_inner }
+    requires count { length (kids_of root.old) ≡ length (kids_of (tree (C.classes classes.now) (chars old.now))) }
+    ensures done { IfOk result (λ read. IfSome read (λ bytes. Replaced (C.classes classes.now) old.now new.now root.old root.new bytes restarts.new.items)) }
+    ensures undone { result ≡ Ok None → (root.new ≡ root.old) × (restarts.new ≡ restarts.old) }
+    ensures err { OnErr result ((root.new ≡ root.old) × (restarts.new ≡ restarts.old)) }
+    ensures memory { IfErr result (λ e. e ≡ SourceError.OutOfMemory) }
+{
+    let count = root.children().len();
+    let Ok(exchange) = read_edited(alloc, old, new, edit, restarts, count, classes) else {
+        return Err(SourceError::OutOfMemory);
+    };
+    match root.replace_at(&[], exchange.range, exchange.nodes) {
+        Ok(()) => {
+            *restarts = exchange.restarts;
+            Ok(Some(exchange.bytes))
+        }
+        Err(SourceError::SpanNumbers) => Ok(None),
+        Err(SourceError::OutOfMemory) => Err(SourceError::OutOfMemory),
+    }
+}
+
+/// What came of reading a part of a text.
+#[derive(Drop)]
+enum Tried {
+    /// It took the place of what was there, and this range of the text was read.
+    Done(Range<usize>),
+    /// Nothing changed.
+    Undone(Lines<String>),
+}
+
+impl<C: Classes + Drop> Source<C> {
+    /// The source of a text of a file. It refuses for want of memory, or where the tree has more
+    /// nodes than there are numbers.
+    pub fn new(
+        alloc: Global,
+        id: FileId,
+        text: String,
+        classes: C,
+    ) -> Result<Source<C>, SourceError>
+        ensures made { IfOk result (λ s. (s.id ≡ id) × (s.text ≡ string_bytes text) × (s.classes ≡ classes) × (s.has_records ≡ true)) }
+        ensures headline { IfOk result (λ s. Headline (C.classes s.classes) s) }
+        ensures root { IfOk result (λ s. numbered_in (Some id) (tree (C.classes classes) (chars s.text)) ≡ Some s.root) }
+        ensures refused { result ≡ Err SourceError.SpanNumbers → numbered_in (Some id) (tree (C.classes classes) (chars (string_bytes text))) ≡ None }
+    {
+        let Ok(lines) = Lines::new(alloc, text) else {
+            return Err(SourceError::OutOfMemory);
+        };
+        let made = parse_anew(alloc, lines.text(), Some(id), &classes)?;
+        Ok(Source {
+            alloc,
+            id,
+            lines,
+            root: made.root,
+            classes,
+            has_records: true,
+            restarts: made.restarts,
+        })
+    }
+
+    /// The source of a text that is of no file: its file is 1. It refuses where `new` does.
+    pub fn detached(alloc: Global, text: String, classes: C) -> Result<Source<C>, SourceError>
+        ensures made { IfOk result (λ s. (s.id ≡ 1) × (s.text ≡ string_bytes text) × (s.classes ≡ classes) × (s.has_records ≡ true)) }
+        ensures headline { IfOk result (λ s. Headline (C.classes s.classes) s) }
+        ensures root { IfOk result (λ s. numbered_in (Some 1) (tree (C.classes classes) (chars s.text)) ≡ Some s.root) }
+        ensures refused { result ≡ Err SourceError.SpanNumbers → numbered_in (Some 1) (tree (C.classes classes) (chars (string_bytes text))) ≡ None }
+    {
+        match FileId::new(1) {
+            Some(id) => Ok(Source::new(alloc, id, text, classes)?),
+            None => unreachable!(),
+        }
+    }
+
+    /// The source of a text with a tree that the caller made. Nothing is asked of the tree until the
+    /// first edit, which parses the whole text and numbers the new tree in the file that the span of
+    /// this root names, or not at all where it names none.
+    pub fn with_root(
+        alloc: Global,
+        id: FileId,
+        text: String,
+        root: SyntaxNode,
+        classes: C,
+    ) -> Result<Source<C>, AllocError>
+        ensures { IfOk result (λ s. (s.id ≡ id) × (s.text ≡ string_bytes text) × (s.root ≡ root) × (s.classes ≡ classes) × (s.has_records ≡ false)) }
+    {
+        let lines = Lines::new(alloc, text)?;
+        Ok(Source {
+            alloc,
+            id,
+            lines,
+            root,
+            classes,
+            has_records: false,
+            restarts: Vec::new(alloc),
+        })
+    }
+}
+
+impl<C: Classes> Source<C> {
+    ghost use Rattle.typst_parser.specs.Find.{top, found, range_of, FindsOwn, GivesOwn};
+    ghost use Rattle.typst_parser.specs.Found.{linked_in};
+
+    /// The tree.
+    pub fn root(&self) -> &SyntaxNode
+        ensures value { result.now ≡ self.now.root }
+        ensures headline { self.now.has_records ≡ true → Headline (C.classes self.now.classes) self.now }
+    {
+        &self.root
+    }
+
+    /// The file.
+    pub fn id(&self) -> FileId
+        ensures { result ≡ self.now.id }
+    {
+        self.id
+    }
+
+    /// The text.
+    pub fn text(&self) -> &str
+        ensures { result.now ≡ self.now.text }
+    {
+        self.lines.text()
+    }
+
+    /// The lines of the text.
+    pub fn lines(&self) -> &Lines<String>
+        ensures { result.now ≡ self.now.text }
+    {
+        &self.lines
+    }
+
+    /// The headline holds of each source with records.
+    fn keeps_headline(&self)
+        ensures { self.now.has_records ≡ true → Headline (C.classes self.now.classes) self.now }
+    {
+        let _ = &self.root;
+    }
+
+    /// The root as a linked node, where its nodes can be counted.
+    fn top(&self) -> Option<LinkedNode<'_>>
+        ensures { linked_in result ≡ top self.now.root }
+    {
+        if self.root.descendants() == usize::MAX {
+            return None;
+        }
+        if self.has_records && self.root.span().id().is_some() {
+            Some(LinkedNode::ordered(&self.root))
+        } else {
+            Some(LinkedNode::new(&self.root))
+        }
+    }
+
+    /// The first node with a span; none for a detached span and one of another file.
+    pub fn find(&self, span: Span) -> Option<LinkedNode<'_>>
+        ensures first { linked_in result ≡ found self.now.id span self.now.root }
+        ensures own { self.now.has_records ≡ true → file_of self.now.root ≡ Some self.now.id → FindsOwn span self.now.root (linked_in result) }
+    {
+        self.keeps_headline();
+        self.first_with(span)
+    }
+
+    /// The first node with a span, where that is of the source's file.
+    fn first_with(&self, span: Span) -> Option<LinkedNode<'_>>
+        ensures { linked_in result ≡ found self.now.id span self.now.root }
+    {
+        if span.id() != Some(self.id) {
+            return None;
+        }
+        self.top()?.find(span)
+    }
+
+    /// The bytes of the node with a number, or a range within them; none where no node has the
+    /// number, or where the range passes the node's end.
+    pub fn range(&self, number: SpanNumber, sub_range: Option<SubRange>) -> Option<Range<usize>>
+        ensures first { result ≡ range_of number sub_range self.now.root }
+        ensures own { self.now.has_records ≡ true → file_of self.now.root ≡ Some self.now.id → GivesOwn number sub_range self.now.root result }
+    {
+        self.keeps_headline();
+        self.bytes_with(number, sub_range)
+    }
+
+    /// The bytes of the first node with a number, or a range within them.
+    fn bytes_with(&self, number: SpanNumber, sub_range: Option<SubRange>) -> Option<Range<usize>>
+        ensures { result ≡ range_of number sub_range self.now.root }
+    {
+        let range = self.top()?.find_number(number)?.range();
+        let Some(sub) = sub_range else {
+            return Some(range);
+        };
+        if sub.end() > range.end - range.start {
+            return None;
+        }
+        Some(range.start + sub.start()..range.start + sub.end())
+    }
+
+    /// Puts a text in the place of a range of bytes, whose ends are on character boundaries. It
+    /// answers the range of the new text that was parsed anew, and refuses for want of memory, or
+    /// where the new tree has more nodes than there are numbers.
+    pub fn edit(&mut self, replace: Range<usize>, with: &str) -> Result<Range<usize>, SourceError>
+        requires start { IsCharBoundary self.old.text replace.start }
+        requires end { IsCharBoundary self.old.text replace.end }
+        requires ordered { replace.start ≤ replace.end }
+        ensures text { OnOk result (self.new.text ≡ edited self.old.text replace with.now) }
+        ensures headline { OnOk result (Headline (C.classes self.new.classes) self.new) }
+        ensures kept { OnOk result ((self.new.id ≡ self.old.id) × (self.new.classes ≡ self.old.classes) × (file_of self.new.root ≡ file_of self.old.root)) }
+        ensures records { OnOk result (self.new.has_records ≡ true) }
+        ensures within { IfOk result (λ range. (range.start ≤ range.end) × (range.end ≤ length self.new.text)) }
+        ensures err { OnErr result (self.new ≡ self.old) }
+        ensures refused { result ≡ Err SourceError.SpanNumbers → numbered_in (file_of self.old.root) (tree (C.classes self.old.classes) (chars (edited self.old.text replace with.now))) ≡ None }
+    {
+        let Range { start, end } = replace;
+        let Ok(lines) = self.lines.edited(self.alloc, replace, with) else {
+            return Err(SourceError::OutOfMemory);
+        };
+        let behind = self.text().len().saturating_sub(end);
+        let edit = Replacement {
+            start,
+            old_end: end,
+            new_end: lines.len_bytes().saturating_sub(behind),
+        };
+        match self.read_edit(edit, lines)? {
+            Tried::Done(range) => Ok(range),
+            Tried::Undone(lines) => Ok(self.read_whole(lines)?),
+        }
+    }
+
+    /// Makes a text the text, of which a stretch was replaced, by reading what that may have changed.
+    /// Where there are no records, or the new nodes find no numbers, nothing changes.
+    fn read_edit(&mut self, edit: Replacement, lines: Lines<String>) -> Result<Tried, SourceError>
+        requires { IsEdited self.old.text lines edit }
+        ensures tried { IfOk result (λ t. Tries (C.classes self.old.classes) self.old self.new lines t) }
+        ensures err { OnErr result (self.new ≡ self.old) }
+        ensures memory { IfErr result (λ e. e ≡ SourceError.OutOfMemory) }
+    {
+        if !self.has_records {
+            return Ok(Tried::Undone(lines));
+        }
+        let Some(bytes) = reparse(
+            self.alloc,
+            &mut self.root,
+            self.lines.text(),
+            lines.text(),
+            edit,
+            &mut self.restarts,
+            &self.classes,
+        )?
+        else {
+            return Ok(Tried::Undone(lines));
+        };
+        self.lines = lines;
+        Ok(Tried::Done(bytes))
+    }
+
+    /// Makes a text the text, by reading the whole of it.
+    fn read_whole(&mut self, lines: Lines<String>) -> Result<Range<usize>, SourceError>
+        ensures edits { IfOk result (λ range. Edits (C.classes self.old.classes) self.old self.new lines range) }
+        ensures err { OnErr result (self.new ≡ self.old) }
+        ensures refused { result ≡ Err SourceError.SpanNumbers → numbered_in (file_of self.old.root) (tree (C.classes self.old.classes) (chars lines)) ≡ None }
+    {
+        let file = self.root.span().id();
+        let made = parse_anew(self.alloc, lines.text(), file, &self.classes)?;
+        let end = lines.len_bytes();
+        self.lines = lines;
+        self.root = made.root;
+        self.restarts = made.restarts;
+        self.has_records = true;
+        Ok(0..end)
+    }
+
+    /// Makes another text the text, by an edit of what the two don't have in common at the front and
+    /// at the end. Where the texts are equal it answers `0..0` and changes nothing.
+    pub fn replace(&mut self, new: &str) -> Result<Range<usize>, SourceError>
+        ensures text { OnOk result (self.new.text ≡ new.now) }
+        ensures same { self.old.text ≡ new.now → (result ≡ Ok (record { start = 0; end = 0 })) × (self.new ≡ self.old) }
+        ensures headline { OnOk result (self.new.has_records ≡ true → Headline (C.classes self.new.classes) self.new) }
+        ensures kept { OnOk result ((self.new.id ≡ self.old.id) × (self.new.classes ≡ self.old.classes) × (file_of self.new.root ≡ file_of self.old.root)) }
+        ensures records { OnOk result ((self.old.text ≡ new.now → ⊥) → self.new.has_records ≡ true) }
+        ensures within { IfOk result (λ range. (range.start ≤ range.end) × (range.end ≤ length self.new.text)) }
+        ensures err { OnErr result (self.new ≡ self.old) }
+        ensures refused { result ≡ Err SourceError.SpanNumbers → numbered_in (file_of self.old.root) (tree (C.classes self.old.classes) (chars new.now)) ≡ None }
+    {
+        let Some((front, end)) = self.lines.replacement_range(new) else {
+            self.keeps_headline();
+            return Ok(0..0);
+        };
+        let replaced = front..self.lines.len_bytes() - end;
+        let with = &new[front..new.len() - end];
+        self.edit(replaced, with)
+    }
+}
+
+impl<C: Classes + Copy> Source<C> {
+    /// The same source again: to any calls it answers what this one does, want of memory aside.
+    pub fn try_clone(&self) -> Result<Source<C>, AllocError>
+        ensures { IfOk result (λ s. s ≡ self.now) }
+    {
+        let mut restarts = Vec::new(self.alloc);
+        restarts.extend_from_slice(self.restarts.as_slice())?;
+        Ok(Source {
+            alloc: self.alloc,
+            id: self.id,
+            lines: self.lines.try_clone()?,
+            root: self.root.try_clone()?,
+            classes: self.classes,
+            has_records: self.has_records,
+            restarts,
+        })
+    }
+}
+
+impl<C: Classes> fmt::Debug for Source<C> {
+    fn fmt<W: fmt::Write>(&self, f: &mut fmt::Formatter<W>) -> fmt::Result {
+        write!(f, "Source({})", self.id.get())
+    }
+}

@@ -1,5 +1,0 @@
-use Rattle.std.proofs.Common.{refl}
-use Rattle.typst_patterns.proofs.parts.atomic_expression.Goals as goal
-
-pub returns : goal.returns
-returns g c l h = (c.in_ok-deeper.ensures tt refl l h).does

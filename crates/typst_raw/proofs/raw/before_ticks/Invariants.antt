@@ -1,8 +1,0 @@
-use Rattle.std.proofs.Common.{◌≡◌, ◌-◌, reverse}
-use Rattle.std.specs.Str.{chars}
-use Rattle.typst_lines.specs.Scanner.{place}
-use Rattle.typst_raw.specs.Raw.{past_ticks}
-use Rattle.typst_raw.proofs.raw.before_ticks.Given as goal
-
-abbrev pub invariant-loop-i : goal.invariant-loop-i
-invariant-loop-i l = past_ticks (l.count - l.i) (place l.s).behind ≡ past_ticks l.count (reverse (chars l.text))

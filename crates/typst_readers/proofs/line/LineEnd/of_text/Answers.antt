@@ -1,5 +1,0 @@
-use Rattle.typst_readers.proofs.Lines.{end-of-text}
-use Rattle.typst_readers.proofs.line.LineEnd.of_text.Goals as goal
-
-pub invariant_of-result : goal.invariant_of-result
-invariant_of-result c = record { is = end-of-text c.args.text.now }

@@ -1,7 +1,0 @@
-//! A law of the definitions, the contract of a function that does nothing.
-ghost use Rattle.typst_readers.specs.Laws as law;
-
-/// The frame law of columns.
-pub fn column_frame_law()
-    ensures { law.ColumnFrame }
-{}

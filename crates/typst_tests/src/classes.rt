@@ -1,0 +1,205 @@
+//! The answers of each class value, by the Unicode Character Database.
+ghost use Rattle.std.specs.Prelude.{◌≡◌};
+ghost use Rattle.std.specs.List.{list_all};
+ghost use Rattle.std.specs.Str.{chars};
+ghost use Rattle.typst_lines.specs.Classes.{in_line};
+
+use std::cell::Cell;
+use typst_lines::MathClass::{self, Alphabetic, Closing, Opening};
+use typst_lines::{Classes, UnicodeClasses, is_id_continue, is_id_start, is_ident, is_newline};
+use typst_test_classes::{Counting, Narrow, Wide};
+
+/// Starts an identifier, continues one, is alphabetic, alphanumeric, numeric, of a word.
+type Answers = [bool; 6];
+
+const NONE: Answers = [false, false, false, false, false, false];
+
+const LETTER: Answers = [true, true, true, true, false, true];
+
+const UNSPACED_LETTER: Answers = [true, true, true, true, false, false];
+
+const DIGIT: Answers = [false, true, false, true, true, true];
+
+const OTHER_NUMBER: Answers = [false, false, false, true, true, true];
+
+const LETTER_NUMBER: Answers = [true, true, true, true, true, true];
+
+const UNSPACED_NUMBER: Answers = [true, true, true, true, true, false];
+
+const CONTINUES: Answers = [false, true, false, false, false, false];
+
+/// The characters White_Space but for some of the spaces from U+2000 to U+200A.
+const WHITE_SPACE: &str =
+    "\t\n\r \u{85}\u{a0}\u{1680}\u{2000}\u{200a}\u{2028}\u{2029}\u{202f}\u{205f}\u{3000}";
+
+fn answers<C: Classes>(classes: &C, c: char) -> Answers {
+    [
+        classes.is_xid_start(c),
+        classes.is_xid_continue(c),
+        classes.is_alphabetic(c),
+        classes.is_alphanumeric(c),
+        classes.is_numeric(c),
+        classes.is_word(c),
+    ]
+}
+
+/// Characters, their classes, and their class in formulas.
+type Row = (&'static str, Answers, Option<MathClass>);
+
+/// Whether all characters of the rows are in their classes.
+fn has_rows<C: Classes>(classes: &C, rows: &[Row]) -> bool {
+    for (chars, want, math) in rows {
+        if !all_are(classes, chars, *want, *math) {
+            return false;
+        }
+    }
+    true
+}
+
+/// Whether each of the characters is in these classes.
+fn all_are<C: Classes>(classes: &C, chars: &str, want: Answers, math: Option<MathClass>) -> bool {
+    for c in chars.chars() {
+        if answers(classes, c) != want || classes.math_class(c) != math {
+            return false;
+        }
+    }
+    true
+}
+
+/// What each class value has to say.
+const LAW: [Row; 7] = [
+    ("azAZ", LETTER, Some(Alphabetic)),
+    ("09", DIGIT, None),
+    ("_", CONTINUES, None),
+    ("([{", NONE, Some(Opening)),
+    (")]}", NONE, Some(Closing)),
+    ("-/:@`|\u{7f}", NONE, None),
+    (WHITE_SPACE, NONE, None),
+];
+
+#[test]
+fn the_law_is_kept(rt: HostRuntime) {
+    assert!(rt; has_rows(&UnicodeClasses, &LAW));
+    assert!(rt; has_rows(&Wide, &LAW));
+    assert!(rt; has_rows(&Narrow, &LAW));
+}
+
+const UNICODE: [Row; 10] = [
+    // Ll, Ll, Lu, Ll, Lo, a letter of formulas, and one of kana whose script is Common.
+    ("éßΩжא𝑥ー", LETTER, None),
+    // Han, Hiragana, Katakana, Hangul.
+    ("中あア한", UNSPACED_LETTER, None),
+    // Nd, then Nl, of which the second is of Han, then No.
+    ("٣", DIGIT, None),
+    ("Ⅷ", LETTER_NUMBER, None),
+    ("〇", UNSPACED_NUMBER, None),
+    ("½²", OTHER_NUMBER, None),
+    // Mn, and Po with Other_ID_Continue.
+    ("\u{301}·", CONTINUES, None),
+    // Sc, So, Cf, Cn.
+    ("€☃\u{200b}\u{ffff}", NONE, None),
+    ("⌈⌊⟦⟨⟪⟬⟮", NONE, Some(Opening)),
+    ("⌉⌋⟧⟩⟫⟭⟯", NONE, Some(Closing)),
+];
+
+#[test]
+fn characters_past_ascii(rt: HostRuntime) {
+    assert!(rt; has_rows(&UnicodeClasses, &UNICODE));
+    assert!(rt; all_are(&Wide, "é中٣½€⌈", LETTER, None));
+    assert!(rt; all_are(&Narrow, "é中٣½€⌈", NONE, None));
+}
+
+fn is_line(line: &str) -> bool
+    ensures { result ≡ list_all in_line (chars line.now) }
+{
+    line.chars().all(|c| !is_newline(c))
+}
+
+/// How many bytes the first cluster of a line has that isn't empty.
+fn first_cluster<C: Classes>(classes: &C, line: &str) -> Option<usize> {
+    if line.is_empty() || !is_line(line) {
+        return None;
+    }
+    Some(classes.cluster(line))
+}
+
+const CLUSTERS: [(&str, usize); 7] = [
+    ("ab", 1),
+    ("aé", 1),
+    // A letter with its accent.
+    ("e\u{301}x", 3),
+    // A family: four people and the three joiners between them.
+    ("👩\u{200d}👩\u{200d}👧\u{200d}👦 x", 25),
+    // The first of two flags.
+    ("🇩🇪🇫🇷", 8),
+    // A syllable of three jamo.
+    ("\u{1112}\u{1161}\u{11ab}x", 9),
+    ("中文", 3),
+];
+
+#[test]
+fn clusters_by_unicode(rt: HostRuntime) {
+    for (line, want) in CLUSTERS {
+        assert!(rt; first_cluster(&UnicodeClasses, line) == Some(want));
+    }
+}
+
+#[test]
+fn other_clusters(rt: HostRuntime) {
+    for (line, want) in [("ab", 1), ("x é", 4)] {
+        assert!(rt; first_cluster(&Wide, line) == Some(want));
+    }
+    for (line, want) in [("e\u{301}", 1), ("中文", 3)] {
+        assert!(rt; first_cluster(&Narrow, line) == Some(want));
+    }
+}
+
+/// Whether the text is an identifier by Unicode, where nearly all are letters, and where only
+/// ASCII is.
+fn by_all(text: &str) -> [bool; 3] {
+    [
+        is_ident(text, &UnicodeClasses),
+        is_ident(text, &Wide),
+        is_ident(text, &Narrow),
+    ]
+}
+
+const IDENTIFIERS: [(&str, [bool; 3]); 6] = [
+    ("_a-1", [true, true, true]),
+    ("", [false, false, false]),
+    ("-a", [false, false, false]),
+    ("1a", [false, false, false]),
+    ("中-文", [true, true, false]),
+    ("\u{301}", [false, true, false]),
+];
+
+#[test]
+fn identifiers(rt: HostRuntime) {
+    for (text, want) in IDENTIFIERS {
+        assert!(rt; by_all(text) == want);
+    }
+    assert!(rt; is_id_start('_', &Narrow) && !is_id_start('-', &Narrow));
+    assert!(rt; is_id_continue('-', &Narrow) && !is_id_continue('.', &Narrow));
+}
+
+/// Whether eight calls are counted, and answered as by Unicode.
+fn counts(calls: &Cell<usize>) -> bool {
+    let counting = Counting { calls };
+    answers(&counting, 'é') == LETTER
+        && counting.math_class('⟨') == Some(Opening)
+        && first_cluster(&counting, "é") == Some(2)
+        && calls.get() == 8
+}
+
+/// Whether a call is answered where no more can be counted.
+fn stays_full(calls: &Cell<usize>) -> bool {
+    calls.set(usize::MAX);
+    Counting { calls }.is_word('a') && calls.get() == usize::MAX
+}
+
+#[test]
+fn calls_are_counted(rt: HostRuntime) {
+    let calls = Cell::new(0);
+    assert!(rt; counts(&calls));
+    assert!(rt; stays_full(&calls));
+}

@@ -1,0 +1,34 @@
+//! Tests of `typst_kinds`, `typst_tree` and `typst_highlight`, of tokens, labels, links and raw texts,
+//! through their public calls: of what no clause says and no row can.
+#![tactic(auto)]
+
+#[cfg(test)]
+mod chains;
+#[cfg(test)]
+mod classes;
+#[cfg(test)]
+mod html;
+#[cfg(test)]
+mod kinds;
+#[cfg(test)]
+mod lines;
+#[cfg(test)]
+mod links;
+#[cfg(test)]
+mod long_rows;
+#[cfg(test)]
+mod nodes;
+#[cfg(test)]
+mod numbers;
+#[cfg(test)]
+mod raws;
+#[cfg(test)]
+mod refusals;
+#[cfg(test)]
+mod rows;
+#[cfg(test)]
+mod tokens;
+#[cfg(test)]
+mod trees;
+#[cfg(test)]
+mod walks;

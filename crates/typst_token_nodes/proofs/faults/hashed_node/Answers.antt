@@ -1,6 +1,0 @@
-use Rattle.std.proofs.Common.{rules}
-use Rattle.std.proofs.lemmas.Str.{encodes-chars}
-use Rattle.typst_token_nodes.proofs.faults.hashed_node.Goals as goal
-
-pub returns : goal.returns
-returns c = rw (encodes-chars c.args.text.now c.utf8.text) (search rules)

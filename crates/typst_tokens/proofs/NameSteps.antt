@@ -1,0 +1,40 @@
+-- Names, in one piece.
+use Rattle.std.proofs.Common.{◌≡◌, ℕ, suc, List, ◌∷◌, length, encode_utf8_all, sym, ap, ◌∙◌, Option, Some, None}
+use Rattle.std.proofs.lemmas.Str.{encodes-chars}
+use Rattle.std.specs.List.{prefix_len}
+use Rattle.std.specs.Str.{chars, IsUtf8}
+use Rattle.typst_lines.specs.Classes.{CharClasses}
+use Rattle.typst_lines.specs.Identifiers.{is_id_continue}
+use Rattle.typst_tokens.specs.Identifiers.{keyword, named, keyword_or_name, ident}
+use Rattle.typst_kinds.specs.declared.kind.SyntaxKind.{SyntaxKind}
+use Rattle.typst_lines.specs.Place.{run}
+use Rattle.typst_tokens.specs.Reader.{Reader}
+use Rattle.typst_tokens.specs.Reader.Reader.{answer, skip}
+use Rattle.typst_tokens.specs.Sight.{Sight, saw, went, sight}
+use Rattle.typst_tokens.specs.Memory.{Memory}
+use Rattle.typst_tokens.specs.declared.token.Token.{Token}
+
+-- what is read behind the first character, by the others, their bytes and the keyword that they are
+abbrev named_by : ℕ → List ℕ → List ℕ → Option SyntaxKind → Sight → Token × Sight
+named_by c rest bytes found w = sight (elim found as (λ _. Reader Memory Token) [ Some k ↦ keyword_or_name rest k | None ↦ skip (length rest) (answer (named (c ∷ bytes))) ]) w
+
+-- the others were looked at
+ident-is : (k : CharClasses) (c : ℕ) (v u w : Sight) (text : List ℕ) → IsUtf8 text → u ≡ went 1 v → chars text ≡ run (is_id_continue k) u.place → w ≡ saw (suc (prefix_len (is_id_continue k) u.place.ahead)) u
+    → sight (ident k c) v ≡ named_by c (chars text) text (keyword (c ∷ text)) w
+unfolding ident
+ident-is k c v u w text good e f g =
+    let test = is_id_continue k in
+    ap (λ (y : Sight). let rest = run test y.place in named_by c rest (encode_utf8_all rest) (keyword (c ∷ encode_utf8_all rest)) (saw (suc (prefix_len test y.place.ahead)) y)) (sym e)
+    ∙ ap (λ rest. named_by c rest (encode_utf8_all rest) (keyword (c ∷ encode_utf8_all rest)) (saw (suc (prefix_len test u.place.ahead)) u)) (sym f)
+    ∙ ap (λ bytes. named_by c (chars text) bytes (keyword (c ∷ bytes)) (saw (suc (prefix_len test u.place.ahead)) u)) (encodes-chars text good)
+    ∙ ap (named_by c (chars text) text (keyword (c ∷ text))) (sym g)
+
+pub ident-keyword : (k : CharClasses) (c : ℕ) (v u w x : Sight) (text : List ℕ) (found : SyntaxKind) (t : Token) → IsUtf8 text → u ≡ went 1 v → chars text ≡ run (is_id_continue k) u.place
+    → w ≡ saw (suc (prefix_len (is_id_continue k) u.place.ahead)) u → keyword (c ∷ text) ≡ Some found → sight (keyword_or_name (chars text) found) w ≡ (t, x) → sight (ident k c) v ≡ (t, x)
+ident-keyword k c v u w x text found t good e f g h i = ident-is k c v u w text good e f g ∙ ap (λ o. named_by c (chars text) text o w) h ∙ i
+
+pub ident-name : (k : CharClasses) (c : ℕ) (v u w x : Sight) (text : List ℕ) (t : Token) → IsUtf8 text → u ≡ went 1 v → chars text ≡ run (is_id_continue k) u.place
+    → w ≡ saw (suc (prefix_len (is_id_continue k) u.place.ahead)) u → keyword (c ∷ text) ≡ None → x ≡ went (length (chars text)) w → t ≡ named (c ∷ text) → sight (ident k c) v ≡ (t, x)
+ident-name k c v u w x text t good e f g h i j =
+    ident-is k c v u w text good e f g ∙ ap (λ o. named_by c (chars text) text o w) h
+    ∙ ap (λ y. (y, went (length (chars text)) w)) (sym j) ∙ ap (λ y. (t, y)) (sym i)

@@ -1,0 +1,7 @@
+use Rattle.std.proofs.Common.{rules}
+use Rattle.typst_tokens.specs.Markup.{hyphen}
+use Rattle.typst_tokens.proofs.markup.hyphen.Goals as goal
+
+pub returns-in-Some : goal.returns-in-Some
+unfolding hyphen
+returns-in-Some c = search rules

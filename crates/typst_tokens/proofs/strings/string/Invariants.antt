@@ -1,0 +1,15 @@
+use Rattle.std.proofs.Common.{◌≡◌, length}
+use Rattle.typst_tokens.specs.Strings.{string}
+use Rattle.typst_tokens.specs.Sight.{Covers, sight}
+use Rattle.typst_tokens.proofs.StringSteps.{rest}
+use Rattle.typst_tokens.proofs.strings.string.Given as goal
+
+abbrev pub invariant-loop-c : goal.invariant-loop-c
+invariant-loop-c l =
+    record {
+      reads : sight (rest l.escaped) l.s ≡ sight string l.fn.s;
+      covers : Covers l.s;
+    }
+
+abbrev pub decreases-loop-c : goal.decreases-loop-c
+decreases-loop-c l = length l.s.place.ahead

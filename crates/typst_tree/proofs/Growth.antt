@@ -1,0 +1,30 @@
+-- One try of `growth`.
+use Rattle.std.proofs.Common.{◌≡◌, ℕ, suc, ◌+◌, ◌-◌, ◌*◌, ◌<◌, ◌≤◌, Bool, true, false, ◌&&◌, nat_le, max, List, length, Some, None, refl, arith, ◌⊎◌, inl, inr}
+use Rattle.std.proofs.lemmas.Bool.Decides.{nat_tests}
+use Rattle.typst_kinds.specs.Head.{Head}
+use Rattle.typst_tree.specs.Tree.{Tree}
+use Rattle.typst_tree.specs.Replace.{growth, has_room, is_all}
+
+module _ (h : Head) (xs : List Tree) (from to n tries c k : ℕ) (lt : c < tries) where
+  one_more : tries - c ≡ suc (tries - (c + 1))
+  one_more = omega arith
+
+  pub growth_found : has_room h xs from to n k ≡ true → growth h xs from to n (tries - c) k ≡ Some k
+  growth_found e = rw (one_more, e) refl
+
+  pub growth_ends : has_room h xs from to n k ≡ false → is_all xs from to k ≡ true → growth h xs from to n (tries - c) k ≡ None
+  growth_ends e f = rw (one_more, e, f) refl
+
+  pub growth_goes : has_room h xs from to n k ≡ false → is_all xs from to k ≡ false → growth h xs from to n (tries - c) k ≡ growth h xs from to n (tries - (c + 1)) (max 1 (2 * k))
+  growth_goes e f = rw (one_more, e, f) refl
+
+split : (a b : Bool) → (a && b) ≡ false → (a ≡ false) ⊎ (b ≡ false)
+split true b e = inr e
+split false b e = inl refl
+
+pub below_length : (xs : List Tree) (from to k : ℕ) → from ≤ length xs → is_all xs from to k ≡ false → k < length xs
+below_length xs from to k h e = elim_⊎ (split (nat_le from k) (nat_le (length xs) (to + k)) e)
+  where
+    elim_⊎ : (nat_le from k ≡ false) ⊎ (nat_le (length xs) (to + k) ≡ false) → k < length xs
+    elim_⊎ (inl f) = let l : k < from = grind (arith, nat_tests) in omega arith
+    elim_⊎ (inr f) = let l : to + k < length xs = grind (arith, nat_tests) in omega arith

@@ -1,0 +1,56 @@
+-- Replacing keeps the children that are neither taken out nor numbered anew.
+use Rattle.std.proofs.Common.{◌≡◌, ℕ, ◌+◌, ◌-◌, ◌≤◌, List, [], ◌∷◌, ◌++◌, length, take, drop, Option, Some, None, refl, ap, sym, ◌∙◌, subst, arith, append_assoc, length-append}
+use Rattle.std.specs.Prelude.{slice_range}
+use Rattle.std.proofs.lemmas.List.{take_at, drop_at, length-take-le, length-drop}
+use Rattle.typst_kinds.specs.Head.{Head}
+use Rattle.typst_tree.specs.Tree.{Tree}
+use Rattle.typst_tree.specs.Numbers.{numbered_list}
+use Rattle.typst_tree.specs.Same.{front}
+use Rattle.typst_tree.specs.Replace.{kids_of, with_kids, middle, back, exchanged, replaced, Reaches}
+use Rattle.typst_tree.specs.Laws.{touched, touched_by, Keeps}
+use Rattle.typst_tree.proofs.SpansAside.{trees_forest}
+use Rattle.typst_tree.proofs.SetAside.{aside}
+use Rattle.typst_tree.proofs.AlongPath.{inside, exchange_some, exchange_none, grown}
+
+-- the ends of the list xs where its middle l..r was replaced
+pub record Ends (xs ys : List Tree) (l r : ℕ) : Type 0 where
+  pub before : take l ys ≡ take l xs
+  pub behind : drop (length ys - (length xs - r)) ys ≡ drop r xs
+
+ends : (xs ys m : List Tree) (l r : ℕ) → l ≤ length xs → r ≤ length xs → ys ≡ take l xs ++ (m ++ drop r xs) → Ends xs ys l r
+ends xs ys m l r lx rx e =
+    let long : length (take l xs) ≡ l = length-take-le l xs lx in
+    let all : length ys ≡ length (take l xs ++ m) + length (drop r xs) =
+    ap length (e ∙ sym (append_assoc (take l xs) m (drop r xs))) ∙ length-append (take l xs ++ m) (drop r xs) in
+    record {
+      before = ap (take l) e ∙ take_at (take l xs) (m ++ drop r xs) l long;
+      behind = ap (drop (length ys - (length xs - r))) (e ∙ sym (append_assoc (take l xs) m (drop r xs))) ∙ drop_at (take l xs ++ m) (drop r xs) (length ys - (length xs - r)) (omega (arith, all, length-drop r xs));
+    }
+
+unfoldable pub EndsAt : Option (ℕ × ℕ) → List Tree → List Tree → Type 0
+EndsAt None xs ys = ⊥
+EndsAt (Some p) xs ys = Ends xs ys p.0 p.1
+
+pub exchanged_ends : (file : ℕ) (h : Head) (xs : List Tree) (from to : ℕ) (ns ys : List Tree) → from ≤ to → to ≤ length xs → exchanged file h xs from to ns ≡ Some ys → EndsAt (touched_by h xs from to ns) xs ys
+unfolding EndsAt
+exchanged_ends file h xs from to [] ys o w e = ends xs ys [] from to (omega arith) w (sym (exchange_none file h xs from to ys e))
+exchanged_ends file h xs from to (n ∷ ns) ys o w e =
+    let x = exchange_some file h xs from to n ns ys e in
+    let g = grown h xs from to _ x.window x.fits in
+    let left : x.window.left ≤ length xs = rw (sym g.is) (omega arith) in
+    let right : x.window.right ≤ length xs = rw (sym g.is) (omega arith) in
+    rw (x.fits) (ends xs ys (numbered_list file x.window.stride x.window.start (slice_range xs x.window.left from ++ ((n ∷ ns) ++ slice_range xs to x.window.right))) x.window.left x.window.right left right (sym x.is))
+
+kept_at : (p : Option (ℕ × ℕ)) (t : Tree) (ys : List Tree) → EndsAt p (kids_of t) ys → Keeps p t (with_kids t ys)
+unfolding EndsAt
+kept_at None t ys e = absurd e
+kept_at (Some p) t ys e = rw (trees_forest ys) (refl, e.before, e.behind)
+
+pub replaced_keeps : (from to : ℕ) (new : List Tree) (t u : Tree) → Reaches [] from to t → replaced from to new t ≡ Some u → Keeps (touched from to new t) t u
+replaced_keeps from to new t u r e =
+    let i = inside t u from to new e in
+    let a = front (slice_range (kids_of t) from to) new in
+    let b = back a (slice_range (kids_of t) from to) new in
+    let s = aside (kids_of t) new from to a b r.1 r.2 refl refl in
+    let k = kept_at (touched from to new t) t i.kids (exchanged_ends i.file t.head (kids_of t) (from + a) (to - b) (middle a b new) i.kids s.order s.within i.swaps) in
+    subst (λ (v : Tree). Keeps (touched from to new t) t v) i.is k

@@ -1,0 +1,51 @@
+-- What it is for two trees to be the same, spans aside.
+use Rattle.std.proofs.Common.{◌≡◌, ℕ, zero, suc, List, [], ◌∷◌, map, refl, ap, sym, ◌∙◌, ◌<◌, ◌≤◌, length, take, get_or, arith}
+use Rattle.std.proofs.lemmas.List.{take_all, length-map}
+use Rattle.typst_kinds.specs.Head.{Head, bare_head}
+use Rattle.typst_tree.specs.Tree.{Forest, none, more, Tree, forest, trees, bare, bare_forest}
+
+pub trees_forest : (ts : List Tree) → trees (forest ts) ≡ ts
+trees_forest [] = refl
+trees_forest (t ∷ ts) = ap (λ us. t ∷ us) (trees_forest ts)
+
+pub forest_trees : (f : Forest) → forest (trees f) ≡ f
+forest_trees none = refl
+forest_trees (more h ks r) = ap (more h ks) (forest_trees r)
+
+pub forest_bare : (ts : List Tree) → forest (map bare ts) ≡ bare_forest (forest ts)
+forest_bare [] = refl
+forest_bare (t ∷ ts) = ap (more (bare_head t.head) (bare_forest t.kids)) (forest_bare ts)
+
+-- a tree by its head and its children
+abbrev pub over : Head → List Tree → Tree
+over h ts = record { head = h; kids = forest ts }
+
+-- same head and same children, spans aside
+pub record SameParts (h h' : Head) (xs ys : List Tree) : Type 0 where
+  pub heads : bare_head h ≡ bare_head h'
+  pub kids : map bare xs ≡ map bare ys
+
+pub parts_from_bare : {t u : Tree} (h h' : Head) (xs ys : List Tree) → over h xs ≡ t → over h' ys ≡ u → bare t ≡ bare u → SameParts h h' xs ys
+parts_from_bare {t} {u} h h' xs ys a b e =
+    let same : bare (over h xs) ≡ bare (over h' ys) = ap bare a ∙ (e ∙ sym (ap bare b)) in
+    record {
+      heads = ap (λ v. v.head) same;
+      kids = sym (trees_forest (map bare xs)) ∙ (ap trees (forest_bare xs ∙ (ap (λ v. v.kids) same ∙ sym (forest_bare ys))) ∙ trees_forest (map bare ys));
+    }
+
+pub bare_from_parts : {t u : Tree} (h h' : Head) (xs ys : List Tree) → over h xs ≡ t → over h' ys ≡ u → bare_head h ≡ bare_head h' → map bare xs ≡ map bare ys → bare t ≡ bare u
+bare_from_parts h h' xs ys a b p q =
+    sym (ap bare a) ∙ ((λ i. record { head = p i; kids = (sym (forest_bare xs) ∙ (ap forest q ∙ forest_bare ys)) i }) ∙ ap bare b)
+
+pub lengths_from_bare : (xs ys : List Tree) → map bare xs ≡ map bare ys → length xs ≡ length ys
+lengths_from_bare xs ys e = omega (arith, ap length e, length-map xs bare, length-map ys bare)
+
+-- trees at one place of lists that are the same
+pub same_at : (xs ys : List Tree) (i : ℕ) (x y : Tree) → map bare xs ≡ map bare ys → x ≡ get_or xs i x → y ≡ get_or ys i y → i < length xs → bare x ≡ bare y
+same_at [] ys i x y e p q h = absurd (omega arith)
+same_at (a ∷ xs) [] i x y e p q h = absurd (omega (arith, ap length e))
+same_at (a ∷ xs) (b ∷ ys) zero x y e p q h = cc
+same_at (a ∷ xs) (b ∷ ys) (suc i) x y e p q h = same_at xs ys i x y (cc) p q (omega arith)
+
+pub same_all : (xs ys : List Tree) (i : ℕ) → map bare (take i xs) ≡ map bare (take i ys) → length xs ≤ i → length ys ≤ i → map bare xs ≡ map bare ys
+same_all xs ys i e h k = rw (take_all i xs h, take_all i ys k) at e

@@ -1,0 +1,15 @@
+use Rattle.std.proofs.Common.{arith}
+use Rattle.typst_tree.proofs.AddedChildren.{one_more}
+use Rattle.typst_tree.proofs.ChildlessLeaves.{whole_more}
+use Rattle.typst_tree.proofs.replace.totals.Goals as goal
+
+pub loop-kid-preserved : goal.loop-kid-preserved
+loop-kid-preserved c =
+    let m = one_more c.args.kids.now c.loop-kid.kid-index c.kid-item.result (omega arith) c.kid-item.is in
+    record {
+      long = omega (arith, c.loop-kid.invariant.long, m.long, c.len.ensures, c.saturating_add-len.ensures);
+      many = omega (arith, c.loop-kid.invariant.many, m.many, c.descendants.ensures, c.saturating_add-nodes.ensures);
+      small_len = omega (arith, c.saturating_add-len.ensures);
+      small_count = omega (arith, c.saturating_add-nodes.ensures);
+      whole = whole_more c.args.kids.now c.loop-kid.kid-index c.kid-item.result (omega arith) c.kid-item.is c.loop-kid.invariant.whole c.leaves_are_bare.ensures;
+    }

@@ -1,0 +1,422 @@
+ghost use Rattle.std.specs.Prelude.{◌≡◌, ◌↔◌, ℕ, ◌+◌, ◌-◌, ◌*◌, ◌^◌, ◌<◌, ◌≤◌, ◌++◌, length, slice_range, Some, None, IfSome, OnErr, OnOk, IfErr, IsTrue, false, [], reverse, vec_len};
+ghost use Rattle.typst_kinds.specs.Head.{kept};
+ghost use Rattle.typst_tree.specs.Tree.{forest, joined, count, saturated, text_of, nodes};
+ghost use Rattle.typst_tree.specs.Order.{IsWhole, IsWholeForest, IsNumbered, AreInOrder, numbers_of};
+ghost use Rattle.typst_tree.specs.Same.{front};
+ghost use Rattle.typst_tree.specs.Replace.{Reaches, replaced, replaced_at, kids_of, start_of, end_of, upper_of, left_of, right_of, wanted, room, has_room, growth, is_all, fit, IsFit, exchanged, swapped};
+
+use crate::SyntaxNode;
+use crate::items::{keep_middle, remove, splice};
+use crate::numbers::{number_part, stride};
+use std::ops::Range;
+use typst_kinds::{FileId, Own, SourceError};
+
+/// The children that are numbered anew, by their places before the replacement, and where their
+/// numbers begin and how many each of their nodes gets.
+#[derive(Clone, Copy)]
+struct Stretch {
+    left: usize,
+    right: usize,
+    start: u64,
+    stride: u64,
+}
+
+/// What one or several trees come to: the length of their text and how many nodes they have.
+#[derive(Clone, Copy)]
+struct Counts {
+    len: usize,
+    nodes: usize,
+}
+
+/// The lengths and the counts of nodes of `kids`, added up.
+fn totals(kids: &[SyntaxNode]) -> Counts
+    ensures len { result.len ≡ saturated (length (joined (forest kids.now))) }
+    ensures nodes { result.nodes ≡ saturated (count (forest kids.now)) }
+    ensures whole { IsWholeForest (forest kids.now) }
+{
+    let mut len: usize = 0;
+    let mut nodes: usize = 0;
+    for kid in kids {
+        kid.leaves_are_bare();
+        len = len.saturating_add(kid.len());
+        nodes = nodes.saturating_add(kid.descendants());
+    }
+    Counts { len, nodes }
+}
+
+/// The same of the children `from..to` alone.
+fn totals_within(kids: &[SyntaxNode], from: usize, to: usize) -> Counts
+    requires order { from ≤ to }
+    requires within { to ≤ length kids.now }
+    ensures len { result.len ≡ saturated (length (joined (forest (slice_range kids.now from to)))) }
+    ensures nodes { result.nodes ≡ saturated (count (forest (slice_range kids.now from to))) }
+{
+    totals(&kids[from..to])
+}
+
+/// How many nodes the two begin with that are the same, spans aside.
+fn shared_front(old: &[SyntaxNode], new: &[SyntaxNode]) -> usize
+    ensures value { result ≡ front old.now new.now }
+    ensures old_has { result ≤ length old.now }
+    ensures new_has { result ≤ length new.now }
+{
+    let most = old.len().min(new.len());
+    for i in 0..most {
+        if !old[i].spanless_eq(&new[i]) {
+            return i;
+        }
+    }
+    most
+}
+
+/// How many nodes the two end with that are the same, spans aside.
+fn shared_back(old: &[SyntaxNode], new: &[SyntaxNode]) -> usize
+    ensures value { result ≡ front (reverse old.now) (reverse new.now) }
+    ensures old_has { result ≤ length old.now }
+    ensures new_has { result ≤ length new.now }
+{
+    let most = old.len().min(new.len());
+    for i in 0..most {
+        if !old[old.len() - 1 - i].spanless_eq(&new[new.len() - 1 - i]) {
+            return i;
+        }
+    }
+    most
+}
+
+/// Where the numbers for the children from `at` on begin.
+fn start_of(own: &Own, kids: &[SyntaxNode], at: usize) -> u64
+    ensures value { result ≡ start_of own.now.head kids.now at }
+    ensures low { 2 ≤ result }
+    ensures small { result ≤ 2 ^ 47 }
+{
+    let first = own.number() + 1;
+    if at == 0 {
+        return first.max(2);
+    }
+    match kids.get(at - 1) {
+        None => first.max(2),
+        Some(kid) => kid.upper().max(2),
+    }
+}
+
+/// Where the numbers for the children before `at` end.
+fn end_of(own: &Own, kids: &[SyntaxNode], at: usize) -> u64
+    ensures value { result ≡ end_of own.now.head kids.now at }
+    ensures small { result ≤ 2 ^ 47 }
+{
+    match kids.get(at) {
+        None => own.upper(),
+        Some(kid) => kid.own.number(),
+    }
+}
+
+/// The child behind the last of `by` children after `to`, or the number of children.
+fn right_of(kids: &[SyntaxNode], to: usize, by: usize) -> usize
+    requires { to ≤ length kids.now }
+    ensures { result ≡ right_of kids.now to by }
+{
+    if kids.len() - to <= by {
+        kids.len()
+    } else {
+        to + by
+    }
+}
+
+/// How many nodes there are with `fresh` in place of `from..to` and `by` children on each side.
+fn wanted(kids: &[SyntaxNode], from: usize, to: usize, fresh: &[SyntaxNode], by: usize) -> usize
+    requires order { from ≤ to }
+    requires within { to ≤ length kids.now }
+    ensures { result ≡ saturated (wanted kids.now from to (count (forest fresh.now)) by) }
+{
+    let left = from.saturating_sub(by);
+    let right = right_of(kids, to, by);
+    let between = totals(fresh).nodes;
+    let before = totals_within(kids, left, from).nodes;
+    let after = totals_within(kids, to, right).nodes;
+    between.saturating_add(before).saturating_add(after)
+}
+
+/// How many numbers there are for them.
+fn room(own: &Own, kids: &[SyntaxNode], from: usize, to: usize, by: usize) -> u64
+    requires { to ≤ length kids.now }
+    ensures value { result ≡ room own.now.head kids.now from to by }
+    ensures small { start_of own.now.head kids.now (left_of from by) + result ≤ 2 ^ 47 }
+{
+    let left = from.saturating_sub(by);
+    let right = right_of(kids, to, by);
+    end_of(own, kids, right).saturating_sub(start_of(own, kids, left))
+}
+
+/// Whether there are enough.
+fn has_room(
+    own: &Own,
+    kids: &[SyntaxNode],
+    from: usize,
+    to: usize,
+    fresh: &[SyntaxNode],
+    by: usize,
+) -> bool
+    requires order { from ≤ to }
+    requires within { to ≤ length kids.now }
+    ensures { result ≡ has_room own.now.head kids.now from to (count (forest fresh.now)) by }
+{
+    wanted(kids, from, to, fresh, by) as u64 <= room(own, kids, from, to, by)
+}
+
+/// Whether `by` children on each side of `from..to` are all.
+fn is_all(kids: &[SyntaxNode], from: usize, to: usize, by: usize) -> bool
+    requires { to ≤ length kids.now }
+    ensures { result ≡ is_all kids.now from to by }
+{
+    from <= by && kids.len() - to <= by
+}
+
+/// By how many children on each side the stretch that is numbered anew grows.
+fn growth(
+    own: &Own,
+    kids: &[SyntaxNode],
+    from: usize,
+    to: usize,
+    fresh: &[SyntaxNode],
+    tries: usize,
+) -> Option<usize>
+    requires order { from ≤ to }
+    requires within { to ≤ length kids.now }
+    requires small { length kids.now < 2 ^ 62 }
+    ensures { result ≡ growth own.now.head kids.now from to (count (forest fresh.now)) tries 0 }
+{
+    let mut by: usize = 0;
+    for _ in 0..tries {
+        if has_room(own, kids, from, to, fresh, by) {
+            return Some(by);
+        }
+        if is_all(kids, from, to, by) {
+            return None;
+        }
+        by = (2 * by).max(1);
+    }
+    None
+}
+
+/// The stretch of children that is numbered anew with `fresh` in place of `from..to`.
+fn fit(
+    own: &Own,
+    kids: &[SyntaxNode],
+    from: usize,
+    to: usize,
+    fresh: &[SyntaxNode],
+) -> Option<Stretch>
+    requires order { from ≤ to }
+    requires within { to ≤ length kids.now }
+    requires some { 0 < length fresh.now }
+    ensures value { result ≡ fit own.now.head kids.now from to (count (forest fresh.now)) }
+    ensures fits { IfSome result (λ w. IsFit kids.now from to (count (forest fresh.now)) w) }
+{
+    let by = growth(own, kids, from, to, fresh, kids.len() + 1)?;
+    let left = from.saturating_sub(by);
+    let count = wanted(kids, from, to, fresh, by) as u64;
+    let numbers = room(own, kids, from, to, by);
+    Some(Stretch {
+        left,
+        right: right_of(kids, to, by),
+        start: start_of(own, kids, left),
+        stride: stride(numbers, count),
+    })
+}
+
+/// Puts `fresh` in place of the children `from..to` and numbers them, or changes nothing.
+fn exchange(
+    own: &Own,
+    kids: &mut Vec<SyntaxNode>,
+    id: &FileId,
+    from: usize,
+    to: usize,
+    fresh: Vec<SyntaxNode>,
+) -> Result<(), SourceError>
+    requires order { from ≤ to }
+    requires within { to ≤ vec_len kids.old }
+    ensures ok { OnOk result (exchanged id.now own.now.head kids.old.items from to fresh.items ≡ Some kids.new.items) }
+    ensures err { OnErr result (kids.new.items ≡ kids.old.items) }
+    ensures refused { IfErr result (λ e. e ≡ SourceError.SpanNumbers → exchanged id.now own.now.head kids.old.items from to fresh.items ≡ None) }
+{
+    if fresh.is_empty() {
+        remove(kids, from, to);
+        return Ok(());
+    }
+    let Some(stretch) = fit(own, kids.as_slice(), from, to, fresh.as_slice()) else {
+        return Err(SourceError::SpanNumbers);
+    };
+    let end = from + fresh.len() + (stretch.right - to);
+    if splice(kids, from, to, fresh).is_err() {
+        return Err(SourceError::OutOfMemory);
+    }
+    number_part(kids, stretch.left, end, id, stretch.stride, stretch.start);
+    Ok(())
+}
+
+/// Puts `new` in place of the children `from..to`, or changes nothing. Nodes that are the same at
+/// the front or at the end of both stay as they are.
+fn swap_children(
+    own: &Own,
+    kids: &mut Vec<SyntaxNode>,
+    id: &FileId,
+    from: usize,
+    to: usize,
+    mut new: Vec<SyntaxNode>,
+) -> Result<(), SourceError>
+    requires order { from ≤ to }
+    requires within { to ≤ vec_len kids.old }
+    ensures ok { OnOk result (swapped id.now own.now.head kids.old.items from to (slice_range kids.old.items from to) new.items ≡ Some kids.new.items) }
+    ensures err { OnErr result (kids.new.items ≡ kids.old.items) }
+    ensures refused { IfErr result (λ e. e ≡ SourceError.SpanNumbers → swapped id.now own.now.head kids.old.items from to (slice_range kids.old.items from to) new.items ≡ None) }
+{
+    let old = &kids.as_slice()[from..to];
+    let front = shared_front(old, new.as_slice());
+    let back = shared_back(&old[front..], &new.as_slice()[front..]);
+    keep_middle(&mut new, front, back);
+    exchange(own, kids, id, from + front, to - back, new)
+}
+
+/// Counts the text and the nodes of an inner node anew, after its children changed.
+fn renew(own: &mut Own, kids: &[SyntaxNode])
+    requires { own.old.head.is_inner ≡ false → 1 < own.old.descendants }
+    ensures { own.new ≡ record { head = own.old.head; len = kept (length (own.old.head.text ++ joined (forest kids.now))); descendants = kept (1 + count (forest kids.now)) } }
+{
+    let below = totals(kids);
+    let text = own.text().len();
+    own.set_counts(
+        text.saturating_add(below.len),
+        below.nodes.saturating_add(1),
+    );
+}
+
+/// The same where children that came to `gone` made way for ones that come to `come`: all are
+/// counted anew only where the node keeps no exact counts.
+fn recount(own: &mut Own, kids: &[SyntaxNode], gone: Counts, come: Counts)
+    requires inner { own.old.head.is_inner ≡ false → 1 < own.old.descendants }
+    requires shorter { own.old.len < 2 ^ 32 - 1 → gone.len ≤ own.old.len }
+    requires fewer { own.old.descendants < 2 ^ 32 - 1 → gone.nodes ≤ own.old.descendants }
+    requires len { own.old.len < 2 ^ 32 - 1 → kept (own.old.len - gone.len + come.len) ≡ kept (length (own.old.head.text ++ joined (forest kids.now))) }
+    requires nodes { own.old.descendants < 2 ^ 32 - 1 → kept (own.old.descendants - gone.nodes + come.nodes) ≡ kept (1 + count (forest kids.now)) }
+    ensures { own.new ≡ record { head = own.old.head; len = kept (length (own.old.head.text ++ joined (forest kids.now))); descendants = kept (1 + count (forest kids.now)) } }
+{
+    let len = own.len();
+    let descendants = own.descendants();
+    if len >= Own::MOST || descendants >= Own::MOST {
+        renew(own, kids);
+        return;
+    }
+    own.set_counts(
+        (len - gone.len).saturating_add(come.len),
+        (descendants - gone.nodes).saturating_add(come.nodes),
+    );
+}
+
+impl SyntaxNode {
+    /// What the whole tree comes to.
+    fn counts(&self) -> Counts
+        ensures len { result.len ≡ saturated (length (text_of self.now)) }
+        ensures nodes { result.nodes ≡ saturated (nodes self.now) }
+        ensures whole { IsWhole self.now }
+    {
+        self.leaves_are_bare();
+        Counts {
+            len: self.len(),
+            nodes: self.descendants(),
+        }
+    }
+
+    /// Replaces the children `from..to`, or changes nothing.
+    fn replace(&mut self, from: usize, to: usize, nodes: Vec<SyntaxNode>) -> Result<(), SourceError>
+        requires inner { IsTrue self.old.head.is_inner }
+        requires order { from ≤ to }
+        requires within { to ≤ length (kids_of self.old) }
+        ensures ok { OnOk result (replaced from to nodes.items self.old ≡ Some self.new) }
+        ensures err { OnErr result (self.new ≡ self.old) }
+        ensures refused { IfErr result (λ e. e ≡ SourceError.SpanNumbers → replaced from to nodes.items self.old ≡ None) }
+    {
+        let Some(id) = self.own.span().id() else {
+            return Err(SourceError::SpanNumbers);
+        };
+        let gone = totals_within(self.kids.as_slice(), from, to);
+        let come = totals(nodes.as_slice());
+        if let Err(error) = swap_children(&self.own, &mut self.kids, &id, from, to, nodes) {
+            return Err(error);
+        }
+        recount(&mut self.own, self.kids.as_slice(), gone, come);
+        Ok(())
+    }
+
+    /// Replaces the children `from..to` of the node that `path` leads to, or changes nothing.
+    fn replace_below(
+        &mut self,
+        path: &[usize],
+        from: usize,
+        to: usize,
+        nodes: Vec<SyntaxNode>,
+    ) -> Result<(), SourceError>
+        requires reaches { Reaches path.now from to self.old }
+        ensures ok { OnOk result (replaced_at path.now from to nodes.items self.old ≡ Some self.new) }
+        ensures err { OnErr result (self.new ≡ self.old) }
+        ensures refused { IfErr result (λ e. e ≡ SourceError.SpanNumbers → replaced_at path.now from to nodes.items self.old ≡ None) }
+    {
+        let Some((first, rest)) = path.split_first() else {
+            return self.replace(from, to, nodes);
+        };
+        let at = *first;
+        let kid = &mut self.kids[at];
+        let gone = kid.counts();
+        if let Err(error) = kid.replace_below(rest, from, to, nodes) {
+            return Err(error);
+        }
+        let come = kid.counts();
+        recount(&mut self.own, self.kids.as_slice(), gone, come);
+        Ok(())
+    }
+
+    /// Whether `path` leads to an inner node that has children `from..to`.
+    pub fn reaches(&self, path: &[usize], from: usize, to: usize) -> bool
+        ensures { IsTrue result ↔ Reaches path.now from to self.now }
+    {
+        let Some((first, rest)) = path.split_first() else {
+            return self.has_children(from, to);
+        };
+        match self.kids.get(*first) {
+            None => false,
+            Some(kid) => kid.reaches(rest, from, to),
+        }
+    }
+
+    fn has_children(&self, from: usize, to: usize) -> bool
+        ensures { IsTrue result ↔ Reaches [] from to self.now }
+    {
+        if !self.is_inner() || to < from {
+            return false;
+        }
+        to <= self.kids.len()
+    }
+
+    /// Replaces the children in `range` of the inner node that `path` leads to, child by child,
+    /// or changes nothing. An empty path leads to the node itself.
+    ///
+    /// Nodes that are the same, spans aside, at the front or at the end of old and new children
+    /// stay as they are. The others get numbers between those of their neighbours, and where
+    /// there are too few, 1, 2, 4, .. children on each side are numbered anew with them.
+    pub fn replace_at(
+        &mut self,
+        path: &[usize],
+        range: Range<usize>,
+        nodes: Vec<SyntaxNode>,
+    ) -> Result<(), SourceError>
+        requires reaches { Reaches path.now range.start range.end self.old }
+        ensures ok { OnOk result (replaced_at path.now range.start range.end nodes.items self.old ≡ Some self.new) }
+        ensures ordered { OnOk result (IsNumbered self.old → IsNumbered self.new × AreInOrder (numbers_of self.new)) }
+        ensures err { OnErr result (self.new ≡ self.old) }
+        ensures refused { IfErr result (λ e. e ≡ SourceError.SpanNumbers → replaced_at path.now range.start range.end nodes.items self.old ≡ None) }
+    {
+        self.replace_below(path, range.start, range.end, nodes)?;
+        self.leaves_are_bare();
+        Ok(())
+    }
+}
