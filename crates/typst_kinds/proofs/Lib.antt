@@ -4,11 +4,11 @@
 --   set::named_sets                           NamedSets: has_stmt and its like, a law for each named set
 -- Membership rests on Bits: what setting and clearing one bit of a row of words does.
 -- All other clauses need no lemma.
--- Where the clauses are proved. A function that isn't named here needs no lemma.
---   Own::push_hint    LastElement: at_last-set
--- From what a contract promises to the lemma behind it: nothing yet.
 mod Bits
 pub mod Membership
 pub mod NamedSets
 pub mod Sameness
+-- Where the clauses are proved. A function that isn't named here needs no lemma.
+--   Own::push_hint    LastElement: at_last-set
 pub mod LastElement
+-- From what a contract promises to the lemma behind it: nothing yet.

@@ -6,9 +6,6 @@
 --   the leaves law               Leaves: kept-run
 --   no more than there is        Within: within-run; Backs: backs-run; Rests: what the reading is behind a parser
 --   all of them at once          Knot: lawful-parser, sound-level
--- From what a contract promises to the lemma behind it:
---   the last node, by its place     Ends
---   parens that go                  Parens
 pub mod Places
 pub mod HintedNodes
 pub mod Looks
@@ -25,6 +22,9 @@ pub mod Blind
 pub mod Frame
 pub mod Leaves
 pub mod Knot
+-- From what a contract promises to the lemma behind it:
+--   the last node, by its place     LastNodes
+--   parens that go                  Parens
 pub mod LastNodes
 pub mod Parens
 -- What the crates above name of those below.
