@@ -268,6 +268,7 @@ impl<'a> LinkedNode<'a> {
         ensures from { result.spot.number ≤ self.entry.number }
         ensures to { self.entry.number < result.spot.number + nodes result.spot.node.now }
     {
+        // An offset that stands for all that are too large says nothing of the tree's.
         if let Reach::Placed = self.known.reach()
             && self.offset < usize::MAX
         {
