@@ -11,4 +11,5 @@ pub mod Sameness
 -- Where the clauses are proved. A function that isn't named here needs no lemma.
 --   Own::push_hint    LastElement: at_last-set
 pub mod LastElement
+
 -- From what a contract promises to the lemma behind it: nothing yet.
