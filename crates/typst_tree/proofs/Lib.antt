@@ -42,7 +42,7 @@ pub mod Texts
 --   leaf_at                              PassesOver: byte_first, byte_next, byte_below, byte_none
 --   prev_leaf                            LastLeaf: last_here, last_next, last_within; Rows: step_back; Branches: until_found, until_not_found, until_top
 --   find: a node finds itself            FindsOwnSpan: finds_own; SingleNodes: same_span
---   find, find_number from `ordered`     RisingNumbers: none_past, none_in_first, found_only
+--   find, find_number from `ordered`     RisingNumbers: none_past, found_only
 --   is_ordered                           RisingNumbers: climb_on, climb_fails, decided
 -- For crates above: Inside; LastLeaf: last_append, last_none; PassesOver: no_child_before, no_child_after; RisingNumbers: rising_from; SingleNodes; WalksInPreorder.
 pub mod Branches

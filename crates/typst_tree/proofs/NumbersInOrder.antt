@@ -1,6 +1,6 @@
 -- Numbers that stand in order.
-use Rattle.std.proofs.Common.{◌≡◌, ℕ, ◌+◌, ◌-◌, ◌*◌, ◌/◌, ◌<◌, ◌≤◌, ◌==◌, Bool, true, false, List, [], ◌∷◌, ◌++◌, Some, None, refl, ap, subst, arith, rules, if◌then◌else◌}
-use Rattle.std.specs.Prelude.{nat_le, All}
+use Rattle.std.proofs.Common.{◌≡◌, ℕ, ◌+◌, ◌*◌, ◌/◌, ◌<◌, ◌≤◌, ◌==◌, Bool, true, false, List, [], ◌∷◌, ◌++◌, refl, ap, arith, rules, if◌then◌else◌}
+use Rattle.std.specs.Prelude.{All}
 use Rattle.std.proofs.Math.Nat.{mul-le-mul_left}
 use Rattle.std.proofs.lemmas.Bool.Decides.{nat_tests}
 use Rattle.std.proofs.lemmas.List.Elements.{All-cons}
@@ -8,7 +8,7 @@ use Rattle.std.proofs.lemmas.List.Kept.{AllPairs-cons}
 use Rattle.typst_kinds.specs.Span.{number_of}
 use Rattle.typst_kinds.specs.Head.{Head}
 use Rattle.typst_tree.specs.Tree.{Forest, none, more, Tree, count, nodes}
-use Rattle.typst_tree.specs.Numbers.{stride, placed, numbered_forest, numbered, numberized}
+use Rattle.typst_tree.specs.Numbers.{stride, placed, numbered_forest, numbered}
 use Rattle.typst_tree.specs.Order.{IsWholeForest, IsWhole, numbers, numbers_of, AreInOrder, upper_at, IsOrdered, IsNumbered}
 
 -- a stride gives each node a number

@@ -1,11 +1,10 @@
 -- Where a walk finds nothing for sure.
-use Rattle.std.proofs.Common.{◌≡◌, ℕ, ◌+◌, ◌<◌, ◌≤◌, ◌==◌, Bool, true, false, ◌&&◌, List, [], ◌∷◌, ◌++◌, length, ◌^◌, None, Some, refl, inl, inr, eq-eqb, ap, sym, ◌∙◌, arith, length-append}
+use Rattle.std.proofs.Common.{◌≡◌, ℕ, ◌+◌, ◌<◌, ◌≤◌, ◌==◌, Bool, true, false, ◌&&◌, List, [], ◌∷◌, ◌++◌, length, ◌^◌, None, Some, refl, ap, sym, ◌∙◌, arith, length-append}
 use Rattle.std.specs.Prelude.{nat_le, nat_lt, if◌then◌else◌}
 use Rattle.std.specs.List.{list_any}
-use Rattle.std.proofs.lemmas.Bool.{cases_eq}
 use Rattle.std.proofs.lemmas.Bool.Decides.{nat_tests}
 use Rattle.typst_tree.specs.Tree.{Forest, none, more, Tree, forest, count, nodes, joined, text_of, preorder, places, saturated}
-use Rattle.typst_tree.specs.Walks.{numbers, texts, first_at, if_none, has_place, has_child, is_leaf_from, holds_byte, is_childless}
+use Rattle.typst_tree.specs.Walks.{numbers, texts, first_at, if_none, has_child, is_leaf_from, holds_byte, is_childless}
 use Rattle.typst_tree.proofs.LastLeaf.{if_none_nothing}
 use Rattle.typst_tree.proofs.WalksInPreorder.{length_preorder, length_places, texts_preorder, first_append, first_of_more, first_same, found_next, none_between, usize_saturated}
 
@@ -112,9 +111,3 @@ byte_none b n a t [] e h nothing =
 byte_none b n a t (x ∷ xs) e h nothing =
     let fails : is_childless t.kids ≡ false = ap is_childless (sym e) in
     byte_below b n a t (x ∷ xs) e (omega arith) ∙ (nothing ∙ rw fails refl)
-
--- the node with a number is found
-pub place_found : (k n a : ℕ) (xs : List Tree) → n ≤ k → k < n + length xs → first_at (has_place k) n a xs ≡ Some k
-place_found k n a [] l h = absurd (omega (arith, l, h))
-place_found k n a (x ∷ xs) l h =
-    elim (cases_eq n k) [ inl same ↦ (let holds : (n == k) ≡ true = eq-eqb n k same in rw holds (ap (λ m. Some m) same)) | inr other ↦ (let fails : (n == k) ≡ false = grind (arith, nat_tests, other) in rw fails (place_found k (n + 1) (a + length x.head.text) xs (omega (arith, l, other)) (omega (arith, h)))) ]

@@ -1,12 +1,7 @@
 -- The text of a tree whose kind, message or hints changed is the text that it was.
-use Rattle.std.proofs.Common.{◌≡◌, ℕ, List, [], ◌∷◌, None, refl, append-nil}
-use Rattle.std.proofs.lemmas.Bool.{cond_both}
-use Rattle.typst_kinds.specs.Kinds.{is_error}
-use Rattle.typst_kinds.specs.Names.{name_of}
-use Rattle.typst_kinds.specs.declared.kind.SyntaxKind.{SyntaxKind}
+use Rattle.std.proofs.Common.{◌≡◌, ℕ, List, [], ◌∷◌, None, refl}
 use Rattle.typst_kinds.specs.Diagnostic.{hint_with}
-use Rattle.typst_tree.specs.Messages.{expected_message, keyword_hint, is_lost_name, expected_error, made_expected}
-use Rattle.typst_tree.specs.Tree.{Tree, text_of, topped, with_kind, error_of, made_error, advised, all_advised}
+use Rattle.typst_tree.specs.Tree.{Tree, text_of, advised, all_advised}
 
 pub text_all_advised : (messages : List (List ℕ)) (t : Tree) → text_of (all_advised messages t) ≡ text_of t
 text_all_advised [] t = refl

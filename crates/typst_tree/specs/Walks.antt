@@ -36,10 +36,6 @@ abbrev pub last_leaf : ℕ → ℕ → List Tree → Option ℕ
 last_leaf b n [] = None
 last_leaf b n (t ∷ ts) = if_none (last_leaf b (n + 1) ts) (if nat_lt n b && is_leaf t then Some n else None)
 
--- the node with the number k
-abbrev pub has_place : ℕ → ℕ → ℕ → Tree → Bool
-has_place k n a t = n == k
-
 -- the node with a child of the number k
 abbrev pub has_child : ℕ → ℕ → ℕ → Tree → Bool
 has_child k n a t = list_any (λ m. m == k) (numbers (n + 1) t.kids)
