@@ -22,11 +22,11 @@ use Rattle.typst_language.proofs.Ends.{hand-again}
 use Rattle.typst_language.proofs.Places.{moved-sum}
 use Rattle.typst_grammar.specs.Markup.{ends, note_piece, markup_turn, markup_reading}
 use Rattle.typst_grammar.specs.Grammar.{rules, max_depth, start_of, whole, parsed, log}
-use Rattle.typst_edits.specs.Bytes.{lowest}
+use Rattle.typst_edits.specs.Bytes.{highest, lowest}
 use Rattle.typst_edits.specs.Edit.{AllEndBy}
 use Rattle.typst_edits.specs.Runs.{made, AllGo, End, end_of, asks_of, chain}
 use Rattle.typst_edits.specs.Sequence.{Sequence, turn_of, first_of, first_end}
-use Rattle.typst_edits.proofs.Bytes.{logged-append, noted-by, noted-more, AllReach, reach-by, reach-to, end-by, end-to, AllFrom, least-by, newly}
+use Rattle.typst_edits.proofs.Bytes.{logged-append, noted-more, AllReach, reached-by, end-by, end-to, AllFrom, least-by, newly}
 use Rattle.typst_edits.proofs.Marks.{AllMarks, marks-append, marks-shift, marks-sunk, none-hand}
 use Rattle.typst_edits.proofs.Outcomes.{shift-zero, shift-twice}
 use Rattle.typst_edits.proofs.Spots.{if-true, if-false}
@@ -330,6 +330,8 @@ module _ (lv : ℕ) (z : Place) (ls ks : List Ask) (at gap fewer : ℕ) (m : Mar
     earlier : List Note
     later : List Note
     notes : log_all.notes ≡ Some (earlier ++ the_note ∷ later)
+    reached : (b : ℕ) → highest earlier the_note.reach ≤ b → AllReach b z ls
+    reached_too : (b : ℕ) → AllReach b z ls → highest earlier the_note.reach ≤ b
     all : (b : ℕ) → b < lowest later log_all.least → AllFrom b z ks
     back : (b : ℕ) → b < 2 ^ 64 - 1 → AllFrom b z ks → b < lowest later log_all.least
 
@@ -337,7 +339,7 @@ module _ (lv : ℕ) (z : Place) (ls ks : List Ask) (at gap fewer : ℕ) (m : Mar
   one-note : OneNote
   one-note =
       let h = with_note gap (lv - fewer) m s (moved at z) log_before in
-      let one = noted-by lv z ls no_log [] refl in
+      let one = reached-by lv z ls no_log [] refl in
       let ns = one.more ++ the_note ∷ [] in
       let is : log_all ≡ logged lv z h ks = logged-append lv z no_log ls (marked at gap fewer m s ∷ ks) in
       let kept : h.notes ≡ Some ns = noted-more the_note log_before.notes one.more one.is in
@@ -346,6 +348,8 @@ module _ (lv : ℕ) (z : Place) (ls ks : List Ask) (at gap fewer : ℕ) (m : Mar
         earlier = one.more;
         later = two.more;
         notes = ap (λ (u : Log). u.notes) is ∙ two.is ∙ ap Some (append_assoc one.more (the_note ∷ []) two.more);
+        reached = one.all;
+        reached_too = λ b f. one.back b (omega arith) f;
         all = λ b l. two.all b (subst (λ (u : Log). b < lowest two.more u.least) is l);
         back = λ b big f. subst (λ (u : Log). b < lowest two.more u.least) (sym is) (two.back b big (newly b log_before.notes one.more log_before.least one.is big) f);
       }
@@ -421,15 +425,15 @@ module _ (k : CharClasses) (text : List ℕ) where
     pub start : note.start ≡ width (take (at + gap) text)
     pub levels : note.levels ≡ max_depth - fewer
     pub state : note.state ≡ s
-    pub reached : (front more : List ℕ) → text ≡ front ++ more → note.reach ≤ width front → AllEndBy (length front) early
-    pub reached_too : (front more : List ℕ) → text ≡ front ++ more → AllEndBy (length front) early → note.reach ≤ width front
+    pub reached : (front more : List ℕ) → text ≡ front ++ more → highest earlier note.reach ≤ width front → AllEndBy (length front) early
+    pub reached_too : (front more : List ℕ) → text ≡ front ++ more → AllEndBy (length front) early → highest earlier note.reach ≤ width front
     pub begun : (b : ℕ) → b < lowest later (log k text).least → AllFrom b (start_of text) behind
     pub begun_too : (b : ℕ) → b < 2 ^ 64 - 1 → AllFrom b (start_of text) behind → b < lowest later (log k text).least
     pub placed : AllAt (length text) behind
 
-  early-ends : (front more : List ℕ) (early : List Ask) (t : List ℕ) → t ≡ front ++ more → AllAt (length t) early → (logged max_depth (start_of t) no_log early).reach ≤ width front → AllEndBy (length front) early
+  early-ends : (front more : List ℕ) (early : List Ask) (t : List ℕ) → t ≡ front ++ more → AllAt (length t) early → AllReach (width front) (start_of t) early → AllEndBy (length front) early
   early-ends front more early t same a h =
-      end-by front more early (subst (λ u. AllAt (length u) early) same a) (reach-by max_depth (width front) (start_of (front ++ more)) early no_log (subst (λ u. (logged max_depth (start_of u) no_log early).reach ≤ width front) same h)).all
+      end-by front more early (subst (λ u. AllAt (length u) early) same a) (subst (λ u. AllReach (width front) (start_of u) early) same h)
 
   pub told-at : (early behind : List Ask) (at gap fewer : ℕ) (m : Mark) (s : State) → (parsed k max_depth text).asks ≡ early ++ marked at gap fewer m s ∷ behind → Told early behind at gap fewer m s
   unfolding log position
@@ -450,8 +454,8 @@ module _ (k : CharClasses) (text : List ℕ) where
         start = ap position (sym (moved-sum at gap z)) ∙ width-moved (at + gap) text;
         levels = refl;
         state = refl;
-        reached = λ front more same h. early-ends front more early text same (at-first (length text) early _ all) h;
-        reached_too = λ front more same h. reach-to max_depth (width front) z early no_log (omega arith) (subst (λ u. AllReach (width front) (start_of u) early) (sym same) (end-to front more early h));
+        reached = λ front more same h. early-ends front more early text same (at-first (length text) early _ all) (b.reached (width front) h);
+        reached_too = λ front more same h. b.reached_too (width front) (subst (λ u. AllReach (width front) (start_of u) early) (sym same) (end-to front more early h));
         begun = λ n l. b.all n (subst (λ (h : Log). n < lowest b.later h.least) log_is l);
         begun_too = λ n big f. subst (λ (h : Log). n < lowest b.later h.least) (sym log_is) (b.back n big f);
         placed = at-second (length text) early _ all;

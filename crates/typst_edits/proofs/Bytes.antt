@@ -1,20 +1,20 @@
 -- The test of an edit in bytes, by the notes of a reading.
-use Rattle.std.proofs.Common.{◌≡◌, ℕ, ◌+◌, ◌-◌, ◌<◌, ◌≤◌, ◌^◌, max, min, List, [], ◌∷◌, ◌++◌, length, length-append, append_assoc, append-nil, Option, Some, refl, ap, sym, ◌∙◌, subst, arith}
+use Rattle.std.proofs.Common.{◌≡◌, ℕ, ◌+◌, ◌-◌, ◌<◌, ◌≤◌, ◌^◌, max, min, List, [], ◌∷◌, ◌++◌, length, length-append, append_assoc, append-nil, Option, Some, None, refl, ap, sym, ◌∙◌, subst, arith}
 use Rattle.typst_lines.specs.Place.{Place, moved}
 use Rattle.typst_lines.specs.Classes.{CharClasses}
-use Rattle.typst_tokens.specs.Sight.{width, position, near, hull_of}
+use Rattle.typst_tokens.specs.Sight.{width, position, near, hull_of, far}
 use Rattle.typst_language.specs.declared.calls.Mark.{Mark}
 use Rattle.typst_language.specs.declared.calls.Mark.TheVariants as mark
 use Rattle.typst_language.specs.declared.calls.Note.{Note}
 use Rattle.typst_language.specs.declared.reading.State.{State}
 use Rattle.typst_language.specs.Ask.{Ask, shift}
 use Rattle.typst_language.specs.Ask.Ask.{looked, marked}
-use Rattle.typst_language.specs.Log.{Log, no_log, least_behind, with_more, with_hull, with_note, logged_one, logged}
+use Rattle.typst_language.specs.Log.{Log, no_log, least_behind, reach_behind, with_more, with_hull, with_note, logged_one, logged}
 use Rattle.typst_language.specs.Meaning.{start_point}
 use Rattle.typst_language.specs.Point.{state_of}
 use Rattle.typst_grammar.specs.Markup.{markup_reading}
 use Rattle.typst_grammar.specs.Grammar.{rules, max_depth, start_of, whole, parsed, log}
-use Rattle.typst_edits.specs.Bytes.{lowest, Decided, DecisionLaw}
+use Rattle.typst_edits.specs.Bytes.{highest, lowest, Decided, DecisionLaw}
 use Rattle.typst_edits.specs.Edit.{text_with, AllEndBy, AllBeginIn}
 use Rattle.typst_edits.specs.Laws.{blocks_of_text, block_at}
 pub use Rattle.typst_edits.specs.Looks.{AllReach, AllFrom}
@@ -57,19 +57,59 @@ pub record Reach (b : ℕ) (z : Place) (h : Log) (asks : List Ask) : Type 0 wher
   pub before : h.reach ≤ b
   pub all : AllReach b z asks
 
-pub reach-by : (lv b : ℕ) (z : Place) (asks : List Ask) (h : Log) → (logged lv z h asks).reach ≤ b → Reach b z h asks
-reach-by lv b z [] h e = record { before = e; all = tt }
-reach-by lv b z (looked at look ∷ asks) h e =
-    let i = reach-by lv b z asks (with_hull (hull_of look (moved at z)) h) e in
+-- where no notes are kept
+pub reach-by : (lv b : ℕ) (z : Place) (asks : List Ask) (h : Log) → h.notes ≡ None → (logged lv z h asks).reach ≤ b → Reach b z h asks
+reach-by lv b z [] h none e = record { before = e; all = tt }
+reach-by lv b z (looked at look ∷ asks) h none e =
+    let i = reach-by lv b z asks (with_hull (hull_of look (moved at z)) h) none e in
     record { before = omega (arith, i.before); all = (omega (arith, i.before), i.all) }
-reach-by lv b z (marked at gap fewer m s ∷ asks) h e =
-    let i = reach-by lv b z asks (with_note gap (lv - fewer) m s (moved at z) h) e in
-    record { before = i.before; all = i.all }
+reach-by lv b z (marked at gap fewer m s ∷ asks) h none e =
+    let note : Note = record { mark = m; before = position (moved at z); start = position (moved gap (moved at z)); levels = lv - fewer; state = s; reach = h.reach; least = h.least } in
+    let i = reach-by lv b z asks (with_note gap (lv - fewer) m s (moved at z) h) (ap (with_more note) none) e in
+    record { before = subst (λ o. reach_behind o h.reach ≤ b) none i.before; all = i.all }
 
-pub reach-to : (lv b : ℕ) (z : Place) (asks : List Ask) (h : Log) → h.reach ≤ b → AllReach b z asks → (logged lv z h asks).reach ≤ b
-reach-to lv b z [] h e a = e
-reach-to lv b z (looked at look ∷ asks) h e a = let d = a.0 in reach-to lv b z asks (with_hull (hull_of look (moved at z)) h) (omega (arith, e, d)) a.1
-reach-to lv b z (marked at gap fewer m s ∷ asks) h e a = reach-to lv b z asks (with_note gap (lv - fewer) m s (moved at z) h) e a
+-- with the notes since, where notes are kept
+pub record Reached (lv : ℕ) (z : Place) (h : Log) (ns : List Note) (asks : List Ask) : Type 0 where
+  pub more : List Note
+  pub is : (logged lv z h asks).notes ≡ Some (ns ++ more)
+  pub before : (b : ℕ) → highest more (logged lv z h asks).reach ≤ b → h.reach ≤ b
+  pub all : (b : ℕ) → highest more (logged lv z h asks).reach ≤ b → AllReach b z asks
+  pub back : (b : ℕ) → h.reach ≤ b → AllReach b z asks → highest more (logged lv z h asks).reach ≤ b
+
+both-by : (b m n : ℕ) → max m n ≤ b → (m ≤ b) × (n ≤ b)
+both-by b m n h = (omega (arith, h), omega (arith, h))
+
+both-to : (b m n : ℕ) → m ≤ b → n ≤ b → max m n ≤ b
+both-to b m n h k = omega (arith, h, k)
+
+-- behind a note nothing was looked at yet
+none-yet : (b : ℕ) (notes : Option (List Note)) (ns : List Note) (reach : ℕ) → notes ≡ Some ns → reach_behind notes reach ≤ b
+none-yet b notes ns reach e = subst (λ o. reach_behind o reach ≤ b) (sym e) (omega arith)
+
+pub reached-by : (lv : ℕ) (z : Place) (asks : List Ask) (h : Log) (ns : List Note) → h.notes ≡ Some ns → Reached lv z h ns asks
+reached-by lv z [] h ns e = record { more = []; is = e ∙ ap Some (sym (append-nil ns)); before = λ b l. l; all = λ b l. tt; back = λ b l f. l }
+reached-by lv z (looked at look ∷ asks) h ns e =
+    let i = reached-by lv z asks (with_hull (hull_of look (moved at z)) h) ns e in
+    let end = far look.front (moved at z) in
+    record {
+      more = i.more;
+      is = i.is;
+      before = λ b l. (both-by b h.reach end (i.before b l)).0;
+      all = λ b l. ((both-by b h.reach end (i.before b l)).1, i.all b l);
+      back = λ b l f. i.back b (both-to b h.reach end l f.0) f.1;
+    }
+reached-by lv z (marked at gap fewer m s ∷ asks) h ns e =
+    let k = with_note gap (lv - fewer) m s (moved at z) h in
+    let note : Note = record { mark = m; before = position (moved at z); start = position (moved gap (moved at z)); levels = lv - fewer; state = s; reach = h.reach; least = h.least } in
+    let i = reached-by lv z asks k (ns ++ note ∷ []) (noted-more note h.notes ns e) in
+    let last = (logged lv z k asks).reach in
+    record {
+      more = note ∷ i.more;
+      is = i.is ∙ ap Some (append_assoc ns (note ∷ []) i.more);
+      before = λ b l. (both-by b h.reach (highest i.more last) l).0;
+      all = λ b l. i.all b (both-by b h.reach (highest i.more last) l).1;
+      back = λ b l f. both-to b h.reach (highest i.more last) l (i.back b (none-yet b h.notes ns h.reach e) f);
+    }
 
 pub end-to : (front more : List ℕ) (asks : List Ask) → AllEndBy (length front) asks → AllReach (width front) (start_of (front ++ more)) asks
 end-to front more [] a = tt
@@ -195,12 +235,14 @@ module _ (lv : ℕ) (z : Place) (first second third : List Ask) (at fewer end ga
     inner : List Note
     later : List Note
     notes : log_three.notes ≡ Some (earlier ++ note_one ∷ (inner ++ note_two ∷ later))
+    reached : (n : ℕ) → highest earlier note_one.reach ≤ n → AllReach n z first
+    reached_too : (n : ℕ) → AllReach n z first → highest earlier note_one.reach ≤ n
     all : b < lowest later log_three.least → AllFrom b z third
     back : b < 2 ^ 64 - 1 → AllFrom b z third → b < lowest later log_three.least
 
   between : (b : ℕ) → Between b
   between b =
-      let one = noted-by lv z first no_log [] refl in
+      let one = reached-by lv z first no_log [] refl in
       let two = noted-by lv z second (with_note 0 (lv - fewer) m s (moved at z) log_one) (one.more ++ note_one ∷ []) (noted-more note_one log_one.notes one.more one.is) in
       let three = least-by lv z third (with_note gap (lv - less) n t (moved end z) log_two) (((one.more ++ note_one ∷ []) ++ two.more) ++ note_two ∷ []) (noted-more note_two log_two.notes ((one.more ++ note_one ∷ []) ++ two.more) two.is) in
       record {
@@ -208,6 +250,8 @@ module _ (lv : ℕ) (z : Place) (first second third : List Ask) (at fewer end ga
         inner = two.more;
         later = three.more;
         notes = three.is ∙ ap Some (append_assoc ((one.more ++ note_one ∷ []) ++ two.more) (note_two ∷ []) three.more ∙ append_assoc (one.more ++ note_one ∷ []) two.more (note_two ∷ three.more) ∙ append_assoc one.more (note_one ∷ []) (two.more ++ note_two ∷ three.more));
+        reached = one.all;
+        reached_too = λ n f. one.back n (omega arith) f;
         all = three.all b;
         back = λ big f. three.back b big (newly b log_two.notes _ log_two.least two.is big) f;
       }
@@ -251,8 +295,8 @@ decided k front old rest c past o n a e =
       state = refl;
       name_end = refl;
       before = λ h. subst (λ ls. AllEndBy (length front) ls) (sym n.opened) (end-mark (length front) n.earlier c.at 0 c.fewer start_mark c.start
-          (end-by front (old ++ rest) n.earlier within_before (reach-by max_depth (width front) z n.earlier no_log h).all));
-      before_too = λ h. reach-to max_depth (width front) z n.earlier no_log (omega arith)
+          (end-by front (old ++ rest) n.earlier within_before (b.reached (width front) h)));
+      before_too = λ h. b.reached_too (width front)
           (end-to front (old ++ rest) n.earlier (mark-end (length front) n.earlier c.at 0 c.fewer start_mark c.start (subst (λ ls. AllEndBy (length front) ls) n.opened h)));
       after_too = λ big h. subst (λ (l : Log). width (front ++ old) < lowest b.later l.least) (sym split.is)
           (b.back big (begin-to front old rest end past n.later there (subst (λ ls. AllBeginIn past rest ls) n.closed h)));

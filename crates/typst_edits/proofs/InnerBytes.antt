@@ -14,7 +14,7 @@ use Rattle.typst_language.proofs.Places.{moved-sum}
 use Rattle.typst_grammar.specs.Markup.{ends_block, markup_turn, markup_reading}
 use Rattle.typst_grammar.specs.Grammar.{rules, max_depth, start_of, whole, parsed, log}
 use Rattle.typst_edits.specs.BlockRuns.{look_first, look_again, bracket, inner_lead, inner_run, inner_tail, inner_close, run_at, opened_at, tail_at, close_at, left_at}
-use Rattle.typst_edits.specs.Bytes.{lowest}
+use Rattle.typst_edits.specs.Bytes.{highest, lowest}
 use Rattle.typst_edits.specs.Edit.{text_with, AllEndBy}
 use Rattle.typst_edits.specs.InnerBytes.{inner_both, InnerDecisionLaw}
 use Rattle.typst_edits.specs.InnerJoint.{onwards_past, left_past}
@@ -216,8 +216,8 @@ module _ (k : CharClasses) (levels : ℕ) (text : List ℕ) (c : Spot (Unit {0})
   record NoteIn (j : ℕ) : Type 0 where
     told : PieceNote (log k text) (suc levels) text (ended_at j)
     start : 0 < j → told.note.start ≡ width (take ((ended_at j).taken + gap_of (ended_at j).state.known) text)
-    reached : (front more : List ℕ) → text ≡ front ++ more → told.note.reach ≤ width front → Early (length front) j
-    reached_too : (front more : List ℕ) → text ≡ front ++ more → Early (length front) j → told.note.reach ≤ width front
+    reached : (front more : List ℕ) → text ≡ front ++ more → highest told.earlier told.note.reach ≤ width front → Early (length front) j
+    reached_too : (front more : List ℕ) → text ≡ front ++ more → Early (length front) j → highest told.earlier told.note.reach ≤ width front
     begun : (b : ℕ) → b < lowest told.later (log k text).least → AllFrom b z0 (shift (ended_at j).taken (asks_behind j)) × AllFrom b z0 (shift end c.after)
     begun_too : (b : ℕ) → 0 < j → b < 2 ^ 64 - 1 → AllFrom b z0 (shift (ended_at j).taken (asks_behind j)) → AllFrom b z0 (shift end c.after) → b < lowest told.later (log k text).least
     placed : AllAt (length text) (shift (ended_at j).taken (asks_behind j))

@@ -10,7 +10,7 @@ use Rattle.typst_language.specs.Meaning.{Outcome, repeated, run}
 use Rattle.typst_language.specs.Point.{gap_of, state_of}
 use Rattle.typst_language.proofs.Places.{moved-sum}
 use Rattle.typst_grammar.specs.Grammar.{max_depth, start_of, parsed, log}
-use Rattle.typst_edits.specs.Bytes.{lowest}
+use Rattle.typst_edits.specs.Bytes.{highest, lowest}
 use Rattle.typst_edits.specs.Edit.{text_with, AllEndBy}
 use Rattle.typst_edits.specs.Joint.{text_run, onwards_from}
 use Rattle.typst_edits.specs.RunBytes.{PieceNote, RunDecisionLaw}
@@ -69,8 +69,8 @@ module _ (k : CharClasses) (text : List ℕ) where
   pub record NoteAt (j : ℕ) : Type 0 where
     pub told : PieceNote (log k text) max_depth text (end_at k j z0)
     pub start : 0 < j → told.note.start ≡ width (take ((end_at k j z0).taken + gap_of (end_at k j z0).state.known) text)
-    pub reached : (front more : List ℕ) → text ≡ front ++ more → 0 < j → told.note.reach ≤ width front → AllEndBy (length front) ((lead k z0).asks ++ asks_of (pieces k j z0))
-    pub reached_too : (front more : List ℕ) → text ≡ front ++ more → (0 < j → AllEndBy (length front) ((lead k z0).asks ++ asks_of (pieces k j z0))) → told.note.reach ≤ width front
+    pub reached : (front more : List ℕ) → text ≡ front ++ more → 0 < j → highest told.earlier told.note.reach ≤ width front → AllEndBy (length front) ((lead k z0).asks ++ asks_of (pieces k j z0))
+    pub reached_too : (front more : List ℕ) → text ≡ front ++ more → (0 < j → AllEndBy (length front) ((lead k z0).asks ++ asks_of (pieces k j z0))) → highest told.earlier told.note.reach ≤ width front
     pub begun : (b : ℕ) → b < lowest told.later (log k text).least → AllFrom b z0 (shift (end_at k j z0).taken (asks_behind j))
     pub begun_too : (b : ℕ) → 0 < j → b < 2 ^ 64 - 1 → AllFrom b z0 (shift (end_at k j z0).taken (asks_behind j)) → b < lowest told.later (log k text).least
     pub placed : AllAt (length text) (shift (end_at k j z0).taken (asks_behind j))

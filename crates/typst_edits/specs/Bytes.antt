@@ -1,5 +1,5 @@
 -- The test of an edit in bytes, by the notes of a reading.
-use Rattle.std.specs.Prelude.{◌≡◌, ℕ, ◌+◌, ◌-◌, ◌<◌, ◌≤◌, ◌^◌, min, List, [], ◌∷◌, ◌++◌, length, take, Some}
+use Rattle.std.specs.Prelude.{◌≡◌, ℕ, ◌+◌, ◌-◌, ◌<◌, ◌≤◌, ◌^◌, max, min, List, [], ◌∷◌, ◌++◌, length, take, Some}
 use Rattle.typst_lines.specs.Classes.{CharClasses}
 use Rattle.typst_tokens.specs.Sight.{width}
 use Rattle.typst_language.specs.declared.calls.Mark.TheVariants as mark
@@ -10,13 +10,18 @@ use Rattle.typst_edits.specs.Edit.{Among, text_with, AllEndBy, AllBeginIn}
 use Rattle.typst_edits.specs.Laws.{blocks_of_text}
 use Rattle.typst_edits.specs.Spot.{Spot, unit_at}
 
--- where the looks of some notes, and those since the last of them, begin
+-- where the looks before some notes, and those since the last of them, end
+abbrev pub highest : List Note → ℕ → ℕ
+highest [] last = last
+highest (n ∷ ns) last = max n.reach (highest ns last)
+
+-- and where they begin
 abbrev pub lowest : List Note → ℕ → ℕ
 lowest [] last = last
 lowest (n ∷ ns) last = min n.least (lowest ns last)
 
--- The two notes of a block that covers a stretch of a text, and what their numbers decide: where the stretch begins in bytes
--- with `reach`, and where it ends with `least`.
+-- The two notes of a block that covers a stretch of a text, and what the numbers of all notes decide: where the stretch begins in
+-- bytes with `reach` of those up to the first, and where it ends with `least` of those behind the second.
 pub record Decided {A : Type 0} (h : Log) (front old rest : List ℕ) (c : Spot A) (past : ℕ) : Type 0 where
   pub earlier : List Note
   pub opens : Note
@@ -32,10 +37,10 @@ pub record Decided {A : Type 0} (h : Log) (front old rest : List ℕ) (c : Spot 
   -- the second says that it ends
   pub name_end : closes.mark ≡ mark.Closes
   -- the two tests of looks
-  pub before : opens.reach ≤ width front → AllEndBy (length front) c.before
+  pub before : highest earlier opens.reach ≤ width front → AllEndBy (length front) c.before
   pub after : width (front ++ old) < lowest later h.least → AllBeginIn past rest c.after
   -- and the other way round, in a text that a machine word counts
-  pub before_too : AllEndBy (length front) c.before → opens.reach ≤ width front
+  pub before_too : AllEndBy (length front) c.before → highest earlier opens.reach ≤ width front
   pub after_too : width (front ++ old) < 2 ^ 64 - 1 → AllBeginIn past rest c.after → width (front ++ old) < lowest later h.least
 
 -- The law of the decision: each block of a text has two notes, whose numbers say exactly whether what was looked at before it and behind it passes the test.

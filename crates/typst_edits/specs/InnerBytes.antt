@@ -7,7 +7,7 @@ use Rattle.typst_language.specs.declared.calls.Block.TheVariants as block
 use Rattle.typst_language.specs.Point.{Trivia, gap_of}
 use Rattle.typst_grammar.specs.Grammar.{max_depth, log}
 use Rattle.typst_edits.specs.BlockRuns.{run_at, opened_at, EndsBefore, BeginsBehind}
-use Rattle.typst_edits.specs.Bytes.{lowest}
+use Rattle.typst_edits.specs.Bytes.{highest, lowest}
 use Rattle.typst_edits.specs.Edit.{Among, text_with}
 use Rattle.typst_edits.specs.InnerJoint.{BeginsPast}
 use Rattle.typst_edits.specs.Laws.{blocks_of_text}
@@ -31,8 +31,8 @@ pub record DecidedInner (k : CharClasses) (levels : ℕ) (front old rest : List 
   -- the second says where the trivia behind the pieces end
   pub trivia_end : (let e = inner_both k levels i n c (text_with front old rest) in 0 < i + n → ends.note.start ≡ width (take (e.taken + gap_of e.state.known) (front ++ (old ++ rest))))
   -- the test of looks before the pieces, in both directions
-  pub before : begins.note.reach ≤ width front → EndsBefore k levels front old rest c i
-  pub before_too : EndsBefore k levels front old rest c i → begins.note.reach ≤ width front
+  pub before : highest begins.earlier begins.note.reach ≤ width front → EndsBefore k levels front old rest c i
+  pub before_too : EndsBefore k levels front old rest c i → highest begins.earlier begins.note.reach ≤ width front
   -- the test of looks behind pieces that go on past the stretch
   pub after : (past : ℕ) → (inner_both k levels i n c (text_with front old rest)).taken ≡ (length front + length old) + past
       → width (front ++ old) < lowest ends.later (log k (front ++ (old ++ rest))).least → BeginsBehind k levels front old rest c i n past

@@ -6,7 +6,7 @@ use Rattle.typst_tokens.specs.Sight.{width}
 use Rattle.typst_language.specs.Ask.{Ask}
 use Rattle.typst_language.specs.Point.{Trivia}
 use Rattle.typst_grammar.specs.Grammar.{max_depth, log}
-use Rattle.typst_edits.specs.Bytes.{lowest}
+use Rattle.typst_edits.specs.Bytes.{highest, lowest}
 use Rattle.typst_edits.specs.Edit.{text_with, AllEndBy, AllBeginIn}
 use Rattle.typst_edits.specs.Joint.{onwards, passed, text_run, place_from}
 use Rattle.typst_edits.specs.RunBytes.{PieceNote, both_end}
@@ -24,10 +24,10 @@ pub record DecidedJoint (k : CharClasses) (front old rest : List ℕ) (i n past 
   -- the second says where the trivia behind the pieces end
   pub trivia_end : 0 < i + n → ends.note.start ≡ width (take ((both_end k i n front old rest).taken + t.gap) (front ++ (old ++ rest)))
   -- the two tests of looks
-  pub before : 0 < i → begins.note.reach ≤ width front → AllEndBy (length front) ((lead k (text_with front old rest)).asks ++ asks_of (pieces k i (text_with front old rest)))
+  pub before : 0 < i → highest begins.earlier begins.note.reach ≤ width front → AllEndBy (length front) ((lead k (text_with front old rest)).asks ++ asks_of (pieces k i (text_with front old rest)))
   pub after : width (front ++ old) < lowest ends.later (log k (front ++ (old ++ rest))).least → AllBeginIn past rest (asked_past k i n t (text_with front old rest))
   -- and the other way round: before the first piece nothing is asked of the looks, and the text is one that a machine word counts
-  pub before_too : (0 < i → AllEndBy (length front) ((lead k (text_with front old rest)).asks ++ asks_of (pieces k i (text_with front old rest)))) → begins.note.reach ≤ width front
+  pub before_too : (0 < i → AllEndBy (length front) ((lead k (text_with front old rest)).asks ++ asks_of (pieces k i (text_with front old rest)))) → highest begins.earlier begins.note.reach ≤ width front
   pub after_too : 0 < i + n → width (front ++ old) < 2 ^ 64 - 1 → AllBeginIn past rest (asked_past k i n t (text_with front old rest)) → width (front ++ old) < lowest ends.later (log k (front ++ (old ++ rest))).least
 
 -- The law of the decision for the joint: where pieces of a text's run go on, with the trivia behind them, past a stretch, the same two notes say exactly whether what was looked at before the pieces, and from behind the trivia on, passes the test.

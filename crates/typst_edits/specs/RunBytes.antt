@@ -8,7 +8,7 @@ use Rattle.typst_language.specs.Ask.{shift}
 use Rattle.typst_language.specs.Log.{Log}
 use Rattle.typst_language.specs.Point.{state_of}
 use Rattle.typst_grammar.specs.Grammar.{max_depth, log}
-use Rattle.typst_edits.specs.Bytes.{lowest}
+use Rattle.typst_edits.specs.Bytes.{highest, lowest}
 use Rattle.typst_edits.specs.Edit.{text_with, AllEndBy, AllBeginIn}
 use Rattle.typst_edits.specs.Runs.{AllGo, End, asks_of, lead, pieces, end_at, pieces_from, end_from, rest_from, tail}
 
@@ -34,12 +34,12 @@ pub record DecidedRun (k : CharClasses) (front old rest : List ℕ) (i n past : 
   pub begins : PieceNote (log k (front ++ (old ++ rest))) max_depth (front ++ (old ++ rest)) (end_at k i (text_with front old rest))
   pub ends : PieceNote (log k (front ++ (old ++ rest))) max_depth (front ++ (old ++ rest)) (both_end k i n front old rest)
   -- the two tests of looks
-  pub before : 0 < i → begins.note.reach ≤ width front → AllEndBy (length front) ((lead k (text_with front old rest)).asks ++ asks_of (pieces k i (text_with front old rest)))
+  pub before : 0 < i → highest begins.earlier begins.note.reach ≤ width front → AllEndBy (length front) ((lead k (text_with front old rest)).asks ++ asks_of (pieces k i (text_with front old rest)))
   pub after : width (front ++ old) < lowest ends.later (log k (front ++ (old ++ rest))).least
       → (let r = rest_from k i n (text_with front old rest) in
       AllBeginIn past rest (r.asks ++ shift r.taken (tail k (((length front + length old) + past) + r.taken) r.state (text_with front old rest)).asks))
   -- and the other way round: before the first piece nothing is asked of the looks, and the text is one that a machine word counts
-  pub before_too : (0 < i → AllEndBy (length front) ((lead k (text_with front old rest)).asks ++ asks_of (pieces k i (text_with front old rest)))) → begins.note.reach ≤ width front
+  pub before_too : (0 < i → AllEndBy (length front) ((lead k (text_with front old rest)).asks ++ asks_of (pieces k i (text_with front old rest)))) → highest begins.earlier begins.note.reach ≤ width front
   pub after_too : 0 < i + n → width (front ++ old) < 2 ^ 64 - 1
       → (let r = rest_from k i n (text_with front old rest) in
       AllBeginIn past rest (r.asks ++ shift r.taken (tail k (((length front + length old) + past) + r.taken) r.state (text_with front old rest)).asks))

@@ -24,7 +24,7 @@ brief n = record { mark = n.mark; before = n.before; start = n.start; levels = n
 abbrev pub brief_log : Log → List Brief
 brief_log h = elim h.notes [ None ↦ [] | Some ns ↦ map brief ns ]
 
--- a mark, where the trivia before it begin and end, the levels left, where all looks before it end, and where those since the note before it begin
+-- a mark, where the trivia before it begin and end, the levels left, and where the looks since the note before it end and begin
 abbrev pub noted : Mark → ℕ → ℕ → ℕ → ℕ → ℕ → Brief
 noted m b s l r e = record { mark = m; before = b; start = s; levels = l; reach = r; least = e }
 

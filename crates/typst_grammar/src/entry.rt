@@ -82,14 +82,15 @@ pub fn parse_math<C: Classes>(
 pub struct Noted {
     pub tree: SyntaxNode,
     pub notes: Vec<Note>,
-    /// Where all looks end, and where those since the last note begin.
+    /// Where the looks since the last note end, and where they begin.
     pub hull: Hull,
 }
 
 /// The syntax tree of a text of markup, and what was looked at and noted for it, in order: a piece
 /// at the text's start and behind each expression of the text's own, where a content block opens
 /// and closes, and between them a piece behind its bracket and behind each of its expressions. What
-/// lies at the limit of depth is no run and has no pieces.
+/// lies at the limit of depth is no run and has no pieces. Of each note, where the looks since the note
+/// before it end and where they begin, in bytes.
 pub fn parse_noted<C: Classes>(alloc: Global, text: &str, classes: &C) -> Result<Noted, AllocError>
     ensures tree { IfOk result (λ r. r.tree ≡ spec.tree (C.classes classes.now) (chars text.now)) }
     ensures leaves { IfOk result (λ r. text_of r.tree ≡ text.now) }

@@ -10,9 +10,8 @@ use Rattle.typst_language.specs.Ask.{Ask}
 use Rattle.typst_language.specs.Ask.Ask.{looked, marked}
 
 pub record Log : Type 0 where
-  -- where all looks end
+  -- where the looks since the last note end, and where they begin; all looks, where no notes are kept
   pub reach : ℕ
-  -- where the looks since the last note begin; all looks, where no notes are kept
   pub least : ℕ
   -- what was noted, in order, where notes are kept
   pub notes : Option (List Note)
@@ -37,7 +36,12 @@ with_more note notes = option_map (λ (ns : List Note). ns ++ note ∷ []) notes
 abbrev pub added : Bool → Note → List Note → List Note
 added keeps note notes = if keeps then notes ++ note ∷ [] else notes
 
--- where the looks since the last note begin, behind one note more; where no notes are kept there is none to begin behind
+-- where the looks since the last note end, behind one note more; where no notes are kept there is none to begin behind
+abbrev pub reach_behind : Option (List Note) → ℕ → ℕ
+reach_behind None reach = reach
+reach_behind (Some notes) reach = 0
+
+-- and where they begin
 abbrev pub least_behind : Option (List Note) → ℕ → ℕ
 least_behind None least = least
 least_behind (Some notes) least = 2 ^ 64 - 1
@@ -49,7 +53,7 @@ with_hull u h = record h { reach = max h.reach u.reach; least = min h.least u.le
 -- this was noted too, behind so many characters of trivia and where so many levels are left
 abbrev pub with_note : ℕ → ℕ → Mark → State → Place → Log → Log
 with_note gap levels mark s z h = record {
-  reach = h.reach;
+  reach = reach_behind h.notes h.reach;
   least = least_behind h.notes h.least;
   notes = with_more (record { mark = mark; before = position z; start = position (moved gap z); levels = levels; state = s; reach = h.reach; least = h.least }) h.notes;
 }

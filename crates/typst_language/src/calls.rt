@@ -99,10 +99,10 @@ pub struct Note {
     pub levels: usize,
     /// What the parser goes on from.
     pub state: State,
-    /// Where all looks before it end; one more than the text's length where one saw the mark behind
-    /// the text.
+    /// Where all looks since the note before it end; one more than the text's length where one saw the
+    /// mark behind the text, and 0 where nothing was looked at.
     pub reach: usize,
-    /// Where all looks since the note before it begin, counted from the mark before the text, which
-    /// is 0; the largest number where nothing was looked at.
+    /// Where they begin, counted from the mark before the text, which is 0; the largest number where
+    /// nothing was looked at.
     pub least: usize,
 }

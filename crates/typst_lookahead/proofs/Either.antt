@@ -1,5 +1,5 @@
 -- Two readings of one place, of which the first may be given up.
-use Rattle.std.proofs.Common.{Option, Some, None, ◌≡◌, ℕ, ◌-◌, ◌^◌, ◌≤◌, min, Bool, true, false, if◌then◌else◌, List, [], ◌∷◌, ◌++◌, length, take, drop, append-nil, length-append, refl, ap, sym, ◌∙◌, subst, arith}
+use Rattle.std.proofs.Common.{Option, Some, None, ◌≡◌, ℕ, ◌-◌, ◌^◌, ◌≤◌, max, min, Bool, true, false, if◌then◌else◌, List, [], ◌∷◌, ◌++◌, length, take, drop, append-nil, length-append, refl, ap, sym, ◌∙◌, subst, arith}
 use Rattle.typst_lines.specs.Place.{Place, moved}
 use Rattle.typst_tree.specs.Tree.{Tree}
 use Rattle.typst_tokens.specs.Sight.{hull_of}
@@ -14,7 +14,7 @@ use Rattle.typst_language.specs.declared.reading.Reading.{Reading}
 use Rattle.typst_lookahead.specs.Bytes.{column_hull, joined_hull, token_hull}
 use Rattle.typst_language.specs.Point.{Trivia}
 use Rattle.typst_language.specs.Hand.{asks_column, column_look, hand_asks, known_by}
-use Rattle.typst_language.specs.Log.{Log, least_behind, logged, with_hull, with_more, with_note}
+use Rattle.typst_language.specs.Log.{Log, least_behind, logged, reach_behind, with_hull, with_more, with_note}
 use Rattle.typst_language.specs.Syntax.{Parser}
 use Rattle.typst_language.specs.Syntax.Parser.{either}
 use Rattle.typst_language.specs.Meaning.{Level, given_up, hand_asks_of, run}
@@ -23,7 +23,7 @@ use Rattle.typst_lookahead.specs.Remembered.{Knows, LooksIn, end_of}
 use Rattle.typst_lookahead.specs.View.{View, Runs, Ran, Goes, Does, Dropped, Fits, at}
 use Rattle.typst_lookahead.specs.Noted.{listed}
 use Rattle.typst_lookahead.specs.Checkpoint.{Leaves, Saved, forgot_notes, is_some, saved, went_back}
-use Rattle.typst_lookahead.specs.Noted.{hull_in, least_of, unnoted}
+use Rattle.typst_lookahead.specs.Noted.{hull_in, least_of, reach_of, unnoted}
 use Rattle.typst_language.proofs.Places.{take-both, drop-both, take-all, drop-all}
 use Rattle.typst_lookahead.proofs.Logs.{Among, among-is, is-among, logged-append, same-log, with-again}
 use Rattle.typst_lookahead.proofs.Knowing.{end-moved, knows-at, looks-again}
@@ -42,23 +42,38 @@ least-most : (n : ℕ) (notes : List Note) → least_of n notes ≤ n
 least-most n [] = omega arith
 least-most n (note ∷ notes) = let h = least-most (min n note.least) notes in omega arith
 
-same-log-of : (r : ℕ) (l m : ℕ) (ns us : Option (List Note)) → l ≡ m → ns ≡ us → ◌≡◌ {A = Log} (record { reach = r; least = l; notes = ns }) (record { reach = r; least = m; notes = us })
-same-log-of r l m ns us e f = rw (e, f) refl
+reach-max : (m n : ℕ) (notes : List Note) → reach_of (max m n) notes ≡ max (reach_of m notes) n
+reach-max m n [] = refl
+reach-max m n (note ∷ notes) = let e : max (max m n) note.reach ≡ max (max m note.reach) n = omega arith in ap (λ k. reach_of k notes) e ∙ reach-max (max m note.reach) n notes
+
+reach-last : (n : ℕ) (notes : List Note) (note : Note) → reach_of n (notes ++ note ∷ []) ≡ max (reach_of n notes) note.reach
+reach-last n [] note = refl
+reach-last n (first ∷ notes) note = reach-last (max n first.reach) notes note
+
+reach-least : (n : ℕ) (notes : List Note) → n ≤ reach_of n notes
+reach-least n [] = omega arith
+reach-least n (note ∷ notes) = let h = reach-least (max n note.reach) notes in omega arith
+
+same-log-of : (r s l m : ℕ) (ns us : Option (List Note)) → r ≡ s → l ≡ m → ns ≡ us → ◌≡◌ {A = Log} (record { reach = r; least = l; notes = ns }) (record { reach = s; least = m; notes = us })
+same-log-of r s l m ns us d e f = rw (d, e, f) refl
 
 -- a look stays
 unnoted-hull : (c : ℕ) (u : Hull) (h : Log) → unnoted c (with_hull u h) ≡ with_hull u (unnoted c h)
-unnoted-hull c u h = same-log _ _ _ _ _ refl (least-min h.least u.least (drop c (listed h.notes)))
+unnoted-hull c u h = same-log _ _ _ _ _ (reach-max h.reach u.reach (drop c (listed h.notes))) (least-min h.least u.least (drop c (listed h.notes)))
 
 -- a note behind the first ones goes
-note-gone : (c r l : ℕ) (note : Note) (ns : Option (List Note)) → c ≤ length (listed ns) → l ≤ 2 ^ 64 - 1 → note.least ≡ l
-    → unnoted c (record { reach = r; least = least_behind ns l; notes = with_more note ns }) ≡ unnoted c (record { reach = r; least = l; notes = ns })
-note-gone c r l note None h b e = refl
-note-gone c r l note (Some xs) h b e =
+note-gone : (c r l : ℕ) (note : Note) (ns : Option (List Note)) → c ≤ length (listed ns) → l ≤ 2 ^ 64 - 1 → note.reach ≡ r → note.least ≡ l
+    → unnoted c (record { reach = reach_behind ns r; least = least_behind ns l; notes = with_more note ns }) ≡ unnoted c (record { reach = r; least = l; notes = ns })
+note-gone c r l note None h b d e = refl
+note-gone c r l note (Some xs) h b d e =
     let none : c - length xs ≡ 0 = omega arith in
     let some : min (2 ^ 64 - 1) l ≡ l = omega arith in
-    same-log-of r _ _ _ _
-    (ap (least_of (2 ^ 64 - 1)) (drop-both c xs (note ∷ []) ∙ ap (λ n. drop c xs ++ drop n (note ∷ [])) none)
-    ∙ least-last (2 ^ 64 - 1) (drop c xs) note ∙ ap (min (least_of (2 ^ 64 - 1) (drop c xs))) e
+    let here : max 0 r ≡ r = omega arith in
+    let dropped = drop-both c xs (note ∷ []) ∙ ap (λ n. drop c xs ++ drop n (note ∷ [])) none in
+    same-log-of _ _ _ _ _ _
+    (ap (reach_of 0) dropped ∙ reach-last 0 (drop c xs) note ∙ ap (max (reach_of 0 (drop c xs))) d
+    ∙ sym (reach-max 0 r (drop c xs)) ∙ ap (λ n. reach_of n (drop c xs)) here)
+    (ap (least_of (2 ^ 64 - 1)) dropped ∙ least-last (2 ^ 64 - 1) (drop c xs) note ∙ ap (min (least_of (2 ^ 64 - 1) (drop c xs))) e
     ∙ sym (least-min (2 ^ 64 - 1) l (drop c xs)) ∙ ap (λ n. least_of n (drop c xs)) some)
     (ap Some (take-both c xs (note ∷ []) ∙ ap (λ n. take c xs ++ take n (note ∷ [])) none ∙ append-nil (take c xs)))
 
@@ -80,11 +95,11 @@ unnoted-logged levels z c h (looked at look ∷ asks) a b =
 unnoted-logged levels z c h (marked at gap fewer mark s ∷ asks) a b =
     let x = with_note gap (levels - fewer) mark s (moved at z) h in
     unnoted-logged levels z c x asks (more-notes c _ h.notes a) (behind-most h.notes h.least b)
-    ∙ ap (λ y. logged levels z y (only_looks asks)) (note-gone c h.reach h.least _ h.notes a b refl)
+    ∙ ap (λ y. logged levels z y (only_looks asks)) (note-gone c h.reach h.least _ h.notes a b refl refl)
 
 all-notes : (c r l : ℕ) (ns : Option (List Note)) → length (listed ns) ≤ c → unnoted c (record { reach = r; least = l; notes = ns }) ≡ record { reach = r; least = l; notes = ns }
-all-notes c r l None h = same-log-of r _ _ _ _ (ap (least_of l) (drop-all c [] h)) refl
-all-notes c r l (Some xs) h = same-log-of r _ _ _ _ (ap (least_of l) (drop-all c xs h)) (ap Some (take-all c xs h))
+all-notes c r l None h = same-log-of _ _ _ _ _ _ (ap (reach_of r) (drop-all c [] h)) (ap (least_of l) (drop-all c [] h)) refl
+all-notes c r l (Some xs) h = same-log-of _ _ _ _ _ _ (ap (reach_of r) (drop-all c xs h)) (ap (least_of l) (drop-all c xs h)) (ap Some (take-all c xs h))
 
 -- where there are no more notes all stays
 unnoted-same : (c : ℕ) (h : Log) → length (listed h.notes) ≤ c → unnoted c h ≡ h
@@ -231,7 +246,8 @@ unnoted-fits : {l : Level} {v : View} (c : ℕ) → Fits l v → Fits l (record 
 unnoted-fits {v = v} c f =
     let a = among-is v.here v.log f.log in
     let most = least-most v.log.least (drop c (listed v.log.notes)) in
-    record { known = f.known; hand = f.hand; own = f.own; here = f.here; there = f.there; log = is-among v.here _ (record { reach = a.reach; least = let e = a.least in omega arith }); knows = f.knows }
+    let farthest = reach-least v.log.reach (drop c (listed v.log.notes)) in
+    record { known = f.known; hand = f.hand; own = f.own; here = f.here; there = f.there; log = is-among v.here _ (record { reach = let d = a.reach in omega arith; least = let e = a.least in omega arith }); knows = f.knows }
 
 -- the first reading turned out right
 pub does-chosen : {A : Type 0} {l : Level} {P Q : View → Type 0} {p q : Parser A} {is_wrong : A → Bool} {a : A} {old mid : View}

@@ -11,10 +11,16 @@ use std::marker::Model;
 use typst_language::{Mark, Note, State};
 use typst_tokens::Hull;
 
+/// No look at all.
+const NOTHING: Hull = Hull {
+    reach: 0,
+    least: usize::MAX,
+};
+
 /// What was looked at and noted so far.
 #[derive(Drop)]
 pub struct Log {
-    /// Where all looks end, and where those since the last note begin; all, where no notes are kept.
+    /// Where the looks since the last note end, and where they begin; all, where no notes are kept.
     hull: Hull,
     /// What was noted, in order, where notes are kept.
     notes: Option<Vec<Note>>,
@@ -37,10 +43,7 @@ impl Log {
     pub fn new(alloc: Global, keeps_notes: bool) -> Log
         ensures { result ≡ blank_log keeps_notes }
     {
-        let hull = Hull {
-            reach: 0,
-            least: usize::MAX,
-        };
+        let hull = NOTHING;
         let notes = if keeps_notes {
             Some(Vec::new(alloc))
         } else {
@@ -80,12 +83,12 @@ impl Log {
         };
         if let Some(notes) = &mut self.notes {
             notes.push(note)?;
-            self.hull.least = usize::MAX;
+            self.hull = NOTHING;
         }
         Ok(())
     }
 
-    /// Where all looks end, and where those since the last note begin; all, where no notes are kept.
+    /// Where the looks since the last note end, and where they begin; all, where no notes are kept.
     pub fn hull(&self) -> Hull
         ensures { result ≡ hull_in self.now }
     {
@@ -118,13 +121,13 @@ impl Log {
     {
         if let Some(notes) = &mut self.notes {
             let at = count.min(notes.len());
-            self.hull.least = least_of(self.hull.least, &notes[at..]);
+            self.hull = hull_of(self.hull, &notes[at..]);
             notes.truncate(at);
         }
     }
 
-    /// What was noted, none where no notes are kept; where all looks end, and where those since the
-    /// last note begin.
+    /// What was noted, none where no notes are kept; where the looks since the last note end, and where
+    /// they begin.
     pub fn finish(self, alloc: Global) -> (Vec<Note>, Hull)
         ensures notes { result.0.items ≡ listed self.notes }
         ensures hull { result.1 ≡ record { reach = self.reach; least = self.least } }
@@ -137,15 +140,16 @@ impl Log {
     }
 }
 
-/// Where the looks begin before which these were noted, and those since.
-fn least_of(since: usize, notes: &[Note]) -> usize
-    ensures { result ≡ spec.least_of since notes.now }
+/// The looks before which these were noted, and those since.
+fn hull_of(since: Hull, notes: &[Note]) -> Hull
+    ensures { result ≡ record { reach = spec.reach_of since.reach notes.now; least = spec.least_of since.least notes.now } }
 {
-    let mut least = since;
+    let mut hull = since;
     for note in notes {
-        least = least.min(note.least);
+        hull.reach = hull.reach.max(note.reach);
+        hull.least = hull.least.min(note.least);
     }
-    least
+    hull
 }
 
 /// Both stretches, and what lies between them.

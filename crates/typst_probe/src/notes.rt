@@ -5,25 +5,27 @@ use typst_parser::{Block, Mark, Note, UnicodeClasses, parse_noted};
 
 /// What is noted in reading the text as markup. Each note has a line: what begins or ends, the bytes
 /// at which the trivia before it begin and end, how many levels are left, where all looks before it
-/// end, and where those since the note before it begin. A last line has the same two of the whole
-/// text.
+/// end, which is the greatest that the notes up to it say, and where those since the note before it
+/// begin. A last line has the same two of the whole text.
 pub fn answer(alloc: Global, text: &str) -> Result<String, AllocError> {
     let noted = parse_noted(alloc, text, &UnicodeClasses)?;
     let mut printed = String::new(alloc);
+    let mut reach = 0;
     for note in &noted.notes {
-        print_note(&mut printed, note)?;
+        reach = note.reach.max(reach);
+        print_note(&mut printed, note, reach)?;
     }
     printed.push_str("End")?;
-    print_looks(&mut printed, noted.hull.reach, noted.hull.least)?;
+    print_looks(&mut printed, noted.hull.reach.max(reach), noted.hull.least)?;
     Ok(printed)
 }
 
-/// Prints the line of a note.
-fn print_note(printed: &mut String, note: &Note) -> Result<(), AllocError> {
+/// Prints the line of a note, with where all looks before it end.
+fn print_note(printed: &mut String, note: &Note, reach: usize) -> Result<(), AllocError> {
     print_mark(printed, note.mark)?;
     let (before, start, levels) = (note.before, note.start, note.levels);
     write!(printed, " {before}..{start} levels {levels}")?;
-    print_looks(printed, note.reach, note.least)
+    print_looks(printed, reach, note.least)
 }
 
 /// Prints what begins or ends: of a piece also whether a line starts there, and in how many brackets

@@ -46,6 +46,14 @@ least-all lv z (marked at gap fewer m s ∷ asks) h e b l =
     let i = least-all lv z asks (with_note gap (lv - fewer) m s (moved at z) h) (ap (with_more note) e) b l in
     (subst (λ o. b < least_behind o h.least) e i.0, i.1)
 
+-- and there are none later
+still-none : (lv : ℕ) (z : Place) (asks : List Ask) (h : Log) → h.notes ≡ None → (logged lv z h asks).notes ≡ None
+still-none lv z [] h e = e
+still-none lv z (looked at look ∷ asks) h e = still-none lv z asks (with_hull (hull_of look (moved at z)) h) e
+still-none lv z (marked at gap fewer m s ∷ asks) h e =
+    let note : Note = record { mark = m; before = position (moved at z); start = position (moved gap (moved at z)); levels = lv - fewer; state = s; reach = h.reach; least = h.least } in
+    still-none lv z asks (with_note gap (lv - fewer) m s (moved at z) h) (ap (with_more note) e)
+
 module _ (k : CharClasses) (text : List ℕ) (r : Restart) (h : IsRestart k text r) (v : View) (begun : Begun k text r h v) where
   abbrev l : Level
   l = told_at k max_depth
@@ -59,6 +67,9 @@ module _ (k : CharClasses) (text : List ℕ) (r : Restart) (h : IsRestart k text
   abbrev y : Place
   y = moved e.taken z
 
+  quiet : v.log.notes ≡ None
+  quiet = ap (λ (g : Log). g.notes) begun.log ∙ still-none max_depth y (asks_there k r y) begun.before begun.none
+
   -- what was looked at since
   since : (b : ℕ) (ls : List Ask) → b < (logged max_depth v.place v.log ls).least → AllFrom b y (asks_there k r y ++ ls)
   since b ls less_than =
@@ -71,7 +82,7 @@ module _ (k : CharClasses) (text : List ℕ) (r : Restart) (h : IsRestart k text
   has-reach = record {
     at = e.taken;
     cursor = h.cursor;
-    looks = (reach-by max_depth v.log.reach y (asks_there k r y) begun.before (subst (λ (g : Log). g.reach ≤ v.log.reach) begun.log (omega arith))).all;
+    looks = (reach-by max_depth v.log.reach y (asks_there k r y) begun.before begun.none (subst (λ (g : Log). g.reach ≤ v.log.reach) begun.log (omega arith))).all;
   }
 
   -- ---- to the text's end
@@ -102,14 +113,14 @@ module _ (k : CharClasses) (text : List ℕ) (r : Restart) (h : IsRestart k text
     ps = pieces_from k h.count n z
 
     turns : made (piece l) n (r.at_start, r.nesting) v.place v.state ≡ ps
-    turns = turns-are k text r h v begun.place begun.state begun.nodes begun.reach begun.lead_in n
+    turns = turns-are k text r h v begun.place begun.state begun.nodes quiet begun.reach begun.lead_in n
 
     there : IsRestart k text q
-    there = restart-is k text r h v begun.place begun.state begun.nodes begun.reach begun.lead_in q stopped.was
+    there = restart-is k text r h v begun.place begun.state begun.nodes quiet begun.reach begun.lead_in q stopped.was
 
     there-count : there.count ≡ h.count + n
     unfolding there
-    there-count = restart-count k text r h v begun.place begun.state begun.nodes begun.reach begun.lead_in q stopped.was
+    there-count = restart-count k text r h v begun.place begun.state begun.nodes quiet begun.reach begun.lead_in q stopped.was
 
     go : AllGo ps
     go = subst AllGo turns stopped.was.go

@@ -182,7 +182,7 @@ module _ (k : CharClasses) (text : List ℕ) where
         ap (λ us. given us []) (made-sum (piece_at k) h.count n (true, 0) z0 (lead k z0).state) ∙ given-append (pieces k h.count z0) (pieces_from k h.count n z0) [] ∙ given-on n go
 
     -- a loop over pieces from there on
-    module _ (old : View) (place : old.place ≡ moved e.taken z0) (state : old.state ≡ e.state) (none : old.nodes ≡ []) (reach : r.reach ≤ old.log.reach)
+    module _ (old : View) (place : old.place ≡ moved e.taken z0) (state : old.state ≡ e.state) (none : old.nodes ≡ []) (quiet : old.log.notes ≡ None) (reach : r.reach ≤ old.log.reach)
         (lead_in : h.count ≡ 0 → (b : ℕ) → old.log.reach ≤ b → AllReach b z0 (lead k z0).asks) where
       abbrev l : Level
       l = told_at k max_depth
@@ -238,7 +238,7 @@ module _ (k : CharClasses) (text : List ℕ) where
             nodes = count ∙ ap (λ j. j + length (given (ps n) [])) h.nodes ∙ sym long;
             looks = λ m le many h_reach. (
                 let b = width (take m text) in
-                let by = reach-by max_depth b old.place (asks_of (ps n)) old.log (subst (λ j. j ≤ b) reached h_reach) in
+                let by = reach-by max_depth b old.place (asks_of (ps n)) old.log quiet (subst (λ j. j ≤ b) reached h_reach) in
                 let early = (lead k z0).asks ++ asks_of os in
                 let first_reach : AllReach b z0 early = first-reach i refl m le by.before in
                 let second_reach : AllReach b z0 (shift e.taken (asks_of (ps n))) = reach-shift b e.taken z0 (asks_of (ps n)) (subst (λ z. AllReach b z (asks_of (ps n))) place by.all) in
@@ -307,7 +307,7 @@ module _ (k : CharClasses) (text : List ℕ) where
         let q : Runs max_depth o a v w = subst (λ u. Runs max_depth u a v w) same runs in
         let asks = hand_asks_of (level_at k max_depth) y0 s0 in
         let log : w.log ≡ logged max_depth y0 v.log asks = q.log ∙ ap (λ z. logged max_depth z v.log asks) place in
-        let covers : (b : ℕ) → w.log.reach ≤ b → Reach b y0 v.log asks = λ b m. reach-by max_depth b y0 asks v.log (subst (λ (g : Log). g.reach ≤ b) log m) in
+        let covers : (b : ℕ) → w.log.reach ≤ b → Reach b y0 v.log asks = λ b m. reach-by max_depth b y0 asks v.log blank (subst (λ (g : Log). g.reach ≤ b) log m) in
         let all = covers w.log.reach (omega arith) in
         let first = all.before in
         record {
