@@ -8,7 +8,7 @@ use Rattle.typst_kinds.specs.Kinds.{is_error}
 use Rattle.typst_lines.specs.Place.{Place, moved}
 use Rattle.typst_tree.specs.Tree.{Tree, text_of}
 use Rattle.typst_lines.specs.Classes.{CharClasses}
-use Rattle.typst_lexer.proofs.TokenTexts.{text-token}
+use Rattle.typst_language.proofs.TokenTexts.{text-token}
 use Rattle.typst_language.specs.declared.calls.Block.{Block}
 use Rattle.typst_language.specs.declared.calls.Call.{Call}
 use Rattle.typst_language.specs.declared.reading.AtNewline.{AtNewline}

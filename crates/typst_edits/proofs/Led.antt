@@ -6,8 +6,8 @@ use Rattle.typst_kinds.specs.Kinds.{is_error}
 use Rattle.typst_lines.specs.Place.{Place, moved}
 use Rattle.typst_tree.specs.Tree.{Tree, text_of}
 use Rattle.typst_tokens.specs.Reader.{Look}
-use Rattle.typst_lexer.proofs.TokenTexts.{text-token}
-use Rattle.typst_lexer.specs.Nodes.{token_node}
+use Rattle.typst_language.proofs.TokenTexts.{text-token}
+use Rattle.typst_language.specs.Nodes.{token_node}
 use Rattle.typst_language.specs.declared.calls.Call.{Call}
 use Rattle.typst_language.specs.declared.reading.Reading.{Reading}
 use Rattle.typst_language.specs.Ask.{Ask, shift, shift_one, sunk}

@@ -6,7 +6,7 @@ use Rattle.typst_kinds.specs.Kinds.{is_trivia}
 use Rattle.typst_lines.specs.Place.{Place, moved}
 use Rattle.typst_tree.specs.Tree.{Tree}
 use Rattle.typst_lines.specs.Classes.{CharClasses}
-use Rattle.typst_lexer.specs.Tokens.{token}
+use Rattle.typst_language.specs.Tokens.{token}
 use Rattle.typst_language.specs.declared.calls.Call.{Call}
 use Rattle.typst_language.specs.declared.reading.Reading.{Reading}
 use Rattle.typst_language.specs.Ask.{SameIn}

@@ -9,12 +9,12 @@ use Rattle.typst_kinds.specs.declared.mode.SyntaxMode.{SyntaxMode}
 use Rattle.typst_lines.specs.Place.{Place, moved}
 use Rattle.typst_tree.specs.Diagnostic.{hint_with}
 use Rattle.typst_tree.specs.Tree.{Tree, leaf_of, error_of, advised, all_advised}
-use Rattle.typst_lexer.specs.Raw.{raw_node, delimited_node, closed_node, block_node, inline_node, delimited, two_delimiters, tag_leaves, is_pair, before_ticks, ticks}
-use Rattle.typst_lexer.specs.RawLines.{leaf, Row, trimmed, first_line, later_rows, is_blank, dedent, front, closing, line_leaves, first_leaves, block_of, block_leaves, inline_leaves}
-use Rattle.typst_lexer.specs.RawTag.{tag, next_tag, warned, changes, is_some_text, is_whole, cut_tag, no_tag, only_tag}
-use Rattle.typst_lexer.specs.Faults.{hints, message}
-use Rattle.typst_lexer.specs.Fields.{field_node, fields_node, name_node, named_node, names_of, access_node}
-use Rattle.typst_lexer.specs.Nodes.{token_node, plain_node, fault_node, is_raw, has_fields}
+use Rattle.typst_language.specs.Raw.{raw_node, delimited_node, closed_node, block_node, inline_node, delimited, two_delimiters, tag_leaves, is_pair, before_ticks, ticks}
+use Rattle.typst_language.specs.RawLines.{leaf, Row, trimmed, first_line, later_rows, is_blank, dedent, front, closing, line_leaves, first_leaves, block_of, block_leaves, inline_leaves}
+use Rattle.typst_language.specs.RawTag.{tag, next_tag, warned, changes, is_some_text, is_whole, cut_tag, no_tag, only_tag}
+use Rattle.typst_language.specs.Faults.{hints, message}
+use Rattle.typst_language.specs.Fields.{field_node, fields_node, name_node, named_node, names_of, access_node}
+use Rattle.typst_language.specs.Nodes.{token_node, plain_node, fault_node, is_raw, has_fields}
 use Rattle.typst_tokens.specs.declared.token.Fault.{Fault}
 use Rattle.typst_tokens.specs.declared.token.Token.{Token}
 use Rattle.typst_language.specs.declared.calls.Block.{Block}

@@ -6,7 +6,7 @@ use Rattle.typst_kinds.specs.declared.kind.SyntaxKind.{SyntaxKind}
 use Rattle.typst_kinds.specs.declared.kind.SyntaxKind.TheVariants as kind
 use Rattle.typst_lines.specs.Place.{Place, moved}
 use Rattle.typst_tree.specs.Tree.{Tree, error_of}
-use Rattle.typst_lexer.specs.Nodes.{token_node, plain_node, fault_node}
+use Rattle.typst_language.specs.Nodes.{token_node, plain_node, fault_node}
 use Rattle.typst_tokens.specs.declared.token.Token.{Token}
 use Rattle.typst_language.specs.Hand.{Hand, AtHand, text_ahead, told}
 use Rattle.typst_language.specs.Point.{Point}

@@ -8,7 +8,7 @@ use Rattle.typst_kinds.specs.declared.kind.SyntaxKind.TheVariants as kind
 use Rattle.typst_lines.specs.Place.{Place, moved}
 use Rattle.typst_tree.specs.Diagnostic.{hint_with}
 use Rattle.typst_tree.specs.Tree.{Tree, text_of, leaf_of, advised, all_advised}
-use Rattle.typst_lexer.specs.Nodes.{token_node}
+use Rattle.typst_language.specs.Nodes.{token_node}
 use Rattle.typst_language.specs.Ask.{Ask}
 use Rattle.typst_language.specs.Hand.{Hand, hand_at, len_at, text_ahead}
 use Rattle.typst_language.specs.Point.{Point}
@@ -20,7 +20,7 @@ use Rattle.typst_language.proofs.Ends.{hand-again}
 use Rattle.typst_language.proofs.HintedNodes.{hinted-append}
 use Rattle.typst_language.proofs.Leaves.{text-made}
 use Rattle.typst_language.proofs.Places.{less-none, no-end}
-use Rattle.typst_lexer.proofs.TokenTexts.{text-token}
+use Rattle.typst_language.proofs.TokenTexts.{text-token}
 use Rattle.typst_language.proofs.Within.{on_both}
 use Rattle.typst_grammar.proofs.Heads.{Leafy, takes-making, back-eat}
 

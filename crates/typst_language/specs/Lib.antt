@@ -13,7 +13,17 @@ pub mod Words
 pub mod Sound
 pub mod Changes
 -- What the crates above name of those below.
+pub use Rattle.typst_lexer.specs.ArgumentTokens
+pub use Rattle.typst_lexer.specs.Atoms
+pub use Rattle.typst_lexer.specs.Faults
+pub use Rattle.typst_lexer.specs.Fields
+pub use Rattle.typst_lexer.specs.Math
+pub use Rattle.typst_lexer.specs.MathNames
 pub use Rattle.typst_lexer.specs.Nodes
+pub use Rattle.typst_lexer.specs.Raw
+pub use Rattle.typst_lexer.specs.RawLines
+pub use Rattle.typst_lexer.specs.RawTag
+pub use Rattle.typst_lexer.specs.Shorthands
 pub use Rattle.typst_lexer.specs.Tokens
 pub use Rattle.typst_tokens.specs.Characters
 pub use Rattle.typst_tokens.specs.declared.hull

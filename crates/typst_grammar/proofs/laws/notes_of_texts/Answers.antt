@@ -8,7 +8,7 @@ use Rattle.typst_tokens.specs.Markup.{markup as markup_token, heading as heading
 use Rattle.typst_tokens.specs.Common.{sign}
 use Rattle.typst_tokens.specs.Escapes.{code_point, backslash}
 use Rattle.typst_tokens.specs.Text.{text as text_token, text_from}
-use Rattle.typst_lexer.specs.Tokens.{of_mode, hash, slash, star, token}
+use Rattle.typst_language.specs.Tokens.{of_mode, hash, slash, star, token}
 use Rattle.typst_language.specs.Hand.{ahead, ahead_asks, column_at, hand_at, hand_asks}
 use Rattle.typst_language.specs.Knot.{meaning_of}
 use Rattle.typst_language.specs.Meaning.{less, repeated, run}
@@ -21,9 +21,9 @@ use Rattle.typst_tokens.specs.Link.{link, link_or_text}
 use Rattle.typst_tokens.specs.Names.{label_or_text, ref_marker, ref_or_text}
 use Rattle.typst_tokens.specs.Labels.{label}
 use Rattle.typst_tokens.specs.Raw.{raw}
-use Rattle.typst_lexer.specs.Tokens.{backtick}
-use Rattle.typst_lexer.specs.RawLines.{later_rows, inline_leaves}
-use Rattle.typst_lexer.specs.Raw.{raw_node}
+use Rattle.typst_language.specs.Tokens.{backtick}
+use Rattle.typst_language.specs.RawLines.{later_rows, inline_leaves}
+use Rattle.typst_language.specs.Raw.{raw_node}
 use Rattle.typst_language.specs.Steps.{read_block}
 use Rattle.typst_code.specs.Markup.{content_block, direct_content, reference}
 

@@ -6,7 +6,7 @@ use Rattle.typst_tokens.specs.Markup.{markup as markup_token, heading as heading
 use Rattle.typst_tokens.specs.Common.{sign}
 use Rattle.typst_tokens.specs.Escapes.{code_point, backslash}
 use Rattle.typst_tokens.specs.Text.{text as text_token, text_from}
-use Rattle.typst_lexer.specs.Tokens.{of_mode, hash, slash, star, token}
+use Rattle.typst_language.specs.Tokens.{of_mode, hash, slash, star, token}
 use Rattle.typst_language.specs.Hand.{ahead, ahead_asks, column_at, hand_at, hand_asks}
 use Rattle.typst_language.specs.Knot.{meaning_of}
 use Rattle.typst_language.specs.Meaning.{less, repeated, run}
