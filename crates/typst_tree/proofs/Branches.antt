@@ -3,11 +3,11 @@ use Rattle.std.proofs.Common.{◌≡◌, ℕ, zero, suc, ◌+◌, ◌-◌, ◌^�
 use Rattle.std.proofs.lemmas.List.{drop-append-le, length-drop, take-append-drop}
 use Rattle.typst_tree.proofs.LastLeaf.{last_append, last_none, last_alone, preorder_append}
 use Rattle.std.proofs.Math.Seq.{drop-append_seam, drop-append-add}
-use Rattle.std.specs.Prelude.{slice_get, nat_le, nat_lt, MatchOption, find}
+use Rattle.std.specs.Prelude.{slice_get, nat_le, nat_lt, find}
 use Rattle.typst_tree.proofs.SpansAside.{forest_trees, trees_forest}
 use Rattle.typst_tree.proofs.Siblings.{find_behind}
 use Rattle.std.proofs.lemmas.Bool.Decides.{nat_tests}
-use Rattle.std.specs.Option.{option_map}
+use Rattle.std.specs.Option.{option_map, option_or}
 use Rattle.std.proofs.lemmas.Option.{none-some}
 use Rattle.typst_tree.specs.Tree.{Forest, none, more, Tree, trees, nodes, places, forest, count, preorder}
 use Rattle.typst_tree.proofs.Rows.{Beside, beside, Over, over_at}
@@ -170,19 +170,23 @@ until_within xs k b m ys s l h =
     let same : last_leaf m 0 w.front ≡ last_leaf k 0 w.front = unbounded m k 0 w.front (omega (arith, front, l)) (omega (arith, front)) in
     whole ∙ (ap (λ o. if_none o (last_leaf m 0 w.front)) here ∙ ap (if_none (last_leaf m k ys)) (same ∙ sym before))
 
-pub until_found : (b : LinkedNode) (m f : ℕ) → b.number ≤ m → m ≤ b.number + nodes b.node.now → Some f ≡ last_leaf m b.number (places b.node.now) → leaf_until b.root.now m ≡ Some (at b.root.now f)
-until_found b m f l h e =
-    ap (option_map (at b.root.now)) (until_within (places b.root.now) b.number b.offset m (places b.node.now) b.stands l (omega (arith, h, length_places b.node.now)) ∙ ap (λ o. if_none o (last_leaf b.number 0 (places b.root.now))) (sym e))
+map_or : (f : ℕ → At) (x y : Option ℕ) → option_map f (if_none x y) ≡ option_or (option_map f x) (option_map f y)
+map_or f None y = refl
+map_or f (Some n) y = refl
 
-pub until_not_found : (b : LinkedNode) (m : ℕ) → b.number ≤ m → m ≤ b.number + nodes b.node.now → None ≡ last_leaf m b.number (places b.node.now) → leaf_until b.root.now m ≡ leaf_until b.root.now b.number
-until_not_found b m l h e =
-    ap (option_map (at b.root.now)) (until_within (places b.root.now) b.number b.offset m (places b.node.now) b.stands l (omega (arith, h, length_places b.node.now)) ∙ ap (λ o. if_none o (last_leaf b.number 0 (places b.root.now))) (sym e))
+pub until_here : (b : LinkedNode) (m : ℕ) (o : Option ℕ) → b.number ≤ m → m ≤ b.number + nodes b.node.now → o ≡ last_leaf m b.number (places b.node.now) → leaf_until b.root.now m ≡ option_or (option_map (at b.root.now) o) (leaf_until b.root.now b.number)
+until_here b m o l h e =
+    ap (option_map (at b.root.now)) (until_within (places b.root.now) b.number b.offset m (places b.node.now) b.stands l (omega (arith, h, length_places b.node.now)) ∙ ap (λ x. if_none x (last_leaf b.number 0 (places b.root.now))) (sym e))
+    ∙ map_or (at b.root.now) o (last_leaf b.number 0 (places b.root.now))
+
+or_nothing : (x y : Option At) → y ≡ None → option_or x y ≡ x
+or_nothing None y e = e
+or_nothing (Some a) y e = refl
 
 -- before the root there is no leaf
-pub until_top : (r : Option LinkedNode) (root t : Tree) (n z : ℕ) → t ≡ root → z ≡ 0 → MatchOption r (leaf_until t n ≡ leaf_until t z) (λ leaf. leaf_until t n ≡ Some (linked leaf)) → option_map linked r ≡ leaf_until root n
-until_top None root t n z e f w =
-    sym (ap (λ x. leaf_until x n) (sym e) ∙ (w ∙ (ap (leaf_until t) f ∙ ap (option_map (at t)) (last_none 0 0 (places t) (omega arith)))))
-until_top (Some leaf) root t n z e f w = sym (ap (λ x. leaf_until x n) (sym e) ∙ w)
+pub until_top : (r : Option LinkedNode) (root t : Tree) (n z : ℕ) → t ≡ root → z ≡ 0 → leaf_until t n ≡ option_or (option_map linked r) (leaf_until t z) → option_map linked r ≡ leaf_until root n
+until_top r root t n z e f w =
+    sym (ap (λ x. leaf_until x n) (sym e) ∙ (w ∙ or_nothing (option_map linked r) (leaf_until t z) (ap (leaf_until t) f ∙ ap (option_map (at t)) (last_none 0 0 (places t) (omega arith)))))
 
 -- a loop over the children before one begins with those before it
 pub until_row : (o : Tree) (n m i : ℕ) (xs : List Tree) → forest xs ≡ o.kids → m ≡ n + 1 + count (forest (take i xs)) → last_leaf m n (places o) ≡ last_leaf m n (o ∷ preorder (forest (take i xs)))

@@ -10,7 +10,7 @@ use Rattle.std.proofs.Props.{props}
 use Rattle.typst_tree.specs.Tree.{Tree, forest, trees, nodes, places, count, preorder, joined, saturated}
 use Rattle.typst_tree.proofs.SpansAside.{forest_trees, trees_forest}
 use Rattle.typst_tree.specs.Walks.{texts, Stands}
-use Rattle.typst_tree.specs.Follows.{Follows, reach_of, index_of}
+use Rattle.typst_tree.specs.Follows.{Follows, Joins, reach_of, index_of}
 use Rattle.typst_tree.specs.Branches.{EndsBy}
 use Rattle.typst_tree.specs.Rows.{IsChild, IsOpen, IsFork, IsPlaced, Holds, long}
 use Rattle.typst_tree.specs.declared.known.Known.{Known}
@@ -95,8 +95,8 @@ pub later : (xs : List Tree) (n b m c : ℕ) (ys zs : List Tree) → Stands xs n
 later xs n b m c ys zs s r l = omega (arith, s.begins, r.begins, begins_later xs n m l)
 
 -- what is known of a tree's way is known, with the numbers and bytes between, of each tree within it
-pub placed_behind : (root : Tree) (n b size i d e m p less : ℕ) → IsPlaced root n b size i d e → n ≤ m → m + less ≤ n + size → 0 < less → b ≤ p → p < 2 ^ 64 → IsPlaced root m p less i (d + (m - n)) (e + (p - b))
-placed_behind root n b size i d e m p less w l h some from fits =
+pub placed_behind : (root : Tree) (n b size i d e m p less far : ℕ) → IsPlaced root n b size i d e → n ≤ m → m + less ≤ n + size → 0 < less → p ≡ saturated (b + far) → IsPlaced root m p less i (d + (m - n)) (e + far)
+placed_behind root n b size i d e m p less far w l h some from =
     let bounds = child_bounds w.owner w.above w.tree (n - d) i w.child in
     let same : n - d ≡ m - (d + (m - n)) = omega (arith, w.after, l) in
     record {
@@ -115,21 +115,21 @@ placed_behind root n b size i d e m p less w l h some from fits =
       child = subst (λ k. IsChild w.owner w.above w.tree k i) same w.child;
       within = omega (arith, w.within, l, h);
       stands = subst (λ k. Stands (places root) k w.start (places w.tree)) same w.stands;
-      begins = omega (arith, w.begins, from, fits);
+      begins = omega (arith, w.begins, from);
     }
 
 placed_as : (root : Tree) (n b size i d e : ℕ) (k : Known) → IsPlaced root n b size i d e → (index_of k ≡ i) × ((k.below ≡ d) × (k.begins ≡ e)) → IsPlaced root n b size (index_of k) k.below k.begins
 placed_as root n b size i d e k w same =
     subst (λ j. IsPlaced root n b size j k.below k.begins) (sym same.0) (subst (λ j. IsPlaced root n b size i j k.begins) (sym same.1.0) (subst (λ j. IsPlaced root n b size i d j) (sym same.1.1) w))
 
-pub holds_behind : (root : Tree) (n b size m p less : ℕ) (k j : Known) → Holds root n b size k → n ≤ m → m + less ≤ n + size → 0 < less → b ≤ p → p < 2 ^ 64 → (reach_of j ≡ reach.Open → (reach_of k ≡ reach.Open) × (m - n ≡ 0)) → (reach_of j ≡ reach.Placed → (reach_of k ≡ reach.Placed) × ((index_of j ≡ index_of k) × ((j.below ≡ k.below + (m - n)) × (j.begins ≡ k.begins + (p - b))))) → Holds root m p less j
-holds_behind root n b size m p less k j w l h some from fits opens placed =
+pub holds_behind : (root : Tree) (n b size m p less far : ℕ) (k j : Known) → Holds root n b size k → n ≤ m → m + less ≤ n + size → 0 < less → p ≡ saturated (b + far) → (reach_of j ≡ reach.Open → (reach_of k ≡ reach.Open) × (m - n ≡ 0)) → (reach_of j ≡ reach.Placed → (reach_of k ≡ reach.Placed) × ((index_of j ≡ index_of k) × ((j.below ≡ k.below + (m - n)) × (j.begins ≡ k.begins + far)))) → Holds root m p less j
+holds_behind root n b size m p less far k j w l h some from opens placed =
     record {
       at_open = λ e. (let both = opens e in
           let same : n ≡ m = omega (arith, l, both.1) in
           subst (IsOpen root) same (w.at_open both.0));
       at_placed = λ e. (let both = placed e in
-          ∥∥₁_map (w.at_placed both.0) (λ q. placed_as root m p less (index_of k) (k.below + (m - n)) (k.begins + (p - b)) j (placed_behind root n b size (index_of k) k.below k.begins m p less q l h some from fits) both.1));
+          ∥∥₁_map (w.at_placed both.0) (λ q. placed_as root m p less (index_of k) (k.below + (m - n)) (k.begins + far) j (placed_behind root n b size (index_of k) k.below k.begins m p less far q l h some from) both.1));
     }
 
 -- the children of the first node with a long row are placed in it
@@ -217,7 +217,7 @@ holds_at reach.Open root o n b a is_long t m c i k e l s r w h f p =
 holds_at reach.Placed root o n b a is_long t m c i k e l s r w h f p =
     let bounds = child_bounds o n t m i w in
     let from : b ≤ c = later (places root) n b m c (places o) (places t) s r (omega (arith, bounds.from)) in
-    ∥∥₁_map (h.at_placed e) (λ q. placed_as root m c (nodes t) (index_of a) (a.below + (m - n)) (a.begins + (c - b)) k (placed_behind root n b (nodes o) (index_of a) a.below a.begins m c (nodes t) q (omega (arith, bounds.from)) (omega (arith, bounds.to)) (omega arith) from (omega (arith, r.begins))) (f.further p e))
+    ∥∥₁_map (h.at_placed e) (λ q. placed_as root m c (nodes t) (index_of a) (a.below + (m - n)) (a.begins + (c - b)) k (placed_behind root n b (nodes o) (index_of a) a.below a.begins m c (nodes t) (c - b) q (omega (arith, bounds.from)) (omega (arith, bounds.to)) (omega arith) (omega (arith, from, r.begins))) (f.further p e))
 holds_at reach.Lost root o n b a is_long t m c i k e l s r w h f p = absurd (f.kept p e)
 
 pub holds_child : (root o : Tree) (n b : ℕ) (a : Known) (is_long : Bool) (t : Tree) (m c i : ℕ) (k : Known) → is_long ≡ nat_lt long (length (trees o.kids)) → Stands (places root) n b (places o) → Stands (places root) m c (places t) → IsChild o n t m i → Holds root n b (nodes o) a → Follows a is_long i (m - n) (c - b) k → Holds root m c (nodes t) k
@@ -227,4 +227,19 @@ holds_child root o n b a is_long t m c i k l s r w h f =
           let few : nat_lt long (length (trees o.kids)) ≡ false = sym l ∙ both.1 in
           open_child root o n b t m i s w (h.at_open both.0) (grind (arith, nat_tests, few)));
       at_placed = λ e. holds_at (reach_of a) root o n b a is_long t m c i k refl l s r w h f e;
+    }
+
+-- what is known of two ways that are joined
+joined_at : (r : reach.the_data) (root : Tree) (n b size m p less far : ℕ) (a w k : Known) → reach_of a ≡ r → Holds root n b size a → (IsOpen root n → Holds root m p less w) → n ≤ m → m + less ≤ n + size → 0 < less → p ≡ saturated (b + far) → Joins a w (m - n) far k → reach_of k ≡ reach.Placed → ∥ IsPlaced root m p less (index_of k) k.below k.begins ∥₁
+joined_at reach.Open root n b size m p less far a w k e h way l within some from j f =
+    (subst (Holds root m p less) (sym (j.free e)) (way (h.at_open e))).at_placed f
+joined_at reach.Placed root n b size m p less far a w k e h way l within some from j f =
+    ∥∥₁_map (h.at_placed e) (λ q. placed_as root m p less (index_of a) (a.below + (m - n)) (a.begins + far) k (placed_behind root n b size (index_of a) a.below a.begins m p less far q l within some from) (j.further f e))
+joined_at reach.Lost root n b size m p less far a w k e h way l within some from j f = absurd (j.kept f e)
+
+pub holds_joined : (root : Tree) (n b size m p less far : ℕ) (a w k : Known) → Holds root n b size a → (IsOpen root n → Holds root m p less w) → n ≤ m → m + less ≤ n + size → 0 < less → p ≡ saturated (b + far) → Joins a w (m - n) far k → Holds root m p less k
+holds_joined root n b size m p less far a w k h way l within some from j =
+    record {
+      at_open = λ f. (let up = j.at_open f in (subst (Holds root m p less) (sym (j.free up)) (way (h.at_open up))).at_open f);
+      at_placed = λ f. joined_at (reach_of a) root n b size m p less far a w k refl h way l within some from j f;
     }

@@ -60,14 +60,3 @@ pub last_alone : (b n : ℕ) (t : Tree) (xs : List Tree) (i : ℕ) → n < b →
 last_alone b n t xs i h e =
     let below : nat_lt n b ≡ true = grind (arith, nat_tests, h) in
     rw (e, below) refl
-
--- the last leaf is one of the nodes
-last_case : (o : Option ℕ) (x : Bool) (n k m : ℕ) → if_none o (if x then Some n else None) ≡ Some k → (o ≡ Some k → (n + 1 ≤ k) × (k < n + 1 + m)) → (n ≤ k) × (k < n + suc m)
-last_case None true n k m e f = let same : n ≡ k = same_Some n k e in (omega (arith, same), omega (arith, same))
-last_case None false n k m e f = absurd (none-some k e)
-last_case (Some i) x n k m e f = let r = f e in (omega (arith, r.0), omega (arith, r.1))
-
-pub last_within : (b n k : ℕ) (xs : List Tree) → last_leaf b n xs ≡ Some k → (n ≤ k) × (k < n + length xs)
-last_within b n k [] e = absurd (none-some k e)
-last_within b n k (x ∷ xs) e =
-    last_case (last_leaf b (n + 1) xs) (nat_lt n b && is_leaf x) n k (length xs) e (λ f. last_within b (n + 1) k xs f)

@@ -27,3 +27,10 @@ pub record Follows (a : Known) (is_long : Bool) (i numbers bytes : ℕ) (k : Kno
   pub first : reach_of k ≡ reach.Placed → reach_of a ≡ reach.Open → (is_long ≡ true) × ((index_of k ≡ i) × ((k.below ≡ 0) × (k.begins ≡ 0)))
   pub further : reach_of k ≡ reach.Placed → reach_of a ≡ reach.Placed → (index_of k ≡ index_of a) × ((k.below ≡ a.below + numbers) × (k.begins ≡ a.begins + bytes))
   pub kept : reach_of k ≡ reach.Placed → reach_of a ≡ reach.Lost → ⊥
+
+-- where a is known of the way to a node, and w of the way from there to another, so many numbers and bytes behind, k is known of the whole way
+pub record Joins (a w : Known) (numbers bytes : ℕ) (k : Known) : Type 0 where
+  pub free : reach_of a ≡ reach.Open → k ≡ w
+  pub at_open : reach_of k ≡ reach.Open → reach_of a ≡ reach.Open
+  pub further : reach_of k ≡ reach.Placed → reach_of a ≡ reach.Placed → (index_of k ≡ index_of a) × ((k.below ≡ a.below + numbers) × (k.begins ≡ a.begins + bytes))
+  pub kept : reach_of k ≡ reach.Placed → reach_of a ≡ reach.Lost → ⊥

@@ -8,6 +8,7 @@ pub mod Order
 pub mod Laws
 pub mod Branches
 pub mod Follows
+pub mod Found
 pub mod Linked
 pub mod Ordered
 pub mod Passed

@@ -1,7 +1,7 @@
 //! What a linked node knows of the way to it.
 
 ghost use Rattle.std.specs.Prelude.{◌≡◌, ◌+◌, ◌^◌, ◌<◌};
-ghost use Rattle.typst_tree.specs.Follows.{Follows, reach_of, index_of, in_order_of, bit};
+ghost use Rattle.typst_tree.specs.Follows.{Follows, Joins, reach_of, index_of, in_order_of, bit};
 ghost use Rattle.typst_tree.specs.declared.known.Reach.TheVariants as reach;
 
 /// A row of more children than this is long. A linked node keeps its place in the first long row on its
@@ -187,6 +187,18 @@ impl Known {
             Reach::Open if is_long => Known::placed(self.in_order(), index),
             Reach::Open | Reach::Lost => self,
             Reach::Placed => self.further(numbers, bytes),
+        }
+    }
+
+    /// What is known of a node, so many numbers and bytes behind this one, where `way` is known of the way from
+    /// here on.
+    pub fn then(self, way: Known, numbers: usize, bytes: usize) -> Known
+        ensures in_order { in_order_of way ≡ in_order_of self → in_order_of result ≡ in_order_of self }
+        ensures joins { Joins self way numbers bytes result }
+    {
+        match self.reach() {
+            Reach::Open => way,
+            Reach::Placed | Reach::Lost => self.behind(numbers, bytes),
         }
     }
 }

@@ -4,6 +4,7 @@
 //! diagnostics) and the children.
 #![tactic(auto)]
 
+mod back;
 mod items;
 mod known;
 pub mod laws;

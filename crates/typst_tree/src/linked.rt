@@ -8,11 +8,10 @@ ghost use Rattle.typst_tree.specs.Rows.{Holds, long};
 ghost use Rattle.typst_tree.specs.Walks.{Stands};
 
 use crate::SyntaxNode;
+use crate::back::{Found, last_leaf_in};
 use crate::known::{Known, LONG, Reach};
 use crate::order::find_in;
-use crate::search::{
-    Kid, Passed, Search, Spot, child_at, child_over, from_index, holds_byte, last_leaf_in,
-};
+use crate::search::{Kid, Passed, Search, Spot, child_at, child_over, from_index, holds_byte};
 use std::ops::Range;
 use typst_kinds::{Span, SpanNumber, SyntaxKind};
 
@@ -89,16 +88,18 @@ struct Branch<'a> {
 
 impl<'a> LinkedNode<'a> {
     ghost use Rattle.std.specs.Prelude.{◌≡◌, ◌+◌, ◌^◌, ◌<◌, ◌≤◌, ◌-◌, find, drop, Some, MatchOption};
-    ghost use Rattle.std.specs.Option.{option_map};
+    ghost use Rattle.std.specs.Option.{option_map, option_or};
     ghost use Rattle.typst_tree.specs.Tree.{nodes, places};
     ghost use Rattle.typst_tree.specs.Order.{AreInOrder, numbers_of};
     ghost use Rattle.typst_kinds.specs.Kinds.{is_hash_expr};
     ghost use Rattle.typst_tree.specs.Branches.{IsAbove, IsBranch, EndsBy, leaf_after, leaf_until};
     ghost use Rattle.typst_tree.specs.Rows.{IsChild, IsFork};
+    ghost use Rattle.typst_tree.specs.Found.{IsBelow};
     ghost use Rattle.typst_tree.specs.Walks.{Stands, Within};
     ghost use Rattle.typst_tree.specs.Wanted.{wanted};
     ghost use Rattle.typst_tree.specs.Steps.{at, node_of, kind_of, offset_of, end_of, first_below, parent, children, is_sibling_after, next_sibling, prev_leaf, next_leaf, leftmost_leaf, leaf_at, find_span, find_number, FindsOwn};
     ghost use Rattle.typst_tree.specs.Linked.{linked, left};
+    ghost use Rattle.typst_tree.specs.Follows.{in_order_of};
 
     /// The root of a tree, with number and offset 0. Takes a constant time.
     pub fn new(root: &'a SyntaxNode) -> LinkedNode<'a>
@@ -169,6 +170,22 @@ impl<'a> LinkedNode<'a> {
         }
     }
 
+    /// What was found among this node and those below it.
+    fn with_found(self, found: Found<'a>) -> LinkedNode<'a>
+        requires { IsBelow self.node.now self.number (in_order_of self.known) found }
+        ensures { linked result ≡ at self.entry.root.now found.entry.number }
+    {
+        LinkedNode {
+            root: self.root,
+            node: found.node,
+            number: found.number,
+            offset: self.offset.saturating_add(found.begins),
+            known: self
+                .known
+                .then(found.known, found.number - self.number, found.begins),
+        }
+    }
+
     /// What its children take of it.
     #[inline(always)]
     fn as_parent(self) -> Parent<'a>
@@ -223,19 +240,6 @@ impl<'a> LinkedNode<'a> {
         ensures to { number < result.spot.number + nodes result.spot.node.now }
     {
         child_over(self.spot(), number)
-    }
-
-    /// The node with this number, which is this one or below it.
-    fn down_to(self, number: usize) -> LinkedNode<'a>
-        requires from { self.number ≤ number }
-        requires to { number < self.number + nodes self.node.now }
-        ensures { linked result ≡ at self.entry.root.now number }
-    {
-        let mut over = self;
-        while over.number < number {
-            over = over.child(over.child_over(number));
-        }
-        over
     }
 
     /// The first node on the way from the root to this one that has a long row, if it ends behind the number
@@ -432,7 +436,7 @@ impl<'a> LinkedNode<'a> {
     /// The first leaf that counts behind this node, in its parent.
     fn leaf_behind(self, above: Above<'a>) -> Option<LinkedNode<'a>>
         requires { IsAbove self above }
-        ensures { MatchOption result (leaf_after self.entry.root.now (self.entry.number + nodes self.entry.node.now) ≡ leaf_after self.entry.root.now (above.entry.parent.number + nodes above.entry.parent.node.now)) (λ leaf. leaf_after self.entry.root.now (self.entry.number + nodes self.entry.node.now) ≡ Some (linked leaf)) }
+        ensures { leaf_after self.entry.root.now (self.entry.number + nodes self.entry.node.now) ≡ option_or (option_map linked result) (leaf_after self.entry.root.now (above.entry.parent.number + nodes above.entry.parent.node.now)) }
     {
         let parent = above.parent;
         let row = parent.node.children();
@@ -485,16 +489,16 @@ impl<'a> LinkedNode<'a> {
     fn last_leaf(self, before: usize) -> Option<LinkedNode<'a>>
         requires from { self.number ≤ before }
         requires to { before ≤ self.number + nodes self.node.now }
-        ensures { MatchOption result (leaf_until self.entry.root.now before ≡ leaf_until self.entry.root.now self.entry.number) (λ leaf. leaf_until self.entry.root.now before ≡ Some (linked leaf)) }
+        ensures { leaf_until self.entry.root.now before ≡ option_or (option_map linked result) (leaf_until self.entry.root.now self.entry.number) }
     {
-        let number = last_leaf_in(self.node, self.number, before)?;
-        Some(self.down_to(number))
+        let leaf = last_leaf_in(self.node, self.number, before, self.known.in_order())?;
+        Some(self.with_found(leaf))
     }
 
     /// The last leaf that counts before this node, in its parent.
     fn leaf_before(self, above: Above<'a>) -> Option<LinkedNode<'a>>
         requires { IsAbove self above }
-        ensures { MatchOption result (leaf_until self.entry.root.now self.entry.number ≡ leaf_until self.entry.root.now above.entry.parent.number) (λ leaf. leaf_until self.entry.root.now self.entry.number ≡ Some (linked leaf)) }
+        ensures { leaf_until self.entry.root.now self.entry.number ≡ option_or (option_map linked result) (leaf_until self.entry.root.now above.entry.parent.number) }
     {
         let parent = above.parent;
         if self.offset == usize::MAX {

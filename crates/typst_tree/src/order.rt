@@ -115,7 +115,7 @@ fn summed_back_to(
 
 /// The number and the offset of the child of an index of a node, which has this number and offset, by way
 /// of the siblings on that side where they are fewer.
-fn before_index(
+pub fn before_index(
     node: &SyntaxNode,
     row: &[SyntaxNode],
     number: usize,

@@ -4,7 +4,7 @@ ghost use Rattle.std.specs.Prelude.{◌≡◌, ℕ, ◌+◌, ◌^◌, ◌<◌, �
 ghost use Rattle.std.specs.Option.{option_map};
 ghost use Rattle.typst_tree.specs.Tree.{nodes, places, forest, count, preorder, joined, text_of, saturated};
 ghost use Rattle.typst_tree.specs.Passed.{IsPassed, FindsChild};
-ghost use Rattle.typst_tree.specs.Walks.{first_at, last_leaf, is_childless, is_leaf, holds_byte, Within};
+ghost use Rattle.typst_tree.specs.Walks.{first_at, is_childless, is_leaf, holds_byte, Within};
 ghost use Rattle.typst_tree.specs.Rows.{IsChild};
 ghost use Rattle.typst_tree.specs.Wanted.{wanted};
 ghost use Rattle.typst_tree.specs.Ordered.{IsKey};
@@ -333,31 +333,4 @@ impl<'a> Spot<'a> {
         }
         false
     }
-}
-
-/// The number of the last leaf with a number below `before` that is neither trivia nor an error,
-/// among a node, which has this number, and those below it.
-pub fn last_leaf_in(node: &SyntaxNode, number: usize, before: usize) -> Option<usize>
-    requires { number + nodes node.now < 2 ^ 64 - 1 }
-    ensures { result ≡ last_leaf before number (places node.now) }
-{
-    if before <= number {
-        return None;
-    }
-    let kids = node.children();
-    let mut end = number + node.descendants();
-    let mut i = kids.len();
-    while i > 0 {
-        i -= 1;
-        let kid = &kids[i];
-        end -= kid.descendants();
-        if before <= end {
-            continue;
-        }
-        match last_leaf_in(kid, end, before) {
-            Some(found) => return Some(found),
-            None => {}
-        }
-    }
-    if is_leaf(node) { Some(number) } else { None }
 }

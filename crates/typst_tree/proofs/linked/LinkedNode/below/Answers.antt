@@ -1,4 +1,4 @@
-use Rattle.std.proofs.Common.{◌≡◌, ◌+◌, ◌++◌, arith, ap, sym, ◌∙◌, length, length-append}
+use Rattle.std.proofs.Common.{◌≡◌, ◌+◌, ◌-◌, ◌++◌, arith, ap, sym, ◌∙◌, length, length-append}
 use Rattle.typst_tree.specs.Tree.{nodes, places}
 use Rattle.typst_tree.proofs.Forks.{holds_behind}
 use Rattle.typst_tree.proofs.NodesOfStretch.{stands_row}
@@ -13,5 +13,5 @@ invariant_of-result c =
       counted = c.args.self.counted;
       stands = stands_row (places c.args.self.root.now) c.args.self.number c.args.self.offset _ _ (places c.args.self.node.now) _ c.args.self.stands c.requires;
       ordered = λ e. c.args.self.ordered (sym c.behind.ensures.in_order ∙ e);
-      holds = holds_behind c.args.self.root.now c.args.self.number c.args.self.offset (nodes c.args.self.node.now) c.args.spot.number c.args.spot.offset (nodes c.args.spot.node.now) c.args.self.known c.behind.result c.args.self.holds (omega (arith, w.number)) (omega (arith, w.number, whole)) (omega arith) (omega (arith, w.offset)) (omega (arith, w.offset)) c.behind.ensures.opens c.behind.ensures.placed;
+      holds = holds_behind c.args.self.root.now c.args.self.number c.args.self.offset (nodes c.args.self.node.now) c.args.spot.number c.args.spot.offset (nodes c.args.spot.node.now) (c.args.spot.offset - c.args.self.offset) c.args.self.known c.behind.result c.args.self.holds (omega (arith, w.number)) (omega (arith, w.number, whole)) (omega arith) (omega (arith, w.offset)) c.behind.ensures.opens c.behind.ensures.placed;
     }

@@ -1,9 +1,9 @@
 use Rattle.std.proofs.Common.{◌≡◌, ◌+◌, ap, arith, refl, subst, sym, take, ◌∙◌}
-use Rattle.std.specs.Prelude.{MatchOption, Some}
+use Rattle.std.specs.Option.{option_map, option_or}
 use Rattle.typst_tree.specs.Tree.{count, forest, nodes}
 use Rattle.typst_tree.specs.Branches.{leaf_until}
 use Rattle.typst_tree.specs.Linked.{linked}
-use Rattle.typst_tree.proofs.Branches.{beside_of, none_alone, until_not_found, until_row}
+use Rattle.typst_tree.proofs.Branches.{beside_of, none_alone, until_here, until_row}
 use Rattle.typst_tree.proofs.Parents.{child_bounds}
 use Rattle.typst_tree.proofs.Rows.{step_back}
 use Rattle.typst_tree.proofs.linked.LinkedNode.leaf_before.Goals as goal
@@ -17,7 +17,7 @@ last_leaf-requires c =
 pub returns-then-self-eq18446744073709551615 : goal.returns-then-self-eq18446744073709551615
 returns-then-self-eq18446744073709551615 c =
     let p = c.args.above.parent in
-    subst (λ r. MatchOption c.last_leaf.result (leaf_until r c.args.self.number ≡ leaf_until r p.number) (λ leaf. leaf_until r c.args.self.number ≡ Some (linked leaf))) c.requires.root c.last_leaf.ensures
+    subst (λ r. leaf_until r c.args.self.number ≡ option_or (option_map linked c.last_leaf.result) (leaf_until r p.number)) c.requires.root c.last_leaf.ensures
 
 pub loop-at-init : goal.loop-at-init
 loop-at-init c =
@@ -90,5 +90,5 @@ returns c =
     let index : c.loop-at.at.index ≡ 0 = omega (arith, c.loop-at-test.false) in
     let first : c.loop-at.at.number ≡ c.args.above.parent.number + 1 + 0 = c.loop-at.invariant.number ∙ ap (λ j. p.number + 1 + count (forest (take j row))) index in
     let nothing = until_row p.node.now p.number at.number 0 row c.children-row.ensures first ∙ none_alone p.node.now p.number c.args.self.number 0 c.args.self.node.now at.number row c.requires.child (omega (arith, first)) refl in
-    let before = until_not_found p at.number (omega (arith, first)) (omega (arith, first)) (sym nothing) in
+    let before = until_here p at.number _ (omega (arith, first)) (omega (arith, first)) (sym nothing) in
     c.loop-at.invariant.found ∙ subst (λ r. leaf_until r at.number ≡ leaf_until r p.number) c.requires.root before

@@ -1,0 +1,29 @@
+use Rattle.std.proofs.Common.{ap, arith, length, refl, sym, ◌∙◌}
+use Rattle.std.specs.Prelude.{nat_lt}
+use Rattle.typst_tree.specs.Tree.{trees}
+use Rattle.typst_tree.specs.Rows.{long}
+use Rattle.typst_tree.proofs.FoundBelow.{above, seen}
+use Rattle.typst_tree.proofs.SpansAside.{trees_forest}
+use Rattle.typst_tree.proofs.StepDown.{at_slice_get}
+use Rattle.typst_tree.proofs.back.Found.below.Goals as goal
+
+pub before_index-at-requires-clause-within : goal.before_index-at-requires-clause-within
+before_index-at-requires-clause-within c =
+    let kids = trees c.args.over.now.kids in
+    omega (arith, (at_slice_get _ kids c.args.index c.requires.child).0, ap length (sym (ap trees c.children-row.ensures) ∙ trees_forest c.children-row.result.now))
+
+pub overflow_sub-self : goal.overflow_sub-self
+overflow_sub-self c =
+    let at = c.before_index-at.result in
+    (seen c.args.over.now c.args.number c.args.index at.number at.offset _ c.args.self c.children-row.result.now c.children-row.ensures c.requires.child c.before_index-at.ensures).from
+
+pub returns-clause-below : goal.returns-clause-below
+returns-clause-below c =
+    let o = c.args.over.now in
+    let n = c.args.number in
+    let at = c.before_index-at.result in
+    let row = c.children-row.result.now in
+    let w = seen o n c.args.index at.number at.offset _ c.args.self row c.children-row.ensures c.requires.child c.before_index-at.ensures in
+    let is_long = ap (λ ts. nat_lt long (length ts)) (sym (trees_forest row) ∙ ap trees c.children-row.ensures) in
+    let order = c.of_child-way.ensures.in_order ∙ (c.open.ensures.in_order ∙ c.in_order.ensures) in
+    above o n w.kid at.number at.offset c.args.index c.open.result c.of_child-way.result _ c.args.self _ w.child w.within w.below is_long c.open.ensures.reach c.of_child-way.ensures.follows c.then.ensures.joins (c.then.ensures.in_order (sym order) ∙ order) refl refl c.saturating_add.ensures
