@@ -75,9 +75,10 @@ pub fn children_law()
     ensures inner_back { InnerBackLaw }
 {}
 
-/// Each block of a text has two notes in its log, where it begins and where it ends. Two numbers of
-/// them say exactly whether what the block law asks of looks holds: where all looks before the first
-/// end, and where those behind the second begin, in bytes beside the ends of the replaced stretch. A note stands
+/// Each block of a text has two notes in its log, where it begins and where it ends. The
+/// numbers of the notes up to the first, and of those behind the second, say exactly whether what the block
+/// law asks of looks holds: where all looks before the first end, and where those behind the second begin,
+/// in bytes beside the ends of the replaced stretch. A note stands
 /// where each piece of a text's run begins, too, and says as exactly whether what the run law asks of looks holds,
 /// or the law of the joint, for a stretch that goes on into the trivia behind the pieces; and so in a content block.
 pub fn decision_law()

@@ -138,7 +138,8 @@ impl<'s> Parser<'s> {
         self.state
     }
 
-    /// What was looked at: where all looks end, and where those since the last note begin.
+    /// What was looked at since the last note: where the looks end, and where they begin; all looks,
+    /// where no notes are kept.
     pub fn looked(&self) -> Hull
         ensures { result ≡ hull_in self.now.log }
     {
@@ -150,8 +151,8 @@ impl<'s> Parser<'s> {
         self.alloc
     }
 
-    /// The nodes that were read; what was noted, nothing where no notes are kept; and what was looked
-    /// at: where all looks end, and where those since the last note begin.
+    /// The nodes that were read; what was noted, nothing where no notes are kept; and where the looks
+    /// since the last note end, and where they begin, all looks where no notes are kept.
     pub fn finish(self) -> (Vec<SyntaxNode>, Vec<Note>, Hull)
         ensures nodes { result.0.items ≡ self.entry.nodes }
         ensures notes { result.1.items ≡ listed self.entry.log.notes }
