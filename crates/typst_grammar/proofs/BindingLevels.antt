@@ -1,5 +1,7 @@
 -- What is read at each level binds, where what it calls does.
-use Rattle.std.proofs.Common.{ℕ, false, refl}
+use Rattle.std.proofs.Common.{◌≡◌, ℕ, Bool, true, false, refl}
+use Rattle.typst_kinds.specs.declared.kind.SyntaxKind.{SyntaxKind}
+use Rattle.typst_kinds.specs.declared.kind.SyntaxKind.TheVariants as kind
 use Rattle.typst_lines.specs.Place.{Place}
 use Rattle.typst_lines.specs.Classes.{CharClasses}
 use Rattle.typst_language.specs.declared.calls.Block.{Block}
@@ -10,11 +12,16 @@ use Rattle.typst_language.specs.Depth.{deeper}
 use Rattle.typst_language.specs.Knot.{blocks_of}
 use Rattle.typst_language.specs.Meaning.{Meaning, blockless, run}
 use Rattle.typst_language.specs.Point.{Point, pending}
+use Rattle.typst_language.specs.Shape.{encloses}
+use Rattle.typst_language.specs.Steps.{node}
+use Rattle.typst_language.specs.Syntax.{Parser}
+use Rattle.typst_code.specs.Markup.{content_block}
+use Rattle.typst_code.specs.Sequences.{code_block}
 use Rattle.typst_grammar.specs.Grammar.{block_production, rules, meaning, level_at}
-use Rattle.typst_grammar.proofs.Fine.{All}
-use Rattle.typst_grammar.proofs.FineRuns.{AllBind, Plain, Still, binds-run}
-use Rattle.typst_grammar.proofs.PlainParts.{plain-content}
-use Rattle.typst_grammar.proofs.PlainCode.{plain-code-block}
+use Rattle.typst_grammar.proofs.Fine.{All, shape_by, unbinary, tame_kind, tame-unbinary}
+use Rattle.typst_grammar.proofs.FineRuns.{AllBind, gives-all, PlainBy, Plain, plain-weaker, Still, binds-run}
+use Rattle.typst_grammar.proofs.PlainParts.{inside_content, plain-inside-content}
+use Rattle.typst_grammar.proofs.PlainCode.{inside_code, plain-inside-code}
 use Rattle.typst_grammar.proofs.Grown.{Operand}
 
 module _ (k : CharClasses) where
@@ -22,9 +29,19 @@ module _ (k : CharClasses) where
   abbrev pub CallsBind : ℕ → Type 0
   CallsBind levels = (c : Call) → AllBind (meaning k levels c)
 
-  plain-block : (b : Block) → Plain (block_production b)
-  plain-block block.Content = plain-content
-  plain-block block.Code = plain-code-block
+  -- of its node no more is asked than that it is no binary one
+  unbinary-node : (i : SyntaxKind) (p : Parser Bool) → unbinary i ≡ true → Plain p → PlainBy unbinary (node (encloses i) p)
+  unfolding node
+  unbinary-node i p e w = (refl, λ _. ((gives-all (λ closed. shape_by unbinary (encloses i closed) ≡ true) enclosed p, plain-weaker tame_kind unbinary tame-unbinary p w), λ _. tt))
+    where
+      enclosed : (closed : Bool) → shape_by unbinary (encloses i closed) ≡ true
+      enclosed true = e
+      enclosed false = e
+
+  plain-block : (b : Block) → PlainBy unbinary (block_production b)
+  unfolding content_block code_block
+  plain-block block.Content = (unbinary-node kind.ContentBlock inside_content refl plain-inside-content, λ _. tt)
+  plain-block block.Code = (unbinary-node kind.CodeBlock inside_code refl plain-inside-code, λ _. tt)
 
   -- so do its blocks
   blocks-bind : (levels : ℕ) → CallsBind levels → (b : Block) → AllBind (blocks_of (rules k) k levels (meaning k levels) b)
@@ -32,7 +49,7 @@ module _ (k : CharClasses) where
 
   -- and all that makes no binary node
   pub level-binds : {A : Type 0} (levels : ℕ) → CallsBind levels → (p : _) → Plain {A = A} p → AllBind (run (level_at k levels) p)
-  level-binds levels d p w = binds-run (level_at k levels) d (blocks-bind levels d) p w
+  level-binds levels d p w = binds-run (level_at k levels) d (blocks-bind levels d) p (plain-weaker tame_kind unbinary tame-unbinary p w)
 
   -- an operand, and what binds less tightly behind it
   abbrev pub Operands : ℕ → Meaning (Unit {0}) → Type 0

@@ -153,7 +153,7 @@ flushed-held : (h : Hand) (s : Point) → (flushed_state h s).held ≡ s.held
 flushed-held h s = flushed-by h.trivia h s refl
 
 -- nothing is known of the trivia: they or the token take something
-some-ahead : (k : CharClasses) (m : SyntaxMode) (n : ℕ) (z : Place) → 0 < len_at k m z → 0 < (ahead_by k m n z).gap + (ahead_by k m n z).len
+pub some-ahead : (k : CharClasses) (m : SyntaxMode) (n : ℕ) (z : Place) → 0 < len_at k m z → 0 < (ahead_by k m n z).gap + (ahead_by k m n z).len
 some-ahead k m zero z h = omega (arith, h)
 some-ahead k m (suc n) z h = by-trivia (at_trivia k m z) refl
   where
@@ -171,7 +171,7 @@ module _ (k : CharClasses) (levels : ℕ) where
   l = level_at k levels
 
   -- a block takes something where it begins
-  moves-inside : (b : Block) (z : Place) (s : Point) → 0 < (hand_at k s.held None z).gap + (hand_at k s.held None z).len → 0 < (l.blocks b z (forgot s)).taken
+  pub moves-inside : (b : Block) (z : Place) (s : Point) → 0 < (hand_at k s.held None z).gap + (hand_at k s.held None z).len → 0 < (l.blocks b z (forgot s)).taken
   unfolding run
   moves-inside block.Content z s h =
       let t = forgot s in

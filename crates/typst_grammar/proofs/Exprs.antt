@@ -27,11 +27,11 @@ use Rattle.typst_language.proofs.Knot.{sane-at}
 use Rattle.typst_language.proofs.Places.{no-end}
 use Rattle.typst_grammar.specs.Grammar.{rules, level_at}
 use Rattle.typst_grammar.specs.Binding.{any_errors}
-use Rattle.typst_grammar.proofs.Fine.{All, Fines}
-use Rattle.typst_grammar.proofs.FineRuns.{Gives, gives-all, gives-run, Plain, Still, still-hand}
+use Rattle.typst_grammar.proofs.Fine.{All, Fines, is_ordinary, tame_kind, tame-ordinary}
+use Rattle.typst_grammar.proofs.FineRuns.{if_by, Gives, gives-all, gives-run, PlainBy, Plain, plain-weaker, Still, still-hand}
 use Rattle.typst_grammar.proofs.Heads.{LastIs, standing-none}
 use Rattle.typst_grammar.proofs.PlainParts.{plain-eat, plain-expected, plain-deep, plain-deeper}
-use Rattle.typst_grammar.proofs.PlainCode.{plain-field, plain-call}
+use Rattle.typst_grammar.proofs.PlainCode.{plain-field, plain-call, plain-primary}
 use Rattle.typst_grammar.proofs.Grown.{errors-behind, kind_at, Ended, Grown, Operand, operand-growths}
 use Rattle.typst_grammar.proofs.BindingLevels.{CallsBind, DeeperOperands, level-binds}
 use Rattle.typst_grammar.proofs.Lost.{Holds, Lost, operand-lost}
@@ -98,6 +98,34 @@ says-tail tail.Nothing = tt
 says-turn : (least : ℕ) (x : Unit {0}) → Gives Says (code_tail_turn false least x)
 unfolding code_tail_turn
 says-turn least x = λ a. says-tail (code_tail false least a.kind a.has_trivia)
+
+-- ---- what an expression makes, binary nodes too
+
+abbrev Orders : Option Shape × Unit {0} → Type 0
+Orders v = if_by is_ordinary v.0 ≡ true
+
+orders-binary : (op : _) → Gives Orders (binary_expr op)
+unfolding binary_expr
+orders-binary op = gives-all _ (λ _. gives-all _ (λ _. refl) (deeper _ _)) eat
+
+orders-tail : (t : CodeTail) → Gives Orders (tail_by t)
+unfolding call_tail field direct_field not_in
+orders-tail tail.Call = gives-all _ (λ _. refl) arguments
+orders-tail tail.Field = gives-all _ (λ _. gives-all _ (λ _. refl) expect_identifier) eat
+orders-tail tail.DirectField = λ _. (gives-all _ (λ _. gives-all _ (λ _. refl) expect_identifier) eat, refl)
+orders-tail tail.NotIn = gives-all _ (λ _ _. (orders-binary _, gives-all _ (λ _. refl) (expected _))) eat
+orders-tail (tail.Binary op) = orders-binary op
+orders-tail tail.Nothing = refl
+
+pub ordinary-expr : (least : ℕ) → PlainBy is_ordinary (code_expr false least)
+unfolding code_expr grow code_tail_turn
+ordinary-expr least = (
+  refl,
+  λ _. (
+    plain-weaker tame_kind is_ordinary tame-ordinary (code_primary false) (plain-primary false),
+    λ x. (λ a. orders-tail (code_tail false least a.kind a.has_trivia), plain-weaker tame_kind is_ordinary tame-ordinary (code_tail_turn false least x) (plain-turn least x)),
+  ),
+)
 
 -- ---- expressions
 

@@ -236,27 +236,80 @@ fine-parens t h =
 
 -- ---- what becomes of several nodes
 
--- nothing becomes a binary node
-abbrev pub tame_change : Change → Bool
-tame_change (renamed k) = if same kind.Binary k then false else true
-tame_change _ = true
+-- what this allows of the kinds that are made
+abbrev pub change_by : (SyntaxKind → Bool) → Change → Bool
+change_by allows (renamed k) = allows k
+change_by allows _ = true
 
+abbrev pub shape_by : (SyntaxKind → Bool) → Shape → Bool
+shape_by allows (keeps change) = change_by allows change
+shape_by allows (holds change k) = change_by allows change && allows k
+shape_by allows (lacks count message k) = allows k
+shape_by allows (warns k message hint) = allows k
+shape_by allows (fails message) = true
+
+abbrev pub making_by : (SyntaxKind → Bool) → Making → Bool
+making_by allows (of_kind k) = allows k
+making_by allows _ = true
+
+-- no binary node
+abbrev pub unbinary : SyntaxKind → Bool
+unbinary k = if same kind.Binary k then false else true
+
+-- no error, and no block's node
+abbrev pub is_ordinary : SyntaxKind → Bool
+is_ordinary kind.Error = false
+is_ordinary kind.CodeBlock = false
+is_ordinary kind.ContentBlock = false
+is_ordinary _ = true
+
+-- neither
 abbrev pub tame_kind : SyntaxKind → Bool
-tame_kind k = if same kind.Binary k then false else true
+tame_kind k = is_ordinary k && unbinary k
 
-pub is-tame : (k : SyntaxKind) → tame_kind k ≡ true → same kind.Binary k ≡ false
-is-tame k h = by-test (same kind.Binary k) h
+abbrev pub tame_change : Change → Bool
+tame_change change = change_by tame_kind change
+
+abbrev pub tame : Shape → Bool
+tame shape = shape_by tame_kind shape
+
+abbrev pub tame_making : Making → Bool
+tame_making making = making_by tame_kind making
+
+pub tame-unbinary : (k : SyntaxKind) → tame_kind k ≡ true → unbinary k ≡ true
+tame-unbinary k h = and-right (is_ordinary k) (unbinary k) h
+
+pub tame-ordinary : (k : SyntaxKind) → tame_kind k ≡ true → is_ordinary k ≡ true
+tame-ordinary k h = and-left (is_ordinary k) (unbinary k) h
+
+pub is-unbinary : (k : SyntaxKind) → unbinary k ≡ true → same kind.Binary k ≡ false
+is-unbinary k h = by-test (same kind.Binary k) h
   where
     by-test : (b : Bool) → (if b then false else true) ≡ true → b ≡ false
     by-test true h = absurd (cc)
     by-test false h = refl
 
-abbrev pub tame : Shape → Bool
-tame (keeps change) = tame_change change
-tame (holds change k) = tame_change change && tame_kind k
-tame (lacks count message k) = tame_kind k
-tame (warns k message hint) = tame_kind k
-tame (fails message) = true
+-- what allows more
+module _ (f g : SyntaxKind → Bool) (more : (k : SyntaxKind) → f k ≡ true → g k ≡ true) where
+  change-weaker : (change : Change) → change_by f change ≡ true → change_by g change ≡ true
+  change-weaker stays h = refl
+  change-weaker (turns_wrong message) h = refl
+  change-weaker (is_not thing) h = refl
+  change-weaker (renamed k) h = more k h
+  change-weaker unparened h = refl
+
+  pub shape-weaker : (shape : Shape) → shape_by f shape ≡ true → shape_by g shape ≡ true
+  shape-weaker (keeps change) h = change-weaker change h
+  shape-weaker (holds change k) h = and-both (change_by g change) (g k) (change-weaker change (and-left (change_by f change) (f k) h)) (more k (and-right (change_by f change) (f k) h))
+  shape-weaker (lacks count message k) h = more k h
+  shape-weaker (warns k message hint) h = more k h
+  shape-weaker (fails message) h = refl
+
+  pub making-weaker : (making : Making) → making_by f making ≡ true → making_by g making ≡ true
+  making-weaker itself h = refl
+  making-weaker (of_kind k) h = more k h
+  making-weaker (surprise hints) h = refl
+  making-weaker (wanted thing) h = refl
 
 -- an error stays one
 abbrev Wrong : Tree → Type 0
@@ -284,20 +337,20 @@ fines-first f g w [] h = tt
 fines-first f g w (t ∷ ts) (x, inl e) = (g t x, inl (w t e))
 fines-first f g w (t ∷ ts) (x, inr h) = (g t x, inr h)
 
-fines-change : (change : Change) (ts : List Tree) → tame_change change ≡ true → Fines ts → Fines (first_changed change ts)
+fines-change : (change : Change) (ts : List Tree) → change_by unbinary change ≡ true → Fines ts → Fines (first_changed change ts)
 fines-change stays ts e h = h
 fines-change (turns_wrong message) ts e h = fines-first (made_error message) (fine-wrong message) (wrong-wrong message) ts h
 fines-change (is_not thing) ts e h = fines-first (made_expected thing) (fine-wanted thing) (wrong-wanted thing) ts h
-fines-change (renamed k) ts e h = fines-first (with_kind k) (fine-kind k (is-tame k e)) (wrong-kind k) ts h
+fines-change (renamed k) ts e h = fines-first (with_kind k) (fine-kind k (is-unbinary k e)) (wrong-kind k) ts h
 fines-change unparened ts e h = fines-first without_parens fine-parens wrong-parens ts h
 
-fines-shaped : (shape : Shape) (ts : List Tree) → tame shape ≡ true → Fines ts → Fines (shaped shape ts)
+fines-shaped : (shape : Shape) (ts : List Tree) → shape_by unbinary shape ≡ true → Fines ts → Fines (shaped shape ts)
 fines-shaped (keeps change) ts e h = fines-change change ts e h
 fines-shaped (holds change k) ts e h =
-    (fine-over k (first_changed change ts) (is-tame k (and-right (tame_change change) (tame_kind k) e)) (fines-change change ts (and-left (tame_change change) (tame_kind k) e) h), inr tt)
+    (fine-over k (first_changed change ts) (is-unbinary k (and-right (change_by unbinary change) (unbinary k) e)) (fines-change change ts (and-left (change_by unbinary change) (unbinary k) e) h), inr tt)
 fines-shaped (lacks count message k) ts e h =
-    (fine-over k (take count ts ++ error_of message [] ∷ drop count ts) (is-tame k e) (fines-append (take count ts) (error_of message [] ∷ drop count ts) (fines-take count ts h) (fine-error message [], inl refl)), inr tt)
-fines-shaped (warns k message hint) ts e h = (fine-over k ts (is-tame k e) h, inr tt)
+    (fine-over k (take count ts ++ error_of message [] ∷ drop count ts) (is-unbinary k e) (fines-append (take count ts) (error_of message [] ∷ drop count ts) (fines-take count ts h) (fine-error message [], inl refl)), inr tt)
+fines-shaped (warns k message hint) ts e h = (fine-over k ts (is-unbinary k e) h, inr tt)
 fines-shaped (fails message) ts e h = (λ n. absurd (cc), inl refl)
 
 -- what stands before them stays
@@ -307,17 +360,13 @@ fines-behind (suc m) [] us h f = f tt
 fines-behind (suc m) (t ∷ ts) us (x, inl e) f = (x, inl e)
 fines-behind (suc m) (t ∷ ts) us (x, inr h) f = (x, inr (fines-behind m ts us h f))
 
-pub fines-reshaped : (m : ℕ) (shape : Shape) (ts : List Tree) → tame shape ≡ true → Fines ts → Fines (take m ts ++ shaped shape (drop m ts))
+pub fines-reshaped : (m : ℕ) (shape : Shape) (ts : List Tree) → shape_by unbinary shape ≡ true → Fines ts → Fines (take m ts ++ shaped shape (drop m ts))
 fines-reshaped m shape ts e h = fines-behind m ts (shaped shape (drop m ts)) h (fines-shaped shape (drop m ts) e)
 
 -- ---- what becomes of a token
 
-abbrev pub tame_making : Making → Bool
-tame_making (of_kind k) = tame_kind k
-tame_making _ = true
-
-pub fine-made : (m : Making) (t : Tree) → tame_making m ≡ true → Fine t → Fine (made m t)
+pub fine-made : (m : Making) (t : Tree) → making_by unbinary m ≡ true → Fine t → Fine (made m t)
 fine-made itself t e h = h
-fine-made (of_kind k) t e h = fine-kind k (is-tame k e) t h
+fine-made (of_kind k) t e h = fine-kind k (is-unbinary k e) t h
 fine-made (surprise hints) t e h = fine-advised hints (made_unexpected t) (fine-wrong (unexpected_message (name_of t.head.kind)) t h)
 fine-made (wanted thing) t e h = fine-wanted thing t h

@@ -19,6 +19,8 @@ use Rattle.typst_tokens.specs.declared.token.Fault.{Fault}
 use Rattle.typst_tokens.specs.declared.token.Token.{Token}
 use Rattle.typst_language.specs.declared.calls.Block.{Block}
 use Rattle.typst_language.specs.declared.calls.Call.{Call}
+use Rattle.typst_language.specs.declared.calls.Mark.{Mark}
+use Rattle.typst_language.specs.declared.calls.Mark.TheVariants as mark
 use Rattle.typst_language.specs.declared.reading.Reading.{Reading}
 use Rattle.typst_language.specs.Point.{Point, Trivia, pending}
 use Rattle.typst_language.specs.Hand.{Ahead, ahead, ahead_by, after_trivia, direct, hand_at, token_at, len_at, at_trivia, token_by, len_by}
@@ -31,7 +33,7 @@ use Rattle.typst_language.specs.Meaning.{Outcome, Meaning, Level, less, joined, 
 use Rattle.typst_language.proofs.Within.{on_both, on_if}
 use Rattle.typst_grammar.specs.Binding.{has_errors, operator_of}
 use Rattle.typst_grammar.proofs.Signs.{sign_of}
-use Rattle.typst_grammar.proofs.Fine.{All, Fine, Fines, fines-all, fines-append, fines-take, fines-hinted, fines-reshaped, and-left, all-append, fine-inner, fine-error, fine-leaf, fine-made, no-operator, tame, tame_making}
+use Rattle.typst_grammar.proofs.Fine.{All, Fine, Fines, fines-all, fines-append, fines-take, fines-hinted, fines-reshaped, and-left, all-append, fine-inner, fine-error, fine-leaf, fine-made, no-operator, shape_by, making_by, unbinary, tame_kind, shape-weaker, making-weaker}
 
 -- ---- nodes of tokens
 
@@ -228,7 +230,7 @@ after-shape-known (fails message) ts s = refl
 pub still-shaped : (shape : Shape) (ts : List Tree) (s : Point) → All Still (pending s.known) → All Still (pending (after_shape shape ts s).known)
 still-shaped shape ts s h = subst (λ (x : Option Trivia). All Still (pending x)) (sym (after-shape-known shape ts s)) h
 
-pub binds-reshaped : {A : Type 0} (shape : Shape) → tame shape ≡ true → (n : ℕ) (o : Outcome A) → Binds o → Binds (reshaped shape n o)
+pub binds-reshaped : {A : Type 0} (shape : Shape) → shape_by unbinary shape ≡ true → (n : ℕ) (o : Outcome A) → Binds o → Binds (reshaped shape n o)
 binds-reshaped shape e n o h =
     let m = n + o.back in
     record {
@@ -239,15 +241,18 @@ binds-reshaped shape e n o h =
 still-left : (outer : Reading) (s : Point) → All Still (pending s.known) → All Still (pending (left outer s).known)
 still-left outer s h = on_both (λ (t : Point). All Still (pending t.known)) (same_mode s.reading.mode outer.mode) _ _ h tt
 
-abbrev pub tame_if : Option Shape → Bool
-tame_if None = true
-tame_if (Some shape) = tame shape
+abbrev pub if_by : (SyntaxKind → Bool) → Option Shape → Bool
+if_by allows None = true
+if_by allows (Some shape) = shape_by allows shape
 
-binds-grown : {A : Type 0} (n : ℕ) (shape : Option Shape) → tame_if shape ≡ true → (o : Outcome A) → Binds o → Binds (grown n shape o)
+abbrev pub tame_if : Option Shape → Bool
+tame_if shape = if_by tame_kind shape
+
+binds-grown : {A : Type 0} (n : ℕ) (shape : Option Shape) → if_by unbinary shape ≡ true → (o : Outcome A) → Binds o → Binds (grown n shape o)
 binds-grown n None e o h = h
 binds-grown n (Some shape) e o h = binds-reshaped shape e n o h
 
-binds-growths : {A : Type 0} (m : A → Meaning (Option Shape × A)) → ((x : A) → AllBind (m x)) → ((x : A) (z : Place) (s : Point) → tame_if (m x z s).value.0 ≡ true) → (n k : ℕ) (o : Outcome A) (z : Place) → Binds o → Binds (growths m n k o z)
+binds-growths : {A : Type 0} (m : A → Meaning (Option Shape × A)) → ((x : A) → AllBind (m x)) → ((x : A) (z : Place) (s : Point) → if_by unbinary (m x z s).value.0 ≡ true) → (n k : ℕ) (o : Outcome A) (z : Place) → Binds o → Binds (growths m n k o z)
 binds-growths m f e n zero o z h = h
 binds-growths m f e n (suc k) o z h =
     let p = m o.value (moved o.taken z) o.state in
@@ -256,7 +261,7 @@ binds-growths m f e n (suc k) o z h =
     let g = binds-grown n p.value.0 (e o.value (moved o.taken z) o.state) (answered p.value.1 (joined o p)) (record { nodes = j.nodes; known = j.known }) in
     binds-if (is_more p.value.0 && nat_lt 0 p.taken) (growths m n k more z) more (binds-growths m f e n k more z g) g
 
-binds-nestings : {A : Type 0} (f : A → Shape) → ((a : A) → tame (f a) ≡ true) → (begin : Begin) (m : A → Meaning (Bool × A)) → ((x : A) → AllBind (m x)) → (n : ℕ) (x : A) → AllBind (nestings f begin m n x)
+binds-nestings : {A : Type 0} (f : A → Shape) → ((a : A) → shape_by unbinary (f a) ≡ true) → (begin : Begin) (m : A → Meaning (Bool × A)) → ((x : A) → AllBind (m x)) → (n : ℕ) (x : A) → AllBind (nestings f begin m n x)
 binds-nestings f e begin m g zero x z s h = binds-plain x s h
 binds-nestings f e begin m g (suc n) x z s h =
     let o = m x z s in
@@ -299,26 +304,84 @@ gives-all Q h (either p is_wrong q) = (gives-all Q h p, gives-all Q h q)
 gives-all Q h (calls c) = h
 gives-all Q h (block b) = h
 
--- no token becomes a binary node
-abbrev pub tame_op : {A : Type 0} → Op A → Bool
-tame_op (takes trims making) = tame_making making
-tame_op (takes_so way making) = tame_making making
-tame_op _ = true
+-- it notes no block's begin
+abbrev pub begins_none : Mark → Bool
+begins_none (mark.Opens b) = false
+begins_none _ = true
 
--- it makes no binary node
+-- tokens become of the kinds of this alone, and no block's begin is noted
+abbrev pub op_by : {A : Type 0} → (SyntaxKind → Bool) → Op A → Bool
+op_by allows (takes trims making) = making_by allows making
+op_by allows (takes_so way making) = making_by allows making
+op_by allows (marks m) = begins_none m
+op_by allows _ = true
+
+-- it makes nodes of the kinds of this alone, but where it reads a block
+abbrev pub PlainBy : {A : Type 0} → (SyntaxKind → Bool) → Parser A → Type 0
+PlainBy allows (gives a) = Unit {0}
+PlainBy allows (does o) = op_by allows o ≡ true
+PlainBy allows (next p f) = PlainBy allows p × ((b : _) → PlainBy allows (f b))
+PlainBy allows (pick b p q) = PlainBy allows p × PlainBy allows q
+PlainBy allows (repeat p x) = (y : _) → PlainBy allows (p y)
+PlainBy allows (wraps f begin p) = Gives (λ a. shape_by allows (f a) ≡ true) p × PlainBy allows p
+PlainBy allows (grows begin p f) = PlainBy allows p × ((x : _) → Gives (λ v. if_by allows v.0 ≡ true) (f x) × PlainBy allows (f x))
+PlainBy allows (nests f begin p x) = ((a : _) → shape_by allows (f a) ≡ true) × ((y : _) → PlainBy allows (p y))
+PlainBy allows (scoped f p) = PlainBy allows p
+PlainBy allows (either p is_wrong q) = PlainBy allows p × PlainBy allows q
+PlainBy allows (calls c) = Unit {0}
+PlainBy allows (block b) = Unit {0}
+
+-- it makes no binary node and no block's, but where it reads a block
 abbrev pub Plain : {A : Type 0} → Parser A → Type 0
-Plain (gives a) = Unit {0}
-Plain (does o) = tame_op o ≡ true
-Plain (next p f) = Plain p × ((b : _) → Plain (f b))
-Plain (pick b p q) = Plain p × Plain q
-Plain (repeat p x) = (y : _) → Plain (p y)
-Plain (wraps f begin p) = Gives (λ a. tame (f a) ≡ true) p × Plain p
-Plain (grows begin p f) = Plain p × ((x : _) → Gives (λ v. tame_if v.0 ≡ true) (f x) × Plain (f x))
-Plain (nests f begin p x) = ((a : _) → tame (f a) ≡ true) × ((y : _) → Plain (p y))
-Plain (scoped f p) = Plain p
-Plain (either p is_wrong q) = Plain p × Plain q
-Plain (calls c) = Unit {0}
-Plain (block b) = Unit {0}
+Plain p = PlainBy tame_kind p
+
+gives-by : {A : Type 0} (Q R : A → Type 0) → ((a : A) → Q a → R a) → (p : Parser A) → Gives Q p → Gives R p
+gives-by Q R g (gives a) h = g a h
+gives-by Q R g (does o) h = λ a. g a (h a)
+gives-by Q R g (next p f) h = gives-by (λ b. Gives Q (f b)) (λ b. Gives R (f b)) (λ b. gives-by Q R g (f b)) p h
+gives-by Q R g (pick b p q) h = (gives-by Q R g p h.0, gives-by Q R g q h.1)
+gives-by Q R g (repeat p x) h = λ a. g a (h a)
+gives-by Q R g (wraps f begin p) h = λ a. g a (h a)
+gives-by Q R g (grows begin p f) h = λ a. g a (h a)
+gives-by Q R g (nests f begin p x) h = λ a. g a (h a)
+gives-by Q R g (scoped f p) h = gives-by Q R g p h
+gives-by Q R g (either p is_wrong q) h = (gives-by Q R g p h.0, gives-by Q R g q h.1)
+gives-by Q R g (calls c) h = λ a. g a (h a)
+gives-by Q R g (block b) h = λ a. g a (h a)
+
+-- by what allows more it is the same
+module _ (f g : SyntaxKind → Bool) (more : (k : SyntaxKind) → f k ≡ true → g k ≡ true) where
+  op-weaker : {A : Type 0} (o : Op A) → op_by f o ≡ true → op_by g o ≡ true
+  op-weaker hand h = refl
+  op-weaker (so way) h = refl
+  op-weaker further h = refl
+  op-weaker column h = refl
+  op-weaker erred h = refl
+  op-weaker (takes trims making) h = making-weaker f g more making h
+  op-weaker (takes_so way making) h = making-weaker f g more making h
+  op-weaker flushes h = refl
+  op-weaker (complains message) h = refl
+  op-weaker (advises hint) h = refl
+  op-weaker (marks m) h = h
+  op-weaker is_deepest h = refl
+
+  if-weaker : (shape : Option Shape) → if_by f shape ≡ true → if_by g shape ≡ true
+  if-weaker None h = refl
+  if-weaker (Some shape) h = shape-weaker f g more shape h
+
+  pub plain-weaker : {A : Type 0} (p : Parser A) → PlainBy f p → PlainBy g p
+  plain-weaker (gives a) h = tt
+  plain-weaker (does o) h = op-weaker o h
+  plain-weaker (next p r) h = (plain-weaker p h.0, λ b. plain-weaker (r b) (h.1 b))
+  plain-weaker (pick b p q) h = (plain-weaker p h.0, plain-weaker q h.1)
+  plain-weaker (repeat p x) h = λ y. plain-weaker (p y) (h y)
+  plain-weaker (wraps r begin p) h = (gives-by _ _ (λ a. shape-weaker f g more (r a)) p h.0, plain-weaker p h.1)
+  plain-weaker (grows begin p r) h = (plain-weaker p h.0, λ x. (gives-by _ _ (λ v. if-weaker v.0) (r x) (h.1 x).0, plain-weaker (r x) (h.1 x).1))
+  plain-weaker (nests r begin p x) h = (λ a. shape-weaker f g more (r a) (h.0 a), λ y. plain-weaker (p y) (h.1 y))
+  plain-weaker (scoped r p) h = plain-weaker p h
+  plain-weaker (either p is_wrong q) h = (plain-weaker p h.0, plain-weaker q h.1)
+  plain-weaker (calls c) h = tt
+  plain-weaker (block b) h = tt
 
 module _ (l : Level) where
   -- what may be answered is answered
@@ -344,7 +407,7 @@ module _ (l : Level) where
   binds-gave : (z : Place) (s : Point) (trims : Bool) (len : ℕ) (node : Tree) (asks : List _) → All Still (pending s.known) → Fine node → Binds (gave (hand_of l z s) trims len node asks s)
   binds-gave z s trims len node asks k f = let h = hand_of l z s in record { nodes = fines-append h.trivia (node ∷ []) (fines-all h.trivia (fine-still h.trivia (still-hand l z s k))) (f, inr tt); known = tt }
 
-  binds-done : {A : Type 0} (o : Op A) → tame_op o ≡ true → AllBind (done l o)
+  binds-done : {A : Type 0} (o : Op A) → op_by unbinary o ≡ true → AllBind (done l o)
   binds-done hand e z s h = record { nodes = tt; known = still-hand l z s h }
   binds-done (so way) e z s h = record { nodes = tt; known = still-hand l z s h }
   binds-done further e z s h = record { nodes = tt; known = still-hand l z s h }
@@ -364,12 +427,12 @@ module _ (l : Level) where
   binds-done flushes e z s h = record { nodes = fines-all (hand_of l z s).trivia (fine-still (hand_of l z s).trivia (still-hand l z s h)); known = tt }
   binds-done (complains message) e z s h = record { nodes = (fine-error message [], inl refl); known = h }
   binds-done (advises hint) e z s h = record { nodes = tt; known = h }
-  binds-done (marks mark) e z s h = record { nodes = tt; known = h }
+  binds-done (marks m) e z s h = record { nodes = tt; known = h }
   binds-done is_deepest e z s h = record { nodes = tt; known = h }
 
   module _ (d : (c : Call) → AllBind (l.deeper c)) (e : (x : Block) → AllBind (l.blocks x)) where
     -- what makes no binary node gives trees that bind where all that it calls does
-    pub binds-run : {A : Type 0} (p : Parser A) → Plain p → AllBind (run l p)
+    pub binds-run : {A : Type 0} (p : Parser A) → PlainBy unbinary p → AllBind (run l p)
     unfolding run repeated growing nesting
     binds-run (gives a) w z s h = binds-plain a s h
     binds-run (does o) w z s h = binds-done o w z s h
@@ -381,10 +444,10 @@ module _ (l : Level) where
     binds-run (repeat p x) w z s h = binds-turns (λ y. run l (p y)) (λ y. binds-run (p y) (w y)) (suc (bound z s)) x z s h
     binds-run (wraps f begin p) w z s h =
         let o = run l p z s in
-        let k = binds-reshaped (f o.value) (gives-run (λ a. tame (f a) ≡ true) p w.0 z s) (before begin s) o (binds-run p w.1 z s h) in
+        let k = binds-reshaped (f o.value) (gives-run (λ a. shape_by unbinary (f a) ≡ true) p w.0 z s) (before begin s) o (binds-run p w.1 z s h) in
         record { nodes = k.nodes; known = k.known }
     binds-run (grows begin p f) w z s h =
-        binds-growths (λ y. run l (f y)) (λ y. binds-run (f y) (w.1 y).1) (λ y. gives-run (λ v. tame_if v.0 ≡ true) (f y) (w.1 y).0) (before begin s) (suc (bound z s)) (run l p z s) z (binds-run p w.0 z s h)
+        binds-growths (λ y. run l (f y)) (λ y. binds-run (f y) (w.1 y).1) (λ y. gives-run (λ v. if_by unbinary v.0 ≡ true) (f y) (w.1 y).0) (before begin s) (suc (bound z s)) (run l p z s) z (binds-run p w.0 z s h)
     binds-run (nests f begin p x) w z s h = binds-nestings f w.0 begin (λ y. run l (p y)) (λ y. binds-run (p y) (w.1 y)) (suc (bound z s)) x z s h
     binds-run (scoped f p) w z s h =
         let o = run l p z (entered (f s.reading) s) in

@@ -19,7 +19,7 @@ use Rattle.typst_language.proofs.HintedNodes.{length-hinted}
 use Rattle.typst_language.proofs.Places.{moved-sum, less-none, length-less}
 use Rattle.typst_grammar.specs.Binding.{any_errors, has_errors, first_sign, operator_of, binds_by, right_least, node_binds}
 use Rattle.typst_grammar.proofs.Signs.{sign_of, NoSign}
-use Rattle.typst_grammar.proofs.Fine.{All, or-left, or-right, all-append, all-drop, all-map, fines-behind, fine-binary, leaf-operator, no-operator, is-tame, tame_kind}
+use Rattle.typst_grammar.proofs.Fine.{All, or-left, or-right, all-append, all-drop, all-map, fines-behind, fine-binary, leaf-operator, no-operator, is-unbinary, tame-unbinary, tame_kind}
 use Rattle.typst_grammar.proofs.FineRuns.{Binds, Still, binds-joined, binds-reshaped}
 use Rattle.typst_grammar.proofs.Heads.{Silent, standing-silent, Leafy, LastIs, last-map, last-one, behind-take}
 use Rattle.typst_grammar.proofs.BindingTurns.{tight-binds, bare-binds, BindsBy, Sane, below, Tight, binary-binds, all-sane, all-with, last-with, all-left, all-right}
@@ -190,7 +190,7 @@ module _ (k : CharClasses) (least : ℕ) where
         let m = n + x.back in
         let node = inner_of i (forest (inside n x)) in
         let all = binds-joined o p g.binds b in
-        let none = no-operator node (is-tame i e) in
+        let none = no-operator node (is-unbinary i (tame-unbinary i e)) in
         let en = g.enough in
         let a1 = length-append (hinted p.hints (less p.back o.nodes)) p.nodes in
         let a2 = length-less p.back o.nodes in
@@ -199,7 +199,7 @@ module _ (k : CharClasses) (least : ℕ) where
         let a5 = length-append (take m x.nodes) (node ∷ []) in
         let j = kind_at (moved (o.taken + p.taken) z) p.state in
         record {
-          binds = binds-reshaped (becomes i) e n x (record { nodes = all.nodes; known = all.known });
+          binds = binds-reshaped (becomes i) (tame-unbinary i e) n x (record { nodes = all.nodes; known = all.known });
           inside = behind-take (Leftward j) m x.nodes (node ∷ []) ((f, λ y. tight-none j node none), tt);
           last = last-one (s.is_after_error ≡ true) (λ t. Sane t → BindsBy least t) (take m x.nodes) node (λ y. bare-binds least node none);
           enough = omega (arith, back, long, en, a1, a2, a3, a4, a5);

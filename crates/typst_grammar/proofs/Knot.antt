@@ -6,17 +6,21 @@ use Rattle.typst_language.specs.declared.calls.Call.{Call}
 use Rattle.typst_language.specs.declared.calls.Call.TheVariants.{MarkupExpr, CodeExpr, MathExpr, Pattern}
 use Rattle.typst_language.specs.Knot.{meaning_of}
 use Rattle.typst_language.specs.Meaning.{start_point, run}
-use Rattle.typst_code.specs.Markup.{markup_reading}
+use Rattle.typst_language.specs.Syntax.{Parser}
+use Rattle.typst_code.specs.Markup.{markup_reading, markup_expr}
+use Rattle.typst_code.specs.Patterns.{pattern}
+use Rattle.typst_code.specs.Expressions.{code_expr}
+use Rattle.typst_code.specs.MathExpressions.{math_expr}
 use Rattle.typst_code.specs.Sequences.{code_reading}
 use Rattle.typst_code.specs.Equations.{math_reading}
 use Rattle.typst_grammar.specs.Binding.{BindingLaw, CodeBindingLaw, MathBindingLaw}
 use Rattle.typst_grammar.specs.Grammar.{production, level_at, max_depth, start_of, whole, whole_code, whole_math, parsed, parsed_code, parsed_math, tree, tree_code, tree_math}
-use Rattle.typst_grammar.proofs.Fine.{fine-over}
+use Rattle.typst_grammar.proofs.Fine.{fine-over, is_ordinary, tame_kind, tame-ordinary}
 use Rattle.typst_grammar.proofs.BindingLevels.{CallsBind, DeeperOperands, level-binds}
-use Rattle.typst_grammar.proofs.Exprs.{expr-binds, deeper-binds, limit-binds}
-use Rattle.typst_grammar.proofs.FineRuns.{AllBind, Plain}
-use Rattle.typst_grammar.proofs.PlainParts.{plain-flush, plain-run, plain-exprs, plain-markup-expr, plain-pattern}
-use Rattle.typst_grammar.proofs.PlainCode.{plain-code-exprs, plain-atomic, plain-math-expr}
+use Rattle.typst_grammar.proofs.Exprs.{ordinary-expr, expr-binds, deeper-binds, limit-binds}
+use Rattle.typst_grammar.proofs.FineRuns.{AllBind, PlainBy, Plain, plain-weaker}
+use Rattle.typst_grammar.proofs.PlainParts.{inside_content, plain-inside-content, plain-flush, plain-run, plain-exprs, plain-markup-expr, plain-pattern}
+use Rattle.typst_grammar.proofs.PlainCode.{inside_code, plain-inside-code, plain-code-exprs, plain-atomic, plain-math-expr}
 
 -- ---- whole texts
 
@@ -31,6 +35,27 @@ plain-whole-code = ((refl, λ _. plain-code-exprs _), λ _. plain-flush)
 plain-whole-math : Plain whole_math
 unfolding whole_math
 plain-whole-math = ((refl, λ _. plain-exprs _), λ _. plain-flush)
+
+-- ---- no block's node but where a block is read
+
+ordinary : {A : Type 0} (p : Parser A) → Plain p → PlainBy is_ordinary p
+ordinary p w = plain-weaker tame_kind is_ordinary tame-ordinary p w
+
+pub ordinary-whole : PlainBy is_ordinary whole
+ordinary-whole = ordinary whole plain-whole
+
+pub ordinary-production : (k : CharClasses) (c : Call) → PlainBy is_ordinary (production k c)
+ordinary-production k (MarkupExpr at_start nesting) = ordinary (markup_expr at_start nesting) (plain-markup-expr at_start nesting)
+ordinary-production k (CodeExpr true least) = ordinary (code_expr true least) (plain-atomic least)
+ordinary-production k (CodeExpr false least) = ordinary-expr least
+ordinary-production k (MathExpr least stops) = ordinary (math_expr k least stops) (plain-math-expr k least stops)
+ordinary-production k (Pattern role names) = ordinary (pattern role names) (plain-pattern role names)
+
+pub ordinary-content : PlainBy is_ordinary inside_content
+ordinary-content = ordinary inside_content plain-inside-content
+
+pub ordinary-code : PlainBy is_ordinary inside_code
+ordinary-code = ordinary inside_code plain-inside-code
 
 -- ---- each level
 

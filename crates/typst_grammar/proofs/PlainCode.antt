@@ -1,4 +1,4 @@
--- What makes no binary node: code but for its operators, and formulas.
+-- What makes no binary node and no block's: code but for its operators, and formulas.
 use Rattle.std.proofs.Common.{◌≡◌, ℕ, Bool, true, false, ◌&&◌, ◌||◌, ◌==◌, if◌then◌else◌, List, [], ◌∷◌, ◌++◌, Option, Some, None, refl}
 use Rattle.std.specs.Prelude.{codes}
 use Rattle.std.specs.Str.{bytes_eq}
@@ -25,14 +25,16 @@ use Rattle.typst_language.specs.Hand.{AtHand}
 use Rattle.typst_code.specs.Groups.{spread, pair, when_seen, item_shape, misfit, item, group_turn, list_kind, group_kind, group_shape, group_rest, group}
 use Rattle.typst_code.specs.Imports.{path_turn, import_name, import_path, renaming, import_shape, import_turn, import_items, parens_shape, import_parens, imported, module_import}
 use Rattle.typst_code.specs.Parens.{as_group, readings, sign, parens}
-use Rattle.typst_code.specs.Sequences.{missing_break, statement_end, statement, code_turn, code_exprs, code, code_block}
+use Rattle.typst_code.specs.Sequences.{missing_break, statement_end, statement, code_turn, code_exprs, code, code_reading, ends_code}
 use Rattle.typst_code.specs.Statements.{any_block, field, target_turn, target, set_rule, show_shape, show_rule, contextual, other_branch, conditional_turn, conditional, while_loop, second_pattern, loop_names, for_loop, module_include, jump, func_return}
 use Rattle.typst_language.specs.Shape.{Seen, becomes}
 use Rattle.typst_language.specs.Shape.Change.{stays, turns_wrong}
 use Rattle.typst_language.specs.Shape.Making.{itself, surprise, wanted}
 use Rattle.typst_language.specs.Shape.Seen.{leaf_seen, inner_seen}
 use Rattle.typst_language.specs.Shape.Shape.{keeps, holds}
-use Rattle.typst_language.specs.Steps.{within, eat, eat_if, convert_and_eat}
+use Rattle.typst_language.specs.Steps.{within, eat, eat_if, close_if, convert_and_eat}
+use Rattle.typst_language.specs.Syntax.{Parser, ◌>>=◌}
+use Rattle.typst_language.specs.Syntax.Parser.{scoped}
 use Rattle.typst_language.proofs.Within.{on_both}
 use Rattle.typst_code.specs.Attachments.{operand, attachment_turn, attachments, primes}
 use Rattle.typst_code.specs.Delimited.{sign_kind, delimiter_kind, delimiter_sign, delimiter, body_shape, delimited_body, delimiter_if, delimited_shape, delimited}
@@ -291,9 +293,16 @@ pub plain-code-exprs : (stops : SyntaxKind → Bool) → Plain (code_exprs stops
 unfolding code_exprs
 plain-code-exprs stops = (refl, λ _. (plain-deep stops, λ x. plain-code-turn stops x))
 
-pub plain-code-block : Plain code_block
-unfolding code_block code
-plain-code-block = (plain-node _ _ (tame-closed kind.CodeBlock refl) (plain-eat, λ _. (plain-node _ _ (λ _. refl) (plain-code-exprs _), λ _. plain-close _)), λ _. tt)
+-- what stands in the node of a block
+abbrev pub inside_code : Parser Bool
+inside_code = scoped (λ _. code_reading) (do
+  brace ← eat
+  inside ← code ends_code
+  close_if (same kind.RightBrace))
+
+pub plain-inside-code : Plain inside_code
+unfolding code
+plain-inside-code = (plain-eat, λ _. (plain-node _ _ (λ _. refl) (plain-code-exprs _), λ _. plain-close _))
 
 -- ---- what an expression begins with
 

@@ -1,4 +1,4 @@
--- What makes no binary node: steps, markup and patterns.
+-- What makes no binary node and no block's: steps, markup and patterns.
 use Rattle.std.proofs.Common.{◌≡◌, ℕ, Bool, true, false, ◌&&◌, if◌then◌else◌, List, [], ◌++◌, Option, Some, None, refl}
 use Rattle.std.specs.Prelude.{codes}
 use Rattle.typst_kinds.specs.Kinds.{same}
@@ -24,7 +24,7 @@ use Rattle.typst_language.specs.Depth.{anywhere, skip_one, too_deep, deeper}
 use Rattle.typst_code.specs.Embedded.{embedded_end, embedded_expr, embedded}
 use Rattle.typst_code.specs.Equations.{math_expression, math_item, math_turn, math_exprs, math, between_dollars, equation}
 use Rattle.typst_code.specs.Expected.{expects, expect_identifier, seeing}
-use Rattle.typst_code.specs.Markup.{note_piece, markup_turn, markup_exprs, markup_run, markup, markup_is_empty, emphasized, delimited, heading, item, term_item, content_block, direct_content, reference, markup_head, markup_by, markup_expr}
+use Rattle.typst_code.specs.Markup.{note_piece, markup_turn, markup_exprs, markup_run, markup, markup_is_empty, emphasized, delimited, heading, item, term_item, direct_content, markup_reading, ends_block, reference, markup_head, markup_by, markup_expr}
 use Rattle.typst_code.specs.Params.{defaulted, param, param_turn, params}
 use Rattle.typst_code.specs.Parts.{expression_if, separator}
 use Rattle.typst_code.specs.Patterns.{duplicate, bound_change, bound_name, pattern_leaf, sink, sink_shape, name_and_colon, key, key_or_pattern, named_shape, part, Found, destructuring_item, destructuring_turn, destructuring, pattern}
@@ -32,10 +32,12 @@ use Rattle.typst_language.specs.Shape.{Making, Shape, encloses}
 use Rattle.typst_language.specs.Shape.Change.{stays, turns_wrong}
 use Rattle.typst_language.specs.Shape.Making.{itself, of_kind, surprise, wanted}
 use Rattle.typst_language.specs.Steps.{eat_making, eat, convert_and_eat, eat_so, eat_if, close_if, unexpected, expected, expect, flush_trivia, within, node, node_with_trivia, grow, nest, note, read_block}
-use Rattle.typst_language.specs.Syntax.{Parser}
+use Rattle.typst_language.specs.Syntax.{Parser, ◌>>=◌}
+use Rattle.typst_language.specs.Syntax.Op.{takes}
+use Rattle.typst_language.specs.Syntax.Parser.{does, scoped}
 use Rattle.typst_language.proofs.Within.{on_both}
 use Rattle.typst_grammar.proofs.Fine.{tame, tame_change, tame_kind, tame_making}
-use Rattle.typst_grammar.proofs.FineRuns.{tame_if, Gives, gives-all, Plain}
+use Rattle.typst_grammar.proofs.FineRuns.{begins_none, tame_if, Gives, gives-all, Plain}
 
 -- ---- steps
 
@@ -103,9 +105,9 @@ pub plain-nest : {A : Type 0} (shape : A → Shape) (turn : A → Parser (Bool �
 unfolding nest
 plain-nest shape turn x g h = (refl, λ _. (g, h))
 
-plain-note : (mark : Mark) → Plain (note mark)
+plain-note : (mark : Mark) → begins_none mark ≡ true → Plain (note mark)
 unfolding note
-plain-note mark = (refl, λ _. (refl, λ _. (refl, λ _. tt)))
+plain-note mark e = (refl, λ _. (e, λ _. (refl, λ _. tt)))
 
 pub plain-read : (b : Block) → Plain (read_block b)
 unfolding read_block
@@ -190,7 +192,7 @@ plain-equation = (plain-node _ _ (tame-closed kind.Equation refl) plain-dollars,
 
 plain-piece : (is_run at_start : Bool) (nesting : ℕ) → Plain (note_piece is_run at_start nesting)
 unfolding note_piece
-plain-piece is_run at_start nesting = (plain-note _, tt)
+plain-piece is_run at_start nesting = (plain-note _ refl, tt)
 
 plain-markup-turn : (is_run : Bool) (stops : SyntaxKind → Bool) (x : Bool × ℕ) → Plain (markup_turn is_run stops x)
 unfolding markup_turn
@@ -235,9 +237,15 @@ unfolding term_item
 plain-term =
     (refl, λ _. plain-within _ _ (plain-node _ _ (λ _. refl) (plain-within _ _ (plain-eat, λ _. plain-markup _ _), λ _. (plain-expect _ _, λ _. plain-markup _ _))))
 
-pub plain-content : Plain content_block
-unfolding content_block
-plain-content = (plain-node _ _ (tame-closed kind.ContentBlock refl) (refl, λ _. (plain-empty _ (plain-run _), λ _. plain-close _)), λ _. tt)
+-- what stands in the node of a block
+abbrev pub inside_content : Parser Bool
+inside_content = scoped (λ _. markup_reading) (do
+  bracket ← does (takes false itself)
+  is_empty ← markup_is_empty (markup_run ends_block)
+  close_if (same kind.RightBracket))
+
+pub plain-inside-content : Plain inside_content
+plain-inside-content = (refl, λ _. (plain-empty _ (plain-run _), λ _. plain-close _))
 
 plain-direct : Plain direct_content
 unfolding direct_content
