@@ -1,0 +1,226 @@
+-- Candidates one after the other.
+use Rattle.std.proofs.Common.{◌≡◌, ℕ, zero, suc, ◌+◌, ◌-◌, ◌*◌, ◌^◌, ◌<◌, ◌≤◌, max, min, Bool, true, false, List, [], ◌∷◌, ◌++◌, length, take, get_or, refl, ap, sym, subst, ◌∙◌, arith, add-one, append_assoc, if◌then◌else◌, Some, None, length-append}
+use Rattle.std.specs.Prelude.{◌==◌, ◌&&◌, ◌||◌, not, nat_lt, map, Option}
+use Rattle.std.proofs.lemmas.Bool.Decides.{nat_tests}
+use Rattle.std.proofs.lemmas.List.{map-append, append-nil, take-take, take_at}
+use Rattle.typst_kinds.specs.Kinds.{is_block}
+use Rattle.typst_kinds.specs.declared.kind.SyntaxKind.{SyntaxKind}
+use Rattle.typst_language.specs.declared.calls.Note.{Note}
+use Rattle.typst_tree.specs.Tree.{Tree, Forest, none, more, forest, trees, joined, text_of, count, nodes}
+use Rattle.typst_candidates.specs.declared.candidate.Candidate as found
+use Rattle.typst_candidates.specs.declared.row.Near.{Near}
+use Rattle.typst_candidates.specs.declared.row.Stretch as row
+use Rattle.typst_candidates.specs.Candidates.{Candidate, Child, Stretch, laid, child_at, begins, first_near, end_near, back_past, holds_at, clings, leads, with_hash, around, from_of, to_of, on_past, is_all, stretches, of_children, of_stretches, of_run, of_block, covers, run_in, candidates_at}
+use Rattle.typst_candidates.specs.Rows.{IsEdge, IsNear, indices, spelled, is_covered, below}
+use Rattle.typst_candidates.proofs.Rows.{trees_forest, laid_length, begins_next, begins_most}
+
+-- ---- stretches one after the other
+
+-- with as many more children as there are, all are taken
+all_taken : (cuts : List ℕ) (at : ℕ) (ts : List Tree) (i j x : ℕ) → i ≤ length ts → length ts ≤ x → is_all (laid at ts) (around cuts (laid at ts) i j x) ≡ true
+all_taken cuts at ts i j x h le =
+    let left : i - max x 2 ≡ 0 = omega arith in
+    let right : min (j + x) (length (laid at ts)) ≡ length (laid at ts) = omega (arith, laid_length at ts) in
+    let rest : length (laid at ts) - length (laid at ts) ≡ 0 = omega arith in
+    let same : (length (laid at ts) == length (laid at ts)) ≡ true = grind (arith, nat_tests) in
+    rw (left, right, rest, same) refl
+
+pub not_all : (cuts : List ℕ) (at : ℕ) (ts : List Tree) (i j x : ℕ) → i ≤ length ts → is_all (laid at ts) (around cuts (laid at ts) i j x) ≡ false → x < length ts
+not_all cuts at ts i j x h e = pick (nat_lt x (length ts)) refl
+  where
+    pick : (b : Bool) → nat_lt x (length ts) ≡ b → x < length ts
+    pick true p = grind (arith, nat_tests)
+    pick false p = let le : length ts ≤ x = grind (arith, nat_tests) in let all = all_taken cuts at ts i j x h le in absurd (cc)
+
+pub all_by_test : (cs : List Child) (w s : Stretch) (b : Bool) → w ≡ s → is_all cs w ≡ b → is_all cs s ≡ b
+all_by_test cs w s b e f = ap (is_all cs) (sym e) ∙ f
+
+-- a stretch in hand is one of the run
+pub one_piece : (path : List ℕ) (depth at : ℕ) (ts : List Tree) (w : row.Stretch) (s : Stretch) (c : found.Candidate) → IsEdge at ts w.from → IsEdge at ts w.to → indices w ≡ s
+    → c ≡ record { is_block = false; depth = depth; from = w.from.index; to = w.to.index; start = w.from.byte; end = w.to.byte }
+    → spelled path c ≡ of_children false (take depth path) at ts s.from s.to
+one_piece path depth at ts w s c from to e is =
+    ap (spelled path) is
+    ∙ ((λ k. record { is_block = false; path = take depth path; from = w.from.index; to = w.to.index; start = from.byte k; end = to.byte k })
+    ∙ ap (λ (p : Stretch). of_children false (take depth path) at ts p.from p.to) e)
+
+module _ (cuts : List ℕ) (at : ℕ) (ts : List Tree) (i j : ℕ) (path : List ℕ) (depth tries n x : ℕ) (items later : List found.Candidate) (c : found.Candidate) where
+  pushed : later ≡ items ++ c ∷ [] → map (spelled path) later ≡ map (spelled path) items ++ spelled path c ∷ []
+  pushed e = ap (map (spelled path)) e ∙ map-append (spelled path) items (c ∷ [])
+
+  pub last_piece : n < tries → later ≡ items ++ c ∷ [] → spelled path c ≡ of_children false (take depth path) at ts (around cuts (laid at ts) i j x).from (around cuts (laid at ts) i j x).to
+      → is_all (laid at ts) (around cuts (laid at ts) i j x) ≡ true
+      → map (spelled path) items ++ of_stretches (take depth path) at ts (stretches cuts (laid at ts) i j (tries - n) x) ≡ map (spelled path) later
+  last_piece lt e is all =
+      let turn : tries - n ≡ suc (tries - (n + 1)) = omega arith in
+      rw (turn, all) (ap (λ (d : Candidate). map (spelled path) items ++ d ∷ []) (sym is) ∙ sym (pushed e))
+
+  pub next_piece : n < tries → later ≡ items ++ c ∷ [] → spelled path c ≡ of_children false (take depth path) at ts (around cuts (laid at ts) i j x).from (around cuts (laid at ts) i j x).to
+      → is_all (laid at ts) (around cuts (laid at ts) i j x) ≡ false
+      → map (spelled path) items ++ of_stretches (take depth path) at ts (stretches cuts (laid at ts) i j (tries - n) x)
+      ≡ map (spelled path) later ++ of_stretches (take depth path) at ts (stretches cuts (laid at ts) i j (tries - (n + 1)) (2 * x))
+  next_piece lt e is all =
+      let turn : tries - n ≡ suc (tries - (n + 1)) = omega arith in
+      rw (turn, all) (ap (λ (d : Candidate). map (spelled path) items ++ d ∷ of_stretches (take depth path) at ts (stretches cuts (laid at ts) i j (tries - (n + 1)) (2 * x))) (sym is)
+      ∙ sym (ap (λ (ds : List Candidate). ds ++ of_stretches (take depth path) at ts (stretches cuts (laid at ts) i j (tries - (n + 1)) (2 * x))) (pushed e) ∙ append_assoc (map (spelled path) items) (spelled path c ∷ []) (of_stretches (take depth path) at ts (stretches cuts (laid at ts) i j (tries - (n + 1)) (2 * x)))))
+
+-- ---- a node and its child
+
+pub child_here : (at : ℕ) (ts : List Tree) (n : ℕ) (d : Tree) → n < length ts → child_at (laid at ts) n ≡ Some (record { start = begins at ts n; end = begins at ts n + length (text_of (get_or ts n d)); node = get_or ts n d })
+child_here at [] n d h = absurd (omega arith)
+child_here at (x ∷ ts) zero d h = refl
+child_here at (x ∷ ts) (suc n) d h = child_here (at + length (text_of x)) ts n d (omega arith)
+
+child_none : (at : ℕ) (ts : List Tree) (n : ℕ) → length ts ≤ n → child_at (laid at ts) n ≡ None
+child_none at [] n h = refl
+child_none at (x ∷ ts) zero h = absurd (omega arith)
+child_none at (x ∷ ts) (suc n) h = child_none (at + length (text_of x)) ts n (omega arith)
+
+at_index : (ns : List Note) (rs re : ℕ) (path : List ℕ) (run : Option (List ℕ)) (i at : ℕ) (f : Forest) (c : Child) → child_at (laid at (trees f)) i ≡ Some c → candidates_at ns rs re path run i at f ≡ candidates_at ns rs re path run 0 c.start (forest (c.node ∷ []))
+unfolding candidates_at
+at_index ns rs re path run i at none c e = absurd (cc)
+at_index ns rs re path run zero at (more h ks r) c e =
+    let same : record { start = at; end = at + length (h.text ++ joined ks); node = record { head = h; kids = ks } } ≡ c = cc in
+    ap (λ (d : Child). candidates_at ns rs re path run 0 d.start (forest (d.node ∷ []))) same
+at_index ns rs re path run (suc i) at (more h ks r) c e = at_index ns rs re path run i (at + length (h.text ++ joined ks)) r c e
+
+pub node_is : (ns : List Note) (rs re : ℕ) (path : List ℕ) (run : Option (List ℕ)) (at : ℕ) (t : Tree) → candidates_at ns rs re path run 0 at (forest (t ∷ [])) ≡ below ns rs re path at t ++ of_run rs re path (at + length t.head.text) (trees t.kids) run
+unfolding candidates_at
+node_is ns rs re path run at t = ap (λ (xs : List Candidate). xs ++ of_run rs re path (at + length t.head.text) (trees t.kids) run) (inner (child_at (laid (at + length t.head.text) (trees t.kids)) (first_near rs (laid (at + length t.head.text) (trees t.kids)))) refl)
+  where
+    inner : (o : Option Child) → child_at (laid (at + length t.head.text) (trees t.kids)) (first_near rs (laid (at + length t.head.text) (trees t.kids))) ≡ o
+        → (elim o as (λ _. List Candidate) [
+          | None ↦ []
+          | Some c ↦ if covers rs re (laid (at + length t.head.text) (trees t.kids)) (first_near rs (laid (at + length t.head.text) (trees t.kids))) c
+              then candidates_at ns rs re (path ++ first_near rs (laid (at + length t.head.text) (trees t.kids)) ∷ []) (run_in ns at t.head.kind c.node.head.kind) (first_near rs (laid (at + length t.head.text) (trees t.kids))) (at + length t.head.text) t.kids
+              ++ of_block path (at + length t.head.text) (trees t.kids) (first_near rs (laid (at + length t.head.text) (trees t.kids))) c.node.head.kind
+              else []
+        ])
+        ≡ (elim o as (λ _. List Candidate) [
+          | None ↦ []
+          | Some c ↦ if covers rs re (laid (at + length t.head.text) (trees t.kids)) (first_near rs (laid (at + length t.head.text) (trees t.kids))) c
+              then candidates_at ns rs re (path ++ first_near rs (laid (at + length t.head.text) (trees t.kids)) ∷ []) (run_in ns at t.head.kind c.node.head.kind) 0 c.start (forest (c.node ∷ []))
+              ++ of_block path (at + length t.head.text) (trees t.kids) (first_near rs (laid (at + length t.head.text) (trees t.kids))) c.node.head.kind
+              else []
+        ])
+    inner None e = refl
+    inner (Some c) e = λ k. if covers rs re (laid (at + length t.head.text) (trees t.kids)) (first_near rs (laid (at + length t.head.text) (trees t.kids))) c
+        then at_index ns rs re (path ++ first_near rs (laid (at + length t.head.text) (trees t.kids)) ∷ []) (run_in ns at t.head.kind c.node.head.kind) (first_near rs (laid (at + length t.head.text) (trees t.kids))) (at + length t.head.text) t.kids c e k
+        ++ of_block path (at + length t.head.text) (trees t.kids) (first_near rs (laid (at + length t.head.text) (trees t.kids))) c.node.head.kind
+        else []
+
+pub begins_end : (at : ℕ) (ts : List Tree) → begins at ts (length ts) ≡ at + length (joined (forest ts))
+begins_end at [] = omega arith
+begins_end at (t ∷ ts) = omega (arith, begins_end (at + length (text_of t)) ts, length-append t.head.text (joined t.kids ++ joined (forest ts)), length-append (joined t.kids) (joined (forest ts)), length-append t.head.text (joined t.kids))
+
+forest_trees : (f : Forest) → forest (trees f) ≡ f
+forest_trees none = refl
+forest_trees (more h ks r) = ap (more h ks) (forest_trees r)
+
+-- the end of a node can be counted, and so can its children's
+pub fits_of : (at a : ℕ) (t : Tree) (ts : List Tree) → ts ≡ trees t.kids → a ≡ at + length t.head.text → at + length (text_of t) < 2 ^ 64 → begins a ts (length ts) < 2 ^ 64
+fits_of at a t ts e p h =
+    let kids : joined (forest ts) ≡ joined t.kids = ap (λ us. joined (forest us)) e ∙ ap joined (forest_trees t.kids) in
+    omega (arith, p, h, begins_end a ts, ap length kids, length-append t.head.text (joined t.kids))
+
+pub child_fits : (a : ℕ) (ts : List Tree) (n : ℕ) (d : Tree) → n < length ts → begins a ts (length ts) < 2 ^ 64 → begins a ts n + length (text_of (get_or ts n d)) < 2 ^ 64
+child_fits a ts n d h fits = omega (arith, begins_next a ts n d h, begins_most a ts (n + 1) (omega arith))
+
+-- a child has fewer nodes
+pub fewer : (ts : List Tree) (n : ℕ) (d : Tree) → n < length ts → nodes (get_or ts n d) ≤ count (forest ts)
+fewer [] n d h = absurd (omega arith)
+fewer (t ∷ ts) zero d h = omega arith
+fewer (t ∷ ts) (suc n) d h = omega (arith, fewer ts n d (omega arith))
+
+-- a child in hand
+child_in_hand : (a : ℕ) (ts : List Tree) (n : ℕ) (u : Tree) → n < length ts → u ≡ get_or ts n u → child_at (laid a ts) n ≡ Some (record { start = begins a ts n; end = begins a ts n + length (text_of u); node = u })
+child_in_hand a ts n u h e = child_here a ts n u h ∙ ap (λ (v : Tree). Some (record { start = begins a ts n; end = begins a ts n + length (text_of v); node = v })) (sym e)
+
+pub near_over : (a : ℕ) (ts us : List Tree) (rs re : ℕ) (near : Near) → ts ≡ us → IsNear a ts rs re near → IsNear a us rs re near
+near_over a ts us rs re near e is = subst (λ (vs : List Tree). IsNear a vs rs re near) e is
+
+-- whether it covers the replaced bytes, by its places
+covers_is : (a : ℕ) (ts : List Tree) (rs re : ℕ) (near : Near) (u : Tree) → IsNear a ts rs re near → near.first.index < length ts → u ≡ get_or ts near.first.index u
+    → covers rs re (laid a ts) near.first.index (record { start = begins a ts near.first.index; end = begins a ts near.first.index + length (text_of u); node = u }) ≡ is_covered rs re near u.head.is_inner
+covers_is a ts rs re near u is h e = pick (near.end.index == suc near.first.index) refl
+  where
+    pick : (b : Bool) → (near.end.index == suc near.first.index) ≡ b → covers rs re (laid a ts) near.first.index (record { start = begins a ts near.first.index; end = begins a ts near.first.index + length (text_of u); node = u }) ≡ is_covered rs re near u.head.is_inner
+    pick false f = rw (← is.end, f) refl
+    pick true f =
+        let next : near.end.index ≡ near.first.index + 1 = grind (arith, nat_tests) in
+        let long : length (text_of (get_or ts near.first.index u)) ≡ length (text_of u) = ap (λ (v : Tree). length (text_of v)) (sym e) in
+        let ends : near.end.byte ≡ begins a ts near.first.index + length (text_of u) = is.end_edge.byte ∙ (ap (begins a ts) next ∙ (begins_next a ts near.first.index u h ∙ ap (λ (n : ℕ). begins a ts near.first.index + n) long)) in
+        rw (← is.end, f, is.first_edge.byte, ends) refl
+
+abbrev Rest : List Note → ℕ → ℕ → List ℕ → ℕ → SyntaxKind → ℕ → List Tree → ℕ → Option Child → List Candidate
+Rest ns rs re path at parent a ts i o = elim o as (λ _. List Candidate) [
+  | None ↦ []
+  | Some c ↦
+      if covers rs re (laid a ts) i c
+      then candidates_at ns rs re (path ++ i ∷ []) (run_in ns at parent c.node.head.kind) 0 c.start (forest (c.node ∷ [])) ++ of_block path a ts i c.node.head.kind
+      else []
+]
+
+module _ (ns : List Note) (rs re : ℕ) (path : List ℕ) (at a : ℕ) (t : Tree) (ts : List Tree) (near : Near) (kids : trees t.kids ≡ ts) (inside : at + length t.head.text ≡ a) (is : IsNear a ts rs re near) where
+  -- the same over the children in hand
+  in_hand : below ns rs re path at t ≡ Rest ns rs re path at t.head.kind a ts near.first.index (child_at (laid a ts) near.first.index)
+  in_hand = (λ k. Rest ns rs re path at t.head.kind (inside k) (kids k) (first_near rs (laid (inside k) (kids k))) (child_at (laid (inside k) (kids k)) (first_near rs (laid (inside k) (kids k)))))
+      ∙ ap (λ (i : ℕ). Rest ns rs re path at t.head.kind a ts i (child_at (laid a ts) i)) (sym is.first)
+
+  pub below_none : length ts ≤ near.first.index → below ns rs re path at t ≡ []
+  below_none h = in_hand ∙ ap (Rest ns rs re path at t.head.kind a ts near.first.index) (child_none a ts near.first.index h)
+
+  module _ (u : Tree) (h : near.first.index < length ts) (e : u ≡ get_or ts near.first.index u) where
+    pub below_else : is_covered rs re near u.head.is_inner ≡ false → below ns rs re path at t ≡ []
+    below_else f = in_hand ∙ (ap (Rest ns rs re path at t.head.kind a ts near.first.index) (child_in_hand a ts near.first.index u h e) ∙ rw (covers_is a ts rs re near u is h e ∙ f) refl)
+
+    below_then : is_covered rs re near u.head.is_inner ≡ true
+        → below ns rs re path at t ≡ candidates_at ns rs re (path ++ near.first.index ∷ []) (run_in ns at t.head.kind u.head.kind) 0 (begins a ts near.first.index) (forest (u ∷ [])) ++ of_block path a ts near.first.index u.head.kind
+    below_then f = in_hand ∙ (ap (Rest ns rs re path at t.head.kind a ts near.first.index) (child_in_hand a ts near.first.index u h e) ∙ rw (covers_is a ts rs re near u is h e ∙ f) refl)
+
+    -- with what was found at the child
+    deeper : (longer : List ℕ) (run : Option (List ℕ)) (xs : List Candidate) → is_covered rs re near u.head.is_inner ≡ true → longer ≡ path ++ near.first.index ∷ [] → run ≡ run_in ns at t.head.kind u.head.kind
+        → xs ≡ candidates_at ns rs re longer run 0 near.first.byte (forest (u ∷ [])) → below ns rs re path at t ≡ xs ++ of_block path a ts near.first.index u.head.kind
+    deeper longer run xs f way same found =
+        below_then f ∙ ap (λ (ys : List Candidate). ys ++ of_block path a ts near.first.index u.head.kind)
+        (sym (found ∙ (λ k. candidates_at ns rs re (way k) (same k) 0 (is.first_edge.byte k) (forest (u ∷ [])))))
+
+    pub found_alone : (longer : List ℕ) (run : Option (List ℕ)) (xs : List Candidate) → is_covered rs re near u.head.is_inner ≡ true → longer ≡ path ++ near.first.index ∷ [] → run ≡ run_in ns at t.head.kind u.head.kind
+        → xs ≡ candidates_at ns rs re longer run 0 near.first.byte (forest (u ∷ [])) → is_block u.head.kind ≡ false → xs ≡ below ns rs re path at t
+    found_alone longer run xs f way same found no_block = sym (deeper longer run xs f way same found ∙ (rw no_block refl ∙ append-nil xs))
+
+    pub found_block : (longer final : List ℕ) (run : Option (List ℕ)) (items later : List found.Candidate) (c : found.Candidate) → is_covered rs re near u.head.is_inner ≡ true → longer ≡ path ++ near.first.index ∷ [] → run ≡ run_in ns at t.head.kind u.head.kind
+        → map (spelled final) items ≡ candidates_at ns rs re longer run 0 near.first.byte (forest (u ∷ [])) → is_block u.head.kind ≡ true
+        → later ≡ items ++ c ∷ [] → spelled final c ≡ of_children true path a ts near.first.index (suc near.first.index) → map (spelled final) later ≡ below ns rs re path at t
+    found_block longer final run items later c f way same found block pushed one =
+        ap (map (spelled final)) pushed ∙ (map-append (spelled final) items (c ∷ []) ∙ (ap (λ (d : Candidate). map (spelled final) items ++ d ∷ []) one
+        ∙ sym (deeper longer run (map (spelled final) items) f way same found ∙ rw block refl)))
+
+  -- a node's own run behind what was found below it
+  pub found_run : (final : List ℕ) (depth : ℕ) (cuts : List ℕ) (xs ys : List Candidate) → take depth final ≡ path → xs ≡ below ns rs re path at t
+      → ys ≡ xs ++ of_stretches (take depth final) a ts (stretches cuts (laid a ts) near.first.index near.end.index (suc (length ts)) 1)
+      → ys ≡ candidates_at ns rs re path (Some cuts) 0 at (forest (t ∷ []))
+  found_run final depth cuts xs ys way found grown =
+      grown ∙ ((λ k. found k ++ of_stretches (way k) a ts (stretches cuts (laid a ts) (is.first k) (is.end k) (suc (length ts)) 1))
+      ∙ ((λ k. below ns rs re path at t ++ of_run rs re path (sym inside k) (sym kids k) (Some cuts)) ∙ sym (node_is ns rs re path (Some cuts) at t)))
+
+  pub found_none : (xs : List Candidate) → xs ≡ below ns rs re path at t → xs ≡ candidates_at ns rs re path None 0 at (forest (t ∷ []))
+  found_none xs found = found ∙ (sym (append-nil (below ns rs re path at t)) ∙ sym (node_is ns rs re path None at t))
+
+-- the block in hand
+pub one_block : (final path : List ℕ) (depth a : ℕ) (ts : List Tree) (rs re : ℕ) (near : Near) (inner : Bool) (c : found.Candidate) → IsNear a ts rs re near → is_covered rs re near inner ≡ true → take depth final ≡ path
+    → c ≡ record { is_block = true; depth = depth; from = near.first.index; to = near.end.index; start = near.first.byte; end = near.end.byte }
+    → spelled final c ≡ of_children true path a ts near.first.index (suc near.first.index)
+one_block final path depth a ts rs re near inner c is covered way e =
+    let next : near.end.index ≡ suc near.first.index = next_of (near.end.index == suc near.first.index) refl in
+    ap (spelled final) e ∙ ((λ k. record { is_block = true; path = way k; from = near.first.index; to = near.end.index; start = is.first_edge.byte k; end = is.end_edge.byte k }) ∙ ap (λ (n : ℕ). of_children true path a ts near.first.index n) next)
+  where
+    next_of : (b : Bool) → (near.end.index == suc near.first.index) ≡ b → near.end.index ≡ suc near.first.index
+    next_of true f = grind (arith, nat_tests)
+    next_of false f = let other : is_covered rs re near inner ≡ false = rw f refl in absurd (cc)
+
+-- a longer path begins with a shorter one
+pub path_front : (p q r : List ℕ) (i : ℕ) → q ≡ p ++ i ∷ [] → take (length q) r ≡ q → take (length p) r ≡ p
+path_front p q r i e f =
+    let long : length p ≤ length q = omega (arith, ap length e, length-append p (i ∷ [])) in
+    sym (take-take (length p) (length q) r long) ∙ (ap (take (length p)) (f ∙ e) ∙ take_at p (i ∷ []) (length p) refl)

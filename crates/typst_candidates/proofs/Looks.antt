@@ -1,0 +1,113 @@
+-- What the numbers of records decide.
+use Rattle.std.proofs.Common.{◌≡◌, ℕ, suc, ◌+◌, ◌-◌, ◌≤◌, ◌<◌, ◌↔◌, max, nat_le, Bool, true, false, if◌then◌else◌, List, [], ◌∷◌, ◌++◌, length, refl, ap, sym, subst, arith}
+use Rattle.std.proofs.lemmas.Bool.Decides.{nat_tests}
+use Rattle.typst_language.specs.declared.calls.Note.{Note}
+use Rattle.typst_candidates.specs.declared.entry.Entry.{Entry}
+use Rattle.typst_candidates.specs.Entries.{back_of, entry_of, entries_by, last_start, front_of, is_behind, rear_of}
+use Rattle.typst_candidates.specs.Records.{IsRising, AllEnd, AllBegin, FrontLaw, RearLaw}
+
+-- the token of a note begins where its entry says
+here-is : (start : ℕ) (n : Note) → start ≤ n.before → n.before ≤ n.start → (start + (n.before - start)) + (n.start - n.before) ≡ n.start
+here-is start n a b = omega arith
+
+-- ---- the front
+
+step-front : (at start : ℕ) (n : Note) (es : List Entry) → start ≤ n.before → n.before ≤ n.start
+    → front_of at start (entry_of start n ∷ es) ≡ (if nat_le (n.start + (n.reach - n.start)) at then suc (front_of at n.start es) else 0)
+step-front at start n es a b = ap (λ here. if nat_le (here + (n.reach - n.start)) at then suc (front_of at here es) else 0) (here-is start n a b)
+
+-- a note's token begins no earlier than that of one before it
+rises : (start : ℕ) (ns more : List Note) (n : Note) → IsRising start (ns ++ n ∷ more) → start ≤ n.start
+rises start [] more n r = let a = r.0 in let b = r.1 in omega (arith, a, b)
+rises start (m ∷ ns) more n r = let a = r.0 in let b = r.1 in let c = rises m.start ns more n r.2 in omega (arith, a, b, c)
+
+counted : (at reach start rest : ℕ) (b : Bool) → nat_le (start + (reach - start)) at ≡ b → start ≤ at → (n : ℕ) → (n < (if b then suc rest else 0) ↔ (reach ≤ at) × (n ≤ rest))
+counted at reach start rest true e s n = ((λ h. (let d : start + (reach - start) ≤ at = grind (arith, nat_tests, e) in (omega (arith, d), omega (arith, h)))), (λ h. (let d = h.1 in omega (arith, d))))
+counted at reach start rest false e s n = ((λ h. absurd (omega (arith, h))), (λ h. (let d : at < start + (reach - start) = grind (arith, nat_tests, e) in let f = h.0 in absurd (omega (arith, d, f)))))
+
+front-by : (ns more : List Note) (n : Note) (at start : ℕ) → IsRising start (ns ++ n ∷ more) → n.start ≤ at
+    → (length ns < front_of at start (entries_by start (ns ++ n ∷ more)) ↔ AllEnd at (ns ++ n ∷ []))
+front-by [] more n at start r h =
+    let e = step-front at start n (entries_by n.start more) r.0 r.1 in
+    let c = counted at n.reach n.start (front_of at n.start (entries_by n.start more)) _ refl h 0 in
+    ((λ l. ((c.0 (subst (λ j. 0 < j) e l)).0, tt)), (λ a. subst (λ j. 0 < j) (sym e) (c.1 (a.0, omega arith))))
+front-by (m ∷ ns) more n at start r h =
+    let e = step-front at start m (entries_by m.start (ns ++ n ∷ more)) r.0 r.1 in
+    let rise = rises m.start ns more n r.2 in
+    let here : m.start ≤ at = omega (arith, rise) in
+    let c = counted at m.reach m.start (front_of at m.start (entries_by m.start (ns ++ n ∷ more))) _ refl here (suc (length ns)) in
+    let i = front-by ns more n at m.start r.2 h in
+    ((λ l. (let d = c.0 (subst (λ j. suc (length ns) < j) e l) in (d.0, i.0 d.1))), (λ a. subst (λ j. suc (length ns) < j) (sym e) (c.1 (a.0, i.1 a.1))))
+
+pub front-law : FrontLaw
+front-law ns more n at r h = front-by ns more n at 0 r h
+
+-- ---- the rear
+
+-- behind a token at a byte or behind it looks begin behind the byte just where their number is greater
+behind-is : (at start least : ℕ) → at ≤ start → (is_behind at start (back_of start least) ≡ true ↔ at < least)
+behind-is at start least h = (
+  (λ e. (let d : at < suc start - (suc start - least) = grind (arith, nat_tests, e) in omega (arith, d))),
+  (λ l. (let d : at < suc start - (suc start - least) = omega (arith, l) in grind (arith, nat_tests, d))),
+)
+
+-- a number that stands for a look that begins too early is more than so many
+passes : (b : Bool) (number c : ℕ) → c < number → ((if b then 0 else number) ≤ c ↔ b ≡ true)
+passes true number c l = ((λ h. refl), (λ e. omega arith))
+passes false number c l = ((λ h. absurd (omega (arith, h, l))), (λ e. absurd (false-true e)))
+  where
+    false-true : false ≡ true → ⊥
+    false-true e = cc
+
+step-rear : (at start number : ℕ) (n : Note) (es : List Entry) (back : ℕ) → start ≤ n.before → n.before ≤ n.start
+    → rear_of at start number (entry_of start n ∷ es) back ≡ max (if is_behind at start (back_of start n.least) then 0 else number) (rear_of at n.start (suc number) es back)
+step-rear at start number n es back a b = ap (λ here. max (if is_behind at start (back_of start n.least) then 0 else number) (rear_of at here (suc number) es back)) (here-is start n a b)
+
+tail-by : (more : List Note) (at least start number c : ℕ) → c < number → at ≤ start → IsRising start more
+    → (rear_of at start number (entries_by start more) (back_of (last_start start more) least) ≤ c ↔ AllBegin at more least)
+tail-by [] at least start number c l h r =
+    let p = passes (is_behind at start (back_of start least)) number c l in
+    let b = behind-is at start least h in
+    ((λ m. b.0 (p.0 m)), (λ m. p.1 (b.1 m)))
+tail-by (n ∷ more) at least start number c l h r =
+    let before = r.0 in
+    let there = r.1 in
+    let e = step-rear at start number n (entries_by n.start more) (back_of (last_start n.start more) least) before there in
+    let w = if is_behind at start (back_of start n.least) then 0 else number in
+    let rest = rear_of at n.start (suc number) (entries_by n.start more) (back_of (last_start n.start more) least) in
+    let p = passes (is_behind at start (back_of start n.least)) number c l in
+    let b = behind-is at start n.least h in
+    let i = tail-by more at least n.start (suc number) c (omega (arith, l)) (omega (arith, h, before, there)) r.2 in (
+      (λ m. (let both : max w rest ≤ c = subst (λ j. j ≤ c) e m in (b.0 (p.0 (omega (arith, both))), i.0 (omega (arith, both))))),
+      (λ m. (let one = p.1 (b.1 m.0) in let two = i.1 m.1 in subst (λ j. j ≤ c) (sym e) (omega (arith, one, two)))),
+    )
+
+small : (b : Bool) (number c : ℕ) → number ≤ c → (if b then 0 else number) ≤ c
+small true number c h = omega arith
+small false number c h = h
+
+rear-by : (ns more : List Note) (n : Note) (at least start number : ℕ) → IsRising start (ns ++ n ∷ more) → at ≤ n.start
+    → (rear_of at start number (entries_by start (ns ++ n ∷ more)) (back_of (last_start start (ns ++ n ∷ more)) least) ≤ number + length ns ↔ AllBegin at more least)
+rear-by [] more n at least start number r h =
+    let e = step-rear at start number n (entries_by n.start more) (back_of (last_start n.start more) least) r.0 r.1 in
+    let w = if is_behind at start (back_of start n.least) then 0 else number in
+    let rest = rear_of at n.start (suc number) (entries_by n.start more) (back_of (last_start n.start more) least) in
+    let few = small (is_behind at start (back_of start n.least)) number (number + 0) (omega arith) in
+    let i = tail-by more at least n.start (suc number) (number + 0) (omega arith) h r.2 in (
+      (λ m. (let both : max w rest ≤ number + 0 = subst (λ j. j ≤ number + 0) e m in i.0 (omega (arith, both)))),
+      (λ m. (let two = i.1 m in subst (λ j. j ≤ number + 0) (sym e) (omega (arith, few, two)))),
+    )
+rear-by (m ∷ ns) more n at least start number r h =
+    let rest = ns ++ n ∷ more in
+    let back = back_of (last_start m.start rest) least in
+    let e = step-rear at start number m (entries_by m.start rest) back r.0 r.1 in
+    let w = if is_behind at start (back_of start m.least) then 0 else number in
+    let later = rear_of at m.start (suc number) (entries_by m.start rest) back in
+    let few = small (is_behind at start (back_of start m.least)) number (number + suc (length ns)) (omega arith) in
+    let i = rear-by ns more n at least m.start (suc number) r.2 h in (
+      (λ k. (let both : max w later ≤ number + suc (length ns) = subst (λ j. j ≤ number + suc (length ns)) e k in i.0 (omega (arith, both)))),
+      (λ k. (let two = i.1 k in subst (λ j. j ≤ number + suc (length ns)) (sym e) (omega (arith, few, two)))),
+    )
+
+pub rear-law : RearLaw
+rear-law ns more n at least r h = let i = rear-by ns more n at least 0 0 r h in ((λ m. i.0 (omega (arith, m))), (λ m. let j = i.1 m in omega (arith, j)))

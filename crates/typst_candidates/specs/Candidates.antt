@@ -1,0 +1,177 @@
+-- What of a tree an edit may read anew: blocks that cover the replaced bytes, and pieces around them, in order.
+use Rattle.std.specs.Prelude.{ℕ, zero, suc, ◌+◌, ◌-◌, ◌*◌, max, min, Bool, true, false, not, ◌||◌, ◌&&◌, ◌==◌, nat_lt, nat_le, if◌then◌else◌, List, [], ◌∷◌, ◌++◌, length, Option, Some, None}
+use Rattle.typst_kinds.specs.Kinds.{same, is_trivia, is_error, is_block}
+use Rattle.typst_kinds.specs.declared.kind.SyntaxKind.{SyntaxKind}
+use Rattle.typst_kinds.specs.declared.kind.SyntaxKind.TheVariants as kind
+use Rattle.typst_language.specs.declared.calls.Note.{Note}
+use Rattle.typst_tree.specs.Tree.{Tree, Forest, none, more, forest, trees, joined, text_of}
+use Rattle.typst_candidates.specs.Units.{top_cuts, cuts_in}
+
+-- ---- children with their bytes
+
+pub record Child : Type 0 where
+  pub start : ℕ
+  pub end : ℕ
+  pub node : Tree
+
+-- trees that stand side by side from a byte on
+abbrev pub laid : ℕ → List Tree → List Child
+laid at [] = []
+laid at (t ∷ ts) = record { start = at; end = at + length (text_of t); node = t } ∷ laid (at + length (text_of t)) ts
+
+-- how many of the first begin before a byte
+abbrev pub begun : ℕ → List Child → ℕ
+begun b [] = 0
+begun b (c ∷ cs) = if nat_lt c.start b then suc (begun b cs) else 0
+
+-- how many of the first end at a byte or before it
+abbrev pub ended : ℕ → List Child → ℕ
+ended b [] = 0
+ended b (c ∷ cs) = if nat_le c.end b then suc (ended b cs) else 0
+
+-- the last that begins before the replaced bytes, else the first
+abbrev pub first_near : ℕ → List Child → ℕ
+first_near rs cs = begun rs cs - 1
+
+-- one past the first that ends after the replaced bytes, else one past the last
+abbrev pub end_near : ℕ → List Child → ℕ
+end_near re cs = min (suc (ended re cs)) (length cs)
+
+-- ---- which children may stand at the ends of a stretch
+
+-- a text of one character, a slash or a colon
+abbrev pub is_sign : List ℕ → Bool
+is_sign [] = false
+is_sign (c ∷ []) = c == 47 || c == 58
+is_sign (c ∷ d ∷ cs) = false
+
+-- trivia, errors, semicolons, and leaves that are a slash or a colon cling to what stands before them
+abbrev pub clings : Tree → Bool
+clings t = is_trivia t.head.kind || (is_error t.head.kind || (same kind.Semicolon t.head.kind || (not t.head.is_inner && is_sign t.head.text)))
+
+abbrev pub is_hash : Tree → Bool
+is_hash t = same kind.Hash t.head.kind
+
+abbrev pub is_among : ℕ → List ℕ → Bool
+is_among b [] = false
+is_among b (c ∷ cs) = b == c || is_among b cs
+
+-- it is the first of its piece, where it isn't the first child of all; what is empty belongs to the piece before
+abbrev pub leads : List ℕ → Child → Bool
+leads cuts c = nat_lt c.start c.end && is_among c.start cuts
+
+-- the child of an index
+abbrev pub child_at : List Child → ℕ → Option Child
+child_at [] n = None
+child_at (c ∷ cs) zero = Some c
+child_at (c ∷ cs) (suc n) = child_at cs n
+
+-- something holds of the child of an index
+abbrev pub holds_at : (Child → Bool) → List Child → ℕ → Bool
+holds_at f [] n = false
+holds_at f (c ∷ cs) zero = f c
+holds_at f (c ∷ cs) (suc n) = holds_at f cs n
+
+-- from an index back to the nearest of which something doesn't hold, else to the first
+abbrev pub back_past : (ℕ → Bool) → ℕ → ℕ
+back_past f zero = 0
+back_past f (suc n) = if f (suc n) then back_past f n else suc n
+
+-- from an index on to the nearest of which something doesn't hold, among so many
+abbrev pub on_past : (ℕ → Bool) → ℕ → ℕ → ℕ
+on_past f zero n = n
+on_past f (suc limit) n = if f n then on_past f limit (suc n) else n
+
+-- ---- stretches of a run's children
+
+pub record Stretch : Type 0 where
+  pub from : ℕ
+  pub to : ℕ
+
+-- the index, or that of the hash directly before it
+abbrev pub with_hash : List Child → ℕ → ℕ
+with_hash cs n = if nat_lt 0 n && holds_at (λ c. is_hash c.node) cs (n - 1) then n - 1 else n
+
+-- where the stretch around i..j with x more children on each side begins: at least two more, back past those that cling, with the hash directly before, and from the first of a piece
+abbrev pub from_of : List ℕ → List Child → ℕ → ℕ → ℕ
+from_of cuts cs i x =
+    back_past (holds_at (λ c. not (leads cuts c)) cs) (with_hash cs (back_past (holds_at (λ c. clings c.node) cs) (i - max x 2)))
+
+-- where it ends: past those that cling, and behind a whole piece
+abbrev pub to_of : List ℕ → List Child → ℕ → ℕ → ℕ
+to_of cuts cs j x =
+    on_past (holds_at (λ c. clings c.node || not (leads cuts c)) cs) (length cs - min (j + x) (length cs)) (min (j + x) (length cs))
+
+abbrev pub around : List ℕ → List Child → ℕ → ℕ → ℕ → Stretch
+around cuts cs i j x = record { from = from_of cuts cs i x; to = to_of cuts cs j x }
+
+abbrev pub is_all : List Child → Stretch → Bool
+is_all cs s = s.from == 0 && s.to == length cs
+
+-- those with x more children, and twice as many each time, until all are taken; so many tries as there are children always do
+abbrev pub stretches : List ℕ → List Child → ℕ → ℕ → ℕ → ℕ → List Stretch
+stretches cuts cs i j zero x = []
+stretches cuts cs i j (suc tries) x = around cuts cs i j x ∷ (if is_all cs (around cuts cs i j x) then [] else stretches cuts cs i j tries (2 * x))
+
+-- ---- candidates
+
+-- the children from..to of the node at the end of a path, which are the bytes start..end: a block alone, or pieces of a run
+pub record Candidate : Type 0 where
+  pub is_block : Bool
+  pub path : List ℕ
+  pub from : ℕ
+  pub to : ℕ
+  pub start : ℕ
+  pub end : ℕ
+
+-- where the child of an index begins, and where the last one ends
+abbrev pub begins : ℕ → List Tree → ℕ → ℕ
+begins at [] n = at
+begins at (t ∷ ts) zero = at
+begins at (t ∷ ts) (suc n) = begins (at + length (text_of t)) ts n
+
+-- children of a node that stand from a byte on, as a candidate
+abbrev pub of_children : Bool → List ℕ → ℕ → List Tree → ℕ → ℕ → Candidate
+of_children is_block path at ts from to = record { is_block = is_block; path = path; from = from; to = to; start = begins at ts from; end = begins at ts to }
+
+abbrev pub of_stretches : List ℕ → ℕ → List Tree → List Stretch → List Candidate
+of_stretches path at ts [] = []
+of_stretches path at ts (s ∷ ss) = of_children false path at ts s.from s.to ∷ of_stretches path at ts ss
+
+-- those of a run's children, around the replaced bytes
+abbrev pub of_run : ℕ → ℕ → List ℕ → ℕ → List Tree → Option (List ℕ) → List Candidate
+of_run rs re path at ts None = []
+of_run rs re path at ts (Some cuts) = let cs = laid at ts in of_stretches path at ts (stretches cuts cs (first_near rs cs) (end_near re cs) (suc (length ts)) 1)
+
+-- the child i, alone near the replaced bytes, is an inner node that begins before them and ends after them
+abbrev pub covers : ℕ → ℕ → List Child → ℕ → Child → Bool
+covers rs re cs i c = (end_near re cs == suc i) && (nat_lt c.start rs && (nat_lt re c.end && c.node.head.is_inner))
+
+-- a child of a node that begins at a byte is a run where it is the markup of a content block
+abbrev pub run_in : List Note → ℕ → SyntaxKind → SyntaxKind → Option (List ℕ)
+run_in ns at parent child = if same kind.ContentBlock parent && same kind.Markup child then cuts_in at ns else None
+
+-- a child as a candidate, where it is a block
+abbrev pub of_block : List ℕ → ℕ → List Tree → ℕ → SyntaxKind → List Candidate
+of_block path at ts i k = if is_block k then of_children true path at ts i (suc i) ∷ [] else []
+
+-- at the one of an index of some trees side by side: those of its child that covers the replaced bytes, then that child if it is a block, then those of its own run
+unfoldable pub candidates_at : List Note → ℕ → ℕ → List ℕ → Option (List ℕ) → ℕ → ℕ → Forest → List Candidate
+candidates_at ns rs re path run index at none = []
+candidates_at ns rs re path run (suc index) at (more h ks r) = candidates_at ns rs re path run index (at + length (h.text ++ joined ks)) r
+candidates_at ns rs re path run zero at (more h ks r) =
+    let inside = at + length h.text in
+    let cs = laid inside (trees ks) in
+    let i = first_near rs cs in
+    (elim (child_at cs i) as (λ _. List Candidate) [
+      | None ↦ []
+      | Some c ↦
+          if covers rs re cs i c
+          then candidates_at ns rs re (path ++ i ∷ []) (run_in ns at h.kind c.node.head.kind) i inside ks ++ of_block path inside (trees ks) i c.node.head.kind
+          else []
+    ])
+    ++ of_run rs re path inside (trees ks) run
+
+-- those of replacing the bytes rs..re of a text, by its tree and its notes
+abbrev pub candidates : List Note → ℕ → ℕ → Tree → List Candidate
+candidates ns rs re t = candidates_at ns rs re [] (top_cuts ns) 0 0 (forest (t ∷ []))

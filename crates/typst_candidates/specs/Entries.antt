@@ -1,0 +1,85 @@
+-- The notes of a reading by what stands between each and the one before it: the units by which an edit is decided.
+use Rattle.std.specs.Prelude.{ℕ, suc, ◌+◌, ◌-◌, nat_le, nat_lt, max, Bool, if◌then◌else◌, List, [], ◌∷◌, ◌++◌, take, drop, Some, None}
+use Rattle.typst_language.specs.declared.calls.Mark.{Mark}
+use Rattle.typst_language.specs.declared.calls.Mark.TheVariants as mark
+use Rattle.typst_language.specs.declared.calls.Note.{Note}
+use Rattle.typst_language.specs.declared.reading.State.{State}
+use Rattle.typst_language.specs.Log.{Log}
+use Rattle.typst_candidates.specs.declared.entry.Entry.{Entry}
+use Rattle.typst_candidates.specs.declared.entry.Tag.{Tag}
+use Rattle.typst_candidates.specs.declared.entry.Tag.TheVariants as tag
+
+-- what begins or ends, and of a block how its first token is read
+abbrev pub tag_of : Mark → State → Tag
+tag_of (mark.Piece at_start brackets) s = tag.Piece at_start
+tag_of (mark.Opens block) s = tag.Opens block s.held.mode
+tag_of mark.Closes s = tag.Closes
+
+-- the brackets that are open behind a piece, or the levels that are left in a block
+abbrev pub count_of : Mark → ℕ → ℕ
+count_of (mark.Piece at_start brackets) levels = brackets
+count_of (mark.Opens block) levels = levels
+count_of mark.Closes levels = 0
+
+-- how far before the token at a byte looks begin that begin at such a number, which counts the mark before the text
+abbrev pub back_of : ℕ → ℕ → ℕ
+back_of start least = suc start - least
+
+-- a note behind one whose token begins at a byte
+abbrev pub entry_of : ℕ → Note → Entry
+entry_of start n = record {
+  tag = tag_of n.mark n.state;
+  step = n.before - start;
+  gap = n.start - n.before;
+  forth = n.reach - n.start;
+  back = back_of start n.least;
+  count = count_of n.mark n.levels;
+}
+
+abbrev pub entries_by : ℕ → List Note → List Entry
+entries_by start [] = []
+entries_by start (n ∷ ns) = entry_of start n ∷ entries_by n.start ns
+
+-- where the token of the last of some notes begins
+abbrev pub last_start : ℕ → List Note → ℕ
+last_start start [] = start
+last_start start (n ∷ ns) = last_start n.start ns
+
+pub record Units : Type 0 where
+  pub entries : List Entry
+  -- how far before the last token the looks behind the last note begin
+  pub back : ℕ
+
+abbrev pub units_by : List Note → ℕ → Units
+units_by ns least = record { entries = entries_by 0 ns; back = back_of (last_start 0 ns) least }
+
+-- THE UNITS OF A READING: all that an edit keeps of it beside the tree
+abbrev pub units_of : Log → Units
+units_of h = units_by (elim h.notes as (λ _. List Note) [ None ↦ [] | Some ns ↦ ns ]) h.least
+
+-- with a part in place of the entries behind one up to another
+abbrev pub spliced : ℕ → ℕ → List Entry → Units → Units
+spliced from to part u = record u { entries = take (suc from) u.entries ++ (part ++ drop (suc to) u.entries) }
+
+-- ---- where they stand
+
+-- where the token of the last of some entries begins, behind one that begins at a byte
+abbrev pub end_of : ℕ → List Entry → ℕ
+end_of start [] = start
+end_of start (e ∷ es) = end_of ((start + e.step) + e.gap) es
+
+-- ---- the test of looks
+
+-- how many of the first stand at a byte or before it with all looks up to them
+abbrev pub front_of : ℕ → ℕ → List Entry → ℕ
+front_of at start [] = 0
+front_of at start (e ∷ es) = let here = (start + e.step) + e.gap in if nat_le (here + e.forth) at then suc (front_of at here es) else 0
+
+-- looks that begin so far before a token begin behind a byte
+abbrev pub is_behind : ℕ → ℕ → ℕ → Bool
+is_behind at start back = nat_lt at (suc start - back)
+
+-- how many of the first have looks behind them that begin at a byte or before it: from the one with that number on all looks behind begin behind the byte
+abbrev pub rear_of : ℕ → ℕ → ℕ → List Entry → ℕ → ℕ
+rear_of at start count [] back = if is_behind at start back then 0 else count
+rear_of at start count (e ∷ es) back = max (if is_behind at start e.back then 0 else count) (rear_of at ((start + e.step) + e.gap) (suc count) es back)

@@ -1,0 +1,56 @@
+-- What records hold, and what is asked of them.
+use Rattle.std.specs.Prelude.{ℕ, suc, ◌+◌, ◌-◌, ◌^◌, ◌≤◌, ◌<◌, ◌==◌, ◌&&◌, ◌↔◌, Bool, true, false, if◌then◌else◌, List, [], ◌∷◌, ◌++◌, length, Option, Some, None}
+use Rattle.typst_language.specs.declared.calls.Note.{Note}
+use Rattle.typst_candidates.specs.declared.entry.Entry.{Entry}
+use Rattle.typst_candidates.specs.declared.entry.Tag.{Tag}
+use Rattle.typst_candidates.specs.declared.entry.Tag.TheVariants as tag
+use Rattle.typst_candidates.specs.Entries.{Units, back_of, entries_by, last_start, front_of, rear_of}
+
+-- the units, and for how many entries there is room
+pub record Kept : Type 0 where
+  pub units : Units
+  pub room : ℕ
+
+abbrev pub is_opening : Tag → Bool
+is_opening (tag.Piece at_start) = false
+is_opening (tag.Opens block m) = true
+is_opening tag.Closes = false
+
+-- the number of the first entry at which a block begins whose token begins at a byte, where the first of these has such a number
+abbrev pub opening_of : ℕ → ℕ → ℕ → List Entry → Option ℕ
+opening_of at start number [] = None
+opening_of at start number (e ∷ es) =
+    let here = (start + e.step) + e.gap in
+    if is_opening e.tag && here == at then Some number else opening_of at here (suc number) es
+
+-- the token of each note begins at a byte of a text that a machine word counts
+abbrev pub AllFit : List Note → Type 0
+AllFit [] = Unit {0}
+AllFit (n ∷ ns) = (n.start < 2 ^ 64 - 1) × AllFit ns
+
+-- ---- what the numbers decide
+
+-- each note stands where the token of the one before it begins, or behind that, and its token there or behind
+abbrev pub IsRising : ℕ → List Note → Type 0
+IsRising start [] = Unit {0}
+IsRising start (n ∷ ns) = (start ≤ n.before) × (n.before ≤ n.start) × IsRising n.start ns
+
+-- all looks before some notes end at a byte or before it
+abbrev pub AllEnd : ℕ → List Note → Type 0
+AllEnd at [] = Unit {0}
+AllEnd at (n ∷ ns) = (n.reach ≤ at) × AllEnd at ns
+
+-- all looks before some notes, and those behind the last, begin behind a byte
+abbrev pub AllBegin : ℕ → List Note → ℕ → Type 0
+AllBegin at [] least = at < least
+AllBegin at (n ∷ ns) least = (at < n.least) × AllBegin at ns least
+
+-- The law of the front: of notes whose last token begins at a byte or before it the looks end there or before it exactly where that last one is among the first that the records count.
+abbrev pub FrontLaw : Type 0
+FrontLaw = (ns more : List Note) (n : Note) (at : ℕ) → IsRising 0 (ns ++ n ∷ more) → n.start ≤ at
+    → length ns < front_of at 0 (entries_by 0 (ns ++ n ∷ more)) ↔ AllEnd at (ns ++ n ∷ [])
+
+-- The law of the rear: behind a note whose token begins at a byte or behind it all looks begin behind the byte exactly where the records count no more than the notes before it.
+abbrev pub RearLaw : Type 0
+RearLaw = (ns more : List Note) (n : Note) (at least : ℕ) → IsRising 0 (ns ++ n ∷ more) → at ≤ n.start
+    → rear_of at 0 0 (entries_by 0 (ns ++ n ∷ more)) (back_of (last_start 0 (ns ++ n ∷ more)) least) ≤ length ns ↔ AllBegin at more least

@@ -1,0 +1,60 @@
+-- Places between the children of a node (of private clauses).
+use Rattle.std.specs.Prelude.{◌≡◌, ℕ, ◌+◌, ◌^◌, ◌<◌, ◌≤◌, Option, Some, None, List, [], ◌∷◌, ◌++◌, length, take, option_map, ◌==◌, ◌&&◌, Bool, nat_lt, zero, suc, if◌then◌else◌}
+use Rattle.typst_language.specs.declared.calls.Note.{Note}
+use Rattle.typst_tree.specs.Tree.{Tree, forest, trees, text_of}
+use Rattle.typst_candidates.specs.declared.cuts.Cuts.{Cuts}
+use Rattle.typst_candidates.specs.declared.candidate.Candidate as found
+use Rattle.typst_candidates.specs.declared.row.Edge.{Edge}
+use Rattle.typst_candidates.specs.declared.row.Near.{Near}
+use Rattle.typst_candidates.specs.declared.row.Stretch as row
+use Rattle.typst_candidates.specs.Candidates.{Candidate, Stretch, laid, child_at, begins, first_near, end_near, covers, run_in, of_block, candidates_at}
+
+-- so many children stand before the place, which is this byte
+pub record IsEdge (at : ℕ) (ts : List Tree) (e : Edge) : Type 0 where
+  pub within : e.index ≤ length ts
+  pub byte : e.byte ≡ begins at ts e.index
+
+-- where the last child ends can be counted
+abbrev pub Fits : ℕ → List Tree → Type 0
+Fits at ts = begins at ts (length ts) < 2 ^ 64
+
+-- the children near the bytes rs..re
+pub record IsNear (at : ℕ) (ts : List Tree) (rs re : ℕ) (near : Near) : Type 0 where
+  pub first : near.first.index ≡ first_near rs (laid at ts)
+  pub end : near.end.index ≡ end_near re (laid at ts)
+  pub first_edge : IsEdge at ts near.first
+  pub end_edge : IsEdge at ts near.end
+
+-- a stretch by its children alone
+abbrev pub indices : row.Stretch → Stretch
+indices s = record { from = s.from.index; to = s.to.index }
+
+-- where the pieces of a run begin, but for its first
+abbrev pub bytes_of : Cuts → List ℕ
+bytes_of c = c.starts.items
+
+-- those of a node that may be a run
+abbrev pub run_of : Option Cuts → Option (List ℕ)
+run_of run = option_map bytes_of run
+
+-- a candidate whose path is the front of another
+abbrev pub spelled : List ℕ → found.Candidate → Candidate
+spelled path c = record { is_block = c.is_block; path = take c.depth path; from = c.from; to = c.to; start = c.start; end = c.end }
+
+-- the first of the children near the bytes rs..re is alone there, begins before them and ends after them, and may be an inner node
+abbrev pub is_covered : ℕ → ℕ → Near → Bool → Bool
+is_covered rs re near is_inner = (near.end.index == suc near.first.index) && (nat_lt near.first.byte rs && (nat_lt re near.end.byte && is_inner))
+
+-- at a node that begins at a byte: those of its child that covers the replaced bytes, then that child if it is a block
+abbrev pub below : List Note → ℕ → ℕ → List ℕ → ℕ → Tree → List Candidate
+below ns rs re path at t =
+    let inside = at + length t.head.text in
+    let cs = laid inside (trees t.kids) in
+    let i = first_near rs cs in
+    elim (child_at cs i) as (λ _. List Candidate) [
+      | None ↦ []
+      | Some c ↦
+          if covers rs re cs i c
+          then candidates_at ns rs re (path ++ i ∷ []) (run_in ns at t.head.kind c.node.head.kind) 0 c.start (forest (c.node ∷ [])) ++ of_block path inside (trees t.kids) i c.node.head.kind
+          else []
+    ]

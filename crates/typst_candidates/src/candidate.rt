@@ -1,0 +1,194 @@
+//! All candidates of an edit, in order.
+
+ghost use Rattle.std.specs.Prelude.{◌≡◌, ℕ, List, ◌+◌, ◌<◌, ◌≤◌, ◌^◌, ◌++◌, ◌∷◌, [], IfOk, OnOk, length, map, suc, take};
+ghost use Rattle.typst_tree.specs.Tree.{forest, trees, text_of};
+ghost use Rattle.typst_candidates.specs.Candidates.{laid, run_in, stretches, of_stretches, candidates, candidates_at};
+ghost use Rattle.typst_candidates.specs.Rows.{IsEdge, IsNear, Fits, below, bytes_of, run_of, spelled};
+
+use crate::{Cuts, Near, Row, Stretch, cuts_in, top_cuts};
+use std::alloc::{AllocError, Global};
+use typst_kinds::SyntaxKind;
+use typst_language::Note;
+use typst_tree::SyntaxNode;
+
+/// Children of a node that an edit may read anew: a block alone, or pieces of a run.
+#[derive(Debug, Clone, Copy, PartialEq, Eq)]
+pub struct Candidate {
+    /// Whether it is a block.
+    pub is_block: bool,
+    /// How many steps from the root lead to the node.
+    pub depth: usize,
+    /// The first of the children.
+    pub from: usize,
+    /// The child behind the last of them.
+    pub to: usize,
+    /// The byte at which the first begins.
+    pub start: usize,
+    /// The byte at which the last ends.
+    pub end: usize,
+}
+
+/// The candidates of an edit.
+#[derive(Drop)]
+pub struct Candidates {
+    /// Which child each step down is. A candidate's own path is the front of it that is as long as
+    /// its depth.
+    pub path: Vec<usize>,
+    /// The candidates, in order.
+    pub items: Vec<Candidate>,
+}
+
+/// The replaced bytes, and what was noted in reading the text.
+#[derive(Clone, Copy)]
+struct Search<'a> {
+    notes: &'a [Note],
+    start: usize,
+    end: usize,
+}
+
+/// The children of a stretch as a candidate.
+fn of_stretch(is_block: bool, depth: usize, stretch: Stretch) -> Candidate
+    ensures { result ≡ record { is_block = is_block; depth = depth; from = stretch.from.index; to = stretch.to.index; start = stretch.from.byte; end = stretch.to.byte } }
+{
+    Candidate {
+        is_block,
+        depth,
+        from: stretch.from.index,
+        to: stretch.to.index,
+        start: stretch.from.byte,
+        end: stretch.to.byte,
+    }
+}
+
+/// Adds those of a run: the pieces with 1, 2, 4, .. more children on each side, until all are taken.
+fn add_pieces(
+    found: &mut Vec<Candidate>,
+    row: &Row<'_>,
+    cuts: &Cuts,
+    near: Near,
+    depth: usize,
+) -> Result<(), AllocError>
+    requires fits { Fits row.now.at row.now.kids.now }
+    requires first { IsEdge row.now.at row.now.kids.now near.first }
+    requires end { IsEdge row.now.at row.now.kids.now near.end }
+    ensures { OnOk result ((path : List ℕ) → map (spelled path) found.new.items ≡ map (spelled path) found.old.items ++ of_stretches (take depth path) row.now.at row.now.kids.now (stretches (bytes_of cuts.now) (laid row.now.at row.now.kids.now) near.first.index near.end.index (suc (length row.now.kids.now)) 1)) }
+{
+    let mut more: usize = 1;
+    for _ in 0..row.len() + 1 {
+        let stretch = row.around(cuts, near, more);
+        found.push(of_stretch(false, depth, stretch))?;
+        if row.is_all(stretch) {
+            return Ok(());
+        }
+        more *= 2;
+    }
+    Ok(())
+}
+
+impl Search<'_> {
+    /// The run that a child is, if it is the markup of a content block, which begins at byte `at`.
+    fn run_in(
+        &self,
+        alloc: Global,
+        parent: SyntaxKind,
+        child: SyntaxKind,
+        at: usize,
+    ) -> Result<Option<Cuts>, AllocError>
+        ensures { IfOk result (λ run. run_of run ≡ run_in self.now.notes.now at parent child) }
+    {
+        if parent == SyntaxKind::ContentBlock && child == SyntaxKind::Markup {
+            cuts_in(alloc, at, self.notes)
+        } else {
+            Ok(None)
+        }
+    }
+
+    /// Those at a node, which begins at byte `at` and may be a run. The steps down to the deepest
+    /// node are added to its path.
+    #[cycle(candidates)]
+    fn candidates_at(
+        &self,
+        alloc: Global,
+        node: &SyntaxNode,
+        at: usize,
+        run: Option<Cuts>,
+        path: &mut Vec<usize>,
+    ) -> Result<Vec<Candidate>, AllocError>
+        requires order { self.now.start ≤ self.now.end }
+        requires fits { at + length (text_of node.now) < 2 ^ 64 }
+        ensures path { OnOk result (take (length path.old.items) path.new.items ≡ path.old.items) }
+        ensures found { IfOk result (λ found. map (spelled path.new.items) found.items ≡ candidates_at self.now.notes.now self.now.start self.now.end path.old.items (run_of run) 0 at (forest (node.now ∷ []))) }
+    {
+        let row = Row::of(node, at);
+        let near = row.near(self.start, self.end);
+        let depth = path.len();
+        let mut found = self.below(alloc, node, at, near, path)?;
+        match &run {
+            None => Ok(found),
+            Some(cuts) => {
+                add_pieces(&mut found, &row, cuts, near, depth)?;
+                Ok(found)
+            }
+        }
+    }
+
+    /// Those at the child of a node that covers the replaced bytes, then that child if it is a
+    /// block.
+    #[cycle(candidates)]
+    fn below(
+        &self,
+        alloc: Global,
+        node: &SyntaxNode,
+        at: usize,
+        near: Near,
+        path: &mut Vec<usize>,
+    ) -> Result<Vec<Candidate>, AllocError>
+        requires order { self.now.start ≤ self.now.end }
+        requires fits { at + length (text_of node.now) < 2 ^ 64 }
+        requires near { IsNear (at + length node.now.head.text) (trees node.now.kids) self.now.start self.now.end near }
+        ensures path { OnOk result (take (length path.old.items) path.new.items ≡ path.old.items) }
+        ensures found { IfOk result (λ found. map (spelled path.new.items) found.items ≡ below self.now.notes.now self.now.start self.now.end path.old.items at node.now) }
+    {
+        let kids = node.children();
+        let depth = path.len();
+        if near.first.index >= kids.len() {
+            return Ok(Vec::new(alloc));
+        }
+        let child = &kids[near.first.index];
+        if !near.covers(self.start, self.end, child) {
+            return Ok(Vec::new(alloc));
+        }
+        path.push(near.first.index)?;
+        let run = self.run_in(alloc, node.kind(), child.kind(), at)?;
+        let mut found = self.candidates_at(alloc, child, near.first.byte, run, path)?;
+        if !child.kind().is_block() {
+            return Ok(found);
+        }
+        let alone = Stretch {
+            from: near.first,
+            to: near.end,
+        };
+        found.push(of_stretch(true, depth, alone))?;
+        Ok(found)
+    }
+}
+
+/// The candidates of replacing the bytes `start..end` of a text, by its tree and the notes of its
+/// reading, in order.
+pub fn find_candidates(
+    alloc: Global,
+    root: &SyntaxNode,
+    notes: &[Note],
+    start: usize,
+    end: usize,
+) -> Result<Candidates, AllocError>
+    requires order { start ≤ end }
+    requires fits { length (text_of root.now) < 2 ^ 64 }
+    ensures { IfOk result (λ found. map (spelled found.path.items) found.items.items ≡ candidates notes.now start end root.now) }
+{
+    let search = Search { notes, start, end };
+    let run = top_cuts(alloc, notes)?;
+    let mut path = Vec::new(alloc);
+    let items = search.candidates_at(alloc, root, 0, run, &mut path)?;
+    Ok(Candidates { path, items })
+}

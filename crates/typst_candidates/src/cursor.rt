@@ -1,0 +1,186 @@
+//! A place among the entries of records.
+
+ghost use Rattle.std.specs.Prelude.{◌≡◌, ◌+◌, ◌^◌, ◌<◌, ◌≤◌, length, drop, Some, None};
+ghost use Rattle.typst_candidates.specs.Entries.{end_of};
+ghost use Rattle.typst_candidates.specs.Cursors as spec;
+
+use crate::entry::{Entry, Tag};
+use crate::records::Records;
+use std::marker::Model;
+
+/// A place between two entries of records, and where in the text it is.
+#[derive(Drop)]
+pub struct Cursor<'a> {
+    entries: &'a [Entry],
+    /// How many of them stand before it.
+    number: usize,
+    /// Where the token of the last of these begins.
+    start: usize,
+}
+
+impl<'a> Model for Cursor<'a> {
+    ghost use Rattle.std.specs.Prelude.{◌≡◌, ◌^◌, ◌<◌, ◌≤◌, length, take};
+    ghost use Rattle.typst_candidates.specs.Entries.{end_of};
+    ghost use Rattle.typst_candidates.specs.Cursors.{Place};
+
+    ghost Value = { Place };
+
+    ghost view = { λ c. record { entries = c.entries.now; number = c.number } };
+
+    ghost invariant = { λ c. (c.number ≤ length c.entries.now) × (c.start ≡ end_of 0 (take c.number c.entries.now)) × (end_of 0 c.entries.now < 2 ^ 64) };
+}
+
+impl Records {
+    /// The place before the first entry. The places of the text must be numbers of the machine.
+    pub fn cursor(&self) -> Cursor<'_>
+        requires { end_of 0 self.now.units.entries < 2 ^ 64 }
+        ensures { result ≡ record { entries = self.now.units.entries; number = 0 } }
+    {
+        Cursor {
+            entries: self.entries(),
+            number: 0,
+            start: 0,
+        }
+    }
+
+    /// The place behind so many entries. Goes through these.
+    pub fn cursor_at(&self, number: usize) -> Cursor<'_>
+        requires within { number ≤ length self.now.units.entries }
+        requires fits { end_of 0 self.now.units.entries < 2 ^ 64 }
+        ensures { result ≡ record { entries = self.now.units.entries; number = number } }
+    {
+        let mut place = self.cursor();
+        for _ in 0..number {
+            let _ = place.next();
+        }
+        place
+    }
+
+    /// The place behind the last entry, whose token begins at the byte `last`, or 0 where there is none.
+    pub fn cursor_at_end(&self, last: usize) -> Cursor<'_>
+        requires { last ≡ end_of 0 self.now.units.entries }
+        ensures { result ≡ record { entries = self.now.units.entries; number = length self.now.units.entries } }
+    {
+        let entries = self.entries();
+        Cursor {
+            entries,
+            number: entries.len(),
+            start: last,
+        }
+    }
+}
+
+impl<'a> Cursor<'a> {
+    /// The same place.
+    pub fn copy(&self) -> Cursor<'a>
+        ensures place { result ≡ self.now }
+        ensures fits { result.number < 2 ^ 64 }
+    {
+        Cursor {
+            entries: self.entries,
+            number: self.number,
+            start: self.start,
+        }
+    }
+
+    /// How many entries stand before it.
+    pub fn number(&self) -> usize
+        ensures { result ≡ self.now.number }
+    {
+        self.number
+    }
+
+    /// The byte at which the token of the entry before it begins, or 0 before the first.
+    pub fn start(&self) -> usize
+        ensures { result ≡ spec.start_at self.now }
+    {
+        self.start
+    }
+
+    /// The entry behind it, behind which it goes; nothing where there is none.
+    pub fn next(&mut self) -> Option<Entry>
+        ensures entry { result ≡ spec.entry_behind self.old }
+        ensures place { self.new ≡ spec.behind result self.old }
+        ensures fits { self.new.number < 2 ^ 64 }
+    {
+        let entry = *self.entries.get(self.number)?;
+        self.number += 1;
+        self.start += entry.step + entry.gap;
+        Some(entry)
+    }
+
+    /// The entry before it, before which it goes; nothing where there is none.
+    pub fn back(&mut self) -> Option<Entry>
+        ensures entry { result ≡ spec.entry_before self.old }
+        ensures place { self.new ≡ spec.before self.old }
+    {
+        let number = self.number.checked_sub(1)?;
+        let entry = self.entries[number];
+        self.number = number;
+        self.start -= entry.step + entry.gap;
+        Some(entry)
+    }
+
+    /// The place before the first piece behind it of the run that it stands in. Goes through the entries up to
+    /// there; what stands in a block of the run is passed over. Nothing where the run has none.
+    pub fn piece_behind(&self) -> Option<Cursor<'a>>
+        ensures { result ≡ spec.placed self.now (spec.first_piece 0 self.now.number (drop self.now.number self.now.entries)) }
+    {
+        let mut place = self.copy();
+        let mut inside = 0usize;
+        loop {
+            let here = place.copy();
+            let entry = place.next()?;
+            if leads(entry.tag, inside) {
+                return Some(here);
+            }
+            inside = inside_behind(entry.tag, inside)?;
+        }
+    }
+
+    /// The place before the last piece before it of the run that it stands in, in the same way.
+    pub fn piece_before(&self) -> Option<Cursor<'a>>
+        ensures { result ≡ spec.placed self.now (spec.last_piece 0 self.now.entries self.now.number) }
+    {
+        let mut place = self.copy();
+        let mut inside = 0usize;
+        loop {
+            let entry = place.back()?;
+            if leads(entry.tag, inside) {
+                return Some(place);
+            }
+            inside = inside_before(entry.tag, inside)?;
+        }
+    }
+}
+
+/// Whether a piece of a run itself begins, in so many blocks of the run.
+fn leads(tag: Tag, inside: usize) -> bool
+    ensures { result ≡ spec.leads tag inside }
+{
+    matches!(tag, Tag::Piece(_)) && inside == 0
+}
+
+/// In how many blocks of a run what comes behind an entry stands, unless the run's own block ends there.
+fn inside_behind(tag: Tag, inside: usize) -> Option<usize>
+    requires { inside + 1 < 2 ^ 64 }
+    ensures { result ≡ spec.inside_behind tag inside }
+{
+    match tag {
+        Tag::Piece(_) => Some(inside),
+        Tag::Opens(_, _) => Some(inside + 1),
+        Tag::Closes => inside.checked_sub(1),
+    }
+}
+
+/// In how many blocks of a run what comes before an entry stands, unless the run's own block begins there.
+fn inside_before(tag: Tag, inside: usize) -> Option<usize>
+    requires { inside + 1 < 2 ^ 64 }
+    ensures { result ≡ spec.inside_before tag inside }
+{
+    match tag {
+        Tag::Piece(_) => Some(inside),
+        Tag::Opens(_, _) => inside.checked_sub(1),
+        Tag::Closes => Some(inside + 1),
+    }
+}

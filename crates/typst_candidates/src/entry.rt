@@ -1,0 +1,82 @@
+//! One unit's begin or end, by what stands between it and the one before it.
+
+ghost use Rattle.std.specs.Prelude.{◌≡◌, ◌-◌, ◌^◌, ◌<◌};
+ghost use Rattle.typst_candidates.specs.Entries as spec;
+
+use typst_kinds::SyntaxMode;
+use typst_language::{Block, Mark, Note, State};
+
+/// What begins or ends.
+#[derive(Debug, Clone, Copy, PartialEq, Eq)]
+pub enum Tag {
+    /// A piece of a run begins, whether at the start of a line, or the run ends.
+    Piece(bool),
+    /// A block begins, whose first token is read in this mode.
+    Opens(Block, SyntaxMode),
+    /// A block ends.
+    Closes,
+}
+
+/// A note of a reading by what stands between it and the note before it, in bytes. An edit changes
+/// the entries of its own part alone, since no place of the text stands in one.
+#[derive(Debug, Clone, Copy, PartialEq, Eq)]
+pub struct Entry {
+    /// What begins or ends.
+    pub tag: Tag,
+    /// How far it stands behind the token of the note before it,
+    pub step: usize,
+    /// and how long the trivia between it and its own token are.
+    pub gap: usize,
+    /// How far the looks since the note before it go past the start of its token,
+    pub forth: usize,
+    /// and how far before the token of the note before it they begin.
+    pub back: usize,
+    /// The brackets that are open behind a piece, the levels that are left in a block, or nothing.
+    pub count: usize,
+}
+
+impl Entry {
+    /// That of a note behind one whose token begins at the byte `start`.
+    pub fn new(start: usize, note: &Note) -> Entry
+        requires { start < 2 ^ 64 - 1 }
+        ensures { result ≡ spec.entry_of start note.now }
+    {
+        Entry {
+            tag: tag_of(note.mark, note.state),
+            step: note.before.saturating_sub(start),
+            gap: note.start.saturating_sub(note.before),
+            forth: note.reach.saturating_sub(note.start),
+            back: back_of(start, note.least),
+            count: count_of(note.mark, note.levels),
+        }
+    }
+}
+
+/// How far before the token at the byte `start` looks begin that begin at `least`, which counts the
+/// mark before the text.
+pub(crate) fn back_of(start: usize, least: usize) -> usize
+    requires { start < 2 ^ 64 - 1 }
+    ensures { result ≡ spec.back_of start least }
+{
+    if least > start { 0 } else { start - least + 1 }
+}
+
+fn tag_of(mark: Mark, state: State) -> Tag
+    ensures { result ≡ spec.tag_of mark state }
+{
+    match mark {
+        Mark::Piece(at_start, _) => Tag::Piece(at_start),
+        Mark::Opens(block) => Tag::Opens(block, state.held.mode),
+        Mark::Closes => Tag::Closes,
+    }
+}
+
+fn count_of(mark: Mark, levels: usize) -> usize
+    ensures { result ≡ spec.count_of mark levels }
+{
+    match mark {
+        Mark::Piece(_, brackets) => brackets,
+        Mark::Opens(_) => levels,
+        Mark::Closes => 0,
+    }
+}

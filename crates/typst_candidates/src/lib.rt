@@ -1,0 +1,23 @@
+//! What of a tree an edit may read anew: blocks that cover the replaced bytes, and pieces around
+//! them, in order; and the units of a text, by which it is decided.
+//!
+//! [`find_candidates`] gives all candidates. Who needs them one after the other walks down by [`Row::near`]
+//! and [`Near::covers`], and asks for a run's stretches by [`Row::around`] and [`Row::is_all`].
+//! [`Records`] keep the units beside a tree.
+#![tactic(auto)]
+
+mod candidate;
+mod cursor;
+mod cuts;
+mod entry;
+mod laws;
+mod records;
+mod row;
+
+pub use candidate::{Candidate, Candidates, find_candidates};
+pub use cursor::Cursor;
+pub use cuts::{Cuts, cuts_in, top_cuts};
+pub use entry::{Entry, Tag};
+pub use laws::{candidates_of_texts, looks_law, records_of_texts};
+pub use records::Records;
+pub use row::{Edge, Near, Row, Stretch};
