@@ -159,6 +159,19 @@ module _ (l : Level) (stops : SyntaxKind → Bool) (x : Bool × ℕ) (z : Place)
       (marks-append P deep.asks (shift deep.taken second) (deep-marks P some f) (marks-shift P deep.taken second (none-hand (shifted deep.taken) l.classes deep.state.held deep.state.known there))) in
       subst (λ u. AllMarks P u) (sym gone-asks) (marks-append P early_asks _ early (marks-append P (shift n looks) _ behind (own, behind)))
 
+  -- by what it asks before its last looks, none of which notes anything on its own level
+  pub turn-asks : ends stops x.1 ahead.kind ≡ false → (let o = run l (markup_turn true stops x) z s in let looks = hand_asks_of l there after in o.asks ≡ early_asks ++ (shift o.taken looks ++ piece_mark o.taken o.value.1 o.state ∷ shift o.taken looks))
+  turn-asks go =
+      let looks = hand_asks_of l there after in
+      subst (λ (o : Outcome (Bool × (Bool × ℕ))). o.asks ≡ early_asks ++ (shift o.taken looks ++ piece_mark o.taken o.value.1 o.state ∷ shift o.taken looks)) (sym (turn-is go)) gone-asks
+
+  pub early-marks : (P : ℕ → ℕ → Mark → State → Type 0) → (l.levels == 0) ≡ false → ((at fewer : ℕ) (m : Mark) (p : State) → P at (suc fewer) m p) → AllMarks P early_asks
+  early-marks P some f =
+      let second = hand_asks_of l there deep.state in
+      marks-append P (hand_asks_of l z s) _ (none-hand P l.classes s.held s.known z)
+      (marks-append P deep.asks (shift deep.taken second) (deep-marks P some f)
+      (marks-shift P deep.taken second (none-hand (λ at fewer m p. P (deep.taken + at) fewer m p) l.classes deep.state.held deep.state.known there)))
+
   pub turn-marks : (P : ℕ → ℕ → Mark → State → Type 0) → (l.levels == 0) ≡ false → ((at fewer : ℕ) (m : Mark) (p : State) → P at (suc fewer) m p) → ends stops x.1 ahead.kind ≡ false
       → (let o = run l (markup_turn true stops x) z s in P o.taken 0 (mark.Piece o.value.1.0 o.value.1.1) (state_of o.state) → AllMarks P o.asks)
   turn-marks P some f go = subst (λ (o : Outcome (Bool × (Bool × ℕ))). P o.taken 0 (mark.Piece o.value.1.0 o.value.1.1) (state_of o.state) → AllMarks P o.asks) (sym (turn-is go)) (gone-marks P some f)

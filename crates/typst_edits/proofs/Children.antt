@@ -32,7 +32,7 @@ use Rattle.typst_edits.specs.Runs.{made, piece_at, AllGo, end_of, lead, pieces, 
 use Rattle.typst_edits.proofs.Boundary.{KnownAt, first-of, stopped-is, turn-known}
 use Rattle.typst_edits.proofs.Edit.{trees-of}
 use Rattle.typst_edits.proofs.Joint.{joint-law, onwards-is, takes-call, known-is}
-use Rattle.typst_edits.proofs.Led.{trivia_with, before_trivia, Led, led-joined, Takes}
+use Rattle.typst_edits.proofs.Led.{behind_trivia, same-judged, before_trivia, Led, led-joined, Takes}
 use Rattle.typst_edits.proofs.RunTrees.{standing-chain, standing-still, tree-is}
 use Rattle.typst_edits.proofs.Runs.{chain-state}
 use Rattle.typst_edits.proofs.Turns.{takes-turn, end-by}
@@ -77,7 +77,7 @@ pub record Gives (o : Outcome (Unit {0})) : Type 0 where
 
 -- a run on a level where each expression takes the token at hand
 module _ (l : Level) (sd : (c : Call) → Sane (l.deeper c)) (sb : (b : Block) → Sane (l.blocks b)) (deep : (l.levels == 0) ≡ false) (stops : SyntaxKind → Bool) (end_stops : stops kind.End ≡ true)
-    (call : (h : Reading) (z : Place) (t : Trivia) (x : Bool × ℕ) → 0 < len_at l.classes h.mode (moved t.gap z) → Takes h z t t.nodes (minds (markup_head x.0 x.1 (hand_at l.classes h (Some t) z).kind)) (l.deeper (MarkupExpr x.0 x.1))) where
+    (call : (h : Reading) (z : Place) (t : Trivia) (x : Bool × ℕ) → 0 < len_at l.classes h.mode (moved t.gap z) → Takes h z t t (minds (markup_head x.0 x.1 (hand_at l.classes h (Some t) z).kind)) (l.deeper (MarkupExpr x.0 x.1))) where
   abbrev turn : Bool × ℕ → Meaning (Bool × (Bool × ℕ))
   turn x = run l (markup_turn true stops x)
 
@@ -88,19 +88,19 @@ module _ (l : Level) (sd : (c : Call) → Sane (l.deeper c)) (sb : (b : Block) �
       let o = turn x z s in
       known-behind n o.value.1 (moved o.taken z) o.state (turn-known l stops x z s (first-of o.value.0 (nat_lt 0 o.taken) g.0)) g.1
 
-  goes-on : (x : Bool × ℕ) (z : Place) (s : Point) (b : Bool) → ends stops x.1 (told (hand_of l z s)).kind ≡ b → (turn x z s).value.0 ≡ true → ends stops x.1 (told (hand_of l z s)).kind ≡ false
+  pub goes-on : (x : Bool × ℕ) (z : Place) (s : Point) (b : Bool) → ends stops x.1 (told (hand_of l z s)).kind ≡ b → (turn x z s).value.0 ≡ true → ends stops x.1 (told (hand_of l z s)).kind ≡ false
   goes-on x z s true e h = let f : true ≡ false = sym h ∙ stopped-is l stops x z s e in cc
   goes-on x z s false e h = e
 
   -- a turn that goes on gives the trivia before it, and takes the token behind them
   pub turn-led : (x : Bool × ℕ) (z : Place) (r h : Reading) (e : ℕ) (a : Bool) (t : Trivia) → (let s = before_trivia r h e a t in ends stops x.1 (told (hand_of l z s)).kind ≡ false
-      → Led t t.nodes (minds (markup_head x.0 x.1 (hand_at l.classes h (Some t) z).kind)) (turn x z s) (turn x (moved t.gap z) (before_trivia r h e a (trivia_with t.nodes t))))
+      → Led t t.nodes (minds (markup_head x.0 x.1 (hand_at l.classes h (Some t) z).kind)) (turn x z s) (turn x (moved t.gap z) (before_trivia r h e a (behind_trivia t))))
   unfolding hand_at
   turn-led x z r h e a t go =
       let s = before_trivia r h e a t in
       let some = hand-takes l.classes h (Some t) z (end-by stops end_stops x.1 (told (hand_of l z s)).kind go) in
       let trims = minds (markup_head x.0 x.1 (hand_at l.classes h (Some t) z).kind) in
-      takes-turn l sd sb h z t t.nodes refl deep stops x trims (call h z t x some) go r e e a a (λ p. refl)
+      takes-turn l sd sb h z t t (same-judged h t) deep stops x trims (call h z t x some) go r e e a a (λ p. refl)
 
   gives-before : (n : ℕ) (x : Bool × ℕ) (z : Place) (r h : Reading) (e : ℕ) (a : Bool) (t : Trivia) → (let s = before_trivia r h e a t in let os = made turn (suc n) x z s in AllGo os → Gives (together (end_of x s os).state os))
   gives-before n x z r h e a t g =
@@ -111,7 +111,7 @@ module _ (l : Level) (sd : (c : Call) → Sane (l.deeper c)) (sb : (b : Block) �
       let q = together (end_of o.value.1 o.state os).state os in
       let go = goes-on x z s (ends stops x.1 (told (hand_of l z s)).kind) refl (first-of o.value.0 (nat_lt 0 o.taken) g.0) in
       let trims = minds (markup_head x.0 x.1 (hand_at l.classes h (Some t) z).kind) in
-      let c = turn x (moved t.gap z) (before_trivia r h e a (trivia_with t.nodes t)) in
+      let c = turn x (moved t.gap z) (before_trivia r h e a (behind_trivia t)) in
       let one : Led t t.nodes trims o c = turn-led x z r h e a t go in
       let tidy = tidy-together turn (λ v. (sane-run l sd sb (markup_turn true stops v)).backs) n o.value.1 y o.state in
       let all = led-joined t t.nodes trims o c q one (subst (λ p. Tidy p q) one.state tidy) in
@@ -161,16 +161,16 @@ module _ (k : CharClasses) where
 
   pub top-known : (i : ℕ) (z : Place) → AllGo (pieces k i z) → KnownAt (end_at k i z).state
   unfolding run
-  top-known i z g = known-behind top (sane-meaning (rules k) k max_depth) (sane-block (rules k) k max_depth) refl is_end refl (λ h y t x some. takes-call k 255 h y t t.nodes refl x.0 x.1 some) i (true, 0) z (lead k z).state (record { trivia = _; is = refl }) g
+  top-known i z g = known-behind top (sane-meaning (rules k) k max_depth) (sane-block (rules k) k max_depth) refl is_end refl (λ h y t x some. takes-call k 255 h y t t (same-judged h t) x some) i (true, 0) z (lead k z).state (record { trivia = _; is = refl }) g
 
   pub top-gives : (i n : ℕ) (z : Place) → AllGo (pieces k i z) → AllGo (pieces_from k i n z) → 0 < n → Gives (read_from k i n z)
   unfolding run
   top-gives i n z g h some =
       let e = end_at k i z in
-      gives-pieces top (sane-meaning (rules k) k max_depth) (sane-block (rules k) k max_depth) refl is_end refl (λ r y t x more. takes-call k 255 r y t t.nodes refl x.0 x.1 more) n e.value (moved e.taken z) e.state some (top-known i z g) h
+      gives-pieces top (sane-meaning (rules k) k max_depth) (sane-block (rules k) k max_depth) refl is_end refl (λ r y t x more. takes-call k 255 r y t t (same-judged r t) x more) n e.value (moved e.taken z) e.state some (top-known i z g) h
 
   -- what is behind takes back no more than stands there
-  behind-back : (i n : ℕ) (z : Place) → (onwards_from k i n z).back ≤ (end_from k i n z).state.empties
+  pub behind-back : (i n : ℕ) (z : Place) → (onwards_from k i n z).back ≤ (end_from k i n z).state.empties
   behind-back i n z =
       let f = end_from k i n z in
       let tidy = (sane-at (rules k) k max_depth (repeat (markup_turn true is_end) f.value >>= λ _. flush_trivia)).backs (place_from k i n z) f.state in

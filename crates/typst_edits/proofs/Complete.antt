@@ -40,26 +40,26 @@ abbrev pub Any : {X : Type 0} → (X → Type 0) → List X → Type 0
 Any P [] = ⊥
 Any P (x ∷ xs) = P x ⊎ Any P xs
 
-any-left : {X : Type 0} (P : X → Type 0) (xs ys : List X) → Any P xs → Any P (xs ++ ys)
+pub any-left : {X : Type 0} (P : X → Type 0) (xs ys : List X) → Any P xs → Any P (xs ++ ys)
 any-left P [] ys h = elim h [ ]
 any-left P (x ∷ xs) ys (inl h) = inl h
 any-left P (x ∷ xs) ys (inr h) = inr (any-left P xs ys h)
 
-any-right : {X : Type 0} (P : X → Type 0) (xs ys : List X) → Any P ys → Any P (xs ++ ys)
+pub any-right : {X : Type 0} (P : X → Type 0) (xs ys : List X) → Any P ys → Any P (xs ++ ys)
 any-right P [] ys h = h
 any-right P (x ∷ xs) ys h = inr (any-right P xs ys h)
 
-any-map : {X Y : Type 0} (P : X → Type 0) (Q : Y → Type 0) (f : X → Y) → ((x : X) → P x → Q (f x)) → (xs : List X) → Any P xs → Any Q (map f xs)
+pub any-map : {X Y : Type 0} (P : X → Type 0) (Q : Y → Type 0) (f : X → Y) → ((x : X) → P x → Q (f x)) → (xs : List X) → Any P xs → Any Q (map f xs)
 any-map P Q f g [] h = elim h [ ]
 any-map P Q f g (x ∷ xs) (inl h) = inl (g x h)
 any-map P Q f g (x ∷ xs) (inr h) = inr (any-map P Q f g xs h)
 
 -- ---- the notes of logs
 
-opened-append : (xs ys : List Ask) → opened (xs ++ ys) ≡ opened xs ++ opened ys
+pub opened-append : (xs ys : List Ask) → opened (xs ++ ys) ≡ opened xs ++ opened ys
 opened-append xs ys = flat_map-append opens xs ys
 
-opened-by : (f : Ask → Ask) → ((ask : Ask) → opens (f ask) ≡ map f (opens ask)) → (asks : List Ask) → opened (map f asks) ≡ map f (opened asks)
+pub opened-by : (f : Ask → Ask) → ((ask : Ask) → opens (f ask) ≡ map f (opens ask)) → (asks : List Ask) → opened (map f asks) ≡ map f (opened asks)
 opened-by f h [] = refl
 opened-by f h (ask ∷ asks) = ap (λ u. u ++ opened (map f asks)) (h ask) ∙ ap (λ u. map f (opens ask) ++ u) (opened-by f h asks) ∙ sym (maps (opens ask) (opened asks))
   where
@@ -71,15 +71,15 @@ opens-if : (f : Ask → Ask) (b : Bool) (x : Ask) → (if b then f x ∷ [] else
 opens-if f true x = refl
 opens-if f false x = refl
 
-opens-shift : (n : ℕ) (ask : Ask) → opens (shift_one n ask) ≡ map (shift_one n) (opens ask)
+pub opens-shift : (n : ℕ) (ask : Ask) → opens (shift_one n ask) ≡ map (shift_one n) (opens ask)
 opens-shift n (looked at look) = refl
 opens-shift n (marked at gap fewer m s) = opens-if (shift_one n) (is_opening m) (marked at gap fewer m s)
 
-opens-sink : (ask : Ask) → opens (sink_one ask) ≡ map sink_one (opens ask)
+pub opens-sink : (ask : Ask) → opens (sink_one ask) ≡ map sink_one (opens ask)
 opens-sink (looked at look) = refl
 opens-sink (marked at gap fewer m s) = opens-if sink_one (is_opening m) (marked at gap fewer m s)
 
-opened-looks : (asks : List Ask) → opened (only_looks asks) ≡ []
+pub opened-looks : (asks : List Ask) → opened (only_looks asks) ≡ []
 opened-looks [] = refl
 opened-looks (looked at look ∷ asks) = opened-looks asks
 opened-looks (marked at gap fewer m s ∷ asks) = opened-looks asks
@@ -94,7 +94,7 @@ opened-trivia k m (suc n) z = none (at_trivia k m z) (shift (len_at k m z) (asks
     none false asks h = refl
 
 -- what is asked for a token notes no block
-opened-hand : (k : CharClasses) (held : Reading) (known : Option Trivia) (z : Place) → opened (hand_asks k held known z) ≡ []
+pub opened-hand : (k : CharClasses) (held : Reading) (known : Option Trivia) (z : Place) → opened (hand_asks k held known z) ≡ []
 unfolding hand_asks ahead_asks
 opened-hand k held known z =
     let a = ahead_of k held.mode known z in
@@ -315,7 +315,7 @@ module _ (r : Rules) (k : CharClasses) where
 
 -- ---- of a text
 
-every-among : {X : Type 0} (P : X → Type 0) (x : X) (xs : List X) → Among x xs → Every P xs → P x
+pub every-among : {X : Type 0} (P : X → Type 0) (x : X) (xs : List X) → Among x xs → Every P xs → P x
 every-among P x ys (this xs) h = h.0
 every-among P x ys (that y xs i) h = every-among P x xs i h.1
 

@@ -26,11 +26,11 @@ use Rattle.typst_grammar.specs.Markup.{ends_block, markup_turn, markup_reading}
 use Rattle.typst_grammar.specs.Grammar.{rules, max_depth, start_of, whole, tree, parsed}
 use Rattle.typst_edits.specs.BlockRuns.{inner, look_again, bracket, inner_lead, inner_run, inner_tail, inner_close, run_of, body_of, content_with, run_at, tail_at, close_at}
 use Rattle.typst_edits.specs.Children.{exchanged, with_children, Settles}
-use Rattle.typst_edits.specs.Edit.{text_with, alter, replaced}
+use Rattle.typst_edits.specs.Edit.{Among, text_with, alter, replaced}
 use Rattle.typst_edits.specs.Hole.{Deep, fill, path_in, Hole, plug, path_of}
 use Rattle.typst_edits.specs.Hole.Deep.{bare, under}
 use Rattle.typst_edits.specs.InnerChildren.{read_in, standing_in, nodes_in, block_with, InnerChildrenLaw, InnerBackLaw}
-use Rattle.typst_edits.specs.InnerJoint.{onwards_in}
+use Rattle.typst_edits.specs.InnerJoint.{PassesInnerJoint, onwards_in}
 use Rattle.typst_edits.specs.Laws.{blocks_of_text, block_at}
 use Rattle.typst_edits.specs.Named.{Named}
 use Rattle.typst_edits.specs.RunTrees.{given}
@@ -49,14 +49,14 @@ use Rattle.typst_edits.proofs.Inside.{Lawful}
 use Rattle.typst_edits.proofs.InnerJoint.{onward-fronted, first-same, inner-joint-law}
 use Rattle.typst_edits.proofs.Joint.{takes-call}
 use Rattle.typst_edits.proofs.Law.{inside-level}
-use Rattle.typst_edits.proofs.Led.{none-of}
+use Rattle.typst_edits.proofs.Led.{none-of, same-judged}
 use Rattle.typst_edits.proofs.Names.{named-level}
 use Rattle.typst_edits.proofs.RunTrees.{standing-none, standing-still, standing-chain}
 use Rattle.typst_edits.proofs.Runs.{chain-state}
 
 -- ---- what leaves the nodes before it as they are
 
-record Quiet {A : Type 0} (o : Outcome A) : Type 0 where
+pub record Quiet {A : Type 0} (o : Outcome A) : Type 0 where
   back : o.back ≡ 0
   hints : o.hints ≡ []
 
@@ -114,13 +114,13 @@ first-hints false false hs js f e = front-none hs js e
 
 module _ (k : CharClasses) (levels : ℕ) (z : Place) (s : Point) where
   -- how it begins: with one token, its bracket, behind which no empty error stands
-  record Opens : Type 0 where
-    node : Tree
-    nodes : (bracket k levels z s).nodes ≡ node ∷ []
-    empties : (bracket k levels z s).state.empties ≡ 0
+  pub record Opens : Type 0 where
+    pub node : Tree
+    pub nodes : (bracket k levels z s).nodes ≡ node ∷ []
+    pub empties : (bracket k levels z s).state.empties ≡ 0
     pending_none : length (pending (look_again k levels z s).state.known) ≡ 0
 
-  opens-by : Begun (inner k levels) z s → Opens
+  pub opens-by : Begun (inner k levels) z s → Opens
   unfolding run
   opens-by b =
       let l = inner k levels in
@@ -160,7 +160,7 @@ module _ (k : CharClasses) (levels : ℕ) (z : Place) (s : Point) where
       ∙ standing-joined r (plain (tt {0}) r.state) none ∙ standing-still (plain (tt {0}) r.state) (standing r none) refl refl refl)
 
   -- the block's one node, by its run
-  node-is : (r : Outcome (Bool × ℕ)) (t : Outcome (Unit {0})) (close : Outcome Bool) (b : Opens) → Quiet (the_run r t) → Quiet close
+  pub node-is : (r : Outcome (Bool × ℕ)) (t : Outcome (Unit {0})) (close : Outcome Bool) (b : Opens) → Quiet (the_run r t) → Quiet close
       → (content_by k levels z s r t close).nodes ≡ block_with close.value b.node (standing t (standing r [])) close.nodes ∷ []
   unfolding run
   node-is r t close b quiet shut =
@@ -221,7 +221,7 @@ module _ (k : CharClasses) (levels : ℕ) (z : Place) (s : Point) where
       let at = r.point in
       let h = hand_of l r.place x in
       let u : Trivia = record { nodes = h.trivia; gap = h.gap; newlines = h.newlines } in
-      let f = onward-fronted k levels at.held r.place u u.nodes refl (true, 0) at.reading at.empties at.empties at.is_after_error at.is_after_error (λ p. refl) in
+      let f = onward-fronted k levels at.held r.place u (true, 0) at.reading at.empties at.is_after_error in
       let tail = tail-quiet k levels o.taken o.state r.place in
       let tail_back : t.back ≡ 0 = tail.back in
       let none_back : nat_lt (length o.nodes) t.back ≡ false = ap (nat_lt (length o.nodes)) tail_back ∙ le-ltb (length o.nodes) 0 (omega arith) in
@@ -248,7 +248,7 @@ module _ (k : CharClasses) (levels : ℕ) (z : Place) (s : Point) where
       record { back = omega (arith, back, none); hints = hints-joined (joined one both) t (hints-joined one both refl hints_two) tail.hints }
 
   -- by its pieces
-  pieces-quiet : (i n : ℕ) → Opens → (let r = inner_run k levels z s in AllGo (first_of i r) → AllGo (then_of i n r)
+  pub pieces-quiet : (i n : ℕ) → Opens → (let r = inner_run k levels z s in AllGo (first_of i r) → AllGo (then_of i n r)
       → Quiet (the_run (chain (first_of i r) (chain (then_of i n r) (rest_of i n r))) (inner_tail k levels (((first_end i r).taken + (then_end i n r).taken) + (rest_of i n r).taken) (rest_of i n r).state r.place)))
   pieces-quiet i n b g h =
       let r = inner_run k levels z s in
@@ -260,7 +260,7 @@ module _ (k : CharClasses) (levels : ℕ) (z : Place) (s : Point) where
       subst (λ o. Quiet o) is (run-quiet b)
 
 -- the closing bracket
-close-quiet : (k : CharClasses) (levels n : ℕ) (s : Point) (z : Place) → Quiet (inner_close k levels n s z)
+pub close-quiet : (k : CharClasses) (levels n : ℕ) (s : Point) (z : Place) → Quiet (inner_close k levels n s z)
 unfolding run close_if
 close-quiet k levels n s z =
     let l = inner k levels in
@@ -291,14 +291,17 @@ with-plug h path i j news y =
     ∙ ap (λ u. h.left ++ u ∷ h.right) (with-fill h.deep path i j news y))
 
 -- the markup of a content block is its second child
-with-block : (closed : Bool) (lb : Tree) (xs ys news zs ends : List Tree) → with_children (1 ∷ []) (length xs) (length xs + length ys) news (block_with closed lb (xs ++ (ys ++ zs)) ends) ≡ block_with closed lb (xs ++ (news ++ zs)) ends
-with-block closed lb xs ys news zs ends =
+with-kids : (closed : Bool) (lb : Tree) (kids ends : List Tree) (i j : ℕ) (news : List Tree) → with_children (1 ∷ []) i j news (block_with closed lb kids ends) ≡ block_with closed lb (exchanged i j news kids) ends
+with-kids closed lb kids ends i j news =
     let first = if closed then lb else made_error (codes "unclosed delimiter") lb in
-    let kids = xs ++ (ys ++ zs) in
-    let change = with_children [] (length xs) (length xs + length ys) news in
     let markup : Tree = inner_of kind.Markup (forest kids) in
-    ap (λ ts. inner_of kind.ContentBlock (forest (alter 1 change ts))) (trees-of (first ∷ markup ∷ ends))
-    ∙ ap (λ ts. inner_of kind.ContentBlock (forest (first ∷ inner_of kind.Markup (forest ts) ∷ ends))) (ap (exchanged (length xs) (length xs + length ys) news) (trees-of kids) ∙ exchanged-is xs ys news zs)
+    ap (λ ts. inner_of kind.ContentBlock (forest (alter 1 (with_children [] i j news) ts))) (trees-of (first ∷ markup ∷ ends))
+    ∙ ap (λ ts. inner_of kind.ContentBlock (forest (first ∷ inner_of kind.Markup (forest (exchanged i j news ts)) ∷ ends))) (trees-of kids)
+
+-- so at the block's place in the tree
+pub with-run : (h : Hole) (closed : Bool) (lb : Tree) (kids ends : List Tree) (i j : ℕ) (news : List Tree)
+    → with_children (path_of h ++ 1 ∷ []) i j news (inner_of kind.Markup (forest (plug h (block_with closed lb kids ends)))) ≡ inner_of kind.Markup (forest (plug h (block_with closed lb (exchanged i j news kids) ends)))
+with-run h closed lb kids ends i j news = with-plug h (1 ∷ []) i j news (block_with closed lb kids ends) ∙ ap (λ a. inner_of kind.Markup (forest (plug h a))) (with-kids closed lb kids ends i j news)
 
 -- ---- the pieces of a block's run
 
@@ -316,10 +319,10 @@ module _ (k : CharClasses) (levels : ℕ) (c : Spot (Unit {0})) (z : Place) wher
       let r = run_here in
       let e = first_end i r in
       let sd = sane-meaning (rules k) k (suc levels) in
-      let known = known-behind l sd (λ b. sane-plain tt) deep ends_block refl (λ a y t x more. takes-call k levels a y t t.nodes refl x.0 x.1 more) i (true, 0) r.place r.point (record { trivia = _; is = refl }) g in
-      gives-pieces l sd (λ b. sane-plain tt) deep ends_block refl (λ a y t x more. takes-call k levels a y t t.nodes refl x.0 x.1 more) n e.value (moved e.taken r.place) e.state some known h
+      let known = known-behind l sd (λ b. sane-plain tt) deep ends_block refl (λ a y t x more. takes-call k levels a y t t (same-judged a t) x more) i (true, 0) r.place r.point (record { trivia = _; is = refl }) g in
+      gives-pieces l sd (λ b. sane-plain tt) deep ends_block refl (λ a y t x more. takes-call k levels a y t t (same-judged a t) x more) n e.value (moved e.taken r.place) e.state some known h
 
-  in-behind : (i n : ℕ) → (onwards_in k levels i n c z).back ≤ (then_end i n run_here).state.empties
+  pub in-behind : (i n : ℕ) → (onwards_in k levels i n c z).back ≤ (then_end i n run_here).state.empties
   unfolding run
   in-behind i n =
       let r = run_here in
@@ -338,7 +341,7 @@ module _ (k : CharClasses) (levels : ℕ) (c : Spot (Unit {0})) (z : Place) wher
       omega (arith, back, same_empties)
 
   -- what stands in the run, by the pieces and all behind them
-  kids-are : (i n : ℕ) (t : Trivia) (rest : List Tree) → Settles n (onwards_in k levels i n c z) → AllGo (first_of i run_here) → AllGo (then_of i n run_here) → (onwards_in k levels i n c z).hints ≡ [] → (onwards_in k levels i n c z).nodes ≡ t.nodes ++ rest
+  pub kids-are : (i n : ℕ) (t : Trivia) (rest : List Tree) → Settles n (onwards_in k levels i n c z) → AllGo (first_of i run_here) → AllGo (then_of i n run_here) → (onwards_in k levels i n c z).hints ≡ [] → (onwards_in k levels i n c z).nodes ≡ t.nodes ++ rest
       → standing (tail_at k levels i n c z) (standing (chain (first_of i run_here) (chain (then_of i n run_here) (rest_of i n run_here))) []) ≡ standing_in k levels i n c z ++ (nodes_in k levels i n t c z ++ rest)
   kids-are i n t rest some g h hints nodes =
       let os = first_of i run_here in
@@ -351,6 +354,45 @@ module _ (k : CharClasses) (levels : ℕ) (c : Spot (Unit {0})) (z : Place) wher
       ∙ stretch-is ts rest (read_in k levels i n c z) (onwards_in k levels i n c z) t (settled n (then_end i n run_here).state ps (onwards_in k levels i n c z) some (λ e. made-none (turn_of run_here) n (first_end i run_here).value (moved (first_end i run_here).taken run_here.place) (first_end i run_here).state e) (in-gives i n g h) (in-back i n)) hints nodes
 
 -- ---- the law
+
+-- how the block begins in both texts
+pub record BothOpen (k : CharClasses) (levels : ℕ) (z w : Place) (c : Spot (Unit {0})) : Type 0 where
+  pub old_opens : Opens k levels (moved c.at z) (point_of c.start)
+  pub new_opens : Opens k levels (moved c.at w) (point_of c.start)
+
+pub both-open : (k : CharClasses) (levels : ℕ) (front old new rest : List ℕ) (c : Spot (Unit {0})) (i n m past : ℕ) (t u : Trivia) → Among c (blocks_of_text k (front ++ (old ++ rest)))
+    → PassesInnerJoint k levels front old new rest c i n m past t u → BothOpen k levels (text_with front old rest) (text_with front new rest) c
+unfolding blocks_of_text
+both-open k levels front old new rest c i n m past t u chosen h =
+    let z = text_with front old rest in
+    let w = text_with front new rest in
+    let s = point_of c.start in
+    let y = moved c.at z in
+    let v = moved c.at w in
+    let kept = inner-joint-law k levels front old new rest c i n m past t u chosen h in
+    let named = among (Named (block_at k) max_depth) c _ chosen (named-level (rules k) k max_depth whole z (start_point markup_reading)) in
+    let clear = among (Clear k z) c _ chosen (clear-level (rules k) k max_depth whole z (start_point markup_reading) tt) in
+    let reads : (a : Place) → unit_at c a ≡ ended (block_at k (suc levels) block.Content (moved c.at a) s) = λ a.
+    ap (λ o. o (moved c.at a) s) named.reads ∙ ap (λ l. ended (block_at k l c.name (moved c.at a) s)) h.pieces.level ∙ ap (λ x. ended (block_at k (suc levels) x (moved c.at a) s)) h.pieces.name in
+    let starts = h.pieces.starts in
+    let ends_old = kept.passes.ends in
+    let ends_new = kept.passes.shifted in
+    let some_old : 0 < (unit_at c z).taken = omega (arith, starts, ends_old) in
+    let some_new : 0 < (unit_at c w).taken = omega (arith, starts, ends_new) in
+    let sd = sane-meaning (rules k) k (suc levels) in
+    let begun_old = content-begun (inner k levels) sd (λ b. sane-plain tt) y s refl (clear.clear z (same-here c.before z)) (subst (λ (a : Outcome (Unit {0})). 0 < a.taken) (reads z) some_old) in
+    let begun_new = content-begun (inner k levels) sd (λ b. sane-plain tt) v s refl (clear.clear w (before-same c.before front old new rest h.pieces.looks.before)) (subst (λ (a : Outcome (Unit {0})). 0 < a.taken) (reads w) some_new) in
+    record { old_opens = opens-by k levels y s begun_old; new_opens = opens-by k levels v s begun_new }
+
+-- a text's tree, by a block's node
+pub tree-by-block : (k : CharClasses) (front old rest : List ℕ) (c : Spot (Unit {0})) → Among c (blocks_of_text k (front ++ (old ++ rest))) → (x : Tree) → c.node ≡ x → tree k (front ++ (old ++ rest)) ≡ inner_of kind.Markup (forest (plug c.hole x))
+unfolding blocks_of_text tree
+tree-by-block k front old rest c chosen x node =
+    let z = text_with front old rest in
+    let o = parsed k max_depth (front ++ (old ++ rest)) in
+    let l = among (Lawful z z o o) c _ chosen (inside-level (rules k) k (ends k) max_depth whole z z (start_point markup_reading)) in
+    let made_tree = λ (ts : List Tree). inner_of kind.Markup (forest ts) in
+    ap made_tree (ap (λ (a : Outcome (Unit {0})). a.nodes) l.old) ∙ ap (λ a. made_tree (plug c.hole a)) node
 
 pub inner-children-law : InnerChildrenLaw
 unfolding blocks_of_text tree
@@ -367,20 +409,9 @@ inner-children-law k levels front old new rest c i n m past t u chosen h some mo
     let new_first : AllGo (first_of i q) = subst (λ os. AllGo os) (sym firsts.first) h.pieces.first_go in
     let o = parsed k max_depth (front ++ (old ++ rest)) in
     let l = among (Lawful z z o o) c _ chosen (inside-level (rules k) k (ends k) max_depth whole z z (start_point markup_reading)) in
-    let named = among (Named (block_at k) max_depth) c _ chosen (named-level (rules k) k max_depth whole z (start_point markup_reading)) in
-    let clear = among (Clear k z) c _ chosen (clear-level (rules k) k max_depth whole z (start_point markup_reading) tt) in
-    let reads : (a : Place) → unit_at c a ≡ ended (block_at k (suc levels) block.Content (moved c.at a) s) = λ a.
-    ap (λ o. o (moved c.at a) s) named.reads ∙ ap (λ l. ended (block_at k l c.name (moved c.at a) s)) h.pieces.level ∙ ap (λ x. ended (block_at k (suc levels) x (moved c.at a) s)) h.pieces.name in
-    let starts = h.pieces.starts in
-    let ends_old = kept.passes.ends in
-    let ends_new = kept.passes.shifted in
-    let some_old : 0 < (unit_at c z).taken = omega (arith, starts, ends_old) in
-    let some_new : 0 < (unit_at c w).taken = omega (arith, starts, ends_new) in
-    let sd = sane-meaning (rules k) k (suc levels) in
-    let begun_old = content-begun (inner k levels) sd (λ b. sane-plain tt) y s refl (clear.clear z (same-here c.before z)) (subst (λ (a : Outcome (Unit {0})). 0 < a.taken) (reads z) some_old) in
-    let begun_new = content-begun (inner k levels) sd (λ b. sane-plain tt) v s refl (clear.clear w (before-same c.before front old new rest h.pieces.looks.before)) (subst (λ (a : Outcome (Unit {0})). 0 < a.taken) (reads w) some_new) in
-    let opens_old = opens-by k levels y s begun_old in
-    let opens_new = opens-by k levels v s begun_new in
+    let opens = both-open k levels front old new rest c i n m past t u chosen h in
+    let opens_old = opens.old_opens in
+    let opens_new = opens.new_opens in
     let lb = opens_old.node in
     let lb_is : opens_new.node ≡ lb = ap last_node (sym opens_new.nodes ∙ ap (λ (a : Outcome (Unit {0})). a.nodes) firsts.opened ∙ opens_old.nodes) in
     let close = close_at k levels i n c z in
@@ -414,7 +445,7 @@ inner-children-law k levels front old new rest c i n m past t u chosen h some mo
     let nodes_old : o.nodes ≡ plug c.hole c.node = ap (λ (a : Outcome (Unit {0})). a.nodes) l.old in
     let tree_old : made_tree o.nodes ≡ made_tree (plug c.hole old_node) = ap made_tree nodes_old ∙ ap (λ a. made_tree (plug c.hole a)) node in
     let exchanged_is : with_children (path_of c.hole ++ 1 ∷ []) first (first + length olds) news (made_tree (plug c.hole old_node)) ≡ made_tree (plug c.hole new_node) =
-    with-plug c.hole (1 ∷ []) first (first + length olds) news old_node ∙ ap (λ a. made_tree (plug c.hole a)) (with-block close.value lb before olds news x.rest close.nodes) in
+    with-run c.hole close.value lb (before ++ (olds ++ x.rest)) close.nodes first (first + length olds) news ∙ ap (λ ts. made_tree (plug c.hole (block_with close.value lb ts close.nodes))) (exchanged-is before olds news x.rest) in
     record {
       closed = close.value;
       bracket = lb;

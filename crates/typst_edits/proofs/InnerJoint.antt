@@ -1,52 +1,152 @@
 -- The law of an edit inside some pieces of a content block's run that leaves other trivia or other errors behind them.
-use Rattle.std.proofs.Common.{◌≡◌, ℕ, suc, ◌+◌, ◌<◌, ◌==◌, ne_eqb, Bool, true, false, [], List, ◌++◌, length, Some, refl, ap, sym, ◌∙◌, subst, arith}
+use Rattle.std.proofs.Common.{◌≡◌, ℕ, suc, ◌+◌, ◌<◌, ◌==◌, ne_eqb, Bool, true, false, if◌then◌else◌, [], ◌∷◌, List, ◌++◌, length, Some, refl, ap, sym, ◌∙◌, subst, arith}
 use Rattle.typst_kinds.specs.declared.kind.SyntaxKind.TheVariants as kind
-use Rattle.typst_kinds.specs.Kinds.{same}
+use Rattle.typst_kinds.specs.Kinds.{same, is_error}
 use Rattle.typst_lines.specs.Place.{Place, moved}
-use Rattle.typst_tree.specs.Tree.{Tree}
+use Rattle.typst_tree.specs.Tree.{Tree, text_of}
 use Rattle.typst_lines.specs.Classes.{CharClasses}
 use Rattle.typst_language.specs.declared.calls.Block.TheVariants as block
+use Rattle.typst_language.specs.declared.reading.Newlines.{Newlines}
 use Rattle.typst_language.specs.declared.reading.Reading.{Reading}
-use Rattle.typst_language.specs.Ask.{SameIn}
+use Rattle.typst_language.specs.Ask.{Ask, SameIn}
 use Rattle.typst_language.specs.Hand.{hand_at}
-use Rattle.typst_language.specs.Point.{Trivia, Point, point_of, is_nil}
-use Rattle.typst_language.specs.Shape.{after_node}
+use Rattle.typst_language.specs.Point.{Trivia, Point, point_of, forgot}
+use Rattle.typst_language.specs.Shape.{after_node, after_shape, encloses}
+use Rattle.typst_language.specs.Shape.Making.{itself}
 use Rattle.typst_language.specs.Steps.{flush_trivia, close_if}
 use Rattle.typst_language.specs.Syntax.{◌>>=◌}
-use Rattle.typst_language.specs.Syntax.Parser.{repeat}
-use Rattle.typst_language.specs.Meaning.{Outcome, joined, run}
+use Rattle.typst_language.specs.Syntax.Op.{takes}
+use Rattle.typst_language.specs.Syntax.Parser.{does, repeat}
+use Rattle.typst_language.specs.Meaning.{Outcome, plain, joined, entered, left, same_mode, hand_of, hand_asks_of, renewed, taken_node, run}
 use Rattle.typst_language.proofs.Knot.{sane-meaning, sane-plain}
 use Rattle.typst_language.proofs.Looks.{same_in-shift, same_in-first, same_in-second}
 use Rattle.typst_language.proofs.Places.{moved-sum}
-use Rattle.typst_grammar.specs.Markup.{ends_block, markup_turn, markup_head}
+use Rattle.typst_grammar.specs.Markup.{ends_block, markup_turn, markup_head, markup_reading}
 use Rattle.typst_grammar.specs.Grammar.{rules}
-use Rattle.typst_edits.specs.BlockRuns.{EndsBefore, inner, bracket, inner_lead, content_with, run_at, tail_at, close_at}
+use Rattle.typst_edits.specs.BlockRuns.{EndsBefore, inner, look_again, bracket, inner_lead, inner_run, content_with, run_at, tail_at, close_at}
 use Rattle.typst_edits.specs.Edit.{text_with, Passes}
 use Rattle.typst_edits.specs.InnerJoint.{onwards_in, onwards_past, left_past, InnerJointLaw}
-use Rattle.typst_edits.specs.Joint.{minds, passed, Exchanged}
+use Rattle.typst_edits.specs.Joint.{minds, passed, Exchanged, Meets}
 use Rattle.typst_edits.specs.Laws.{block_at}
-use Rattle.typst_edits.specs.Runs.{AllGo, asks_of, chain}
-use Rattle.typst_edits.specs.Sequence.{first_of, first_end, then_of, then_end, then_place, rest_of}
+use Rattle.typst_edits.specs.Runs.{AllGo, End, asks_of, chain}
+use Rattle.typst_edits.specs.Sequence.{turn_of, first_of, first_end, then_of, then_end, then_place, rest_of}
 use Rattle.typst_edits.specs.Spot.{Spot, ended, unit_at}
 use Rattle.typst_edits.proofs.BlockRuns.{split-taken, sane, content-split, content-taken, bracket-same, seq_by, first-by}
 use Rattle.typst_edits.proofs.Edit.{before-same, after-same, same_in-to}
 use Rattle.typst_edits.proofs.Joint.{exchanged, takes-call, known-is}
-use Rattle.typst_edits.proofs.Led.{trivia_with, before_trivia}
+use Rattle.typst_edits.proofs.Led.{behind_trivia, same-judged, before_trivia, same-renewed, kind-behind, asks-behind}
+use Rattle.typst_edits.proofs.Meeting.{ReadAs, read-as, read-made, judged-alike, Met, met}
+use Rattle.typst_edits.proofs.Outcomes.{shift-zero}
 use Rattle.typst_edits.proofs.Runs.{moved-three, moved-four}
 use Rattle.typst_edits.proofs.Text.{block-law, names-law}
-use Rattle.typst_edits.proofs.Turns.{Fronted, fronted-behind}
+use Rattle.typst_edits.proofs.Turns.{Fronted, fronted-behind, KnownFlush, flush-known}
+
+-- with nothing known of the trivia behind it
+abbrev pub forgets : Outcome Bool → Outcome Bool
+forgets o = record o { state = forgot o.state }
 
 module _ (k : CharClasses) (levels : ℕ) where
+  some-level : (suc levels == 0) ≡ false
+  some-level = ne_eqb (suc levels) 0 (omega arith)
+
   -- all behind some pieces of a block's run, up to its closing bracket
   abbrev pub onward : Bool × ℕ → Place → Point → Outcome (Unit {0})
   onward x = run (inner k levels) (repeat (markup_turn true ends_block) x >>= λ _. flush_trivia)
 
-  pub onward-fronted : (h : Reading) (z : Place) (t : Trivia) (us : List Tree) → is_nil t.nodes ≡ is_nil us → (x : Bool × ℕ) (r : Reading) (e d : ℕ) (a b : Bool) → (minds (markup_head x.0 x.1 (hand_at k h (Some t) z).kind) ≡ true → e ≡ d)
-      → Fronted t us (onward x z (before_trivia r h e a t)) (onward x (moved t.gap z) (before_trivia r h d b (trivia_with us t)))
-  onward-fronted h z t us nil x r e d a b same =
-      let deep : (suc levels == 0) ≡ false = ne_eqb (suc levels) 0 (omega arith) in
-      fronted-behind (inner k levels) (sane-meaning (rules k) k (suc levels)) (λ c. sane-plain tt) deep ends_block refl h z t us nil x r e d a b
-      (minds (markup_head x.0 x.1 (hand_at k h (Some t) z).kind)) (λ some. takes-call k levels h z t us nil x.0 x.1 some) same
+  pub onward-fronted : (h : Reading) (z : Place) (t : Trivia) (x : Bool × ℕ) (r : Reading) (e : ℕ) (a : Bool) → Fronted t t.nodes (onward x z (before_trivia r h e a t)) (onward x (moved t.gap z) (before_trivia r h e a (behind_trivia t)))
+  onward-fronted h z t x r e a =
+      fronted-behind (inner k levels) (sane-meaning (rules k) k (suc levels)) (λ c. sane-plain tt) some-level ends_block refl h z t t (same-judged h t) x r e e a a
+      (minds (markup_head x.0 x.1 (hand_at k h (Some t) z).kind)) (λ some. takes-call k levels h z t t (same-judged h t) x some) (λ go p. refl)
+
+  -- the pieces of a block are read as markup
+  pub block-read : (i n : ℕ) (z : Place) (s : Point) → ReadAs markup_reading (then_end i n (inner_run k levels z s)).state
+  unfolding run
+  block-read i n z s =
+      let r = inner_run k levels z s in
+      let p = entered markup_reading (look_again k levels z s).state in
+      let reading : r.point.reading ≡ markup_reading = ((sane k levels (does (takes false itself))).rests z p).reading in
+      let rests = λ (x : Bool × ℕ). (sane k levels (markup_turn true ends_block x)).rests in
+      let e = first_end i r in
+      let before = read-made markup_reading (turn_of r) rests i (true, 0) r.place r.point (record { reading = reading; held = reading }) in
+      read-made markup_reading (turn_of r) rests n e.value (moved e.taken r.place) e.state before
+
+  pub block-met : (p : Place) (q : Point) (y v : Place) (e f : End (Bool × ℕ)) (t u : Trivia) → Meets (inner_run k levels p q) y e f t u → ReadAs markup_reading e.state → ReadAs markup_reading f.state
+      → SameIn (onward e.value (moved t.gap y) (passed t e.state)).asks (moved t.gap y) (moved u.gap v) → Met (inner_run k levels p q) y v e f t u
+  block-met p q y v e f t u g read read_now shown =
+      met (inner_run k levels p q) (sane-meaning (rules k) k (suc levels)) (λ c. sane-plain tt) some-level refl (λ h x a b alike i some. takes-call k levels h x a b alike i some) y v e f t u g read read_now shown
+
+  -- ---- the closing bracket
+
+  -- where no trivia are known but newlines, behind a node that is no error
+  abbrev at_close : Newlines → Point
+  at_close n = before_trivia markup_reading markup_reading 0 false (record { nodes = []; gap = 0; newlines = n })
+
+  abbrev shut : Place → Point → Outcome Bool
+  shut z s = run (inner k levels) (close_if (same kind.RightBracket)) z s
+
+  abbrev closing : Bool → List Ask → Outcome (Unit {0}) → Point → Outcome Bool
+  closing b ls took s = joined (record (plain (tt {0}) s) { asks = ls }) (if b then joined took (plain true took.state) else plain false s)
+
+  closing-alike : (b : Bool) (ls : List Ask) (took : Outcome (Unit {0})) (m n : Newlines) → forgets (closing b ls took (at_close n)) ≡ forgets (closing b ls took (at_close m))
+  closing-alike true ls took m n = refl
+  closing-alike false ls took m n = refl
+
+  -- the newlines make no difference
+  shut-alike : (z : Place) (m n : Newlines) → forgets (shut z (at_close n)) ≡ forgets (shut z (at_close m))
+  unfolding run close_if hand_at
+  shut-alike z m n =
+      let l = inner k levels in
+      let t : Trivia = record { nodes = []; gap = 0; newlines = m } in
+      let u : Trivia = record { nodes = []; gap = 0; newlines = n } in
+      let alike = judged-alike markup_reading t u refl in
+      let a = at_close m in
+      let b = at_close n in
+      let old = hand_of l z a in
+      let kind_is : (hand_of l z b).kind ≡ old.kind = kind-behind l markup_reading z t u alike in
+      let asks : hand_asks_of l z b ≡ hand_asks_of l z a = sym (asks-behind l markup_reading z t u alike ∙ shift-zero (hand_asks_of l z b)) in
+      let tree = taken_node k itself old z in
+      let took = λ (s : Point) (ls : List Ask). record (plain (tt {0}) s) { taken = 0 + old.len; nodes = tree ∷ []; asks = ls } in
+      let state = same-renewed (is_error tree.head.kind) (text_of tree) markup_reading markup_reading 0 0 false false u t in
+      let now = renewed (after_node (is_error tree.head.kind) (text_of tree) b) in
+      let was = renewed (after_node (is_error tree.head.kind) (text_of tree) a) in
+      ap (λ x. forgets (closing (same kind.RightBracket x) (hand_asks_of l z b) (took now (hand_asks_of l z b)) b)) kind_is
+      ∙ ap (λ ls. forgets (closing (same kind.RightBracket old.kind) ls (took now ls) b)) asks
+      ∙ ap (λ s. forgets (closing (same kind.RightBracket old.kind) (hand_asks_of l z a) (took s (hand_asks_of l z a)) b)) state
+      ∙ closing-alike (same kind.RightBracket old.kind) (hand_asks_of l z a) (took was (hand_asks_of l z a)) m n
+
+  -- the point where it is asked for, by what the flush before it leaves
+  at-close-is : (s : Point) → ReadAs markup_reading s → (f : KnownFlush s) → after_node false [] s ≡ at_close f.newlines
+  at-close-is s a f =
+      ap (λ k. record s { empties = 0; is_after_error = false; known = k }) f.is
+      ∙ ap (λ (r : Reading). record { reading = r; held = s.held; empties = 0; is_after_error = false; known = (at_close f.newlines).known }) a.reading
+      ∙ ap (λ (r : Reading). record { reading = markup_reading; held = r; empties = 0; is_after_error = false; known = (at_close f.newlines).known }) a.held
+
+  -- the bracket behind two runs that end alike
+  pub shut-same : (z w : Place) (s p : Point) → ReadAs markup_reading s → ReadAs markup_reading p → KnownFlush s → KnownFlush p → SameIn (shut z (after_node false [] s)).asks z w
+      → forgets (shut w (after_node false [] p)) ≡ forgets (shut z (after_node false [] s))
+  shut-same z w s p a b f g shown =
+      let is = at-close-is s a f in
+      let there : shut z (after_node false [] s) ≡ shut z (at_close f.newlines) = ap (shut z) is in
+      ap (λ q. forgets (shut w q)) (at-close-is p b g) ∙ shut-alike w f.newlines g.newlines
+      ∙ ap (λ (o : Outcome Bool). forgets o) ((sane k levels (close_if (same kind.RightBracket))).framed z w (at_close f.newlines) (subst (λ (o : Outcome Bool). SameIn o.asks z w) there shown) ∙ sym there)
+
+-- ---- a block is the same, whatever is known of the trivia behind its bracket
+
+both-forgot : (b : Bool) (x y p q : Point) → forgot x ≡ forgot p → forgot y ≡ forgot q → forgot (if b then x else y) ≡ forgot (if b then p else q)
+both-forgot true x y p q e f = e
+both-forgot false x y p q e f = f
+
+left-forgot : (r : Reading) (s : Point) → forgot (left r s) ≡ forgot (left r (forgot s))
+left-forgot r s = both-forgot (same_mode s.reading.mode r.mode) _ _ _ _ refl refl
+
+block-forgot : (closed : Bool) (ts : List Tree) (r : Reading) (s : Point) → forgot (after_shape (encloses kind.ContentBlock closed) ts (left r s)) ≡ forgot (after_shape (encloses kind.ContentBlock closed) ts (left r (forgot s)))
+block-forgot true ts r s = ap (after_node false []) (left-forgot r s)
+block-forgot false ts r s = ap (after_node false []) (left-forgot r s)
+
+content-forgets : (k : CharClasses) (levels : ℕ) (z : Place) (s : Point) (r : Outcome (Bool × ℕ)) (behind : Outcome (Unit {0})) (close : Outcome Bool) → content_with k levels z s r behind close ≡ content_with k levels z s r behind (forgets close)
+content-forgets k levels z s r behind close =
+    let o = content_with k levels z s r behind (forgets close) in
+    ap (λ p. record o { state = p }) (block-forgot close.value _ (look_again k levels z s).state.reading close.state)
 
 -- where what was looked at before them ends at the stretch or before it, the bracket and the pieces before are the same in both texts
 pub record FirstSame (k : CharClasses) (levels : ℕ) (front old new rest : List ℕ) (c : Spot (Unit {0})) (i : ℕ) : Type 0 where
@@ -79,7 +179,7 @@ inner-fronted k levels i n c z t known =
     let is : onwards_in k levels i n c z ≡ onward k levels e.value y s =
     ap (λ p. joined rest (run (inner k levels) flush_trivia p rest.state)) (moved-three (first_end i r).taken e.taken rest.taken r.place) in
     subst (λ o. Fronted t t.nodes o on) (sym is) (subst (λ a. Fronted t t.nodes (onward k levels e.value y a) on) (sym (known-is k s t known))
-    (onward-fronted k levels s.held y t t.nodes refl e.value s.reading s.empties s.empties s.is_after_error s.is_after_error (λ p. refl)))
+    (onward-fronted k levels s.held y t e.value s.reading s.empties s.is_after_error))
 
 pub inner-joint-law : InnerJointLaw
 unfolding run
@@ -104,7 +204,6 @@ inner-joint-law k levels front old new rest c i n m past t u among h =
     let tail_old = tail_at k levels i n c z0 in
     let tail_new = tail_at k levels i m c w0 in
     let close = close_at k levels i n c z0 in
-    let g = h.meets in
     let old_at = (length front + length old) + past in
     let new_at = (length front + length new) + past in
     let y = then_place i n r in
@@ -116,30 +215,27 @@ inner-joint-law k levels front old new rest c i n m past t u among h =
     let on = onwards_past k levels i n t c z0 in
     let all = same_in-to _ _ _ _ _ there here (after-same _ past old_at new_at front old new rest refl refl h.looks.inside) in
     let shown_on = same_in-first on.asks _ (moved t.gap y) (moved u.gap v) all in
-    let after_on = onward k levels j.value (moved u.gap v) (before_trivia js.reading js.held es.empties es.is_after_error (trivia_with t.nodes u)) in
-    let one : Fronted t t.nodes (onward k levels e.value y es) on =
-    subst (λ a. Fronted t t.nodes (onward k levels e.value y a) on) (sym (known-is k es t g.known)) (onward-fronted k levels es.held y t t.nodes refl e.value es.reading es.empties es.empties es.is_after_error es.is_after_error (λ p. refl)) in
-    let minded : minds (markup_head j.value.0 j.value.1 (hand_at k js.held (Some u) v).kind) ≡ true → js.empties ≡ es.empties =
-    λ p. g.errors (ap (λ a. minds (markup_head j.value.0 j.value.1 (hand_at k js.held a v).kind)) g.known_now ∙ p) in
-    let two : Fronted u t.nodes (onward k levels j.value v js) after_on =
-    subst (λ a. Fronted u t.nodes (onward k levels j.value v a) after_on) (sym (known-is k js u g.known_now)) (onward-fronted k levels js.held v u t.nodes g.some j.value js.reading js.empties es.empties js.is_after_error es.is_after_error minded) in
-    let same_on : after_on ≡ on =
-    ap (λ x. onward k levels x (moved u.gap v) (before_trivia js.reading js.held es.empties es.is_after_error (trivia_with t.nodes u))) g.value
-    ∙ ap (λ a. onward k levels e.value (moved u.gap v) (before_trivia a js.held es.empties es.is_after_error (trivia_with t.nodes u))) g.reading
-    ∙ ap (λ a. onward k levels e.value (moved u.gap v) (before_trivia es.reading a es.empties es.is_after_error (trivia_with t.nodes u))) g.held
-    ∙ ap (λ a. onward k levels e.value (moved u.gap v) (before_trivia es.reading es.held es.empties es.is_after_error (record { nodes = t.nodes; gap = 0; newlines = a }))) g.newlines
-    ∙ (sane k levels (repeat (markup_turn true ends_block) e.value >>= λ _. flush_trivia)).framed (moved t.gap y) (moved u.gap v) (passed t es) shown_on in
+    let read_old = block-read k levels i n z s in
+    let read_new = block-read k levels i m w s in
+    let all_met = block-met k levels z s y v e j t u h.meets read_old read_new shown_on in
+    let one = all_met.one in
+    let two = all_met.two in
     -- all behind the pieces, with the trivia before the closing bracket
     let is_old : onwards_in k levels i n c z0 ≡ onward k levels e.value y es =
     ap (λ p. joined rest_old (run (inner k levels) flush_trivia p rest_old.state)) (moved-three fe.taken e.taken rest_old.taken r.place) in
     let is_new : onwards_in k levels i m c w0 ≡ onward k levels j.value v js =
     ap (λ p. joined rest_new (run (inner k levels) flush_trivia p rest_new.state)) (moved-three ff.taken j.taken rest_new.taken q.place) in
-    let behind = exchanged t u t.nodes (onward k levels e.value y es) (onward k levels j.value v js) on after_on one two same_on in
+    let behind = exchanged t u t.nodes (onward k levels e.value y es) (onward k levels j.value v js) on one two in
     let took_old : rest_old.taken + tail_old.taken ≡ t.gap + on.taken = ap (λ (o : Outcome (Unit {0})). o.taken) is_old ∙ one.taken in
-    let took_new : rest_new.taken + tail_new.taken ≡ u.gap + on.taken = ap (λ (o : Outcome (Unit {0})). o.taken) is_new ∙ two.taken ∙ ap (λ (o : Outcome (Unit {0})). u.gap + o.taken) same_on in
-    let cleared = λ (o : Outcome (Unit {0})). after_node false [] o.state in
-    let state_is : after_node false [] tail_new.state ≡ after_node false [] tail_old.state =
-    ap cleared is_new ∙ two.state ∙ ap cleared same_on ∙ sym one.state ∙ sym (ap cleared is_old) in
+    let took_new : rest_new.taken + tail_new.taken ≡ u.gap + on.taken = ap (λ (o : Outcome (Unit {0})). o.taken) is_new ∙ two.taken in
+    let sane_on = λ (x : Bool × ℕ). sane k levels (repeat (markup_turn true ends_block) x >>= λ _. flush_trivia) in
+    let at_old = ap (λ (o : Outcome (Unit {0})). o.state) is_old in
+    let at_new = ap (λ (o : Outcome (Unit {0})). o.state) is_new in
+    let read_tail : ReadAs markup_reading tail_old.state = subst (ReadAs markup_reading) (sym at_old) (read-as markup_reading es _ read_old ((sane_on e.value).rests y es)) in
+    let read_tail_new : ReadAs markup_reading tail_new.state = subst (ReadAs markup_reading) (sym at_new) (read-as markup_reading js _ read_new ((sane_on j.value).rests v js)) in
+    let flush_of = λ (x : Bool × ℕ) (p : Place) (a : Point). flush-known (inner k levels) (sane-meaning (rules k) k (suc levels)) (λ l. sane-plain tt) (some-level k levels) ends_block refl x p a in
+    let flush_old : KnownFlush tail_old.state = subst (λ a. KnownFlush a) (sym at_old) (flush_of e.value y es) in
+    let flush_new : KnownFlush tail_new.state = subst (λ a. KnownFlush a) (sym at_new) (flush_of j.value v js) in
     -- the closing bracket
     let y2 = moved on.taken (moved t.gap y) in
     let v2 = moved on.taken (moved u.gap v) in
@@ -149,12 +245,13 @@ inner-joint-law k levels front old new rest c i n m past t u among h =
     let v2_is : moved (((ff.taken + j.taken) + rest_new.taken) + tail_new.taken) q.place ≡ v2 =
     (let a : ((ff.taken + j.taken) + rest_new.taken) + tail_new.taken ≡ (ff.taken + j.taken) + (u.gap + on.taken) = omega (arith, took_new) in
     ap (λ x. moved x q.place) a ∙ moved-three ff.taken j.taken (u.gap + on.taken) q.place ∙ moved-sum u.gap on.taken v) in
-    let shut = λ (p : Place) (a : Point). run (inner k levels) (close_if (same kind.RightBracket)) p a in
-    let close_old : close ≡ shut y2 (after_node false [] tail_old.state) = ap (λ p. shut p (after_node false [] tail_old.state)) y2_is in
+    let close_new = close_at k levels i m c w0 in
+    let close_old : close ≡ shut k levels y2 (after_node false [] tail_old.state) = ap (λ p. shut k levels p (after_node false [] tail_old.state)) y2_is in
     let last = same_in-shift on.taken _ (moved t.gap y) (moved u.gap v) (same_in-second on.asks _ (moved t.gap y) (moved u.gap v) all) in
-    let close_is : close_at k levels i m c w0 ≡ close =
-    ap (λ p. shut p (after_node false [] tail_new.state)) v2_is ∙ ap (shut v2) state_is
-    ∙ (sane k levels (close_if (same kind.RightBracket))).framed y2 v2 (after_node false [] tail_old.state) (subst (λ (o : Outcome Bool). SameIn o.asks y2 v2) close_old last) ∙ sym close_old in
+    let close_is : forgets close_new ≡ forgets close =
+    ap (λ p. forgets (shut k levels p (after_node false [] tail_new.state))) v2_is
+    ∙ shut-same k levels y2 v2 tail_old.state tail_new.state read_tail read_tail_new flush_old flush_new (subst (λ (o : Outcome Bool). SameIn o.asks y2 v2) close_old last)
+    ∙ sym (ap (λ (o : Outcome Bool). forgets o) close_old) in
     -- the block
     let named = names-law k (front ++ (old ++ rest)) c among in
     let reads : (a : Place) → unit_at c a ≡ ended (block_at k (suc levels) block.Content (moved c.at a) s) = λ a.
@@ -164,7 +261,9 @@ inner-joint-law k levels front old new rest c i n m past t u among h =
     let mine = reads w0 ∙ ap ended_of (content-split k levels w s i m new_first h.pieces.new_go) in
     let now = mine
     ∙ ap (λ os. content_with k levels w s (chain os (chain (then_of i m q) rest_new)) tail_new (close_at k levels i m c w0)) first_is
-    ∙ ap (λ o. content_with k levels w s (chain (first_of i r) (chain (then_of i m q) rest_new)) tail_new o) close_is in
+    ∙ content-forgets k levels w s (chain (first_of i r) (chain (then_of i m q) rest_new)) tail_new close_new
+    ∙ ap (λ o. content_with k levels w s (chain (first_of i r) (chain (then_of i m q) rest_new)) tail_new o) close_is
+    ∙ sym (content-forgets k levels w s (chain (first_of i r) (chain (then_of i m q) rest_new)) tail_new close) in
     let old_taken : (unit_at c z0).taken ≡ b.taken + (((fe.taken + e.taken) + rest_old.taken) + (tail_old.taken + close.taken)) =
     ap (λ (o : Outcome (Unit {0})). o.taken) was ∙ content-taken k levels z s (chain (first_of i r) (chain (then_of i n r) rest_old)) tail_old close ∙ ap (λ a. b.taken + (a + (tail_old.taken + close.taken))) (split-taken r i n) in
     let new_taken : (unit_at c w0).taken ≡ d.taken + (((ff.taken + j.taken) + rest_new.taken) + (tail_new.taken + close.taken)) =

@@ -1,7 +1,8 @@
 -- What begins by taking the token at hand: of the trivia before it, and of the errors before these, it gives the trivia and asks nothing else.
-use Rattle.std.proofs.Common.{◌≡◌, ℕ, zero, suc, ◌+◌, ◌-◌, ◌<◌, ◌≤◌, Bool, true, false, not, ◌||◌, if◌then◌else◌, nat_lt, List, [], ◌∷◌, ◌++◌, length, take, drop, map, length-append, length-take, append_assoc, encode_utf8_all, Some, refl, ap, sym, ◌∙◌, subst, arith}
+use Rattle.std.proofs.Common.{◌≡◌, ℕ, zero, suc, ◌+◌, ◌-◌, ◌<◌, ◌≤◌, Bool, true, false, ◌||◌, if◌then◌else◌, nat_lt, List, [], ◌∷◌, ◌++◌, length, take, drop, map, length-append, length-take, append_assoc, encode_utf8_all, Some, refl, ap, sym, ◌∙◌, subst, arith}
 use Rattle.std.proofs.lemmas.List.{map-append}
 use Rattle.std.proofs.lemmas.Str.{length-le-encodes}
+use Rattle.typst_kinds.specs.declared.kind.SyntaxKind.{SyntaxKind}
 use Rattle.typst_kinds.specs.Kinds.{is_error}
 use Rattle.typst_lines.specs.Place.{Place, moved}
 use Rattle.typst_tree.specs.Tree.{Tree, text_of}
@@ -12,8 +13,8 @@ use Rattle.typst_language.specs.declared.calls.Call.{Call}
 use Rattle.typst_language.specs.declared.reading.Reading.{Reading}
 use Rattle.typst_language.specs.Ask.{Ask, shift, shift_one, sunk}
 use Rattle.typst_language.specs.Ask.Ask.{looked}
-use Rattle.typst_language.specs.Hand.{AtHand, told, len_at, text_ahead, hand_at, hand_asks, asks_column, column_look, column_at}
-use Rattle.typst_language.specs.Point.{Trivia, Point, is_nil}
+use Rattle.typst_language.specs.Hand.{told, len_at, text_ahead, hand_at, hand_asks, judged, asks_column, column_look, column_at}
+use Rattle.typst_language.specs.Point.{Trivia, Point}
 use Rattle.typst_language.specs.Shape.{Making, hinted, Shape, shaped, after_shape, after_node, count_empty, seen}
 use Rattle.typst_language.specs.Steps.{peek}
 use Rattle.typst_language.specs.Syntax.{Parser}
@@ -28,9 +29,17 @@ use Rattle.typst_language.proofs.Leaves.{text-made}
 use Rattle.typst_language.proofs.Places.{moved-sum, less-append, less-none, length-less}
 use Rattle.typst_edits.proofs.Outcomes.{shift-zero, shift-twice, sunk-shift, hints-first}
 
--- nothing of the trivia is seen but whether there are any, and their newlines
-abbrev pub trivia_with : List Tree → Trivia → Trivia
-trivia_with us t = record { nodes = us; gap = 0; newlines = t.newlines }
+-- trivia that were passed
+abbrev pub behind_trivia : Trivia → Trivia
+behind_trivia t = record t { gap = 0 }
+
+-- where the token at hand is read so, it is the same behind the newlines of the one and of the other
+pub record SameJudged (h : Reading) (t u : Trivia) : Type 0 where
+  pub judge : (k : SyntaxKind) (column : ℕ) → judged h u.newlines k column ≡ judged h t.newlines k column
+  pub column : asks_column h u.newlines ≡ asks_column h t.newlines
+
+pub same-judged : (h : Reading) (t : Trivia) → SameJudged h t t
+same-judged h t = record { judge = λ k column. refl; column = refl }
 
 -- a point before some trivia
 abbrev pub before_trivia : Reading → Reading → ℕ → Bool → Trivia → Point
@@ -46,7 +55,7 @@ pub none-less : {A : Type 0} (n : ℕ) → ◌≡◌ {A = List A} (less n []) []
 unfolding less
 none-less n = take-none (0 - n)
 
-less-behind : (n : ℕ) (xs ys : List Tree) → n < length ys → less n (xs ++ ys) ≡ xs ++ less n ys
+pub less-behind : (n : ℕ) (xs ys : List Tree) → n < length ys → less n (xs ++ ys) ≡ xs ++ less n ys
 less-behind n xs ys h =
     let e : n - length ys ≡ 0 = omega (arith, h) in
     less-append n xs ys ∙ ap (λ j. less j xs ++ less n ys) e ∙ ap (λ u. u ++ less n ys) (less-none xs)
@@ -85,7 +94,7 @@ pub record Led {A : Type 0} (t : Trivia) (us : List Tree) (trims : Bool) (o c : 
   pub asks : o.asks ≡ shift t.gap c.asks
   pub met : o.met ≡ c.met
 
-standing-led : {A B : Type 0} (xs rest : List Tree) (o : Outcome B) (q : Outcome A) → o.nodes ≡ xs ++ rest → q.back < length rest → standing q o.nodes ≡ xs ++ (hinted q.hints (less q.back rest) ++ q.nodes)
+pub standing-led : {A B : Type 0} (xs rest : List Tree) (o : Outcome B) (q : Outcome A) → o.nodes ≡ xs ++ rest → q.back < length rest → standing q o.nodes ≡ xs ++ (hinted q.hints (less q.back rest) ++ q.nodes)
 standing-led xs rest o q e h =
     let some : 0 < length (less q.back rest) = omega (arith, length-less q.back rest, h) in
     ap (λ ts. hinted q.hints (less q.back ts) ++ q.nodes) e ∙ ap (λ ts. hinted q.hints ts ++ q.nodes) (less-behind q.back xs rest h)
@@ -194,10 +203,10 @@ led-wrapped t us f n m o c shapes e d h =
 -- ---- words
 
 -- what is read before trivia gives them, and else does as behind them, whatever errors stand before them; where `trims` says so only their number matters
-abbrev pub Takes : {A : Type 0} → Reading → Place → Trivia → List Tree → Bool → Meaning A → Type 0
-Takes h z t us trims m = (r : Reading) (e d : ℕ) (a b : Bool) → (trims ≡ true → e ≡ d) → Led t us trims (m z (before_trivia r h e a t)) (m (moved t.gap z) (before_trivia r h d b (trivia_with us t)))
+abbrev pub Takes : {A : Type 0} → Reading → Place → Trivia → Trivia → Bool → Meaning A → Type 0
+Takes h z t u trims m = (r : Reading) (e d : ℕ) (a b : Bool) → (trims ≡ true → e ≡ d) → Led t u.nodes trims (m z (before_trivia r h e a t)) (m (moved t.gap z) (before_trivia r h d b (behind_trivia u)))
 
-same-renewed : (b : Bool) (text : List ℕ) (r h : Reading) (e d : ℕ) (i j : Bool) (t u : Trivia) → renewed (after_node b text (before_trivia r h e i t)) ≡ renewed (after_node b text (before_trivia r h d j u))
+pub same-renewed : (b : Bool) (text : List ℕ) (r h : Reading) (e d : ℕ) (i j : Bool) (t u : Trivia) → renewed (after_node b text (before_trivia r h e i t)) ≡ renewed (after_node b text (before_trivia r h d j u))
 same-renewed true text r h e d i j t u = refl
 same-renewed false text r h e d i j t u = refl
 
@@ -217,27 +226,29 @@ no-back : (trims : Bool) (d : ℕ) → trims ≡ false → (if trims then d else
 no-back true d h = cc
 no-back false d h = refl
 
-two-asks : (b : Bool) (g : ℕ) (x y : Look) → (looked g x ∷ []) ++ (if b then looked g y ∷ [] else []) ≡ shift g ((looked 0 x ∷ []) ++ (if b then looked 0 y ∷ [] else []))
-two-asks true g x y = let e : g ≡ g + 0 = omega arith in ap (λ n. looked n x ∷ looked n y ∷ []) e
-two-asks false g x y = let e : g ≡ g + 0 = omega arith in ap (λ n. looked n x ∷ []) e
+two-asks : (b d : Bool) (g : ℕ) (x y : Look) → d ≡ b → (looked g x ∷ []) ++ (if b then looked g y ∷ [] else []) ≡ shift g ((looked 0 x ∷ []) ++ (if d then looked 0 y ∷ [] else []))
+two-asks true true g x y same = let e : g ≡ g + 0 = omega arith in ap (λ n. looked n x ∷ looked n y ∷ []) e
+two-asks false false g x y same = let e : g ≡ g + 0 = omega arith in ap (λ n. looked n x ∷ []) e
+two-asks true false g x y same = cc
+two-asks false true g x y same = cc
 
-module _ (l : Level) (h : Reading) (z : Place) (t : Trivia) (us : List Tree) where
+module _ (l : Level) (h : Reading) (z : Place) (t u : Trivia) (alike : SameJudged h t u) where
   -- the looks at the token are the same
-  pub asks-behind : hand_asks l.classes h (Some t) z ≡ shift t.gap (hand_asks l.classes h (Some (trivia_with us t)) (moved t.gap z))
+  pub asks-behind : hand_asks l.classes h (Some t) z ≡ shift t.gap (hand_asks l.classes h (Some (behind_trivia u)) (moved t.gap z))
   unfolding hand_asks
-  asks-behind = two-asks (asks_column h t.newlines) t.gap _ (column_look (moved t.gap z))
+  asks-behind = two-asks (asks_column h t.newlines) (asks_column h u.newlines) t.gap _ (column_look (moved t.gap z)) alike.column
 
-  pub told-behind : is_nil t.nodes ≡ is_nil us → told (hand_at l.classes h (Some t) z) ≡ told (hand_at l.classes h (Some (trivia_with us t)) (moved t.gap z))
+  pub kind-behind : (hand_at l.classes h (Some (behind_trivia u)) (moved t.gap z)).kind ≡ (hand_at l.classes h (Some t) z).kind
   unfolding hand_at
-  told-behind nil = ap (λ b. record { kind = (hand_at l.classes h (Some t) z).kind; has_trivia = not b; newlines = t.newlines }) nil
+  kind-behind = alike.judge _ (column_at (moved t.gap z))
 
   module _ (some : 0 < len_at l.classes h.mode (moved t.gap z)) where
-    pub takes-token : (trims : Bool) (making : Making) → Takes h z t us trims (run l (does (takes trims making)))
+    pub takes-token : (trims : Bool) (making : Making) → Takes h z t u trims (run l (does (takes trims making)))
     unfolding run hand_at
     takes-token trims making r e d a b same =
         let x = hand_at l.classes h (Some t) z in
         let s = before_trivia r h e a t in
-        let y = before_trivia r h d b (trivia_with us t) in
+        let y = before_trivia r h d b (behind_trivia u) in
         let tree = taken_node l.classes making x z in
         let n = len_at l.classes h.mode (moved t.gap z) in
         let text = text_ahead n (moved t.gap z) in
@@ -249,7 +260,7 @@ module _ (l : Level) (h : Reading) (z : Place) (t : Trivia) (us : List Tree) whe
           value = refl;
           taken = omega arith;
           some = omega (arith, some);
-          state = same-renewed (is_error tree.head.kind) (text_of tree) r h e d a b t (trivia_with us t);
+          state = same-renewed (is_error tree.head.kind) (text_of tree) r h e d a b t (behind_trivia u);
           back = same-back trims e d same;
           none = no-back trims d;
           hints = refl;
@@ -262,35 +273,36 @@ module _ (l : Level) (h : Reading) (z : Place) (t : Trivia) (us : List Tree) whe
           met = refl;
         }
 
-  pub takes-next : {A B : Type 0} (trims : Bool) (p : Parser B) (f : B → Parser A) → ((b : B) → Backs (run l (f b))) → Takes h z t us trims (run l p) → Takes h z t us trims (run l (next p f))
+  pub takes-next : {A B : Type 0} (trims : Bool) (p : Parser B) (f : B → Parser A) → ((b : B) → Backs (run l (f b))) → Takes h z t u trims (run l p) → Takes h z t u trims (run l (next p f))
   unfolding run
-  takes-next trims p f tidy k r e d a b same = led-then t us trims z _ _ (λ v. run l (f v)) tidy (k r e d a b same)
+  takes-next trims p f tidy k r e d a b same = led-then t u.nodes trims z _ _ (λ v. run l (f v)) tidy (k r e d a b same)
 
-  pub takes-peek : {A : Type 0} (trims : Bool) (f : AtHand → Parser A) → is_nil t.nodes ≡ is_nil us → Takes h z t us trims (run l (f (told (hand_at l.classes h (Some t) z)))) → Takes h z t us trims (run l (next peek f))
+  -- of the token at hand its kind alone is told on
+  pub takes-peek : {A : Type 0} (trims : Bool) (f : SyntaxKind → Parser A) → Takes h z t u trims (run l (f (hand_at l.classes h (Some t) z).kind)) → Takes h z t u trims (run l (next peek (λ x. f x.kind)))
   unfolding run hand_at
-  takes-peek trims f nil k r e d a b same =
+  takes-peek trims f k r e d a b same =
       let w = moved t.gap z in
-      let u = trivia_with us t in
-      let v = told (hand_at l.classes h (Some t) z) in
-      subst (λ x. Led t us trims (run l (next peek f) z (before_trivia r h e a t)) (joined (record (plain x (before_trivia r h d b u)) { asks = hand_asks l.classes h (Some u) w }) (run l (f x) w (before_trivia r h d b u)))) (told-behind nil)
-      (led-asked t us trims v (before_trivia r h e a t) (before_trivia r h d b u) _ _ false _ _ asks-behind (k r e d a b same))
+      let v = behind_trivia u in
+      let x = told (hand_at l.classes h (Some v) w) in
+      subst (λ y. Led t u.nodes trims (run l (next peek (λ x. f x.kind)) z (before_trivia r h e a t)) (joined (record (plain x (before_trivia r h d b v)) { asks = hand_asks l.classes h (Some v) w }) (run l (f y) w (before_trivia r h d b v)))) (sym kind-behind)
+      (led-asked t u.nodes trims x (before_trivia r h e a t) (before_trivia r h d b v) _ _ false _ _ asks-behind (k r e d a b same))
 
-  pub takes-column : {A : Type 0} (trims : Bool) (f : ℕ → Parser A) → ((n : ℕ) → Takes h z t us trims (run l (f n))) → Takes h z t us trims (run l (next (does column) f))
+  pub takes-column : {A : Type 0} (trims : Bool) (f : ℕ → Parser A) → ((n : ℕ) → Takes h z t u trims (run l (f n))) → Takes h z t u trims (run l (next (does column) f))
   unfolding run hand_at
   takes-column trims f k r e d a b same =
       let w = moved t.gap z in
-      let u = trivia_with us t in
+      let v = behind_trivia u in
       let zero_more : t.gap ≡ t.gap + 0 = omega arith in
-      led-asked t us trims (column_at w) (before_trivia r h e a t) (before_trivia r h d b u) _ _ false _ _
-      (ap (λ ls. ls ++ looked t.gap (column_look w) ∷ []) asks-behind ∙ ap (λ n. shift t.gap (hand_asks l.classes h (Some u) w) ++ looked n (column_look w) ∷ []) zero_more ∙ sym (map-append (shift_one t.gap) (hand_asks l.classes h (Some u) w) (looked 0 (column_look w) ∷ [])))
+      led-asked t u.nodes trims (column_at w) (before_trivia r h e a t) (before_trivia r h d b v) _ _ false _ _
+      (ap (λ ls. ls ++ looked t.gap (column_look w) ∷ []) asks-behind ∙ ap (λ n. shift t.gap (hand_asks l.classes h (Some v) w) ++ looked n (column_look w) ∷ []) zero_more ∙ sym (map-append (shift_one t.gap) (hand_asks l.classes h (Some v) w) (looked 0 (column_look w) ∷ [])))
       (k (column_at w) r e d a b same)
 
-  pub takes-scoped : {A : Type 0} (trims : Bool) (f : Reading → Reading) (p : Parser A) → Takes h z t us trims (run l p) → Takes h z t us trims (run l (scoped f p))
+  pub takes-scoped : {A : Type 0} (trims : Bool) (f : Reading → Reading) (p : Parser A) → Takes h z t u trims (run l p) → Takes h z t u trims (run l (scoped f p))
   unfolding run
   takes-scoped trims f p k r e d a b same =
       let i = k (f r) e d a b same in
       let w = moved t.gap z in
-      let c = run l p w (before_trivia (f r) h d b (trivia_with us t)) in
+      let c = run l p w (before_trivia (f r) h d b (behind_trivia u)) in
       let less_left = left-empties r c.state in
       let few = i.few in
       record {
@@ -310,11 +322,11 @@ module _ (l : Level) (h : Reading) (z : Place) (t : Trivia) (us : List Tree) whe
         met = i.met;
       }
 
-  pub takes-wraps : {A : Type 0} (f : A → Shape) (p : Parser A) → ((v : A) → Counts_less (f v)) → Takes h z t us false (run l p) → Takes h z t us false (run l (wraps f at_token p))
+  pub takes-wraps : {A : Type 0} (f : A → Shape) (p : Parser A) → ((v : A) → Counts_less (f v)) → Takes h z t u false (run l p) → Takes h z t u false (run l (wraps f at_token p))
   unfolding run
-  takes-wraps f p shapes k r e d a b same = led-wrapped t us f (length t.nodes) (length us) _ _ shapes refl refl (k r e d a b same)
+  takes-wraps f p shapes k r e d a b same = led-wrapped t u.nodes f (length t.nodes) (length u.nodes) _ _ shapes refl refl (k r e d a b same)
 
-  pub takes-calls : (trims : Bool) (c : Call) → Takes h z t us trims (l.deeper c) → Takes h z t us trims (run l (calls c))
+  pub takes-calls : (trims : Bool) (c : Call) → Takes h z t u trims (l.deeper c) → Takes h z t u trims (run l (calls c))
   unfolding run
   takes-calls trims c k r e d a b same =
       let i = k r e d a b same in
@@ -331,6 +343,6 @@ module _ (l : Level) (h : Reading) (z : Place) (t : Trivia) (us : List Tree) whe
         nodes = i.nodes;
         nodes_too = i.nodes_too;
         few = i.few;
-        asks = ap sunk i.asks ∙ sunk-shift t.gap (l.deeper c (moved t.gap z) (before_trivia r h d b (trivia_with us t))).asks;
+        asks = ap sunk i.asks ∙ sunk-shift t.gap (l.deeper c (moved t.gap z) (before_trivia r h d b (behind_trivia u))).asks;
         met = i.met;
       }

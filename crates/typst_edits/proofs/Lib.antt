@@ -3,13 +3,28 @@
 --     that the block fits        Fitting; Content: a content block; Enclosed: what stands between brackets; Clear: a block begins at no trivia; Reached: what is known of trivia is all of them; Known: what stays true of what is known
 --   block_law: names             Names: each block is the one of its name, between its marks
 --   complete_law                 Complete: word by word, by the notes of the log
+--   standing_law: blocks         StandingLevels: of a whole text; Standing: word by word; Seats: a spot at a position, and in what nodes become; Positions: what holds at each position; CleanTokens: tokens
+--   standing_law: unnoted        UnnotedLevels: of a whole text; Unnoted: word by word
 --   run_law                      Root: of a whole text; RunTrees: its tree and log; BlockRuns: of a content block; Runs: of any loop
---   joint_law                    Joint: of a whole text; InnerJoint: of a content block; Turns: each head of markup; Led: each word before a token is taken
---   children_law                 Children: of a whole text; InnerChildren: of a content block
+--   joint_law                    Joint: of a whole text; InnerJoint: of a content block; Meeting: any run; Turns: each head of markup; Led: each word before a token is taken
+--   children_law                 Children: of a whole text; InnerChildren: of a content block; LeadingTrivia: without the trivia before the pieces
+--   head_law                     Heads: any run; NoneBack: in both texts
 --   decision_law                 Bytes: the log; Boundary: where pieces of any run end; RunBytes, JointBytes: of a whole text; InnerBytes: of a content block; Widths: characters and bytes; Within: looks are at places of the text
+--   replaced_law                 Replaced
+--   empty_run_law                EmptyRuns: of a whole text; EmptyBlocks: of a content block
+--   candidates_law               BareCandidates, CandidatePlaces
 --   notes_law                    PieceNotes: of a whole text and of a content block; Marks: in any list of asks
+--   numbered_notes_law           NumberedNotes: of a whole text and of a content block; InTurn: the marks of a run in turn; NoteNumbers, InnerNumbers: the number of a note; Cuts: where the tokens behind pieces begin
+--   rising_law                   Rising: the marks of whatever the language can say
+--   leading_law                  Leading: of a whole text and of a content block; Fronts: what a piece gives first
+--   block_worth_law              BlockWorth
+--   splice_law                   Splice: of any asks; BlockSplice: of a block; Seen: what is noted was looked at
 --   path_law                     Walk: the steps; Placed: what stands before a block
---   blocks_of_texts, runs_of_texts, conditions_of_texts, rare_conditions_of_texts      computed (laws)
+--   root_pieces_law              RootPieces
+--   resume_law                   Resumed: pieces read again
+--   mode_law                     BlockModes: a block's first token, and what stands in it
+--   joints_of_texts              computed (laws); Begins: the test of looks
+--   answers_of_texts, blocks_of_texts, origins_of_texts, runs_of_texts, conditions_of_texts, rare_conditions_of_texts      computed (laws)
 pub mod Every
 pub mod Outcomes
 pub mod Wrap
@@ -22,6 +37,13 @@ pub mod Blocks
 pub mod Text
 pub mod Names
 pub mod Complete
+pub mod Positions
+pub mod CleanTokens
+pub mod Seats
+pub mod Standing
+pub mod StandingLevels
+pub mod Unnoted
+pub mod UnnotedLevels
 pub mod Known
 pub mod Reached
 pub mod Clear
@@ -33,11 +55,17 @@ pub mod Root
 pub mod BlockRuns
 pub mod Led
 pub mod Turns
+pub mod Meeting
+pub mod Begins
 pub mod Joint
 pub mod InnerJoint
 pub mod Within
 pub mod Widths
 pub mod Bytes
+pub mod Seen
+pub mod Splice
+pub mod BlockSplice
+pub mod BlockWorth
 pub mod Marks
 pub mod Boundary
 pub mod RunBytes
@@ -46,9 +74,28 @@ pub mod InnerBytes
 pub mod RunTrees
 pub mod Children
 pub mod InnerChildren
+pub mod Heads
+pub mod NoneBack
+pub mod LeadingTrivia
+pub mod Replaced
+pub mod BareCandidates
+pub mod CandidatePlaces
+pub mod EmptyRuns
+pub mod EmptyBlocks
 pub mod PieceNotes
+pub mod InTurn
+pub mod NumberedNotes
+pub mod NoteNumbers
+pub mod Rising
+pub mod Fronts
+pub mod Leading
+pub mod Cuts
+pub mod InnerNumbers
 pub mod Placed
 pub mod Walk
+pub mod BlockModes
+pub mod Resumed
+pub mod RootPieces
 -- What the crates above name of those below.
 pub use Rattle.typst_grammar.proofs.AtLevels
 pub use Rattle.typst_grammar.proofs.Knowing

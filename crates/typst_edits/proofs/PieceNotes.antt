@@ -50,7 +50,7 @@ use Rattle.typst_edits.proofs.Inside.{Lawful}
 use Rattle.typst_edits.proofs.InnerBytes.{asks_before, run_mark, content-asks}
 use Rattle.typst_edits.proofs.Joint.{takes-call, known-is}
 use Rattle.typst_edits.proofs.Law.{inside-level}
-use Rattle.typst_edits.proofs.Led.{Takes}
+use Rattle.typst_edits.proofs.Led.{same-judged, Takes}
 use Rattle.typst_edits.proofs.Marks.{AllMarks, marks-append, marks-by, marks-shift, marks-lowered, none-hand, NoteOf, noted-each}
 use Rattle.typst_edits.proofs.Names.{named-level}
 use Rattle.typst_edits.proofs.Root.{whole-is}
@@ -71,12 +71,12 @@ abbrev Own : (Bool × ℕ → Meaning (Bool × (Bool × ℕ))) → Bool × ℕ �
 Own m x z s at fewer what state = fewer ≡ 0 → EndsAt m x z s at what state
 
 module _ (l : Level) (sd : (c : Call) → Sane (l.deeper c)) (sb : (b : Block) → Sane (l.blocks b)) (deep : (l.levels == 0) ≡ false) (stops : SyntaxKind → Bool) (end_stops : stops kind.End ≡ true)
-    (call : (h : Reading) (z : Place) (t : Trivia) (x : Bool × ℕ) → 0 < len_at l.classes h.mode (moved t.gap z) → Takes h z t t.nodes (minds (markup_head x.0 x.1 (hand_at l.classes h (Some t) z).kind)) (l.deeper (MarkupExpr x.0 x.1))) where
+    (call : (h : Reading) (z : Place) (t : Trivia) (x : Bool × ℕ) → 0 < len_at l.classes h.mode (moved t.gap z) → Takes h z t t (minds (markup_head x.0 x.1 (hand_at l.classes h (Some t) z).kind)) (l.deeper (MarkupExpr x.0 x.1))) where
   abbrev turn : Bool × ℕ → Meaning (Bool × (Bool × ℕ))
   turn x = run l (markup_turn true stops x)
 
   -- a turn that isn't stopped takes something
-  goes-on : (x : Bool × ℕ) (z : Place) (s : Point) → KnownAt s → ends stops x.1 (told (hand_of l z s)).kind ≡ false → goes (turn x z s) ≡ true
+  pub goes-on : (x : Bool × ℕ) (z : Place) (s : Point) → KnownAt s → ends stops x.1 (told (hand_of l z s)).kind ≡ false → goes (turn x z s) ≡ true
   goes-on x z s known go =
       let t = known.trivia in
       let is = known-is l.classes s t known.is in
@@ -118,7 +118,7 @@ module _ (l : Level) (sd : (c : Call) → Sane (l.deeper c)) (sb : (b : Block) �
   own-run x z s known = own-turns (suc (bound z s)) x z s known
 
 -- the trivia at the end of a run
-flush-marks : (P : ℕ → ℕ → Mark → State → Type 0) (l : Level) (z : Place) (s : Point) → AllMarks P (run l flush_trivia z s).asks
+pub flush-marks : (P : ℕ → ℕ → Mark → State → Type 0) (l : Level) (z : Place) (s : Point) → AllMarks P (run l flush_trivia z s).asks
 unfolding run flush_trivia
 flush-marks P l z s =
     let h = hand_of l z s in
@@ -128,7 +128,7 @@ flush-marks P l z s =
     marks-append P (hand_asks_of l z s) _ (none-hand P l.classes s.held s.known z)
     (marks-shift P h.gap (hand_asks_of l w p ++ []) (marks-append Q (hand_asks_of l w p) [] (none-hand Q l.classes p.held p.known w) tt))
 
-marks-either : {A : Type 0} (P : ℕ → ℕ → Mark → State → Type 0) (b : Bool) (o p : Outcome A) → AllMarks P o.asks → AllMarks P p.asks → AllMarks P (if b then o else p).asks
+pub marks-either : {A : Type 0} (P : ℕ → ℕ → Mark → State → Type 0) (b : Bool) (o p : Outcome A) → AllMarks P o.asks → AllMarks P p.asks → AllMarks P (if b then o else p).asks
 marks-either P true o p h i = h
 marks-either P false o p h i = i
 
@@ -148,7 +148,7 @@ module _ (k : CharClasses) (text : List ℕ) where
       let q = repeated (piece_at k) (true, 0) z0 s in
       let t = tail k q.taken q.state z0 in
       let is = ap (λ (o : Outcome (Unit {0})). o.asks) (whole-is k text) ∙ whole-asks k z0 q t in
-      let run_marks = own-run (level_at k max_depth) (sane-meaning (rules k) k max_depth) (sane-block (rules k) k max_depth) refl is_end refl (λ r y u x more. takes-call k 255 r y u u.nodes refl x.0 x.1 more)
+      let run_marks = own-run (level_at k max_depth) (sane-meaning (rules k) k max_depth) (sane-block (rules k) k max_depth) refl is_end refl (λ r y u x more. takes-call k 255 r y u u (same-judged r u) x more)
       (true, 0) z0 s (record { trivia = _; is = refl }) in
       let first = none-hand Top k start.held start.known z0 in
       let last = marks-shift Top q.taken t.asks (flush-marks (λ at fewer m p. Top (q.taken + at) fewer m p) (level_at k max_depth) (moved q.taken z0) q.state) in
@@ -189,7 +189,7 @@ module _ (k : CharClasses) (levels : ℕ) (z : Place) (s : Point) where
   abbrev InBlock : ℕ → ℕ → ℕ → Mark → State → Type 0
   InBlock from at fewer m p = fewer ≡ 0 → Shifted from at m p
 
-  close-marks : (P : ℕ → ℕ → Mark → State → Type 0) (w : Place) (p : Point) → AllMarks P (run (inner k levels) (close_if (same kind.RightBracket)) w p).asks
+  pub close-marks : (P : ℕ → ℕ → Mark → State → Type 0) (w : Place) (p : Point) → AllMarks P (run (inner k levels) (close_if (same kind.RightBracket)) w p).asks
   unfolding run close_if
   close-marks P w p =
       let l = inner k levels in
@@ -217,7 +217,7 @@ module _ (k : CharClasses) (levels : ℕ) (z : Place) (s : Point) where
       let R = λ (at fewer : ℕ) (m : Mark) (p : State). Q (o.taken + at) fewer m p in
       let S = λ (at fewer : ℕ) (m : Mark) (p : State). R (t.taken + at) fewer m p in
       let sd = sane-meaning (rules k) k (suc levels) in
-      let own = own-run l sd (λ b. sane-plain tt) (ne_eqb (suc levels) 0 (omega arith)) ends_block refl (λ a y u x more. takes-call k levels a y u u.nodes refl x.0 x.1 more) (true, 0) r.place r.point (record { trivia = _; is = refl }) in
+      let own = own-run l sd (λ b. sane-plain tt) (ne_eqb (suc levels) 0 (omega arith)) ends_block refl (λ a y u x more. takes-call k levels a y u u (same-judged a u) x more) (true, 0) r.place r.point (record { trivia = _; is = refl }) in
       let in_run = marks-by (Own (turn_of r) (true, 0) r.place r.point) Q (λ at fewer m p h none. record { there = at; at_is = refl; ends = h none }) o.asks own in
       let b = bracket k levels z s in
       let s1 = (look_first k levels z s).state in

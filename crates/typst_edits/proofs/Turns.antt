@@ -1,5 +1,5 @@
 -- Every expression of markup begins by taking the token at hand, so all behind some pieces is the same, but for the trivia before it.
-use Rattle.std.proofs.Common.{◌≡◌, ℕ, ◌+◌, ◌<◌, Bool, true, false, ◌&&◌, ◌==◌, nat_lt, List, [], ◌++◌, length, Some, refl, ap, sym, ◌∙◌, subst, arith}
+use Rattle.std.proofs.Common.{◌≡◌, ℕ, ◌+◌, ◌<◌, Bool, true, false, ◌&&◌, ◌==◌, nat_lt, List, [], ◌++◌, length, Option, Some, refl, ap, sym, ◌∙◌, subst, arith}
 use Rattle.std.proofs.lemmas.List.{map-append}
 use borrow.Author.Tests.{lt-ltb}
 use Rattle.typst_kinds.specs.declared.kind.SyntaxKind.{SyntaxKind}
@@ -8,15 +8,16 @@ use Rattle.typst_lines.specs.Place.{Place, moved}
 use Rattle.typst_language.specs.declared.calls.Block.{Block}
 use Rattle.typst_language.specs.declared.calls.Call.{Call}
 use Rattle.typst_language.specs.declared.calls.Call.TheVariants.{MarkupExpr}
+use Rattle.typst_language.specs.declared.reading.Newlines.{Newlines}
 use Rattle.typst_language.specs.declared.reading.Reading.{Reading}
-use Rattle.typst_language.specs.Ask.{Ask, shift, shift_one}
+use Rattle.typst_language.specs.Ask.{Ask, SameIn, shift, shift_one}
 use Rattle.typst_language.specs.Depth.{anywhere, too_deep, deeper, is_end}
 use Rattle.typst_tree.specs.Tree.{Tree}
 use Rattle.typst_language.specs.Hand.{AtHand, told, len_at, hand_at, hand_asks}
-use Rattle.typst_language.specs.Point.{Trivia, Point, is_nil}
-use Rattle.typst_language.specs.Shape.{Making, hinted, Shape, becomes, after_node, encloses}
+use Rattle.typst_language.specs.Point.{Trivia, Point}
+use Rattle.typst_language.specs.Shape.{Making, hinted, Shape, becomes, encloses}
 use Rattle.typst_language.specs.Shape.Making.{itself, of_kind, surprise}
-use Rattle.typst_language.specs.Steps.{eat_making, eat, convert_and_eat, unexpected, flush_trivia, node, within}
+use Rattle.typst_language.specs.Steps.{peek, eat_making, eat, convert_and_eat, unexpected, flush_trivia, node, within}
 use Rattle.typst_language.specs.Syntax.{Parser, ◌>>=◌, ◌>>◌}
 use Rattle.typst_language.specs.Syntax.Begin.{at_token}
 use Rattle.typst_language.specs.Syntax.Parser.{gives, next, pick, repeat, wraps, scoped, calls}
@@ -24,18 +25,19 @@ use Rattle.typst_language.specs.Meaning.{Outcome, Meaning, Level, plain, less, a
 use Rattle.typst_language.specs.Sound.{Within, Backs}
 use Rattle.typst_language.proofs.Ends.{hand-takes}
 use Rattle.typst_language.proofs.Knot.{Sane, sane-run}
+use Rattle.typst_language.proofs.Looks.{same_in-first}
 use Rattle.typst_language.proofs.Places.{less-none}
 use Rattle.typst_grammar.specs.head.MarkupHead.{MarkupHead}
 use Rattle.typst_grammar.specs.head.MarkupHead.TheVariants as head
-use Rattle.typst_grammar.specs.Markup.{ends, markup_turn, markup_head, markup_by, markup_expr, delimited, emphasized, heading, item, term_item, reference, strong, emph}
+use Rattle.typst_grammar.specs.Markup.{ends, note_piece, markup_turn, markup_head, markup_by, markup_expr, delimited, emphasized, heading, item, term_item, reference, strong, emph}
 use Rattle.typst_grammar.specs.Embedded.{embedded}
 use Rattle.typst_grammar.specs.Equations.{between_dollars, equation}
 use Rattle.typst_edits.specs.Joint.{minds}
 use Rattle.typst_edits.specs.Occurrences.{goes}
-use Rattle.typst_edits.proofs.Led.{trivia_with, before_trivia, none-less, none-of, Led, led-then, led-asked, Counts_less, Takes, asks-behind, takes-token, takes-next, takes-peek, takes-column, takes-scoped, takes-wraps, takes-calls}
+use Rattle.typst_edits.proofs.Led.{behind_trivia, SameJudged, before_trivia, none-less, none-of, Led, led-then, led-asked, Counts_less, Takes, asks-behind, takes-token, takes-next, takes-peek, takes-column, takes-scoped, takes-wraps, takes-calls, kind-behind}
 use Rattle.typst_edits.proofs.Runs.{repeated-chain}
 use Rattle.typst_edits.proofs.Outcomes.{shift-zero}
-use Rattle.typst_edits.proofs.Reached.{flushed-held, flushed-reading}
+use Rattle.typst_edits.proofs.Reached.{flushed-held}
 use Rattle.typst_edits.proofs.Spots.{if-true, if-false}
 
 becomes-counts : (k : SyntaxKind) → Counts_less (becomes k)
@@ -50,74 +52,84 @@ dollars-counts : (closed : Bool) → Counts_less (encloses kind.Equation closed)
 dollars-counts true ts s = omega arith
 dollars-counts false ts s = omega arith
 
-module _ (l : Level) (sd : (c : Call) → Sane (l.deeper c)) (sb : (b : Block) → Sane (l.blocks b)) (h : Reading) (z : Place) (t : Trivia) (us : List Tree) (nil : is_nil t.nodes ≡ is_nil us) where
+-- a turn behind its expression, and all of it by the kind of the token at hand
+abbrev pub turn_tail : ℕ → Parser (Bool × (Bool × ℕ))
+turn_tail nesting = do
+  after ← peek
+  noted ← note_piece true after.newlines.any nesting
+  gives (true, (after.newlines.any, nesting))
+
+abbrev pub turn_at : (SyntaxKind → Bool) → Bool × ℕ → SyntaxKind → Parser (Bool × (Bool × ℕ))
+turn_at stops x k = pick (ends stops x.1 k) (gives (false, x)) (deeper (MarkupExpr x.0 x.1) x.1 >>= turn_tail)
+
+module _ (l : Level) (sd : (c : Call) → Sane (l.deeper c)) (sb : (b : Block) → Sane (l.blocks b)) (h : Reading) (z : Place) (t u : Trivia) (alike : SameJudged h t u) where
   backs : {A : Type 0} (p : Parser A) → Backs (run l p)
   backs p = (sane-run l sd sb p).backs
 
   -- whatever comes behind it
-  goes-on : {A B : Type 0} (trims : Bool) (p : Parser B) (f : B → Parser A) → Takes h z t us trims (run l p) → Takes h z t us trims (run l (next p f))
-  goes-on trims p f k = takes-next l h z t us trims p f (λ b. backs (f b)) k
+  goes-on : {A B : Type 0} (trims : Bool) (p : Parser B) (f : B → Parser A) → Takes h z t u trims (run l p) → Takes h z t u trims (run l (next p f))
+  goes-on trims p f k = takes-next l h z t u alike trims p f (λ b. backs (f b)) k
 
-  takes-pick : {A : Type 0} (trims b : Bool) (p q : Parser A) → b ≡ false → Takes h z t us trims (run l q) → Takes h z t us trims (run l (pick b p q))
+  takes-pick : {A : Type 0} (trims b : Bool) (p q : Parser A) → b ≡ false → Takes h z t u trims (run l q) → Takes h z t u trims (run l (pick b p q))
   unfolding run
   takes-pick trims true p q e k = cc
   takes-pick trims false p q e k = k
 
-  takes-node : {A : Type 0} (shape : A → Shape) (p : Parser A) → ((v : A) → Counts_less (shape v)) → Takes h z t us false (run l p) → Takes h z t us false (run l (node shape p))
+  takes-node : {A : Type 0} (shape : A → Shape) (p : Parser A) → ((v : A) → Counts_less (shape v)) → Takes h z t u false (run l p) → Takes h z t u false (run l (node shape p))
   unfolding node
-  takes-node shape p shapes k = takes-peek l h z t us false _ nil (goes-on false (wraps shape at_token p) _ (takes-wraps l h z t us shape p shapes k))
+  takes-node shape p shapes k = takes-peek l h z t u alike false (λ _. next (wraps shape at_token p) (λ a. gives a.0)) (goes-on false (wraps shape at_token p) _ (takes-wraps l h z t u alike shape p shapes k))
 
-  takes-within : {A : Type 0} (f : Reading → Reading) (p : Parser A) → Takes h z t us false (run l p) → Takes h z t us false (run l (within f p))
+  takes-within : {A : Type 0} (f : Reading → Reading) (p : Parser A) → Takes h z t u false (run l p) → Takes h z t u false (run l (within f p))
   unfolding within
-  takes-within f p k = goes-on false (scoped f p) _ (takes-scoped l h z t us false f p k)
+  takes-within f p k = goes-on false (scoped f p) _ (takes-scoped l h z t u alike false f p k)
 
   module _ (some : 0 < len_at l.classes h.mode (moved t.gap z)) where
-    takes-making : (trims : Bool) (making : Making) → Takes h z t us trims (run l (eat_making trims making))
+    takes-making : (trims : Bool) (making : Making) → Takes h z t u trims (run l (eat_making trims making))
     unfolding eat_making
-    takes-making trims making = goes-on trims _ _ (takes-token l h z t us some trims making)
+    takes-making trims making = goes-on trims _ _ (takes-token l h z t u alike some trims making)
 
-    takes-eat : Takes h z t us false (run l eat)
+    takes-eat : Takes h z t u false (run l eat)
     unfolding eat
     takes-eat = takes-making false itself
 
-    takes-convert : (k : SyntaxKind) → Takes h z t us false (run l (convert_and_eat k))
+    takes-convert : (k : SyntaxKind) → Takes h z t u false (run l (convert_and_eat k))
     unfolding convert_and_eat
     takes-convert k = takes-making false (of_kind k)
 
-    takes-unexpected : (hints : List (List ℕ)) → Takes h z t us true (run l (unexpected hints))
+    takes-unexpected : (hints : List (List ℕ)) → Takes h z t u true (run l (unexpected hints))
     unfolding unexpected
     takes-unexpected hints = takes-making true (surprise hints)
 
-    takes-delimited : (k : SyntaxKind) (stops : SyntaxKind → Bool) (d : SyntaxKind) (warning hint : List ℕ) → Takes h z t us false (run l (delimited k stops d warning hint))
+    takes-delimited : (k : SyntaxKind) (stops : SyntaxKind → Bool) (d : SyntaxKind) (warning hint : List ℕ) → Takes h z t u false (run l (delimited k stops d warning hint))
     unfolding delimited
     takes-delimited k stops d warning hint =
         takes-within _ _ (goes-on false (node (emphasized k warning hint) _) _ (takes-node (emphasized k warning hint) _ (emphasized-counts k warning hint) (goes-on false eat _ takes-eat)))
 
-    takes-heading : Takes h z t us false (run l heading)
+    takes-heading : Takes h z t u false (run l heading)
     unfolding heading
     takes-heading = takes-within _ _ (takes-node _ _ (λ v. becomes-counts kind.Heading) (goes-on false eat _ takes-eat))
 
-    takes-item : (k : SyntaxKind) → Takes h z t us false (run l (item k))
+    takes-item : (k : SyntaxKind) → Takes h z t u false (run l (item k))
     unfolding item
-    takes-item k = takes-column l h z t us false _ (λ here. takes-within _ _ (takes-node _ _ (λ v. becomes-counts k) (goes-on false eat _ takes-eat)))
+    takes-item k = takes-column l h z t u alike false _ (λ here. takes-within _ _ (takes-node _ _ (λ v. becomes-counts k) (goes-on false eat _ takes-eat)))
 
-    takes-term : Takes h z t us false (run l term_item)
+    takes-term : Takes h z t u false (run l term_item)
     unfolding term_item
-    takes-term = takes-column l h z t us false _ (λ here. takes-within _ _ (takes-node _ _ (λ v. becomes-counts kind.TermItem) (goes-on false _ _ (takes-within _ _ (goes-on false eat _ takes-eat)))))
+    takes-term = takes-column l h z t u alike false _ (λ here. takes-within _ _ (takes-node _ _ (λ v. becomes-counts kind.TermItem) (goes-on false _ _ (takes-within _ _ (goes-on false eat _ takes-eat)))))
 
-    takes-reference : Takes h z t us false (run l reference)
+    takes-reference : Takes h z t u false (run l reference)
     unfolding reference
     takes-reference = takes-node _ _ (λ v. becomes-counts kind.Ref) (goes-on false eat _ takes-eat)
 
-    takes-embedded : Takes h z t us false (run l embedded)
+    takes-embedded : Takes h z t u false (run l embedded)
     unfolding embedded
     takes-embedded = takes-within _ _ (goes-on false eat _ takes-eat)
 
-    takes-equation : Takes h z t us false (run l equation)
+    takes-equation : Takes h z t u false (run l equation)
     unfolding equation between_dollars
     takes-equation = goes-on false (node (encloses kind.Equation) _) _ (takes-node (encloses kind.Equation) _ dollars-counts (takes-within _ _ (goes-on false eat _ takes-eat)))
 
-    takes-by : (nesting : ℕ) (x : MarkupHead) → Takes h z t us (minds x) (run l (markup_by nesting x))
+    takes-by : (nesting : ℕ) (x : MarkupHead) → Takes h z t u (minds x) (run l (markup_by nesting x))
     takes-by nesting head.Itself = goes-on false eat _ takes-eat
     takes-by nesting head.Opening = goes-on false _ _ (takes-convert kind.Text)
     takes-by nesting head.Closing = goes-on false _ _ (takes-convert kind.Text)
@@ -135,21 +147,21 @@ module _ (l : Level) (sd : (c : Call) → Sane (l.deeper c)) (sb : (b : Block) �
     takes-by nesting head.Unexpected = goes-on true _ _ (takes-unexpected [])
 
     -- one expression
-    pub takes-expr : (at_start : Bool) (nesting : ℕ) → Takes h z t us (minds (markup_head at_start nesting (hand_at l.classes h (Some t) z).kind)) (run l (markup_expr at_start nesting))
+    pub takes-expr : (at_start : Bool) (nesting : ℕ) → Takes h z t u (minds (markup_head at_start nesting (hand_at l.classes h (Some t) z).kind)) (run l (markup_expr at_start nesting))
     unfolding markup_expr
-    takes-expr at_start nesting = takes-peek l h z t us _ _ nil (takes-by nesting (markup_head at_start nesting (hand_at l.classes h (Some t) z).kind))
+    takes-expr at_start nesting = takes-peek l h z t u alike _ (λ k. markup_by nesting (markup_head at_start nesting k)) (takes-by nesting (markup_head at_start nesting (hand_at l.classes h (Some t) z).kind))
 
   -- a turn, by the expression that it reads one level deeper
-  module _ (deep : (l.levels == 0) ≡ false) (stops : SyntaxKind → Bool) (x : Bool × ℕ) (trims : Bool) (call : Takes h z t us trims (l.deeper (MarkupExpr x.0 x.1))) where
-    takes-deeper : Takes h z t us trims (run l (deeper (MarkupExpr x.0 x.1) x.1))
+  module _ (deep : (l.levels == 0) ≡ false) (stops : SyntaxKind → Bool) (x : Bool × ℕ) (trims : Bool) (call : Takes h z t u trims (l.deeper (MarkupExpr x.0 x.1))) where
+    takes-deeper : Takes h z t u trims (run l (deeper (MarkupExpr x.0 x.1) x.1))
     unfolding deeper run
     takes-deeper r e d a b same =
-        led-asked t us trims (l.levels == 0) (before_trivia r h e a t) (before_trivia r h d b (trivia_with us t)) [] [] (l.levels == 0) _ _ refl
-        (takes-pick trims (l.levels == 0) (too_deep anywhere >> gives x.1) (calls (MarkupExpr x.0 x.1)) deep (takes-calls l h z t us trims (MarkupExpr x.0 x.1) call) r e d a b same)
+        led-asked t u.nodes trims (l.levels == 0) (before_trivia r h e a t) (before_trivia r h d b (behind_trivia u)) [] [] (l.levels == 0) _ _ refl
+        (takes-pick trims (l.levels == 0) (too_deep anywhere >> gives x.1) (calls (MarkupExpr x.0 x.1)) deep (takes-calls l h z t u alike trims (MarkupExpr x.0 x.1) call) r e d a b same)
 
-    pub takes-turn : ends stops x.1 (hand_at l.classes h (Some t) z).kind ≡ false → Takes h z t us trims (run l (markup_turn true stops x))
+    pub takes-turn : ends stops x.1 (hand_at l.classes h (Some t) z).kind ≡ false → Takes h z t u trims (run l (markup_turn true stops x))
     unfolding markup_turn
-    takes-turn go = takes-peek l h z t us trims _ nil (takes-pick trims _ _ _ go (goes-on trims _ _ takes-deeper))
+    takes-turn go = takes-peek l h z t u alike trims (turn_at stops x) (takes-pick trims _ _ _ go (goes-on trims _ _ takes-deeper))
 
 -- ---- all behind some pieces
 
@@ -157,8 +169,6 @@ module _ (l : Level) (sd : (c : Call) → Sane (l.deeper c)) (sb : (b : Block) �
 pub record Fronted {A : Type 0} (t : Trivia) (us : List Tree) (o c : Outcome A) : Type 0 where
   pub value : o.value ≡ c.value
   pub taken : o.taken ≡ t.gap + c.taken
-  -- the same state, where no error stands before the trivia
-  pub state : after_node false [] o.state ≡ after_node false [] c.state
   pub back : o.back ≡ c.back
   pub hints : o.hints ≡ []
   pub hints_too : c.hints ≡ []
@@ -172,7 +182,6 @@ fronted-led : {A : Type 0} (t : Trivia) (us : List Tree) (trims : Bool) (o c : O
 fronted-led t us trims o c h = record {
   value = h.value;
   taken = h.taken;
-  state = ap (after_node false []) h.state;
   back = h.back;
   hints = h.hints;
   hints_too = h.hints_too;
@@ -192,7 +201,6 @@ fronted-asked t us v s r ls ks o c e h =
     record {
       value = h.value;
       taken = omega (arith, taken);
-      state = h.state;
       back = omega (arith, back);
       hints = none-of (nat_lt o.back 0) (nat_lt 0 o.back) [] o.hints refl h.hints;
       hints_too = none-of (nat_lt c.back 0) (nat_lt 0 c.back) [] c.hints refl h.hints_too;
@@ -203,7 +211,7 @@ fronted-asked t us v s r ls ks o c e h =
       met = h.met;
     }
 
-goes-same : {A : Type 0} (t : Trivia) (us : List Tree) (trims : Bool) (o c : Outcome (Bool × A)) → Led t us trims o c → goes o ≡ goes c
+pub goes-same : {A : Type 0} (t : Trivia) (us : List Tree) (trims : Bool) (o c : Outcome (Bool × A)) → Led t us trims o c → goes o ≡ goes c
 goes-same t us trims o c h =
     let some = h.some in
     let taken = h.taken in
@@ -212,7 +220,7 @@ goes-same t us trims o c h =
 
 module _ {A : Type 0} (m : A → Meaning (Bool × A)) (within : (x : A) → Within (m x)) where
   -- a turn that goes on, and one that doesn't
-  one-turn : (x : A) (z : Place) (s : Point) → goes (m x z s) ≡ true → repeated m x z s ≡ followed (m x z s) (λ v. repeated m v.1) z
+  pub one-turn : (x : A) (z : Place) (s : Point) → goes (m x z s) ≡ true → repeated m x z s ≡ followed (m x z s) (λ v. repeated m v.1) z
   one-turn x z s g =
       let o = m x z s in
       let n : o.taken + 0 ≡ o.taken = omega arith in
@@ -255,6 +263,11 @@ module _ {A : Type 0} (m : A → Meaning (Bool × A)) (within : (x : A) → With
   led-repeated : (t : Trivia) (us : List Tree) (trims : Bool) (x : A) (z : Place) (s r : Point) → ((y : A) → Backs (repeated m y)) → Led t us trims (m x z s) (m x (moved t.gap z) r) → Led t us trims (repeated m x z s) (repeated m x (moved t.gap z) r)
   led-repeated t us trims x z s r tidy h = led-goes t us trims x z s r tidy h (goes (m x (moved t.gap z) r)) refl
 
+-- no trivia are known, but the newlines of those that became nodes
+pub record KnownFlush (s : Point) : Type 0 where
+  pub newlines : Newlines
+  pub is : s.known ≡ Some (record { nodes = []; gap = 0; newlines = newlines })
+
 -- the end is a stop
 pub end-by : (stops : SyntaxKind → Bool) → stops kind.End ≡ true → (n : ℕ) (k : SyntaxKind) → ends stops n k ≡ false → is_end k ≡ false
 end-by stops e n kind.End f = let g : true ≡ false = sym e ∙ f in cc
@@ -265,7 +278,51 @@ module _ (l : Level) (sd : (c : Call) → Sane (l.deeper c)) (sb : (b : Block) �
   abbrev pub behind : Bool × ℕ → Meaning (Unit {0})
   behind x = run l (repeat (markup_turn true stops) x >>= λ _. flush_trivia)
 
-  module _ (h : Reading) (z : Place) (t : Trivia) (us : List Tree) (nil : is_nil t.nodes ≡ is_nil us) (x : Bool × ℕ) (r : Reading) (e d : ℕ) (a b : Bool) where
+  -- where no expression follows
+  stopped : (x : Bool × ℕ) (q : Place) (p : Point) → ends stops x.1 (told (hand_of l q p)).kind ≡ true → repeated (λ v. run l (markup_turn true stops v)) x q p ≡ record (plain x (asked (hand_of l q p) p)) { asks = hand_asks_of l q p ++ [] }
+  unfolding run markup_turn less
+  stopped x q p f =
+      let m : Bool × ℕ → Meaning (Bool × (Bool × ℕ)) = λ (v : Bool × ℕ). run l (markup_turn true stops v) in
+      let v = told (hand_of l q p) in
+      let first = record (plain v (asked (hand_of l q p) p)) { asks = hand_asks_of l q p } in
+      let end = plain (false, x) (asked (hand_of l q p) p) in
+      let turn : m x q p ≡ joined first end = ap (joined first) (if-true (ends stops x.1 v.kind) _ _ f) in
+      last-turn m (λ n. (sane-run l sd sb (markup_turn true stops n)).within) x q p (ap goes turn) ∙ ap as_last turn
+
+  -- there nothing depends on what is carried
+  pub stopped-alike : (x y : Bool × ℕ) (q : Place) (p : Point) → ends stops x.1 (hand_of l q p).kind ≡ true → ends stops y.1 (hand_of l q p).kind ≡ true → behind y q p ≡ behind x q p
+  unfolding run
+  stopped-alike x y q p f g =
+      let with_flush = λ (v : Outcome (Bool × ℕ)). joined v (run l flush_trivia (moved v.taken q) v.state) in
+      ap with_flush (stopped y q p g) ∙ sym (ap with_flush (stopped x q p f))
+
+  -- the token at hand is looked at first
+  first-seen : (x : Bool × ℕ) (q w : Place) (p : Point) (b : Bool) → goes (run l (markup_turn true stops x) q p) ≡ b → SameIn (repeated (λ v. run l (markup_turn true stops v)) x q p).asks q w → SameIn (hand_asks_of l q p) q w
+  unfolding run markup_turn
+  first-seen x q w p true g same =
+      let m : Bool × ℕ → Meaning (Bool × (Bool × ℕ)) = λ (v : Bool × ℕ). run l (markup_turn true stops v) in
+      let is = one-turn m (λ n. (sane-run l sd sb (markup_turn true stops n)).within) x q p g in
+      same_in-first (hand_asks_of l q p) _ q w (same_in-first (m x q p).asks _ q w (subst (λ (o : Outcome (Bool × ℕ)). SameIn o.asks q w) is same))
+  first-seen x q w p false g same =
+      let m : Bool × ℕ → Meaning (Bool × (Bool × ℕ)) = λ (v : Bool × ℕ). run l (markup_turn true stops v) in
+      let is = last-turn m (λ n. (sane-run l sd sb (markup_turn true stops n)).within) x q p g in
+      same_in-first (hand_asks_of l q p) _ q w (subst (λ (o : Outcome (Bool × ℕ)). SameIn o.asks q w) is same)
+
+  pub hand-seen : (x : Bool × ℕ) (q w : Place) (p : Point) → SameIn (behind x q p).asks q w → SameIn (hand_asks_of l q p) q w
+  unfolding run
+  hand-seen x q w p same = first-seen x q w p (goes (run l (markup_turn true stops x) q p)) refl (same_in-first _ _ q w same)
+
+  -- and nothing is taken back
+  pub stopped-back : (x : Bool × ℕ) (q : Place) (p : Point) → ends stops x.1 (hand_of l q p).kind ≡ true → (behind x q p).back ≡ 0
+  unfolding run flush_trivia
+  stopped-back x q p f = ap (λ (v : Outcome (Bool × ℕ)). (joined v (run l flush_trivia (moved v.taken q) v.state)).back) (stopped x q p f) ∙ omega arith
+
+  -- behind all a flush is known
+  pub flush-known : (x : Bool × ℕ) (q : Place) (p : Point) → KnownFlush (behind x q p).state
+  unfolding run flush_trivia hand_at
+  flush-known x q p = record { newlines = _; is = refl }
+
+  module _ (h : Reading) (z : Place) (t u : Trivia) (alike : SameJudged h t u) (x : Bool × ℕ) (r : Reading) (e d : ℕ) (a b : Bool) where
     abbrev s : Point
     s = before_trivia r h e a t
 
@@ -273,77 +330,68 @@ module _ (l : Level) (sd : (c : Call) → Sane (l.deeper c)) (sb : (b : Block) �
     w = moved t.gap z
 
     abbrev y : Point
-    y = before_trivia r h d b (trivia_with us t)
+    y = before_trivia r h d b (behind_trivia u)
 
     abbrev now : AtHand
     now = told (hand_at l.classes h (Some t) z)
 
-    -- where no expression follows
-    stopped : (q : Place) (p : Point) → ends stops x.1 (told (hand_of l q p)).kind ≡ true → repeated (λ v. run l (markup_turn true stops v)) x q p ≡ record (plain x (asked (hand_of l q p) p)) { asks = hand_asks_of l q p ++ [] }
-    unfolding run markup_turn less
-    stopped q p f =
-        let m : Bool × ℕ → Meaning (Bool × (Bool × ℕ)) = λ (v : Bool × ℕ). run l (markup_turn true stops v) in
-        let v = told (hand_of l q p) in
-        let first = record (plain v (asked (hand_of l q p) p)) { asks = hand_asks_of l q p } in
-        let end = plain (false, x) (asked (hand_of l q p) p) in
-        let turn : m x q p ≡ joined first end = ap (joined first) (if-true (ends stops x.1 v.kind) _ _ f) in
-        last-turn m (λ n. (sane-run l sd sb (markup_turn true stops n)).within) x q p (ap goes turn) ∙ ap as_last turn
-
     -- the trivia at the end
-    flushed : Fronted t us (run l flush_trivia z s) (run l flush_trivia w y)
+    flushed : Fronted t u.nodes (run l flush_trivia z s) (run l flush_trivia w y)
     unfolding run flush_trivia hand_at less
     flushed =
         let old = hand_of l z s in
         let new = hand_of l w y in
-        let none = Some (record { nodes = []; gap = 0; newlines = t.newlines }) in
-        let held : (flushed_state old s).held ≡ (flushed_state new y).held = flushed-held old s ∙ sym (flushed-held new y) in
-        let reading : (flushed_state old s).reading ≡ (flushed_state new y).reading = flushed-reading old s ∙ sym (flushed-reading new y) in
-        let last = hand_asks l.classes (flushed_state new y).held none w ++ [] in
+        let none : Trivia → Option Trivia = λ (v : Trivia). Some (record { nodes = []; gap = 0; newlines = v.newlines }) in
+        let held : (flushed_state old s).held ≡ h = flushed-held old s in
+        let held_now : (flushed_state new y).held ≡ h = flushed-held new y in
+        let last = hand_asks l.classes h (none u) w in
+        let last_is : hand_asks l.classes h (none t) w ≡ last = asks-behind l h w (record { nodes = []; gap = 0; newlines = t.newlines }) (record { nodes = []; gap = 0; newlines = u.newlines }) (record { judge = alike.judge; column = alike.column }) ∙ shift-zero last in
         record {
           value = refl;
           taken = omega arith;
-          state = ap (λ (g : Reading). record { reading = g; held = (flushed_state old s).held; empties = 0; is_after_error = false; known = none }) reading
-              ∙ ap (λ (g : Reading). record { reading = (flushed_state new y).reading; held = g; empties = 0; is_after_error = false; known = none }) held;
           back = omega arith;
           hints = none-of (nat_lt 0 (length t.nodes)) (nat_lt (length t.nodes) 0) [] [] refl refl;
-          hints_too = none-of (nat_lt 0 (length us)) (nat_lt (length us) 0) [] [] refl refl;
+          hints_too = none-of (nat_lt 0 (length u.nodes)) (nat_lt (length u.nodes) 0) [] [] refl refl;
           rest = [];
           nodes = ap (λ ts. ts ++ []) (less-none t.nodes);
-          nodes_too = ap (λ ts. ts ++ []) (less-none us);
-          asks = ap (λ ls. ls ++ shift t.gap (hand_asks l.classes (flushed_state old s).held none w ++ [])) (asks-behind l h z t us)
-              ∙ ap (λ g. shift t.gap (hand_asks_of l w y) ++ shift t.gap (hand_asks l.classes g none w ++ [])) held
-              ∙ ap (λ ls. shift t.gap (hand_asks_of l w y) ++ shift t.gap ls) (sym (shift-zero last)) ∙ sym (map-append (shift_one t.gap) (hand_asks_of l w y) (shift 0 last));
+          nodes_too = ap (λ ts. ts ++ []) (less-none u.nodes);
+          asks = ap (λ ls. ls ++ shift t.gap (hand_asks l.classes (flushed_state old s).held (none t) w ++ [])) (asks-behind l h z t u alike)
+              ∙ ap (λ g. shift t.gap (hand_asks_of l w y) ++ shift t.gap (hand_asks l.classes g (none t) w ++ [])) held
+              ∙ ap (λ ls. shift t.gap (hand_asks_of l w y) ++ shift t.gap (ls ++ [])) last_is
+              ∙ ap (λ g. shift t.gap (hand_asks_of l w y) ++ shift t.gap (hand_asks l.classes g (none u) w ++ [])) (sym held_now)
+              ∙ ap (λ ls. shift t.gap (hand_asks_of l w y) ++ shift t.gap ls) (sym (shift-zero (hand_asks l.classes (flushed_state new y).held (none u) w ++ [])))
+              ∙ sym (map-append (shift_one t.gap) (hand_asks_of l w y) (shift 0 (hand_asks l.classes (flushed_state new y).held (none u) w ++ [])));
           met = refl;
         }
 
-    ended-behind : ends stops x.1 now.kind ≡ true → Fronted t us (behind x z s) (behind x w y)
+    ended-behind : ends stops x.1 now.kind ≡ true → Fronted t u.nodes (behind x z s) (behind x w y)
     unfolding run hand_at
     ended-behind f =
-        let g : ends stops x.1 (told (hand_of l w y)).kind ≡ true = f in
+        let g : ends stops x.1 (told (hand_of l w y)).kind ≡ true = ap (ends stops x.1) (kind-behind l h z t u alike) ∙ f in
         let ls = hand_asks_of l z s in
         let ks = hand_asks_of l w y in
-        let old : behind x z s ≡ joined (record (plain x s) { asks = ls ++ [] }) (run l flush_trivia z s) = ap (λ o. joined o (run l flush_trivia (moved o.taken z) o.state)) (stopped z s f) in
-        let new : behind x w y ≡ joined (record (plain x y) { asks = ks ++ [] }) (run l flush_trivia w y) = ap (λ o. joined o (run l flush_trivia (moved o.taken w) o.state)) (stopped w y g) in
-        subst (λ o. Fronted t us o (behind x w y)) (sym old) (subst (λ c. Fronted t us (joined (record (plain x s) { asks = ls ++ [] }) (run l flush_trivia z s)) c) (sym new)
-        (fronted-asked t us x s y (ls ++ []) (ks ++ []) _ _ (ap (λ js. js ++ []) (asks-behind l h z t us) ∙ sym (map-append (shift_one t.gap) ks [])) flushed))
+        let old : behind x z s ≡ joined (record (plain x s) { asks = ls ++ [] }) (run l flush_trivia z s) = ap (λ o. joined o (run l flush_trivia (moved o.taken z) o.state)) (stopped x z s f) in
+        let new : behind x w y ≡ joined (record (plain x y) { asks = ks ++ [] }) (run l flush_trivia w y) = ap (λ o. joined o (run l flush_trivia (moved o.taken w) o.state)) (stopped x w y g) in
+        subst (λ o. Fronted t u.nodes o (behind x w y)) (sym old) (subst (λ c. Fronted t u.nodes (joined (record (plain x s) { asks = ls ++ [] }) (run l flush_trivia z s)) c) (sym new)
+        (fronted-asked t u.nodes x s y (ls ++ []) (ks ++ []) _ _ (ap (λ js. js ++ []) (asks-behind l h z t u alike) ∙ sym (map-append (shift_one t.gap) ks [])) flushed))
 
     -- where one does
-    read-behind : (trims : Bool) → Takes h z t us trims (l.deeper (MarkupExpr x.0 x.1)) → (trims ≡ true → e ≡ d) → ends stops x.1 now.kind ≡ false → Fronted t us (behind x z s) (behind x w y)
+    pub led-behind : (trims : Bool) → Takes h z t u trims (l.deeper (MarkupExpr x.0 x.1)) → (trims ≡ true → e ≡ d) → ends stops x.1 now.kind ≡ false → Led t u.nodes trims (behind x z s) (behind x w y)
     unfolding run
-    read-behind trims call same f =
+    led-behind trims call same f =
         let p = markup_turn true stops in
-        let turn = takes-turn l sd sb h z t us nil deep stops x trims call f r e d a b same in
-        let all = led-repeated (λ v. run l (p v)) (λ n. (sane-run l sd sb (p n)).within) t us trims x z s y (λ n. (sane-run l sd sb (repeat p n)).backs) turn in
-        fronted-led t us trims _ _ (led-then t us trims z _ _ (λ v. run l flush_trivia) (λ v. (sane-run l sd sb flush_trivia).backs) all)
+        let turn = takes-turn l sd sb h z t u alike deep stops x trims call f r e d a b same in
+        let all = led-repeated (λ v. run l (p v)) (λ n. (sane-run l sd sb (p n)).within) t u.nodes trims x z s y (λ n. (sane-run l sd sb (repeat p n)).backs) turn in
+        led-then t u.nodes trims z _ _ (λ v. run l flush_trivia) (λ v. (sane-run l sd sb flush_trivia).backs) all
 
     -- the token at hand takes a character, where it is no end
-    some-token : ends stops x.1 now.kind ≡ false → 0 < len_at l.classes h.mode w
+    pub some-token : ends stops x.1 now.kind ≡ false → 0 < len_at l.classes h.mode w
     unfolding hand_at
     some-token f = hand-takes l.classes h (Some t) z (end-by stops end_stops x.1 now.kind f)
 
-    fronted-by : (trims : Bool) → (0 < len_at l.classes h.mode w → Takes h z t us trims (l.deeper (MarkupExpr x.0 x.1))) → (trims ≡ true → e ≡ d) → (v : Bool) → ends stops x.1 now.kind ≡ v → Fronted t us (behind x z s) (behind x w y)
+    fronted-by : (trims : Bool) → (0 < len_at l.classes h.mode w → Takes h z t u trims (l.deeper (MarkupExpr x.0 x.1))) → (ends stops x.1 now.kind ≡ false → trims ≡ true → e ≡ d) → (v : Bool) → ends stops x.1 now.kind ≡ v → Fronted t u.nodes (behind x z s) (behind x w y)
     fronted-by trims call same true f = ended-behind f
-    fronted-by trims call same false f = read-behind trims (call (some-token f)) same f
+    fronted-by trims call same false f = fronted-led t u.nodes trims _ _ (led-behind trims (call (some-token f)) (same f) f)
 
-    pub fronted-behind : (trims : Bool) → (0 < len_at l.classes h.mode w → Takes h z t us trims (l.deeper (MarkupExpr x.0 x.1))) → (trims ≡ true → e ≡ d) → Fronted t us (behind x z s) (behind x w y)
+    pub fronted-behind : (trims : Bool) → (0 < len_at l.classes h.mode w → Takes h z t u trims (l.deeper (MarkupExpr x.0 x.1))) → (ends stops x.1 now.kind ≡ false → trims ≡ true → e ≡ d) → Fronted t u.nodes (behind x z s) (behind x w y)
     fronted-behind trims call same = fronted-by trims call same (ends stops x.1 now.kind) refl

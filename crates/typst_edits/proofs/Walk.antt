@@ -147,7 +147,7 @@ module _ (from to : ℕ) (order : from ≤ to) where
 
 -- ---- places in bytes
 
-width-encodes : (xs : List ℕ) → length (encode_utf8_all xs) ≡ width xs
+pub width-encodes : (xs : List ℕ) → length (encode_utf8_all xs) ≡ width xs
 unfolding width char_width
 width-encodes [] = refl
 width-encodes (c ∷ xs) = omega (arith, length-append (encode_utf8 c) (encode_utf8_all xs), length-encode c, width-encodes xs)

@@ -110,7 +110,7 @@ pub near-to : (n m : ℕ) (early rest : List ℕ) → n ≤ m → m ≤ length r
 unfolding near position
 near-to n m early rest h l = let i = begins-early n m early rest h l in omega (arith, i)
 
-moved-width : (n : ℕ) (b a : List ℕ) → width (moved_from n b a).behind ≡ width (take n a) + width b
+pub moved-width : (n : ℕ) (b a : List ℕ) → width (moved_from n b a).behind ≡ width (take n a) + width b
 unfolding width
 moved-width zero b a = omega arith
 moved-width (suc n) b [] = omega arith

@@ -42,7 +42,7 @@ pub record PassesInnerJoint (k : CharClasses) (levels : ℕ) (front old new rest
   pub goes_on : 0 < past + left_past k levels i n t c (text_with front old rest)
   -- the new ones end at the shifted end, with their trivia, and meet what is behind them
   pub shifted : (let z = text_with front new rest in let r = run_at k levels c z in (opened_at k levels c z + ((first_end i r).taken + (then_end i m r).taken)) + u.gap ≡ (length front + length new) + past)
-  pub meets : (let r = run_at k levels c (text_with front old rest) in let q = run_at k levels c (text_with front new rest) in Meets q (then_place i m q) (then_end i n r) (then_end i m q) t u)
+  pub meets : (let r = run_at k levels c (text_with front old rest) in let q = run_at k levels c (text_with front new rest) in Meets r (then_place i n r) (then_end i n r) (then_end i m q) t u)
 
 -- What the readings of the block are then, and of both texts.
 pub record KeptInnerJoint (k : CharClasses) (levels : ℕ) (front old new rest : List ℕ) (c : Spot (Unit {0})) (i n m past : ℕ) (t u : Trivia) : Type 0 where

@@ -1,18 +1,19 @@
 -- Pieces that are read again, and those behind them, where other trivia or other errors stand between them than before.
 use Rattle.std.specs.Prelude.{◌≡◌, ℕ, ◌+◌, ◌<◌, Bool, true, false, List, [], ◌++◌, length, Some}
+use Rattle.typst_kinds.specs.declared.kind.SyntaxKind.{SyntaxKind}
 use Rattle.typst_lines.specs.Place.{Place, moved}
 use Rattle.typst_tree.specs.Tree.{Tree}
 use Rattle.typst_lines.specs.Classes.{CharClasses}
 use Rattle.typst_language.specs.Ask.{Ask, shift}
 use Rattle.typst_language.specs.Depth.{is_end}
-use Rattle.typst_language.specs.Point.{Trivia, Point, is_nil}
+use Rattle.typst_language.specs.Point.{Trivia, Point}
 use Rattle.typst_language.specs.Steps.{flush_trivia}
 use Rattle.typst_language.specs.Syntax.{◌>>=◌}
 use Rattle.typst_language.specs.Syntax.Parser.{repeat}
 use Rattle.typst_language.specs.Meaning.{Outcome, Meaning, joined, hand_of, run}
 use Rattle.typst_grammar.specs.head.MarkupHead.{MarkupHead}
 use Rattle.typst_grammar.specs.head.MarkupHead.TheVariants as head
-use Rattle.typst_grammar.specs.Markup.{markup_turn, markup_head}
+use Rattle.typst_grammar.specs.Markup.{ends, markup_turn, markup_head}
 use Rattle.typst_grammar.specs.Grammar.{level_at, max_depth, parsed}
 use Rattle.typst_edits.specs.Edit.{text_with, AllEndBy, AllBeginIn}
 use Rattle.typst_edits.specs.Runs.{AllGo, End, asks_of, chain, lead, pieces, end_at, pieces_from, end_from, rest_from, tail, whole_of}
@@ -49,17 +50,18 @@ pub record Exchanged {A : Type 0} (t u : Trivia) (o n : Outcome A) : Type 0 wher
   pub asks_now : n.asks ≡ shift u.gap looks
   pub met : n.met ≡ o.met
 
--- What may differ where pieces end, before the expressions behind them: the trivia, but not whether there are any nor their newlines, and the errors before them.
-pub record Meets (r : Sequence) (w : Place) (e f : End (Bool × ℕ)) (t u : Trivia) : Type 0 where
+-- whether the expressions end there
+abbrev pub is_over_at : Sequence → Place → End (Bool × ℕ) → Bool
+is_over_at r z e = ends r.stops e.value.1 (hand_of r.level z e.state).kind
+
+-- What has to agree where pieces end, before the expressions behind them: what is carried, unless the expressions end there in both texts; neither the trivia nor the errors before them.
+pub record Meets (r : Sequence) (z : Place) (e f : End (Bool × ℕ)) (t u : Trivia) : Type 0 where
   pub known : e.state.known ≡ Some t
   pub known_now : f.state.known ≡ Some u
-  pub newlines : u.newlines ≡ t.newlines
-  pub some : is_nil u.nodes ≡ is_nil t.nodes
-  pub value : f.value ≡ e.value
-  pub reading : f.state.reading ≡ e.state.reading
-  pub held : f.state.held ≡ e.state.held
+  pub value : is_over_at r z e ≡ false → f.value ≡ e.value
+  pub over : is_over_at r z e ≡ true → (kind : SyntaxKind) → ends r.stops f.value.1 kind ≡ ends r.stops e.value.1 kind
   -- the number of empty errors matters only where the next expression takes them back
-  pub errors : minds (markup_head f.value.0 f.value.1 (hand_of r.level w f.state).kind) ≡ true → f.state.empties ≡ e.state.empties
+  pub errors : is_over_at r z e ≡ false → minds (markup_head e.value.0 e.value.1 (hand_of r.level z e.state).kind) ≡ true → f.state.empties ≡ e.state.empties
 
 -- ---- the run of a text
 
@@ -84,7 +86,7 @@ pub record PassesJoint (k : CharClasses) (front old new rest : List ℕ) (i n m 
       AllBeginIn past rest (onwards (text_run k z) e.value (moved t.gap (place_from k i n z)) (passed t e.state)).asks)
   -- the new ones end at the shifted end, with their trivia, and meet what is behind them
   pub shifted : ((end_at k i (text_with front new rest)).taken + (end_from k i m (text_with front new rest)).taken) + u.gap ≡ (length front + length new) + past
-  pub meets : (let z = text_with front old rest in let w = text_with front new rest in Meets (text_run k z) (place_from k i m w) (end_from k i n z) (end_from k i m w) t u)
+  pub meets : (let z = text_with front old rest in let w = text_with front new rest in Meets (text_run k z) (place_from k i n z) (end_from k i n z) (end_from k i m w) t u)
 
 -- all behind n pieces behind i, with the trivia at the text's end
 abbrev pub onwards_from : CharClasses → ℕ → ℕ → Place → Outcome (Unit {0})

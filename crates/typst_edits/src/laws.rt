@@ -1,24 +1,43 @@
 //! Laws of edits.
 
 ghost use Rattle.typst_lines.specs.Classes.{CharClasses};
+ghost use Rattle.typst_edits.specs.BareCandidates.{BareCandidatesLaw};
+ghost use Rattle.typst_edits.specs.AnswerExamples.{Answered, Decided};
+ghost use Rattle.typst_edits.specs.BlockModes.{ModeLaw};
 ghost use Rattle.typst_edits.specs.BlockRuns.{InnerLaw};
+ghost use Rattle.typst_edits.specs.BlockSplice.{BlockSpliceLaw};
+ghost use Rattle.typst_edits.specs.BlockWorth.{BlockWorthLaw};
 ghost use Rattle.typst_edits.specs.Bytes.{DecisionLaw};
+ghost use Rattle.typst_edits.specs.CandidatePlaces.{CandidatePlacesLaw, CandidateTreeLaw};
 ghost use Rattle.typst_edits.specs.Children.{BackLaw, ChildrenLaw};
 ghost use Rattle.typst_edits.specs.Conditions.{Conditions};
+ghost use Rattle.typst_edits.specs.EmptyRuns.{EmptyBlockLaw, EmptyTextLaw};
 ghost use Rattle.typst_edits.specs.Examples.{Blocks};
 ghost use Rattle.typst_edits.specs.RunExamples.{Runs};
+ghost use Rattle.typst_edits.specs.Heads.{HeadLaw, InnerHeadLaw, InnerMeetsLaw, InnerNoneBackLaw, InnerNoneBehindLaw, MeetsLaw, NoneBackLaw, NoneBehindLaw};
 ghost use Rattle.typst_edits.specs.InnerBytes.{InnerDecisionLaw};
 ghost use Rattle.typst_edits.specs.InnerChildren.{InnerBackLaw, InnerChildrenLaw};
 ghost use Rattle.typst_edits.specs.InnerJoint.{InnerJointLaw};
 ghost use Rattle.typst_edits.specs.Joint.{JointLaw};
+ghost use Rattle.typst_edits.specs.JointExamples.{Joints};
 ghost use Rattle.typst_edits.specs.JointBytes.{JointDecisionLaw};
 ghost use Rattle.typst_edits.specs.Laws.{BlockLaw, NamesLaw};
+ghost use Rattle.typst_edits.specs.Leading.{LeadingInnerLaw, LeadingLaw};
+ghost use Rattle.typst_edits.specs.LeadingTrivia.{InnerLeadingTriviaLaw, LeadingTriviaLaw};
 ghost use Rattle.typst_edits.specs.Lost.{CompleteLaw};
+ghost use Rattle.typst_edits.specs.NumberedNotes.{NumberLaw, NumberedInnerLaw, NumberedRunLaw, CutsLaw, InnerCutsLaw, InnerNumberLaw};
+ghost use Rattle.typst_edits.specs.Origins.{Origins};
 ghost use Rattle.typst_edits.specs.PieceNotes.{InnerNotesLaw, RunNotesLaw};
 ghost use Rattle.typst_edits.specs.RareConditions.{RareConditions};
+ghost use Rattle.typst_edits.specs.Rising.{RisingLaw};
+ghost use Rattle.typst_edits.specs.Replaced.{ExchangedLaw, FrontLaw, PutLaw, ReplacedLaw};
+ghost use Rattle.typst_edits.specs.Resumed.{CountLaw, InnerCountLaw, InnerResumeLaw, ResumeLaw};
+ghost use Rattle.typst_edits.specs.RootPieces.{RootPiecesLaw};
 ghost use Rattle.typst_edits.specs.RunBytes.{RunDecisionLaw};
 ghost use Rattle.typst_edits.specs.RunTrees.{RunTreeLaw};
 ghost use Rattle.typst_edits.specs.Runs.{RunLaw, StartLaw};
+ghost use Rattle.typst_edits.specs.Standing.{StandingLaw, UnnotedLaw};
+ghost use Rattle.typst_edits.specs.Splice.{SpliceLaw};
 ghost use Rattle.typst_edits.specs.Walk.{WalkLaw};
 
 /// An edit inside a block of a text: where all that was looked at before the block ends at the
@@ -38,6 +57,14 @@ pub fn complete_law()
     ensures { CompleteLaw }
 {}
 
+/// Each inner node of a block's kind in the tree of a text is that of a block of its reading, at the path of the
+/// block's spot; or it was read in place of a reading that was given up, and then it is no unit: where such a block
+/// begins no block is noted, but at the text's end.
+pub fn standing_law()
+    ensures blocks { StandingLaw }
+    ensures unnoted { UnnotedLaw }
+{}
+
 /// An edit inside some pieces of a text's run: where all that was looked at before these pieces
 /// ends at the replaced stretch or before it, all that was looked at behind them begins at the
 /// stretch's end or behind it, and as many pieces as are read of the new text from where they began
@@ -53,11 +80,11 @@ pub fn run_law()
     ensures tree { RunTreeLaw }
 {}
 
-/// The same where the new pieces end before other trivia, or behind other errors: where trivia
-/// stand there in both texts or in none, with the same newlines, all behind the pieces is what it
-/// was, with the new trivia before it. The number of empty errors matters only where the next
-/// expression wasn't expected and takes them back. The same holds in a content block, up to its
-/// closing bracket, and then the edit passes the test of the block.
+/// The same where the new pieces end before other trivia, or behind other errors: all behind the
+/// pieces is what it was, with the new trivia before it. The number of empty errors matters only
+/// where the next expression wasn't expected and takes them back; and where the expressions end
+/// behind the pieces in both texts, what is carried there doesn't matter. The same holds in a content
+/// block, up to its closing bracket, and then the edit passes the test of the block.
 pub fn joint_law()
     ensures pieces { JointLaw }
     ensures inner { InnerJointLaw }
@@ -67,12 +94,33 @@ pub fn joint_law()
 /// errors as the old ones, and there are pieces or nothing is taken back behind them, one stretch of the tree's
 /// children is exchanged: for the nodes of the new pieces and the trivia behind them. So in a content block: there
 /// they are children of the markup that is its second child. Pieces take back no more errors than the state where
-/// they begin counts, and what is behind them no more than the state where they end counts.
+/// they begin counts, and what is behind them no more than the state where they end counts. Behind at least one piece
+/// the exchange is the same without the trivia before the first of the new pieces, which belong to the piece before.
 pub fn children_law()
     ensures pieces { ChildrenLaw }
     ensures inner { InnerChildrenLaw }
     ensures back { BackLaw }
     ensures inner_back { InnerBackLaw }
+    ensures behind_trivia { LeadingTriviaLaw }
+    ensures inner_behind_trivia { InnerLeadingTriviaLaw }
+{}
+
+/// An expression of a run that wasn't expected gives one error first, and only such a one takes back the empty errors
+/// before it: so pieces whose first node behind the trivia before them is no error take nothing back, and neither
+/// does what is behind pieces where the first node behind their trivia is none. Where an edit passes the test of the
+/// joint, the expression where its pieces begin is the same in both texts, so the new pieces take nothing back either,
+/// and neither does what is behind them.
+/// And where no error follows pieces, nothing has to agree there but what is carried where an expression follows, and
+/// the open brackets at a content block's end.
+pub fn head_law()
+    ensures pieces { HeadLaw }
+    ensures inner { InnerHeadLaw }
+    ensures edit { NoneBackLaw }
+    ensures inner_edit { InnerNoneBackLaw }
+    ensures behind { NoneBehindLaw }
+    ensures inner_behind { InnerNoneBehindLaw }
+    ensures meets { MeetsLaw }
+    ensures inner_meets { InnerMeetsLaw }
 {}
 
 /// Each block of a text has two notes in its log, where it begins and where it ends. The
@@ -95,6 +143,43 @@ pub fn notes_law()
     ensures inner { InnerNotesLaw }
 {}
 
+/// Of the notes of a text's log that say that all levels are left there is one more than its run has pieces, and the
+/// one of each number stands where so many pieces end; and so of those between the two notes of a content block that
+/// say as many levels as are left in it. So each note where pieces of a run end has that number.
+/// Behind more pieces the next token begins at a later byte.
+pub fn numbered_notes_law()
+    ensures run { NumberedRunLaw }
+    ensures number { NumberLaw }
+    ensures inner { NumberedInnerLaw }
+    ensures inner_number { InnerNumberLaw }
+    ensures cuts { CutsLaw }
+    ensures inner_cuts { InnerCutsLaw }
+{}
+
+/// No note of a text's log goes back behind the one before it, the token of each begins where it stands or behind, and
+/// all lie within the text.
+pub fn rising_law()
+    ensures { RisingLaw }
+{}
+
+/// Where pieces of a text's run begin, of the children at the top of its tree one begins at the byte of their first
+/// token and isn't empty. It stands behind the nodes of the pieces before them and the trivia behind these; and so
+/// does the one where they end, or no child stands behind them at the run's end. The same holds in a content block,
+/// of the children of its markup.
+pub fn leading_law()
+    ensures run { LeadingLaw }
+    ensures inner { LeadingInnerLaw }
+{}
+
+/// Where what is asked of two texts is the same and lies before a stretch up to a note, and is the same and lies behind
+/// the stretch from another note on, the units of the second text are those of the first with the ones between these
+/// notes exchanged for its own: no other entry changes, nor how far back is looked behind the last note. So it is where
+/// an edit inside a block passes the test: the entries between the block's two notes, with the second, are exchanged.
+pub fn splice_law()
+    ensures units { SpliceLaw }
+    ensures block { BlockSpliceLaw }
+{}
+
 /// From the top of a text's tree the steps to the child that begins before a stretch and ends behind
 /// it lead to each block that covers the stretch strictly: as many steps as its path is long go
 /// along its path, and the last of them leads to its node, which begins and ends where the block does.
@@ -102,14 +187,58 @@ pub fn path_law()
     ensures { WalkLaw }
 {}
 
+/// A text without an expression has one note, and the token at its end, asked again in that text, says whether
+/// what is looked at behind the trivia begins at a stretch's end or behind it. A content block without an
+/// expression has one note between its two, and the token behind its trivia says so with what is looked at behind
+/// the block.
+pub fn empty_run_law()
+    ensures text { EmptyTextLaw }
+    ensures block { EmptyBlockLaw }
+{}
+
+/// A tree has the candidates that any other tree has which is the same, spans aside: so a numbered tree has those
+/// of its text's tree. The path of each leads to an inner node, whose children from one place up to the other are
+/// the bytes that the candidate says; new nodes in their place are, spans aside, those exchanged in the text's tree.
+pub fn candidates_law()
+    ensures spans { BareCandidatesLaw }
+    ensures places { CandidatePlacesLaw }
+    ensures tree { CandidateTreeLaw }
+{}
+
+/// New children that begin with those that stand there, spans aside, are put in their places, and are given
+/// their numbers, as without them. New children in a numbered tree are, spans aside, those exchanged in each tree
+/// that it is, spans aside: so a tree that is the text's tree but for its numbers stays so.
+pub fn replaced_law()
+    ensures front { FrontLaw }
+    ensures spans { ReplacedLaw }
+    ensures put { PutLaw }
+    ensures bare { ExchangedLaw }
+{}
+
+/// A candidate that leads to a block's node, where the edit passes the test of the block, is worth its new node: the
+/// new text's tree is the old one with this node in its place, and its units are the old ones with the block's exchanged.
+pub fn block_worth_law()
+    ensures { BlockWorthLaw }
+{}
+
 /// Where the blocks of short texts stand, and what is looked at around them.
 pub fn blocks_of_texts()
     ensures { (beyond : CharClasses) → Blocks beyond }
 {}
 
+/// Which blocks of short texts are units, and which stand where a reading was given up.
+pub fn origins_of_texts()
+    ensures { (beyond : CharClasses) → Origins beyond }
+{}
+
 /// Edits inside pieces of short texts, and what of the test fails where the trees differ.
 pub fn runs_of_texts()
     ensures { (beyond : CharClasses) → Runs beyond }
+{}
+
+/// Edits that leave other trivia behind the pieces that are read again, or end a run otherwise, and pass the test.
+pub fn joints_of_texts()
+    ensures { (beyond : CharClasses) → Joints beyond }
 {}
 
 /// Edits at which one condition of a law alone fails, and what differs then.
@@ -121,4 +250,35 @@ pub fn conditions_of_texts()
 /// and where a block stands in a node that is given another kind.
 pub fn rare_conditions_of_texts()
     ensures { (beyond : CharClasses) → RareConditions beyond }
+{}
+
+/// A block that begins at no trivia is read from its first byte, its name, the levels that are left and the mode of
+/// its first token alone: its nodes, its length and its looks are the same from each state with that mode.
+pub fn mode_law()
+    ensures { ModeLaw }
+{}
+
+/// Pieces of a run that are read again from where the token of the first of them begins, with the line start and
+/// the brackets that are carried there and nothing else, are the pieces that stood there, behind the trivia before
+/// them, where an expression that takes back errors has none before it. How many they are follows from where they
+/// end. So in a content block.
+pub fn resume_law()
+    ensures pieces { ResumeLaw }
+    ensures inner { InnerResumeLaw }
+    ensures count { CountLaw }
+    ensures inner_count { InnerCountLaw }
+{}
+
+/// An edit of a short text: its candidates, the first that passes, and the answer; and edits at which one
+/// condition of the test alone refuses a candidate.
+pub fn answers_of_texts()
+    ensures answer { (beyond : CharClasses) → Answered beyond }
+    ensures conditions { (beyond : CharClasses) → Decided beyond }
+{}
+
+/// Where pieces at the top of a text's tree pass the test and begin and end where a candidate does that begins
+/// well, the tree of the new text is the old one with the nodes of the new pieces in the candidate's place. It
+/// begins well where the child at each of its ends, if pieces stand beyond it, isn't empty and is no error.
+pub fn root_pieces_law()
+    ensures { RootPiecesLaw }
 {}

@@ -4,8 +4,11 @@
 mod laws;
 
 pub use laws::{
-    block_law, blocks_of_texts, children_law, complete_law, conditions_of_texts, decision_law,
-    joint_law, notes_law, path_law, rare_conditions_of_texts, run_law, runs_of_texts,
+    answers_of_texts, block_law, block_worth_law, blocks_of_texts, candidates_law, children_law,
+    complete_law, conditions_of_texts, decision_law, empty_run_law, head_law, joint_law,
+    joints_of_texts, leading_law, mode_law, notes_law, numbered_notes_law, origins_of_texts,
+    path_law, rare_conditions_of_texts, replaced_law, resume_law, rising_law, root_pieces_law,
+    run_law, runs_of_texts, splice_law, standing_law,
 };
 pub use typst_grammar::{
     FullGrammar, Levels, Log, Noted, Parser, Stop, markup_turn, parse, parse_code, parse_math,

@@ -1,5 +1,6 @@
 use Rattle.typst_edits.proofs.Children.{back-law, children-law}
 use Rattle.typst_edits.proofs.InnerChildren.{inner-back-law, inner-children-law}
+use Rattle.typst_edits.proofs.LeadingTrivia.{leading-trivia-law, inner-leading-trivia-law}
 use Rattle.typst_edits.proofs.laws.children_law.Goals as goal
 
 pub returns-clause-pieces : goal.returns-clause-pieces
@@ -13,3 +14,9 @@ returns-clause-back c = back-law
 
 pub returns-clause-inner_back : goal.returns-clause-inner_back
 returns-clause-inner_back c = inner-back-law
+
+pub returns-clause-behind_trivia : goal.returns-clause-behind_trivia
+returns-clause-behind_trivia c = leading-trivia-law
+
+pub returns-clause-inner_behind_trivia : goal.returns-clause-inner_behind_trivia
+returns-clause-inner_behind_trivia c = inner-leading-trivia-law

@@ -1,0 +1,307 @@
+-- Content blocks without an expression: one note between their two, and looks at nothing but the token behind their trivia.
+use Rattle.std.proofs.Common.{◌≡◌, ℕ, suc, ◌+◌, ◌-◌, Bool, true, false, if◌then◌else◌, List, [], ◌∷◌, ◌++◌, length, append_assoc, length-append, Some, refl, ap, sym, ◌∙◌, subst, arith}
+use Rattle.typst_kinds.specs.declared.kind.SyntaxKind.TheVariants as kind
+use Rattle.typst_kinds.specs.Kinds.{same, is_error}
+use Rattle.typst_lines.specs.Place.{Place, moved}
+use Rattle.typst_lines.specs.Classes.{CharClasses}
+use Rattle.typst_tokens.specs.Sight.{position, hull_of}
+use Rattle.typst_tree.specs.Tree.{text_of}
+use Rattle.typst_language.specs.declared.calls.Block.TheVariants as block
+use Rattle.typst_language.specs.declared.calls.Mark.{Mark}
+use Rattle.typst_language.specs.declared.calls.Mark.TheVariants as mark
+use Rattle.typst_language.specs.declared.calls.Note.{Note}
+use Rattle.typst_language.specs.declared.reading.State.{State}
+use Rattle.typst_language.specs.Ask.{Ask, shift}
+use Rattle.typst_language.specs.Ask.Ask.{looked, marked}
+use Rattle.typst_language.specs.Hand.{told}
+use Rattle.typst_language.specs.Log.{Log, no_log, with_hull, with_note, logged}
+use Rattle.typst_language.specs.Point.{Trivia, Point, point_of, state_of}
+use Rattle.typst_language.specs.Shape.{after_node}
+use Rattle.typst_language.specs.Shape.Making.{itself}
+use Rattle.typst_language.specs.Steps.{flush_trivia, close_if}
+use Rattle.typst_language.specs.Syntax.Op.{takes}
+use Rattle.typst_language.specs.Meaning.{Outcome, Level, plain, joined, repeated, start_point, hand_of, hand_asks_of, asked, entered, renewed, taken_node, flushed_state, done, run}
+use Rattle.typst_grammar.specs.Markup.{ends, ends_block, markup_reading}
+use Rattle.typst_grammar.specs.Grammar.{rules, max_depth, start_of, whole, parsed, log}
+use Rattle.typst_edits.specs.BlockRuns.{inner, look_first, look_again, bracket, inner_lead, inner_run, inner_tail, inner_close, run_at}
+use Rattle.typst_edits.specs.EmptyRuns.{IsEmpty, EmptyBlockLaw}
+use Rattle.typst_edits.specs.Every.{Every}
+use Rattle.typst_edits.specs.Joint.{onwards, passed}
+use Rattle.typst_edits.specs.Laws.{block_at, blocks_of_text}
+use Rattle.typst_edits.specs.Named.{Named}
+use Rattle.typst_edits.specs.Sequence.{Sequence, turn_of}
+use Rattle.typst_edits.specs.Spot.{lowered, unit_at, ended}
+use Rattle.typst_edits.proofs.Blocks.{ends as block-ends}
+use Rattle.typst_edits.proofs.BlockRuns.{content-is}
+use Rattle.typst_edits.proofs.Bytes.{logged-append, noted-by, noted-more, asks-are}
+use Rattle.typst_edits.proofs.Edit.{among}
+use Rattle.typst_edits.proofs.EmptyRuns.{Knows, hand-gap, asked-knows, flushed-knows, passed-kind, Looks, begin-each, begin-one, token_look, looks-hand, looks-append, unmoved, run-stopped, onwards-looks, Never, none-flush}
+use Rattle.typst_edits.proofs.Every.{every-append}
+use Rattle.typst_edits.proofs.Inside.{Lawful}
+use Rattle.typst_edits.proofs.InnerBytes.{asks_before, content-asks}
+use Rattle.typst_edits.proofs.Law.{inside-level}
+use Rattle.typst_edits.proofs.Marks.{AllMarks, marks-append, marks-by, marks-shift, marks-lowered, none-hand, NoteOf, noted-each}
+use Rattle.typst_edits.proofs.Names.{named-level}
+use Rattle.typst_edits.proofs.Widths.{width-moved}
+
+-- ---- looks
+
+flush-taken : (l : Level) (z : Place) (n : ℕ) (s : Point) → Knows n s → (run l flush_trivia z s).taken ≡ n
+unfolding run flush_trivia
+flush-taken l z n s h = omega (arith, hand-gap l z n s h)
+
+flush-knows : (l : Level) (z : Place) (n : ℕ) (s : Point) → Knows n s → Knows 0 (run l flush_trivia z s).state
+unfolding run flush_trivia
+flush-knows l z n s h =
+    let hand = hand_of l z s in
+    asked-knows l (moved hand.gap z) 0 (flushed_state hand s) (flushed-knows l z n s h)
+
+close-looks : (l : Level) (z : Place) (s : Point) → Knows 0 s → Every (λ a. a ≡ looked 0 (token_look l z)) (run l (close_if (same kind.RightBracket)) z s).asks
+unfolding run close_if
+close-looks l z s h =
+    let P = λ (a : Ask). a ≡ looked 0 (token_look l z) in
+    let a = asked (hand_of l z s) s in
+    let took = done l (takes false itself) z a in
+    let taken = joined took (plain true took.state) in
+    let b = same kind.RightBracket (told (hand_of l z s)).kind in
+    let in_took = every-append P (hand_asks_of l z a) [] (looks-hand l z a (asked-knows l z 0 s h)).each tt in
+    every-append P (hand_asks_of l z s) (shift 0 (if b then taken else plain false a).asks) (looks-hand l z s h).each
+    (unmoved (token_look l z) 0 (if b then taken else plain false a).asks refl (either P b taken (plain false a) in_took tt))
+  where
+    either : (P : Ask → Type 0) (b : Bool) (o p : Outcome Bool) → Every P o.asks → Every P p.asks → Every P (if b then o else p).asks
+    either P true o p h i = h
+    either P false o p h i = i
+
+-- what is taken behind the trivia of a run without an expression
+onwards-taken : (r : Sequence) (x : Bool × ℕ) (z : Place) (s : Point) → Knows 0 s → ends r.stops x.1 (told (hand_of r.level z s)).kind ≡ true → (onwards r x z s).taken ≡ 0
+unfolding run
+onwards-taken r x z s h e =
+    let l = r.level in
+    subst (λ (o : Outcome (Bool × ℕ)). (joined o (run l flush_trivia (moved o.taken z) o.state)).taken ≡ 0) (sym (run-stopped l r.stops x z s e))
+    (omega (arith, flush-taken l z 0 (asked (hand_of l z s) s) (asked-knows l z 0 s h)))
+
+module _ (k : CharClasses) (levels : ℕ) (z : Place) (s : Point) where
+  abbrev the_run : Sequence
+  the_run = inner_run k levels z s
+
+  abbrev l : Level
+  l = inner k levels
+
+  renewed-held : (b : Bool) (text : List ℕ) (p : Point) → (renewed (after_node b text p)).held ≡ p.reading
+  renewed-held true text p = refl
+  renewed-held false text p = refl
+
+  -- the block's run begins in markup
+  run-knows : (t : Trivia) → the_run.point.known ≡ Some t → Knows t.gap the_run.point
+  unfolding run
+  run-knows t known =
+      let p = entered markup_reading (look_again k levels z s).state in
+      let node = taken_node k itself (hand_of l z p) z in
+      record { held = renewed-held (is_error node.head.kind) (text_of node) p; trivia = t; known = known; gap = refl }
+
+  -- the closing bracket, by what the run gives
+  abbrev closing : Outcome (Bool × ℕ) → Outcome Bool
+  closing q =
+      let t = inner_tail k levels (((0 + 0) + q.taken)) q.state the_run.place in
+      inner_close k levels (((0 + 0) + q.taken) + t.taken) t.state the_run.place
+
+  closing-looks : (t : Trivia) → the_run.point.known ≡ Some t → IsEmpty the_run → Every (λ a. a ≡ looked 0 (token_look l (moved t.gap the_run.place))) (closing (repeated (turn_of the_run) (true, 0) the_run.place the_run.point)).asks
+  closing-looks t known e =
+      let y = the_run.place in
+      let p = the_run.point in
+      let a = asked (hand_of l y p) p in
+      let h = asked-knows l y t.gap p (run-knows t known) in
+      let tail = run l flush_trivia y a in
+      let taken = flush-taken l y t.gap a h in
+      let there : ((0 + 0) + 0) + tail.taken ≡ t.gap = omega (arith, taken) in
+      let f = flush-knows l y t.gap a h in
+      let u = after_node false [] tail.state in
+      let known_there : Knows 0 u = record { held = f.held; trivia = f.trivia; known = f.known; gap = f.gap } in
+      subst (λ (q : Outcome (Bool × ℕ)). Every (λ a. a ≡ looked 0 (token_look l (moved t.gap y))) (closing q).asks) (sym (run-stopped l ends_block (true, 0) y p e))
+      (subst (λ n. Every (λ a. a ≡ looked 0 (token_look l (moved t.gap y))) (run l (close_if (same kind.RightBracket)) (moved n y) u).asks) (sym there) (close-looks l (moved t.gap y) u known_there))
+
+  -- all that is asked behind the trivia in the block
+  past-looks : (t : Trivia) → the_run.point.known ≡ Some t → IsEmpty the_run
+      → (let o = onwards the_run (true, 0) (moved t.gap the_run.place) (passed t the_run.point) in
+      Looks (token_look l (moved t.gap the_run.place)) (o.asks ++ shift o.taken (closing (repeated (turn_of the_run) (true, 0) the_run.place the_run.point)).asks))
+  past-looks t known e =
+      let y = moved t.gap the_run.place in
+      let p = passed t the_run.point in
+      let h : Knows 0 p = record { held = (run-knows t known).held; trivia = _; known = refl; gap = refl } in
+      let stops : ends ends_block 0 (told (hand_of l y p)).kind ≡ true = ap (ends ends_block 0) (passed-kind l the_run.place t the_run.point known) ∙ e in
+      let o = onwards the_run (true, 0) y p in
+      looks-append (token_look l y) o.asks _ (onwards-looks the_run (true, 0) y p h stops)
+      (unmoved (token_look l y) o.taken _ (onwards-taken the_run (true, 0) y p h stops) (closing-looks t known e))
+
+-- ---- one note
+
+-- how many marks there are
+abbrev marks_in : List Ask → ℕ
+marks_in [] = 0
+marks_in (looked at look ∷ asks) = marks_in asks
+marks_in (marked at gap fewer m s ∷ asks) = suc (marks_in asks)
+
+count-append : (xs ys : List Ask) → marks_in (xs ++ ys) ≡ marks_in xs + marks_in ys
+count-append [] ys = omega arith
+count-append (looked at look ∷ xs) ys = count-append xs ys
+count-append (marked at gap fewer m s ∷ xs) ys = omega (arith, count-append xs ys)
+
+count-shift : (n : ℕ) (xs : List Ask) → marks_in (shift n xs) ≡ marks_in xs
+count-shift n [] = refl
+count-shift n (looked at look ∷ xs) = count-shift n xs
+count-shift n (marked at gap fewer m s ∷ xs) = ap suc (count-shift n xs)
+
+count-lowered : (n : ℕ) (xs : List Ask) → marks_in (lowered n xs) ≡ marks_in xs
+count-lowered n [] = refl
+count-lowered n (looked at look ∷ xs) = count-lowered n xs
+count-lowered n (marked at gap fewer m s ∷ xs) = ap suc (count-lowered n xs)
+
+count-none : (xs : List Ask) → AllMarks Never xs → marks_in xs ≡ 0
+count-none [] h = refl
+count-none (looked at look ∷ xs) h = count-none xs h
+count-none (marked at gap fewer m s ∷ xs) h = absurd h.0
+
+-- as many notes come to be as there are marks
+noted-count : (lv : ℕ) (z : Place) (asks : List Ask) (h : Log) (ns ms : List Note) → h.notes ≡ Some ns → (logged lv z h asks).notes ≡ Some ms → length ms ≡ length ns + marks_in asks
+noted-count lv z [] h ns ms e f = let same : ns ≡ ms = cc in omega (arith, ap length same)
+noted-count lv z (looked at look ∷ asks) h ns ms e f = noted-count lv z asks (with_hull (hull_of look (moved at z)) h) ns ms e f
+noted-count lv z (marked at gap fewer m s ∷ asks) h ns ms e f =
+    let note : Note = record { mark = m; before = position (moved at z); start = position (moved gap (moved at z)); levels = lv - fewer; state = s; reach = h.reach; least = h.least } in
+    omega (arith, noted-count lv z asks (with_note gap (lv - fewer) m s (moved at z) h) (ns ++ note ∷ []) ms (noted-more note h.notes ns e) f, length-append ns (note ∷ []))
+
+record One (ns : List Note) : Type 0 where
+  only : Note
+  is : ns ≡ only ∷ []
+
+one-of : (ns : List Note) → length ns ≡ 1 → One ns
+one-of [] e = absurd (omega (arith, e))
+one-of (n ∷ []) e = record { only = n; is = refl }
+one-of (n ∷ m ∷ ns) e = absurd (omega (arith, e))
+
+none-close : (P : ℕ → ℕ → Mark → State → Type 0) (l : Level) (w : Place) (p : Point) → AllMarks P (run l (close_if (same kind.RightBracket)) w p).asks
+unfolding run close_if
+none-close P l w p =
+    let a = asked (hand_of l w p) p in
+    let y = moved 0 w in
+    let Q = λ (at fewer : ℕ) (m : Mark) (u : State). P (0 + at) fewer m u in
+    let took = done l (takes false itself) y a in
+    let taken = joined took (plain true took.state) in
+    let b = same kind.RightBracket (told (hand_of l w p)).kind in
+    let in_took = marks-append Q (hand_asks_of l y a) [] (none-hand Q l.classes a.held a.known y) tt in
+    marks-append P (hand_asks_of l w p) _ (none-hand P l.classes p.held p.known w) (marks-shift P 0 (if b then taken else plain false a).asks (either Q b taken (plain false a) in_took tt))
+  where
+    either : (P : ℕ → ℕ → Mark → State → Type 0) (b : Bool) (o p : Outcome Bool) → AllMarks P o.asks → AllMarks P p.asks → AllMarks P (if b then o else p).asks
+    either P true o p h i = h
+    either P false o p h i = i
+
+-- it says that a run begins, where so many levels fewer are left
+abbrev Begins : ℕ → ℕ → ℕ → Mark → State → Type 0
+Begins f at fewer m p = (fewer ≡ f) × (m ≡ mark.Piece true 0)
+
+-- there is one mark, and it says so
+record Single (f : ℕ) (asks : List Ask) : Type 0 where
+  each : AllMarks (Begins f) asks
+  size : marks_in asks ≡ 1
+
+single-in : (xs ys : List Ask) (n : ℕ) (s : State) → AllMarks Never xs → AllMarks Never ys → Single 0 (xs ++ shift n (marked 0 0 0 (mark.Piece true 0) s ∷ ys))
+single-in xs ys n s a b =
+    let P = Begins 0 in
+    let first : Ask = marked 0 0 0 (mark.Piece true 0) s in
+    record {
+      each = marks-append P xs (shift n (first ∷ ys)) (marks-by Never P (λ at fewer m p h. absurd h) xs a)
+          (marks-shift P n (first ∷ ys) ((refl, refl), marks-by Never P (λ at fewer m p h. absurd h) ys b));
+      size = omega (arith, count-append xs (shift n (first ∷ ys)), count-shift n (first ∷ ys), count-none xs a, count-none ys b);
+    }
+
+single-lowered : (f n : ℕ) (asks : List Ask) → Single 0 asks → Single f (shift n (lowered f asks))
+single-lowered f n asks h =
+    let P = Begins f in
+    let lower : (at fewer : ℕ) (m : Mark) (p : State) → Begins 0 at fewer m p → Begins f at (f + fewer) m p = λ at fewer m p i. (omega (arith, i.0), i.1) in
+    record {
+      each = marks-shift P n (lowered f asks) (marks-lowered P f asks (marks-by (Begins 0) (λ at fewer m p. P at (f + fewer) m p) lower asks h.each));
+      size = count-shift n (lowered f asks) ∙ (count-lowered f asks ∙ h.size);
+    }
+
+module _ (k : CharClasses) (levels : ℕ) (z : Place) (s : Point) where
+  block-single : IsEmpty (inner_run k levels z s) → Single 0 (block_at k (suc levels) block.Content z s).asks
+  unfolding run
+  block-single e =
+      let r = inner_run k levels z s in
+      let l = inner k levels in
+      let o = repeated (turn_of r) (true, 0) r.place r.point in
+      let t = inner_tail k levels o.taken o.state r.place in
+      let close = inner_close k levels (o.taken + t.taken) t.state r.place in
+      let is = ap (λ (u : Outcome (Unit {0})). u.asks) (content-is k levels z s) ∙ content-asks k levels z s o t close in
+      let b = bracket k levels z s in
+      let s1 = (look_first k levels z s).state in
+      let s2 = (look_again k levels z s).state in
+      let before = marks-append Never (look_first k levels z s).asks _ (none-hand Never k s.held s.known z)
+      (marks-append Never (look_again k levels z s).asks b.asks (none-hand Never k s1.held s1.known z) (none-hand Never k s2.held s2.known z)) in
+      let ls = (inner_lead k levels z s).asks in
+      let stop : o.asks ≡ hand_asks_of l r.place r.point ++ [] = ap (λ (u : Outcome (Bool × ℕ)). u.asks) (run-stopped l ends_block (true, 0) r.place r.point e) in
+      let in_run : AllMarks Never o.asks = subst (λ u. AllMarks Never u) (sym stop) (marks-append Never (hand_asks_of l r.place r.point) [] (none-hand Never k r.point.held r.point.known r.place) tt) in
+      let last = marks-shift Never o.taken (t.asks ++ shift t.taken close.asks) (marks-append Never t.asks (shift t.taken close.asks) (none-flush Never l (moved o.taken r.place) o.state)
+      (marks-shift Never t.taken close.asks (none-close Never l (moved (o.taken + t.taken) r.place) (after_node false [] t.state)))) in
+      let behind = shift o.taken (t.asks ++ shift t.taken close.asks) in
+      let inside = marks-append Never (ls ++ o.asks) behind (marks-append Never ls o.asks (none-hand Never k b.state.held b.state.known r.place) in_run) last in
+      subst (λ u. Single 0 u) (sym is) (single-in (asks_before k levels z s) ((ls ++ o.asks) ++ behind) b.taken (state_of b.state) before inside)
+
+pub empty-block-law : EmptyBlockLaw
+unfolding blocks_of_text log position
+empty-block-law k levels front old rest c past t chosen name left empty known =
+    let text = front ++ (old ++ rest) in
+    let z = start_of text in
+    let o = parsed k max_depth text in
+    let l = among (Lawful z z o o) c _ chosen (inside-level (rules k) k (block-ends k) max_depth whole z z (start_point markup_reading)) in
+    let named = among (Named (block_at k) max_depth) c _ chosen (named-level (rules k) k max_depth whole z (start_point markup_reading)) in
+    let s = point_of c.start in
+    let y = moved c.at z in
+    let u = unit_at c z in
+    let reads : u ≡ ended (block_at k (suc levels) block.Content y s) =
+    ap (λ m. m y s) named.reads ∙ ap (λ v. ended (block_at k v c.name y s)) left ∙ ap (λ x. ended (block_at k (suc levels) x y s)) name in
+    let f = c.fewer in
+    let in_unit = subst (λ (v : Outcome (Unit {0})). Single 0 v.asks) (sym reads) (block-single k levels y s empty) in
+    let own = shift c.at (lowered f u.asks) in
+    let single = single-lowered f c.at u.asks in_unit in
+    -- its notes
+    let end = c.at + u.taken in
+    let late = shift end named.later in
+    let opens_mark = marked c.at 0 f (mark.Opens c.name) c.start in
+    let closes_state = state_of c.reached in
+    let closes_mark = marked (end + 0) 0 f mark.Closes closes_state in
+    let asks = asks-are o.asks c.before named.earlier own (shift end c.after) late opens_mark closes_mark (ap (λ (v : Outcome (Unit {0})). v.asks) l.old) named.opened (ap (shift end) named.closed) in
+    let log_one = logged max_depth z no_log named.earlier in
+    let h1 = with_note 0 (max_depth - f) (mark.Opens c.name) c.start (moved c.at z) log_one in
+    let log_two = logged max_depth z h1 own in
+    let h2 = with_note 0 (max_depth - f) mark.Closes closes_state (moved (end + 0) z) log_two in
+    let is : logged max_depth z no_log o.asks ≡ logged max_depth z h2 late =
+    ap (logged max_depth z no_log) asks ∙ logged-append max_depth z no_log named.earlier _ ∙ logged-append max_depth z h1 own _ in
+    let note_one : Note = record { mark = mark.Opens c.name; before = position (moved c.at z); start = position (moved 0 (moved c.at z)); levels = max_depth - f; state = c.start; reach = log_one.reach; least = log_one.least } in
+    let note_two : Note = record { mark = mark.Closes; before = position (moved (end + 0) z); start = position (moved 0 (moved (end + 0) z)); levels = max_depth - f; state = closes_state; reach = log_two.reach; least = log_two.least } in
+    let one = noted-by max_depth z named.earlier no_log [] refl in
+    let begun = one.more ++ note_one ∷ [] in
+    let begun_is = noted-more note_one log_one.notes one.more one.is in
+    let two = noted-each (Begins f) max_depth z own h1 begun begun_is single.each in
+    let size : length two.more ≡ 1 = omega (arith, noted-count max_depth z own h1 begun (begun ++ two.more) begun_is two.is, length-append begun two.more, single.size) in
+    let only = one-of two.more size in
+    let of_it = (subst (λ ns. Every (NoteOf (Begins f) max_depth z) ns) only.is two.each).0 in
+    let fewer : of_it.fewer ≡ f = of_it.holds.0 in
+    let three = noted-by max_depth z late h2 ((begun ++ two.more) ++ note_two ∷ []) (noted-more note_two log_two.notes (begun ++ two.more) two.is) in
+    let looks = past-looks k levels y s t known empty in
+    let place = (run_at k levels c z).place in
+    record {
+      earlier = one.more;
+      opens = note_one;
+      note = only.only;
+      closes = note_two;
+      later = three.more;
+      notes = ap (λ (v : Log). v.notes) is ∙ three.is ∙ ap Some (append_assoc (begun ++ two.more) (note_two ∷ []) three.more ∙ append_assoc begun two.more (note_two ∷ three.more) ∙ append_assoc one.more (note_one ∷ []) (two.more ++ note_two ∷ three.more))
+          ∙ ap (λ ns. Some (one.more ++ note_one ∷ (ns ++ note_two ∷ three.more))) only.is;
+      name = refl;
+      start = width-moved c.at text;
+      says = of_it.mark ∙ of_it.holds.1;
+      levels_there = of_it.levels ∙ ap (λ n. max_depth - n) fewer ∙ left;
+      name_end = refl;
+      after = λ h behind. record { inside = begin-each past rest (token_look (inner k levels) (moved t.gap place)) _ looks.each h; behind = behind };
+      after_too = λ h. begin-one past rest (token_look (inner k levels) (moved t.gap place)) _ looks h.inside;
+    }

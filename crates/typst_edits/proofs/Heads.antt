@@ -1,0 +1,381 @@
+-- An expression that isn't expected gives one error behind the trivia, and only such a one takes back the empty errors before it.
+use Rattle.std.proofs.Common.{◌≡◌, ℕ, zero, suc, ◌+◌, ◌<◌, ◌==◌, ne_eqb, Bool, true, false, if◌then◌else◌, ◌&&◌, nat_lt, List, [], ◌∷◌, ◌++◌, length, drop, length-append, append_assoc, Some, None, refl, ap, sym, ◌∙◌, subst, arith}
+use borrow.Author.Tests.{lt-ltb}
+use Rattle.typst_kinds.specs.Kinds.{is_error}
+use Rattle.typst_kinds.specs.declared.kind.SyntaxKind.{SyntaxKind}
+use Rattle.typst_kinds.specs.declared.kind.SyntaxKind.TheVariants as kind
+use Rattle.typst_lines.specs.Place.{Place, moved}
+use Rattle.typst_lines.specs.Classes.{CharClasses}
+use Rattle.typst_tree.specs.Diagnostic.{hint_with}
+use Rattle.typst_tree.specs.Tree.{Tree, text_of, error_of, made_error, advised, all_advised}
+use Rattle.typst_language.specs.declared.calls.Block.{Block}
+use Rattle.typst_language.specs.declared.calls.Call.{Call}
+use Rattle.typst_language.specs.declared.calls.Call.TheVariants.{MarkupExpr}
+use Rattle.typst_language.specs.declared.reading.Reading.{Reading}
+use Rattle.typst_language.specs.Ask.{Ask}
+use Rattle.typst_language.specs.Depth.{anywhere, too_deep, deeper}
+use Rattle.typst_language.specs.Hand.{AtHand, told, len_at, hand_at}
+use Rattle.typst_language.specs.Knot.{meaning_of}
+use Rattle.typst_language.specs.Point.{Trivia, Point}
+use Rattle.typst_language.specs.Shape.{hinted}
+use Rattle.typst_language.specs.Shape.Making.{surprise}
+use Rattle.typst_language.specs.Steps.{peek, eat_making, unexpected, flush_trivia, note}
+use Rattle.typst_language.specs.Syntax.{Parser, ◌>>=◌, ◌>>◌}
+use Rattle.typst_language.specs.Syntax.Op.{takes}
+use Rattle.typst_language.specs.Syntax.Parser.{gives, does, next, pick, repeat, calls}
+use Rattle.typst_language.specs.Meaning.{Outcome, Meaning, Level, plain, less, standing, joined, repeated, hand_of, hand_asks_of, taken_node, run}
+use Rattle.typst_language.proofs.HintedNodes.{hinted-append}
+use Rattle.typst_language.proofs.Knot.{Sane, sane-run, sane-meaning, sane-block, sane-plain}
+use Rattle.typst_language.proofs.Places.{less-none}
+use Rattle.typst_language.proofs.Within.{on_both}
+use Rattle.typst_grammar.specs.head.MarkupHead.{MarkupHead}
+use Rattle.typst_grammar.specs.head.MarkupHead.TheVariants as head
+use Rattle.typst_grammar.specs.Markup.{ends, ends_block, note_piece, markup_turn, markup_head, markup_by, markup_expr}
+use Rattle.typst_grammar.specs.Grammar.{rules, level_at, max_depth}
+use Rattle.typst_language.specs.Sound.{Tidy, Backs}
+use Rattle.typst_edits.specs.Children.{together}
+use Rattle.typst_edits.specs.BlockRuns.{inner_run}
+use Rattle.typst_edits.specs.Heads.{begins_wrong, behind_known, first_place, Headed, HeadLaw, InnerHeadLaw, MeetsLaw, InnerMeetsLaw}
+use Rattle.typst_edits.specs.Joint.{minds, text_run}
+use Rattle.typst_edits.specs.Occurrences.{goes}
+use Rattle.typst_edits.specs.Runs.{made, AllGo, end_of}
+use Rattle.typst_edits.specs.Sequence.{Sequence, first_of, first_end, then_of, then_end, then_place}
+use Rattle.typst_edits.proofs.Boundary.{KnownAt, turn-goes, first-of}
+use Rattle.typst_edits.proofs.Children.{goes-on, known-behind, turn-led, tidy-together}
+use Rattle.typst_edits.proofs.Joint.{takes-call, known-is}
+use Rattle.typst_edits.proofs.Led.{none-less, none-of, drop-front, before_trivia, same-judged, led-joined, Takes}
+use Rattle.typst_edits.proofs.Meeting.{ends-alike}
+use Rattle.typst_edits.proofs.Outcomes.{hints-first}
+use Rattle.typst_edits.proofs.RunTrees.{standing-still}
+use Rattle.typst_edits.proofs.Turns.{turn_tail, turn_at, one-turn, stopped-back, some-token, led-behind}
+
+-- ---- nodes that begin with an error
+
+advised-error : (hints : List (List ℕ)) (t : Tree) → is_error t.head.kind ≡ true → is_error (all_advised hints t).head.kind ≡ true
+advised-error [] t e = e
+advised-error (hint ∷ hints) t e = advised-error hints (advised (hint_with None hint) t) e
+
+made-wrong-by : (message : List ℕ) (t : Tree) (b : Bool) → is_error t.head.kind ≡ b → is_error (if b then t else error_of message (text_of t)).head.kind ≡ true
+made-wrong-by message t true e = e
+made-wrong-by message t false e = refl
+
+made-wrong : (message : List ℕ) (t : Tree) → is_error (made_error message t).head.kind ≡ true
+made-wrong message t = made-wrong-by message t (is_error t.head.kind) refl
+
+-- hints leave it an error
+hinted-wrong : (hints : List (List ℕ)) (ts us : List Tree) → begins_wrong ts ≡ true → begins_wrong (hinted hints ts ++ us) ≡ true
+hinted-wrong [] [] us e = cc
+hinted-wrong (h ∷ hs) [] us e = cc
+hinted-wrong [] (t ∷ ts) us e = e
+hinted-wrong (h ∷ hs) (t ∷ []) us e = on_both (λ (u : Tree). is_error u.head.kind ≡ true) (is_error t.head.kind) (all_advised (h ∷ hs) t) t (advised-error (h ∷ hs) t e) e
+hinted-wrong (h ∷ hs) (t ∷ u ∷ ts) us e = e
+
+some-wrong : (ts : List Tree) → begins_wrong ts ≡ true → 0 < length ts
+some-wrong [] e = cc
+some-wrong (t ∷ ts) e = omega arith
+
+-- behind these trivia stands an error
+pub record WrongFirst (t : Trivia) (ts : List Tree) : Type 0 where
+  pub rest : List Tree
+  pub is : ts ≡ t.nodes ++ rest
+  pub wrong : begins_wrong rest ≡ true
+
+wrong-standing : {A : Type 0} (t : Trivia) (ts : List Tree) (q : Outcome A) → WrongFirst t ts → q.back ≡ 0 → WrongFirst t (standing q ts)
+wrong-standing t ts q w e = record {
+  rest = hinted q.hints w.rest ++ q.nodes;
+  is = ap (λ n. hinted q.hints (less n ts) ++ q.nodes) e ∙ ap (λ us. hinted q.hints us ++ q.nodes) (less-none ts ∙ w.is) ∙ ap (λ us. us ++ q.nodes) (hinted-append q.hints t.nodes w.rest (some-wrong w.rest w.wrong))
+      ∙ append_assoc t.nodes (hinted q.hints w.rest) q.nodes;
+  wrong = hinted-wrong q.hints w.rest q.nodes w.wrong;
+}
+
+pub wrong-behind : (t : Trivia) (ts : List Tree) → WrongFirst t ts → begins_wrong (drop (length t.nodes) ts) ≡ true
+wrong-behind t ts w = ap (λ us. begins_wrong (drop (length t.nodes) us)) w.is ∙ ap begins_wrong (drop-front t.nodes w.rest (length t.nodes) refl) ∙ w.wrong
+
+not-both : (b c : Bool) → (b ≡ true → c ≡ true) → c ≡ false → b ≡ false
+not-both true c f e = let h : true ≡ false = sym (f refl) ∙ e in cc
+not-both false c f e = refl
+
+-- ---- an outcome that gives the trivia and one error
+
+pub record Erring {A : Type 0} (t : Trivia) (o : Outcome A) : Type 0 where
+  pub error : Tree
+  pub is : is_error error.head.kind ≡ true
+  pub nodes : o.nodes ≡ t.nodes ++ error ∷ []
+  pub hints : o.hints ≡ []
+
+-- and one that gives nothing
+pub record Still {A : Type 0} (q : Outcome A) : Type 0 where
+  pub back : q.back ≡ 0
+  pub hints : q.hints ≡ []
+  pub nodes : q.nodes ≡ []
+
+erring-joined : {A B : Type 0} (t : Trivia) (o : Outcome B) (q : Outcome A) → Erring t o → Still q → Erring t (joined o q)
+erring-joined t o q h s =
+    let long : length o.nodes ≡ length (t.nodes ++ h.error ∷ []) = ap length h.nodes in
+    let sum = length-append t.nodes (h.error ∷ []) in
+    let none = s.back in
+    record {
+      error = h.error;
+      is = h.is;
+      nodes = standing-still q o.nodes s.hints s.back s.nodes ∙ h.nodes;
+      hints = hints-first o q (omega (arith, long, sum, none)) ∙ h.hints;
+    }
+
+erring-asked : {A B : Type 0} (t : Trivia) (v : B) (s : Point) (ls : List Ask) (m : Bool) (o : Outcome A) → Erring t o → Erring t (joined (record (plain v s) { asks = ls; met = m }) o)
+erring-asked t v s ls m o h = record {
+  error = h.error;
+  is = h.is;
+  nodes = ap (λ hs. hinted hs (less o.back []) ++ o.nodes) h.hints ∙ ap (λ ts. ts ++ o.nodes) (none-less o.back) ∙ h.nodes;
+  hints = none-of (nat_lt o.back 0) (nat_lt 0 o.back) [] o.hints refl h.hints;
+}
+
+pub erring-wrong : {A : Type 0} (t : Trivia) (o : Outcome A) → Erring t o → WrongFirst t o.nodes
+erring-wrong t o h = record { rest = h.error ∷ []; is = h.nodes; wrong = h.is }
+
+-- ---- words
+
+module _ (l : Level) (r h : Reading) (e : ℕ) (a : Bool) (z : Place) (t : Trivia) where
+  abbrev s : Point
+  s = before_trivia r h e a t
+
+  erring-pick : {A : Type 0} (b : Bool) (p q : Parser A) → b ≡ false → Erring t (run l q z s) → Erring t (run l (pick b p q) z s)
+  unfolding run
+  erring-pick true p q f k = cc
+  erring-pick false p q f k = k
+
+  erring-peek : {A : Type 0} (f : AtHand → Parser A) → Erring t (run l (f (told (hand_of l z s))) z s) → Erring t (run l (next peek f) z s)
+  unfolding run hand_at
+  erring-peek f k = erring-asked {B = AtHand} t (told (hand_of l z s)) s (hand_asks_of l z s) false _ k
+
+  erring-next : {A B : Type 0} (p : Parser B) (f : B → Parser A) → Erring t (run l p z s) → ((b : B) (w : Place) (q : Point) → Still (run l (f b) w q)) → Erring t (run l (next p f) z s)
+  unfolding run
+  erring-next p f k still = let o = run l p z s in erring-joined t o (run l (f o.value) (moved o.taken z) o.state) k (still o.value (moved o.taken z) o.state)
+
+  erring-taken : (hints : List (List ℕ)) → Erring t (run l (does (takes true (surprise hints))) z s)
+  unfolding run hand_at
+  erring-taken hints = record { error = taken_node l.classes (surprise hints) (hand_of l z s) z; is = advised-error hints _ (made-wrong _ _); nodes = refl; hints = refl }
+
+  still-peek : (w : Place) (q : Point) → Still (run l (peek >>= λ ahead. gives (tt {0})) w q)
+  unfolding run less
+  still-peek w q = record { back = refl; hints = refl; nodes = refl }
+
+  erring-surprise : (hints : List (List ℕ)) → Erring t (run l (unexpected hints) z s)
+  unfolding unexpected eat_making
+  erring-surprise hints = erring-next (does (takes true (surprise hints))) (λ b. peek >>= λ ahead. gives tt) (erring-taken hints) (λ b w q. still-peek w q)
+
+  still-gives : (n : ℕ) (w : Place) (q : Point) → Still (run l (gives n) w q)
+  unfolding run
+  still-gives n w q = record { back = refl; hints = refl; nodes = refl }
+
+  erring-by : (nesting : ℕ) (x : MarkupHead) → minds x ≡ true → Erring t (run l (markup_by nesting x) z s)
+  erring-by nesting head.Stray m = erring-next _ _ (erring-surprise _) (λ b. still-gives nesting)
+  erring-by nesting head.Unexpected m = erring-next _ _ (erring-surprise []) (λ b. still-gives nesting)
+  erring-by nesting _ m = cc
+
+  pub erring-expr : (at_start : Bool) (nesting : ℕ) → minds (markup_head at_start nesting (hand_at l.classes h (Some t) z).kind) ≡ true → Erring t (run l (markup_expr at_start nesting) z s)
+  unfolding markup_expr
+  erring-expr at_start nesting m = erring-peek (λ x. markup_by nesting (markup_head at_start nesting x.kind)) (erring-by nesting (markup_head at_start nesting (hand_at l.classes h (Some t) z).kind) m)
+
+  module _ (deep : (l.levels == 0) ≡ false) (stops : SyntaxKind → Bool) (x : Bool × ℕ) (call : Erring t (l.deeper (MarkupExpr x.0 x.1) z s)) where
+    erring-called : Erring t (run l (calls (MarkupExpr x.0 x.1)) z s)
+    unfolding run
+    erring-called = record { error = call.error; is = call.is; nodes = call.nodes; hints = call.hints }
+
+    erring-deeper : Erring t (run l (deeper (MarkupExpr x.0 x.1) x.1) z s)
+    unfolding run deeper
+    erring-deeper = erring-asked t (l.levels == 0) s [] (l.levels == 0) _ (erring-pick (l.levels == 0) (too_deep anywhere >> gives x.1) (calls (MarkupExpr x.0 x.1)) deep erring-called)
+
+    still-behind : (nesting : ℕ) (w : Place) (q : Point) → Still (run l (turn_tail nesting) w q)
+    unfolding run note_piece note less
+    still-behind nesting w q = record { back = refl; hints = refl; nodes = refl }
+
+    pub erring-turn : ends stops x.1 (hand_at l.classes h (Some t) z).kind ≡ false → Erring t (run l (markup_turn true stops x) z s)
+    unfolding markup_turn
+    erring-turn go = erring-peek (λ y. turn_at stops x y.kind) (erring-pick _ _ _ go (erring-next _ _ erring-deeper still-behind))
+
+-- what a piece reads one level deeper
+pub erring-call : (k : CharClasses) (levels : ℕ) (r h : Reading) (e : ℕ) (a : Bool) (z : Place) (t : Trivia) (x : Bool × ℕ) → minds (markup_head x.0 x.1 (hand_at k h (Some t) z).kind) ≡ true
+    → Erring t (meaning_of (rules k) k (suc levels) (MarkupExpr x.0 x.1) z (before_trivia r h e a t))
+unfolding meaning_of
+erring-call k levels r h e a z t x m = erring-expr (level_at k levels) r h e a z t x.0 x.1 m
+
+-- ---- any run
+
+module _ (l : Level) (sd : (c : Call) → Sane (l.deeper c)) (sb : (b : Block) → Sane (l.blocks b)) (deep : (l.levels == 0) ≡ false) (stops : SyntaxKind → Bool) (end_stops : stops kind.End ≡ true)
+    (call : (h : Reading) (z : Place) (t : Trivia) (x : Bool × ℕ) → 0 < len_at l.classes h.mode (moved t.gap z) → Takes h z t t (minds (markup_head x.0 x.1 (hand_at l.classes h (Some t) z).kind)) (l.deeper (MarkupExpr x.0 x.1)))
+    (wrong : (r h : Reading) (e : ℕ) (a : Bool) (z : Place) (t : Trivia) (x : Bool × ℕ) → minds (markup_head x.0 x.1 (hand_at l.classes h (Some t) z).kind) ≡ true → Erring t (l.deeper (MarkupExpr x.0 x.1) z (before_trivia r h e a t))) where
+  abbrev turn : Bool × ℕ → Meaning (Bool × (Bool × ℕ))
+  turn x = run l (markup_turn true stops x)
+
+  abbrev onward : Bool × ℕ → Meaning (Unit {0})
+  onward x = run l (repeat (markup_turn true stops) x >>= λ _. flush_trivia)
+
+  abbrev backs : {A : Type 0} (p : Parser A) → Backs (run l p)
+  backs p = (sane-run l sd sb p).backs
+
+  module _ (x : Bool × ℕ) (z : Place) (r h : Reading) (e : ℕ) (a : Bool) (t : Trivia) where
+    abbrev at : Point
+    at = before_trivia r h e a t
+
+    abbrev trims : Bool
+    trims = minds (markup_head x.0 x.1 (hand_at l.classes h (Some t) z).kind)
+
+    abbrev one : Outcome (Bool × (Bool × ℕ))
+    one = turn x z at
+
+    -- a turn that minds leaves no empty error
+    no-empties : ends stops x.1 (told (hand_of l z at)).kind ≡ false → Erring t one → one.state.empties ≡ 0
+    no-empties go err =
+        let led = turn-led l sd sb deep stops end_stops call x z r h e a t go in
+        let few = led.few in
+        let same = ap (λ (s : Point). s.empties) led.state in
+        let both : t.nodes ++ led.rest ≡ t.nodes ++ err.error ∷ [] = sym led.nodes ∙ err.nodes in
+        let rest : led.rest ≡ err.error ∷ [] = sym (drop-front t.nodes led.rest (length t.nodes) refl) ∙ ap (drop (length t.nodes)) both ∙ drop-front t.nodes (err.error ∷ []) (length t.nodes) refl in
+        let long : length led.rest ≡ length (err.error ∷ []) = ap length rest in
+        omega (arith, few, same, long)
+
+    -- some pieces that begin so
+    module _ (n : ℕ) (g : AllGo (made turn (suc n) x z at)) where
+      abbrev later : List (Outcome (Bool × (Bool × ℕ)))
+      later = made turn n one.value.1 (moved one.taken z) one.state
+
+      abbrev q : Outcome (Unit {0})
+      q = together (end_of one.value.1 one.state later).state later
+
+      tidy : Tidy one.state q
+      tidy = tidy-together turn (λ v. backs (markup_turn true stops v)) n one.value.1 (moved one.taken z) one.state
+
+      go : ends stops x.1 (told (hand_of l z at)).kind ≡ false
+      go = goes-on l sd sb deep stops end_stops call x z at (ends stops x.1 (told (hand_of l z at)).kind) refl (first-of one.value.0 (nat_lt 0 one.taken) g.0)
+
+      pieces-mild : trims ≡ false → (joined one q).back ≡ 0
+      pieces-mild mild =
+          let led = turn-led l sd sb deep stops end_stops call x z r h e a t go in
+          let all = led-joined t t.nodes trims one _ q led (subst (λ p. Tidy p q) led.state tidy) in
+          all.back ∙ all.none mild
+
+      pieces-wrong : trims ≡ true → WrongFirst t (joined one q).nodes
+      pieces-wrong mind =
+          let err = erring-turn l r h e a z t deep stops x (wrong r h e a z t x mind) go in
+          let none = no-empties go err in
+          let back = tidy.back in
+          wrong-standing t one.nodes q (erring-wrong t one err) (omega (arith, none, back))
+
+    -- all from here on
+    onward-mild : ends stops x.1 (told (hand_of l z at)).kind ≡ false → trims ≡ false → (onward x z at).back ≡ 0
+    unfolding hand_at
+    onward-mild go mild =
+        let some = some-token l sd sb deep stops end_stops h z t t (same-judged h t) x r e e a a go in
+        let led = led-behind l sd sb deep stops end_stops h z t t (same-judged h t) x r e e a a trims (call h z t x some) (λ p. refl) go in
+        led.back ∙ led.none mild
+
+    flush-back : (w : Place) (p : Point) → (run l flush_trivia w p).back ≡ 0
+    unfolding run flush_trivia
+    flush-back w p = omega arith
+
+    onward-wrong : ends stops x.1 (told (hand_of l z at)).kind ≡ false → trims ≡ true → WrongFirst t (onward x z at).nodes
+    unfolding run
+    onward-wrong go mind =
+        let err = erring-turn l r h e a z t deep stops x (wrong r h e a z t x mind) go in
+        let none = no-empties go err in
+        let led = turn-led l sd sb deep stops end_stops call x z r h e a t go in
+        let some = led.some in
+        let taken = led.taken in
+        let g : goes one ≡ true = ap (λ b. b && nat_lt 0 one.taken) (turn-goes l stops x z at go) ∙ lt-ltb 0 one.taken (omega (arith, some, taken)) in
+        let p = repeated turn one.value.1 (moved one.taken z) one.state in
+        let tidy_rest = backs (repeat (markup_turn true stops) one.value.1) (moved one.taken z) one.state in
+        let back = tidy_rest.back in
+        let w = wrong-standing t one.nodes p (erring-wrong t one err) (omega (arith, none, back)) in
+        let is : repeated turn x z at ≡ joined one p = one-turn turn (λ v. (sane-run l sd sb (markup_turn true stops v)).within) x z at g in
+        let rest = repeated turn x z at in
+        let first : WrongFirst t rest.nodes = subst (λ (o : Outcome (Bool × ℕ)). WrongFirst t o.nodes) (sym is) w in
+        wrong-standing t rest.nodes (run l flush_trivia (moved rest.taken z) rest.state) first (flush-back (moved rest.taken z) rest.state)
+
+  -- ---- what the first node says
+
+  abbrev minded : Bool × ℕ → Place → Point → Bool
+  minded x z p = minds (markup_head x.0 x.1 (hand_of l z p).kind)
+
+  abbrev over : Bool × ℕ → Place → Point → Bool
+  over x z p = ends stops x.1 (hand_of l z p).kind
+
+  abbrev Pieces : ℕ → Bool × ℕ → Place → Point → Type 0
+  Pieces n x z p = (let os = made turn n x z p in let o = together (end_of x p os).state os in
+      AllGo os → (0 < n → begins_wrong (behind_known p o.nodes) ≡ false → minded x z p ≡ false) × (minded x z p ≡ false → o.back ≡ 0))
+
+  abbrev Onward : Bool × ℕ → Place → Point → Type 0
+  Onward x z p =
+      (begins_wrong (behind_known p (onward x z p).nodes) ≡ false → over x z p ≡ false → minded x z p ≡ false)
+      × ((over x z p ≡ false → minded x z p ≡ false) → (onward x z p).back ≡ 0)
+
+  module _ (x : Bool × ℕ) (z : Place) (r h : Reading) (e : ℕ) (a : Bool) (t : Trivia) where
+    abbrev here : Point
+    here = before_trivia r h e a t
+
+    pieces-here : (n : ℕ) → Pieces n x z here
+    pieces-here zero g = ((λ some right. absurd (omega (arith, some))), (λ mild. refl))
+    pieces-here (suc n) g =
+        ((λ some right. not-both (minded x z here) _ (λ m. wrong-behind t _ (pieces-wrong x z r h e a t n g m)) right), (λ mild. pieces-mild x z r h e a t n g mild))
+
+    back-here : (b : Bool) → over x z here ≡ b → (over x z here ≡ false → minded x z here ≡ false) → (onward x z here).back ≡ 0
+    back-here true o mild = stopped-back l sd sb deep stops end_stops x z here o
+    back-here false o mild = onward-mild x z r h e a t o (mild o)
+
+    onward-here : Onward x z here
+    onward-here = ((λ right o. not-both (minded x z here) _ (λ m. wrong-behind t _ (onward-wrong x z r h e a t o m)) right), back-here (over x z here) refl)
+
+  pub pieces-facts : (n : ℕ) (x : Bool × ℕ) (z : Place) (p : Point) → KnownAt p → Pieces n x z p
+  pieces-facts n x z p known = subst (Pieces n x z) (sym (known-is l.classes p known.trivia known.is)) (pieces-here x z p.reading p.held p.empties p.is_after_error known.trivia n)
+
+  pub onward-facts : (x : Bool × ℕ) (z : Place) (p : Point) → KnownAt p → Onward x z p
+  onward-facts x z p known = subst (Onward x z) (sym (known-is l.classes p known.trivia known.is)) (onward-here x z p.reading p.held p.empties p.is_after_error known.trivia)
+
+-- ---- the laws
+
+module _ (r : Sequence) (sd : (c : Call) → Sane (r.level.deeper c)) (sb : (b : Block) → Sane (r.level.blocks b)) (deep : (r.level.levels == 0) ≡ false) (end_stops : r.stops kind.End ≡ true)
+    (call : (h : Reading) (z : Place) (t : Trivia) (x : Bool × ℕ) → 0 < len_at r.level.classes h.mode (moved t.gap z) → Takes h z t t (minds (markup_head x.0 x.1 (hand_at r.level.classes h (Some t) z).kind)) (r.level.deeper (MarkupExpr x.0 x.1)))
+    (wrong : (g h : Reading) (e : ℕ) (a : Bool) (z : Place) (t : Trivia) (x : Bool × ℕ) → minds (markup_head x.0 x.1 (hand_at r.level.classes h (Some t) z).kind) ≡ true → Erring t (r.level.deeper (MarkupExpr x.0 x.1) z (before_trivia g h e a t)))
+    (known : KnownAt r.point) where
+  pub headed : (i n : ℕ) → AllGo (first_of i r) → AllGo (then_of i n r) → Headed r i n
+  headed i n g h =
+      let l = r.level in
+      let e = first_end i r in
+      let f = then_end i n r in
+      let first_known = known-behind l sd sb deep r.stops end_stops call i (true, 0) r.place r.point known g in
+      let then_known = known-behind l sd sb deep r.stops end_stops call n e.value (first_place i r) e.state first_known h in
+      let p = pieces-facts l sd sb deep r.stops end_stops call wrong n e.value (first_place i r) e.state first_known h in
+      let o = onward-facts l sd sb deep r.stops end_stops call wrong f.value (then_place i n r) f.state then_known in
+      record { first = p.0; pieces_back = p.1; next = o.0; behind_back = o.1 }
+
+pub head-law : HeadLaw
+unfolding run
+head-law k z i n g h =
+    headed (text_run k z) (sane-meaning (rules k) k max_depth) (sane-block (rules k) k max_depth) refl refl (λ r y t x some. takes-call k 255 r y t t (same-judged r t) x some) (erring-call k 255) (record { trivia = _; is = refl }) i n g h
+
+pub inner-head-law : InnerHeadLaw
+unfolding run
+inner-head-law k levels z s i n g h =
+    headed (inner_run k levels z s) (sane-meaning (rules k) k (suc levels)) (λ b. sane-plain tt) (ne_eqb (suc levels) 0 (omega arith)) refl (λ r y t x some. takes-call k levels r y t t (same-judged r t) x some) (erring-call k levels) (record { trivia = _; is = refl }) i n g h
+
+-- no errors are minded where the law of heads says so
+unminded : (b : Bool) → b ≡ false → b ≡ true → {A : Type 0} → A
+unminded true e f = cc
+unminded false e f = cc
+
+pub meets-law : MeetsLaw
+meets-law k z i n f t u g h well known known_now value = record {
+  known = known;
+  known_now = known_now;
+  value = value;
+  over = λ o kind. ends-alike f.value.1 (then_end i n (text_run k z)).value.1 kind;
+  errors = λ o m. unminded _ ((head-law k z i n g h).next (well o) o) m;
+}
+
+pub inner-meets-law : InnerMeetsLaw
+inner-meets-law k levels z s i n f t u g h well known known_now value nesting = record {
+  known = known;
+  known_now = known_now;
+  value = value;
+  over = λ o kind. ap (λ a. ends ends_block a kind) (nesting o);
+  errors = λ o m. unminded _ ((inner-head-law k levels z s i n g h).next (well o) o) m;
+}

@@ -1,0 +1,201 @@
+-- The number of a note where pieces of a content block's run end.
+use Rattle.std.proofs.Common.{◌≡◌, ℕ, zero, suc, ◌+◌, ◌-◌, ◌<◌, ◌≤◌, ◌==◌, eq-eqb, Bool, true, false, List, [], ◌∷◌, ◌++◌, length, take, length-append, append_assoc, refl, ap, sym, ◌∙◌, subst, arith}
+use Rattle.typst_lines.specs.Place.{Place, moved}
+use Rattle.typst_lines.specs.Classes.{CharClasses}
+use Rattle.typst_tokens.specs.Sight.{width}
+use Rattle.typst_language.specs.declared.calls.Block.TheVariants as block
+use Rattle.typst_language.specs.declared.calls.Note.{Note}
+use Rattle.typst_language.specs.Hand.{Hand}
+use Rattle.typst_language.specs.Point.{Point, point_of}
+use Rattle.typst_language.specs.Shape.Making.{itself}
+use Rattle.typst_language.specs.Steps.{peek}
+use Rattle.typst_language.specs.Syntax.Op.{takes}
+use Rattle.typst_language.specs.Syntax.Parser.{does}
+use Rattle.typst_language.specs.Meaning.{Outcome, start_point, entered, hand_of, asked, run}
+use Rattle.typst_language.proofs.Knot.{sane-meaning, sane-plain}
+use Rattle.typst_language.proofs.Places.{ahead-left}
+use Rattle.typst_grammar.specs.Markup.{ends_block, markup_turn, markup_reading}
+use Rattle.typst_grammar.specs.Grammar.{rules, max_depth, start_of, whole, parsed, log}
+use Rattle.typst_edits.specs.BlockRuns.{inner, look_first, look_again, bracket, run_at, opened_at}
+use Rattle.typst_edits.specs.Edit.{Among}
+use Rattle.typst_edits.specs.InnerBytes.{inner_end}
+use Rattle.typst_edits.specs.Laws.{blocks_of_text, block_at}
+use Rattle.typst_edits.specs.Named.{Named}
+use Rattle.typst_edits.specs.NumberedNotes.{of_level, Numbered, SaysOf, InnerNumberLaw}
+use Rattle.typst_edits.specs.PieceNotes.{listed}
+use Rattle.typst_edits.specs.Rising.{Rising}
+use Rattle.typst_edits.specs.Runs.{AllGo}
+use Rattle.typst_edits.specs.Sequence.{Sequence, turn_of, first_of, first_end}
+use Rattle.typst_edits.specs.Spot.{Spot, unit_at, ended}
+use Rattle.typst_edits.proofs.BlockRuns.{sane as in-sane}
+use Rattle.typst_edits.proofs.Clear.{Clear, clear-level}
+use Rattle.typst_edits.proofs.Content.{again, content-begun}
+use Rattle.typst_edits.proofs.Edit.{among}
+use Rattle.typst_edits.proofs.Fitting.{same-here}
+use Rattle.typst_edits.proofs.Names.{named-level}
+use Rattle.typst_edits.proofs.NoteNumbers.{level-append, numbered-at, neither, go-fewer, more-taken, turns-within, take-longer}
+use Rattle.typst_edits.proofs.Rising.{take-more, rising-law}
+use Rattle.typst_edits.proofs.Spots.{if-true}
+
+-- ---- notes in order
+
+first-before : (from end : ℕ) (xs : List Note) (n : Note) (ys : List Note) → Rising from end (xs ++ n ∷ ys) → from ≤ n.before
+first-before from end [] n ys r = r.0
+first-before from end (m ∷ xs) n ys r = let i = first-before m.before end xs n ys r.3 in omega (arith, r.0, r.1, i)
+
+-- a note stands no further on than those behind it
+in-order : (from end : ℕ) (xs : List Note) (m : Note) (ys : List Note) (n : Note) (zs : List Note) → Rising from end (xs ++ m ∷ (ys ++ n ∷ zs)) → m.before ≤ n.before
+in-order from end [] m ys n zs r = first-before m.before end ys n zs r.3
+in-order from end (x ∷ xs) m ys n zs r = in-order x.before end xs m ys n zs r.3
+
+-- ---- where a note stands
+
+record Behind (firsts : List Note) (o : Note) (rest : List Note) (bs : List Note) (p : Note) (behind : List Note) : Type 0 where
+  mid : List Note
+  earlier : bs ≡ firsts ++ o ∷ mid
+  is : rest ≡ mid ++ p ∷ behind
+
+abbrev first_or : Note → List Note → Note
+first_or n [] = n
+first_or n (m ∷ ms) = m
+
+abbrev rest_of : List Note → List Note
+rest_of [] = []
+rest_of (m ∷ ms) = ms
+
+-- a note that is none of the first ones nor the one behind them stands behind it
+behind-first : (firsts : List Note) (o : Note) (rest bs : List Note) (p : Note) (behind : List Note) → firsts ++ o ∷ rest ≡ bs ++ p ∷ behind → ((xs ys : List Note) → firsts ≡ xs ++ p ∷ ys → ⊥) → (o ≡ p → ⊥) → Behind firsts o rest bs p behind
+behind-first [] o rest [] p behind e none other = absurd (other (ap (first_or o) e))
+behind-first [] o rest (b ∷ bs) p behind e none other = let same = ap (first_or o) e in record { mid = bs; earlier = ap (λ x. x ∷ bs) (sym same); is = ap rest_of e }
+behind-first (a ∷ firsts) o rest [] p behind e none other = let same : a ≡ p = ap (first_or o) e in absurd (none [] firsts (ap (λ x. x ∷ firsts) same))
+behind-first (a ∷ firsts) o rest (b ∷ bs) p behind e none other =
+    let same : a ≡ b = ap (first_or o) e in
+    let i = behind-first firsts o rest bs p behind (ap rest_of e) (λ xs ys f. none (a ∷ xs) ys (ap (λ u. a ∷ u) f)) other in
+    record { mid = i.mid; earlier = ap (λ x. x ∷ bs) (sym same) ∙ ap (λ u. a ∷ u) i.earlier; is = i.is }
+
+record Within (inner mid : List Note) (p : Note) : Type 0 where
+  more : List Note
+  is : inner ≡ mid ++ p ∷ more
+
+-- and one that is none of the last ones nor the one before them stands before it
+before-last : (inner : List Note) (o : Note) (later mid : List Note) (p : Note) (behind : List Note) → inner ++ o ∷ later ≡ mid ++ p ∷ behind → ((xs : List Note) → later ≡ xs ++ p ∷ behind → ⊥) → (o ≡ p → ⊥) → Within inner mid p
+before-last [] o later [] p behind e none other = absurd (other (ap (first_or o) e))
+before-last [] o later (m ∷ mid) p behind e none other = absurd (none mid (ap rest_of e))
+before-last (x ∷ inner) o later [] p behind e none other = record { more = inner; is = ap (λ y. y ∷ inner) (ap (first_or o) e) }
+before-last (x ∷ inner) o later (m ∷ mid) p behind e none other =
+    let same : x ≡ m = ap (first_or o) e in
+    let i = before-last inner o later mid p behind (ap rest_of e) none other in
+    record { more = i.more; is = ap (λ y. y ∷ inner) same ∙ ap (λ u. m ∷ u) i.is }
+
+-- ---- the law
+
+positive : (n : ℕ) → (n ≡ 0 → ⊥) → 0 < n
+positive zero f = absurd (f refl)
+positive (suc n) f = omega arith
+
+-- where it begins it stands no later than its token
+begins-by : (from end : ℕ) (xs : List Note) (n : Note) (ys : List Note) → Rising from end (xs ++ n ∷ ys) → n.before ≤ n.start
+begins-by from end [] n ys r = r.1
+begins-by from end (x ∷ xs) n ys r = begins-by x.before end xs n ys r.3
+
+module _ (k : CharClasses) (levels : ℕ) (text : List ℕ) (c : Spot (Unit {0})) (chosen : Among c (blocks_of_text k text)) (name : c.name ≡ block.Content) (left : max_depth - c.fewer ≡ suc levels) where
+  abbrev z0 : Place
+  z0 = start_of text
+
+  abbrev y0 : Place
+  y0 = moved c.at z0
+
+  abbrev s0 : Point
+  s0 = point_of c.start
+
+  abbrev run_here : Sequence
+  run_here = run_at k levels c z0
+
+  -- the bracket takes something
+  bracket-some : 0 < (unit_at c z0).taken → 0 < (bracket k levels y0 s0).taken
+  unfolding blocks_of_text run
+  bracket-some some =
+      let l = inner k levels in
+      let o = parsed k max_depth text in
+      let sd = sane-meaning (rules k) k (suc levels) in
+      let named = among (Named (block_at k) max_depth) c _ chosen (named-level (rules k) k max_depth whole z0 (start_point markup_reading)) in
+      let clear = among (Clear k z0) c _ chosen (clear-level (rules k) k max_depth whole z0 (start_point markup_reading) tt) in
+      let reads : unit_at c z0 ≡ ended (block_at k (suc levels) block.Content y0 s0) =
+      ap (λ m. m y0 s0) named.reads ∙ ap (λ v. ended (block_at k v c.name y0 s0)) left ∙ ap (λ x. ended (block_at k (suc levels) x y0 s0)) name in
+      let begun = content-begun l sd (λ b. sane-plain tt) y0 s0 refl (clear.clear z0 (same-here c.before z0)) (subst (λ (a : Outcome (Unit {0})). 0 < a.taken) reads some) in
+      let s1 = asked (hand_of l y0 s0) s0 in
+      let one : hand_of l y0 s1 ≡ hand_of l y0 s0 = again l sd (λ b. sane-plain tt) y0 s0 in
+      let two : hand_of l y0 (look_again k levels y0 s0).state ≡ hand_of l y0 s0 = again l sd (λ b. sane-plain tt) y0 s1 ∙ one in
+      let len = ap (λ (h : Hand). h.len) two in
+      let more = begun.some in
+      omega (arith, len, more)
+
+  -- all lies within the text
+  run-room : 0 < (bracket k levels y0 s0).taken → (j : ℕ) → opened_at k levels c z0 + (first_end j run_here).taken ≤ length text
+  unfolding run
+  run-room some j =
+      let r = run_here in
+      let b = bracket k levels y0 s0 in
+      let one = (in-sane k levels peek).within y0 s0 in
+      let two = (in-sane k levels peek).within y0 (look_first k levels y0 s0).state in
+      let three = (in-sane k levels (does (takes false itself))).within y0 (entered markup_reading (look_again k levels y0 s0).state) in
+      let four = (in-sane k levels peek).within r.place b.state in
+      let five = turns-within (turn_of r) (λ x. (in-sane k levels (markup_turn true ends_block x)).within) j (true, 0) r.place r.point in
+      let there = ahead-left c.at z0 in
+      omega (arith, some, one, two, three, four, five, there)
+
+pub inner-number-law : InnerNumberLaw
+inner-number-law k levels text c i chosen name left g n p inside =
+    let z = start_of text in
+    let r = run_at k levels c z in
+    let a = opened_at k levels c z in
+    let m = turn_of r in
+    let within = λ (x : Bool × ℕ). (in-sane k levels (markup_turn true ends_block x)).within in
+    let all_behind = n.inner ++ n.closes ∷ n.later in
+    let ns_is : listed (log k text).notes ≡ n.earlier ++ n.opens ∷ all_behind = ap listed n.notes in
+    let same : n.earlier ++ n.opens ∷ all_behind ≡ p.earlier ++ p.note ∷ p.later = sym ns_is ∙ ap listed p.notes in
+    let rise = subst (λ ns. Rising 0 (width text) ns) ns_is (rising-law k text) in
+    let at_i = (first_end i r).taken in
+    let before = p.before in
+    let end = n.end in
+    -- the bracket stands before it
+    let least = take-more c.at (a + at_i) text (omega arith) in
+    let some_by : (unit_at c z).taken ≡ 0 → ⊥ = λ none.
+    (let there : c.at + (unit_at c z).taken ≡ c.at = omega (arith, none) in let same_byte = ap (λ d. width (take d text)) there in omega (arith, least, inside, before, end, same_byte)) in
+    let some : 0 < (unit_at c z).taken = positive (unit_at c z).taken some_by in
+    let bracket_some = bracket-some k levels text c chosen name left some in
+    let room_i = run-room k levels text c chosen name left bracket_some i in
+    let further = take-longer c.at (a + at_i) text (omega (arith, bracket_some)) room_i in
+    let start = n.start in
+    let opens_by = begins-by 0 (width text) n.earlier n.opens all_behind rise in
+    -- it is none of those before the block's run, nor of those behind
+    let b = behind-first n.earlier n.opens all_behind p.earlier p.note p.later same
+    (λ xs ys f. (let order = in-order 0 (width text) xs p.note ys n.opens all_behind (subst (λ ns. Rising 0 (width text) ns) (ap (λ es. es ++ n.opens ∷ all_behind) f ∙ append_assoc xs (p.note ∷ ys) (n.opens ∷ all_behind)) rise) in omega (arith, order, further, start, opens_by, before)))
+    (λ e. (let there = ap (λ (x : Note). x.before) e in omega (arith, there, further, start, opens_by, before))) in
+    let w = before-last n.inner n.closes n.later b.mid p.note p.later b.is
+    (λ xs f. (let order = in-order 0 (width text) (n.earlier ++ n.opens ∷ n.inner) n.closes xs p.note p.later
+    (subst (λ ns. Rising 0 (width text) ns) (ap (λ ls. n.earlier ++ n.opens ∷ (n.inner ++ n.closes ∷ ls)) f ∙ sym (append_assoc n.earlier (n.opens ∷ n.inner) (n.closes ∷ (xs ++ p.note ∷ p.later)))) rise) in omega (arith, order, inside)))
+    (λ e. (let there = ap (λ (x : Note). x.before) e in omega (arith, there, inside))) in
+    -- its number
+    let lv = suc levels in
+    let says = SaysOf text (λ d. inner_end k levels d c z) in
+    let mids = of_level lv b.mid in
+    let mores = of_level lv w.more in
+    let j = length mids in
+    let own : of_level lv (p.note ∷ w.more) ≡ p.note ∷ mores = if-true (p.note.levels == lv) _ _ (eq-eqb p.note.levels lv p.levels) in
+    let split : of_level lv n.inner ≡ mids ++ p.note ∷ mores = ap (of_level lv) w.is ∙ level-append lv b.mid (p.note ∷ w.more) ∙ ap (λ ns. mids ++ ns) own in
+    let there = numbered-at says 0 mids p.note mores (subst (λ ns. Numbered says 0 ns) split n.each) in
+    let zero_more : 0 + j ≡ j = omega arith in
+    let here = subst (λ d. says d p.note) zero_more there in
+    let all = n.all in
+    let long = ap length split in
+    let sum = length-append mids (p.note ∷ mores) in
+    let fits : j ≤ n.count = omega (arith, all, long, sum) in
+    let go_j : AllGo (first_of j r) = go-fewer m within j n.count (true, 0) r.place r.point fits n.go in
+    let at_j = (first_end j r).taken in
+    let room_j = run-room k levels text c chosen name left bracket_some j in
+    let here_before = here.says.before in
+    let number = neither j i
+    (λ l. (let less_taken = more-taken m within j i (true, 0) r.place r.point l g in let more = take-longer (a + at_j) (a + at_i) text (omega (arith, less_taken)) room_i in omega (arith, more, before, here_before)))
+    (λ l. (let less_taken = more-taken m within i j (true, 0) r.place r.point l go_j in let more = take-longer (a + at_i) (a + at_j) text (omega (arith, less_taken)) room_j in omega (arith, more, before, here_before))) in
+    record { mid = b.mid; more = w.more; earlier = b.earlier; inner = w.is; number = number }

@@ -1,0 +1,543 @@
+-- Where the pieces of a run begin among the nodes that it gives.
+use Rattle.std.proofs.Common.{◌≡◌, ℕ, zero, suc, ◌+◌, ◌-◌, ◌<◌, ◌≤◌, ◌==◌, ne_eqb, Bool, true, false, ◌&&◌, nat_lt, List, [], ◌∷◌, ◌++◌, length, take, drop, length-append, append_assoc, append-nil, Option, None, Some, refl, ap, sym, ◌∙◌, subst, arith, codes}
+use borrow.Author.Tests.{lt-ltb}
+use Rattle.typst_kinds.specs.declared.kind.SyntaxKind.TheVariants as kind
+use Rattle.typst_lines.specs.Place.{Place, moved}
+use Rattle.typst_lines.specs.Classes.{CharClasses}
+use Rattle.typst_tree.specs.Tree.{Tree, forest, trees, text_of, inner_of, made_error}
+use Rattle.typst_tokens.specs.Sight.{width}
+use Rattle.typst_language.specs.declared.calls.Block.{Block}
+use Rattle.typst_language.specs.declared.calls.Block.TheVariants as block
+use Rattle.typst_language.specs.declared.calls.Call.{Call}
+use Rattle.typst_language.specs.declared.calls.Call.TheVariants.{MarkupExpr}
+use Rattle.typst_language.specs.declared.reading.Reading.{Reading}
+use Rattle.typst_language.specs.Hand.{told, len_at, hand_at, utf8_ahead}
+use Rattle.typst_language.specs.Point.{Trivia, Point, point_of, gap_of, pending}
+use Rattle.typst_language.specs.Shape.Change.{turns_wrong}
+use Rattle.typst_language.specs.Shape.Making.{itself}
+use Rattle.typst_language.specs.Shape.Shape.{keeps}
+use Rattle.typst_language.specs.Steps.{peek, flush_trivia}
+use Rattle.typst_language.specs.Syntax.Op.{takes as takes_token}
+use Rattle.typst_language.specs.Syntax.Parser.{does, repeat}
+use Rattle.typst_language.specs.Meaning.{Outcome, Meaning, plain, less, standing, joined, as_last, repeated, start_point, entered, hand_of, hand_asks_of, asked, run}
+use Rattle.typst_language.specs.Sound.{Tidy, Backs, Stands}
+use Rattle.typst_language.proofs.Ends.{hand-takes}
+use Rattle.typst_language.proofs.Knot.{Sane, sane-run, sane-meaning, sane-block, sane-plain}
+use Rattle.typst_language.proofs.Leaves.{texts, texts-append, texts-one, texts-first, text-shaped, text-add, Holds, Keeps, kept-joined, blank-nil}
+use Rattle.typst_language.proofs.Places.{less-none, moved-sum}
+use Rattle.typst_grammar.specs.Markup.{ends, markup_turn, markup_head, markup_reading}
+use Rattle.typst_grammar.specs.Grammar.{rules, max_depth, level_at, start_of, whole, tree, parsed}
+use Rattle.typst_edits.specs.BlockRuns.{inner, look_first, look_again, bracket, run_at, opened_at, tail_at, close_at}
+use Rattle.typst_edits.specs.Children.{Settles, together, read_from, standing_before, nodes_with}
+use Rattle.typst_edits.specs.Edit.{Among}
+use Rattle.typst_edits.specs.InnerBytes.{inner_end, inner_both}
+use Rattle.typst_edits.specs.InnerChildren.{standing_in, nodes_in, block_with}
+use Rattle.typst_edits.specs.InnerJoint.{onwards_in}
+use Rattle.typst_edits.specs.Joint.{minds, text_run, onwards_from}
+use Rattle.typst_edits.specs.Leading.{bytes_of, LeadsAt, opening_child, token_byte, both, is_over, Leading, LeadingInner, LeadingLaw, LeadingInnerLaw}
+use Rattle.typst_edits.specs.Laws.{blocks_of_text, block_at}
+use Rattle.typst_edits.specs.Named.{Named}
+use Rattle.typst_edits.specs.Occurrences.{goes}
+use Rattle.typst_edits.specs.RunTrees.{given}
+use Rattle.typst_edits.specs.Runs.{made, start, piece_at, AllGo, End, end_of, chain, lead, pieces, end_at, pieces_from, end_from, rest_from, tail}
+use Rattle.typst_edits.specs.Sequence.{Sequence, turn_of, first_of, first_end, then_of, then_end, then_place, rest_of}
+use Rattle.typst_edits.specs.Spot.{Spot, last_node, unit_at, ended}
+use Rattle.typst_edits.proofs.BlockRuns.{sane as in-sane, content-split}
+use Rattle.typst_edits.proofs.Blocks.{ends as block-ends, last-is}
+use Rattle.typst_edits.proofs.Boundary.{KnownAt, first-of, stopped-is, turn-goes, turn-known}
+use Rattle.typst_edits.proofs.Children.{given-together, tidy-together, top-gives, settled, stretch-is, made-none, back-law}
+use Rattle.typst_edits.proofs.Clear.{Clear, clear-level}
+use Rattle.typst_edits.proofs.Content.{content-begun}
+use Rattle.typst_edits.proofs.Edit.{among, trees-of}
+use Rattle.typst_edits.proofs.Fitting.{same-here}
+use Rattle.typst_edits.proofs.Fronts.{Full, full-append, full-less, less-behind, Fronts, fronts-joined, Begins, begins-turn, begins-call}
+use Rattle.typst_edits.proofs.InnerChildren.{opens-by, node-is, pieces-quiet, close-quiet, kids-are, inner-back-law}
+use Rattle.typst_edits.proofs.InnerJoint.{inner-fronted}
+use Rattle.typst_edits.proofs.Inside.{Lawful}
+use Rattle.typst_edits.proofs.Joint.{onwards-fronted}
+use Rattle.typst_edits.proofs.Law.{inside-level}
+use Rattle.typst_edits.proofs.Led.{before_trivia, drop-front}
+use Rattle.typst_edits.proofs.Names.{named-level}
+use Rattle.typst_edits.proofs.Runs.{repeated-chain, chain-state, chain-taken, moved-three}
+use Rattle.typst_edits.proofs.RunTrees.{standing-none, tree-is}
+use Rattle.typst_edits.proofs.Spots.{if-true}
+use Rattle.typst_edits.proofs.Turns.{end-by, last-turn}
+use Rattle.typst_edits.proofs.Walk.{width-encodes}
+use Rattle.typst_edits.proofs.Widths.{width-none}
+
+-- ---- nodes
+
+pub bytes-append : (ts us : List Tree) → bytes_of (ts ++ us) ≡ bytes_of ts + bytes_of us
+bytes-append ts us = let e = ap length (texts-append ts us) in let sum = length-append (texts ts) (texts us) in omega (arith, e, sum)
+
+bytes-first : (t : Tree) (ts : List Tree) → bytes_of (t ∷ ts) ≡ length (text_of t) + bytes_of ts
+bytes-first t ts = let e = ap length (texts-first t ts) in let sum = length-append (text_of t) (texts ts) in omega (arith, e, sum)
+
+abbrev first_or : Tree → List Tree → Tree
+first_or t [] = t
+first_or t (u ∷ us) = u
+
+-- of two ways to part the same nodes before one that isn't empty only one has so many bytes before it
+part-is : (xs : List Tree) (x : Tree) (us left : List Tree) (y : Tree) (vs : List Tree) → left ++ y ∷ vs ≡ xs ++ x ∷ us → 0 < length (text_of x) → 0 < length (text_of y) → bytes_of xs ≡ bytes_of left → length xs ≡ length left
+part-is [] x us [] y vs e h i b = refl
+part-is [] x us (l ∷ left) y vs e h i b =
+    let same : length (text_of l) ≡ length (text_of x) = ap (λ ts. length (text_of (first_or x ts))) e in
+    let long = bytes-first l left in
+    absurd (omega (arith, same, long, h, b))
+part-is (l ∷ xs) x us [] y vs e h i b =
+    let same : length (text_of y) ≡ length (text_of l) = ap (λ ts. length (text_of (first_or x ts))) e in
+    let long = bytes-first l xs in
+    absurd (omega (arith, same, long, i, b))
+part-is (l ∷ xs) x us (m ∷ left) y vs e h i b =
+    let same : length (text_of m) ≡ length (text_of l) = ap (λ ts. length (text_of (first_or x ts))) e in
+    let one = bytes-first l xs in
+    let two = bytes-first m left in
+    ap suc (part-is xs x us left y vs (ap (drop 1) e) h i (omega (arith, same, one, two, b)))
+
+-- a full node behind others leads where these end
+pub leads-at : (from : ℕ) (ts left right : List Tree) (at : ℕ) → ts ≡ left ++ right → Full right → from + bytes_of left ≡ at → LeadsAt from ts at (length left)
+leads-at from ts left [] at is full begins = absurd full
+leads-at from ts left (y ∷ right) at is full begins = record {
+  left = left;
+  node = y;
+  right = right;
+  is = is;
+  here = refl;
+  begins = begins;
+  full = full;
+  alone = λ before x behind e there some. part-is before x behind left y right (sym is ∙ e) some full (omega (arith, begins, there));
+}
+
+-- the bytes of so many characters behind others
+bytes-on : (text : List ℕ) (a d : ℕ) → width (take a text) + length (utf8_ahead d (moved a (start_of text))) ≡ width (take (a + d) text)
+bytes-on text a d =
+    let z = start_of text in
+    let sum = length-append (utf8_ahead a z) (utf8_ahead d (moved a z)) in
+    let all = ap length (text-add a d z) in
+    let one = width-encodes (take a text) in
+    let two = width-encodes (take (a + d) text) in
+    omega (arith, sum, all, one, two)
+
+-- ---- pieces
+
+module _ {A : Type 0} (m : A → Meaning (Bool × A)) (keeps : (x : A) → Keeps (m x)) (backs : (x : A) → Backs (m x)) where
+  -- several pieces hold what they take
+  pub kept-together : (n : ℕ) (x : A) (z : Place) (s : Point) → Stands z s.known → (let os = made m n x z s in Holds z (together (end_of x s os).state os))
+  kept-together zero x z s h = record { text = refl; known = h; blank = blank-nil s.empties }
+  kept-together (suc n) x z s h =
+      let o = m x z s in
+      let y = moved o.taken z in
+      let os = made m n o.value.1 y o.state in
+      let q = together (end_of o.value.1 o.state os).state os in
+      let first = keeps x z s h in
+      kept-joined z o q first (kept-together n o.value.1 y o.state first.known) (tidy-together m backs n o.value.1 y o.state)
+
+module _ (r : Sequence) (sd : (c : Call) → Sane (r.level.deeper c)) (sb : (b : Block) → Sane (r.level.blocks b)) (deep : (r.level.levels == 0) ≡ false) (end_stops : r.stops kind.End ≡ true)
+    (call : (h : Reading) (z : Place) (t : Trivia) (x : Bool × ℕ) → 0 < len_at r.level.classes h.mode (moved t.gap z) → Begins h z t (minds (markup_head x.0 x.1 (hand_at r.level.classes h (Some t) z).kind)) (r.level.deeper (MarkupExpr x.0 x.1)))
+    (stands : Stands r.place r.point.known) (known : KnownAt r.point) where
+  abbrev pub turn : Bool × ℕ → Meaning (Bool × (Bool × ℕ))
+  turn x = turn_of r x
+
+  pub sane : (x : Bool × ℕ) → Sane (turn x)
+  sane x = sane-run r.level sd sb (markup_turn true r.stops x)
+
+  -- a turn that isn't stopped
+  pub turn-fronts : (x : Bool × ℕ) (z : Place) (s : Point) (t : Trivia) → s.known ≡ Some t → ends r.stops x.1 (told (hand_of r.level z s)).kind ≡ false
+      → Fronts t (minds (markup_head x.0 x.1 (hand_at r.level.classes s.held (Some t) z).kind)) (turn x z s)
+  unfolding hand_at
+  turn-fronts x z s t is go =
+      let l = r.level in
+      let h = s.held in
+      let b = before_trivia s.reading h s.empties s.is_after_error t in
+      let same : s ≡ b = ap (λ u. record s { known = u }) is in
+      let go_there : ends r.stops x.1 (told (hand_of l z b)).kind ≡ false = subst (λ p. ends r.stops x.1 (told (hand_of l z p)).kind ≡ false) same go in
+      let some = hand-takes l.classes h (Some t) z (end-by r.stops end_stops x.1 (told (hand_of l z b)).kind go_there) in
+      let trims = minds (markup_head x.0 x.1 (hand_at l.classes h (Some t) z).kind) in
+      subst (λ p. Fronts t trims (turn x z p)) (sym same) (begins-turn l sd sb h z t deep r.stops x trims (call h z t x some) go_there s.reading s.empties s.is_after_error)
+
+  turn-goes-on : (x : Bool × ℕ) (z : Place) (s : Point) (t : Trivia) → s.known ≡ Some t → ends r.stops x.1 (told (hand_of r.level z s)).kind ≡ false → goes (turn x z s) ≡ true
+  turn-goes-on x z s t is go =
+      let o = turn x z s in
+      let past = (turn-fronts x z s t is go).some in
+      let some : 0 < o.taken = omega (arith, past) in
+      ap (λ b. b && nat_lt 0 o.taken) (turn-goes r.level r.stops x z s go) ∙ lt-ltb 0 o.taken some
+
+  -- pieces that go on aren't stopped
+  pub not-over : (x : Bool × ℕ) (z : Place) (s : Point) (b : Bool) → ends r.stops x.1 (told (hand_of r.level z s)).kind ≡ b → goes (turn x z s) ≡ true → ends r.stops x.1 (told (hand_of r.level z s)).kind ≡ false
+  not-over x z s true e g = let f : true ≡ false = sym (first-of (turn x z s).value.0 (nat_lt 0 (turn x z s).taken) g) ∙ stopped-is r.level r.stops x z s e in cc
+  not-over x z s false e g = e
+
+  pub known-from : (n : ℕ) (x : Bool × ℕ) (z : Place) (s : Point) → KnownAt s → AllGo (made turn n x z s) → KnownAt (end_of x s (made turn n x z s)).state
+  known-from zero x z s there g = there
+  known-from (suc n) x z s there g =
+      let o = turn x z s in
+      known-from n o.value.1 (moved o.taken z) o.state (turn-known r.level r.stops x z s (first-of o.value.0 (nat_lt 0 o.taken) g.0)) g.1
+
+  -- some pieces
+  pieces-front : (n : ℕ) (x : Bool × ℕ) (z : Place) (s : Point) (t : Trivia) → s.known ≡ Some t → 0 < n → AllGo (made turn n x z s)
+      → Fronts t (minds (markup_head x.0 x.1 (hand_at r.level.classes s.held (Some t) z).kind)) (together (end_of x s (made turn n x z s)).state (made turn n x z s))
+  pieces-front zero x z s t is some g = absurd (omega (arith, some))
+  pieces-front (suc n) x z s t is some g =
+      let o = turn x z s in
+      let y = moved o.taken z in
+      let os = made turn n o.value.1 y o.state in
+      fronts-joined t _ o (together (end_of o.value.1 o.state os).state os) (turn-fronts x z s t is (not-over x z s (ends r.stops x.1 (told (hand_of r.level z s)).kind) refl g.0))
+      (tidy-together turn (λ v. (sane v).backs) n o.value.1 y o.state)
+
+  -- all behind some pieces, where another follows
+  rest-front : (x : Bool × ℕ) (z : Place) (s : Point) (t : Trivia) (last : Outcome (Unit {0})) → s.known ≡ Some t → Tidy (repeated turn x z s).state last → ends r.stops x.1 (told (hand_of r.level z s)).kind ≡ false
+      → Fronts t (minds (markup_head x.0 x.1 (hand_at r.level.classes s.held (Some t) z).kind)) (joined (repeated turn x z s) last)
+  unfolding run
+  rest-front x z s t last is tidy go =
+      let o = turn x z s in
+      let p = repeated turn x z s in
+      let trims = minds (markup_head x.0 x.1 (hand_at r.level.classes s.held (Some t) z).kind) in
+      let w = moved (o.taken + 0) z in
+      let q = repeated turn o.value.1 w o.state in
+      let parts : p ≡ joined o q = repeated-chain turn (λ v. (sane v).within) 1 x z s (turn-goes-on x z s t is go, tt) in
+      let one = fronts-joined t trims o q (turn-fronts x z s t is go) ((sane-run r.level sd sb (repeat (markup_turn true r.stops) o.value.1)).backs w o.state) in
+      fronts-joined t trims p last (subst (λ u. Fronts t trims u) (sym parts) one) tidy
+
+  -- where none follows
+  stopped : (x : Bool × ℕ) (z : Place) (s : Point) → ends r.stops x.1 (told (hand_of r.level z s)).kind ≡ true → repeated turn x z s ≡ record (plain x (asked (hand_of r.level z s) s)) { asks = hand_asks_of r.level z s ++ [] }
+  unfolding run markup_turn less
+  stopped x z s f =
+      let l = r.level in
+      let v = told (hand_of l z s) in
+      let after = asked (hand_of l z s) s in
+      let first = record (plain v after) { asks = hand_asks_of l z s } in
+      let end = plain (false, x) after in
+      let is : turn x z s ≡ joined first end = ap (joined first) (if-true (ends r.stops x.1 v.kind) _ _ f) in
+      last-turn turn (λ n. (sane n).within) x z s (ap goes is) ∙ ap as_last is
+
+  flush-nodes : (z : Place) (s : Point) (t : Trivia) → s.known ≡ Some t → (run r.level flush_trivia z s).nodes ≡ t.nodes
+  unfolding run flush_trivia hand_at less
+  flush-nodes z s t is =
+      let b = before_trivia s.reading s.held s.empties s.is_after_error t in
+      let same : s ≡ b = ap (λ u. record s { known = u }) is in
+      ap (λ p. (run r.level flush_trivia z p).nodes) same ∙ ap (λ ts. ts ++ []) (less-none t.nodes) ∙ append-nil t.nodes
+
+  rest-over : (x : Bool × ℕ) (z : Place) (s : Point) (t : Trivia) → s.known ≡ Some t → ends r.stops x.1 (told (hand_of r.level z s)).kind ≡ true
+      → (let p = repeated turn x z s in (joined p (run r.level flush_trivia (moved p.taken z) p.state)).nodes ≡ t.nodes)
+  unfolding hand_at
+  rest-over x z s t is over =
+      let l = r.level in
+      let after = asked (hand_of l z s) s in
+      let b = before_trivia s.reading s.held s.empties s.is_after_error t in
+      let same : s ≡ b = ap (λ u. record s { known = u }) is in
+      let flushed = run l flush_trivia z after in
+      let known_there : after.known ≡ Some t = ap (λ p. (asked (hand_of l z p) p).known) same in
+      ap (λ (p : Outcome (Bool × ℕ)). (joined p (run l flush_trivia (moved p.taken z) p.state)).nodes) (stopped x z s over) ∙ standing-none flushed ∙ flush-nodes z after t known_there
+
+  -- ---- behind i pieces and n behind them
+
+  module _ (text : List ℕ) (a : ℕ) (there : r.place ≡ moved a (start_of text)) (i n : ℕ) (g : AllGo (first_of i r)) (h : AllGo (then_of i n r)) where
+    abbrev e : End (Bool × ℕ)
+    e = first_end i r
+
+    abbrev f : End (Bool × ℕ)
+    f = then_end i n r
+
+    abbrev w : Place
+    w = moved e.taken r.place
+
+    abbrev q : Outcome (Unit {0})
+    q = together e.state (first_of i r)
+
+    abbrev p : Outcome (Unit {0})
+    p = together f.state (then_of i n r)
+
+    abbrev before : List Tree
+    before = less p.back (given (first_of i r) [])
+
+    q-taken : q.taken ≡ e.taken
+    q-taken = let sum = chain-taken (true, 0) r.point (first_of i r) (plain (tt {0}) e.state) in omega (arith, sum)
+
+    p-taken : p.taken ≡ f.taken
+    p-taken = let sum = chain-taken e.value e.state (then_of i n r) (plain (tt {0}) f.state) in omega (arith, sum)
+
+    q-state : q.state ≡ e.state
+    q-state = chain-state (first_of i r) (plain (tt {0}) e.state)
+
+    p-state : p.state ≡ f.state
+    p-state = chain-state (then_of i n r) (plain (tt {0}) f.state)
+
+    holds-q : Holds r.place q
+    holds-q = kept-together turn (λ x. (sane x).kept) (λ x. (sane x).backs) i (true, 0) r.place r.point stands
+
+    stands-e : Stands w e.state.known
+    stands-e = subst (λ (s : Point). Stands w s.known) q-state (subst (λ d. Stands (moved d r.place) q.state.known) q-taken holds-q.known)
+
+    holds-p : Holds w p
+    holds-p = kept-together turn (λ x. (sane x).kept) (λ x. (sane x).backs) n e.value w e.state stands-e
+
+    stands-f : Stands (moved f.taken w) f.state.known
+    stands-f = subst (λ (s : Point). Stands (moved f.taken w) s.known) p-state (subst (λ d. Stands (moved d w) p.state.known) p-taken holds-p.known)
+
+    tidy-p : Tidy e.state p
+    tidy-p = tidy-together turn (λ x. (sane x).backs) n e.value w e.state
+
+    -- what stands before them holds what the i pieces take
+    before-text : texts before ≡ utf8_ahead e.taken r.place
+    before-text =
+        let back = tidy-p.back in
+        let few : p.back ≤ q.state.empties = subst (λ (s : Point). p.back ≤ s.empties) (sym q-state) back in
+        ap (λ ts. texts (less p.back ts)) (given-together e.state (first_of i r) [] ∙ standing-none q) ∙ holds-q.blank p.back few ∙ holds-q.text ∙ ap (λ d. utf8_ahead d r.place) q-taken
+
+    -- and they what they take
+    own-text : (back : ℕ) → back ≤ f.state.empties → texts (less back p.nodes) ≡ utf8_ahead f.taken w
+    own-text back few = holds-p.blank back (subst (λ (s : Point). back ≤ s.empties) (sym p-state) few) ∙ holds-p.text ∙ ap (λ d. utf8_ahead d w) p-taken
+
+    pending-text : (z : Place) (u : Option Trivia) → Stands z u → texts (pending u) ≡ utf8_ahead (gap_of u) z
+    pending-text z None s = refl
+    pending-text z (Some t) s = s
+
+    -- bytes from the text's start
+    from-start : (d : ℕ) → width (take a text) + length (utf8_ahead d r.place) ≡ width (take (a + d) text)
+    from-start d = let here = ap (λ y. length (utf8_ahead d y)) there in let on = bytes-on text a d in omega (arith, here, on)
+
+    -- the one that leads where they begin
+    pub first-leads : (from at : ℕ) (kids rest : List Tree) (back : ℕ) (ts : List Tree) → from ≡ width (take a text) → at ≡ width (take (a + (e.taken + gap_of e.state.known)) text) → 0 < n → back ≤ f.state.empties
+        → kids ≡ before ++ ((less back p.nodes ++ ts) ++ rest) → LeadsAt from kids at (length before + length (pending e.state.known))
+    first-leads from at kids rest back ts from_is at_is some few is =
+        let there_known = known-from i (true, 0) r.place r.point known g in
+        let u = there_known.trivia in
+        let us = pending e.state.known in
+        let us_is : us ≡ u.nodes = ap pending there_known.is in
+        let o = pieces-front n e.value w e.state u there_known.is some h in
+        let own = o.rest in
+        let left = o.few in
+        let empties = ap (λ (s : Point). s.empties) p-state in
+        let short : back < length own = omega (arith, few, left, empties) in
+        let kept = less back own in
+        let right = (kept ++ ts) ++ rest in
+        let mine : less back p.nodes ≡ us ++ kept = ap (less back) o.nodes ∙ less-behind back u.nodes own short ∙ ap (λ xs. xs ++ kept) (sym us_is) in
+        let all : kids ≡ (before ++ us) ++ right =
+        is ∙ ap (λ xs. before ++ ((xs ++ ts) ++ rest)) mine ∙ ap (λ xs. before ++ (xs ++ rest)) (append_assoc us kept ts) ∙ ap (λ xs. before ++ xs) (append_assoc us (kept ++ ts) rest) ∙ sym (append_assoc before us right) in
+        let full = full-append (kept ++ ts) rest (full-append kept ts (full-less back own short o.full)) in
+        let text_is : texts (before ++ us) ≡ utf8_ahead (e.taken + gap_of e.state.known) r.place =
+        texts-append before us ∙ ap (λ xs. xs ++ texts us) before-text ∙ ap (λ xs. utf8_ahead e.taken r.place ++ xs) (pending-text w e.state.known stands-e) ∙ text-add e.taken (gap_of e.state.known) r.place in
+        let long = ap length text_is in
+        let sum = from-start (e.taken + gap_of e.state.known) in
+        let begins : from + bytes_of (before ++ us) ≡ at = omega (arith, long, sum, from_is, at_is) in
+        subst (λ d. LeadsAt from kids at d) (length-append before us) (leads-at from kids (before ++ us) right at all full begins)
+
+    -- and the one where they end
+    pub next-leads : (from at : ℕ) (kids rest : List Tree) (t : Trivia) (last : Outcome (Unit {0})) → f.state.known ≡ Some t → from ≡ width (take a text) → at ≡ width (take (a + ((e.taken + f.taken) + gap_of f.state.known)) text)
+        → Tidy (rest_of i n r).state last → is_over i n r ≡ false
+        → (let o = joined (rest_of i n r) last in o.back ≤ f.state.empties → o.nodes ≡ t.nodes ++ rest → kids ≡ before ++ ((less o.back p.nodes ++ t.nodes) ++ rest) → LeadsAt from kids at (length before + length (less o.back p.nodes ++ t.nodes)))
+    next-leads from at kids rest t last known_there from_is at_is tidy go few nodes is =
+        let o = joined (rest_of i n r) last in
+        let front = rest-front f.value (then_place i n r) f.state t last known_there tidy go in
+        let rest_is : front.rest ≡ rest = sym (ap (drop (length t.nodes)) front.nodes ∙ drop-front t.nodes front.rest (length t.nodes) refl) ∙ ap (drop (length t.nodes)) nodes ∙ drop-front t.nodes rest (length t.nodes) refl in
+        let olds = less o.back p.nodes ++ t.nodes in
+        let all : kids ≡ (before ++ olds) ++ rest = is ∙ sym (append_assoc before olds rest) in
+        let ts_is : texts t.nodes ≡ utf8_ahead (gap_of f.state.known) (moved f.taken w) = ap (λ u. texts (pending u)) (sym known_there) ∙ pending-text (moved f.taken w) f.state.known stands-f in
+        let olds_is : texts olds ≡ utf8_ahead (f.taken + gap_of f.state.known) w =
+        texts-append (less o.back p.nodes) t.nodes ∙ ap (λ xs. xs ++ texts t.nodes) (own-text o.back few) ∙ ap (λ xs. utf8_ahead f.taken w ++ xs) ts_is ∙ text-add f.taken (gap_of f.state.known) w in
+        let text_is : texts (before ++ olds) ≡ utf8_ahead (e.taken + (f.taken + gap_of f.state.known)) r.place =
+        texts-append before olds ∙ ap (λ xs. xs ++ texts olds) before-text ∙ ap (λ xs. utf8_ahead e.taken r.place ++ xs) olds_is ∙ text-add e.taken (f.taken + gap_of f.state.known) r.place in
+        let long = ap length text_is in
+        let sum = from-start (e.taken + (f.taken + gap_of f.state.known)) in
+        let apart : e.taken + (f.taken + gap_of f.state.known) ≡ (e.taken + f.taken) + gap_of f.state.known = omega arith in
+        let sum_too = ap (λ d. width (take (a + d) text)) apart in
+        let begins : from + bytes_of (before ++ olds) ≡ at = omega (arith, long, sum, sum_too, from_is, at_is) in
+        subst (λ d. LeadsAt from kids at d) (length-append before olds) (leads-at from kids (before ++ olds) rest at all (subst (λ xs. Full xs) rest_is front.full) begins)
+
+nil-by : (xs : List Tree) → length xs ≡ 0 → xs ≡ []
+nil-by [] e = refl
+nil-by (x ∷ xs) e = absurd (omega (arith, e))
+
+none-behind : (ts rest us : List Tree) → us ≡ ts ++ rest → us ≡ ts → rest ≡ []
+none-behind ts rest us e d = let sum = length-append ts rest in let one = ap length e in let two = ap length d in nil-by rest (omega (arith, sum, one, two))
+
+-- ---- a text's run
+
+module _ (k : CharClasses) (text : List ℕ) (i n : ℕ) (t : Trivia) (g : AllGo (pieces k i (start_of text))) (h : AllGo (pieces_from k i n (start_of text))) (known : (end_from k i n (start_of text)).state.known ≡ Some t)
+    (some : Settles n (onwards_from k i n (start_of text))) where
+  abbrev z0 : Place
+  z0 = start_of text
+
+  sd : (c : Call) → Sane ((level_at k max_depth).deeper c)
+  sd = sane-meaning (rules k) k max_depth
+
+  sb : (b : Block) → Sane ((level_at k max_depth).blocks b)
+  sb = sane-block (rules k) k max_depth
+
+  begins : (h : Reading) (z : Place) (t : Trivia) (x : Bool × ℕ) → 0 < len_at k h.mode (moved t.gap z) → Begins h z t (minds (markup_head x.0 x.1 (hand_at k h (Some t) z).kind)) ((level_at k max_depth).deeper (MarkupExpr x.0 x.1))
+  begins h z t x more = begins-call k 255 h z t x.0 x.1 more
+
+  first-stands : Stands z0 (lead k z0).state.known
+  unfolding run
+  first-stands = ((sane-run (level_at k max_depth) sd sb peek).kept z0 start tt).known
+
+  first-known : KnownAt (lead k z0).state
+  unfolding run
+  first-known = record { trivia = _; is = refl }
+
+  text-is : Leading k text i n t
+  text-is =
+      let r = text_run k z0 in
+      let o = onwards_from k i n z0 in
+      let p = read_from k i n z0 in
+      let e = end_at k i z0 in
+      let f = end_from k i n z0 in
+      let ts = given (pieces k i z0) [] in
+      let front = onwards-fronted k i n z0 t known in
+      let back = (back-law k text i n).behind_back in
+      let same : p.state ≡ f.state = chain-state (pieces_from k i n z0) (plain (tt {0}) f.state) in
+      let few : o.back ≤ p.state.empties = subst (λ (s : Point). o.back ≤ s.empties) (sym same) back in
+      let apart = settled n f.state (pieces_from k i n z0) o some (λ none. made-none (piece_at k) n e.value (moved e.taken z0) e.state none) (top-gives k i n z0 g h) few in
+      let before = standing_before k i n z0 in
+      let olds = nodes_with k i n t z0 in
+      let made_tree = λ (us : List Tree). inner_of kind.Markup (forest us) in
+      let was : tree k text ≡ made_tree (before ++ (olds ++ front.rest)) =
+      tree-is k text i n g h ∙ ap (λ us. made_tree (standing o us)) (given-together f.state (pieces_from k i n z0) ts) ∙ ap made_tree (stretch-is ts front.rest p o t apart front.hints front.nodes) in
+      let kids = trees (tree k text).kids in
+      let children : kids ≡ before ++ (olds ++ front.rest) = ap (λ (y : Tree). trees y.kids) was ∙ trees-of (before ++ (olds ++ front.rest)) in
+      let rest = rest_from k i n z0 in
+      let last = tail k ((e.taken + f.taken) + rest.taken) rest.state z0 in
+      let tidy = (sane-run (level_at k max_depth) sd sb flush_trivia).backs (moved ((e.taken + f.taken) + rest.taken) z0) rest.state in
+      let none : 0 ≡ width (take 0 text) = sym width-none in
+      let at_first : token_byte text e ≡ width (take (0 + (e.taken + gap_of e.state.known)) text) = ap (λ d. width (take d text)) (omega arith) in
+      let at_next : token_byte text (both k i n z0) ≡ width (take (0 + ((e.taken + f.taken) + gap_of f.state.known)) text) = ap (λ d. width (take d text)) (omega arith) in
+      let there = λ (over : is_over i n r ≡ true). ap (λ w. (joined rest (run (level_at k max_depth) flush_trivia w rest.state)).nodes) (moved-three e.taken f.taken rest.taken z0)
+      ∙ rest-over r sd sb refl refl begins first-stands first-known f.value (then_place i n r) f.state t known over in
+      record {
+        behind = front.rest;
+        children = children;
+        first = λ l. first-leads r sd sb refl refl begins first-stands first-known text 0 refl i n g h 0 (token_byte text e) kids front.rest o.back t.nodes none at_first l back children;
+        next = λ go. next-leads r sd sb refl refl begins first-stands first-known text 0 refl i n g h 0 (token_byte text (both k i n z0)) kids front.rest t last known none at_next tidy go back front.nodes children;
+        last = λ over. none-behind t.nodes front.rest o.nodes front.nodes (there over);
+      }
+
+pub leading-law : LeadingLaw
+leading-law k text i n t g h known some = text-is k text i n t g h known some
+
+-- ---- a content block's run
+
+-- its bracket holds the same where it is an error
+opening-text : (closed : Bool) (bracket : Tree) → length (text_of (opening_child closed bracket)) ≡ length (text_of bracket)
+opening-text true bracket = refl
+opening-text false bracket =
+    let wrong = made_error (codes "unclosed delimiter") bracket in
+    ap length (sym (texts-one wrong) ∙ text-shaped (keeps (turns_wrong (codes "unclosed delimiter"))) (bracket ∷ []) ∙ texts-one bracket)
+
+-- a content block's node, by what stands in its markup
+record Held (text : List ℕ) (c : Spot (Unit {0})) (from : ℕ) (kids : List Tree) : Type 0 where
+  closed : Bool
+  bracket : Tree
+  closing : List Tree
+  opening : width (take c.at text) + length (text_of (opening_child closed bracket)) ≡ from
+  node : c.node ≡ block_with closed bracket kids closing
+
+module _ (k : CharClasses) (levels : ℕ) (text : List ℕ) (c : Spot (Unit {0})) (i n : ℕ) (t : Trivia) (chosen : Among c (blocks_of_text k text)) (name : c.name ≡ block.Content) (left : max_depth - c.fewer ≡ suc levels)
+    (takes : 0 < (unit_at c (start_of text)).taken) (g : AllGo (first_of i (run_at k levels c (start_of text)))) (h : AllGo (then_of i n (run_at k levels c (start_of text))))
+    (known : (then_end i n (run_at k levels c (start_of text))).state.known ≡ Some t) (some : Settles n (onwards_in k levels i n c (start_of text))) where
+  abbrev z1 : Place
+  z1 = start_of text
+
+  abbrev block_run : Sequence
+  block_run = run_at k levels c z1
+
+  in-sd : (call : Call) → Sane ((inner k levels).deeper call)
+  in-sd = sane-meaning (rules k) k (suc levels)
+
+  in-sb : (b : Block) → Sane ((inner k levels).blocks b)
+  in-sb b = sane-plain tt
+
+  in-deep : (suc levels == 0) ≡ false
+  in-deep = ne_eqb (suc levels) 0 (omega arith)
+
+  in-begins : (a : Reading) (y : Place) (u : Trivia) (x : Bool × ℕ) → 0 < len_at k a.mode (moved u.gap y) → Begins a y u (minds (markup_head x.0 x.1 (hand_at k a (Some u) y).kind)) ((inner k levels).deeper (MarkupExpr x.0 x.1))
+  in-begins a y u x more = begins-call k levels a y u x.0 x.1 more
+
+  in-stands : Stands block_run.place block_run.point.known
+  unfolding run
+  in-stands = ((in-sane k levels peek).kept block_run.place (bracket k levels (moved c.at z1) (point_of c.start)).state tt).known
+
+  in-known : KnownAt block_run.point
+  unfolding run
+  in-known = record { trivia = _; is = refl }
+
+  -- the bracket holds what it takes
+  bracket-text : (let y = moved c.at z1 in let o = bracket k levels y (point_of c.start) in texts o.nodes ≡ utf8_ahead o.taken y)
+  unfolding run
+  bracket-text =
+      let y = moved c.at z1 in
+      let s = point_of c.start in
+      let first = (in-sane k levels peek).kept y s tt in
+      let second = (in-sane k levels peek).kept y (look_first k levels y s).state first.known in
+      ((in-sane k levels (does (takes_token false itself))).kept y (entered markup_reading (look_again k levels y s).state) second.known).text
+
+  abbrev kids_of : List Tree → List Tree
+  kids_of rest = standing_in k levels i n c z1 ++ (nodes_in k levels i n t c z1 ++ rest)
+
+  -- the block's node
+  node-of : (rest : List Tree) → (onwards_in k levels i n c z1).hints ≡ [] → (onwards_in k levels i n c z1).nodes ≡ t.nodes ++ rest → Held text c (width (take (opened_at k levels c z1) text)) (kids_of rest)
+  unfolding blocks_of_text
+  node-of rest hints nodes =
+      let s = point_of c.start in
+      let y = moved c.at z1 in
+      let r = block_run in
+      let o = parsed k max_depth text in
+      let l = among (Lawful z1 z1 o o) c _ chosen (inside-level (rules k) k (block-ends k) max_depth whole z1 z1 (start_point markup_reading)) in
+      let named = among (Named (block_at k) max_depth) c _ chosen (named-level (rules k) k max_depth whole z1 (start_point markup_reading)) in
+      let clear = among (Clear k z1) c _ chosen (clear-level (rules k) k max_depth whole z1 (start_point markup_reading) tt) in
+      let reads : unit_at c z1 ≡ ended (block_at k (suc levels) block.Content y s) =
+      ap (λ m. m y s) named.reads ∙ ap (λ v. ended (block_at k v c.name y s)) left ∙ ap (λ x. ended (block_at k (suc levels) x y s)) name in
+      let begun = content-begun (inner k levels) in-sd in-sb y s refl (clear.clear z1 (same-here c.before z1)) (subst (λ (a : Outcome (Unit {0})). 0 < a.taken) reads takes) in
+      let opens = opens-by k levels y s begun in
+      let close = close_at k levels i n c z1 in
+      let last = tail_at k levels i n c z1 in
+      let shut = close-quiet k levels ((((first_end i r).taken + (then_end i n r).taken) + (rest_of i n r).taken) + last.taken) last.state r.place in
+      let chained = chain (first_of i r) (chain (then_of i n r) (rest_of i n r)) in
+      let was : (unit_at c z1).nodes ≡ block_with close.value opens.node (kids_of rest) close.nodes ∷ [] =
+      ap (λ (a : Outcome (Unit {0})). a.nodes) (reads ∙ ap (λ (a : Outcome (Unit {0})). ended a) (content-split k levels y s i n g h))
+      ∙ node-is k levels y s chained last close opens (pieces-quiet k levels y s i n opens g h) shut
+      ∙ ap (λ ts. block_with close.value opens.node ts close.nodes ∷ []) (kids-are k levels c z1 i n t rest some g h hints nodes) in
+      let long : length (text_of (opening_child close.value opens.node)) ≡ length (utf8_ahead (bracket k levels y s).taken y) = opening-text close.value opens.node ∙ ap length (sym (texts-one opens.node) ∙ sym (ap texts opens.nodes) ∙ bracket-text) in
+      let on = bytes-on text c.at (bracket k levels y s).taken in
+      record { closed = close.value; bracket = opens.node; closing = close.nodes; opening = omega (arith, long, on); node = sym (last-is c.front c.node) ∙ ap last_node (sym l.fits.nodes ∙ was) }
+
+  block-is : LeadingInner k levels text c i n t
+  block-is =
+      let r = block_run in
+      let o = onwards_in k levels i n c z1 in
+      let e = first_end i r in
+      let f = then_end i n r in
+      let front = inner-fronted k levels i n c z1 t known in
+      let back = (inner-back-law k levels text c i n).behind_back in
+      let rest = rest_of i n r in
+      let last = tail_at k levels i n c z1 in
+      let kids = kids_of front.rest in
+      let held = node-of front.rest front.hints front.nodes in
+      let a = opened_at k levels c z1 in
+      let from = width (take a text) in
+      let there : r.place ≡ moved a z1 = sym (moved-sum c.at (bracket k levels (moved c.at z1) (point_of c.start)).taken z1) in
+      let u = inner_end k levels i c z1 in
+      let v = inner_both k levels i n c z1 in
+      let at_first : token_byte text u ≡ width (take (a + (e.taken + gap_of e.state.known)) text) = ap (λ d. width (take d text)) (omega arith) in
+      let at_next : token_byte text v ≡ width (take (a + ((e.taken + f.taken) + gap_of f.state.known)) text) = ap (λ d. width (take d text)) (omega arith) in
+      let at = ((e.taken + f.taken) + rest.taken) in
+      let tidy = (in-sane k levels flush_trivia).backs (moved at r.place) rest.state in
+      let over_nodes = λ (over : is_over i n r ≡ true). ap (λ w. (joined rest (run (inner k levels) flush_trivia w rest.state)).nodes) (moved-three e.taken f.taken rest.taken r.place)
+      ∙ rest-over r in-sd in-sb in-deep refl in-begins in-stands in-known f.value (then_place i n r) f.state t known over in
+      record {
+        closed = held.closed;
+        bracket = held.bracket;
+        kids = kids;
+        closing = held.closing;
+        node = held.node;
+        from = from;
+        begins = ap (λ d. width (take d text)) (omega arith);
+        opening = held.opening;
+        behind = front.rest;
+        children = refl;
+        first = λ l. first-leads r in-sd in-sb in-deep refl in-begins in-stands in-known text a there i n g h from (token_byte text u) kids front.rest o.back t.nodes refl at_first l back refl;
+        next = λ go. next-leads r in-sd in-sb in-deep refl in-begins in-stands in-known text a there i n g h from (token_byte text v) kids front.rest t last known refl at_next tidy go back front.nodes refl;
+        last = λ over. none-behind t.nodes front.rest o.nodes front.nodes (over_nodes over);
+      }
+
+pub leading-inner-law : LeadingInnerLaw
+leading-inner-law k levels text c i n t chosen name left takes g h known some = block-is k levels text c i n t chosen name left takes g h known some

@@ -1,0 +1,173 @@
+-- The expression where pieces begin that are read again is the same in both texts, so what they take back is too.
+use Rattle.std.proofs.Common.{◌≡◌, ℕ, zero, suc, ◌+◌, ◌<◌, ◌≤◌, Bool, true, ◌++◌, refl, ap, sym, ◌∙◌, subst, arith}
+use Rattle.typst_kinds.specs.declared.kind.SyntaxKind.{SyntaxKind}
+use Rattle.typst_lines.specs.Place.{Place, moved}
+use Rattle.typst_lines.specs.Classes.{CharClasses}
+use Rattle.typst_language.specs.Ask.{SameIn, shift}
+use Rattle.typst_language.specs.Depth.{is_end}
+use Rattle.typst_language.specs.Hand.{Hand}
+use Rattle.typst_language.specs.Point.{Point, point_of}
+use Rattle.typst_language.specs.Steps.{flush_trivia}
+use Rattle.typst_language.specs.Meaning.{Outcome, Meaning, Level, joined, hand_of, hand_asks_of, run}
+use Rattle.typst_language.proofs.Frame.{hand-frame}
+use Rattle.typst_language.proofs.Knot.{sane-at}
+use Rattle.typst_language.proofs.Looks.{same_in-shift, same_in-first, same_in-second}
+use Rattle.typst_language.proofs.Places.{moved-sum}
+use Rattle.typst_grammar.specs.Markup.{ends_block, markup_turn, markup_head}
+use Rattle.typst_grammar.specs.Grammar.{rules, max_depth, level_at}
+use Rattle.typst_edits.specs.BlockRuns.{inner, bracket, inner_lead, run_at}
+use Rattle.typst_edits.specs.Children.{read_from}
+use Rattle.typst_edits.specs.Edit.{text_with}
+use Rattle.typst_edits.specs.Heads.{first_place, onwards_by, NoneBackLaw, InnerNoneBackLaw, NoneBehindLaw, InnerNoneBehindLaw}
+use Rattle.typst_edits.specs.InnerChildren.{read_in}
+use Rattle.typst_edits.specs.InnerJoint.{onwards_in}
+use Rattle.typst_edits.specs.Joint.{minds, onwards_from}
+use Rattle.typst_edits.specs.Runs.{made, AllGo, End, end_of, asks_of, lead, pieces, end_at, piece_at}
+use Rattle.typst_edits.specs.Sequence.{turn_of, first_of, first_end, then_end, rest_of}
+use Rattle.typst_edits.specs.Spot.{Spot}
+use Rattle.typst_edits.proofs.BlockRuns.{sane}
+use Rattle.typst_edits.proofs.Boundary.{made-ends, turn-ends}
+use Rattle.typst_edits.proofs.Children.{tidy-together}
+use Rattle.typst_edits.proofs.Edit.{before-same, same_in-to}
+use Rattle.typst_edits.proofs.Heads.{head-law, inner-head-law}
+use Rattle.typst_edits.proofs.InnerChildren.{both-open}
+use Rattle.typst_edits.proofs.InnerJoint.{first-same, inner-joint-law}
+use Rattle.typst_edits.proofs.Joint.{onwards-is, joint-law}
+use Rattle.typst_edits.proofs.Runs.{moved-three}
+use Rattle.typst_edits.proofs.Root.{first-same as pieces-same}
+
+-- ---- where pieces end the token at hand was looked at
+
+module _ (l : Level) (stops : SyntaxKind → Bool) where
+  abbrev turn : Bool × ℕ → Meaning (Bool × (Bool × ℕ))
+  turn x = run l (markup_turn true stops x)
+
+  cut-same : (n : ℕ) (x : Bool × ℕ) (z w : Place) (s : Point) → AllGo (made turn (suc n) x z s) → SameIn (asks_of (made turn (suc n) x z s)) z w
+      → (let e = end_of x s (made turn (suc n) x z s) in (hand_of l (moved e.taken w) e.state).kind ≡ (hand_of l (moved e.taken z) e.state).kind)
+  cut-same n x z w s g same =
+      let os = made turn (suc n) x z s in
+      let e = end_of x s os in
+      let looks = hand_asks_of l (moved e.taken z) e.state in
+      let c = made-ends turn (λ q p. hand_asks_of l q p) (λ y q p h. turn-ends l stops y q p h) n x z s g in
+      let late = same_in-second c.early _ z w (subst (λ ls. SameIn ls z w) c.is same) in
+      let seen = same_in-shift e.taken looks z w (same_in-first (shift e.taken looks) _ z w late) in
+      ap (λ (h : Hand). h.kind) (hand-frame l.classes e.state.held e.state.known (moved e.taken z) (moved e.taken w) seen).hand
+
+-- so the expression that follows minds as before
+minds-same : (l : Level) (d e : End (Bool × ℕ)) (y v : Place) → d ≡ e → (hand_of l v e.state).kind ≡ (hand_of l y e.state).kind
+    → minds (markup_head d.value.0 d.value.1 (hand_of l v d.state).kind) ≡ minds (markup_head e.value.0 e.value.1 (hand_of l y e.state).kind)
+minds-same l d e y v same kind =
+    ap (λ (f : End (Bool × ℕ)). minds (markup_head f.value.0 f.value.1 (hand_of l v f.state).kind)) same ∙ ap (λ k. minds (markup_head e.value.0 e.value.1 k)) kind
+
+none-left : (a b : ℕ) → a ≤ b → b ≡ 0 → a ≡ 0
+none-left a b h e = omega (arith, h, e)
+
+-- ---- a text's run
+
+text-back : (k : CharClasses) (i n : ℕ) (z : Place) → (read_from k i n z).back ≤ (end_at k i z).state.empties
+text-back k i n z =
+    let e = end_at k i z in
+    (tidy-together (piece_at k) (λ v. (sane-at (rules k) k max_depth (markup_turn true is_end v)).backs) n e.value (moved e.taken z) e.state).back
+
+lead-empties : (k : CharClasses) (z : Place) → (lead k z).state.empties ≡ 0
+unfolding run
+lead-empties k z = refl
+
+pub none-back-law : NoneBackLaw
+none-back-law k front old new rest zero n m past t u h well =
+    let z = text_with front old rest in
+    let w = text_with front new rest in
+    record { back = none-left _ _ (text-back k 0 n z) (lead-empties k z); back_now = none-left _ _ (text-back k 0 m w) (lead-empties k w) }
+none-back-law k front old new rest (suc i) n m past t u h well =
+    let z = text_with front old rest in
+    let w = text_with front new rest in
+    let j = suc i in
+    let some : 0 < j = omega arith in
+    let seen = before-same _ front old new rest (h.before some) in
+    let f = pieces-same k j z w (λ l. seen) in
+    let new_first : AllGo (pieces k j w) = subst (λ os. AllGo os) (sym f.pieces_same) h.first_go in
+    let e = end_at k j z in
+    let d = end_at k j w in
+    let same : d ≡ e = ap (end_of (true, 0) (lead k z).state) f.pieces_same in
+    let kind = cut-same (level_at k max_depth) is_end i (true, 0) z w (lead k z).state h.first_go (same_in-second (lead k z).asks _ z w seen) in
+    let place : moved d.taken w ≡ moved e.taken w = ap (λ (a : End (Bool × ℕ)). moved a.taken w) same in
+    let minded = minds-same (level_at k max_depth) d e (moved e.taken z) (moved d.taken w) same (ap (λ p. (hand_of (level_at k max_depth) p e.state).kind) place ∙ kind) in
+    let was = head-law k z j n h.first_go h.old_go in
+    let now = head-law k w j m new_first h.new_go in
+    let mild = was.first (well some).0 (well some).1 in
+    record { back = was.pieces_back mild; back_now = now.pieces_back (minded ∙ mild) }
+
+-- ---- a content block's run
+
+block-back : (k : CharClasses) (levels i n : ℕ) (c : Spot (Unit {0})) (z : Place) → (read_in k levels i n c z).back ≤ (first_end i (run_at k levels c z)).state.empties
+block-back k levels i n c z =
+    let r = run_at k levels c z in
+    let e = first_end i r in
+    (tidy-together (turn_of r) (λ v. (sane k levels (markup_turn true ends_block v)).backs) n e.value (moved e.taken r.place) e.state).back
+
+block-empties : (k : CharClasses) (levels : ℕ) (c : Spot (Unit {0})) (z : Place) → (bracket k levels (moved c.at z) (point_of c.start)).state.empties ≡ 0 → (run_at k levels c z).point.empties ≡ 0
+unfolding run
+block-empties k levels c z e = e
+
+pub inner-none-back-law : InnerNoneBackLaw
+inner-none-back-law k levels front old new rest c zero n m past t u chosen h well =
+    let z = text_with front old rest in
+    let w = text_with front new rest in
+    let opens = both-open k levels front old new rest c 0 n m past t u chosen h in
+    record {
+      back = none-left _ _ (block-back k levels 0 n c z) (block-empties k levels c z opens.old_opens.empties);
+      back_now = none-left _ _ (block-back k levels 0 m c w) (block-empties k levels c w opens.new_opens.empties);
+    }
+inner-none-back-law k levels front old new rest c (suc i) n m past t u chosen h well =
+    let z0 = text_with front old rest in
+    let w0 = text_with front new rest in
+    let z = moved c.at z0 in
+    let w = moved c.at w0 in
+    let s = point_of c.start in
+    let j = suc i in
+    let some : 0 < j = omega arith in
+    let l = inner k levels in
+    let r = run_at k levels c z0 in
+    let q = run_at k levels c w0 in
+    let b = bracket k levels z s in
+    let looks = h.pieces.looks in
+    let f = first-same k levels front old new rest c j looks in
+    let seen : SameIn ((inner_lead k levels z s).asks ++ asks_of (first_of j r)) r.place (moved b.taken w) =
+    same_in-to _ _ _ _ _ (sym (moved-sum c.at b.taken z0)) (sym (moved-sum c.at b.taken w0)) (same_in-shift (c.at + b.taken) _ z0 w0 (before-same _ front old new rest (looks.before_run some))) in
+    let new_first : AllGo (first_of j q) = subst (λ os. AllGo os) (sym f.first) h.pieces.first_go in
+    let e = first_end j r in
+    let d = first_end j q in
+    let same : d ≡ e = ap (end_of (true, 0) r.point) f.first in
+    let kind = cut-same l ends_block i (true, 0) r.place (moved b.taken w) r.point h.pieces.first_go (same_in-second (inner_lead k levels z s).asks _ r.place (moved b.taken w) seen) in
+    let place : first_place j q ≡ moved e.taken (moved b.taken w) =
+    ap (λ (a : End (Bool × ℕ)). moved a.taken q.place) same ∙ ap (λ (o : Outcome (Unit {0})). moved e.taken (moved o.taken w)) f.opened in
+    let minded = minds-same l d e (first_place j r) (first_place j q) same (ap (λ p. (hand_of l p e.state).kind) place ∙ kind) in
+    let was = inner-head-law k levels z s j n h.pieces.first_go h.pieces.old_go in
+    let now = inner-head-law k levels w s j m new_first h.pieces.new_go in
+    let mild = was.first (well some).0 (well some).1 in
+    record { back = was.pieces_back mild; back_now = now.pieces_back (minded ∙ mild) }
+
+-- ---- behind the pieces
+
+pub none-behind-law : NoneBehindLaw
+none-behind-law k front old new rest i n m past t u h well =
+    let z = text_with front old rest in
+    let heads = head-law k z i n h.first_go h.old_go in
+    let back_of = λ (o : Outcome (Unit {0})). o.back in
+    let was : (onwards_from k i n z).back ≡ 0 = ap back_of (onwards-is k i n z) ∙ heads.behind_back (λ over. heads.next (well over) over) in
+    record { back = was; back_now = (joint-law k front old new rest i n m past t u h).behind.back ∙ was }
+
+inner-onwards-is : (k : CharClasses) (levels i n : ℕ) (c : Spot (Unit {0})) (z : Place) → onwards_in k levels i n c z ≡ onwards_by i n (run_at k levels c z)
+unfolding run
+inner-onwards-is k levels i n c z =
+    let r = run_at k levels c z in
+    let rest = rest_of i n r in
+    ap (λ p. joined rest (run (inner k levels) flush_trivia p rest.state)) (moved-three (first_end i r).taken (then_end i n r).taken rest.taken r.place)
+
+pub inner-none-behind-law : InnerNoneBehindLaw
+inner-none-behind-law k levels front old new rest c i n m past t u chosen h well =
+    let z = text_with front old rest in
+    let heads = inner-head-law k levels (moved c.at z) (point_of c.start) i n h.pieces.first_go h.pieces.old_go in
+    let back_of = λ (o : Outcome (Unit {0})). o.back in
+    let was : (onwards_in k levels i n c z).back ≡ 0 = ap back_of (inner-onwards-is k levels i n c z) ∙ heads.behind_back (λ over. heads.next (well over) over) in
+    record { back = was; back_now = (inner-joint-law k levels front old new rest c i n m past t u chosen h).behind.back ∙ was }

@@ -1,0 +1,330 @@
+-- The notes of a run by their numbers.
+use Rattle.std.proofs.Common.{◌≡◌, ℕ, zero, suc, ◌+◌, ◌-◌, ◌<◌, ◌==◌, ne_eqb, Bool, true, false, ◌&&◌, nat_lt, List, [], ◌∷◌, ◌++◌, length, take, append_assoc, Some, refl, ap, sym, ◌∙◌, subst, arith}
+use borrow.Author.Tests.{ltb-true}
+use Rattle.typst_kinds.specs.declared.kind.SyntaxKind.{SyntaxKind}
+use Rattle.typst_kinds.specs.declared.kind.SyntaxKind.TheVariants as kind
+use Rattle.typst_lines.specs.Place.{Place, moved}
+use Rattle.typst_lines.specs.Classes.{CharClasses}
+use Rattle.typst_tokens.specs.Sight.{width, position}
+use Rattle.typst_language.specs.declared.calls.Block.{Block}
+use Rattle.typst_language.specs.declared.calls.Block.TheVariants as block
+use Rattle.typst_language.specs.declared.calls.Call.{Call}
+use Rattle.typst_language.specs.declared.calls.Call.TheVariants.{MarkupExpr}
+use Rattle.typst_language.specs.declared.calls.Mark.{Mark}
+use Rattle.typst_language.specs.declared.calls.Mark.TheVariants as mark
+use Rattle.typst_language.specs.declared.calls.Note.{Note}
+use Rattle.typst_language.specs.declared.reading.Reading.{Reading}
+use Rattle.typst_language.specs.declared.reading.State.{State}
+use Rattle.typst_language.specs.Ask.{Ask, shift}
+use Rattle.typst_language.specs.Ask.Ask.{marked}
+use Rattle.typst_language.specs.Depth.{deeper, is_end}
+use Rattle.typst_language.specs.Hand.{told, len_at, hand_at}
+use Rattle.typst_language.specs.Log.{Log, no_log, with_note, logged}
+use Rattle.typst_language.specs.Point.{Trivia, Point, gap_of, point_of, state_of}
+use Rattle.typst_language.specs.Shape.{after_node}
+use Rattle.typst_language.specs.Meaning.{Outcome, Meaning, Level, joined, turns, as_last, bound, repeated, start_point, hand_of, hand_asks_of, asked, run}
+use Rattle.typst_language.proofs.Knot.{Sane, sane-run, sane-meaning, sane-block, sane-plain}
+use Rattle.typst_language.proofs.Places.{moved-sum}
+use Rattle.typst_language.proofs.Within.{and-second}
+use Rattle.typst_grammar.specs.Markup.{ends, markup_turn, markup_head, markup_reading, ends_block}
+use Rattle.typst_grammar.specs.Grammar.{rules, max_depth, level_at, start_of, whole, parsed, log}
+use Rattle.typst_edits.specs.BlockRuns.{inner, look_first, look_again, bracket, inner_lead, inner_run, inner_tail, inner_close, run_at, opened_at}
+use Rattle.typst_edits.specs.InnerBytes.{inner_end}
+use Rattle.typst_edits.specs.Joint.{minds}
+use Rattle.typst_edits.specs.Laws.{blocks_of_text, block_at}
+use Rattle.typst_edits.specs.Named.{Named}
+use Rattle.typst_edits.specs.NumberedNotes.{of_level, Numbered, cut_behind, SaysOf, NumberedRunLaw, NumberedInnerLaw}
+use Rattle.typst_edits.specs.Occurrences.{goes}
+use Rattle.typst_edits.specs.PieceNotes.{listed, Says}
+use Rattle.typst_edits.specs.Runs.{made, AllGo, End, end_of, piece_at, end_at, start, lead, tail}
+use Rattle.typst_edits.specs.Sequence.{Sequence, turn_of}
+use Rattle.typst_edits.specs.Spot.{lowered, unit_at, ended}
+use Rattle.typst_edits.proofs.Blocks.{ends as block-ends}
+use Rattle.typst_edits.proofs.BlockRuns.{content-is}
+use Rattle.typst_edits.proofs.Boundary.{KnownAt, stopped-is, stopped-asks, turn-asks, early-marks, turn-goes, turn-known, piece_mark}
+use Rattle.typst_edits.proofs.Bytes.{logged-append, noted-by, noted-more, asks-are}
+use Rattle.typst_edits.proofs.Edit.{among}
+use Rattle.typst_edits.proofs.Inside.{Lawful}
+use Rattle.typst_edits.proofs.InnerBytes.{asks_before, run_mark, content-asks}
+use Rattle.typst_edits.proofs.InTurn.{InTurn, turn-append, turn-next, turn-by, turn-shift, Deeper, turn-none, NoteNth, noted-nth, numbered-by, logged-lowered}
+use Rattle.typst_edits.proofs.Joint.{takes-call}
+use Rattle.typst_edits.proofs.Law.{inside-level}
+use Rattle.typst_edits.proofs.Led.{same-judged, Takes}
+use Rattle.typst_edits.proofs.Marks.{marks-append, marks-shift, none-hand}
+use Rattle.typst_edits.proofs.Names.{named-level}
+use Rattle.typst_edits.proofs.PieceNotes.{goes-on, flush-marks, close-marks}
+use Rattle.typst_edits.proofs.Root.{whole-is}
+use Rattle.typst_edits.proofs.RunTrees.{whole-asks}
+use Rattle.typst_edits.proofs.Spots.{if-true, if-false}
+use Rattle.typst_edits.proofs.Widths.{width-moved}
+
+-- the mark of a number stands where so many turns end
+pub record EndsNth (m : Bool × ℕ → Meaning (Bool × (Bool × ℕ))) (x : Bool × ℕ) (z : Place) (s : Point) (i at gap : ℕ) (what : Mark) (state : State) : Type 0 where
+  pub at_is : at ≡ (end_of x s (made m i x z s)).taken
+  pub gap_is : gap ≡ gap_of (end_of x s (made m i x z s)).state.known
+  pub says : (let e = end_of x s (made m i x z s) in what ≡ mark.Piece e.value.0 e.value.1)
+  pub told : state ≡ state_of (end_of x s (made m i x z s)).state
+
+-- the turns of a run and their marks
+pub record TurnMarks (m : Bool × ℕ → Meaning (Bool × (Bool × ℕ))) (x : Bool × ℕ) (z : Place) (s : Point) (asks : List Ask) : Type 0 where
+  pub count : ℕ
+  pub go : AllGo (made m count x z s)
+  pub over : (let e = end_of x s (made m count x z s) in goes (m e.value (moved e.taken z) e.state) ≡ false)
+  pub marks : InTurn (EndsNth m x z s) 1 (suc count) asks
+
+module _ (l : Level) (sd : (c : Call) → Sane (l.deeper c)) (sb : (b : Block) → Sane (l.blocks b)) (deep : (l.levels == 0) ≡ false) (stops : SyntaxKind → Bool) (end_stops : stops kind.End ≡ true)
+    (call : (h : Reading) (z : Place) (t : Trivia) (x : Bool × ℕ) → 0 < len_at l.classes h.mode (moved t.gap z) → Takes h z t t (minds (markup_head x.0 x.1 (hand_at l.classes h (Some t) z).kind)) (l.deeper (MarkupExpr x.0 x.1))) where
+  abbrev turn : Bool × ℕ → Meaning (Bool × (Bool × ℕ))
+  turn x = run l (markup_turn true stops x)
+
+  -- a turn that isn't stopped notes its end alone
+  one-mark : (x : Bool × ℕ) (z : Place) (s : Point) → ends stops x.1 (told (hand_of l z s)).kind ≡ false → InTurn (EndsNth turn x z s) 1 2 (turn x z s).asks
+  one-mark x z s go =
+      let o = turn x z s in
+      let P = EndsNth turn x z s in
+      let d = run l (deeper (MarkupExpr x.0 x.1) x.1) z (asked (hand_of l z s) s) in
+      let there = moved d.taken z in
+      let after = asked (hand_of l there d.state) d.state in
+      let looks = hand_asks_of l there after in
+      let quiet = marks-shift Deeper o.taken looks (none-hand Deeper l.classes after.held after.known there) in
+      let own : P 1 o.taken (gap_of o.state.known) (mark.Piece o.value.1.0 o.value.1.1) (state_of o.state) = record { at_is = omega arith; gap_is = refl; says = refl; told = refl } in
+      let early = hand_asks_of l z s ++ (d.asks ++ shift d.taken (hand_asks_of l there d.state)) in
+      let last : InTurn P 1 2 (piece_mark o.taken o.value.1 o.state ∷ shift o.taken looks) = (own, turn-none P 2 (shift o.taken looks) quiet) in
+      subst (λ u. InTurn P 1 2 u) (sym (turn-asks l stops x z s go))
+      (turn-append P 1 1 2 early (shift o.taken looks ++ piece_mark o.taken o.value.1 o.state ∷ shift o.taken looks) (turn-none P 1 early (early-marks l stops x z s Deeper deep (λ at fewer m p. omega arith)))
+      (turn-append P 1 1 2 (shift o.taken looks) _ (turn-none P 1 (shift o.taken looks) quiet) last))
+
+  turn-by-end : (n : ℕ) (x : Bool × ℕ) (z : Place) (s : Point) → KnownAt s → bound z s < suc n → ((y : Bool × ℕ) (w : Place) (p : Point) → KnownAt p → bound w p < n → TurnMarks turn y w p (turns turn n y w p).asks)
+      → (b : Bool) → ends stops x.1 (told (hand_of l z s)).kind ≡ b → TurnMarks turn x z s (turns turn (suc n) x z s).asks
+  turn-by-end n x z s known h rest true e =
+      let o = turn x z s in
+      let stopped : goes o ≡ false = ap (λ b. b && nat_lt 0 o.taken) (stopped-is l stops x z s e) in
+      let is : (turns turn (suc n) x z s).asks ≡ hand_asks_of l z s ++ [] =
+      ap (λ (u : Outcome (Bool × ℕ)). u.asks) (if-false (goes o) _ (as_last o) stopped) ∙ stopped-asks l stops x z s e in
+      let quiet = marks-append Deeper (hand_asks_of l z s) [] (none-hand Deeper l.classes s.held s.known z) tt in
+      record { count = 0; go = tt; over = stopped; marks = subst (λ u. InTurn (EndsNth turn x z s) 1 1 u) (sym is) (turn-none (EndsNth turn x z s) 1 (hand_asks_of l z s ++ []) quiet) }
+  turn-by-end n x z s known h rest false e =
+      let o = turn x z s in
+      let y = moved o.taken z in
+      let P = EndsNth turn x z s in
+      let g = goes-on l sd sb deep stops end_stops call x z s known e in
+      let some : 0 < o.taken = ltb-true 0 o.taken (and-second o.value.0 (nat_lt 0 o.taken) g) in
+      let most = (sane-run l sd sb (markup_turn true stops x)).within z s in
+      let more = turns turn n o.value.1 y o.state in
+      let is : (turns turn (suc n) x z s).asks ≡ o.asks ++ shift o.taken more.asks = ap (λ (u : Outcome (Bool × ℕ)). u.asks) (if-true (goes o) (joined o more) (as_last o) g) in
+      let r = rest o.value.1 y o.state (turn-known l stops x z s (turn-goes l stops x z s e)) (omega (arith, h, some, most)) in
+      let c = r.count in
+      let end = end_of o.value.1 o.state (made turn c o.value.1 y o.state) in
+      let later = turn-next (EndsNth turn o.value.1 y o.state) (λ i at gap m p. P i (o.taken + at) gap m p)
+      (λ i at gap m p hh. (let there = hh.at_is in record { at_is = ap (λ a. o.taken + a) there; gap_is = hh.gap_is; says = hh.says; told = hh.told })) 1 (suc c) more.asks r.marks in
+      record {
+        count = suc c;
+        go = (g, r.go);
+        over = ap (λ w. goes (turn end.value w end.state)) (moved-sum o.taken end.taken z) ∙ r.over;
+        marks = subst (λ u. InTurn P 1 (suc (suc c)) u) (sym is) (turn-append P 1 2 (suc (suc c)) o.asks (shift o.taken more.asks) (one-mark x z s e) (turn-shift P o.taken 2 (suc (suc c)) more.asks later));
+      }
+
+  turn-in : (n : ℕ) (x : Bool × ℕ) (z : Place) (s : Point) → KnownAt s → bound z s < n → TurnMarks turn x z s (turns turn n x z s).asks
+  turn-in zero x z s known h = absurd (omega (arith, h))
+  turn-in (suc n) x z s known h = turn-by-end n x z s known h (turn-in n) (ends stops x.1 (told (hand_of l z s)).kind) refl
+
+  pub run-in : (x : Bool × ℕ) (z : Place) (s : Point) → KnownAt s → TurnMarks turn x z s (repeated turn x z s).asks
+  unfolding repeated
+  run-in x z s known = turn-in (suc (bound z s)) x z s known (omega arith)
+
+-- with where the token behind them begins, from the start of the run on
+pub record CutsNth (m : Bool × ℕ → Meaning (Bool × (Bool × ℕ))) (x : Bool × ℕ) (z : Place) (s : Point) (from i at gap : ℕ) (what : Mark) (state : State) : Type 0 where
+  pub at_is : at ≡ from + (end_of x s (made m i x z s)).taken
+  pub cut : at + gap ≡ from + cut_behind i (end_of x s (made m i x z s))
+  pub says : (let e = end_of x s (made m i x z s) in what ≡ mark.Piece e.value.0 e.value.1)
+  pub told : state ≡ state_of (end_of x s (made m i x z s)).state
+
+-- the marks of a run, behind its own, in a list of all that is asked from its start on
+pub cuts-in : (m : Bool × ℕ → Meaning (Bool × (Bool × ℕ))) (x : Bool × ℕ) (z : Place) (s : Point) (d count : ℕ) (asks : List Ask) → InTurn (EndsNth m x z s) 1 (suc count) asks
+    → InTurn (λ i at gap what state. CutsNth m x z s d i (d + at) gap what state) 1 (suc count) asks
+cuts-in m x z s d count asks h = turn-by (EndsNth m x z s) (λ i at gap what state. CutsNth m x z s d i (d + at) gap what state)
+    (λ i at gap what state g. (let there = g.at_is in let behind = g.gap_is in record { at_is = omega (arith, there); cut = omega (arith, there, behind); says = g.says; told = g.told })) 0 (suc count) asks h
+
+pub cut-from : (d i : ℕ) (u : End (Bool × ℕ)) → cut_behind i (record u { taken = d + u.taken }) ≡ d + cut_behind i u
+cut-from d zero u = refl
+cut-from d (suc i) u = omega arith
+
+-- what such a note says
+says-of : (m : Bool × ℕ → Meaning (Bool × (Bool × ℕ))) (x : Bool × ℕ) (z : Place) (s : Point) (d : ℕ) (text : List ℕ) (e : ℕ → End (Bool × ℕ)) (i : ℕ) (note : Note)
+    → e i ≡ (let u = end_of x s (made m i x z s) in record u { taken = d + u.taken })
+    → NoteNth (λ j at gap what state. CutsNth m x z s d j at gap what state) (start_of text) i note → SaysOf text e i note
+unfolding position
+says-of m x z s d text e i note same n =
+    let u = end_of x s (made m i x z s) in
+    let v : End (Bool × ℕ) = record u { taken = d + u.taken } in
+    let w = start_of text in
+    let h = n.holds in
+    let says : Says text note v = record { mark = n.mark ∙ h.says; before = n.before ∙ width-moved n.at text ∙ ap (λ a. width (take a text)) h.at_is; state = n.state ∙ h.told } in
+    let begins : note.start ≡ width (take (cut_behind i v) text) =
+    n.start ∙ ap (λ (y : Place). width y.behind) (sym (moved-sum n.at n.gap w)) ∙ width-moved (n.at + n.gap) text ∙ ap (λ a. width (take a text)) (h.cut ∙ sym (cut-from d i u)) in
+    let both = subst (λ (y : End (Bool × ℕ)). Says text note y × (note.start ≡ width (take (cut_behind i y) text))) (sym same) (says, begins) in
+    record { says = both.0; start = both.1 }
+
+from-start : (u : End (Bool × ℕ)) → u ≡ record u { taken = 0 + u.taken }
+from-start u = ap (λ n. record u { taken = n }) (omega arith)
+
+-- ---- a text's run
+
+pub numbered-run-law : NumberedRunLaw
+unfolding log run
+numbered-run-law k text =
+    let z = start_of text in
+    let s = (lead k z).state in
+    let q = repeated (piece_at k) (true, 0) z s in
+    let t = tail k q.taken q.state z in
+    let is = ap (λ (o : Outcome (Unit {0})). o.asks) (whole-is k text) ∙ whole-asks k z q t in
+    let r = run-in (level_at k max_depth) (sane-meaning (rules k) k max_depth) (sane-block (rules k) k max_depth) refl is_end refl (λ h y u x more. takes-call k 255 h y u u (same-judged h u) x more)
+    (true, 0) z s (record { trivia = _; is = refl }) in
+    let P = λ (i at gap : ℕ) (m : Mark) (p : State). CutsNth (piece_at k) (true, 0) z s 0 i at gap m p in
+    let c = suc r.count in
+    let first = turn-none P 1 (lead k z).asks (none-hand Deeper k start.held start.known z) in
+    let own = turn-by (EndsNth (piece_at k) (true, 0) z s) P (λ i at gap m p g. (let there = g.at_is in let behind = g.gap_is in record { at_is = omega (arith, there); cut = omega (arith, there, behind); says = g.says; told = g.told })) 0 c q.asks r.marks in
+    let last = turn-none P c (shift q.taken t.asks) (marks-shift Deeper q.taken t.asks (flush-marks Deeper (level_at k max_depth) (moved q.taken z) q.state)) in
+    let marks = subst (λ u. InTurn P 0 c u) (sym is)
+    (record { at_is = refl; cut = refl; says = refl; told = refl }, turn-append P 1 c c ((lead k z).asks ++ q.asks) _ (turn-append P 1 1 c (lead k z).asks q.asks first own) last) in
+    let n = noted-nth P 255 z (parsed k max_depth text).asks no_log [] 0 c refl marks in
+    let there : listed (log k text).notes ≡ n.more = ap listed n.is in
+    let own_notes = sym (ap (of_level max_depth) there) in
+    let all = n.all in
+    let all_are : length (of_level max_depth n.more) ≡ c = omega (arith, all) in
+    record {
+      count = r.count;
+      go = r.go;
+      over = r.over;
+      all = subst (λ ns. length ns ≡ c) own_notes all_are;
+      each = subst (λ ns. Numbered (SaysOf text (λ i. end_at k i z)) 0 ns) own_notes (numbered-by (NoteNth P z) _ (λ i note h. says-of (piece_at k) (true, 0) z s 0 text (λ j. end_at k j z) i note (from-start (end_at k i z)) h) 0 (of_level max_depth n.more) n.each);
+    }
+
+-- ---- a content block's run
+
+module _ (k : CharClasses) (levels : ℕ) (z : Place) (s : Point) where
+  abbrev the_run : Sequence
+  the_run = inner_run k levels z s
+
+  abbrev opened : ℕ
+  opened = (bracket k levels z s).taken
+
+  -- the marks of a number, counted from where the block begins
+  abbrev Cut : ℕ → ℕ → ℕ → ℕ → Mark → State → Type 0
+  Cut from i at gap m p = CutsNth (turn_of the_run) (true, 0) the_run.place the_run.point from i at gap m p
+
+  block-turns : TurnMarks (turn_of the_run) (true, 0) the_run.place the_run.point (repeated (turn_of the_run) (true, 0) the_run.place the_run.point).asks
+  unfolding run
+  block-turns =
+      let r = the_run in
+      let sd = sane-meaning (rules k) k (suc levels) in
+      run-in (inner k levels) sd (λ b. sane-plain tt) (ne_eqb (suc levels) 0 (omega arith)) ends_block refl (λ a y u x more. takes-call k levels a y u u (same-judged a u) x more) (true, 0) r.place r.point (record { trivia = _; is = refl })
+
+  block-cuts : InTurn (λ i at gap m p. Cut opened i at gap m p) 0 (suc block-turns.count) (block_at k (suc levels) block.Content z s).asks
+  unfolding run
+  block-cuts =
+      let r = the_run in
+      let o = repeated (turn_of r) (true, 0) r.place r.point in
+      let t = inner_tail k levels o.taken o.state r.place in
+      let close = inner_close k levels (o.taken + t.taken) t.state r.place in
+      let is = ap (λ (u : Outcome (Unit {0})). u.asks) (content-is k levels z s) ∙ content-asks k levels z s o t close in
+      let c = suc block-turns.count in
+      let P = λ (i at gap : ℕ) (m : Mark) (p : State). Cut opened i at gap m p in
+      let Q = λ (i at gap : ℕ) (m : Mark) (p : State). Cut opened i (opened + at) gap m p in
+      let b = bracket k levels z s in
+      let s1 = (look_first k levels z s).state in
+      let s2 = (look_again k levels z s).state in
+      let before = marks-append Deeper (look_first k levels z s).asks _ (none-hand Deeper k s.held s.known z)
+      (marks-append Deeper (look_again k levels z s).asks b.asks (none-hand Deeper k s1.held s1.known z) (none-hand Deeper k s2.held s2.known z)) in
+      let ls = (inner_lead k levels z s).asks in
+      let first = turn-none Q 1 ls (none-hand Deeper k b.state.held b.state.known r.place) in
+      let own = cuts-in (turn_of r) (true, 0) r.place r.point opened block-turns.count o.asks block-turns.marks in
+      let behind = t.asks ++ shift t.taken close.asks in
+      let last = marks-shift Deeper o.taken behind (marks-append Deeper t.asks (shift t.taken close.asks) (flush-marks Deeper (inner k levels) (moved o.taken r.place) o.state)
+      (marks-shift Deeper t.taken close.asks (close-marks k levels z s Deeper (moved (o.taken + t.taken) r.place) (after_node false [] t.state)))) in
+      let all = run_mark k levels z s ∷ ((ls ++ o.asks) ++ shift o.taken behind) in
+      let mark_is : Q 0 0 0 (mark.Piece true 0) (state_of b.state) = record { at_is = refl; cut = omega arith; says = refl; told = refl } in
+      let in_run : InTurn Q 0 c all = (mark_is, turn-append Q 1 c c (ls ++ o.asks) (shift o.taken behind) (turn-append Q 1 1 c ls o.asks first own) (turn-none Q c (shift o.taken behind) last)) in
+      subst (λ u. InTurn P 0 c u) (sym is) (turn-append P 0 0 c (asks_before k levels z s) (shift opened all) (turn-none P 0 (asks_before k levels z s) before) (turn-shift P opened 0 c all in_run))
+
+-- counted from so many characters before
+nth-moved : (m : Bool × ℕ → Meaning (Bool × (Bool × ℕ))) (x : Bool × ℕ) (y : Place) (s : Point) (a d i : ℕ) (z : Place) (note : Note)
+    → NoteNth (λ j at gap what state. CutsNth m x y s d j at gap what state) (moved a z) i note → NoteNth (λ j at gap what state. CutsNth m x y s (a + d) j at gap what state) z i note
+nth-moved m x y s a d i z note n =
+    let h = n.holds in
+    let at_is = h.at_is in
+    let cut = h.cut in
+    record {
+      at = a + n.at;
+      gap = n.gap;
+      says = n.says;
+      told = n.told;
+      holds = record { at_is = omega (arith, at_is); cut = omega (arith, cut); says = h.says; told = h.told };
+      mark = n.mark;
+      before = n.before ∙ ap position (sym (moved-sum a n.at z));
+      start = n.start ∙ ap (λ w. position (moved n.gap w)) (sym (moved-sum a n.at z));
+      state = n.state;
+    }
+
+pub numbered-inner-law : NumberedInnerLaw
+unfolding blocks_of_text log position
+numbered-inner-law k levels text c chosen name left =
+    let z = start_of text in
+    let o = parsed k max_depth text in
+    let l = among (Lawful z z o o) c _ chosen (inside-level (rules k) k (block-ends k) max_depth whole z z (start_point markup_reading)) in
+    let named = among (Named (block_at k) max_depth) c _ chosen (named-level (rules k) k max_depth whole z (start_point markup_reading)) in
+    let s = point_of c.start in
+    let y = moved c.at z in
+    let u = unit_at c z in
+    let reads : u ≡ ended (block_at k (suc levels) block.Content y s) =
+    ap (λ m. m y s) named.reads ∙ ap (λ v. ended (block_at k v c.name y s)) left ∙ ap (λ x. ended (block_at k (suc levels) x y s)) name in
+    let b = opened k levels y s in
+    let f = c.fewer in
+    let turns_are = block-turns k levels y s in
+    let n = suc turns_are.count in
+    let P = λ (i at gap : ℕ) (m : Mark) (p : State). Cut k levels y s b i at gap m p in
+    let marks = subst (λ (v : Outcome (Unit {0})). InTurn P 0 n v.asks) (sym reads) (block-cuts k levels y s) in
+    let own = shift c.at (lowered f u.asks) in
+    -- its notes
+    let end = c.at + u.taken in
+    let late = shift end named.later in
+    let opens_mark = marked c.at 0 f (mark.Opens c.name) c.start in
+    let closes_state = state_of c.reached in
+    let closes_mark = marked (end + 0) 0 f mark.Closes closes_state in
+    let asks = asks-are o.asks c.before named.earlier own (shift end c.after) late opens_mark closes_mark (ap (λ (v : Outcome (Unit {0})). v.asks) l.old) named.opened (ap (shift end) named.closed) in
+    let log_one = logged max_depth z no_log named.earlier in
+    let h1 = with_note 0 (max_depth - f) (mark.Opens c.name) c.start (moved c.at z) log_one in
+    let log_two = logged max_depth z h1 own in
+    let h2 = with_note 0 (max_depth - f) mark.Closes closes_state (moved (end + 0) z) log_two in
+    let is : logged max_depth z no_log o.asks ≡ logged max_depth z h2 late =
+    ap (logged max_depth z no_log) asks ∙ logged-append max_depth z no_log named.earlier _ ∙ logged-append max_depth z h1 own _ in
+    let note_one : Note = record { mark = mark.Opens c.name; before = position (moved c.at z); start = position (moved 0 (moved c.at z)); levels = max_depth - f; state = c.start; reach = log_one.reach; least = log_one.least } in
+    let note_two : Note = record { mark = mark.Closes; before = position (moved (end + 0) z); start = position (moved 0 (moved (end + 0) z)); levels = max_depth - f; state = closes_state; reach = log_two.reach; least = log_two.least } in
+    let one = noted-by max_depth z named.earlier no_log [] refl in
+    let front = one.more ++ note_one ∷ [] in
+    let inner_is : log_two ≡ logged (suc levels) y h1 u.asks = logged-lowered max_depth f c.at z h1 u.asks ∙ ap (λ v. logged v y h1 u.asks) left in
+    let two = noted-nth P levels y u.asks h1 front 0 n (noted-more note_one log_one.notes one.more one.is) marks in
+    let all = two.all in
+    let three = noted-by max_depth z late h2 ((front ++ two.more) ++ note_two ∷ []) (noted-more note_two log_two.notes (front ++ two.more) (ap (λ (v : Log). v.notes) inner_is ∙ two.is)) in
+    record {
+      earlier = one.more;
+      opens = note_one;
+      inner = two.more;
+      closes = note_two;
+      later = three.more;
+      notes = ap (λ (v : Log). v.notes) is ∙ three.is ∙ ap Some (append_assoc (front ++ two.more) (note_two ∷ []) three.more ∙ append_assoc front two.more (note_two ∷ three.more) ∙ append_assoc one.more (note_one ∷ []) (two.more ++ note_two ∷ three.more));
+      name = refl;
+      start = width-moved c.at text;
+      levels_there = left;
+      state = refl;
+      name_end = refl;
+      end = width-moved (end + 0) text ∙ ap (λ a. width (take a text)) (omega arith);
+      levels_end = left;
+      count = turns_are.count;
+      go = turns_are.go;
+      over = turns_are.over;
+      all = omega (arith, all);
+      each = numbered-by (NoteNth P y) _
+          (λ i note h. says-of (turn_of (run_at k levels c z)) (true, 0) (run_at k levels c z).place (run_at k levels c z).point (opened_at k levels c z) text (λ j. inner_end k levels j c z) i note refl
+          (nth-moved (turn_of (run_at k levels c z)) (true, 0) (run_at k levels c z).place (run_at k levels c z).point c.at b i z note h)) 0 (of_level (suc levels) two.more) two.each;
+    }

@@ -1,0 +1,131 @@
+-- Children replaced: an equal front is set aside as it stands, and spans aside they are those exchanged.
+use Rattle.std.proofs.Common.{◌≡◌, ℕ, zero, suc, true, ◌+◌, ◌-◌, List, [], ◌∷◌, ◌++◌, length, take, drop, reverse, map, Option, Some, None, refl, ap, sym, ◌∙◌, arith, length-append}
+use Rattle.std.specs.Prelude.{option_map, option_and_then, slice_get, slice_set, slice_range}
+use Rattle.std.proofs.Math.Seq.{drop-append-add, take-nil}
+use Rattle.std.proofs.lemmas.List.{drop-drop, map-append, take-map, drop-map}
+use Rattle.typst_kinds.specs.Span.{SpanValue}
+use Rattle.typst_kinds.specs.Head.{Head, bare_head}
+use Rattle.typst_tree.specs.Tree.{Forest, none, more, Tree, forest, trees, bare, bare_forest, at_tree}
+use Rattle.typst_tree.specs.Same.{same_tree, front}
+use Rattle.typst_tree.specs.Replace.{kids_of, with_kids, middle, back, swapped, exchanged, in_file, replaced_at, At}
+use Rattle.typst_tree.specs.Laws.{AtPath, put_at}
+use Rattle.typst_tree.proofs.SpansAside.{forest_trees, forest_bare}
+use Rattle.typst_tree.proofs.SameTree.{same_from_bare}
+use Rattle.typst_tree.proofs.ReplacesChildren.{replaces_children}
+use Rattle.typst_edits.specs.Children.{with_children, exchanged as exchanged_nodes}
+use Rattle.typst_edits.specs.Edit.{alter}
+use Rattle.typst_edits.specs.Replaced.{Begins, FrontLaw, ReplacedLaw, PutLaw, ExchangedLaw}
+
+-- ---- an equal front
+
+front-kept : (old kept new : List Tree) → map bare (take (length kept) old) ≡ map bare kept → front old (kept ++ new) ≡ length kept + front (drop (length kept) old) new
+front-kept old [] new e = omega arith
+front-kept [] (k ∷ kept) new e = absurd (omega (arith, ap length e))
+front-kept (x ∷ old) (k ∷ kept) new e =
+    let same : same_tree x k ≡ true = same_from_bare x k (cc) in
+    let more : front old (kept ++ new) ≡ length kept + front (drop (length kept) old) new = front-kept old kept new (cc) in
+    rw same (omega (arith, more))
+
+-- a stretch of a list without its first elements
+drop-of-take : (d n m : ℕ) (xs : List Tree) → n - d ≡ m → drop d (take n xs) ≡ take m (drop d xs)
+drop-of-take zero n m xs is =
+    let same : n ≡ m = omega (arith, is) in
+    ap (λ j. take j xs) same
+drop-of-take (suc d) zero m xs is =
+    let same : 0 ≡ m = omega (arith, is) in
+    ap (λ j. take j (drop (suc d) xs)) same
+drop-of-take (suc d) (suc n) m [] is = sym (take-nil m)
+drop-of-take (suc d) (suc n) m (x ∷ xs) is = drop-of-take d n m xs (omega (arith, is))
+
+stretch-behind : (xs : List Tree) (from to d : ℕ) → drop d (slice_range xs from to) ≡ slice_range xs (from + d) to
+stretch-behind xs from to d =
+    drop-of-take d (to - from) (to - (from + d)) (drop from xs) (omega arith) ∙ ap (take (to - (from + d))) (drop-drop d from xs)
+
+-- what is set aside at the end, and what is between, where d more are set aside at the front
+back-behind : (old kept new rest : List Tree) (a all : ℕ) → drop (length kept) old ≡ rest → all ≡ length kept + a → back all old (kept ++ new) ≡ back a rest new
+back-behind old kept new rest a all e is =
+    let left : drop all old ≡ drop a rest = rw is (sym (drop-drop a (length kept) old) ∙ ap (drop a) e) in
+    let right : drop all (kept ++ new) ≡ drop a new = rw is (drop-append-add kept new a) in
+    λ i. front (reverse (left i)) (reverse (right i))
+
+middle-behind : (kept new : List Tree) (a all b c : ℕ) → all ≡ length kept + a → b ≡ c → middle all b (kept ++ new) ≡ middle a c new
+middle-behind kept new a all b c is same =
+    let size : length (kept ++ new) - all - b ≡ length new - a - c = omega (arith, is, same, length-append kept new) in
+    let right : drop all (kept ++ new) ≡ drop a new = rw is (drop-append-add kept new a) in
+    λ i. take (size i) (right i)
+
+swapped-behind : (file : ℕ) (h : Head) (xs : List Tree) (from to : ℕ) (kept new : List Tree) → map bare (take (length kept) (slice_range xs from to)) ≡ map bare kept
+    → swapped file h xs from to (slice_range xs from to) (kept ++ new) ≡ swapped file h xs (from + length kept) to (slice_range xs (from + length kept) to) new
+swapped-behind file h xs from to kept new e =
+    let old = slice_range xs from to in
+    let rest = slice_range xs (from + length kept) to in
+    let behind : drop (length kept) old ≡ rest = stretch-behind xs from to (length kept) in
+    let a = front rest new in
+    let all = front old (kept ++ new) in
+    let is : all ≡ length kept + a = front-kept old kept new e ∙ ap (λ ts. length kept + front ts new) behind in
+    let ends : back all old (kept ++ new) ≡ back a rest new = back-behind old kept new rest a all behind is in
+    let between : middle all (back all old (kept ++ new)) (kept ++ new) ≡ middle a (back a rest new) new = middle-behind kept new a all (back all old (kept ++ new)) (back a rest new) is ends in
+    let starts : from + all ≡ (from + length kept) + a = omega (arith, is) in
+    λ i. exchanged file h xs (starts i) (to - ends i) (between i)
+
+in-file-behind : (place : SpanValue) (h : Head) (xs : List Tree) (from to : ℕ) (kept new : List Tree) → map bare (take (length kept) (slice_range xs from to)) ≡ map bare kept
+    → in_file place h xs from to (kept ++ new) ≡ in_file place h xs (from + length kept) to new
+in-file-behind None h xs from to kept new e = refl
+in-file-behind (Some p) h xs from to kept new e = swapped-behind p.0 h xs from to kept new e
+
+pub front-law : FrontLaw
+front-law [] from to kept new t e = ap (option_map (with_kids t)) (in-file-behind t.head.span t.head (kids_of t) from to kept new e)
+front-law (i ∷ path) from to kept new t e = ap (option_map (λ k. with_kids t (slice_set (kids_of t) i k))) (by-kid (slice_get (kids_of t) i) (front-law path from to kept new) e)
+  where
+    by-kid : (o : Option Tree) → ((k : Tree) → AtPath (Begins from to kept) path k → replaced_at path from to (kept ++ new) k ≡ replaced_at path (from + length kept) to new k) → At (AtPath (Begins from to kept) path) o
+        → option_and_then (replaced_at path from to (kept ++ new)) o ≡ option_and_then (replaced_at path (from + length kept) to new) o
+    by-kid None f e = absurd e
+    by-kid (Some k) f e = f k e
+
+-- ---- spans aside
+
+-- one of several trees changed
+changed-at : (f : Tree → Tree) (i : ℕ) (ts : Forest) → at_tree f i ts ≡ forest (alter i f (trees ts))
+changed-at f i none = refl
+changed-at f zero (more h ks r) = ap (more (f (record { head = h; kids = ks })).head (f (record { head = h; kids = ks })).kids) (sym (forest_trees r))
+changed-at f (suc i) (more h ks r) = ap (more h ks) (changed-at f i r)
+
+-- the same by another function that does the same to each tree
+altered : (f g : Tree → Tree) (i : ℕ) (ts : List Tree) → ((t : Tree) → f t ≡ g t) → alter i f ts ≡ alter i g ts
+altered f g i ts e = λ j. alter i (λ t. e t j) ts
+
+pub put-law : PutLaw
+put-law [] from to new t = refl
+put-law (n ∷ path) from to new t =
+    λ i. record { head = t.head; kids = (changed-at (put_at path from to new) n t.kids ∙ ap forest (altered (put_at path from to new) (with_children path from to new) n (trees t.kids) (put-law path from to new))) i }
+
+pub trees-bare : (f : Forest) → trees (bare_forest f) ≡ map bare (trees f)
+trees-bare none = refl
+trees-bare (more h ks r) = ap (λ ts. bare (record { head = h; kids = ks }) ∷ ts) (trees-bare r)
+
+bare-exchanged : (from to : ℕ) (new ts : List Tree) → map bare (exchanged_nodes from to new ts) ≡ exchanged_nodes from to (map bare new) (map bare ts)
+bare-exchanged from to new ts = simp (map-append, ← take-map, ← drop-map)
+
+bare-altered : (f g : Tree → Tree) (n : ℕ) (ts : List Tree) → ((t : Tree) → bare (f t) ≡ g (bare t)) → map bare (alter n f ts) ≡ alter n g (map bare ts)
+bare-altered f g n [] e = refl
+bare-altered f g zero (t ∷ ts) e = ap (λ u. u ∷ map bare ts) (e t)
+bare-altered f g (suc n) (t ∷ ts) e = ap (λ us. bare t ∷ us) (bare-altered f g n ts e)
+
+pub exchanged-law : ExchangedLaw
+exchanged-law [] from to new t =
+    let kids : bare_forest (forest (exchanged_nodes from to new (trees t.kids))) ≡ forest (exchanged_nodes from to (map bare new) (trees (bare_forest t.kids))) =
+    sym (forest_bare (exchanged_nodes from to new (trees t.kids))) ∙ ap forest (bare-exchanged from to new (trees t.kids) ∙ ap (exchanged_nodes from to (map bare new)) (sym (trees-bare t.kids))) in
+    λ i. record { head = bare_head t.head; kids = kids i }
+exchanged-law (n ∷ path) from to new t =
+    let f = with_children path from to new in
+    let g = with_children path from to (map bare new) in
+    let kids : bare_forest (forest (alter n f (trees t.kids))) ≡ forest (alter n g (trees (bare_forest t.kids))) =
+    sym (forest_bare (alter n f (trees t.kids))) ∙ ap forest (bare-altered f g n (trees t.kids) (exchanged-law path from to new) ∙ ap (alter n g) (sym (trees-bare t.kids))) in
+    λ i. record { head = bare_head t.head; kids = kids i }
+
+pub replaced-law : ReplacedLaw
+replaced-law path from to new root was now same reaches is =
+    let put : bare now ≡ bare (with_children path from to new root) = replaces_children path from to new root now reaches is ∙ ap bare (put-law path from to new root) in
+    let over : bare (with_children path from to new root) ≡ bare (with_children path from to new was) =
+    exchanged-law path from to new root ∙ (ap (with_children path from to (map bare new)) same ∙ sym (exchanged-law path from to new was)) in
+    put ∙ over

@@ -1,0 +1,299 @@
+-- Whatever is taken was looked at, and the token of each note before the note: they end where the looks end.
+use Rattle.std.proofs.Common.{◌≡◌, ℕ, zero, suc, ◌+◌, ◌-◌, ◌≤◌, Bool, true, false, ◌&&◌, if◌then◌else◌, nat_lt, List, [], ◌∷◌, ◌++◌, length, Option, Some, None, refl, arith}
+use Rattle.typst_kinds.specs.declared.mode.SyntaxMode.{SyntaxMode}
+use Rattle.typst_kinds.specs.Kinds.{is_error}
+use Rattle.typst_lines.specs.Place.{Place, moved}
+use Rattle.typst_lines.specs.Classes.{CharClasses}
+use Rattle.typst_tree.specs.Tree.{Tree}
+use Rattle.typst_tokens.specs.Reader.{look}
+use Rattle.typst_language.specs.declared.calls.Block.{Block}
+use Rattle.typst_language.specs.declared.calls.Call.{Call}
+use Rattle.typst_language.specs.declared.reading.Reading.{Reading}
+use Rattle.typst_language.specs.Ask.{Ask, shift, sunk, only_looks}
+use Rattle.typst_language.specs.Ask.Ask.{looked, marked}
+use Rattle.typst_language.specs.Hand.{Ahead, len_at, len_by, at_trivia, ahead_by, asks_by, ahead_asks, ahead, hand_at, hand_asks}
+use Rattle.typst_language.specs.Knot.{Rules, meaning_of, level_of, blocks_of}
+use Rattle.typst_language.specs.Point.{Trivia, Point, gap_of, forgot}
+use Rattle.typst_language.specs.Shape.{Shape, after_node, after_shape}
+use Rattle.typst_language.specs.Shape.Shape.{keeps, holds, lacks, warns, fails}
+use Rattle.typst_language.specs.Steps.{peek}
+use Rattle.typst_language.specs.Tokens.{token}
+use Rattle.typst_language.specs.Syntax.{Op, Begin, Parser, ◌>>◌}
+use Rattle.typst_language.specs.Syntax.Op.{hand, so, further, column, erred, takes, takes_so, flushes, complains, advises, marks, is_deepest}
+use Rattle.typst_language.specs.Syntax.Parser.{gives, does, next, pick, repeat, wraps, grows, nests, scoped, either, calls, block}
+use Rattle.typst_language.specs.Meaning.{Outcome, Meaning, Level, plain, joined, answered, turns, as_last, bound, repeated, before, inside, reshaped, grown, is_more, growths, growing, nestings, nesting, deeper_by_one, given_up, bounded, blockless, entered, left, left_to, same_mode, hand_of, hand_asks_of, reader_so, done, run}
+use Rattle.typst_language.proofs.Looks.{len-covers}
+use Rattle.typst_language.proofs.Within.{on_both, grew}
+use Rattle.typst_edits.specs.Edit.{AllEndBy}
+use Rattle.typst_edits.specs.Splice.{AllNotedBy}
+use Rattle.typst_edits.proofs.Marks.{AllMarks, none-hand}
+
+-- ---- lists of asks
+
+pub end-first : (n : ℕ) (ls ks : List Ask) → AllEndBy n (ls ++ ks) → AllEndBy n ls
+end-first n [] ks h = tt
+end-first n (looked at look ∷ ls) ks h = (h.0, end-first n ls ks h.1)
+end-first n (marked at gap fewer m s ∷ ls) ks h = end-first n ls ks h
+
+pub end-second : (n : ℕ) (ls ks : List Ask) → AllEndBy n (ls ++ ks) → AllEndBy n ks
+end-second n [] ks h = h
+end-second n (looked at look ∷ ls) ks h = end-second n ls ks h.1
+end-second n (marked at gap fewer m s ∷ ls) ks h = end-second n ls ks h
+
+end-shift : (d m n : ℕ) (ls : List Ask) → n ≤ d + m → AllEndBy n (shift d ls) → AllEndBy m ls
+end-shift d m n [] e h = tt
+end-shift d m n (looked at look ∷ ls) e h = (omega (arith, e, h.0), end-shift d m n ls e h.1)
+end-shift d m n (marked at gap fewer mark s ∷ ls) e h = end-shift d m n ls e h
+
+end-sunk : (n : ℕ) (ls : List Ask) → AllEndBy n (sunk ls) → AllEndBy n ls
+end-sunk n [] h = tt
+end-sunk n (looked at look ∷ ls) h = (h.0, end-sunk n ls h.1)
+end-sunk n (marked at gap fewer mark s ∷ ls) h = end-sunk n ls h
+
+end-only : (n : ℕ) (ls : List Ask) → AllEndBy n (only_looks ls) → AllEndBy n ls
+end-only n [] h = tt
+end-only n (looked at look ∷ ls) h = (h.0, end-only n ls h.1)
+end-only n (marked at gap fewer mark s ∷ ls) h = end-only n ls h
+
+-- the token of each note begins so many characters on, or before, where all looks before the note end there, or before
+abbrev pub AllSeen : ℕ → List Ask → Type 0
+AllSeen n [] = Unit {0}
+AllSeen n (looked at look ∷ asks) = at + look.front ≤ n → AllSeen n asks
+AllSeen n (marked at gap fewer m s ∷ asks) = (at + gap ≤ n) × AllSeen n asks
+
+seen-append : (n : ℕ) (ls ks : List Ask) → AllSeen n ls → (AllEndBy n ls → AllSeen n ks) → AllSeen n (ls ++ ks)
+seen-append n [] ks h k = k tt
+seen-append n (looked at look ∷ ls) ks h k = λ e. seen-append n ls ks (h e) (λ f. k (e, f))
+seen-append n (marked at gap fewer m s ∷ ls) ks h k = (h.0, seen-append n ls ks h.1 k)
+
+-- up to any of them
+pub seen-first : (n : ℕ) (ls ks : List Ask) → AllSeen n (ls ++ ks) → AllEndBy n ls → AllNotedBy n ls
+seen-first n [] ks h e = tt
+seen-first n (looked at look ∷ ls) ks h e = seen-first n ls ks (h e.0) e.1
+seen-first n (marked at gap fewer m s ∷ ls) ks h e = (h.0, seen-first n ls ks h.1 e)
+
+seen-shift : (d m n : ℕ) (ls : List Ask) → d + m ≡ n → AllSeen m ls → AllSeen n (shift d ls)
+seen-shift d m n [] e h = tt
+seen-shift d m n (looked at look ∷ ls) e h = λ f. seen-shift d m n ls e (h (omega (arith, e, f)))
+seen-shift d m n (marked at gap fewer mark s ∷ ls) e h = (omega (arith, e, h.0), seen-shift d m n ls e h.1)
+
+seen-sunk : (n : ℕ) (ls : List Ask) → AllSeen n ls → AllSeen n (sunk ls)
+seen-sunk n [] h = tt
+seen-sunk n (looked at look ∷ ls) h = λ e. seen-sunk n ls (h e)
+seen-sunk n (marked at gap fewer mark s ∷ ls) h = (h.0, seen-sunk n ls h.1)
+
+seen-only : (n : ℕ) (ls : List Ask) → AllSeen n (only_looks ls)
+seen-only n [] = tt
+seen-only n (looked at look ∷ ls) = λ e. seen-only n ls
+seen-only n (marked at gap fewer mark s ∷ ls) = seen-only n ls
+
+seen-none : (n : ℕ) (ls : List Ask) → AllMarks (λ at fewer m s. ⊥) ls → AllSeen n ls
+seen-none n [] h = tt
+seen-none n (looked at look ∷ ls) h = λ e. seen-none n ls h
+seen-none n (marked at gap fewer mark s ∷ ls) h = absurd h.0
+
+seen-looks : (n at : ℕ) (l : _) (ls : List Ask) → AllSeen n ls → AllSeen n (ls ++ looked at l ∷ [])
+seen-looks n at l ls h = seen-append n ls (looked at l ∷ []) h (λ e f. tt)
+
+-- ---- the token at hand
+
+seen-if : (b : Bool) (n : ℕ) (asks : List Ask) (a c : Ahead) → (AllEndBy n asks → a.gap + a.len ≤ n) → c.gap + c.len ≤ n → AllEndBy n (if b then asks else []) → (if b then a else c).gap + (if b then a else c).len ≤ n
+seen-if true n asks a c f g h = f h
+seen-if false n asks a c f g h = g
+
+ahead-seen : (k : CharClasses) (m : SyntaxMode) (i n : ℕ) (z : Place) → AllEndBy n (asks_by k m i z) → (ahead_by k m i z).gap + (ahead_by k m i z).len ≤ n
+ahead-seen k m zero n z h = omega (arith, h.0, len-covers (token k m) z)
+ahead-seen k m (suc i) n z h =
+    let l = len_at k m z in
+    let own : l ≤ n = omega (arith, h.0, len-covers (token k m) z) in
+    seen-if (at_trivia k m z) n (shift l (asks_by k m i (moved l z))) _ _
+    (λ e. let i = ahead-seen k m i (n - l) (moved l z) (end-shift l (n - l) n (asks_by k m i (moved l z)) (omega arith) e) in omega (arith, i, own)) (omega (arith, own)) h.1
+
+-- what is known of the trivia, and the token, end by where the looks at them end
+hand-seen : (k : CharClasses) (held : Reading) (known : Option Trivia) (z : Place) (n : ℕ) → gap_of known ≤ n → AllEndBy n (hand_asks k held known z) → (hand_at k held known z).gap + (hand_at k held known z).len ≤ n
+unfolding hand_at hand_asks ahead ahead_asks
+hand-seen k held None z n g h = ahead-seen k held.mode (length z.ahead) n z (end-first n (asks_by k held.mode (length z.ahead) z) _ h)
+hand-seen k held (Some t) z n g h = omega (arith, h.0, len-covers (token k held.mode) (moved t.gap z))
+
+-- ---- whatever the language can say
+
+-- the tokens of notes, and what is taken with what is known behind it, end so many characters on, or before
+pub record Seen {A : Type 0} (n : ℕ) (o : Outcome A) : Type 0 where
+  pub noted : AllSeen n o.asks
+  pub ends : AllEndBy n o.asks → o.taken + gap_of o.state.known ≤ n
+
+abbrev pub Sees : {A : Type 0} → Meaning A → Type 0
+Sees m = (z : Place) (s : Point) (n : ℕ) → gap_of s.known ≤ n → Seen n (m z s)
+
+sees-plain : {A : Type 0} (a : A) → Sees (λ z s. plain a s)
+sees-plain a z s n g = record { noted = tt; ends = λ e. omega (arith, g) }
+
+joined-notes : {A B : Type 0} (n : ℕ) (o : Outcome B) (p : Outcome A) → o.taken + gap_of o.state.known ≤ n → ((m : ℕ) → gap_of o.state.known ≤ m → Seen m p) → AllSeen n (shift o.taken p.asks)
+joined-notes n o p l k =
+    let m = n - o.taken in
+    seen-shift o.taken m n p.asks (omega (arith, l)) (k m (omega (arith, l))).noted
+
+joined-ends : {A B : Type 0} (n : ℕ) (o : Outcome B) (p : Outcome A) → o.taken + gap_of o.state.known ≤ n → ((m : ℕ) → gap_of o.state.known ≤ m → Seen m p) → AllEndBy n (shift o.taken p.asks) → (joined o p).taken + gap_of p.state.known ≤ n
+joined-ends n o p l k e =
+    let m = n - o.taken in
+    let later = (k m (omega (arith, l))).ends (end-shift o.taken m n p.asks (omega arith) e) in
+    omega (arith, l, later)
+
+seen-joined : {A B : Type 0} (n : ℕ) (o : Outcome B) (p : Outcome A) → Seen n o → ((m : ℕ) → gap_of o.state.known ≤ m → Seen m p) → Seen n (joined o p)
+seen-joined n o p a k = record {
+  noted = seen-append n o.asks (shift o.taken p.asks) a.noted (λ e. joined-notes n o p (a.ends e) k);
+  ends = λ e. joined-ends n o p (a.ends (end-first n o.asks (shift o.taken p.asks) e)) k (end-second n o.asks (shift o.taken p.asks) e);
+}
+
+seen-last : {A : Type 0} (n : ℕ) (o : Outcome (Bool × A)) → Seen n o → Seen n (as_last o)
+seen-last n o a = record { noted = a.noted; ends = a.ends }
+
+sees-turns : {A : Type 0} (m : A → Meaning (Bool × A)) → ((x : A) → Sees (m x)) → (i : ℕ) (x : A) → Sees (turns m i x)
+sees-turns m h zero x z s n g = sees-plain x z s n g
+sees-turns m h (suc i) x z s n g =
+    let o = m x z s in
+    let p = turns m i o.value.1 (moved o.taken z) o.state in
+    on_both (Seen n) (o.value.0 && nat_lt 0 o.taken) (joined o p) (as_last o) (seen-joined n o p (h x z s n g) (sees-turns m h i o.value.1 (moved o.taken z) o.state)) (seen-last n o (h x z s n g))
+
+node-gap : (b : Bool) (text : List ℕ) (s : Point) → gap_of (after_node b text s).known ≡ gap_of s.known
+node-gap true text s = refl
+node-gap false text s = refl
+
+change-gap : (b : Bool) (c : Bool) (text : List ℕ) (s : Point) → gap_of (if b then s else after_node c text s).known ≡ gap_of s.known
+change-gap true c text s = refl
+change-gap false c text s = node-gap c text s
+
+shape-gap : (shape : Shape) (ts : List Tree) (s : Point) → gap_of (after_shape shape ts s).known ≡ gap_of s.known
+shape-gap (keeps change) [] s = refl
+shape-gap (keeps change) (t ∷ []) s = change-gap (is_error t.head.kind) _ _ s
+shape-gap (keeps change) (t ∷ u ∷ ts) s = refl
+shape-gap (holds change kind) ts s = refl
+shape-gap (lacks count message kind) ts s = refl
+shape-gap (warns kind message hint) ts s = refl
+shape-gap (fails message) ts s = refl
+
+seen-reshaped : {A : Type 0} (n : ℕ) (shape : Shape) (i : ℕ) (o : Outcome A) → Seen n o → Seen n (reshaped shape i o)
+seen-reshaped n shape i o a = record { noted = a.noted; ends = λ e. shape-ends (a.ends e) }
+  where
+    shape-ends : o.taken + gap_of o.state.known ≤ n → o.taken + gap_of (after_shape shape (inside i o) o.state).known ≤ n
+    shape-ends l = omega (arith, l, shape-gap shape (inside i o) o.state)
+
+seen-grown : {A : Type 0} (n i : ℕ) (shape : Option Shape) (o : Outcome A) → Seen n o → Seen n (grown i shape o)
+seen-grown n i None o h = h
+seen-grown n i (Some shape) o h = seen-reshaped n shape i o h
+
+seen-answered : {A B : Type 0} (n : ℕ) (b : B) (o : Outcome A) → Seen n o → Seen n (answered b o)
+seen-answered n b o a = record { noted = a.noted; ends = a.ends }
+
+seen-growths : {A : Type 0} (m : A → Meaning (Option Shape × A)) → ((x : A) → Sees (m x)) → (n i j : ℕ) (o : Outcome A) (z : Place) → Seen n o → Seen n (growths m i j o z)
+seen-growths m h n i zero o z k = k
+seen-growths m h n i (suc j) o z k =
+    let p = m o.value (moved o.taken z) o.state in
+    let all = seen-grown n i p.value.0 (answered p.value.1 (joined o p)) (seen-answered n p.value.1 (joined o p) (seen-joined n o p k (h o.value (moved o.taken z) o.state))) in
+    on_both (Seen n) (is_more p.value.0 && nat_lt 0 p.taken) (growths m i j (grew i o p) z) (grew i o p) (seen-growths m h n i j (grew i o p) z all) all
+
+sees-nestings : {A : Type 0} (f : A → Shape) (begin : Begin) (m : A → Meaning (Bool × A)) → ((x : A) → Sees (m x)) → (i : ℕ) (x : A) → Sees (nestings f begin m i x)
+sees-nestings f begin m h zero x z s n g = sees-plain x z s n g
+sees-nestings f begin m h (suc i) x z s n g =
+    let o = m x z s in
+    let p = nestings f begin m i o.value.1 (moved o.taken z) o.state in
+    let b = o.value.0 && nat_lt 0 o.taken in
+    seen-reshaped n (f (if b then joined o p else as_last o).value) (before begin s) (if b then joined o p else as_last o)
+    (on_both (Seen n) b (joined o p) (as_last o) (seen-joined n o p (h x z s n g) (sees-nestings f begin m h i o.value.1 (moved o.taken z) o.state)) (seen-last n o (h x z s n g)))
+
+seen-left : {A : Type 0} (n : ℕ) (outer : Reading) (o : Outcome A) → Seen n o → Seen n (left_to outer o)
+seen-left n outer o a = record { noted = a.noted; ends = λ e. left-ends (a.ends e) }
+  where
+    left-ends : o.taken + gap_of o.state.known ≤ n → o.taken + gap_of (left outer o.state).known ≤ n
+    left-ends l = on_both (λ (t : Point). o.taken + gap_of t.known ≤ n) (same_mode o.state.reading.mode outer.mode) _ _ l (omega (arith, l))
+
+seen-given-up : {A : Type 0} (n : ℕ) (o p : Outcome A) → Seen n p → Seen n (given_up o p)
+seen-given-up n o p a = record { noted = seen-only n (o.asks ++ p.asks); ends = λ e. a.ends (end-second n o.asks p.asks (end-only n (o.asks ++ p.asks) e)) }
+
+seen-deeper : {A : Type 0} (n : ℕ) (o : Outcome A) → Seen n o → Seen n (deeper_by_one o)
+seen-deeper n o a = record { noted = seen-sunk n o.asks a.noted; ends = λ e. a.ends (end-sunk n o.asks e) }
+
+module _ (l : Level) where
+  sees-hand : (z : Place) (s : Point) (n : ℕ) → gap_of s.known ≤ n → AllEndBy n (hand_asks_of l z s) → (hand_of l z s).gap + (hand_of l z s).len ≤ n
+  sees-hand z s n g e = hand-seen l.classes s.held s.known z n g e
+
+  notes-none : (z : Place) (s : Point) (n : ℕ) → AllSeen n (hand_asks_of l z s)
+  notes-none z s n = seen-none n (hand_asks_of l z s) (none-hand (λ at fewer m t. ⊥) l.classes s.held s.known z)
+
+  sees-trivia : (z : Place) (s : Point) (n : ℕ) → gap_of s.known ≤ n → AllEndBy n (hand_asks_of l z s) → (hand_of l z s).gap ≤ n
+  sees-trivia z s n g e = omega (arith, sees-hand z s n g e)
+
+  -- and another look behind
+  more-notes : (z : Place) (s : Point) (n at : ℕ) (look : _) → AllSeen n (hand_asks_of l z s ++ looked at look ∷ [])
+  more-notes z s n at look = seen-looks n at look (hand_asks_of l z s) (notes-none z s n)
+
+  more-ends : (z : Place) (s : Point) (n at : ℕ) (look : _) → gap_of s.known ≤ n → AllEndBy n (hand_asks_of l z s ++ looked at look ∷ []) → (hand_of l z s).gap ≤ n
+  more-ends z s n at look g e = sees-trivia z s n g (end-first n (hand_asks_of l z s) (looked at look ∷ []) e)
+
+  so-ends : (z : Place) (s : Point) (n : ℕ) (way : _) → (let h = hand_of l z s in let w = moved h.gap z in AllEndBy n (hand_asks_of l z s ++ looked h.gap (look (reader_so l way) w) ∷ []) → h.gap + len_by (reader_so l way) w ≤ n)
+  so-ends z s n way e =
+      let h = hand_of l z s in
+      let w = moved h.gap z in
+      let last = end-second n (hand_asks_of l z s) (looked h.gap (look (reader_so l way) w) ∷ []) e in
+      omega (arith, last.0, len-covers (reader_so l way) w)
+
+  sees-done : {A : Type 0} (o : Op A) → Sees (done l o)
+  sees-done hand z s n g = record { noted = notes-none z s n; ends = λ e. omega (arith, sees-trivia z s n g e) }
+  sees-done (so way) z s n g = record { noted = more-notes z s n _ _; ends = λ e. omega (arith, more-ends z s n _ _ g e) }
+  sees-done further z s n g = record { noted = more-notes z s n _ _; ends = λ e. omega (arith, more-ends z s n _ _ g e) }
+  sees-done column z s n g = record { noted = more-notes z s n _ _; ends = λ e. omega (arith, more-ends z s n _ _ g e) }
+  sees-done erred z s n g = record { noted = tt; ends = λ e. omega (arith, g) }
+  sees-done (takes trims making) z s n g = record { noted = notes-none z s n; ends = λ e. omega (arith, sees-hand z s n g e) }
+  sees-done (takes_so way making) z s n g = record { noted = more-notes z s n _ _; ends = λ e. omega (arith, so-ends z s n way e) }
+  sees-done flushes z s n g = record { noted = notes-none z s n; ends = λ e. omega (arith, sees-trivia z s n g e) }
+  sees-done (complains message) z s n g = record { noted = tt; ends = λ e. omega (arith, g) }
+  sees-done (advises hint) z s n g = record { noted = tt; ends = λ e. omega (arith, g) }
+  sees-done (marks mark) z s n g = record { noted = (omega (arith, g), tt); ends = λ e. omega (arith, g) }
+  sees-done is_deepest z s n g = record { noted = tt; ends = λ e. omega (arith, g) }
+
+  module _ (i : (c : Call) → Sees (l.deeper c)) (j : (b : Block) → Sees (l.blocks b)) where
+    sees-bounded : (b : Block) → Sees (bounded b (l.blocks b))
+    sees-bounded b z s n g =
+        let o = l.blocks b z (forgot s) in
+        let a = j b z (forgot s) n (omega arith) in
+        record { noted = (omega arith, seen-append n o.asks _ a.noted (λ e. (omega (arith, a.ends e), tt))); ends = λ e. omega (arith, a.ends (end-first n o.asks _ e)) }
+
+    pub sees-run : {A : Type 0} (p : Parser A) → Sees (run l p)
+    unfolding run repeated growing nesting
+    sees-run (gives a) z s n g = sees-plain a z s n g
+    sees-run (does o) z s n g = sees-done o z s n g
+    sees-run (next p f) z s n g =
+        let o = run l p z s in
+        seen-joined n o (run l (f o.value) (moved o.taken z) o.state) (sees-run p z s n g) (sees-run (f o.value) (moved o.taken z) o.state)
+    sees-run (pick b p q) z s n g = on_both (Seen n) b (run l p z s) (run l q z s) (sees-run p z s n g) (sees-run q z s n g)
+    sees-run (repeat p x) z s n g = sees-turns (λ y. run l (p y)) (λ y. sees-run (p y)) (suc (bound z s)) x z s n g
+    sees-run (wraps f begin p) z s n g =
+        let o = run l p z s in
+        seen-answered n (o.value, _) (reshaped (f o.value) (before begin s) o) (seen-reshaped n (f o.value) (before begin s) o (sees-run p z s n g))
+    sees-run (grows begin p f) z s n g = seen-growths (λ y. run l (f y)) (λ y. sees-run (f y)) n (before begin s) (suc (bound z s)) (run l p z s) z (sees-run p z s n g)
+    sees-run (nests f begin p x) z s n g = sees-nestings f begin (λ y. run l (p y)) (λ y. sees-run (p y)) (suc (bound z s)) x z s n g
+    sees-run (scoped f p) z s n g = seen-left n s.reading (run l p z (entered (f s.reading) s)) (sees-run p z (entered (f s.reading) s) n g)
+    sees-run (either p is_wrong q) z s n g =
+        let o = run l p z s in
+        let u = run l q z s in
+        on_both (Seen n) (is_wrong o.value) (given_up o u) o (seen-given-up n o u (sees-run q z s n g)) (sees-run p z s n g)
+    sees-run (calls c) z s n g = seen-deeper n (l.deeper c z s) (i c z s n g)
+    sees-run (block b) z s n g =
+        let o = done l flushes z s in
+        let p = bounded b (l.blocks b) (moved o.taken z) o.state in
+        on_both (Seen n) (l.has b) (joined o p) (plain tt s) (seen-joined n o p (sees-done flushes z s n g) (sees-bounded b (moved o.taken z) o.state)) (sees-plain tt z s n g)
+
+-- ---- by any rules, at every level
+
+module _ (r : Rules) (k : CharClasses) where
+  sees-block : (levels : ℕ) → ((call : Call) → Sees (meaning_of r k levels call)) → (b : Block) → Sees (blocks_of r k levels (meaning_of r k levels) b)
+  sees-block levels i b = sees-run (blockless k levels (meaning_of r k levels)) i (λ c. sees-plain tt) (peek >> r.block_production b)
+
+  sees-meaning : (levels : ℕ) (call : Call) → Sees (meaning_of r k levels call)
+  unfolding meaning_of
+  sees-meaning zero call z s n g = record { noted = tt; ends = λ e. omega (arith, g) }
+  sees-meaning (suc levels) call z s n g = sees-run (level_of r k levels) (sees-meaning levels) (sees-block levels (sees-meaning levels)) (r.production call) z s n g
+
+  -- of a parser
+  pub sees-level : {A : Type 0} (levels : ℕ) (p : Parser A) → Sees (run (level_of r k levels) p)
+  sees-level levels p = sees-run (level_of r k levels) (sees-meaning levels) (sees-block levels (sees-meaning levels)) p

@@ -1,0 +1,410 @@
+-- The units of two texts that are asked the same before a stretch and behind it.
+use Rattle.std.proofs.Common.{◌≡◌, ℕ, zero, suc, ◌+◌, ◌-◌, ◌<◌, ◌≤◌, ◌^◌, max, min, List, [], ◌∷◌, ◌++◌, length, take, drop, length-append, append_assoc, append-nil, Option, Some, None, refl, ap, sym, ◌∙◌, subst, arith}
+use Rattle.std.proofs.Math.Seq.{take-append_seam, drop-append_seam}
+use Rattle.typst_candidates.specs.Entries.{Units, tag_of, count_of, back_of, entry_of, entries_by, last_start, units_by, units_of, spliced}
+use Rattle.typst_candidates.specs.declared.entry.Entry.{Entry}
+use Rattle.typst_candidates.specs.declared.entry.Tag.{Tag}
+use Rattle.typst_lines.specs.Place.{Place, moved, moved_from}
+use Rattle.typst_tokens.specs.Sight.{width, position, stretch, far, near}
+use Rattle.typst_language.specs.declared.calls.Mark.{Mark}
+use Rattle.typst_language.specs.declared.calls.Note.{Note}
+use Rattle.typst_language.specs.declared.reading.State.{State}
+use Rattle.typst_language.specs.Ask.{Ask, shift}
+use Rattle.typst_language.specs.Ask.Ask.{looked, marked}
+use Rattle.typst_language.specs.Log.{no_log, logged}
+use Rattle.typst_language.proofs.Places.{moved-sum}
+use Rattle.typst_edits.specs.Edit.{text_with, AllEndBy, AllBeginIn}
+use Rattle.typst_edits.specs.Splice.{Noting, noting, notes_in, AllNotedBy, token_start, entries_from, SpliceLaw}
+use Rattle.typst_edits.proofs.Edit.{onto, past-is}
+use Rattle.typst_edits.proofs.Widths.{width-append, width-none, width-onto, stretch-to, moved-width}
+
+-- ---- the notes of what is asked, from where the looks since the last note end and begin
+
+abbrev note_with : ℕ → ℕ → ℕ → ℕ → Mark → State → ℕ → ℕ → Note
+note_with lv reach least fewer m s before start = record { mark = m; before = before; start = start; levels = lv - fewer; state = s; reach = reach; least = least }
+
+abbrev note_by : ℕ → Place → ℕ → ℕ → ℕ → ℕ → ℕ → Mark → State → Note
+note_by lv z reach least at gap fewer m s = note_with lv reach least fewer m s (position (moved at z)) (position (moved gap (moved at z)))
+
+abbrev notes_from : ℕ → Place → ℕ → ℕ → List Ask → List Note
+notes_from lv z reach least [] = []
+notes_from lv z reach least (looked at look ∷ asks) = notes_from lv z (max reach (far look.front (moved at z))) (min least (near look.back (moved at z))) asks
+notes_from lv z reach least (marked at gap fewer m s ∷ asks) = note_by lv z reach least at gap fewer m s ∷ notes_from lv z 0 (2 ^ 64 - 1) asks
+
+abbrev least_from : ℕ → Place → ℕ → List Ask → ℕ
+least_from lv z least [] = least
+least_from lv z least (looked at look ∷ asks) = least_from lv z (min least (near look.back (moved at z))) asks
+least_from lv z least (marked at gap fewer m s ∷ asks) = least_from lv z (2 ^ 64 - 1) asks
+
+logged-notes : (lv : ℕ) (z : Place) (asks : List Ask) (reach least : ℕ) (ns : List Note) → (logged lv z (record { reach = reach; least = least; notes = Some ns }) asks).notes ≡ Some (ns ++ notes_from lv z reach least asks)
+logged-notes lv z [] reach least ns = ap Some (sym (append-nil ns))
+logged-notes lv z (looked at look ∷ asks) reach least ns = logged-notes lv z asks (max reach (far look.front (moved at z))) (min least (near look.back (moved at z))) ns
+logged-notes lv z (marked at gap fewer m s ∷ asks) reach least ns =
+    let note = note_by lv z reach least at gap fewer m s in
+    logged-notes lv z asks 0 (2 ^ 64 - 1) (ns ++ note ∷ []) ∙ ap Some (append_assoc ns (note ∷ []) (notes_from lv z 0 (2 ^ 64 - 1) asks))
+
+logged-least : (lv : ℕ) (z : Place) (asks : List Ask) (reach least : ℕ) (ns : List Note) → (logged lv z (record { reach = reach; least = least; notes = Some ns }) asks).least ≡ least_from lv z least asks
+logged-least lv z [] reach least ns = refl
+logged-least lv z (looked at look ∷ asks) reach least ns = logged-least lv z asks (max reach (far look.front (moved at z))) (min least (near look.back (moved at z))) ns
+logged-least lv z (marked at gap fewer m s ∷ asks) reach least ns = logged-least lv z asks 0 (2 ^ 64 - 1) (ns ++ note_by lv z reach least at gap fewer m s ∷ [])
+
+-- a note parts them
+notes-split : (lv : ℕ) (z : Place) (asks more : List Ask) (p : Noting) (reach least : ℕ) → notes_from lv z reach least (asks ++ noting p ∷ more) ≡ notes_from lv z reach least (asks ++ noting p ∷ []) ++ notes_from lv z 0 (2 ^ 64 - 1) more
+notes-split lv z [] more p reach least = refl
+notes-split lv z (looked at look ∷ asks) more p reach least = notes-split lv z asks more p (max reach (far look.front (moved at z))) (min least (near look.back (moved at z)))
+notes-split lv z (marked at gap fewer m s ∷ asks) more p reach least = ap (λ ns. note_by lv z reach least at gap fewer m s ∷ ns) (notes-split lv z asks more p 0 (2 ^ 64 - 1))
+
+least-split : (lv : ℕ) (z : Place) (asks more : List Ask) (p : Noting) (least : ℕ) → least_from lv z least (asks ++ noting p ∷ more) ≡ least_from lv z (2 ^ 64 - 1) more
+least-split lv z [] more p least = refl
+least-split lv z (looked at look ∷ asks) more p least = least-split lv z asks more p (min least (near look.back (moved at z)))
+least-split lv z (marked at gap fewer m s ∷ asks) more p least = least-split lv z asks more p (2 ^ 64 - 1)
+
+notes-length : (lv : ℕ) (z : Place) (asks : List Ask) (p : Noting) (reach least : ℕ) → length (notes_from lv z reach least (asks ++ noting p ∷ [])) ≡ suc (notes_in asks)
+notes-length lv z [] p reach least = refl
+notes-length lv z (looked at look ∷ asks) p reach least = notes-length lv z asks p (max reach (far look.front (moved at z))) (min least (near look.back (moved at z)))
+notes-length lv z (marked at gap fewer m s ∷ asks) p reach least = ap suc (notes-length lv z asks p 0 (2 ^ 64 - 1))
+
+last-is : (lv : ℕ) (z : Place) (asks : List Ask) (p : Noting) (reach least start : ℕ) → last_start start (notes_from lv z reach least (asks ++ noting p ∷ [])) ≡ token_start z p
+last-is lv z [] p reach least start = refl
+last-is lv z (looked at look ∷ asks) p reach least start = last-is lv z asks p (max reach (far look.front (moved at z))) (min least (near look.back (moved at z))) start
+last-is lv z (marked at gap fewer m s ∷ asks) p reach least start = last-is lv z asks p 0 (2 ^ 64 - 1) (position (moved gap (moved at z)))
+
+-- ---- entries one behind the other
+
+entries-append : (start : ℕ) (ns ms : List Note) → entries_by start (ns ++ ms) ≡ entries_by start ns ++ entries_by (last_start start ns) ms
+entries-append start [] ms = refl
+entries-append start (n ∷ ns) ms = ap (λ es. entry_of start n ∷ es) (entries-append n.start ns ms)
+
+last-append : (start : ℕ) (ns ms : List Note) → last_start start (ns ++ ms) ≡ last_start (last_start start ns) ms
+last-append start [] ms = refl
+last-append start (n ∷ ns) ms = last-append n.start ns ms
+
+entries-length : (start : ℕ) (ns : List Note) → length (entries_by start ns) ≡ length ns
+entries-length start [] = refl
+entries-length start (n ∷ ns) = ap suc (entries-length n.start ns)
+
+-- ---- before the stretch
+
+stretch-first : (n : ℕ) (xs ys : List ℕ) → n ≤ length xs → stretch n (xs ++ ys) ≡ stretch n xs
+unfolding stretch
+stretch-first zero xs ys h = refl
+stretch-first (suc n) [] ys h = absurd (omega (arith, h))
+stretch-first (suc n) (c ∷ xs) ys h = let i = stretch-first n xs ys (omega (arith, h)) in omega (arith, i)
+
+far-same : (at n : ℕ) (b front xs ys : List ℕ) → at + n ≤ length front → far n (moved at (record { behind = b; ahead = front ++ xs })) ≡ far n (moved at (record { behind = b; ahead = front ++ ys }))
+unfolding far position
+far-same zero n b front xs ys h = ap (λ d. width b + d) (stretch-first n front xs (omega (arith, h)) ∙ sym (stretch-first n front ys (omega (arith, h))))
+far-same (suc at) n b [] xs ys h = absurd (omega (arith, h))
+far-same (suc at) n b (c ∷ front) xs ys h = far-same at n (c ∷ b) front xs ys (omega (arith, h))
+
+behind-same : (at : ℕ) (b front xs ys : List ℕ) → at ≤ length front → (moved_from at b (front ++ xs)).behind ≡ (moved_from at b (front ++ ys)).behind
+behind-same zero b front xs ys h = refl
+behind-same (suc at) b [] xs ys h = absurd (omega (arith, h))
+behind-same (suc at) b (c ∷ front) xs ys h = behind-same at (c ∷ b) front xs ys (omega (arith, h))
+
+position-same : (at : ℕ) (front xs ys : List ℕ) → at ≤ length front → position (moved at (record { behind = []; ahead = front ++ xs })) ≡ position (moved at (record { behind = []; ahead = front ++ ys }))
+unfolding position
+position-same at front xs ys h = ap width (behind-same at [] front xs ys h)
+
+near-same : (at n : ℕ) (front xs ys : List ℕ) → at ≤ length front → near n (moved at (record { behind = []; ahead = front ++ xs })) ≡ near n (moved at (record { behind = []; ahead = front ++ ys }))
+unfolding near position
+near-same at n front xs ys h = ap (λ b. suc (width b) - stretch n b) (behind-same at [] front xs ys h)
+
+start-same : (p : Noting) (front xs ys : List ℕ) → p.at + p.gap ≤ length front → token_start (record { behind = []; ahead = front ++ xs }) p ≡ token_start (record { behind = []; ahead = front ++ ys }) p
+start-same p front xs ys h =
+    ap position (sym (moved-sum p.at p.gap (record { behind = []; ahead = front ++ xs }))) ∙ position-same (p.at + p.gap) front xs ys h ∙ ap position (moved-sum p.at p.gap (record { behind = []; ahead = front ++ ys }))
+
+note-same : (lv : ℕ) (p : Noting) (front xs ys : List ℕ) (reach least : ℕ) → p.at + p.gap ≤ length front
+    → note_by lv (record { behind = []; ahead = front ++ xs }) reach least p.at p.gap p.fewer p.mark p.state ≡ note_by lv (record { behind = []; ahead = front ++ ys }) reach least p.at p.gap p.fewer p.mark p.state
+note-same lv p front xs ys reach least h =
+    let here = note_with lv reach least p.fewer p.mark p.state in
+    ap (λ b. here b (token_start (record { behind = []; ahead = front ++ xs }) p)) (position-same p.at front xs ys (omega (arith, h)))
+    ∙ ap (λ s. here (position (moved p.at (record { behind = []; ahead = front ++ ys }))) s) (start-same p front xs ys h)
+
+front-same : (lv : ℕ) (front xs ys : List ℕ) (asks : List Ask) (p : Noting) (reach least : ℕ) → AllEndBy (length front) asks → AllNotedBy (length front) asks → p.at + p.gap ≤ length front
+    → notes_from lv (record { behind = []; ahead = front ++ xs }) reach least (asks ++ noting p ∷ []) ≡ notes_from lv (record { behind = []; ahead = front ++ ys }) reach least (asks ++ noting p ∷ [])
+front-same lv front xs ys [] p reach least h g e = ap (λ n. n ∷ []) (note-same lv p front xs ys reach least e)
+front-same lv front xs ys (looked at look ∷ asks) p reach least h g e =
+    let w : Place = record { behind = []; ahead = front ++ ys } in
+    let z : Place = record { behind = []; ahead = front ++ xs } in
+    ap (λ n. notes_from lv z (max reach n) (min least (near look.back (moved at z))) (asks ++ noting p ∷ [])) (far-same at look.front [] front xs ys h.0)
+    ∙ ap (λ n. notes_from lv z (max reach (far look.front (moved at w))) (min least n) (asks ++ noting p ∷ [])) (near-same at look.back front xs ys (omega (arith, h.0)))
+    ∙ front-same lv front xs ys asks p (max reach (far look.front (moved at w))) (min least (near look.back (moved at w))) h.1 g e
+front-same lv front xs ys (marked at gap fewer m s ∷ asks) p reach least h g e =
+    let q : Noting = record { at = at; gap = gap; fewer = fewer; mark = m; state = s } in
+    let z : Place = record { behind = []; ahead = front ++ xs } in
+    let w : Place = record { behind = []; ahead = front ++ ys } in
+    ap (λ n. n ∷ notes_from lv z 0 (2 ^ 64 - 1) (asks ++ noting p ∷ [])) (note-same lv q front xs ys reach least g.0)
+    ∙ ap (λ ns. note_by lv w reach least at gap fewer m s ∷ ns) (front-same lv front xs ys asks p 0 (2 ^ 64 - 1) h g.1 e)
+
+-- ---- behind the stretch
+
+ahead-is : (d : ℕ) (b a : List ℕ) → (moved_from d b a).ahead ≡ drop d a
+ahead-is zero b a = refl
+ahead-is (suc d) b [] = refl
+ahead-is (suc d) b (c ∷ a) = ahead-is d (c ∷ b) a
+
+behind-is : (d : ℕ) (b a : List ℕ) → (moved_from d b a).behind ≡ onto (take d a) b
+behind-is zero b a = refl
+behind-is (suc d) b [] = refl
+behind-is (suc d) b (c ∷ a) = behind-is d (c ∷ b) a
+
+onto-append : (xs b : List ℕ) → onto xs b ≡ onto xs [] ++ b
+onto-append [] b = refl
+onto-append (c ∷ xs) b = onto-append xs (c ∷ b) ∙ sym (append_assoc (onto xs []) (c ∷ []) b) ∙ ap (λ u. u ++ b) (sym (onto-append xs (c ∷ [])))
+
+onto-length : (d : ℕ) (b a : List ℕ) → d ≤ length a → length (onto (take d a) b) ≡ d + length b
+onto-length zero b a h = omega arith
+onto-length (suc d) b [] h = absurd (omega (arith, h))
+onto-length (suc d) b (c ∷ a) h = let i = onto-length d (c ∷ b) a (omega (arith, h)) in omega (arith, i)
+
+take-width : (d : ℕ) (a : List ℕ) → width (take d a) ≤ width a
+unfolding width
+take-width zero a = omega arith
+take-width (suc d) [] = omega arith
+take-width (suc d) (c ∷ a) = let i = take-width d a in omega (arith, i)
+
+position-behind : (d : ℕ) (early rest : List ℕ) → position (moved d (record { behind = early; ahead = rest })) ≡ width early + width (take d rest)
+unfolding position
+position-behind d early rest = omega (arith, moved-width d early rest)
+
+far-behind : (n d : ℕ) (early rest : List ℕ) → far n (moved d (record { behind = early; ahead = rest })) ≡ width early + (width (take d rest) + stretch n (drop d rest))
+unfolding far position
+far-behind n d early rest = let a = ap (stretch n) (ahead-is d early rest) in omega (arith, a, moved-width d early rest)
+
+near-behind : (n d : ℕ) (early rest : List ℕ) → n ≤ d → d ≤ length rest → near n (moved d (record { behind = early; ahead = rest })) ≡ width early + (suc (width (take d rest)) - stretch n (onto (take d rest) []))
+unfolding near position
+near-behind n d early rest h k =
+    let late = onto (take d rest) [] in
+    let all : (moved_from d early rest).behind ≡ late ++ early = behind-is d early rest ∙ onto-append (take d rest) early in
+    let long = onto-length d [] rest k in
+    let fits : n ≤ length late = omega (arith, h, long) in
+    let one : stretch n (moved_from d early rest).behind ≡ stretch n late = ap (stretch n) all ∙ stretch-first n late early fits in
+    let least = stretch-to n late [] fits in
+    let two : stretch n late ≤ width late = subst (λ u. stretch n u ≤ width late) (append-nil late) least in
+    let three = width-onto (take d rest) [] in
+    omega (arith, one, two, three, width-none, moved-width d early rest)
+
+-- ends and beginnings of looks that stand as far behind the one byte as behind the other
+abbrev SameReach : ℕ → ℕ → ℕ → ℕ → Type 0
+SameReach e f a b = (x : ℕ) → a - (e + x) ≡ b - (f + x)
+
+abbrev SameLeast : ℕ → ℕ → ℕ → ℕ → ℕ → Type 0
+SameLeast top e f a b = (x : ℕ) → x ≤ top → suc (e + x) - a ≡ suc (f + x) - b
+
+reach-none : (e f : ℕ) → SameReach e f 0 0
+reach-none e f x = omega arith
+
+reach-more : (e f a b n : ℕ) → SameReach e f a b → SameReach e f (max a (e + n)) (max b (f + n))
+reach-more e f a b n h x = let i = h x in omega (arith, i)
+
+least-none : (top e f big : ℕ) → e + top < big → f + top < big → SameLeast top e f big big
+least-none top e f big h k x l = omega (arith, h, k, l)
+
+least-more : (top e f a b n : ℕ) → SameLeast top e f a b → SameLeast top e f (min a (e + n)) (min b (f + n))
+least-more top e f a b n h x l = let i = h x l in omega (arith, i)
+
+abbrev entry_with : Tag → ℕ → ℕ → ℕ → ℕ → ℕ → Entry
+entry_with t count step gap forth back = record { tag = t; step = step; gap = gap; forth = forth; back = back; count = count }
+
+entry-same : (t : Tag) (count a b c d e f g h : ℕ) → a ≡ e → b ≡ f → c ≡ g → d ≡ h → entry_with t count a b c d ≡ entry_with t count e f g h
+entry-same t count a b c d e f g h i j k l = ap (λ n. entry_with t count n b c d) i ∙ ap (λ n. entry_with t count e n c d) j ∙ ap (λ n. entry_with t count e f n d) k ∙ ap (λ n. entry_with t count e f g n) l
+
+-- the place so many characters on, behind the stretch
+behind-place : (front mid rest : List ℕ) (end past at : ℕ) → end ≡ (length front + length mid) + past → moved (end + at) (text_with front mid rest) ≡ moved (past + at) (record { behind = onto mid (onto front []); ahead = rest })
+behind-place front mid rest end past at e =
+    let there : end + at ≡ (length front + length mid) + (past + at) = omega (arith, e) in
+    ap (λ n. moved n (text_with front mid rest)) there ∙ past-is (past + at) front mid rest
+
+-- so much behind the one stretch and the other
+module _ (lv : ℕ) (front old new rest : List ℕ) (past end stop : ℕ) (e : end ≡ (length front + length old) + past) (f : stop ≡ (length front + length new) + past) where
+  abbrev z : Place
+  z = text_with front old rest
+
+  abbrev w : Place
+  w = text_with front new rest
+
+  abbrev b : ℕ
+  b = width (onto old (onto front []))
+
+  abbrev c : ℕ
+  c = width (onto new (onto front []))
+
+  abbrev top : ℕ
+  top = width rest
+
+  abbrev wide : ℕ → ℕ
+  wide d = width (take d rest)
+
+  position-old : (at : ℕ) → position (moved (end + at) z) ≡ b + wide (past + at)
+  position-old at = ap position (behind-place front old rest end past at e) ∙ position-behind (past + at) (onto old (onto front [])) rest
+
+  position-new : (at : ℕ) → position (moved (stop + at) w) ≡ c + wide (past + at)
+  position-new at = ap position (behind-place front new rest stop past at f) ∙ position-behind (past + at) (onto new (onto front [])) rest
+
+  start-old : (at gap : ℕ) → position (moved gap (moved (end + at) z)) ≡ b + wide (past + (at + gap))
+  start-old at gap =
+      let sum : (end + at) + gap ≡ end + (at + gap) = omega arith in
+      ap position (sym (moved-sum (end + at) gap z)) ∙ ap (λ n. position (moved n z)) sum ∙ position-old (at + gap)
+
+  start-new : (at gap : ℕ) → position (moved gap (moved (stop + at) w)) ≡ c + wide (past + (at + gap))
+  start-new at gap =
+      let sum : (stop + at) + gap ≡ stop + (at + gap) = omega arith in
+      ap position (sym (moved-sum (stop + at) gap w)) ∙ ap (λ n. position (moved n w)) sum ∙ position-new (at + gap)
+
+  far-old : (at n : ℕ) → far n (moved (end + at) z) ≡ b + (wide (past + at) + stretch n (drop (past + at) rest))
+  far-old at n = ap (far n) (behind-place front old rest end past at e) ∙ far-behind n (past + at) (onto old (onto front [])) rest
+
+  far-new : (at n : ℕ) → far n (moved (stop + at) w) ≡ c + (wide (past + at) + stretch n (drop (past + at) rest))
+  far-new at n = ap (far n) (behind-place front new rest stop past at f) ∙ far-behind n (past + at) (onto new (onto front [])) rest
+
+  near-old : (at n : ℕ) → n ≤ past + at → past + at ≤ length rest → near n (moved (end + at) z) ≡ b + (suc (wide (past + at)) - stretch n (onto (take (past + at) rest) []))
+  near-old at n h k = ap (near n) (behind-place front old rest end past at e) ∙ near-behind n (past + at) (onto old (onto front [])) rest h k
+
+  near-new : (at n : ℕ) → n ≤ past + at → past + at ≤ length rest → near n (moved (stop + at) w) ≡ c + (suc (wide (past + at)) - stretch n (onto (take (past + at) rest) []))
+  near-new at n h k = ap (near n) (behind-place front new rest stop past at f) ∙ near-behind n (past + at) (onto new (onto front [])) rest h k
+
+  -- the entries are the same, and how far back is looked behind the last note
+  record Rear (x r l t u : ℕ) (asks : List Ask) : Type 0 where
+    entries : entries_by (b + x) (notes_from lv z r l (shift end asks)) ≡ entries_by (c + x) (notes_from lv w t u (shift stop asks))
+    back : back_of (last_start (b + x) (notes_from lv z r l (shift end asks))) (least_from lv z l (shift end asks)) ≡ back_of (last_start (c + x) (notes_from lv w t u (shift stop asks))) (least_from lv w u (shift stop asks))
+
+  reach-same : (r t at n : ℕ) → SameReach b c r t → SameReach b c (max r (far n (moved (end + at) z))) (max t (far n (moved (stop + at) w)))
+  reach-same r t at n h x = let o = far-old at n in let m = far-new at n in let i = h x in omega (arith, i, o, m)
+
+  least-same : (l u at n : ℕ) → n ≤ past + at → past + at ≤ length rest → SameLeast top b c l u → SameLeast top b c (min l (near n (moved (end + at) z))) (min u (near n (moved (stop + at) w)))
+  least-same l u at n h k s x le = let o = near-old at n h k in let m = near-new at n h k in let i = s x le in omega (arith, i, o, m)
+
+  note-behind : (x r l t u at gap fewer : ℕ) (m : Mark) (s : State) → x ≤ top → SameReach b c r t → SameLeast top b c l u
+      → entry_of (b + x) (note_by lv z r l (end + at) gap fewer m s) ≡ entry_of (c + x) (note_by lv w t u (stop + at) gap fewer m s)
+  note-behind x r l t u at gap fewer m s h i j =
+      let start = start-old at gap in
+      let start_new = start-new at gap in
+      let before = position-old at in
+      let before_new = position-new at in
+      let reach = i (wide (past + (at + gap))) in
+      entry-same (tag_of m s) (count_of m (lv - fewer)) _ _ _ _ _ _ _ _ (omega (arith, before, before_new)) (omega (arith, before, before_new, start, start_new)) (omega (arith, reach, start, start_new)) (j x h)
+
+  rear : (asks : List Ask) (x r l t u : ℕ) → x ≤ top → b + top < 2 ^ 64 - 1 → c + top < 2 ^ 64 - 1 → SameReach b c r t → SameLeast top b c l u → AllBeginIn past rest asks → Rear x r l t u asks
+  rear [] x r l t u h big big_new i j g = record { entries = refl; back = j x h }
+  rear (looked at look ∷ asks) x r l t u h big big_new i j g =
+      let o = rear asks x _ _ _ _ h big big_new (reach-same r t at look.front i) (least-same l u at look.back g.0 g.1 j) g.2 in
+      record { entries = o.entries; back = o.back }
+  rear (marked at gap fewer m s ∷ asks) x r l t u h big big_new i j g =
+      let y = wide (past + (at + gap)) in
+      let o = rear asks y 0 (2 ^ 64 - 1) 0 (2 ^ 64 - 1) (take-width (past + (at + gap)) rest) big big_new (reach-none b c) (least-none top b c (2 ^ 64 - 1) big big_new) g in
+      let ns = notes_from lv z 0 (2 ^ 64 - 1) (shift end asks) in
+      let ms = notes_from lv w 0 (2 ^ 64 - 1) (shift stop asks) in
+      let first = note-behind x r l t u at gap fewer m s h i j in
+      let rest_same = ap (λ n. entries_by n ns) (start-old at gap) ∙ o.entries ∙ ap (λ n. entries_by n ms) (sym (start-new at gap)) in
+      record {
+        entries = ap (λ n. n ∷ entries_by (position (moved gap (moved (end + at) z))) ns) first ∙ ap (λ es. entry_of (c + x) (note_by lv w t u (stop + at) gap fewer m s) ∷ es) rest_same;
+        back = ap (λ n. back_of (last_start n ns) (least_from lv z (2 ^ 64 - 1) (shift end asks))) (start-old at gap) ∙ o.back ∙ ap (λ n. back_of (last_start n ms) (least_from lv w (2 ^ 64 - 1) (shift stop asks))) (sym (start-new at gap));
+      }
+
+-- ---- the law
+
+-- the units of what is asked up to a note, up to another one, and behind it
+module _ (lv : ℕ) (z : Place) (first second last : List Ask) (p q : Noting) where
+  abbrev none_yet : ℕ
+  none_yet = 2 ^ 64 - 1
+
+  abbrev notes_first : List Note
+  notes_first = notes_from lv z 0 none_yet (first ++ noting p ∷ [])
+
+  abbrev notes_second : List Note
+  notes_second = notes_from lv z 0 none_yet (second ++ noting q ∷ [])
+
+  abbrev notes_last : List Note
+  notes_last = notes_from lv z 0 none_yet last
+
+  abbrev split_units : Units
+  split_units = record {
+    entries = entries_by 0 notes_first ++ (entries_by (token_start z p) notes_second ++ entries_by (token_start z q) notes_last);
+    back = back_of (last_start (token_start z q) notes_last) (least_from lv z none_yet last);
+  }
+
+  units-split : units_of (logged lv z no_log (first ++ noting p ∷ (second ++ noting q ∷ last))) ≡ split_units
+  units-split =
+      let asks = first ++ noting p ∷ (second ++ noting q ∷ last) in
+      let tp = token_start z p in
+      let tq = token_start z q in
+      let h = logged lv z no_log asks in
+      let notes : h.notes ≡ Some (notes_first ++ (notes_second ++ notes_last)) =
+      logged-notes lv z asks 0 none_yet [] ∙ ap Some (notes-split lv z first (second ++ noting q ∷ last) p 0 none_yet ∙ ap (λ ns. notes_first ++ ns) (notes-split lv z second last q 0 none_yet)) in
+      let least : h.least ≡ least_from lv z none_yet last =
+      logged-least lv z asks 0 none_yet [] ∙ least-split lv z first (second ++ noting q ∷ last) p none_yet ∙ least-split lv z second last q none_yet in
+      let first_end = last-is lv z first p 0 none_yet 0 in
+      let second_end = last-is lv z second q 0 none_yet tp in
+      let entries : entries_by 0 (notes_first ++ (notes_second ++ notes_last)) ≡ entries_by 0 notes_first ++ (entries_by tp notes_second ++ entries_by tq notes_last) =
+      entries-append 0 notes_first (notes_second ++ notes_last)
+      ∙ ap (λ n. entries_by 0 notes_first ++ entries_by n (notes_second ++ notes_last)) first_end
+      ∙ ap (λ es. entries_by 0 notes_first ++ es) (entries-append tp notes_second notes_last ∙ ap (λ n. entries_by tp notes_second ++ entries_by n notes_last) second_end) in
+      let ending : last_start 0 (notes_first ++ (notes_second ++ notes_last)) ≡ last_start tq notes_last =
+      last-append 0 notes_first (notes_second ++ notes_last) ∙ ap (λ n. last_start n (notes_second ++ notes_last)) first_end ∙ last-append tp notes_second notes_last ∙ ap (λ n. last_start n notes_last) second_end in
+      ap (λ (o : Option (List Note)). units_by (elim o as (λ _. List Note) [ None ↦ [] | Some ns ↦ ns ]) h.least) notes
+      ∙ ap (λ l. units_by (notes_first ++ (notes_second ++ notes_last)) l) least
+      ∙ ap (λ es. record { entries = es; back = back_of (last_start 0 (notes_first ++ (notes_second ++ notes_last))) (least_from lv z none_yet last) }) entries
+      ∙ ap (λ n. record { entries = entries_by 0 notes_first ++ (entries_by tp notes_second ++ entries_by tq notes_last); back = back_of n (least_from lv z none_yet last) }) ending
+
+take-first : (n : ℕ) (xs ys : List Entry) → length xs ≡ n → take n (xs ++ ys) ≡ xs
+take-first n xs ys e = ap (λ k. take k (xs ++ ys)) (sym e) ∙ take-append_seam xs ys
+
+drop-first : (n : ℕ) (xs ys : List Entry) → length xs ≡ n → drop n (xs ++ ys) ≡ ys
+drop-first n xs ys e = ap (λ k. drop k (xs ++ ys)) (sym e) ∙ drop-append_seam xs ys
+
+-- entries of three parts, of which the second is exchanged
+spliced-is : (from to : ℕ) (es fs gs part : List Entry) (back : ℕ) → length es ≡ suc from → length (es ++ fs) ≡ suc to
+    → spliced from to part (record { entries = es ++ (fs ++ gs); back = back }) ≡ record { entries = es ++ (part ++ gs); back = back }
+spliced-is from to es fs gs part back e f =
+    let dropped = ap (drop (suc to)) (sym (append_assoc es fs gs)) ∙ drop-first (suc to) (es ++ fs) gs f in
+    ap (λ u. record { entries = u ++ (part ++ drop (suc to) (es ++ (fs ++ gs))); back = back }) (take-first (suc from) es (fs ++ gs) e)
+    ∙ ap (λ u. record { entries = es ++ (part ++ u); back = back }) dropped
+
+whole-width : (front mid rest : List ℕ) → width (onto mid (onto front [])) + width rest ≡ width (front ++ (mid ++ rest))
+whole-width front mid rest = omega (arith, width-append front (mid ++ rest), width-append mid rest, width-onto mid (onto front []), width-onto front [], width-none)
+
+token-at : (z : Place) (p : Noting) (end : ℕ) → p.at + p.gap ≡ end → token_start z p ≡ position (moved end z)
+token-at z p end e = ap position (sym (moved-sum p.at p.gap z)) ∙ ap (λ n. position (moved n z)) e
+
+pub splice-law : SpliceLaw
+splice-law lv front old new rest past gap first second third last p q r big big_new ends noted within at_end at_stop begins =
+    let z = text_with front old rest in
+    let w = text_with front new rest in
+    let end = (length front + length old) + past in
+    let stop = (length front + length new) + past in
+    let b = width (onto old (onto front [])) in
+    let c = width (onto new (onto front [])) in
+    let x = width (take (past + gap) rest) in
+    let none_yet = 2 ^ 64 - 1 in
+    let was = units-split lv z first second (shift end last) p q in
+    let now = units-split lv w first third (shift stop last) p r in
+    let fits : b + width rest < none_yet = subst (λ n. n < none_yet) (sym (whole-width front old rest)) big in
+    let fits_new : c + width rest < none_yet = subst (λ n. n < none_yet) (sym (whole-width front new rest)) big_new in
+    let behind = rear lv front old new rest past end stop refl refl last x 0 none_yet 0 none_yet (take-width (past + gap) rest) fits fits_new (reach-none b c) (least-none (width rest) b c none_yet fits fits_new) begins in
+    let q_is : token_start z q ≡ b + x = token-at z q (end + gap) at_end ∙ position-old lv front old new rest past end stop refl refl gap in
+    let r_is : token_start w r ≡ c + x = token-at w r (stop + gap) at_stop ∙ position-new lv front old new rest past end stop refl refl gap in
+    let front_is = ap (entries_by 0) (sym (front-same lv front (old ++ rest) (new ++ rest) first p 0 none_yet ends noted within)) in
+    let es = entries_by 0 (notes_first lv z first second (shift end last) p q) in
+    let fs = entries_by (token_start z p) (notes_second lv z first second (shift end last) p q) in
+    let gs = entries_by (token_start z q) (notes_last lv z first second (shift end last) p q) in
+    let ps = entries_by (token_start w p) (notes_second lv w first third (shift stop last) p r) in
+    let ns = notes_from lv z 0 none_yet (shift end last) in
+    let ms = notes_from lv w 0 none_yet (shift stop last) in
+    let rest_is : entries_by (token_start w r) ms ≡ gs = ap (λ n. entries_by n ms) r_is ∙ sym behind.entries ∙ ap (λ n. entries_by n ns) (sym q_is) in
+    let back_is : back_of (last_start (token_start w r) ms) (least_from lv w none_yet (shift stop last)) ≡ back_of (last_start (token_start z q) ns) (least_from lv z none_yet (shift end last)) =
+    ap (λ n. back_of (last_start n ms) (least_from lv w none_yet (shift stop last))) r_is ∙ sym behind.back ∙ ap (λ n. back_of (last_start n ns) (least_from lv z none_yet (shift end last))) (sym q_is) in
+    let back = back_of (last_start (token_start z q) ns) (least_from lv z none_yet (shift end last)) in
+    let from = notes_in first in
+    let to = suc (notes_in first + notes_in second) in
+    let long : length es ≡ suc from = entries-length 0 _ ∙ notes-length lv z first p 0 none_yet in
+    let longer : length fs ≡ suc (notes_in second) = entries-length (token_start z p) _ ∙ notes-length lv z second q 0 none_yet in
+    let all : length (es ++ fs) ≡ suc to = omega (arith, length-append es fs, long, longer) in
+    let part_is : entries_from (token_start w p) (logged lv w no_log (third ++ noting r ∷ [])).notes ≡ ps = ap (entries_from (token_start w p)) (logged-notes lv w (third ++ noting r ∷ []) 0 none_yet []) in
+    now
+    ∙ ap (λ u. record { entries = u ++ (ps ++ entries_by (token_start w r) ms); back = back_of (last_start (token_start w r) ms) (least_from lv w none_yet (shift stop last)) }) front_is
+    ∙ ap (λ u. record { entries = es ++ (ps ++ u); back = back_of (last_start (token_start w r) ms) (least_from lv w none_yet (shift stop last)) }) rest_is
+    ∙ ap (λ u. record { entries = es ++ (ps ++ gs); back = u }) back_is
+    ∙ sym (spliced-is from to es fs gs ps back long all)
+    ∙ ap (λ part. spliced from to part (split_units lv z first second (shift end last) p q)) (sym part_is)
+    ∙ ap (spliced from to (entries_from (token_start w p) (logged lv w no_log (third ++ noting r ∷ [])).notes)) (sym was)

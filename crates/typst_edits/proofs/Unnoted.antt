@@ -1,0 +1,331 @@
+-- Where the blocks of a second reading begin, no block is noted.
+use Rattle.std.proofs.Common.{◌≡◌, ◌⊎◌, inl, inr, ℕ, zero, suc, ◌+◌, ◌<◌, ◌≤◌, Bool, true, false, ◌&&◌, if◌then◌else◌, nat_lt, List, [], ◌∷◌, ◌++◌, length, map, drop, append-nil, Option, Some, None, refl, ap, sym, ◌∙◌, subst, arith}
+use Rattle.std.specs.List.{flat_map}
+use Rattle.typst_lines.specs.Place.{Place, moved}
+use Rattle.typst_language.specs.declared.calls.Block.{Block}
+use Rattle.typst_language.specs.declared.calls.Call.{Call}
+use Rattle.typst_language.specs.declared.calls.Mark.TheVariants as mark
+use Rattle.typst_language.specs.Ask.{Ask, shift, shift_one, sunk, sink_one, only_looks}
+use Rattle.typst_language.specs.Ask.Ask.{looked, marked}
+use Rattle.typst_language.specs.Calls.{Answer}
+use Rattle.typst_language.specs.Meaning.{Outcome, Meaning, Level, joined, answered, followed, turns, as_last, bound, repeated, before, grown, is_more, growths, growing, nestings, nesting, bounded, given_up, entered, plain, hand_asks_of, done, run}
+use Rattle.typst_language.specs.Point.{Point, state_of, forgot}
+use Rattle.typst_kinds.specs.declared.kind.SyntaxKind.{SyntaxKind}
+use Rattle.typst_language.specs.Shape.{Shape, after_shape, seen}
+use Rattle.typst_language.specs.Syntax.{Op, Begin, Parser}
+use Rattle.typst_language.specs.Syntax.Op.{hand, so, further, column, erred, takes, takes_so, flushes, complains, advises, marks, is_deepest}
+use Rattle.typst_language.specs.Syntax.Parser.{gives, does, next, pick, repeat, wraps, grows, nests, scoped, either, calls, block}
+use Rattle.typst_language.proofs.Places.{ahead-left}
+use Rattle.typst_grammar.proofs.FineRuns.{op_by, PlainBy}
+use Rattle.typst_edits.specs.Hole.{Hole, plug, wrap_hole}
+use Rattle.typst_edits.specs.Lost.{opened}
+use Rattle.typst_edits.specs.Occurrences.{Spots, joined_spots, goes, last_spot, turns_spots, repeated_spots, reshaped_spot, wrapped_spot, grown_spot, growths_spots, growing_spots, nestings_spots, nesting_spots, scoped_spot, bounded_spots, spots}
+use Rattle.typst_edits.specs.Spot.{Spot, block_head, valued, then_spot, after_spot, rehole, sunk_spot, closed_spot}
+use Rattle.typst_edits.specs.Standing.{seconds, place_of}
+use Rattle.typst_edits.proofs.Complete.{opened-append, opened-by, opens-shift, opens-sink, opened-looks, opened-hand}
+use Rattle.typst_edits.proofs.Every.{Every, every-append, every-by, every-map, every-flat, every-any}
+
+-- it is before what is taken, or nothing stands there any more
+abbrev pub Early : Place → ℕ → ℕ → Type 0
+Early z n i = (i < n) ⊎ (length z.ahead ≤ i)
+
+-- what begins here isn't what is noted, but where nothing stands any more
+abbrev pub Differs : Place → ℕ → Ask → Type 0
+Differs z i ask = place_of ask ≡ i → length z.ahead ≤ i
+
+abbrev pub EveryAt : {A : Type 0} → (ℕ → Type 0) → List (Spot A) → Type 0
+EveryAt P cs = Every (λ c. P c.at) cs
+
+-- the blocks that are noted begin elsewhere than those of the other kind
+pub record Splits {A : Type 0} (z : Place) (taken : ℕ) (asks : List Ask) (cs ds : List (Spot A)) : Type 0 where
+  pub firsts : EveryAt (Early z taken) cs
+  pub others : EveryAt (Early z taken) ds
+  pub notes : Every (λ ask. Early z taken (place_of ask)) (opened asks)
+  pub differ : EveryAt (λ i. Every (Differs z i) (opened asks)) ds
+
+abbrev pub Split : {A : Type 0} → Place → Outcome A → List (Spot A) → List (Spot A) → Type 0
+Split z o cs ds = Splits z o.taken o.asks cs ds
+
+abbrev pub AllSplit : {A : Type 0} → Meaning A → Spots A → Spots A → Type 0
+AllSplit m sp se = (z : Place) (s : Point) → Split z (m z s) (sp z s) (se z s)
+
+pub split-none : {A : Type 0} (z : Place) (n : ℕ) (asks : List Ask) → opened asks ≡ [] → Splits {A = A} z n asks [] []
+split-none z n asks e = record { firsts = tt; others = tt; notes = subst (λ u. Every (λ ask. Early z n (place_of ask)) u) (sym e) tt; differ = tt }
+
+split-if : {A : Type 0} (z : Place) (b : Bool) (x y : Outcome A) (cs es ds fs : List (Spot A)) → (b ≡ true → Split z x cs ds) → (b ≡ false → Split z y es fs) → Split z (if b then x else y) (if b then cs else es) (if b then ds else fs)
+split-if z true x y cs es ds fs h k = h refl
+split-if z false x y cs es ds fs h k = k refl
+
+-- spots that begin where others do
+split-flat : {A B : Type 0} (z : Place) (n : ℕ) (asks : List Ask) (f : Spot A → List (Spot B)) → ((P : ℕ → Type 0) (c : Spot A) → P c.at → EveryAt P (f c)) → (cs ds : List (Spot A)) → Splits z n asks cs ds → Splits z n asks (flat_map f cs) (flat_map f ds)
+split-flat z n asks f g cs ds h = record {
+  firsts = every-flat (λ c. Early z n c.at) (λ c. Early z n c.at) f (g (Early z n)) cs h.firsts;
+  others = every-flat (λ c. Early z n c.at) (λ c. Early z n c.at) f (g (Early z n)) ds h.others;
+  notes = h.notes;
+  differ = every-flat (λ c. Every (Differs z c.at) (opened asks)) (λ c. Every (Differs z c.at) (opened asks)) f (g (λ i. Every (Differs z i) (opened asks))) ds h.differ;
+}
+
+split-map : {A B : Type 0} (z : Place) (n : ℕ) (asks : List Ask) (f : Spot A → Spot B) → ((P : ℕ → Type 0) (c : Spot A) → P c.at → P (f c).at) → (cs ds : List (Spot A)) → Splits z n asks cs ds → Splits z n asks (map f cs) (map f ds)
+split-map z n asks f g cs ds h = record {
+  firsts = every-map (λ c. Early z n c.at) (λ c. Early z n c.at) f (g (Early z n)) cs h.firsts;
+  others = every-map (λ c. Early z n c.at) (λ c. Early z n c.at) f (g (Early z n)) ds h.others;
+  notes = h.notes;
+  differ = every-map (λ c. Every (Differs z c.at) (opened asks)) (λ c. Every (Differs z c.at) (opened asks)) f (g (λ i. Every (Differs z i) (opened asks))) ds h.differ;
+}
+
+-- ---- one after the other
+
+place-shift : (n : ℕ) (ask : Ask) → place_of (shift_one n ask) ≡ n + place_of ask
+place-shift n (looked at look) = refl
+place-shift n (marked at gap fewer mark s) = refl
+
+place-sink : (ask : Ask) → place_of (sink_one ask) ≡ place_of ask
+place-sink (looked at look) = refl
+place-sink (marked at gap fewer mark s) = refl
+
+opened-two : (n : ℕ) (xs ys : List Ask) → opened (xs ++ shift n ys) ≡ opened xs ++ map (shift_one n) (opened ys)
+opened-two n xs ys = opened-append xs (shift n ys) ∙ ap (λ u. opened xs ++ u) (opened-by (shift_one n) (opens-shift n) ys)
+
+module _ (z : Place) (n m : ℕ) where
+  early-first : (i : ℕ) → Early z n i → Early z (n + m) i
+  early-first i (inl l) = inl (omega (arith, l))
+  early-first i (inr l) = inr l
+
+  early-second : (i j : ℕ) → j ≡ n + i → Early (moved n z) m i → Early z (n + m) j
+  early-second i j e (inl l) = inl (omega (arith, e, l))
+  early-second i j e (inr l) = inr (omega (arith, e, l, ahead-left n z))
+
+  early-ask : (ask : Ask) → Early (moved n z) m (place_of ask) → Early z (n + m) (place_of (shift_one n ask))
+  early-ask ask h = early-second (place_of ask) (place_of (shift_one n ask)) (place-shift n ask) h
+
+  -- what begins in the first isn't noted in the second, and the other way round
+  differs-behind : (i : ℕ) (ask : Ask) → Early z n i → Differs z i (shift_one n ask)
+  differs-behind i ask (inl l) e = absurd (omega (arith, l, e, place-shift n ask))
+  differs-behind i ask (inr l) e = l
+
+  differs-before : (i : ℕ) (ask : Ask) → Early z n (place_of ask) → Differs z (n + i) ask
+  differs-before i ask (inl l) e = absurd (omega (arith, l, e))
+  differs-before i ask (inr l) e = omega (arith, l, e)
+
+  differs-second : (i : ℕ) (ask : Ask) → Differs (moved n z) i ask → Differs z (n + i) (shift_one n ask)
+  differs-second i ask f e =
+      let g : place_of ask ≡ i = omega (arith, e, place-shift n ask) in
+      let l = f g in
+      omega (arith, l, ahead-left n z)
+
+split-joined : {A B : Type 0} (z : Place) (o : Outcome B) (p : Outcome A) (cs ds : List (Spot B)) (es fs : List (Spot A)) → Split z o cs ds → Split (moved o.taken z) p es fs → Split z (joined o p) (joined_spots o cs p es) (joined_spots o ds p fs)
+split-joined {A} {B} z o p cs ds es fs h k = record {
+  firsts = both cs es h.firsts k.firsts;
+  others = both ds fs h.others k.others;
+  notes = subst (Every (λ ask. Early z (n + m) (place_of ask))) (sym is)
+      (every-append (λ ask. Early z (n + m) (place_of ask)) (opened o.asks) (map (shift_one n) (opened p.asks)) (every-by (λ ask. early-first z n m (place_of ask)) (opened o.asks) h.notes)
+      (every-map (λ ask. Early (moved n z) m (place_of ask)) (λ ask. Early z (n + m) (place_of ask)) (shift_one n) (early-ask z n m) (opened p.asks) k.notes));
+  differ = every-append _ (map (λ c. then_spot c p) ds) (map (after_spot o) fs) (every-map Old (Apart_at) (λ c. then_spot c p) first ds (pair ds h.others h.differ))
+      (every-map (λ c. Every (Differs (moved n z) c.at) (opened p.asks)) (Apart_at) (after_spot o) second fs k.differ);
+}
+  where
+    n : ℕ
+    n = o.taken
+
+    m : ℕ
+    m = p.taken
+
+    is : opened (o.asks ++ shift n p.asks) ≡ opened o.asks ++ map (shift_one n) (opened p.asks)
+    is = opened-two n o.asks p.asks
+
+    Apart_at : {C : Type 0} → Spot C → Type 0
+    Apart_at c = Every (Differs z c.at) (opened (o.asks ++ shift n p.asks))
+
+    Old : {C : Type 0} → Spot C → Type 0
+    Old c = Early z n c.at × Every (Differs z c.at) (opened o.asks)
+
+    pair : {C : Type 0} (xs : List (Spot C)) → EveryAt (Early z n) xs → EveryAt (λ i. Every (Differs z i) (opened o.asks)) xs → Every Old xs
+    pair [] a b = tt
+    pair (x ∷ xs) a b = ((a.0, b.0), pair xs a.1 b.1)
+
+    both : (xs : List (Spot B)) (ys : List (Spot A)) → EveryAt (Early z n) xs → EveryAt (Early (moved n z) m) ys → EveryAt (Early z (n + m)) (joined_spots o xs p ys)
+    both xs ys a b = every-append _ (map (λ c. then_spot c p) xs) (map (after_spot o) ys) (every-map (λ c. Early z n c.at) (λ c. Early z (n + m) c.at) (λ c. then_spot c p) (λ c. early-first z n m c.at) xs a)
+        (every-map (λ c. Early (moved n z) m c.at) (λ c. Early z (n + m) c.at) (after_spot o) (λ c. early-second z n m c.at (n + c.at) refl) ys b)
+
+    first : (c : Spot B) → Old c → Apart_at (then_spot c p)
+    first c h = subst (Every (Differs z c.at)) (sym is) (every-append (Differs z c.at) (opened o.asks) (map (shift_one n) (opened p.asks)) h.1
+        (every-map (λ ask. Unit {0}) (Differs z c.at) (shift_one n) (λ ask _. differs-behind z n m c.at ask h.0) (opened p.asks) (every-any (opened p.asks))))
+
+    second : (c : Spot A) → Every (Differs (moved n z) c.at) (opened p.asks) → Apart_at (after_spot o c)
+    second c x = subst (Every (Differs z (n + c.at))) (sym is) (every-append (Differs z (n + c.at)) (opened o.asks) (map (shift_one n) (opened p.asks)) (every-by (λ ask. differs-before z n m c.at ask) (opened o.asks) h.notes)
+        (every-map (Differs (moved n z) c.at) (Differs z (n + c.at)) (shift_one n) (λ ask. differs-second z n m c.at ask) (opened p.asks) x))
+
+-- ---- what several nodes become
+
+reshaped-at : {A : Type 0} (shape : Shape) (n : ℕ) (P : ℕ → Type 0) (c : Spot A) → P c.at → EveryAt P (reshaped_spot shape n c)
+reshaped-at shape n P c p =
+    every-map (λ (g : Hole). Unit {0}) (λ d. P d.at) (rehole (after_shape shape (drop (n + c.back) (plug c.hole c.node)) c.state) c) (λ g u. p) (wrap_hole shape (block_head c.name) (n + c.back) c.hole)
+    (every-any (wrap_hole shape (block_head c.name) (n + c.back) c.hole))
+
+pub wrapped-at : {A : Type 0} (f : A → Shape) (n : ℕ) (P : ℕ → Type 0) (c : Spot A) → P c.at → EveryAt P (wrapped_spot f n c)
+wrapped-at f n P c p =
+    every-map (λ d. P d.at) (λ d. P d.at) (valued (c.value, map seen (drop (n + c.back) (plug c.hole c.node)))) (λ d q. q) (reshaped_spot (f c.value) n c) (reshaped-at (f c.value) n P c p)
+
+split-grown : {A : Type 0} (z : Place) (n : ℕ) (shape : Option Shape) (o : Outcome (Option Shape × A)) (cs ds : List (Spot (Option Shape × A))) → Split z o cs ds
+    → Split z (grown n shape (answered o.value.1 o)) (flat_map (λ c. grown_spot n shape (last_spot c)) cs) (flat_map (λ c. grown_spot n shape (last_spot c)) ds)
+split-grown z n None o cs ds h = split-flat z o.taken o.asks (λ c. last_spot c ∷ []) (λ P c p. (p, tt)) cs ds h
+split-grown z n (Some shape) o cs ds h = split-flat z o.taken o.asks (λ c. reshaped_spot shape n (last_spot c)) (λ P c p. reshaped-at shape n P (last_spot c) p) cs ds h
+
+-- ---- loops
+
+module _ {A : Type 0} (m : A → Meaning (Bool × A)) (sp se : A → Spots (Bool × A)) (h : (x : A) → AllSplit (m x) (sp x) (se x)) where
+  split-turns : (n : ℕ) (x : A) → AllSplit (turns m n x) (turns_spots m sp n x) (turns_spots m se n x)
+  split-turns zero x z s = split-none z 0 [] refl
+  split-turns (suc n) x z s =
+      let o = m x z s in
+      let w = moved o.taken z in
+      split-if z (goes o) (followed o (λ v. turns m n v.1) z) (as_last o) _ _ _ _
+      (λ _. split-joined z o (turns m n o.value.1 w o.state) (sp x z s) (se x z s) (turns_spots m sp n o.value.1 w o.state) (turns_spots m se n o.value.1 w o.state) (h x z s) (split-turns n o.value.1 w o.state))
+      (λ _. split-map z o.taken o.asks last_spot (λ P c p. p) (sp x z s) (se x z s) (h x z s))
+
+  split-nestings : (f : A → Shape) (begin : Begin) (n : ℕ) (x : A) → AllSplit (nestings f begin m n x) (nestings_spots f begin m sp n x) (nestings_spots f begin m se n x)
+  split-nestings f begin zero x z s = split-none z 0 [] refl
+  split-nestings f begin (suc n) x z s =
+      let o = m x z s in
+      let w = moved o.taken z in
+      let q = if goes o then followed o (λ v. nestings f begin m n v.1) z else as_last o in
+      split-flat z q.taken q.asks (λ c. reshaped_spot (f c.value) (before begin s) c) (λ P c p. reshaped-at (f c.value) (before begin s) P c p) _ _
+      (split-if z (goes o) (followed o (λ v. nestings f begin m n v.1) z) (as_last o) _ _ _ _
+      (λ _. split-joined z o (nestings f begin m n o.value.1 w o.state) (sp x z s) (se x z s) (nestings_spots f begin m sp n o.value.1 w o.state) (nestings_spots f begin m se n o.value.1 w o.state) (h x z s) (split-nestings f begin n o.value.1 w o.state))
+      (λ _. split-map z o.taken o.asks last_spot (λ P c p. p) (sp x z s) (se x z s) (h x z s)))
+
+module _ {A : Type 0} (m : A → Meaning (Option Shape × A)) (sp se : A → Spots (Option Shape × A)) (h : (x : A) → AllSplit (m x) (sp x) (se x)) (n : ℕ) where
+  split-growths : (k : ℕ) (o : Outcome A) (cs ds : List (Spot A)) (z : Place) → Split z o cs ds → Split z (growths m n k o z) (growths_spots m sp n k o cs z) (growths_spots m se n k o ds z)
+  split-growths zero o cs ds z i = i
+  split-growths (suc k) o cs ds z i =
+      let w = moved o.taken z in
+      let p = m o.value w o.state in
+      let all = grown n p.value.0 (answered p.value.1 (joined o p)) in
+      let j = split-grown z n p.value.0 (joined o p) (joined_spots o cs p (sp o.value w o.state)) (joined_spots o ds p (se o.value w o.state))
+      (split-joined z o p cs ds (sp o.value w o.state) (se o.value w o.state) i (h o.value w o.state)) in
+      split-if z (is_more p.value.0 && nat_lt 0 p.taken) (growths m n k all z) all _ _ _ _ (λ _. split-growths k all _ _ z j) (λ _. j)
+
+-- ---- a reading that was given up, a level, a block
+
+split-given : {A : Type 0} (z : Place) (o p : Outcome A) (cs ds : List (Spot A)) → Split z p cs ds → Split z (given_up o p) [] (cs ++ ds)
+split-given z o p cs ds h = record {
+  firsts = tt;
+  others = every-append (λ c. Early z p.taken c.at) cs ds h.firsts h.others;
+  notes = subst (Every (λ ask. Early z p.taken (place_of ask))) (sym none) tt;
+  differ = every-by (λ c u. subst (Every (Differs z c.at)) (sym none) tt) (cs ++ ds) (every-any (cs ++ ds));
+}
+  where
+    none : opened (only_looks (o.asks ++ p.asks)) ≡ []
+    none = opened-looks (o.asks ++ p.asks)
+
+split-sunk : {A : Type 0} (z : Place) (n : ℕ) (asks : List Ask) (cs ds : List (Spot A)) → Splits z n asks cs ds → Splits z n (sunk asks) (map sunk_spot cs) (map sunk_spot ds)
+split-sunk z n asks cs ds h = record {
+  firsts = every-map (λ c. Early z n c.at) (λ c. Early z n c.at) sunk_spot (λ c p. p) cs h.firsts;
+  others = every-map (λ c. Early z n c.at) (λ c. Early z n c.at) sunk_spot (λ c p. p) ds h.others;
+  notes = subst (Every (λ ask. Early z n (place_of ask))) (sym is)
+      (every-map (λ ask. Early z n (place_of ask)) (λ ask. Early z n (place_of ask)) sink_one (λ ask p. subst (Early z n) (sym (place-sink ask)) p) (opened asks) h.notes);
+  differ = every-map (λ c. Every (Differs z c.at) (opened asks)) (λ c. Every (Differs z c.at) (opened (sunk asks))) sunk_spot
+      (λ c x. subst (Every (Differs z c.at)) (sym is) (every-map (Differs z c.at) (Differs z c.at) sink_one (λ ask f e. f (sym (place-sink ask) ∙ e)) (opened asks) x)) ds h.differ;
+}
+  where
+    is : opened (sunk asks) ≡ map sink_one (opened asks)
+    is = opened-by sink_one opens-sink asks
+
+-- a block takes something, and what is in it begins behind its first token, but where nothing stands any more
+pub record Begins {A : Type 0} (z : Place) (o : Outcome A) (cs ds : List (Spot A)) : Type 0 where
+  pub split : Split z o cs ds
+  pub takes : Early z o.taken 0
+  pub behind : EveryAt (λ i. (0 < i) ⊎ (length z.ahead ≤ 0)) ds
+
+split-bounded : (b : Block) (m : Meaning (Unit {0})) (sp se : Spots (Unit {0})) (z : Place) (s : Point) → Begins z (m z (forgot s)) (sp z (forgot s)) (se z (forgot s))
+    → Split z (bounded b m z s) (bounded_spots b m sp z s) (map (closed_spot b s) (se z (forgot s)))
+split-bounded b m sp se z s h = record {
+  firsts = (h.takes, every-map (λ c. Early z o.taken c.at) (λ c. Early z o.taken c.at) (closed_spot b s) (λ c p. p) (sp z (forgot s)) h.split.firsts);
+  others = every-map (λ c. Early z o.taken c.at) (λ c. Early z o.taken c.at) (closed_spot b s) (λ c p. p) (se z (forgot s)) h.split.others;
+  notes = (h.takes, subst (Every (λ ask. Early z o.taken (place_of ask))) (sym is) h.split.notes);
+  differ = every-map Old (λ c. Every (Differs z c.at) (opened (bounded b m z s).asks)) (closed_spot b s) step (se z (forgot s)) (pair (se z (forgot s)) h.behind h.split.differ);
+}
+  where
+    o : Outcome (Unit {0})
+    o = m z (forgot s)
+
+    is : opened (o.asks ++ marked o.taken 0 0 mark.Closes (state_of o.state) ∷ []) ≡ opened o.asks
+    is = opened-append o.asks (marked o.taken 0 0 mark.Closes (state_of o.state) ∷ []) ∙ append-nil (opened o.asks)
+
+    Old : Spot (Unit {0}) → Type 0
+    Old c = ((0 < c.at) ⊎ (length z.ahead ≤ 0)) × Every (Differs z c.at) (opened o.asks)
+
+    pair : (xs : List (Spot (Unit {0}))) → EveryAt (λ i. (0 < i) ⊎ (length z.ahead ≤ 0)) xs → EveryAt (λ i. Every (Differs z i) (opened o.asks)) xs → Every Old xs
+    pair [] a b = tt
+    pair (x ∷ xs) a b = ((a.0, b.0), pair xs a.1 b.1)
+
+    own : (i : ℕ) → (0 < i) ⊎ (length z.ahead ≤ 0) → 0 ≡ i → length z.ahead ≤ i
+    own i (inl l) e = absurd (omega (arith, l, e))
+    own i (inr l) e = omega (arith, l)
+
+    step : (c : Spot (Unit {0})) → Old c → Every (Differs z c.at) (opened (bounded b m z s).asks)
+    step c x = (own c.at x.0, subst (Every (Differs z c.at)) (sym is) x.1)
+
+-- ---- whatever the language can say
+
+abbrev pub anything : SyntaxKind → Bool
+anything k = true
+
+module _ (l : Level) where
+  opened-done : {A : Type 0} (o : Op A) → op_by anything o ≡ true → (z : Place) (s : Point) → opened (done l o z s).asks ≡ []
+  opened-done hand e z s = opened-hand l.classes s.held s.known z
+  opened-done (so way) e z s = opened-append (hand_asks_of l z s) _ ∙ ap (λ u. u ++ []) (opened-hand l.classes s.held s.known z)
+  opened-done further e z s = opened-append (hand_asks_of l z s) _ ∙ ap (λ u. u ++ []) (opened-hand l.classes s.held s.known z)
+  opened-done column e z s = opened-append (hand_asks_of l z s) _ ∙ ap (λ u. u ++ []) (opened-hand l.classes s.held s.known z)
+  opened-done erred e z s = refl
+  opened-done (takes trims making) e z s = opened-hand l.classes s.held s.known z
+  opened-done (takes_so way making) e z s = opened-append (hand_asks_of l z s) _ ∙ ap (λ u. u ++ []) (opened-hand l.classes s.held s.known z)
+  opened-done flushes e z s = opened-hand l.classes s.held s.known z
+  opened-done (complains message) e z s = refl
+  opened-done (advises hint) e z s = refl
+  opened-done (marks (mark.Piece a n)) e z s = refl
+  opened-done (marks (mark.Opens b)) e z s = absurd (cc)
+  opened-done (marks mark.Closes) e z s = refl
+  opened-done is_deepest e z s = refl
+
+  module _ (deep : (c : Call) → Spots (Answer c)) (in_block : Block → Spots (Unit {0})) (deep_seconds : (c : Call) → Spots (Answer c)) (seconds_inside : Block → Spots (Unit {0})) where
+    module _ (d : (c : Call) → AllSplit (l.deeper c) (deep c) (deep_seconds c)) (e : (b : Block) (z : Place) (s : Point) → l.has b ≡ true → Begins z (l.blocks b z (forgot s)) (in_block b z (forgot s)) (seconds_inside b z (forgot s))) where
+      abbrev firsts_of : {A : Type 0} → Parser A → Spots A
+      firsts_of p = spots l deep in_block p
+
+      abbrev others_of : {A : Type 0} → Parser A → Spots A
+      others_of p = seconds l deep in_block deep_seconds seconds_inside p
+
+      pub split-run : {A : Type 0} (p : Parser A) → PlainBy anything p → AllSplit (run l p) (firsts_of p) (others_of p)
+      unfolding run spots seconds repeated growing nesting repeated_spots growing_spots nesting_spots
+      split-run (gives a) w z s = split-none z 0 [] refl
+      split-run (does o) w z s = split-none z (done l o z s).taken (done l o z s).asks (opened-done o w z s)
+      split-run (next p f) w z s =
+          let o = run l p z s in
+          let v = moved o.taken z in
+          split-joined z o (run l (f o.value) v o.state) (firsts_of p z s) (others_of p z s) (firsts_of (f o.value) v o.state) (others_of (f o.value) v o.state) (split-run p w.0 z s) (split-run (f o.value) (w.1 o.value) v o.state)
+      split-run (pick true p q) w z s = split-run p w.0 z s
+      split-run (pick false p q) w z s = split-run q w.1 z s
+      split-run (repeat p x) w z s = split-turns (λ y. run l (p y)) (λ y. firsts_of (p y)) (λ y. others_of (p y)) (λ y. split-run (p y) (w y)) (suc (bound z s)) x z s
+      split-run (wraps f begin p) w z s =
+          let o = run l p z s in
+          split-flat z o.taken o.asks (wrapped_spot f (before begin s)) (λ P c q. wrapped-at f (before begin s) P c q) (firsts_of p z s) (others_of p z s) (split-run p w.1 z s)
+      split-run (grows begin p f) w z s =
+          split-growths (λ y. run l (f y)) (λ y. firsts_of (f y)) (λ y. others_of (f y)) (λ y. split-run (f y) (w.1 y).1) (before begin s) (suc (bound z s)) (run l p z s) (firsts_of p z s) (others_of p z s) z (split-run p w.0 z s)
+      split-run (nests f begin p x) w z s = split-nestings (λ y. run l (p y)) (λ y. firsts_of (p y)) (λ y. others_of (p y)) (λ y. split-run (p y) (w.1 y)) f begin (suc (bound z s)) x z s
+      split-run (scoped f p) w z s =
+          let t = entered (f s.reading) s in
+          let o = run l p z t in
+          split-map z o.taken o.asks (scoped_spot s.reading) (λ P c q. q) (firsts_of p z t) (others_of p z t) (split-run p w z t)
+      split-run (either p is_wrong q) w z s =
+          let o = run l p z s in
+          split-if z (is_wrong o.value) (given_up o (run l q z s)) o [] (firsts_of p z s) (firsts_of q z s ++ others_of q z s) (others_of p z s) (λ _. split-given z o (run l q z s) (firsts_of q z s) (others_of q z s) (split-run q w.1 z s)) (λ _. split-run p w.0 z s)
+      split-run (calls c) w z s = split-sunk z (l.deeper c z s).taken (l.deeper c z s).asks (deep c z s) (deep_seconds c z s) (d c z s)
+      split-run (block b) w z s =
+          let o = done l flushes z s in
+          let v = moved o.taken z in
+          let m = bounded b (l.blocks b) in
+          split-if z (l.has b) (followed o (λ _. m) z) (plain tt s) _ [] _ []
+          (λ t. split-joined z o (m v o.state) [] [] (bounded_spots b (l.blocks b) (in_block b) v o.state) (map (closed_spot b o.state) (seconds_inside b v (forgot o.state))) (split-none z o.taken o.asks (opened-done flushes refl z s))
+          (split-bounded b (l.blocks b) (in_block b) (seconds_inside b) v o.state (e b v o.state t)))
+          (λ _. split-none z 0 [] refl)

@@ -1,0 +1,14 @@
+use Rattle.typst_edits.proofs.Resumed.{resume-law, inner-resume-law, count-law, inner-count-law}
+use Rattle.typst_edits.proofs.laws.resume_law.Goals as goal
+
+pub returns-clause-pieces : goal.returns-clause-pieces
+returns-clause-pieces c = resume-law
+
+pub returns-clause-inner : goal.returns-clause-inner
+returns-clause-inner c = inner-resume-law
+
+pub returns-clause-count : goal.returns-clause-count
+returns-clause-count c = count-law
+
+pub returns-clause-inner_count : goal.returns-clause-inner_count
+returns-clause-inner_count c = inner-count-law

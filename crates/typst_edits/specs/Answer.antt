@@ -1,0 +1,55 @@
+-- What an edit answers.
+use Rattle.std.specs.Prelude.{◌≡◌, ℕ, ◌+◌, ◌^◌, List, ◌∷◌, ◌++◌, Option, Some, None, option_map}
+use Rattle.std.specs.declared.ops.Range.{Range}
+use Rattle.typst_lines.specs.Classes.{CharClasses}
+use Rattle.typst_tree.specs.Tree.{Tree, bare, synthesized}
+use Rattle.typst_tree.specs.Laws.{put_at}
+use Rattle.typst_tree.specs.Numbers.{numberized}
+use Rattle.typst_tree.specs.Replace.{replaced_at}
+use Rattle.typst_tokens.specs.Sight.{width}
+use Rattle.typst_candidates.specs.Candidates as candidate
+use Rattle.typst_candidates.specs.Candidates.{Candidate}
+use Rattle.typst_candidates.specs.Entries.{units_of, spliced}
+use Rattle.typst_candidates.specs.declared.entry.Entry.{Entry}
+use Rattle.typst_grammar.specs.Grammar.{log, tree}
+use Rattle.typst_edits.specs.Edit.{Among}
+use Rattle.typst_edits.specs.Every.{Every}
+use Rattle.typst_edits.specs.Frame.{Gives}
+use Rattle.typst_edits.specs.PieceNotes.{listed}
+
+-- The candidates of replacing the bytes rs..re of a text are those of its tree in hand and of its reading's notes.
+abbrev pub candidates : CharClasses → List ℕ → ℕ → ℕ → Tree → List Candidate
+candidates k text rs re root = candidate.candidates (listed (log k text).notes) rs re root
+
+-- A tree stands in the file that its root's span names.
+abbrev pub file_of : Tree → Option ℕ
+file_of t = option_map (λ place. place.0) t.head.span
+
+-- A fresh tree is numbered over all numbers of a file, or has none.
+abbrev pub numbered_in : Option ℕ → Tree → Option Tree
+numbered_in None t = Some (synthesized None t)
+numbered_in (Some file) t = numberized file 2 (2 ^ 47) t
+
+-- A candidate is refused where it doesn't pass or its nodes find no numbers.
+abbrev pub Refused : CharClasses → List ℕ → List ℕ → List ℕ → List ℕ → Tree → Candidate → Type 0
+Refused k front old new rest was c = (ts : List Tree) → Gives k front old new rest c ts → replaced_at c.path c.from c.to ts was ≡ None
+
+-- THE ANSWER is the first candidate that passes and whose nodes find numbers, as its range in the new text; where there is none it is the whole new text, numbered anew.
+pub data IsAnswer (k : CharClasses) (front old new rest : List ℕ) (cs : List Candidate) (was now : Tree) (range : Range ℕ) : Type 0 where
+  part : (earlier : List Candidate) (c : Candidate) (later : List Candidate) (ts : List Tree) → cs ≡ earlier ++ c ∷ later → Every (Refused k front old new rest was) earlier
+      → Gives k front old new rest c ts → replaced_at c.path c.from c.to ts was ≡ Some now → range.start ≡ c.start → range.end + width old ≡ c.end + width new → IsAnswer k front old new rest cs was now range
+  whole : Every (Refused k front old new rest was) cs → numbered_in (file_of was) (tree k (front ++ (new ++ rest))) ≡ Some now
+      → range ≡ record { start = 0; end = width (front ++ (new ++ rest)) } → IsAnswer k front old new rest cs was now range
+
+-- A passing candidate is worth this: the new text's tree is the old one with its nodes in place, and its units are the old ones with its part's in place.
+pub record Worth (k : CharClasses) (front old new rest : List ℕ) (c : Candidate) (ts : List Tree) : Type 0 where
+  pub is_tree : tree k (front ++ (new ++ rest)) ≡ put_at c.path c.from c.to ts (tree k (front ++ (old ++ rest)))
+  pub from : ℕ
+  pub to : ℕ
+  pub part : List Entry
+  pub units : units_of (log k (front ++ (new ++ rest))) ≡ spliced from to part (units_of (log k (front ++ (old ++ rest))))
+
+-- The law of candidates: each that passes is worth that.
+abbrev pub CandidateLaw : Type 0
+CandidateLaw = (k : CharClasses) (front old new rest : List ℕ) (root : Tree) (c : Candidate) (ts : List Tree) → bare root ≡ bare (tree k (front ++ (old ++ rest)))
+    → Among c (candidates k (front ++ (old ++ rest)) (width front) (width (front ++ old)) root) → Gives k front old new rest c ts → Worth k front old new rest c ts

@@ -1,0 +1,108 @@
+-- Where nothing is taken back: an expression that isn't expected gives one error first, and only such a one takes back the empty errors before it.
+use Rattle.std.specs.Prelude.{◌≡◌, ℕ, ◌<◌, Bool, true, false, List, [], ◌∷◌, ◌++◌, length, drop, Some}
+use Rattle.typst_kinds.specs.Kinds.{is_error}
+use Rattle.typst_tree.specs.Tree.{Tree}
+use Rattle.typst_lines.specs.Place.{Place, moved}
+use Rattle.typst_lines.specs.Classes.{CharClasses}
+use Rattle.typst_language.specs.Point.{Trivia, Point, pending}
+use Rattle.typst_language.specs.Meaning.{Outcome, hand_of}
+use Rattle.typst_grammar.specs.Markup.{markup_head}
+use Rattle.typst_edits.specs.BlockRuns.{inner_run, run_at}
+use Rattle.typst_edits.specs.Children.{together, read_from}
+use Rattle.typst_edits.specs.Edit.{Among, text_with}
+use Rattle.typst_edits.specs.InnerChildren.{read_in}
+use Rattle.typst_edits.specs.InnerJoint.{onwards_in, PassesInnerJoint}
+use Rattle.typst_edits.specs.Joint.{minds, onwards, onwards_from, is_over_at, Meets, text_run, PassesJoint}
+use Rattle.typst_edits.specs.Laws.{blocks_of_text}
+use Rattle.typst_edits.specs.Runs.{AllGo, End}
+use Rattle.typst_edits.specs.Sequence.{Sequence, first_of, first_end, then_of, then_end, then_place}
+use Rattle.typst_edits.specs.Spot.{Spot}
+
+-- whether several nodes begin with an error
+abbrev pub begins_wrong : List Tree → Bool
+begins_wrong [] = false
+begins_wrong (t ∷ ts) = is_error t.head.kind
+
+-- whether the expression where pieces end takes back the empty errors before it
+abbrev pub minds_at : Sequence → Place → End (Bool × ℕ) → Bool
+minds_at r z e = minds (markup_head e.value.0 e.value.1 (hand_of r.level z e.state).kind)
+
+-- where the first i pieces of a run end
+abbrev pub first_place : ℕ → Sequence → Place
+first_place i r = moved (first_end i r).taken r.place
+
+-- n pieces behind i as one outcome, and all behind them
+abbrev pub read_by : ℕ → ℕ → Sequence → Outcome (Unit {0})
+read_by i n r = together (then_end i n r).state (then_of i n r)
+
+abbrev pub onwards_by : ℕ → ℕ → Sequence → Outcome (Unit {0})
+onwards_by i n r = let e = then_end i n r in onwards r e.value (then_place i n r) e.state
+
+-- the nodes behind the trivia that are known at a point
+abbrev pub behind_known : Point → List Tree → List Tree
+behind_known s ts = drop (length (pending s.known)) ts
+
+-- What the first node of pieces, and the first behind them, say of what is taken back.
+pub record Headed (r : Sequence) (i n : ℕ) : Type 0 where
+  -- pieces whose first node is no error begin with an expression that takes nothing back, and then they take nothing back
+  pub first : 0 < n → begins_wrong (behind_known (first_end i r).state (read_by i n r).nodes) ≡ false → minds_at r (first_place i r) (first_end i r) ≡ false
+  pub pieces_back : minds_at r (first_place i r) (first_end i r) ≡ false → (read_by i n r).back ≡ 0
+  -- and so with what is behind them
+  pub next : begins_wrong (behind_known (then_end i n r).state (onwards_by i n r).nodes) ≡ false → is_over_at r (then_place i n r) (then_end i n r) ≡ false → minds_at r (then_place i n r) (then_end i n r) ≡ false
+  pub behind_back : (is_over_at r (then_place i n r) (then_end i n r) ≡ false → minds_at r (then_place i n r) (then_end i n r) ≡ false) → (onwards_by i n r).back ≡ 0
+
+-- The law of heads, of a text's run and of a content block's.
+abbrev pub HeadLaw : Type 0
+HeadLaw = (k : CharClasses) (z : Place) (i n : ℕ) → AllGo (first_of i (text_run k z)) → AllGo (then_of i n (text_run k z)) → Headed (text_run k z) i n
+
+abbrev pub InnerHeadLaw : Type 0
+InnerHeadLaw = (k : CharClasses) (levels : ℕ) (z : Place) (s : Point) (i n : ℕ) → AllGo (first_of i (inner_run k levels z s)) → AllGo (then_of i n (inner_run k levels z s)) → Headed (inner_run k levels z s) i n
+
+-- ---- an edit
+
+pub record NoneBack (o n : Outcome (Unit {0})) : Type 0 where
+  pub back : o.back ≡ 0
+  pub back_now : n.back ≡ 0
+
+-- where pieces stand before them, there are some, and the first node is no error
+abbrev pub StartsWell : ℕ → ℕ → Sequence → Type 0
+StartsWell i n r = 0 < i → (0 < n) × (begins_wrong (behind_known (first_end i r).state (read_by i n r).nodes) ≡ false)
+
+-- The law of what pieces take back: where an edit inside some pieces passes the test of the joint, and the first node of these is no error or nothing stands before them, neither they nor the new ones take anything back.
+abbrev pub NoneBackLaw : Type 0
+NoneBackLaw = (k : CharClasses) (front old new rest : List ℕ) (i n m past : ℕ) (t u : Trivia) → PassesJoint k front old new rest i n m past t u
+    → StartsWell i n (text_run k (text_with front old rest)) → NoneBack (read_from k i n (text_with front old rest)) (read_from k i m (text_with front new rest))
+
+abbrev pub InnerNoneBackLaw : Type 0
+InnerNoneBackLaw = (k : CharClasses) (levels : ℕ) (front old new rest : List ℕ) (c : Spot (Unit {0})) (i n m past : ℕ) (t u : Trivia) → Among c (blocks_of_text k (front ++ (old ++ rest)))
+    → PassesInnerJoint k levels front old new rest c i n m past t u → StartsWell i n (run_at k levels c (text_with front old rest))
+    → NoneBack (read_in k levels i n c (text_with front old rest)) (read_in k levels i m c (text_with front new rest))
+
+-- where an expression follows, its first node is no error
+abbrev pub GoesOnWell : ℕ → ℕ → Sequence → Type 0
+GoesOnWell i n r = is_over_at r (then_place i n r) (then_end i n r) ≡ false → begins_wrong (behind_known (then_end i n r).state (onwards_by i n r).nodes) ≡ false
+
+-- The law of what is taken back behind pieces: where such an edit passes the test of the joint, nothing behind them is taken back in either text.
+abbrev pub NoneBehindLaw : Type 0
+NoneBehindLaw = (k : CharClasses) (front old new rest : List ℕ) (i n m past : ℕ) (t u : Trivia) → PassesJoint k front old new rest i n m past t u
+    → GoesOnWell i n (text_run k (text_with front old rest)) → NoneBack (onwards_from k i n (text_with front old rest)) (onwards_from k i m (text_with front new rest))
+
+abbrev pub InnerNoneBehindLaw : Type 0
+InnerNoneBehindLaw = (k : CharClasses) (levels : ℕ) (front old new rest : List ℕ) (c : Spot (Unit {0})) (i n m past : ℕ) (t u : Trivia) → Among c (blocks_of_text k (front ++ (old ++ rest)))
+    → PassesInnerJoint k levels front old new rest c i n m past t u → GoesOnWell i n (run_at k levels c (text_with front old rest))
+    → NoneBack (onwards_in k levels i n c (text_with front old rest)) (onwards_in k levels i m c (text_with front new rest))
+
+-- The law of what has to agree: where no error follows pieces of a text's run, they and others agree if what is carried does where an expression follows.
+abbrev pub MeetsLaw : Type 0
+MeetsLaw = (k : CharClasses) (z : Place) (i n : ℕ) (f : End (Bool × ℕ)) (t u : Trivia) → AllGo (first_of i (text_run k z)) → AllGo (then_of i n (text_run k z)) → GoesOnWell i n (text_run k z)
+    → (then_end i n (text_run k z)).state.known ≡ Some t → f.state.known ≡ Some u
+    → (is_over_at (text_run k z) (then_place i n (text_run k z)) (then_end i n (text_run k z)) ≡ false → f.value ≡ (then_end i n (text_run k z)).value)
+    → Meets (text_run k z) (then_place i n (text_run k z)) (then_end i n (text_run k z)) f t u
+
+-- In a content block the brackets that are open agree at its end, too.
+abbrev pub InnerMeetsLaw : Type 0
+InnerMeetsLaw = (k : CharClasses) (levels : ℕ) (z : Place) (s : Point) (i n : ℕ) (f : End (Bool × ℕ)) (t u : Trivia) → (let r = inner_run k levels z s in
+    let e = then_end i n r in
+    AllGo (first_of i r) → AllGo (then_of i n r) → GoesOnWell i n r → e.state.known ≡ Some t → f.state.known ≡ Some u
+    → (is_over_at r (then_place i n r) e ≡ false → f.value ≡ e.value) → (is_over_at r (then_place i n r) e ≡ true → f.value.1 ≡ e.value.1)
+    → Meets r (then_place i n r) e f t u)
