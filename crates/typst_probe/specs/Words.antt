@@ -6,7 +6,7 @@ use Rattle.typst_cli.specs.Printed.{printed}
 use Rattle.typst_cli.specs.PrintedTree.{code_tree_printed, math_tree_printed}
 use Rattle.typst_cli.specs.declared.command.Command.TheVariants as command
 use Rattle.typst_probe.specs.declared.word.Word.{Word}
-use Rattle.typst_probe.specs.declared.word.Word.TheVariants.{Tree, TreeWide, TreeNarrow, TreeCode, TreeMath, Tokens, TokensWide, TokensNarrow, TokensCode, TokensMath, Lines, Link, Stretches, Notes, Tags, Html, Spans, Edit}
+use Rattle.typst_probe.specs.declared.word.Word.TheVariants.{Tree, TreeWide, TreeNarrow, TreeCode, TreeMath, Tokens, TokensWide, TokensNarrow, TokensCode, TokensMath, Lines, Link, Stretches, Notes, Tags, Html, Spans, Edit, Candidates}
 
 -- the word that a name stands for
 abbrev pub word_named : List ℕ → Option Word
@@ -29,7 +29,8 @@ word_named name =
     else (if bytes_eq name (codes "html") then Some Html
     else (if bytes_eq name (codes "spans") then Some Spans
     else (if bytes_eq name (codes "edit") then Some Edit
-    else None)))))))))))))))))
+    else (if bytes_eq name (codes "candidates") then Some Candidates
+    else None))))))))))))))))))
 
 -- all that a word of the program typst_syn prints about a text, which this program's word answers too
 abbrev pub printed_by : Word → List ℕ → Option (List ℕ)
@@ -51,3 +52,4 @@ printed_by Tags text = None
 printed_by Html text = Some (printed command.Html text)
 printed_by Spans text = None
 printed_by Edit text = None
+printed_by Candidates text = None

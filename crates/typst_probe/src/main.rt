@@ -1,6 +1,7 @@
 //! Shows what the parser layer answers about a text, and compares that with rows of wanted answers.
 #![tactic(auto)]
 
+mod candidates;
 mod edits;
 mod escapes;
 mod links;
@@ -22,7 +23,7 @@ use std::{env, fs, io};
 use word::Word;
 
 const USAGE: &str =
-    "usage: typst_probe rows FILE.. | tree | tree-wide | tree-narrow | tree-code | tree-math | tokens | tokens-wide |\n    tokens-narrow | tokens-code | tokens-math | lines | link | stretches | notes | tags | html | spans | edit |\n    edit-spans START END TEXT";
+    "usage: typst_probe rows FILE.. | tree | tree-wide | tree-narrow | tree-code | tree-math | tokens | tokens-wide |\n    tokens-narrow | tokens-code | tokens-math | lines | link | stretches | notes | tags | html | spans | edit |\n    candidates | candidates START END | edit-spans START END TEXT";
 
 /// `rows FILE..` compares all rows of the files, and any other word answers about the text on
 /// standard input. Ends with status 1 where a row disagrees or something fails, and with status 2
@@ -45,6 +46,12 @@ fn run(rt: &HostRuntime, alloc: Global) -> anyhow::Result<u8> {
             match Edit::from_words(start.as_str(), end.as_str(), with.as_str()) {
                 Some(edit) => show_edit(rt, alloc, edit),
                 None => usage(rt),
+            }
+        }
+        [word, start, end] if word.as_str() == "candidates" => {
+            match (start.as_str().parse(), end.as_str().parse()) {
+                (Ok(start), Ok(end)) => show_candidates(rt, alloc, start, end),
+                _ => usage(rt),
             }
         }
         [name] => match Word::from_name(name.as_str()) {
@@ -81,6 +88,19 @@ fn show(rt: &HostRuntime, alloc: Global, word: Word) -> anyhow::Result<u8> {
 fn show_edit(rt: &HostRuntime, alloc: Global, edit: Edit<'_>) -> anyhow::Result<u8> {
     let text = io::read_to_string(alloc, rt.reader())?;
     let answer = edit.spans(alloc, text.as_str())?;
+    print!(rt; "{answer}")?;
+    Ok(0)
+}
+
+/// Prints what may be read anew where a range of bytes of the text on standard input is replaced.
+fn show_candidates(
+    rt: &HostRuntime,
+    alloc: Global,
+    start: usize,
+    end: usize,
+) -> anyhow::Result<u8> {
+    let text = io::read_to_string(alloc, rt.reader())?;
+    let answer = candidates::answer(alloc, text.as_str(), start, end)?;
     print!(rt; "{answer}")?;
     Ok(0)
 }

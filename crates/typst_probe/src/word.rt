@@ -3,7 +3,7 @@
 ghost use Rattle.std.specs.Prelude.{◌≡◌, IfOk, IfSome, string_bytes};
 ghost use Rattle.typst_probe.specs.Words.{printed_by, word_named};
 
-use crate::{edits, links, notes, spans, stretches, tags, tokens};
+use crate::{candidates, edits, links, notes, spans, stretches, tags, tokens};
 use std::alloc::{AllocError, Global};
 use typst_cli::{Command, tree};
 use typst_parser::{SyntaxMode, UnicodeClasses};
@@ -48,6 +48,8 @@ pub enum Word {
     Spans,
     /// The syntax tree of a text after an edit.
     Edit,
+    /// What of a text may be read anew in an edit.
+    Candidates,
 }
 
 impl Word {
@@ -74,6 +76,7 @@ impl Word {
             "html" => Some(Word::Html),
             "spans" => Some(Word::Spans),
             "edit" => Some(Word::Edit),
+            "candidates" => Some(Word::Candidates),
             _ => None,
         }
     }
@@ -101,6 +104,7 @@ impl Word {
             Word::Html => Command::Html.answer(alloc, text),
             Word::Spans => spans::answer(alloc, text),
             Word::Edit => edits::row_answer(alloc, text),
+            Word::Candidates => candidates::row_answer(alloc, text),
         }
     }
 }
