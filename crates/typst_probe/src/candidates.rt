@@ -53,7 +53,11 @@ fn print_candidate(
         end,
     } = *candidate;
     printed.push_str(if is_block { "block" } else { "run" })?;
-    let steps = if is_block { depth + 1 } else { depth };
+    let steps = if is_block {
+        depth.saturating_add(1)
+    } else {
+        depth
+    };
     print_path(printed, path.get(..steps).unwrap_or(path))?;
     if !is_block {
         write!(printed, " {from}..{to}")?;
