@@ -1,13 +1,15 @@
 -- Places among entries: where they are, and where the next piece of a run begins.
-use Rattle.std.proofs.Common.{◌≡◌, ℕ, zero, suc, ◌+◌, ◌-◌, ◌≤◌, ◌<◌, ◌^◌, true, false, if◌then◌else◌, List, [], ◌∷◌, length, get_or, take, drop, drop-cons, Option, None, Some, refl, ap, sym, subst, ◌∙◌, arith}
+use Rattle.std.proofs.Common.{◌≡◌, ℕ, zero, suc, ◌+◌, ◌-◌, ◌≤◌, ◌<◌, ◌^◌, Bool, ◌==◌, ◌&&◌, ◌++◌, true, false, if◌then◌else◌, List, [], ◌∷◌, length, get_or, take, drop, drop-cons, Option, None, Some, refl, ap, sym, subst, ◌∙◌, arith}
 use Rattle.std.proofs.Math.Seq.{take-suc}
+use Rattle.std.proofs.lemmas.List.{append-nil}
 use Rattle.std.proofs.lemmas.Option.{slice_get_within, get_or_from_slice_get, slice_get-get_or}
 use Rattle.std.specs.List.{slice_get}
 use Rattle.typst_candidates.specs.declared.entry.Entry.{Entry}
 use Rattle.typst_candidates.specs.declared.entry.Tag.{Tag}
 use Rattle.typst_candidates.specs.declared.entry.Tag.TheVariants as tag
 use Rattle.typst_candidates.specs.Entries.{end_of}
-use Rattle.typst_candidates.specs.Cursors.{Place, behind, entry_behind, entry_before, first_piece, last_piece, last_of, inside_behind, inside_before, leads}
+use Rattle.typst_candidates.specs.Cursors.{Place, behind, entry_behind, entry_before, first_piece, last_piece, last_of, inside_behind, inside_before, leads, start_at, token_at, pieces_of, pieces_in, closing_of, opens_content}
+use Rattle.typst_candidates.specs.Units.{behind_first}
 use Rattle.typst_candidates.proofs.Walks.{end-append}
 
 -- ---- where a place is
@@ -78,6 +80,12 @@ inside-shrinks (tag.Opens block m) (suc inside) further h = grind (arith, h)
 
 pub behind-found : (self place : Place) (e : Entry) → place.entries ≡ self.entries → ◌≡◌ {A = Option Entry} (Some e) (entry_behind place) → slice_get self.entries place.number ≡ Some e
 behind-found self place e a h = ap (λ es. slice_get es place.number) (sym a) ∙ sym h
+
+pub behind-found-in : (es : List Entry) (place : Place) (e : Entry) → place.entries ≡ es → ◌≡◌ {A = Option Entry} (Some e) (entry_behind place) → slice_get es place.number ≡ Some e
+behind-found-in es place e a h = ap (λ us. slice_get us place.number) (sym a) ∙ sym h
+
+pub behind-missing-in : (es : List Entry) (place : Place) → place.entries ≡ es → ◌≡◌ {A = Option Entry} None (entry_behind place) → slice_get es place.number ≡ None
+behind-missing-in es place a h = ap (λ us. slice_get us place.number) (sym a) ∙ sym h
 
 pub behind-missing : (self place : Place) → place.entries ≡ self.entries → ◌≡◌ {A = Option Entry} None (entry_behind place) → slice_get self.entries place.number ≡ None
 behind-missing self place a h = ap (λ es. slice_get es place.number) (sym a) ∙ sym h
@@ -171,3 +179,69 @@ steps-on es n place now o lt p e h =
     let d : Entry = record { tag = tag.Piece false; step = 0; gap = 0; forth = 0; back = 0; count = 0 } in
     let one : suc n ≡ n + 1 = omega arith in
     h ∙ ap (behind o) p ∙ ap (λ x. behind x (record { entries = es; number = n })) (e ∙ ap entry_behind p ∙ slice_get-get_or es n d lt) ∙ ap (λ m. record { entries = es; number = m }) one
+
+-- ---- the pieces of a run, and where a block ends
+
+-- where the place behind an entry is
+pub start-on : (self : List Entry) (place now : Place) (e : Entry) → place.entries ≡ self → ◌≡◌ {A = Option Entry} (Some e) (entry_behind place) → now ≡ behind (Some e) place
+    → start_at now ≡ token_at (start_at place) e
+start-on self place now e a h n =
+    let there = slice_get_within place.entries place.number e (sym h) in
+    ap start_at n ∙ end-step place.entries place.number e there ∙ ap (λ (d : Entry). (end_of 0 (take place.number place.entries) + d.step) + d.gap) (get_or_from_slice_get place.entries place.number e e (sym h))
+
+pub pieces-end : (es : List Entry) (inside start n : ℕ) → slice_get es n ≡ None → pieces_of inside start (drop n es) ≡ []
+pieces-end [] inside start zero h = refl
+pieces-end [] inside start (suc n) h = refl
+pieces-end (e ∷ es) inside start zero h = absurd (never h)
+  where
+    never : ◌≡◌ {A = Option Entry} (Some e) None → ⊥
+    never e = cc
+pieces-end (e ∷ es) inside start (suc n) h = pieces-end es inside start n h
+
+pieces-on : (es : List Entry) (inside start n : ℕ) (e : Entry) (o : Option ℕ) → slice_get es n ≡ Some e → inside_behind e.tag inside ≡ o
+    → pieces_of inside start (drop n es)
+    ≡ (if leads e.tag inside then token_at start e ∷ [] else []) ++ (elim o as (λ _. List ℕ) [ None ↦ [] | Some further ↦ pieces_of further (token_at start e) (drop (suc n) es) ])
+pieces-on es inside start n e o h i =
+    ap (pieces_of inside start) (cut es n e h) ∙ apart (leads e.tag inside) (token_at start e) _
+    ∙ ap (λ x. (if leads e.tag inside then token_at start e ∷ [] else []) ++ (elim x as (λ _. List ℕ) [ None ↦ [] | Some further ↦ pieces_of further (token_at start e) (drop (suc n) es) ])) i
+  where
+    apart : (b : Bool) (at : ℕ) (us : List ℕ) → (if b then at ∷ us else us) ≡ (if b then at ∷ [] else []) ++ us
+    apart true at us = refl
+    apart false at us = refl
+
+pub pieces-stop : (es : List Entry) (inside start n : ℕ) (e : Entry) → slice_get es n ≡ Some e → inside_behind e.tag inside ≡ None
+    → pieces_of inside start (drop n es) ≡ (if leads e.tag inside then token_at start e ∷ [] else [])
+pieces-stop es inside start n e h i = pieces-on es inside start n e None h i ∙ append-nil (if leads e.tag inside then token_at start e ∷ [] else [])
+
+pub pieces-go : (es : List Entry) (inside start n : ℕ) (e : Entry) (further : ℕ) → slice_get es n ≡ Some e → inside_behind e.tag inside ≡ Some further
+    → pieces_of inside start (drop n es) ≡ (if leads e.tag inside then token_at start e ∷ [] else []) ++ pieces_of further (token_at start e) (drop (suc n) es)
+pieces-go es inside start n e further h i = pieces-on es inside start n e (Some further) h i
+
+pub closing-none : (es : List Entry) (inside number n : ℕ) → slice_get es n ≡ None → closing_of inside number (drop n es) ≡ None
+closing-none [] inside number zero h = refl
+closing-none [] inside number (suc n) h = refl
+closing-none (e ∷ es) inside number zero h = absurd (never h)
+  where
+    never : ◌≡◌ {A = Option Entry} (Some e) None → ⊥
+    never e = cc
+closing-none (e ∷ es) inside number (suc n) h = closing-none es inside number n h
+
+pub closing-on : (es : List Entry) (inside n : ℕ) (e : Entry) (o : Option ℕ) → slice_get es n ≡ Some e → inside_behind e.tag inside ≡ o
+    → closing_of inside n (drop n es) ≡ (elim o as (λ _. Option ℕ) [ None ↦ Some n | Some further ↦ closing_of further (suc n) (drop (suc n) es) ])
+closing-on es inside n e o h i =
+    ap (closing_of inside n) (cut es n e h) ∙ ap (λ x. elim x as (λ _. Option ℕ) [ None ↦ Some n | Some further ↦ closing_of further (suc n) (drop (suc n) es) ]) i
+
+-- the first content block that begins at a byte, behind so many entries
+pub in-none : (es : List Entry) (at start n : ℕ) → slice_get es n ≡ None → pieces_in at start (drop n es) ≡ None
+in-none [] at start zero h = refl
+in-none [] at start (suc n) h = refl
+in-none (e ∷ es) at start zero h = absurd (never h)
+  where
+    never : ◌≡◌ {A = Option Entry} (Some e) None → ⊥
+    never e = cc
+in-none (e ∷ es) at start (suc n) h = in-none es at start n h
+
+pub in-on : (es : List Entry) (at start n : ℕ) (e : Entry) (b : Bool) → slice_get es n ≡ Some e → (opens_content e.tag && token_at start e == at) ≡ b
+    → pieces_in at start (drop n es) ≡ (if b then behind_first (pieces_of 0 (token_at start e) (drop (suc n) es)) else pieces_in at (token_at start e) (drop (suc n) es))
+in-on es at start n e b h t =
+    ap (pieces_in at start) (cut es n e h) ∙ ap (λ c. if c then behind_first (pieces_of 0 (token_at start e) (drop (suc n) es)) else pieces_in at (token_at start e) (drop (suc n) es)) t

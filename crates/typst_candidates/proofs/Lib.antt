@@ -1,11 +1,13 @@
 -- From what a contract promises to the lemma behind it:
---   a row's edges and stretches      Rows; Found: what is found in a row; Notes: of a run
+--   a row's edges and stretches      Rows; Found: what is found in a row; Bytes: of a run; Nested: the run by its entries
 --   records: of_notes, rear, put     Walks: entry by entry
---   next, back, cursor_at, piece_behind, piece_before   Cursors
+--   next, back, cursor_at, piece_behind, piece_before, top_run, run_in, closing   Cursors
 --   looks_law                        Looks: note by note
+--   nested_law                       Nested
 pub mod Found
-pub mod Notes
+pub mod Bytes
 pub mod Rows
 pub mod Looks
 pub mod Walks
 pub mod Cursors
+pub mod Nested

@@ -179,3 +179,32 @@ put-is A P D both one two at count gone e a n le f g =
     ∙ ap (λ rest. (A ++ P) ++ (drop gone rest ++ take gone rest)) fourth ∙ sym (append_assoc (A ++ P) (drop gone D) (take gone D)) in
     let kept : (count + length P) - gone ≡ length ((A ++ P) ++ drop gone D) = omega (arith, n, le, length-append (A ++ P) (drop gone D), length-append A P, length-drop gone D) in
     ap (take ((count + length P) - gone)) two_is ∙ ap (λ m. take m (((A ++ P) ++ drop gone D) ++ take gone D)) kept ∙ take-append_seam ((A ++ P) ++ drop gone D) (take gone D) ∙ append_assoc A P (drop gone D)
+
+-- ---- where the last token begins
+
+end-behind : (start : ℕ) (es : List Entry) → start ≤ end_of start es
+end-behind start [] = omega arith
+end-behind start (e ∷ es) = let i = end-behind ((start + e.step) + e.gap) es in omega (arith, i)
+
+-- it begins at no byte before an entry's token
+last-behind : (es : List Entry) (i at : ℕ) (d : Entry) → i < length es → end_of at (drop i es) ≡ end_of 0 es → (at + (get_or es i d).step) + (get_or es i d).gap ≤ end_of 0 es
+last-behind es i at d h e =
+    let one = ap (end_of at) (drop-cons es i d h) in
+    let rest = end-behind ((at + (get_or es i d).step) + (get_or es i d).gap) (drop (suc i) es) in
+    omega (arith, one, rest, e)
+
+-- so where the sum up to there is too large, it is
+pub step-over : (es all : List Entry) (i at : ℕ) (d : Entry) → i < length es → end_of at (drop i es) ≡ end_of 0 es → es ≡ all → (at + (get_or es i d).step < 2 ^ 64 → ⊥) → 2 ^ 64 ≤ end_of 0 all
+step-over es all i at d h e same far =
+    let last = last-behind es i at d h e in
+    let ends = ap (end_of 0) same in
+    omega (arith, last, ends, far)
+
+pub gap-over : (es all : List Entry) (i at stop : ℕ) (d : Entry) → i < length es → end_of at (drop i es) ≡ end_of 0 es → es ≡ all → stop ≡ at + (get_or es i d).step → (stop + (get_or es i d).gap < 2 ^ 64 → ⊥) → 2 ^ 64 ≤ end_of 0 all
+gap-over es all i at stop d h e same is far =
+    let last = last-behind es i at d h e in
+    let ends = ap (end_of 0) same in
+    omega (arith, last, ends, is, far)
+
+pub not-fit : (i : ℕ) (ns : List Note) (d : Note) → AllFit ns → i < length ns → (get_or ns i d).start ≡ 2 ^ 64 - 1 → ⊥
+not-fit i ns d h lt e = let small = fits-at i ns d h lt in omega (arith, small, e)

@@ -1,10 +1,14 @@
 -- Places among the entries of records.
-use Rattle.std.specs.Prelude.{ℕ, zero, suc, ◌-◌, ◌==◌, ◌&&◌, Bool, true, false, if◌then◌else◌, List, [], ◌∷◌, take, Option, Some, None}
+use Rattle.std.specs.Prelude.{ℕ, zero, suc, ◌+◌, ◌-◌, ◌==◌, ◌&&◌, Bool, true, false, if◌then◌else◌, List, [], ◌∷◌, take, Option, Some, None}
 use Rattle.std.specs.List.{slice_get}
+use Rattle.typst_kinds.specs.Kinds.{same}
+use Rattle.typst_kinds.specs.declared.kind.SyntaxKind.{SyntaxKind}
+use Rattle.typst_kinds.specs.declared.kind.SyntaxKind.TheVariants as kind
 use Rattle.typst_candidates.specs.declared.entry.Entry.{Entry}
 use Rattle.typst_candidates.specs.declared.entry.Tag.{Tag}
 use Rattle.typst_candidates.specs.declared.entry.Tag.TheVariants as tag
 use Rattle.typst_candidates.specs.Entries.{end_of}
+use Rattle.typst_candidates.specs.Units.{behind_first, is_content}
 
 pub record Place : Type 0 where
   pub entries : List Entry
@@ -79,3 +83,34 @@ last_piece inside es (suc n) = elim (slice_get es n) as (λ _. Option ℕ) [
 abbrev pub placed : Place → Option ℕ → Option Place
 placed p None = None
 placed p (Some n) = Some (record p { number = n })
+
+-- where the token of an entry begins, behind one that begins at a byte
+abbrev pub token_at : ℕ → Entry → ℕ
+token_at start e = (start + e.step) + e.gap
+
+-- where the pieces of a run begin, by the entries behind a token that begins at a byte, in so many blocks of the run
+abbrev pub pieces_of : ℕ → ℕ → List Entry → List ℕ
+pieces_of inside start [] = []
+pieces_of inside start (e ∷ es) =
+    let behind = elim (inside_behind e.tag inside) as (λ _. List ℕ) [ None ↦ [] | Some further ↦ pieces_of further (token_at start e) es ] in
+    if leads e.tag inside then token_at start e ∷ behind else behind
+
+-- a content block begins
+abbrev pub opens_content : Tag → Bool
+opens_content (tag.Piece at_start) = false
+opens_content (tag.Opens block m) = is_content block
+opens_content tag.Closes = false
+
+-- where the pieces begin of the run of the content block that begins at a byte, but for the first
+abbrev pub pieces_in : ℕ → ℕ → List Entry → Option (List ℕ)
+pieces_in at start [] = None
+pieces_in at start (e ∷ es) = if opens_content e.tag && token_at start e == at then behind_first (pieces_of 0 (token_at start e) es) else pieces_in at (token_at start e) es
+
+-- a child of a node that begins at a byte is a run where it is the markup of a content block
+abbrev pub piece_run : List Entry → ℕ → SyntaxKind → SyntaxKind → Option (List ℕ)
+piece_run es at parent child = if same kind.ContentBlock parent && same kind.Markup child then pieces_in at 0 es else None
+
+-- the number of the first of some entries at which the block ends that stands around them, in so many blocks of which they begin
+abbrev pub closing_of : ℕ → ℕ → List Entry → Option ℕ
+closing_of inside number [] = None
+closing_of inside number (e ∷ es) = elim (inside_behind e.tag inside) as (λ _. Option ℕ) [ None ↦ Some number | Some further ↦ closing_of further (suc number) es ]

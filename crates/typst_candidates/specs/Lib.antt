@@ -5,4 +5,5 @@ pub mod Examples
 pub mod Entries
 pub mod Records
 pub mod Cursors
+pub mod Nested
 pub mod RecordExamples

@@ -1,14 +1,17 @@
 //! All candidates of an edit, in order.
 
 ghost use Rattle.std.specs.Prelude.{◌≡◌, ℕ, List, ◌+◌, ◌<◌, ◌≤◌, ◌^◌, ◌++◌, ◌∷◌, [], IfOk, OnOk, length, map, suc, take};
+ghost use Rattle.typst_language.specs.declared.calls.Note.{Note};
 ghost use Rattle.typst_tree.specs.Tree.{forest, trees, text_of};
 ghost use Rattle.typst_candidates.specs.Candidates.{laid, run_in, stretches, of_stretches, candidates, candidates_at};
+ghost use Rattle.typst_candidates.specs.Cursors.{piece_run};
+ghost use Rattle.typst_candidates.specs.Entries.{end_of};
+ghost use Rattle.typst_candidates.specs.Nested.{Written};
 ghost use Rattle.typst_candidates.specs.Rows.{IsEdge, IsNear, Fits, below, bytes_of, run_of, spelled};
 
-use crate::{Cuts, Near, Row, Stretch, cuts_in, top_cuts};
+use crate::{Cuts, Near, Records, Row, Stretch};
 use std::alloc::{AllocError, Global};
 use typst_kinds::SyntaxKind;
-use typst_language::Note;
 use typst_tree::SyntaxNode;
 
 /// Children of a node that an edit may read anew: a block alone, or pieces of a run.
@@ -38,10 +41,10 @@ pub struct Candidates {
     pub items: Vec<Candidate>,
 }
 
-/// The replaced bytes, and what was noted in reading the text.
+/// The replaced bytes, and the units of the text.
 #[derive(Clone, Copy)]
 struct Search<'a> {
-    notes: &'a [Note],
+    records: &'a Records,
     start: usize,
     end: usize,
 }
@@ -94,10 +97,11 @@ impl Search<'_> {
         child: SyntaxKind,
         at: usize,
     ) -> Result<Option<Cuts>, AllocError>
-        ensures { IfOk result (λ run. run_of run ≡ run_in self.now.notes.now at parent child) }
+        requires { end_of 0 self.now.records.now.units.entries < 2 ^ 64 }
+        ensures { IfOk result (λ run. run_of run ≡ piece_run self.now.records.now.units.entries at parent child) }
     {
         if parent == SyntaxKind::ContentBlock && child == SyntaxKind::Markup {
-            cuts_in(alloc, at, self.notes)
+            self.records.run_in(alloc, at)
         } else {
             Ok(None)
         }
@@ -116,8 +120,9 @@ impl Search<'_> {
     ) -> Result<Vec<Candidate>, AllocError>
         requires order { self.now.start ≤ self.now.end }
         requires fits { at + length (text_of node.now) < 2 ^ 64 }
+        requires places { end_of 0 self.now.records.now.units.entries < 2 ^ 64 }
         ensures path { OnOk result (take (length path.old.items) path.new.items ≡ path.old.items) }
-        ensures found { IfOk result (λ found. map (spelled path.new.items) found.items ≡ candidates_at self.now.notes.now self.now.start self.now.end path.old.items (run_of run) 0 at (forest (node.now ∷ []))) }
+        ensures found { IfOk result (λ found. (ns : List Note) → Written self.now.records.now.units.entries ns → map (spelled path.new.items) found.items ≡ candidates_at ns self.now.start self.now.end path.old.items (run_of run) 0 at (forest (node.now ∷ []))) }
     {
         let row = Row::of(node, at);
         let near = row.near(self.start, self.end);
@@ -145,9 +150,10 @@ impl Search<'_> {
     ) -> Result<Vec<Candidate>, AllocError>
         requires order { self.now.start ≤ self.now.end }
         requires fits { at + length (text_of node.now) < 2 ^ 64 }
+        requires places { end_of 0 self.now.records.now.units.entries < 2 ^ 64 }
         requires near { IsNear (at + length node.now.head.text) (trees node.now.kids) self.now.start self.now.end near }
         ensures path { OnOk result (take (length path.old.items) path.new.items ≡ path.old.items) }
-        ensures found { IfOk result (λ found. map (spelled path.new.items) found.items ≡ below self.now.notes.now self.now.start self.now.end path.old.items at node.now) }
+        ensures found { IfOk result (λ found. (ns : List Note) → Written self.now.records.now.units.entries ns → map (spelled path.new.items) found.items ≡ below ns self.now.start self.now.end path.old.items at node.now) }
     {
         let kids = node.children();
         let depth = path.len();
@@ -173,21 +179,26 @@ impl Search<'_> {
     }
 }
 
-/// The candidates of replacing the bytes `start..end` of a text, by its tree and the notes of its
+/// The candidates of replacing the bytes `start..end` of a text, by its tree and the units of its
 /// reading, in order.
 pub fn find_candidates(
     alloc: Global,
     root: &SyntaxNode,
-    notes: &[Note],
+    records: &Records,
     start: usize,
     end: usize,
 ) -> Result<Candidates, AllocError>
     requires order { start ≤ end }
     requires fits { length (text_of root.now) < 2 ^ 64 }
-    ensures { IfOk result (λ found. map (spelled found.path.items) found.items.items ≡ candidates notes.now start end root.now) }
+    requires places { end_of 0 records.now.units.entries < 2 ^ 64 }
+    ensures { IfOk result (λ found. (ns : List Note) → Written records.now.units.entries ns → map (spelled found.path.items) found.items.items ≡ candidates ns start end root.now) }
 {
-    let search = Search { notes, start, end };
-    let run = top_cuts(alloc, notes)?;
+    let search = Search {
+        records,
+        start,
+        end,
+    };
+    let run = records.top_run(alloc)?;
     let mut path = Vec::new(alloc);
     let items = search.candidates_at(alloc, root, 0, run, &mut path)?;
     Ok(Candidates { path, items })

@@ -155,14 +155,14 @@ impl<'a> Cursor<'a> {
 }
 
 /// Whether a piece of a run itself begins, in so many blocks of the run.
-fn leads(tag: Tag, inside: usize) -> bool
+pub(crate) fn leads(tag: Tag, inside: usize) -> bool
     ensures { result ≡ spec.leads tag inside }
 {
     matches!(tag, Tag::Piece(_)) && inside == 0
 }
 
 /// In how many blocks of a run what comes behind an entry stands, unless the run's own block ends there.
-fn inside_behind(tag: Tag, inside: usize) -> Option<usize>
+pub(crate) fn inside_behind(tag: Tag, inside: usize) -> Option<usize>
     requires { inside + 1 < 2 ^ 64 }
     ensures { result ≡ spec.inside_behind tag inside }
 {

@@ -1,6 +1,7 @@
 //! Laws of candidates and of units.
 
 ghost use Rattle.typst_candidates.specs.Examples.{Examples};
+ghost use Rattle.typst_candidates.specs.Nested.{ClosingLaw, InnerRunLaw, TopRunLaw};
 ghost use Rattle.typst_candidates.specs.RecordExamples.{RecordExamples};
 ghost use Rattle.typst_candidates.specs.Records.{FrontLaw, RearLaw};
 
@@ -20,4 +21,12 @@ pub fn looks_law()
 /// The units of a short text, what decides an edit of it, and the pieces of its runs.
 pub fn records_of_texts()
     ensures { RecordExamples }
+{}
+
+/// The entries of nested notes say without their levels where the pieces of each run begin, and where a
+/// block ends.
+pub fn nested_law()
+    ensures top { TopRunLaw }
+    ensures inner { InnerRunLaw }
+    ensures closing { ClosingLaw }
 {}

@@ -13,11 +13,12 @@ mod entry;
 mod laws;
 mod records;
 mod row;
+mod run;
 
 pub use candidate::{Candidate, Candidates, find_candidates};
 pub use cursor::Cursor;
-pub use cuts::{Cuts, cuts_in, top_cuts};
+pub use cuts::Cuts;
 pub use entry::{Entry, Tag};
-pub use laws::{candidates_of_texts, looks_law, records_of_texts};
-pub use records::Records;
+pub use laws::{candidates_of_texts, looks_law, nested_law, records_of_texts};
+pub use records::{Records, fit};
 pub use row::{Edge, Near, Row, Stretch};

@@ -1,6 +1,6 @@
 //! The units of a text, kept beside its tree.
 
-ghost use Rattle.std.specs.Prelude.{◌≡◌, ℕ, Some, None, ◌≤◌, ◌<◌, ◌+◌, ◌-◌, ◌^◌, ◌++◌, ◌∷◌, [], suc, IfOk, OnOk, OnErr, length, take, drop, vec_capacity};
+ghost use Rattle.std.specs.Prelude.{◌≡◌, ◌↔◌, IsTrue, ℕ, Some, None, ◌≤◌, ◌<◌, ◌+◌, ◌-◌, ◌^◌, ◌++◌, ◌∷◌, [], suc, IfOk, IfSome, OnOk, OnErr, length, take, drop, vec_capacity};
 ghost use Rattle.typst_candidates.specs.Entries.{back_of, end_of, entry_of, front_of, rear_of, spliced, units_by};
 ghost use Rattle.typst_candidates.specs.Entries as spec;
 ghost use Rattle.typst_candidates.specs.Records.{AllFit, is_opening, opening_of};
@@ -80,6 +80,19 @@ impl Records {
         ensures { result ≡ length self.now.units.entries }
     {
         self.entries.len()
+    }
+
+    /// Where the last note's token begins, in bytes, or 0 where there is none; nothing where that is no number
+    /// of the machine. Goes through all entries.
+    pub fn last(&self) -> Option<usize>
+        ensures some { IfSome result (λ at. at ≡ end_of 0 self.now.units.entries) }
+        ensures none { result ≡ None → 2 ^ 64 ≤ end_of 0 self.now.units.entries }
+    {
+        let mut at = 0usize;
+        for entry in &self.entries {
+            at = at.checked_add(entry.step)?.checked_add(entry.gap)?;
+        }
+        Some(at)
     }
 
     /// The entries, in order.
@@ -193,6 +206,18 @@ fn bring_back(entries: &mut [Entry], at: usize, count: usize)
     ensures { let rest = drop at entries.old in entries.new ≡ take at entries.old ++ (drop count rest ++ take count rest) }
 {
     entries[at..].rotate_left(count);
+}
+
+/// Whether the token of each note begins at a byte of a text that a machine word counts.
+pub fn fit(notes: &[Note]) -> bool
+    ensures { IsTrue result ↔ AllFit notes.now }
+{
+    for note in notes {
+        if note.start == usize::MAX {
+            return false;
+        }
+    }
+    true
 }
 
 /// What is left of so many bytes behind the token of the entry.

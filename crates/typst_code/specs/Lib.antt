@@ -14,9 +14,11 @@ pub mod Outside
 pub mod Stops
 -- What the crates above name of those below.
 pub use Rattle.typst_lookahead.specs.Bytes
+pub use Rattle.typst_lookahead.specs.Checkpoint
 pub use Rattle.typst_lookahead.specs.Cursor
 pub use Rattle.typst_lookahead.specs.Expected
 pub use Rattle.typst_lookahead.specs.Noted
+pub use Rattle.typst_lookahead.specs.Remembered
 pub use Rattle.typst_lookahead.specs.View
 pub use Rattle.typst_lookahead.specs.declared.depth
 pub use Rattle.typst_markup.specs.Attachments

@@ -31,5 +31,5 @@ pub use sequences::{code_block, code_exprs};
 pub use stops::CodeStop;
 pub use typst_lookahead::{Answered, Grammar, Levels, Log, Parser};
 pub use typst_markup::{
-    MathStop, Stop, markup_expr, markup_run, markup_turn, math_expr, math_exprs,
+    MathStop, Stop, content_block, markup_expr, markup_run, markup_turn, math_expr, math_exprs,
 };

@@ -1,5 +1,5 @@
 -- The units of a text with an edit inside a block.
-use Rattle.std.proofs.Common.{◌≡◌, ℕ, suc, ◌+◌, ◌-◌, ◌≤◌, List, [], ◌∷◌, ◌++◌, length, refl, ap, sym, ◌∙◌, subst, arith}
+use Rattle.std.proofs.Common.{◌≡◌, ℕ, suc, ◌+◌, ◌≤◌, List, [], ◌∷◌, ◌++◌, length, refl, ap, sym, ◌∙◌, subst, arith}
 use Rattle.typst_candidates.specs.Entries.{units_of, spliced}
 use Rattle.typst_lines.specs.Place.{moved}
 use Rattle.typst_tokens.specs.Sight.{position}

@@ -4,16 +4,21 @@ use Rattle.std.specs.Prelude.{slice_get}
 use Rattle.typst_kinds.specs.declared.kind.SyntaxKind.TheVariants as kind
 use Rattle.typst_tree.specs.Tree.{Tree, forest, trees, inner_of}
 use Rattle.typst_tree.specs.Replace.{Reaches, At}
+use Rattle.typst_tree.specs.Laws.{put_at}
 use Rattle.typst_tree.proofs.SpansAside.{trees_forest}
+use Rattle.typst_lines.specs.Classes.{CharClasses}
 use Rattle.typst_lines.specs.Place.{moved}
 use Rattle.typst_tokens.specs.Sight.{position}
+use Rattle.typst_candidates.specs.Candidates.{Candidate}
 use Rattle.typst_grammar.specs.Grammar.{tree, parsed, max_depth}
 use Rattle.typst_edits.specs.BlockSplice.{block_log}
 use Rattle.typst_edits.specs.BlockWorth.{BlockWorthLaw}
 use Rattle.typst_edits.specs.Children.{with_children, exchanged}
-use Rattle.typst_edits.specs.Edit.{alter, put, replaced, text_with}
+use Rattle.typst_edits.specs.Edit.{Among, alter, put, replaced, text_with, Passes}
+use Rattle.typst_edits.specs.Hole.{path_of}
+use Rattle.typst_edits.specs.Laws.{blocks_of_text}
 use Rattle.typst_edits.specs.Splice.{notes_in, entries_from}
-use Rattle.typst_edits.specs.Spot.{last_node, unit_at}
+use Rattle.typst_edits.specs.Spot.{Spot, last_node, unit_at}
 use Rattle.typst_edits.proofs.BlockSplice.{block-splice-law}
 use Rattle.typst_edits.proofs.Replaced.{put-law}
 use Rattle.typst_edits.proofs.Text.{block-law}
@@ -42,17 +47,24 @@ replaced-one : (path : List ℕ) (from : ℕ) (x : Tree) (ts : List Tree) → in
 replaced-one [] from x ts = ap (λ us. inner_of kind.Markup (forest (alter from (put [] x) us))) (sym (trees_forest ts))
 replaced-one (n ∷ path) from x ts = ap (λ us. inner_of kind.Markup (forest (alter n (put (path ++ from ∷ []) x) us))) (sym (trees_forest ts))
 
-pub block-worth-law : BlockWorthLaw
+-- the tree of the new text, be it of any length
+pub block-tree : (k : CharClasses) (front old new rest : List ℕ) (c : Candidate) (s : Spot (Unit {0})) (past : ℕ) → Among s (blocks_of_text k (front ++ (old ++ rest)))
+    → path_of s.hole ≡ c.path ++ c.from ∷ [] → c.to ≡ suc c.from → Reaches c.path c.from c.to (tree k (front ++ (old ++ rest))) → Passes front old new rest s past
+    → tree k (front ++ (new ++ rest)) ≡ put_at c.path c.from c.to (last_node (unit_at s (text_with front new rest)).nodes ∷ []) (tree k (front ++ (old ++ rest)))
 unfolding tree
-block-worth-law k front old new rest c s past among at one reaches passes short short-now =
+block-tree k front old new rest c s past among at one reaches passes =
     let kept = block-law k front old new rest s past among passes in
-    let spliced = block-splice-law k front old new rest s past among passes short short-now in
     let x = last_node (unit_at s (text_with front new rest)).nodes in
     let nodes = (parsed k max_depth (front ++ (old ++ rest))).nodes in
     let there : Reaches c.path c.from (suc c.from) (tree k (front ++ (old ++ rest))) = subst (λ j. Reaches c.path c.from j (tree k (front ++ (old ++ rest)))) one reaches in
+    kept.tree ∙ ap (λ p. inner_of kind.Markup (forest (replaced p x nodes))) at ∙ replaced-one c.path c.from x nodes ∙ put-one c.path c.from x (tree k (front ++ (old ++ rest))) there
+    ∙ ap (λ j. with_children c.path c.from j (x ∷ []) (tree k (front ++ (old ++ rest)))) (sym one) ∙ sym (put-law c.path c.from c.to (x ∷ []) (tree k (front ++ (old ++ rest))))
+
+pub block-worth-law : BlockWorthLaw
+block-worth-law k front old new rest c s past among at one reaches passes short short-now =
+    let spliced = block-splice-law k front old new rest s past among passes short short-now in
     record {
-      is_tree = kept.tree ∙ ap (λ p. inner_of kind.Markup (forest (replaced p x nodes))) at ∙ replaced-one c.path c.from x nodes ∙ put-one c.path c.from x (tree k (front ++ (old ++ rest))) there
-          ∙ ap (λ j. with_children c.path c.from j (x ∷ []) (tree k (front ++ (old ++ rest)))) (sym one) ∙ sym (put-law c.path c.from c.to (x ∷ []) (tree k (front ++ (old ++ rest))));
+      is_tree = block-tree k front old new rest c s past among at one reaches passes;
       from = spliced.opens;
       to = suc (spliced.opens + notes_in (unit_at s (text_with front old rest)).asks);
       part = entries_from (position (moved s.at (text_with front new rest))) (block_log (front ++ (new ++ rest)) s (unit_at s (text_with front new rest))).notes;

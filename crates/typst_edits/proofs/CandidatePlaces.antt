@@ -21,14 +21,14 @@ use Rattle.typst_edits.specs.CandidatePlaces.{StandsIn, CandidatePlacesLaw, Cand
 
 -- ---- bytes of children
 
-begins-at : (at : ℕ) (ts : List Tree) (n : ℕ) → begins at ts n ≡ at + length (joined (forest (take n ts)))
+pub begins-at : (at : ℕ) (ts : List Tree) (n : ℕ) → begins at ts n ≡ at + length (joined (forest (take n ts)))
 begins-at at [] zero = omega arith
 begins-at at [] (suc n) = omega arith
 begins-at at (t ∷ ts) zero = omega arith
 begins-at at (t ∷ ts) (suc n) =
     omega (arith, begins-at (at + length (text_of t)) ts n, length-append t.head.text (joined t.kids ++ joined (forest (take n ts))), length-append (joined t.kids) (joined (forest (take n ts))), length-append t.head.text (joined t.kids))
 
-length-laid : (at : ℕ) (ts : List Tree) → length (laid at ts) ≡ length ts
+pub length-laid : (at : ℕ) (ts : List Tree) → length (laid at ts) ≡ length ts
 length-laid at [] = refl
 length-laid at (t ∷ ts) = ap suc (length-laid (at + length (text_of t)) ts)
 
@@ -39,7 +39,7 @@ got-laid at (t ∷ ts) (suc n) = got-laid (at + length (text_of t)) ts n
 
 -- ---- stretches
 
-back-le : (f : ℕ → Bool) (n : ℕ) → back_past f n ≤ n
+pub back-le : (f : ℕ → Bool) (n : ℕ) → back_past f n ≤ n
 back-le f zero = omega arith
 back-le f (suc n) = by-test (f (suc n)) (back-le f n)
   where
@@ -47,7 +47,7 @@ back-le f (suc n) = by-test (f (suc n)) (back-le f n)
     by-test true h = omega (arith, h)
     by-test false h = omega arith
 
-on-ge : (f : ℕ → Bool) (limit n : ℕ) → n ≤ on_past f limit n
+pub on-ge : (f : ℕ → Bool) (limit n : ℕ) → n ≤ on_past f limit n
 on-ge f zero n = omega arith
 on-ge f (suc limit) n = by-test (f n) (on-ge f limit (suc n))
   where
@@ -55,7 +55,7 @@ on-ge f (suc limit) n = by-test (f n) (on-ge f limit (suc n))
     by-test true h = omega (arith, h)
     by-test false h = omega arith
 
-on-le : (f : ℕ → Bool) (limit n : ℕ) → on_past f limit n ≤ n + limit
+pub on-le : (f : ℕ → Bool) (limit n : ℕ) → on_past f limit n ≤ n + limit
 on-le f zero n = omega arith
 on-le f (suc limit) n = by-test (f n) (on-le f limit (suc n))
   where
@@ -63,14 +63,14 @@ on-le f (suc limit) n = by-test (f n) (on-le f limit (suc n))
     by-test true h = omega (arith, h)
     by-test false h = omega arith
 
-hash-le : (cs : List Child) (n : ℕ) → with_hash cs n ≤ n
+pub hash-le : (cs : List Child) (n : ℕ) → with_hash cs n ≤ n
 hash-le cs n = by-test (nat_lt 0 n && holds_at (λ c. is_hash c.node) cs (n - 1))
   where
     by-test : (b : Bool) → (if b then n - 1 else n) ≤ n
     by-test true = omega arith
     by-test false = omega arith
 
-begun-le : (b : ℕ) (cs : List Child) → begun b cs ≤ length cs
+pub begun-le : (b : ℕ) (cs : List Child) → begun b cs ≤ length cs
 begun-le b [] = omega arith
 begun-le b (c ∷ cs) = by-test (nat_lt c.start b) (begun-le b cs)
   where
@@ -82,7 +82,7 @@ begun-none : (at b : ℕ) (ts : List Tree) → b ≤ at → begun b (laid at ts)
 begun-none at b [] h = refl
 begun-none at b (t ∷ ts) h = let off : nat_lt at b ≡ false = grind (arith, nat_tests) in rw off refl
 
-begun-ended : (at rs re : ℕ) (ts : List Tree) → rs ≤ re → begun rs (laid at ts) ≤ suc (ended re (laid at ts))
+pub begun-ended : (at rs re : ℕ) (ts : List Tree) → rs ≤ re → begun rs (laid at ts) ≤ suc (ended re (laid at ts))
 begun-ended at rs re [] h = omega arith
 begun-ended at rs re (t ∷ ts) h = by-test (nat_lt at rs) (nat_le (at + length (text_of t)) re) refl (begun-ended (at + length (text_of t)) rs re ts h)
   where

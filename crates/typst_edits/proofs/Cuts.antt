@@ -1,7 +1,9 @@
 -- Behind more pieces of a run the next token begins further on.
-use Rattle.std.proofs.Common.{◌≡◌, ℕ, zero, suc, ◌+◌, ◌<◌, ◌≤◌, ◌==◌, ne_eqb, Bool, true, false, length, Some, refl, ap, sym, arith}
+use Rattle.std.proofs.Common.{◌≡◌, ℕ, zero, suc, ◌+◌, ◌<◌, ◌≤◌, ◌==◌, ne_eqb, Bool, true, false, List, length, take, Some, refl, ap, sym, arith}
 use Rattle.typst_kinds.specs.declared.kind.SyntaxKind.TheVariants as kind
+use Rattle.typst_lines.specs.Classes.{CharClasses}
 use Rattle.typst_lines.specs.Place.{Place, moved}
+use Rattle.typst_tokens.specs.Sight.{width}
 use Rattle.typst_language.specs.declared.calls.Block.{Block}
 use Rattle.typst_language.specs.declared.calls.Call.{Call}
 use Rattle.typst_language.specs.declared.calls.Call.TheVariants.{MarkupExpr}
@@ -19,7 +21,7 @@ use Rattle.typst_edits.specs.BlockRuns.{inner, bracket, run_at, opened_at}
 use Rattle.typst_edits.specs.InnerBytes.{inner_end}
 use Rattle.typst_edits.specs.Joint.{minds, text_run}
 use Rattle.typst_edits.specs.NumberedNotes.{cut_behind, CutsLaw, InnerCutsLaw}
-use Rattle.typst_edits.specs.Runs.{made, AllGo, End, end_of, start}
+use Rattle.typst_edits.specs.Runs.{made, AllGo, End, end_of, end_at, pieces, start}
 use Rattle.typst_edits.specs.Sequence.{Sequence, turn_of, first_of, first_end}
 use Rattle.typst_edits.proofs.BlockRuns.{sane as in-sane}
 use Rattle.typst_edits.proofs.Boundary.{KnownAt, made-add, looks_in, each-ends}
@@ -66,13 +68,18 @@ module _ (r : Sequence) (sd : (c : Call) → Sane (r.level.deeper c)) (sb : (b :
   cut-most zero e = omega arith
   cut-most (suc i) e = omega arith
 
-  cuts-rise : (i j : ℕ) → i < j → AllGo (first_of j r) → cut_behind i (first_end i r) < cut_behind j (first_end j r)
-  cuts-rise i j l g =
+  tokens-rise : (i j : ℕ) → i < j → AllGo (first_of j r) → (first_end i r).taken + gap_of (first_end i r).state.known < cut_behind j (first_end j r)
+  tokens-rise i j l g =
       let next = next-cut i (go-fewer turn within (suc i) j (true, 0) r.place r.point (omega (arith, l)) g) in
       let more = least-taken (suc i) j (true, 0) r.place r.point (omega (arith, l)) in
-      let here = cut-most i (first_end i r) in
       let there = cut-least j (first_end j r) in
-      omega (arith, next, more, here, there)
+      omega (arith, next, more, there)
+
+  cuts-rise : (i j : ℕ) → i < j → AllGo (first_of j r) → cut_behind i (first_end i r) < cut_behind j (first_end j r)
+  cuts-rise i j l g =
+      let rise = tokens-rise i j l g in
+      let here = cut-most i (first_end i r) in
+      omega (arith, rise, here)
 
   cuts-within : (j : ℕ) → cut_behind j (first_end j r) ≤ bound r.place r.point
   cuts-within j = let most = turns-within turn within j (true, 0) r.place r.point in let here = cut-most j (first_end j r) in omega (arith, most, here)
@@ -92,6 +99,24 @@ cuts-law k text i j l g =
     let room = peeked.within z start in
     let most = cuts-within r sd sb refl refl begins stands known j in
     take-longer (cut_behind i (first_end i r)) (cut_behind j (first_end j r)) text (cuts-rise r sd sb refl refl begins stands known i j l g) (omega (arith, room, most))
+
+-- and so does the token behind fewer pieces, be it none
+pub token-cuts : (k : CharClasses) (text : List ℕ) (i j : ℕ) → i < j → AllGo (pieces k j (start_of text))
+    → (let z = start_of text in width (take ((end_at k i z).taken + gap_of (end_at k i z).state.known) text) < width (take (cut_behind j (end_at k j z)) text))
+unfolding run
+token-cuts k text i j l g =
+    let z = start_of text in
+    let r = text_run k z in
+    let sd = sane-meaning (rules k) k max_depth in
+    let sb = sane-block (rules k) k max_depth in
+    let peeked = sane-at (rules k) k max_depth peek in
+    let begins : (h : Reading) (z : Place) (t : Trivia) (x : Bool × ℕ) → 0 < len_at k h.mode (moved t.gap z) → Begins h z t (minds (markup_head x.0 x.1 (hand_at k h (Some t) z).kind)) ((level_at k max_depth).deeper (MarkupExpr x.0 x.1)) =
+    λ h z t x more. begins-call k 255 h z t x.0 x.1 more in
+    let stands = (peeked.kept z start tt).known in
+    let known : KnownAt r.point = record { trivia = _; is = refl } in
+    let room = peeked.within z start in
+    let most = cuts-within r sd sb refl refl begins stands known j in
+    take-longer ((end_at k i z).taken + gap_of (end_at k i z).state.known) (cut_behind j (first_end j r)) text (tokens-rise r sd sb refl refl begins stands known i j l g) (omega (arith, room, most))
 
 pub inner-cuts-law : InnerCutsLaw
 unfolding run

@@ -1,5 +1,5 @@
 -- Runs without an expression: all that is asked behind their trivia is the token at their end.
-use Rattle.std.proofs.Common.{◌≡◌, ℕ, ◌+◌, Bool, true, false, ◌&&◌, ◌==◌, if◌then◌else◌, nat_lt, List, [], ◌∷◌, ◌++◌, Some, length, refl, ap, sym, ◌∙◌, subst, arith}
+use Rattle.std.proofs.Common.{◌≡◌, ℕ, ◌+◌, Bool, true, false, ◌&&◌, ◌==◌, if◌then◌else◌, nat_lt, List, [], ◌∷◌, ◌++◌, Some, refl, ap, sym, ◌∙◌, subst, arith}
 use Rattle.typst_kinds.specs.declared.kind.SyntaxKind.{SyntaxKind}
 use Rattle.typst_kinds.specs.declared.kind.SyntaxKind.TheVariants as kind
 use Rattle.typst_kinds.specs.Kinds.{same}
@@ -58,7 +58,7 @@ unfolding hand_asks
 hand-looks k t z =
     ap (λ (b : Bool). looked t.gap (look (token k mode.Markup) (moved t.gap z)) ∷ (if b then looked t.gap (column_look (moved t.gap z)) ∷ [] else [])) (and-false t.newlines.any)
 
-hand-asks : (l : Level) (z : Place) (n : ℕ) (s : Point) → Knows n s → hand_asks_of l z s ≡ looked n (look (token l.classes mode.Markup) (moved n z)) ∷ []
+pub hand-asks : (l : Level) (z : Place) (n : ℕ) (s : Point) → Knows n s → hand_asks_of l z s ≡ looked n (look (token l.classes mode.Markup) (moved n z)) ∷ []
 hand-asks l z n s h =
     (λ i. hand_asks l.classes (h.held i) (h.known i) z) ∙ hand-looks l.classes h.trivia z ∙ ap (λ m. looked m (look (token l.classes mode.Markup) (moved m z)) ∷ []) h.gap
 
@@ -216,7 +216,7 @@ end-by true false e = absurd (cc)
 end-by false c e = e
 
 -- at the text's end no token looks back
-end-look : (k : CharClasses) (b a : List ℕ) → a ≡ [] → (look (token k mode.Markup) (record { behind = b; ahead = a })).back ≡ 0
+pub end-look : (k : CharClasses) (b a : List ℕ) → a ≡ [] → (look (token k mode.Markup) (record { behind = b; ahead = a })).back ≡ 0
 unfolding token
 end-look k b [] e = refl
 end-look k b (c ∷ a) e = absurd (cc)

@@ -30,7 +30,7 @@ use Rattle.typst_language.specs.Syntax.{Parser, ◌>>◌}
 use Rattle.typst_language.specs.Syntax.Begin.{at_token}
 use Rattle.typst_language.specs.Syntax.Op.{column, takes}
 use Rattle.typst_language.specs.Syntax.Parser.{gives, does, next, pick, wraps, scoped, calls}
-use Rattle.typst_language.specs.Meaning.{Outcome, Meaning, Level, plain, less, joined, inside, wrapped, left, taken_node, run}
+use Rattle.typst_language.specs.Meaning.{Outcome, Meaning, Level, plain, less, joined, inside, wrapped, taken_node, run}
 use Rattle.typst_language.specs.Sound.{Tidy}
 use Rattle.typst_language.proofs.Backs.{left-empties}
 use Rattle.typst_language.proofs.HintedNodes.{length-hinted, hinted-append}

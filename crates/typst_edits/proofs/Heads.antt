@@ -1,5 +1,5 @@
 -- An expression that isn't expected gives one error behind the trivia, and only such a one takes back the empty errors before it.
-use Rattle.std.proofs.Common.{◌≡◌, ℕ, zero, suc, ◌+◌, ◌<◌, ◌==◌, ne_eqb, Bool, true, false, if◌then◌else◌, ◌&&◌, nat_lt, List, [], ◌∷◌, ◌++◌, length, drop, length-append, append_assoc, Some, None, refl, ap, sym, ◌∙◌, subst, arith}
+use Rattle.std.proofs.Common.{◌≡◌, ℕ, zero, suc, ◌<◌, ◌==◌, ne_eqb, Bool, true, false, if◌then◌else◌, ◌&&◌, nat_lt, List, [], ◌∷◌, ◌++◌, length, drop, length-append, append_assoc, Some, None, refl, ap, sym, ◌∙◌, subst, arith}
 use borrow.Author.Tests.{lt-ltb}
 use Rattle.typst_kinds.specs.Kinds.{is_error}
 use Rattle.typst_kinds.specs.declared.kind.SyntaxKind.{SyntaxKind}
@@ -16,7 +16,7 @@ use Rattle.typst_language.specs.Ask.{Ask}
 use Rattle.typst_language.specs.Depth.{anywhere, too_deep, deeper}
 use Rattle.typst_language.specs.Hand.{AtHand, told, len_at, hand_at}
 use Rattle.typst_language.specs.Knot.{meaning_of}
-use Rattle.typst_language.specs.Point.{Trivia, Point}
+use Rattle.typst_language.specs.Point.{Trivia, Point, pending}
 use Rattle.typst_language.specs.Shape.{hinted}
 use Rattle.typst_language.specs.Shape.Making.{surprise}
 use Rattle.typst_language.specs.Steps.{peek, eat_making, unexpected, flush_trivia, note}
@@ -35,11 +35,11 @@ use Rattle.typst_grammar.specs.Grammar.{rules, level_at, max_depth}
 use Rattle.typst_language.specs.Sound.{Tidy, Backs}
 use Rattle.typst_edits.specs.Children.{together}
 use Rattle.typst_edits.specs.BlockRuns.{inner_run}
-use Rattle.typst_edits.specs.Heads.{begins_wrong, behind_known, first_place, Headed, HeadLaw, InnerHeadLaw, MeetsLaw, InnerMeetsLaw}
+use Rattle.typst_edits.specs.Heads.{begins_wrong, behind_known, minds_at, first_place, Headed, HeadLaw, InnerHeadLaw, MeetsLaw, InnerMeetsLaw}
 use Rattle.typst_edits.specs.Joint.{minds, text_run}
 use Rattle.typst_edits.specs.Occurrences.{goes}
 use Rattle.typst_edits.specs.Runs.{made, AllGo, end_of}
-use Rattle.typst_edits.specs.Sequence.{Sequence, first_of, first_end, then_of, then_end, then_place}
+use Rattle.typst_edits.specs.Sequence.{Sequence, turn_of, first_of, first_end, then_of, then_end, then_place}
 use Rattle.typst_edits.proofs.Boundary.{KnownAt, turn-goes, first-of}
 use Rattle.typst_edits.proofs.Children.{goes-on, known-behind, turn-led, tidy-together}
 use Rattle.typst_edits.proofs.Joint.{takes-call, known-is}
@@ -199,6 +199,13 @@ pub erring-call : (k : CharClasses) (levels : ℕ) (r h : Reading) (e : ℕ) (a 
 unfolding meaning_of
 erring-call k levels r h e a z t x m = erring-expr (level_at k levels) r h e a z t x.0 x.1 m
 
+-- what gives the trivia that are known at a point and one error, and leaves no empty error
+pub record MindsAlone {A : Type 0} (p : Point) (o : Outcome A) : Type 0 where
+  pub error : Tree
+  pub is : is_error error.head.kind ≡ true
+  pub nodes : o.nodes ≡ pending p.known ++ error ∷ []
+  pub none : o.state.empties ≡ 0
+
 -- ---- any run
 
 module _ (l : Level) (sd : (c : Call) → Sane (l.deeper c)) (sb : (b : Block) → Sane (l.blocks b)) (deep : (l.levels == 0) ≡ false) (stops : SyntaxKind → Bool) (end_stops : stops kind.End ≡ true)
@@ -330,6 +337,19 @@ module _ (l : Level) (sd : (c : Call) → Sane (l.deeper c)) (sb : (b : Block) �
   pub onward-facts : (x : Bool × ℕ) (z : Place) (p : Point) → KnownAt p → Onward x z p
   onward-facts x z p known = subst (Onward x z) (sym (known-is l.classes p known.trivia known.is)) (onward-here x z p.reading p.held p.empties p.is_after_error known.trivia)
 
+  -- a piece that minds gives the trivia and one error, and leaves no empty error
+  alone-here : (x : Bool × ℕ) (z : Place) (r h : Reading) (e : ℕ) (a : Bool) (t : Trivia) → (let s = before_trivia r h e a t in goes (turn x z s) ≡ true → minded x z s ≡ true → MindsAlone s (turn x z s))
+  alone-here x z r h e a t g mind =
+      let s = before_trivia r h e a t in
+      let o = turn x z s in
+      let open_there : ends stops x.1 (told (hand_of l z s)).kind ≡ false = goes-on l sd sb deep stops end_stops call x z s (ends stops x.1 (told (hand_of l z s)).kind) refl (first-of o.value.0 (nat_lt 0 o.taken) g) in
+      let err = erring-turn l r h e a z t deep stops x (wrong r h e a z t x mind) open_there in
+      record { error = err.error; is = err.is; nodes = err.nodes; none = no-empties x z r h e a t open_there err }
+
+  pub minds-alone : (x : Bool × ℕ) (z : Place) (p : Point) → KnownAt p → goes (turn x z p) ≡ true → minded x z p ≡ true → MindsAlone p (turn x z p)
+  minds-alone x z p known =
+      subst (λ (s : Point). goes (turn x z s) ≡ true → minded x z s ≡ true → MindsAlone s (turn x z s)) (sym (known-is l.classes p known.trivia known.is)) (alone-here x z p.reading p.held p.empties p.is_after_error known.trivia)
+
 -- ---- the laws
 
 module _ (r : Sequence) (sd : (c : Call) → Sane (r.level.deeper c)) (sb : (b : Block) → Sane (r.level.blocks b)) (deep : (r.level.levels == 0) ≡ false) (end_stops : r.stops kind.End ≡ true)
@@ -346,6 +366,12 @@ module _ (r : Sequence) (sd : (c : Call) → Sane (r.level.deeper c)) (sb : (b :
       let p = pieces-facts l sd sb deep r.stops end_stops call wrong n e.value (first_place i r) e.state first_known h in
       let o = onward-facts l sd sb deep r.stops end_stops call wrong f.value (then_place i n r) f.state then_known in
       record { first = p.0; pieces_back = p.1; next = o.0; behind_back = o.1 }
+
+  -- where pieces of it begin with one that minds
+  pub lone-piece : (i : ℕ) → AllGo (first_of i r) → AllGo (then_of i 1 r) → minds_at r (first_place i r) (first_end i r) ≡ true → MindsAlone (first_end i r).state (turn_of r (first_end i r).value (first_place i r) (first_end i r).state)
+  lone-piece i g h mind =
+      let e = first_end i r in
+      minds-alone r.level sd sb deep r.stops end_stops call wrong e.value (first_place i r) e.state (known-behind r.level sd sb deep r.stops end_stops call i (true, 0) r.place r.point known g) h.0 mind
 
 pub head-law : HeadLaw
 unfolding run
@@ -379,3 +405,16 @@ inner-meets-law k levels z s i n f t u g h well known known_now value nesting = 
   over = λ o kind. ap (λ a. ends ends_block a kind) (nesting o);
   errors = λ o m. unminded _ ((inner-head-law k levels z s i n g h).next (well o) o) m;
 }
+
+-- the law of the piece that minds, of a text's run and of a content block's
+pub text-lone : (k : CharClasses) (z : Place) (i : ℕ) → (let r = text_run k z in AllGo (first_of i r) → AllGo (then_of i 1 r) → minds_at r (first_place i r) (first_end i r) ≡ true
+    → MindsAlone (first_end i r).state (turn_of r (first_end i r).value (first_place i r) (first_end i r).state))
+unfolding run
+text-lone k z i g h mind =
+    lone-piece (text_run k z) (sane-meaning (rules k) k max_depth) (sane-block (rules k) k max_depth) refl refl (λ r y t x some. takes-call k 255 r y t t (same-judged r t) x some) (erring-call k 255) (record { trivia = _; is = refl }) i g h mind
+
+pub inner-lone : (k : CharClasses) (levels : ℕ) (z : Place) (s : Point) (i : ℕ) → (let r = inner_run k levels z s in AllGo (first_of i r) → AllGo (then_of i 1 r) → minds_at r (first_place i r) (first_end i r) ≡ true
+    → MindsAlone (first_end i r).state (turn_of r (first_end i r).value (first_place i r) (first_end i r).state))
+unfolding run
+inner-lone k levels z s i g h mind =
+    lone-piece (inner_run k levels z s) (sane-meaning (rules k) k (suc levels)) (λ b. sane-plain tt) (ne_eqb (suc levels) 0 (omega arith)) refl (λ r y t x some. takes-call k levels r y t t (same-judged r t) x some) (erring-call k levels) (record { trivia = _; is = refl }) i g h mind

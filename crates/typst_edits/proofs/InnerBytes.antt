@@ -161,7 +161,7 @@ split-ends n [] ks h = (tt, h)
 split-ends n (looked at look ∷ ls) ks h = let i = split-ends n ls ks h.1 in ((h.0, i.0), i.1)
 split-ends n (marked at gap fewer m s ∷ ls) ks h = split-ends n ls ks h
 
-both-end : (n : ℕ) (ls ks : List Ask) → AllEndBy n ls → AllEndBy n ks → AllEndBy n (ls ++ ks)
+pub both-end : (n : ℕ) (ls ks : List Ask) → AllEndBy n ls → AllEndBy n ks → AllEndBy n (ls ++ ks)
 both-end n [] ks h i = i
 both-end n (looked at look ∷ ls) ks h i = (h.0, both-end n ls ks h.1 i)
 both-end n (marked at gap fewer m s ∷ ls) ks h i = both-end n ls ks h i

@@ -70,7 +70,7 @@ use Rattle.typst_edits.proofs.Widths.{width-none}
 pub bytes-append : (ts us : List Tree) → bytes_of (ts ++ us) ≡ bytes_of ts + bytes_of us
 bytes-append ts us = let e = ap length (texts-append ts us) in let sum = length-append (texts ts) (texts us) in omega (arith, e, sum)
 
-bytes-first : (t : Tree) (ts : List Tree) → bytes_of (t ∷ ts) ≡ length (text_of t) + bytes_of ts
+pub bytes-first : (t : Tree) (ts : List Tree) → bytes_of (t ∷ ts) ≡ length (text_of t) + bytes_of ts
 bytes-first t ts = let e = ap length (texts-first t ts) in let sum = length-append (text_of t) (texts ts) in omega (arith, e, sum)
 
 abbrev first_or : Tree → List Tree → Tree
@@ -322,6 +322,22 @@ module _ (r : Sequence) (sd : (c : Call) → Sane (r.level.deeper c)) (sb : (b :
         let begins : from + bytes_of (before ++ us) ≡ at = omega (arith, long, sum, from_is, at_is) in
         subst (λ d. LeadsAt from kids at d) (length-append before us) (leads-at from kids (before ++ us) right at all full begins)
 
+    -- where they end, with the trivia behind them
+    pub ends-at : (from at back : ℕ) (t : Trivia) → f.state.known ≡ Some t → from ≡ width (take a text) → at ≡ width (take (a + ((e.taken + f.taken) + gap_of f.state.known)) text) → back ≤ f.state.empties
+        → from + bytes_of (before ++ (less back p.nodes ++ t.nodes)) ≡ at
+    ends-at from at back t known_there from_is at_is few =
+        let olds = less back p.nodes ++ t.nodes in
+        let ts_is : texts t.nodes ≡ utf8_ahead (gap_of f.state.known) (moved f.taken w) = ap (λ u. texts (pending u)) (sym known_there) ∙ pending-text (moved f.taken w) f.state.known stands-f in
+        let olds_is : texts olds ≡ utf8_ahead (f.taken + gap_of f.state.known) w =
+        texts-append (less back p.nodes) t.nodes ∙ ap (λ xs. xs ++ texts t.nodes) (own-text back few) ∙ ap (λ xs. utf8_ahead f.taken w ++ xs) ts_is ∙ text-add f.taken (gap_of f.state.known) w in
+        let text_is : texts (before ++ olds) ≡ utf8_ahead (e.taken + (f.taken + gap_of f.state.known)) r.place =
+        texts-append before olds ∙ ap (λ xs. xs ++ texts olds) before-text ∙ ap (λ xs. utf8_ahead e.taken r.place ++ xs) olds_is ∙ text-add e.taken (f.taken + gap_of f.state.known) r.place in
+        let long = ap length text_is in
+        let sum = from-start (e.taken + (f.taken + gap_of f.state.known)) in
+        let apart : e.taken + (f.taken + gap_of f.state.known) ≡ (e.taken + f.taken) + gap_of f.state.known = omega arith in
+        let sum_too = ap (λ d. width (take (a + d) text)) apart in
+        omega (arith, long, sum, sum_too, from_is, at_is)
+
     -- and the one where they end
     pub next-leads : (from at : ℕ) (kids rest : List Tree) (t : Trivia) (last : Outcome (Unit {0})) → f.state.known ≡ Some t → from ≡ width (take a text) → at ≡ width (take (a + ((e.taken + f.taken) + gap_of f.state.known)) text)
         → Tidy (rest_of i n r).state last → is_over i n r ≡ false
@@ -332,17 +348,7 @@ module _ (r : Sequence) (sd : (c : Call) → Sane (r.level.deeper c)) (sb : (b :
         let rest_is : front.rest ≡ rest = sym (ap (drop (length t.nodes)) front.nodes ∙ drop-front t.nodes front.rest (length t.nodes) refl) ∙ ap (drop (length t.nodes)) nodes ∙ drop-front t.nodes rest (length t.nodes) refl in
         let olds = less o.back p.nodes ++ t.nodes in
         let all : kids ≡ (before ++ olds) ++ rest = is ∙ sym (append_assoc before olds rest) in
-        let ts_is : texts t.nodes ≡ utf8_ahead (gap_of f.state.known) (moved f.taken w) = ap (λ u. texts (pending u)) (sym known_there) ∙ pending-text (moved f.taken w) f.state.known stands-f in
-        let olds_is : texts olds ≡ utf8_ahead (f.taken + gap_of f.state.known) w =
-        texts-append (less o.back p.nodes) t.nodes ∙ ap (λ xs. xs ++ texts t.nodes) (own-text o.back few) ∙ ap (λ xs. utf8_ahead f.taken w ++ xs) ts_is ∙ text-add f.taken (gap_of f.state.known) w in
-        let text_is : texts (before ++ olds) ≡ utf8_ahead (e.taken + (f.taken + gap_of f.state.known)) r.place =
-        texts-append before olds ∙ ap (λ xs. xs ++ texts olds) before-text ∙ ap (λ xs. utf8_ahead e.taken r.place ++ xs) olds_is ∙ text-add e.taken (f.taken + gap_of f.state.known) r.place in
-        let long = ap length text_is in
-        let sum = from-start (e.taken + (f.taken + gap_of f.state.known)) in
-        let apart : e.taken + (f.taken + gap_of f.state.known) ≡ (e.taken + f.taken) + gap_of f.state.known = omega arith in
-        let sum_too = ap (λ d. width (take (a + d) text)) apart in
-        let begins : from + bytes_of (before ++ olds) ≡ at = omega (arith, long, sum, sum_too, from_is, at_is) in
-        subst (λ d. LeadsAt from kids at d) (length-append before olds) (leads-at from kids (before ++ olds) rest at all (subst (λ xs. Full xs) rest_is front.full) begins)
+        subst (λ d. LeadsAt from kids at d) (length-append before olds) (leads-at from kids (before ++ olds) rest at all (subst (λ xs. Full xs) rest_is front.full) (ends-at from at o.back t known_there from_is at_is few))
 
 nil-by : (xs : List Tree) → length xs ≡ 0 → xs ≡ []
 nil-by [] e = refl
@@ -399,6 +405,7 @@ module _ (k : CharClasses) (text : List ℕ) (i n : ℕ) (t : Trivia) (g : AllGo
       let last = tail k ((e.taken + f.taken) + rest.taken) rest.state z0 in
       let tidy = (sane-run (level_at k max_depth) sd sb flush_trivia).backs (moved ((e.taken + f.taken) + rest.taken) z0) rest.state in
       let none : 0 ≡ width (take 0 text) = sym width-none in
+      let behind-zero : 0 + bytes_of (before ++ olds) ≡ bytes_of (before ++ olds) = omega arith in
       let at_first : token_byte text e ≡ width (take (0 + (e.taken + gap_of e.state.known)) text) = ap (λ d. width (take d text)) (omega arith) in
       let at_next : token_byte text (both k i n z0) ≡ width (take (0 + ((e.taken + f.taken) + gap_of f.state.known)) text) = ap (λ d. width (take d text)) (omega arith) in
       let there = λ (over : is_over i n r ≡ true). ap (λ w. (joined rest (run (level_at k max_depth) flush_trivia w rest.state)).nodes) (moved-three e.taken f.taken rest.taken z0)
@@ -406,6 +413,8 @@ module _ (k : CharClasses) (text : List ℕ) (i n : ℕ) (t : Trivia) (g : AllGo
       record {
         behind = front.rest;
         children = children;
+        onwards = front.nodes;
+        ends = sym behind-zero ∙ ends-at r sd sb refl refl begins first-stands first-known text 0 refl i n g h 0 (token_byte text (both k i n z0)) o.back t known none at_next back;
         first = λ l. first-leads r sd sb refl refl begins first-stands first-known text 0 refl i n g h 0 (token_byte text e) kids front.rest o.back t.nodes none at_first l back children;
         next = λ go. next-leads r sd sb refl refl begins first-stands first-known text 0 refl i n g h 0 (token_byte text (both k i n z0)) kids front.rest t last known none at_next tidy go back front.nodes children;
         last = λ over. none-behind t.nodes front.rest o.nodes front.nodes (there over);
@@ -534,6 +543,8 @@ module _ (k : CharClasses) (levels : ℕ) (text : List ℕ) (c : Spot (Unit {0})
         opening = held.opening;
         behind = front.rest;
         children = refl;
+        onwards = front.nodes;
+        ends = ends-at r in-sd in-sb in-deep refl in-begins in-stands in-known text a there i n g h from (token_byte text v) o.back t known refl at_next back;
         first = λ l. first-leads r in-sd in-sb in-deep refl in-begins in-stands in-known text a there i n g h from (token_byte text u) kids front.rest o.back t.nodes refl at_first l back refl;
         next = λ go. next-leads r in-sd in-sb in-deep refl in-begins in-stands in-known text a there i n g h from (token_byte text v) kids front.rest t last known refl at_next tidy go back front.nodes refl;
         last = λ over. none-behind t.nodes front.rest o.nodes front.nodes (over_nodes over);

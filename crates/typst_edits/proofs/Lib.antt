@@ -15,16 +15,29 @@
 --   candidates_law               BareCandidates, CandidatePlaces
 --   notes_law                    PieceNotes: of a whole text and of a content block; Marks: in any list of asks
 --   numbered_notes_law           NumberedNotes: of a whole text and of a content block; InTurn: the marks of a run in turn; NoteNumbers, InnerNumbers: the number of a note; Cuts: where the tokens behind pieces begin
---   rising_law                   Rising: the marks of whatever the language can say
+--   rising_law                   Rising: the marks of whatever the language can say; OpensApart: those where blocks begin
 --   leading_law                  Leading: of a whole text and of a content block; Fronts: what a piece gives first
 --   block_worth_law              BlockWorth
+--   splice_law                   Splice: of any asks; BlockSplice: of a block; RunSplice: of pieces of a text's run; InnerSplice: of pieces of a block's; PieceAsks: what is asked of them; Sides: what stands behind a note; Seen: what is noted was looked at; Forward: trivia look ahead alone
 --   splice_law                   Splice: of any asks; BlockSplice: of a block; Seen: what is noted was looked at
+--   one_reading_law              OneReading; KeptNodes: in the old tree
 --   path_law                     Walk: the steps; Placed: what stands before a block
 --   root_pieces_law              RootPieces
+--   root_worth_law               RootWorth
+--   root_pieces_law              RootPieces; RootCandidates: its candidates begin well; CandidateEnds: of any run; QuietTrivia: what is known of trivia clings; MarkupCandidates: where candidates come from; InnerCuts: the cuts of a run
+--   inner_candidate_law          InnerCandidates; MarkupCandidates: from which run a candidate comes; InnerCuts: the cuts of a block's run; CandidateEnds: where a stretch of children ends
+--   pieces_worth_law             RootPieces: at the root; InnerPieces: in a content block
 --   resume_law                   Resumed: pieces read again
+--   pieces_worth_law             RootPieces: at the root; InnerPieces: in a content block; RootCandidates: candidates at the root begin well; CandidateEnds: of any run; QuietTrivia: what is known of trivia clings; MarkupCandidates: where candidates come from; InnerCuts: the cuts of a run
+--   inner_candidate_law          InnerCandidates; MarkupCandidates: from which run a candidate comes; InnerCuts: the cuts of a block's run; CandidateEnds: where a stretch of children ends
+--   root_worth_law               RootWorth
+--   inner_worth_law              InnerWorth
+--   candidate_law                CandidateWorth: each case of the test
+--   answer_law                   AnswerTree: the answer's tree; Unique: the nodes in a candidate's place, and so the answer, are one
+--   resume_law                   Resumed: pieces read again; PiecesLog: what is logged of them; InnerPiecesLog: in a content block
 --   mode_law                     BlockModes: a block's first token, and what stands in it
 --   joints_of_texts              computed (laws); Begins: the test of looks
---   answers_of_texts, blocks_of_texts, origins_of_texts, runs_of_texts, conditions_of_texts, rare_conditions_of_texts      computed (laws)
+--   answers_of_texts, blocks_of_texts, origins_of_texts, runs_of_texts, splices_of_texts, inner_splices_of_texts, conditions_of_texts, rare_conditions_of_texts      computed (laws)
 pub mod Every
 pub mod Outcomes
 pub mod Wrap
@@ -81,12 +94,17 @@ pub mod Replaced
 pub mod BareCandidates
 pub mod CandidatePlaces
 pub mod EmptyRuns
+pub mod Sides
+pub mod Forward
+pub mod PieceAsks
+pub mod RunSplice
 pub mod EmptyBlocks
 pub mod PieceNotes
 pub mod InTurn
 pub mod NumberedNotes
 pub mod NoteNumbers
 pub mod Rising
+pub mod OpensApart
 pub mod Fronts
 pub mod Leading
 pub mod Cuts
@@ -95,7 +113,24 @@ pub mod Placed
 pub mod Walk
 pub mod BlockModes
 pub mod Resumed
+pub mod InnerSplice
+pub mod PiecesLog
+pub mod InnerPiecesLog
 pub mod RootPieces
+pub mod RootWorth
+pub mod CandidateEnds
+pub mod QuietTrivia
+pub mod MarkupCandidates
+pub mod InnerCuts
+pub mod RootCandidates
+pub mod InnerCandidates
+pub mod InnerPieces
+pub mod InnerWorth
+pub mod CandidateWorth
+pub mod AnswerTree
+pub mod Unique
+pub mod OneReading
+pub mod KeptNodes
 -- What the crates above name of those below.
 pub use Rattle.typst_grammar.proofs.AtLevels
 pub use Rattle.typst_grammar.proofs.Knowing

@@ -42,7 +42,7 @@ module _ (l : Level) (stops : SyntaxKind → Bool) where
   abbrev turn : Bool × ℕ → Meaning (Bool × (Bool × ℕ))
   turn x = run l (markup_turn true stops x)
 
-  cut-same : (n : ℕ) (x : Bool × ℕ) (z w : Place) (s : Point) → AllGo (made turn (suc n) x z s) → SameIn (asks_of (made turn (suc n) x z s)) z w
+  pub cut-same : (n : ℕ) (x : Bool × ℕ) (z w : Place) (s : Point) → AllGo (made turn (suc n) x z s) → SameIn (asks_of (made turn (suc n) x z s)) z w
       → (let e = end_of x s (made turn (suc n) x z s) in (hand_of l (moved e.taken w) e.state).kind ≡ (hand_of l (moved e.taken z) e.state).kind)
   cut-same n x z w s g same =
       let os = made turn (suc n) x z s in
@@ -54,7 +54,7 @@ module _ (l : Level) (stops : SyntaxKind → Bool) where
       ap (λ (h : Hand). h.kind) (hand-frame l.classes e.state.held e.state.known (moved e.taken z) (moved e.taken w) seen).hand
 
 -- so the expression that follows minds as before
-minds-same : (l : Level) (d e : End (Bool × ℕ)) (y v : Place) → d ≡ e → (hand_of l v e.state).kind ≡ (hand_of l y e.state).kind
+pub minds-same : (l : Level) (d e : End (Bool × ℕ)) (y v : Place) → d ≡ e → (hand_of l v e.state).kind ≡ (hand_of l y e.state).kind
     → minds (markup_head d.value.0 d.value.1 (hand_of l v d.state).kind) ≡ minds (markup_head e.value.0 e.value.1 (hand_of l y e.state).kind)
 minds-same l d e y v same kind =
     ap (λ (f : End (Bool × ℕ)). minds (markup_head f.value.0 f.value.1 (hand_of l v f.state).kind)) same ∙ ap (λ k. minds (markup_head e.value.0 e.value.1 k)) kind
@@ -69,7 +69,7 @@ text-back k i n z =
     let e = end_at k i z in
     (tidy-together (piece_at k) (λ v. (sane-at (rules k) k max_depth (markup_turn true is_end v)).backs) n e.value (moved e.taken z) e.state).back
 
-lead-empties : (k : CharClasses) (z : Place) → (lead k z).state.empties ≡ 0
+pub lead-empties : (k : CharClasses) (z : Place) → (lead k z).state.empties ≡ 0
 unfolding run
 lead-empties k z = refl
 
@@ -94,7 +94,7 @@ none-back-law k front old new rest (suc i) n m past t u h well =
     let minded = minds-same (level_at k max_depth) d e (moved e.taken z) (moved d.taken w) same (ap (λ p. (hand_of (level_at k max_depth) p e.state).kind) place ∙ kind) in
     let was = head-law k z j n h.first_go h.old_go in
     let now = head-law k w j m new_first h.new_go in
-    let mild = was.first (well some).0 (well some).1 in
+    let mild = (well some).1 in
     record { back = was.pieces_back mild; back_now = now.pieces_back (minded ∙ mild) }
 
 -- ---- a content block's run
@@ -144,7 +144,7 @@ inner-none-back-law k levels front old new rest c (suc i) n m past t u chosen h 
     let minded = minds-same l d e (first_place j r) (first_place j q) same (ap (λ p. (hand_of l p e.state).kind) place ∙ kind) in
     let was = inner-head-law k levels z s j n h.pieces.first_go h.pieces.old_go in
     let now = inner-head-law k levels w s j m new_first h.pieces.new_go in
-    let mild = was.first (well some).0 (well some).1 in
+    let mild = (well some).1 in
     record { back = was.pieces_back mild; back_now = now.pieces_back (minded ∙ mild) }
 
 -- ---- behind the pieces
@@ -157,7 +157,7 @@ none-behind-law k front old new rest i n m past t u h well =
     let was : (onwards_from k i n z).back ≡ 0 = ap back_of (onwards-is k i n z) ∙ heads.behind_back (λ over. heads.next (well over) over) in
     record { back = was; back_now = (joint-law k front old new rest i n m past t u h).behind.back ∙ was }
 
-inner-onwards-is : (k : CharClasses) (levels i n : ℕ) (c : Spot (Unit {0})) (z : Place) → onwards_in k levels i n c z ≡ onwards_by i n (run_at k levels c z)
+pub inner-onwards-is : (k : CharClasses) (levels i n : ℕ) (c : Spot (Unit {0})) (z : Place) → onwards_in k levels i n c z ≡ onwards_by i n (run_at k levels c z)
 unfolding run
 inner-onwards-is k levels i n c z =
     let r = run_at k levels c z in

@@ -112,7 +112,7 @@ module _ (l : Level) (sd : (c : Call) → Sane (l.deeper c)) (sb : (b : Block) �
   place_behind x s os = let e = end_of x s os in e.taken + gap_of e.state.known
 
   -- a piece takes more than the trivia before it
-  takes-more : (x : Bool × ℕ) (z : Place) (s : Point) → KnownAt s → (turn x z s).value.0 ≡ true → gap_of s.known < (turn x z s).taken
+  pub takes-more : (x : Bool × ℕ) (z : Place) (s : Point) → KnownAt s → (turn x z s).value.0 ≡ true → gap_of s.known < (turn x z s).taken
   takes-more x z s known g =
       let t = known.trivia in
       subst (λ p. (turn x z p).value.0 ≡ true → gap_of p.known < (turn x z p).taken) (sym (known-is l.classes s t known.is))
@@ -140,7 +140,7 @@ module _ (k : CharClasses) (z : Place) (i : ℕ) where
   abbrev text_end : End (Bool × ℕ)
   text_end = first_end i (text_run k z)
 
-  text-reached : Reached k (moved text_end.taken z) text_end.state
+  pub text-reached : Reached k (moved text_end.taken z) text_end.state
   unfolding run
   text-reached =
       let l = level_at k max_depth in
@@ -169,7 +169,7 @@ module _ (k : CharClasses) (levels : ℕ) (z : Place) (s : Point) (i : ℕ) wher
   deep : (suc levels == 0) ≡ false
   deep = ne_eqb (suc levels) 0 (omega arith)
 
-  block-reached : Reached k (moved block_end.taken block_run.place) block_end.state
+  pub block-reached : Reached k (moved block_end.taken block_run.place) block_end.state
   unfolding run
   block-reached =
       let l = inner k levels in

@@ -1,5 +1,5 @@
--- Marks don't go back, and lie within what is taken.
-use Rattle.std.proofs.Common.{◌≡◌, ℕ, zero, suc, ◌+◌, ◌-◌, ◌≤◌, max, min, Bool, ◌&&◌, nat_lt, List, [], ◌∷◌, ◌++◌, length, take, append_assoc, append-nil, Option, Some, None, refl, ap, sym, ◌∙◌, subst, arith}
+-- Marks don't go back, lie within what is taken, and behind one where a block begins the next lies further.
+use Rattle.std.proofs.Common.{◌≡◌, ℕ, zero, suc, ◌+◌, ◌-◌, ◌≤◌, Bool, true, false, ◌&&◌, nat_lt, List, [], ◌∷◌, ◌++◌, length, take, append_assoc, append-nil, Option, Some, None, refl, ap, sym, ◌∙◌, subst, arith}
 use Rattle.typst_lines.specs.Place.{Place, moved}
 use Rattle.typst_lines.specs.Classes.{CharClasses}
 use Rattle.typst_tokens.specs.Sight.{width, position, hull_of}
@@ -8,222 +8,336 @@ use Rattle.typst_language.specs.declared.calls.Call.{Call}
 use Rattle.typst_language.specs.declared.calls.Mark.{Mark}
 use Rattle.typst_language.specs.declared.calls.Mark.TheVariants as mark
 use Rattle.typst_language.specs.declared.calls.Note.{Note}
+use Rattle.typst_language.specs.declared.reading.Reading.{Reading}
+use Rattle.typst_language.specs.declared.reading.State.{State}
 use Rattle.typst_language.specs.Ask.{Ask, shift, sunk, only_looks}
 use Rattle.typst_language.specs.Ask.Ask.{looked, marked}
-use Rattle.typst_language.specs.Knot.{Rules, meaning_of, level_of, blocks_of}
+use Rattle.typst_language.specs.Knot.{meaning_of, level_of, blocks_of}
 use Rattle.typst_language.specs.Log.{Log, no_log, with_hull, with_note, logged}
-use Rattle.typst_language.specs.Point.{Point, forgot}
+use Rattle.typst_language.specs.Point.{Point, forgot, state_of, Trivia, gap_of}
 use Rattle.typst_language.specs.Shape.{Shape}
-use Rattle.typst_language.specs.Steps.{peek}
-use Rattle.typst_language.specs.Syntax.{Op, Begin, Parser, ◌>>◌}
+use Rattle.typst_language.specs.Steps.{peek, node, eat, eat_making}
+use Rattle.typst_language.specs.Syntax.{Op, Begin, Parser, ◌>>◌, ◌>>=◌}
 use Rattle.typst_language.specs.Syntax.Op.{hand, so, further, column, erred, takes, takes_so, flushes, complains, advises, marks, is_deepest}
 use Rattle.typst_language.specs.Syntax.Parser.{gives, does, next, pick, repeat, wraps, grows, nests, scoped, either, calls, block}
-use Rattle.typst_language.specs.Meaning.{Outcome, Meaning, Level, plain, joined, answered, turns, as_last, bound, repeated, before, grown, is_more, growths, growing, nestings, nesting, given_up, bounded, blockless, entered, hand_asks_of, start_point, done, run}
+use Rattle.typst_language.specs.Meaning.{wrapped, Outcome, Meaning, Level, plain, joined, answered, turns, as_last, bound, repeated, before, grown, is_more, growths, growing, nestings, nesting, given_up, bounded, blockless, entered, hand_asks_of, start_point, done, run, hand_of, asked}
 use Rattle.typst_language.proofs.Places.{ahead-left, moved-sum}
-use Rattle.typst_language.proofs.Within.{on_both, grew}
-use Rattle.typst_grammar.specs.Grammar.{rules, max_depth, start_of, whole, parsed, log}
-use Rattle.typst_grammar.specs.Markup.{markup_reading}
+use Rattle.typst_language.proofs.Within.{on_both, on_if, grew}
+use Rattle.typst_grammar.specs.Grammar.{rules, production, max_depth, start_of, whole, parsed, log, block_production}
+use Rattle.typst_grammar.specs.Markup.{markup_reading, content_block}
 use Rattle.typst_edits.specs.PieceNotes.{listed}
 use Rattle.typst_edits.specs.Rising.{Rising, RisingLaw}
+use Rattle.std.specs.Prelude.{not, ◌<◌}
+use Rattle.typst_lines.proofs.LineTable.{width-positive}
+use Rattle.typst_language.specs.declared.calls.Block.TheVariants as block
+use Rattle.typst_language.specs.Depth.{is_end}
+use Rattle.typst_language.specs.Hand.{Hand, Ahead, token_at, len_at, at_trivia, ahead_by, ahead, hand_at}
+use Rattle.typst_language.specs.Shape.Making.{itself}
+use Rattle.typst_language.proofs.Ends.{hand-takes, hand-again, token-ends, token-takes}
+use Rattle.typst_language.proofs.Knot.{Sane, sane-run, sane-at, sane-meaning, sane-block, sane-plain}
+use Rattle.typst_grammar.specs.Sequences.{code_block, code_reading}
+use Rattle.typst_grammar.proofs.Guarded.{sees, Guarded, guarded-inside-content}
+use Rattle.typst_grammar.proofs.GuardedCode.{guarded-production, guarded-whole, guarded-inside-code}
+use Rattle.std.proofs.lemmas.Bool.Decides.{nat_tests}
+use Rattle.typst_kinds.specs.Kinds.{is_trivia}
+use Rattle.typst_kinds.specs.declared.mode.SyntaxMode.{SyntaxMode}
+use Rattle.typst_grammar.proofs.Fine.{and-right}
+use Rattle.typst_language.specs.Syntax.Begin.{at_token}
+use Rattle.typst_edits.specs.Lost.{is_opening}
 use Rattle.typst_edits.proofs.Bytes.{noted-more}
-use Rattle.typst_edits.proofs.Marks.{AllMarks, none-hand}
+use Rattle.typst_edits.proofs.Marks.{AllMarks, none-hand, marks-append, marks-shift}
 use Rattle.typst_edits.proofs.Widths.{width-moved, width-none}
 
 -- ---- marks in a list of asks
 
--- how far on the next mark may stand behind one, where this is how much each mark takes of what there is
-abbrev pub next_at : (Mark → ℕ) → Place → ℕ → Mark → ℕ
-next_at c z at m = max at (min (at + c m) (length z.ahead))
+-- how much is taken at least behind a mark before the next one
+abbrev pub taken_behind : Mark → ℕ
+taken_behind (mark.Opens b) = 1
+taken_behind _ = 0
 
--- the marks stand in order, from one place up to another
-abbrev pub Rise : (Mark → ℕ) → Place → ℕ → ℕ → List Ask → Type 0
-Rise c z lo hi [] = lo ≤ hi
-Rise c z lo hi (looked at look ∷ asks) = Rise c z lo hi asks
-Rise c z lo hi (marked at gap fewer m s ∷ asks) = (lo ≤ at) × Rise c z (next_at c z at m) hi asks
+-- the marks stand in order, from one place up to another, and a block begins directly at its token
+abbrev pub Rise : ℕ → ℕ → List Ask → Type 0
+Rise lo hi [] = lo ≤ hi
+Rise lo hi (looked at look ∷ asks) = Rise lo hi asks
+Rise lo hi (marked at gap fewer m s ∷ asks) = (lo ≤ at) × (is_opening m ≡ true → gap ≡ 0) × Rise (at + taken_behind m) hi asks
 
-module _ (c : Mark → ℕ) where
-  pub rise-low : (z : Place) (a b hi : ℕ) (ls : List Ask) → a ≤ b → Rise c z b hi ls → Rise c z a hi ls
-  rise-low z a b hi [] e h = omega (arith, e, h)
-  rise-low z a b hi (looked at look ∷ ls) e h = rise-low z a b hi ls e h
-  rise-low z a b hi (marked at gap fewer m s ∷ ls) e h = (omega (arith, e, h.0), h.1)
+rise-low : (a b hi : ℕ) (ls : List Ask) → a ≤ b → Rise b hi ls → Rise a hi ls
+rise-low a b hi [] e h = omega (arith, e, h)
+rise-low a b hi (looked at look ∷ ls) e h = rise-low a b hi ls e h
+rise-low a b hi (marked at gap fewer m s ∷ ls) e h = (let low = h.0 in omega (arith, e, low), h.1, h.2)
 
-  pub rise-append : (z : Place) (lo mid hi : ℕ) (ls ks : List Ask) → Rise c z lo mid ls → Rise c z mid hi ks → Rise c z lo hi (ls ++ ks)
-  rise-append z lo mid hi [] ks h i = rise-low z lo mid hi ks h i
-  rise-append z lo mid hi (looked at look ∷ ls) ks h i = rise-append z lo mid hi ls ks h i
-  rise-append z lo mid hi (marked at gap fewer m s ∷ ls) ks h i = (h.0, rise-append z (next_at c z at m) mid hi ls ks h.1 i)
+rise-ends : (lo hi : ℕ) (ls : List Ask) → Rise lo hi ls → lo ≤ hi
+rise-ends lo hi [] h = h
+rise-ends lo hi (looked at look ∷ ls) h = rise-ends lo hi ls h
+rise-ends lo hi (marked at gap fewer m s ∷ ls) h = let low = h.0 in let i = rise-ends (at + taken_behind m) hi ls h.2 in omega (arith, low, i)
 
-  -- counted from so many characters before
-  pub rise-shift : (d : ℕ) (z : Place) (lo hi : ℕ) (ls : List Ask) → Rise c (moved d z) lo hi ls → Rise c z (d + lo) (d + hi) (shift d ls)
-  rise-shift d z lo hi [] h = omega (arith, h)
-  rise-shift d z lo hi (looked at look ∷ ls) h = rise-shift d z lo hi ls h
-  rise-shift d z lo hi (marked at gap fewer m s ∷ ls) h =
-      let left = ahead-left d z in
-      (omega (arith, h.0), rise-low z (next_at c z (d + at) m) (d + next_at c (moved d z) at m) (d + hi) (shift d ls) (omega (arith, left)) (rise-shift d z (next_at c (moved d z) at m) hi ls h.1))
+rise-append : (lo mid hi : ℕ) (ls ks : List Ask) → Rise lo mid ls → Rise mid hi ks → Rise lo hi (ls ++ ks)
+rise-append lo mid hi [] ks h i = rise-low lo mid hi ks h i
+rise-append lo mid hi (looked at look ∷ ls) ks h i = rise-append lo mid hi ls ks h i
+rise-append lo mid hi (marked at gap fewer m s ∷ ls) ks h i = (h.0, h.1, rise-append (at + taken_behind m) mid hi ls ks h.2 i)
 
-  pub rise-sunk : (z : Place) (lo hi : ℕ) (ls : List Ask) → Rise c z lo hi ls → Rise c z lo hi (sunk ls)
-  rise-sunk z lo hi [] h = h
-  rise-sunk z lo hi (looked at look ∷ ls) h = rise-sunk z lo hi ls h
-  rise-sunk z lo hi (marked at gap fewer m s ∷ ls) h = (h.0, rise-sunk z (next_at c z at m) hi ls h.1)
+-- counted from so many characters before
+rise-shift : (d lo hi : ℕ) (ls : List Ask) → Rise lo hi ls → Rise (d + lo) (d + hi) (shift d ls)
+rise-shift d lo hi [] h = omega (arith, h)
+rise-shift d lo hi (looked at look ∷ ls) h = rise-shift d lo hi ls h
+rise-shift d lo hi (marked at gap fewer m s ∷ ls) h = (
+  let low = h.0 in omega (arith, low),
+  h.1,
+  rise-low (d + at + taken_behind m) (d + (at + taken_behind m)) (d + hi) (shift d ls) (omega arith) (rise-shift d (at + taken_behind m) hi ls h.2),
+)
 
-  -- no marks at all
-  rise-looks : (z : Place) (lo hi : ℕ) (ls : List Ask) → lo ≤ hi → Rise c z lo hi (only_looks ls)
-  rise-looks z lo hi [] h = h
-  rise-looks z lo hi (looked at look ∷ ls) h = rise-looks z lo hi ls h
-  rise-looks z lo hi (marked at gap fewer m s ∷ ls) h = rise-looks z lo hi ls h
+rise-sunk : (lo hi : ℕ) (ls : List Ask) → Rise lo hi ls → Rise lo hi (sunk ls)
+rise-sunk lo hi [] h = h
+rise-sunk lo hi (looked at look ∷ ls) h = rise-sunk lo hi ls h
+rise-sunk lo hi (marked at gap fewer m s ∷ ls) h = (h.0, h.1, rise-sunk (at + taken_behind m) hi ls h.2)
 
-  pub rise-none : (z : Place) (lo hi : ℕ) (ls : List Ask) → lo ≤ hi → AllMarks (λ at fewer m s. ⊥) ls → Rise c z lo hi ls
-  rise-none z lo hi [] h none = h
-  rise-none z lo hi (looked at look ∷ ls) h none = rise-none z lo hi ls h none
-  rise-none z lo hi (marked at gap fewer m s ∷ ls) h none = absurd none.0
+-- no marks at all
+rise-looks : (lo hi : ℕ) (ls : List Ask) → lo ≤ hi → Rise lo hi (only_looks ls)
+rise-looks lo hi [] h = h
+rise-looks lo hi (looked at look ∷ ls) h = rise-looks lo hi ls h
+rise-looks lo hi (marked at gap fewer m s ∷ ls) h = rise-looks lo hi ls h
 
-  -- ---- whatever the language can say
+abbrev Unmarked : List Ask → Type 0
+Unmarked asks = AllMarks (λ at fewer m s. ⊥) asks
 
-  -- what is noted stands in order, within what is taken
-  abbrev pub Rises : {A : Type 0} → Meaning A → Type 0
-  Rises m = (z : Place) (s : Point) → Rise c z 0 (m z s).taken (m z s).asks
+rise-behind : (lo hi : ℕ) (ls ks : List Ask) → Unmarked ls → Rise lo hi ks → Rise lo hi (ls ++ ks)
+rise-behind lo hi [] ks none h = h
+rise-behind lo hi (looked at look ∷ ls) ks none h = rise-behind lo hi ls ks none h
+rise-behind lo hi (marked at gap fewer m s ∷ ls) ks none h = absurd none.0
 
-  pub rise-joined : {A B : Type 0} (z : Place) (lo : ℕ) (o : Outcome B) (p : Outcome A) → Rise c z lo o.taken o.asks → Rise c (moved o.taken z) 0 p.taken p.asks → Rise c z lo (joined o p).taken (joined o p).asks
-  rise-joined z lo o p h k = rise-append z lo o.taken (o.taken + p.taken) o.asks _ h (rise-low z o.taken (o.taken + 0) (o.taken + p.taken) (shift o.taken p.asks) (omega arith) (rise-shift o.taken z 0 p.taken p.asks k))
+unmarked-shift : (d : ℕ) (ls : List Ask) → Unmarked ls → Unmarked (shift d ls)
+unmarked-shift d ls h = marks-shift (λ at fewer m s. ⊥) d ls h
 
-  rises-turns : {A : Type 0} (m : A → Meaning (Bool × A)) → ((x : A) → Rises (m x)) → (n : ℕ) (x : A) → Rises (turns m n x)
-  rises-turns m h zero x z s = omega arith
-  rises-turns m h (suc n) x z s =
-      let o = m x z s in
-      let p = turns m n o.value.1 (moved o.taken z) o.state in
-      on_both (λ u. Rise c z 0 u.taken u.asks) (o.value.0 && nat_lt 0 o.taken) (joined o p) (as_last o) (rise-joined z 0 o p (h x z s) (rises-turns m h n o.value.1 (moved o.taken z) o.state)) (h x z s)
+rise-none : (lo hi : ℕ) (ls : List Ask) → lo ≤ hi → Unmarked ls → Rise lo hi ls
+rise-none lo hi [] h none = h
+rise-none lo hi (looked at look ∷ ls) h none = rise-none lo hi ls h none
+rise-none lo hi (marked at gap fewer m s ∷ ls) h none = absurd none.0
 
-  rise-grown : {A : Type 0} (z : Place) (i : ℕ) (shape : Option Shape) (o : Outcome A) → Rise c z 0 o.taken o.asks → (let g = grown i shape o in Rise c z 0 g.taken g.asks)
-  rise-grown z i None o h = h
-  rise-grown z i (Some shape) o h = h
+-- ---- whatever the language can say
 
-  rise-growths : {A : Type 0} (m : A → Meaning (Option Shape × A)) → ((x : A) → Rises (m x)) → (n i : ℕ) (o : Outcome A) (z : Place) → Rise c z 0 o.taken o.asks → (let g = growths m n i o z in Rise c z 0 g.taken g.asks)
-  rise-growths m h n zero o z k = k
-  rise-growths m h n (suc i) o z k =
-      let p = m o.value (moved o.taken z) o.state in
-      let all = rise-grown z n p.value.0 (answered p.value.1 (joined o p)) (rise-joined z 0 o p k (h o.value (moved o.taken z) o.state)) in
-      on_both (λ u. Rise c z 0 u.taken u.asks) (is_more p.value.0 && nat_lt 0 p.taken) (growths m n i (grew n o p) z) (grew n o p) (rise-growths m h n i (grew n o p) z all) all
+-- what is noted stands in order, within what is taken
+abbrev Rises : {A : Type 0} → Meaning A → Type 0
+Rises m = (z : Place) (s : Point) → Rise 0 (m z s).taken (m z s).asks
 
-  rises-nestings : {A : Type 0} (f : A → Shape) (begin : Begin) (m : A → Meaning (Bool × A)) → ((x : A) → Rises (m x)) → (n : ℕ) (x : A) → Rises (nestings f begin m n x)
-  rises-nestings f begin m h zero x z s = omega arith
-  rises-nestings f begin m h (suc n) x z s =
-      let o = m x z s in
-      let p = nestings f begin m n o.value.1 (moved o.taken z) o.state in
-      on_both (λ u. Rise c z 0 u.taken u.asks) (o.value.0 && nat_lt 0 o.taken) (joined o p) (as_last o) (rise-joined z 0 o p (h x z s) (rises-nestings f begin m h n o.value.1 (moved o.taken z) o.state)) (h x z s)
+-- the first of it stands so far on
+abbrev RiseFrom : {A : Type 0} → ℕ → Outcome A → Type 0
+RiseFrom lo o = Rise lo o.taken o.asks
 
-  -- it notes nothing by itself that takes something
-  abbrev pub Quiet : {A : Type 0} → Parser A → Type 0
-  Quiet (gives a) = Unit {0}
-  Quiet (does o) = quiet_op o
+rise-joined : {A B : Type 0} (lo : ℕ) (o : Outcome B) (p : Outcome A) → RiseFrom lo o → RiseFrom 0 p → RiseFrom lo (joined o p)
+rise-joined lo o p h k = rise-append lo o.taken (o.taken + p.taken) o.asks _ h (rise-low o.taken (o.taken + 0) (o.taken + p.taken) (shift o.taken p.asks) (omega arith) (rise-shift o.taken 0 p.taken p.asks k))
+
+-- behind what notes nothing
+rise-after : {A B : Type 0} (lo : ℕ) (o : Outcome B) (p : Outcome A) → Unmarked o.asks → RiseFrom lo p → RiseFrom (o.taken + lo) (joined o p)
+rise-after lo o p none k = rise-behind (o.taken + lo) (o.taken + p.taken) o.asks (shift o.taken p.asks) none (rise-shift o.taken lo p.taken p.asks k)
+
+unmarked-joined : {A B : Type 0} (o : Outcome B) (p : Outcome A) → Unmarked o.asks → Unmarked p.asks → Unmarked (joined o p).asks
+unmarked-joined o p h k = marks-append (λ at fewer m s. ⊥) o.asks (shift o.taken p.asks) h (unmarked-shift o.taken p.asks k)
+
+rises-turns : {A : Type 0} (m : A → Meaning (Bool × A)) → ((x : A) → Rises (m x)) → (n : ℕ) (x : A) → Rises (turns m n x)
+rises-turns m h zero x z s = omega arith
+rises-turns m h (suc n) x z s =
+    let o = m x z s in
+    let p = turns m n o.value.1 (moved o.taken z) o.state in
+    on_both (RiseFrom 0) (o.value.0 && nat_lt 0 o.taken) (joined o p) (as_last o) (rise-joined 0 o p (h x z s) (rises-turns m h n o.value.1 (moved o.taken z) o.state)) (h x z s)
+
+rise-grown : {A : Type 0} (i : ℕ) (shape : Option Shape) (o : Outcome A) → RiseFrom 0 o → RiseFrom 0 (grown i shape o)
+rise-grown i None o h = h
+rise-grown i (Some shape) o h = h
+
+rise-growths : {A : Type 0} (m : A → Meaning (Option Shape × A)) → ((x : A) → Rises (m x)) → (n i : ℕ) (o : Outcome A) (z : Place) → RiseFrom 0 o → RiseFrom 0 (growths m n i o z)
+rise-growths m h n zero o z k = k
+rise-growths m h n (suc i) o z k =
+    let p = m o.value (moved o.taken z) o.state in
+    let all = rise-grown n p.value.0 (answered p.value.1 (joined o p)) (rise-joined 0 o p k (h o.value (moved o.taken z) o.state)) in
+    on_both (RiseFrom 0) (is_more p.value.0 && nat_lt 0 p.taken) (growths m n i (grew n o p) z) (grew n o p) (rise-growths m h n i (grew n o p) z all) all
+
+rises-nestings : {A : Type 0} (f : A → Shape) (begin : Begin) (m : A → Meaning (Bool × A)) → ((x : A) → Rises (m x)) → (n : ℕ) (x : A) → Rises (nestings f begin m n x)
+rises-nestings f begin m h zero x z s = omega arith
+rises-nestings f begin m h (suc n) x z s =
+    let o = m x z s in
+    let p = nestings f begin m n o.value.1 (moved o.taken z) o.state in
+    on_both (RiseFrom 0) (o.value.0 && nat_lt 0 o.taken) (joined o p) (as_last o) (rise-joined 0 o p (h x z s) (rises-nestings f begin m h n o.value.1 (moved o.taken z) o.state)) (h x z s)
+
+-- ---- where a token is at hand
+
+-- behind the trivia at hand stands a character
+abbrev There : Level → Place → Point → Type 0
+There l z s = 0 < length (moved (hand_of l z s).gap z).ahead
+
+-- the marks that productions make by themselves
+abbrev pub pieces : Mark → Bool
+pieces (mark.Piece line brackets) = true
+pieces _ = false
+
+rise-mark : (m : Mark) (gap : ℕ) (s : State) → pieces m ≡ true → Rise 0 0 (marked 0 gap 0 m s ∷ [])
+rise-mark (mark.Piece line brackets) gap s h = (omega arith, λ e. absurd (cc), omega arith)
+rise-mark (mark.Opens b) gap s h = absurd (cc)
+rise-mark mark.Closes gap s h = absurd (cc)
+
+module _ (l : Level) (d : (call : Call) → Sane (l.deeper call)) (e : (b : Block) → Sane (l.blocks b)) where
+  there-by : (z : Place) (s : Point) (known : Option Trivia) → s.known ≡ known → is_end (hand_of l z s).kind ≡ false → There l z s
+  unfolding run hand_at
+  there-by z s None same h =
+      let some = hand-takes l.classes s.held s.known z h in
+      let fits = (sane-run l d e (does (takes false itself))).within z s in
+      let left = ahead-left (hand_of l z s).gap z in
+      let known = ap gap_of same in
+      omega (arith, some, fits, left, known)
+  there-by z s (Some t) same h =
+      let some = hand-takes l.classes s.held s.known z h in
+      let fits = (sane-run l d e (does (takes false itself))).within z s in
+      let left = ahead-left (hand_of l z s).gap z in
+      let known = ap gap_of same in
+      let gap : (hand_of l z s).gap ≡ t.gap = ap (λ k. (hand_at l.classes s.held k z).gap) same in
+      omega (arith, some, fits, left, known, gap)
+
+  -- where a parser saw that a token is at hand there is one
+  sees-there : {A : Type 0} (p : Parser A) (z : Place) (s : Point) → (let o = run l p z s in sees p o.value ≡ true → There l (moved o.taken z) o.state)
+  unfolding run
+  sees-there (does hand) z s h =
+      let here = there-by z s s.known refl (not-true (is_end (hand_of l z s).kind) h) in
+      subst (λ (x : Hand). 0 < length (moved x.gap z).ahead) (sym (hand-again l.classes s.held s.known z)) here
     where
-      quiet_op : {A : Type 0} → Op A → Type 0
-      quiet_op (marks m) = c m ≡ 0
-      quiet_op _ = Unit {0}
-  Quiet (next p f) = Quiet p × ((b : _) → Quiet (f b))
-  Quiet (pick b p q) = Quiet p × Quiet q
-  Quiet (repeat p x) = (y : _) → Quiet (p y)
-  Quiet (wraps f begin p) = Quiet p
-  Quiet (grows begin p f) = Quiet p × ((x : _) → Quiet (f x))
-  Quiet (nests f begin p x) = (y : _) → Quiet (p y)
-  Quiet (scoped f p) = Quiet p
-  Quiet (either p is_wrong q) = Quiet p × Quiet q
-  Quiet (calls call) = Unit {0}
-  Quiet (block b) = Unit {0}
+      not-true : (b : Bool) → not b ≡ true → b ≡ false
+      not-true true h = absurd (cc)
+      not-true false h = refl
+  sees-there _ z s h = absurd (cc)
 
-  module _ (l : Level) (i : (call : Call) → Rises (l.deeper call)) (shut : c mark.Closes ≡ 0)
-      (j : (b : Block) (z : Place) (s : Point) → Rise c z (next_at c z 0 (mark.Opens b)) (l.blocks b z s).taken (l.blocks b z s).asks) where
-    rise-hand : (z : Place) (s : Point) (hi : ℕ) → Rise c z 0 hi (hand_asks_of l z s)
-    rise-hand z s hi = rise-none z 0 hi (hand_asks_of l z s) (omega arith) (none-hand (λ at fewer m t. ⊥) l.classes s.held s.known z)
+  unmarked-hand : (z : Place) (s : Point) → Unmarked (hand_asks_of l z s)
+  unmarked-hand z s = none-hand (λ at fewer m t. ⊥) l.classes s.held s.known z
 
-    rise-more : (z : Place) (s : Point) (hi at : ℕ) (look : _) → Rise c z 0 hi (hand_asks_of l z s ++ looked at look ∷ [])
-    rise-more z s hi at look = rise-append z 0 hi hi (hand_asks_of l z s) (looked at look ∷ []) (rise-hand z s hi) (omega arith)
+  rise-hand : (z : Place) (s : Point) (hi : ℕ) → Rise 0 hi (hand_asks_of l z s)
+  rise-hand z s hi = rise-none 0 hi (hand_asks_of l z s) (omega arith) (unmarked-hand z s)
 
-    rise-done : {A : Type 0} (o : Op A) → Quiet (does o) → Rises (done l o)
-    rise-done hand q z s = rise-hand z s 0
-    rise-done (so way) q z s = rise-more z s 0 _ _
-    rise-done further q z s = rise-more z s 0 _ _
-    rise-done column q z s = rise-more z s 0 _ _
-    rise-done erred q z s = omega arith
-    rise-done (takes trims making) q z s = rise-hand z s _
-    rise-done (takes_so way making) q z s = rise-more z s _ _ _
-    rise-done flushes q z s = rise-hand z s _
-    rise-done (complains message) q z s = omega arith
-    rise-done (advises hint) q z s = omega arith
-    rise-done (marks m) q z s = (omega arith, omega (arith, q))
-    rise-done is_deepest q z s = omega arith
+  rise-more : (z : Place) (s : Point) (hi at : ℕ) (look : _) → Rise 0 hi (hand_asks_of l z s ++ looked at look ∷ [])
+  rise-more z s hi at look = rise-append 0 hi hi (hand_asks_of l z s) (looked at look ∷ []) (rise-hand z s hi) (omega arith)
 
-    rise-bounded : (b : Block) → Rises (bounded b (l.blocks b))
-    rise-bounded b z s =
+  module _ (i : (call : Call) → Rises (l.deeper call)) (j : (b : Block) → l.has b ≡ true → (z : Place) (s : Point) → 0 < length z.ahead → RiseFrom 1 (l.blocks b z (forgot s))) where
+    rise-done : {A : Type 0} (seen : Bool) (o : Op A) → Guarded pieces seen (does o) → Rises (done l o)
+    rise-done seen hand q z s = rise-hand z s 0
+    rise-done seen (so way) q z s = rise-more z s 0 _ _
+    rise-done seen further q z s = rise-more z s 0 _ _
+    rise-done seen column q z s = rise-more z s 0 _ _
+    rise-done seen erred q z s = omega arith
+    rise-done seen (takes trims making) q z s = rise-hand z s _
+    rise-done seen (takes_so way making) q z s = rise-more z s _ _ _
+    rise-done seen flushes q z s = rise-hand z s _
+    rise-done seen (complains message) q z s = omega arith
+    rise-done seen (advises hint) q z s = omega arith
+    rise-done seen (marks m) q z s = rise-mark m (gap_of s.known) (state_of s) q
+    rise-done seen is_deepest q z s = omega arith
+
+    rise-bounded : (b : Block) → l.has b ≡ true → (z : Place) (s : Point) → 0 < length z.ahead → RiseFrom 0 (bounded b (l.blocks b) z s)
+    rise-bounded b has z s some =
         let o = l.blocks b z (forgot s) in
-        (omega arith, rise-append z (next_at c z 0 (mark.Opens b)) o.taken o.taken o.asks _ (j b z (forgot s)) (omega arith, omega (arith, shut)))
+        (omega arith, λ _. refl, rise-append 1 o.taken o.taken o.asks _ (j b has z s some) (omega arith, λ _. refl, omega arith))
 
-    pub rise-run : {A : Type 0} (p : Parser A) → Quiet p → Rises (run l p)
+    rise-run : {A : Type 0} (seen : Bool) (p : Parser A) → Guarded pieces seen p → (z : Place) (s : Point) → (seen ≡ true → There l z s) → RiseFrom 0 (run l p z s)
     unfolding run repeated growing nesting
-    rise-run (gives a) q z s = omega arith
-    rise-run (does o) q z s = rise-done o q z s
-    rise-run (next p f) q z s =
+    rise-run seen (gives a) q z s t = omega arith
+    rise-run seen (does o) q z s t = rise-done seen o q z s
+    rise-run seen (next p f) q z s t =
         let o = run l p z s in
-        rise-joined z 0 o (run l (f o.value) (moved o.taken z) o.state) (rise-run p q.0 z s) (rise-run (f o.value) (q.1 o.value) (moved o.taken z) o.state)
-    rise-run (pick b p r) q z s = on_both (λ o. Rise c z 0 o.taken o.asks) b (run l p z s) (run l r z s) (rise-run p q.0 z s) (rise-run r q.1 z s)
-    rise-run (repeat p x) q z s = rises-turns (λ y. run l (p y)) (λ y. rise-run (p y) (q y)) (suc (bound z s)) x z s
-    rise-run (wraps f begin p) q z s = rise-run p q z s
-    rise-run (grows begin p f) q z s = rise-growths (λ y. run l (f y)) (λ y. rise-run (f y) (q.1 y)) (before begin s) (suc (bound z s)) (run l p z s) z (rise-run p q.0 z s)
-    rise-run (nests f begin p x) q z s = rises-nestings f begin (λ y. run l (p y)) (λ y. rise-run (p y) (q y)) (suc (bound z s)) x z s
-    rise-run (scoped f p) q z s = rise-run p q z (entered (f s.reading) s)
-    rise-run (either p is_wrong r) q z s =
+        rise-joined 0 o (run l (f o.value) (moved o.taken z) o.state) (rise-run seen p q.0 z s t) (rise-run (sees p o.value) (f o.value) (q.1 o.value) (moved o.taken z) o.state (sees-there p z s))
+    rise-run seen (pick true p r) q z s t = rise-run seen p (q.0 refl) z s t
+    rise-run seen (pick false p r) q z s t = rise-run seen r (q.1 refl) z s t
+    rise-run seen (repeat p x) q z s t = rises-turns (λ y. run l (p y)) (λ y z s. rise-run false (p y) (q y) z s (λ e. absurd (cc))) (suc (bound z s)) x z s
+    rise-run seen (wraps f begin p) q z s t = rise-run false p q z s (λ e. absurd (cc))
+    rise-run seen (grows begin p f) q z s t = rise-growths (λ y. run l (f y)) (λ y z s. rise-run false (f y) (q.1 y) z s (λ e. absurd (cc))) (before begin s) (suc (bound z s)) (run l p z s) z (rise-run false p q.0 z s (λ e. absurd (cc)))
+    rise-run seen (nests f begin p x) q z s t = rises-nestings f begin (λ y. run l (p y)) (λ y z s. rise-run false (p y) (q y) z s (λ e. absurd (cc))) (suc (bound z s)) x z s
+    rise-run seen (scoped f p) q z s t = rise-run false p q z (entered (f s.reading) s) (λ e. absurd (cc))
+    rise-run seen (either p is_wrong r) q z s t =
         let o = run l p z s in
         let u = run l r z s in
-        on_both (λ v. Rise c z 0 v.taken v.asks) (is_wrong o.value) (given_up o u) o (rise-looks z 0 u.taken (o.asks ++ u.asks) (omega arith)) (rise-run p q.0 z s)
-    rise-run (calls call) q z s = rise-sunk z 0 (l.deeper call z s).taken (l.deeper call z s).asks (i call z s)
-    rise-run (block b) q z s =
+        on_both (RiseFrom 0) (is_wrong o.value) (given_up o u) o (rise-looks 0 u.taken (o.asks ++ u.asks) (omega arith)) (rise-run false p q.0 z s (λ e. absurd (cc)))
+    rise-run seen (calls call) q z s t = rise-sunk 0 (l.deeper call z s).taken (l.deeper call z s).asks (i call z s)
+    rise-run seen (block b) q z s t =
         let o = done l flushes z s in
         let p = bounded b (l.blocks b) (moved o.taken z) o.state in
-        on_both (λ u. Rise c z 0 u.taken u.asks) (l.has b) (joined o p) (plain tt s) (rise-joined z 0 o p (rise-hand z s o.taken) (rise-bounded b (moved o.taken z) o.state)) (omega arith)
+        on_if (RiseFrom 0) (l.has b) (joined o p) (plain tt s) (λ has. rise-joined 0 o p (rise-hand z s o.taken) (rise-bounded b has (moved o.taken z) o.state (t q))) (λ _. omega arith)
 
--- ---- where no mark takes anything
+    rises : {A : Type 0} (p : Parser A) → Guarded pieces false p → Rises (run l p)
+    rises p q z s = rise-run false p q z s (λ e. absurd (cc))
 
-abbrev nothing : Mark → ℕ
-nothing m = 0
+    -- what a block reads begins with its token
+    module _ (f : Bool → Shape) (r : Reading) (p : Parser (Unit {0})) (q : Parser Bool) (takes_hand : (z : Place) (s : Point) → (let o = run l p z s in Unmarked o.asks × ((hand_of l z s).gap + (hand_of l z s).len ≤ o.taken))) (rest : Guarded pieces false q) where
+      first-stands : (z : Place) (s : Point) → 0 < (hand_of l z s).gap + (hand_of l z s).len → RiseFrom 1 (run l (next p (λ _. q)) z s)
+      unfolding run
+      first-stands z s some =
+          let o = run l p z s in
+          let t = takes_hand z s in
+          let u = joined o (run l q (moved o.taken z) o.state) in
+          let long = t.1 in
+          rise-low 1 (o.taken + 0) u.taken u.asks (omega (arith, some, long)) (rise-after 0 o (run l q (moved o.taken z) o.state) t.0 (rises q rest (moved o.taken z) o.state))
 
-quiet-all : {A : Type 0} (p : Parser A) → Quiet nothing p
-quiet-all (gives a) = tt
-quiet-all (does (marks m)) = refl
-quiet-all (does hand) = tt
-quiet-all (does (so way)) = tt
-quiet-all (does further) = tt
-quiet-all (does column) = tt
-quiet-all (does erred) = tt
-quiet-all (does (takes trims making)) = tt
-quiet-all (does (takes_so way making)) = tt
-quiet-all (does flushes) = tt
-quiet-all (does (complains message)) = tt
-quiet-all (does (advises hint)) = tt
-quiet-all (does is_deepest) = tt
-quiet-all (next p f) = (quiet-all p, λ b. quiet-all (f b))
-quiet-all (pick b p r) = (quiet-all p, quiet-all r)
-quiet-all (repeat p x) = λ y. quiet-all (p y)
-quiet-all (wraps f begin p) = quiet-all p
-quiet-all (grows begin p f) = (quiet-all p, λ x. quiet-all (f x))
-quiet-all (nests f begin p x) = λ y. quiet-all (p y)
-quiet-all (scoped f p) = quiet-all p
-quiet-all (either p is_wrong r) = (quiet-all p, quiet-all r)
-quiet-all (calls call) = tt
-quiet-all (block b) = tt
+      node-stands : (z : Place) (s : Point) → 0 < (hand_of l z s).gap + (hand_of l z s).len → RiseFrom 1 (run l (node f (scoped (λ _. r) (next p (λ _. q)))) z s)
+      unfolding run node
+      node-stands z s some =
+          let s1 = asked (hand_of l z s) s in
+          let again = hand-again l.classes s.held s.known z in
+          let o = run l (scoped (λ _. r) (next p (λ _. q))) z s1 in
+          let v = wrapped f (before at_token s1) o in
+          rise-after 1 (run l peek z s) (joined v (plain o.value v.state)) (unmarked-hand z s) (rise-joined 1 v (plain o.value v.state) (first-stands z (entered r s1) (subst (λ (h : Hand). 0 < h.gap + h.len) (sym again) some)) (omega arith))
 
-module _ (r : Rules) (k : CharClasses) where
-  block-rises : (levels : ℕ) → ((call : Call) → Rises nothing (meaning_of r k levels call)) → (b : Block) (z : Place) (s : Point) → (let o = blocks_of r k levels (meaning_of r k levels) b z s in Rise nothing z (next_at nothing z 0 (mark.Opens b)) o.taken o.asks)
-  block-rises levels i b z s =
-      let o = blocks_of r k levels (meaning_of r k levels) b z s in
-      rise-low nothing z (next_at nothing z 0 (mark.Opens b)) 0 o.taken o.asks (omega arith)
-      (rise-run nothing (blockless k levels (meaning_of r k levels)) i refl (λ b z s. omega arith) (peek >> r.block_production b) (quiet-all (peek >> r.block_production b)) z s)
+      pub block-stands : (z : Place) (s : Point) → 0 < (hand_of l z s).gap + (hand_of l z s).len → RiseFrom 1 (run l (peek >> (node f (scoped (λ _. r) (next p (λ _. q))) >>= λ _. gives (tt {0}))) z s)
+      unfolding run
+      block-stands z s some =
+          let s1 = asked (hand_of l z s) s in
+          let again = hand-again l.classes s.held s.known z in
+          let o = run l (node f (scoped (λ _. r) (next p (λ _. q)))) z s1 in
+          rise-after 1 (run l peek z s) (joined o (plain (tt {0}) o.state)) (unmarked-hand z s) (rise-joined 1 o (plain (tt {0}) o.state) (node-stands z s1 (subst (λ (h : Hand). 0 < h.gap + h.len) (sym again) some)) (omega arith))
 
-  call-rises : (levels : ℕ) (call : Call) → Rises nothing (meaning_of r k levels call)
+    takes-hand : (z : Place) (s : Point) → (let o = run l (does (takes false itself)) z s in Unmarked o.asks × ((hand_of l z s).gap + (hand_of l z s).len ≤ o.taken))
+    unfolding run
+    takes-hand z s = (unmarked-hand z s, omega arith)
+
+    eat-hand : (z : Place) (s : Point) → (let o = run l eat z s in Unmarked o.asks × ((hand_of l z s).gap + (hand_of l z s).len ≤ o.taken))
+    unfolding run eat eat_making
+    eat-hand z s =
+        let o = done l (takes false itself) z s in
+        let n = run l peek (moved o.taken z) o.state in
+        (unmarked-joined o (joined n (plain (tt {0}) n.state)) (unmarked-hand z s) (unmarked-joined n (plain (tt {0}) n.state) (unmarked-hand (moved o.taken z) o.state) tt), omega arith)
+
+    -- each kind of block does
+    pub begins-by-token : (b : Block) (z : Place) (s : Point) → 0 < (hand_of l z s).gap + (hand_of l z s).len → RiseFrom 1 (run l (peek >> block_production b) z s)
+    unfolding content_block code_block eat eat_making
+    begins-by-token block.Content z s some = block-stands _ markup_reading _ _ takes-hand ((guarded-inside-content pieces false (λ _ _. refl)).1 tt) z s some
+    begins-by-token block.Code z s some = block-stands _ code_reading _ _ eat-hand ((guarded-inside-code pieces false).1 tt) z s some
+
+token-some : (k : CharClasses) (m : SyntaxMode) (z : Place) → 0 < length z.ahead → 0 < len_at k m z
+token-some k m z h = by_end (is_end (token_at k m z).kind) refl
+  where
+    by_end : (b : Bool) → is_end (token_at k m z).kind ≡ b → 0 < len_at k m z
+    by_end true e = let none = ap (λ (xs : List ℕ). length xs) (token-ends k m z e) in absurd (omega (arith, none, h))
+    by_end false e = token-takes k m z e
+
+-- where something stands ahead, the trivia there or the token take something
+ahead-some : (k : CharClasses) (m : SyntaxMode) (n : ℕ) (z : Place) → 0 < length z.ahead → 0 < (ahead_by k m n z).gap + (ahead_by k m n z).len
+ahead-some k m zero z h = let some = token-some k m z h in omega (arith, some)
+ahead-some k m (suc n) z h =
+    on_if (λ (a : Ahead). 0 < a.gap + a.len) (at_trivia k m z) _ _
+    (λ e. let some : 0 < len_at k m z = grind (arith, nat_tests, and-right (is_trivia (token_at k m z).kind) (nat_lt 0 (len_at k m z)) e) in omega (arith, some))
+    (λ e. let some = token-some k m z h in omega (arith, some))
+
+hand-some : (k : CharClasses) (held : Reading) (z : Place) → 0 < length z.ahead → 0 < (hand_at k held None z).gap + (hand_at k held None z).len
+unfolding hand_at ahead
+hand-some k held z h = ahead-some k held.mode (length z.ahead) z h
+
+-- ---- at every level
+
+module _ (k : CharClasses) where
+  block-rises : (levels : ℕ) → ((call : Call) → Rises (meaning_of (rules k) k levels call)) → (b : Block) (z : Place) (s : Point) → 0 < length z.ahead → RiseFrom 1 (blocks_of (rules k) k levels (meaning_of (rules k) k levels) b z (forgot s))
+  block-rises levels i b z s some =
+      begins-by-token (blockless k levels (meaning_of (rules k) k levels)) (sane-meaning (rules k) k levels) (λ b. sane-plain tt) i (λ b has. absurd (cc)) b z (forgot s) (hand-some k s.held z some)
+
+  call-rises : (levels : ℕ) (call : Call) → Rises (meaning_of (rules k) k levels call)
   unfolding meaning_of
   call-rises zero call z s = omega arith
-  call-rises (suc levels) call z s = rise-run nothing (level_of r k levels) (call-rises levels) refl (block-rises levels (call-rises levels)) (r.production call) (quiet-all (r.production call)) z s
+  call-rises (suc levels) call z s =
+      rises (level_of (rules k) k levels) (sane-meaning (rules k) k levels) (sane-block (rules k) k levels) (call-rises levels) (λ b _. block-rises levels (call-rises levels) b) (production k call) (guarded-production pieces false k call) z s
 
-  -- the marks of a parser stand in order, within what it takes
-  pub level-rises : {A : Type 0} (levels : ℕ) (p : Parser A) → Rises nothing (run (level_of r k levels) p)
-  level-rises levels p = rise-run nothing (level_of r k levels) (call-rises levels) refl (block-rises levels (call-rises levels)) p (quiet-all p)
+  level-rises : {A : Type 0} (levels : ℕ) (p : Parser A) → Guarded pieces false p → Rises (run (level_of (rules k) k levels) p)
+  level-rises levels p q = rises (level_of (rules k) k levels) (sane-meaning (rules k) k levels) (sane-block (rules k) k levels) (call-rises levels) (λ b _. block-rises levels (call-rises levels) b) p q
 
 -- ---- in bytes
 
@@ -240,38 +354,78 @@ take-all zero xs = omega arith
 take-all (suc a) [] = omega arith
 take-all (suc a) (x ∷ xs) = let i = take-all a xs in omega (arith, i)
 
+-- each character takes a byte at least
+take-behind : (a b : ℕ) (xs : List ℕ) → a ≤ b → b ≤ length xs → width (take a xs) + (b - a) ≤ width (take b xs)
+unfolding width
+take-behind zero zero xs e h = omega arith
+take-behind zero (suc b) [] e h = absurd (omega (arith, h))
+take-behind zero (suc b) (x ∷ xs) e h = let i = take-behind 0 b xs (omega arith) (omega (arith, h)) in omega (arith, i, width-positive x)
+take-behind (suc a) zero xs e h = absurd (omega (arith, e))
+take-behind (suc a) (suc b) [] e h = absurd (omega (arith, h))
+take-behind (suc a) (suc b) (x ∷ xs) e h = let i = take-behind a b xs (omega (arith, e)) (omega (arith, h)) in omega (arith, i)
+
+-- where a block begins at a note its token begins there, and the note behind it stands at a later byte
+abbrev pub Spread : ℕ → List Note → Type 0
+Spread from [] = Unit {0}
+Spread from (n ∷ ns) = (from ≤ n.before) × (is_opening n.mark ≡ true → n.start ≡ n.before) × Spread (n.before + taken_behind n.mark) ns
+
+spread-low : (a b : ℕ) (ns : List Note) → a ≤ b → Spread b ns → Spread a ns
+spread-low a b [] e h = tt
+spread-low a b (n ∷ ns) e h = (let low = h.0 in omega (arith, e, low), h.1, h.2)
+
 -- so many notes more, in order
 record NotedRising (text : List ℕ) (from : ℕ) (ns : List Note) (h : Log) : Type 0 where
   more : List Note
   is : h.notes ≡ Some (ns ++ more)
   rising : Rising from (width text) more
+  spread : Spread from more
 
-noted-rising : (lv : ℕ) (text : List ℕ) (asks : List Ask) (h : Log) (ns : List Note) (lo hi : ℕ) → h.notes ≡ Some ns → Rise nothing (start_of text) lo hi asks → NotedRising text (width (take lo text)) ns (logged lv (start_of text) h asks)
+rising-low : (a b end : ℕ) (ns : List Note) → a ≤ b → Rising b end ns → Rising a end ns
+rising-low a b end [] e h = omega (arith, e, h)
+rising-low a b end (n ∷ ns) e h = (let low = h.0 in omega (arith, e, low), h.1, h.2, h.3)
+
+noted-rising : (lv : ℕ) (text : List ℕ) (asks : List Ask) (h : Log) (ns : List Note) (lo hi : ℕ) → hi ≤ length text → h.notes ≡ Some ns → Rise lo hi asks → NotedRising text (width (take lo text)) ns (logged lv (start_of text) h asks)
 unfolding position
-noted-rising lv text [] h ns lo hi e r = record { more = []; is = e ∙ ap Some (sym (append-nil ns)); rising = take-all lo text }
-noted-rising lv text (looked at look ∷ asks) h ns lo hi e r = noted-rising lv text asks (with_hull (hull_of look (moved at (start_of text))) h) ns lo hi e r
-noted-rising lv text (marked at gap fewer m s ∷ asks) h ns lo hi e r =
+noted-rising lv text [] h ns lo hi fits e r = record { more = []; is = e ∙ ap Some (sym (append-nil ns)); rising = take-all lo text; spread = tt }
+noted-rising lv text (looked at look ∷ asks) h ns lo hi fits e r = noted-rising lv text asks (with_hull (hull_of look (moved at (start_of text))) h) ns lo hi fits e r
+noted-rising lv text (marked at gap fewer m s ∷ asks) h ns lo hi fits e r =
     let z = start_of text in
     let k = with_note gap (lv - fewer) m s (moved at z) h in
     let note : Note = record { mark = m; before = position (moved at z); start = position (moved gap (moved at z)); levels = lv - fewer; state = s; reach = h.reach; least = h.least } in
-    let at_least : at ≤ next_at nothing z at m = omega arith in
-    let i = noted-rising lv text asks k (ns ++ note ∷ []) at hi (noted-more note h.notes ns e) (rise-low nothing z at (next_at nothing z at m) hi asks at_least r.1) in
+    let i = noted-rising lv text asks k (ns ++ note ∷ []) (at + taken_behind m) hi fits (noted-more note h.notes ns e) r.2 in
     let before : note.before ≡ width (take at text) = width-moved at text in
     let start : note.start ≡ width (take (at + gap) text) = ap (λ (y : Place). width y.behind) (sym (moved-sum at gap z)) ∙ width-moved (at + gap) text in
     let one = take-more lo at text r.0 in
     let two = take-more at (at + gap) text (omega arith) in
     let three = take-all (at + gap) text in
+    let ends = rise-ends (at + taken_behind m) hi asks r.2 in
+    let behind = take-behind at (at + taken_behind m) text (omega arith) (omega (arith, ends, fits)) in
     record {
       more = note ∷ i.more;
       is = i.is ∙ ap Some (append_assoc ns (note ∷ []) i.more);
-      rising = (omega (arith, one, before), omega (arith, two, before, start), omega (arith, three, start), subst (λ d. Rising d (width text) i.more) (sym before) i.rising);
+      rising = (omega (arith, one, before), omega (arith, two, before, start), omega (arith, three, start), rising-low note.before (width (take (at + taken_behind m) text)) (width text) i.more (omega (arith, before, behind)) i.rising);
+      spread = (omega (arith, one, before), λ o. start ∙ ap (λ n. width (take n text)) (directly gap (r.1 o)) ∙ sym before, spread-low (note.before + taken_behind m) (width (take (at + taken_behind m) text)) i.more (omega (arith, before, behind)) i.spread);
     }
+  where
+    directly : (n : ℕ) → n ≡ 0 → at + n ≡ at
+    directly n e = omega (arith, e)
 
-pub rising-law : RisingLaw
+text-rises : (k : CharClasses) (text : List ℕ) → NotedRising text (width (take 0 text)) [] (log k text)
 unfolding log
-rising-law k text =
+text-rises k text =
     let z = start_of text in
     let o = parsed k max_depth text in
-    let n = noted-rising max_depth text o.asks no_log [] 0 o.taken refl (level-rises (rules k) k max_depth whole z (start_point markup_reading)) in
+    let within = (sane-at (rules k) k max_depth whole).within z (start_point markup_reading) in
+    noted-rising max_depth text o.asks no_log [] 0 o.taken (omega (arith, within)) refl (level-rises k max_depth whole (guarded-whole pieces false (λ _ _. refl)) z (start_point markup_reading))
+
+pub rising-law : RisingLaw
+rising-law k text =
+    let n = text-rises k text in
     let none : width (take 0 text) ≡ 0 = width-none in
     subst (λ ns. Rising 0 (width text) ns) (sym (ap listed n.is)) (subst (λ d. Rising d (width text) n.more) none n.rising)
+
+-- behind a note where a block begins the others stand at later bytes
+pub notes-spread : (k : CharClasses) (text : List ℕ) → Spread 0 (listed (log k text).notes)
+notes-spread k text =
+    let n = text-rises k text in
+    subst (λ ns. Spread 0 ns) (sym (ap listed n.is)) (spread-low 0 (width (take 0 text)) n.more (omega arith) n.spread)

@@ -1,8 +1,7 @@
 -- Pieces at the top of a text's tree that pass the test: a candidate's place is that of their nodes.
-use Rattle.std.proofs.Common.{◌≡◌, ◌↔◌, inr, ℕ, zero, suc, ◌+◌, ◌<◌, ◌==◌, ne_eqb, if◌then◌else◌, Bool, true, false, List, [], ◌∷◌, ◌++◌, length, take, drop, length-append, Some, refl, ap, sym, ◌∙◌, subst, arith}
+use Rattle.std.proofs.Common.{◌≡◌, inr, ℕ, zero, suc, ◌+◌, ◌<◌, ◌==◌, ne_eqb, if◌then◌else◌, Bool, true, false, List, [], ◌∷◌, ◌++◌, length, take, drop, length-append, refl, ap, sym, ◌∙◌, subst, arith}
 use Rattle.typst_lines.specs.Classes.{CharClasses}
 use Rattle.typst_tree.specs.Tree.{Tree, trees}
-use Rattle.typst_tree.specs.Laws.{put_at}
 use Rattle.typst_tokens.specs.Sight.{width}
 use Rattle.typst_language.specs.Meaning.{less}
 use Rattle.typst_language.specs.Point.{Trivia, gap_of}
@@ -11,10 +10,10 @@ use Rattle.typst_candidates.specs.Candidates.{Candidate}
 use Rattle.typst_grammar.specs.Grammar.{tree}
 use Rattle.typst_edits.specs.Children.{with_children, read_from, standing_before, nodes_with}
 use Rattle.typst_edits.specs.Edit.{text_with}
-use Rattle.typst_edits.specs.Frame.{cut_at, nodes_now, is_over, Agrees, PassesPieces}
-use Rattle.typst_edits.specs.Heads.{NoneBack, GoesOnWell}
+use Rattle.typst_edits.specs.Frame.{nodes_now, is_over, Agrees, PassesPieces}
+use Rattle.typst_edits.specs.Heads.{GoesOnWell}
 use Rattle.typst_edits.specs.Joint.{text_run, onwards_from, PassesJoint}
-use Rattle.typst_edits.specs.Leading.{Leading, LeadsAt, bytes_of, both, token_byte}
+use Rattle.typst_edits.specs.Leading.{Leading, LeadsAt, both, token_byte}
 use Rattle.typst_edits.specs.LeadingTrivia.{trivia_at}
 use Rattle.typst_edits.specs.RootPieces.{root_run, StandsAt, BeginsWell, RootPiecesLaw}
 use Rattle.typst_edits.specs.Runs.{end_at, end_from}
@@ -32,25 +31,22 @@ take-behind [] ys n j e = ap (λ i. take i ys) (omega (arith, e))
 take-behind (x ∷ xs) ys n zero e = absurd (omega (arith, e))
 take-behind (x ∷ xs) ys n (suc j) e = ap (λ u. x ∷ u) (take-behind xs ys n j (omega (arith, e)))
 
-take-past : (front old rest : List ℕ) (past n : ℕ) → n ≡ (length front + length old) + past → take n (front ++ (old ++ rest)) ≡ front ++ (old ++ take past rest)
+pub take-past : (front old rest : List ℕ) (past n : ℕ) → n ≡ (length front + length old) + past → take n (front ++ (old ++ rest)) ≡ front ++ (old ++ take past rest)
 take-past front old rest past n e =
     let sum : n ≡ length front + (length old + past) = omega (arith, e) in
     take-behind front (old ++ rest) (length old + past) n sum ∙ ap (λ u. front ++ u) (take-behind old rest past (length old + past) refl)
 
-from-zero : (a b : ℕ) → a ≡ b → 0 + a ≡ b
-from-zero a b e = omega (arith, e)
-
-behind-zero : (a g x : ℕ) → (0 + a) + g ≡ x → a + g ≡ x
+pub behind-zero : (a g x : ℕ) → (0 + a) + g ≡ x → a + g ≡ x
 behind-zero a g x e = omega (arith, e)
 
-cut-is : (b : Bool) (a : ℕ) → b ≡ false → 0 + (if b then 0 else a) ≡ a
+pub cut-is : (b : Bool) (a : ℕ) → b ≡ false → 0 + (if b then 0 else a) ≡ a
 cut-is false a e = omega arith
 cut-is true a e = cc
 
-drop-some : (b : Bool) (l : ℕ) (ts : List Tree) → b ≡ false → drop (if b then 0 else l) ts ≡ drop l ts
+pub drop-some : (b : Bool) (l : ℕ) (ts : List Tree) → b ≡ false → drop (if b then 0 else l) ts ≡ drop l ts
 drop-some b l ts e = ap (λ (c : Bool). drop (if c then 0 else l) ts) e
 
-drop-none : (b : Bool) (l : ℕ) (ts : List Tree) → b ≡ true → drop (if b then 0 else l) ts ≡ ts
+pub drop-none : (b : Bool) (l : ℕ) (ts : List Tree) → b ≡ true → drop (if b then 0 else l) ts ≡ ts
 drop-none b l ts e = ap (λ (c : Bool). drop (if c then 0 else l) ts) e
 
 -- ---- what the test gives
@@ -60,10 +56,10 @@ carries : (k : CharClasses) (text : List ℕ) (b : Bool) (m : ℕ) (x y : Bool �
 carries k text false m x y a e = a.1
 carries k text true m x y a e = cc
 
-same-place : (ts : List Tree) (index at other : ℕ) → StandsAt ts index at → LeadsAt 0 ts at other → index ≡ other
-same-place ts index at other s l = sym s.here ∙ l.alone s.left s.node s.right s.is (from-zero _ _ s.begins) s.full
+pub same-place : (from : ℕ) (ts : List Tree) (index at other : ℕ) → StandsAt from ts index at → LeadsAt from ts at other → index ≡ other
+same-place from ts index at other s l = sym s.here ∙ l.alone s.left s.node s.right s.is s.begins s.full
 
-joint-of : (k : CharClasses) (front old new rest : List ℕ) (i n m past : ℕ) (t u : Trivia) → PassesPieces k front old new rest (root_run k (front ++ (old ++ rest))) i n m past t u → GoesOnWell i n (text_run k (text_with front old rest)) → PassesJoint k front old new rest i n m past t u
+pub joint-of : (k : CharClasses) (front old new rest : List ℕ) (i n m past : ℕ) (t u : Trivia) → PassesPieces k front old new rest (root_run k (front ++ (old ++ rest))) i n m past t u → GoesOnWell i n (text_run k (text_with front old rest)) → PassesJoint k front old new rest i n m past t u
 joint-of k front old new rest i n m past t u h well =
     let z = text_with front old rest in
     let w = text_with front new rest in
@@ -84,8 +80,8 @@ end-place : (k : CharClasses) (text : List ℕ) (c : Candidate) (i n : ℕ) (t :
 end-place k text c i n t well led end false over =
     let z = text_with [] [] text in
     let kids = trees (tree k text).kids in
-    let there = subst (λ b. StandsAt kids c.to b) end (well.next over) in
-    same-place kids c.to (token_byte text (both k i n z)) _ there (led.next over)
+    let there = subst (λ b. StandsAt 0 kids c.to b) end (well.next over) in
+    same-place 0 kids c.to (token_byte text (both k i n z)) _ there (led.next over)
 end-place k text c i n t well led end true over =
     let z = text_with [] [] text in
     let before = standing_before k i n z in
@@ -99,10 +95,10 @@ nodes-of : (k : CharClasses) (front old new rest : List ℕ) (i m : ℕ) (u : Tr
     → nodes_with k i m u (text_with front new rest) ≡ (read_from k i m (text_with front new rest)).nodes ++ u.nodes
 nodes-of k front old new rest i m u e = let ts = (read_from k i m (text_with front new rest)).nodes in ap (λ b. less b ts ++ u.nodes) e ∙ ap (λ us. us ++ u.nodes) (less-none ts)
 
-nothing-left : (b : ℕ) (ts : List Tree) → ts ≡ [] → b ≡ 0 → length (less b ts) ≡ 0
+pub nothing-left : (b : ℕ) (ts : List Tree) → ts ≡ [] → b ≡ 0 → length (less b ts) ≡ 0
 nothing-left b ts e h = ap (λ j. length (less j ts)) h ∙ ap length (less-none ts) ∙ ap length e
 
-first-is : (a b : ℕ) → (0 < a → 0 < 0) → b ≡ 0 → a ≡ b
+pub first-is : (a b : ℕ) → (0 < a → 0 < 0) → b ≡ 0 → a ≡ b
 first-is zero b h e = sym e
 first-is (suc a) b h e = let no = h (omega arith) in omega (arith, no)
 
@@ -162,8 +158,8 @@ root-pieces-law k front old new rest c (suc j) n m past t u path start led end h
     let e = end_at k i z in
     let more : (i == 0) ≡ false = ne_eqb i 0 (omega arith) in
     let byte : c.start ≡ token_byte text e = start ∙ ap (λ l. width (take l text)) (cut-is (i == 0) (e.taken + gap_of e.state.known) more) in
-    let there = subst (λ b. StandsAt kids c.from b) byte (well.first some) in
-    let from : c.from ≡ first + trivia_at k i z = same-place kids c.from (token_byte text (end_at k i z)) (first + trivia_at k i z) there (leading.first (well.starts some).0) in
+    let there = subst (λ b. StandsAt 0 kids c.from b) byte (well.first some) in
+    let from : c.from ≡ first + trivia_at k i z = same-place 0 kids c.from (token_byte text (end_at k i z)) (first + trivia_at k i z) there (leading.first (well.starts some).0) in
     let news : drop (trivia_at k i z) (nodes_with k i m u w) ≡ nodes_now (root_run k text) i m u w = ap (λ l. drop l (nodes_with k i m u w)) (sym kept.trivia_same) ∙ ap (drop (trivia_at k i w)) (nodes-of k front old new rest i m u behind.back_now)
     ∙ sym (drop-some (i == 0) (trivia_at k i w) ((read_from k i m w).nodes ++ u.nodes) more) in
     let was = tree k text in

@@ -71,7 +71,7 @@ module _ (k : CharClasses) (y : Place) (c : Outcome (Bool × ℕ)) (t : Outcome 
       ap (λ u. u ++ shift (0 + (0 + (0 + (c.taken + 0)))) t.asks) inner ∙ ap (λ n. (run_mark ∷ (ls ++ c.asks)) ++ shift n t.asks) sum
 
 -- what is asked in pieces, those behind them, all behind these, and the trivia at the end
-chained-asks : (ls : List Ask) (x v : Bool × ℕ) (s r : Point) (os ps : List (Outcome (Bool × (Bool × ℕ)))) (q : Outcome (Bool × ℕ)) (t : Outcome (Unit {0})) → (let c = chain os (chain ps q) in
+pub chained-asks : (ls : List Ask) (x v : Bool × ℕ) (s r : Point) (os ps : List (Outcome (Bool × (Bool × ℕ)))) (q : Outcome (Bool × ℕ)) (t : Outcome (Unit {0})) → (let c = chain os (chain ps q) in
     (ls ++ c.asks) ++ shift c.taken t.asks ≡ (ls ++ asks_of os) ++ shift (end_of x s os).taken (asks_of ps ++ shift (end_of v r ps).taken (q.asks ++ shift q.taken t.asks)))
 chained-asks ls x v s r os ps q t =
     let c = chain os (chain ps q) in

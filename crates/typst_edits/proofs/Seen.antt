@@ -40,7 +40,7 @@ end-second n [] ks h = h
 end-second n (looked at look ∷ ls) ks h = end-second n ls ks h.1
 end-second n (marked at gap fewer m s ∷ ls) ks h = end-second n ls ks h
 
-end-shift : (d m n : ℕ) (ls : List Ask) → n ≤ d + m → AllEndBy n (shift d ls) → AllEndBy m ls
+pub end-shift : (d m n : ℕ) (ls : List Ask) → n ≤ d + m → AllEndBy n (shift d ls) → AllEndBy m ls
 end-shift d m n [] e h = tt
 end-shift d m n (looked at look ∷ ls) e h = (omega (arith, e, h.0), end-shift d m n ls e h.1)
 end-shift d m n (marked at gap fewer mark s ∷ ls) e h = end-shift d m n ls e h
@@ -125,7 +125,7 @@ pub record Seen {A : Type 0} (n : ℕ) (o : Outcome A) : Type 0 where
 abbrev pub Sees : {A : Type 0} → Meaning A → Type 0
 Sees m = (z : Place) (s : Point) (n : ℕ) → gap_of s.known ≤ n → Seen n (m z s)
 
-sees-plain : {A : Type 0} (a : A) → Sees (λ z s. plain a s)
+pub sees-plain : {A : Type 0} (a : A) → Sees (λ z s. plain a s)
 sees-plain a z s n g = record { noted = tt; ends = λ e. omega (arith, g) }
 
 joined-notes : {A B : Type 0} (n : ℕ) (o : Outcome B) (p : Outcome A) → o.taken + gap_of o.state.known ≤ n → ((m : ℕ) → gap_of o.state.known ≤ m → Seen m p) → AllSeen n (shift o.taken p.asks)
@@ -289,7 +289,7 @@ module _ (r : Rules) (k : CharClasses) where
   sees-block : (levels : ℕ) → ((call : Call) → Sees (meaning_of r k levels call)) → (b : Block) → Sees (blocks_of r k levels (meaning_of r k levels) b)
   sees-block levels i b = sees-run (blockless k levels (meaning_of r k levels)) i (λ c. sees-plain tt) (peek >> r.block_production b)
 
-  sees-meaning : (levels : ℕ) (call : Call) → Sees (meaning_of r k levels call)
+  pub sees-meaning : (levels : ℕ) (call : Call) → Sees (meaning_of r k levels call)
   unfolding meaning_of
   sees-meaning zero call z s n g = record { noted = tt; ends = λ e. omega (arith, g) }
   sees-meaning (suc levels) call z s n g = sees-run (level_of r k levels) (sees-meaning levels) (sees-block levels (sees-meaning levels)) (r.production call) z s n g

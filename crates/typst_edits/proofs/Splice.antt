@@ -20,66 +20,66 @@ use Rattle.typst_edits.proofs.Widths.{width-append, width-none, width-onto, stre
 
 -- ---- the notes of what is asked, from where the looks since the last note end and begin
 
-abbrev note_with : ℕ → ℕ → ℕ → ℕ → Mark → State → ℕ → ℕ → Note
+abbrev pub note_with : ℕ → ℕ → ℕ → ℕ → Mark → State → ℕ → ℕ → Note
 note_with lv reach least fewer m s before start = record { mark = m; before = before; start = start; levels = lv - fewer; state = s; reach = reach; least = least }
 
-abbrev note_by : ℕ → Place → ℕ → ℕ → ℕ → ℕ → ℕ → Mark → State → Note
+abbrev pub note_by : ℕ → Place → ℕ → ℕ → ℕ → ℕ → ℕ → Mark → State → Note
 note_by lv z reach least at gap fewer m s = note_with lv reach least fewer m s (position (moved at z)) (position (moved gap (moved at z)))
 
-abbrev notes_from : ℕ → Place → ℕ → ℕ → List Ask → List Note
+abbrev pub notes_from : ℕ → Place → ℕ → ℕ → List Ask → List Note
 notes_from lv z reach least [] = []
 notes_from lv z reach least (looked at look ∷ asks) = notes_from lv z (max reach (far look.front (moved at z))) (min least (near look.back (moved at z))) asks
 notes_from lv z reach least (marked at gap fewer m s ∷ asks) = note_by lv z reach least at gap fewer m s ∷ notes_from lv z 0 (2 ^ 64 - 1) asks
 
-abbrev least_from : ℕ → Place → ℕ → List Ask → ℕ
+abbrev pub least_from : ℕ → Place → ℕ → List Ask → ℕ
 least_from lv z least [] = least
 least_from lv z least (looked at look ∷ asks) = least_from lv z (min least (near look.back (moved at z))) asks
 least_from lv z least (marked at gap fewer m s ∷ asks) = least_from lv z (2 ^ 64 - 1) asks
 
-logged-notes : (lv : ℕ) (z : Place) (asks : List Ask) (reach least : ℕ) (ns : List Note) → (logged lv z (record { reach = reach; least = least; notes = Some ns }) asks).notes ≡ Some (ns ++ notes_from lv z reach least asks)
+pub logged-notes : (lv : ℕ) (z : Place) (asks : List Ask) (reach least : ℕ) (ns : List Note) → (logged lv z (record { reach = reach; least = least; notes = Some ns }) asks).notes ≡ Some (ns ++ notes_from lv z reach least asks)
 logged-notes lv z [] reach least ns = ap Some (sym (append-nil ns))
 logged-notes lv z (looked at look ∷ asks) reach least ns = logged-notes lv z asks (max reach (far look.front (moved at z))) (min least (near look.back (moved at z))) ns
 logged-notes lv z (marked at gap fewer m s ∷ asks) reach least ns =
     let note = note_by lv z reach least at gap fewer m s in
     logged-notes lv z asks 0 (2 ^ 64 - 1) (ns ++ note ∷ []) ∙ ap Some (append_assoc ns (note ∷ []) (notes_from lv z 0 (2 ^ 64 - 1) asks))
 
-logged-least : (lv : ℕ) (z : Place) (asks : List Ask) (reach least : ℕ) (ns : List Note) → (logged lv z (record { reach = reach; least = least; notes = Some ns }) asks).least ≡ least_from lv z least asks
+pub logged-least : (lv : ℕ) (z : Place) (asks : List Ask) (reach least : ℕ) (ns : List Note) → (logged lv z (record { reach = reach; least = least; notes = Some ns }) asks).least ≡ least_from lv z least asks
 logged-least lv z [] reach least ns = refl
 logged-least lv z (looked at look ∷ asks) reach least ns = logged-least lv z asks (max reach (far look.front (moved at z))) (min least (near look.back (moved at z))) ns
 logged-least lv z (marked at gap fewer m s ∷ asks) reach least ns = logged-least lv z asks 0 (2 ^ 64 - 1) (ns ++ note_by lv z reach least at gap fewer m s ∷ [])
 
 -- a note parts them
-notes-split : (lv : ℕ) (z : Place) (asks more : List Ask) (p : Noting) (reach least : ℕ) → notes_from lv z reach least (asks ++ noting p ∷ more) ≡ notes_from lv z reach least (asks ++ noting p ∷ []) ++ notes_from lv z 0 (2 ^ 64 - 1) more
+pub notes-split : (lv : ℕ) (z : Place) (asks more : List Ask) (p : Noting) (reach least : ℕ) → notes_from lv z reach least (asks ++ noting p ∷ more) ≡ notes_from lv z reach least (asks ++ noting p ∷ []) ++ notes_from lv z 0 (2 ^ 64 - 1) more
 notes-split lv z [] more p reach least = refl
 notes-split lv z (looked at look ∷ asks) more p reach least = notes-split lv z asks more p (max reach (far look.front (moved at z))) (min least (near look.back (moved at z)))
 notes-split lv z (marked at gap fewer m s ∷ asks) more p reach least = ap (λ ns. note_by lv z reach least at gap fewer m s ∷ ns) (notes-split lv z asks more p 0 (2 ^ 64 - 1))
 
-least-split : (lv : ℕ) (z : Place) (asks more : List Ask) (p : Noting) (least : ℕ) → least_from lv z least (asks ++ noting p ∷ more) ≡ least_from lv z (2 ^ 64 - 1) more
+pub least-split : (lv : ℕ) (z : Place) (asks more : List Ask) (p : Noting) (least : ℕ) → least_from lv z least (asks ++ noting p ∷ more) ≡ least_from lv z (2 ^ 64 - 1) more
 least-split lv z [] more p least = refl
 least-split lv z (looked at look ∷ asks) more p least = least-split lv z asks more p (min least (near look.back (moved at z)))
 least-split lv z (marked at gap fewer m s ∷ asks) more p least = least-split lv z asks more p (2 ^ 64 - 1)
 
-notes-length : (lv : ℕ) (z : Place) (asks : List Ask) (p : Noting) (reach least : ℕ) → length (notes_from lv z reach least (asks ++ noting p ∷ [])) ≡ suc (notes_in asks)
+pub notes-length : (lv : ℕ) (z : Place) (asks : List Ask) (p : Noting) (reach least : ℕ) → length (notes_from lv z reach least (asks ++ noting p ∷ [])) ≡ suc (notes_in asks)
 notes-length lv z [] p reach least = refl
 notes-length lv z (looked at look ∷ asks) p reach least = notes-length lv z asks p (max reach (far look.front (moved at z))) (min least (near look.back (moved at z)))
 notes-length lv z (marked at gap fewer m s ∷ asks) p reach least = ap suc (notes-length lv z asks p 0 (2 ^ 64 - 1))
 
-last-is : (lv : ℕ) (z : Place) (asks : List Ask) (p : Noting) (reach least start : ℕ) → last_start start (notes_from lv z reach least (asks ++ noting p ∷ [])) ≡ token_start z p
+pub last-is : (lv : ℕ) (z : Place) (asks : List Ask) (p : Noting) (reach least start : ℕ) → last_start start (notes_from lv z reach least (asks ++ noting p ∷ [])) ≡ token_start z p
 last-is lv z [] p reach least start = refl
 last-is lv z (looked at look ∷ asks) p reach least start = last-is lv z asks p (max reach (far look.front (moved at z))) (min least (near look.back (moved at z))) start
 last-is lv z (marked at gap fewer m s ∷ asks) p reach least start = last-is lv z asks p 0 (2 ^ 64 - 1) (position (moved gap (moved at z)))
 
 -- ---- entries one behind the other
 
-entries-append : (start : ℕ) (ns ms : List Note) → entries_by start (ns ++ ms) ≡ entries_by start ns ++ entries_by (last_start start ns) ms
+pub entries-append : (start : ℕ) (ns ms : List Note) → entries_by start (ns ++ ms) ≡ entries_by start ns ++ entries_by (last_start start ns) ms
 entries-append start [] ms = refl
 entries-append start (n ∷ ns) ms = ap (λ es. entry_of start n ∷ es) (entries-append n.start ns ms)
 
-last-append : (start : ℕ) (ns ms : List Note) → last_start start (ns ++ ms) ≡ last_start (last_start start ns) ms
+pub last-append : (start : ℕ) (ns ms : List Note) → last_start start (ns ++ ms) ≡ last_start (last_start start ns) ms
 last-append start [] ms = refl
 last-append start (n ∷ ns) ms = last-append n.start ns ms
 
-entries-length : (start : ℕ) (ns : List Note) → length (entries_by start ns) ≡ length ns
+pub entries-length : (start : ℕ) (ns : List Note) → length (entries_by start ns) ≡ length ns
 entries-length start [] = refl
 entries-length start (n ∷ ns) = ap suc (entries-length n.start ns)
 
@@ -121,7 +121,7 @@ note-same lv p front xs ys reach least h =
     ap (λ b. here b (token_start (record { behind = []; ahead = front ++ xs }) p)) (position-same p.at front xs ys (omega (arith, h)))
     ∙ ap (λ s. here (position (moved p.at (record { behind = []; ahead = front ++ ys }))) s) (start-same p front xs ys h)
 
-front-same : (lv : ℕ) (front xs ys : List ℕ) (asks : List Ask) (p : Noting) (reach least : ℕ) → AllEndBy (length front) asks → AllNotedBy (length front) asks → p.at + p.gap ≤ length front
+pub front-same : (lv : ℕ) (front xs ys : List ℕ) (asks : List Ask) (p : Noting) (reach least : ℕ) → AllEndBy (length front) asks → AllNotedBy (length front) asks → p.at + p.gap ≤ length front
     → notes_from lv (record { behind = []; ahead = front ++ xs }) reach least (asks ++ noting p ∷ []) ≡ notes_from lv (record { behind = []; ahead = front ++ ys }) reach least (asks ++ noting p ∷ [])
 front-same lv front xs ys [] p reach least h g e = ap (λ n. n ∷ []) (note-same lv p front xs ys reach least e)
 front-same lv front xs ys (looked at look ∷ asks) p reach least h g e =
@@ -158,13 +158,13 @@ onto-length zero b a h = omega arith
 onto-length (suc d) b [] h = absurd (omega (arith, h))
 onto-length (suc d) b (c ∷ a) h = let i = onto-length d (c ∷ b) a (omega (arith, h)) in omega (arith, i)
 
-take-width : (d : ℕ) (a : List ℕ) → width (take d a) ≤ width a
+pub take-width : (d : ℕ) (a : List ℕ) → width (take d a) ≤ width a
 unfolding width
 take-width zero a = omega arith
 take-width (suc d) [] = omega arith
 take-width (suc d) (c ∷ a) = let i = take-width d a in omega (arith, i)
 
-position-behind : (d : ℕ) (early rest : List ℕ) → position (moved d (record { behind = early; ahead = rest })) ≡ width early + width (take d rest)
+pub position-behind : (d : ℕ) (early rest : List ℕ) → position (moved d (record { behind = early; ahead = rest })) ≡ width early + width (take d rest)
 unfolding position
 position-behind d early rest = omega (arith, moved-width d early rest)
 
@@ -186,19 +186,19 @@ near-behind n d early rest h k =
     omega (arith, one, two, three, width-none, moved-width d early rest)
 
 -- ends and beginnings of looks that stand as far behind the one byte as behind the other
-abbrev SameReach : ℕ → ℕ → ℕ → ℕ → Type 0
+abbrev pub SameReach : ℕ → ℕ → ℕ → ℕ → Type 0
 SameReach e f a b = (x : ℕ) → a - (e + x) ≡ b - (f + x)
 
-abbrev SameLeast : ℕ → ℕ → ℕ → ℕ → ℕ → Type 0
+abbrev pub SameLeast : ℕ → ℕ → ℕ → ℕ → ℕ → Type 0
 SameLeast top e f a b = (x : ℕ) → x ≤ top → suc (e + x) - a ≡ suc (f + x) - b
 
-reach-none : (e f : ℕ) → SameReach e f 0 0
+pub reach-none : (e f : ℕ) → SameReach e f 0 0
 reach-none e f x = omega arith
 
 reach-more : (e f a b n : ℕ) → SameReach e f a b → SameReach e f (max a (e + n)) (max b (f + n))
 reach-more e f a b n h x = let i = h x in omega (arith, i)
 
-least-none : (top e f big : ℕ) → e + top < big → f + top < big → SameLeast top e f big big
+pub least-none : (top e f big : ℕ) → e + top < big → f + top < big → SameLeast top e f big big
 least-none top e f big h k x l = omega (arith, h, k, l)
 
 least-more : (top e f a b n : ℕ) → SameLeast top e f a b → SameLeast top e f (min a (e + n)) (min b (f + n))
@@ -236,10 +236,10 @@ module _ (lv : ℕ) (front old new rest : List ℕ) (past end stop : ℕ) (e : e
   abbrev wide : ℕ → ℕ
   wide d = width (take d rest)
 
-  position-old : (at : ℕ) → position (moved (end + at) z) ≡ b + wide (past + at)
+  pub position-old : (at : ℕ) → position (moved (end + at) z) ≡ b + wide (past + at)
   position-old at = ap position (behind-place front old rest end past at e) ∙ position-behind (past + at) (onto old (onto front [])) rest
 
-  position-new : (at : ℕ) → position (moved (stop + at) w) ≡ c + wide (past + at)
+  pub position-new : (at : ℕ) → position (moved (stop + at) w) ≡ c + wide (past + at)
   position-new at = ap position (behind-place front new rest stop past at f) ∙ position-behind (past + at) (onto new (onto front [])) rest
 
   start-old : (at gap : ℕ) → position (moved gap (moved (end + at) z)) ≡ b + wide (past + (at + gap))
@@ -265,9 +265,9 @@ module _ (lv : ℕ) (front old new rest : List ℕ) (past end stop : ℕ) (e : e
   near-new at n h k = ap (near n) (behind-place front new rest stop past at f) ∙ near-behind n (past + at) (onto new (onto front [])) rest h k
 
   -- the entries are the same, and how far back is looked behind the last note
-  record Rear (x r l t u : ℕ) (asks : List Ask) : Type 0 where
-    entries : entries_by (b + x) (notes_from lv z r l (shift end asks)) ≡ entries_by (c + x) (notes_from lv w t u (shift stop asks))
-    back : back_of (last_start (b + x) (notes_from lv z r l (shift end asks))) (least_from lv z l (shift end asks)) ≡ back_of (last_start (c + x) (notes_from lv w t u (shift stop asks))) (least_from lv w u (shift stop asks))
+  pub record Rear (x r l t u : ℕ) (asks : List Ask) : Type 0 where
+    pub entries : entries_by (b + x) (notes_from lv z r l (shift end asks)) ≡ entries_by (c + x) (notes_from lv w t u (shift stop asks))
+    pub back : back_of (last_start (b + x) (notes_from lv z r l (shift end asks))) (least_from lv z l (shift end asks)) ≡ back_of (last_start (c + x) (notes_from lv w t u (shift stop asks))) (least_from lv w u (shift stop asks))
 
   reach-same : (r t at n : ℕ) → SameReach b c r t → SameReach b c (max r (far n (moved (end + at) z))) (max t (far n (moved (stop + at) w)))
   reach-same r t at n h x = let o = far-old at n in let m = far-new at n in let i = h x in omega (arith, i, o, m)
@@ -285,7 +285,7 @@ module _ (lv : ℕ) (front old new rest : List ℕ) (past end stop : ℕ) (e : e
       let reach = i (wide (past + (at + gap))) in
       entry-same (tag_of m s) (count_of m (lv - fewer)) _ _ _ _ _ _ _ _ (omega (arith, before, before_new)) (omega (arith, before, before_new, start, start_new)) (omega (arith, reach, start, start_new)) (j x h)
 
-  rear : (asks : List Ask) (x r l t u : ℕ) → x ≤ top → b + top < 2 ^ 64 - 1 → c + top < 2 ^ 64 - 1 → SameReach b c r t → SameLeast top b c l u → AllBeginIn past rest asks → Rear x r l t u asks
+  pub rear : (asks : List Ask) (x r l t u : ℕ) → x ≤ top → b + top < 2 ^ 64 - 1 → c + top < 2 ^ 64 - 1 → SameReach b c r t → SameLeast top b c l u → AllBeginIn past rest asks → Rear x r l t u asks
   rear [] x r l t u h big big_new i j g = record { entries = refl; back = j x h }
   rear (looked at look ∷ asks) x r l t u h big big_new i j g =
       let o = rear asks x _ _ _ _ h big big_new (reach-same r t at look.front i) (least-same l u at look.back g.0 g.1 j) g.2 in
@@ -354,17 +354,17 @@ drop-first : (n : ℕ) (xs ys : List Entry) → length xs ≡ n → drop n (xs +
 drop-first n xs ys e = ap (λ k. drop k (xs ++ ys)) (sym e) ∙ drop-append_seam xs ys
 
 -- entries of three parts, of which the second is exchanged
-spliced-is : (from to : ℕ) (es fs gs part : List Entry) (back : ℕ) → length es ≡ suc from → length (es ++ fs) ≡ suc to
+pub spliced-is : (from to : ℕ) (es fs gs part : List Entry) (back : ℕ) → length es ≡ suc from → length (es ++ fs) ≡ suc to
     → spliced from to part (record { entries = es ++ (fs ++ gs); back = back }) ≡ record { entries = es ++ (part ++ gs); back = back }
 spliced-is from to es fs gs part back e f =
     let dropped = ap (drop (suc to)) (sym (append_assoc es fs gs)) ∙ drop-first (suc to) (es ++ fs) gs f in
     ap (λ u. record { entries = u ++ (part ++ drop (suc to) (es ++ (fs ++ gs))); back = back }) (take-first (suc from) es (fs ++ gs) e)
     ∙ ap (λ u. record { entries = es ++ (part ++ u); back = back }) dropped
 
-whole-width : (front mid rest : List ℕ) → width (onto mid (onto front [])) + width rest ≡ width (front ++ (mid ++ rest))
+pub whole-width : (front mid rest : List ℕ) → width (onto mid (onto front [])) + width rest ≡ width (front ++ (mid ++ rest))
 whole-width front mid rest = omega (arith, width-append front (mid ++ rest), width-append mid rest, width-onto mid (onto front []), width-onto front [], width-none)
 
-token-at : (z : Place) (p : Noting) (end : ℕ) → p.at + p.gap ≡ end → token_start z p ≡ position (moved end z)
+pub token-at : (z : Place) (p : Noting) (end : ℕ) → p.at + p.gap ≡ end → token_start z p ≡ position (moved end z)
 token-at z p end e = ap position (sym (moved-sum p.at p.gap z)) ∙ ap (λ n. position (moved n z)) e
 
 pub splice-law : SpliceLaw

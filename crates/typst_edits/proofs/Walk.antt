@@ -49,7 +49,7 @@ second-if true true x y h = cc
 second-if true false x y h = refl
 second-if false b x y h = refl
 
-length-texts : (t : Tree) (ts : List Tree) → length (texts (t ∷ ts)) ≡ length (text_of t) + length (texts ts)
+pub length-texts : (t : Tree) (ts : List Tree) → length (texts (t ∷ ts)) ≡ length (text_of t) + length (texts ts)
 length-texts t ts = ap length (texts-first t ts) ∙ length-append (text_of t) (texts ts)
 
 module _ (from to : ℕ) (order : from ≤ to) where

@@ -1,5 +1,5 @@
 -- What an edit answers.
-use Rattle.std.specs.Prelude.{◌≡◌, ℕ, ◌+◌, ◌^◌, List, ◌∷◌, ◌++◌, Option, Some, None, option_map}
+use Rattle.std.specs.Prelude.{◌≡◌, ℕ, ◌+◌, ◌-◌, ◌<◌, ◌^◌, List, ◌∷◌, ◌++◌, Option, Some, None, option_map}
 use Rattle.std.specs.declared.ops.Range.{Range}
 use Rattle.typst_lines.specs.Classes.{CharClasses}
 use Rattle.typst_tree.specs.Tree.{Tree, bare, synthesized}
@@ -49,7 +49,8 @@ pub record Worth (k : CharClasses) (front old new rest : List ℕ) (c : Candidat
   pub part : List Entry
   pub units : units_of (log k (front ++ (new ++ rest))) ≡ spliced from to part (units_of (log k (front ++ (old ++ rest))))
 
--- The law of candidates: each that passes is worth that.
+-- The law of candidates: in texts that a machine word counts, each that passes is worth that.
 abbrev pub CandidateLaw : Type 0
 CandidateLaw = (k : CharClasses) (front old new rest : List ℕ) (root : Tree) (c : Candidate) (ts : List Tree) → bare root ≡ bare (tree k (front ++ (old ++ rest)))
+    → width (front ++ (old ++ rest)) < 2 ^ 64 - 1 → width (front ++ (new ++ rest)) < 2 ^ 64 - 1
     → Among c (candidates k (front ++ (old ++ rest)) (width front) (width (front ++ old)) root) → Gives k front old new rest c ts → Worth k front old new rest c ts

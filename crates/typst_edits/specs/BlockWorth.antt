@@ -1,7 +1,6 @@
 -- What a candidate is worth that is a block.
 use Rattle.std.specs.Prelude.{◌≡◌, ℕ, suc, ◌-◌, ◌<◌, ◌^◌, List, [], ◌∷◌, ◌++◌}
 use Rattle.typst_lines.specs.Classes.{CharClasses}
-use Rattle.typst_tree.specs.Tree.{Tree}
 use Rattle.typst_tree.specs.Replace.{Reaches}
 use Rattle.typst_tokens.specs.Sight.{width}
 use Rattle.typst_candidates.specs.Candidates.{Candidate}

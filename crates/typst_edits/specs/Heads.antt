@@ -64,11 +64,11 @@ pub record NoneBack (o n : Outcome (Unit {0})) : Type 0 where
   pub back : o.back ≡ 0
   pub back_now : n.back ≡ 0
 
--- where pieces stand before them, there are some, and the first node is no error
+-- where pieces stand before them, there are some, and the first of them takes no errors back
 abbrev pub StartsWell : ℕ → ℕ → Sequence → Type 0
-StartsWell i n r = 0 < i → (0 < n) × (begins_wrong (behind_known (first_end i r).state (read_by i n r).nodes) ≡ false)
+StartsWell i n r = 0 < i → (0 < n) × (minds_at r (first_place i r) (first_end i r) ≡ false)
 
--- The law of what pieces take back: where an edit inside some pieces passes the test of the joint, and the first node of these is no error or nothing stands before them, neither they nor the new ones take anything back.
+-- The law of what pieces take back: where an edit inside some pieces passes the test of the joint, and the first of these takes no errors back or nothing stands before them, neither they nor the new ones take anything back.
 abbrev pub NoneBackLaw : Type 0
 NoneBackLaw = (k : CharClasses) (front old new rest : List ℕ) (i n m past : ℕ) (t u : Trivia) → PassesJoint k front old new rest i n m past t u
     → StartsWell i n (text_run k (text_with front old rest)) → NoneBack (read_from k i n (text_with front old rest)) (read_from k i m (text_with front new rest))

@@ -52,6 +52,10 @@ is_over i n r = ends r.stops (then_end i n r).value.1 (hand_of r.level (then_pla
 pub record Leading (k : CharClasses) (text : List ℕ) (i n : ℕ) (t : Trivia) : Type 0 where
   pub behind : List Tree
   pub children : (let z = start_of text in trees (tree k text).kids ≡ standing_before k i n z ++ (nodes_with k i n t z ++ behind))
+  -- what is read behind them gives their trivia and what stands behind these
+  pub onwards : (onwards_from k i n (start_of text)).nodes ≡ t.nodes ++ behind
+  -- with the trivia behind them they end where the token behind them begins
+  pub ends : (let z = start_of text in bytes_of (standing_before k i n z ++ nodes_with k i n t z) ≡ token_byte text (both k i n z))
   pub first : 0 < n → (let z = start_of text in LeadsAt 0 (trees (tree k text).kids) (token_byte text (end_at k i z)) (length (standing_before k i n z) + length (pending (end_at k i z).state.known)))
   pub next : is_over i n (text_run k (start_of text)) ≡ false
       → (let z = start_of text in LeadsAt 0 (trees (tree k text).kids) (token_byte text (both k i n z)) (length (standing_before k i n z) + length (nodes_with k i n t z)))
@@ -80,6 +84,8 @@ pub record LeadingInner (k : CharClasses) (levels : ℕ) (text : List ℕ) (c : 
   pub opening : width (take c.at text) + length (text_of (opening_child closed bracket)) ≡ from
   pub behind : List Tree
   pub children : (let z = start_of text in kids ≡ standing_in k levels i n c z ++ (nodes_in k levels i n t c z ++ behind))
+  pub onwards : (onwards_in k levels i n c (start_of text)).nodes ≡ t.nodes ++ behind
+  pub ends : (let z = start_of text in from + bytes_of (standing_in k levels i n c z ++ nodes_in k levels i n t c z) ≡ token_byte text (inner_both k levels i n c z))
   pub first : 0 < n → (let z = start_of text in let e = inner_end k levels i c z in LeadsAt from kids (token_byte text e) (length (standing_in k levels i n c z) + length (pending e.state.known)))
   pub next : is_over i n (run_at k levels c (start_of text)) ≡ false
       → (let z = start_of text in LeadsAt from kids (token_byte text (inner_both k levels i n c z)) (length (standing_in k levels i n c z) + length (nodes_in k levels i n t c z)))

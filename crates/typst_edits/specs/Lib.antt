@@ -24,6 +24,7 @@ pub mod PieceNotes
 pub mod NumberedNotes
 pub mod Leading
 pub mod Rising
+pub mod OpensApart
 pub mod InnerChildren
 pub mod Heads
 pub mod LeadingTrivia
@@ -42,9 +43,24 @@ pub mod BlockModes
 pub mod Resumed
 pub mod Frame
 pub mod RootPieces
+pub mod InnerPieces
+pub mod OneReading
+pub mod KeptNodes
 pub mod Answer
+pub mod AnswerTree
+pub mod Unique
+pub mod CandidateEnds
+pub mod InnerCandidates
 pub mod AnswerExamples
 pub mod BlockSplice
+pub mod RunSplice
+pub mod InnerSplice
+pub mod SpliceExamples
+pub mod InnerSpliceExamples
+pub mod PiecesLog
+pub mod InnerPiecesLog
+pub mod RootWorth
+pub mod InnerWorth
 pub mod BlockWorth
 -- What the crates above name of those below.
 pub use Rattle.typst_grammar.specs.Bytes as Bytes-of-lookahead

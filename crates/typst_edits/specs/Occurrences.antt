@@ -15,6 +15,7 @@ use Rattle.typst_language.specs.Syntax.{Parser, Begin, ◌>>◌}
 use Rattle.typst_language.specs.Syntax.Op.{flushes}
 use Rattle.typst_language.specs.Syntax.Parser.{gives, does, next, pick, repeat, wraps, grows, nests, scoped, either, calls, block}
 use Rattle.typst_language.specs.Meaning.{Outcome, Meaning, Level, answered, joined, turns, bound, before, blockless, grown, is_more, nestings, entered, left, done, run}
+pub use Rattle.typst_grammar.specs.Pieces.{goes}
 use Rattle.typst_edits.specs.Hole.{plug, wrap_hole}
 use Rattle.typst_edits.specs.Spot.{Spot, block_head, valued, then_spot, after_spot, rehole, sunk_spot, closed_spot, here_spot}
 use Rattle.std.specs.Prelude.{drop}
@@ -25,9 +26,6 @@ Spots A = Place → Point → List (Spot A)
 -- one after the other
 abbrev pub joined_spots : {A B : Type 0} → Outcome B → List (Spot B) → Outcome A → List (Spot A) → List (Spot A)
 joined_spots o cs p ds = map (λ c. then_spot c p) cs ++ map (after_spot o) ds
-
-abbrev pub goes : {A : Type 0} → Outcome (Bool × A) → Bool
-goes o = o.value.0 && nat_lt 0 o.taken
 
 abbrev pub last_spot : {A B : Type 0} → Spot (B × A) → Spot A
 last_spot c = valued c.value.1 c

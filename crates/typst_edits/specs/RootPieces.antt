@@ -1,5 +1,5 @@
 -- What pieces at the top of a text's tree are worth that pass the test.
-use Rattle.std.specs.Prelude.{◌≡◌, ◌↔◌, ℕ, ◌+◌, ◌<◌, Bool, true, false, List, [], ◌∷◌, ◌++◌, length, take}
+use Rattle.std.specs.Prelude.{◌≡◌, ◌↔◌, ℕ, ◌+◌, ◌<◌, true, false, List, [], ◌∷◌, ◌++◌, length, take}
 use Rattle.typst_lines.specs.Classes.{CharClasses}
 use Rattle.typst_tree.specs.Tree.{Tree, text_of, trees}
 use Rattle.typst_tree.specs.Laws.{put_at}
@@ -17,22 +17,22 @@ use Rattle.typst_edits.specs.Leading.{bytes_of}
 abbrev pub root_run : (k : CharClasses) (text : List ℕ) → Run k text
 root_run k text = top
 
--- Of several nodes the one of an index begins at a byte and isn't empty.
-pub record StandsAt (ts : List Tree) (index at : ℕ) : Type 0 where
+-- Of several nodes, the first of which begins at a byte, the one of an index begins at another byte and isn't empty.
+pub record StandsAt (from : ℕ) (ts : List Tree) (index at : ℕ) : Type 0 where
   pub left : List Tree
   pub node : Tree
   pub right : List Tree
   pub is : ts ≡ left ++ node ∷ right
   pub here : length left ≡ index
-  pub begins : bytes_of left ≡ at
+  pub begins : from + bytes_of left ≡ at
   pub full : 0 < length (text_of node)
 
--- What a candidate's ends say of a run's pieces: where pieces stand before them, or behind them, the child there isn't empty and is no error, and else they end with the last child.
+-- What a candidate's ends say of a run's pieces: where pieces stand before them, or behind them, the child there isn't empty and takes no errors back, and else they end with the last child.
 pub record BeginsWell (k : CharClasses) (text : List ℕ) (c : Candidate) (i n : ℕ) : Type 0 where
   pub starts : StartsWell i n (text_run k (text_with [] [] text))
   pub goes_on : GoesOnWell i n (text_run k (text_with [] [] text))
-  pub first : 0 < i → StandsAt (trees (tree k text).kids) c.from c.start
-  pub next : is_over i n (text_run k (text_with [] [] text)) ≡ false → StandsAt (trees (tree k text).kids) c.to c.end
+  pub first : 0 < i → StandsAt 0 (trees (tree k text).kids) c.from c.start
+  pub next : is_over i n (text_run k (text_with [] [] text)) ≡ false → StandsAt 0 (trees (tree k text).kids) c.to c.end
   pub last : is_over i n (text_run k (text_with [] [] text)) ≡ true → c.to ≡ length (trees (tree k text).kids)
 
 -- The law of pieces at the root: where they pass the test and begin and end as a candidate says that begins well, the tree of the new text is the old one with their nodes in the candidate's place.

@@ -11,14 +11,10 @@ use Rattle.typst_language.specs.Log.{no_log, logged}
 use Rattle.typst_language.specs.Meaning.{Outcome, standing}
 use Rattle.typst_language.specs.Point.{gap_of, state_of}
 use Rattle.typst_grammar.specs.Grammar.{max_depth, tree, log}
+pub use Rattle.typst_grammar.specs.Pieces.{given}
 use Rattle.typst_edits.specs.Edit.{text_with}
 use Rattle.typst_edits.specs.Joint.{onwards_from}
 use Rattle.typst_edits.specs.Runs.{start, asks_of, lead, pieces, end_at, pieces_from, end_from, PassesRun}
-
--- the nodes that stand behind several outcomes, by those before them
-abbrev pub given : {A : Type 0} → List (Outcome (Bool × A)) → List Tree → List Tree
-given [] ts = ts
-given (o ∷ os) ts = given os (standing o ts)
 
 -- a text's tree, by the nodes of its first pieces, the pieces behind them, and all behind these
 abbrev pub tree_by : List (Outcome (Bool × (Bool × ℕ))) → List (Outcome (Bool × (Bool × ℕ))) → Outcome (Unit {0}) → Tree

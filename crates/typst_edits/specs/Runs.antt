@@ -1,9 +1,9 @@
 -- A stretch of a text replaced, inside some pieces of its run.
-use Rattle.std.specs.Prelude.{◌≡◌, ℕ, zero, suc, ◌+◌, ◌<◌, Bool, true, false, List, [], ◌∷◌, ◌++◌, length}
+use Rattle.std.specs.Prelude.{◌≡◌, ℕ, ◌+◌, ◌<◌, Bool, true, false, List, [], ◌∷◌, ◌++◌, length}
 use Rattle.typst_lines.specs.Place.{Place, moved}
 use Rattle.typst_lines.specs.Classes.{CharClasses}
 use Rattle.typst_language.specs.declared.calls.Mark.TheVariants as mark
-use Rattle.typst_language.specs.Ask.{Ask, shift}
+use Rattle.typst_language.specs.Ask.{shift}
 use Rattle.typst_language.specs.Ask.Ask.{marked}
 use Rattle.typst_language.specs.Depth.{is_end}
 use Rattle.typst_language.specs.Hand.{AtHand}
@@ -12,33 +12,8 @@ use Rattle.typst_language.specs.Steps.{peek, flush_trivia}
 use Rattle.typst_language.specs.Meaning.{Outcome, Meaning, plain, joined, repeated, start_point, run}
 use Rattle.typst_grammar.specs.Markup.{markup_turn, markup_reading}
 use Rattle.typst_grammar.specs.Grammar.{level_at, max_depth, parsed}
+pub use Rattle.typst_grammar.specs.Pieces.{made, AllGo, End, end_of, asks_of}
 use Rattle.typst_edits.specs.Edit.{text_with, AllEndBy, AllBeginIn}
-use Rattle.typst_edits.specs.Occurrences.{goes}
-
--- the first n turns of a loop
-abbrev pub made : {A : Type 0} → (A → Meaning (Bool × A)) → ℕ → A → Place → Point → List (Outcome (Bool × A))
-made m zero x z s = []
-made m (suc n) x z s = let o = m x z s in o ∷ made m n o.value.1 (moved o.taken z) o.state
-
--- each of them says that the loop goes on, and took something
-abbrev pub AllGo : {A : Type 0} → List (Outcome (Bool × A)) → Type 0
-AllGo [] = Unit {0}
-AllGo (o ∷ os) = (goes o ≡ true) × AllGo os
-
--- where turns end, with what the loop carries and the state there
-pub record End (A : Type 0) : Type 0 where
-  pub value : A
-  pub taken : ℕ
-  pub state : Point
-
-abbrev pub end_of : {A : Type 0} → A → Point → List (Outcome (Bool × A)) → End A
-end_of x s [] = record { value = x; taken = 0; state = s }
-end_of x s (o ∷ os) = let e = end_of o.value.1 o.state os in record e { taken = o.taken + e.taken }
-
--- what turns asked, in order
-abbrev pub asks_of : {A : Type 0} → List (Outcome (Bool × A)) → List Ask
-asks_of [] = []
-asks_of (o ∷ os) = o.asks ++ shift o.taken (asks_of os)
 
 -- turns, and what comes behind them
 abbrev pub chain : {A B : Type 0} → List (Outcome (Bool × A)) → Outcome B → Outcome B

@@ -7,7 +7,10 @@ ghost use Rattle.typst_edits.specs.BlockModes.{ModeLaw};
 ghost use Rattle.typst_edits.specs.BlockRuns.{InnerLaw};
 ghost use Rattle.typst_edits.specs.BlockSplice.{BlockSpliceLaw};
 ghost use Rattle.typst_edits.specs.BlockWorth.{BlockWorthLaw};
+ghost use Rattle.typst_edits.specs.Answer.{CandidateLaw};
+ghost use Rattle.typst_edits.specs.AnswerTree.{AnswerTreeLaw, GivesTreeLaw};
 ghost use Rattle.typst_edits.specs.Bytes.{DecisionLaw};
+ghost use Rattle.typst_edits.specs.CandidateEnds.{RootCandidateLaw};
 ghost use Rattle.typst_edits.specs.CandidatePlaces.{CandidatePlacesLaw, CandidateTreeLaw};
 ghost use Rattle.typst_edits.specs.Children.{BackLaw, ChildrenLaw};
 ghost use Rattle.typst_edits.specs.Conditions.{Conditions};
@@ -18,26 +21,40 @@ ghost use Rattle.typst_edits.specs.Heads.{HeadLaw, InnerHeadLaw, InnerMeetsLaw, 
 ghost use Rattle.typst_edits.specs.InnerBytes.{InnerDecisionLaw};
 ghost use Rattle.typst_edits.specs.InnerChildren.{InnerBackLaw, InnerChildrenLaw};
 ghost use Rattle.typst_edits.specs.InnerJoint.{InnerJointLaw};
+ghost use Rattle.typst_edits.specs.InnerPieces.{InnerPiecesLaw};
 ghost use Rattle.typst_edits.specs.Joint.{JointLaw};
 ghost use Rattle.typst_edits.specs.JointExamples.{Joints};
 ghost use Rattle.typst_edits.specs.JointBytes.{JointDecisionLaw};
 ghost use Rattle.typst_edits.specs.Laws.{BlockLaw, NamesLaw};
 ghost use Rattle.typst_edits.specs.Leading.{LeadingInnerLaw, LeadingLaw};
+ghost use Rattle.typst_edits.specs.InnerPiecesLog.{InnerPiecesLogLaw};
+ghost use Rattle.typst_edits.specs.InnerSplice.{AroundSpliceLaw, InnerSpliceLaw};
+ghost use Rattle.typst_edits.specs.InnerSpliceExamples.{InnerSplices};
+ghost use Rattle.typst_edits.specs.InnerWorth.{InnerWorthLaw};
 ghost use Rattle.typst_edits.specs.LeadingTrivia.{InnerLeadingTriviaLaw, LeadingTriviaLaw};
 ghost use Rattle.typst_edits.specs.Lost.{CompleteLaw};
 ghost use Rattle.typst_edits.specs.NumberedNotes.{NumberLaw, NumberedInnerLaw, NumberedRunLaw, CutsLaw, InnerCutsLaw, InnerNumberLaw};
+ghost use Rattle.typst_edits.specs.KeptNodes.{KeptNodesLaw, PutBehindLaw};
+ghost use Rattle.typst_edits.specs.OneReading.{GivesAgainLaw, OneReadingLaw};
 ghost use Rattle.typst_edits.specs.Origins.{Origins};
+ghost use Rattle.typst_edits.specs.PiecesLog.{PiecesLogLaw};
 ghost use Rattle.typst_edits.specs.PieceNotes.{InnerNotesLaw, RunNotesLaw};
 ghost use Rattle.typst_edits.specs.RareConditions.{RareConditions};
+ghost use Rattle.typst_edits.specs.OpensApart.{OpensApartLaw};
 ghost use Rattle.typst_edits.specs.Rising.{RisingLaw};
 ghost use Rattle.typst_edits.specs.Replaced.{ExchangedLaw, FrontLaw, PutLaw, ReplacedLaw};
 ghost use Rattle.typst_edits.specs.Resumed.{CountLaw, InnerCountLaw, InnerResumeLaw, ResumeLaw};
+ghost use Rattle.typst_edits.specs.RootWorth.{RootWorthLaw};
+ghost use Rattle.typst_edits.specs.InnerCandidates.{InnerCandidateLaw};
 ghost use Rattle.typst_edits.specs.RootPieces.{RootPiecesLaw};
 ghost use Rattle.typst_edits.specs.RunBytes.{RunDecisionLaw};
 ghost use Rattle.typst_edits.specs.RunTrees.{RunTreeLaw};
 ghost use Rattle.typst_edits.specs.Runs.{RunLaw, StartLaw};
 ghost use Rattle.typst_edits.specs.Standing.{StandingLaw, UnnotedLaw};
+ghost use Rattle.typst_edits.specs.RunSplice.{RunSpliceLaw};
 ghost use Rattle.typst_edits.specs.Splice.{SpliceLaw};
+ghost use Rattle.typst_edits.specs.SpliceExamples.{Splices};
+ghost use Rattle.typst_edits.specs.Unique.{OneAnswerLaw, UniqueLaw};
 ghost use Rattle.typst_edits.specs.Walk.{WalkLaw};
 
 /// An edit inside a block of a text: where all that was looked at before the block ends at the
@@ -157,9 +174,10 @@ pub fn numbered_notes_law()
 {}
 
 /// No note of a text's log goes back behind the one before it, the token of each begins where it stands or behind, and
-/// all lie within the text.
+/// all lie within the text. Of two notes at which blocks begin the later one's token begins at a later byte.
 pub fn rising_law()
-    ensures { RisingLaw }
+    ensures order { RisingLaw }
+    ensures opens { OpensApartLaw }
 {}
 
 /// Where pieces of a text's run begin, of the children at the top of its tree one begins at the byte of their first
@@ -175,9 +193,26 @@ pub fn leading_law()
 /// the stretch from another note on, the units of the second text are those of the first with the ones between these
 /// notes exchanged for its own: no other entry changes, nor how far back is looked behind the last note. So it is where
 /// an edit inside a block passes the test: the entries between the block's two notes, with the second, are exchanged.
+/// And so it is where an edit inside some pieces of a text's run does: the entries of the old pieces are exchanged for
+/// those of the new ones. Where no piece stands before them and none is read, the run has to end there.
+/// And so it is in a content block, where no trivia may stand behind its bracket if no piece does; whatever stands
+/// there, the block's entries are exchanged.
 pub fn splice_law()
     ensures units { SpliceLaw }
     ensures block { BlockSpliceLaw }
+    ensures run { RunSpliceLaw }
+    ensures inner { InnerSpliceLaw }
+    ensures around { AroundSpliceLaw }
+{}
+
+/// Edits at the start of short texts, and what they leave of the units.
+pub fn splices_of_texts()
+    ensures { (beyond : CharClasses) → Splices beyond }
+{}
+
+/// Edits in the content block of a short text, and what they leave of the units.
+pub fn inner_splices_of_texts()
+    ensures { (beyond : CharClasses) → InnerSplices beyond }
 {}
 
 /// From the top of a text's tree the steps to the child that begins before a stretch and ends behind
@@ -261,12 +296,14 @@ pub fn mode_law()
 /// Pieces of a run that are read again from where the token of the first of them begins, with the line start and
 /// the brackets that are carried there and nothing else, are the pieces that stood there, behind the trivia before
 /// them, where an expression that takes back errors has none before it. How many they are follows from where they
-/// end. So in a content block.
+/// end. So in a content block. And the same is logged of them.
 pub fn resume_law()
     ensures pieces { ResumeLaw }
     ensures inner { InnerResumeLaw }
     ensures count { CountLaw }
     ensures inner_count { InnerCountLaw }
+    ensures log { PiecesLogLaw }
+    ensures inner_log { InnerPiecesLogLaw }
 {}
 
 /// An edit of a short text: its candidates, the first that passes, and the answer; and edits at which one
@@ -278,7 +315,59 @@ pub fn answers_of_texts()
 
 /// Where pieces at the top of a text's tree pass the test and begin and end where a candidate does that begins
 /// well, the tree of the new text is the old one with the nodes of the new pieces in the candidate's place. It
-/// begins well where the child at each of its ends, if pieces stand beyond it, isn't empty and is no error.
-pub fn root_pieces_law()
-    ensures { RootPiecesLaw }
+/// begins well where the child at each of its ends, if pieces stand beyond it, isn't empty and takes no errors
+/// back. So it is of pieces in a content block, which stands around the stretch.
+pub fn pieces_worth_law()
+    ensures root { RootPiecesLaw }
+    ensures inner { InnerPiecesLaw }
+{}
+
+/// Each candidate of an edit among the children at the top of a text's tree begins well, if pieces that pass the
+/// test begin and end as it does. So does one among the children of a content block's markup, and the block is
+/// around the stretch.
+pub fn piece_candidates_law()
+    ensures root { RootCandidateLaw }
+    ensures inner { InnerCandidateLaw }
+{}
+
+/// Pieces at the top of a text's tree that pass the test are worth their new nodes: the new text's tree is the old
+/// one with them in the candidate's place, and its units are the old ones with the pieces' exchanged. If no piece
+/// stands up to the candidate's end, the run has to end there.
+pub fn root_worth_law()
+    ensures { RootWorthLaw }
+{}
+
+/// And so are pieces in a content block that stands around the stretch: the units are the old ones with the whole
+/// block's exchanged.
+pub fn inner_worth_law()
+    ensures { InnerWorthLaw }
+{}
+
+/// Each candidate of an edit that passes its test is worth its new nodes: the new text's tree is the old one with
+/// them in its place, and the new text's units are the old ones with a part of them exchanged. So it is of blocks,
+/// of pieces of a text's own run and of those of content blocks.
+pub fn candidate_law()
+    ensures { CandidateLaw }
+{}
+
+/// Where a candidate passes, whatever the texts' lengths, the tree of the new text is the old one with its nodes in its
+/// place; and so, spans aside, an edit's answer is the tree of the new text. However a candidate passes, the same nodes
+/// take its place; and an edit has one answer.
+pub fn answer_law()
+    ensures gives { GivesTreeLaw }
+    ensures tree { AnswerTreeLaw }
+    ensures unique { UniqueLaw }
+    ensures one { OneAnswerLaw }
+{}
+
+/// A reading of the new text that begins behind some pieces of a run, whose looks end before the stretch, serves all
+/// pieces of the run that begin there or earlier: these are the old pieces up to there and those of the reading, and
+/// pass the test where the reading ends as it says. So are their nodes. The reading begins at the first token of its
+/// first piece, and knows nothing of the trivia before it. The old nodes stand in the old tree, and need not be
+/// replaced there.
+pub fn one_reading_law()
+    ensures serves { OneReadingLaw }
+    ensures again { GivesAgainLaw }
+    ensures kept { KeptNodesLaw }
+    ensures behind { PutBehindLaw }
 {}

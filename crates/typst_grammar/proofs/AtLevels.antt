@@ -75,11 +75,11 @@ makes-production k levels {call = call} {a = a} {old = old} {new = new} h =
       };
     }
 
-less-nil : {A : Type 0} (n : ℕ) → less {A = A} n [] ≡ []
+pub less-nil : {A : Type 0} (n : ℕ) → less {A = A} n [] ≡ []
 unfolding less
 less-nil n = let e : 0 - n ≡ 0 = omega arith in rw e refl
 
-hinted-nil : (hs : List (List ℕ)) → hinted hs [] ≡ []
+pub hinted-nil : (hs : List (List ℕ)) → hinted hs [] ≡ []
 hinted-nil [] = refl
 hinted-nil (h ∷ hs) = refl
 
@@ -99,7 +99,7 @@ parsed-is k keeps text reading p v w h d =
     }
 
 -- where notes are kept, they are kept on
-still-kept : (levels : ℕ) (z : Place) (h : Log) (asks : List Ask) → IsSome h.notes → IsSome (logged levels z h asks).notes
+pub still-kept : (levels : ℕ) (z : Place) (h : Log) (asks : List Ask) → IsSome h.notes → IsSome (logged levels z h asks).notes
 still-kept levels z h [] k = k
 still-kept levels z h (looked at look ∷ asks) k = still-kept levels z (with_hull (hull_of look (moved at z)) h) asks k
 still-kept levels z h (marked at gap fewer mark s ∷ asks) k = still-kept levels z (with_note gap (levels - fewer) mark s (moved at z) h) asks (more-kept h.notes _ k)
@@ -108,7 +108,7 @@ still-kept levels z h (marked at gap fewer mark s ∷ asks) k = still-kept level
     more-kept None note i = i
     more-kept (Some ns) note i = refl
 
-log-is : (r l : ℕ) (ns : List Note) (notes : Option (List Note)) → IsSome notes → ns ≡ listed notes → ◌≡◌ {A = Log} (record { reach = r; least = l; notes = Some ns }) (record { reach = r; least = l; notes = notes })
+pub log-is : (r l : ℕ) (ns : List Note) (notes : Option (List Note)) → IsSome notes → ns ≡ listed notes → ◌≡◌ {A = Log} (record { reach = r; least = l; notes = Some ns }) (record { reach = r; least = l; notes = notes })
 log-is r l ns None i e = absurd (cc)
 log-is r l ns (Some ms) i e = rw e refl
 

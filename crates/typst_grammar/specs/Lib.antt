@@ -4,6 +4,8 @@ pub mod Laws
 pub mod Notes
 pub mod Read
 pub mod Told
+pub mod Pieces
+pub mod Part
 pub mod Binding
 -- What the crates above name of those below.
 pub use Rattle.typst_code.specs.Arguments

@@ -1,7 +1,7 @@
 //! The words `candidates` and `candidates START END`.
 
 use std::alloc::{AllocError, Global};
-use typst_candidates::{Candidate, find_candidates};
+use typst_candidates::{Candidate, Records, find_candidates, fit};
 use typst_parser::{UnicodeClasses, parse_noted};
 
 /// What may be read anew where a range of bytes of the text is replaced, in order. Each candidate has
@@ -12,7 +12,14 @@ pub fn answer(alloc: Global, text: &str, start: usize, end: usize) -> Result<Str
         return String::from_str(alloc, "bad range\n");
     }
     let noted = parse_noted(alloc, text, &UnicodeClasses)?;
-    let found = find_candidates(alloc, &noted.tree, noted.notes.as_slice(), start, end)?;
+    if !fit(&noted.notes) {
+        return String::from_str(alloc, "too long\n");
+    }
+    let records = Records::of_notes(alloc, &noted.notes, noted.hull.least)?;
+    if records.last().is_none() {
+        return String::from_str(alloc, "too long\n");
+    }
+    let found = find_candidates(alloc, &noted.tree, &records, start, end)?;
     let mut printed = String::new(alloc);
     for candidate in &found.items {
         print_candidate(&mut printed, candidate, found.path.as_slice())?;

@@ -1,3 +1,5 @@
+use Rattle.typst_edits.proofs.InnerPiecesLog.{inner-pieces-log-law}
+use Rattle.typst_edits.proofs.PiecesLog.{pieces-log-law}
 use Rattle.typst_edits.proofs.Resumed.{resume-law, inner-resume-law, count-law, inner-count-law}
 use Rattle.typst_edits.proofs.laws.resume_law.Goals as goal
 
@@ -12,3 +14,9 @@ returns-clause-count c = count-law
 
 pub returns-clause-inner_count : goal.returns-clause-inner_count
 returns-clause-inner_count c = inner-count-law
+
+pub returns-clause-log : goal.returns-clause-log
+returns-clause-log c = pieces-log-law
+
+pub returns-clause-inner_log : goal.returns-clause-inner_log
+returns-clause-inner_log c = inner-pieces-log-law

@@ -4,21 +4,22 @@ use Rattle.typst_kinds.specs.Kinds.{is_block}
 use Rattle.typst_tree.specs.Tree.{Tree, trees, forest, text_of, nodes, count}
 use Rattle.typst_candidates.specs.Candidates.{begins, run_in, candidates_at}
 use Rattle.typst_candidates.specs.Rows.{spelled, run_of, bytes_of}
+use Rattle.typst_candidates.proofs.Nested.{piece-run}
 use Rattle.typst_candidates.proofs.Rows.{trees_forest}
 use Rattle.typst_candidates.proofs.Found.{below_none, below_else, found_alone, found_block, found_run, found_none, one_block, path_front, fits_of, child_fits, fewer, near_over}
 use Rattle.typst_candidates.proofs.candidate.Search.+candidates.Goals as goal
 
 pub below-returns-then-near-kids-clause-found : goal.below-returns-then-near-kids-clause-found
-below-returns-then-near-kids-clause-found t c =
+below-returns-then-near-kids-clause-found t c = λ ns w.
     let kids = sym (ap trees c.children-kids.ensures) ∙ trees_forest c.children-kids.result.now in
     ap (map (spelled c.args.path.now.items)) c.new.ensures.items
-    ∙ sym (below_none c.args.self.now.notes.now c.args.self.now.start c.args.self.now.end c.args.path.now.items c.args.at _ c.args.node.now c.children-kids.result.now c.args.near kids refl (near_over _ _ _ _ _ _ kids c.requires.near) (omega (arith, c.if-near-kids.true)))
+    ∙ sym (below_none ns c.args.self.now.start c.args.self.now.end c.args.path.now.items c.args.at _ c.args.node.now c.children-kids.result.now c.args.near kids refl (near_over _ _ _ _ _ _ kids c.requires.near) (omega (arith, c.if-near-kids.true)))
 
 pub below-returns-then-not-covers-clause-found : goal.below-returns-then-not-covers-clause-found
-below-returns-then-not-covers-clause-found t c =
+below-returns-then-not-covers-clause-found t c = λ ns w.
     let kids = sym (ap trees c.children-kids.ensures) ∙ trees_forest c.children-kids.result.now in
     ap (map (spelled c.args.path.now.items)) c.new-then-not-covers.ensures.items
-    ∙ sym (below_else c.args.self.now.notes.now c.args.self.now.start c.args.self.now.end c.args.path.now.items c.args.at _ c.args.node.now c.children-kids.result.now c.args.near kids refl (near_over _ _ _ _ _ _ kids c.requires.near) c.index-kids-near.result (omega (arith, c.if-near-kids.false)) c.index-kids-near.is (sym c.covers.ensures ∙ c.if-not-covers.true))
+    ∙ sym (below_else ns c.args.self.now.start c.args.self.now.end c.args.path.now.items c.args.at _ c.args.node.now c.children-kids.result.now c.args.near kids refl (near_over _ _ _ _ _ _ kids c.requires.near) c.index-kids-near.result (omega (arith, c.if-near-kids.false)) c.index-kids-near.is (sym c.covers.ensures ∙ c.if-not-covers.true))
 
 pub below-candidates_at-requires : goal.below-candidates_at-requires
 below-candidates_at-requires t c =
@@ -41,19 +42,19 @@ pub below-returns-clause-path : goal.below-returns-clause-path
 below-returns-clause-path t c = path_front _ _ _ _ c.in_ok-push.ensures.items c.in_ok-found.ensures.path
 
 pub below-returns-then-not-is_block-clause-found : goal.below-returns-then-not-is_block-clause-found
-below-returns-then-not-is_block-clause-found t c =
+below-returns-then-not-is_block-clause-found t c = λ ns w.
     let kids = sym (ap trees c.children-kids.ensures) ∙ trees_forest c.children-kids.result.now in
-    found_alone c.args.self.now.notes.now c.args.self.now.start c.args.self.now.end c.args.path.now.items c.args.at _ c.args.node.now c.children-kids.result.now c.args.near kids refl (near_over _ _ _ _ _ _ kids c.requires.near) c.index-kids-near.result (omega (arith, c.if-near-kids.false)) c.index-kids-near.is
-    c.push.new.self.items _ _ (sym c.covers.ensures ∙ c.if-not-covers.false) c.in_ok-push.ensures.items (c.in_ok-run.ensures ∙ (λ k. run_in c.args.self.now.notes.now c.args.at (c.kind.ensures k) (c.kind-2.ensures k))) c.in_ok-found.ensures.found (ap is_block (sym c.kind-3.ensures) ∙ (sym c.is_block.ensures ∙ c.if-not-is_block.true))
+    found_alone ns c.args.self.now.start c.args.self.now.end c.args.path.now.items c.args.at _ c.args.node.now c.children-kids.result.now c.args.near kids refl (near_over _ _ _ _ _ _ kids c.requires.near) c.index-kids-near.result (omega (arith, c.if-near-kids.false)) c.index-kids-near.is
+    c.push.new.self.items _ _ (sym c.covers.ensures ∙ c.if-not-covers.false) c.in_ok-push.ensures.items (c.in_ok-run.ensures ∙ piece-run _ ns c.args.at c.kind.result c.kind-2.result w ∙ (λ k. run_in ns c.args.at (c.kind.ensures k) (c.kind-2.ensures k))) (c.in_ok-found.ensures.found ns w) (ap is_block (sym c.kind-3.ensures) ∙ (sym c.is_block.ensures ∙ c.if-not-is_block.true))
 
 pub below-returns-clause-found : goal.below-returns-clause-found
-below-returns-clause-found t c =
+below-returns-clause-found t c = λ ns w.
     let kids = sym (ap trees c.children-kids.ensures) ∙ trees_forest c.children-kids.result.now in
     let covered = sym c.covers.ensures ∙ c.if-not-covers.false in
     let front = path_front _ _ _ _ c.in_ok-push.ensures.items c.in_ok-found.ensures.path in
     let is = near_over _ _ _ _ _ _ kids c.requires.near in
-    found_block c.args.self.now.notes.now c.args.self.now.start c.args.self.now.end c.args.path.now.items c.args.at _ c.args.node.now c.children-kids.result.now c.args.near kids refl is c.index-kids-near.result (omega (arith, c.if-near-kids.false)) c.index-kids-near.is
-    c.push.new.self.items c.candidates_at.new.path.items _ c.in_ok-found.found.items c.push-2.new.self.items c.of_stretch.result covered c.in_ok-push.ensures.items (c.in_ok-run.ensures ∙ (λ k. run_in c.args.self.now.notes.now c.args.at (c.kind.ensures k) (c.kind-2.ensures k))) c.in_ok-found.ensures.found (ap is_block (sym c.kind-3.ensures) ∙ (sym c.is_block.ensures ∙ c.if-not-is_block.false))
+    found_block ns c.args.self.now.start c.args.self.now.end c.args.path.now.items c.args.at _ c.args.node.now c.children-kids.result.now c.args.near kids refl is c.index-kids-near.result (omega (arith, c.if-near-kids.false)) c.index-kids-near.is
+    c.push.new.self.items c.candidates_at.new.path.items _ c.in_ok-found.found.items c.push-2.new.self.items c.of_stretch.result covered c.in_ok-push.ensures.items (c.in_ok-run.ensures ∙ piece-run _ ns c.args.at c.kind.result c.kind-2.result w ∙ (λ k. run_in ns c.args.at (c.kind.ensures k) (c.kind-2.ensures k))) (c.in_ok-found.ensures.found ns w) (ap is_block (sym c.kind-3.ensures) ∙ (sym c.is_block.ensures ∙ c.if-not-is_block.false))
     c.in_ok-push-2.ensures.items (one_block c.candidates_at.new.path.items c.args.path.now.items c.len-depth.result _ c.children-kids.result.now c.args.self.now.start c.args.self.now.end c.args.near _ c.of_stretch.result is covered (ap (λ (n : ℕ). take n c.candidates_at.new.path.items) (c.len-depth.ensures ∙ c.args.path.now.ok.0) ∙ front) c.of_stretch.ensures)
 
 pub candidates_at-near-near-requires-clause-fits : goal.candidates_at-near-near-requires-clause-fits
@@ -63,12 +64,12 @@ pub candidates_at-add_pieces-requires-clause-fits : goal.candidates_at-add_piece
 candidates_at-add_pieces-requires-clause-fits t c = fits_of c.args.at c.of-row.result.at c.args.node.now c.of-row.result.kids.now c.of-row.ensures.kids c.of-row.ensures.at c.requires.fits
 
 pub candidates_at-returns-in-None-clause-found : goal.candidates_at-returns-in-None-clause-found
-candidates_at-returns-in-None-clause-found t c =
-    found_none c.args.self.now.notes.now c.args.self.now.start c.args.self.now.end c.args.path.now.items c.args.at c.of-row.result.at c.args.node.now c.of-row.result.kids.now c.near-near.result (sym c.of-row.ensures.kids) (sym c.of-row.ensures.at) c.near-near.ensures _ c.in_ok-found.ensures.found
-    ∙ (λ k. candidates_at c.args.self.now.notes.now c.args.self.now.start c.args.self.now.end c.args.path.now.items (run_of (sym c.in-None.is k)) 0 c.args.at (forest (c.args.node.now ∷ [])))
+candidates_at-returns-in-None-clause-found t c = λ ns w.
+    found_none ns c.args.self.now.start c.args.self.now.end c.args.path.now.items c.args.at c.of-row.result.at c.args.node.now c.of-row.result.kids.now c.near-near.result (sym c.of-row.ensures.kids) (sym c.of-row.ensures.at) c.near-near.ensures _ (c.in_ok-found.ensures.found ns w)
+    ∙ (λ k. candidates_at ns c.args.self.now.start c.args.self.now.end c.args.path.now.items (run_of (sym c.in-None.is k)) 0 c.args.at (forest (c.args.node.now ∷ [])))
 
 pub candidates_at-returns-clause-found : goal.candidates_at-returns-clause-found
-candidates_at-returns-clause-found t c =
-    found_run c.args.self.now.notes.now c.args.self.now.start c.args.self.now.end c.args.path.now.items c.args.at c.of-row.result.at c.args.node.now c.of-row.result.kids.now c.near-near.result (sym c.of-row.ensures.kids) (sym c.of-row.ensures.at) c.near-near.ensures
-    c.below.new.path.items c.len-depth.result (bytes_of c.in-Some.cuts) _ _ (ap (λ (n : ℕ). take n c.below.new.path.items) (c.len-depth.ensures ∙ c.args.path.now.ok.0) ∙ c.in_ok-found.ensures.path) c.in_ok-found.ensures.found (c.in_ok-add_pieces-in-Some.ensures c.below.new.path.items)
-    ∙ (λ k. candidates_at c.args.self.now.notes.now c.args.self.now.start c.args.self.now.end c.args.path.now.items (run_of (sym c.in-Some.is k)) 0 c.args.at (forest (c.args.node.now ∷ [])))
+candidates_at-returns-clause-found t c = λ ns w.
+    found_run ns c.args.self.now.start c.args.self.now.end c.args.path.now.items c.args.at c.of-row.result.at c.args.node.now c.of-row.result.kids.now c.near-near.result (sym c.of-row.ensures.kids) (sym c.of-row.ensures.at) c.near-near.ensures
+    c.below.new.path.items c.len-depth.result (bytes_of c.in-Some.cuts) _ _ (ap (λ (n : ℕ). take n c.below.new.path.items) (c.len-depth.ensures ∙ c.args.path.now.ok.0) ∙ c.in_ok-found.ensures.path) (c.in_ok-found.ensures.found ns w) (c.in_ok-add_pieces-in-Some.ensures c.below.new.path.items)
+    ∙ (λ k. candidates_at ns c.args.self.now.start c.args.self.now.end c.args.path.now.items (run_of (sym c.in-Some.is k)) 0 c.args.at (forest (c.args.node.now ∷ [])))

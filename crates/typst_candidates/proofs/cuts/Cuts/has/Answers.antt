@@ -1,6 +1,6 @@
 use Rattle.std.proofs.Common.{sym, ap, ◌∙◌}
 use Rattle.typst_candidates.specs.Candidates.{is_among}
-use Rattle.typst_candidates.proofs.Notes.{among_here, among_next, among_none}
+use Rattle.typst_candidates.proofs.Bytes.{among_here, among_next, among_none}
 use Rattle.typst_candidates.proofs.cuts.Cuts.has.Goals as goal
 
 pub returns-then-byte-start : goal.returns-then-byte-start

@@ -1,0 +1,6 @@
+use Rattle.std.proofs.Common.{drop}
+use Rattle.typst_candidates.specs.Records.{AllFit}
+use Rattle.typst_candidates.proofs.records.fit.Given as goal
+
+abbrev pub invariant-loop-note : goal.invariant-loop-note
+invariant-loop-note l = AllFit (drop l.note-index l.notes) → AllFit l.notes

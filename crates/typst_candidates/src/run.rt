@@ -1,0 +1,124 @@
+//! Where the pieces of a run begin, and where a block ends, by the records of a text.
+
+ghost use Rattle.std.specs.Prelude.{◌≡◌, ◌&&◌, ◌==◌, ◌<◌, ◌≤◌, ◌^◌, ◌++◌, ◌∷◌, [], if◌then◌else◌, IfOk, OnOk, drop, length};
+ghost use Rattle.typst_candidates.specs.Cursors as spec;
+ghost use Rattle.typst_candidates.specs.Entries.{end_of};
+ghost use Rattle.typst_candidates.specs.Rows.{run_of};
+ghost use Rattle.typst_candidates.specs.Units.{behind_first};
+
+use crate::cursor::{Cursor, inside_behind, leads};
+use crate::cuts::Cuts;
+use crate::entry::Tag;
+use crate::records::Records;
+use std::alloc::{AllocError, Global};
+use typst_language::Block;
+
+impl<'a> Cursor<'a> {
+    /// Where the pieces behind the place begin, in bytes, of the run that it stands in. Goes through the
+    /// entries up to the end of the run.
+    fn starts(&self, alloc: Global) -> Result<Vec<usize>, AllocError>
+        ensures { IfOk result (λ bytes. bytes.items ≡ spec.pieces_of 0 (spec.start_at self.now) (drop self.now.number self.now.entries)) }
+    {
+        let mut starts = Vec::new(alloc);
+        let mut place = self.copy();
+        let mut inside = 0usize;
+        loop {
+            let Some(entry) = place.next() else {
+                return Ok(starts);
+            };
+            add_piece(&mut starts, entry.tag, inside, place.start())?;
+            let Some(further) = inside_behind(entry.tag, inside) else {
+                return Ok(starts);
+            };
+            inside = further;
+        }
+    }
+
+    /// The run that the place stands in, if a piece of it begins behind the place.
+    fn run(&self, alloc: Global) -> Result<Option<Cuts>, AllocError>
+        ensures { IfOk result (λ run. run_of run ≡ behind_first (spec.pieces_of 0 (spec.start_at self.now) (drop self.now.number self.now.entries))) }
+    {
+        let mut starts = self.starts(alloc)?;
+        if starts.is_empty() {
+            return Ok(None);
+        }
+        starts.remove(0);
+        Ok(Some(Cuts { starts }))
+    }
+}
+
+impl Records {
+    /// The text's own run. Goes through all entries.
+    pub fn top_run(&self, alloc: Global) -> Result<Option<Cuts>, AllocError>
+        requires { end_of 0 self.now.units.entries < 2 ^ 64 }
+        ensures { IfOk result (λ run. run_of run ≡ behind_first (spec.pieces_of 0 0 self.now.units.entries)) }
+    {
+        self.cursor().run(alloc)
+    }
+
+    /// The run of the content block that begins at byte `at`; `None` where no block or no piece of it is
+    /// noted, as at the limit of depth. Goes through the entries up to the block's end.
+    pub fn run_in(&self, alloc: Global, at: usize) -> Result<Option<Cuts>, AllocError>
+        requires { end_of 0 self.now.units.entries < 2 ^ 64 }
+        ensures { IfOk result (λ run. run_of run ≡ spec.pieces_in at 0 self.now.units.entries) }
+    {
+        let mut place = self.cursor();
+        while let Some(entry) = place.next() {
+            if begins_content(at, entry.tag, place.start()) {
+                return place.run(alloc);
+            }
+        }
+        Ok(None)
+    }
+
+    /// The number of the entry at which the block ends that stands around the entries from the one of
+    /// this number on. Goes through the entries up to there.
+    pub fn closing(&self, from: usize) -> Option<usize>
+        requires within { from ≤ length self.now.units.entries }
+        requires fits { end_of 0 self.now.units.entries < 2 ^ 64 }
+        ensures { result ≡ spec.closing_of 0 from (drop from self.now.units.entries) }
+    {
+        let mut place = self.cursor_at(from);
+        let mut inside = 0usize;
+        loop {
+            let number = place.number();
+            let entry = place.next()?;
+            let Some(further) = inside_behind(entry.tag, inside) else {
+                return Some(number);
+            };
+            inside = further;
+        }
+    }
+}
+
+/// Adds the byte of an entry's token, where a piece of a run itself begins in so many blocks of the run.
+fn add_piece(
+    starts: &mut Vec<usize>,
+    tag: Tag,
+    inside: usize,
+    start: usize,
+) -> Result<(), AllocError>
+    ensures { OnOk result (starts.new.items ≡ starts.old.items ++ (if spec.leads tag inside then start ∷ [] else [])) }
+{
+    if leads(tag, inside) {
+        starts.push(start)?;
+    }
+    Ok(())
+}
+
+/// Whether a content block begins at byte `at`, by an entry whose token begins at the byte `start`.
+fn begins_content(at: usize, tag: Tag, start: usize) -> bool
+    ensures { result ≡ (spec.opens_content tag && start == at) }
+{
+    opens_content(tag) && start == at
+}
+
+/// Whether a content block begins.
+fn opens_content(tag: Tag) -> bool
+    ensures { result ≡ spec.opens_content tag }
+{
+    match tag {
+        Tag::Opens(block, _) => block == Block::Content,
+        _ => false,
+    }
+}

@@ -1,0 +1,88 @@
+-- The tree of an edit's answer.
+use Rattle.std.proofs.Common.{◌≡◌, ℕ, ◌^◌, Bool, true, false, IsTrue, List, [], ◌∷◌, ◌++◌, Option, Some, None, refl, ap, sym, ◌∙◌, subst}
+use Rattle.std.specs.Prelude.{◌-◌, nat_le, if◌then◌else◌}
+use Rattle.typst_kinds.specs.Span.{SpanValue}
+use Rattle.typst_kinds.specs.Head.{bare_head, spanned}
+use Rattle.typst_lines.specs.Classes.{CharClasses}
+use Rattle.typst_tree.specs.Tree.{Tree, Forest, none, more, bare, bare_forest, with_each, synthesized, nodes}
+use Rattle.typst_tree.specs.Numbers.{numbered}
+use Rattle.typst_tree.specs.Laws.{put_at}
+use Rattle.typst_tree.proofs.Numbering.{numbered_bare}
+use Rattle.typst_tokens.specs.Sight.{width}
+use Rattle.typst_candidates.specs.Candidates.{Candidate}
+use Rattle.typst_grammar.specs.Grammar.{tree, log}
+use Rattle.typst_edits.specs.Answer.{numbered_in, file_of}
+use Rattle.typst_edits.specs.Answer.IsAnswer.{part, whole}
+use Rattle.typst_edits.specs.AnswerTree.{GivesTreeLaw, AnswerTreeLaw}
+use Rattle.typst_edits.specs.Edit.{Among}
+use Rattle.typst_edits.specs.Edit.Among.{this, that}
+use Rattle.typst_edits.specs.Frame.{top, inner, of_block, of_pieces}
+use Rattle.typst_edits.specs.OpensApart.{OpensApartLaw}
+use Rattle.typst_edits.specs.PieceNotes.{listed}
+use Rattle.typst_edits.proofs.BlockWorth.{block-tree}
+use Rattle.typst_edits.proofs.CandidatePlaces.{candidate-tree-law}
+use Rattle.typst_edits.proofs.CandidateWorth.{in-order, one-child, reached, tree-inner}
+use Rattle.typst_edits.proofs.InnerCandidates.{inner-candidate-law}
+use Rattle.typst_edits.proofs.InnerPieces.{inner-pieces-law}
+use Rattle.typst_edits.proofs.Replaced.{put-law}
+use Rattle.typst_edits.proofs.RootCandidates.{root-candidate-law}
+use Rattle.typst_edits.proofs.RootPieces.{root-pieces-law}
+
+-- ---- a candidate's tree
+
+module _ (k : CharClasses) (front old new rest : List ℕ) (c : Candidate) where
+  -- the tree of the new text is the old one with these nodes in its place
+  abbrev Fits : List Tree → Type 0
+  Fits ts = tree k (front ++ (new ++ rest)) ≡ put_at c.path c.from c.to ts (tree k (front ++ (old ++ rest)))
+
+pub gives-tree-law : OpensApartLaw → GivesTreeLaw
+gives-tree-law apart k front old new rest root c ts same chosen (of_block s past block there path passes is) =
+    let text = front ++ (old ++ rest) in
+    let one = one-child k text (width front) (width (front ++ old)) root c chosen block in
+    let reaches = reached k text (width front) (width (front ++ old)) root c (in-order front old) same chosen in
+    subst (Fits k front old new rest c) (sym is) (block-tree k front old new rest c s past there path one reaches passes)
+gives-tree-law apart k front old new rest root c ts same chosen (of_pieces top i n m past t u pieces path start led end h is) =
+    let well = root-candidate-law k front old new rest root c i n m past t u same chosen pieces (sym path) start led end h in
+    subst (Fits k front old new rest c) (sym is) (root-pieces-law k front old new rest c i n m past t u (sym path) start led end h well)
+gives-tree-law apart k front old new rest root c ts same chosen (of_pieces (inner s levels there name level) i n m past t u pieces path start led end h is) =
+    let well = inner-candidate-law apart k levels front old new rest root s there name level c i n m past t u same chosen pieces (sym path) start led end h in
+    subst (Fits k front old new rest c) (sym is) (inner-pieces-law k levels front old new rest s there name level c i n m past t u well.0 (sym path) start led end h well.1)
+
+-- ---- a tree numbered anew
+
+each-bare : (sp : SpanValue) (f : Forest) → bare_forest (with_each (spanned sp) f) ≡ bare_forest f
+each-bare sp none = refl
+each-bare sp (more h ks r) = λ i. more (bare_head h) (each-bare sp ks i) (each-bare sp r i)
+
+pub some-is : (t u : Tree) → ◌≡◌ {A = Option Tree} (Some t) (Some u) → t ≡ u
+some-is t u e = ap (λ (o : Option Tree). elim o as (λ _. Tree) [ None ↦ t | Some v ↦ v ]) e
+
+numbered-bare : (file : Option ℕ) (t now : Tree) → numbered_in file t ≡ Some now → bare now ≡ bare t
+numbered-bare None t now e = ap bare (sym (some-is (synthesized None t) now e)) ∙ (λ i. record { head = bare_head t.head; kids = each-bare None t.kids i })
+numbered-bare (Some file) t now e = by-room (nat_le (nodes t) (2 ^ 47 - 2)) e
+  where
+    by-room : (b : Bool) → (if b then Some (numbered file 2 (2 ^ 47 - 2) t) else None) ≡ Some now → bare now ≡ bare t
+    by-room true e = ap bare (sym (some-is (numbered file 2 (2 ^ 47 - 2) t) now e)) ∙ numbered_bare file 2 (2 ^ 47 - 2) t
+    by-room false e = absurd (cc)
+
+-- ---- an answer
+
+pub chosen-of : {X : Type 0} (xs earlier : List X) (c : X) (later : List X) → xs ≡ earlier ++ c ∷ later → Among c xs
+chosen-of {X = X} xs earlier c later e = subst (λ ys. Among c ys) (sym e) (in-front earlier)
+  where
+    in-front : (ys : List X) → Among c (ys ++ c ∷ later)
+    in-front [] = this later
+    in-front (y ∷ ys) = that y (ys ++ c ∷ later) (in-front ys)
+
+-- a tree that is a text's, spans aside, is an inner node
+inner-as : (k : CharClasses) (text : List ℕ) (root : Tree) → bare root ≡ bare (tree k text) → IsTrue root.head.is_inner
+inner-as k text root e = subst (λ (b : Bool). IsTrue b) (sym (ap (λ (t : Tree). t.head.is_inner) e)) (tree-inner k text)
+
+pub answer-tree-law : OpensApartLaw → AnswerTreeLaw
+answer-tree-law apart k front old new rest root now range same (part earlier c later ts split refused gives is start end) =
+    let text = front ++ (old ++ rest) in
+    let chosen = chosen-of _ earlier c later split in
+    let fits = gives-tree-law apart k front old new rest root c ts same chosen gives in
+    candidate-tree-law (listed (log k text).notes) (width front) (width (front ++ old)) c ts root (tree k text) now (inner-as k text root same) (in-order front old) chosen same is
+    ∙ ap bare (sym (fits ∙ put-law c.path c.from c.to ts (tree k text)))
+answer-tree-law apart k front old new rest root now range same (whole refused is bytes) = numbered-bare (file_of root) (tree k (front ++ (new ++ rest))) now is

@@ -1,0 +1,423 @@
+-- A candidate in a content block: where its children stand among the bytes, and that it begins well.
+use Rattle.std.proofs.Common.{◌≡◌, inl, inr, ℕ, zero, suc, ◌+◌, ◌-◌, ◌<◌, ◌≤◌, ◌==◌, ne_eqb, if◌then◌else◌, Bool, true, false, List, [], ◌∷◌, ◌++◌, length, take, length-append, append_assoc, append-nil, Option, None, Some, refl, ap, sym, ◌∙◌, subst, arith}
+use Rattle.typst_kinds.specs.declared.kind.SyntaxKind.TheVariants as kind
+use Rattle.typst_kinds.specs.Head.{inner_head}
+use Rattle.typst_lines.specs.Place.{Place, moved}
+use Rattle.typst_lines.specs.Classes.{CharClasses}
+use Rattle.typst_tree.specs.Tree.{Tree, Forest, none, more, forest, trees, joined, text_of, bare, inner_of}
+use Rattle.typst_tokens.specs.Sight.{width}
+use Rattle.typst_language.specs.declared.calls.Block.TheVariants as block
+use Rattle.typst_language.specs.declared.calls.Note.{Note}
+use Rattle.typst_language.specs.declared.reading.Reading.{Reading}
+use Rattle.typst_language.specs.Hand.{len_at, utf8_ahead}
+use Rattle.typst_language.specs.Meaning.{Outcome, start_point, run}
+use Rattle.typst_language.specs.Point.{Trivia, point_of, gap_of, pending}
+use Rattle.typst_language.proofs.Knot.{sane-meaning, sane-block, sane-plain}
+use Rattle.typst_language.proofs.Leaves.{texts, texts-append, texts-one, text-add}
+use Rattle.typst_candidates.specs.Units.{cuts_in, top_cuts}
+use Rattle.typst_candidates.specs.Candidates.{Child, laid, child_at, is_among, begins, Candidate, of_run, run_in}
+use Rattle.typst_grammar.specs.Markup.{ends_block, markup_turn, markup_reading}
+use Rattle.typst_grammar.specs.Grammar.{rules, max_depth, start_of, whole, parsed, log, tree}
+use Rattle.typst_edits.specs.Answer.{candidates}
+use Rattle.typst_edits.specs.BlockRuns.{inner, run_at, opened_at}
+use Rattle.typst_edits.specs.Children.{Settles}
+use Rattle.typst_edits.specs.Edit.{Among, text_with}
+use Rattle.typst_edits.specs.Every.{Every}
+use Rattle.typst_edits.specs.Frame.{cut_at, PassesPieces}
+use Rattle.typst_edits.specs.Hole.{fill, path_of}
+use Rattle.typst_edits.specs.Hole.Deep.{under}
+use Rattle.typst_edits.specs.InnerChildren.{standing_in, nodes_in, block_with}
+use Rattle.typst_edits.specs.InnerBytes.{inner_end, inner_both}
+use Rattle.typst_edits.specs.InnerJoint.{onwards_in}
+use Rattle.typst_edits.specs.InnerPieces.{block_run, Around, kids_in, markup_from}
+use Rattle.typst_edits.specs.Laws.{blocks_of_text, block_at}
+use Rattle.typst_edits.specs.Leading.{LeadsAt, bytes_of, token_byte, opening_child, LeadingInner}
+use Rattle.typst_edits.specs.Named.{Named}
+use Rattle.typst_edits.specs.OpensApart.{OpensApartLaw}
+use Rattle.typst_edits.specs.PieceNotes.{listed}
+use Rattle.typst_edits.specs.Sequence.{Sequence, turn_of, first_of, first_end, then_of, then_end}
+use Rattle.typst_edits.specs.Runs.{AllGo, End}
+use Rattle.typst_edits.specs.Spot.{Spot, ended, unit_at}
+use Rattle.typst_edits.specs.RootPieces.{StandsAt}
+use Rattle.typst_edits.specs.InnerCandidates.{InnerCandidateLaw}
+use Rattle.typst_edits.proofs.BareCandidates.{bare-candidates-law}
+use Rattle.typst_edits.proofs.BlockRuns.{sane as in-sane}
+use Rattle.typst_edits.proofs.Boundary.{looks_in, each-ends, made-add, go-add}
+use Rattle.typst_edits.proofs.Blocks.{ends}
+use Rattle.typst_edits.proofs.CandidateEnds.{stretch, Quiet, GivesAt, GivesOne, Parted, parted, begun}
+use Rattle.typst_edits.proofs.Children.{known-behind}
+use Rattle.typst_edits.proofs.Clear.{Clear, clear-level}
+use Rattle.typst_edits.proofs.Content.{content-begun}
+use Rattle.typst_edits.proofs.Edit.{among, trees-of}
+use Rattle.typst_edits.proofs.Fitting.{no-front, same-here}
+use Rattle.typst_edits.proofs.Heads.{inner-lone}
+use Rattle.typst_edits.proofs.InnerChildren.{opens-by, inner-back-law, tree-by-block}
+use Rattle.typst_edits.proofs.InnerCuts.{BlockCuts, cuts-of-block}
+use Rattle.typst_edits.proofs.Inside.{Lawful}
+use Rattle.typst_edits.proofs.Law.{inside-level}
+use Rattle.typst_edits.proofs.Leading.{leading-inner-law}
+use Rattle.typst_edits.proofs.Joint.{takes-call}
+use Rattle.typst_edits.proofs.Led.{same-judged}
+use Rattle.typst_edits.proofs.NoneBack.{inner-onwards-is}
+use Rattle.typst_edits.proofs.NoteNumbers.{go-fewer}
+use Rattle.typst_edits.proofs.QuietTrivia.{inner-quiet}
+use Rattle.typst_edits.proofs.MarkupCandidates.{InMarkup, descend, of-run}
+use Rattle.typst_edits.proofs.Names.{named-level}
+use Rattle.typst_edits.proofs.Placed.{left_text, Placed, placed-level}
+use Rattle.typst_edits.proofs.RootPieces.{take-past}
+use Rattle.typst_edits.proofs.Walk.{length-texts, width-encodes}
+use Rattle.typst_edits.proofs.Widths.{width-append}
+
+-- ---- from bytes to characters
+
+-- what ends before a stretch in bytes does so in characters
+sooner : (n : ℕ) (xs ys : List ℕ) → width (take n (xs ++ ys)) < width xs → n < length xs
+unfolding width
+sooner n [] ys h = absurd (omega (arith, h))
+sooner zero (x ∷ xs) ys h = omega arith
+sooner (suc n) (x ∷ xs) ys h = let i = sooner n xs ys (omega (arith, h)) in omega (arith, i)
+
+-- and what ends behind it
+further : (n : ℕ) (xs ys : List ℕ) → width xs < width (take n (xs ++ ys)) → length xs < n
+unfolding width
+further zero xs ys h = absurd (omega (arith, h))
+further (suc n) [] ys h = omega arith
+further (suc n) (x ∷ xs) ys h = let i = further n xs ys (omega (arith, h)) in omega (arith, i)
+
+-- ---- where a block's node stands
+
+joined-trees : (f : Forest) → joined f ≡ texts (trees f)
+joined-trees none = refl
+joined-trees (more h ks r) = ap (λ xs. h.text ++ (joined ks ++ xs)) (joined-trees r)
+
+-- a child of several that begin at a byte lies among them
+record Lies (at : ℕ) (ts : List Tree) (c : Child) : Type 0 where
+  from : at ≤ c.start
+  long : c.end ≡ c.start + length (text_of c.node)
+  to : c.end ≤ at + length (texts ts)
+
+some-is : {A : Type 0} (P : A → Type 0) (a b : A) → ◌≡◌ {A = Option A} (Some a) (Some b) → P a → P b
+some-is P a b e h = subst (λ o. elim o as (λ _. Type 0) [ None ↦ Unit {0} | Some x ↦ P x ]) e h
+
+lies : (at : ℕ) (ts : List Tree) (i : ℕ) (c : Child) → child_at (laid at ts) i ≡ Some c → Lies at ts c
+lies at [] i c e = absurd (cc)
+lies at (t ∷ ts) zero c e =
+    let l = length-texts t ts in
+    some-is (Lies at (t ∷ ts)) (record { start = at; end = at + length (text_of t); node = t }) c e (record { from = omega arith; long = refl; to = omega (arith, l) })
+lies at (t ∷ ts) (suc i) c e =
+    let l = length-texts t ts in
+    let r = lies (at + length (text_of t)) ts i c e in
+    let from = r.from in
+    let to = r.to in
+    record { from = omega (arith, from); long = r.long; to = omega (arith, to, l) }
+
+-- where the node of a block that isn't empty begins and ends, in bytes
+record Seat (text : List ℕ) (s : Spot (Unit {0})) : Type 0 where
+  some : 0 < (unit_at s (start_of text)).taken
+  left_is : length (left_text s.hole) ≡ width (take s.at text)
+  both : width (take s.at text) + length (text_of s.node) ≡ width (take (s.at + (unit_at s (start_of text)).taken) text)
+
+seat-of : (k : CharClasses) (text : List ℕ) (s : Spot (Unit {0})) → Among s (blocks_of_text k text) → 0 < length (text_of s.node) → Seat text s
+unfolding blocks_of_text
+seat-of k text c chosen full =
+    let z = start_of text in
+    let s = start_point markup_reading in
+    let o = parsed k max_depth text in
+    let u = unit_at c z in
+    let y = moved c.at z in
+    let p = point_of c.start in
+    let l = among (Lawful z z o o) c _ chosen (inside-level (rules k) k (ends k) max_depth whole z z s) in
+    let n = among (Named (block_at k) max_depth) c _ chosen (named-level (rules k) k max_depth whole z s) in
+    let clear = among (Clear k z) c _ chosen (clear-level (rules k) k max_depth whole z s tt) in
+    let placed = among (Placed z s) c _ chosen (placed-level (rules k) k max_depth whole z s tt) in
+    let levels = max_depth - c.fewer in
+    let sane = sane-block (rules k) k levels c.name in
+    let read : u ≡ ended (block_at k levels c.name y p) = ap (λ r. r y p) n.reads in
+    -- its nodes hold its characters
+    let all : texts (c.front ++ c.node ∷ []) ≡ utf8_ahead u.taken y =
+    sym (ap texts l.fits.nodes) ∙ ap (λ (q : Outcome (Unit {0})). texts q.nodes) read ∙ (sane.kept y p tt).text ∙ ap (λ (q : Outcome (Unit {0})). utf8_ahead q.taken y) (sym read) in
+    let long = ap length all in
+    let split = ap length (texts-append c.front (c.node ∷ [])) in
+    let sum = length-append (texts c.front) (texts (c.node ∷ [])) in
+    let one = ap length (texts-one c.node) in
+    let some : 0 < u.taken = some-taken u.taken y (omega (arith, full, long, split, sum, one)) in
+    let none_before : c.front ≡ [] = no-front k max_depth c z n clear l.fits some in
+    let held : text_of c.node ≡ utf8_ahead u.taken y = sym (texts-one c.node) ∙ ap (λ ts. texts (ts ++ c.node ∷ [])) (sym none_before) ∙ all in
+    let before : left_text c.hole ≡ utf8_ahead c.at z = placed.left ∙ ap (λ ts. utf8_ahead c.at z ++ texts ts) none_before ∙ append-nil (utf8_ahead c.at z) in
+    record {
+      some = some;
+      left_is = ap length before ∙ width-encodes (take c.at text);
+      both =
+          (let a = ap length held in
+          let b = width-encodes (take c.at text) in
+          let d = width-encodes (take (c.at + u.taken) text) in
+          let e = ap length (text-add c.at u.taken z) in
+          let f = length-append (utf8_ahead c.at z) (utf8_ahead u.taken y) in
+          omega (arith, a, b, d, e, f));
+    }
+  where
+    some-taken : (n : ℕ) (y : Place) → 0 < length (utf8_ahead n y) → 0 < n
+    some-taken zero y h = absurd (omega (arith, h))
+    some-taken (suc n) y h = omega arith
+
+-- ---- what stands in its node
+
+module _ (k : CharClasses) (levels : ℕ) (text : List ℕ) (c : Spot (Unit {0})) (chosen : Among c (blocks_of_text k text)) (name : c.name ≡ block.Content) (left : max_depth - c.fewer ≡ suc levels) (some : 0 < (unit_at c (start_of text)).taken) where
+  -- the trivia where its run begins
+  record FirstTrivia : Type 0 where
+    trivia : Trivia
+    is : (then_end 0 0 (run_at k levels c (start_of text))).state.known ≡ Some trivia
+
+  first-trivia : FirstTrivia
+  unfolding run
+  first-trivia = record { trivia = _; is = refl }
+
+  no-errors : (then_end 0 0 (run_at k levels c (start_of text))).state.empties ≡ 0
+  unfolding blocks_of_text run
+  no-errors =
+      let z = start_of text in
+      let s = point_of c.start in
+      let y = moved c.at z in
+      let named = among (Named (block_at k) max_depth) c _ chosen (named-level (rules k) k max_depth whole z (start_point markup_reading)) in
+      let clear = among (Clear k z) c _ chosen (clear-level (rules k) k max_depth whole z (start_point markup_reading) tt) in
+      let reads : unit_at c z ≡ ended (block_at k (suc levels) block.Content y s) =
+      ap (λ m. m y s) named.reads ∙ ap (λ v. ended (block_at k v c.name y s)) left ∙ ap (λ x. ended (block_at k (suc levels) x y s)) name in
+      let begun = content-begun (inner k levels) (sane-meaning (rules k) k (suc levels)) (λ b. sane-plain tt) y s refl (clear.clear z (same-here c.before z)) (subst (λ (a : Outcome (Unit {0})). 0 < a.taken) reads some) in
+      (opens-by k levels y s begun).empties
+
+  -- its bracket, its markup with the children of its run, and what stands behind that
+  node-shape : LeadingInner k levels text c 0 0 first-trivia.trivia
+  node-shape =
+      let back = (inner-back-law k levels text c 0 0).behind_back in
+      let none_there = no-errors in
+      leading-inner-law k levels text c 0 0 first-trivia.trivia chosen name left some tt tt first-trivia.is (inr (omega (arith, back, none_there)))
+
+-- ---- a candidate among its markup's children
+
+-- The block is around the stretch, and the candidate is one of its run, whose cuts are these.
+pub record OfBlock (k : CharClasses) (levels : ℕ) (front old rest : List ℕ) (s : Spot (Unit {0})) (c : Candidate) : Type 0 where
+  pub around : Around front old rest s
+  pub some : 0 < (unit_at s (start_of (front ++ (old ++ rest)))).taken
+  pub own : BlockCuts k levels (front ++ (old ++ rest)) s (width (take s.at (front ++ (old ++ rest))))
+  pub chosen : Among c (of_run (width front) (width (front ++ old)) c.path (markup_from k levels (front ++ (old ++ rest)) s) (kids_in s.node) (Some own.cuts))
+
+-- in a block with such a node, its second child and what stands in that
+in-markup : (ns : List Note) (rs re at from : ℕ) (closed : Bool) (lead : Tree) (kids closing : List Tree) (c : Candidate) → InMarkup ns rs re at (block_with closed lead kids closing) c → at + length (text_of (opening_child closed lead)) ≡ from
+    → Among c (of_run rs re c.path from kids (cuts_in at ns))
+in-markup ns rs re at from closed lead kids closing c m sum =
+    let opening = opening_child closed lead in
+    let markup = inner_of kind.Markup (forest kids) in
+    let start = (at + 0) + length (text_of opening) in
+    let second : Child = record { start = start; end = start + length (text_of markup); node = markup } in
+    let own = some-is (λ (d : Child). Among c (of_run rs re c.path (d.start + length d.node.head.text) (trees d.node.kids) (run_in ns at kind.ContentBlock d.node.head.kind))) m.child second (sym m.is) m.chosen in
+    let here : start + 0 ≡ from = omega (arith, sum) in
+    subst (λ ts. Among c (of_run rs re c.path from ts (cuts_in at ns))) (trees-of kids) (subst (λ a. Among c (of_run rs re c.path a (trees (forest kids)) (cuts_in at ns))) here own)
+
+pub of-block : OpensApartLaw → (k : CharClasses) (levels : ℕ) (front old rest : List ℕ) (root : Tree) (s : Spot (Unit {0})) → Among s (blocks_of_text k (front ++ (old ++ rest))) → s.name ≡ block.Content → max_depth - s.fewer ≡ suc levels
+    → (c : Candidate) → bare root ≡ bare (tree k (front ++ (old ++ rest))) → Among c (candidates k (front ++ (old ++ rest)) (width front) (width (front ++ old)) root) → c.is_block ≡ false → c.path ≡ path_of s.hole ++ 1 ∷ []
+    → OfBlock k levels front old rest s c
+of-block apart k levels front old rest root s chosen name level c same candidate pieces path =
+    let text = front ++ (old ++ rest) in
+    let ns = listed (log k text).notes in
+    let rs = width front in
+    let re = width (front ++ old) in
+    let was = tree k text in
+    let hole = s.hole in
+    let deep = under (inner_head kind.Markup) hole.left hole.deep hole.right in
+    let own_tree = tree-by-block k front old rest s chosen s.node refl in
+    let there : Among c (candidates k text rs re (fill deep s.node)) = subst (λ cs. Among c cs) (bare-candidates-law ns rs re root was same ∙ ap (candidates k text rs re) own_tree) candidate in
+    let m : InMarkup ns rs re (0 + length (left_text hole)) s.node c = among _ c _ there (descend ns rs re deep s.node [] (top_cuts ns) 0) pieces path in
+    let in_node = lies ((0 + length (left_text hole)) + length s.node.head.text) (trees s.node.kids) 1 m.child m.is in
+    let order = width-append front old in
+    let starts = m.starts in
+    let ends_at = m.ends in
+    let from = in_node.from in
+    let to = in_node.to in
+    let held : length (text_of s.node) ≡ length s.node.head.text + length (texts (trees s.node.kids)) = length-append s.node.head.text _ ∙ ap (λ n. length s.node.head.text + n) (ap length (joined-trees s.node.kids)) in
+    let full : 0 < length (text_of s.node) = omega (arith, order, starts, ends_at, from, to, held) in
+    let seat = seat-of k text s chosen full in
+    let shape = node-shape k levels text s chosen name level seat.some in
+    let at = width (take s.at text) in
+    let left_is = seat.left_is in
+    let both = seat.both in
+    let here : 0 + length (left_text hole) ≡ at = omega (arith, left_is) in
+    let cuts = cuts-of-block apart k levels text s chosen name level in
+    let early : at < rs = omega (arith, here, from, starts) in
+    let late : re < width (take (s.at + (unit_at s (start_of text)).taken) text) = omega (arith, here, to, ends_at, held, both) in
+    let apart_text : (front ++ old) ++ rest ≡ text = append_assoc front old rest in
+    let long = length-append front old in
+    let behind = further (s.at + (unit_at s (start_of text)).taken) (front ++ old) rest (subst (λ xs. re < width (take (s.at + (unit_at s (start_of text)).taken) xs)) (sym apart_text) late) in
+    let in_shape = subst (λ x. InMarkup ns rs re at x c) shape.node (subst (λ a. InMarkup ns rs re a s.node c) here m) in
+    let run = in-markup ns rs re at shape.from shape.closed shape.bracket shape.kids shape.closing c in_shape shape.opening in
+    let kids : shape.kids ≡ kids_in s.node = sym (ap kids_in shape.node ∙ trees-of shape.kids) in
+    record {
+      around = record { starts = sooner s.at front (old ++ rest) early; ends = omega (arith, long, behind) };
+      some = seat.some;
+      own = cuts;
+      chosen = subst (λ o. Among c (of_run rs re c.path (markup_from k levels text s) (kids_in s.node) o)) cuts.are
+          (subst (λ a. Among c (of_run rs re c.path a (kids_in s.node) (cuts_in at ns))) shape.begins (subst (λ ts. Among c (of_run rs re c.path shape.from ts (cuts_in at ns))) kids run));
+    }
+
+-- ---- it begins well
+
+-- behind one more piece the next token begins at a cut
+one-cut : (k : CharClasses) (levels : ℕ) (text : List ℕ) (s : Spot (Unit {0})) (at i : ℕ) (b : BlockCuts k levels text s at) → (let r = run_at k levels s (start_of text) in AllGo (first_of i r) → AllGo (then_of i 1 r)
+    → is_among (token_byte text (inner_both k levels i 1 s (start_of text))) b.cuts ≡ true)
+one-cut k levels text s at i b g h =
+    let r = run_at k levels s (start_of text) in
+    let a = opened_at k levels s (start_of text) in
+    let one : i + 1 ≡ suc i = omega arith in
+    let more : AllGo (first_of (suc i) r) = subst (λ j. AllGo (first_of j r)) one (go-add (turn_of r) (looks_in r) (each-ends r) i 1 (true, 0) r.place r.point g h) in
+    let end = made-add (turn_of r) (looks_in r) (each-ends r) i 1 (true, 0) r.place r.point in
+    let byte = λ (e : End (Bool × ℕ)). width (take ((a + e.taken) + gap_of e.state.known) text) in
+    let there : token_byte text (inner_end k levels (suc i) s (start_of text)) ≡ token_byte text (inner_both k levels i 1 s (start_of text)) = ap (λ j. byte (first_end j r)) (sym one) ∙ ap byte end in
+    subst (λ c. is_among c b.cuts ≡ true) there (b.is.has (suc i) (omega arith) (b.all (suc i) more))
+
+module _ (k : CharClasses) (levels : ℕ) (front old new rest : List ℕ) (s : Spot (Unit {0})) (chosen : Among s (blocks_of_text k (front ++ (old ++ rest)))) (name : s.name ≡ block.Content) (level : max_depth - s.fewer ≡ suc levels)
+    (some : 0 < (unit_at s (start_of (front ++ (old ++ rest)))).taken) (i n m past : ℕ) (t u : Trivia) (h : PassesPieces k front old new rest (block_run s levels chosen name level) i n m past t u) where
+  abbrev whole_text : List ℕ
+  whole_text = front ++ (old ++ rest)
+
+  abbrev z : Place
+  z = start_of whole_text
+
+  abbrev r : Sequence
+  r = run_at k levels s z
+
+  abbrev from : ℕ
+  from = markup_from k levels whole_text s
+
+  abbrev kids : List Tree
+  kids = kids_in s.node
+
+  -- where their first token begins, in bytes
+  abbrev begin : ℕ
+  begin = token_byte whole_text (inner_end k levels i s z)
+
+  -- where the pieces begin and end, in bytes
+  start-byte : (at : ℕ) → at ≡ width (take (cut_at (block_run s levels chosen name level) i (text_with front old rest)) whole_text) → 0 < i → at ≡ begin
+  start-byte at is l =
+      let e = first_end i r in
+      let a = opened_at k levels s z in
+      let sum : a + (e.taken + gap_of e.state.known) ≡ (a + e.taken) + gap_of e.state.known = omega arith in
+      is ∙ ap (λ b. width (take (a + (if b then 0 else e.taken + gap_of e.state.known)) whole_text)) (ne_eqb i 0 (not-none i l)) ∙ ap (λ d. width (take d whole_text)) sum
+    where
+      not-none : (j : ℕ) → 0 < j → j ≡ 0 → ⊥
+      not-none j l e = absurd (omega (arith, l, e))
+
+  end-byte : (at : ℕ) → at ≡ width (front ++ (old ++ take past rest)) → at ≡ token_byte whole_text (inner_both k levels i n s z)
+  end-byte at is =
+      let f = inner_both k levels i n s z in
+      let sum : f.taken + gap_of f.state.known ≡ (length front + length old) + past = ap (λ v. f.taken + gap_of v) h.known ∙ h.ends in
+      is ∙ sym (ap width (take-past front old rest past (f.taken + gap_of f.state.known) sum))
+
+  none-there : n ≡ 0 → token_byte whole_text (inner_both k levels i n s z) ≡ begin
+  none-there nothing =
+      let e = first_end i r in
+      let a = opened_at k levels s z in
+      let sum : (a + (e.taken + 0)) + gap_of e.state.known ≡ (a + e.taken) + gap_of e.state.known = omega arith in
+      ap (λ d. token_byte whole_text (inner_both k levels i d s z)) nothing ∙ ap (λ d. width (take d whole_text)) sum
+
+  -- pieces there, or none behind others, keep what is behind them from what is before them
+  settles : (j l : ℕ) → (0 < j → 0 < l) → Settles l (onwards_in k levels j l s z)
+  settles zero zero f =
+      let back = (inner-back-law k levels whole_text s 0 0).behind_back in
+      let none_there = no-errors k levels whole_text s chosen name level some in
+      inr (omega (arith, back, none_there))
+  settles zero (suc l) f = inl (omega arith)
+  settles (suc j) l f = inl (f (omega arith))
+
+  -- what pieces behind i give, by the children that lead
+  gives-by : (l : ℕ) (v : Trivia) → LeadingInner k levels whole_text s i l v → GivesAt r from kids i l v begin (token_byte whole_text (inner_both k levels i l s z))
+  gives-by l v led =
+      let same : led.kids ≡ kids = sym (ap kids_in led.node ∙ trees-of led.kids) in
+      let a = token_byte whole_text (inner_both k levels i l s z) in
+      record {
+        before = standing_in k levels i l s z;
+        back = (onwards_in k levels i l s z).back;
+        behind = led.behind;
+        children = sym same ∙ led.children;
+        few = (inner-back-law k levels whole_text s i l).behind_back;
+        ends = ap (λ b. b + bytes_of (standing_in k levels i l s z ++ nodes_in k levels i l v s z)) (sym led.begins) ∙ led.ends;
+        onwards = ap (λ (o : Outcome (Unit {0})). o.nodes) (sym (inner-onwards-is k levels i l s z)) ∙ led.onwards;
+        first = λ more. subst (λ b. LeadsAt b kids begin (length (standing_in k levels i l s z) + length (pending (first_end i r).state.known))) led.begins
+            (subst (λ ts. LeadsAt led.from ts begin (length (standing_in k levels i l s z) + length (pending (first_end i r).state.known))) same (led.first more));
+        next = λ over. subst (λ b. LeadsAt b kids a (length (standing_in k levels i l s z) + length (nodes_in k levels i l v s z))) led.begins
+            (subst (λ ts. LeadsAt led.from ts a (length (standing_in k levels i l s z) + length (nodes_in k levels i l v s z))) same (led.next over));
+        last = led.last;
+      }
+
+  -- the first of them alone
+  record OneKnown : Type 0 where
+    trivia : Trivia
+    is : (then_end i 1 r).state.known ≡ Some trivia
+
+  one-known : AllGo (then_of i 1 r) → OneKnown
+  unfolding run
+  one-known g =
+      let e = first_end i r in
+      let l = inner k levels in
+      let sd = sane-meaning (rules k) k (suc levels) in
+      let deep : (suc levels == 0) ≡ false = ne_eqb (suc levels) 0 (omega arith) in
+      let call = λ (h : Reading) (y : Place) (v : Trivia) (x : Bool × ℕ) (more : 0 < len_at k h.mode (moved v.gap y)). takes-call k levels h y v v (same-judged h v) x more in
+      let first = known-behind l sd (λ b. sane-plain tt) deep ends_block refl call i (true, 0) r.place r.point (record { trivia = _; is = refl }) h.first_go in
+      let one = known-behind l sd (λ b. sane-plain tt) deep ends_block refl call 1 e.value (moved e.taken r.place) e.state first g in
+      record { trivia = one.trivia; is = one.is }
+
+  one-goes : 0 < n → AllGo (then_of i 1 r)
+  one-goes there =
+      let e = first_end i r in
+      go-fewer (turn_of r) (λ x. (in-sane k levels (markup_turn true ends_block x)).within) 1 n e.value (moved e.taken r.place) e.state (omega (arith, there)) h.old_go
+
+  gives-one : (own : BlockCuts k levels whole_text s (width (take s.at whole_text))) → 0 < n → GivesOne r own.cuts from kids i begin
+  gives-one own there =
+      let g = one-goes there in
+      let v = one-known g in
+      let led = leading-inner-law k levels whole_text s i 1 v.trivia chosen name level some h.first_go g v.is (inl (omega arith)) in
+      record {
+        trivia = v.trivia;
+        end = token_byte whole_text (inner_both k levels i 1 s z);
+        gives = gives-by 1 v.trivia led;
+        quiet = subst (λ (u : Option Trivia). Every Quiet (pending u)) v.is (inner-quiet k levels (moved s.at z) (point_of s.start) i 1);
+        cut = one-cut k levels whole_text s (width (take s.at whole_text)) i own h.first_go g;
+      }
+
+  -- what they say of the block's children
+  parted-in : (own : BlockCuts k levels whole_text s (width (take s.at whole_text))) (end : ℕ) → end ≡ width (front ++ (old ++ take past rest)) → Parted r own.cuts from kids i n begin end
+  parted-in own end end_is =
+      let all = λ (f : 0 < i → 0 < n). leading-inner-law k levels whole_text s i n t chosen name level some h.first_go h.old_go h.known (settles i n f) in
+      parted r own.cuts from kids i n begin end t h.known
+      (λ f. subst (λ b. GivesAt r from kids i n t begin b) (sym (end-byte end end_is)) (gives-by n t (all f)))
+      (λ l nothing. end-byte end end_is ∙ none-there nothing)
+      (λ l there. gives-one own there)
+      (λ l there minds. inner-lone k levels (moved s.at z) (point_of s.start) i h.first_go (one-goes there) minds)
+
+pub inner-candidate-law : OpensApartLaw → InnerCandidateLaw
+inner-candidate-law apart k levels front old new rest root s chosen name level c i n m past t u same candidate pieces path start led end h =
+    let text = front ++ (old ++ rest) in
+    let b = of-block apart k levels front old rest root s chosen name level c same candidate pieces path in
+    let from = markup_from k levels text s in
+    let kids = kids_in s.node in
+    let rs = width front in
+    let re = width (front ++ old) in
+    let order : rs ≤ re = (let w = width-append front old in omega (arith, w)) in
+    let st = of-run rs re c.path from kids b.own.cuts c b.chosen in
+    let stretch_is = stretch b.own.cuts from kids rs re st.more order in
+    let from_is : c.from ≡ stretch_is.from = ap (λ (d : Candidate). d.from) st.is in
+    let to_is : c.to ≡ stretch_is.to = ap (λ (d : Candidate). d.to) st.is in
+    let start_is : c.start ≡ begins from kids stretch_is.from = ap (λ (d : Candidate). d.start) st.is in
+    let end_is : c.end ≡ begins from kids stretch_is.to = ap (λ (d : Candidate). d.end) st.is in
+    let r = run_at k levels s (start_of text) in
+    let at = token_byte text (inner_end k levels i s (start_of text)) in
+    let at_is = λ (l : 0 < i). start-byte k levels front old new rest s chosen name level b.some i n m past t u h c.start start l in
+    let own = parted-in k levels front old new rest s chosen name level b.some i n m past t u h b.own c.end end in
+    let w = begun b.own.cuts from kids rs re st.more order r i n at c.end own (λ l. subst (λ a. 0 < a) from_is (led.0 l)) (λ l. sym (at_is l) ∙ start_is) end_is in (
+      b.around,
+      record {
+        starts = w.starts;
+        goes_on = w.goes_on;
+        first = λ l. subst (λ a. StandsAt from kids a c.start) (sym from_is) (subst (λ a. StandsAt from kids stretch_is.from a) (sym (at_is l)) (w.first l));
+        next = λ over. subst (λ a. StandsAt from kids a c.end) (sym to_is) (w.next over);
+        last = λ over. to_is ∙ w.last over;
+      },
+    )

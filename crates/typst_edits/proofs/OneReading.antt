@@ -1,0 +1,650 @@
+-- One reading of a new text serves every candidate of a run.
+use Rattle.std.proofs.Common.{◌≡◌, ℕ, zero, suc, ◌+◌, ◌-◌, ◌<◌, ◌≤◌, ◌==◌, ne_eqb, if◌then◌else◌, Bool, true, false, ◌&&◌, nat_lt, List, [], ◌∷◌, ◌++◌, length, drop, length-append, append_assoc, Some, refl, ap, sym, ◌∙◌, subst, arith}
+use Rattle.std.proofs.lemmas.List.{map-append}
+use borrow.Author.Tests.{lt-ltb}
+use Rattle.typst_kinds.specs.declared.kind.SyntaxKind.TheVariants as kind
+use Rattle.typst_lines.specs.Place.{Place, moved}
+use Rattle.typst_lines.specs.Classes.{CharClasses}
+use Rattle.typst_tree.specs.Tree.{Tree}
+use Rattle.typst_language.specs.declared.calls.Block.{Block}
+use Rattle.typst_language.specs.declared.calls.Block.TheVariants as block
+use Rattle.typst_language.specs.declared.calls.Call.{Call}
+use Rattle.typst_language.specs.declared.calls.Call.TheVariants.{MarkupExpr}
+use Rattle.typst_language.specs.declared.reading.Reading.{Reading}
+use Rattle.typst_language.specs.Ask.{Ask, SameIn, shift, shift_one}
+use Rattle.typst_language.specs.Depth.{is_end}
+use Rattle.typst_language.specs.Hand.{told, len_at, hand_at}
+use Rattle.typst_language.specs.Point.{Trivia, Point, gap_of, pending, point_of}
+use Rattle.typst_language.specs.Steps.{peek}
+use Rattle.typst_language.specs.Syntax.{Parser}
+use Rattle.typst_language.specs.Meaning.{Outcome, Meaning, Level, plain, less, joined, hand_of, run}
+use Rattle.typst_language.specs.Shape.{hinted}
+use Rattle.typst_language.specs.Sound.{Within}
+use Rattle.typst_language.proofs.Knot.{Sane, sane-run, sane-meaning, sane-block, sane-plain}
+use Rattle.typst_language.proofs.Looks.{same_in-shift, same_in-second}
+use Rattle.typst_language.proofs.Places.{moved-sum, less-none}
+use Rattle.typst_grammar.specs.Markup.{ends, ends_block, markup_turn, markup_head}
+use Rattle.typst_grammar.specs.Grammar.{rules, level_at, max_depth}
+use Rattle.typst_edits.specs.BlockRuns.{inner as block_level, bracket, inner_lead, run_at, opened_at, EndsBefore}
+use Rattle.typst_edits.specs.Children.{together}
+use Rattle.typst_edits.specs.Edit.{Among, text_with, AllEndBy}
+use Rattle.typst_edits.specs.Frame.{Run, top, inner, read_as, opened_by, end_by, is_over, nodes_now, Before, Agrees, PassesPieces}
+use Rattle.typst_edits.specs.Heads.{first_place, minds_at, read_by, onwards_by}
+use Rattle.typst_edits.specs.Joint.{minds, text_run}
+use Rattle.typst_edits.specs.Laws.{blocks_of_text}
+use Rattle.typst_edits.specs.Occurrences.{goes}
+use Rattle.typst_edits.specs.OneReading.{TakesNone, EndsOld, EndsNew, ServesMore, OneReadingLaw, GivesAgain, GivesAgainLaw}
+use Rattle.typst_edits.specs.Resumed.{fresh, SamePiece, Resumes}
+use Rattle.typst_edits.specs.Runs.{made, AllGo, End, end_of, asks_of, chain, lead, start, pieces, end_at}
+use Rattle.typst_edits.specs.Sequence.{Sequence, turn_of, first_of, first_end, then_of, then_end, then_place}
+use Rattle.typst_edits.specs.Spot.{Spot}
+use Rattle.typst_edits.proofs.Boundary.{KnownAt, first-of, made-add, looks_in, each-ends, end-split}
+use Rattle.typst_edits.proofs.Children.{goes-on, known-behind, tidy-together, gives-pieces}
+use Rattle.typst_edits.proofs.Edit.{before-same, same_in-to}
+use Rattle.typst_edits.proofs.Heads.{erring-call, headed, Erring}
+use Rattle.typst_edits.proofs.InnerJoint.{first-same}
+use Rattle.typst_edits.proofs.Joint.{takes-call}
+use Rattle.typst_edits.proofs.LeadingTrivia.{Leads, leads-pieces}
+use Rattle.typst_edits.proofs.Led.{drop-front, before_trivia, SameJudged, same-judged, standing-led, Takes}
+use Rattle.typst_edits.proofs.NoneBack.{cut-same, minds-same}
+use Rattle.typst_edits.proofs.NoteNumbers.{go-next}
+use Rattle.typst_edits.proofs.Outcomes.{shift-zero}
+use Rattle.typst_edits.proofs.Resumed.{takes-more, resume-law, inner-resume-law}
+use Rattle.typst_edits.proofs.RunTrees.{standing-still}
+use Rattle.typst_edits.proofs.Root.{first-same as pieces-same}
+use Rattle.typst_edits.proofs.Seen.{Sees, end-first, end-second, end-shift, sees-plain, sees-run, sees-meaning, sees-level}
+
+-- ---- pieces in two parts
+
+module _ (m : Bool × ℕ → Meaning (Bool × (Bool × ℕ))) where
+  made-split : (i n : ℕ) (x : Bool × ℕ) (z : Place) (s : Point) → (let e = end_of x s (made m i x z s) in made m (i + n) x z s ≡ made m i x z s ++ made m n e.value (moved e.taken z) e.state)
+  made-split zero n x z s = let a : 0 + n ≡ n = omega arith in ap (λ j. made m j x z s) a
+  made-split (suc i) n x z s =
+      let o = m x z s in
+      let y = moved o.taken z in
+      let os = made m i o.value.1 y o.state in
+      let e = end_of o.value.1 o.state os in
+      let a : suc i + n ≡ suc (i + n) = omega arith in
+      ap (λ j. made m j x z s) a ∙ ap (λ us. o ∷ us) (made-split i n o.value.1 y o.state ∙ ap (λ w. os ++ made m n e.value w e.state) (sym (moved-sum o.taken e.taken z)))
+
+  -- more of them take no less
+  more-take : (i n : ℕ) (x : Bool × ℕ) (z : Place) (s : Point) → i ≤ n → (end_of x s (made m i x z s)).taken ≤ (end_of x s (made m n x z s)).taken
+  more-take zero n x z s l = omega arith
+  more-take (suc i) zero x z s l = absurd (omega (arith, l))
+  more-take (suc i) (suc n) x z s l = let o = m x z s in let more = more-take i n o.value.1 (moved o.taken z) o.state (omega (arith, l)) in omega (arith, more)
+
+  -- they end, with their trivia, by where their looks do
+  made-seen : ((x : Bool × ℕ) → Sees (m x)) → (n : ℕ) (x : Bool × ℕ) (z : Place) (s : Point) (most : ℕ) → gap_of s.known ≤ most → AllEndBy most (asks_of (made m n x z s))
+      → (let e = end_of x s (made m n x z s) in e.taken + gap_of e.state.known ≤ most)
+  made-seen sees zero x z s most g h = omega (arith, g)
+  made-seen sees (suc n) x z s most g h =
+      let o = m x z s in
+      let later = asks_of (made m n o.value.1 (moved o.taken z) o.state) in
+      let one = (sees x z s most g).ends (end-first most o.asks (shift o.taken later) h) in
+      let two = made-seen sees n o.value.1 (moved o.taken z) o.state (most - o.taken) (omega (arith, one)) (end-shift o.taken (most - o.taken) most later (omega arith) (end-second most o.asks (shift o.taken later) h)) in
+      omega (arith, one, two)
+
+  -- fewer of them go on, too
+  pub go-less : (i n : ℕ) (x : Bool × ℕ) (z : Place) (s : Point) → i ≤ n → AllGo (made m n x z s) → AllGo (made m i x z s)
+  go-less zero n x z s l g = tt
+  go-less (suc i) zero x z s l g = absurd (omega (arith, l))
+  go-less (suc i) (suc n) x z s l g = let o = m x z s in (g.0, go-less i n o.value.1 (moved o.taken z) o.state (omega (arith, l)) g.1)
+
+module _ {A : Type 0} where
+  pub go-first : (os ps : List (Outcome (Bool × A))) → AllGo (os ++ ps) → AllGo os
+  go-first [] ps g = tt
+  go-first (o ∷ os) ps g = (g.0, go-first os ps g.1)
+
+  pub go-second : (os ps : List (Outcome (Bool × A))) → AllGo (os ++ ps) → AllGo ps
+  go-second [] ps g = g
+  go-second (o ∷ os) ps g = go-second os ps g.1
+
+  go-both : (os ps : List (Outcome (Bool × A))) → AllGo os → AllGo ps → AllGo (os ++ ps)
+  go-both [] ps g h = h
+  go-both (o ∷ os) ps g h = (g.0, go-both os ps g.1 h)
+
+  -- what is asked in the first of them comes first
+  record AsksMore (os ps : List (Outcome (Bool × A))) : Type 0 where
+    more : List Ask
+    is : asks_of (os ++ ps) ≡ asks_of os ++ more
+
+  asks-more : (os ps : List (Outcome (Bool × A))) → AsksMore os ps
+  asks-more [] ps = record { more = asks_of ps; is = refl }
+  asks-more (o ∷ os) ps =
+      let later = asks-more os ps in
+      record {
+        more = shift o.taken later.more;
+        is = ap (λ ls. o.asks ++ shift o.taken ls) later.is ∙ ap (λ ls. o.asks ++ ls) (map-append (shift_one o.taken) (asks_of os) later.more) ∙ sym (append_assoc o.asks (shift o.taken (asks_of os)) (shift o.taken later.more));
+      }
+
+  chain-append : (os ps : List (Outcome (Bool × A))) (q : Outcome (Unit {0})) → chain (os ++ ps) q ≡ chain os (chain ps q)
+  chain-append [] ps q = refl
+  chain-append (o ∷ os) ps q = ap (joined o) (chain-append os ps q)
+
+  -- behind them stands what takes back nothing and gives no hint
+  record Followed (os : List (Outcome (Bool × A))) (s : Point) (p : Outcome (Unit {0})) : Type 0 where
+    nodes : (chain os p).nodes ≡ (together s os).nodes ++ p.nodes
+    hints : (chain os p).hints ≡ (together s os).hints
+    back : (chain os p).back ≡ (together s os).back
+
+  followed-by : (os : List (Outcome (Bool × A))) (s : Point) (p : Outcome (Unit {0})) → p.back ≡ 0 → p.hints ≡ [] → Followed os s p
+  followed-by [] s p b h = record { nodes = refl; hints = h; back = b }
+  followed-by (o ∷ os) s p b h =
+      let later = followed-by os s p b h in
+      let c = chain os p in
+      let d = together s os in
+      record {
+        nodes = ap (λ hs. hinted hs (less c.back o.nodes) ++ c.nodes) later.hints ∙ ap (λ j. hinted d.hints (less j o.nodes) ++ c.nodes) later.back ∙ ap (λ ts. hinted d.hints (less d.back o.nodes) ++ ts) later.nodes
+            ∙ sym (append_assoc (hinted d.hints (less d.back o.nodes)) d.nodes p.nodes);
+        hints = ap (λ j. if nat_lt j (length o.nodes) then o.hints else (if nat_lt (length o.nodes) j then c.hints else o.hints ++ c.hints)) later.back
+            ∙ ap (λ hs. if nat_lt d.back (length o.nodes) then o.hints else (if nat_lt (length o.nodes) d.back then hs else o.hints ++ hs)) later.hints;
+        back = ap (λ j. o.back + (j - length o.nodes)) later.back;
+      }
+
+-- ---- any run
+
+module _ (q : Sequence) where
+  pub first-split : (a d : ℕ) → first_of (a + d) q ≡ first_of a q ++ then_of a d q
+  first-split a d = made-split (turn_of q) a d (true, 0) q.place q.point
+
+  pub end-split-at : (a d : ℕ) → first_end (a + d) q ≡ record (then_end a d q) { taken = (first_end a q).taken + (then_end a d q).taken }
+  end-split-at a d = made-add (turn_of q) (looks_in q) (each-ends q) a d (true, 0) q.place q.point
+
+  pub later-place : (a d : ℕ) → moved ((first_end a q).taken + (then_end a d q).taken) q.place ≡ moved (then_end a d q).taken (first_place a q)
+  later-place a d = moved-sum (first_end a q).taken (then_end a d q).taken q.place
+
+  abbrev read_later : ℕ → ℕ → ℕ → List (Outcome (Bool × (Bool × ℕ)))
+  read_later a d m = let f = then_end a d q in made (turn_of q) m f.value (moved f.taken (first_place a q)) f.state
+
+  later-is : (a d m : ℕ) → then_of (a + d) m q ≡ read_later a d m
+  later-is a d m =
+      let f = then_end a d q in
+      ap (λ (e : End (Bool × ℕ)). made (turn_of q) m e.value (moved e.taken q.place) e.state) (end-split-at a d) ∙ ap (λ w. made (turn_of q) m f.value w f.state) (later-place a d)
+
+  later-end : (a d m : ℕ) → then_end (a + d) m q ≡ (let f = then_end a d q in end_of f.value f.state (read_later a d m))
+  later-end a d m =
+      let f = then_end a d q in
+      ap (λ (e : End (Bool × ℕ)). end_of e.value e.state (made (turn_of q) m e.value (moved e.taken q.place) e.state)) (end-split-at a d) ∙ ap (λ w. end_of f.value f.state (made (turn_of q) m f.value w f.state)) (later-place a d)
+
+  then-split : (a d m : ℕ) → then_of a (d + m) q ≡ then_of a d q ++ then_of (a + d) m q
+  then-split a d m =
+      let e = first_end a q in
+      made-split (turn_of q) d m e.value (first_place a q) e.state ∙ ap (λ us. then_of a d q ++ us) (sym (later-is a d m))
+
+  then-end-split : (a d m : ℕ) → then_end a (d + m) q ≡ record (then_end (a + d) m q) { taken = (then_end a d q).taken + (then_end (a + d) m q).taken }
+  then-end-split a d m =
+      let e = first_end a q in
+      made-add (turn_of q) (looks_in q) (each-ends q) d m e.value (first_place a q) e.state ∙ ap (λ (f : End (Bool × ℕ)). record f { taken = (then_end a d q).taken + f.taken }) (sym (later-end a d m))
+
+  -- one more goes on
+  go-longer : (i n : ℕ) → AllGo (first_of i q) → AllGo (then_of i (suc n) q) → AllGo (first_of (suc i) q)
+  go-longer i n g h =
+      let one : i + 1 ≡ suc i = omega arith in
+      subst (λ j. AllGo (first_of j q)) one (subst (λ os. AllGo os) (sym (first-split i 1)) (go-both (first_of i q) (then_of i 1 q) g (h.0, tt)))
+
+  first-taken : (i : ℕ) → (first_end (suc i) q).taken ≡ (first_end i q).taken + (let e = first_end i q in (turn_of q e.value (first_place i q) e.state).taken)
+  first-taken i =
+      let one : suc i ≡ i + 1 = omega arith in
+      let next = ap (λ j. (first_end j q).taken) one in
+      let sum = ap (λ (e : End (Bool × ℕ)). e.taken) (end-split-at i 1) in
+      omega (arith, next, sum)
+
+-- what holds of a run's pieces
+pub record Facts (q : Sequence) : Type 0 where
+  pub leads : (i n : ℕ) (t : Trivia) → AllGo (first_of i q) → AllGo (then_of i n q) → (then_end i n q).state.known ≡ Some t → Leads (pending (first_end i q).state.known) ((read_by i n q).nodes ++ t.nodes)
+  pub hints : (i n : ℕ) → AllGo (first_of i q) → AllGo (then_of i n q) → (read_by i n q).hints ≡ []
+  pub back : (i n : ℕ) → AllGo (first_of i q) → AllGo (then_of i n q) → TakesNone i q → (read_by i n q).back ≡ 0
+  pub further : (i : ℕ) → AllGo (first_of (suc i) q) → (first_end i q).taken + gap_of (first_end i q).state.known < (first_end (suc i) q).taken
+  pub few : (x : Bool × ℕ) (w : Place) → goes (turn_of q x w (fresh q.level w)) ≡ true → (turn_of q x w (fresh q.level w)).state.empties < length (turn_of q x w (fresh q.level w)).nodes
+  pub tidy : (n : ℕ) (x : Bool × ℕ) (w : Place) (p : Point) → (let os = made (turn_of q) n x w p in (together (end_of x p os).state os).back ≤ p.empties)
+  -- and where another goes on the run doesn't end
+  pub not_over : (i : ℕ) → AllGo (first_of (suc i) q) → ends q.stops (first_end i q).value.1 (hand_of q.level (first_place i q) (first_end i q).state).kind ≡ false
+  -- all behind them takes back no errors, where the next doesn't mind them
+  pub behind : (i n : ℕ) → AllGo (first_of i q) → AllGo (then_of i n q) → minds_at q (then_place i n q) (then_end i n q) ≡ false → (onwards_by i n q).back ≡ 0
+
+fresh-known : (l : Level) (w : Place) → KnownAt (fresh l w)
+unfolding run
+fresh-known l w = record { trivia = _; is = refl }
+
+module _ (q : Sequence) (sd : (c : Call) → Sane (q.level.deeper c)) (sb : (b : Block) → Sane (q.level.blocks b)) (deep : (q.level.levels == 0) ≡ false) (end_stops : q.stops kind.End ≡ true)
+    (call : (h : Reading) (z : Place) (t u : Trivia) → SameJudged h t u → (x : Bool × ℕ) → 0 < len_at q.level.classes h.mode (moved t.gap z) → Takes h z t u (minds (markup_head x.0 x.1 (hand_at q.level.classes h (Some t) z).kind)) (q.level.deeper (MarkupExpr x.0 x.1)))
+    (wrong : (g h : Reading) (e : ℕ) (a : Bool) (z : Place) (t : Trivia) (x : Bool × ℕ) → minds (markup_head x.0 x.1 (hand_at q.level.classes h (Some t) z).kind) ≡ true → Erring t (q.level.deeper (MarkupExpr x.0 x.1) z (before_trivia g h e a t)))
+    (known : KnownAt q.point) where
+  abbrev call_too : (h : Reading) (z : Place) (t : Trivia) (x : Bool × ℕ) → 0 < len_at q.level.classes h.mode (moved t.gap z) → Takes h z t t (minds (markup_head x.0 x.1 (hand_at q.level.classes h (Some t) z).kind)) (q.level.deeper (MarkupExpr x.0 x.1))
+  call_too h z t x some = call h z t t (same-judged h t) x some
+
+  within : (x : Bool × ℕ) → Within (turn_of q x)
+  within x = (sane-run q.level sd sb (markup_turn true q.stops x)).within
+
+  there : (i : ℕ) → AllGo (first_of i q) → KnownAt (first_end i q).state
+  there i g = known-behind q.level sd sb deep q.stops end_stops call_too i (true, 0) q.place q.point known g
+
+  none-hinted : (i n : ℕ) → AllGo (first_of i q) → AllGo (then_of i n q) → (read_by i n q).hints ≡ []
+  none-hinted i zero g h = refl
+  none-hinted i (suc n) g h = let e = first_end i q in (gives-pieces q.level sd sb deep q.stops end_stops call_too (suc n) e.value (first_place i q) e.state (omega arith) (there i g) h).hints
+
+  none-back : (i n : ℕ) → AllGo (first_of i q) → AllGo (then_of i n q) → (b : Bool) → minds_at q (first_place i q) (first_end i q) ≡ b → TakesNone i q → (read_by i n q).back ≡ 0
+  none-back i n g h false m none = (headed q sd sb deep end_stops call_too wrong known i n g h).pieces_back m
+  none-back i n g h true m none =
+      let e = first_end i q in
+      let few = (tidy-together (turn_of q) (λ v. (sane-run q.level sd sb (markup_turn true q.stops v)).backs) n e.value (first_place i q) e.state).back in
+      let no = none m in
+      omega (arith, few, no)
+
+  goes-further : (i : ℕ) → AllGo (first_of (suc i) q) → (first_end i q).taken + gap_of (first_end i q).state.known < (first_end (suc i) q).taken
+  goes-further i g =
+      let e = first_end i q in
+      let w = moved e.taken q.place in
+      let go = go-next (turn_of q) within i (true, 0) q.place q.point g in
+      let at = there i (go-less (turn_of q) i (suc i) (true, 0) q.place q.point (omega arith) g) in
+      let more = takes-more q.level sd sb deep q.stops end_stops call e.value w e.state at (first-of _ _ go) in
+      let one : suc i ≡ i + 1 = omega arith in
+      let next = ap (λ n. (first_end n q).taken) one in
+      let sum = ap (λ (u : End (Bool × ℕ)). u.taken) (end-split-at q i 1) in
+      omega (arith, more, next, sum)
+
+  few-fresh : (x : Bool × ℕ) (w : Place) → goes (turn_of q x w (fresh q.level w)) ≡ true → (turn_of q x w (fresh q.level w)).state.empties < length (turn_of q x w (fresh q.level w)).nodes
+  few-fresh x w g =
+      let c = turn_of q x w (fresh q.level w) in
+      let gives = (gives-pieces q.level sd sb deep q.stops end_stops call_too 1 x w (fresh q.level w) (omega arith) (fresh-known q.level w) (g, tt)).few in
+      let is = ap length (standing-still (plain (tt {0}) c.state) c.nodes refl refl refl) in
+      omega (arith, gives, is)
+
+  facts : Facts q
+  facts = record {
+    leads = λ i n t g h k.
+        (let e = first_end i q in
+        let l = leads-pieces q.level sd sb deep q.stops end_stops call_too n 0 t.nodes e.value (first_place i q) e.state (there i g) h (omega arith) (ap pending k) in
+        subst (λ us. Leads (pending e.state.known) (us ++ t.nodes)) (less-none (read_by i n q).nodes) l);
+    hints = none-hinted;
+    back = λ i n g h none. none-back i n g h (minds_at q (first_place i q) (first_end i q)) refl none;
+    further = goes-further;
+    few = few-fresh;
+    not_over = λ i g.
+        (let e = first_end i q in
+        let w = first_place i q in
+        goes-on q.level sd sb deep q.stops end_stops call_too e.value w e.state (ends q.stops e.value.1 (told (hand_of q.level w e.state)).kind) refl (first-of _ _ (go-next (turn_of q) within i (true, 0) q.place q.point g)));
+    behind = λ i n g h mild. (headed q sd sb deep end_stops call_too wrong known i n g h).behind_back (λ over. mild);
+    tidy = λ n x w p. (tidy-together (turn_of q) (λ v. (sane-run q.level sd sb (markup_turn true q.stops v)).backs) n x w p).back;
+  }
+
+-- ---- what two runs share before the stretch
+
+-- where pieces end depends on them alone, if there are some
+end-by-pieces : (i : ℕ) (q p : Sequence) → 0 < i → first_of i q ≡ first_of i p → first_end i q ≡ first_end i p
+end-by-pieces zero q p some e = absurd (omega (arith, some))
+end-by-pieces (suc i) q p some e = ap (end_of (true, 0) p.point) e
+
+record Starts (k : CharClasses) (front old new rest : List ℕ) (r : Run k (front ++ (old ++ rest))) (a d : ℕ) : Type 0 where
+  first : first_of (a + d) (read_as r (text_with front new rest)) ≡ first_of (a + d) (read_as r (text_with front old rest))
+  first_fewer : first_of a (read_as r (text_with front new rest)) ≡ first_of a (read_as r (text_with front old rest))
+  fewer : Before k front old rest r a
+  opens : opened_by r (text_with front new rest) ≡ opened_by r (text_with front old rest)
+  clear : 0 < a + d → TakesNone (a + d) (read_as r (text_with front old rest)) → TakesNone (a + d) (read_as r (text_with front new rest))
+  room : 0 < a + d → opened_by r (text_with front old rest) + (first_end (a + d) (read_as r (text_with front old rest))).taken ≤ length front
+  facts_was : Facts (read_as r (text_with front old rest))
+  facts_now : Facts (read_as r (text_with front new rest))
+
+-- ---- counts and stretches
+
+not-less : (d m : ℕ) → (m < d → ⊥) → d ≤ m
+not-less zero m h = omega arith
+not-less (suc d) zero h = absurd (h (omega arith))
+not-less (suc d) (suc m) h = let l = not-less d m (λ l. h (omega (arith, l))) in omega (arith, l)
+
+drop-within : (n : ℕ) (xs ys : List Tree) → n ≤ length xs → drop n (xs ++ ys) ≡ drop n xs ++ ys
+drop-within zero xs ys l = refl
+drop-within (suc n) [] ys l = absurd (omega (arith, l))
+drop-within (suc n) (x ∷ xs) ys l = drop-within n xs ys (omega (arith, l))
+
+-- how many nodes of trivia stand before the pieces behind a, which belong to the piece before
+abbrev pub leading : ℕ → End (Bool × ℕ) → ℕ
+leading a e = if a == 0 then 0 else length (pending e.state.known)
+
+pub leading-some : (a : ℕ) (e : End (Bool × ℕ)) → leading (suc a) e ≡ length (pending e.state.known)
+leading-some a e = ap (λ b. if b then 0 else length (pending e.state.known)) (ne_eqb (suc a) 0 (omega arith))
+
+pub leading-same : (a : ℕ) (e f : End (Bool × ℕ)) → (0 < a → e ≡ f) → leading a e ≡ leading a f
+leading-same zero e f h = refl
+leading-same (suc a) e f h = leading-some a e ∙ ap (λ (x : End (Bool × ℕ)). length (pending x.state.known)) (h (omega arith)) ∙ sym (leading-some a f)
+
+pub leading-most : (a : ℕ) (e : End (Bool × ℕ)) → leading a e ≤ length (pending e.state.known)
+leading-most zero e = omega arith
+leading-most (suc a) e = let is = leading-some a e in omega (arith, is)
+
+pub leading-is : (a : ℕ) (e : End (Bool × ℕ)) (t : Trivia) → 0 < a → e.state.known ≡ Some t → leading a e ≡ length t.nodes
+leading-is zero e t some h = absurd (omega (arith, some))
+leading-is (suc a) e t some h = leading-some a e ∙ ap (λ o. length (pending o)) h
+
+-- ---- the law, by what two runs share
+
+module _ (k : CharClasses) (front old new rest : List ℕ) (r : Run k (front ++ (old ++ rest))) (a d : ℕ) (go : AllGo (first_of (a + d) (read_as r (text_with front old rest)))) (s : Starts k front old new rest r a d) where
+  abbrev z : Place
+  z = text_with front old rest
+
+  abbrev w : Place
+  w = text_with front new rest
+
+  abbrev was : Sequence
+  was = read_as r z
+
+  abbrev now : Sequence
+  now = read_as r w
+
+  between : then_of a d now ≡ then_of a d was
+  between =
+      let n = length (first_of a now) in
+      sym (drop-front (first_of a now) (then_of a d now) n refl) ∙ ap (drop n) (sym (first-split now a d) ∙ s.first ∙ first-split was a d) ∙ drop-front (first_of a was) (then_of a d was) n (ap length s.first_fewer)
+
+  go_fewer : AllGo (first_of a was)
+  go_fewer = go-first (first_of a was) (then_of a d was) (subst (λ os. AllGo os) (first-split was a d) go)
+
+  go_between : AllGo (then_of a d was)
+  go_between = go-second (first_of a was) (then_of a d was) (subst (λ os. AllGo os) (first-split was a d) go)
+
+  go_now : AllGo (first_of (a + d) now)
+  go_now = subst (λ os. AllGo os) (sym s.first) go
+
+  begins : 0 < a + d → first_end (a + d) now ≡ first_end (a + d) was
+  begins some = end-by-pieces (a + d) now was some s.first
+
+  pieces-are : (m : ℕ) → then_of a (d + m) now ≡ then_of a d was ++ then_of (a + d) m now
+  pieces-are m = then-split now a d m ∙ ap (λ os. os ++ then_of (a + d) m now) between
+
+  end-now : (m : ℕ) (u : Trivia) → end_by r a (d + m) u w ≡ end_by r (a + d) m u w
+  end-now m u =
+      let one = ap (λ (e : End (Bool × ℕ)). e.taken) (then-end-split now a d m) in
+      let two = ap (λ (e : End (Bool × ℕ)). e.taken) (end-split-at now a d) in
+      omega (arith, one, two)
+
+  known-is-now : (m : ℕ) → (then_end a (d + m) now).state.known ≡ (then_end (a + d) m now).state.known
+  known-is-now m = ap (λ (e : End (Bool × ℕ)). e.state.known) (then-end-split now a d m)
+
+  value-now : (m : ℕ) → (then_end a (d + m) now).value ≡ (then_end (a + d) m now).value
+  value-now m = ap (λ (e : End (Bool × ℕ)). e.value) (then-end-split now a d m)
+
+  passes-then : (n m past : ℕ) (t u : Trivia) → PassesPieces k front old new rest r a n (d + m) past t u → EndsOld k front old rest r a n past t × EndsNew k front old new rest r a n d m past u
+  passes-then n m past t u h = (
+    record { old_go = h.old_go; after = h.after; known = h.known; ends = h.ends },
+    record {
+      new_go = go-second (then_of a d was) (then_of (a + d) m now) (subst (λ os. AllGo os) (pieces-are m) h.new_go);
+      known_now = sym (known-is-now m) ∙ h.known_now;
+      shifted = sym (end-now m u) ∙ h.shifted;
+      agrees = subst (λ v. Agrees r (is_over a n was) (d + m) (then_end a n was).value v) (value-now m) h.agrees;
+    },
+  )
+
+  passes-if : (n m past : ℕ) (t u : Trivia) → EndsOld k front old rest r a n past t × EndsNew k front old new rest r a n d m past u → PassesPieces k front old new rest r a n (d + m) past t u
+  passes-if n m past t u (o, e) = record {
+    first_go = go_fewer;
+    old_go = o.old_go;
+    new_go = subst (λ os. AllGo os) (sym (pieces-are m)) (go-both (then_of a d was) (then_of (a + d) m now) go_between e.new_go);
+    before = s.fewer;
+    after = o.after;
+    known = o.known;
+    known_now = known-is-now m ∙ e.known_now;
+    ends = o.ends;
+    shifted = end-now m u ∙ e.shifted;
+    agrees = subst (λ v. Agrees r (is_over a n was) (d + m) (then_end a n was).value v) (sym (value-now m)) e.agrees;
+  }
+
+  -- fewer end before the stretch
+  too-few : (n m past : ℕ) (t u : Trivia) → PassesPieces k front old new rest r a n m past t u → m < d → ⊥
+  too-few n m past t u h l =
+      let some : 0 < a + d = omega (arith, l) in
+      let up : suc (a + m) ≤ a + d = omega (arith, l) in
+      let more = s.facts_now.further (a + m) (go-less (turn_of now) (suc (a + m)) (a + d) (true, 0) now.place now.point up go_now) in
+      let most = more-take (turn_of now) (suc (a + m)) (a + d) (true, 0) now.place now.point up in
+      let same = ap (λ (e : End (Bool × ℕ)). e.taken) (begins some) in
+      let sum = ap (λ (e : End (Bool × ℕ)). e.taken) (end-split-at now a m) in
+      let gap : gap_of (first_end (a + m) now).state.known ≡ u.gap = ap (λ (e : End (Bool × ℕ)). gap_of e.state.known) (end-split-at now a m) ∙ ap gap_of h.known_now in
+      let room = s.room some in
+      let opens = s.opens in
+      let shifted = h.shifted in
+      absurd (omega (arith, more, most, same, sum, gap, room, opens, shifted))
+
+  nodes-are : (m : ℕ) (t u : Trivia) → 0 < a + d → TakesNone (a + d) was → (first_end (a + d) was).state.known ≡ Some t → AllGo (then_of (a + d) m now) → (then_end (a + d) m now).state.known ≡ Some u
+      → nodes_now r a (d + m) u w ≡ nodes_now r a d t z ++ nodes_now r (a + d) m u w
+  nodes-are m t u some none known go_m known_now =
+      let p = read_by (a + d) m now in
+      let olds = (read_by a d was).nodes in
+      let f = followed-by (then_of a d was) (then_end a d was).state p (s.facts_now.back (a + d) m go_now go_m (s.clear some none)) (s.facts_now.hints (a + d) m go_now go_m) in
+      let whole : (read_by a (d + m) now).nodes ≡ olds ++ p.nodes = ap (λ (e : End (Bool × ℕ)). (together e.state (then_of a (d + m) now)).nodes) (then-end-split now a d m)
+      ∙ ap (λ os. (together (then_end (a + d) m now).state os).nodes) (pieces-are m)
+      ∙ ap (λ (o : Outcome (Unit {0})). o.nodes) (chain-append (then_of a d was) (then_of (a + d) m now) (plain (tt {0}) (then_end (a + d) m now).state)) ∙ f.nodes in
+      let there : (first_end (a + d) now).state.known ≡ Some t = ap (λ (e : End (Bool × ℕ)). e.state.known) (begins some) ∙ known in
+      let later = subst (λ o. Leads (pending o) (p.nodes ++ u.nodes)) there (s.facts_now.leads (a + d) m u go_now go_m known_now) in
+      let early = s.facts_was.leads a d t go_fewer go_between (ap (λ (e : End (Bool × ℕ)). e.state.known) (sym (end-split-at was a d)) ∙ known) in
+      let cut = leading a (first_end a was) in
+      let most = leading-most a (first_end a was) in
+      let long = ap length early.is ∙ length-append (pending (first_end a was).state.known) early.rest in
+      let same : leading a (first_end a now) ≡ cut = leading-same a (first_end a now) (first_end a was) (λ l. end-by-pieces a now was l s.first_fewer) in
+      let mine : nodes_now r (a + d) m u w ≡ later.rest = ap (λ j. drop j (p.nodes ++ u.nodes)) (leading-is (a + d) (first_end (a + d) now) t some there) ∙ ap (drop (length t.nodes)) later.is ∙ drop-front t.nodes later.rest (length t.nodes) refl in
+      let all : (olds ++ p.nodes) ++ u.nodes ≡ (olds ++ t.nodes) ++ later.rest = append_assoc olds p.nodes u.nodes ∙ ap (λ ts. olds ++ ts) later.is ∙ sym (append_assoc olds t.nodes later.rest) in
+      ap (λ ts. drop (leading a (first_end a now)) (ts ++ u.nodes)) whole ∙ ap (λ j. drop j ((olds ++ p.nodes) ++ u.nodes)) same ∙ ap (drop cut) all
+      ∙ drop-within cut (olds ++ t.nodes) later.rest (omega (arith, most, long)) ∙ ap (λ ts. drop cut (olds ++ t.nodes) ++ ts) (sym mine)
+
+  serves : ServesMore k front old new rest r a d
+  serves = record {
+    fewer = s.fewer;
+    opens = s.opens;
+    begins = begins;
+    clear = s.clear;
+    pieces = pieces-are;
+    passes = λ n m past t u. (passes-then n m past t u, passes-if n m past t u);
+    least = λ n m past t u h. not-less d m (too-few n m past t u h);
+    nodes = nodes-are;
+  }
+
+-- ---- a text's run
+
+-- the looks of fewer pieces of any run
+fewer-looks : (q : Sequence) (a d most at : ℕ) (ls : List Ask) → AllEndBy most (shift at (ls ++ asks_of (first_of (a + d) q))) → AllEndBy most (shift at (ls ++ asks_of (first_of a q)))
+fewer-looks q a d most at ls h =
+    let first = asks_of (first_of a q) in
+    let m = asks-more (first_of a q) (then_of a d q) in
+    let is : ls ++ asks_of (first_of (a + d) q) ≡ (ls ++ first) ++ m.more = ap (λ ks. ls ++ ks) (ap (λ os. asks_of os) (first-split q a d) ∙ m.is) ∙ sym (append_assoc ls first m.more) in
+    (end-split most at (ls ++ first) m.more (subst (λ ks. AllEndBy most (shift at ks)) is h)).0
+
+minded-too : (i : ℕ) (q p : Sequence) → minds_at p (first_place i p) (first_end i p) ≡ minds_at q (first_place i q) (first_end i q) → first_end i p ≡ first_end i q → TakesNone i q → TakesNone i p
+minded-too i q p m e none h = ap (λ (x : End (Bool × ℕ)). x.state.empties) e ∙ none (sym m ∙ h)
+
+module _ (k : CharClasses) (z : Place) where
+  pub text-facts : Facts (text_run k z)
+  unfolding run
+  text-facts =
+      facts (text_run k z) (sane-meaning (rules k) k max_depth) (sane-block (rules k) k max_depth) refl refl (λ r y t u alike x some. takes-call k 255 r y t u alike x some) (erring-call k 255) (record { trivia = _; is = refl })
+
+  -- pieces end, with their trivia, by where their looks and the look at the first token do
+  text-seen : (i most : ℕ) → AllEndBy most ((lead k z).asks ++ asks_of (pieces k i z)) → (end_at k i z).taken + gap_of (end_at k i z).state.known ≤ most
+  text-seen i most h =
+      let o = lead k z in
+      let first = (sees-level (rules k) k max_depth peek z start most (omega arith)).ends (end-first most o.asks (asks_of (pieces k i z)) h) in
+      let gap : gap_of o.state.known ≤ most = omega (arith, first) in
+      made-seen (turn_of (text_run k z)) (λ x. sees-level (rules k) k max_depth (markup_turn true is_end x)) i (true, 0) z o.state most gap (end-second most o.asks (asks_of (pieces k i z)) h)
+
+module _ (k : CharClasses) (front old new rest : List ℕ) where
+  abbrev text_was : Place
+  text_was = text_with front old rest
+
+  abbrev text_now : Place
+  text_now = text_with front new rest
+
+  text-clear : (i : ℕ) → 0 < i → AllGo (pieces k i text_was) → AllEndBy (length front) ((lead k text_was).asks ++ asks_of (pieces k i text_was)) → TakesNone i (text_run k text_was) → TakesNone i (text_run k text_now)
+  text-clear zero some go looks = absurd (omega (arith, some))
+  text-clear (suc i) some go looks =
+      let z = text_was in
+      let w = text_now in
+      let j = suc i in
+      let l = level_at k max_depth in
+      let seen = before-same _ front old new rest looks in
+      let f = pieces-same k j z w (λ l. seen) in
+      let e = end_at k j z in
+      let d = end_at k j w in
+      let same : d ≡ e = ap (end_of (true, 0) (lead k z).state) f.pieces_same in
+      let kind = cut-same l is_end i (true, 0) z w (lead k z).state go (same_in-second (lead k z).asks _ z w seen) in
+      let place : moved d.taken w ≡ moved e.taken w = ap (λ (a : End (Bool × ℕ)). moved a.taken w) same in
+      minded-too j (text_run k z) (text_run k w) (minds-same l d e (moved e.taken z) (moved d.taken w) same (ap (λ p. (hand_of l p e.state).kind) place ∙ kind)) same
+
+  text-starts : (a d : ℕ) → AllGo (pieces k (a + d) text_was) → Before k front old rest top (a + d) → Starts k front old new rest top a d
+  text-starts a d go before =
+      let z = text_was in
+      let w = text_now in
+      let looks : 0 < a → AllEndBy (length front) ((lead k z).asks ++ asks_of (pieces k a z)) = λ l.
+      subst (λ ls. AllEndBy (length front) ls) (shift-zero ((lead k z).asks ++ asks_of (pieces k a z)))
+      (fewer-looks (text_run k z) a d (length front) 0 (lead k z).asks (subst (λ ls. AllEndBy (length front) ls) (sym (shift-zero ((lead k z).asks ++ asks_of (pieces k (a + d) z)))) (before (omega (arith, l))))) in
+      record {
+        first = (pieces-same k (a + d) z w (λ l. before-same _ front old new rest (before l))).pieces_same;
+        first_fewer = (pieces-same k a z w (λ l. before-same _ front old new rest (looks l))).pieces_same;
+        fewer = looks;
+        opens = refl;
+        clear = λ some. text-clear (a + d) some go (before some);
+        room = λ some. (let end = text-seen k z (a + d) (length front) (before some) in omega (arith, end));
+        facts_was = text-facts k z;
+        facts_now = text-facts k w;
+      }
+
+-- ---- a content block's run
+
+module _ (k : CharClasses) (levels : ℕ) (c : Spot (Unit {0})) (z : Place) where
+  pub block-facts : Facts (run_at k levels c z)
+  unfolding run
+  block-facts =
+      facts (run_at k levels c z) (sane-meaning (rules k) k (suc levels)) (λ b. sane-plain tt) (ne_eqb (suc levels) 0 (omega arith)) refl (λ r y t u alike x some. takes-call k levels r y t u alike x some) (erring-call k levels)
+      (record { trivia = _; is = refl })
+
+  block-sees : {A : Type 0} (p : Parser A) → Sees (run (block_level k levels) p)
+  block-sees p = sees-run (block_level k levels) (sees-meaning (rules k) k (suc levels)) (λ b. sees-plain tt) p
+
+  bracket-gap : gap_of (bracket k levels (moved c.at z) (point_of c.start)).state.known ≡ 0
+  unfolding run
+  bracket-gap = refl
+
+  block-seen : (i most : ℕ) → AllEndBy most ((inner_lead k levels (moved c.at z) (point_of c.start)).asks ++ asks_of (first_of i (run_at k levels c z))) → (first_end i (run_at k levels c z)).taken ≤ most
+  block-seen i most h =
+      let r = run_at k levels c z in
+      let o = inner_lead k levels (moved c.at z) (point_of c.start) in
+      let none = bracket-gap in
+      let first = (block-sees peek r.place (bracket k levels (moved c.at z) (point_of c.start)).state most (omega (arith, none))).ends (end-first most o.asks (asks_of (first_of i r)) h) in
+      let gap : gap_of o.state.known ≤ most = omega (arith, first) in
+      let end = made-seen (turn_of r) (λ x. block-sees (markup_turn true ends_block x)) i (true, 0) r.place o.state most gap (end-second most o.asks (asks_of (first_of i r)) h) in
+      omega (arith, end)
+
+within-front : (opened taken most : ℕ) → taken ≤ most - opened → 0 < taken → opened + taken ≤ most
+within-front opened taken most l some = omega (arith, l, some)
+
+module _ (k : CharClasses) (levels : ℕ) (front old new rest : List ℕ) (c : Spot (Unit {0})) where
+  abbrev run_was : Sequence
+  run_was = run_at k levels c (text_with front old rest)
+
+  abbrev run_now : Sequence
+  run_now = run_at k levels c (text_with front new rest)
+
+  block-clear : (i : ℕ) → 0 < i → AllGo (first_of i run_was) → EndsBefore k levels front old rest c i → TakesNone i run_was → TakesNone i run_now
+  block-clear zero some go looks = absurd (omega (arith, some))
+  block-clear (suc i) some go looks =
+      let z0 = text_with front old rest in
+      let w0 = text_with front new rest in
+      let z = moved c.at z0 in
+      let w = moved c.at w0 in
+      let j = suc i in
+      let l = block_level k levels in
+      let r = run_was in
+      let q = run_now in
+      let o = inner_lead k levels z (point_of c.start) in
+      let b = bracket k levels z (point_of c.start) in
+      let f = first-same k levels front old new rest c j looks in
+      let seen : SameIn (o.asks ++ asks_of (first_of j r)) r.place (moved b.taken w) =
+      same_in-to _ _ _ _ _ (sym (moved-sum c.at b.taken z0)) (sym (moved-sum c.at b.taken w0)) (same_in-shift (c.at + b.taken) _ z0 w0 (before-same _ front old new rest (looks.before_run some))) in
+      let e = first_end j r in
+      let d = first_end j q in
+      let same : d ≡ e = ap (end_of (true, 0) r.point) f.first in
+      let kind = cut-same l ends_block i (true, 0) r.place (moved b.taken w) r.point go (same_in-second o.asks _ r.place (moved b.taken w) seen) in
+      let place : first_place j q ≡ moved e.taken (moved b.taken w) = ap (λ (a : End (Bool × ℕ)). moved a.taken q.place) same ∙ ap (λ (a : Outcome (Unit {0})). moved e.taken (moved a.taken w)) f.opened in
+      minded-too j r q (minds-same l d e (first_place j r) (first_place j q) same (ap (λ p. (hand_of l p e.state).kind) place ∙ kind)) same
+
+  takes-some : (i : ℕ) → 0 < i → AllGo (first_of i run_was) → 0 < (first_end i run_was).taken
+  takes-some zero some go = absurd (omega (arith, some))
+  takes-some (suc i) some go = let more = (block-facts k levels c (text_with front old rest)).further i go in omega (arith, more)
+
+  block-starts : (chosen : Among c (blocks_of_text k (front ++ (old ++ rest)))) (name : c.name ≡ block.Content) (left : max_depth - c.fewer ≡ suc levels) (a d : ℕ) → AllGo (first_of (a + d) run_was) → EndsBefore k levels front old rest c (a + d)
+      → Starts k front old new rest (inner c levels chosen name left) a d
+  block-starts chosen name left a d go before =
+      let z = text_with front old rest in
+      let w = text_with front new rest in
+      let opened = opened_at k levels c z in
+      let o = inner_lead k levels (moved c.at z) (point_of c.start) in
+      let fewer : EndsBefore k levels front old rest c a = record {
+        before = before.before;
+        opens = before.opens;
+        before_run = λ l. fewer-looks run_was a d (length front) opened o.asks (before.before_run (omega (arith, l)));
+      } in
+      let f = first-same k levels front old new rest c (a + d) before in
+      record {
+        first = f.first;
+        first_fewer = (first-same k levels front old new rest c a fewer).first;
+        fewer = fewer;
+        opens = ap (λ (b : Outcome (Unit {0})). c.at + b.taken) f.opened;
+        clear = λ some. block-clear (a + d) some go before;
+        room = λ some. within-front opened (first_end (a + d) run_was).taken (length front)
+            (block-seen k levels c z (a + d) (length front - opened) (end-shift opened (length front - opened) (length front) (o.asks ++ asks_of (first_of (a + d) run_was)) (omega arith) (before.before_run some))) (takes-some (a + d) some go);
+        facts_was = block-facts k levels c z;
+        facts_now = block-facts k levels c w;
+      }
+
+pub one-reading-law : OneReadingLaw
+one-reading-law k front old new rest top a d go before = serves k front old new rest top a d go (text-starts k front old new rest a d go before)
+one-reading-law k front old new rest (inner c levels chosen name left) a d go before =
+    serves k front old new rest (inner c levels chosen name left) a d go (block-starts k levels front old new rest c chosen name left a d go before)
+
+-- ---- read again
+
+-- a first piece that is read the same but for the trivia before it gives the same with those behind it
+same-nodes : (t : Trivia) (o c : Outcome (Bool × (Bool × ℕ))) (p : Outcome (Unit {0})) → SamePiece t o c → p.back < length c.nodes → (joined o p).nodes ≡ t.nodes ++ (joined c p).nodes
+same-nodes t o c p same few = standing-led t.nodes c.nodes o p same.nodes few
+
+module _ (k : CharClasses) (text : List ℕ) (r : Run k text) (z : Place) (f : Facts (read_as r z)) (resumes : Resumes (read_as r z)) where
+  abbrev own : Sequence
+  own = read_as r z
+
+  gives : (i m : ℕ) (t u : Trivia) → 0 < i → 0 < m → AllGo (first_of i own) → AllGo (then_of i m own) → (first_end i own).state.known ≡ Some t → TakesNone i own → GivesAgain k text r z i m t u
+  gives i zero t u some more g h known none = absurd (omega (arith, more))
+  gives i (suc n) t u some more g h known none =
+      let e = first_end i own in
+      let y = first_place i own in
+      let w = moved t.gap y in
+      let o = turn_of own e.value y e.state in
+      let os = made (turn_of own) n o.value.1 (moved o.taken y) o.state in
+      let c = turn_of own e.value w (fresh own.level w) in
+      let cs = made (turn_of own) n c.value.1 (moved c.taken w) c.state in
+      let same = resumes i (suc n) t g h known none in
+      let one = same.0 in
+      let ends : end_of o.value.1 o.state os ≡ end_of c.value.1 c.state cs = (λ j. end_of (one.value j).1 (one.state j) (same.1 j)) in
+      let further = f.further i (go-longer own i n g h) in
+      let first = first-taken own i in
+      let gap = ap gap_of known in
+      let took = one.taken in
+      let some_c : 0 < c.taken = omega (arith, further, first, gap, took) in
+      let go_c : goes c ≡ true = ap (λ b. b && nat_lt 0 c.taken) (sym (ap (λ (v : Bool × (Bool × ℕ)). v.0) one.value) ∙ first-of o.value.0 (nat_lt 0 o.taken) h.0) ∙ lt-ltb 0 c.taken some_c in
+      let p = together (end_of o.value.1 o.state os).state os in
+      let d = together (end_of c.value.1 c.state cs).state cs in
+      let alike : p ≡ d = (λ j. together (ends j).state (same.1 j)) in
+      let back = f.tidy n o.value.1 (moved o.taken y) o.state in
+      let few = f.few e.value w go_c in
+      let empties = ap (λ (x : Point). x.empties) one.state in
+      let nodes : (joined o p).nodes ≡ t.nodes ++ (joined c d).nodes = same-nodes t o c p one (omega (arith, back, few, empties)) ∙ ap (λ (a : Outcome (Unit {0})). t.nodes ++ (joined c a).nodes) alike in
+      let length_t : leading i e ≡ length t.nodes = leading-is i e t some known in
+      let taken = ap (λ (x : End (Bool × ℕ)). x.taken) ends in
+      record {
+        go = (go_c, subst (λ us. AllGo us) same.1 h.1);
+        value = ap (λ (x : End (Bool × ℕ)). x.value) ends;
+        state = ap (λ (x : End (Bool × ℕ)). x.state) ends;
+        taken = omega (arith, taken, took);
+        nodes = ap (λ j. drop j ((joined o p).nodes ++ u.nodes)) length_t ∙ ap (λ ts. drop (length t.nodes) (ts ++ u.nodes)) nodes
+            ∙ ap (drop (length t.nodes)) (append_assoc t.nodes (joined c d).nodes u.nodes) ∙ drop-front t.nodes ((joined c d).nodes ++ u.nodes) (length t.nodes) refl;
+      }
+
+pub gives-again-law : GivesAgainLaw
+gives-again-law k text top z i m t u some more g h known none = gives k text top z (text-facts k z) (resume-law k z) i m t u some more g h known none
+gives-again-law k text (inner c levels chosen name left) z i m t u some more g h known none =
+    gives k text (inner c levels chosen name left) z (block-facts k levels c z) (inner-resume-law k levels (moved c.at z) (point_of c.start)) i m t u some more g h known none

@@ -1,0 +1,209 @@
+-- A candidate among the children at the top of a text's tree begins well.
+use Rattle.std.proofs.Common.{◌≡◌, inl, inr, ℕ, zero, suc, ◌+◌, ◌<◌, ◌≤◌, ◌==◌, ne_eqb, Bool, true, false, ◌&&◌, nat_lt, List, [], ◌∷◌, ◌++◌, length, take, Some, refl, ap, sym, ◌∙◌, subst, arith}
+use Rattle.typst_lines.specs.Place.{Place, moved}
+use Rattle.typst_lines.specs.Classes.{CharClasses}
+use Rattle.typst_tree.specs.Tree.{Tree, none, trees, bare}
+use Rattle.typst_tokens.specs.Sight.{width}
+use Rattle.typst_language.specs.declared.calls.Note.{Note}
+use Rattle.typst_language.specs.Depth.{is_end}
+use Rattle.typst_language.specs.Meaning.{Outcome}
+use Rattle.typst_language.specs.Point.{Trivia, gap_of, pending}
+use Rattle.typst_candidates.specs.Units.{is_piece, starts, behind_first, top_cuts}
+use Rattle.typst_candidates.specs.Candidates as candidate
+use Rattle.typst_candidates.specs.Candidates.{is_among, Candidate, begins, of_run}
+use Rattle.typst_grammar.specs.Grammar.{max_depth, level_at, start_of, tree, log}
+use Rattle.typst_edits.specs.CandidateEnds.{RootCandidateLaw}
+use Rattle.typst_edits.specs.Children.{Settles, standing_before}
+use Rattle.typst_edits.specs.Edit.{Among, text_with}
+use Rattle.typst_edits.specs.Every.{Every}
+use Rattle.typst_edits.specs.Joint.{text_run, onwards_from}
+use Rattle.typst_edits.specs.Leading.{both, token_byte}
+use Rattle.typst_edits.specs.NumberedNotes.{of_level, Numbered, SaysOf, cut_behind}
+use Rattle.typst_edits.specs.PieceNotes.{listed}
+use Rattle.typst_edits.specs.RootPieces.{StandsAt}
+use Rattle.typst_edits.specs.Runs.{AllGo, End, piece_at, lead, pieces, end_at, pieces_from, end_from}
+use Rattle.typst_edits.specs.Sequence.{Sequence}
+use Rattle.typst_edits.proofs.BareCandidates.{bare-candidates-law}
+use Rattle.typst_edits.proofs.Boundary.{first-of, looks_in, each-ends, go-add, made-add, turn-known}
+use Rattle.typst_edits.proofs.CandidateEnds.{Quiet, stretch, Parted, GivesAt, GivesOne, begun, parted}
+use Rattle.typst_edits.proofs.Children.{back-law}
+use Rattle.typst_edits.proofs.Edit.{among}
+use Rattle.typst_edits.proofs.Heads.{text-lone}
+use Rattle.typst_edits.proofs.InnerCuts.{CutOf, starts_of, both-on, both-off, piece-is, behind-are, few-go}
+use Rattle.typst_edits.proofs.Joint.{onwards-is}
+use Rattle.typst_edits.proofs.Leading.{leading-law}
+use Rattle.typst_edits.proofs.MarkupCandidates.{OfStretch, of-run, own-run}
+use Rattle.typst_edits.proofs.NoneBack.{lead-empties}
+use Rattle.typst_edits.proofs.NoteNumbers.{go-fewer}
+use Rattle.typst_edits.proofs.NumberedNotes.{numbered-run-law}
+use Rattle.typst_edits.proofs.QuietTrivia.{text-quiet}
+use Rattle.typst_edits.proofs.Root.{within}
+use Rattle.typst_edits.proofs.RootPieces.{take-past, behind-zero, cut-is}
+use Rattle.typst_edits.proofs.RunTrees.{tree-is}
+use Rattle.typst_edits.proofs.Spots.{if-true, if-false}
+use Rattle.typst_edits.proofs.Widths.{width-append}
+
+-- ---- the cuts of a text's run
+
+starts-are : (text : List ℕ) (e : ℕ → End (Bool × ℕ)) (levels i : ℕ) (ns : List Note) → Numbered (SaysOf text e) i (of_level levels ns) → starts levels ns ≡ starts_of (of_level levels ns)
+starts-are text e levels i [] h = refl
+starts-are text e levels i (n ∷ ns) h = by-level (n.levels == levels) refl (λ j g. starts-are text e levels j ns g)
+  where
+    by-level : (b : Bool) → (n.levels == levels) ≡ b → ((j : ℕ) → Numbered (SaysOf text e) j (of_level levels ns) → starts levels ns ≡ starts_of (of_level levels ns)) → starts levels (n ∷ ns) ≡ starts_of (of_level levels (n ∷ ns))
+    by-level true f next =
+        let own : of_level levels (n ∷ ns) ≡ n ∷ of_level levels ns = if-true (n.levels == levels) _ _ f in
+        let says = subst (Numbered (SaysOf text e) i) own h in
+        if-true (is_piece n.mark && n.levels == levels) _ _ (both-on (is_piece n.mark) (n.levels == levels) (piece-is n.mark _ _ says.0.says.mark) f)
+        ∙ ap (λ us. n.start ∷ us) (next (suc i) says.1)
+        ∙ sym (ap starts_of own)
+    by-level false f next =
+        let other : of_level levels (n ∷ ns) ≡ of_level levels ns = if-false (n.levels == levels) _ _ f in
+        if-false (is_piece n.mark && n.levels == levels) _ _ (both-off (is_piece n.mark) (n.levels == levels) f)
+        ∙ next i (subst (Numbered (SaysOf text e) i) other h)
+        ∙ sym (ap starts_of other)
+
+pub record TopCuts (k : CharClasses) (text : List ℕ) : Type 0 where
+  pub count : ℕ
+  pub cuts : List ℕ
+  pub go : AllGo (pieces k count (start_of text))
+  pub each : (b : ℕ) → is_among b cuts ≡ true → CutOf text (λ i. end_at k i (start_of text)) count b
+  are : top_cuts (listed (log k text).notes) ≡ Some cuts
+  has : (j : ℕ) → 0 < j → AllGo (pieces k j (start_of text)) → is_among (width (take (cut_behind j (end_at k j (start_of text))) text)) cuts ≡ true
+
+pub cuts-of-text : (k : CharClasses) (text : List ℕ) → TopCuts k text
+cuts-of-text k text =
+    let n = numbered-run-law k text in
+    let z = start_of text in
+    let e = λ (i : ℕ). end_at k i z in
+    let ns = listed (log k text).notes in
+    let b = behind-are text e n.count (of_level max_depth ns) n.all n.each in
+    record {
+      count = n.count;
+      cuts = b.cuts;
+      go = n.go;
+      each = b.is.each;
+      are = ap behind_first (starts-are text e max_depth 0 ns n.each) ∙ b.are;
+      has = λ j some go. b.is.has j some (few-go (piece_at k) (within k) n.count j (true, 0) z (lead k z).state (nat_lt n.count j) refl go n.over);
+    }
+
+-- ---- what its pieces give
+
+settles : (k : CharClasses) (text : List ℕ) (i n : ℕ) → (0 < i → 0 < n) → Settles n (onwards_from k i n (start_of text))
+settles k text zero zero some = inr (none-left _ _ (back-law k text 0 0).behind_back (lead-empties k (start_of text)))
+  where
+    none-left : (a b : ℕ) → a ≤ b → b ≡ 0 → a ≡ 0
+    none-left a b h e = omega (arith, h, e)
+settles k text zero (suc n) some = inl (omega arith)
+settles k text (suc i) n some = inl (some (omega arith))
+
+module _ (k : CharClasses) (text : List ℕ) (i : ℕ) (g : AllGo (pieces k i (start_of text))) where
+  abbrev z0 : Place
+  z0 = start_of text
+
+  abbrev run0 : Sequence
+  run0 = text_run k z0
+
+  abbrev kids : List Tree
+  kids = trees (tree k text).kids
+
+  abbrev start0 : ℕ
+  start0 = token_byte text (end_at k i z0)
+
+  gives-at : (n : ℕ) (t : Trivia) → AllGo (pieces_from k i n z0) → (end_from k i n z0).state.known ≡ Some t → (0 < i → 0 < n) → GivesAt run0 0 kids i n t start0 (token_byte text (both k i n z0))
+  gives-at n t h known some =
+      let led = leading-law k text i n t g h known (settles k text i n some) in
+      let ends = led.ends in
+      record {
+        before = standing_before k i n z0;
+        back = (onwards_from k i n z0).back;
+        behind = led.behind;
+        children = led.children;
+        few = (back-law k text i n).behind_back;
+        ends = omega (arith, ends);
+        onwards = ap (λ (o : Outcome (Unit {0})). o.nodes) (sym (onwards-is k i n z0)) ∙ led.onwards;
+        first = led.first;
+        next = led.next;
+        last = led.last;
+      }
+
+  -- one piece more ends at a cut
+  gives-one : (n : ℕ) (cuts : TopCuts k text) → AllGo (pieces_from k i n z0) → 0 < n → GivesOne run0 cuts.cuts 0 kids i start0
+  gives-one n cuts h some =
+      let e = end_at k i z0 in
+      let y = moved e.taken z0 in
+      let h1 : AllGo (pieces_from k i 1 z0) = go-fewer (piece_at k) (within k) 1 n e.value y e.state (omega (arith, some)) h in
+      let o = piece_at k e.value y e.state in
+      let t = turn-known (level_at k max_depth) is_end e.value y e.state (first-of o.value.0 (nat_lt 0 o.taken) h1.0) in
+      let known : (end_from k i 1 z0).state.known ≡ Some t.trivia = t.is in
+      let next : i + 1 ≡ suc i = omega arith in
+      let go : AllGo (pieces k (i + 1) z0) = go-add (piece_at k) (looks_in run0) (each-ends run0) i 1 (true, 0) z0 (lead k z0).state g h1 in
+      let sum : end_at k (i + 1) z0 ≡ both k i 1 z0 = made-add (piece_at k) (looks_in run0) (each-ends run0) i 1 (true, 0) z0 (lead k z0).state in
+      let cut : is_among (token_byte text (end_at k (suc i) z0)) cuts.cuts ≡ true = cuts.has (suc i) (omega arith) (subst (λ j. AllGo (pieces k j z0)) next go) in
+      record {
+        trivia = t.trivia;
+        end = token_byte text (both k i 1 z0);
+        gives = gives-at 1 t.trivia h1 known (λ l. omega arith);
+        quiet = subst (λ u. Every Quiet (pending u)) known (text-quiet k z0 i 1);
+        cut = ap (λ (u : End (Bool × ℕ)). is_among (token_byte text u) cuts.cuts) (sym sum ∙ ap (λ j. end_at k j z0) next) ∙ cut;
+      }
+
+  -- none end where they begin
+  none-end : (n : ℕ) → n ≡ 0 → token_byte text (both k i n z0) ≡ start0
+  none-end n e =
+      let u = end_at k i z0 in
+      let sum : (u.taken + 0) + gap_of u.state.known ≡ u.taken + gap_of u.state.known = omega arith in
+      ap (λ m. token_byte text (both k i m z0)) e ∙ ap (λ d. width (take d text)) sum
+
+  pieces-parted : (n : ℕ) (t : Trivia) (cuts : TopCuts k text) → AllGo (pieces_from k i n z0) → (end_from k i n z0).state.known ≡ Some t → Parted run0 cuts.cuts 0 kids i n start0 (token_byte text (both k i n z0))
+  pieces-parted n t cuts h known =
+      parted run0 cuts.cuts 0 kids i n start0 (token_byte text (both k i n z0)) t known (gives-at n t h known) (λ l e. none-end n e) (λ l some. gives-one n cuts h some)
+      (λ l some mind. (let e = end_at k i z0 in text-lone k z0 i g (go-fewer (piece_at k) (within k) 1 n e.value (moved e.taken z0) e.state (omega (arith, some)) h) mind))
+
+-- ---- the candidate
+
+head-none : (k : CharClasses) (text : List ℕ) → length (tree k text).head.text ≡ 0
+head-none k text = ap (λ (t : Tree). length t.head.text) (tree-is k text 0 0 tt tt)
+
+pub of-the-root : (k : CharClasses) (text : List ℕ) (rs re : ℕ) (root : Tree) (c : Candidate) (cuts : TopCuts k text) → bare root ≡ bare (tree k text) → Among c (candidate.candidates (listed (log k text).notes) rs re root) → c.is_block ≡ false → c.path ≡ []
+    → OfStretch rs re [] 0 (trees (tree k text).kids) cuts.cuts c
+of-the-root k text rs re root c cuts same chosen pieces path =
+    let was = tree k text in
+    let ns = listed (log k text).notes in
+    let ts = trees was.kids in
+    let there : Among c (candidate.candidates ns rs re was) = subst (λ cs. Among c cs) (bare-candidates-law ns rs re root was same) chosen in
+    let own = among _ c _ there (own-run ns rs re [] (top_cuts ns) 0 was.head was.kids none) pieces path in
+    let zero_more = head-none k text in
+    let at : 0 + length was.head.text ≡ 0 = omega (arith, zero_more) in
+    of-run rs re [] 0 ts cuts.cuts c (subst (λ run. Among c (of_run rs re [] 0 ts run)) cuts.are (subst (λ b. Among c (of_run rs re [] b ts (top_cuts ns))) at own))
+
+pub root-candidate-law : RootCandidateLaw
+root-candidate-law k front old new rest root c i n m past t u same chosen pieces path start led end h =
+    let text = front ++ (old ++ rest) in
+    let z = text_with front old rest in
+    let rs = width front in
+    let re = width (front ++ old) in
+    let kids = trees (tree k text).kids in
+    let cuts = cuts-of-text k text in
+    let o = of-the-root k text rs re root c cuts same chosen pieces path in
+    let wider = width-append front old in
+    let order : rs ≤ re = omega (arith, wider) in
+    let s = stretch cuts.cuts 0 kids rs re o.more order in
+    let from : c.from ≡ s.from = ap (λ (d : Candidate). d.from) o.is in
+    let to : c.to ≡ s.to = ap (λ (d : Candidate). d.to) o.is in
+    let begins_is : c.start ≡ begins 0 kids s.from = ap (λ (d : Candidate). d.start) o.is in
+    let ends_is : c.end ≡ begins 0 kids s.to = ap (λ (d : Candidate). d.end) o.is in
+    let e = end_at k i z in
+    let start_byte : 0 < i → c.start ≡ token_byte text e = λ l. start ∙ ap (λ d. width (take d text)) (cut-is (i == 0) (e.taken + gap_of e.state.known) (ne_eqb i 0 (omega (arith, l)))) in
+    let f = both k i n z in
+    let gap : gap_of f.state.known ≡ t.gap = ap gap_of h.known in
+    let sum : f.taken + gap_of f.state.known ≡ (length front + length old) + past = ap (λ d. f.taken + d) gap ∙ behind-zero f.taken t.gap _ h.ends in
+    let end_byte : c.end ≡ token_byte text f = end ∙ sym (ap width (take-past front old rest past (f.taken + gap_of f.state.known) sum)) in
+    let p = pieces-parted k text i h.first_go n t cuts h.old_go h.known in
+    let b = begun cuts.cuts 0 kids rs re o.more order (text_run k z) i n (token_byte text e) (token_byte text f) p (λ l. subst (λ d. 0 < d) from (led.0 l)) (λ l. sym (start_byte l) ∙ begins_is) (sym end_byte ∙ ends_is) in
+    record {
+      starts = b.starts;
+      goes_on = b.goes_on;
+      first = λ l. subst (λ d. StandsAt 0 kids d c.start) (sym from) (subst (λ d. StandsAt 0 kids s.from d) (sym (start_byte l)) (b.first l));
+      next = λ over. subst (λ d. StandsAt 0 kids d c.end) (sym to) (subst (λ d. StandsAt 0 kids s.to d) (sym end_byte) (b.next over));
+      last = λ over. to ∙ b.last over;
+    }

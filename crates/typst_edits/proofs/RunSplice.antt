@@ -1,0 +1,425 @@
+-- The units of a text with an edit inside some pieces of its run.
+use Rattle.std.proofs.Common.{◌≡◌, ◌==◌, ◌&&◌, if◌then◌else◌, inl, inr, ◌⊎◌, ℕ, zero, suc, ◌+◌, ◌-◌, ◌<◌, ◌≤◌, ◌^◌, Bool, true, false, List, [], ◌∷◌, ◌++◌, length, map, append_assoc, append-nil, Some, refl, ap, sym, ◌∙◌, subst, arith}
+use Rattle.std.proofs.lemmas.List.{map-append}
+use Rattle.typst_kinds.specs.Kinds.{same}
+use Rattle.typst_kinds.specs.declared.kind.SyntaxKind.TheVariants as kind
+use Rattle.typst_kinds.specs.declared.mode.SyntaxMode.TheVariants as mode
+use Rattle.typst_candidates.specs.Entries.{units_of, spliced}
+use Rattle.typst_candidates.specs.declared.entry.Entry.{Entry}
+use Rattle.typst_lines.specs.Place.{Place, moved}
+use Rattle.typst_lines.specs.Classes.{CharClasses}
+use Rattle.typst_tokens.specs.Reader.{Look, no_look}
+use Rattle.typst_tokens.specs.Sight.{width, position}
+use Rattle.typst_language.specs.declared.calls.Mark.TheVariants as mark
+use Rattle.typst_language.specs.Ask.{Ask, SameIn, shift, shift_one}
+use Rattle.typst_language.specs.Ask.Ask.{looked, marked}
+use Rattle.typst_language.specs.Depth.{is_end}
+use Rattle.typst_language.specs.Hand.{AtHand, Hand, told, hand_at}
+use Rattle.typst_language.specs.Log.{no_log, logged}
+use Rattle.typst_language.specs.Meaning.{Outcome, hand_of, hand_asks_of, repeated, start_point, run}
+use Rattle.typst_language.specs.Point.{Trivia, Point, gap_of, state_of}
+use Rattle.typst_language.specs.Steps.{peek}
+use Rattle.typst_language.proofs.Ends.{hand-ends}
+use Rattle.typst_language.proofs.Knot.{sane-at}
+use Rattle.typst_language.proofs.Looks.{same_in-shift, same_in-second}
+use Rattle.typst_grammar.specs.Markup.{ends, markup_reading}
+use Rattle.typst_grammar.specs.Grammar.{rules, level_at, max_depth, start_of, whole, parsed, log}
+use Rattle.typst_edits.specs.Edit.{text_with, AllEndBy, AllBeginIn}
+use Rattle.typst_edits.specs.Looks.{AllFrom}
+use Rattle.typst_edits.specs.Joint.{passed, onwards, text_run, place_from, onwards_from}
+use Rattle.typst_edits.specs.JointBytes.{asked_past}
+use Rattle.typst_edits.specs.RunSplice.{end_note, next_looks, own_asks, pieces_log, OverAt, RunSpliceLaw}
+use Rattle.typst_edits.specs.RunTrees.{run_mark}
+use Rattle.typst_edits.specs.Runs.{start, AllGo, End, end_of, asks_of, chain, piece_at, lead, pieces, end_at, pieces_from, end_from, rest_from, tail, whole_of}
+use Rattle.typst_edits.specs.Sequence.{Sequence, turn_of}
+use Rattle.typst_edits.specs.Splice.{Noting, noting, notes_in, AllNotedBy, token_start, entries_from}
+use Rattle.typst_edits.proofs.Boundary.{Begins, begins-append, looks_in, pieces-begin, each-ends, made-ends, from-both, from-second}
+use Rattle.typst_edits.proofs.Edit.{before-same}
+use Rattle.typst_edits.proofs.EmptyRuns.{Knows, Never, hand-asks, hand-gap, passed-kind, onwards-looks, end-look, token_look}
+use Rattle.typst_edits.proofs.Every.{Every}
+use Rattle.typst_edits.proofs.Forward.{ahead-from, lead-ahead}
+use Rattle.typst_edits.proofs.Joint.{text-read, onwards-is, onwards-fronted, joint-law}
+use Rattle.typst_edits.proofs.Marks.{AllMarks, marks-append, none-hand}
+use Rattle.typst_edits.proofs.Outcomes.{shift-zero, shift-twice}
+use Rattle.typst_edits.proofs.Root.{whole-is, split-at, split-taken}
+use Rattle.typst_edits.proofs.RunTrees.{whole-asks, chained-asks}
+use Rattle.typst_edits.proofs.Runs.{chain-state}
+use Rattle.typst_edits.proofs.Seen.{AllSeen, end-first, seen-first, sees-level}
+use Rattle.typst_edits.proofs.Sides.{Side, Last, entries_at, back_at, count-append, count-shift, count-none, each-bare, each-from, from-zero, bare-shift, side-closed, side-open, side-none, side-by, same-at, last-at, splice-sides}
+use Rattle.typst_edits.proofs.Splice.{take-width, token-at}
+use Rattle.typst_edits.proofs.Widths.{width-moved}
+
+-- ---- lists of asks
+
+abbrev pub first_look : List Ask → Look
+first_look [] = no_look
+first_look (looked at seen ∷ asks) = seen
+first_look (marked at gap fewer m s ∷ asks) = no_look
+
+pub first-shift : (d : ℕ) (asks : List Ask) → first_look (shift d asks) ≡ first_look asks
+first-shift d [] = refl
+first-shift d (looked at seen ∷ asks) = refl
+first-shift d (marked at gap fewer m s ∷ asks) = refl
+
+abbrev back_one : ℕ → Ask → Ask
+back_one d (looked at seen) = looked (at - d) seen
+back_one d (marked at gap fewer m s) = marked (at - d) gap fewer m s
+
+back-shift : (d : ℕ) (asks : List Ask) → map (back_one d) (shift d asks) ≡ asks
+back-shift d [] = refl
+back-shift d (looked at seen ∷ asks) = let e : (d + at) - d ≡ at = omega arith in ap (λ n. looked n seen ∷ map (back_one d) (shift d asks)) e ∙ ap (λ u. looked at seen ∷ u) (back-shift d asks)
+back-shift d (marked at gap fewer m s ∷ asks) = let e : (d + at) - d ≡ at = omega arith in ap (λ n. marked n gap fewer m s ∷ map (back_one d) (shift d asks)) e ∙ ap (λ u. marked at gap fewer m s ∷ u) (back-shift d asks)
+
+-- lists that are the same behind so many characters
+pub unshifted : (d : ℕ) (xs ys : List Ask) → shift d xs ≡ shift d ys → xs ≡ ys
+unshifted d xs ys e = sym (back-shift d xs) ∙ ap (map (back_one d)) e ∙ back-shift d ys
+
+pub noted-last : (n : ℕ) (ls : List Ask) (p : Noting) → AllNotedBy n (ls ++ noting p ∷ []) → p.at + p.gap ≤ n
+noted-last n [] p h = h.0
+noted-last n (looked at seen ∷ ls) p h = noted-last n ls p h
+noted-last n (marked at gap fewer m s ∷ ls) p h = noted-last n ls p h.1
+
+pub noted-first : (n : ℕ) (ls ks : List Ask) → AllNotedBy n (ls ++ ks) → AllNotedBy n ls
+noted-first n [] ks h = tt
+noted-first n (looked at seen ∷ ls) ks h = noted-first n ls ks h
+noted-first n (marked at gap fewer m s ∷ ls) ks h = (h.0, noted-first n ls ks h.1)
+
+pub end-marked : (n : ℕ) (ls : List Ask) (p : Noting) → AllEndBy n ls → AllEndBy n (ls ++ noting p ∷ [])
+end-marked n [] p h = tt
+end-marked n (looked at seen ∷ ls) p h = (h.0, end-marked n ls p h.1)
+end-marked n (marked at gap fewer m s ∷ ls) p h = end-marked n ls p h
+
+bare-second : (ls ks : List Ask) → AllMarks Never (ls ++ ks) → AllMarks Never ks
+bare-second [] ks h = h
+bare-second (looked at seen ∷ ls) ks h = bare-second ls ks h
+bare-second (marked at gap fewer m s ∷ ls) ks h = absurd h.0
+
+module _ (k : CharClasses) where
+  -- ---- what is asked of a text
+
+  -- up to some pieces, of them, and behind them
+  reading-asks : (text : List ℕ) (i n : ℕ) → (let z = start_of text in AllGo (pieces k i z) → AllGo (pieces_from k i n z)
+      → (parsed k max_depth text).asks ≡ run_mark ∷ (((lead k z).asks ++ asks_of (pieces k i z)) ++ shift (end_at k i z).taken (asks_of (pieces_from k i n z) ++ shift (end_from k i n z).taken (onwards_from k i n z).asks)))
+  reading-asks text i n g h =
+      let z = start_of text in
+      let os = pieces k i z in
+      let ps = pieces_from k i n z in
+      let q = rest_from k i n z in
+      let r = chain os (chain ps q) in
+      let e = end_at k i z in
+      let u = tail k ((e.taken + (end_from k i n z).taken) + q.taken) q.state z in
+      let tail_is : tail k r.taken r.state z ≡ u =
+      ap (λ a. tail k a r.state z) (split-taken k i n z) ∙ ap (λ s. tail k ((e.taken + (end_from k i n z).taken) + q.taken) s z) (chain-state os (chain ps q) ∙ chain-state ps q) in
+      let is : parsed k max_depth text ≡ whole_of (lead k z) r u =
+      whole-is k text ∙ ap (λ o. whole_of (lead k z) o (tail k o.taken o.state z)) (split-at k i n z g h) ∙ ap (whole_of (lead k z) r) tail_is in
+      ap (λ (o : Outcome (Unit {0})). o.asks) is ∙ whole-asks k z r u ∙ ap (λ ls. run_mark ∷ ls) (chained-asks (lead k z).asks (true, 0) e.value (lead k z).state e.state os ps q u)
+
+  -- all that is asked behind the note where i pieces end
+  abbrev all_asks : ℕ → ℕ → Place → List Ask
+  all_asks i n z = next_looks k i z ++ shift (end_at k i z).taken (asks_of (pieces_from k i n z) ++ shift (end_from k i n z).taken (onwards_from k i n z).asks)
+
+  -- what is asked up to the note where i pieces end, and the looks behind it
+  record Cut (i : ℕ) (z : Place) : Type 0 where
+    first : List Ask
+    is : run_mark ∷ ((lead k z).asks ++ asks_of (pieces k i z)) ≡ first ++ noting (end_note k i z) ∷ next_looks k i z
+    count : notes_in first ≡ notes_in (asks_of (pieces k i z))
+    none : i ≡ 0 → first ≡ []
+    early : (n : ℕ) → (0 < i → AllEndBy n ((lead k z).asks ++ asks_of (pieces k i z))) → AllEndBy n first
+
+  lead-bare : (z : Place) → AllMarks Never (lead k z).asks
+  unfolding run
+  lead-bare z = none-hand Never k start.held start.known z
+
+  hand-bare : (z : Place) (s : Point) → AllMarks Never (hand_asks_of (level_at k max_depth) z s)
+  hand-bare z s = none-hand Never k s.held s.known z
+
+  next-none : (i : ℕ) (z : Place) → notes_in (next_looks k i z) ≡ 0
+  next-none zero z = count-none (lead k z).asks (lead-bare z)
+  next-none (suc i) z =
+      let e = end_at k (suc i) z in
+      let looks = hand_asks_of (level_at k max_depth) (moved e.taken z) e.state in
+      count-none (shift e.taken looks) (bare-shift e.taken looks (hand-bare (moved e.taken z) e.state))
+
+  cut : (i : ℕ) (z : Place) → AllGo (pieces k i z) → Cut i z
+  cut zero z g = record { first = []; is = ap (λ u. run_mark ∷ u) (append-nil (lead k z).asks); count = refl; none = λ e. refl; early = λ n h. tt }
+  cut (suc j) z g =
+      let r = text_run k z in
+      let ls = (lead k z).asks in
+      let os = pieces k (suc j) z in
+      let e = end_at k (suc j) z in
+      let b = made-ends (piece_at k) (looks_in r) (each-ends r) j (true, 0) z (lead k z).state g in
+      let looks = next_looks k (suc j) z in
+      let p = noting (end_note k (suc j) z) in
+      let before = ls ++ (b.early ++ looks) in
+      let is : ls ++ asks_of os ≡ before ++ p ∷ looks =
+      ap (λ u. ls ++ u) (b.is ∙ sym (append_assoc b.early looks (p ∷ looks))) ∙ sym (append_assoc ls (b.early ++ looks) (p ∷ looks)) in
+      let none = count-none looks (bare-shift e.taken (hand_asks_of (level_at k max_depth) (moved e.taken z) e.state) (hand-bare (moved e.taken z) e.state)) in
+      let none_first = count-none ls (lead-bare z) in
+      let own = ap notes_in b.is ∙ count-append b.early (looks ++ p ∷ looks) in
+      let own_end = count-append looks (p ∷ looks) in
+      let one = count-append ls (b.early ++ looks) in
+      let two = count-append b.early looks in
+      record {
+        first = run_mark ∷ before;
+        is = ap (λ u. run_mark ∷ u) is;
+        count = omega (arith, none, none_first, own, own_end, one, two);
+        none = λ e. absurd (omega (arith, e));
+        early = λ n h. end-first n before (p ∷ looks) (subst (λ u. AllEndBy n u) is (h (omega arith)));
+      }
+
+  -- all that is asked of a text, cut there
+  cut-asks : (text : List ℕ) (i n : ℕ) → (let z = start_of text in (first : List Ask) (p : Noting) → AllGo (pieces k i z) → AllGo (pieces_from k i n z)
+      → run_mark ∷ ((lead k z).asks ++ asks_of (pieces k i z)) ≡ first ++ noting p ∷ next_looks k i z → (parsed k max_depth text).asks ≡ first ++ noting p ∷ all_asks i n z)
+  cut-asks text i n first p g h is =
+      let z = start_of text in
+      let more = shift (end_at k i z).taken (asks_of (pieces_from k i n z) ++ shift (end_from k i n z).taken (onwards_from k i n z).asks) in
+      reading-asks text i n g h ∙ ap (λ u. u ++ more) is ∙ append_assoc first (noting p ∷ next_looks k i z) more
+
+  -- ---- the token behind pieces
+
+  -- pieces of a text that end before known trivia at a place, with what is asked behind these
+  record Tail (i n : ℕ) (z : Place) (t : Trivia) (end : ℕ) (last : List Ask) : Type 0 where
+    known : (end_from k i n z).state.known ≡ Some t
+    ends : ((end_at k i z).taken + (end_from k i n z).taken) + t.gap ≡ end
+    bare : AllMarks Never (hand_asks_of (level_at k max_depth) (place_from k i n z) (end_from k i n z).state)
+    asks : hand_asks_of (level_at k max_depth) (place_from k i n z) (end_from k i n z).state ++ (onwards_from k i n z).asks ≡ shift t.gap last
+
+  -- behind pieces, of which there is one at least
+  side : (i n : ℕ) (z : Place) (t : Trivia) (end : ℕ) (last : List Ask) → AllGo (pieces_from k i n z) → Tail i n z t end last → 0 < i + n
+      → Side max_depth z (end_note k i z) (own_asks k i n z) (all_asks i n z) (entries_at max_depth z end last) (back_at max_depth z end last)
+  side zero zero z t end last g a some = absurd (omega (arith, some))
+  side (suc j) zero z t end last g a some =
+      let e = end_at k (suc j) z in
+      let looks = hand_asks_of (level_at k max_depth) (moved e.taken z) e.state in
+      let on = (onwards_from k (suc j) zero z).asks in
+      let next = shift e.taken looks in
+      let sum : e.taken + t.gap ≡ end = omega (arith, a.ends) in
+      let here : e.taken + gap_of e.state.known ≡ end = ap (λ v. e.taken + gap_of v) a.known ∙ sum in
+      side-open max_depth z (end_note k (suc j) z) (own_asks k (suc j) zero z) (all_asks (suc j) zero z) end last
+      (marks-append Never next [] (bare-shift e.taken looks a.bare) tt)
+      (ap (λ u. next ++ shift e.taken u) (shift-zero on) ∙ sym (map-append (shift_one e.taken) looks on) ∙ ap (shift e.taken) a.asks ∙ shift-twice e.taken t.gap last ∙ ap (λ d. shift d last) sum)
+      (token-at z (end_note k (suc j) z) end here)
+  side i (suc n) z t end last g a some =
+      let r = text_run k z in
+      let e = end_at k i z in
+      let f = end_from k i (suc n) z in
+      let b = made-ends (piece_at k) (looks_in r) (each-ends r) n e.value (moved e.taken z) e.state g in
+      let looks = hand_asks_of (level_at k max_depth) (place_from k i (suc n) z) f.state in
+      let on = (onwards_from k i (suc n) z).asks in
+      let next = next_looks k i z in
+      let q : Noting = record { at = e.taken + f.taken; gap = gap_of f.state.known; fewer = 0; mark = mark.Piece f.value.0 f.value.1; state = state_of f.state } in
+      let inner = shift f.taken looks in
+      let last_looks = shift e.taken inner in
+      let early = shift e.taken b.early in
+      let second = next ++ (early ++ last_looks) in
+      let own_is : shift e.taken (asks_of (pieces_from k i (suc n) z)) ≡ early ++ (last_looks ++ noting q ∷ last_looks) =
+      ap (shift e.taken) b.is ∙ map-append (shift_one e.taken) b.early _ ∙ ap (λ u. early ++ u) (map-append (shift_one e.taken) inner _) in
+      let over = shift e.taken (shift f.taken on) in
+      let joined_is : (more : List Ask) → next ++ ((early ++ (last_looks ++ noting q ∷ last_looks)) ++ more) ≡ second ++ noting q ∷ (last_looks ++ more) = λ more.
+      ap (λ u. next ++ u) (append_assoc early (last_looks ++ noting q ∷ last_looks) more ∙ ap (λ u. early ++ u) (append_assoc last_looks (noting q ∷ last_looks) more) ∙ sym (append_assoc early last_looks (noting q ∷ (last_looks ++ more))))
+      ∙ sym (append_assoc next (early ++ last_looks) (noting q ∷ (last_looks ++ more))) in
+      let late : last_looks ++ over ≡ shift end last =
+      sym (map-append (shift_one e.taken) inner (shift f.taken on)) ∙ ap (shift e.taken) (sym (map-append (shift_one f.taken) looks on) ∙ ap (shift f.taken) a.asks ∙ shift-twice f.taken t.gap last)
+      ∙ shift-twice e.taken (f.taken + t.gap) last ∙ ap (λ d. shift d last) (omega (arith, a.ends)) in
+      let all_is : all_asks i (suc n) z ≡ second ++ noting q ∷ shift end last =
+      ap (λ u. next ++ u) (map-append (shift_one e.taken) (asks_of (pieces_from k i (suc n) z)) (shift f.taken on) ∙ ap (λ u. u ++ over) own_is) ∙ joined_is over ∙ ap (λ u. second ++ noting q ∷ u) late in
+      let own : own_asks k i (suc n) z ≡ second ++ noting q ∷ last_looks =
+      ap (λ u. next ++ u) (own_is ∙ sym (append-nil (early ++ (last_looks ++ noting q ∷ last_looks)))) ∙ joined_is [] ∙ ap (λ u. second ++ noting q ∷ u) (append-nil last_looks) in
+      let here : (e.taken + f.taken) + gap_of f.state.known ≡ end = ap (λ v. (e.taken + f.taken) + gap_of v) a.known ∙ a.ends in
+      side-closed max_depth z (end_note k i z) q (own_asks k i (suc n) z) (all_asks i (suc n) z) second last_looks end last own
+      (bare-shift e.taken inner (bare-shift f.taken looks a.bare)) all_is (token-at z q end here)
+
+  -- at the text's start no note stands behind the first where no piece is read and the run ends
+  side-start : (text : List ℕ) (t : Trivia) (end : ℕ) (last : List Ask) → (let z = start_of text in Tail 0 0 z t end last → AllMarks Never last → AllFrom 0 z (lead k z).asks → AllFrom 0 z (shift end last)
+      → Side max_depth z (end_note k 0 z) (own_asks k 0 0 z) (all_asks 0 0 z) [] 0)
+  unfolding position width
+  side-start text t end last a none begun begun_last =
+      let z = start_of text in
+      let ls = (lead k z).asks in
+      let on = (onwards_from k 0 0 z).asks in
+      let hand = hand_asks_of (level_at k max_depth) (place_from k 0 0 z) (end_from k 0 0 z).state in
+      let same : t.gap ≡ end = omega (arith, a.ends) in
+      let all_last : hand ++ on ≡ shift end last = a.asks ∙ ap (λ d. shift d last) same in
+      let behind : AllMarks Never on = bare-second hand on (subst (λ u. AllMarks Never u) (sym all_last) (bare-shift end last none)) in
+      let behind_too : AllFrom 0 z on = from-second 0 z hand on (subst (λ u. AllFrom 0 z u) (sym all_last) begun_last) in
+      let still : shift 0 (shift 0 on) ≡ on = shift-zero (shift 0 on) ∙ shift-zero on in
+      side-none max_depth z (end_note k 0 z) (own_asks k 0 0 z) (all_asks 0 0 z) (marks-append Never ls [] (lead-bare z) tt)
+      (subst (λ u. AllMarks Never (ls ++ u)) (sym still) (marks-append Never ls on (lead-bare z) behind))
+      (subst (λ u. AllFrom 0 z (ls ++ u)) (sym still) (from-both 0 z ls on begun behind_too)) refl
+
+  -- and behind the last pieces of a text none stands either
+  side-last : (text : List ℕ) (i n : ℕ) (t : Trivia) (end : ℕ) (last : List Ask) → (let z = start_of text in AllGo (pieces_from k i n z) → Tail i n z t end last → AllMarks Never last → (i + n ≡ 0 → AllFrom 0 z (lead k z).asks)
+      → AllFrom 0 z (shift end last) → Last max_depth z end last → Side max_depth z (end_note k i z) (own_asks k i n z) (all_asks i n z) [] 0)
+  side-last text zero zero t end last g a none begun begun_last l = side-start text t end last a none (begun refl) begun_last
+  side-last text (suc i) n t end last g a none begun begun_last l = side-by max_depth _ _ _ _ _ _ _ _ l.entries l.back (side (suc i) n (start_of text) t end last g a (omega arith))
+  side-last text zero (suc n) t end last g a none begun begun_last l = side-by max_depth _ _ _ _ _ _ _ _ l.entries l.back (side zero (suc n) (start_of text) t end last g a (omega arith))
+
+  -- ---- the new text
+
+  -- the looks behind the note where pieces end, which were looked at in them
+  looks-same : (z w : Place) (e : End (Bool × ℕ)) → (let looks = hand_asks_of (level_at k max_depth) (moved e.taken z) e.state in SameIn (shift e.taken looks) z w
+      → hand_asks_of (level_at k max_depth) (moved e.taken w) e.state ≡ looks)
+  unfolding run
+  looks-same z w e h =
+      let looks = hand_asks_of (level_at k max_depth) (moved e.taken z) e.state in
+      ap (λ (o : Outcome AtHand). o.asks) ((sane-at (rules k) k max_depth peek).framed (moved e.taken z) (moved e.taken w) e.state (same_in-shift e.taken looks z w h))
+
+  -- the same is asked before pieces
+  record Again (i : ℕ) (z w : Place) (first : List Ask) : Type 0 where
+    note : end_note k i w ≡ end_note k i z
+    is : run_mark ∷ ((lead k w).asks ++ asks_of (pieces k i w)) ≡ first ++ noting (end_note k i z) ∷ next_looks k i w
+
+  again : (i : ℕ) (z w : Place) (c : Cut i z) → pieces k i w ≡ pieces k i z → (0 < i → lead k w ≡ lead k z) → (0 < i → SameIn ((lead k z).asks ++ asks_of (pieces k i z)) z w) → AllGo (pieces k i w) → Again i z w c.first
+  again zero z w c e f h g = record { note = refl; is = ap (λ u. run_mark ∷ u) (append-nil (lead k w).asks) ∙ ap (λ u. u ++ run_mark ∷ (lead k w).asks) (sym (c.none refl)) }
+  again (suc j) z w c e f h g =
+      let led = f (omega arith) in
+      let end_is : end_at k (suc j) w ≡ end_at k (suc j) z = ap (λ (o : Outcome AtHand). end_of (true, 0) o.state (pieces k (suc j) w)) led ∙ ap (end_of (true, 0) (lead k z).state) e in
+      let a = end_at k (suc j) z in
+      let p = noting (end_note k (suc j) z) in
+      let looks = next_looks k (suc j) z in
+      let shown : SameIn (c.first ++ p ∷ looks) z w = subst (λ u. SameIn u z w) c.is (tt, h (omega arith)) in
+      let same_looks : next_looks k (suc j) w ≡ looks =
+      ap (λ (v : End (Bool × ℕ)). shift v.taken (hand_asks_of (level_at k max_depth) (moved v.taken w) v.state)) end_is
+      ∙ ap (shift a.taken) (looks-same z w a (same_in-second c.first (p ∷ looks) z w shown).1) in
+      record {
+        note = ap (λ (v : End (Bool × ℕ)). record { at = v.taken; gap = gap_of v.state.known; fewer = 0; mark = mark.Piece v.value.0 v.value.1; state = state_of v.state }) end_is;
+        is = ap (λ (o : Outcome AtHand). run_mark ∷ (o.asks ++ asks_of (pieces k (suc j) w))) led ∙ ap (λ os. run_mark ∷ ((lead k z).asks ++ asks_of os)) e ∙ c.is ∙ ap (λ u. c.first ++ p ∷ u) (sym same_looks);
+      }
+
+-- ---- the law
+
+none-or-some : (n : ℕ) → (n ≡ 0) ⊎ (0 < n)
+none-or-some zero = inl refl
+none-or-some (suc n) = inr (omega arith)
+
+pub onwards-begin : (r : Sequence) (x : Bool × ℕ) (z : Place) (s : Point) → Begins (looks_in r z s) (onwards r x z s).asks
+unfolding run
+onwards-begin r x z s = begins-append (looks_in r z s) (repeated (turn_of r) x z s).asks _ (pieces-begin r x z s)
+
+-- at the text's start without a piece the look at the first token is the one at the token behind
+lead-begun : (k : CharClasses) (i n : ℕ) (z : Place) (t : Trivia) → (end_from k i n z).state.known ≡ Some t → (token_look (level_at k max_depth) (moved t.gap (place_from k i n z))).back ≡ 0 → i + n ≡ 0 → AllFrom 0 z (lead k z).asks
+lead-begun k zero zero z t known h e = ahead-from z (lead k z).asks (lead-ahead k z t known h)
+lead-begun k (suc i) n z t known h e = absurd (omega (arith, e))
+lead-begun k zero (suc n) z t known h e = absurd (omega (arith, e))
+
+end-any : (b c d : Bool) → (if b then (c && d) else c) ≡ true → c ≡ true
+end-any true true d e = refl
+end-any true false d e = absurd (cc)
+end-any false c d e = e
+
+-- where a text's run ends, its text does
+ends-there : (k : CharClasses) (y : Place) (s : Point) (t : Trivia) (x : ℕ) → s.held ≡ markup_reading → s.known ≡ Some t → ends is_end x (hand_of (level_at k max_depth) y s).kind ≡ true → (moved t.gap y).ahead ≡ []
+ends-there k y s t x held known over =
+    let l = level_at k max_depth in
+    let h = hand_at k markup_reading s.known y in
+    let alike : hand_of l y s ≡ h = ap (λ r. hand_at k r s.known y) held in
+    let gap : (hand_of l y s).gap ≡ t.gap = hand-gap l y t.gap s (record { held = held; trivia = t; known = known; gap = refl }) in
+    ap (λ n. (moved n y).ahead) (sym gap ∙ ap (λ (g : Hand). g.gap) alike) ∙ hand-ends k mode.Markup s.known y (end-any (same kind.RightBracket h.kind) (is_end h.kind) (x == 0) (ap (λ (g : Hand). ends is_end x g.kind) (sym alike) ∙ over))
+
+record Both (k : CharClasses) (i n m : ℕ) (z w : Place) : Type 0 where
+  behind : List Entry
+  back : ℕ
+  one : Side max_depth z (end_note k i z) (own_asks k i n z) (all_asks k i n z) behind back
+  two : Side max_depth w (end_note k i w) (own_asks k i m w) (all_asks k i m w) behind back
+
+word-fits : (text : List ℕ) (n : ℕ) → width text < 2 ^ 64 - 1 → position (moved n (start_of text)) < 2 ^ 64 - 1
+unfolding position
+word-fits text n big = omega (arith, width-moved n text, take-width n text, big)
+
+pub run-splice-law : RunSpliceLaw
+unfolding log
+run-splice-law k front old new rest i n m past t u h over over_new big big_new =
+    let z = text_with front old rest in
+    let w = text_with front new rest in
+    let end = (length front + length old) + past in
+    let stop = (length front + length new) + past in
+    let kept = joint-law k front old new rest i n m past t u h in
+    let l = level_at k max_depth in
+    let r = text_run k z in
+    let y = place_from k i n z in
+    let v = place_from k i m w in
+    let s = (end_from k i n z).state in
+    let q = (end_from k i m w).state in
+    let x = (end_from k i n z).value in
+    let asks = asked_past k i n t z in
+    let seen = token_look l (moved t.gap y) in
+    let last = looked 0 seen ∷ asks in
+    let held = (text-read k i n z).held in
+    let knows_passed : Knows 0 (passed t s) = record { held = held; trivia = _; known = refl; gap = refl } in
+    let new_first : AllGo (pieces k i w) = subst (λ os. AllGo os) (sym kept.first) h.first_go in
+    -- the token behind the old pieces, and behind the new ones
+    let hand_old : hand_asks_of l y s ≡ looked t.gap seen ∷ [] = hand-asks l y t.gap s (record { held = held; trivia = t; known = h.meets.known; gap = refl }) in
+    let hand_new = hand-asks l v u.gap q (record { held = (text-read k i m w).held; trivia = u; known = h.meets.known_now; gap = refl }) in
+    let on_old : (onwards_from k i n z).asks ≡ shift t.gap asks = (onwards-fronted k i n z t h.meets.known).asks in
+    let on_new : (onwards_from k i m w).asks ≡ shift u.gap asks = kept.behind.asks_now ∙ ap (shift u.gap) (unshifted t.gap kept.behind.looks asks (sym kept.behind.asks ∙ on_old)) in
+    let b = onwards-begin r x (moved t.gap y) (passed t s) in
+    let first_old : asks ≡ looked 0 seen ∷ b.more = b.is ∙ ap (λ ls. ls ++ b.more) (hand-asks l (moved t.gap y) 0 (passed t s) knows_passed) in
+    let c = onwards-begin (text_run k w) (end_from k i m w).value v q in
+    let first_new : (onwards_from k i m w).asks ≡ looked u.gap (token_look l (moved u.gap v)) ∷ c.more =
+    ap (λ (o : Outcome (Unit {0})). o.asks) (onwards-is k i m w) ∙ c.is ∙ ap (λ ls. ls ++ c.more) hand_new in
+    let same_seen : token_look l (moved u.gap v) ≡ seen = ap first_look (sym first_new ∙ on_new) ∙ first-shift u.gap asks ∙ ap first_look first_old in
+    let none : (d : ℕ) → looked d seen ∷ shift d asks ≡ shift d last = λ d. ap (λ a. looked a seen ∷ shift d asks) (omega arith) in
+    let tail_old : Tail k i n z t end last = record {
+      known = h.meets.known;
+      ends = h.ends;
+      bare = hand-bare k y s;
+      asks = ap (λ ls. ls ++ (onwards_from k i n z).asks) hand_old ∙ ap (λ ls. looked t.gap seen ∷ ls) on_old ∙ none t.gap;
+    } in
+    let tail_new : Tail k i m w u stop last = record {
+      known = h.meets.known_now;
+      ends = h.shifted;
+      bare = hand-bare k v q;
+      asks = ap (λ ls. ls ++ (onwards_from k i m w).asks) hand_new ∙ ap (λ a. looked u.gap a ∷ (onwards_from k i m w).asks) same_seen ∙ ap (λ ls. looked u.gap seen ∷ ls) on_new ∙ none u.gap;
+    } in
+    let first_begins = subst (AllBeginIn past rest) first_old h.after in
+    let begins : AllBeginIn past rest last = (first_begins.0, first_begins.1, h.after) in
+    -- both sides, where a piece is there and where the run ends
+    let apart : 0 < i + n → 0 < i + m → Both k i n m z w = λ some some_new.
+    (let same = same-at max_depth front old new rest past last big big_new begins in
+    record {
+      behind = entries_at max_depth z end last;
+      back = back_at max_depth z end last;
+      one = side k i n z t end last h.old_go tail_old some;
+      two = side-by max_depth _ _ _ _ _ _ _ _ same.entries same.back (side k i m w u stop last h.new_go tail_new some_new);
+    }) in
+    let ended : OverAt k i n z → Both k i n m z w = λ o.
+    (let stops : ends r.stops x.1 (told (hand_of l (moved t.gap y) (passed t s))).kind ≡ true = ap (ends is_end x.1) (passed-kind l y t s h.meets.known) ∙ o in
+    let each : Every (λ a. a ≡ looked 0 seen) last = (refl, (onwards-looks r x (moved t.gap y) (passed t s) knows_passed stops).each) in
+    let still : seen.back ≡ 0 = end-look k (moved t.gap y).behind (moved t.gap y).ahead (ends-there k y s t x.1 held h.meets.known o) in
+    let still_new : (token_look l (moved u.gap v)).back ≡ 0 = ap (λ (a : Look). a.back) same_seen ∙ still in
+    record {
+      behind = [];
+      back = 0;
+      one = side-last k (front ++ (old ++ rest)) i n t end last h.old_go tail_old (each-bare seen last each) (lead-begun k i n z t h.meets.known still)
+          (from-zero (position (moved end z)) z (shift end last) (each-from end seen z last still each)) (last-at max_depth z end seen last still each (word-fits (front ++ (old ++ rest)) end big));
+      two = side-last k (front ++ (new ++ rest)) i m u stop last h.new_go tail_new (each-bare seen last each) (lead-begun k i m w u h.meets.known_now still_new)
+          (from-zero (position (moved stop w)) w (shift stop last) (each-from stop seen w last still each)) (last-at max_depth w stop seen last still each (word-fits (front ++ (new ++ rest)) stop big_new));
+    }) in
+    let both : Both k i n m z w = elim (none-or-some (i + n)) [
+      | inl e ↦ ended (over e)
+      | inr some ↦ elim (none-or-some (i + m)) [ inl e ↦ ended (over_new e) | inr some_new ↦ apart some some_new ]
+    ] in
+    -- what is asked of both
+    let cuts = cut k i z h.first_go in
+    let p = end_note k i z in
+    let more = again k i z w cuts kept.first kept.lead_same (λ some. before-same _ front old new rest (h.before some)) new_first in
+    let was = cut-asks k (front ++ (old ++ rest)) i n cuts.first p h.first_go h.old_go cuts.is in
+    let now = cut-asks k (front ++ (new ++ rest)) i m cuts.first p new_first h.new_go more.is in
+    let early = cuts.early (length front) h.before in
+    let upto = cuts.first ++ noting p ∷ [] in
+    let all_seen = (sees-level (rules k) k max_depth whole z (start_point markup_reading) (length front) (omega arith)).noted in
+    let noted_all = seen-first (length front) upto (all_asks k i n z) (subst (AllSeen (length front)) (was ∙ sym (append_assoc cuts.first (noting p ∷ []) (all_asks k i n z))) all_seen) (end-marked (length front) cuts.first p early) in
+    let law = splice-sides max_depth front (old ++ rest) (new ++ rest) cuts.first p (own_asks k i n z) (all_asks k i n z) (own_asks k i m w) (all_asks k i m w) both.behind both.back early
+    (noted-first (length front) cuts.first (noting p ∷ []) noted_all) (noted-last (length front) cuts.first p noted_all) both.one
+    (subst (λ a. Side max_depth w a (own_asks k i m w) (all_asks k i m w) both.behind both.back) more.note both.two) in
+    let from = notes_in (asks_of (pieces k i z)) in
+    let count = notes_in (own_asks k i n z) in
+    let part = entries_from (token_start w p) (pieces_log k i m w).notes in
+    let units_was = units_of (logged max_depth z no_log (cuts.first ++ noting p ∷ all_asks k i n z)) in
+    let own_count : count ≡ notes_in (asks_of (pieces_from k i n z)) =
+    count-append (next_looks k i z) _ ∙ ap (λ a. a + notes_in (shift (end_at k i z).taken (asks_of (pieces_from k i n z)))) (next-none k i z) ∙ omega (arith, count-shift (end_at k i z).taken (asks_of (pieces_from k i n z))) in
+    ap (λ ls. units_of (logged max_depth w no_log ls)) now ∙ law
+    ∙ ap (λ a. spliced a (a + count) part units_was) cuts.count
+    ∙ ap (λ a. spliced from (from + a) part units_was) own_count
+    ∙ ap (λ (a : Noting). spliced from (from + notes_in (asks_of (pieces_from k i n z))) (entries_from (token_start w a) (pieces_log k i m w).notes) units_was) (sym more.note)
+    ∙ ap (λ ls. spliced from (from + notes_in (asks_of (pieces_from k i n z))) (entries_from (token_start w (end_note k i w)) (pieces_log k i m w).notes) (units_of (logged max_depth z no_log ls))) (sym was)

@@ -1,0 +1,94 @@
+-- Nodes that take the same place in the same tree and give the same tree are the same; so an edit has one answer.
+use Rattle.std.proofs.Common.{◌≡◌, ℕ, zero, suc, List, [], ◌∷◌, ◌++◌, drop, take, Some, ap, sym, ◌∙◌, subst, arith}
+use Rattle.std.proofs.lemmas.List.{append_cancel_left, append_cancel_right}
+use Rattle.std.specs.Prelude.{slice_get}
+use Rattle.std.specs.declared.ops.Range.{Range}
+use Rattle.typst_lines.specs.Classes.{CharClasses}
+use Rattle.typst_tree.specs.Tree.{Tree, forest, trees}
+use Rattle.typst_tree.specs.Replace.{At, Reaches, replaced_at}
+use Rattle.typst_tree.proofs.SpansAside.{trees_forest}
+use Rattle.typst_tokens.specs.Sight.{width}
+use Rattle.typst_candidates.specs.Candidates.{Candidate}
+use Rattle.typst_grammar.specs.Grammar.{tree}
+use Rattle.typst_edits.specs.Answer.{candidates, Refused}
+use Rattle.typst_edits.specs.Answer.IsAnswer.{part, whole}
+use Rattle.typst_edits.specs.Children.{with_children, exchanged}
+use Rattle.typst_edits.specs.Edit.{alter}
+use Rattle.typst_edits.specs.Every.{Every}
+use Rattle.typst_edits.specs.Frame.{Gives}
+use Rattle.typst_edits.specs.OpensApart.{OpensApartLaw}
+use Rattle.typst_edits.specs.Unique.{UniqueLaw, OneAnswerLaw}
+use Rattle.typst_edits.proofs.AnswerTree.{chosen-of, gives-tree-law, some-is}
+use Rattle.typst_edits.proofs.CandidateWorth.{in-order, reached}
+use Rattle.typst_edits.proofs.Edit.{among}
+use Rattle.typst_edits.proofs.Replaced.{put-law}
+
+-- ---- lists
+
+abbrev first_or : {X : Type 0} → X → List X → X
+first_or x [] = x
+first_or x (y ∷ ys) = y
+
+abbrev without_first : {X : Type 0} → List X → List X
+without_first [] = []
+without_first (y ∷ ys) = ys
+
+-- ---- the same tree by nodes in the same place
+
+same-between : (from to : ℕ) (ts us xs : List Tree) → exchanged from to ts xs ≡ exchanged from to us xs → ts ≡ us
+same-between from to ts us xs e = append_cancel_right ts us (drop to xs) (append_cancel_left (take from xs) (ts ++ drop to xs) (us ++ drop to xs) e)
+
+-- one of several nodes changed to the same by two functions
+same-there : (P : Tree → Type 0) (f g : Tree → Tree) (Q : Type 0) → ((t : Tree) → P t → f t ≡ g t → Q) → (n : ℕ) (ts : List Tree) → At P (slice_get ts n) → alter n f ts ≡ alter n g ts → Q
+same-there P f g Q h n [] a e = absurd a
+same-there P f g Q h zero (t ∷ ts) a e = h t a (ap (first_or t) e)
+same-there P f g Q h (suc n) (t ∷ ts) a e = same-there P f g Q h n ts a (ap without_first e)
+
+kids-same : (xs ys : List Tree) → forest xs ≡ forest ys → xs ≡ ys
+kids-same xs ys e = sym (trees_forest xs) ∙ ap trees e ∙ trees_forest ys
+
+pub same-nodes : (path : List ℕ) (from to : ℕ) (ts us : List Tree) (t : Tree) → Reaches path from to t → with_children path from to ts t ≡ with_children path from to us t → ts ≡ us
+same-nodes [] from to ts us t r e = same-between from to ts us (trees t.kids) (kids-same _ _ (ap (λ (u : Tree). u.kids) e))
+same-nodes (n ∷ path) from to ts us t r e =
+    same-there (Reaches path from to) (with_children path from to ts) (with_children path from to us) (ts ≡ us) (same-nodes path from to ts us) n (trees t.kids) r (kids-same _ _ (ap (λ (u : Tree). u.kids) e))
+
+pub unique-law : OpensApartLaw → UniqueLaw
+unique-law apart k front old new rest root c ts us same chosen one other =
+    let text = front ++ (old ++ rest) in
+    let was = tree k text in
+    let reaches = reached k text (width front) (width (front ++ old)) root c (in-order front old) same chosen in
+    let first = gives-tree-law apart k front old new rest root c ts same chosen one ∙ put-law c.path c.from c.to ts was in
+    let second = gives-tree-law apart k front old new rest root c us same chosen other ∙ put-law c.path c.from c.to us was in
+    same-nodes c.path c.from c.to ts us was reaches (sym first ∙ second)
+
+-- ---- the first that isn't refused
+
+first-one : {X : Type 0} (P : X → Type 0) (es : List X) (c : X) (ls : List X) (fs : List X) (d : X) (ms : List X) → es ++ c ∷ ls ≡ fs ++ d ∷ ms → Every P es → Every P fs → (P c → ⊥) → (P d → ⊥) → c ≡ d
+first-one P [] c ls [] d ms e p q kept kept_other = ap (first_or c) e
+first-one P [] c ls (f ∷ fs) d ms e p q kept kept_other = absurd (kept (subst P (sym (ap (first_or c) e)) q.0))
+first-one P (x ∷ es) c ls [] d ms e p q kept kept_other = absurd (kept_other (subst P (ap (first_or x) e) p.0))
+first-one P (x ∷ es) c ls (f ∷ fs) d ms e p q kept kept_other = first-one P es c ls fs d ms (ap without_first e) p.1 q.1 kept kept_other
+
+module _ (apart : OpensApartLaw) (k : CharClasses) (front old new rest : List ℕ) (root : Tree) where
+  abbrev cs : List Candidate
+  cs = candidates k (front ++ (old ++ rest)) (width front) (width (front ++ old)) root
+
+  not-refused : (c : Candidate) (ts : List Tree) (now : Tree) → Gives k front old new rest c ts → replaced_at c.path c.from c.to ts root ≡ Some now → Refused k front old new rest root c → ⊥
+  not-refused c ts now gives is refused = absurd (let no = sym is ∙ refused ts gives in cc)
+
+  range-is : (range another : Range ℕ) → range.start ≡ another.start → range.end ≡ another.end → range ≡ another
+  range-is range another start end = λ i. record { start = start i; end = end i }
+
+pub one-answer-law : OpensApartLaw → OneAnswerLaw
+one-answer-law apart k front old new rest root now other range another same (part es c ls ts split refused gives is start end) (part fs d ms us split_other refused_other gives_other is_other start_other end_other) =
+    let one : c ≡ d = first-one (Refused k front old new rest root) es c ls fs d ms (sym split ∙ split_other) refused refused_other (not-refused apart k front old new rest root c ts now gives is) (not-refused apart k front old new rest root d us other gives_other is_other) in
+    let nodes : ts ≡ us = unique-law apart k front old new rest root c ts us same (chosen-of _ es c ls split) gives (subst (λ b. Gives k front old new rest b us) (sym one) gives_other) in
+    let placed : replaced_at c.path c.from c.to ts root ≡ replaced_at d.path d.from d.to us root = λ i. replaced_at (one i).path (one i).from (one i).to (nodes i) root in
+    let from = ap (λ (b : Candidate). b.start) one in
+    let to = ap (λ (b : Candidate). b.end) one in
+    (some-is now other (sym is ∙ placed ∙ is_other), range-is apart k front old new rest root range another (start ∙ from ∙ sym start_other) (omega (arith, to, end, end_other)))
+one-answer-law apart k front old new rest root now other range another same (part es c ls ts split refused gives is start end) (whole refused_other is_other bytes_other) =
+    absurd (not-refused apart k front old new rest root c ts now gives is (among (Refused k front old new rest root) c _ (chosen-of _ es c ls split) refused_other))
+one-answer-law apart k front old new rest root now other range another same (whole refused is bytes) (part fs d ms us split_other refused_other gives_other is_other start_other end_other) =
+    absurd (not-refused apart k front old new rest root d us other gives_other is_other (among (Refused k front old new rest root) d _ (chosen-of _ fs d ms split_other) refused))
+one-answer-law apart k front old new rest root now other range another same (whole refused is bytes) (whole refused_other is_other bytes_other) = (some-is now other (sym is ∙ is_other), bytes ∙ sym bytes_other)

@@ -1,0 +1,24 @@
+-- What a candidate is worth that is pieces in a content block.
+use Rattle.std.specs.Prelude.{◌≡◌, ◌↔◌, ℕ, suc, ◌-◌, ◌<◌, ◌^◌, List, [], ◌∷◌, ◌++◌, take}
+use Rattle.typst_lines.specs.Classes.{CharClasses}
+use Rattle.typst_tokens.specs.Sight.{width}
+use Rattle.typst_language.specs.declared.calls.Block.TheVariants as block
+use Rattle.typst_language.specs.Point.{Trivia}
+use Rattle.typst_candidates.specs.Candidates.{Candidate}
+use Rattle.typst_grammar.specs.Grammar.{max_depth}
+use Rattle.typst_edits.specs.Answer.{Worth}
+use Rattle.typst_edits.specs.Edit.{Among, text_with}
+use Rattle.typst_edits.specs.Frame.{cut_at, nodes_now, PassesPieces}
+use Rattle.typst_edits.specs.Hole.{path_of}
+use Rattle.typst_edits.specs.InnerPieces.{block_run, Around, BeginsWellIn}
+use Rattle.typst_edits.specs.Laws.{blocks_of_text}
+use Rattle.typst_edits.specs.Spot.{Spot}
+
+-- In texts that a machine word counts, pieces in a content block around the stretch that pass the test are worth their new nodes, where a candidate begins well.
+abbrev pub InnerWorthLaw : Type 0
+InnerWorthLaw = (k : CharClasses) (levels : ℕ) (front old new rest : List ℕ) (s : Spot (Unit {0})) (among : Among s (blocks_of_text k (front ++ (old ++ rest)))) (name : s.name ≡ block.Content) (level : max_depth - s.fewer ≡ suc levels)
+    (c : Candidate) (i n m past : ℕ) (t u : Trivia) → Around front old rest s → c.path ≡ path_of s.hole ++ 1 ∷ []
+    → c.start ≡ width (take (cut_at (block_run s levels among name level) i (text_with front old rest)) (front ++ (old ++ rest))) → (0 < i ↔ 0 < c.from) → c.end ≡ width (front ++ (old ++ take past rest))
+    → PassesPieces k front old new rest (block_run s levels among name level) i n m past t u → BeginsWellIn k levels (front ++ (old ++ rest)) s c i n
+    → width (front ++ (old ++ rest)) < 2 ^ 64 - 1 → width (front ++ (new ++ rest)) < 2 ^ 64 - 1
+    → Worth k front old new rest c (nodes_now (block_run s levels among name level) i m u (text_with front new rest))

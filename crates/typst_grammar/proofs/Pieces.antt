@@ -1,0 +1,458 @@
+-- Pieces of a run, which are read one after the other.
+use Rattle.std.proofs.Common.{◌≡◌, ℕ, zero, suc, ◌+◌, ◌<◌, ◌≤◌, ◌==◌, min, Bool, true, false, ◌&&◌, if◌then◌else◌, nat_lt, Option, Some, None, List, [], ◌∷◌, ◌++◌, length, length-append, encode_utf8_all, take, drop, append_assoc, append-nil, refl, ap, sym, ◌∙◌, subst, arith}
+use Rattle.std.specs.Prelude.{IsSome}
+use Rattle.std.specs.Char.{encode_utf8}
+use Rattle.typst_lines.proofs.PlaceLemmas.{encode_utf8_nonempty}
+use Rattle.std.proofs.lemmas.Bool.Decides.{nat_tests}
+use Rattle.std.proofs.lemmas.List.{map-append}
+use Rattle.typst_kinds.specs.declared.kind.SyntaxKind.{SyntaxKind}
+use Rattle.typst_kinds.specs.declared.kind.SyntaxKind.TheVariants as kind
+use Rattle.typst_lines.specs.Place.{Place, moved}
+use Rattle.typst_lines.specs.Classes.{CharClasses}
+use Rattle.typst_tokens.specs.Sight.{position}
+use Rattle.typst_tree.specs.Tree.{Tree}
+use Rattle.typst_language.specs.declared.calls.Call.TheVariants.{MarkupExpr}
+use Rattle.typst_language.specs.Ask.{Ask, shift, shift_one}
+use Rattle.typst_language.specs.Ask.Ask.{looked, marked}
+use Rattle.typst_language.specs.Depth.{is_end, deeper}
+use Rattle.typst_language.specs.Hand.{Hand, AtHand, told}
+use Rattle.typst_language.specs.Knot.{meaning_of}
+use Rattle.typst_language.specs.Log.{Log, no_log, logged}
+use Rattle.typst_language.specs.Meaning.{Outcome, Meaning, Level, guessing, hand_of, asked, joined, standing, run}
+use Rattle.typst_language.specs.Point.{Point, pending, gap_of}
+use Rattle.typst_language.specs.Steps.{peek, flush_trivia}
+use Rattle.typst_language.specs.Syntax.{Parser, ◌>>=◌}
+use Rattle.typst_language.specs.Syntax.Op.{hand}
+use Rattle.typst_language.specs.Syntax.Parser.{gives, does, next, pick}
+use Rattle.typst_language.proofs.Blind.{run-blind}
+use Rattle.typst_language.proofs.Ends.{hand-takes, hand-again}
+use Rattle.typst_language.proofs.Places.{moved-ahead, moved-sum}
+use Rattle.typst_code.proofs.Blocks.{fills-apart, sound-apart}
+use Rattle.typst_code.specs.Bytes.{bytes_left}
+use Rattle.typst_language.proofs.Within.{within-run}
+use Rattle.typst_language.specs.Sound.{Sound}
+use Rattle.typst_code.proofs.Logs.{logged-append, logged-shift}
+use Rattle.typst_code.proofs.Knowing.{knows-none}
+use Rattle.typst_code.proofs.Steps.{does-next, does-gives, does-peek, does-pick, does-flush, known-few}
+use Rattle.typst_code.specs.View.{View, Runs, Does, Goes, Frame, Fills, Fits, Bare, Flushed, at}
+use Rattle.typst_grammar.specs.declared.part.RunKind.{RunKind}
+use Rattle.typst_grammar.specs.declared.part.RunKind.TheVariants as of
+use Rattle.typst_code.specs.Markup.{ends, note_piece, markup_turn, markup_expr, markup_reading}
+use Rattle.typst_grammar.specs.Pieces.{stops_of}
+use borrow.Author.Tests.{lt-ltb}
+use Rattle.std.proofs.Math.Seq.{take-append_seam, drop-append_seam}
+use Rattle.typst_language.specs.declared.calls.Note.{Note}
+use Rattle.typst_language.specs.Hand.{known_by}
+use Rattle.typst_language.specs.Meaning.{flushed_state}
+use Rattle.typst_language.specs.Point.{Trivia}
+use Rattle.typst_language.proofs.Places.{take-all, drop-all}
+use Rattle.typst_code.specs.Checkpoint.{first_of, is_some, saved, trivia_back, went_back}
+use Rattle.typst_code.specs.Noted.{listed, unnoted}
+use Rattle.typst_code.specs.Remembered.{Knows, end_of as text_end}
+use Rattle.typst_code.proofs.Checkpoints.{back-is}
+use Rattle.typst_code.proofs.Knowing.{end-moved, knows-at}
+use Rattle.typst_grammar.specs.Grammar.{level_at}
+use Rattle.typst_grammar.specs.Part.{IsResumed, IsGiven, HasRead, HasReadOn, IsTokenStart, ArePieces}
+use Rattle.typst_grammar.specs.Pieces.{made, goes, AllGo, End, end_of, asks_of, given, run_level, first_look, pieces_on, end_on}
+use Rattle.typst_grammar.specs.declared.part.ReadPart.{ReadPart}
+use Rattle.typst_grammar.specs.declared.part.PieceReader.{PieceReader}
+use Rattle.typst_grammar.specs.Told.{guesses, told_at}
+use Rattle.typst_grammar.proofs.AtLevels.{sound-at, still-kept}
+use Rattle.typst_grammar.proofs.Parts.{standing-nil}
+use Rattle.typst_grammar.proofs.Whole.{eats-expr}
+
+-- ---- bytes that are left
+
+abbrev size : List ℕ → ℕ
+size xs = length (encode_utf8_all xs)
+
+size-more : (x : ℕ) (xs : List ℕ) → size xs < size (x ∷ xs)
+size-more x xs = omega (arith, length-append (encode_utf8 x) (encode_utf8_all xs), encode_utf8_nonempty x)
+
+size-drop : (n : ℕ) (xs : List ℕ) → size (drop n xs) ≤ size xs
+size-drop zero xs = omega arith
+size-drop (suc n) [] = omega arith
+size-drop (suc n) (x ∷ xs) = omega (arith, size-drop n xs, size-more x xs)
+
+falls : (n : ℕ) (xs : List ℕ) → n ≤ length xs → size xs ≤ size (drop n xs) → n ≡ 0
+falls zero xs l h = refl
+falls (suc n) [] l h = absurd (omega arith)
+falls (suc n) (x ∷ xs) l h = absurd (omega (arith, size-drop n xs, size-more x xs))
+
+-- what takes no bytes takes no characters
+none-taken : (n : ℕ) (y z : Place) → y ≡ moved n z → n ≤ length z.ahead → bytes_left z ≤ bytes_left y → n ≡ 0
+none-taken n y z e l h = falls n z.ahead l (omega (arith, h, ap bytes_left e, ap size (moved-ahead n z)))
+
+-- ---- turns of a loop, and those behind them
+
+pub shift-zero : (asks : List Ask) → shift 0 asks ≡ asks
+shift-zero [] = refl
+shift-zero (ask ∷ asks) = rw (one-zero ask, shift-zero asks) refl
+  where
+    one-zero : (ask : Ask) → shift_one 0 ask ≡ ask
+    one-zero (looked at look) = let e : 0 + at ≡ at = omega arith in ap (λ n. looked n look) e
+    one-zero (marked at gap fewer mark s) = let e : 0 + at ≡ at = omega arith in ap (λ n. marked n gap fewer mark s) e
+
+pub shift-twice : (m n : ℕ) (asks : List Ask) → shift m (shift n asks) ≡ shift (m + n) asks
+shift-twice m n [] = refl
+shift-twice m n (ask ∷ asks) = rw (one-twice ask, shift-twice m n asks) refl
+  where
+    one-twice : (ask : Ask) → shift_one m (shift_one n ask) ≡ shift_one (m + n) ask
+    one-twice (looked at look) = let e : m + (n + at) ≡ (m + n) + at = omega arith in ap (λ k. looked k look) e
+    one-twice (marked at gap fewer mark s) = let e : m + (n + at) ≡ (m + n) + at = omega arith in ap (λ k. marked k gap fewer mark s) e
+
+pub end-append : {A : Type 0} (x : A) (s : Point) (os ps : List (Outcome (Bool × A))) → (let e = end_of x s os in let f = end_of e.value e.state ps in end_of x s (os ++ ps) ≡ record f { taken = e.taken + f.taken })
+end-append x s [] ps = let f = end_of x s ps in let z : f.taken ≡ 0 + f.taken = omega arith in ap (λ n. record f { taken = n }) z
+end-append {A = A} x s (o ∷ os) ps =
+    let e = end_of o.value.1 o.state os in
+    let f = end_of e.value e.state ps in
+    let sum : o.taken + (e.taken + f.taken) ≡ (o.taken + e.taken) + f.taken = omega arith in
+    ap (λ (u : End A). record u { taken = o.taken + u.taken }) (end-append o.value.1 o.state os ps) ∙ ap (λ n. record f { taken = n }) sum
+
+pub given-append : {A : Type 0} (os ps : List (Outcome (Bool × A))) (ts : List Tree) → given (os ++ ps) ts ≡ given ps (given os ts)
+given-append [] ps ts = refl
+given-append (o ∷ os) ps ts = given-append os ps (standing o ts)
+
+pub asks-append : {A : Type 0} (x : A) (s : Point) (os ps : List (Outcome (Bool × A))) → asks_of (os ++ ps) ≡ asks_of os ++ shift (end_of x s os).taken (asks_of ps)
+asks-append x s [] ps = sym (shift-zero (asks_of ps))
+asks-append x s (o ∷ os) ps =
+    let e = end_of o.value.1 o.state os in
+    ap (λ u. o.asks ++ shift o.taken u) (asks-append o.value.1 o.state os ps)
+    ∙ ap (λ u. o.asks ++ u) (map-append (shift_one o.taken) (asks_of os) (shift e.taken (asks_of ps)) ∙ ap (λ u. shift o.taken (asks_of os) ++ u) (shift-twice o.taken e.taken (asks_of ps)))
+    ∙ sym (append_assoc o.asks (shift o.taken (asks_of os)) (shift (o.taken + e.taken) (asks_of ps)))
+
+pub go-append : {A : Type 0} (os ps : List (Outcome (Bool × A))) → AllGo os → AllGo ps → AllGo (os ++ ps)
+go-append [] ps g h = h
+go-append (o ∷ os) ps g h = (g.0, go-append os ps g.1 h)
+
+pub made-sum : {A : Type 0} (m : A → Meaning (Bool × A)) (i n : ℕ) (x : A) (z : Place) (s : Point) → (let e = end_of x s (made m i x z s) in made m (i + n) x z s ≡ made m i x z s ++ made m n e.value (moved e.taken z) e.state)
+made-sum m zero n x z s = let a : 0 + n ≡ n = omega arith in ap (λ j. made m j x z s) a
+made-sum m (suc i) n x z s =
+    let o = m x z s in
+    let y = moved o.taken z in
+    let e = end_of o.value.1 o.state (made m i o.value.1 y o.state) in
+    let a : suc i + n ≡ suc (i + n) = omega arith in
+    ap (λ j. made m j x z s) a ∙ ap (λ os. o ∷ os) (made-sum m i n o.value.1 y o.state ∙ ap (λ w. made m i o.value.1 y o.state ++ made m n e.value w e.state) (sym (moved-sum o.taken e.taken z)))
+
+-- ---- one turn
+
+on_either : {A : Type 0} (P : A → Type 0) (b : Bool) (x y : A) → (b ≡ true → P x) → (b ≡ false → P y) → P (if b then x else y)
+on_either P true x y p q = p refl
+on_either P false x y p q = q refl
+
+-- it asks for the token at hand, and then ends or does the rest
+turn-either : {A : Type 0} (l : Level) (test : SyntaxKind → Bool) (x : A) (rest : AtHand → Parser (Bool × A)) (z : Place) (s : Point) (P : Outcome (Bool × A) → Type 0)
+    → (let h = hand_of l z s in (test h.kind ≡ true → P (joined (run l (does hand) z s) (run l (gives (false, x)) (moved 0 z) (asked h s))))
+    → (test h.kind ≡ false → P (joined (run l (does hand) z s) (run l (rest (told h)) (moved 0 z) (asked h s))))
+    → P (run l (next (does hand) (λ h. pick (test h.kind) (gives (false, x)) (rest h))) z s))
+unfolding run
+turn-either l test x rest z s P p q =
+    let h = hand_of l z s in
+    on_either (λ o. P (joined (run l (does hand) z s) o)) (test h.kind) (run l (gives (false, x)) (moved 0 z) (asked h s)) (run l (rest (told h)) (moved 0 z) (asked h s)) p q
+
+-- where a sequence goes on, the text isn't at its end
+not-end : (which : RunKind) (n : ℕ) (i : SyntaxKind) → ends (stops_of which) n i ≡ false → is_end i ≡ false
+not-end of.Text n kind.End e = absurd (cc)
+not-end of.Block n kind.End e = absurd (cc)
+not-end which n _ e = refl
+
+abbrev behind : ℕ → Parser (Bool × (Bool × ℕ))
+behind nesting = do
+  after ← peek
+  noted ← note_piece true after.newlines.any nesting
+  gives (true, (after.newlines.any, nesting))
+
+abbrev rest : Bool × ℕ → Parser (Bool × (Bool × ℕ))
+rest x = next (deeper (MarkupExpr x.0 x.1) x.1) behind
+
+rest-goes : (l : Level) (x : Bool × ℕ) (z : Place) (s : Point) → (run l (rest x) z s).value.0 ≡ true
+unfolding run note_piece
+rest-goes l x z s = refl
+
+not-none : (n : ℕ) → (suc n == 0) ≡ false
+not-none n = grind (arith, nat_tests)
+
+over : (l : Level) (x : Bool × ℕ) (z : Place) (s : Point) → (run l (gives {A = Bool × (Bool × ℕ)} (false, x)) z s).value.0 ≡ false
+unfolding run
+over l x z s = refl
+
+module _ (k : CharClasses) (n : ℕ) (which : RunKind) where
+  abbrev at_level : Level
+  at_level = run_level k (suc n) which
+
+  rest-takes : (x : Bool × ℕ) (z : Place) (s : Point) → 0 < (hand_of at_level z s).len → 0 < (run at_level (rest x) z s).taken
+  unfolding run deeper meaning_of
+  rest-takes x z s h = rw (not-none n) (let inside : 0 < (run (level_at k n) (markup_expr x.0 x.1) (moved 0 z) s).taken = eats-expr (level_at k n) x.0 x.1 z s h in omega (arith, inside))
+
+  -- a piece that says that another comes took something
+  turn-takes : (x : Bool × ℕ) (z : Place) (s : Point) → (run at_level (markup_turn true (stops_of which) x) z s).value.0 ≡ true → 0 < (run at_level (markup_turn true (stops_of which) x) z s).taken
+  unfolding markup_turn
+  turn-takes x z s =
+      let t = asked (hand_of at_level z s) s in
+      let same : (hand_of at_level z t).kind ≡ (hand_of at_level z s).kind = ap (λ (h : Hand). h.kind) (hand-again k s.held s.known z) in
+      turn-either at_level (ends (stops_of which) x.1) x (λ h. rest x) z s (λ o. o.value.0 ≡ true → 0 < o.taken)
+      (λ e says. absurd (let f = over at_level x (moved 0 z) t in cc))
+      (λ e says.
+      let more : 0 < (run at_level (rest x) (moved 0 z) t).taken = rest-takes x z t (hand-takes k t.held t.known z (ap is_end same ∙ not-end which x.1 (hand_of at_level z s).kind e)) in
+      omega (arith, more))
+
+-- a piece ends only where the run ends
+turn-ends : (l : Level) (which : RunKind) (x : Bool × ℕ) (z : Place) (s : Point) → (run l (markup_turn true (stops_of which) x) z s).value.0 ≡ false → ends (stops_of which) x.1 (hand_of l z s).kind ≡ true
+unfolding markup_turn
+turn-ends l which x z s =
+    turn-either l (ends (stops_of which) x.1) x (λ h. rest x) z s (λ o. o.value.0 ≡ false → ends (stops_of which) x.1 (hand_of l z s).kind ≡ true)
+    (λ e says. e)
+    (λ e says. absurd (let f = rest-goes l x (moved 0 z) (asked (hand_of l z s) s) in cc))
+
+-- ---- what a reader keeps
+
+takes-at : (k : CharClasses) (levels : ℕ) (which : RunKind) (x : Bool × ℕ) (z : Place) (s : Point) → 0 < levels
+    → (run (run_level k levels which) (markup_turn true (stops_of which) x) z s).value.0 ≡ true → 0 < (run (run_level k levels which) (markup_turn true (stops_of which) x) z s).taken
+takes-at k zero which x z s some = absurd (omega arith)
+takes-at k (suc n) which x z s some = turn-takes k n which x z s
+
+-- the same level, with what is told of first readings
+abbrev pub told_in : CharClasses → ℕ → RunKind → Level
+told_in k levels which = guessing (guesses k) (run_level k levels which)
+
+-- calls are made there as around it
+pub fills-in : (k : CharClasses) (levels : ℕ) (which : RunKind) {f : Frame} → Fills (told_at k levels) f → Fills (told_in k levels which) f
+fills-in k levels of.Text h = h
+fills-in k levels of.Block h = fills-apart h
+
+sound-in : (k : CharClasses) (levels : ℕ) (which : RunKind) → Sound (told_in k levels which)
+sound-in k levels of.Text = sound-at k levels
+sound-in k levels of.Block = sound-apart (sound-at k levels)
+
+pub fills-at : (k : CharClasses) (n levels : ℕ) (which : RunKind) {f : Frame} → n ≡ levels → Fills (told_at k n) f → Fills (told_in k levels which) f
+fills-at k n levels which {f = f} e h = fills-in k levels which (subst (λ m. Fills (told_at k m) f) e h)
+
+same-number : (n : ℕ) → (n == n) ≡ true
+same-number n = grind (arith, nat_tests)
+
+-- what became of the trivia at hand
+record Left (v w : View) : Type 0 where
+  nodes : w.nodes ≡ v.nodes ++ v.hand.trivia
+  place : w.place ≡ moved v.hand.gap v.place
+  log : w.log ≡ v.log
+
+flushed-is : {l : Level} {v w : View} → Does l flush_trivia tt v w → Fits l v → Left v w
+flushed-is {l = l} {v = v} {w = w} d fits =
+    let u : View = record v { nodes = v.nodes ++ v.hand.trivia; place = moved v.hand.gap v.place; state = flushed_state v.hand v.state; hand = record v.hand { trivia = []; gap = 0 } } in
+    let f : Flushed v u = record { nodes = refl; place = refl; state = refl; hand = refl; own = refl; here = refl; log = refl; memo = refl } in
+    let e : Does l flush_trivia tt v u = does-flush (λ c. f) in
+    let q = (e.ran fits).runs in
+    let r = (d.ran fits).runs in
+    record { nodes = r.nodes ∙ sym q.nodes; place = r.place ∙ sym q.place; log = r.log ∙ sym q.log }
+
+known-back : (h : Hand) (x : Option Trivia) → x ≡ known_by h → (if is_some x then known_by h else None) ≡ x
+known-back h None e = refl
+known-back h (Some t) e = sym e
+
+-- behind going back to where trivia became nodes all is as it was
+pub back-again : {l : Level} {v mid w : View} → v.state.empties ≤ length v.nodes → Fits l v → Does l flush_trivia tt v mid → w ≡ went_back (saved v) mid → IsTokenStart l v w (position mid.place)
+back-again {l = l} {v = v} {mid = mid} {w = w} few fits d e =
+    let f = flushed-is d fits in
+    let nodes : v.nodes ≡ take (length v.nodes) mid.nodes = sym (ap (take (length v.nodes)) f.nodes ∙ take-append_seam v.nodes v.hand.trivia) in
+    let rest : drop (length v.nodes) mid.nodes ≡ v.hand.trivia = ap (drop (length v.nodes)) f.nodes ∙ drop-append_seam v.nodes v.hand.trivia in
+    let trivia : v.hand.trivia ≡ trivia_back (saved v) mid = sym (ap (λ ts. first_of (length v.hand.trivia) ts mid.hand.trivia) rest ∙ all-back v.hand.trivia mid.hand.trivia) in
+    let empties : v.state.empties ≡ min v.state.empties (length v.nodes) = omega arith in
+    let log : v.log ≡ unnoted (length (listed v.log.notes)) mid.log = sym (ap (unnoted (length (listed v.log.notes))) f.log ∙ unnoted-same v.log) in
+    let back = back-is (saved v) mid v.nodes v.hand.trivia v.state.empties v.log nodes trivia empties log in
+    let same : w ≡ record v { memo = mid.memo } = e ∙ sym back ∙ ap (λ (x : Option Trivia). record v { state = record v.state { known = x }; memo = mid.memo }) (known-back v.hand v.state.known fits.known) in
+    let memo : w.memo ≡ mid.memo = ap (λ (u : View). u.memo) same in
+    let knows : Knows l.guess (text_end v.place) mid.memo = knows-at refl (sym (ap text_end f.place ∙ end-moved v.hand.gap v.place)) (d.ready fits).knows in
+    record {
+      start_is = ap position f.place;
+      same = same ∙ ap (λ xs. record v { memo = xs }) (sym memo);
+      fits = subst (Fits l) (sym same) (record { known = fits.known; hand = fits.hand; own = fits.own; here = fits.here; there = fits.there; log = fits.log; knows = knows });
+    }
+  where
+    all-back : (ts us : List Tree) → first_of (length ts) ts us ≡ ts
+    all-back ts us = let whole = take-all (length ts) ts (omega arith) in rw (whole, same-number (length ts)) refl
+
+    unnoted-same : (h : Log) → unnoted (length (listed h.notes)) h ≡ h
+    unnoted-same h = by-notes h.notes refl
+      where
+        by-notes : (ns : Option (List Note)) → h.notes ≡ ns → unnoted (length (listed h.notes)) h ≡ h
+        by-notes None e = rw e refl
+        by-notes (Some ns) e =
+            let all = take-all (length ns) ns (omega arith) in
+            let none = drop-all (length ns) ns (omega arith) in
+            rw (e, all, none) refl
+
+module _ (k : CharClasses) (levels : ℕ) (which : RunKind) (x : Bool × ℕ) (z : Place) where
+  abbrev l : Level
+  l = run_level k levels which
+
+  abbrev told_l : Level
+  told_l = told_in k levels which
+
+  abbrev piece : Bool × ℕ → Meaning (Bool × (Bool × ℕ))
+  piece y = run l (markup_turn true (stops_of which) y)
+
+  abbrev pieces : ℕ → List (Outcome (Bool × (Bool × ℕ)))
+  pieces m = pieces_on l (stops_of which) x m z
+
+  abbrev end : ℕ → End (Bool × ℕ)
+  end m = end_on l (stops_of which) x m z
+
+  untold : {A : Type 0} (p : Parser A) (v : View) → at told_l p v ≡ run l p v.place v.state
+  untold {A = A} p v = ap {A = Meaning A} {B = Outcome A} (λ m. m v.place v.state) (run-blind (guesses k) l p)
+
+  -- where the token at hand begins
+  start-known : (v w : View) (n : ℕ) → IsTokenStart told_l v w n → n ≡ position (moved (gap_of w.state.known) w.place)
+  start-known v w n t =
+      let hands : w.hand ≡ v.hand = ap (λ (u : View). u.hand) t.same in
+      let places : w.place ≡ v.place = ap (λ (u : View). u.place) t.same in
+      let gap : gap_of w.state.known ≡ v.hand.gap = ap gap_of t.fits.known ∙ ap (λ (h : Hand). h.gap) hands in
+      t.start_is ∙ sym (ap (λ j. position (moved j w.place)) gap ∙ ap (λ y. position (moved v.hand.gap y)) places)
+
+  -- before the first piece
+  pub starts : (v w : View) (p : PieceReader) → 0 < levels → IsResumed z markup_reading v → Goes told_l (Bare told_l) (Fits told_l) peek (told w.hand) v w → (Fits told_l w → IsTokenStart told_l w p.parser p.end)
+      → p.levels ≡ levels → p.kind ≡ which → p.carried ≡ x → HasRead k levels which x z 0 p
+  unfolding run
+  starts v w p some h d began levels_are kind_is carried =
+      let bare : Bare told_l v = record { known = ap (λ (s : Point). s.known) h.state; knows = knows-none h.memo } in
+      let t = began (d.ready bare) in
+      let o = first_look l z in
+      let same : at told_l peek v ≡ o = untold peek v ∙ ap (λ y. run l peek y v.state) h.place ∙ ap (run l peek z) h.state in
+      let q : Runs levels o (told w.hand) v w = subst (λ u. Runs levels u (told w.hand) v w) same (d.ran bare).runs in
+      record {
+        levels_are = levels_are;
+        some = some;
+        kind_is = kind_is;
+        go = tt;
+        carried = carried;
+        place = ap (λ (u : View). u.place) t.same ∙ q.place ∙ h.place;
+        state = ap (λ (u : View). u.state) t.same ∙ q.state;
+        nodes = ap (λ (u : View). u.nodes) t.same ∙ q.nodes ∙ ap (standing o) h.nodes ∙ standing-nil o;
+        log = ap (λ (u : View). u.log) t.same ∙ q.log ∙ ap (λ y. logged levels y v.log o.asks) h.place ∙ ap (λ g. logged levels z g o.asks) h.log ∙ ap (logged levels z no_log) (sym (append-nil o.asks));
+        fits = t.fits;
+        end = start-known w p.parser p.end t;
+      }
+
+  turn-is : (m : ℕ) (p : PieceReader) → HasRead k levels which x z m p → at told_l (markup_turn true (stops_of which) p.carried) p.parser ≡ piece (end m).value (moved (end m).taken z) (end m).state
+  turn-is m p h =
+      let e = end m in
+      let v = p.parser in
+      untold (markup_turn true (stops_of which) p.carried) v ∙ ap (λ u. piece u v.place v.state) h.carried ∙ ap (λ u. piece e.value u v.state) h.place ∙ ap (piece e.value (moved e.taken z)) h.state
+
+  -- what a reader does next is the piece behind those that it read
+  runs-next : (m : ℕ) (p : PieceReader) (y : Bool × (Bool × ℕ)) (w : View) → HasRead k levels which x z m p → Does told_l (markup_turn true (stops_of which) p.carried) y p.parser w
+      → Runs levels (piece (end m).value (moved (end m).taken z) (end m).state) y p.parser w
+  runs-next m p y w h d = subst (λ o. Runs levels o y p.parser w) (turn-is m p h) (d.ran h.fits).runs
+
+  -- with a piece more read fewer bytes are left
+  pub shorter : (m : ℕ) (p q : PieceReader) (y : Bool × ℕ) (w : View) → HasRead k levels which x z m p → Does told_l (markup_turn true (stops_of which) p.carried) (true, y) p.parser w → (Fits told_l w → IsTokenStart told_l w q.parser q.end)
+      → bytes_left q.parser.place < bytes_left p.parser.place
+  shorter m p q y w h d began =
+      let v = p.parser in
+      let e = end m in
+      let t = began (d.ready h.fits) in
+      let r = runs-next m p (true, y) w h d in
+      let o = piece e.value (moved e.taken z) e.state in
+      let some : 0 < o.taken = takes-at k levels which e.value (moved e.taken z) e.state h.some (ap (λ (u : Bool × (Bool × ℕ)). u.0) r.value) in
+      let same : at told_l (markup_turn true (stops_of which) p.carried) v ≡ o = turn-is m p h in
+      let taken = ap (λ (u : Outcome (Bool × (Bool × ℕ))). u.taken) same in
+      let sound = sound-in k levels which in
+      let most = within-run told_l sound.within sound.within_block (markup_turn true (stops_of which) p.carried) v.place v.state in
+      let few = known-few h.fits in
+      let there : o.taken ≤ length v.place.ahead = omega (arith, most, few, taken) in
+      let none = none-taken o.taken w.place v.place r.place there in
+      let place : q.parser.place ≡ w.place = ap (λ (u : View). u.place) t.same in
+      let left = ap bytes_left place in
+      grind (arith, some, none, left)
+
+  -- a piece more
+  pub reads-on : (m : ℕ) (p q : PieceReader) (y : Bool × ℕ) (w : View) → HasRead k levels which x z m p → Does told_l (markup_turn true (stops_of which) p.carried) (true, y) p.parser w → (Fits told_l w → IsTokenStart told_l w q.parser q.end)
+      → q.levels ≡ levels → q.kind ≡ which → q.carried ≡ y → HasRead k levels which x z (m + 1) q
+  reads-on m p q y w h d began levels_are kind_is carried =
+      let t = began (d.ready h.fits) in
+      let e = end m in
+      let first = first_look l z in
+      let o = piece e.value (moved e.taken z) e.state in
+      let r = runs-next m p (true, y) w h d in
+      let some : 0 < o.taken = takes-at k levels which e.value (moved e.taken z) e.state h.some (ap (λ (u : Bool × (Bool × ℕ)). u.0) r.value) in
+      let goes_on : goes o ≡ true = ap (λ (u : Bool × (Bool × ℕ)). u.0 && nat_lt 0 o.taken) r.value ∙ lt-ltb 0 o.taken some in
+      let os = pieces m in
+      let more = o ∷ [] in
+      let sum : pieces (m + 1) ≡ os ++ more = made-sum piece m 1 x z first.state in
+      let f : End (Bool × ℕ) = end_of e.value e.state more in
+      let at_end : end (m + 1) ≡ record f { taken = e.taken + f.taken } = ap (end_of x first.state) sum ∙ end-append x first.state os more in
+      let one : e.taken + o.taken ≡ e.taken + (o.taken + 0) = omega arith in
+      let asks : asks_of more ≡ o.asks = append-nil o.asks in
+      let start = first.asks ++ asks_of os in
+      let log : w.log ≡ logged levels z no_log (first.asks ++ asks_of (pieces (m + 1))) =
+      r.log ∙ ap (λ u. logged levels u p.parser.log o.asks) h.place ∙ ap (λ g. logged levels (moved e.taken z) g o.asks) h.log
+      ∙ sym (logged-shift levels e.taken z (logged levels z no_log start) o.asks)
+      ∙ sym (logged-append levels z no_log start (shift e.taken o.asks))
+      ∙ ap (λ us. logged levels z no_log (start ++ shift e.taken us)) (sym asks)
+      ∙ ap (logged levels z no_log) (append_assoc first.asks (asks_of os) (shift e.taken (asks_of more)) ∙ ap (λ us. first.asks ++ us) (sym (asks-append x first.state os more) ∙ ap asks_of (sym sum))) in
+      record {
+        levels_are = levels_are;
+        some = h.some;
+        kind_is = kind_is;
+        go = subst AllGo (sym sum) (go-append os more h.go (goes_on, tt));
+        carried = carried ∙ sym (ap (λ (u : End (Bool × ℕ)). u.value) at_end ∙ ap (λ (u : Bool × (Bool × ℕ)). u.1) r.value);
+        place = ap (λ (u : View). u.place) t.same ∙ r.place ∙ ap (moved o.taken) h.place ∙ sym (moved-sum e.taken o.taken z) ∙ ap (λ j. moved j z) (one ∙ sym (ap (λ (u : End (Bool × ℕ)). u.taken) at_end));
+        state = ap (λ (u : View). u.state) t.same ∙ r.state ∙ sym (ap (λ (u : End (Bool × ℕ)). u.state) at_end);
+        nodes = ap (λ (u : View). u.nodes) t.same ∙ r.nodes ∙ ap (standing o) h.nodes ∙ sym (given-append os more []) ∙ ap (λ us. given us []) (sym sum);
+        log = ap (λ (u : View). u.log) t.same ∙ log;
+        fits = t.fits;
+        end = start-known w q.parser q.end t;
+      }
+
+  -- the trivia at hand are those that are known
+  trivia-known : (m : ℕ) (p : PieceReader) → HasRead k levels which x z m p → p.parser.hand.trivia ≡ pending (end m).state.known
+  trivia-known m p h = sym (ap pending (ap (λ (s : Point). s.known) (sym h.state) ∙ h.fits.known))
+
+  gap-known : (m : ℕ) (p : PieceReader) → HasRead k levels which x z m p → p.parser.hand.gap ≡ gap_of (end m).state.known
+  gap-known m p h = sym (ap gap_of (ap (λ (s : Point). s.known) (sym h.state) ∙ h.fits.known))
+
+  -- no piece more, where nothing was read
+  pub reads-none : (m : ℕ) (p q : PieceReader) (y : Bool × ℕ) → HasRead k levels which x z m p → Does told_l (markup_turn true (stops_of which) p.carried) (false, y) p.parser q.parser
+      → q.levels ≡ p.levels → q.kind ≡ p.kind → q.carried ≡ p.carried → q.end ≡ p.end → HasReadOn k levels which x z m false q
+  unfolding markup_turn
+  reads-none m p q y h d levels_are kind_is carried ends_at =
+      let e = end m in
+      let v = p.parser in
+      let w = q.parser in
+      let r = runs-next m p (false, y) w h d in
+      let over : ends (stops_of which) e.value.1 (hand_of l (moved e.taken z) e.state).kind ≡ true = turn-ends l which e.value (moved e.taken z) e.state (ap (λ (u : Bool × (Bool × ℕ)). u.0) r.value) in
+      let hands : v.hand ≡ hand_of l (moved e.taken z) e.state = h.fits.hand ∙ ap (λ u. hand_of l u v.state) h.place ∙ ap (hand_of l (moved e.taken z)) h.state in
+      let is : ends (stops_of which) p.carried.1 v.hand.kind ≡ true = ap (λ (u : Bool × ℕ). ends (stops_of which) u.1 v.hand.kind) h.carried ∙ ap (λ (u : Hand). ends (stops_of which) e.value.1 u.kind) hands ∙ over in
+      let still : Does told_l (markup_turn true (stops_of which) p.carried) (false, p.carried) v v = does-next (does-peek v) (does-pick is does-gives) in
+      let a = (d.ran h.fits).runs in
+      let b = (still.ran h.fits).runs in
+      let place : w.place ≡ v.place = a.place ∙ sym b.place in
+      let state : w.state ≡ v.state = a.state ∙ sym b.state in (
+        record {
+          levels_are = levels_are ∙ h.levels_are;
+          some = h.some;
+          kind_is = kind_is ∙ h.kind_is;
+          go = h.go;
+          carried = carried ∙ h.carried;
+          place = place ∙ h.place;
+          state = state ∙ h.state;
+          nodes = a.nodes ∙ sym b.nodes ∙ h.nodes;
+          log = a.log ∙ sym b.log ∙ h.log;
+          fits = d.ready h.fits;
+          end = ends_at ∙ h.end ∙ sym (ap (λ (s : Point). position (moved (gap_of s.known) w.place)) state ∙ ap (λ u. position (moved (gap_of v.state.known) u)) place);
+        },
+        over,
+      )
+
+  -- the pieces with the trivia behind them
+  pub given-pieces : (m : ℕ) (p : PieceReader) (w : View) (r : ReadPart) → HasRead k levels which x z m p → Does told_l flush_trivia tt p.parser w → IsGiven w r → ArePieces k levels which x z m r
+  given-pieces m p w r h d g =
+      let e = end m in
+      let v = p.parser in
+      let f = flushed-is d h.fits in
+      let asks = (first_look l z).asks ++ asks_of (pieces m) in
+      let log : w.log ≡ logged levels z no_log asks = f.log ∙ h.log in
+      record {
+        nodes_are = g.nodes ∙ f.nodes ∙ ap (λ ts. ts ++ v.hand.trivia) h.nodes ∙ ap (λ ts. given (pieces m) [] ++ ts) (trivia-known m p h);
+        end = g.end ∙ ap position (f.place ∙ ap (moved v.hand.gap) h.place ∙ sym (moved-sum e.taken v.hand.gap z) ∙ ap (λ j. moved (e.taken + j) z) (gap-known m p h));
+        log = g.log (subst (λ (u : Log). IsSome u.notes) (sym log) (still-kept levels z no_log asks refl)) ∙ log;
+      }

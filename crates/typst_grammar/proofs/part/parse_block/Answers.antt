@@ -1,0 +1,35 @@
+use Rattle.std.proofs.Common.{refl, subst}
+use Rattle.typst_language.specs.Meaning.{apart}
+use Rattle.typst_language.specs.Steps.{peek}
+use Rattle.typst_language.specs.Syntax.{◌>>◌}
+use Rattle.typst_language.specs.declared.reading.AtNewline.TheVariants as newline
+use Rattle.typst_language.specs.declared.reading.Reading.{Reading}
+use Rattle.typst_code.specs.Markup.{content_block}
+use Rattle.typst_code.specs.Sequences.{code_block}
+use Rattle.typst_code.proofs.Steps.{does-next, does-look}
+use Rattle.typst_code.proofs.Blocks.{calls-at, fills-apart}
+use Rattle.typst_lines.specs.Place.{place_at}
+use Rattle.typst_code.specs.View.{View}
+use Rattle.typst_grammar.specs.Part.{IsGiven}
+use Rattle.typst_grammar.specs.Told.{told_at}
+use Rattle.typst_grammar.proofs.AtLevels.{sound-at}
+use Rattle.typst_grammar.proofs.Parts.{part-is}
+use Rattle.typst_grammar.proofs.part.parse_block.Goals as goal
+use Rattle.typst_grammar.proofs.part.parse_block.Goals.{in-Content+in_ok-content_block-in-Content, in-Code+in_ok-code_block-in-Code}
+
+pub returns : goal.returns
+returns g c =
+    let k = g.C.Classes.classes c.args.classes.now in
+    let n = c.args.levels in
+    let l = apart (told_at k n) in
+    let z = place_at c.args.text.now c.args.at in
+    let reading : Reading = record { mode = c.args.mode; at_newline = newline.Continue } in
+    let look = does-look (c.in_ok-look.ensures l (fills-apart (record { classes = refl; sound = sound-at k n; levels = refl; reads = λ old new call r h. calls-at (told_at k n) call r h.2 h.3 h.4.1 }))) in
+    elim c.match-block.branch [
+      | in-Content+in_ok-content_block-in-Content w ↦
+          (let d = does-next look (w.in_ok-content_block-in-Content.ensures l (fills-apart (record { classes = refl; sound = sound-at k n; levels = refl; reads = λ old new call r h. calls-at (told_at k n) call r h.2 h.3 h.4.1 }))) in
+          rw w.in-Content.is (part-is k n (peek >> content_block) tt reading z _ _ c.finish.result c.resume-p.ensures d (subst (λ (v : View). IsGiven v c.finish.result) w.p-is c.finish.ensures)))
+      | in-Code+in_ok-code_block-in-Code w ↦
+          (let d = does-next look (w.in_ok-code_block-in-Code.ensures l (fills-apart (record { classes = refl; sound = sound-at k n; levels = refl; reads = λ old new call r h. calls-at (told_at k n) call r h.2 h.3 h.4.1 }))) in
+          rw w.in-Code.is (part-is k n (peek >> code_block) tt reading z _ _ c.finish.result c.resume-p.ensures d (subst (λ (v : View). IsGiven v c.finish.result) w.p-is c.finish.ensures)))
+    ]
