@@ -11,7 +11,7 @@ use Rattle.typst_tree.specs.Diagnostic.{hint_with}
 use Rattle.typst_tree.specs.Tree.{Tree, leaf_of, error_of, advised, all_advised}
 use Rattle.typst_language.specs.Raw.{raw_node, delimited_node, closed_node, block_node, inline_node, delimited, two_delimiters, tag_leaves, is_pair, before_ticks, ticks}
 use Rattle.typst_language.specs.RawLines.{leaf, Row, trimmed, first_line, later_rows, is_blank, dedent, front, closing, line_leaves, first_leaves, block_of, block_leaves, inline_leaves}
-use Rattle.typst_language.specs.RawTag.{tag, next_tag, warned, changes, is_some_text, is_whole, cut_tag, no_tag, only_tag}
+use Rattle.typst_language.specs.RawTag.{tag, warned, is_whole, only_tag}
 use Rattle.typst_language.specs.Faults.{hints, message}
 use Rattle.typst_language.specs.Fields.{field_node, fields_node, name_node, named_node, names_of, access_node}
 use Rattle.typst_language.specs.Nodes.{token_node, plain_node, fault_node, is_raw, has_fields}
@@ -95,35 +95,33 @@ fine-delimited delim leaves h =
     fine-inner kind.Raw (leaf kind.RawDelim delim ∷ (leaves ++ leaf kind.RawDelim delim ∷ [])) refl
     (λ n. refl, all-append Fine leaves (leaf kind.RawDelim delim ∷ []) h (λ n. refl, tt))
 
-fine-warned : (n : ℕ) (now later cs : List ℕ) (t : Tree) → Fine t → Fine (warned n now later cs t)
+fine-warned : (n : ℕ) (now cs : List ℕ) (t : Tree) → Fine t → Fine (warned n now cs t)
 unfolding warned
-fine-warned n now later cs t h =
-    on_both Fine (changes now later) (if is_some_text now then cut_tag n now later t else no_tag n later t) (if is_whole now cs then only_tag n now t else t)
-    (on_both Fine (is_some_text now) (cut_tag n now later t) (no_tag n later t) h h) (on_both Fine (is_whole now cs) (only_tag n now t) t h h)
+fine-warned n now cs t h = on_both Fine (is_whole now cs) (only_tag n now t) t h h
 
-fine-closed : (k : CharClasses) (delim inner : List ℕ) → Fine (closed_node k delim inner)
-fine-closed k delim inner =
-    on_both Fine (nat_lt 2 (length delim)) (block_node k delim inner) (inline_node delim inner)
-    (fine-warned (length delim) (tag k inner) (next_tag inner) inner _
-    (fine-delimited delim _ (all-append Fine (tag_leaves (tag k inner)) (block_leaves (drop (length (tag k inner)) inner)) (fine-tag (tag k inner)) (fine-block (drop (length (tag k inner)) inner)))))
+fine-closed : (delim inner : List ℕ) → Fine (closed_node delim inner)
+fine-closed delim inner =
+    on_both Fine (nat_lt 2 (length delim)) (block_node delim inner) (inline_node delim inner)
+    (fine-warned (length delim) (tag inner) inner _
+    (fine-delimited delim _ (all-append Fine (tag_leaves (tag inner)) (block_leaves (drop (length (tag inner)) inner)) (fine-tag (tag inner)) (fine-block (drop (length (tag inner)) inner)))))
     (fine-delimited delim _ (fine-inline inner))
 
-fine-raw : (k : CharClasses) (cs : List ℕ) → Fine (raw_node k cs)
+fine-raw : (cs : List ℕ) → Fine (raw_node cs)
 unfolding raw_node
-fine-raw k cs = by-sides (ticks cs) (drop (length (ticks cs)) cs)
+fine-raw cs = by-sides (ticks cs) (drop (length (ticks cs)) cs)
   where
-    by-end : (delim message text : List ℕ) (o : Option (List ℕ)) → Fine (elim o as (λ _. Tree) [ None ↦ error_of message text | Some inner ↦ closed_node k delim inner ])
+    by-end : (delim message text : List ℕ) (o : Option (List ℕ)) → Fine (elim o as (λ _. Tree) [ None ↦ error_of message text | Some inner ↦ closed_node delim inner ])
     by-end delim message text None = λ n. absurd (cc)
-    by-end delim message text (Some inner) = fine-closed k delim inner
+    by-end delim message text (Some inner) = fine-closed delim inner
 
-    by-sides : (delim rest : List ℕ) → Fine (delimited_node k cs delim rest)
+    by-sides : (delim rest : List ℕ) → Fine (delimited_node cs delim rest)
     by-sides delim rest = on_both Fine (is_pair delim rest) two_delimiters _ (λ n. refl) (by-end delim _ _ (before_ticks (length delim) rest))
 
 -- the node of a token
 pub fine-token : (k : CharClasses) (t : Token) (taken : List ℕ) → Fine (token_node k t taken)
 fine-token k t taken = elim t.fault as (λ o. Fine (elim o as (λ _. Tree) [ None ↦ plain_node k t taken | Some f ↦ fault_node f taken ])) [
   | None ↦ on_both Fine (is_error t.kind) (error_of [] (encode_utf8_all taken)) _ (fine-error [] (encode_utf8_all taken))
-      (on_both Fine (is_raw t.kind) (raw_node k taken) _ (fine-raw k taken)
+      (on_both Fine (is_raw t.kind) (raw_node taken) _ (fine-raw taken)
       (on_both Fine (has_fields t.kind) (access_node taken) (leaf_of t.kind (encode_utf8_all taken)) (fine-access taken) (fine-leaf t.kind (encode_utf8_all taken))))
   | Some f ↦ fine-fault f taken
 ]
@@ -144,7 +142,7 @@ still-error : (t : Tree) → Fine t → t.head.kind ≡ kind.Error → Still t
 still-error t f e = record { fine = f; no_sign = ap sign_of e; no_operator = no-operator t (ap (same kind.Binary) e) }
 
 still-plain : (k : CharClasses) (i : SyntaxKind) (taken : List ℕ) → is_trivia i ≡ true
-    → Still (if is_error i then error_of [] (encode_utf8_all taken) else (if is_raw i then raw_node k taken else (if has_fields i then access_node taken else leaf_of i (encode_utf8_all taken))))
+    → Still (if is_error i then error_of [] (encode_utf8_all taken) else (if is_raw i then raw_node taken else (if has_fields i then access_node taken else leaf_of i (encode_utf8_all taken))))
 still-plain k kind.Space taken h = record { fine = λ n. refl; no_sign = refl; no_operator = refl }
 still-plain k kind.Parbreak taken h = record { fine = λ n. refl; no_sign = refl; no_operator = refl }
 still-plain k kind.LineComment taken h = record { fine = λ n. refl; no_sign = refl; no_operator = refl }

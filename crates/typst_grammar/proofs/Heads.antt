@@ -9,7 +9,7 @@ use Rattle.typst_tree.specs.Diagnostic.{hint_with}
 use Rattle.typst_tree.specs.Tree.{Tree, leaf_of, error_of, advised, all_advised}
 use Rattle.typst_language.specs.Faults.{hints, message}
 use Rattle.typst_language.specs.Raw.{raw_node, delimited_node, closed_node, block_node, inline_node, delimited, two_delimiters, is_pair, before_ticks, ticks}
-use Rattle.typst_language.specs.RawTag.{tag, next_tag, warned, changes, is_some_text, is_whole, cut_tag, no_tag, only_tag}
+use Rattle.typst_language.specs.RawTag.{tag, warned, is_whole, only_tag}
 use Rattle.typst_language.specs.Fields.{access_node}
 use Rattle.typst_language.specs.Nodes.{token_node, plain_node, fault_node, is_raw, has_fields}
 use Rattle.typst_tokens.specs.declared.token.Token.{Token}
@@ -261,7 +261,7 @@ Leafy i text t = (t.head.kind ≡ kind.Error) ⊎ (t ≡ leaf_of i text)
 
 pub leafy-token : (k : CharClasses) (t : Token) (taken : List ℕ) (i : SyntaxKind) → t.kind ≡ i → is_plain i ≡ false → Leafy i (encode_utf8_all taken) (token_node k t taken)
 leafy-token k t taken i e p = elim t.fault as (λ o. Leafy i (encode_utf8_all taken) (elim o as (λ _. Tree) [ None ↦ plain_node k t taken | Some f ↦ fault_node f taken ])) [
-  | None ↦ inr (leafy-by t.kind (encode_utf8_all taken) (error_of [] (encode_utf8_all taken)) (raw_node k taken) (access_node taken) (ap is_plain e ∙ p) ∙ ap (λ j. leaf_of j (encode_utf8_all taken)) e)
+  | None ↦ inr (leafy-by t.kind (encode_utf8_all taken) (error_of [] (encode_utf8_all taken)) (raw_node taken) (access_node taken) (ap is_plain e ∙ p) ∙ ap (λ j. leaf_of j (encode_utf8_all taken)) e)
   | Some f ↦ inl (fault-error f taken)
 ]
 
@@ -279,29 +279,27 @@ leafy-bare i text t a b (inl e) = bare-error t e
 leafy-bare i text t a b (inr e) = subst Bare (sym e) (a, no-operator (leaf_of i text) b)
 
 -- a raw text
-bare-warned : (n : ℕ) (now later cs : List ℕ) (t : Tree) → Bare t → Bare (warned n now later cs t)
+bare-warned : (n : ℕ) (now cs : List ℕ) (t : Tree) → Bare t → Bare (warned n now cs t)
 unfolding warned
-bare-warned n now later cs t h =
-    on_both Bare (changes now later) (if is_some_text now then cut_tag n now later t else no_tag n later t) (if is_whole now cs then only_tag n now t else t)
-    (on_both Bare (is_some_text now) (cut_tag n now later t) (no_tag n later t) h h) (on_both Bare (is_whole now cs) (only_tag n now t) t h h)
+bare-warned n now cs t h = on_both Bare (is_whole now cs) (only_tag n now t) t h h
 
-bare-closed : (k : CharClasses) (delim cs : List ℕ) → Bare (closed_node k delim cs)
-bare-closed k delim cs = on_both Bare (nat_lt 2 (length delim)) (block_node k delim cs) (inline_node delim cs) (bare-warned (length delim) (tag k cs) (next_tag cs) cs (delimited delim _) (refl, refl)) (refl, refl)
+bare-closed : (delim cs : List ℕ) → Bare (closed_node delim cs)
+bare-closed delim cs = on_both Bare (nat_lt 2 (length delim)) (block_node delim cs) (inline_node delim cs) (bare-warned (length delim) (tag cs) cs (delimited delim _) (refl, refl)) (refl, refl)
 
-bare-raw : (k : CharClasses) (cs : List ℕ) → Bare (raw_node k cs)
+bare-raw : (cs : List ℕ) → Bare (raw_node cs)
 unfolding raw_node
-bare-raw k cs = by-sides (ticks cs) (drop (length (ticks cs)) cs)
+bare-raw cs = by-sides (ticks cs) (drop (length (ticks cs)) cs)
   where
-    by-end : (delim message text : List ℕ) (o : Option (List ℕ)) → Bare (elim o as (λ _. Tree) [ None ↦ error_of message text | Some inner ↦ closed_node k delim inner ])
+    by-end : (delim message text : List ℕ) (o : Option (List ℕ)) → Bare (elim o as (λ _. Tree) [ None ↦ error_of message text | Some inner ↦ closed_node delim inner ])
     by-end delim message text None = (refl, refl)
-    by-end delim message text (Some inner) = bare-closed k delim inner
+    by-end delim message text (Some inner) = bare-closed delim inner
 
-    by-sides : (delim rest : List ℕ) → Bare (delimited_node k cs delim rest)
+    by-sides : (delim rest : List ℕ) → Bare (delimited_node cs delim rest)
     by-sides delim rest = on_both Bare (is_pair delim rest) two_delimiters _ (refl, refl) (by-end delim _ _ (before_ticks (length delim) rest))
 
 bare-raw-token : (k : CharClasses) (t : Token) (taken : List ℕ) → t.kind ≡ kind.Raw → Bare (token_node k t taken)
 bare-raw-token k t taken e = elim t.fault as (λ o. Bare (elim o as (λ _. Tree) [ None ↦ plain_node k t taken | Some f ↦ fault_node f taken ])) [
-  | None ↦ subst (λ j. Bare (if is_error j then error_of [] (encode_utf8_all taken) else (if is_raw j then raw_node k taken else (if has_fields j then access_node taken else leaf_of j (encode_utf8_all taken))))) (sym e) (bare-raw k taken)
+  | None ↦ subst (λ j. Bare (if is_error j then error_of [] (encode_utf8_all taken) else (if is_raw j then raw_node taken else (if has_fields j then access_node taken else leaf_of j (encode_utf8_all taken))))) (sym e) (bare-raw taken)
   | Some f ↦ bare-error (fault_node f taken) (fault-error f taken)
 ]
 

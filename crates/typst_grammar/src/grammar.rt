@@ -18,7 +18,7 @@ use typst_language::{AtNewline, Call, Reading};
 use typst_lines::Classes;
 
 /// How deep calls may nest.
-pub(crate) const MAX_DEPTH: usize = 256;
+pub const MAX_DEPTH: usize = 256;
 
 /// Reads what a call asks for.
 pub fn production<L: Levels>(g: &L, p: &mut Parser<'_>, call: Call) -> Result<Answered, AllocError>

@@ -5,18 +5,16 @@
 
 mod binding_laws;
 mod entry;
-mod full;
 mod grammar;
 mod laws;
 mod part;
 
 pub use binding_laws::{binding_law, bindings_of_texts};
 pub use entry::{Noted, parse, parse_code, parse_math, parse_noted, root_over};
-pub use full::FullGrammar;
-pub use grammar::{make_call, production, read_whole, read_whole_code, read_whole_math};
+pub use grammar::{MAX_DEPTH, make_call, production, read_whole, read_whole_code, read_whole_math};
 pub use laws::{
     grammar_laws, leaves_law, notes_of_texts, trees_of_code, trees_of_formulas, trees_of_names,
     trees_of_patterns, trees_of_texts,
 };
 pub use part::{PieceReader, ReadPart, RunKind, parse_block, resume_pieces};
-pub use typst_code::{Levels, Log, Parser, Stop, markup_turn};
+pub use typst_code::{Answered, Levels, Log, Parser, Stop, markup_turn};

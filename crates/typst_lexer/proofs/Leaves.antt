@@ -5,13 +5,11 @@ use Rattle.std.proofs.lemmas.List.{take-append-drop, reverse-reverse, reverse-ap
 use Rattle.std.proofs.lemmas.Str.{encodes-append}
 use Rattle.std.specs.Prelude.{encode_utf8_all, codes}
 use Rattle.std.specs.List.{prefix_len}
-use Rattle.typst_lines.specs.Classes.{CharClasses}
 use Rattle.typst_kinds.specs.declared.kind.SyntaxKind.TheVariants as kind
 use Rattle.typst_tree.specs.Tree.{Tree, forest, joined, text_of, error_of}
 use Rattle.typst_lexer.specs.RawLaws.{RawLeaves}
 use Rattle.typst_lexer.specs.RawLines.{Row, leaf, trimmed, is_tick, first_line, later_rows, is_blank, dedent, closing, front, line_leaves, first_leaves, block_leaves, inline_leaves}
-use Rattle.typst_lines.specs.Identifiers.{is_id_start, is_id_continue}
-use Rattle.typst_lexer.specs.RawTag.{tag, next_tag, changes, is_whole, is_some_text, cut_tag, no_tag, only_tag, warned}
+use Rattle.typst_lexer.specs.RawTag.{in_tag, tag, is_whole, only_tag, warned}
 use Rattle.typst_lexer.specs.Raw.{ticks, past_ticks, before_ticks, tag_leaves, delimited, inline_node, block_node, closed_node, two_delimiters, delimited_node, raw_node}
 use Rattle.typst_lexer.proofs.Rows.{row_chars, lines-joined, front-closing}
 
@@ -138,15 +136,13 @@ before-is n cs inner e = cases (past_ticks n (reverse cs)) refl e
 
 -- ---- warnings are no text
 
-text-warned : (n : ℕ) (tag next inner : List ℕ) (t : Tree) → text_of (warned n tag next inner t) ≡ text_of t
+text-warned : (n : ℕ) (tag inner : List ℕ) (t : Tree) → text_of (warned n tag inner t) ≡ text_of t
 unfolding warned
-text-warned n tag next inner t = cases (changes tag next) (is_some_text tag) (is_whole tag inner)
+text-warned n tag inner t = cases (is_whole tag inner)
   where
-    cases : (a b c : Bool) → text_of (if a then (if b then cut_tag n tag next t else no_tag n next t) else (if c then only_tag n tag t else t)) ≡ text_of t
-    cases true true c = refl
-    cases true false c = refl
-    cases false b true = refl
-    cases false b false = refl
+    cases : (b : Bool) → text_of (if b then only_tag n tag t else t) ≡ text_of t
+    cases true = refl
+    cases false = refl
 
 -- ---- the node
 
@@ -155,26 +151,21 @@ take-front zero cs = refl
 take-front (suc n) [] = refl
 take-front (suc n) (c ∷ cs) = ap (λ t. c ∷ t) (take-front n cs)
 
-tag-front : (k : CharClasses) (cs : List ℕ) → tag k cs ++ drop (length (tag k cs)) cs ≡ cs
+front-joined : (n : ℕ) (cs : List ℕ) → take n cs ++ drop (length (take n cs)) cs ≡ cs
+front-joined n cs = ap (λ t. t ++ drop (length (take n cs)) cs) (sym (take-front n cs)) ∙ take-append-drop (length (take n cs)) cs
+
+tag-front : (cs : List ℕ) → tag cs ++ drop (length (tag cs)) cs ≡ cs
 unfolding tag
-tag-front k [] = refl
-tag-front k (c ∷ cs) = cases (is_id_start k c)
-  where
-    joins : (n : ℕ) (xs : List ℕ) → take n xs ++ drop (length (take n xs)) xs ≡ xs
-    joins n xs = ap (λ t. t ++ drop (length (take n xs)) xs) (sym (take-front n xs)) ∙ take-append-drop (length (take n xs)) xs
+tag-front cs = front-joined (prefix_len in_tag cs) cs
 
-    cases : (b : Bool) → (if b then c ∷ take (prefix_len (is_id_continue k) cs) cs else []) ++ drop (length (if b then c ∷ take (prefix_len (is_id_continue k) cs) cs else [])) (c ∷ cs) ≡ c ∷ cs
-    cases true = ap (λ t. c ∷ t) (joins (prefix_len (is_id_continue k) cs) cs)
-    cases false = refl
-
-text-closed : (k : CharClasses) (delim inner : List ℕ) (b : Bool) → text_of (if b then block_node k delim inner else inline_node delim inner) ≡ encode_utf8_all (delim ++ (inner ++ delim))
-text-closed k delim inner true =
-    let t = tag k inner in
+text-closed : (delim inner : List ℕ) (b : Bool) → text_of (if b then block_node delim inner else inline_node delim inner) ≡ encode_utf8_all (delim ++ (inner ++ delim))
+text-closed delim inner true =
+    let t = tag inner in
     let rest = drop (length t) inner in
-    text-warned (length delim) t (next_tag inner) inner (delimited delim (tag_leaves t ++ block_leaves rest))
+    text-warned (length delim) t inner (delimited delim (tag_leaves t ++ block_leaves rest))
     ∙ text-delimited delim inner (tag_leaves t ++ block_leaves rest)
-    (texts-append (tag_leaves t) (block_leaves rest) ∙ ap (λ x. x ++ texts (block_leaves rest)) (texts-tag t) ∙ ap (λ x. encode_utf8_all t ++ x) (texts-block rest) ∙ both t rest ∙ ap encode_utf8_all (tag-front k inner))
-text-closed k delim inner false = text-delimited delim inner (inline_leaves inner) (texts-inline inner)
+    (texts-append (tag_leaves t) (block_leaves rest) ∙ ap (λ x. x ++ texts (block_leaves rest)) (texts-tag t) ∙ ap (λ x. encode_utf8_all t ++ x) (texts-block rest) ∙ both t rest ∙ ap encode_utf8_all (tag-front inner))
+text-closed delim inner false = text-delimited delim inner (inline_leaves inner) (texts-inline inner)
 
 two-ticks : (n : ℕ) (rest : List ℕ) → (length (tick_row n) == 2 && length rest == 0) ≡ true → tick_row n ++ rest ≡ 96 ∷ 96 ∷ []
 two-ticks zero rest e = absurd (cc)
@@ -183,22 +174,22 @@ two-ticks (suc (suc zero)) [] e = refl
 two-ticks (suc (suc zero)) (c ∷ rest) e = absurd (grind (arith, nat_tests))
 two-ticks (suc (suc (suc n))) rest e = absurd (grind (arith, nat_tests))
 
-text-node : (k : CharClasses) (cs delim rest : List ℕ) (n : ℕ) → delim ≡ tick_row n → delim ++ rest ≡ cs → text_of (delimited_node k cs delim rest) ≡ encode_utf8_all cs
-text-node k cs delim rest n d e = cases (length delim == 2 && length rest == 0) (before_ticks (length delim) rest) refl refl
+text-node : (cs delim rest : List ℕ) (n : ℕ) → delim ≡ tick_row n → delim ++ rest ≡ cs → text_of (delimited_node cs delim rest) ≡ encode_utf8_all cs
+text-node cs delim rest n d e = cases (length delim == 2 && length rest == 0) (before_ticks (length delim) rest) refl refl
   where
     cases : (b : Bool) (o : Option (List ℕ)) → (length delim == 2 && length rest == 0) ≡ b → before_ticks (length delim) rest ≡ o
-        → text_of (if b then two_delimiters else (elim o [ None ↦ error_of (codes "unclosed raw text") (encode_utf8_all cs) | Some inner ↦ closed_node k delim inner ])) ≡ encode_utf8_all cs
+        → text_of (if b then two_delimiters else (elim o [ None ↦ error_of (codes "unclosed raw text") (encode_utf8_all cs) | Some inner ↦ closed_node delim inner ])) ≡ encode_utf8_all cs
     cases true o f g =
         let is : cs ≡ 96 ∷ 96 ∷ [] = sym e ∙ ap (λ t. t ++ rest) d ∙ two-ticks n rest (ap (λ t. length t == 2 && length rest == 0) (sym d) ∙ f) in
         ap (λ t. encode_utf8_all (96 ∷ []) ++ t) (append-nil (encode_utf8_all (96 ∷ []))) ∙ both (96 ∷ []) (96 ∷ []) ∙ ap encode_utf8_all (sym is)
     cases false None f g = append-nil (encode_utf8_all cs)
     cases false (Some inner) f g =
         let size : tick_row (length delim) ≡ delim = ap (λ t. tick_row (length t)) d ∙ ap tick_row (length-row n) ∙ sym d in
-        text-closed k delim inner (nat_lt 2 (length delim)) ∙ ap encode_utf8_all (ap (λ t. delim ++ t) (ap (λ t. inner ++ t) (sym size) ∙ sym (before-is (length delim) rest inner g)) ∙ e)
+        text-closed delim inner (nat_lt 2 (length delim)) ∙ ap encode_utf8_all (ap (λ t. delim ++ t) (ap (λ t. inner ++ t) (sym size) ∙ sym (before-is (length delim) rest inner g)) ∙ e)
 
 pub raw-leaves : RawLeaves
 unfolding raw_node
-raw-leaves k cs =
+raw-leaves cs =
     let h = ticks-row cs in
     let n = prefix_len is_tick cs in
-    text-node k cs (ticks cs) (drop (length (ticks cs)) cs) h.0 h.1 (ap (λ t. t ++ drop (length (ticks cs)) cs) (sym (take-front n cs)) ∙ take-append-drop (length (ticks cs)) cs)
+    text-node cs (ticks cs) (drop (length (ticks cs)) cs) h.0 h.1 (front-joined n cs)

@@ -36,8 +36,8 @@ text-plain : (k : CharClasses) (t : Token) (taken : List ℕ) → text_of (plain
 text-plain k t taken =
     let Is = λ (u : Tree). text_of u ≡ encode_utf8_all taken in
     let leaf = leaf_of t.kind (encode_utf8_all taken) in
-    on Is (is_error t.kind) (error_of [] (encode_utf8_all taken)) (if is_raw t.kind then raw_node k taken else (if has_fields t.kind then access_node taken else leaf)) (append-nil (encode_utf8_all taken))
-    (on Is (is_raw t.kind) (raw_node k taken) (if has_fields t.kind then access_node taken else leaf) (raw-leaves k taken)
+    on Is (is_error t.kind) (error_of [] (encode_utf8_all taken)) (if is_raw t.kind then raw_node taken else (if has_fields t.kind then access_node taken else leaf)) (append-nil (encode_utf8_all taken))
+    (on Is (is_raw t.kind) (raw_node taken) (if has_fields t.kind then access_node taken else leaf) (raw-leaves taken)
     (on Is (has_fields t.kind) (access_node taken) leaf (text-access taken) (append-nil (encode_utf8_all taken))))
 
 -- a token's node has the text of the characters that it took
@@ -51,7 +51,7 @@ text-token k t taken = elim t.fault as (λ o. text_of (elim o as (λ _. Tree) [ 
 pub leaf-is : (k : CharClasses) (t : Token) (taken : List ℕ) → is_leaf t ≡ true → token_node k t taken ≡ leaf_of t.kind (encode_utf8_all taken)
 leaf-is k t taken h = by t.fault h
   where
-    plain : (e r f : Bool) → (not e && not (r || f)) ≡ true → (if e then error_of [] (encode_utf8_all taken) else (if r then raw_node k taken else (if f then access_node taken else leaf_of t.kind (encode_utf8_all taken)))) ≡ leaf_of t.kind (encode_utf8_all taken)
+    plain : (e r f : Bool) → (not e && not (r || f)) ≡ true → (if e then error_of [] (encode_utf8_all taken) else (if r then raw_node taken else (if f then access_node taken else leaf_of t.kind (encode_utf8_all taken)))) ≡ leaf_of t.kind (encode_utf8_all taken)
     plain true r f h = absurd (cc)
     plain false true f h = absurd (cc)
     plain false false true h = absurd (cc)

@@ -25,10 +25,11 @@ has_fields kind.MathFieldAccess = true
 has_fields _ = false
 
 -- The node of a raw text or of a name with fields, or a leaf; an error without a fault, which is never read, would say nothing.
+-- No kind of token asks what class a character is of.
 abbrev pub plain_node : CharClasses → Token → List ℕ → Tree
-plain_node k t taken =
+plain_node _ t taken =
     if is_error t.kind then error_of [] (encode_utf8_all taken)
-    else (if is_raw t.kind then raw_node k taken
+    else (if is_raw t.kind then raw_node taken
     else (if has_fields t.kind then access_node taken else leaf_of t.kind (encode_utf8_all taken)))
 
 -- Whether the node of a token is a leaf of its kind.

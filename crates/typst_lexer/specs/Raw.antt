@@ -1,11 +1,10 @@
 -- The node of a raw text.
 use Rattle.std.specs.Prelude.{ℕ, zero, suc, Bool, ◌==◌, ◌&&◌, nat_lt, if◌then◌else◌, List, [], ◌∷◌, ◌++◌, length, take, drop, reverse, Option, Some, None, option_map, codes, encode_utf8_all}
 use Rattle.std.specs.List.{prefix_len}
-use Rattle.typst_lines.specs.Classes.{CharClasses}
 use Rattle.typst_kinds.specs.declared.kind.SyntaxKind.TheVariants as kind
 use Rattle.typst_tree.specs.Tree.{Tree, forest, inner_of, error_of}
 use Rattle.typst_lexer.specs.RawLines.{leaf, is_tick, block_leaves, inline_leaves}
-use Rattle.typst_lexer.specs.RawTag.{tag, next_tag, warned}
+use Rattle.typst_lexer.specs.RawTag.{tag, warned}
 
 -- The backticks that characters begin with.
 abbrev pub ticks : List ℕ → List ℕ
@@ -35,14 +34,14 @@ abbrev pub inline_node : List ℕ → List ℕ → Tree
 inline_node delim inner = delimited delim (inline_leaves inner)
 
 -- Three or more backticks on each side: a tag, and lines.
-abbrev pub block_node : CharClasses → List ℕ → List ℕ → Tree
-block_node k delim inner =
-    warned (length delim) (tag k inner) (next_tag inner) inner
-    (delimited delim (tag_leaves (tag k inner) ++ block_leaves (drop (length (tag k inner)) inner)))
+abbrev pub block_node : List ℕ → List ℕ → Tree
+block_node delim inner =
+    warned (length delim) (tag inner) inner
+    (delimited delim (tag_leaves (tag inner) ++ block_leaves (drop (length (tag inner)) inner)))
 
 -- What stands between two delimiters.
-abbrev pub closed_node : CharClasses → List ℕ → List ℕ → Tree
-closed_node k delim inner = if nat_lt 2 (length delim) then block_node k delim inner else inline_node delim inner
+abbrev pub closed_node : List ℕ → List ℕ → Tree
+closed_node delim inner = if nat_lt 2 (length delim) then block_node delim inner else inline_node delim inner
 
 abbrev pub is_pair : List ℕ → List ℕ → Bool
 is_pair delim rest = length delim == 2 && length rest == 0
@@ -53,12 +52,12 @@ two_delimiters = inner_of kind.Raw (forest (leaf kind.RawDelim (96 ∷ []) ∷ (
 
 -- Characters by their backticks and what follows them: two backticks alone are two delimiters, and others are a
 -- delimiter that stands at the end again.
-abbrev pub delimited_node : CharClasses → List ℕ → List ℕ → List ℕ → Tree
-delimited_node k cs delim rest =
+abbrev pub delimited_node : List ℕ → List ℕ → List ℕ → Tree
+delimited_node cs delim rest =
     if is_pair delim rest then two_delimiters
     else (elim (before_ticks (length delim) rest)
-    [ None ↦ error_of (codes "unclosed raw text") (encode_utf8_all cs) | Some inner ↦ closed_node k delim inner ])
+    [ None ↦ error_of (codes "unclosed raw text") (encode_utf8_all cs) | Some inner ↦ closed_node delim inner ])
 
 -- The node of the characters of a raw text.
-unfoldable pub raw_node : CharClasses → List ℕ → Tree
-raw_node k cs = delimited_node k cs (ticks cs) (drop (length (ticks cs)) cs)
+unfoldable pub raw_node : List ℕ → Tree
+raw_node cs = delimited_node cs (ticks cs) (drop (length (ticks cs)) cs)

@@ -60,15 +60,15 @@ fn plain_node<C: Classes>(
     alloc: Global,
     token: Token,
     text: &str,
-    classes: &C,
+    _classes: &C,
 ) -> Result<SyntaxNode, AllocError>
-    ensures { IfOk result (λ node. node ≡ spec.plain_node (C.classes classes.now) token (chars text.now)) }
+    ensures { IfOk result (λ node. node ≡ spec.plain_node (C.classes _classes.now) token (chars text.now)) }
 {
     if token.kind.is_error() {
         return SyntaxNode::error(alloc, "", text);
     }
     if is_raw(token.kind) {
-        return raw_node(alloc, text, classes);
+        return raw_node(alloc, text);
     }
     if has_fields(token.kind) {
         return access_node(alloc, text);

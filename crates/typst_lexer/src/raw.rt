@@ -6,20 +6,16 @@ ghost use Rattle.typst_lexer.specs.Raw as spec;
 
 use crate::raw_lines::{push_block, push_inline, push_leaf};
 use crate::raw_sets::Tick;
-use crate::raw_tag::{next_tag, split_tag, warn};
+use crate::raw_tag::{split_tag, warn};
 use std::alloc::{AllocError, Global};
 use typst_kinds::SyntaxKind;
-use typst_lines::{Classes, Scanner};
+use typst_lines::Scanner;
 use typst_tree::SyntaxNode;
 
 /// The node of a raw text, whose characters begin with its backticks and end with them again. Where
 /// they don't, it is the error of an unclosed one.
-pub fn raw_node<C: Classes>(
-    alloc: Global,
-    text: &str,
-    classes: &C,
-) -> Result<SyntaxNode, AllocError>
-    ensures { IfOk result (λ node. node ≡ spec.raw_node (C.classes classes.now) (chars text.now)) }
+pub fn raw_node(alloc: Global, text: &str) -> Result<SyntaxNode, AllocError>
+    ensures { IfOk result (λ node. node ≡ spec.raw_node (chars text.now)) }
 {
     let mut s = Scanner::new(text);
     let delim = s.eat_while(&Tick);
@@ -32,7 +28,7 @@ pub fn raw_node<C: Classes>(
         let node = SyntaxNode::error(alloc, "unclosed raw text", text)?;
         return Ok(node);
     };
-    let node = closed_node(alloc, delim, end.before(), classes)?;
+    let node = closed_node(alloc, delim, end.before())?;
     Ok(node)
 }
 
@@ -68,18 +64,13 @@ fn before_ticks(text: &str, count: usize) -> Option<Scanner<'_>>
     Some(s)
 }
 
-fn closed_node<C: Classes>(
-    alloc: Global,
-    delim: &str,
-    inner: &str,
-    classes: &C,
-) -> Result<SyntaxNode, AllocError>
+fn closed_node(alloc: Global, delim: &str, inner: &str) -> Result<SyntaxNode, AllocError>
     requires ascii { length delim.now ≡ length (chars delim.now) }
     requires fits { length delim.now + length inner.now < 2 ^ 64 }
-    ensures { IfOk result (λ node. node ≡ spec.closed_node (C.classes classes.now) (chars delim.now) (chars inner.now)) }
+    ensures { IfOk result (λ node. node ≡ spec.closed_node (chars delim.now) (chars inner.now)) }
 {
     if delim.len() > 2 {
-        let node = block_node(alloc, delim, inner, classes)?;
+        let node = block_node(alloc, delim, inner)?;
         return Ok(node);
     }
     let node = inline_node(alloc, delim, inner)?;
@@ -96,17 +87,12 @@ fn inline_node(alloc: Global, delim: &str, inner: &str) -> Result<SyntaxNode, Al
     Ok(SyntaxNode::inner(SyntaxKind::Raw, leaves))
 }
 
-fn block_node<C: Classes>(
-    alloc: Global,
-    delim: &str,
-    inner: &str,
-    classes: &C,
-) -> Result<SyntaxNode, AllocError>
+fn block_node(alloc: Global, delim: &str, inner: &str) -> Result<SyntaxNode, AllocError>
     requires ascii { length delim.now ≡ length (chars delim.now) }
     requires fits { length delim.now + length inner.now < 2 ^ 64 }
-    ensures { IfOk result (λ node. node ≡ spec.block_node (C.classes classes.now) (chars delim.now) (chars inner.now)) }
+    ensures { IfOk result (λ node. node ≡ spec.block_node (chars delim.now) (chars inner.now)) }
 {
-    let s = split_tag(inner, classes);
+    let s = split_tag(inner);
     let tag = s.before();
     let mut leaves = Vec::new(alloc);
     push_leaf(&mut leaves, SyntaxKind::RawDelim, delim)?;
@@ -114,7 +100,7 @@ fn block_node<C: Classes>(
     push_block(&mut leaves, s.after())?;
     push_leaf(&mut leaves, SyntaxKind::RawDelim, delim)?;
     let mut node = SyntaxNode::inner(SyntaxKind::Raw, leaves);
-    warn(alloc, &mut node, delim.len(), tag, next_tag(inner), inner)?;
+    warn(alloc, &mut node, delim.len(), tag, inner)?;
     Ok(node)
 }
 

@@ -1,5 +1,4 @@
 //! Laws of the definitions, each the contract of a function that does nothing.
-ghost use Rattle.typst_lines.specs.Classes.{CharClasses};
 ghost use Rattle.typst_lexer.specs.RawLaws as law;
 
 /// The leaves of a raw text's node, joined, are its text.
@@ -9,15 +8,15 @@ pub fn raw_leaves_law()
 
 /// What some texts between single backticks become.
 pub fn inline_raws()
-    ensures { (beyond : CharClasses) → law.InlineRaws beyond }
+    ensures { law.InlineRaws }
 {}
 
 /// What some texts between three backticks become.
 pub fn block_raws()
-    ensures { (beyond : CharClasses) → law.BlockRaws beyond }
+    ensures { law.BlockRaws }
 {}
 
-/// What is warned of.
-pub fn warned_raws()
-    ensures { (beyond : CharClasses) → law.WarnedRaws beyond }
+/// What is a tag, and what is warned of.
+pub fn tagged_raws()
+    ensures { law.TaggedRaws }
 {}

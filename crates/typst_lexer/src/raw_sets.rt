@@ -2,7 +2,7 @@
 ghost use Rattle.std.specs.Prelude.{◌≡◌};
 ghost use Rattle.std.specs.Char.{is_whitespace};
 ghost use Rattle.typst_lexer.specs.RawLines.{is_tick};
-ghost use Rattle.typst_lexer.specs.RawTag.{in_next_tag};
+ghost use Rattle.typst_lexer.specs.RawTag.{in_tag};
 
 use typst_lines::CharSet;
 
@@ -32,12 +32,12 @@ impl CharSet for Whitespace {
     }
 }
 
-/// What the tag in the next version of Typst is made of.
+/// What a language tag is made of.
 #[derive(Clone, Copy)]
-pub(crate) struct InNextTag;
+pub(crate) struct InTag;
 
-impl CharSet for InNextTag {
-    ghost members = { λ _. in_next_tag };
+impl CharSet for InTag {
+    ghost members = { λ _. in_tag };
 
     #[inline]
     fn has(&self, c: char) -> bool {

@@ -8,28 +8,25 @@ use Rattle.typst_lexer.proofs.Tags.{split-is, node-pair, node-open, node-closed}
 use Rattle.typst_lexer.proofs.raw.raw_node.Goals as goal
 
 pub is_pair-requires : goal.is_pair-requires
-is_pair-requires g c = (split-is (g.C.Classes.classes c.args.classes.now) c.args.text.now c.eat_while-delim.result.now c.after-rest.result.now (place c.new-s.result) (place c.eat_while-delim.new.self) c.eat_while-delim.utf8 c.new-s.ensures.place c.eat_while-delim.ensures.moved c.eat_while-delim.ensures.taken c.after-rest.ensures.characters).ascii
+is_pair-requires c = (split-is c.args.text.now c.eat_while-delim.result.now c.after-rest.result.now (place c.new-s.result) (place c.eat_while-delim.new.self) c.eat_while-delim.utf8 c.new-s.ensures.place c.eat_while-delim.ensures.moved c.eat_while-delim.ensures.taken c.after-rest.ensures.characters).ascii
 
 pub closed_node-requires-clause-ascii : goal.closed_node-requires-clause-ascii
-closed_node-requires-clause-ascii g c = (split-is (g.C.Classes.classes c.args.classes.now) c.args.text.now c.eat_while-delim.result.now c.after-rest.result.now (place c.new-s.result) (place c.eat_while-delim.new.self) c.eat_while-delim.utf8 c.new-s.ensures.place c.eat_while-delim.ensures.moved c.eat_while-delim.ensures.taken c.after-rest.ensures.characters).ascii
+closed_node-requires-clause-ascii c = (split-is c.args.text.now c.eat_while-delim.result.now c.after-rest.result.now (place c.new-s.result) (place c.eat_while-delim.new.self) c.eat_while-delim.utf8 c.new-s.ensures.place c.eat_while-delim.ensures.moved c.eat_while-delim.ensures.taken c.after-rest.ensures.characters).ascii
 
 pub returns-then-is_pair : goal.returns-then-is_pair
-returns-then-is_pair g c =
-    let k = g.C.Classes.classes c.args.classes.now in
-    let h = split-is (g.C.Classes.classes c.args.classes.now) c.args.text.now c.eat_while-delim.result.now c.after-rest.result.now (place c.new-s.result) (place c.eat_while-delim.new.self) c.eat_while-delim.utf8 c.new-s.ensures.place c.eat_while-delim.ensures.moved c.eat_while-delim.ensures.taken c.after-rest.ensures.characters in
-    c.in_ok-node.ensures ∙ sym (node-pair k (chars c.args.text.now) (chars c.eat_while-delim.result.now) (chars c.after-rest.result.now) (sym c.if-is_pair.ensures)) ∙ sym h.whole
+returns-then-is_pair c =
+    let h = split-is c.args.text.now c.eat_while-delim.result.now c.after-rest.result.now (place c.new-s.result) (place c.eat_while-delim.new.self) c.eat_while-delim.utf8 c.new-s.ensures.place c.eat_while-delim.ensures.moved c.eat_while-delim.ensures.taken c.after-rest.ensures.characters in
+    c.in_ok-node.ensures ∙ sym (node-pair (chars c.args.text.now) (chars c.eat_while-delim.result.now) (chars c.after-rest.result.now) (sym c.if-is_pair.ensures)) ∙ sym h.whole
 
 pub returns-in_default : goal.returns-in_default
-returns-in_default g c =
-    let k = g.C.Classes.classes c.args.classes.now in
-    let h = split-is (g.C.Classes.classes c.args.classes.now) c.args.text.now c.eat_while-delim.result.now c.after-rest.result.now (place c.new-s.result) (place c.eat_while-delim.new.self) c.eat_while-delim.utf8 c.new-s.ensures.place c.eat_while-delim.ensures.moved c.eat_while-delim.ensures.taken c.after-rest.ensures.characters in
+returns-in_default c =
+    let h = split-is c.args.text.now c.eat_while-delim.result.now c.after-rest.result.now (place c.new-s.result) (place c.eat_while-delim.new.self) c.eat_while-delim.utf8 c.new-s.ensures.place c.eat_while-delim.ensures.moved c.eat_while-delim.ensures.taken c.after-rest.ensures.characters in
     c.in_ok-node-2.ensures ∙ ap (error_of (codes "unclosed raw text")) (sym (encodes-chars c.args.text.now c.utf8.text))
-    ∙ sym (node-open k (chars c.args.text.now) (chars c.eat_while-delim.result.now) (chars c.after-rest.result.now) (length c.eat_while-delim.result.now) (sym c.if-is_pair.ensures) h.ascii c.in_default.ensures) ∙ sym h.whole
+    ∙ sym (node-open (chars c.args.text.now) (chars c.eat_while-delim.result.now) (chars c.after-rest.result.now) (length c.eat_while-delim.result.now) (sym c.if-is_pair.ensures) h.ascii c.in_default.ensures) ∙ sym h.whole
 
 pub returns : goal.returns
-returns g c =
-    let k = g.C.Classes.classes c.args.classes.now in
-    let h = split-is (g.C.Classes.classes c.args.classes.now) c.args.text.now c.eat_while-delim.result.now c.after-rest.result.now (place c.new-s.result) (place c.eat_while-delim.new.self) c.eat_while-delim.utf8 c.new-s.ensures.place c.eat_while-delim.ensures.moved c.eat_while-delim.ensures.taken c.after-rest.ensures.characters in
+returns c =
+    let h = split-is c.args.text.now c.eat_while-delim.result.now c.after-rest.result.now (place c.new-s.result) (place c.eat_while-delim.new.self) c.eat_while-delim.utf8 c.new-s.ensures.place c.eat_while-delim.ensures.moved c.eat_while-delim.ensures.taken c.after-rest.ensures.characters in
     c.in_ok-node-3.ensures
-    ∙ sym (node-closed k (chars c.args.text.now) (chars c.eat_while-delim.result.now) (chars c.after-rest.result.now) (chars c.before-2.result.now) (length c.eat_while-delim.result.now) (sym c.if-is_pair.ensures) h.ascii (c.in-Some.ensures ∙ ap Some (sym c.before-2.ensures.characters)))
+    ∙ sym (node-closed (chars c.args.text.now) (chars c.eat_while-delim.result.now) (chars c.after-rest.result.now) (chars c.before-2.result.now) (length c.eat_while-delim.result.now) (sym c.if-is_pair.ensures) h.ascii (c.in-Some.ensures ∙ ap Some (sym c.before-2.ensures.characters)))
     ∙ sym h.whole
