@@ -8,7 +8,7 @@ use Rattle.typst_candidates.specs.declared.entry.Entry.{Entry}
 use Rattle.typst_candidates.specs.declared.entry.Tag.{Tag}
 use Rattle.typst_candidates.specs.declared.entry.Tag.TheVariants as tag
 use Rattle.typst_candidates.specs.Entries.{end_of}
-use Rattle.typst_candidates.specs.Cursors.{Place, behind, entry_behind, entry_before, first_piece, last_piece, last_of, inside_behind, inside_before, leads, start_at, token_at, pieces_of, pieces_in, closing_of, opens_content}
+use Rattle.typst_candidates.specs.Cursors.{Place, before, behind, entry_behind, entry_before, first_piece, last_piece, last_of, inside_behind, inside_before, leads, start_at, token_at, pieces_of, pieces_in, piece_of, closing_of, opens_content}
 use Rattle.typst_candidates.specs.Units.{behind_first}
 use Rattle.typst_candidates.proofs.Walks.{end-append}
 
@@ -42,21 +42,69 @@ onward-by es n start e h s f =
 pub onward : (es : List Entry) (n start : ℕ) (e : Entry) → n < length es → e ≡ get_or es n e → start ≡ end_of 0 (take n es) → end_of 0 es < 2 ^ 64 → Onward es n start e
 onward es n start e h a s f = subst (Onward es n start) (sym a) (onward-by es n start e h s f)
 
-pub record Backward (es : List Entry) (n m start : ℕ) (e : Entry) : Type 0 where
+-- a place behind the entry behind it
+pub record Moved (now : Place) (start : ℕ) (e : Entry) : Type 0 where
+  pub length_fits : e.step + e.gap < 2 ^ 64
+  pub fits : start + (e.step + e.gap) < 2 ^ 64
+  pub there : start + (e.step + e.gap) ≡ start_at now
+  pub all : end_of 0 now.entries < 2 ^ 64
+
+pub moves : (p now : Place) (start : ℕ) (e : Entry) → ◌≡◌ {A = Option Entry} (Some e) (entry_behind p) → now ≡ behind (Some e) p → start ≡ start_at p → end_of 0 p.entries < 2 ^ 64 → Moved now start e
+moves p now start e h m s f =
+    let within = slice_get_within p.entries p.number e (sym h) in
+    let o = onward p.entries p.number start e within (sym (get_or_from_slice_get p.entries p.number e e (sym h))) s f in
+    let one : p.number + 1 ≡ suc p.number = omega arith in
+    record {
+      length_fits = o.length_fits;
+      fits = o.fits;
+      there = o.there ∙ ap (λ n. end_of 0 (take n p.entries)) one ∙ ap start_at (sym m);
+      all = subst (λ (q : Place). end_of 0 q.entries < 2 ^ 64) (sym m) f;
+    }
+
+-- a place before the entry before it
+pub record Returned (now : Place) (start : ℕ) (e : Entry) : Type 0 where
   pub length_fits : e.step + e.gap < 2 ^ 64
   pub fits : e.step + e.gap ≤ start
-  pub there : start - (e.step + e.gap) ≡ end_of 0 (take m es)
-  pub last : ◌≡◌ {A = Option Entry} (Some e) (last_of n es)
+  pub there : start - (e.step + e.gap) ≡ start_at now
+  pub all : end_of 0 now.entries < 2 ^ 64
 
-pub backward : (es : List Entry) (n m start : ℕ) (d : Entry) → 1 ≤ n → m ≡ n - 1 → n ≤ length es → start ≡ end_of 0 (take n es) → end_of 0 es < 2 ^ 64 → Backward es n m start (get_or es m d)
-backward es zero m start d some a h s f = absurd (omega (arith, some))
-backward es (suc n) m start d some a h s f =
-    let same : m ≡ n = omega (arith, a) in
-    let lt : n < length es = omega (arith, h) in
-    let there = end-step es n d lt in
+returns-by : (es : List Entry) (n start : ℕ) (e : Entry) → ◌≡◌ {A = Option Entry} (Some e) (last_of n es) → start ≡ end_of 0 (take n es) → end_of 0 es < 2 ^ 64 → Returned (record { entries = es; number = n - 1 }) start e
+returns-by es zero start e h s f = absurd (never h)
+  where
+    never : ◌≡◌ {A = Option Entry} (Some e) None → ⊥
+    never q = cc
+returns-by es (suc n) start e h s f =
+    let lt = slice_get_within es n e (sym h) in
+    let step = end-step es n e lt in
+    let same = get_or_from_slice_get es n e e (sym h) in
+    let end : end_of 0 (take (suc n) es) ≡ (end_of 0 (take n es) + e.step) + e.gap = step ∙ ap (λ (d : Entry). (end_of 0 (take n es) + d.step) + d.gap) same in
     let within = end-within 0 (suc n) es in
-    subst (λ j. Backward es (suc n) j start (get_or es j d)) (sym same)
-    (record { length_fits = omega (arith, there, within, f); fits = omega (arith, there, s); there = omega (arith, there, s); last = sym (slice_get-get_or es n d lt) })
+    let one : n ≡ suc n - 1 = omega arith in
+    subst (λ m. Returned (record { entries = es; number = m }) start e) one
+    (record { length_fits = omega (arith, end, within, f); fits = omega (arith, end, s); there = omega (arith, end, s); all = f })
+
+pub goes-back : (p now : Place) (start : ℕ) (e : Entry) → ◌≡◌ {A = Option Entry} (Some e) (entry_before p) → now ≡ before p → start ≡ start_at p → end_of 0 p.entries < 2 ^ 64 → Returned now start e
+goes-back p now start e h m s f = subst (λ (q : Place). Returned q start e) (sym m) (returns-by p.entries p.number start e h s f)
+
+-- where there is no entry before it, a place stays where it is
+none-before : (es : List Entry) (start n : ℕ) → slice_get es n ≡ None → end_of start (take (suc n) es) ≡ end_of start (take n es)
+none-before [] start zero h = refl
+none-before [] start (suc n) h = refl
+none-before (e ∷ es) start zero h = absurd (never h)
+  where
+    never : ◌≡◌ {A = Option Entry} (Some e) None → ⊥
+    never q = cc
+none-before (e ∷ es) start (suc n) h = none-before es ((start + e.step) + e.gap) n h
+
+stays-by : (es : List Entry) (n : ℕ) → last_of n es ≡ None → end_of 0 (take n es) ≡ end_of 0 (take (n - 1) es)
+stays-by es zero h = let one : 0 ≡ 0 - 1 = omega arith in ap (λ m. end_of 0 (take m es)) one
+stays-by es (suc n) h = let one : n ≡ suc n - 1 = omega arith in none-before es 0 n h ∙ ap (λ m. end_of 0 (take m es)) one
+
+pub stays : (p now : Place) (start : ℕ) → ◌≡◌ {A = Option Entry} None (entry_before p) → now ≡ before p → start ≡ start_at p → end_of 0 p.entries < 2 ^ 64 → (start ≡ start_at now) × (end_of 0 now.entries < 2 ^ 64)
+stays p now start h m s f = (s ∙ stays-by p.entries p.number (sym h) ∙ ap start_at (sym m), subst (λ (q : Place). end_of 0 q.entries < 2 ^ 64) (sym m) f)
+
+pub keeps : (p now : Place) (start : ℕ) → now ≡ behind None p → start ≡ start_at p → end_of 0 p.entries < 2 ^ 64 → (start ≡ start_at now) × (end_of 0 now.entries < 2 ^ 64)
+keeps p now start m s f = (s ∙ ap start_at (sym m), subst (λ (q : Place). end_of 0 q.entries < 2 ^ 64) (sym m) f)
 
 -- ---- the next piece
 
@@ -96,7 +144,7 @@ before-found self place e a h = ap (last_of place.number) (sym a) ∙ sym h
 pub before-missing : (self place : Place) → place.entries ≡ self.entries → ◌≡◌ {A = Option Entry} None (entry_before place) → last_of place.number self.entries ≡ None
 before-missing self place a h = ap (last_of place.number) (sym a) ∙ sym h
 
-cut : (es : List Entry) (n : ℕ) (e : Entry) → slice_get es n ≡ Some e → drop n es ≡ e ∷ drop (suc n) es
+pub cut : (es : List Entry) (n : ℕ) (e : Entry) → slice_get es n ≡ Some e → drop n es ≡ e ∷ drop (suc n) es
 cut es n e h = drop-cons es n e (slice_get_within es n e h) ∙ ap (λ d. d ∷ drop (suc n) es) (get_or_from_slice_get es n e e h)
 
 pub behind-none : (es : List Entry) (inside number n : ℕ) → slice_get es n ≡ None → first_piece inside number (drop n es) ≡ None
@@ -245,3 +293,20 @@ pub in-on : (es : List Entry) (at start n : ℕ) (e : Entry) (b : Bool) → slic
     → pieces_in at start (drop n es) ≡ (if b then behind_first (pieces_of 0 (token_at start e) (drop (suc n) es)) else pieces_in at (token_at start e) (drop (suc n) es))
 in-on es at start n e b h t =
     ap (pieces_in at start) (cut es n e h) ∙ ap (λ c. if c then behind_first (pieces_of 0 (token_at start e) (drop (suc n) es)) else pieces_in at (token_at start e) (drop (suc n) es)) t
+
+-- the first piece of a run whose token begins at a byte, behind so many entries
+pub piece-none : (es : List Entry) (at inside start number n : ℕ) → slice_get es n ≡ None → piece_of at inside start number (drop n es) ≡ None
+piece-none [] at inside start number zero h = refl
+piece-none [] at inside start number (suc n) h = refl
+piece-none (e ∷ es) at inside start number zero h = absurd (never h)
+  where
+    never : ◌≡◌ {A = Option Entry} (Some e) None → ⊥
+    never e = cc
+piece-none (e ∷ es) at inside start number (suc n) h = piece-none es at inside start number n h
+
+pub piece-on : (es : List Entry) (at inside start n : ℕ) (e : Entry) (b : Bool) (o : Option ℕ) → slice_get es n ≡ Some e → (leads e.tag inside && token_at start e == at) ≡ b → inside_behind e.tag inside ≡ o
+    → piece_of at inside start n (drop n es) ≡ (if b then Some n else elim o as (λ _. Option ℕ) [ None ↦ None | Some further ↦ piece_of at further (token_at start e) (suc n) (drop (suc n) es) ])
+piece-on es at inside start n e b o h t i =
+    ap (piece_of at inside start n) (cut es n e h)
+    ∙ ap (λ c. if c then Some n else elim (inside_behind e.tag inside) as (λ _. Option ℕ) [ None ↦ None | Some further ↦ piece_of at further (token_at start e) (suc n) (drop (suc n) es) ]) t
+    ∙ ap (λ x. if b then Some n else elim x as (λ _. Option ℕ) [ None ↦ None | Some further ↦ piece_of at further (token_at start e) (suc n) (drop (suc n) es) ]) i

@@ -1,7 +1,8 @@
 -- From what a contract promises to the lemma behind it:
 --   a row's edges and stretches      Rows; Found: what is found in a row; Bytes: of a run; Nested: the run by its entries
---   records: of_notes, rear, put     Walks: entry by entry
+--   records: of_notes, rear, front, opening, last   Walks: entry by entry; Passes: over all of them
 --   next, back, cursor_at, piece_behind, piece_before, top_run, run_in, closing   Cursors
+--   put, push, next, back of the words       Words
 --   looks_law                        Looks: note by note
 --   nested_law                       Nested
 pub mod Found
@@ -11,3 +12,5 @@ pub mod Looks
 pub mod Walks
 pub mod Cursors
 pub mod Nested
+pub mod Words
+pub mod Passes

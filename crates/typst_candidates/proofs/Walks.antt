@@ -133,17 +133,17 @@ stops at start back (suc n) es some le s b =
 
 -- ---- one note more
 
-pub add-step : (es now : List Entry) (start i : ℕ) (ns : List Note) (d : Note) → i < length ns → es ++ entries_by start (drop i ns) ≡ entries_by 0 ns → now ≡ es ++ entry_of start (get_or ns i d) ∷ []
-    → now ++ entries_by (get_or ns i d).start (drop (i + 1) ns) ≡ entries_by 0 ns
-add-step es now start i ns d lt h e =
+pub add-step : (es now all : List Entry) (start i : ℕ) (ns : List Note) (d : Note) → i < length ns → es ++ entries_by start (drop i ns) ≡ all → now ≡ es ++ entry_of start (get_or ns i d) ∷ []
+    → now ++ entries_by (get_or ns i d).start (drop (i + 1) ns) ≡ all
+add-step es now all start i ns d lt h e =
     let n = get_or ns i d in
     let one : i + 1 ≡ suc i = omega arith in
     let rest = entries_by n.start (drop (suc i) ns) in
     ap (λ j. now ++ entries_by n.start (drop j ns)) one ∙ ap (λ us. us ++ rest) e ∙ append_assoc es (entry_of start n ∷ []) rest
     ∙ ap (λ ms. es ++ entries_by start ms) (sym (drop-cons ns i d lt)) ∙ h
 
-pub last-step : (start i : ℕ) (ns : List Note) (d : Note) → i < length ns → last_start start (drop i ns) ≡ last_start 0 ns → last_start (get_or ns i d).start (drop (i + 1) ns) ≡ last_start 0 ns
-last-step start i ns d lt h =
+pub last-step : (start all i : ℕ) (ns : List Note) (d : Note) → i < length ns → last_start start (drop i ns) ≡ all → last_start (get_or ns i d).start (drop (i + 1) ns) ≡ all
+last-step start all i ns d lt h =
     let n = get_or ns i d in
     let one : i + 1 ≡ suc i = omega arith in
     ap (λ j. last_start n.start (drop j ns)) one ∙ ap (last_start start) (sym (drop-cons ns i d lt)) ∙ h
@@ -156,7 +156,7 @@ fits-at (suc i) (n ∷ ns) d h lt = fits-at i ns d h.1 (omega (arith, lt))
 -- ---- a part put in place of another
 
 -- behind the entries A stand first D and then P, then P and D, and then P, the rest of D, and what goes
-pub put-is : (A P D both one two : List Entry) (at count gone : ℕ) → both ≡ (A ++ D) ++ P → at ≡ length A → count ≡ length A + length D → gone ≤ length D
+pub put-is : {T : Type 0} (A P D both one two : List T) (at count gone : ℕ) → both ≡ (A ++ D) ++ P → at ≡ length A → count ≡ length A + length D → gone ≤ length D
     → one ≡ (let rest = drop at both in take at both ++ (drop (length rest - length P) rest ++ take (length rest - length P) rest))
     → two ≡ (let rest = drop (at + length P) one in take (at + length P) one ++ (drop gone rest ++ take gone rest))
     → take ((count + length P) - gone) two ≡ A ++ (P ++ drop gone D)

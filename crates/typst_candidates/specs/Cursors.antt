@@ -114,3 +114,10 @@ piece_run es at parent child = if same kind.ContentBlock parent && same kind.Mar
 abbrev pub closing_of : ℕ → ℕ → List Entry → Option ℕ
 closing_of inside number [] = None
 closing_of inside number (e ∷ es) = elim (inside_behind e.tag inside) as (λ _. Option ℕ) [ None ↦ Some number | Some further ↦ closing_of further (suc number) es ]
+
+-- the number of the first piece of a run whose token begins at a byte, by the entries behind a token that begins at another one, in so many blocks of the run
+abbrev pub piece_of : ℕ → ℕ → ℕ → ℕ → List Entry → Option ℕ
+piece_of at inside start number [] = None
+piece_of at inside start number (e ∷ es) =
+    if leads e.tag inside && token_at start e == at then Some number
+    else elim (inside_behind e.tag inside) as (λ _. Option ℕ) [ None ↦ None | Some further ↦ piece_of at further (token_at start e) (suc number) es ]

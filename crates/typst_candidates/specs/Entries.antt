@@ -36,6 +36,10 @@ entry_of start n = record {
   count = count_of n.mark n.levels;
 }
 
+-- the end of a block at a byte, behind a token that begins at another, with such looks since then
+abbrev pub block_end : ℕ → ℕ → ℕ → ℕ → Entry
+block_end start end reach least = record { tag = tag.Closes; step = end - start; gap = 0; forth = reach - end; back = back_of start least; count = 0 }
+
 abbrev pub entries_by : ℕ → List Note → List Entry
 entries_by start [] = []
 entries_by start (n ∷ ns) = entry_of start n ∷ entries_by n.start ns

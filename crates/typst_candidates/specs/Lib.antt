@@ -3,6 +3,7 @@ pub mod Candidates
 pub mod Rows
 pub mod Examples
 pub mod Entries
+pub mod Packed
 pub mod Records
 pub mod Cursors
 pub mod Nested

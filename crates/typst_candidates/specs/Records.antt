@@ -4,12 +4,13 @@ use Rattle.typst_language.specs.declared.calls.Note.{Note}
 use Rattle.typst_candidates.specs.declared.entry.Entry.{Entry}
 use Rattle.typst_candidates.specs.declared.entry.Tag.{Tag}
 use Rattle.typst_candidates.specs.declared.entry.Tag.TheVariants as tag
+use Rattle.typst_candidates.specs.Packed.{Space}
 use Rattle.typst_candidates.specs.Entries.{Units, back_of, entries_by, last_start, front_of, rear_of}
 
--- the units, and for how many entries there is room
+-- the units, and what they take
 pub record Kept : Type 0 where
   pub units : Units
-  pub room : ℕ
+  pub space : Space
 
 abbrev pub is_opening : Tag → Bool
 is_opening (tag.Piece at_start) = false

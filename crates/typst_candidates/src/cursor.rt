@@ -4,6 +4,7 @@ ghost use Rattle.std.specs.Prelude.{◌≡◌, ◌+◌, ◌^◌, ◌<◌, ◌≤
 ghost use Rattle.typst_candidates.specs.Entries.{end_of};
 ghost use Rattle.typst_candidates.specs.Cursors as spec;
 
+use crate::entries::Walk;
 use crate::entry::{Entry, Tag};
 use crate::records::Records;
 use std::marker::Model;
@@ -11,23 +12,21 @@ use std::marker::Model;
 /// A place between two entries of records, and where in the text it is.
 #[derive(Drop)]
 pub struct Cursor<'a> {
-    entries: &'a [Entry],
-    /// How many of them stand before it.
-    number: usize,
-    /// Where the token of the last of these begins.
+    walk: Walk<'a>,
+    /// Where the token of the entry before it begins.
     start: usize,
 }
 
 impl<'a> Model for Cursor<'a> {
-    ghost use Rattle.std.specs.Prelude.{◌≡◌, ◌^◌, ◌<◌, ◌≤◌, length, take};
+    ghost use Rattle.std.specs.Prelude.{◌≡◌, ◌^◌, ◌<◌};
     ghost use Rattle.typst_candidates.specs.Entries.{end_of};
-    ghost use Rattle.typst_candidates.specs.Cursors.{Place};
+    ghost use Rattle.typst_candidates.specs.Cursors.{Place, start_at};
 
     ghost Value = { Place };
 
-    ghost view = { λ c. record { entries = c.entries.now; number = c.number } };
+    ghost view = { λ c. c.walk };
 
-    ghost invariant = { λ c. (c.number ≤ length c.entries.now) × (c.start ≡ end_of 0 (take c.number c.entries.now)) × (end_of 0 c.entries.now < 2 ^ 64) };
+    ghost invariant = { λ c. (c.start ≡ start_at c.walk) × (end_of 0 c.walk.entries < 2 ^ 64) };
 }
 
 impl Records {
@@ -37,8 +36,7 @@ impl Records {
         ensures { result ≡ record { entries = self.now.units.entries; number = 0 } }
     {
         Cursor {
-            entries: self.entries(),
-            number: 0,
+            walk: self.walk(),
             start: 0,
         }
     }
@@ -61,10 +59,8 @@ impl Records {
         requires { last ≡ end_of 0 self.now.units.entries }
         ensures { result ≡ record { entries = self.now.units.entries; number = length self.now.units.entries } }
     {
-        let entries = self.entries();
         Cursor {
-            entries,
-            number: entries.len(),
+            walk: self.walk_at_end(),
             start: last,
         }
     }
@@ -77,8 +73,7 @@ impl<'a> Cursor<'a> {
         ensures fits { result.number < 2 ^ 64 }
     {
         Cursor {
-            entries: self.entries,
-            number: self.number,
+            walk: self.walk.copy(),
             start: self.start,
         }
     }
@@ -87,7 +82,7 @@ impl<'a> Cursor<'a> {
     pub fn number(&self) -> usize
         ensures { result ≡ self.now.number }
     {
-        self.number
+        self.walk.number()
     }
 
     /// The byte at which the token of the entry before it begins, or 0 before the first.
@@ -103,8 +98,7 @@ impl<'a> Cursor<'a> {
         ensures place { self.new ≡ spec.behind result self.old }
         ensures fits { self.new.number < 2 ^ 64 }
     {
-        let entry = *self.entries.get(self.number)?;
-        self.number += 1;
+        let entry = self.walk.next()?;
         self.start += entry.step + entry.gap;
         Some(entry)
     }
@@ -114,9 +108,7 @@ impl<'a> Cursor<'a> {
         ensures entry { result ≡ spec.entry_before self.old }
         ensures place { self.new ≡ spec.before self.old }
     {
-        let number = self.number.checked_sub(1)?;
-        let entry = self.entries[number];
-        self.number = number;
+        let entry = self.walk.back()?;
         self.start -= entry.step + entry.gap;
         Some(entry)
     }

@@ -52,6 +52,24 @@ impl Entry {
     }
 }
 
+impl Entry {
+    /// That of a block's end at the byte `end`, behind a note whose token begins at the byte `start`, where
+    /// the looks since that note end at `reach` and begin at `least`.
+    pub(crate) fn of_block_end(start: usize, end: usize, reach: usize, least: usize) -> Entry
+        requires { start < 2 ^ 64 - 1 }
+        ensures { result ≡ spec.block_end start end reach least }
+    {
+        Entry {
+            tag: Tag::Closes,
+            step: end.saturating_sub(start),
+            gap: 0,
+            forth: reach.saturating_sub(end),
+            back: back_of(start, least),
+            count: 0,
+        }
+    }
+}
+
 /// How far before the token at the byte `start` looks begin that begin at `least`, which counts the
 /// mark before the text.
 pub(crate) fn back_of(start: usize, least: usize) -> usize

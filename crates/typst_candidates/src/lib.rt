@@ -9,8 +9,10 @@
 mod candidate;
 mod cursor;
 mod cuts;
+mod entries;
 mod entry;
 mod laws;
+mod packed;
 mod records;
 mod row;
 mod run;

@@ -1,10 +1,12 @@
 //! The units of a text, kept beside its tree.
 
-ghost use Rattle.std.specs.Prelude.{◌≡◌, ◌↔◌, IsTrue, ℕ, Some, None, ◌≤◌, ◌<◌, ◌+◌, ◌-◌, ◌^◌, ◌++◌, ◌∷◌, [], suc, IfOk, IfSome, OnOk, OnErr, length, take, drop, vec_capacity};
-ghost use Rattle.typst_candidates.specs.Entries.{back_of, end_of, entry_of, front_of, rear_of, spliced, units_by};
+ghost use Rattle.std.specs.Prelude.{◌≡◌, ◌&&◌, ◌==◌, ◌↔◌, IsTrue, ℕ, Some, None, ◌≤◌, ◌<◌, ◌+◌, ◌-◌, ◌^◌, ◌++◌, ◌∷◌, [], suc, IfOk, IfSome, OnOk, OnErr, length};
+ghost use Rattle.typst_candidates.specs.Entries.{back_of, block_end, end_of, entries_by, entry_of, front_of, last_start, rear_of, spliced, units_by};
 ghost use Rattle.typst_candidates.specs.Entries as spec;
+ghost use Rattle.typst_candidates.specs.Packed.{HasRoom};
 ghost use Rattle.typst_candidates.specs.Records.{AllFit, is_opening, opening_of};
 
+use crate::entries::{Entries, Walk};
 use crate::entry::{self, Entry, Tag};
 use std::alloc::{AllocError, Global};
 use std::marker::Model;
@@ -15,18 +17,17 @@ use typst_language::Note;
 /// entries of its own part alone.
 #[derive(Drop)]
 pub struct Records {
-    entries: Vec<Entry>,
+    entries: Entries,
     /// How far before the token of the last note the looks behind it begin.
     back: usize,
 }
 
 impl Model for Records {
-    ghost use Rattle.std.specs.Prelude.{vec_capacity};
     ghost use Rattle.typst_candidates.specs.Records.{Kept};
 
     ghost Value = { Kept };
 
-    ghost view = { λ r. record { units = record { entries = r.entries.items; back = r.back }; room = vec_capacity r.entries } };
+    ghost view = { λ r. record { units = record { entries = r.entries.entries; back = r.back }; space = r.entries.space } };
 }
 
 impl Records {
@@ -35,7 +36,7 @@ impl Records {
         ensures { result.units ≡ record { entries = []; back = 0 } }
     {
         Records {
-            entries: Vec::new(alloc),
+            entries: Entries::new(alloc),
             back: 0,
         }
     }
@@ -47,12 +48,8 @@ impl Records {
         ensures { IfOk result (λ r. r.units ≡ units_by notes.now least) }
     {
         let mut records = Records::new(alloc);
-        let mut start = 0;
-        for note in notes {
-            records.add(start, note)?;
-            start = note.start;
-        }
-        records.end(start, least);
+        let last = records.add_all(0, notes)?;
+        records.end(last, least);
         Ok(records)
     }
 
@@ -64,6 +61,43 @@ impl Records {
         ensures err { OnErr result (self.new.units ≡ self.old.units) }
     {
         self.entries.push(Entry::new(start, note))?;
+        Ok(())
+    }
+
+    /// These notes more, behind one whose token begins at the byte `start`; answers where the token of the
+    /// last of them begins.
+    pub fn add_all(&mut self, start: usize, notes: &[Note]) -> Result<usize, AllocError>
+        requires first { start < 2 ^ 64 - 1 }
+        requires fits { AllFit notes.now }
+        ensures entries { OnOk result (self.new.units ≡ record self.old.units { entries = self.old.units.entries ++ entries_by start notes.now }) }
+        ensures last { IfOk result (λ at. at ≡ last_start start notes.now) }
+        ensures small { IfOk result (λ at. at < 2 ^ 64 - 1) }
+    {
+        self.entries.reserve_words(notes.len())?;
+        let mut start = start;
+        for note in notes {
+            self.add(start, note)?;
+            start = note.start;
+        }
+        Ok(start)
+    }
+
+    /// The end of a block more, which ends at the byte `end`, behind a note whose token begins at the byte
+    /// `start`, where the looks since that note end at `reach` and begin at `least`. Where there is no memory
+    /// for it nothing changes.
+    pub fn add_end(
+        &mut self,
+        start: usize,
+        end: usize,
+        reach: usize,
+        least: usize,
+    ) -> Result<(), AllocError>
+        requires { start < 2 ^ 64 - 1 }
+        ensures ok { OnOk result (self.new.units ≡ record self.old.units { entries = self.old.units.entries ++ block_end start end reach least ∷ [] }) }
+        ensures err { OnErr result (self.new.units ≡ self.old.units) }
+    {
+        self.entries
+            .push(Entry::of_block_end(start, end, reach, least))?;
         Ok(())
     }
 
@@ -79,7 +113,7 @@ impl Records {
     pub fn count(&self) -> usize
         ensures { result ≡ length self.now.units.entries }
     {
-        self.entries.len()
+        self.entries.count()
     }
 
     /// Where the last note's token begins, in bytes, or 0 where there is none; nothing where that is no number
@@ -89,27 +123,41 @@ impl Records {
         ensures none { result ≡ None → 2 ^ 64 ≤ end_of 0 self.now.units.entries }
     {
         let mut at = 0usize;
-        for entry in &self.entries {
+        let mut place = self.walk();
+        while let Some(entry) = place.next() {
             at = at.checked_add(entry.step)?.checked_add(entry.gap)?;
         }
         Some(at)
     }
 
-    /// The entries, in order.
-    pub(crate) fn entries(&self) -> &[Entry]
-        ensures { result.now ≡ self.now.units.entries }
+    /// The place before the first entry.
+    pub(crate) fn walk(&self) -> Walk<'_>
+        ensures { result ≡ record { entries = self.now.units.entries; number = 0 } }
     {
-        &self.entries
+        self.entries.walk()
+    }
+
+    /// The place behind so many entries. Goes through the words of these.
+    pub(crate) fn walk_at(&self, number: usize) -> Walk<'_>
+        requires { number ≤ length self.now.units.entries }
+        ensures { result ≡ record { entries = self.now.units.entries; number = number } }
+    {
+        self.entries.walk_at(number)
+    }
+
+    /// The place behind the last entry.
+    pub(crate) fn walk_at_end(&self) -> Walk<'_>
+        ensures { result ≡ record { entries = self.now.units.entries; number = length self.now.units.entries } }
+    {
+        self.entries.walk_at_end()
     }
 
     /// The same once more.
     pub fn try_clone(&self, alloc: Global) -> Result<Records, AllocError>
         ensures { IfOk result (λ r. r.units ≡ self.now.units) }
     {
-        let mut entries = Vec::new(alloc);
-        entries.extend_from_slice(&self.entries)?;
         Ok(Records {
-            entries,
+            entries: self.entries.try_clone(alloc)?,
             back: self.back,
         })
     }
@@ -120,13 +168,20 @@ impl Records {
         ensures { result ≡ front_of at 0 self.now.units.entries }
     {
         let mut left = at;
-        for (number, entry) in self.entries.iter().enumerate() {
-            match left_behind(left, entry) {
-                Some(rest) if entry.forth <= rest => left = rest,
-                _ => return number,
+        let mut place = self.walk();
+        loop {
+            let here = place.number();
+            let Some(entry) = place.next() else {
+                return here;
+            };
+            let Some(rest) = left_behind(left, &entry) else {
+                return here;
+            };
+            if entry.forth > rest {
+                return here;
             }
+            left = rest;
         }
-        self.entries.len()
     }
 
     /// From which note on all looks behind it begin behind the byte `at`, where the last note's token
@@ -136,16 +191,15 @@ impl Records {
         requires { last ≡ end_of 0 self.now.units.entries }
         ensures { result ≡ rear_of at 0 0 self.now.units.entries self.now.units.back }
     {
-        let mut start = last;
+        let mut place = self.cursor_at_end(last);
         let mut back = self.back;
-        let mut number = self.entries.len();
-        while number > 0 && is_behind(at, start, back) {
-            number -= 1;
-            let entry = &self.entries[number];
-            start -= entry.step + entry.gap;
+        while is_behind(at, place.start(), back) {
+            let Some(entry) = place.back() else {
+                return 0;
+            };
             back = entry.back;
         }
-        number
+        place.number()
     }
 
     /// The number of the first entry at which a block begins whose token begins at the byte `at`. Goes
@@ -154,21 +208,23 @@ impl Records {
         ensures { result ≡ opening_of at 0 0 self.now.units.entries }
     {
         let mut left = at;
-        for (number, entry) in self.entries.iter().enumerate() {
-            left = left_behind(left, entry)?;
-            if left == 0 && is_opening(entry.tag) {
-                return Some(number);
+        let mut place = self.walk();
+        loop {
+            let here = place.number();
+            let entry = place.next()?;
+            left = left_behind(left, &entry)?;
+            if opens_at(entry.tag, left) {
+                return Some(here);
             }
         }
-        None
     }
 
-    /// Makes room for so many entries more; the units stay, whatever it answers.
-    pub fn reserve(&mut self, more: usize) -> Result<(), AllocError>
+    /// Makes room for a part; the units stay, whatever it answers.
+    pub fn reserve(&mut self, part: &Records) -> Result<(), AllocError>
         ensures units { self.new.units ≡ self.old.units }
-        ensures room { OnOk result (length self.old.units.entries + more ≤ self.new.room) }
+        ensures room { OnOk result (HasRoom (length self.new.units.entries) self.new.space (length part.now.units.entries) part.now.space) }
     {
-        self.entries.reserve(more)?;
+        self.entries.reserve(&part.entries)?;
         Ok(())
     }
 
@@ -177,35 +233,11 @@ impl Records {
     pub fn put(&mut self, part: &Records, from: usize, to: usize)
         requires order { from ≤ to }
         requires within { to < length self.old.units.entries }
-        requires room { length self.old.units.entries + length part.now.units.entries ≤ self.old.room }
+        requires room { HasRoom (length self.old.units.entries) self.old.space (length part.now.units.entries) part.now.space }
         ensures { self.new.units ≡ spliced from to part.now.units.entries self.old.units }
     {
-        let count = self.entries.len();
-        let more = part.entries.len();
-        let gone = to - from;
-        if self.entries.extend_from_slice(&part.entries).is_err() {
-            return;
-        }
-        bring_forward(&mut self.entries, from + 1, more);
-        bring_back(&mut self.entries, from + 1 + more, gone);
-        self.entries.truncate(count + more - gone);
+        self.entries.put(&part.entries, from, to);
     }
-}
-
-/// Brings the last so many entries to the place `at`.
-fn bring_forward(entries: &mut [Entry], at: usize, count: usize)
-    requires { at + count ≤ length entries.old }
-    ensures { let rest = drop at entries.old in entries.new ≡ take at entries.old ++ (drop (length rest - count) rest ++ take (length rest - count) rest) }
-{
-    entries[at..].rotate_right(count);
-}
-
-/// Brings so many entries from the place `at` to the end.
-fn bring_back(entries: &mut [Entry], at: usize, count: usize)
-    requires { at + count ≤ length entries.old }
-    ensures { let rest = drop at entries.old in entries.new ≡ take at entries.old ++ (drop count rest ++ take count rest) }
-{
-    entries[at..].rotate_left(count);
 }
 
 /// Whether the token of each note begins at a byte of a text that a machine word counts.
@@ -240,4 +272,11 @@ fn is_opening(tag: Tag) -> bool
     ensures { result ≡ is_opening tag }
 {
     matches!(tag, Tag::Opens(_, _))
+}
+
+/// Whether a block begins at the byte that so many bytes stand before.
+fn opens_at(tag: Tag, left: usize) -> bool
+    ensures { result ≡ (is_opening tag && left == 0) }
+{
+    is_opening(tag) && left == 0
 }

@@ -1,6 +1,6 @@
 //! Where the pieces of a run begin, and where a block ends, by the records of a text.
 
-ghost use Rattle.std.specs.Prelude.{◌≡◌, ◌&&◌, ◌==◌, ◌<◌, ◌≤◌, ◌^◌, ◌++◌, ◌∷◌, [], if◌then◌else◌, IfOk, OnOk, drop, length};
+ghost use Rattle.std.specs.Prelude.{◌≡◌, ◌&&◌, ◌==◌, ◌<◌, ◌≤◌, ◌^◌, ◌++◌, ◌∷◌, [], if◌then◌else◌, IfOk, OnOk, drop, length, slice_get, take};
 ghost use Rattle.typst_candidates.specs.Cursors as spec;
 ghost use Rattle.typst_candidates.specs.Entries.{end_of};
 ghost use Rattle.typst_candidates.specs.Rows.{run_of};
@@ -8,7 +8,7 @@ ghost use Rattle.typst_candidates.specs.Units.{behind_first};
 
 use crate::cursor::{Cursor, inside_behind, leads};
 use crate::cuts::Cuts;
-use crate::entry::Tag;
+use crate::entry::{Entry, Tag};
 use crate::records::Records;
 use std::alloc::{AllocError, Global};
 use typst_language::Block;
@@ -89,6 +89,45 @@ impl Records {
             inside = further;
         }
     }
+}
+
+impl Records {
+    /// The entry of a number. Goes through the words before it.
+    pub fn entry(&self, number: usize) -> Option<Entry>
+        ensures { result ≡ slice_get self.now.units.entries number }
+    {
+        if number >= self.count() {
+            return None;
+        }
+        self.walk_at(number).next()
+    }
+
+    /// The number of the first piece, from the entry `from` on, of the run that stands there whose token
+    /// begins at byte `at`. Goes through the entries up to there.
+    pub fn piece_at(&self, from: usize, at: usize) -> Option<usize>
+        requires within { from ≤ length self.now.units.entries }
+        requires fits { end_of 0 self.now.units.entries < 2 ^ 64 }
+        ensures { result ≡ spec.piece_of at 0 (end_of 0 (take from self.now.units.entries)) from (drop from self.now.units.entries) }
+    {
+        let mut place = self.cursor_at(from);
+        let mut inside = 0usize;
+        loop {
+            let here = place.number();
+            let entry = place.next()?;
+            if begins_piece(at, entry.tag, inside, place.start()) {
+                return Some(here);
+            }
+            inside = inside_behind(entry.tag, inside)?;
+        }
+    }
+}
+
+/// Whether a piece of a run itself begins at byte `at`, by an entry in so many blocks of the run whose token
+/// begins at the byte `start`.
+fn begins_piece(at: usize, tag: Tag, inside: usize, start: usize) -> bool
+    ensures { result ≡ (spec.leads tag inside && start == at) }
+{
+    leads(tag, inside) && start == at
 }
 
 /// Adds the byte of an entry's token, where a piece of a run itself begins in so many blocks of the run.

@@ -1,0 +1,85 @@
+-- Entries in words, and beside the words those that no word holds.
+use Rattle.std.specs.Prelude.{ℕ, ◌+◌, ◌≤◌, ◌/◌, ◌%◌, ◌^◌, true, false, List, [], ◌∷◌, map, Option, Some, None}
+use Rattle.std.specs.List.{slice_get}
+use Rattle.typst_kinds.specs.declared.mode.SyntaxMode.TheVariants as mode
+use Rattle.typst_language.specs.declared.calls.Block.TheVariants as block
+use Rattle.typst_candidates.specs.declared.entry.Entry.{Entry}
+use Rattle.typst_candidates.specs.declared.entry.Tag.{Tag}
+use Rattle.typst_candidates.specs.declared.entry.Tag.TheVariants as tag
+use Rattle.typst_candidates.specs.declared.packed.Packed.{Packed}
+use Rattle.typst_candidates.specs.declared.packed.Widths.{Widths}
+
+-- ---- one word
+
+-- the tags by their numbers
+abbrev pub tags : List Tag
+tags = tag.Piece false ∷ tag.Piece true ∷ tag.Closes
+    ∷ tag.Opens block.Code mode.Markup ∷ tag.Opens block.Code mode.Math ∷ tag.Opens block.Code mode.Code
+    ∷ tag.Opens block.Content mode.Markup ∷ tag.Opens block.Content mode.Math ∷ tag.Opens block.Content mode.Code ∷ []
+
+-- how many bits the parts of an entry take behind its tag's four, from the lowest on; the others hold its count
+abbrev pub widths : Tag → Widths
+widths (tag.Piece at_start) = record { step = 10; gap = 4; forth = 10; back = 4 }
+widths (tag.Opens b m) = record { step = 8; gap = 3; forth = 6; back = 3 }
+widths tag.Closes = record { step = 10; gap = 4; forth = 10; back = 4 }
+
+-- an entry by its tag, with these widths of its parts, and by what stands behind the tag
+abbrev pub entry_by : Tag → Widths → ℕ → Entry
+entry_by t w rest = record {
+  tag = t;
+  step = rest % 2 ^ w.step;
+  gap = rest / 2 ^ w.step % 2 ^ w.gap;
+  forth = rest / 2 ^ w.step / 2 ^ w.gap % 2 ^ w.forth;
+  back = rest / 2 ^ w.step / 2 ^ w.gap / 2 ^ w.forth % 2 ^ w.back;
+  count = rest / 2 ^ w.step / 2 ^ w.gap / 2 ^ w.forth / 2 ^ w.back;
+}
+
+abbrev pub nothing : Option Entry
+nothing = None
+
+-- the entry that a word holds; a word with no tag's number holds none
+abbrev pub entry_in : Packed → Option Entry
+entry_in p = elim (slice_get tags (p.word % 2 ^ 4)) as (λ _. Option Entry) [ None ↦ None | Some t ↦ Some (entry_by t (widths t) (p.word / 2 ^ 4)) ]
+
+-- ---- some words
+
+-- a word that holds no entry stands for one beside the words
+abbrev pub beside : Option Entry → ℕ
+beside None = 1
+beside (Some e) = 0
+
+abbrev pub all_beside : List (Option Entry) → ℕ
+all_beside [] = 0
+all_beside (o ∷ os) = beside o + all_beside os
+
+-- entries where those that are missing stand in order beside them
+abbrev pub filled : List (Option Entry) → List Entry → List Entry
+filled [] ws = []
+filled (Some e ∷ os) ws = e ∷ filled os ws
+filled (None ∷ os) [] = []
+filled (None ∷ os) (w ∷ ws) = w ∷ filled os ws
+
+-- how many entries stand beside some words
+abbrev pub wides : List Packed → ℕ
+wides ps = all_beside (map entry_in ps)
+
+abbrev pub unpacked : List Packed → List Entry → List Entry
+unpacked ps ws = filled (map entry_in ps) ws
+
+-- ---- and what they take
+
+pub record Space : Type 0 where
+  -- how many of the entries no word holds
+  pub wide : ℕ
+  -- for how many entries there are words,
+  pub room : ℕ
+  -- and for how many there is room beside the words
+  pub wide_room : ℕ
+
+-- there is room for so many entries more, with those of them that no word holds
+abbrev pub HasRoom : ℕ → Space → ℕ → Space → Type 0
+HasRoom count s more part = (count + more ≤ s.room) × (s.wide + part.wide ≤ s.wide_room)
+
+pub record Held : Type 0 where
+  pub entries : List Entry
+  pub space : Space

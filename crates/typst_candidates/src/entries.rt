@@ -1,0 +1,280 @@
+//! Entries in order, nearly all of them in words.
+
+ghost use Rattle.std.specs.Prelude.{◌≡◌, ◌+◌, ◌-◌, ◌^◌, ◌++◌, ◌∷◌, [], ◌≤◌, ◌<◌, IfOk, OnErr, OnOk, Some, length, drop, slice_get, suc, take, vec_capacity};
+ghost use Rattle.typst_candidates.specs.Cursors.{before, behind, entry_before, entry_behind};
+ghost use Rattle.typst_candidates.specs.Packed.{HasRoom, wides};
+
+use crate::entry::Entry;
+use crate::packed::Packed;
+use std::alloc::{AllocError, Global};
+use std::marker::Model;
+
+/// Entries in order: a word for each, and beside the words, in the same order, those that no word holds.
+#[derive(Drop)]
+pub(crate) struct Entries {
+    words: Vec<Packed>,
+    wide: Vec<Entry>,
+}
+
+impl Model for Entries {
+    ghost use Rattle.std.specs.Prelude.{◌≡◌, length, vec_capacity};
+    ghost use Rattle.typst_candidates.specs.Packed.{Held, unpacked, wides};
+
+    ghost Value = { Held };
+
+    ghost view = { λ e. record { entries = unpacked e.words.items e.wide.items; space = record { wide = length e.wide.items; room = vec_capacity e.words; wide_room = vec_capacity e.wide } } };
+
+    ghost invariant = { λ e. wides e.words.items ≡ length e.wide.items };
+}
+
+impl Entries {
+    /// No entries.
+    pub(crate) fn new(alloc: Global) -> Entries
+        ensures { result.entries ≡ [] }
+    {
+        Entries {
+            words: Vec::new(alloc),
+            wide: Vec::new(alloc),
+        }
+    }
+
+    /// How many there are.
+    pub(crate) fn count(&self) -> usize
+        ensures { result ≡ length self.now.entries }
+    {
+        self.words.len()
+    }
+
+    /// One more. Where there is no memory for it nothing changes.
+    pub(crate) fn push(&mut self, entry: Entry) -> Result<(), AllocError>
+        ensures ok { OnOk result (self.new.entries ≡ self.old.entries ++ entry ∷ []) }
+        ensures err { OnErr result (self.new.entries ≡ self.old.entries) }
+    {
+        let Some(word) = Packed::pack(entry) else {
+            return self.push_wide(entry);
+        };
+        self.words.push(word)?;
+        Ok(())
+    }
+
+    /// One more, beside the words.
+    fn push_wide(&mut self, entry: Entry) -> Result<(), AllocError>
+        ensures ok { OnOk result (self.new.entries ≡ self.old.entries ++ entry ∷ []) }
+        ensures err { OnErr result (self.new.entries ≡ self.old.entries) }
+    {
+        self.words.reserve(1)?;
+        self.wide.push(entry)?;
+        self.words.push_reserved(Packed::wide());
+        Ok(())
+    }
+
+    /// Makes words for so many more at once; the entries stay, whatever it answers.
+    pub(crate) fn reserve_words(&mut self, more: usize) -> Result<(), AllocError>
+        ensures { self.new.entries ≡ self.old.entries }
+    {
+        self.words.reserve(more)?;
+        Ok(())
+    }
+
+    /// Makes room for a part; the entries stay, whatever it answers.
+    pub(crate) fn reserve(&mut self, part: &Entries) -> Result<(), AllocError>
+        ensures entries { self.new.entries ≡ self.old.entries }
+        ensures room { OnOk result (HasRoom (length self.old.entries) self.new.space (length part.now.entries) part.now.space) }
+    {
+        self.words.reserve(part.words.len())?;
+        self.wide.reserve(part.wide.len())?;
+        Ok(())
+    }
+
+    /// The same once more.
+    pub(crate) fn try_clone(&self, alloc: Global) -> Result<Entries, AllocError>
+        ensures { IfOk result (λ e. e.entries ≡ self.now.entries) }
+    {
+        let mut words = Vec::new(alloc);
+        words.extend_from_slice(&self.words)?;
+        let mut wide = Vec::new(alloc);
+        wide.extend_from_slice(&self.wide)?;
+        Ok(Entries { words, wide })
+    }
+
+    /// Puts a part in place of the entries behind the one numbered `from` up to the one numbered `to`.
+    /// It takes no memory, since room was made before.
+    pub(crate) fn put(&mut self, part: &Entries, from: usize, to: usize)
+        requires order { from ≤ to }
+        requires within { to < length self.old.entries }
+        requires room { HasRoom (length self.old.entries) self.old.space (length part.now.entries) part.now.space }
+        ensures { self.new.entries ≡ take (suc from) self.old.entries ++ (part.now.entries ++ drop (suc to) self.old.entries) }
+    {
+        let first = beside(&self.words[..from + 1]);
+        let last = beside(&self.words[..to + 1]);
+        replace(&mut self.words, from + 1, to + 1, &part.words);
+        replace(&mut self.wide, first, last, &part.wide);
+    }
+
+    /// The place before the first.
+    pub(crate) fn walk(&self) -> Walk<'_>
+        ensures { result ≡ record { entries = self.now.entries; number = 0 } }
+    {
+        Walk {
+            words: &self.words,
+            wide: &self.wide,
+            number: 0,
+            passed: 0,
+        }
+    }
+
+    /// The place behind so many.
+    pub(crate) fn walk_at(&self, number: usize) -> Walk<'_>
+        requires { number ≤ length self.now.entries }
+        ensures { result ≡ record { entries = self.now.entries; number = number } }
+    {
+        Walk {
+            words: &self.words,
+            wide: &self.wide,
+            number,
+            passed: beside(&self.words[..number]),
+        }
+    }
+
+    /// The place behind the last.
+    pub(crate) fn walk_at_end(&self) -> Walk<'_>
+        ensures { result ≡ record { entries = self.now.entries; number = length self.now.entries } }
+    {
+        Walk {
+            words: &self.words,
+            wide: &self.wide,
+            number: self.words.len(),
+            passed: self.wide.len(),
+        }
+    }
+}
+
+/// A place between two entries.
+#[derive(Drop)]
+pub(crate) struct Walk<'a> {
+    words: &'a [Packed],
+    wide: &'a [Entry],
+    /// How many words stand before it,
+    number: usize,
+    /// and how many entries beside these.
+    passed: usize,
+}
+
+impl<'a> Model for Walk<'a> {
+    ghost use Rattle.std.specs.Prelude.{◌≡◌, ◌≤◌, length, take};
+    ghost use Rattle.typst_candidates.specs.Cursors.{Place};
+    ghost use Rattle.typst_candidates.specs.Packed.{unpacked, wides};
+
+    ghost Value = { Place };
+
+    ghost view = { λ w. record { entries = unpacked w.words.now w.wide.now; number = w.number } };
+
+    ghost invariant = { λ w. (w.number ≤ length w.words.now) × (w.passed ≡ wides (take w.number w.words.now)) × (wides w.words.now ≡ length w.wide.now) };
+}
+
+impl<'a> Walk<'a> {
+    /// The same place.
+    pub(crate) fn copy(&self) -> Walk<'a>
+        ensures place { result ≡ self.now }
+        ensures fits { result.number < 2 ^ 64 }
+    {
+        Walk {
+            words: self.words,
+            wide: self.wide,
+            number: self.number,
+            passed: self.passed,
+        }
+    }
+
+    /// How many entries stand before it.
+    pub(crate) fn number(&self) -> usize
+        ensures number { result ≡ self.now.number }
+        ensures within { result ≤ length self.now.entries }
+    {
+        self.number
+    }
+
+    /// The entry behind it, behind which it goes; nothing where there is none.
+    pub(crate) fn next(&mut self) -> Option<Entry>
+        ensures entry { result ≡ entry_behind self.old }
+        ensures place { self.new ≡ behind result self.old }
+        ensures fits { self.new.number < 2 ^ 64 }
+    {
+        let word = *self.words.get(self.number)?;
+        self.number += 1;
+        if let Some(entry) = word.entry() {
+            return Some(entry);
+        }
+        let entry = wide_at(self.wide, self.passed);
+        self.passed += 1;
+        Some(entry)
+    }
+
+    /// The entry before it, before which it goes; nothing where there is none.
+    pub(crate) fn back(&mut self) -> Option<Entry>
+        ensures entry { result ≡ entry_before self.old }
+        ensures place { self.new ≡ before self.old }
+    {
+        self.number = self.number.checked_sub(1)?;
+        let word = self.words[self.number];
+        if let Some(entry) = word.entry() {
+            return Some(entry);
+        }
+        self.passed -= 1;
+        Some(wide_at(self.wide, self.passed))
+    }
+}
+
+/// The entry of a number beside the words.
+fn wide_at(wide: &[Entry], number: usize) -> Entry
+    requires { number < length wide.now }
+    ensures { slice_get wide.now number ≡ Some result }
+{
+    wide[number]
+}
+
+/// How many entries stand beside some words.
+fn beside(words: &[Packed]) -> usize
+    ensures { result ≡ wides words.now }
+{
+    let mut count = 0;
+    for word in words {
+        count += word.beside();
+    }
+    count
+}
+
+/// Puts a part in place of the items from the one numbered `from` up to the one numbered `to`, for which there
+/// is room.
+fn replace<T: Copy>(items: &mut Vec<T>, from: usize, to: usize, part: &[T])
+    requires order { from ≤ to }
+    requires within { to ≤ length items.old.items }
+    requires room { length items.old.items + length part.now ≤ vec_capacity items.old }
+    ensures { items.new.items ≡ take from items.old.items ++ (part.now ++ drop to items.old.items) }
+{
+    let count = items.len();
+    let more = part.len();
+    let gone = to - from;
+    if items.extend_from_slice(part).is_err() {
+        return;
+    }
+    bring_forward(items, from, more);
+    bring_back(items, from + more, gone);
+    items.truncate(count + more - gone);
+}
+
+/// Brings the last so many items to the place `at`.
+fn bring_forward<T>(items: &mut [T], at: usize, count: usize)
+    requires { at + count ≤ length items.old }
+    ensures { let rest = drop at items.old in items.new ≡ take at items.old ++ (drop (length rest - count) rest ++ take (length rest - count) rest) }
+{
+    items[at..].rotate_right(count);
+}
+
+/// Brings so many items from the place `at` to the end.
+fn bring_back<T>(items: &mut [T], at: usize, count: usize)
+    requires { at + count ≤ length items.old }
+    ensures { let rest = drop at items.old in items.new ≡ take at items.old ++ (drop count rest ++ take count rest) }
+{
+    items[at..].rotate_left(count);
+}

@@ -1,0 +1,171 @@
+//! An entry in a word.
+
+ghost use Rattle.std.specs.Prelude.{◌≡◌, ◌+◌, ◌*◌, ◌/◌, ◌%◌, ◌^◌, ◌<◌, IfSome, Some, slice_get};
+ghost use Rattle.typst_candidates.specs.Packed as spec;
+
+use crate::entry::{Entry, Tag};
+use typst_kinds::SyntaxMode;
+use typst_language::Block;
+
+/// A word that holds an entry, or says that the entry is too wide for one. Nearly all entries of a text are
+/// small, so they take 4 bytes where an `Entry` takes 48.
+#[derive(Debug, Clone, Copy, PartialEq, Eq)]
+pub(crate) struct Packed {
+    word: u32,
+}
+
+/// How many bits the parts of an entry take behind those of its tag, from the lowest on; what is left holds
+/// its count.
+#[derive(Clone, Copy)]
+struct Widths {
+    step: u32,
+    gap: u32,
+    forth: u32,
+    back: u32,
+}
+
+/// How many bits a tag takes.
+const TAG: u32 = 4;
+
+impl Packed {
+    /// The word of an entry that no word holds.
+    pub(crate) fn wide() -> Packed
+        ensures { spec.entry_in result ≡ spec.nothing }
+    {
+        Packed { word: 15 }
+    }
+
+    /// The word that holds an entry, where one does.
+    pub(crate) fn pack(entry: Entry) -> Option<Packed>
+        ensures { IfSome result (λ p. spec.entry_in p ≡ Some entry) }
+    {
+        let widths = widths_of(entry.tag);
+        let count = word_of(entry.count)?;
+        let from_back = joined(entry.back, widths.back, count)?;
+        let from_forth = joined(entry.forth, widths.forth, from_back)?;
+        let from_gap = joined(entry.gap, widths.gap, from_forth)?;
+        let from_step = joined(entry.step, widths.step, from_gap)?;
+        let word = joined(number(entry.tag), TAG, from_step)?;
+        Some(Packed { word })
+    }
+
+    /// The entry that the word holds, where it holds one.
+    pub(crate) fn entry(self) -> Option<Entry>
+        ensures { result ≡ spec.entry_in self }
+    {
+        let (number, from_step) = split(self.word, TAG);
+        let tag = tag_of(number)?;
+        let widths = widths_of(tag);
+        let (step, from_gap) = split(from_step, widths.step);
+        let (gap, from_forth) = split(from_gap, widths.gap);
+        let (forth, from_back) = split(from_forth, widths.forth);
+        let (back, count) = split(from_back, widths.back);
+        Some(Entry {
+            tag,
+            step,
+            gap,
+            forth,
+            back,
+            count: count as usize,
+        })
+    }
+
+    /// How many entries beside the words the word stands for: one, where it holds none itself.
+    pub(crate) fn beside(self) -> usize
+        ensures { result ≡ spec.beside (spec.entry_in self) }
+    {
+        match self.entry() {
+            None => 1,
+            Some(_) => 0,
+        }
+    }
+}
+
+/// A number whose lowest bits, so many of them, are `low`, and whose others are `high`, where both fit.
+#[inline]
+fn joined(low: usize, width: u32, high: u32) -> Option<u32>
+    requires { width < 32 }
+    ensures { IfSome result (λ both. (low < 2 ^ width) × (both ≡ high * 2 ^ width + low)) }
+{
+    if low >> width != 0 {
+        return None;
+    }
+    word_of(((high as usize) << width) | low)
+}
+
+/// The number as a word, where it fits.
+#[inline]
+fn word_of(number: usize) -> Option<u32>
+    ensures { IfSome result (λ word. word ≡ number) }
+{
+    u32::try_from(number).ok()
+}
+
+/// The lowest bits of a number, so many of them, and the others.
+#[inline]
+fn split(both: u32, width: u32) -> (usize, u32)
+    requires { width < 32 }
+    ensures low { result.0 ≡ both % 2 ^ width }
+    ensures high { result.1 ≡ both / 2 ^ width }
+{
+    let low = both & ((1 << width) - 1);
+    (low as usize, both >> width)
+}
+
+/// A block's count is the levels that are left in it, a few less than the limit of depth, and trivia seldom
+/// stand before it; the count of a piece is nearly always 0.
+#[inline]
+fn widths_of(tag: Tag) -> Widths
+    ensures widths { result ≡ spec.widths tag }
+    ensures fits { (result.step < 32) × (result.gap < 32) × (result.forth < 32) × (result.back < 32) }
+{
+    match tag {
+        Tag::Opens(_, _) => Widths {
+            step: 8,
+            gap: 3,
+            forth: 6,
+            back: 3,
+        },
+        _ => Widths {
+            step: 10,
+            gap: 4,
+            forth: 10,
+            back: 4,
+        },
+    }
+}
+
+/// The number of a tag.
+fn number(tag: Tag) -> usize
+    ensures { slice_get spec.tags result ≡ Some tag }
+{
+    match tag {
+        Tag::Piece(false) => 0,
+        Tag::Piece(true) => 1,
+        Tag::Closes => 2,
+        Tag::Opens(Block::Code, SyntaxMode::Markup) => 3,
+        Tag::Opens(Block::Code, SyntaxMode::Math) => 4,
+        Tag::Opens(Block::Code, SyntaxMode::Code) => 5,
+        Tag::Opens(Block::Content, SyntaxMode::Markup) => 6,
+        Tag::Opens(Block::Content, SyntaxMode::Math) => 7,
+        Tag::Opens(Block::Content, SyntaxMode::Code) => 8,
+    }
+}
+
+/// The tag of a number.
+fn tag_of(number: usize) -> Option<Tag>
+    ensures { result ≡ slice_get spec.tags number }
+{
+    match number {
+        0 => Some(Tag::Piece(false)),
+        1 => Some(Tag::Piece(true)),
+        2 => Some(Tag::Closes),
+        3 => Some(Tag::Opens(Block::Code, SyntaxMode::Markup)),
+        4 => Some(Tag::Opens(Block::Code, SyntaxMode::Math)),
+        5 => Some(Tag::Opens(Block::Code, SyntaxMode::Code)),
+        6 => Some(Tag::Opens(Block::Content, SyntaxMode::Markup)),
+        7 => Some(Tag::Opens(Block::Content, SyntaxMode::Math)),
+        8 => Some(Tag::Opens(Block::Content, SyntaxMode::Code)),
+        _ => None,
+    }
+}
