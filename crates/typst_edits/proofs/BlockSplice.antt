@@ -1,11 +1,11 @@
 -- The units of a text with an edit inside a block.
-use Rattle.std.proofs.Common.{◌≡◌, ℕ, suc, ◌+◌, ◌≤◌, List, [], ◌∷◌, ◌++◌, length, refl, ap, sym, ◌∙◌, subst, arith}
+use Rattle.std.proofs.Common.{◌≡◌, ℕ, suc, ◌+◌, ◌≤◌, List, [], ◌∷◌, ◌++◌, length, ap, sym, ◌∙◌, subst, arith}
 use Rattle.typst_candidates.specs.Entries.{units_of, spliced}
 use Rattle.typst_lines.specs.Place.{moved}
 use Rattle.typst_tokens.specs.Sight.{position}
 use Rattle.typst_language.specs.declared.calls.Mark.TheVariants as mark
 use Rattle.typst_language.specs.Ask.{Ask, shift}
-use Rattle.typst_language.specs.Ask.Ask.{looked, marked}
+use Rattle.typst_language.specs.Ask.Ask.{marked}
 use Rattle.typst_language.specs.Log.{no_log, logged}
 use Rattle.typst_language.specs.Meaning.{Outcome, start_point}
 use Rattle.typst_language.specs.Point.{state_of}
@@ -15,20 +15,10 @@ use Rattle.typst_edits.specs.Edit.{text_with, AllEndBy, AllBeginIn}
 use Rattle.typst_edits.specs.Splice.{Noting, noting, notes_in, entries_from}
 use Rattle.typst_edits.specs.BlockSplice.{closing, block_log, BlockSpliceLaw}
 use Rattle.typst_edits.specs.Spot.{Spot, unit_at, lowered}
-use Rattle.typst_edits.proofs.Bytes.{asks-are}
+use Rattle.typst_edits.proofs.Bytes.{asks-are, notes-one, notes-own}
 use Rattle.typst_edits.proofs.Seen.{AllSeen, end-first, seen-first, sees-level}
 use Rattle.typst_edits.proofs.Splice.{splice-law}
 use Rattle.typst_edits.proofs.Text.{block-law, names-law}
-
-notes-one : (asks : List Ask) (p : Noting) → notes_in (asks ++ noting p ∷ []) ≡ suc (notes_in asks)
-notes-one [] p = refl
-notes-one (looked at look ∷ asks) p = notes-one asks p
-notes-one (marked at gap fewer m s ∷ asks) p = ap suc (notes-one asks p)
-
-notes-own : (d n : ℕ) (asks : List Ask) → notes_in (shift d (lowered n asks)) ≡ notes_in asks
-notes-own d n [] = refl
-notes-own d n (looked at look ∷ asks) = notes-own d n asks
-notes-own d n (marked at gap fewer m s ∷ asks) = ap suc (notes-own d n asks)
 
 -- the note where a block begins
 abbrev opening : {A : Type 0} → Spot A → Noting
@@ -74,7 +64,7 @@ block-splice-law k front old new rest c past i h big more =
     let law = splice-law max_depth front old new rest past 0 named.earlier own fresh named.later (opening c) (closing c a.taken) (closing c b.taken) big more early noted starts last_old last_new late in
     record {
       opens = from;
-      number = ap notes_in named.opened ∙ notes-one named.earlier (opening c);
+      number = ap notes_in named.opened ∙ notes-one named.earlier c.at 0 c.fewer (mark.Opens c.name) c.start;
       units = ap (λ asks. units_of (logged max_depth w no_log asks)) now ∙ law
           ∙ ap (λ n. spliced from (suc (from + n)) part (units_of (logged max_depth z no_log (named.earlier ++ noting (opening c) ∷ (own ++ noting (closing c a.taken) ∷ shift end named.later))))) (notes-own c.at c.fewer a.asks)
           ∙ ap (λ asks. spliced from (suc (from + notes_in a.asks)) part (units_of (logged max_depth z no_log asks))) (sym was);

@@ -25,6 +25,7 @@ use Rattle.typst_grammar.specs.Grammar.{rules, max_depth, start_of, whole, parse
 use Rattle.typst_edits.specs.Bytes.{highest, lowest}
 use Rattle.typst_edits.specs.Edit.{AllEndBy}
 use Rattle.typst_edits.specs.Runs.{made, AllGo, End, end_of, asks_of, chain}
+use Rattle.typst_edits.specs.Splice.{notes_in}
 use Rattle.typst_edits.specs.Sequence.{Sequence, turn_of, first_of, first_end}
 use Rattle.typst_edits.proofs.Bytes.{logged-append, noted-more, AllReach, reached-by, end-by, end-to, AllFrom, least-by, newly}
 use Rattle.typst_edits.proofs.Marks.{AllMarks, marks-append, marks-shift, marks-sunk, none-hand}
@@ -342,6 +343,7 @@ module _ (lv : ℕ) (z : Place) (ls ks : List Ask) (at gap fewer : ℕ) (m : Mar
   record OneNote : Type 0 where
     earlier : List Note
     later : List Note
+    count : length earlier ≡ notes_in ls
     notes : log_all.notes ≡ Some (earlier ++ the_note ∷ later)
     reached : (b : ℕ) → highest earlier the_note.reach ≤ b → AllReach b z ls
     reached_too : (b : ℕ) → AllReach b z ls → highest earlier the_note.reach ≤ b
@@ -360,6 +362,7 @@ module _ (lv : ℕ) (z : Place) (ls ks : List Ask) (at gap fewer : ℕ) (m : Mar
       record {
         earlier = one.more;
         later = two.more;
+        count = one.count;
         notes = ap (λ (u : Log). u.notes) is ∙ two.is ∙ ap Some (append_assoc one.more (the_note ∷ []) two.more);
         reached = one.all;
         reached_too = λ b f. one.back b (omega arith) f;
@@ -382,6 +385,8 @@ module _ (r : Sequence) (first : Point) (same : state_of first ≡ state_of r.po
     pub late : List Ask
     pub is : (let e = first_end j r in asks_in j behind ≡ early ++ marked e.taken gap 0 (mark.Piece e.value.0 e.value.1) (state_of e.state) ∷ (late ++ shift e.taken behind))
     pub gap_is : 0 < j → gap ≡ gap_of (first_end j r).state.known
+    pub gap_first : j ≡ 0 → gap ≡ gap_of first.known
+    pub late_bare : AllMarks (λ at fewer m s. ⊥) ls → AllMarks (λ at fewer m s. ⊥) late
     pub ended : (n d : ℕ) → 0 < j → AllEndBy n (shift d early) → AllEndBy n (shift d (ls ++ asks_of (first_of j r)))
     pub ends_too : (n d : ℕ) → (0 < j → AllEndBy n (shift d (ls ++ asks_of (first_of j r)))) → AllEndBy n (shift d early)
     pub late_from : (b d : ℕ) (z : Place) → 0 < j → AllFrom b z (shift d (shift (first_end j r).taken behind)) → AllFrom b z (shift d late)
@@ -393,6 +398,8 @@ module _ (r : Sequence) (first : Point) (same : state_of first ≡ state_of r.po
     late = ls ++ [];
     is = ap (λ s. marked 0 (gap_of first.known) 0 (mark.Piece true 0) s ∷ ((ls ++ []) ++ shift 0 behind)) same;
     gap_is = λ l. absurd (omega (arith, l));
+    gap_first = λ none. refl;
+    late_bare = λ bare. marks-append (λ at fewer m s. ⊥) ls [] bare tt;
     ended = λ n d l. absurd (omega (arith, l));
     ends_too = λ n d h. tt;
     late_from = λ b d z l. absurd (omega (arith, l));
@@ -414,6 +421,8 @@ module _ (r : Sequence) (first : Point) (same : state_of first ≡ state_of r.po
         is = ap (λ u. start ∷ ((ls ++ u) ++ rest)) (b.is ∙ sym (append_assoc b.early looks (m ∷ looks)))
             ∙ ap (λ u. start ∷ u) (ap (λ u. u ++ rest) (sym (append_assoc ls (b.early ++ looks) (m ∷ looks))) ∙ append_assoc (ls ++ (b.early ++ looks)) (m ∷ looks) rest);
         gap_is = λ l. refl;
+        gap_first = λ none. absurd (omega (arith, none));
+        late_bare = λ bare. marks-shift (λ at fewer m s. ⊥) e.taken ahead (none-hand (λ at fewer m s. ⊥) r.level.classes e.state.held e.state.known (moved e.taken r.place));
         ended = λ n d l h.
             (let one = end-split n d ls (b.early ++ looks) h in
             let two = end-split n d b.early looks one.1 in
@@ -432,6 +441,7 @@ module _ (k : CharClasses) (text : List ℕ) where
     pub earlier : List Note
     pub note : Note
     pub later : List Note
+    pub count : length earlier ≡ notes_in early
     pub notes : (log k text).notes ≡ Some (earlier ++ note ∷ later)
     pub mark : note.mark ≡ m
     pub before : note.before ≡ width (take at text)
@@ -461,6 +471,7 @@ module _ (k : CharClasses) (text : List ℕ) where
         earlier = b.earlier;
         note = the_note max_depth z early behind at gap fewer m s;
         later = b.later;
+        count = b.count;
         notes = ap (λ (h : Log). h.notes) log_is ∙ b.notes;
         mark = refl;
         before = width-moved at text;

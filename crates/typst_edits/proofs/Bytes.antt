@@ -1,5 +1,5 @@
 -- The test of an edit in bytes, by the notes of a reading.
-use Rattle.std.proofs.Common.{◌≡◌, ℕ, ◌+◌, ◌-◌, ◌<◌, ◌≤◌, ◌^◌, max, min, List, [], ◌∷◌, ◌++◌, length, length-append, append_assoc, append-nil, Option, Some, None, refl, ap, sym, ◌∙◌, subst, arith}
+use Rattle.std.proofs.Common.{◌≡◌, ℕ, suc, ◌+◌, ◌-◌, ◌<◌, ◌≤◌, ◌^◌, max, min, List, [], ◌∷◌, ◌++◌, length, take, length-append, append_assoc, append-nil, Option, Some, None, refl, ap, sym, ◌∙◌, subst, arith}
 use Rattle.typst_lines.specs.Place.{Place, moved}
 use Rattle.typst_lines.specs.Classes.{CharClasses}
 use Rattle.typst_tokens.specs.Sight.{width, position, near, hull_of, far}
@@ -15,10 +15,12 @@ use Rattle.typst_language.specs.Point.{state_of}
 use Rattle.typst_grammar.specs.Markup.{markup_reading}
 use Rattle.typst_grammar.specs.Grammar.{rules, max_depth, start_of, whole, parsed, log}
 use Rattle.typst_edits.specs.Bytes.{highest, lowest, Decided, DecisionLaw}
+use Rattle.typst_edits.specs.Splice.{notes_in}
 use Rattle.typst_edits.specs.Edit.{text_with, AllEndBy, AllBeginIn}
 use Rattle.typst_edits.specs.Laws.{blocks_of_text, block_at}
 pub use Rattle.typst_edits.specs.Looks.{AllReach, AllFrom}
 use Rattle.typst_edits.specs.Named.{Named}
+use Rattle.typst_edits.specs.Splice.{notes_in}
 use Rattle.typst_edits.specs.Spot.{Spot, unit_at, around, lowered}
 use Rattle.typst_edits.proofs.Blocks.{ends}
 use Rattle.typst_edits.proofs.Edit.{among, onto, past-is}
@@ -51,6 +53,32 @@ noted-by lv z (marked at gap fewer m s ∷ asks) h ns e =
     let i = noted-by lv z asks k (ns ++ note ∷ []) (noted-more note h.notes ns e) in
     record { more = note ∷ i.more; is = i.is ∙ ap Some (append_assoc ns (note ∷ []) i.more) }
 
+-- ---- how many notes are made
+
+abbrev or_none : Option (List Note) → List Note
+or_none None = []
+or_none (Some ns) = ns
+
+pub counted : (lv : ℕ) (z : Place) (asks : List Ask) (h : Log) (ns ms : List Note) → h.notes ≡ Some ns → (logged lv z h asks).notes ≡ Some ms → length ms ≡ length ns + notes_in asks
+counted lv z [] h ns ms e f = let same : ns ≡ ms = ap or_none (sym e ∙ f) in let l = ap length same in omega (arith, l)
+counted lv z (looked at look ∷ asks) h ns ms e f = counted lv z asks (with_hull (hull_of look (moved at z)) h) ns ms e f
+counted lv z (marked at gap fewer m s ∷ asks) h ns ms e f =
+    let k = with_note gap (lv - fewer) m s (moved at z) h in
+    let note : Note = record { mark = m; before = position (moved at z); start = position (moved gap (moved at z)); levels = lv - fewer; state = s; reach = h.reach; least = h.least } in
+    let i = counted lv z asks k (ns ++ note ∷ []) ms (noted-more note h.notes ns e) f in
+    let l = length-append ns (note ∷ []) in
+    omega (arith, i, l)
+
+pub notes-one : (asks : List Ask) (at gap fewer : ℕ) (m : Mark) (s : State) → notes_in (asks ++ marked at gap fewer m s ∷ []) ≡ suc (notes_in asks)
+notes-one [] at gap fewer m s = refl
+notes-one (looked i look ∷ asks) at gap fewer m s = notes-one asks at gap fewer m s
+notes-one (marked i g f l t ∷ asks) at gap fewer m s = ap suc (notes-one asks at gap fewer m s)
+
+pub notes-own : (d n : ℕ) (asks : List Ask) → notes_in (shift d (lowered n asks)) ≡ notes_in asks
+notes-own d n [] = refl
+notes-own d n (looked at look ∷ asks) = notes-own d n asks
+notes-own d n (marked at gap fewer m s ∷ asks) = ap suc (notes-own d n asks)
+
 -- ---- where looks end
 
 pub record Reach (b : ℕ) (z : Place) (h : Log) (asks : List Ask) : Type 0 where
@@ -72,6 +100,7 @@ reach-by lv b z (marked at gap fewer m s ∷ asks) h none e =
 pub record Reached (lv : ℕ) (z : Place) (h : Log) (ns : List Note) (asks : List Ask) : Type 0 where
   pub more : List Note
   pub is : (logged lv z h asks).notes ≡ Some (ns ++ more)
+  pub count : length more ≡ notes_in asks
   pub before : (b : ℕ) → highest more (logged lv z h asks).reach ≤ b → h.reach ≤ b
   pub all : (b : ℕ) → highest more (logged lv z h asks).reach ≤ b → AllReach b z asks
   pub back : (b : ℕ) → h.reach ≤ b → AllReach b z asks → highest more (logged lv z h asks).reach ≤ b
@@ -87,13 +116,14 @@ none-yet : (b : ℕ) (notes : Option (List Note)) (ns : List Note) (reach : ℕ)
 none-yet b notes ns reach e = subst (λ o. reach_behind o reach ≤ b) (sym e) (omega arith)
 
 pub reached-by : (lv : ℕ) (z : Place) (asks : List Ask) (h : Log) (ns : List Note) → h.notes ≡ Some ns → Reached lv z h ns asks
-reached-by lv z [] h ns e = record { more = []; is = e ∙ ap Some (sym (append-nil ns)); before = λ b l. l; all = λ b l. tt; back = λ b l f. l }
+reached-by lv z [] h ns e = record { more = []; is = e ∙ ap Some (sym (append-nil ns)); count = refl; before = λ b l. l; all = λ b l. tt; back = λ b l f. l }
 reached-by lv z (looked at look ∷ asks) h ns e =
     let i = reached-by lv z asks (with_hull (hull_of look (moved at z)) h) ns e in
     let end = far look.front (moved at z) in
     record {
       more = i.more;
       is = i.is;
+      count = i.count;
       before = λ b l. (both-by b h.reach end (i.before b l)).0;
       all = λ b l. ((both-by b h.reach end (i.before b l)).1, i.all b l);
       back = λ b l f. i.back b (both-to b h.reach end l f.0) f.1;
@@ -106,6 +136,7 @@ reached-by lv z (marked at gap fewer m s ∷ asks) h ns e =
     record {
       more = note ∷ i.more;
       is = i.is ∙ ap Some (append_assoc ns (note ∷ []) i.more);
+      count = ap suc i.count;
       before = λ b l. (both-by b h.reach (highest i.more last) l).0;
       all = λ b l. i.all b (both-by b h.reach (highest i.more last) l).1;
       back = λ b l f. both-to b h.reach (highest i.more last) l (i.back b (none-yet b h.notes ns h.reach e) f);
@@ -235,6 +266,8 @@ module _ (lv : ℕ) (z : Place) (first second third : List Ask) (at fewer end ga
     inner : List Note
     later : List Note
     notes : log_three.notes ≡ Some (earlier ++ note_one ∷ (inner ++ note_two ∷ later))
+    number : length earlier ≡ notes_in first
+    long : length inner ≡ notes_in second
     reached : (n : ℕ) → highest earlier note_one.reach ≤ n → AllReach n z first
     reached_too : (n : ℕ) → AllReach n z first → highest earlier note_one.reach ≤ n
     all : b < lowest later log_three.least → AllFrom b z third
@@ -250,6 +283,11 @@ module _ (lv : ℕ) (z : Place) (first second third : List Ask) (at fewer end ga
         inner = two.more;
         later = three.more;
         notes = three.is ∙ ap Some (append_assoc ((one.more ++ note_one ∷ []) ++ two.more) (note_two ∷ []) three.more ∙ append_assoc (one.more ++ note_one ∷ []) two.more (note_two ∷ three.more) ∙ append_assoc one.more (note_one ∷ []) (two.more ++ note_two ∷ three.more));
+        number = (let n = counted lv z first no_log [] one.more refl one.is in let none : List Note = [] in let o : length none ≡ 0 = omega arith in omega (arith, n, o));
+        long = (let before = one.more ++ note_one ∷ [] in
+            let n = counted lv z second (with_note 0 (lv - fewer) m s (moved at z) log_one) before (before ++ two.more) (noted-more note_one log_one.notes one.more one.is) two.is in
+            let l = length-append before two.more in
+            omega (arith, n, l));
         reached = one.all;
         reached_too = λ n f. one.back n (omega arith) f;
         all = three.all b;
@@ -294,6 +332,9 @@ decided k front old rest c past o n a e =
       levels = refl;
       state = refl;
       name_end = refl;
+      end = (let there = width-moved (end + 0) text in let none : end + 0 ≡ end = omega arith in there ∙ ap (λ n. width (take n text)) none);
+      number = ap notes_in n.opened ∙ notes-one n.earlier c.at 0 c.fewer start_mark c.start ∙ ap suc (sym b.number);
+      long = b.long ∙ notes-own c.at c.fewer u.asks;
       before = λ h. subst (λ ls. AllEndBy (length front) ls) (sym n.opened) (end-mark (length front) n.earlier c.at 0 c.fewer start_mark c.start
           (end-by front (old ++ rest) n.earlier within_before (b.reached (width front) h)));
       before_too = λ h. b.reached_too (width front)

@@ -1,6 +1,6 @@
 -- Where a stretch of a run's children ends, and what of the run's pieces begins and ends there.
 use Rattle.std.proofs.Common.{◌≡◌, ℕ, zero, suc, ◌+◌, ◌-◌, ◌<◌, ◌≤◌, max, min, Bool, true, false, not, ◌||◌, ◌&&◌, if◌then◌else◌, List, [], ◌∷◌, ◌++◌, length, drop, length-append, append_assoc, append-nil, Some, refl, ap, sym, ◌∙◌, subst, arith}
-use Rattle.std.specs.Prelude.{nat_lt}
+use Rattle.std.specs.Prelude.{nat_lt, nat_le}
 use Rattle.std.proofs.lemmas.Bool.Decides.{nat_tests}
 use borrow.Author.Tests.{ltb-true, lt-ltb}
 use Rattle.typst_kinds.specs.Kinds.{same, is_trivia, is_error}
@@ -10,7 +10,8 @@ use Rattle.typst_tree.specs.Tree.{Tree, text_of}
 use Rattle.typst_language.specs.Meaning.{Outcome, plain, less}
 use Rattle.typst_language.specs.Point.{Trivia, Point, pending}
 use Rattle.typst_language.proofs.Places.{less-none}
-use Rattle.typst_candidates.specs.Candidates.{Child, laid, first_near, end_near, clings, is_sign, is_hash, is_among, leads, holds_at, back_past, on_past, with_hash, Stretch, around, begins}
+use Rattle.typst_candidates.specs.Candidates as candidate
+use Rattle.typst_candidates.specs.Candidates.{Child, laid, ended, first_near, end_near, clings, is_sign, is_hash, is_among, leads, holds_at, back_past, on_past, with_hash, Stretch, around, begins}
 use Rattle.typst_edits.specs.Children.{together}
 use Rattle.typst_edits.specs.Every.{Every}
 use Rattle.typst_edits.specs.Frame.{is_over}
@@ -92,6 +93,28 @@ child-within from ts index c =
     let first = bytes-first c.node c.right in
     let there = c.at_is in
     omega (arith, all, parts, first, there)
+
+-- those that begin before a byte do
+begun-before : (from rs : ℕ) (ts : List Tree) (n : ℕ) → n < candidate.begun rs (laid from ts) → begins from ts n < rs
+begun-before from rs [] n h = absurd (omega (arith, h))
+begun-before from rs (t ∷ ts) n h = by-test n (nat_lt from rs) refl h (begun-before (from + length (text_of t)) rs ts)
+  where
+    by-test : (n : ℕ) (b : Bool) → nat_lt from rs ≡ b → n < (if b then suc (candidate.begun rs (laid (from + length (text_of t)) ts)) else 0)
+        → ((m : ℕ) → m < candidate.begun rs (laid (from + length (text_of t)) ts) → begins (from + length (text_of t)) ts m < rs) → begins from (t ∷ ts) n < rs
+    by-test zero true e h next = ltb-true from rs e
+    by-test (suc n) true e h next = next n (omega (arith, h))
+    by-test n false e h next = absurd (omega (arith, h))
+
+-- and behind those that end at a byte or before it, and one more, the byte is past
+ended-behind : (from re : ℕ) (ts : List Tree) (n : ℕ) → ended re (laid from ts) < n → ended re (laid from ts) < length ts → re ≤ begins from ts n
+ended-behind from re [] n h l = absurd (omega (arith, l))
+ended-behind from re (t ∷ ts) zero h l = absurd (omega (arith, h))
+ended-behind from re (t ∷ ts) (suc n) h l = by-test (nat_le (from + length (text_of t)) re) refl h l (ended-behind (from + length (text_of t)) re ts n)
+  where
+    by-test : (b : Bool) → nat_le (from + length (text_of t)) re ≡ b → (if b then suc (ended re (laid (from + length (text_of t)) ts)) else 0) < suc n → (if b then suc (ended re (laid (from + length (text_of t)) ts)) else 0) < suc (length ts)
+        → (ended re (laid (from + length (text_of t)) ts) < n → ended re (laid (from + length (text_of t)) ts) < length ts → re ≤ begins (from + length (text_of t)) ts n) → re ≤ begins (from + length (text_of t)) ts n
+    by-test true e h l next = next (omega (arith, h)) (omega (arith, l))
+    by-test false e h l next = let past : re < from + length (text_of t) = grind (arith, nat_tests) in let least = begins-from (from + length (text_of t)) ts n in omega (arith, past, least)
 
 -- where it isn't empty, it stands there
 pub stands : (from : ℕ) (ts : List Tree) (index : ℕ) (c : ChildAt from ts index) → 0 < length (text_of c.node) → StandsAt from ts index (begins from ts index)
@@ -224,6 +247,11 @@ cut-off : (b c : Bool) → not (b && c) ≡ false → b ≡ true
 cut-off true c e = refl
 cut-off false c e = cc
 
+cut-on : (b c : Bool) → not (b && c) ≡ false → c ≡ true
+cut-on true true e = refl
+cut-on true false e = cc
+cut-on false c e = cc
+
 -- one that leads isn't empty
 leads-full : (cuts : List ℕ) (at : ℕ) (t : Tree) → not (leads cuts (child at t)) ≡ false → 0 < length (text_of t)
 leads-full cuts at t e = let more : at < at + length (text_of t) = ltb-true at (at + length (text_of t)) (cut-off (nat_lt at (at + length (text_of t))) (is_among at cuts) e) in omega (arith, more)
@@ -301,6 +329,34 @@ module _ (cuts : List ℕ) (from : ℕ) (ts : List Tree) (rs re x : ℕ) (order 
   pub from-stands : 0 < stretch.from → StandsAt from ts stretch.from (begins from ts stretch.from)
   from-stands some = stands from ts stretch.from (child-at from ts stretch.from (from-there some)) (from-full some)
 
+  -- and begins at a cut
+  pub from-cut : 0 < stretch.from → is_among (begins from ts stretch.from) cuts ≡ true
+  from-cut some =
+      let c = child-at from ts stretch.from (from-there some) in
+      ap (λ b. is_among b cuts) c.begin ∙ cut-on (nat_lt c.at (c.at + length (text_of c.node))) (is_among c.at cuts) (sym (c.holds leading) ∙ back-stop (holds_at leading cs) hashed some)
+
+  -- which lies before the bytes
+  pub from-early : 0 < stretch.from → begins from ts stretch.from < rs
+  from-early some = begun-before from rs ts stretch.from (omega (arith, some, from-hashed, hashed-clung, clung-near))
+
+  -- it ends behind the bytes, if all children do
+  pub to-late : re ≤ from + bytes_of ts → re ≤ begins from ts stretch.to
+  to-late all = by-test (nat_lt (ended re cs) (length ts)) refl
+    where
+      least : min (end_near re cs + x) (length cs) ≤ stretch.to
+      least = on-ge (holds_at (λ (c : Child). clings c.node || not (leads cuts c)) cs) (length cs - min (end_near re cs + x) (length cs)) (min (end_near re cs + x) (length cs))
+
+      by-test : (b : Bool) → nat_lt (ended re cs) (length ts) ≡ b → re ≤ begins from ts stretch.to
+      by-test true t =
+          let fewer : ended re cs < length ts = ltb-true (ended re cs) (length ts) t in
+          let same = length-laid from ts in
+          ended-behind from re ts stretch.to (omega (arith, fewer, least, same)) fewer
+      by-test false t =
+          let none_more : length ts ≤ ended re cs = grind (arith, nat_tests) in
+          let same = length-laid from ts in
+          let last = begins-last from ts stretch.to (omega (arith, none_more, least, same)) in
+          omega (arith, last, all)
+
   -- and so it ends behind its start
   pub from-less : 0 < stretch.from → begins from ts stretch.from < begins from ts stretch.to
   from-less some =
@@ -330,12 +386,7 @@ module _ (cuts : List ℕ) (from : ℕ) (ts : List Tree) (rs re x : ℕ) (order 
       let same = length-laid from ts in
       let stop : holds_at test cs stretch.to ≡ false = on-stop (holds_at test cs) (length cs - min (j + x) (length cs)) (min (j + x) (length cs)) (omega (arith, more, same)) in
       let off = none-of (clings c.node) (not (leads cuts (child c.at c.node))) (sym (c.holds test) ∙ stop) in
-      ap (λ b. is_among b cuts) c.begin ∙ of-both (nat_lt c.at (c.at + length (text_of c.node))) (is_among c.at cuts) off.1
-    where
-      of-both : (b c : Bool) → not (b && c) ≡ false → c ≡ true
-      of-both true true e = refl
-      of-both true false e = cc
-      of-both false c e = cc
+      ap (λ b. is_among b cuts) c.begin ∙ cut-on (nat_lt c.at (c.at + length (text_of c.node))) (is_among c.at cuts) off.1
 
   pub to-stands : stretch.to < length ts → StandsAt from ts stretch.to (begins from ts stretch.to)
   to-stands more = stands from ts stretch.to (child-at from ts stretch.to more) (to-stop more).1

@@ -1,5 +1,5 @@
 -- No token's node has a node of a block's kind in it.
-use Rattle.std.proofs.Common.{◌≡◌, ℕ, zero, suc, true, ◌==◌, if◌then◌else◌, nat_lt, List, [], ◌∷◌, ◌++◌, length, take, drop, Option, Some, None, refl, encode_utf8_all}
+use Rattle.std.proofs.Common.{◌≡◌, ℕ, zero, suc, true, ◌==◌, nat_lt, List, [], ◌∷◌, ◌++◌, length, take, drop, Option, Some, None, refl, encode_utf8_all}
 use Rattle.std.specs.Prelude.{codes}
 use Rattle.typst_kinds.specs.Kinds.{is_error}
 use Rattle.typst_kinds.specs.Names.{name_of}
@@ -14,7 +14,7 @@ use Rattle.typst_tree.specs.Tree.Forest.{none}
 use Rattle.typst_tree.specs.Messages.{made_unexpected, unexpected_message}
 use Rattle.typst_language.specs.Raw.{raw_node, delimited_node, closed_node, block_node, inline_node, delimited, two_delimiters, tag_leaves, is_pair, before_ticks, ticks}
 use Rattle.typst_language.specs.RawLines.{leaf, Row, trimmed, first_line, later_rows, is_blank, dedent, front, closing, line_leaves, first_leaves, block_of, block_leaves, inline_leaves}
-use Rattle.typst_language.specs.RawTag.{tag, next_tag, warned, changes, is_some_text, is_whole, cut_tag, no_tag, only_tag}
+use Rattle.typst_language.specs.RawTag.{tag, warned, is_whole, only_tag}
 use Rattle.typst_language.specs.Faults.{hints, message}
 use Rattle.typst_language.specs.Fields.{field_node, fields_node, name_node, named_node, names_of, access_node}
 use Rattle.typst_language.specs.Nodes.{token_node, plain_node, fault_node, is_raw, has_fields}
@@ -96,34 +96,32 @@ clean-tag (c ∷ cs) = ((λ u. absurd (cc), (tt, tt)), tt)
 clean-delimited : (delim : List ℕ) (leaves : List Tree) → All CleanTree leaves → CleanTree (delimited delim leaves)
 clean-delimited delim leaves h = clean-inner kind.Raw (leaf kind.RawDelim delim ∷ (leaves ++ leaf kind.RawDelim delim ∷ [])) refl ((λ u. absurd (cc), (tt, tt)), all-append CleanTree leaves (leaf kind.RawDelim delim ∷ []) h ((λ u. absurd (cc), (tt, tt)), tt))
 
-clean-warned : (n : ℕ) (now later cs : List ℕ) (t : Tree) → CleanTree t → CleanTree (warned n now later cs t)
+clean-warned : (n : ℕ) (now cs : List ℕ) (t : Tree) → CleanTree t → CleanTree (warned n now cs t)
 unfolding warned
-clean-warned n now later cs t h =
-    on_both CleanTree (changes now later) (if is_some_text now then cut_tag n now later t else no_tag n later t) (if is_whole now cs then only_tag n now t else t)
-    (on_both CleanTree (is_some_text now) (cut_tag n now later t) (no_tag n later t) h h) (on_both CleanTree (is_whole now cs) (only_tag n now t) t h h)
+clean-warned n now cs t h = on_both CleanTree (is_whole now cs) (only_tag n now t) t h h
 
-clean-closed : (k : CharClasses) (delim inner : List ℕ) → CleanTree (closed_node k delim inner)
-clean-closed k delim inner =
-    on_both CleanTree (nat_lt 2 (length delim)) (block_node k delim inner) (inline_node delim inner)
-    (clean-warned (length delim) (tag k inner) (next_tag inner) inner _
-    (clean-delimited delim _ (all-append CleanTree (tag_leaves (tag k inner)) (block_leaves (drop (length (tag k inner)) inner)) (clean-tag (tag k inner)) (clean-block (drop (length (tag k inner)) inner)))))
+clean-closed : (delim inner : List ℕ) → CleanTree (closed_node delim inner)
+clean-closed delim inner =
+    on_both CleanTree (nat_lt 2 (length delim)) (block_node delim inner) (inline_node delim inner)
+    (clean-warned (length delim) (tag inner) inner _
+    (clean-delimited delim _ (all-append CleanTree (tag_leaves (tag inner)) (block_leaves (drop (length (tag inner)) inner)) (clean-tag (tag inner)) (clean-block (drop (length (tag inner)) inner)))))
     (clean-delimited delim _ (clean-inline inner))
 
-clean-raw : (k : CharClasses) (cs : List ℕ) → CleanTree (raw_node k cs)
+clean-raw : (cs : List ℕ) → CleanTree (raw_node cs)
 unfolding raw_node
-clean-raw k cs = by-sides (ticks cs) (drop (length (ticks cs)) cs)
+clean-raw cs = by-sides (ticks cs) (drop (length (ticks cs)) cs)
   where
-    by-end : (delim message text : List ℕ) (o : Option (List ℕ)) → CleanTree (elim o as (λ _. Tree) [ None ↦ error_of message text | Some inner ↦ closed_node k delim inner ])
+    by-end : (delim message text : List ℕ) (o : Option (List ℕ)) → CleanTree (elim o as (λ _. Tree) [ None ↦ error_of message text | Some inner ↦ closed_node delim inner ])
     by-end delim message text None = clean-error message text
-    by-end delim message text (Some inner) = clean-closed k delim inner
+    by-end delim message text (Some inner) = clean-closed delim inner
 
-    by-sides : (delim rest : List ℕ) → CleanTree (delimited_node k cs delim rest)
+    by-sides : (delim rest : List ℕ) → CleanTree (delimited_node cs delim rest)
     by-sides delim rest = on_both CleanTree (is_pair delim rest) two_delimiters _ (λ u. absurd (cc), ((λ u. absurd (cc), (tt, (λ u. absurd (cc), (tt, tt)))), tt)) (by-end delim _ _ (before_ticks (length delim) rest))
 
 pub clean-token : (k : CharClasses) (t : Token) (taken : List ℕ) → CleanTree (token_node k t taken)
 clean-token k t taken = elim t.fault as (λ o. CleanTree (elim o as (λ _. Tree) [ None ↦ plain_node k t taken | Some f ↦ fault_node f taken ])) [
   | None ↦ on_both CleanTree (is_error t.kind) (error_of [] (encode_utf8_all taken)) _ (clean-error [] (encode_utf8_all taken))
-      (on_both CleanTree (is_raw t.kind) (raw_node k taken) _ (clean-raw k taken)
+      (on_both CleanTree (is_raw t.kind) (raw_node taken) _ (clean-raw taken)
       (on_both CleanTree (has_fields t.kind) (access_node taken) (leaf_of t.kind (encode_utf8_all taken)) (clean-access taken) (clean-leaf t.kind (encode_utf8_all taken))))
   | Some f ↦ clean-fault f taken
 ]

@@ -11,18 +11,22 @@ use Rattle.typst_language.specs.declared.reading.Reading.{Reading}
 use Rattle.typst_language.specs.Hand.{told, len_at, hand_at}
 use Rattle.typst_language.specs.Point.{Trivia, Point, gap_of, point_of}
 use Rattle.typst_language.specs.Steps.{peek}
-use Rattle.typst_language.specs.Meaning.{Meaning, bound, hand_of, run}
+use Rattle.typst_language.specs.Meaning.{Meaning, bound, hand_of, start_point, run}
 use Rattle.typst_language.specs.Sound.{Stands, Within}
 use Rattle.typst_language.proofs.Knot.{Sane, sane-at, sane-run, sane-meaning, sane-block, sane-plain}
 use Rattle.typst_language.proofs.Places.{ahead-left, moved-sum}
-use Rattle.typst_grammar.specs.Markup.{ends, markup_turn, markup_head}
+use Rattle.typst_grammar.specs.declared.part.RunKind.TheVariants as of
+use Rattle.typst_grammar.specs.Markup.{ends, markup_turn, markup_head, markup_reading}
+use Rattle.typst_grammar.specs.Pieces.{stops_of, first_look}
 use Rattle.typst_grammar.specs.Grammar.{rules, max_depth, level_at, start_of}
 use Rattle.typst_edits.specs.BlockRuns.{inner, bracket, run_at, opened_at}
 use Rattle.typst_edits.specs.InnerBytes.{inner_end}
+use Rattle.typst_edits.specs.InnerPiecesTest.{level_in, end_alone}
 use Rattle.typst_edits.specs.Joint.{minds, text_run}
 use Rattle.typst_edits.specs.NumberedNotes.{cut_behind, CutsLaw, InnerCutsLaw}
 use Rattle.typst_edits.specs.Runs.{made, AllGo, End, end_of, end_at, pieces, start}
 use Rattle.typst_edits.specs.Sequence.{Sequence, turn_of, first_of, first_end}
+use Rattle.typst_edits.specs.Spot.{Spot}
 use Rattle.typst_edits.proofs.BlockRuns.{sane as in-sane}
 use Rattle.typst_edits.proofs.Boundary.{KnownAt, made-add, looks_in, each-ends}
 use Rattle.typst_edits.proofs.Fronts.{Begins, begins-call}
@@ -68,7 +72,7 @@ module _ (r : Sequence) (sd : (c : Call) → Sane (r.level.deeper c)) (sb : (b :
   cut-most zero e = omega arith
   cut-most (suc i) e = omega arith
 
-  tokens-rise : (i j : ℕ) → i < j → AllGo (first_of j r) → (first_end i r).taken + gap_of (first_end i r).state.known < cut_behind j (first_end j r)
+  pub tokens-rise : (i j : ℕ) → i < j → AllGo (first_of j r) → (first_end i r).taken + gap_of (first_end i r).state.known < cut_behind j (first_end j r)
   tokens-rise i j l g =
       let next = next-cut i (go-fewer turn within (suc i) j (true, 0) r.place r.point (omega (arith, l)) g) in
       let more = least-taken (suc i) j (true, 0) r.place r.point (omega (arith, l)) in
@@ -81,7 +85,7 @@ module _ (r : Sequence) (sd : (c : Call) → Sane (r.level.deeper c)) (sb : (b :
       let here = cut-most i (first_end i r) in
       omega (arith, rise, here)
 
-  cuts-within : (j : ℕ) → cut_behind j (first_end j r) ≤ bound r.place r.point
+  pub cuts-within : (j : ℕ) → cut_behind j (first_end j r) ≤ bound r.place r.point
   cuts-within j = let most = turns-within turn within j (true, 0) r.place r.point in let here = cut-most j (first_end j r) in omega (arith, most, here)
 
 pub cuts-law : CutsLaw
@@ -142,3 +146,25 @@ inner-cuts-law k levels text c i j l g =
     let one = cut-from a i (first_end i r) in
     let two = cut-from a j (first_end j r) in
     take-longer (cut_behind i (inner_end k levels i c z)) (cut_behind j (inner_end k levels j c z)) text (omega (arith, more, one, two)) (omega (arith, room, most, more, left, long, two))
+
+-- the trivia behind pieces of a block's run end in the text
+pub inner-within : (k : CharClasses) (levels : ℕ) (text : List ℕ) (c : Spot (Unit {0})) (j : ℕ) → opened_at k levels c (start_of text) ≤ length text
+    → (let e = inner_end k levels j c (start_of text) in e.taken + gap_of e.state.known ≤ length text)
+inner-within k levels text c j opened =
+    let z = start_of text in
+    let r = run_at k levels c z in
+    let a = opened_at k levels c z in
+    let b = (bracket k levels (moved c.at z) (point_of c.start)).state in
+    let room = (in-sane k levels peek).within r.place b in
+    let most = turns-within (turn_of r) (λ x. (in-sane k levels (markup_turn true r.stops x)).within) j (true, 0) r.place r.point in
+    let there : r.place ≡ moved a z = sym (moved-sum c.at (bracket k levels (moved c.at z) (point_of c.start)).taken z) in
+    let left = ahead-left a z in
+    let long = ap (λ (y : Place). length y.ahead) there in
+    omega (arith, room, most, left, long, opened)
+
+-- and so do those behind pieces that are read by themselves
+pub alone-within : (k : CharClasses) (levels : ℕ) (x : Bool × ℕ) (m : ℕ) (y : Place) → (let e = end_alone k levels x m y in e.taken + gap_of e.state.known ≤ length y.ahead)
+alone-within k levels x m y =
+    let room = (in-sane k levels peek).within y (start_point markup_reading) in
+    let most = turns-within (λ v. run (level_in k levels) (markup_turn true (stops_of of.Block) v)) (λ v. (in-sane k levels (markup_turn true (stops_of of.Block) v)).within) m x y (first_look (level_in k levels) y).state in
+    omega (arith, room, most)

@@ -1,6 +1,9 @@
 -- Content blocks without an expression: one note between their two, and looks at nothing but the token behind their trivia.
-use Rattle.std.proofs.Common.{◌≡◌, ℕ, suc, ◌+◌, ◌-◌, Bool, true, false, if◌then◌else◌, List, [], ◌∷◌, ◌++◌, length, append_assoc, length-append, Some, refl, ap, sym, ◌∙◌, subst, arith}
+use Rattle.std.proofs.Common.{◌≡◌, ℕ, suc, ◌+◌, ◌-◌, Bool, true, false, ◌&&◌, ◌==◌, if◌then◌else◌, List, [], ◌∷◌, ◌++◌, length, append_assoc, length-append, Some, refl, ap, sym, ◌∙◌, subst, arith}
+use Rattle.typst_kinds.specs.declared.kind.SyntaxKind.{SyntaxKind}
 use Rattle.typst_kinds.specs.declared.kind.SyntaxKind.TheVariants as kind
+use Rattle.typst_kinds.specs.declared.mode.SyntaxMode.{SyntaxMode}
+use Rattle.typst_kinds.specs.declared.mode.SyntaxMode.TheVariants as mode
 use Rattle.typst_kinds.specs.Kinds.{same, is_error}
 use Rattle.typst_lines.specs.Place.{Place, moved}
 use Rattle.typst_lines.specs.Classes.{CharClasses}
@@ -13,7 +16,8 @@ use Rattle.typst_language.specs.declared.calls.Note.{Note}
 use Rattle.typst_language.specs.declared.reading.State.{State}
 use Rattle.typst_language.specs.Ask.{Ask, shift}
 use Rattle.typst_language.specs.Ask.Ask.{looked, marked}
-use Rattle.typst_language.specs.Hand.{told}
+use Rattle.typst_language.specs.declared.reading.AtNewline.TheVariants as newline
+use Rattle.typst_language.specs.Hand.{Hand, told, hand_at, token_at}
 use Rattle.typst_language.specs.Log.{Log, no_log, with_hull, with_note, logged}
 use Rattle.typst_language.specs.Point.{Trivia, Point, point_of, state_of}
 use Rattle.typst_language.specs.Shape.{after_node}
@@ -37,6 +41,7 @@ use Rattle.typst_edits.proofs.Bytes.{logged-append, noted-by, noted-more, asks-a
 use Rattle.typst_edits.proofs.Edit.{among}
 use Rattle.typst_edits.proofs.EmptyRuns.{Knows, hand-gap, asked-knows, flushed-knows, passed-kind, Looks, begin-each, begin-one, token_look, looks-hand, looks-append, unmoved, run-stopped, onwards-looks, Never, none-flush}
 use Rattle.typst_edits.proofs.Every.{every-append}
+use Rattle.typst_edits.proofs.Forward.{token-still}
 use Rattle.typst_edits.proofs.Inside.{Lawful}
 use Rattle.typst_edits.proofs.InnerBytes.{asks_before, content-asks}
 use Rattle.typst_edits.proofs.Law.{inside-level}
@@ -45,6 +50,15 @@ use Rattle.typst_edits.proofs.Names.{named-level}
 use Rattle.typst_edits.proofs.Widths.{width-moved}
 
 -- ---- looks
+
+continues : (b : Bool) (s : SyntaxKind) → (if b && false then kind.End else s) ≡ s
+continues true s = refl
+continues false s = refl
+
+-- where newlines don't matter, the kind at hand is that of the token behind the known trivia
+hand-token : (k : CharClasses) (m : SyntaxMode) (t : Trivia) (z : Place) → (hand_at k (record { mode = m; at_newline = newline.Continue }) (Some t) z).kind ≡ (token_at k m (moved t.gap z)).kind
+unfolding hand_at
+hand-token k m t z = continues t.newlines.any (token_at k m (moved t.gap z)).kind
 
 flush-taken : (l : Level) (z : Place) (n : ℕ) (s : Point) → Knows n s → (run l flush_trivia z s).taken ≡ n
 unfolding run flush_trivia
@@ -92,7 +106,7 @@ module _ (k : CharClasses) (levels : ℕ) (z : Place) (s : Point) where
   renewed-held false text p = refl
 
   -- the block's run begins in markup
-  run-knows : (t : Trivia) → the_run.point.known ≡ Some t → Knows t.gap the_run.point
+  pub run-knows : (t : Trivia) → the_run.point.known ≡ Some t → Knows t.gap the_run.point
   unfolding run
   run-knows t known =
       let p = entered markup_reading (look_again k levels z s).state in
@@ -132,6 +146,23 @@ module _ (k : CharClasses) (levels : ℕ) (z : Place) (s : Point) where
       let o = onwards the_run (true, 0) y p in
       looks-append (token_look l y) o.asks _ (onwards-looks the_run (true, 0) y p h stops)
       (unmoved (token_look l y) o.taken _ (onwards-taken the_run (true, 0) y p h stops) (closing-looks t known e))
+
+  stops-by : (b c : Bool) → (if b then (c && 0 == 0) else c) ≡ true → c ≡ true
+  stops-by true true e = refl
+  stops-by true false e = absurd (cc)
+  stops-by false c e = e
+
+  -- the token at which it ends looks back at nothing
+  pub end-still : (t : Trivia) → the_run.point.known ≡ Some t → IsEmpty the_run → (token_look l (moved t.gap the_run.place)).back ≡ 0
+  end-still t known e =
+      let y = the_run.place in
+      let p = the_run.point in
+      let h = run-knows t known in
+      let g = hand_at k markup_reading (Some t) y in
+      let alike : hand_of l y p ≡ g = (λ i. hand_at k (h.held i) (known i) y) in
+      let ends_it : ends_block g.kind ≡ true = stops-by (same kind.RightBracket g.kind) (ends_block g.kind) (ap (λ (a : Hand). ends ends_block 0 a.kind) (sym alike) ∙ e) in
+      let w = moved t.gap y in
+      token-still k w.behind w.ahead (ap ends_block (sym (hand-token k mode.Markup t y)) ∙ ends_it)
 
 -- ---- one note
 
@@ -178,7 +209,7 @@ one-of [] e = absurd (omega (arith, e))
 one-of (n ∷ []) e = record { only = n; is = refl }
 one-of (n ∷ m ∷ ns) e = absurd (omega (arith, e))
 
-none-close : (P : ℕ → ℕ → Mark → State → Type 0) (l : Level) (w : Place) (p : Point) → AllMarks P (run l (close_if (same kind.RightBracket)) w p).asks
+pub none-close : (P : ℕ → ℕ → Mark → State → Type 0) (l : Level) (w : Place) (p : Point) → AllMarks P (run l (close_if (same kind.RightBracket)) w p).asks
 unfolding run close_if
 none-close P l w p =
     let a = asked (hand_of l w p) p in

@@ -36,12 +36,12 @@ front-none [] y x h = refl
 front-none (a ∷ ys) y x h = let e : ys ++ y ∷ [] ≡ [] = cc in absurd (tail-none ys y e)
 
 -- what each block leaves and gives where it takes something and begins at no trivia
-record Left (k : CharClasses) (b : Block) (s : Point) (o : Outcome (Unit {0})) : Type 0 where
+pub record Left (k : CharClasses) (b : Block) (s : Point) (o : Outcome (Unit {0})) : Type 0 where
   state : forgot o.state ≡ state_from s.reading
-  alone : Alone o
+  pub alone : Alone o
   head : (last_node o.nodes).head ≡ block_head b
 
-left-by : (k : CharClasses) (levels : ℕ) (b : Block) (z : Place) (s : Point) → s.known ≡ None → at_trivia k s.held.mode z ≡ false → 0 < (block_at k levels b z s).taken → Left k b s (block_at k levels b z s)
+pub left-by : (k : CharClasses) (levels : ℕ) (b : Block) (z : Place) (s : Point) → s.known ≡ None → at_trivia k s.held.mode z ≡ false → 0 < (block_at k levels b z s).taken → Left k b s (block_at k levels b z s)
 left-by k levels block.Content z s e h some =
     let l = blockless k levels (meaning_of (rules k) k levels) in
     record {

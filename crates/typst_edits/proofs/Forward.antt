@@ -1,4 +1,4 @@
--- Trivia look ahead alone.
+-- Trivia look ahead alone, and so does a token at which a content block's run ends.
 use Rattle.std.proofs.Common.{◌≡◌, ◌+◌, ℕ, zero, suc, Bool, true, false, not, ◌||◌, ◌&&◌, ◌==◌, nat_lt, if◌then◌else◌, List, [], ◌∷◌, ◌++◌, length, slice_get, Some, None, refl, ap, sym, ◌∙◌, subst, arith}
 use Rattle.std.specs.Char.{is_ascii_digit, is_whitespace}
 use Rattle.std.specs.Prelude.{is_none, codes}
@@ -11,7 +11,7 @@ use Rattle.typst_lines.specs.Sets.{among}
 use Rattle.typst_tokens.specs.Characters.{is_space, is_u64, is_code_point}
 use Rattle.typst_tokens.specs.Escapes.{code_point, backslash}
 use Rattle.typst_lines.specs.Classes.{CharClasses}
-use Rattle.typst_tokens.specs.Common.{whitespace, shebang, line_comment, block_comment, comment_end, comment_step, in_comment}
+use Rattle.typst_tokens.specs.Common.{whitespace, shebang, line_comment, block_comment, comment_end, comment_step, in_comment, line_ends, space}
 use Rattle.typst_tokens.specs.Markup.{dot, marker_or_text, marker, hyphen, minus, emphasis, heading, numbering, markup}
 use Rattle.typst_tokens.specs.Common.{sign}
 use Rattle.typst_tokens.specs.Reader.{Reader, Turn, Look, no_look, from_before, skip_look, place, spanned, span_look, at_word, exec, look}
@@ -36,23 +36,28 @@ use Rattle.typst_language.specs.Hand.{token_at, len_at, at_trivia, Ahead, ahead_
 use Rattle.typst_language.specs.Meaning.{run as read}
 use Rattle.typst_language.specs.Point.{Trivia, gap_of}
 use Rattle.typst_language.proofs.Places.{moved-sum}
+use Rattle.typst_grammar.specs.Markup.{ends_block}
 use Rattle.typst_edits.specs.Looks.{AllFrom}
 use Rattle.typst_edits.specs.Runs.{lead}
 
--- ---- what is read is no trivia
+-- ---- what is read is no trivia, and ends no block
+
+-- trivia, or a token at which a content block's run ends
+abbrev is_still : SyntaxKind → Bool
+is_still s = is_trivia s || ends_block s
 
 abbrev Bare : Reader Memory Token → Place → Type 0
-Bare r p = is_trivia (exec r p).0.kind ≡ false
+Bare r p = is_still (exec r p).0.kind ≡ false
 
 bare-if : (b : Bool) (x y : Reader Memory Token) (p : Place) → Bare x p → Bare y p → Bare (if b then x else y) p
 bare-if true x y p h i = h
 bare-if false x y p h i = i
 
-kind-if : (b : Bool) (x y : SyntaxKind) → is_trivia x ≡ false → is_trivia y ≡ false → is_trivia (if b then x else y) ≡ false
+kind-if : (b : Bool) (x y : SyntaxKind) → is_still x ≡ false → is_still y ≡ false → is_still (if b then x else y) ≡ false
 kind-if true x y h i = h
 kind-if false x y h i = i
 
-token-if : (b : Bool) (x y : Token) → is_trivia x.kind ≡ false → is_trivia y.kind ≡ false → is_trivia (if b then x else y).kind ≡ false
+token-if : (b : Bool) (x y : Token) → is_still x.kind ≡ false → is_still y.kind ≡ false → is_still (if b then x else y).kind ≡ false
 token-if true x y h i = h
 token-if false x y h i = i
 
@@ -79,10 +84,10 @@ text-bare k p = refl
 abbrev ends : CharClasses → SyntaxKind → Bool → Reader Memory Token
 ends k s b = if b then answer (plain s) else text k
 
-ends-bare : (k : CharClasses) (s : SyntaxKind) (p : Place) → is_trivia s ≡ false → (b : Bool) → Bare (ends k s b) p
+ends-bare : (k : CharClasses) (s : SyntaxKind) (p : Place) → is_still s ≡ false → (b : Bool) → Bare (ends k s b) p
 ends-bare k s p h b = bare-if b (answer (plain s)) (text k) p h (text-bare k p)
 
-marker-bare : (k : CharClasses) (s : SyntaxKind) (p : Place) → is_trivia s ≡ false → Bare (marker_or_text k s) p
+marker-bare : (k : CharClasses) (s : SyntaxKind) (p : Place) → is_still s ≡ false → Bare (marker_or_text k s) p
 unfolding marker_or_text
 marker-bare k s p h =
     elim (scout 0 p) as (λ o. Bare (elim o as (λ _. Reader Memory Token) [
@@ -108,7 +113,7 @@ minus-bare k p =
     (bare-if (passes (λ c. c == 63) (scout 0 q)) _ _ q refl
     (bare-if (passes k.numeric (scout 0 q)) _ _ q refl (marker-bare k kind.ListMarker q refl)))
 
-emphasis-bare : (k : CharClasses) (s : SyntaxKind) (p : Place) → is_trivia s ≡ false → Bare (emphasis k s) p
+emphasis-bare : (k : CharClasses) (s : SyntaxKind) (p : Place) → is_still s ≡ false → Bare (emphasis k s) p
 unfolding emphasis sign text_from
 emphasis-bare k s p h =
     bare-if (passes k.word (slice_get p.behind 0)) _ _ p (bare-if (passes k.word (scout 1 p)) _ _ p (text-bare k (moved 1 p)) h) h
@@ -124,7 +129,7 @@ numbering-bare k p =
     bare-if (passes (λ c. c == 46) (scout 0 q)) _ _ q
     (bare-if (is_u64 (run is_ascii_digit p)) _ _ (moved 1 q) (marker-bare k kind.EnumMarker (moved 1 q) refl) (text-bare k (moved 1 q))) (text-bare k q)
 
-link-end-bare : (m : Memory) → is_trivia (link_end m).kind ≡ false
+link-end-bare : (m : Memory) → is_still (link_end m).kind ≡ false
 link-end-bare blank = refl
 link-end-bare (comment a b) = refl
 link-end-bare (fence a b) = refl
@@ -153,7 +158,7 @@ ref-bare : (k : CharClasses) (p : Place) → Bare (ref_or_text k) p
 unfolding ref_or_text ref_marker text_from
 ref-bare k p = bare-if (passes (is_id_continue k) (scout 1 p)) _ _ p refl (text-bare k (moved 1 p))
 
-raw-end-bare : (m : Memory) → is_trivia (raw_end m).kind ≡ false
+raw-end-bare : (m : Memory) → is_still (raw_end m).kind ≡ false
 raw-end-bare blank = refl
 raw-end-bare (comment a b) = refl
 raw-end-bare (fence a b) = refl
@@ -167,37 +172,57 @@ raw-bare p =
     let q = past (λ c. c == 96) p in
     bare-if (length ticks == 2) _ _ q refl (raw-end-bare (spanned in_raw (fence (length ticks) 0) q.behind q.ahead).1)
 
-markup-bare : (k : CharClasses) (c : ℕ) (p : Place) → Bare (markup k c) p
+either : (P : Reader Memory Token → Type 0) (b : Bool) (x y : Reader Memory Token) → P x → P y → P (if b then x else y)
+either P true x y h i = h
+either P false x y h i = i
+
+-- a token of markup is so, or a closing bracket
+markup-each : (P : Reader Memory Token → Type 0) (k : CharClasses) (c : ℕ) (p : Place) → ((r : Reader Memory Token) → Bare r p → P r) → P (sign kind.RightBracket) → P (markup k c)
 unfolding markup sign marker text_from
-markup-bare k c p =
-    bare-if (c == 92) _ _ p (backslash-bare p)
-    (bare-if (c == 104) _ _ p (link-or-text-bare k p)
-    (bare-if (c == 60) _ _ p (label-bare k p)
-    (bare-if (c == 64) _ _ p (ref-bare k p)
-    (bare-if (c == 46) _ _ p (dot-bare k p)
-    (bare-if (c == 45) _ _ p (minus-bare k p)
-    (bare-if (c == 42) _ _ p (emphasis-bare k kind.Star p refl)
-    (bare-if (c == 95) _ _ p (emphasis-bare k kind.Underscore p refl)
-    (bare-if (c == 35) _ _ p refl
-    (bare-if (c == 91) _ _ p refl
-    (bare-if (c == 93) _ _ p refl
-    (bare-if (c == 39 || c == 34) _ _ p refl
-    (bare-if (c == 36) _ _ p refl
-    (bare-if (c == 126) _ _ p refl
-    (bare-if (c == 58) _ _ p refl
-    (bare-if (c == 61) _ _ p (heading-bare k p)
-    (bare-if (c == 43) _ _ p (marker-bare k kind.EnumMarker (moved 1 p) refl)
-    (bare-if (c == 47) _ _ p (marker-bare k kind.TermMarker (moved 1 p) refl)
-    (bare-if (is_ascii_digit c) _ _ p (numbering-bare k p)
-    (text-bare k (moved 1 p))))))))))))))))))))
+markup-each P k c p bare bracket =
+    either P (c == 92) _ _ (bare _ (backslash-bare p))
+    (either P (c == 104) _ _ (bare _ (link-or-text-bare k p))
+    (either P (c == 60) _ _ (bare _ (label-bare k p))
+    (either P (c == 64) _ _ (bare _ (ref-bare k p))
+    (either P (c == 46) _ _ (bare _ (dot-bare k p))
+    (either P (c == 45) _ _ (bare _ (minus-bare k p))
+    (either P (c == 42) _ _ (bare _ (emphasis-bare k kind.Star p refl))
+    (either P (c == 95) _ _ (bare _ (emphasis-bare k kind.Underscore p refl))
+    (either P (c == 35) _ _ (bare _ refl)
+    (either P (c == 91) _ _ (bare _ refl)
+    (either P (c == 93) _ _ bracket
+    (either P (c == 39 || c == 34) _ _ (bare _ refl)
+    (either P (c == 36) _ _ (bare _ refl)
+    (either P (c == 126) _ _ (bare _ refl)
+    (either P (c == 58) _ _ (bare _ refl)
+    (either P (c == 61) _ _ (bare _ (heading-bare k p))
+    (either P (c == 43) _ _ (bare _ (marker-bare k kind.EnumMarker (moved 1 p) refl))
+    (either P (c == 47) _ _ (bare _ (marker-bare k kind.TermMarker (moved 1 p) refl))
+    (either P (is_ascii_digit c) _ _ (bare _ (numbering-bare k p))
+    (bare _ (text-bare k (moved 1 p)))))))))))))))))))))
+
+or-first : (b c : Bool) → (b || c) ≡ false → b ≡ false
+or-first true c h = h
+or-first false c h = refl
+
+or-second : (b c : Bool) → (b || c) ≡ false → c ≡ false
+or-second true c h = absurd (cc)
+or-second false c h = h
 
 -- ---- what is trivia looks ahead alone
 
 abbrev Fore : Reader Memory Token → Place → Type 0
 Fore r p = is_trivia (exec r p).0.kind ≡ true → (look r p).back ≡ 0
 
+none-fore : (r : Reader Memory Token) (p : Place) → is_trivia (exec r p).0.kind ≡ false → Fore r p
+none-fore r p h e = let f : true ≡ false = sym e ∙ h in cc
+
 bare-fore : (r : Reader Memory Token) (p : Place) → Bare r p → Fore r p
-bare-fore r p h e = let f : true ≡ false = sym e ∙ h in cc
+bare-fore r p h = none-fore r p (or-first (is_trivia (exec r p).0.kind) (ends_block (exec r p).0.kind) h)
+
+markup-fore : (k : CharClasses) (c : ℕ) (p : Place) → Fore (markup k c) p
+unfolding sign
+markup-fore k c p = markup-each (λ r. Fore r p) k c p (λ r h. bare-fore r p h) (λ e. absurd (cc))
 
 fore-if : (b : Bool) (x y : Reader Memory Token) (p : Place) → Fore x p → Fore y p → Fore (if b then x else y) p
 fore-if true x y p h i = h
@@ -236,8 +261,8 @@ block-fore p =
     skip-back 2 p.ahead _ (omega (arith, one, two))
 
 hash-bare : (k : CharClasses) (p : Place) → Bare (hash k Markup) p
-unfolding hash shebang of_mode
-hash-bare k p = bare-if (is_none (slice_get p.behind 0)) _ _ p (bare-if (passes (λ d. d == 33) (scout 1 p)) _ _ p refl (markup-bare k 35 p)) (markup-bare k 35 p)
+unfolding hash shebang of_mode markup sign
+hash-bare k p = bare-if (is_none (slice_get p.behind 0)) _ _ p (bare-if (passes (λ d. d == 33) (scout 1 p)) _ _ p refl refl) refl
 
 slash-fore : (k : CharClasses) (p : Place) → Fore (slash k Markup) p
 unfolding slash of_mode
@@ -245,12 +270,12 @@ slash-fore k p =
     let x = if passes (λ d. d == 42) (scout 1 p) then block_comment else markup k 47 in
     let y = if passes (λ d. d == 47) (scout 1 p) then line_comment else x in
     let own : Fore y p = fore-if (passes (λ d. d == 47) (scout 1 p)) line_comment x p (λ e. line-fore p)
-    (fore-if (passes (λ d. d == 42) (scout 1 p)) block_comment (markup k 47) p (λ e. block-fore p) (bare-fore (markup k 47) p (markup-bare k 47 p))) in
+    (fore-if (passes (λ d. d == 42) (scout 1 p)) block_comment (markup k 47) p (λ e. block-fore p) (markup-fore k 47 p)) in
     λ e. (let i = own e in omega (arith, i))
 
 star-bare : (k : CharClasses) (p : Place) → Bare (star k Markup) p
-unfolding star comment_end of_mode
-star-bare k p = bare-if (passes (λ d. d == 47) (scout 1 p)) _ _ p refl (markup-bare k 42 p)
+unfolding star comment_end of_mode markup
+star-bare k p = bare-if (passes (λ d. d == 47) (scout 1 p)) _ _ p refl (emphasis-bare k kind.Star p refl)
 
 tick-bare : (k : CharClasses) (p : Place) → Bare (backtick k Markup) p
 unfolding backtick
@@ -265,7 +290,54 @@ token-fore k b (c ∷ a) =
     (fore-if (c == 35) (hash k Markup) _ p (bare-fore (hash k Markup) p (hash-bare k p))
     (fore-if (c == 47) (slash k Markup) _ p (slash-fore k p)
     (fore-if (c == 42) (star k Markup) _ p (bare-fore (star k Markup) p (star-bare k p))
-    (fore-if (c == 96) (backtick k Markup) (of_mode k Markup c) p (bare-fore (backtick k Markup) p (tick-bare k p)) (bare-fore (of_mode k Markup c) p (markup-bare k c p)))))) in
+    (fore-if (c == 96) (backtick k Markup) (of_mode k Markup c) p (bare-fore (backtick k Markup) p (tick-bare k p)) (markup-fore k c p))))) in
+    λ e. (let i = own e in omega (arith, i))
+
+-- ---- what ends a content block's run looks ahead alone
+
+abbrev Still : Reader Memory Token → Place → Type 0
+Still r p = ends_block (exec r p).0.kind ≡ true → (look r p).back ≡ 0
+
+none-still : (r : Reader Memory Token) (p : Place) → ends_block (exec r p).0.kind ≡ false → Still r p
+none-still r p h e = let f : true ≡ false = sym e ∙ h in cc
+
+bare-still : (r : Reader Memory Token) (p : Place) → Bare r p → Still r p
+bare-still r p h = none-still r p (or-second (is_trivia (exec r p).0.kind) (ends_block (exec r p).0.kind) h)
+
+space-still : (p : Place) → ends_block (exec (whitespace Markup) p).0.kind ≡ false
+unfolding whitespace
+space-still p = space-ends (line_ends false (run (is_space Markup) p))
+  where
+    kind-ends : (b : Bool) → ends_block (if b then kind.Parbreak else kind.Space) ≡ false
+    kind-ends true = refl
+    kind-ends false = refl
+
+    space-ends : (n : ℕ) → ends_block (space Markup n).kind ≡ false
+    space-ends n = kind-ends (nat_lt 1 n)
+
+slash-still : (k : CharClasses) (p : Place) → ends_block (exec (slash k Markup) p).0.kind ≡ false
+unfolding slash of_mode markup marker line_comment block_comment
+slash-still k p =
+    let marker = marker-bare k kind.TermMarker (moved 1 p) refl in
+    either (λ r. ends_block (exec r p).0.kind ≡ false) (passes (λ d. d == 47) (scout 1 p)) line_comment _ refl
+    (either (λ r. ends_block (exec r p).0.kind ≡ false) (passes (λ d. d == 42) (scout 1 p)) block_comment (markup k 47) refl
+    (or-second (is_trivia (exec (markup k 47) p).0.kind) (ends_block (exec (markup k 47) p).0.kind) marker))
+
+bracket-still : (b : List ℕ) (c : ℕ) (a : List ℕ) → Still (sign kind.RightBracket) (place b (c ∷ a))
+unfolding sign
+bracket-still b c a e = omega arith
+
+pub token-still : (k : CharClasses) (b a : List ℕ) → Still (token k Markup) (place b a)
+unfolding token of_mode
+token-still k b [] = λ e. refl
+token-still k b (c ∷ a) =
+    let p = place b (c ∷ a) in
+    let P = λ (r : Reader Memory Token). Still r p in
+    let own = either P (is_space Markup c) (whitespace Markup) _ (none-still (whitespace Markup) p (space-still p))
+    (either P (c == 35) (hash k Markup) _ (bare-still (hash k Markup) p (hash-bare k p))
+    (either P (c == 47) (slash k Markup) _ (none-still (slash k Markup) p (slash-still k p))
+    (either P (c == 42) (star k Markup) _ (bare-still (star k Markup) p (star-bare k p))
+    (either P (c == 96) (backtick k Markup) (of_mode k Markup c) (bare-still (backtick k Markup) p (tick-bare k p)) (markup-each P k c p (λ r h. bare-still r p h) (bracket-still b c a)))))) in
     λ e. (let i = own e in omega (arith, i))
 
 -- ---- the look at the token at hand

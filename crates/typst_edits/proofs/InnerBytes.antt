@@ -1,5 +1,5 @@
 -- The test of an edit inside some pieces of a content block's run in bytes, by the notes of a reading.
-use Rattle.std.proofs.Common.{◌≡◌, ℕ, suc, ◌+◌, ◌-◌, ◌<◌, ◌≤◌, ◌^◌, Bool, true, List, [], ◌∷◌, ◌++◌, length, take, append_assoc, append-nil, Some, refl, ap, sym, ◌∙◌, subst, arith}
+use Rattle.std.proofs.Common.{◌≡◌, ℕ, zero, suc, ◌+◌, ◌-◌, ◌<◌, ◌≤◌, ◌^◌, Bool, true, List, [], ◌∷◌, ◌++◌, length, take, append_assoc, append-nil, Some, refl, ap, sym, ◌∙◌, subst, arith}
 use Rattle.std.proofs.lemmas.List.{map-append}
 use Rattle.typst_lines.specs.Place.{Place, moved}
 use Rattle.typst_lines.specs.Classes.{CharClasses}
@@ -8,7 +8,7 @@ use Rattle.typst_language.specs.declared.calls.Block.TheVariants as block
 use Rattle.typst_language.specs.declared.calls.Mark.TheVariants as mark
 use Rattle.typst_language.specs.Ask.{Ask, shift, shift_one}
 use Rattle.typst_language.specs.Ask.Ask.{looked, marked}
-use Rattle.typst_language.specs.Meaning.{Outcome, repeated, start_point, run}
+use Rattle.typst_language.specs.Meaning.{Outcome, Meaning, repeated, start_point, run}
 use Rattle.typst_language.specs.Point.{Trivia, Point, point_of, state_of, gap_of}
 use Rattle.typst_language.proofs.Places.{moved-sum}
 use Rattle.typst_grammar.specs.Markup.{ends_block, markup_turn, markup_reading}
@@ -21,12 +21,17 @@ use Rattle.typst_edits.specs.InnerJoint.{onwards_past, left_past}
 use Rattle.typst_edits.specs.Laws.{blocks_of_text, block_at}
 use Rattle.typst_edits.specs.Named.{Named}
 use Rattle.typst_edits.specs.RunBytes.{PieceNote}
-use Rattle.typst_edits.specs.Runs.{AllGo, End, asks_of, chain}
+use Rattle.typst_edits.specs.Runs.{made, AllGo, End, end_of, asks_of, chain}
 use Rattle.typst_edits.specs.Sequence.{Sequence, turn_of, first_of, first_end, then_of, then_end, rest_of}
 use Rattle.typst_edits.specs.Spot.{Spot, unit_at, around, lower, lowered, ended}
 use Rattle.typst_edits.proofs.Blocks.{ends}
 use Rattle.typst_edits.proofs.BlockRuns.{sane, content_by, by_run, content-is, content-split, content-taken, split-taken}
 use Rattle.typst_edits.proofs.Boundary.{piece_mark, chain-asks, begins-append, looks_in, pieces-begin, each-ends, made-add, go-add, from-both, boundary, told-at}
+use Rattle.typst_edits.specs.Splice.{notes_in}
+use Rattle.typst_edits.proofs.EmptyRuns.{Never}
+use Rattle.typst_edits.proofs.Marks.{AllMarks, marks-append, none-hand}
+use Rattle.typst_edits.proofs.PieceAsks.{lifted-count}
+use Rattle.typst_edits.proofs.Sides.{count-append, count-shift, count-none}
 use Rattle.typst_edits.proofs.Bytes.{AllFrom, begin-by, begin-to}
 use Rattle.typst_edits.proofs.Edit.{among}
 use Rattle.typst_edits.proofs.Inside.{Lawful}
@@ -90,20 +95,20 @@ module _ (k : CharClasses) (levels : ℕ) (z : Place) (s : Point) where
       outer ∙ ap (λ u. first ++ (second ++ (opens ++ shift opened u))) behind_is ∙ ap (λ u. first ++ u) (sym (append_assoc second opens rest)) ∙ sym (append_assoc first (second ++ opens) rest)
 
   -- what comes behind some pieces, by where they end
-  abbrev rest_by : End (Bool × ℕ) → Outcome (Bool × ℕ)
+  abbrev pub rest_by : End (Bool × ℕ) → Outcome (Bool × ℕ)
   rest_by e = repeated (turn_of the_run) e.value (moved e.taken the_run.place) e.state
 
-  abbrev tail_by : End (Bool × ℕ) → Outcome (Unit {0})
+  abbrev pub tail_by : End (Bool × ℕ) → Outcome (Unit {0})
   tail_by e = let q = rest_by e in inner_tail k levels (e.taken + q.taken) q.state the_run.place
 
-  abbrev close_by : End (Bool × ℕ) → Outcome Bool
+  abbrev pub close_by : End (Bool × ℕ) → Outcome Bool
   close_by e = let q = rest_by e in let t = tail_by e in inner_close k levels ((e.taken + q.taken) + t.taken) t.state the_run.place
 
-  abbrev asks_by : End (Bool × ℕ) → List Ask
+  abbrev pub asks_by : End (Bool × ℕ) → List Ask
   asks_by e = let q = rest_by e in let t = tail_by e in q.asks ++ shift q.taken (t.asks ++ shift t.taken (close_by e).asks)
 
   -- by its pieces and what comes behind j of them
-  block-asks : (j : ℕ) → AllGo (first_of j the_run)
+  pub block-asks : (j : ℕ) → AllGo (first_of j the_run)
       → (block_at k (suc levels) block.Content z s).asks ≡ asks_before ++ shift opened (run_mark ∷ ((asks_first ++ asks_of (first_of j the_run)) ++ shift (first_end j the_run).taken (asks_by (first_end j the_run))))
   block-asks j g =
       let r = the_run in
@@ -124,6 +129,42 @@ module _ (k : CharClasses) (levels : ℕ) (z : Place) (s : Point) where
       ∙ ap (λ u. u ++ shift (e.taken + q.taken) last) (sym (append_assoc ls (asks_of os) (shift e.taken q.asks))) ∙ append_assoc (ls ++ asks_of os) (shift e.taken q.asks) (shift (e.taken + q.taken) last)
       ∙ ap (λ u. (ls ++ asks_of os) ++ u) (ap (λ u. shift e.taken q.asks ++ u) (sym (shift-twice e.taken q.taken last)) ∙ sym (map-append (shift_one e.taken) q.asks (shift q.taken last))) in
       ap (λ (u : Outcome (Unit {0})). u.asks) is ∙ content-asks c (tail_by e) (close_by e) ∙ ap (λ u. asks_before ++ shift opened (run_mark ∷ u)) asks
+
+module _ (k : CharClasses) (levels : ℕ) where
+  lead-bare : (z : Place) (s : Point) → AllMarks Never (inner_lead k levels z s).asks
+  unfolding run
+  lead-bare z s = let b = bracket k levels z s in none-hand Never k b.state.held b.state.known (moved b.taken z)
+
+  before-bare : (z : Place) (s : Point) → AllMarks Never (asks_before k levels z s)
+  unfolding run
+  before-bare z s =
+      let s1 = (look_first k levels z s).state in
+      let s2 = (look_again k levels z s).state in
+      marks-append Never (look_first k levels z s).asks _ (none-hand Never k s.held s.known z)
+      (marks-append Never (look_again k levels z s).asks (bracket k levels z s).asks (none-hand Never k s1.held s1.known z) (none-hand Never k s2.held s2.known z))
+
+-- as many notes are made in several turns as in the first and in those behind them
+made-count : {A : Type 0} (f : A → Meaning (Bool × A)) (i n : ℕ) (x : A) (z : Place) (s : Point)
+    → (let e = end_of x s (made f i x z s) in notes_in (asks_of (made f (i + n) x z s)) ≡ notes_in (asks_of (made f i x z s)) + notes_in (asks_of (made f n e.value (moved e.taken z) e.state)))
+made-count f zero n x z s = let same : zero + n ≡ n = omega arith in let is = ap (λ j. notes_in (asks_of (made f j x z s))) same in omega (arith, is)
+made-count f (suc i) n x z s =
+    let o = f x z s in
+    let y = moved o.taken z in
+    let same : suc i + n ≡ suc (i + n) = omega arith in
+    let is = ap (λ j. notes_in (asks_of (made f j x z s))) same in
+    let rest = made-count f i n o.value.1 y o.state in
+    let os = made f i o.value.1 y o.state in
+    let e = end_of o.value.1 o.state os in
+    let all = asks_of (made f (i + n) o.value.1 y o.state) in
+    let a = count-append o.asks (shift o.taken all) in
+    let b = count-shift o.taken all in
+    let c = count-append o.asks (shift o.taken (asks_of os)) in
+    let d = count-shift o.taken (asks_of os) in
+    let place = ap (λ v. notes_in (asks_of (made f n e.value v e.state))) (moved-sum o.taken e.taken z) in
+    omega (arith, is, rest, a, b, c, d, place)
+
+nothing-more : (n : ℕ) → n + 0 ≡ n
+nothing-more n = omega arith
 
 -- ---- looks in a larger whole
 
@@ -216,6 +257,8 @@ module _ (k : CharClasses) (levels : ℕ) (text : List ℕ) (c : Spot (Unit {0})
   record NoteIn (j : ℕ) : Type 0 where
     told : PieceNote (log k text) (suc levels) text (ended_at j)
     start : 0 < j → told.note.start ≡ width (take ((ended_at j).taken + gap_of (ended_at j).state.known) text)
+    count : length told.earlier ≡ notes_in c.before + notes_in (asks_of (first_of j r))
+    start_first : j ≡ 0 → told.note.start ≡ width (take (ended_at j).taken text)
     reached : (front more : List ℕ) → text ≡ front ++ more → highest told.earlier told.note.reach ≤ width front → Early (length front) j
     reached_too : (front more : List ℕ) → text ≡ front ++ more → Early (length front) j → highest told.earlier told.note.reach ≤ width front
     begun : (b : ℕ) → b < lowest told.later (log k text).least → AllFrom b z0 (shift (ended_at j).taken (asks_behind j)) × AllFrom b z0 (shift end c.after)
@@ -273,6 +316,25 @@ module _ (k : CharClasses) (levels : ℕ) (text : List ℕ) (c : Spot (Unit {0})
           state = t.state;
         };
         start = λ l. t.start ∙ ap (λ n. width (take (n + cut.gap) text)) place ∙ ap (λ n. width (take ((at + e.taken) + n) text)) (cut.gap_is l);
+        count =
+            (let a = t.count in
+            let b1 = count-append c.before (low pre ++ low one) in
+            let b2 = count-append (low pre) (low one) in
+            let b3 = lifted-count c.at f pre in
+            let b4 = lifted-count c.at f one in
+            let b5 = count-shift b cut.early in
+            let b6 = count-none pre (before-bare k levels z s) in
+            let ls = asks_first k levels z s in
+            let os = asks_of (first_of j r) in
+            let all_is = ap notes_in cut.is in
+            let d1 = count-append (ls ++ os) late in
+            let d2 = count-append ls os in
+            let d3 = count-none ls (lead-bare k levels z s) in
+            let d4 = count-append cut.early (m ∷ (cut.late ++ late)) in
+            let d5 = count-append cut.late late in
+            let d6 = count-none cut.late (cut.late_bare (lead-bare k levels z s)) in
+            omega (arith, a, b1, b2, b3, b4, b5, b6, all_is, d1, d2, d3, d4, d5, d6));
+        start_first = λ none. t.start ∙ ap (λ n. width (take (n + cut.gap) text)) place ∙ ap (λ n. width (take ((at + e.taken) + n) text)) (cut.gap_first none) ∙ ap (λ n. width (take n text)) (nothing-more (at + e.taken));
         reached = λ front more same h.
             (let n = length front in
             let a = split-ends n c.before (low pre ++ low one) (t.reached front more same h) in
@@ -307,6 +369,7 @@ module _ (k : CharClasses) (levels : ℕ) (text : List ℕ) (c : Spot (Unit {0})
 
   record NoteBoth (i n : ℕ) : Type 0 where
     told : PieceNote (log k text) (suc levels) text (both i n)
+    count : length told.earlier ≡ (notes_in c.before + notes_in (asks_of (first_of i r))) + notes_in (asks_of (then_of i n r))
     start : 0 < i + n → told.note.start ≡ width (take ((both i n).taken + gap_of (both i n).state.known) text)
     begun : (b : ℕ) → b < lowest told.later (log k text).least → AllFrom b z0 (shift (both i n).taken (asks_from i n)) × AllFrom b z0 (shift end c.after)
     begun_too : (b : ℕ) → 0 < i + n → b < 2 ^ 64 - 1 → AllFrom b z0 (shift (both i n).taken (asks_from i n)) → AllFrom b z0 (shift end c.after) → b < lowest told.later (log k text).least
@@ -336,6 +399,7 @@ module _ (k : CharClasses) (levels : ℕ) (text : List ℕ) (c : Spot (Unit {0})
           levels = t.levels;
           state = t.state ∙ ap (λ (v : End (Bool × ℕ)). state_of v.state) sum;
         };
+        count = (let a = two.count in let b = made-count (turn_of r) i n (true, 0) r.place r.point in omega (arith, a, b));
         start = λ l. two.start l ∙ ap (λ (v : End (Bool × ℕ)). width (take ((at + v.taken) + gap_of v.state.known) text)) sum;
         begun = λ b l. (let p = two.begun b l in (subst (λ ls. AllFrom b z0 ls) asks_is p.0, p.1));
         begun_too = λ b l big f d. two.begun_too b l big (subst (λ ls. AllFrom b z0 ls) (sym asks_is) f) d;
@@ -408,6 +472,10 @@ inner-decision-law k levels front old rest c i n chosen name level g h =
     record {
       begins = one.told;
       ends = two.told;
+      number = one.count;
+      number_end = two.count;
+      token = λ m. one.start m;
+      token_first = λ m. one.start_first m;
       trivia_end = λ m. two.start m;
       before = λ m. (let e = one.reached front (old ++ rest) refl m in record { before = e.before; opens = e.opens; before_run = e.before_run });
       before_too = λ m. one.reached_too front (old ++ rest) refl (record { before = m.before; opens = m.opens; before_run = m.before_run });

@@ -4,6 +4,7 @@ use Rattle.typst_kinds.specs.declared.kind.SyntaxKind.TheVariants as kind
 use Rattle.typst_kinds.specs.Head.{inner_head}
 use Rattle.typst_lines.specs.Place.{Place, moved}
 use Rattle.typst_lines.specs.Classes.{CharClasses}
+use Rattle.typst_lines.proofs.LineTable.{width-positive}
 use Rattle.typst_tree.specs.Tree.{Tree, Forest, none, more, forest, trees, joined, text_of, bare, inner_of}
 use Rattle.typst_tokens.specs.Sight.{width}
 use Rattle.typst_language.specs.declared.calls.Block.TheVariants as block
@@ -55,7 +56,7 @@ use Rattle.typst_edits.proofs.InnerChildren.{opens-by, inner-back-law, tree-by-b
 use Rattle.typst_edits.proofs.InnerCuts.{BlockCuts, cuts-of-block}
 use Rattle.typst_edits.proofs.Inside.{Lawful}
 use Rattle.typst_edits.proofs.Law.{inside-level}
-use Rattle.typst_edits.proofs.Leading.{leading-inner-law}
+use Rattle.typst_edits.proofs.Leading.{Plain, leading-inner-law, plain-block}
 use Rattle.typst_edits.proofs.Joint.{takes-call}
 use Rattle.typst_edits.proofs.Led.{same-judged}
 use Rattle.typst_edits.proofs.NoneBack.{inner-onwards-is}
@@ -71,7 +72,7 @@ use Rattle.typst_edits.proofs.Widths.{width-append}
 -- ---- from bytes to characters
 
 -- what ends before a stretch in bytes does so in characters
-sooner : (n : ℕ) (xs ys : List ℕ) → width (take n (xs ++ ys)) < width xs → n < length xs
+pub sooner : (n : ℕ) (xs ys : List ℕ) → width (take n (xs ++ ys)) < width xs → n < length xs
 unfolding width
 sooner n [] ys h = absurd (omega (arith, h))
 sooner zero (x ∷ xs) ys h = omega arith
@@ -84,22 +85,29 @@ further zero xs ys h = absurd (omega (arith, h))
 further (suc n) [] ys h = omega arith
 further (suc n) (x ∷ xs) ys h = let i = further n xs ys (omega (arith, h)) in omega (arith, i)
 
+-- and what ends there or behind it
+pub as-far : (n : ℕ) (xs ys : List ℕ) → width xs ≤ width (take n (xs ++ ys)) → length xs ≤ n
+unfolding width
+as-far n [] ys h = omega arith
+as-far zero (x ∷ xs) ys h = absurd (omega (arith, h, width-positive x))
+as-far (suc n) (x ∷ xs) ys h = let i = as-far n xs ys (omega (arith, h)) in omega (arith, i)
+
 -- ---- where a block's node stands
 
-joined-trees : (f : Forest) → joined f ≡ texts (trees f)
+pub joined-trees : (f : Forest) → joined f ≡ texts (trees f)
 joined-trees none = refl
 joined-trees (more h ks r) = ap (λ xs. h.text ++ (joined ks ++ xs)) (joined-trees r)
 
 -- a child of several that begin at a byte lies among them
-record Lies (at : ℕ) (ts : List Tree) (c : Child) : Type 0 where
-  from : at ≤ c.start
-  long : c.end ≡ c.start + length (text_of c.node)
-  to : c.end ≤ at + length (texts ts)
+pub record Lies (at : ℕ) (ts : List Tree) (c : Child) : Type 0 where
+  pub from : at ≤ c.start
+  pub long : c.end ≡ c.start + length (text_of c.node)
+  pub to : c.end ≤ at + length (texts ts)
 
 some-is : {A : Type 0} (P : A → Type 0) (a b : A) → ◌≡◌ {A = Option A} (Some a) (Some b) → P a → P b
 some-is P a b e h = subst (λ o. elim o as (λ _. Type 0) [ None ↦ Unit {0} | Some x ↦ P x ]) e h
 
-lies : (at : ℕ) (ts : List Tree) (i : ℕ) (c : Child) → child_at (laid at ts) i ≡ Some c → Lies at ts c
+pub lies : (at : ℕ) (ts : List Tree) (i : ℕ) (c : Child) → child_at (laid at ts) i ≡ Some c → Lies at ts c
 lies at [] i c e = absurd (cc)
 lies at (t ∷ ts) zero c e =
     let l = length-texts t ts in
@@ -112,12 +120,12 @@ lies at (t ∷ ts) (suc i) c e =
     record { from = omega (arith, from); long = r.long; to = omega (arith, to, l) }
 
 -- where the node of a block that isn't empty begins and ends, in bytes
-record Seat (text : List ℕ) (s : Spot (Unit {0})) : Type 0 where
-  some : 0 < (unit_at s (start_of text)).taken
-  left_is : length (left_text s.hole) ≡ width (take s.at text)
-  both : width (take s.at text) + length (text_of s.node) ≡ width (take (s.at + (unit_at s (start_of text)).taken) text)
+pub record Seat (text : List ℕ) (s : Spot (Unit {0})) : Type 0 where
+  pub some : 0 < (unit_at s (start_of text)).taken
+  pub left_is : length (left_text s.hole) ≡ width (take s.at text)
+  pub both : width (take s.at text) + length (text_of s.node) ≡ width (take (s.at + (unit_at s (start_of text)).taken) text)
 
-seat-of : (k : CharClasses) (text : List ℕ) (s : Spot (Unit {0})) → Among s (blocks_of_text k text) → 0 < length (text_of s.node) → Seat text s
+pub seat-of : (k : CharClasses) (text : List ℕ) (s : Spot (Unit {0})) → Among s (blocks_of_text k text) → 0 < length (text_of s.node) → Seat text s
 unfolding blocks_of_text
 seat-of k text c chosen full =
     let z = start_of text in
@@ -172,7 +180,8 @@ module _ (k : CharClasses) (levels : ℕ) (text : List ℕ) (c : Spot (Unit {0})
   unfolding run
   first-trivia = record { trivia = _; is = refl }
 
-  no-errors : (then_end 0 0 (run_at k levels c (start_of text))).state.empties ≡ 0
+  -- no error stands before its run
+  pub no-errors : (then_end 0 0 (run_at k levels c (start_of text))).state.empties ≡ 0
   unfolding blocks_of_text run
   no-errors =
       let z = start_of text in
@@ -192,26 +201,47 @@ module _ (k : CharClasses) (levels : ℕ) (text : List ℕ) (c : Spot (Unit {0})
       let none_there = no-errors in
       leading-inner-law k levels text c 0 0 first-trivia.trivia chosen name left some tt tt first-trivia.is (inr (omega (arith, back, none_there)))
 
+  -- of which the second alone is markup
+  pub plain-shape : Plain c.node
+  plain-shape =
+      let back = (inner-back-law k levels text c 0 0).behind_back in
+      let none_there = no-errors in
+      plain-block k levels text c 0 0 first-trivia.trivia chosen name left some tt tt first-trivia.is (inr (omega (arith, back, none_there)))
+
 -- ---- a candidate among its markup's children
 
 -- The block is around the stretch, and the candidate is one of its run, whose cuts are these.
 pub record OfBlock (k : CharClasses) (levels : ℕ) (front old rest : List ℕ) (s : Spot (Unit {0})) (c : Candidate) : Type 0 where
   pub around : Around front old rest s
   pub some : 0 < (unit_at s (start_of (front ++ (old ++ rest)))).taken
+  -- so is its markup
+  pub starts : markup_from k levels (front ++ (old ++ rest)) s < width front
+  pub ends : width (front ++ old) < markup_from k levels (front ++ (old ++ rest)) s + bytes_of (kids_in s.node)
   pub own : BlockCuts k levels (front ++ (old ++ rest)) s (width (take s.at (front ++ (old ++ rest))))
   pub chosen : Among c (of_run (width front) (width (front ++ old)) c.path (markup_from k levels (front ++ (old ++ rest)) s) (kids_in s.node) (Some own.cuts))
 
 -- in a block with such a node, its second child and what stands in that
+record InRun (ns : List Note) (rs re at from : ℕ) (kids : List Tree) (c : Candidate) : Type 0 where
+  starts : from < rs
+  ends : re < from + bytes_of kids
+  own : Among c (of_run rs re c.path from kids (cuts_in at ns))
+
 in-markup : (ns : List Note) (rs re at from : ℕ) (closed : Bool) (lead : Tree) (kids closing : List Tree) (c : Candidate) → InMarkup ns rs re at (block_with closed lead kids closing) c → at + length (text_of (opening_child closed lead)) ≡ from
-    → Among c (of_run rs re c.path from kids (cuts_in at ns))
+    → InRun ns rs re at from kids c
 in-markup ns rs re at from closed lead kids closing c m sum =
     let opening = opening_child closed lead in
     let markup = inner_of kind.Markup (forest kids) in
     let start = (at + 0) + length (text_of opening) in
     let second : Child = record { start = start; end = start + length (text_of markup); node = markup } in
     let own = some-is (λ (d : Child). Among c (of_run rs re c.path (d.start + length d.node.head.text) (trees d.node.kids) (run_in ns at kind.ContentBlock d.node.head.kind))) m.child second (sym m.is) m.chosen in
+    let before : start < rs = some-is (λ (d : Child). d.start < rs) m.child second (sym m.is) m.starts in
+    let behind : re < start + length (text_of markup) = some-is (λ (d : Child). re < d.end) m.child second (sym m.is) m.ends in
     let here : start + 0 ≡ from = omega (arith, sum) in
-    subst (λ ts. Among c (of_run rs re c.path from ts (cuts_in at ns))) (trees-of kids) (subst (λ a. Among c (of_run rs re c.path a (trees (forest kids)) (cuts_in at ns))) here own)
+    record {
+      starts = omega (arith, before, here);
+      ends = omega (arith, behind, here);
+      own = subst (λ ts. Among c (of_run rs re c.path from ts (cuts_in at ns))) (trees-of kids) (subst (λ a. Among c (of_run rs re c.path a (trees (forest kids)) (cuts_in at ns))) here own);
+    }
 
 pub of-block : OpensApartLaw → (k : CharClasses) (levels : ℕ) (front old rest : List ℕ) (root : Tree) (s : Spot (Unit {0})) → Among s (blocks_of_text k (front ++ (old ++ rest))) → s.name ≡ block.Content → max_depth - s.fewer ≡ suc levels
     → (c : Candidate) → bare root ≡ bare (tree k (front ++ (old ++ rest))) → Among c (candidates k (front ++ (old ++ rest)) (width front) (width (front ++ old)) root) → c.is_block ≡ false → c.path ≡ path_of s.hole ++ 1 ∷ []
@@ -253,9 +283,11 @@ of-block apart k levels front old rest root s chosen name level c same candidate
     record {
       around = record { starts = sooner s.at front (old ++ rest) early; ends = omega (arith, long, behind) };
       some = seat.some;
+      starts = subst (λ a. a < rs) shape.begins run.starts;
+      ends = subst (λ a. re < a + bytes_of (kids_in s.node)) shape.begins (subst (λ ts. re < shape.from + bytes_of ts) kids run.ends);
       own = cuts;
       chosen = subst (λ o. Among c (of_run rs re c.path (markup_from k levels text s) (kids_in s.node) o)) cuts.are
-          (subst (λ a. Among c (of_run rs re c.path a (kids_in s.node) (cuts_in at ns))) shape.begins (subst (λ ts. Among c (of_run rs re c.path shape.from ts (cuts_in at ns))) kids run));
+          (subst (λ a. Among c (of_run rs re c.path a (kids_in s.node) (cuts_in at ns))) shape.begins (subst (λ ts. Among c (of_run rs re c.path shape.from ts (cuts_in at ns))) kids run.own));
     }
 
 -- ---- it begins well
@@ -273,8 +305,9 @@ one-cut k levels text s at i b g h =
     let there : token_byte text (inner_end k levels (suc i) s (start_of text)) ≡ token_byte text (inner_both k levels i 1 s (start_of text)) = ap (λ j. byte (first_end j r)) (sym one) ∙ ap byte end in
     subst (λ c. is_among c b.cuts ≡ true) there (b.is.has (suc i) (omega arith) (b.all (suc i) more))
 
-module _ (k : CharClasses) (levels : ℕ) (front old new rest : List ℕ) (s : Spot (Unit {0})) (chosen : Among s (blocks_of_text k (front ++ (old ++ rest)))) (name : s.name ≡ block.Content) (level : max_depth - s.fewer ≡ suc levels)
-    (some : 0 < (unit_at s (start_of (front ++ (old ++ rest)))).taken) (i n m past : ℕ) (t u : Trivia) (h : PassesPieces k front old new rest (block_run s levels chosen name level) i n m past t u) where
+module _ (k : CharClasses) (levels : ℕ) (front old rest : List ℕ) (s : Spot (Unit {0})) (chosen : Among s (blocks_of_text k (front ++ (old ++ rest)))) (name : s.name ≡ block.Content) (level : max_depth - s.fewer ≡ suc levels)
+    (some : 0 < (unit_at s (start_of (front ++ (old ++ rest)))).taken) (i n : ℕ) (t : Trivia) (first_go : AllGo (first_of i (run_at k levels s (text_with front old rest)))) (old_go : AllGo (then_of i n (run_at k levels s (text_with front old rest))))
+    (known : (then_end i n (run_at k levels s (text_with front old rest))).state.known ≡ Some t) where
   abbrev whole_text : List ℕ
   whole_text = front ++ (old ++ rest)
 
@@ -305,10 +338,10 @@ module _ (k : CharClasses) (levels : ℕ) (front old new rest : List ℕ) (s : S
       not-none : (j : ℕ) → 0 < j → j ≡ 0 → ⊥
       not-none j l e = absurd (omega (arith, l, e))
 
-  end-byte : (at : ℕ) → at ≡ width (front ++ (old ++ take past rest)) → at ≡ token_byte whole_text (inner_both k levels i n s z)
-  end-byte at is =
+  end-byte : (at past : ℕ) → (inner_both k levels i n s z).taken + t.gap ≡ (length front + length old) + past → at ≡ width (front ++ (old ++ take past rest)) → at ≡ token_byte whole_text (inner_both k levels i n s z)
+  end-byte at past ends is =
       let f = inner_both k levels i n s z in
-      let sum : f.taken + gap_of f.state.known ≡ (length front + length old) + past = ap (λ v. f.taken + gap_of v) h.known ∙ h.ends in
+      let sum : f.taken + gap_of f.state.known ≡ (length front + length old) + past = ap (λ v. f.taken + gap_of v) known ∙ ends in
       is ∙ sym (ap width (take-past front old rest past (f.taken + gap_of f.state.known) sum))
 
   none-there : n ≡ 0 → token_byte whole_text (inner_both k levels i n s z) ≡ begin
@@ -360,37 +393,37 @@ module _ (k : CharClasses) (levels : ℕ) (front old new rest : List ℕ) (s : S
       let sd = sane-meaning (rules k) k (suc levels) in
       let deep : (suc levels == 0) ≡ false = ne_eqb (suc levels) 0 (omega arith) in
       let call = λ (h : Reading) (y : Place) (v : Trivia) (x : Bool × ℕ) (more : 0 < len_at k h.mode (moved v.gap y)). takes-call k levels h y v v (same-judged h v) x more in
-      let first = known-behind l sd (λ b. sane-plain tt) deep ends_block refl call i (true, 0) r.place r.point (record { trivia = _; is = refl }) h.first_go in
+      let first = known-behind l sd (λ b. sane-plain tt) deep ends_block refl call i (true, 0) r.place r.point (record { trivia = _; is = refl }) first_go in
       let one = known-behind l sd (λ b. sane-plain tt) deep ends_block refl call 1 e.value (moved e.taken r.place) e.state first g in
       record { trivia = one.trivia; is = one.is }
 
   one-goes : 0 < n → AllGo (then_of i 1 r)
   one-goes there =
       let e = first_end i r in
-      go-fewer (turn_of r) (λ x. (in-sane k levels (markup_turn true ends_block x)).within) 1 n e.value (moved e.taken r.place) e.state (omega (arith, there)) h.old_go
+      go-fewer (turn_of r) (λ x. (in-sane k levels (markup_turn true ends_block x)).within) 1 n e.value (moved e.taken r.place) e.state (omega (arith, there)) old_go
 
   gives-one : (own : BlockCuts k levels whole_text s (width (take s.at whole_text))) → 0 < n → GivesOne r own.cuts from kids i begin
   gives-one own there =
       let g = one-goes there in
       let v = one-known g in
-      let led = leading-inner-law k levels whole_text s i 1 v.trivia chosen name level some h.first_go g v.is (inl (omega arith)) in
+      let led = leading-inner-law k levels whole_text s i 1 v.trivia chosen name level some first_go g v.is (inl (omega arith)) in
       record {
         trivia = v.trivia;
         end = token_byte whole_text (inner_both k levels i 1 s z);
         gives = gives-by 1 v.trivia led;
         quiet = subst (λ (u : Option Trivia). Every Quiet (pending u)) v.is (inner-quiet k levels (moved s.at z) (point_of s.start) i 1);
-        cut = one-cut k levels whole_text s (width (take s.at whole_text)) i own h.first_go g;
+        cut = one-cut k levels whole_text s (width (take s.at whole_text)) i own first_go g;
       }
 
   -- what they say of the block's children
-  parted-in : (own : BlockCuts k levels whole_text s (width (take s.at whole_text))) (end : ℕ) → end ≡ width (front ++ (old ++ take past rest)) → Parted r own.cuts from kids i n begin end
+  pub parted-in : (own : BlockCuts k levels whole_text s (width (take s.at whole_text))) (end : ℕ) → end ≡ token_byte whole_text (inner_both k levels i n s z) → Parted r own.cuts from kids i n begin end
   parted-in own end end_is =
-      let all = λ (f : 0 < i → 0 < n). leading-inner-law k levels whole_text s i n t chosen name level some h.first_go h.old_go h.known (settles i n f) in
-      parted r own.cuts from kids i n begin end t h.known
-      (λ f. subst (λ b. GivesAt r from kids i n t begin b) (sym (end-byte end end_is)) (gives-by n t (all f)))
-      (λ l nothing. end-byte end end_is ∙ none-there nothing)
+      let all = λ (f : 0 < i → 0 < n). leading-inner-law k levels whole_text s i n t chosen name level some first_go old_go known (settles i n f) in
+      parted r own.cuts from kids i n begin end t known
+      (λ f. subst (λ b. GivesAt r from kids i n t begin b) (sym end_is) (gives-by n t (all f)))
+      (λ l nothing. end_is ∙ none-there nothing)
       (λ l there. gives-one own there)
-      (λ l there minds. inner-lone k levels (moved s.at z) (point_of s.start) i h.first_go (one-goes there) minds)
+      (λ l there minds. inner-lone k levels (moved s.at z) (point_of s.start) i first_go (one-goes there) minds)
 
 pub inner-candidate-law : OpensApartLaw → InnerCandidateLaw
 inner-candidate-law apart k levels front old new rest root s chosen name level c i n m past t u same candidate pieces path start led end h =
@@ -409,8 +442,9 @@ inner-candidate-law apart k levels front old new rest root s chosen name level c
     let end_is : c.end ≡ begins from kids stretch_is.to = ap (λ (d : Candidate). d.end) st.is in
     let r = run_at k levels s (start_of text) in
     let at = token_byte text (inner_end k levels i s (start_of text)) in
-    let at_is = λ (l : 0 < i). start-byte k levels front old new rest s chosen name level b.some i n m past t u h c.start start l in
-    let own = parted-in k levels front old new rest s chosen name level b.some i n m past t u h b.own c.end end in
+    let at_is = λ (l : 0 < i). start-byte k levels front old rest s chosen name level b.some i n t h.first_go h.old_go h.known c.start start l in
+    let ends = end-byte k levels front old rest s chosen name level b.some i n t h.first_go h.old_go h.known c.end past h.ends end in
+    let own = parted-in k levels front old rest s chosen name level b.some i n t h.first_go h.old_go h.known b.own c.end ends in
     let w = begun b.own.cuts from kids rs re st.more order r i n at c.end own (λ l. subst (λ a. 0 < a) from_is (led.0 l)) (λ l. sym (at_is l) ∙ start_is) end_is in (
       b.around,
       record {

@@ -26,7 +26,7 @@ use Rattle.typst_edits.specs.Occurrences.{goes}
 use Rattle.typst_edits.specs.OpensApart.{OpensApartLaw}
 use Rattle.typst_edits.specs.PieceNotes.{listed}
 use Rattle.typst_edits.specs.Runs.{made, AllGo, End, end_of}
-use Rattle.typst_edits.specs.Sequence.{turn_of, first_of}
+use Rattle.typst_edits.specs.Sequence.{turn_of, first_of, first_end}
 use Rattle.typst_edits.specs.Spot.{Spot}
 use Rattle.typst_edits.proofs.BlockRuns.{sane as in-sane}
 use Rattle.typst_edits.proofs.NoteNumbers.{go-fewer, go-next}
@@ -36,15 +36,15 @@ use Rattle.typst_edits.proofs.Spots.{if-true, if-false}
 -- ---- no content block begins there before
 
 -- whether a content block begins at a byte
-abbrev opens_at : ℕ → Note → Bool
+abbrev pub opens_at : ℕ → Note → Bool
 opens_at at n = opens_content n.mark && n.start == at
 
-cuts-past : (at : ℕ) (earlier rest : List Note) → Every (λ n. opens_at at n ≡ false) earlier → cuts_in at (earlier ++ rest) ≡ cuts_in at rest
+pub cuts-past : (at : ℕ) (earlier rest : List Note) → Every (λ n. opens_at at n ≡ false) earlier → cuts_in at (earlier ++ rest) ≡ cuts_in at rest
 cuts-past at [] rest h = refl
 cuts-past at (n ∷ earlier) rest h = if-false (opens_at at n) (behind_first (starts n.levels (up_to_end n.levels (earlier ++ rest)))) (cuts_in at (earlier ++ rest)) h.0 ∙ cuts-past at earlier rest h.1
 
 module _ (apart : OpensApartLaw) (k : CharClasses) (text : List ℕ) (opens : Note) (own : Block) (is_own : opens.mark ≡ mark.Opens own) (later : List Note) where
-  opens-before : (done todo : List Note) → listed (log k text).notes ≡ done ++ (todo ++ opens ∷ later) → Every (λ n. opens_at opens.start n ≡ false) todo
+  pub opens-before : (done todo : List Note) → listed (log k text).notes ≡ done ++ (todo ++ opens ∷ later) → Every (λ n. opens_at opens.start n ≡ false) todo
   opens-before done [] e = tt
   opens-before done (n ∷ todo) e =
       (by-mark n.mark refl, opens-before (done ++ n ∷ []) todo (e ∙ sym (append_assoc done (n ∷ []) (todo ++ opens ∷ later))))
@@ -183,6 +183,8 @@ pub record BlockCuts (k : CharClasses) (levels : ℕ) (text : List ℕ) (c : Spo
   pub are : cuts_in at (listed (log k text).notes) ≡ Some cuts
   pub is : CutsAre text (λ i. inner_end k levels i c (start_of text)) count cuts
   pub go : AllGo (first_of count (run_at k levels c (start_of text)))
+  -- and behind the last of its pieces none goes on
+  pub over : (let r = run_at k levels c (start_of text) in let e = first_end count r in goes (turn_of r e.value (moved e.taken r.place) e.state) ≡ false)
   pub all : (j : ℕ) → AllGo (first_of j (run_at k levels c (start_of text))) → j ≤ count
 
 pub cuts-of-block : OpensApartLaw → (k : CharClasses) (levels : ℕ) (text : List ℕ) (c : Spot (Unit {0})) → Among c (blocks_of_text k text) → c.name ≡ block.Content → max_depth - c.fewer ≡ suc levels → BlockCuts k levels text c (width (take c.at text))
@@ -206,5 +208,6 @@ cuts-of-block apart k levels text c chosen name left =
       are = ap (λ x. cuts_in x (listed (log k text).notes)) at_is ∙ ap (cuts_in at) notes ∙ cuts-past at n.earlier (n.opens ∷ more) none_before ∙ own ∙ level ∙ ap behind_first starts_is ∙ b.are;
       is = b.is;
       go = n.go;
+      over = n.over;
       all = λ j h. few-go (turn_of r) (λ x. (in-sane k levels (markup_turn true ends_block x)).within) n.count j (true, 0) r.place r.point (nat_lt n.count j) refl h n.over;
     }

@@ -50,10 +50,10 @@ in-order from end (x ∷ xs) m ys n zs r = in-order x.before end xs m ys n zs r.
 
 -- ---- where a note stands
 
-record Behind (firsts : List Note) (o : Note) (rest : List Note) (bs : List Note) (p : Note) (behind : List Note) : Type 0 where
-  mid : List Note
-  earlier : bs ≡ firsts ++ o ∷ mid
-  is : rest ≡ mid ++ p ∷ behind
+pub record Behind (firsts : List Note) (o : Note) (rest : List Note) (bs : List Note) (p : Note) (behind : List Note) : Type 0 where
+  pub mid : List Note
+  pub earlier : bs ≡ firsts ++ o ∷ mid
+  pub is : rest ≡ mid ++ p ∷ behind
 
 abbrev first_or : Note → List Note → Note
 first_or n [] = n
@@ -64,7 +64,7 @@ rest_of [] = []
 rest_of (m ∷ ms) = ms
 
 -- a note that is none of the first ones nor the one behind them stands behind it
-behind-first : (firsts : List Note) (o : Note) (rest bs : List Note) (p : Note) (behind : List Note) → firsts ++ o ∷ rest ≡ bs ++ p ∷ behind → ((xs ys : List Note) → firsts ≡ xs ++ p ∷ ys → ⊥) → (o ≡ p → ⊥) → Behind firsts o rest bs p behind
+pub behind-first : (firsts : List Note) (o : Note) (rest bs : List Note) (p : Note) (behind : List Note) → firsts ++ o ∷ rest ≡ bs ++ p ∷ behind → ((xs ys : List Note) → firsts ≡ xs ++ p ∷ ys → ⊥) → (o ≡ p → ⊥) → Behind firsts o rest bs p behind
 behind-first [] o rest [] p behind e none other = absurd (other (ap (first_or o) e))
 behind-first [] o rest (b ∷ bs) p behind e none other = let same = ap (first_or o) e in record { mid = bs; earlier = ap (λ x. x ∷ bs) (sym same); is = ap rest_of e }
 behind-first (a ∷ firsts) o rest [] p behind e none other = let same : a ≡ p = ap (first_or o) e in absurd (none [] firsts (ap (λ x. x ∷ firsts) same))

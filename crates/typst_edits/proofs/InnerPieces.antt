@@ -1,5 +1,5 @@
 -- Pieces in a content block that pass the test: a candidate's place is that of their nodes.
-use Rattle.std.proofs.Common.{◌≡◌, ◌⊎◌, inr, ℕ, zero, suc, ◌+◌, ◌-◌, ◌<◌, ◌==◌, ne_eqb, if◌then◌else◌, Bool, true, false, List, [], ◌∷◌, ◌++◌, length, take, drop, length-append, refl, ap, sym, ◌∙◌, subst, arith}
+use Rattle.std.proofs.Common.{◌≡◌, ◌⊎◌, inr, ℕ, zero, suc, ◌+◌, ◌-◌, ◌<◌, ◌==◌, ne_eqb, if◌then◌else◌, Bool, true, false, List, [], ◌∷◌, ◌++◌, length, take, drop, length-append, Some, refl, ap, sym, ◌∙◌, subst, arith}
 use Rattle.typst_lines.specs.Place.{Place, moved}
 use Rattle.typst_lines.specs.Classes.{CharClasses}
 use Rattle.typst_tree.specs.Tree.{Tree}
@@ -13,7 +13,7 @@ use Rattle.typst_grammar.specs.Grammar.{max_depth, tree}
 use Rattle.typst_edits.specs.BlockRuns.{run_at, opened_at, tail_at, close_at}
 use Rattle.typst_edits.specs.Children.{with_children}
 use Rattle.typst_edits.specs.Edit.{Among, text_with}
-use Rattle.typst_edits.specs.Frame.{Run, nodes_now, is_over, Agrees, PassesPieces}
+use Rattle.typst_edits.specs.Frame.{Run, end_by, nodes_now, is_over, Agrees, PassesPieces}
 use Rattle.typst_edits.specs.Heads.{GoesOnWell}
 use Rattle.typst_edits.specs.Hole.{path_of}
 use Rattle.typst_edits.specs.InnerBytes.{inner_end, inner_both}
@@ -24,7 +24,7 @@ use Rattle.typst_edits.specs.Laws.{block_at, blocks_of_text}
 use Rattle.typst_edits.specs.Leading.{LeadingInner, token_byte}
 use Rattle.typst_edits.specs.LeadingTrivia.{trivia_in}
 use Rattle.typst_edits.specs.RootPieces.{StandsAt}
-use Rattle.typst_edits.specs.Runs.{chain}
+use Rattle.typst_edits.specs.Runs.{AllGo, chain}
 use Rattle.typst_edits.specs.Sequence.{first_of, first_end, then_of, then_end, rest_of}
 use Rattle.typst_edits.specs.Spot.{Spot, ended, unit_at}
 use Rattle.typst_edits.proofs.BlockRuns.{content-split, content-taken}
@@ -68,9 +68,10 @@ module _ (k : CharClasses) (levels : ℕ) (front old new rest : List ℕ) (s : S
   opens-alike false m x y a e = cc
 
   -- how much the block takes
-  block-taken : (i n past : ℕ) (t : Trivia) (u : Trivia) (m : ℕ) → PassesPieces k front old new rest own i n m past t u
+  pub block-taken : (i n past : ℕ) (t : Trivia) → AllGo (first_of i (run_at k levels s (text_with front old rest))) → AllGo (then_of i n (run_at k levels s (text_with front old rest)))
+      → (then_end i n (run_at k levels s (text_with front old rest))).state.known ≡ Some t → end_by own i n t (text_with front old rest) ≡ (length front + length old) + past
       → s.at + (unit_at s (text_with front old rest)).taken ≡ ((length front + length old) + past) + left_past k levels i n t s (text_with front old rest)
-  block-taken i n past t u m h =
+  block-taken i n past t g h known ends =
       let z0 = text_with front old rest in
       let z = moved s.at z0 in
       let p = point_of s.start in
@@ -81,12 +82,11 @@ module _ (k : CharClasses) (levels : ℕ) (front old new rest : List ℕ) (s : S
       let named = names-law k text s among in
       let reads : unit_at s z0 ≡ ended (block_at k (suc levels) block.Content z p) =
       ap (λ o. o z p) named.reads ∙ ap (λ l. ended (block_at k l s.name z p)) level ∙ ap (λ x. ended (block_at k (suc levels) x z p)) name in
-      let split = ap (λ (o : Outcome (Unit {0})). o.taken) (content-split k levels z p i n h.first_go h.old_go) in
+      let split = ap (λ (o : Outcome (Unit {0})). o.taken) (content-split k levels z p i n g h) in
       let all = content-taken k levels z p (chain (first_of i r) (chain (then_of i n r) q)) last close in
       let run = split-taken r i n in
       let is = ap (λ (o : Outcome (Unit {0})). o.taken) reads in
-      let took = (inner-fronted k levels i n s z0 t h.known).taken in
-      let ends = h.ends in
+      let took = (inner-fronted k levels i n s z0 t known).taken in
       omega (arith, is, split, all, run, took, ends)
 
   pub joint-of : (i n m past : ℕ) (t u : Trivia) → Around front old rest s → PassesPieces k front old new rest own i n m past t u → GoesOnWell i n (run_at k levels s (text_with front old rest)) → PassesInnerJoint k levels front old new rest s i n m past t u
@@ -95,7 +95,7 @@ module _ (k : CharClasses) (levels : ℕ) (front old new rest : List ℕ) (s : S
       let w = text_with front new rest in
       let r = run_at k levels s z in
       let q = run_at k levels s w in
-      let taken = block-taken i n past t u m h in
+      let taken = block-taken i n past t h.first_go h.old_go h.known h.ends in
       let behind = around.ends in
       record {
         pieces = record { name = name; level = level; first_go = h.first_go; old_go = h.old_go; new_go = h.new_go; starts = around.starts; looks = h.before };
@@ -142,7 +142,7 @@ module _ (k : CharClasses) (levels : ℕ) (front old new rest : List ℕ) (s : S
 
     led : (0 < n ⊎ (onwards_in k levels i n s z).back ≡ 0) → LeadingInner k levels text s i n t
     led some =
-        let taken = block-taken i n past t u m h in
+        let taken = block-taken i n past t h.first_go h.old_go h.known h.ends in
         let starts = around.starts in
         let ends = around.ends in
         leading-inner-law k levels text s i n t among name level (omega (arith, starts, ends)) h.first_go h.old_go h.known some

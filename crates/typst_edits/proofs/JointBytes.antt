@@ -26,6 +26,7 @@ joint-decision-law k front old rest i n past t g h known e =
     record {
       begins = one.told;
       ends = two.told;
+      token = one.start;
       trivia_end = λ l. two.start l ∙ ap (λ v. width (take (here + gap_of v) text)) known;
       before = λ l m. one.reached front (old ++ rest) refl l m;
       before_too = λ m. one.reached_too front (old ++ rest) refl m;

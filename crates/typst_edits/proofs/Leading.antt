@@ -30,6 +30,7 @@ use Rattle.typst_grammar.specs.Grammar.{rules, max_depth, level_at, start_of, wh
 use Rattle.typst_edits.specs.BlockRuns.{inner, look_first, look_again, bracket, run_at, opened_at, tail_at, close_at}
 use Rattle.typst_edits.specs.Children.{Settles, together, read_from, standing_before, nodes_with}
 use Rattle.typst_edits.specs.Edit.{Among}
+use Rattle.typst_edits.specs.Every.{Every}
 use Rattle.typst_edits.specs.InnerBytes.{inner_end, inner_both}
 use Rattle.typst_edits.specs.InnerChildren.{standing_in, nodes_in, block_with}
 use Rattle.typst_edits.specs.InnerJoint.{onwards_in}
@@ -61,6 +62,7 @@ use Rattle.typst_edits.proofs.Names.{named-level}
 use Rattle.typst_edits.proofs.Runs.{repeated-chain, chain-state, chain-taken, moved-three}
 use Rattle.typst_edits.proofs.RunTrees.{standing-none, tree-is}
 use Rattle.typst_edits.proofs.Spots.{if-true}
+use Rattle.typst_edits.proofs.TokenNodes.{NoMarkup, bracket-plain, close-plain}
 use Rattle.typst_edits.proofs.Turns.{end-by, last-turn}
 use Rattle.typst_edits.proofs.Walk.{width-encodes}
 use Rattle.typst_edits.proofs.Widths.{width-none}
@@ -161,6 +163,14 @@ module _ (r : Sequence) (sd : (c : Call) → Sane (r.level.deeper c)) (sb : (b :
       let past = (turn-fronts x z s t is go).some in
       let some : 0 < o.taken = omega (arith, past) in
       ap (λ b. b && nat_lt 0 o.taken) (turn-goes r.level r.stops x z s go) ∙ lt-ltb 0 o.taken some
+
+  -- and where none goes on the run ends
+  pub turn-over : (x : Bool × ℕ) (z : Place) (s : Point) → KnownAt s → goes (turn x z s) ≡ false → ends r.stops x.1 (told (hand_of r.level z s)).kind ≡ true
+  turn-over x z s there stopped = by-end (ends r.stops x.1 (told (hand_of r.level z s)).kind) refl
+    where
+      by-end : (b : Bool) → ends r.stops x.1 (told (hand_of r.level z s)).kind ≡ b → b ≡ true
+      by-end true e = refl
+      by-end false e = let d : true ≡ false = sym (turn-goes-on x z s there.trivia there.is e) ∙ stopped in cc
 
   -- pieces that go on aren't stopped
   pub not-over : (x : Bool × ℕ) (z : Place) (s : Point) (b : Bool) → ends r.stops x.1 (told (hand_of r.level z s)).kind ≡ b → goes (turn x z s) ≡ true → ends r.stops x.1 (told (hand_of r.level z s)).kind ≡ false
@@ -432,6 +442,16 @@ opening-text false bracket =
     let wrong = made_error (codes "unclosed delimiter") bracket in
     ap length (sym (texts-one wrong) ∙ text-shaped (keeps (turns_wrong (codes "unclosed delimiter"))) (bracket ∷ []) ∙ texts-one bracket)
 
+-- of a content block's children the second alone is markup
+pub record Plain (x : Tree) : Type 0 where
+  pub closed : Bool
+  pub bracket : Tree
+  pub kids : List Tree
+  pub closing : List Tree
+  pub node : x ≡ block_with closed bracket kids closing
+  pub first : NoMarkup bracket
+  pub last : Every NoMarkup closing
+
 -- a content block's node, by what stands in its markup
 record Held (text : List ℕ) (c : Spot (Unit {0})) (from : ℕ) (kids : List Tree) : Type 0 where
   closed : Bool
@@ -439,6 +459,9 @@ record Held (text : List ℕ) (c : Spot (Unit {0})) (from : ℕ) (kids : List Tr
   closing : List Tree
   opening : width (take c.at text) + length (text_of (opening_child closed bracket)) ≡ from
   node : c.node ≡ block_with closed bracket kids closing
+  -- its brackets are no markup
+  plain : NoMarkup bracket
+  plain_end : Every NoMarkup closing
 
 module _ (k : CharClasses) (levels : ℕ) (text : List ℕ) (c : Spot (Unit {0})) (i n : ℕ) (t : Trivia) (chosen : Among c (blocks_of_text k text)) (name : c.name ≡ block.Content) (left : max_depth - c.fewer ≡ suc levels)
     (takes : 0 < (unit_at c (start_of text)).taken) (g : AllGo (first_of i (run_at k levels c (start_of text)))) (h : AllGo (then_of i n (run_at k levels c (start_of text))))
@@ -507,7 +530,22 @@ module _ (k : CharClasses) (levels : ℕ) (text : List ℕ) (c : Spot (Unit {0})
       ∙ ap (λ ts. block_with close.value opens.node ts close.nodes ∷ []) (kids-are k levels c z1 i n t rest some g h hints nodes) in
       let long : length (text_of (opening_child close.value opens.node)) ≡ length (utf8_ahead (bracket k levels y s).taken y) = opening-text close.value opens.node ∙ ap length (sym (texts-one opens.node) ∙ sym (ap texts opens.nodes) ∙ bracket-text) in
       let on = bytes-on text c.at (bracket k levels y s).taken in
-      record { closed = close.value; bracket = opens.node; closing = close.nodes; opening = omega (arith, long, on); node = sym (last-is c.front c.node) ∙ ap last_node (sym l.fits.nodes ∙ was) }
+      record {
+        closed = close.value;
+        bracket = opens.node;
+        closing = close.nodes;
+        opening = omega (arith, long, on);
+        node = sym (last-is c.front c.node) ∙ ap last_node (sym l.fits.nodes ∙ was);
+        plain = bracket-plain k levels y s opens.node opens.nodes;
+        plain_end = (let m = ((first_end i r).taken + (then_end i n r).taken) + (rest_of i n r).taken in close-plain k levels m (m + last.taken) (rest_of i n r).state r.place r.place);
+      }
+
+  -- and what of its children is markup
+  pub plain-block : Plain c.node
+  plain-block =
+      let front = inner-fronted k levels i n c z1 t known in
+      let held = node-of front.rest front.hints front.nodes in
+      record { closed = held.closed; bracket = held.bracket; kids = kids_of front.rest; closing = held.closing; node = held.node; first = held.plain; last = held.plain_end }
 
   block-is : LeadingInner k levels text c i n t
   block-is =

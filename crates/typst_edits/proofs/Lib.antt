@@ -15,12 +15,20 @@
 --   candidates_law               BareCandidates, CandidatePlaces
 --   notes_law                    PieceNotes: of a whole text and of a content block; Marks: in any list of asks
 --   numbered_notes_law           NumberedNotes: of a whole text and of a content block; InTurn: the marks of a run in turn; NoteNumbers, InnerNumbers: the number of a note; Cuts: where the tokens behind pieces begin
---   rising_law                   Rising: the marks of whatever the language can say; OpensApart: those where blocks begin
+--   rising_law                   Rising: the marks of whatever the language can say; InOrder: the same by their tokens; OpensApart: those where blocks begin; Nested: how they stand in each other; NestedInner, NestedBlocks: between the two notes of a block
 --   leading_law                  Leading: of a whole text and of a content block; Fronts: what a piece gives first
 --   block_worth_law              BlockWorth
+--   part_law                     BlockPart
 --   splice_law                   Splice: of any asks; BlockSplice: of a block; RunSplice: of pieces of a text's run; InnerSplice: of pieces of a block's; PieceAsks: what is asked of them; Sides: what stands behind a note; Seen: what is noted was looked at; Forward: trivia look ahead alone
 --   splice_law                   Splice: of any asks; BlockSplice: of a block; Seen: what is noted was looked at
 --   one_reading_law              OneReading; KeptNodes: in the old tree
+--   block_test_law               BlockTest: entries and the block by itself; EntryNumbers: a block's two notes among the entries; CandidateBlocks: the candidate's node in a hole; BlockPlaces: the block there, by bytes; SecondPlaces: one that a reading that was given up covers
+--   one_reading_law              OneReading
+--   pieces_test_law              PiecesTest
+--   inner_pieces_test_law        InnerPiecesTest
+--   run_test_law                 RunTest; RunOver: the end of a run
+--   served_law                   Served: any run; RootServed: of a whole text; InnerServed: of a content block
+--   run_numbers_law              RunNumbers: of a whole text; InnerRunNumbers: of a content block; FoundPieces: of any run; NestedPieces: of nested notes
 --   path_law                     Walk: the steps; Placed: what stands before a block
 --   root_pieces_law              RootPieces
 --   root_worth_law               RootWorth
@@ -32,6 +40,7 @@
 --   inner_candidate_law          InnerCandidates; MarkupCandidates: from which run a candidate comes; InnerCuts: the cuts of a block's run; CandidateEnds: where a stretch of children ends
 --   root_worth_law               RootWorth
 --   inner_worth_law              InnerWorth
+--   candidate_runs_law           RootRuns: at the root; InnerRuns: in a content block; CandidateRuns: of any run; MarkupPlaces: the node of a block in whose markup a candidate stands; SecondBlocks: it is a unit's; Deepest: a level is left in it; TokenNodes: its brackets are no markup; StartBytes: where it begins
 --   candidate_law                CandidateWorth: each case of the test
 --   answer_law                   AnswerTree: the answer's tree; Unique: the nodes in a candidate's place, and so the answer, are one
 --   resume_law                   Resumed: pieces read again; PiecesLog: what is logged of them; InnerPiecesLog: in a content block
@@ -52,6 +61,7 @@ pub mod Names
 pub mod Complete
 pub mod Positions
 pub mod CleanTokens
+pub mod TokenNodes
 pub mod Seats
 pub mod Standing
 pub mod StandingLevels
@@ -104,7 +114,15 @@ pub mod InTurn
 pub mod NumberedNotes
 pub mod NoteNumbers
 pub mod Rising
+pub mod InOrder
 pub mod OpensApart
+pub mod Nested
+pub mod NestedInner
+pub mod NestedBlocks
+pub mod NestedPieces
+pub mod FoundPieces
+pub mod RunNumbers
+pub mod InnerRunNumbers
 pub mod Fronts
 pub mod Leading
 pub mod Cuts
@@ -115,15 +133,19 @@ pub mod BlockModes
 pub mod Resumed
 pub mod InnerSplice
 pub mod PiecesLog
+pub mod BlockPart
 pub mod InnerPiecesLog
 pub mod RootPieces
 pub mod RootWorth
 pub mod CandidateEnds
 pub mod QuietTrivia
 pub mod MarkupCandidates
+pub mod Deepest
 pub mod InnerCuts
 pub mod RootCandidates
 pub mod InnerCandidates
+pub mod CandidateRuns
+pub mod RootRuns
 pub mod InnerPieces
 pub mod InnerWorth
 pub mod CandidateWorth
@@ -131,6 +153,25 @@ pub mod AnswerTree
 pub mod Unique
 pub mod OneReading
 pub mod KeptNodes
+pub mod EntryNumbers
+pub mod CandidateBlocks
+pub mod MarkupPlaces
+pub mod BlockPlaces
+pub mod SecondPlaces
+pub mod BlockTest
+pub mod SecondBlocks
+pub mod StartBytes
+pub mod InnerRuns
+pub mod InnerPiecesTest
+pub mod PiecesTest
+pub mod RunOver
+pub mod RunTest
+pub mod SameBlocks
+pub mod RunHomes
+pub mod InnerRunTest
+pub mod Served
+pub mod RootServed
+pub mod InnerServed
 -- What the crates above name of those below.
 pub use Rattle.typst_grammar.proofs.AtLevels
 pub use Rattle.typst_grammar.proofs.Knowing

@@ -38,19 +38,19 @@ abbrev head_or : ℕ → List ℕ → ℕ
 head_or n [] = n
 head_or n (x ∷ xs) = x
 
-longer-other : (xs : List ℕ) (y : ℕ) (ys : List ℕ) → xs ≡ xs ++ y ∷ ys → ⊥
+pub longer-other : (xs : List ℕ) (y : ℕ) (ys : List ℕ) → xs ≡ xs ++ y ∷ ys → ⊥
 longer-other xs y ys e = let l = ap length e in let m = length-append xs (y ∷ ys) in absurd (omega (arith, l, m))
 
 -- ---- those of a node
 
 -- a path begins with this one
-record Below (path : List ℕ) (c : Candidate) : Type 0 where
-  behind : List ℕ
-  is : c.path ≡ path ++ behind
+pub record Below (path : List ℕ) (c : Candidate) : Type 0 where
+  pub behind : List ℕ
+  pub is : c.path ≡ path ++ behind
 
 -- pieces of the node at the end of a path
 pub record Own (path : List ℕ) (c : Candidate) : Type 0 where
-  at_end : c.path ≡ path
+  pub at_end : c.path ≡ path
   pub pieces : c.is_block ≡ false
 
 stretches-own : (path : List ℕ) (at : ℕ) (ts : List Tree) (ss : List Stretch) → Every (Own path) (of_stretches path at ts ss)
@@ -63,8 +63,8 @@ run-own rs re path at ts (Some cuts) = let cs = laid at ts in stretches-own path
 
 -- the child alone
 pub record Alone (path : List ℕ) (c : Candidate) : Type 0 where
-  at_end : c.path ≡ path
-  whole : c.is_block ≡ true
+  pub at_end : c.path ≡ path
+  pub whole : c.is_block ≡ true
   pub one : c.to ≡ suc c.from
 
 block-alone : (path : List ℕ) (at : ℕ) (ts : List Tree) (i : ℕ) (k : SyntaxKind) → Every (Alone path) (of_block path at ts i k)
@@ -103,7 +103,7 @@ module _ (ns : List Note) (rs re : ℕ) where
           (λ e. tt)
 
   -- each path of them begins with the node's
-  paths-below : (path : List ℕ) (run : Option (List ℕ)) (index at : ℕ) (f : Forest) → Every (Below path) (candidates_at ns rs re path run index at f)
+  pub paths-below : (path : List ℕ) (run : Option (List ℕ)) (index at : ℕ) (f : Forest) → Every (Below path) (candidates_at ns rs re path run index at f)
   unfolding candidates_at
   paths-below path run index at none = tt
   paths-below path run (suc index) at (more h ks r) = paths-below path run index (at + length (h.text ++ joined ks)) r
@@ -117,7 +117,7 @@ module _ (ns : List Note) (rs re : ℕ) where
       (every-by (λ c o. record { behind = []; is = o.at_end ∙ sym (append-nil path) }) _ (run-own rs re path inside (trees ks) run))
 
   -- those of the tree of an index are those of that tree alone
-  at-index : (path : List ℕ) (run : Option (List ℕ)) (index at : ℕ) (f : Forest) (c : Child) → child_at (laid at (trees f)) index ≡ Some c
+  pub at-index : (path : List ℕ) (run : Option (List ℕ)) (index at : ℕ) (f : Forest) (c : Child) → child_at (laid at (trees f)) index ≡ Some c
       → candidates_at ns rs re path run index at f ≡ candidates_at ns rs re path run zero c.start (more c.node.head c.node.kids none)
   unfolding candidates_at
   at-index path run index at none c e = absurd (cc)
@@ -177,7 +177,7 @@ module _ (ns : List Note) (rs re : ℕ) where
   abbrev InBlock : List ℕ → ℕ → Tree → Candidate → Type 0
   InBlock path at x c = c.is_block ≡ false → c.path ≡ path ++ 1 ∷ [] → InMarkup at x c
 
-  every-both : {X : Type 0} (P Q : X → Type 0) (xs : List X) → Every P xs → Every Q xs → Every (λ x. P x × Q x) xs
+  pub every-both : {X : Type 0} (P Q : X → Type 0) (xs : List X) → Every P xs → Every Q xs → Every (λ x. P x × Q x) xs
   every-both P Q [] h g = tt
   every-both P Q (x ∷ xs) h g = ((h.0, g.0), every-both P Q xs h.1 g.1)
 

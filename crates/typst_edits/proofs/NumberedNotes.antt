@@ -1,9 +1,10 @@
 -- The notes of a run by their numbers.
-use Rattle.std.proofs.Common.{◌≡◌, ℕ, zero, suc, ◌+◌, ◌-◌, ◌<◌, ◌==◌, ne_eqb, Bool, true, false, ◌&&◌, nat_lt, List, [], ◌∷◌, ◌++◌, length, take, append_assoc, Some, refl, ap, sym, ◌∙◌, subst, arith}
+use Rattle.std.proofs.Common.{◌≡◌, ℕ, zero, suc, ◌+◌, ◌-◌, ◌<◌, ◌==◌, ne_eqb, Bool, true, false, ◌&&◌, nat_lt, List, [], ◌∷◌, ◌++◌, length, take, length-append, append_assoc, Some, refl, ap, sym, ◌∙◌, subst, arith}
 use borrow.Author.Tests.{ltb-true}
 use Rattle.typst_kinds.specs.declared.kind.SyntaxKind.{SyntaxKind}
 use Rattle.typst_kinds.specs.declared.kind.SyntaxKind.TheVariants as kind
 use Rattle.typst_lines.specs.Place.{Place, moved}
+use Rattle.typst_candidates.specs.Nested.{Nested}
 use Rattle.typst_lines.specs.Classes.{CharClasses}
 use Rattle.typst_tokens.specs.Sight.{width, position}
 use Rattle.typst_language.specs.declared.calls.Block.{Block}
@@ -29,20 +30,22 @@ use Rattle.typst_language.proofs.Within.{and-second}
 use Rattle.typst_grammar.specs.Markup.{ends, markup_turn, markup_head, markup_reading, ends_block}
 use Rattle.typst_grammar.specs.Grammar.{rules, max_depth, level_at, start_of, whole, parsed, log}
 use Rattle.typst_edits.specs.BlockRuns.{inner, look_first, look_again, bracket, inner_lead, inner_run, inner_tail, inner_close, run_at, opened_at}
+use Rattle.typst_edits.specs.Edit.{Among}
 use Rattle.typst_edits.specs.InnerBytes.{inner_end}
 use Rattle.typst_edits.specs.Joint.{minds}
 use Rattle.typst_edits.specs.Laws.{blocks_of_text, block_at}
 use Rattle.typst_edits.specs.Named.{Named}
-use Rattle.typst_edits.specs.NumberedNotes.{of_level, Numbered, cut_behind, SaysOf, NumberedRunLaw, NumberedInnerLaw}
+use Rattle.typst_edits.specs.NumberedNotes.{of_level, Numbered, cut_behind, SaysOf, NumberedRunLaw, NumberedInner, NumberedInnerLaw}
 use Rattle.typst_edits.specs.Occurrences.{goes}
 use Rattle.typst_edits.specs.PieceNotes.{listed, Says}
 use Rattle.typst_edits.specs.Runs.{made, AllGo, End, end_of, piece_at, end_at, start, lead, tail}
 use Rattle.typst_edits.specs.Sequence.{Sequence, turn_of}
-use Rattle.typst_edits.specs.Spot.{lowered, unit_at, ended}
+use Rattle.typst_edits.specs.Splice.{notes_in}
+use Rattle.typst_edits.specs.Spot.{Spot, lowered, unit_at, ended}
 use Rattle.typst_edits.proofs.Blocks.{ends as block-ends}
 use Rattle.typst_edits.proofs.BlockRuns.{content-is}
 use Rattle.typst_edits.proofs.Boundary.{KnownAt, stopped-is, stopped-asks, turn-asks, early-marks, turn-goes, turn-known, piece_mark}
-use Rattle.typst_edits.proofs.Bytes.{logged-append, noted-by, noted-more, asks-are}
+use Rattle.typst_edits.proofs.Bytes.{logged-append, noted-by, noted-more, asks-are, counted, notes-one}
 use Rattle.typst_edits.proofs.Edit.{among}
 use Rattle.typst_edits.proofs.Inside.{Lawful}
 use Rattle.typst_edits.proofs.InnerBytes.{asks_before, run_mark, content-asks}
@@ -52,6 +55,7 @@ use Rattle.typst_edits.proofs.Law.{inside-level}
 use Rattle.typst_edits.proofs.Led.{same-judged, Takes}
 use Rattle.typst_edits.proofs.Marks.{marks-append, marks-shift, none-hand}
 use Rattle.typst_edits.proofs.Names.{named-level}
+use Rattle.typst_edits.proofs.Nested.{Nests, unit-nests, noted-nested, same-behind, same-some}
 use Rattle.typst_edits.proofs.PieceNotes.{goes-on, flush-marks, close-marks}
 use Rattle.typst_edits.proofs.Root.{whole-is}
 use Rattle.typst_edits.proofs.RunTrees.{whole-asks}
@@ -266,9 +270,17 @@ nth-moved m x y s a d i z note n =
       state = n.state;
     }
 
-pub numbered-inner-law : NumberedInnerLaw
+-- the notes of a content block by their numbers, which are nested, and as many as are made before the block and in it
+pub record NestedNumbers (k : CharClasses) (levels : ℕ) (text : List ℕ) (c : Spot (Unit {0})) : Type 0 where
+  pub numbers : NumberedInner k levels text c
+  pub nested : Nested (suc levels) numbers.inner
+  pub number : notes_in c.before ≡ suc (length numbers.earlier)
+  pub long : length numbers.inner ≡ notes_in (unit_at c (start_of text)).asks
+  pub asks : (unit_at c (start_of text)).asks ≡ (block_at k (suc levels) block.Content (moved c.at (start_of text)) (point_of c.start)).asks
+
+pub nested-numbers : (k : CharClasses) (levels : ℕ) (text : List ℕ) (c : Spot (Unit {0})) → Among c (blocks_of_text k text) → c.name ≡ block.Content → max_depth - c.fewer ≡ suc levels → NestedNumbers k levels text c
 unfolding blocks_of_text log position
-numbered-inner-law k levels text c chosen name left =
+nested-numbers k levels text c chosen name left =
     let z = start_of text in
     let o = parsed k max_depth text in
     let l = among (Lawful z z o o) c _ chosen (inside-level (rules k) k (block-ends k) max_depth whole z z (start_point markup_reading)) in
@@ -306,25 +318,44 @@ numbered-inner-law k levels text c chosen name left =
     let two = noted-nth P levels y u.asks h1 front 0 n (noted-more note_one log_one.notes one.more one.is) marks in
     let all = two.all in
     let three = noted-by max_depth z late h2 ((front ++ two.more) ++ note_two ∷ []) (noted-more note_two log_two.notes (front ++ two.more) (ap (λ (v : Log). v.notes) inner_is ∙ two.is)) in
+    let own_nested = subst (λ (v : Outcome (Unit {0})). Nests (suc (suc levels)) 1 v.asks) (sym reads) (unit-nests k (suc levels) block.Content y s) in
+    let nest = noted-nested (suc levels) 0 y h1 front u.asks (omega arith) (noted-more note_one log_one.notes one.more one.is) own_nested in
+    let all_left : suc levels - 0 ≡ suc levels = omega arith in
+    let same = same-behind front two.more nest.more (same-some (sym two.is ∙ nest.is)) in
     record {
-      earlier = one.more;
-      opens = note_one;
-      inner = two.more;
-      closes = note_two;
-      later = three.more;
-      notes = ap (λ (v : Log). v.notes) is ∙ three.is ∙ ap Some (append_assoc (front ++ two.more) (note_two ∷ []) three.more ∙ append_assoc front two.more (note_two ∷ three.more) ∙ append_assoc one.more (note_one ∷ []) (two.more ++ note_two ∷ three.more));
-      name = refl;
-      start = width-moved c.at text;
-      levels_there = left;
-      state = refl;
-      name_end = refl;
-      end = width-moved (end + 0) text ∙ ap (λ a. width (take a text)) (omega arith);
-      levels_end = left;
-      count = turns_are.count;
-      go = turns_are.go;
-      over = turns_are.over;
-      all = omega (arith, all);
-      each = numbered-by (NoteNth P y) _
-          (λ i note h. says-of (turn_of (run_at k levels c z)) (true, 0) (run_at k levels c z).place (run_at k levels c z).point (opened_at k levels c z) text (λ j. inner_end k levels j c z) i note refl
-          (nth-moved (turn_of (run_at k levels c z)) (true, 0) (run_at k levels c z).place (run_at k levels c z).point c.at b i z note h)) 0 (of_level (suc levels) two.more) two.each;
+      numbers = record {
+        earlier = one.more;
+        opens = note_one;
+        inner = two.more;
+        closes = note_two;
+        later = three.more;
+        notes = ap (λ (v : Log). v.notes) is ∙ three.is ∙ ap Some (append_assoc (front ++ two.more) (note_two ∷ []) three.more ∙ append_assoc front two.more (note_two ∷ three.more) ∙ append_assoc one.more (note_one ∷ []) (two.more ++ note_two ∷ three.more));
+        name = refl;
+        start = width-moved c.at text;
+        levels_there = left;
+        state = refl;
+        name_end = refl;
+        end = width-moved (end + 0) text ∙ ap (λ a. width (take a text)) (omega arith);
+        levels_end = left;
+        count = turns_are.count;
+        go = turns_are.go;
+        over = turns_are.over;
+        all = omega (arith, all);
+        each = numbered-by (NoteNth P y) _
+            (λ i note h. says-of (turn_of (run_at k levels c z)) (true, 0) (run_at k levels c z).place (run_at k levels c z).point (opened_at k levels c z) text (λ j. inner_end k levels j c z) i note refl
+            (nth-moved (turn_of (run_at k levels c z)) (true, 0) (run_at k levels c z).place (run_at k levels c z).point c.at b i z note h)) 0 (of_level (suc levels) two.more) two.each;
+      };
+      nested = subst (λ ns. Nested (suc levels) ns) (sym same) (subst (λ v. Nested v nest.more) all_left nest.nested);
+      number = (let n = counted max_depth z named.earlier no_log [] one.more refl one.is in
+          let nothing : List Note = [] in
+          let none : length nothing ≡ 0 = omega arith in
+          let few : notes_in named.earlier ≡ length one.more = omega (arith, n, none) in
+          ap notes_in named.opened ∙ notes-one named.earlier c.at 0 f (mark.Opens c.name) c.start ∙ ap suc few);
+      long = (let n = counted (suc levels) y u.asks h1 front (front ++ two.more) (noted-more note_one log_one.notes one.more one.is) two.is in
+          let both = length-append front two.more in
+          omega (arith, n, both));
+      asks = ap (λ (v : Outcome (Unit {0})). v.asks) reads;
     }
+
+pub numbered-inner-law : NumberedInnerLaw
+numbered-inner-law k levels text c chosen name left = (nested-numbers k levels text c chosen name left).numbers

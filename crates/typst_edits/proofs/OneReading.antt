@@ -99,7 +99,7 @@ module _ {A : Type 0} where
   go-second [] ps g = g
   go-second (o ∷ os) ps g = go-second os ps g.1
 
-  go-both : (os ps : List (Outcome (Bool × A))) → AllGo os → AllGo ps → AllGo (os ++ ps)
+  pub go-both : (os ps : List (Outcome (Bool × A))) → AllGo os → AllGo ps → AllGo (os ++ ps)
   go-both [] ps g h = h
   go-both (o ∷ os) ps g h = (g.0, go-both os ps g.1 h)
 
@@ -456,7 +456,7 @@ module _ (k : CharClasses) (z : Place) where
       facts (text_run k z) (sane-meaning (rules k) k max_depth) (sane-block (rules k) k max_depth) refl refl (λ r y t u alike x some. takes-call k 255 r y t u alike x some) (erring-call k 255) (record { trivia = _; is = refl })
 
   -- pieces end, with their trivia, by where their looks and the look at the first token do
-  text-seen : (i most : ℕ) → AllEndBy most ((lead k z).asks ++ asks_of (pieces k i z)) → (end_at k i z).taken + gap_of (end_at k i z).state.known ≤ most
+  pub text-seen : (i most : ℕ) → AllEndBy most ((lead k z).asks ++ asks_of (pieces k i z)) → (end_at k i z).taken + gap_of (end_at k i z).state.known ≤ most
   text-seen i most h =
       let o = lead k z in
       let first = (sees-level (rules k) k max_depth peek z start most (omega arith)).ends (end-first most o.asks (asks_of (pieces k i z)) h) in
@@ -470,7 +470,7 @@ module _ (k : CharClasses) (front old new rest : List ℕ) where
   abbrev text_now : Place
   text_now = text_with front new rest
 
-  text-clear : (i : ℕ) → 0 < i → AllGo (pieces k i text_was) → AllEndBy (length front) ((lead k text_was).asks ++ asks_of (pieces k i text_was)) → TakesNone i (text_run k text_was) → TakesNone i (text_run k text_now)
+  pub text-clear : (i : ℕ) → 0 < i → AllGo (pieces k i text_was) → AllEndBy (length front) ((lead k text_was).asks ++ asks_of (pieces k i text_was)) → TakesNone i (text_run k text_was) → TakesNone i (text_run k text_now)
   text-clear zero some go looks = absurd (omega (arith, some))
   text-clear (suc i) some go looks =
       let z = text_was in
@@ -513,14 +513,14 @@ module _ (k : CharClasses) (levels : ℕ) (c : Spot (Unit {0})) (z : Place) wher
       facts (run_at k levels c z) (sane-meaning (rules k) k (suc levels)) (λ b. sane-plain tt) (ne_eqb (suc levels) 0 (omega arith)) refl (λ r y t u alike x some. takes-call k levels r y t u alike x some) (erring-call k levels)
       (record { trivia = _; is = refl })
 
-  block-sees : {A : Type 0} (p : Parser A) → Sees (run (block_level k levels) p)
+  pub block-sees : {A : Type 0} (p : Parser A) → Sees (run (block_level k levels) p)
   block-sees p = sees-run (block_level k levels) (sees-meaning (rules k) k (suc levels)) (λ b. sees-plain tt) p
 
   bracket-gap : gap_of (bracket k levels (moved c.at z) (point_of c.start)).state.known ≡ 0
   unfolding run
   bracket-gap = refl
 
-  block-seen : (i most : ℕ) → AllEndBy most ((inner_lead k levels (moved c.at z) (point_of c.start)).asks ++ asks_of (first_of i (run_at k levels c z))) → (first_end i (run_at k levels c z)).taken ≤ most
+  pub block-seen : (i most : ℕ) → AllEndBy most ((inner_lead k levels (moved c.at z) (point_of c.start)).asks ++ asks_of (first_of i (run_at k levels c z))) → (let e = first_end i (run_at k levels c z) in e.taken + gap_of e.state.known ≤ most)
   block-seen i most h =
       let r = run_at k levels c z in
       let o = inner_lead k levels (moved c.at z) (point_of c.start) in
@@ -529,6 +529,9 @@ module _ (k : CharClasses) (levels : ℕ) (c : Spot (Unit {0})) (z : Place) wher
       let gap : gap_of o.state.known ≤ most = omega (arith, first) in
       let end = made-seen (turn_of r) (λ x. block-sees (markup_turn true ends_block x)) i (true, 0) r.place o.state most gap (end-second most o.asks (asks_of (first_of i r)) h) in
       omega (arith, end)
+
+taken-by : (taken gap most : ℕ) → taken + gap ≤ most → taken ≤ most
+taken-by taken gap most l = omega (arith, l)
 
 within-front : (opened taken most : ℕ) → taken ≤ most - opened → 0 < taken → opened + taken ≤ most
 within-front opened taken most l some = omega (arith, l, some)
@@ -540,7 +543,7 @@ module _ (k : CharClasses) (levels : ℕ) (front old new rest : List ℕ) (c : S
   abbrev run_now : Sequence
   run_now = run_at k levels c (text_with front new rest)
 
-  block-clear : (i : ℕ) → 0 < i → AllGo (first_of i run_was) → EndsBefore k levels front old rest c i → TakesNone i run_was → TakesNone i run_now
+  pub block-clear : (i : ℕ) → 0 < i → AllGo (first_of i run_was) → EndsBefore k levels front old rest c i → TakesNone i run_was → TakesNone i run_now
   block-clear zero some go looks = absurd (omega (arith, some))
   block-clear (suc i) some go looks =
       let z0 = text_with front old rest in
@@ -563,7 +566,7 @@ module _ (k : CharClasses) (levels : ℕ) (front old new rest : List ℕ) (c : S
       let place : first_place j q ≡ moved e.taken (moved b.taken w) = ap (λ (a : End (Bool × ℕ)). moved a.taken q.place) same ∙ ap (λ (a : Outcome (Unit {0})). moved e.taken (moved a.taken w)) f.opened in
       minded-too j r q (minds-same l d e (first_place j r) (first_place j q) same (ap (λ p. (hand_of l p e.state).kind) place ∙ kind)) same
 
-  takes-some : (i : ℕ) → 0 < i → AllGo (first_of i run_was) → 0 < (first_end i run_was).taken
+  pub takes-some : (i : ℕ) → 0 < i → AllGo (first_of i run_was) → 0 < (first_end i run_was).taken
   takes-some zero some go = absurd (omega (arith, some))
   takes-some (suc i) some go = let more = (block-facts k levels c (text_with front old rest)).further i go in omega (arith, more)
 
@@ -587,7 +590,7 @@ module _ (k : CharClasses) (levels : ℕ) (front old new rest : List ℕ) (c : S
         opens = ap (λ (b : Outcome (Unit {0})). c.at + b.taken) f.opened;
         clear = λ some. block-clear (a + d) some go before;
         room = λ some. within-front opened (first_end (a + d) run_was).taken (length front)
-            (block-seen k levels c z (a + d) (length front - opened) (end-shift opened (length front - opened) (length front) (o.asks ++ asks_of (first_of (a + d) run_was)) (omega arith) (before.before_run some))) (takes-some (a + d) some go);
+            (taken-by (first_end (a + d) run_was).taken (gap_of (first_end (a + d) run_was).state.known) (length front - opened) (block-seen k levels c z (a + d) (length front - opened) (end-shift opened (length front - opened) (length front) (o.asks ++ asks_of (first_of (a + d) run_was)) (omega arith) (before.before_run some)))) (takes-some (a + d) some go);
         facts_was = block-facts k levels c z;
         facts_now = block-facts k levels c w;
       }

@@ -1,8 +1,13 @@
 -- Of two notes at which blocks begin the later one's token begins at a later byte.
 use Rattle.std.proofs.Common.{◌≡◌, ℕ, ◌+◌, ◌≤◌, List, [], ◌∷◌, ◌++◌, ap, subst, arith, true}
+use Rattle.typst_lines.specs.Classes.{CharClasses}
+use Rattle.typst_language.specs.declared.calls.Block.{Block}
+use Rattle.typst_language.specs.declared.calls.Mark.TheVariants as mark
 use Rattle.typst_language.specs.declared.calls.Note.{Note}
+use Rattle.typst_grammar.specs.Grammar.{log}
 use Rattle.typst_edits.specs.Lost.{is_opening}
 use Rattle.typst_edits.specs.OpensApart.{OpensApartLaw}
+use Rattle.typst_edits.specs.PieceNotes.{listed}
 use Rattle.typst_edits.proofs.Rising.{taken_behind, Spread, notes-spread}
 
 -- a note among several, and those behind it
@@ -29,3 +34,7 @@ opens-apart-law k text earlier between later n o a b is opens opens_too =
     let apart = two.low in
     let more = ap taken_behind opens in
     omega (arith, start, start_too, apart, more)
+
+-- a block begins directly where its note stands
+pub opens-directly : (k : CharClasses) (text : List ℕ) (earlier : List Note) (n : Note) (later : List Note) (b : Block) → listed (log k text).notes ≡ earlier ++ n ∷ later → n.mark ≡ mark.Opens b → n.start ≡ n.before
+opens-directly k text earlier n later b is opens = (stands-among 0 earlier n later (subst (λ ns. Spread 0 ns) is (notes-spread k text))).start (ap is_opening opens)

@@ -116,7 +116,7 @@ AllPlaced z s cs = Every (Placed z s) cs
 texts-hinted : (hints : List (List ℕ)) (ts : List Tree) → texts (hinted hints ts) ≡ texts ts
 texts-hinted hints ts = texts-same (hinted hints ts) ts (same-hinted hints ts)
 
-placed-after : {A B : Type 0} (z : Place) (s : Point) (o : Outcome B) (c : Spot A) → Holds z o → Tidy s o → Placed (moved o.taken z) o.state c → Placed z s (after_spot o c)
+pub placed-after : {A B : Type 0} (z : Place) (s : Point) (o : Outcome B) (c : Spot A) → Holds z o → Tidy s o → Placed (moved o.taken z) o.state c → Placed z s (after_spot o c)
 placed-after z s o c h t p =
     let few = p.back in
     let back = t.back in
@@ -138,28 +138,28 @@ placed-then z s q c h = record { back = h.back; left = h.left }
 placed-valued : {A B : Type 0} (z : Place) (s : Point) (v : B) (c : Spot A) → Placed z s c → Placed z s (valued v c)
 placed-valued z s v c h = record { back = h.back; left = h.left }
 
-placed-joined : {A B : Type 0} (z : Place) (s : Point) (o : Outcome B) (cs : List (Spot B)) (p : Outcome A) (ds : List (Spot A)) → Holds z o → Tidy s o → AllPlaced z s cs → AllPlaced (moved o.taken z) o.state ds → AllPlaced z s (joined_spots o cs p ds)
+pub placed-joined : {A B : Type 0} (z : Place) (s : Point) (o : Outcome B) (cs : List (Spot B)) (p : Outcome A) (ds : List (Spot A)) → Holds z o → Tidy s o → AllPlaced z s cs → AllPlaced (moved o.taken z) o.state ds → AllPlaced z s (joined_spots o cs p ds)
 placed-joined z s o cs p ds h t i j = every-append _ _ _ (every-map _ _ (λ c. then_spot c p) (λ c n. placed-then z s p c n) cs i) (every-map _ _ (after_spot o) (λ c n. placed-after z s o c h t n) ds j)
 
-placed-last : {A B : Type 0} (z : Place) (s : Point) (cs : List (Spot (B × A))) → AllPlaced z s cs → AllPlaced z s (map last_spot cs)
+pub placed-last : {A B : Type 0} (z : Place) (s : Point) (cs : List (Spot (B × A))) → AllPlaced z s cs → AllPlaced z s (map last_spot cs)
 placed-last z s cs h = every-map _ _ last_spot (λ c n. placed-valued z s c.value.1 c n) cs h
 
 placed-reshaped : {A : Type 0} (z : Place) (s : Point) (shape : Shape) (n : ℕ) (c : Spot A) → Placed z s c → AllPlaced z s (reshaped_spot shape n c)
 placed-reshaped z s shape n c h = every-map (λ (g : Hole). left_text g ≡ left_text c.hole) _ (rehole _ c) (λ g e. record { back = h.back; left = e ∙ h.left }) _ (alike-wrapped shape (block_head c.name) (n + c.back) c.hole)
 
-placed-wrapped : {A : Type 0} (z : Place) (s : Point) (f : A → Shape) (n : ℕ) (c : Spot A) → Placed z s c → AllPlaced z s (wrapped_spot f n c)
+pub placed-wrapped : {A : Type 0} (z : Place) (s : Point) (f : A → Shape) (n : ℕ) (c : Spot A) → Placed z s c → AllPlaced z s (wrapped_spot f n c)
 placed-wrapped z s f n c h = every-map _ _ (valued _) (λ d i. placed-valued z s _ d i) (reshaped_spot (f c.value) n c) (placed-reshaped z s (f c.value) n c h)
 
-placed-grown : {A : Type 0} (z : Place) (s : Point) (n : ℕ) (shape : Option Shape) (c : Spot A) → Placed z s c → AllPlaced z s (grown_spot n shape c)
+pub placed-grown : {A : Type 0} (z : Place) (s : Point) (n : ℕ) (shape : Option Shape) (c : Spot A) → Placed z s c → AllPlaced z s (grown_spot n shape c)
 placed-grown z s n None c h = (h, tt)
 placed-grown z s n (Some shape) c h = placed-reshaped z s shape n c h
 
 -- for each block of a reading, where what is known of the trivia stands
-abbrev Places : {A : Type 0} → Spots A → Type 0
+abbrev pub Places : {A : Type 0} → Spots A → Type 0
 Places sp = (z : Place) (s : Point) → Stands z s.known → AllPlaced z s (sp z s)
 
 module _ {A : Type 0} (m : A → Meaning (Bool × A)) (sp : A → Spots (Bool × A)) (kept : (x : A) → Keeps (m x)) (backs : (x : A) → Backs (m x)) (h : (x : A) → Places (sp x)) where
-  placed-turns : (n : ℕ) (x : A) → Places (turns_spots m sp n x)
+  pub placed-turns : (n : ℕ) (x : A) → Places (turns_spots m sp n x)
   placed-turns zero x z s r = tt
   placed-turns (suc n) x z s r =
       let o = m x z s in
@@ -167,7 +167,7 @@ module _ {A : Type 0} (m : A → Meaning (Bool × A)) (sp : A → Spots (Bool ×
       let k = kept x z s r in
       every-if _ (goes o) _ _ (λ t. placed-joined z s o (sp x z s) (turns m n o.value.1 w o.state) (turns_spots m sp n o.value.1 w o.state) k (backs x z s) (h x z s r) (placed-turns n o.value.1 w o.state k.known)) (λ t. placed-last z s (sp x z s) (h x z s r))
 
-  placed-nestings : (f : A → Shape) (begin : Begin) (n : ℕ) (x : A) → Places (nestings_spots f begin m sp n x)
+  pub placed-nestings : (f : A → Shape) (begin : Begin) (n : ℕ) (x : A) → Places (nestings_spots f begin m sp n x)
   placed-nestings f begin zero x z s r = tt
   placed-nestings f begin (suc n) x z s r =
       let o = m x z s in
@@ -177,7 +177,7 @@ module _ {A : Type 0} (m : A → Meaning (Bool × A)) (sp : A → Spots (Bool ×
       (every-if _ (goes o) _ _ (λ t. placed-joined z s o (sp x z s) (nestings f begin m n o.value.1 w o.state) (nestings_spots f begin m sp n o.value.1 w o.state) k (backs x z s) (h x z s r) (placed-nestings f begin n o.value.1 w o.state k.known)) (λ t. placed-last z s (sp x z s) (h x z s r)))
 
 module _ {A : Type 0} (m : A → Meaning (Option Shape × A)) (sp : A → Spots (Option Shape × A)) (kept : (x : A) → Keeps (m x)) (backs : (x : A) → Backs (m x)) (h : (x : A) → Places (sp x)) where
-  placed-growths : (n i : ℕ) (o : Outcome A) (cs : List (Spot A)) (z : Place) (s : Point) → Holds z o → Tidy s o → AllPlaced z s cs → AllPlaced z s (growths_spots m sp n i o cs z)
+  pub placed-growths : (n i : ℕ) (o : Outcome A) (cs : List (Spot A)) (z : Place) (s : Point) → Holds z o → Tidy s o → AllPlaced z s cs → AllPlaced z s (growths_spots m sp n i o cs z)
   placed-growths n zero o cs z s k t j = j
   placed-growths n (suc i) o cs z s k t j =
       let w = moved o.taken z in
@@ -194,14 +194,14 @@ placed-here : (b : Block) (m : Meaning (Unit {0})) (z : Place) (s : Point) → B
 placed-here b m z s t = record { back = (t z (forgot s)).back; left = append-nil (texts (less 1 (m z (forgot s)).nodes)) }
 
 module _ (l : Level) (deep : (c : Call) → Spots (Answer c)) (in_block : Block → Spots (Unit {0})) (d : (c : Call) → Sane (l.deeper c)) (e : (b : Block) → Sane (l.blocks b)) (i : (c : Call) → Places (deep c)) (j : (b : Block) → Places (in_block b)) where
-  sane : {A : Type 0} (p : Parser A) → Sane (run l p)
+  pub sane : {A : Type 0} (p : Parser A) → Sane (run l p)
   sane p = sane-run l d e p
 
-  flush-kept : (z : Place) (s : Point) → Stands z s.known → Holds z (done l flushes z s)
+  pub flush-kept : (z : Place) (s : Point) → Stands z s.known → Holds z (done l flushes z s)
   unfolding run
   flush-kept z s r = (sane (does flushes)).kept z s r
 
-  flush-tidy : (z : Place) (s : Point) → Tidy s (done l flushes z s)
+  pub flush-tidy : (z : Place) (s : Point) → Tidy s (done l flushes z s)
   unfolding run
   flush-tidy z s = (sane (does flushes)).backs z s
 
@@ -239,10 +239,10 @@ module _ (l : Level) (deep : (c : Call) → Spots (Answer c)) (in_block : Block 
 -- ---- by any rules, at every level
 
 module _ (r : Rules) (k : CharClasses) where
-  placed-block : (levels : ℕ) → ((call : Call) → Places (call_spots r k levels call)) → (b : Block) → Places (block_spots r k levels b)
+  pub placed-block : (levels : ℕ) → ((call : Call) → Places (call_spots r k levels call)) → (b : Block) → Places (block_spots r k levels b)
   placed-block levels i b = placed-run (blockless k levels (meaning_of r k levels)) (call_spots r k levels) (λ c y t. []) (sane-meaning r k levels) (λ c. sane-plain tt) i (λ c y t u. tt) (peek >> r.block_production b)
 
-  placed-call : (levels : ℕ) (call : Call) → Places (call_spots r k levels call)
+  pub placed-call : (levels : ℕ) (call : Call) → Places (call_spots r k levels call)
   unfolding call_spots
   placed-call zero call z s h = tt
   placed-call (suc levels) call z s h =

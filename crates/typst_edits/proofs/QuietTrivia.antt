@@ -35,7 +35,7 @@ advised-wrong [] t e = e
 advised-wrong (hint ∷ hints) t e = advised-wrong hints (advised (hint_with None hint) t) e
 
 plain-quiet : (k : CharClasses) (i : SyntaxKind) (taken : List ℕ) → is_trivia i ≡ true
-    → Quiet (if is_error i then error_of [] (encode_utf8_all taken) else (if is_raw i then raw_node k taken else (if has_fields i then access_node taken else leaf_of i (encode_utf8_all taken))))
+    → Quiet (if is_error i then error_of [] (encode_utf8_all taken) else (if is_raw i then raw_node taken else (if has_fields i then access_node taken else leaf_of i (encode_utf8_all taken))))
 plain-quiet k kind.Space taken h = (refl, refl)
 plain-quiet k kind.Parbreak taken h = (refl, refl)
 plain-quiet k kind.LineComment taken h = (refl, refl)

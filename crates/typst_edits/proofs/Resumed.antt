@@ -1,5 +1,6 @@
 -- Pieces that are read again from their first token are those that stood there, and their number follows from where they end.
-use Rattle.std.proofs.Common.{◌≡◌, ℕ, zero, suc, ◌+◌, ◌<◌, ◌==◌, ne_eqb, Bool, true, false, nat_lt, List, [], ◌++◌, Some, refl, ap, sym, ◌∙◌, subst, arith}
+use borrow.Author.Tests.{ltb-true, lt-ltb}
+use Rattle.std.proofs.Common.{◌≡◌, ℕ, zero, suc, ◌+◌, ◌<◌, ◌==◌, ◌&&◌, ne_eqb, Bool, true, false, nat_lt, List, [], ◌∷◌, ◌++◌, None, Some, refl, ap, sym, ◌∙◌, subst, arith}
 use Rattle.typst_kinds.specs.declared.kind.SyntaxKind.{SyntaxKind}
 use Rattle.typst_kinds.specs.declared.kind.SyntaxKind.TheVariants as kind
 use Rattle.typst_lines.specs.Place.{Place, moved}
@@ -18,17 +19,20 @@ use Rattle.typst_language.proofs.Knot.{Sane, sane-meaning, sane-block, sane-plai
 use Rattle.typst_language.proofs.Places.{moved-sum}
 use Rattle.typst_grammar.specs.Markup.{ends, ends_block, markup_turn, markup_head, markup_reading}
 use Rattle.typst_grammar.specs.Grammar.{rules, level_at, max_depth}
-use Rattle.typst_edits.specs.BlockRuns.{inner, bracket, inner_run}
+use Rattle.typst_edits.specs.BlockRuns.{inner, bracket, inner_lead, inner_run}
+use Rattle.typst_edits.specs.Heads.{first_place, minds_at}
+use Rattle.typst_edits.specs.InnerPiecesTest.{read_alone, end_alone}
 use Rattle.typst_edits.specs.Joint.{minds, text_run}
-use Rattle.typst_edits.specs.Resumed.{fresh, SamePiece, SamePieces, ResumeLaw, InnerResumeLaw, CountLaw, InnerCountLaw}
+use Rattle.typst_edits.specs.Occurrences.{goes}
+use Rattle.typst_edits.specs.Resumed.{fresh, read_again, SamePiece, SamePieces, ResumeLaw, InnerResumeLaw, CountLaw, InnerCountLaw}
 use Rattle.typst_edits.specs.Runs.{made, AllGo, End, end_of, lead, start}
-use Rattle.typst_edits.specs.Sequence.{Sequence, first_of, first_end}
+use Rattle.typst_edits.specs.Sequence.{Sequence, turn_of, first_of, first_end, then_of, then_end}
 use Rattle.typst_edits.proofs.BlockModes.{hand-first}
 use Rattle.typst_edits.proofs.Boundary.{KnownAt, first-of, turn-known}
 use Rattle.typst_edits.proofs.Children.{goes-on, known-behind, turn-led, top-known}
 use Rattle.typst_edits.proofs.InnerJoint.{block-read}
 use Rattle.typst_edits.proofs.Joint.{takes-call, known-is, text-read}
-use Rattle.typst_edits.proofs.Led.{Led, before_trivia, SameJudged, same-judged, Takes}
+use Rattle.typst_edits.proofs.Led.{kind-behind, Led, before_trivia, SameJudged, same-judged, Takes}
 use Rattle.typst_edits.proofs.Meeting.{ReadAs, judged-alike}
 use Rattle.typst_edits.proofs.Reached.{Reached, Reaches, reached-run, reached-meaning}
 use Rattle.typst_edits.proofs.Turns.{takes-turn, end-by}
@@ -43,7 +47,7 @@ reached-made k m f (suc n) x z s r =
     subst (λ w. Reached k w e.state) (sym (moved-sum o.taken e.taken z)) (reached-made k m f n o.value.1 (moved o.taken z) o.state (f x z s r))
 
 -- no trivia
-abbrev no_trivia : Trivia
+abbrev pub no_trivia : Trivia
 no_trivia = record { nodes = []; gap = 0; newlines = no_newlines }
 
 fresh-is : (l : Level) (w : Place) → at_trivia l.classes markup_reading.mode w ≡ false → fresh l w ≡ before_trivia markup_reading markup_reading 0 false no_trivia
@@ -106,6 +110,47 @@ module _ (l : Level) (sd : (c : Call) → Sane (l.deeper c)) (sb : (b : Block) �
       let is : s ≡ before_trivia markup_reading markup_reading s.empties s.is_after_error t = known-is l.classes s t known ∙ (λ i. before_trivia (read.reading i) (read.held i) s.empties s.is_after_error t) in
       subst (Same m x z t) (sym is) (resumed-known m x z t s.empties s.is_after_error)
 
+  -- ---- what is read again goes on where the pieces do
+
+  abbrev GoesToo : ℕ → Bool × ℕ → Place → Trivia → Point → Type 0
+  GoesToo m x z t s = Reached l.classes z s → AllGo (made turn m x (moved t.gap z) (fresh l (moved t.gap z))) → (minds (markup_head x.0 x.1 (hand_of l z s).kind) ≡ true → s.empties ≡ 0) → AllGo (made turn m x z s)
+
+  same-kind : (z : Place) (t : Trivia) (e : ℕ) (a : Bool) → (told (hand_of l z (before_trivia markup_reading markup_reading e a t))).kind ≡ (told (hand_of l (moved t.gap z) (before_trivia markup_reading markup_reading 0 false no_trivia))).kind
+  unfolding hand_at
+  same-kind z t e a = sym (kind-behind l markup_reading z t no_trivia (judged-alike markup_reading t no_trivia refl))
+
+  second : (b c : Bool) → (b && c) ≡ true → c ≡ true
+  second true c h = h
+  second false c h = cc
+
+  goes-known : (m : ℕ) (x : Bool × ℕ) (z : Place) (t : Trivia) (e : ℕ) (a : Bool) → GoesToo m x z t (before_trivia markup_reading markup_reading e a t)
+  goes-known zero x z t e a clear g none = tt
+  goes-known (suc n) x z t e a clear g none =
+      let s = before_trivia markup_reading markup_reading e a t in
+      let w = moved t.gap z in
+      let o = turn x z s in
+      let c = turn x w (fresh l w) in
+      let alone = fresh-is l w clear in
+      let over : ends stops x.1 (told (hand_of l w (fresh l w))).kind ≡ false = going x w (fresh l w) (first-of c.value.0 (nat_lt 0 c.taken) g.0) in
+      let go : ends stops x.1 (told (hand_of l z s)).kind ≡ false = ap (ends stops x.1) (same-kind z t e a) ∙ subst (λ q. ends stops x.1 (told (hand_of l w q)).kind ≡ false) alone over in
+      let p = subst (λ q. SamePiece t o (turn x w q)) (sym alone) (same-piece t _ _ _ (led-fresh x z t e a go none)) in
+      let there : moved o.taken z ≡ moved c.taken w = ap (λ n. moved n z) p.taken ∙ moved-sum t.gap c.taken z in
+      let took = p.taken in
+      let some : 0 < c.taken = ltb-true 0 c.taken (second c.value.0 (nat_lt 0 c.taken) g.0) in
+      let goes_on : goes o ≡ true = ap (λ b. b && nat_lt 0 o.taken) (ap (λ (v : Bool × (Bool × ℕ)). v.0) p.value ∙ first-of c.value.0 (nat_lt 0 c.taken) g.0) ∙ lt-ltb 0 o.taken (omega (arith, took, some)) in
+      let behind : made turn n o.value.1 (moved o.taken z) o.state ≡ made turn n c.value.1 (moved c.taken w) c.state = (λ i. made turn n (p.value i).1 (there i) (p.state i)) in
+      (goes_on, subst (λ us. AllGo us) (sym behind) g.1)
+
+  pub goes-too : (m : ℕ) (x : Bool × ℕ) (z : Place) (t : Trivia) (s : Point) → s.known ≡ Some t → ReadAs markup_reading s → GoesToo m x z t s
+  goes-too m x z t s known read =
+      let is : s ≡ before_trivia markup_reading markup_reading s.empties s.is_after_error t = known-is l.classes s t known ∙ (λ i. before_trivia (read.reading i) (read.held i) s.empties s.is_after_error t) in
+      subst (GoesToo m x z t) (sym is) (goes-known m x z t s.empties s.is_after_error)
+
+  pub fresh-known : (z : Place) (t : Trivia) (s : Point) → s.known ≡ Some t → ReadAs markup_reading s → Reached l.classes z s → (fresh l (moved t.gap z)).known ≡ Some no_trivia
+  fresh-known z t s known read =
+      let is : s ≡ before_trivia markup_reading markup_reading s.empties s.is_after_error t = known-is l.classes s t known ∙ (λ i. before_trivia (read.reading i) (read.held i) s.empties s.is_after_error t) in
+      subst (λ p. Reached l.classes z p → (fresh l (moved t.gap z)).known ≡ Some no_trivia) (sym is) (λ clear. ap (λ (p : Point). p.known) (fresh-is l (moved t.gap z) clear))
+
   -- ---- how many there are
 
   abbrev place_behind : Bool × ℕ → Point → List (Outcome (Bool × (Bool × ℕ))) → ℕ
@@ -134,6 +179,67 @@ module _ (l : Level) (sd : (c : Call) → Sane (l.deeper c)) (sb : (b : Block) �
       let rest : place_behind o.value.1 o.state (made turn m o.value.1 (moved o.taken z) o.state) ≡ place_behind o.value.1 o.state (made turn n o.value.1 (moved o.taken z) o.state) = omega (arith, e) in
       ap suc (counted m n o.value.1 (moved o.taken z) o.state (turn-known l stops x z s (first-of _ _ g.0)) g.1 h.1 rest)
 
+  -- more of them end further on
+  pub further : (m n : ℕ) (x : Bool × ℕ) (z : Place) (s : Point) → KnownAt s → m < n → AllGo (made turn n x z s) → place_behind x s (made turn m x z s) < place_behind x s (made turn n x z s)
+  further m zero x z s known some g = absurd (omega (arith, some))
+  further zero (suc n) x z s known some g =
+      let more = takes-more x z s known (first-of _ _ g.0) in
+      omega (arith, more)
+  further (suc m) (suc n) x z s known some g =
+      let o = turn x z s in
+      let later = further m n o.value.1 (moved o.taken z) o.state (turn-known l stops x z s (first-of _ _ g.0)) (omega (arith, some)) g.1 in
+      omega (arith, later)
+
+  -- ---- where a run begins
+
+  goes-again : (m : ℕ) (x : Bool × ℕ) (z : Place) (t : Trivia) (s : Point) → s.known ≡ Some t → SamePieces t (made turn m x z s) (made turn m x (moved t.gap z) (fresh l (moved t.gap z)))
+      → AllGo (made turn m x z s) → AllGo (made turn m x (moved t.gap z) (fresh l (moved t.gap z)))
+  goes-again zero x z t s known same g = tt
+  goes-again (suc n) x z t s known same g =
+      let w = moved t.gap z in
+      let o = turn x z s in
+      let c = turn x w (fresh l w) in
+      let on = first-of o.value.0 (nat_lt 0 o.taken) g.0 in
+      let more = takes-more x z s (record { trivia = t; is = known }) on in
+      let gap = ap gap_of known in
+      let took = same.0.taken in
+      let go : goes c ≡ true = ap (λ b. b && nat_lt 0 c.taken) (sym (ap (λ (v : Bool × (Bool × ℕ)). v.0) same.0.value) ∙ on) ∙ lt-ltb 0 c.taken (omega (arith, more, gap, took)) in
+      (go, subst (λ us. AllGo us) same.1 g.1)
+
+  same-twice : (t : Trivia) (os us cs : List (Outcome (Bool × (Bool × ℕ)))) → SamePieces t os cs → SamePieces t us cs → os ≡ us
+  same-twice t [] [] [] h i = refl
+  same-twice t [] (u ∷ us) [] h i = absurd i
+  same-twice t [] us (c ∷ cs) h i = absurd h
+  same-twice t (o ∷ os) us [] h i = absurd h
+  same-twice t (o ∷ os) [] (c ∷ cs) h i = absurd i
+  same-twice t (o ∷ os) (u ∷ us) (c ∷ cs) h i =
+      let a = h.0 in
+      let b = i.0 in
+      let value = a.value ∙ sym b.value in
+      let taken = a.taken ∙ sym b.taken in
+      let state = a.state ∙ sym b.state in
+      let back = a.back ∙ sym b.back in
+      let hints = a.hints ∙ sym b.hints in
+      let nodes = a.nodes ∙ sym b.nodes in
+      let asks = a.asks ∙ sym b.asks in
+      let met = a.met ∙ sym b.met in
+      let rest = h.1 ∙ sym i.1 in
+      (λ j. record { value = value j; taken = taken j; state = state j; back = back j; hints = hints j; nodes = nodes j; asks = asks j; met = met j } ∷ rest j)
+
+  -- with the same trivia at hand pieces are read as if nothing else were known
+  pub as-fresh : (m : ℕ) (x : Bool × ℕ) (z : Place) (t : Trivia) (s f : Point) → s.known ≡ Some t → f.known ≡ Some t → ReadAs markup_reading s → ReadAs markup_reading f → Reached l.classes z s → Reached l.classes z f
+      → (minds (markup_head x.0 x.1 (hand_of l z s).kind) ≡ true → s.empties ≡ 0) → f.empties ≡ 0 → AllGo (made turn m x z s) → made turn m x z s ≡ made turn m x z f
+  as-fresh m x z t s f known known_too read read_too reach reach_too none none_too g =
+      let one = resumed m x z t s known read reach g none in
+      let again = goes-again m x z t s known one g in
+      let g_too = goes-too m x z t f known_too read_too reach_too again (λ e. none_too) in
+      same-twice t (made turn m x z s) (made turn m x z f) (made turn m x (moved t.gap z) (fresh l (moved t.gap z))) one (resumed m x z t f known_too read_too reach_too g_too (λ e. none_too))
+
+  pub goes-both : (m : ℕ) (x : Bool × ℕ) (z : Place) (t : Trivia) (s f : Point) → s.known ≡ Some t → f.known ≡ Some t → ReadAs markup_reading s → ReadAs markup_reading f → Reached l.classes z s → Reached l.classes z f
+      → (minds (markup_head x.0 x.1 (hand_of l z s).kind) ≡ true → s.empties ≡ 0) → f.empties ≡ 0 → AllGo (made turn m x z f) → AllGo (made turn m x z s)
+  goes-both m x z t s f known known_too read read_too reach reach_too none none_too g =
+      goes-too m x z t s known read reach (goes-again m x z t f known_too (resumed m x z t f known_too read_too reach_too g (λ e. none_too)) g) none
+
 -- ---- a text's run, and a content block's
 
 module _ (k : CharClasses) (z : Place) (i : ℕ) where
@@ -152,6 +258,21 @@ resume-law k z i m t g h known none =
     let e = first_end i (text_run k z) in
     resumed (level_at k max_depth) (sane-meaning (rules k) k max_depth) (sane-block (rules k) k max_depth) refl is_end refl (λ r q a b alike x some. takes-call k 255 r q a b alike x some)
     m e.value (moved e.taken z) t e.state known (text-read k i 0 z) (text-reached k z i) h none
+
+-- pieces that go on where they are read again do so where they stood
+pub text-goes-too : (k : CharClasses) (z : Place) (i m : ℕ) (t : Trivia) → (let r = text_run k z in AllGo (first_of i r) → AllGo (read_again i m t r) → (first_end i r).state.known ≡ Some t
+    → (minds_at r (first_place i r) (first_end i r) ≡ true → (first_end i r).state.empties ≡ 0) → AllGo (then_of i m r))
+text-goes-too k z i m t g h known none =
+    let e = first_end i (text_run k z) in
+    goes-too (level_at k max_depth) (sane-meaning (rules k) k max_depth) (sane-block (rules k) k max_depth) refl is_end refl (λ r q a b alike x some. takes-call k 255 r q a b alike x some)
+    m e.value (moved e.taken z) t e.state known (text-read k i 0 z) (text-reached k z i) h none
+
+-- where a token begins nothing is known of trivia
+pub text-fresh : (k : CharClasses) (z : Place) (i : ℕ) (t : Trivia) → (let e = first_end i (text_run k z) in e.state.known ≡ Some t → (fresh (level_at k max_depth) (moved t.gap (moved e.taken z))).known ≡ Some no_trivia)
+text-fresh k z i t known =
+    let e = first_end i (text_run k z) in
+    fresh-known (level_at k max_depth) (sane-meaning (rules k) k max_depth) (sane-block (rules k) k max_depth) refl is_end refl (λ r q a b alike x some. takes-call k 255 r q a b alike x some)
+    (moved e.taken z) t e.state known (text-read k i 0 z) (text-reached k z i)
 
 pub count-law : CountLaw
 count-law k z i m n g h j same =
@@ -177,10 +298,22 @@ module _ (k : CharClasses) (levels : ℕ) (z : Place) (s : Point) (i : ℕ) wher
       let b = bracket k levels z s in
       reached-made k (λ x. run l (markup_turn true ends_block x)) (λ x. reached-run l reach (markup_turn true ends_block x)) i (true, 0) block_run.place block_run.point (reached-run l reach peek (moved b.taken z) b.state tt)
 
-  block-known : AllGo (first_of i block_run) → KnownAt block_end.state
+  pub block-known : AllGo (first_of i block_run) → KnownAt block_end.state
   unfolding run
   block-known g =
       known-behind (inner k levels) (sane-meaning (rules k) k (suc levels)) (λ b. sane-plain tt) deep ends_block refl (λ r y t x some. takes-call k levels r y t t (same-judged r t) x some) i (true, 0) block_run.place block_run.point (record { trivia = _; is = refl }) g
+
+  -- so at the end of more of them
+  pub block-then-known : (m : ℕ) → AllGo (first_of i block_run) → AllGo (then_of i m block_run) → KnownAt (then_end i m block_run).state
+  unfolding run
+  block-then-known m g h =
+      known-behind (inner k levels) (sane-meaning (rules k) k (suc levels)) (λ b. sane-plain tt) deep ends_block refl (λ r y t x some. takes-call k levels r y t t (same-judged r t) x some) m block_end.value (moved block_end.taken block_run.place) block_end.state (block-known g) h
+
+  -- where a token begins nothing is known of trivia
+  pub block-fresh : (t : Trivia) → block_end.state.known ≡ Some t → (fresh (inner k levels) (moved t.gap (moved block_end.taken block_run.place))).known ≡ Some no_trivia
+  block-fresh t known =
+      fresh-known (inner k levels) (sane-meaning (rules k) k (suc levels)) (λ b. sane-plain tt) deep ends_block refl (λ h q a b alike x some. takes-call k levels h q a b alike x some)
+      (moved block_end.taken block_run.place) t block_end.state known (block-read k levels i 0 z s) block-reached
 
 pub inner-resume-law : InnerResumeLaw
 inner-resume-law k levels z s i m t g h known none =
@@ -195,3 +328,86 @@ inner-count-law k levels z s i m n g h j same =
     let e = first_end i r in
     counted (inner k levels) (sane-meaning (rules k) k (suc levels)) (λ b. sane-plain tt) (deep k levels z s i) ends_block refl (λ h q a b alike x some. takes-call k levels h q a b alike x some)
     m n e.value (moved e.taken r.place) e.state (block-known k levels z s i g) h j same
+
+-- pieces that go on where they are read again do so where they stood
+pub inner-goes-too : (k : CharClasses) (levels : ℕ) (z : Place) (s : Point) (i m : ℕ) (t : Trivia) → (let r = inner_run k levels z s in AllGo (first_of i r) → AllGo (read_again i m t r) → (first_end i r).state.known ≡ Some t
+    → (minds_at r (first_place i r) (first_end i r) ≡ true → (first_end i r).state.empties ≡ 0) → AllGo (then_of i m r))
+inner-goes-too k levels z s i m t g h known none =
+    let r = inner_run k levels z s in
+    let e = first_end i r in
+    goes-too (inner k levels) (sane-meaning (rules k) k (suc levels)) (λ b. sane-plain tt) (deep k levels z s i) ends_block refl (λ h q a b alike x some. takes-call k levels h q a b alike x some)
+    m e.value (moved e.taken r.place) t e.state known (block-read k levels i 0 z s) (block-reached k levels z s i) h none
+
+module _ (k : CharClasses) (levels : ℕ) (z : Place) (s : Point) where
+  abbrev first_place_of : Place
+  first_place_of = moved (bracket k levels z s).taken z
+
+  abbrev fresh_start : Point
+  fresh_start = fresh (inner k levels) first_place_of
+
+  start-read : ReadAs markup_reading (inner_run k levels z s).point
+  start-read = block-read k levels 0 0 z s
+
+  fresh-read : ReadAs markup_reading fresh_start
+  unfolding run
+  fresh-read = record { reading = refl; held = refl }
+
+  fresh-reached : Reached k first_place_of fresh_start
+  unfolding run
+  fresh-reached = reached-run (inner k levels) (reached-meaning (rules k) k (suc levels)) peek first_place_of (start_point markup_reading) tt
+
+  fresh-at : KnownAt fresh_start
+  unfolding run
+  fresh-at = record { trivia = _; is = refl }
+
+  fresh-none : fresh_start.empties ≡ 0
+  unfolding run
+  fresh-none = refl
+
+  -- the same trivia are known where a block's run begins as where nothing was known before
+  pub start-known : (inner_run k levels z s).point.known ≡ fresh_start.known
+  unfolding run
+  start-known =
+      let p = (bracket k levels z s).state in
+      let read = start-read in
+      let held : p.held ≡ markup_reading = read.held in
+      ap (λ h. (run (inner k levels) peek first_place_of (record { reading = p.reading; held = h; empties = p.empties; is_after_error = p.is_after_error; known = None })).state.known) held
+
+  -- and the same is looked at there
+  pub start-asks : (inner_lead k levels z s).asks ≡ (run (inner k levels) peek first_place_of (start_point markup_reading)).asks
+  unfolding run
+  start-asks =
+      let p = (bracket k levels z s).state in
+      let read = start-read in
+      let held : p.held ≡ markup_reading = read.held in
+      ap (λ h. (run (inner k levels) peek first_place_of (record { reading = p.reading; held = h; empties = p.empties; is_after_error = p.is_after_error; known = None })).asks) held
+
+  -- no trivia are known behind its bracket
+  pub bracket-gap : gap_of (bracket k levels z s).state.known ≡ 0
+  unfolding run
+  bracket-gap = refl
+
+  -- and where errors stand before it only if none is taken back, its pieces are those that are read from there with nothing else known
+  pub start-same : (m : ℕ) → (let r = inner_run k levels z s in (minds_at r (first_place 0 r) (first_end 0 r) ≡ true → r.point.empties ≡ 0) → AllGo (then_of 0 m r)
+      → made (turn_of r) m (true, 0) r.place r.point ≡ made (turn_of r) m (true, 0) r.place fresh_start)
+  start-same m none g =
+      let at = fresh-at in
+      as-fresh (inner k levels) (sane-meaning (rules k) k (suc levels)) (λ b. sane-plain tt) (deep k levels z s 0) ends_block refl (λ h q a b alike x some. takes-call k levels h q a b alike x some)
+      m (true, 0) first_place_of at.trivia (inner_run k levels z s).point fresh_start (start-known ∙ at.is) at.is start-read fresh-read (block-reached k levels z s 0) fresh-reached none fresh-none g
+
+  pub start-goes : (m : ℕ) → (let r = inner_run k levels z s in (minds_at r (first_place 0 r) (first_end 0 r) ≡ true → r.point.empties ≡ 0) → AllGo (made (turn_of r) m (true, 0) r.place fresh_start) → AllGo (then_of 0 m r))
+  start-goes m none g =
+      let at = fresh-at in
+      let p = (inner_run k levels z s).point in
+      let known = start-known ∙ at.is in
+      let t = at.trivia in
+      goes-both (inner k levels) (sane-meaning (rules k) k (suc levels)) (λ b. sane-plain tt) (deep k levels z s 0) ends_block refl (λ h q a b alike x some. takes-call k levels h q a b alike x some)
+      m (true, 0) first_place_of t p fresh_start known at.is start-read fresh-read (block-reached k levels z s 0) fresh-reached none fresh-none g
+
+-- more pieces that are read by themselves end further on
+pub alone-further : (k : CharClasses) (levels : ℕ) (m n : ℕ) (x : Bool × ℕ) (y : Place) → m < n → AllGo (read_alone k levels x n y)
+    → (let e = end_alone k levels x m y in let f = end_alone k levels x n y in e.taken + gap_of e.state.known < f.taken + gap_of f.state.known)
+unfolding run
+alone-further k levels m n x y some g =
+    further (inner k levels) (sane-meaning (rules k) k (suc levels)) (λ b. sane-plain tt) (ne_eqb (suc levels) 0 (omega arith)) ends_block refl (λ h q a b alike x some. takes-call k levels h q a b alike x some)
+    m n x y (fresh (inner k levels) y) (record { trivia = _; is = refl }) some g

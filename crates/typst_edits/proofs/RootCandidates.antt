@@ -19,6 +19,7 @@ use Rattle.typst_edits.specs.Every.{Every}
 use Rattle.typst_edits.specs.Joint.{text_run, onwards_from}
 use Rattle.typst_edits.specs.Leading.{both, token_byte}
 use Rattle.typst_edits.specs.NumberedNotes.{of_level, Numbered, SaysOf, cut_behind}
+use Rattle.typst_edits.specs.Occurrences.{goes}
 use Rattle.typst_edits.specs.PieceNotes.{listed}
 use Rattle.typst_edits.specs.RootPieces.{StandsAt}
 use Rattle.typst_edits.specs.Runs.{AllGo, End, piece_at, lead, pieces, end_at, pieces_from, end_from}
@@ -66,6 +67,7 @@ pub record TopCuts (k : CharClasses) (text : List ℕ) : Type 0 where
   pub count : ℕ
   pub cuts : List ℕ
   pub go : AllGo (pieces k count (start_of text))
+  pub over : (let e = end_at k count (start_of text) in goes (piece_at k e.value (moved e.taken (start_of text)) e.state) ≡ false)
   pub each : (b : ℕ) → is_among b cuts ≡ true → CutOf text (λ i. end_at k i (start_of text)) count b
   are : top_cuts (listed (log k text).notes) ≡ Some cuts
   has : (j : ℕ) → 0 < j → AllGo (pieces k j (start_of text)) → is_among (width (take (cut_behind j (end_at k j (start_of text))) text)) cuts ≡ true
@@ -81,6 +83,7 @@ cuts-of-text k text =
       count = n.count;
       cuts = b.cuts;
       go = n.go;
+      over = n.over;
       each = b.is.each;
       are = ap behind_first (starts-are text e max_depth 0 ns n.each) ∙ b.are;
       has = λ j some go. b.is.has j some (few-go (piece_at k) (within k) n.count j (true, 0) z (lead k z).state (nat_lt n.count j) refl go n.over);
@@ -154,14 +157,14 @@ module _ (k : CharClasses) (text : List ℕ) (i : ℕ) (g : AllGo (pieces k i (s
       let sum : (u.taken + 0) + gap_of u.state.known ≡ u.taken + gap_of u.state.known = omega arith in
       ap (λ m. token_byte text (both k i m z0)) e ∙ ap (λ d. width (take d text)) sum
 
-  pieces-parted : (n : ℕ) (t : Trivia) (cuts : TopCuts k text) → AllGo (pieces_from k i n z0) → (end_from k i n z0).state.known ≡ Some t → Parted run0 cuts.cuts 0 kids i n start0 (token_byte text (both k i n z0))
+  pub pieces-parted : (n : ℕ) (t : Trivia) (cuts : TopCuts k text) → AllGo (pieces_from k i n z0) → (end_from k i n z0).state.known ≡ Some t → Parted run0 cuts.cuts 0 kids i n start0 (token_byte text (both k i n z0))
   pieces-parted n t cuts h known =
       parted run0 cuts.cuts 0 kids i n start0 (token_byte text (both k i n z0)) t known (gives-at n t h known) (λ l e. none-end n e) (λ l some. gives-one n cuts h some)
       (λ l some mind. (let e = end_at k i z0 in text-lone k z0 i g (go-fewer (piece_at k) (within k) 1 n e.value (moved e.taken z0) e.state (omega (arith, some)) h) mind))
 
 -- ---- the candidate
 
-head-none : (k : CharClasses) (text : List ℕ) → length (tree k text).head.text ≡ 0
+pub head-none : (k : CharClasses) (text : List ℕ) → length (tree k text).head.text ≡ 0
 head-none k text = ap (λ (t : Tree). length t.head.text) (tree-is k text 0 0 tt tt)
 
 pub of-the-root : (k : CharClasses) (text : List ℕ) (rs re : ℕ) (root : Tree) (c : Candidate) (cuts : TopCuts k text) → bare root ≡ bare (tree k text) → Among c (candidate.candidates (listed (log k text).notes) rs re root) → c.is_block ≡ false → c.path ≡ []

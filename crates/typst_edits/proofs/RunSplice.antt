@@ -115,14 +115,14 @@ module _ (k : CharClasses) where
       ap (λ (o : Outcome (Unit {0})). o.asks) is ∙ whole-asks k z r u ∙ ap (λ ls. run_mark ∷ ls) (chained-asks (lead k z).asks (true, 0) e.value (lead k z).state e.state os ps q u)
 
   -- all that is asked behind the note where i pieces end
-  abbrev all_asks : ℕ → ℕ → Place → List Ask
+  abbrev pub all_asks : ℕ → ℕ → Place → List Ask
   all_asks i n z = next_looks k i z ++ shift (end_at k i z).taken (asks_of (pieces_from k i n z) ++ shift (end_from k i n z).taken (onwards_from k i n z).asks)
 
   -- what is asked up to the note where i pieces end, and the looks behind it
-  record Cut (i : ℕ) (z : Place) : Type 0 where
-    first : List Ask
-    is : run_mark ∷ ((lead k z).asks ++ asks_of (pieces k i z)) ≡ first ++ noting (end_note k i z) ∷ next_looks k i z
-    count : notes_in first ≡ notes_in (asks_of (pieces k i z))
+  pub record Cut (i : ℕ) (z : Place) : Type 0 where
+    pub first : List Ask
+    pub is : run_mark ∷ ((lead k z).asks ++ asks_of (pieces k i z)) ≡ first ++ noting (end_note k i z) ∷ next_looks k i z
+    pub count : notes_in first ≡ notes_in (asks_of (pieces k i z))
     none : i ≡ 0 → first ≡ []
     early : (n : ℕ) → (0 < i → AllEndBy n ((lead k z).asks ++ asks_of (pieces k i z))) → AllEndBy n first
 
@@ -140,7 +140,7 @@ module _ (k : CharClasses) where
       let looks = hand_asks_of (level_at k max_depth) (moved e.taken z) e.state in
       count-none (shift e.taken looks) (bare-shift e.taken looks (hand-bare (moved e.taken z) e.state))
 
-  cut : (i : ℕ) (z : Place) → AllGo (pieces k i z) → Cut i z
+  pub cut : (i : ℕ) (z : Place) → AllGo (pieces k i z) → Cut i z
   cut zero z g = record { first = []; is = ap (λ u. run_mark ∷ u) (append-nil (lead k z).asks); count = refl; none = λ e. refl; early = λ n h. tt }
   cut (suc j) z g =
       let r = text_run k z in
@@ -168,7 +168,7 @@ module _ (k : CharClasses) where
       }
 
   -- all that is asked of a text, cut there
-  cut-asks : (text : List ℕ) (i n : ℕ) → (let z = start_of text in (first : List Ask) (p : Noting) → AllGo (pieces k i z) → AllGo (pieces_from k i n z)
+  pub cut-asks : (text : List ℕ) (i n : ℕ) → (let z = start_of text in (first : List Ask) (p : Noting) → AllGo (pieces k i z) → AllGo (pieces_from k i n z)
       → run_mark ∷ ((lead k z).asks ++ asks_of (pieces k i z)) ≡ first ++ noting p ∷ next_looks k i z → (parsed k max_depth text).asks ≡ first ++ noting p ∷ all_asks i n z)
   cut-asks text i n first p g h is =
       let z = start_of text in

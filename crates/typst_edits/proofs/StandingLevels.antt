@@ -200,7 +200,7 @@ standing-law k text hole x e b = said (each-plug (Stood o cs ds) hole x b (subst
     is-of c t =
         let path = ap (λ n. n ∷ path_in c.hole.deep) t.first ∙ ap (λ q. length hole.left ∷ q) t.path in
         let node = same-plugged c.hole hole c.node x path (t.nodes ∙ e) in
-        record { path = path; node = node; head = sym (ap (λ (u : Tree). u.head) node) ∙ t.head }
+        record { path = path; node = node; nodes = t.nodes ∙ e; head = sym (ap (λ (u : Tree). u.head) node) ∙ t.head }
 
     said : Stood o cs ds (length hole.left) (path_in hole.deep) → Stems k text hole x
     said (inl h) = let r = chosen _ cs h in from_unit r.spot r.among (is-of r.spot r.holds)

@@ -152,19 +152,19 @@ unfolding width char_width
 width-encodes [] = refl
 width-encodes (c ∷ xs) = omega (arith, length-append (encode_utf8 c) (encode_utf8_all xs), length-encode c, width-encodes xs)
 
-width-some : (xs : List ℕ) → 0 < length xs → 0 < width xs
+pub width-some : (xs : List ℕ) → 0 < length xs → 0 < width xs
 unfolding width
 width-some [] h = absurd (omega arith)
 width-some (c ∷ xs) h = omega (arith, width-positive c)
 
 -- what ends before a stretch does so in bytes
-width-before : (n : ℕ) (front more : List ℕ) → n < length front → width (take n (front ++ more)) < width front
+pub width-before : (n : ℕ) (front more : List ℕ) → n < length front → width (take n (front ++ more)) < width front
 unfolding width
 width-before n [] more h = absurd (omega arith)
 width-before zero (c ∷ front) more h = omega (arith, width-positive c)
 width-before (suc n) (c ∷ front) more h = let i = width-before n front more (omega (arith, h)) in omega (arith, i)
 
-width-over : (front : List ℕ) (past : ℕ) (more : List ℕ) → width (take (length front + past) (front ++ more)) ≡ width front + width (take past more)
+pub width-over : (front : List ℕ) (past : ℕ) (more : List ℕ) → width (take (length front + past) (front ++ more)) ≡ width front + width (take past more)
 unfolding width
 width-over [] past more =
     let none : List ℕ = [] in
@@ -176,7 +176,7 @@ width-over (c ∷ front) past more =
     let e : length (c ∷ front) + past ≡ suc (length front + past) = omega arith in
     ap (λ n. width (take n (c ∷ (front ++ more)))) e ∙ (let f : char_width c + width (take (length front + past) (front ++ more)) ≡ (char_width c + width front) + width (take past more) = omega (arith, i) in f)
 
-moved-long : (n : ℕ) (z : Place) → length (moved n z).ahead ≡ length z.ahead - n
+pub moved-long : (n : ℕ) (z : Place) → length (moved n z).ahead ≡ length z.ahead - n
 moved-long n z = ap length (moved-ahead n z) ∙ long n z.ahead
   where
     long : (n : ℕ) (xs : List ℕ) → length (drop n xs) ≡ length xs - n

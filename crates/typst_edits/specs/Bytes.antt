@@ -1,5 +1,5 @@
 -- The test of an edit in bytes, by the notes of a reading.
-use Rattle.std.specs.Prelude.{◌≡◌, ℕ, ◌+◌, ◌-◌, ◌<◌, ◌≤◌, ◌^◌, max, min, List, [], ◌∷◌, ◌++◌, length, take, Some}
+use Rattle.std.specs.Prelude.{◌≡◌, ℕ, suc, ◌+◌, ◌-◌, ◌<◌, ◌≤◌, ◌^◌, max, min, List, [], ◌∷◌, ◌++◌, length, take, Some}
 use Rattle.typst_lines.specs.Classes.{CharClasses}
 use Rattle.typst_tokens.specs.Sight.{width}
 use Rattle.typst_language.specs.declared.calls.Mark.TheVariants as mark
@@ -8,6 +8,7 @@ use Rattle.typst_language.specs.Log.{Log}
 use Rattle.typst_grammar.specs.Grammar.{max_depth, log}
 use Rattle.typst_edits.specs.Edit.{Among, text_with, AllEndBy, AllBeginIn}
 use Rattle.typst_edits.specs.Laws.{blocks_of_text}
+use Rattle.typst_edits.specs.Splice.{notes_in}
 use Rattle.typst_edits.specs.Spot.{Spot, unit_at}
 
 -- where the looks before some notes, and those since the last of them, end
@@ -36,6 +37,10 @@ pub record Decided {A : Type 0} (h : Log) (front old rest : List ℕ) (c : Spot 
   pub state : opens.state ≡ c.start
   -- the second says that it ends
   pub name_end : closes.mark ≡ mark.Closes
+  pub end : closes.start ≡ width (take (c.at + (unit_at c (text_with front old rest)).taken) (front ++ (old ++ rest)))
+  -- as many notes stand before the first as are noted before the block, and as many between the two as its reading notes
+  pub number : notes_in c.before ≡ suc (length earlier)
+  pub long : length inner ≡ notes_in (unit_at c (text_with front old rest)).asks
   -- the two tests of looks
   pub before : highest earlier opens.reach ≤ width front → AllEndBy (length front) c.before
   pub after : width (front ++ old) < lowest later h.least → AllBeginIn past rest c.after

@@ -12,8 +12,9 @@ use Rattle.typst_edits.specs.Edit.{Among, text_with}
 use Rattle.typst_edits.specs.InnerJoint.{BeginsPast}
 use Rattle.typst_edits.specs.Laws.{blocks_of_text}
 use Rattle.typst_edits.specs.RunBytes.{PieceNote}
-use Rattle.typst_edits.specs.Runs.{AllGo, End}
+use Rattle.typst_edits.specs.Runs.{AllGo, End, asks_of}
 use Rattle.typst_edits.specs.Sequence.{first_of, first_end, then_of, then_end}
+use Rattle.typst_edits.specs.Splice.{notes_in}
 use Rattle.typst_edits.specs.Spot.{Spot}
 
 -- where i pieces of a block's run end, and n behind them, counted from the text's start
@@ -28,8 +29,14 @@ inner_both k levels i n c z = let r = run_at k levels c z in let e = then_end i 
 pub record DecidedInner (k : CharClasses) (levels : ℕ) (front old rest : List ℕ) (c : Spot (Unit {0})) (i n : ℕ) : Type 0 where
   pub begins : PieceNote (log k (front ++ (old ++ rest))) (suc levels) (front ++ (old ++ rest)) (inner_end k levels i c (text_with front old rest))
   pub ends : PieceNote (log k (front ++ (old ++ rest))) (suc levels) (front ++ (old ++ rest)) (inner_both k levels i n c (text_with front old rest))
+  -- the first says where the token behind i pieces begins, and without any where the run does
+  pub token : (let e = inner_end k levels i c (text_with front old rest) in 0 < i → begins.note.start ≡ width (take (e.taken + gap_of e.state.known) (front ++ (old ++ rest))))
+  pub token_first : i ≡ 0 → begins.note.start ≡ width (take (inner_end k levels i c (text_with front old rest)).taken (front ++ (old ++ rest)))
   -- the second says where the trivia behind the pieces end
   pub trivia_end : (let e = inner_both k levels i n c (text_with front old rest) in 0 < i + n → ends.note.start ≡ width (take (e.taken + gap_of e.state.known) (front ++ (old ++ rest))))
+  -- so many notes stand before them
+  pub number : length begins.earlier ≡ notes_in c.before + notes_in (asks_of (first_of i (run_at k levels c (text_with front old rest))))
+  pub number_end : length ends.earlier ≡ (notes_in c.before + notes_in (asks_of (first_of i (run_at k levels c (text_with front old rest))))) + notes_in (asks_of (then_of i n (run_at k levels c (text_with front old rest))))
   -- the test of looks before the pieces, in both directions
   pub before : highest begins.earlier begins.note.reach ≤ width front → EndsBefore k levels front old rest c i
   pub before_too : EndsBefore k levels front old rest c i → highest begins.earlier begins.note.reach ≤ width front

@@ -4,7 +4,7 @@ use Rattle.typst_lines.specs.Place.{Place, moved}
 use Rattle.typst_lines.specs.Classes.{CharClasses}
 use Rattle.typst_tokens.specs.Sight.{width}
 use Rattle.typst_language.specs.Ask.{Ask}
-use Rattle.typst_language.specs.Point.{Trivia}
+use Rattle.typst_language.specs.Point.{Trivia, gap_of}
 use Rattle.typst_grammar.specs.Grammar.{max_depth, log}
 use Rattle.typst_edits.specs.Bytes.{highest, lowest}
 use Rattle.typst_edits.specs.Edit.{text_with, AllEndBy, AllBeginIn}
@@ -21,6 +21,8 @@ asked_past k i n t z = let e = end_from k i n z in (onwards (text_run k z) e.val
 pub record DecidedJoint (k : CharClasses) (front old rest : List ℕ) (i n past : ℕ) (t : Trivia) : Type 0 where
   pub begins : PieceNote (log k (front ++ (old ++ rest))) max_depth (front ++ (old ++ rest)) (end_at k i (text_with front old rest))
   pub ends : PieceNote (log k (front ++ (old ++ rest))) max_depth (front ++ (old ++ rest)) (both_end k i n front old rest)
+  -- the first says where the token behind the pieces before it begins
+  pub token : (let e = end_at k i (text_with front old rest) in 0 < i → begins.note.start ≡ width (take (e.taken + gap_of e.state.known) (front ++ (old ++ rest))))
   -- the second says where the trivia behind the pieces end
   pub trivia_end : 0 < i + n → ends.note.start ≡ width (take ((both_end k i n front old rest).taken + t.gap) (front ++ (old ++ rest)))
   -- the two tests of looks

@@ -3,6 +3,7 @@ pub mod Spot
 pub mod Every
 pub mod Occurrences
 pub mod Edit
+pub mod Splice
 pub mod Named
 pub mod Runs
 pub mod Sequence
@@ -25,6 +26,7 @@ pub mod NumberedNotes
 pub mod Leading
 pub mod Rising
 pub mod OpensApart
+pub mod Nested
 pub mod InnerChildren
 pub mod Heads
 pub mod LeadingTrivia
@@ -38,7 +40,6 @@ pub mod RunExamples
 pub mod Conditions
 pub mod RareConditions
 pub mod Looks
-pub mod Splice
 pub mod BlockModes
 pub mod Resumed
 pub mod Frame
@@ -53,6 +54,7 @@ pub mod CandidateEnds
 pub mod InnerCandidates
 pub mod AnswerExamples
 pub mod BlockSplice
+pub mod BlockPart
 pub mod RunSplice
 pub mod InnerSplice
 pub mod SpliceExamples
@@ -62,9 +64,25 @@ pub mod InnerPiecesLog
 pub mod RootWorth
 pub mod InnerWorth
 pub mod BlockWorth
+pub mod InOrder
+pub mod BlockTest
+pub mod RunTest
+pub mod Served
+pub mod RunNumbers
+pub mod CandidateRuns
+pub mod InnerPiecesTest
+pub mod PiecesTest
 -- What the crates above name of those below.
 pub use Rattle.typst_grammar.specs.Bytes as Bytes-of-lookahead
 pub use Rattle.typst_grammar.specs.Grammar
-pub use Rattle.typst_grammar.specs.Markup
-pub use Rattle.typst_grammar.specs.Told
+pub use Rattle.typst_grammar.specs.Part
+pub use Rattle.typst_grammar.specs.Pieces
 pub use Rattle.typst_grammar.specs.View
+pub use Rattle.typst_grammar.specs.declared.part.PieceReader
+pub use Rattle.typst_grammar.specs.declared.part.ReadPart
+pub use Rattle.typst_grammar.specs.declared.part.RunKind
+pub use Rattle.typst_language.specs.Ask
+pub use Rattle.typst_language.specs.Log
+pub use Rattle.typst_language.specs.Point
+pub use Rattle.typst_language.specs.declared.calls.Block
+pub use Rattle.typst_language.specs.declared.calls.Note

@@ -83,6 +83,8 @@ pub record IsOf (hole : Hole) (x : Tree) (c : Spot (Unit {0})) : Type 0 where
   -- its hole has the same path, and its node is this one, of its kind
   pub path : path_of c.hole ≡ path_of hole
   pub node : c.node ≡ x
+  -- in its hole it is among the same nodes
+  pub nodes : plug c.hole c.node ≡ plug hole x
   pub head : x.head ≡ block_head c.name
 
 -- Where a node of a block's kind in a text's tree comes from: a block that is a unit, or one that a reading that was given up covers.

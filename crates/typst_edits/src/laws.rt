@@ -6,11 +6,15 @@ ghost use Rattle.typst_edits.specs.AnswerExamples.{Answered, Decided};
 ghost use Rattle.typst_edits.specs.BlockModes.{ModeLaw};
 ghost use Rattle.typst_edits.specs.BlockRuns.{InnerLaw};
 ghost use Rattle.typst_edits.specs.BlockSplice.{BlockSpliceLaw};
+ghost use Rattle.typst_edits.specs.BlockPart.{BlockPartLaw, PartFitsLaw};
+ghost use Rattle.typst_edits.specs.BlockPart.{BlockPartLaw};
+ghost use Rattle.typst_edits.specs.BlockTest.{BlockTestLaw};
 ghost use Rattle.typst_edits.specs.BlockWorth.{BlockWorthLaw};
 ghost use Rattle.typst_edits.specs.Answer.{CandidateLaw};
 ghost use Rattle.typst_edits.specs.AnswerTree.{AnswerTreeLaw, GivesTreeLaw};
 ghost use Rattle.typst_edits.specs.Bytes.{DecisionLaw};
 ghost use Rattle.typst_edits.specs.CandidateEnds.{RootCandidateLaw};
+ghost use Rattle.typst_edits.specs.CandidateRuns.{InnerPiecesOfLaw, RootPiecesOfLaw};
 ghost use Rattle.typst_edits.specs.CandidatePlaces.{CandidatePlacesLaw, CandidateTreeLaw};
 ghost use Rattle.typst_edits.specs.Children.{BackLaw, ChildrenLaw};
 ghost use Rattle.typst_edits.specs.Conditions.{Conditions};
@@ -18,6 +22,7 @@ ghost use Rattle.typst_edits.specs.EmptyRuns.{EmptyBlockLaw, EmptyTextLaw};
 ghost use Rattle.typst_edits.specs.Examples.{Blocks};
 ghost use Rattle.typst_edits.specs.RunExamples.{Runs};
 ghost use Rattle.typst_edits.specs.Heads.{HeadLaw, InnerHeadLaw, InnerMeetsLaw, InnerNoneBackLaw, InnerNoneBehindLaw, MeetsLaw, NoneBackLaw, NoneBehindLaw};
+ghost use Rattle.typst_edits.specs.InOrder.{InOrderLaw};
 ghost use Rattle.typst_edits.specs.InnerBytes.{InnerDecisionLaw};
 ghost use Rattle.typst_edits.specs.InnerChildren.{InnerBackLaw, InnerChildrenLaw};
 ghost use Rattle.typst_edits.specs.InnerJoint.{InnerJointLaw};
@@ -27,6 +32,7 @@ ghost use Rattle.typst_edits.specs.JointExamples.{Joints};
 ghost use Rattle.typst_edits.specs.JointBytes.{JointDecisionLaw};
 ghost use Rattle.typst_edits.specs.Laws.{BlockLaw, NamesLaw};
 ghost use Rattle.typst_edits.specs.Leading.{LeadingInnerLaw, LeadingLaw};
+ghost use Rattle.typst_edits.specs.InnerPiecesTest.{InnerEntriesLaw, InnerOnceLaw, InnerPartLaw, InnerReadLaw, InnerTestLaw, InnerUnitsLaw};
 ghost use Rattle.typst_edits.specs.InnerPiecesLog.{InnerPiecesLogLaw};
 ghost use Rattle.typst_edits.specs.InnerSplice.{AroundSpliceLaw, InnerSpliceLaw};
 ghost use Rattle.typst_edits.specs.InnerSpliceExamples.{InnerSplices};
@@ -39,7 +45,9 @@ ghost use Rattle.typst_edits.specs.OneReading.{GivesAgainLaw, OneReadingLaw};
 ghost use Rattle.typst_edits.specs.Origins.{Origins};
 ghost use Rattle.typst_edits.specs.PiecesLog.{PiecesLogLaw};
 ghost use Rattle.typst_edits.specs.PieceNotes.{InnerNotesLaw, RunNotesLaw};
+ghost use Rattle.typst_edits.specs.PiecesTest.{CutOnceLaw, RunEntriesLaw, RunGivesLaw, RunPartLaw, RunReadLaw};
 ghost use Rattle.typst_edits.specs.RareConditions.{RareConditions};
+ghost use Rattle.typst_edits.specs.Nested.{NestedBlockLaw, NestedInnerLaw, NestedLaw};
 ghost use Rattle.typst_edits.specs.OpensApart.{OpensApartLaw};
 ghost use Rattle.typst_edits.specs.Rising.{RisingLaw};
 ghost use Rattle.typst_edits.specs.Replaced.{ExchangedLaw, FrontLaw, PutLaw, ReplacedLaw};
@@ -48,10 +56,18 @@ ghost use Rattle.typst_edits.specs.RootWorth.{RootWorthLaw};
 ghost use Rattle.typst_edits.specs.InnerCandidates.{InnerCandidateLaw};
 ghost use Rattle.typst_edits.specs.RootPieces.{RootPiecesLaw};
 ghost use Rattle.typst_edits.specs.RunBytes.{RunDecisionLaw};
+ghost use Rattle.typst_edits.specs.RunNumbers.{InnerNumbersLaw, RunNumbersLaw};
 ghost use Rattle.typst_edits.specs.RunTrees.{RunTreeLaw};
+ghost use Rattle.typst_edits.specs.RunNumbers.{InnerNumbersLaw};
+ghost use Rattle.typst_edits.specs.RunTest.{InnerRunTestLaw};
+ghost use Rattle.typst_edits.specs.CandidateRuns.{InnerPiecesOfLaw};
 ghost use Rattle.typst_edits.specs.Runs.{RunLaw, StartLaw};
 ghost use Rattle.typst_edits.specs.Standing.{StandingLaw, UnnotedLaw};
 ghost use Rattle.typst_edits.specs.RunSplice.{RunSpliceLaw};
+ghost use Rattle.typst_edits.specs.RunTest.{OverLaw, RunTestLaw};
+ghost use Rattle.typst_edits.specs.Served.{ServedLaw};
+ghost use Rattle.typst_edits.specs.RunNumbers.{RunNumbersLaw};
+ghost use Rattle.typst_edits.specs.CandidateRuns.{RootPiecesOfLaw};
 ghost use Rattle.typst_edits.specs.Splice.{SpliceLaw};
 ghost use Rattle.typst_edits.specs.SpliceExamples.{Splices};
 ghost use Rattle.typst_edits.specs.Unique.{OneAnswerLaw, UniqueLaw};
@@ -174,10 +190,16 @@ pub fn numbered_notes_law()
 {}
 
 /// No note of a text's log goes back behind the one before it, the token of each begins where it stands or behind, and
-/// all lie within the text. Of two notes at which blocks begin the later one's token begins at a later byte.
+/// all lie within the text. Each stands at the token of the note before it or behind that. Of two notes at which blocks
+/// begin the later one's token begins at a later byte. The notes are nested: each block ends, and in it stand pieces that
+/// say its level, and blocks that say fewer levels; and so are those between the two notes of a block.
 pub fn rising_law()
     ensures order { RisingLaw }
+    ensures tokens { InOrderLaw }
     ensures opens { OpensApartLaw }
+    ensures nested { NestedLaw }
+    ensures nested_inner { NestedInnerLaw }
+    ensures nested_block { NestedBlockLaw }
 {}
 
 /// Where pieces of a text's run begin, of the children at the top of its tree one begins at the byte of their first
@@ -187,6 +209,14 @@ pub fn rising_law()
 pub fn leading_law()
     ensures run { LeadingLaw }
     ensures inner { LeadingInnerLaw }
+{}
+
+/// What the records of a text find of a candidate that is a block: where no entry begins a block at the candidate's
+/// start, it doesn't pass. Where one does, that entry says how the block is read by itself; it passes exactly where that
+/// entry is among those before the stretch, the one where the block ends among those behind it, and the block by itself,
+/// on the new text, ends at the shifted end. Then its one node and its entries take the place of the old ones.
+pub fn block_test_law()
+    ensures { BlockTestLaw }
 {}
 
 /// Where what is asked of two texts is the same and lies before a stretch up to a note, and is the same and lies behind
@@ -254,6 +284,14 @@ pub fn replaced_law()
 /// new text's tree is the old one with this node in its place, and its units are the old ones with the block's exchanged.
 pub fn block_worth_law()
     ensures { BlockWorthLaw }
+{}
+
+/// What takes the place of a block's entries, behind the one where it begins, is the entries of what is noted in
+/// reading it by itself, and that of its end. The token of each note that is made in reading a part of a text
+/// begins within the text.
+pub fn part_law()
+    ensures block { BlockPartLaw }
+    ensures fits { PartFitsLaw }
 {}
 
 /// Where the blocks of short texts stand, and what is looked at around them.
@@ -330,6 +368,15 @@ pub fn piece_candidates_law()
     ensures inner { InnerCandidateLaw }
 {}
 
+/// Each candidate of an edit that isn't a block is pieces of a run: it begins and ends where they do, past the stretch,
+/// and the first of them takes back no errors. Only in a run without an expression there is none. One among the
+/// children at the top of a text's tree is pieces of the text's own run. Any other is pieces of a content block's run,
+/// which stands around the stretch and isn't the deepest.
+pub fn candidate_runs_law()
+    ensures root { RootPiecesOfLaw }
+    ensures inner { InnerPiecesOfLaw }
+{}
+
 /// Pieces at the top of a text's tree that pass the test are worth their new nodes: the new text's tree is the old
 /// one with them in the candidate's place, and its units are the old ones with the pieces' exchanged. If no piece
 /// stands up to the candidate's end, the run has to end there.
@@ -370,4 +417,64 @@ pub fn one_reading_law()
     ensures again { GivesAgainLaw }
     ensures kept { KeptNodesLaw }
     ensures behind { PutBehindLaw }
+{}
+
+/// What code finds of a candidate that is pieces in a content block: the notes where they begin and end say by their
+/// numbers among all notes whether the test of looks passes. Pieces of the new text that are read by themselves
+/// from the first token on pass just where they end and agree as the test says, and give the candidate's nodes; only
+/// one number of them does. What is logged of them is the part that takes the place of the old entries, between the
+/// two numbers.
+pub fn inner_pieces_test_law()
+    ensures entries { InnerEntriesLaw }
+    ensures read { InnerReadLaw }
+    ensures once { InnerOnceLaw }
+    ensures inner { InnerTestLaw }
+    ensures part { InnerPartLaw }
+    ensures units { InnerUnitsLaw }
+{}
+
+/// And so of one that is pieces of a text's own run: its notes decide the test of looks by their numbers, and pieces
+/// that are read by themselves pass just where they end and agree as the test says, and give the candidate's nodes.
+/// A candidate passes just where such pieces do, and the entries between the numbers of its notes are exchanged.
+pub fn pieces_test_law()
+    ensures entries { RunEntriesLaw }
+    ensures once { CutOnceLaw }
+    ensures read { RunReadLaw }
+    ensures gives { RunGivesLaw }
+    ensures part { RunPartLaw }
+{}
+
+/// What the records find of a candidate that is pieces of a text's own run: by what the entries say of it, it passes
+/// just where so many pieces do that are read by themselves, whose nodes take its place, and whose entries are
+/// exchanged for its own. Where a run that is read by itself ends no more pieces go on.
+pub fn run_test_law()
+    ensures root { RunTestLaw }
+    ensures over { OverLaw }
+{}
+
+/// Where a text's entries say that pieces of its run begin: the first of them at which a piece begins whose token is at
+/// the byte behind so many pieces is the one of these, whichever of the run's earlier entries one begins at. The run's
+/// entries rise with the number of pieces, the last is behind all of them, and each says what is carried there. And so
+/// in a content block, whose entries are found by where it begins.
+pub fn run_numbers_law()
+    ensures run { RunNumbersLaw }
+    ensures inner { InnerNumbersLaw }
+{}
+
+/// What the records find of a candidate that is pieces of a content block's run: at which entries its block and the
+/// pieces begin and end, and what is carried there. It passes exactly where the first is among those before the
+/// stretch, all looks behind the last begin behind it, and pieces that are read by themselves on the new text end at the
+/// shifted end and meet what is there; these are its nodes. The block's entries are exchanged for those of the block by
+/// itself, or those of the pieces for theirs, where there are some in both texts. A run without an expression is decided
+/// by the looks behind the block alone.
+pub fn inner_run_test_law()
+    ensures { InnerRunTestLaw }
+{}
+
+/// A reading of the new text that begins with a candidate of a run, whose looks end before the stretch, serves each
+/// candidate of the run that begins there or earlier: this passes just where so many pieces of the reading end at its
+/// shifted end and meet what is there. The old pieces before the reading stay: its nodes are put from where the reading
+/// begins, and the entries are exchanged from there on.
+pub fn served_law()
+    ensures { ServedLaw }
 {}

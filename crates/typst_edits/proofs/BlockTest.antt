@@ -1,0 +1,535 @@
+-- What the records find of a block candidate.
+use Rattle.std.proofs.Common.{◌≡◌, ◌↔◌, ℕ, zero, suc, ◌+◌, ◌-◌, ◌^◌, ◌<◌, ◌≤◌, Bool, true, false, if◌then◌else◌, max, List, [], ◌∷◌, ◌++◌, length, take, drop, length-append, append_assoc, Option, Some, None, refl, ap, sym, ◌∙◌, subst, arith}
+use Rattle.std.proofs.Math.Seq.{take-append_seam}
+use Rattle.std.specs.List.{slice_get}
+use Rattle.typst_kinds.specs.declared.mode.SyntaxMode.{SyntaxMode}
+use Rattle.typst_lines.specs.Place.{Place, moved}
+use Rattle.typst_lines.specs.Classes.{CharClasses}
+use Rattle.typst_tree.specs.Tree.{Tree, text_of}
+use Rattle.typst_tokens.specs.Sight.{width, position, hull_of}
+use Rattle.typst_language.specs.declared.calls.Block.{Block}
+use Rattle.typst_language.specs.declared.calls.Mark.{Mark}
+use Rattle.typst_language.specs.declared.calls.Note.{Note}
+use Rattle.typst_language.specs.declared.reading.AtNewline.TheVariants as newline
+use Rattle.typst_language.specs.declared.reading.Reading.{Reading}
+use Rattle.typst_language.specs.declared.reading.State.{State}
+use Rattle.typst_language.specs.Ask.{Ask}
+use Rattle.typst_language.specs.Ask.Ask.{looked, marked}
+use Rattle.typst_language.specs.Log.{Log, no_log, with_hull, with_note, logged}
+use Rattle.typst_language.specs.Meaning.{Outcome, start_point}
+use Rattle.typst_language.specs.Point.{point_of}
+use Rattle.typst_language.proofs.Knot.{sane-block}
+use Rattle.typst_language.proofs.Places.{moved-sum}
+use Rattle.typst_candidates.specs.declared.entry.Entry.{Entry}
+use Rattle.typst_candidates.specs.declared.entry.Tag.{Tag}
+use Rattle.typst_candidates.specs.declared.entry.Tag.TheVariants as tag
+use Rattle.typst_candidates.specs.Candidates.{Candidate}
+use Rattle.typst_candidates.specs.Cursors.{closing_of}
+use Rattle.typst_candidates.specs.Entries.{block_end, count_of, tag_of, entry_of, entries_by, last_start, back_of, front_of, rear_of, units_of, spliced}
+use Rattle.typst_candidates.specs.Nested.{Nested}
+use Rattle.typst_candidates.specs.Records.{opening_of, IsRising}
+use Rattle.typst_candidates.proofs.Looks.{front-law, rear-law}
+use Rattle.typst_candidates.proofs.Nested.{closing-found}
+use Rattle.typst_grammar.specs.Markup.{markup_reading}
+use Rattle.typst_grammar.specs.Grammar.{rules, max_depth, start_of, whole, parsed, log}
+use Rattle.typst_grammar.specs.Part.{block_alone}
+use Rattle.typst_edits.specs.BlockSplice.{block_log}
+use Rattle.typst_edits.specs.BlockTest.{BlockTestLaw, entries_alone, entries_in, front_in, rear_in, SaysBlock, PassesAlone, FoundBlock}
+use Rattle.typst_edits.specs.Edit.{Among, text_with, AllEndBy, AllBeginIn, Passes}
+use Rattle.typst_edits.specs.Edit.Among.{this, that}
+use Rattle.typst_edits.specs.Every.{Every}
+use Rattle.typst_edits.specs.Frame.{Gives, of_block, of_pieces}
+use Rattle.typst_edits.specs.Hole.{path_of}
+use Rattle.typst_edits.specs.InOrder.{InOrderLaw}
+use Rattle.typst_edits.specs.Laws.{blocks_of_text, block_at}
+use Rattle.typst_edits.specs.Lost.{is_opening, opened}
+use Rattle.typst_edits.specs.Named.{Named}
+use Rattle.typst_edits.specs.PieceNotes.{listed}
+use Rattle.typst_edits.specs.Splice.{notes_in, entries_from}
+use Rattle.typst_edits.specs.Spot.{Spot, ended, last_node, unit_at}
+use Rattle.typst_edits.specs.Standing.{seconds_of_text, IsOf, Stems, from_unit, from_second, place_of}
+use Rattle.typst_edits.proofs.BlockModes.{mode-law}
+use Rattle.typst_edits.proofs.BlockPart.{block-part-law}
+use Rattle.typst_edits.proofs.BlockPlaces.{SpotPlace, Meets, candidate-at, early-by, hole-same, late-by, meets, some-node, spot-place, take-same}
+use Rattle.typst_edits.proofs.BlockSplice.{block-splice-law}
+use Rattle.typst_edits.proofs.Bytes.{decision-law, noted-by, noted-more}
+use Rattle.typst_edits.proofs.CandidateBlocks.{BlockAt}
+use Rattle.typst_edits.proofs.Clear.{Clear, clear-level}
+use Rattle.typst_edits.proofs.Edit.{among, before-same}
+use Rattle.typst_edits.proofs.EntryNumbers.{NoneAt, opening-some, opening-found, some-number, got-entry, past-entry, past-note, all-end, end-all, all-begin, begin-all}
+use Rattle.typst_edits.proofs.Every.{every-append}
+use Rattle.typst_edits.proofs.Names.{named-level}
+use Rattle.typst_edits.proofs.NestedBlocks.{nested-block-law}
+use Rattle.typst_edits.proofs.OpensApart.{opens-apart-law, opens-directly}
+use Rattle.typst_edits.proofs.SecondPlaces.{second-place}
+use Rattle.typst_edits.proofs.StandingLevels.{standing-law}
+use Rattle.typst_edits.proofs.Text.{block-law}
+use Rattle.typst_edits.proofs.UnnotedLevels.{unnoted-law}
+use Rattle.typst_edits.proofs.Walk.{moved-long, width-over}
+use Rattle.typst_edits.proofs.Widths.{width-append, width-moved}
+
+-- ---- a block's numbers
+
+-- what stands between its two notes is nested
+within-block : (k : CharClasses) (text : List ℕ) (c : Spot (Unit {0})) (opens : ℕ) → Among c (blocks_of_text k text) → notes_in c.before ≡ suc opens
+    → Nested (max_depth - c.fewer) (take (notes_in (unit_at c (start_of text)).asks) (drop (suc opens) (listed (log k text).notes)))
+within-block k text c opens there number =
+    let n = nested-block-law k text c there in
+    let tail = n.inner ++ n.closes ∷ n.later in
+    let own = n.number in
+    let first : opens ≡ length n.earlier = omega (arith, own, number) in
+    let many = notes_in (unit_at c (start_of text)).asks in
+    let is : take many (drop (suc opens) (listed (log k text).notes)) ≡ n.inner =
+    ap (λ xs. take many (drop (suc opens) xs)) (ap listed n.notes) ∙ ap (λ m. take many (drop (suc m) (n.earlier ++ n.opens ∷ tail))) first ∙ ap (take many) (past-note n.earlier n.opens tail)
+    ∙ ap (λ m. take m tail) (sym n.long) ∙ take-append_seam n.inner (n.closes ∷ n.later) in
+    subst (Nested (max_depth - c.fewer)) (sym is) n.nested
+
+-- the units say all by the list of notes
+pub noted-units : (h : Log) (ns : List Note) → h.notes ≡ Some ns → (P : List Entry → ℕ → Type 0) → P (entries_by 0 ns) (back_of (last_start 0 ns) h.least) → P (units_of h).entries (units_of h).back
+noted-units h ns e P p = subst (λ o. (let ms = elim o as (λ _. List Note) [ None ↦ [] | Some ls ↦ ls ] in P (entries_by 0 ms) (back_of (last_start 0 ms) h.least))) (sym e) p
+
+pub record Numbers (k : CharClasses) (front old rest : List ℕ) (c : Candidate) (s : Spot (Unit {0})) : Type 0 where
+  pub past : ℕ
+  pub ends : (unit_at s (text_with front old rest)).taken + s.at ≡ (length front + length old) + past
+  pub goes_on : 0 < past
+  pub starts : s.at < length front
+  pub room : past ≤ length rest
+  pub end : c.end ≡ width (front ++ old) + width (take past rest)
+  pub from : ℕ
+  pub to : ℕ
+  pub opens : opening_of c.start 0 0 (entries_in k (front ++ (old ++ rest))) ≡ Some from
+  pub number : notes_in s.before ≡ suc from
+  pub last : to ≡ suc (from + notes_in (unit_at s (text_with front old rest)).asks)
+  pub says : SaysBlock (entries_in k (front ++ (old ++ rest))) from to (max_depth - s.fewer) s.name s.start.held.mode
+  pub early : from < front_in k front old rest ↔ AllEndBy (length front) s.before
+  pub late : rear_in k front old rest ≤ to ↔ AllBeginIn past rest s.after
+
+module _ (in_order : InOrderLaw) (k : CharClasses) (front old rest : List ℕ) where
+  abbrev text : List ℕ
+  text = front ++ (old ++ rest)
+
+  pub numbers : (c : Candidate) (s : Spot (Unit {0})) → width (front ++ (old ++ rest)) < 2 ^ 64 - 1 → Among s (blocks_of_text k (front ++ (old ++ rest))) → SpotPlace k (front ++ (old ++ rest)) s
+      → Meets (front ++ (old ++ rest)) c s.at (unit_at s (text_with front old rest)).taken → c.start < width front → width (front ++ old) < c.end → Numbers k front old rest c s
+  numbers c s big there place m before behind =
+      let z = text_with front old rest in
+      let u = unit_at s z in
+      let one = length-append front (old ++ rest) in
+      let two = length-append old rest in
+      let three = length-append front old in
+      let same_text : (front ++ old) ++ rest ≡ text = append_assoc front old rest in
+      let start = m.start in
+      let end = m.end in
+      let starts : s.at < length front = early-by s.at front (old ++ rest) (omega (arith, start, before)) in
+      let far : width (front ++ old) < width (take (s.at + u.taken) ((front ++ old) ++ rest)) =
+      subst (λ xs. width (front ++ old) < width (take (s.at + u.taken) xs)) (sym same_text) (let r : width (front ++ old) < width (take (s.at + u.taken) text) = omega (arith, end, behind) in r) in
+      let ends_behind = late-by (s.at + u.taken) (front ++ old) rest far in
+      let past = (s.at + u.taken) - (length front + length old) in
+      let ends : u.taken + s.at ≡ (length front + length old) + past = omega (arith, ends_behind, three) in
+      let end_at : s.at + u.taken ≡ length (front ++ old) + past = omega (arith, ends_behind, three) in
+      let room = place.room in
+      let d = decision-law k front old rest s past there ends in
+      let tail = d.inner ++ d.closes ∷ d.later in
+      let all = d.earlier ++ d.opens ∷ tail in
+      let ns : listed (log k text).notes ≡ all = ap listed d.notes in
+      let rising : IsRising 0 all = subst (IsRising 0) ns (in_order k text) in
+      let from = length d.earlier in
+      let to = suc from + length d.inner in
+      let opens_at : d.opens.start ≡ c.start = d.start ∙ sym m.start in
+      let alone : NoneAt c.start d.earlier = λ xs n ys b e f g. (let less = opens-apart-law k text xs ys tail n d.opens b s.name (ns ∙ ap (λ us. us ++ d.opens ∷ tail) e ∙ append_assoc xs (n ∷ ys) (d.opens ∷ tail)) f d.name in absurd (omega (arith, less, g, opens_at))) in
+      let zero_is : 0 + from ≡ from = omega arith in
+      let opens : opening_of c.start 0 0 (entries_by 0 all) ≡ Some from = opening-some c.start 0 0 d.earlier d.opens tail s.name rising d.name opens_at alone ∙ ap Some zero_is in
+      let inner_is : take (notes_in u.asks) (drop (suc from) (listed (log k text).notes)) ≡ d.inner =
+      ap (λ xs. take (notes_in u.asks) (drop (suc from) xs)) ns ∙ ap (λ xs. take (notes_in u.asks) xs) (past-note d.earlier d.opens tail) ∙ ap (λ n. take n tail) (sym d.long) ∙ take-append_seam d.inner (d.closes ∷ d.later) in
+      let nested : Nested (max_depth - s.fewer) d.inner = subst (Nested (max_depth - s.fewer)) inner_is (within-block k text s from there d.number) in
+      let closes : closing_of 0 (suc from) (drop (suc from) (entries_by 0 all)) ≡ Some to =
+      ap (closing_of 0 (suc from)) (past-entry 0 d.earlier d.opens tail) ∙ closing-found (max_depth - s.fewer) (suc from) d.opens.start d.inner d.closes d.later nested d.name_end in
+      let says : SaysBlock (entries_by 0 all) from to (max_depth - s.fewer) s.name s.start.held.mode = record {
+        entry = entry_of (last_start 0 d.earlier) d.opens;
+        is = got-entry 0 d.earlier d.opens tail;
+        tag = (λ i. tag_of (d.name i) (d.state i));
+        count = (λ i. count_of (d.name i) (d.levels i));
+        closes = closes;
+      } in
+      let front_is = front-law d.earlier tail d.opens (width front) rising (omega (arith, opens_at, before)) in
+      let firsts = d.earlier ++ d.opens ∷ d.inner in
+      let split : all ≡ firsts ++ d.closes ∷ d.later = sym (append_assoc d.earlier (d.opens ∷ d.inner) (d.closes ∷ d.later)) in
+      let ends_at = d.end in
+      let rear_is = rear-law firsts d.later d.closes (width (front ++ old)) (log k text).least (subst (IsRising 0) split rising) (omega (arith, ends_at, end, behind)) in
+      let firsts_long = length-append d.earlier (d.opens ∷ d.inner) in
+      let long : length firsts ≡ to = omega (arith, firsts_long) in
+      let wide : width (front ++ old) < 2 ^ 64 - 1 = (let a = width-append front (old ++ rest) in let b = width-append old rest in let e = width-append front old in omega (arith, a, b, e, big)) in
+      let inner_long = d.long in
+      record {
+        past = past;
+        ends = ends;
+        goes_on = omega (arith, ends_behind, three);
+        starts = starts;
+        room = omega (arith, room, starts, one, two, three, end_at);
+        end = end ∙ ap (λ j. width (take j text)) end_at ∙ ap (λ xs. width (take (length (front ++ old) + past) xs)) (sym same_text) ∙ width-over (front ++ old) past rest;
+        from = from;
+        to = to;
+        opens = noted-units (log k text) all d.notes (λ es back. opening_of c.start 0 0 es ≡ Some from) opens;
+        number = d.number;
+        last = omega (arith, inner_long);
+        says = noted-units (log k text) all d.notes (λ es back. SaysBlock es from to (max_depth - s.fewer) s.name s.start.held.mode) says;
+        early = noted-units (log k text) all d.notes (λ es back. from < front_of (width front) 0 es ↔ AllEndBy (length front) s.before)
+            ((λ l. d.before (end-all (width front) d.earlier d.opens (front_is.0 l))), (λ h. front_is.1 (all-end (width front) d.earlier d.opens (d.before_too h))));
+        late = noted-units (log k text) all d.notes (λ es back. rear_of (width (front ++ old)) 0 0 es back ≤ to ↔ AllBeginIn past rest s.after)
+            (subst (λ xs. rear_of (width (front ++ old)) 0 0 (entries_by 0 xs) (back_of (last_start 0 xs) (log k text).least) ≤ to ↔ AllBeginIn past rest s.after) (sym split)
+            ((λ l. d.after (begin-all (width (front ++ old)) d.later (log k text).least (rear_is.0 (omega (arith, l, long))))), (λ h. (let r = rear_is.1 (all-begin (width (front ++ old)) d.later (log k text).least (d.after_too wide h)) in omega (arith, r, long)))));
+      }
+
+-- ---- the block by itself
+
+pub byte-of : (at n : ℕ) (text : List ℕ) → position (moved n (moved at (start_of text))) ≡ width (take (at + n) text)
+unfolding position
+byte-of at n text = ap (λ (y : Place). width y.behind) (sym (moved-sum at n (start_of text))) ∙ width-moved (at + n) text
+
+pub byte-at : (at : ℕ) (text : List ℕ) → position (moved at (start_of text)) ≡ width (take at text)
+unfolding position
+byte-at at text = width-moved at text
+
+-- what is kept of its reading where all before it shows the same
+pub record Same (o u : Outcome (Unit {0})) : Type 0 where
+  pub taken : o.taken ≡ u.taken
+  pub nodes : o.nodes ≡ u.nodes
+  pub asks : o.asks ≡ u.asks
+
+module _ (k : CharClasses) (front old new rest : List ℕ) where
+  abbrev before_text : List ℕ
+  before_text = front ++ (old ++ rest)
+
+  abbrev now_text : List ℕ
+  now_text = front ++ (new ++ rest)
+
+  abbrev pub alone : Spot (Unit {0}) → Outcome (Unit {0})
+  alone s = block_alone k (max_depth - s.fewer) s.name s.start.held.mode (moved s.at (text_with front new rest))
+
+  pub alone-same : (s : Spot (Unit {0})) → Among s (blocks_of_text k (front ++ (old ++ rest))) → AllEndBy (length front) s.before → Same (unit_at s (text_with front new rest)) (alone s)
+  unfolding blocks_of_text
+  alone-same s there early =
+      let z = text_with front old rest in
+      let w = text_with front new rest in
+      let y = moved s.at w in
+      let levels = max_depth - s.fewer in
+      let named = among (Named (block_at k) max_depth) s _ there (named-level (rules k) k max_depth whole z (start_point markup_reading)) in
+      let clear = among (Clear k z) s _ there (clear-level (rules k) k max_depth whole z (start_point markup_reading) tt) in
+      let read : unit_at s w ≡ ended (block_at k levels s.name y (point_of s.start)) = ap (λ r. r y (point_of s.start)) named.reads in
+      let reading : Reading = record { mode = s.start.held.mode; at_newline = newline.Continue } in
+      let state : State = record { reading = reading; held = reading; empties = 0; is_after_error = false } in
+      let same = mode-law k levels s.name y s.start state refl (clear.clear w (before-same s.before front old new rest early)) in
+      record {
+        taken = ap (λ (o : Outcome (Unit {0})). o.taken) read ∙ same.taken;
+        nodes = ap (λ (o : Outcome (Unit {0})). o.nodes) read ∙ same.nodes;
+        asks = ap (λ (o : Outcome (Unit {0})). o.asks) read ∙ same.asks;
+      }
+
+  alone-room : (s : Spot (Unit {0})) → (alone s).taken ≤ max 0 (length (front ++ (new ++ rest)) - s.at)
+  alone-room s =
+      let w = text_with front new rest in
+      let y = moved s.at w in
+      let sane = sane-block (rules k) k (max_depth - s.fewer) s.name in
+      let long = moved-long s.at w in
+      let inside = within-is _ _ _ (sane.within y (start_point (record { mode = s.start.held.mode; at_newline = newline.Continue }))) in
+      (let r : (alone s).taken ≤ max 0 (length y.ahead) = inside in omega (arith, r, long))
+    where
+      within-is : (a b c : ℕ) → a + b ≤ c → a ≤ c
+      within-is a b c h = omega (arith, h)
+
+  -- its entries
+  pub entries-same : (s : Spot (Unit {0})) → Same (unit_at s (text_with front new rest)) (alone s)
+      → entries_from (position (moved s.at (text_with front new rest))) (block_log (front ++ (new ++ rest)) s (unit_at s (text_with front new rest))).notes
+      ≡ entries_alone k (max_depth - s.fewer) s.name s.start.held.mode (moved s.at (text_with front new rest))
+  entries-same s same =
+      let w = text_with front new rest in
+      let y = moved s.at w in
+      let u = unit_at s w in
+      let lv = max_depth - s.fewer in
+      let at = position y in
+      let noted = noted-by lv y u.asks no_log [] refl in
+      let all : (logged lv y no_log u.asks).notes ≡ Some (listed (logged lv y no_log u.asks).notes) = noted.is ∙ ap Some (sym (ap listed noted.is)) in
+      block-part-law (front ++ (new ++ rest)) s u (listed (logged lv y no_log u.asks).notes) all
+      ∙ (λ i. (let h = logged lv y no_log (same.asks i) in entries_by at (listed h.notes) ++ block_end (last_start at (listed h.notes)) (position (moved (same.taken i) y)) h.reach h.least ∷ []))
+
+  -- ---- the test
+
+  module _ (c : Candidate) (s : Spot (Unit {0})) (there : Among s (blocks_of_text k (front ++ (old ++ rest)))) (n : Numbers k front old rest c s) where
+    abbrev Test : Type 0
+    Test = PassesAlone k front old new rest c n.from n.to (max_depth - s.fewer) s.name s.start.held.mode s.at
+
+    -- where the new block ends, in bytes
+    now-end : position (moved (alone s).taken (moved s.at (text_with front new rest))) ≡ width (take (s.at + (alone s).taken) (front ++ (new ++ rest)))
+    now-end = byte-of s.at (alone s).taken (front ++ (new ++ rest))
+
+    shifted-end : width (take (length (front ++ new) + n.past) (front ++ (new ++ rest))) ≡ width (front ++ new) + width (take n.past rest)
+    shifted-end = ap (λ xs. width (take (length (front ++ new) + n.past) xs)) (sym (append_assoc front new rest)) ∙ width-over (front ++ new) n.past rest
+
+    pub test-to : Passes front old new rest s n.past → Test
+    test-to p =
+        let same = alone-same s there p.before in
+        let w = text_with front new rest in
+        let three = length-append front new in
+        let shifted = p.shifted in
+        let taken = same.taken in
+        let at_end : s.at + (alone s).taken ≡ length (front ++ new) + n.past = omega (arith, shifted, taken, three) in
+        let here = now-end ∙ ap (λ m. width (take m now_text)) at_end ∙ shifted-end in
+        let end = n.end in
+        let a = width-append front old in
+        let b = width-append front new in
+        record {
+          before = n.early.1 p.before;
+          behind = n.late.1 p.after;
+          shifted = omega (arith, here, end, a, b);
+        }
+
+    pub test-from : Test → Passes front old new rest s n.past
+    test-from t =
+        let early = n.early.0 t.before in
+        let same = alone-same s there early in
+        let end = n.end in
+        let a = width-append front old in
+        let b = width-append front new in
+        let d = length-append front (new ++ rest) in
+        let e = length-append new rest in
+        let f = length-append front new in
+        let shifted = t.shifted in
+        let room = n.room in
+        let starts = n.starts in
+        let most = alone-room s in
+        let bytes : width (take (s.at + (alone s).taken) now_text) ≡ width (take (length (front ++ new) + n.past) now_text) = (let g = now-end in let h = shifted-end in omega (arith, g, h, shifted, end, a, b)) in
+        let at_end = take-same (s.at + (alone s).taken) (length (front ++ new) + n.past) now_text (omega (arith, most, d, e, starts)) (omega (arith, d, e, f, room)) bytes in
+        let taken = same.taken in
+        record {
+          starts = n.starts;
+          ends = n.ends;
+          goes_on = n.goes_on;
+          before = early;
+          after = n.late.0 t.behind;
+          shifted = omega (arith, at_end, taken, f);
+        }
+
+-- ---- two spots where a candidate is
+
+-- what the entries say of a block, and where it begins
+record Key : Type 0 where
+  from : ℕ
+  to : ℕ
+  levels : ℕ
+  name : Block
+  mode : SyntaxMode
+  at : ℕ
+
+abbrev entry_or : Entry → Option Entry → Entry
+entry_or e None = e
+entry_or e (Some f) = f
+
+abbrev name_in : Block → Tag → Block
+name_in b (tag.Piece at_start) = b
+name_in b (tag.Opens c m) = c
+name_in b tag.Closes = b
+
+abbrev mode_in : SyntaxMode → Tag → SyntaxMode
+mode_in m (tag.Piece at_start) = m
+mode_in m (tag.Opens c n) = n
+mode_in m tag.Closes = m
+
+says-same : (es : List Entry) (at_one at_two : ℕ) (from to levels : ℕ) (b : Block) (m : SyntaxMode) (first last more : ℕ) (d : Block) (n : SyntaxMode) → SaysBlock es from to levels b m → SaysBlock es first last more d n → from ≡ first → at_one ≡ at_two
+    → ◌≡◌ {A = Key} (record { from = from; to = to; levels = levels; name = b; mode = m; at = at_one }) (record { from = first; to = last; levels = more; name = d; mode = n; at = at_two })
+says-same es at_one at_two from to levels b m first last more d n h k e f =
+    let same : h.entry ≡ k.entry = ap (entry_or h.entry) (sym h.is ∙ ap (slice_get es) e ∙ k.is) in
+    let tags = sym h.tag ∙ ap (λ (x : Entry). x.tag) same ∙ k.tag in
+    let name_is : b ≡ d = ap (name_in b) tags in
+    let mode_is : m ≡ n = ap (mode_in m) tags in
+    let levels_is : levels ≡ more = sym h.count ∙ ap (λ (x : Entry). x.count) same ∙ k.count in
+    let to_is : to ≡ last = some-number to last (sym h.closes ∙ ap (λ i. closing_of 0 (suc i) (drop (suc i) es)) e ∙ k.closes) in
+    (λ i. record { from = e i; to = to_is i; levels = levels_is i; name = name_is i; mode = mode_is i; at = f i })
+
+module _ (k : CharClasses) (front old new rest : List ℕ) (c : Candidate) where
+  abbrev key_of : (s : Spot (Unit {0})) → Numbers k front old rest c s → Key
+  key_of s n = record { from = n.from; to = n.to; levels = max_depth - s.fewer; name = s.name; mode = s.start.held.mode; at = s.at }
+
+  -- a candidate has one
+  one-key : (s r : Spot (Unit {0})) (n : Numbers k front old rest c s) (m : Numbers k front old rest c r) → c.start ≡ width (take s.at (front ++ (old ++ rest))) → c.start ≡ width (take r.at (front ++ (old ++ rest))) → key_of s n ≡ key_of r m
+  one-key s r n m e f =
+      let one = length-append front (old ++ rest) in
+      let a = n.starts in
+      let b = m.starts in
+      says-same _ s.at r.at _ _ _ _ _ _ _ _ _ _ n.says m.says (some-number n.from m.from (sym n.opens ∙ m.opens)) (take-same s.at r.at (front ++ (old ++ rest)) (omega (arith, a, one)) (omega (arith, b, one)) (sym e ∙ f))
+
+  -- the test and the nodes by it
+  abbrev Passing : List Tree → Key → Type 0
+  Passing ts x = PassesAlone k front old new rest c x.from x.to x.levels x.name x.mode x.at × (ts ≡ last_node (block_alone k x.levels x.name x.mode (moved x.at (text_with front new rest))).nodes ∷ [])
+
+  module _ (in_order : InOrderLaw) (big : width (front ++ (old ++ rest)) < 2 ^ 64 - 1) (is : c.is_block ≡ true)
+      (b : BlockAt [] 0 (width front) (width (front ++ old)) (parsed k max_depth (front ++ (old ++ rest))).nodes c) where
+    order : width front ≤ width (front ++ old)
+    order = let w = width-append front old in omega (arith, w)
+
+    met : (s : Spot (Unit {0})) → Among s (blocks_of_text k (front ++ (old ++ rest))) → path_of s.hole ≡ c.path ++ c.from ∷ [] → Meets (front ++ (old ++ rest)) c s.at (unit_at s (text_with front old rest)).taken × (0 < length (text_of s.node))
+    met s there path = meets k (front ++ (old ++ rest)) (width front) (width (front ++ old)) c order b s (spot-place k (front ++ (old ++ rest)) s there) path
+
+    pub numbered : (s : Spot (Unit {0})) → Among s (blocks_of_text k (front ++ (old ++ rest))) → path_of s.hole ≡ c.path ++ c.from ∷ [] → Numbers k front old rest c s
+    numbered s there path = numbers in_order k front old rest c s big there (spot-place k (front ++ (old ++ rest)) s there) (met s there path).0 b.starts b.ends
+
+    -- however it passes, it does so by its key
+    gives-passing : (s : Spot (Unit {0})) (there : Among s (blocks_of_text k (front ++ (old ++ rest)))) (path : path_of s.hole ≡ c.path ++ c.from ∷ []) (ts : List Tree) → Gives k front old new rest c ts → Passing ts (key_of s (numbered s there path))
+    gives-passing s there path ts (of_block r past block chosen where_it_is passes made) =
+        let n = numbered s there path in
+        let m = numbered r chosen where_it_is in
+        let start = (met s there path).0.start in
+        let start_too = (met r chosen where_it_is).0.start in
+        let ends = passes.ends in
+        let ends_too = m.ends in
+        let past_is : past ≡ m.past = omega (arith, ends, ends_too) in
+        let p : Passes front old new rest r m.past = subst (Passes front old new rest r) past_is passes in
+        let same = alone-same k front old new rest r chosen p.before in
+        let by : Passing ts (key_of r m) = (test-to k front old new rest c r chosen m p, made ∙ ap (λ us. last_node us ∷ []) same.nodes) in
+        subst (Passing ts) (one-key r s m n start_too start) by
+    gives-passing s there path ts (of_pieces r i n m past t u pieces where_it_is started led end h made) = absurd (let no = sym is ∙ pieces in cc)
+
+    pub found-by : width (front ++ (new ++ rest)) < 2 ^ 64 - 1 → (s : Spot (Unit {0})) (there : Among s (blocks_of_text k (front ++ (old ++ rest)))) (path : path_of s.hole ≡ c.path ++ c.from ∷ [])
+        → FoundBlock k front old new rest c (numbered s there path).from
+    found-by more s there path =
+        let w = text_with front new rest in
+        let n = numbered s there path in
+        let m = met s there path in
+        let place = spot-place k (front ++ (old ++ rest)) s there in
+        let none = place.front m.1 in
+        let start = m.0.start in
+        record {
+          to = n.to;
+          levels = max_depth - s.fewer;
+          block = s.name;
+          mode = s.start.held.mode;
+          says = n.says;
+          at = s.at;
+          start = start;
+          start_now = byte-at s.at (front ++ (new ++ rest)) ∙ ap width (take-early s.at front (new ++ rest) (old ++ rest) n.starts) ∙ sym start;
+          gives = λ ts. (
+            (λ g. gives-passing s there path ts g),
+            (λ p. (let same = alone-same k front old new rest s there (n.early.0 p.0.before) in
+                of_block s n.past is there path (test-from k front old new rest c s there n p.0) (p.1 ∙ ap (λ us. last_node us ∷ []) (sym same.nodes)))),
+          );
+          alone = λ t. (let p = test-from k front old new rest c s there n t in
+              let same = alone-same k front old new rest s there p.before in
+              let kept = block-law k front old new rest s n.past there p in
+              sym same.nodes ∙ kept.fits.nodes ∙ ap (λ us. us ++ last_node (unit_at s w).nodes ∷ []) none ∙ ap (λ us. last_node us ∷ []) same.nodes);
+          units = λ t. (let p = test-from k front old new rest c s there n t in
+              let same = alone-same k front old new rest s there p.before in
+              let spliced_is = block-splice-law k front old new rest s n.past there p big more in
+              let number = spliced_is.number in
+              let number_too = n.number in
+              let from_is : spliced_is.opens ≡ n.from = omega (arith, number, number_too) in
+              let last = n.last in
+              let to_is : suc (spliced_is.opens + notes_in (unit_at s (text_with front old rest)).asks) ≡ n.to = omega (arith, from_is, last) in
+              let part_is = entries-same k front old new rest s same in
+              spliced_is.units ∙ (λ i. spliced (from_is i) (to_is i) (part_is i) (units_of (log k (front ++ (old ++ rest))))));
+        }
+      where
+        take-early : (n : ℕ) (xs ys zs : List ℕ) → n < length xs → take n (xs ++ ys) ≡ take n (xs ++ zs)
+        take-early zero xs ys zs l = refl
+        take-early (suc n) [] ys zs l = absurd (omega arith)
+        take-early (suc n) (x ∷ xs) ys zs l = ap (λ us. x ∷ us) (take-early n xs ys zs (omega (arith, l)))
+
+-- ---- where a block is noted
+
+pub record Origin (z : Place) (asks : List Ask) (n : Note) : Type 0 where
+  pub ask : Ask
+  pub among_all : Among ask (opened asks)
+  pub before : n.before ≡ position (moved (place_of ask) z)
+
+abbrev pub Asked : Place → List Ask → Note → Type 0
+Asked z asks n = is_opening n.mark ≡ true → Origin z asks n
+
+among-behind : {X : Type 0} (x : X) (xs ys : List X) → Among x ys → Among x (xs ++ ys)
+among-behind x [] ys a = a
+among-behind x (y ∷ xs) ys a = that y (xs ++ ys) (among-behind x xs ys a)
+
+pub among-here : {X : Type 0} (xs : List X) (x : X) (ys : List X) → Among x (xs ++ x ∷ ys)
+among-here [] x ys = this ys
+among-here (y ∷ xs) x ys = that y (xs ++ x ∷ ys) (among-here xs x ys)
+
+opened-first : (at gap fewer : ℕ) (m : Mark) (t : State) (asks : List Ask) → is_opening m ≡ true → Among (marked at gap fewer m t) (opened (marked at gap fewer m t ∷ asks))
+opened-first at gap fewer m t asks e = by-test (is_opening m) e
+  where
+    by-test : (b : Bool) → b ≡ true → Among (marked at gap fewer m t) ((if b then marked at gap fewer m t ∷ [] else []) ++ opened asks)
+    by-test true e = this (opened asks)
+    by-test false e = absurd (cc)
+
+asked-by : (lv : ℕ) (z : Place) (all asks : List Ask) (h : Log) (ns ms : List Note) → h.notes ≡ Some ns → Every (Asked z all) ns → ((ask : Ask) → Among ask (opened asks) → Among ask (opened all)) → (logged lv z h asks).notes ≡ Some ms → Every (Asked z all) ms
+asked-by lv z all [] h ns ms e q more f = subst (Every (Asked z all)) (ap listed (sym e ∙ f)) q
+asked-by lv z all (looked at look ∷ asks) h ns ms e q more f = asked-by lv z all asks (with_hull (hull_of look (moved at z)) h) ns ms e q more f
+asked-by lv z all (marked at gap fewer m t ∷ asks) h ns ms e q more f =
+    let k = with_note gap (lv - fewer) m t (moved at z) h in
+    let note : Note = record { mark = m; before = position (moved at z); start = position (moved gap (moved at z)); levels = lv - fewer; state = t; reach = h.reach; least = h.least } in
+    let here : Asked z all note = λ o. record { ask = marked at gap fewer m t; among_all = more _ (opened-first at gap fewer m t asks o); before = refl } in
+    asked-by lv z all asks k (ns ++ note ∷ []) ms (noted-more note h.notes ns e) (every-append (Asked z all) ns (note ∷ []) q (here, tt))
+    (λ ask a. more ask (among-behind ask (if is_opening m then marked at gap fewer m t ∷ [] else []) (opened asks) a)) f
+
+pub asked-of : (k : CharClasses) (text : List ℕ) → Every (Asked (start_of text) (parsed k max_depth text).asks) (listed (log k text).notes)
+unfolding log
+asked-of k text =
+    let z = start_of text in
+    let asks = (parsed k max_depth text).asks in
+    let n = noted-by max_depth z asks no_log [] refl in
+    asked-by max_depth z asks asks no_log [] (listed (logged max_depth z no_log asks).notes) refl tt (λ ask a. a) (n.is ∙ ap Some (sym (ap listed n.is)))
+
+pub units-listed : (h : Log) → (units_of h).entries ≡ entries_by 0 (listed h.notes)
+units-listed h = by-notes h.notes
+  where
+    by-notes : (o : Option (List Note)) → entries_by 0 (elim o as (λ _. List Note) [ None ↦ [] | Some ls ↦ ls ]) ≡ entries_by 0 (listed o)
+    by-notes None = refl
+    by-notes (Some ns) = refl
+
+-- ---- the law
+
+-- where a block begins that a reading that was given up covers, no entry begins one
+none-second : InOrderLaw → (k : CharClasses) (front old rest : List ℕ) (c : Candidate) (b : BlockAt [] 0 (width front) (width (front ++ old)) (parsed k max_depth (front ++ (old ++ rest))).nodes c) (s : Spot (Unit {0}))
+    → Among s (seconds_of_text k (front ++ (old ++ rest))) → IsOf b.hole b.node s → (from : ℕ) → opening_of c.start 0 0 (entries_in k (front ++ (old ++ rest))) ≡ Some from → ⊥
+none-second in_order k front old rest c b s there of from opens =
+    let text = front ++ (old ++ rest) in
+    let order : width front ≤ width (front ++ old) = (let w = width-append front old in omega (arith, w)) in
+    let same = hole-same s.hole b.hole s.node b.node of.path of.nodes in
+    let some : 0 < length (text_of s.node) = subst (λ (t : Tree). 0 < length (text_of t)) (sym same.1) (some-node (width front) (width (front ++ old)) _ c b order) in
+    let here = second-place k text s there some in
+    let left = ap length same.0 in
+    let start = b.start in
+    let starts = b.starts in
+    let o = opening-found c.start 0 0 (listed (log k text).notes) from (in_order k text) (sym (ap (opening_of c.start 0 0) (units-listed (log k text))) ∙ opens) in
+    let asked = among (Asked (start_of text) (parsed k max_depth text).asks) o.note _ (subst (Among o.note) (sym o.is) (among-here o.earlier o.note o.later)) (asked-of k text) in
+    let a = asked (ap is_opening o.mark) in
+    let begin = opens-directly k text o.earlier o.note o.later o.block o.is o.mark in
+    let note_start = o.start in
+    let before = a.before in
+    let place = byte-at (place_of a.ask) text in
+    let spot_byte : width (take s.at text) ≡ c.start = omega (arith, here, left, start) in
+    let ask_byte : width (take (place_of a.ask) text) ≡ c.start = omega (arith, place, before, begin, note_start) in
+    let one = early-by s.at front (old ++ rest) (omega (arith, spot_byte, starts)) in
+    let two = early-by (place_of a.ask) front (old ++ rest) (omega (arith, ask_byte, starts)) in
+    let long = length-append front (old ++ rest) in
+    let meet = take-same (place_of a.ask) s.at text (omega (arith, two, long)) (omega (arith, one, long)) (ask_byte ∙ sym spot_byte) in
+    let end = unnoted-law k text s a.ask there a.among_all meet in
+    omega (arith, end, one, long)
+
+none-some : (o : Option ℕ) (n : ℕ) → o ≡ None → o ≡ Some n → ⊥
+none-some o n e f = let no = sym e ∙ f in absurd (cc)
+
+pub block-test-law : InOrderLaw → BlockTestLaw
+block-test-law in_order k front old new rest root c same chosen is big more = (first, second)
+  where
+    b : BlockAt [] 0 (width front) (width (front ++ old)) (parsed k max_depth (front ++ (old ++ rest))).nodes c
+    b = candidate-at k (front ++ (old ++ rest)) (width front) (width (front ++ old)) root c same chosen is
+
+    first : opening_of c.start 0 0 (entries_in k (front ++ (old ++ rest))) ≡ None → (ts : List Tree) → Gives k front old new rest c ts → ⊥
+    first none ts (of_block s past block there path passes made) = none-some _ _ none (numbered k front old new rest c in_order big is b s there path).opens
+    first none ts (of_pieces r i n m past t u pieces path started led end h made) = absurd (let no = sym is ∙ pieces in cc)
+
+    second : (from : ℕ) → opening_of c.start 0 0 (entries_in k (front ++ (old ++ rest))) ≡ Some from → FoundBlock k front old new rest c from
+    second from opens = by-stems (standing-law k (front ++ (old ++ rest)) b.hole b.node b.is b.head)
+      where
+        by-stems : Stems k (front ++ (old ++ rest)) b.hole b.node → FoundBlock k front old new rest c from
+        by-stems (from_unit s there of) =
+            let path = of.path ∙ sym b.path_is in
+            let found = found-by k front old new rest c in_order big is b more s there path in
+            subst (FoundBlock k front old new rest c) (some-number _ _ (sym (numbered k front old new rest c in_order big is b s there path).opens ∙ opens)) found
+        by-stems (from_second s there of) = absurd (none-second in_order k front old rest c b s there of from opens)

@@ -1,0 +1,178 @@
+-- A content block in which no level is left notes nothing, so where notes say that pieces stand in a block a level is left.
+use Rattle.std.proofs.Common.{◌≡◌, ℕ, zero, suc, ◌+◌, ◌-◌, ◌==◌, eq-eqb, Bool, true, false, ◌&&◌, if◌then◌else◌, List, [], ◌∷◌, ◌++◌, length, take, Some, None, refl, ap, sym, ◌∙◌, subst, arith}
+use Rattle.std.specs.Prelude.{Option, nat_lt}
+use Rattle.typst_kinds.specs.Kinds.{same}
+use Rattle.typst_kinds.specs.declared.kind.SyntaxKind.{SyntaxKind}
+use Rattle.typst_kinds.specs.declared.kind.SyntaxKind.TheVariants as kind
+use Rattle.typst_lines.specs.Place.{Place, moved}
+use Rattle.typst_lines.specs.Classes.{CharClasses}
+use Rattle.typst_tokens.specs.Sight.{width}
+use Rattle.typst_language.specs.declared.calls.Block.TheVariants as block
+use Rattle.typst_language.specs.declared.calls.Mark.TheVariants as mark
+use Rattle.typst_language.specs.declared.calls.Note.{Note}
+use Rattle.typst_language.specs.declared.reading.Reading.{Reading}
+use Rattle.typst_language.specs.Ask.{shift}
+use Rattle.typst_language.specs.Depth.{too_deep, skip_one}
+use Rattle.typst_language.specs.Knot.{meaning_of}
+use Rattle.typst_language.specs.Meaning.{Outcome, Meaning, Level, blockless, bound, joined, as_last, turns, repeated, start_point, run}
+use Rattle.typst_language.specs.Point.{Point, point_of}
+use Rattle.typst_language.specs.Shape.{Shape, Making}
+use Rattle.typst_language.specs.Steps.{peek, eat_making, eat, close_if, flush_trivia, within, node, node_with_trivia}
+use Rattle.typst_language.specs.Syntax.{Parser, Begin, ◌>>◌}
+use Rattle.typst_language.specs.Syntax.Op.{hand, takes, flushes}
+use Rattle.typst_language.specs.Syntax.Parser.{gives, does, next, repeat, wraps, scoped}
+use Rattle.typst_language.proofs.Within.{on_both}
+use Rattle.typst_candidates.specs.Units.{opens_content, is_closing, starts, up_to_end, behind_first, cuts_in}
+use Rattle.typst_grammar.specs.Markup.{ends_block, markup_is_empty, markup_run, content_block, markup_reading}
+use Rattle.typst_grammar.specs.Grammar.{rules, max_depth, start_of, whole, log}
+use Rattle.typst_edits.specs.Edit.{Among}
+use Rattle.typst_edits.specs.Laws.{blocks_of_text, block_at}
+use Rattle.typst_edits.specs.Named.{Named}
+use Rattle.typst_edits.specs.Nested.{NestedBlock}
+use Rattle.typst_edits.specs.OpensApart.{OpensApartLaw}
+use Rattle.typst_edits.specs.PieceNotes.{listed}
+use Rattle.typst_edits.specs.Splice.{notes_in}
+use Rattle.typst_edits.specs.Spot.{Spot, ended, unit_at}
+use Rattle.typst_edits.proofs.Edit.{among}
+use Rattle.typst_edits.proofs.EmptyBlocks.{none-close}
+use Rattle.typst_edits.proofs.EmptyRuns.{Never, none-flush}
+use Rattle.typst_edits.proofs.InnerCuts.{opens_at, cuts-past, opens-before, both-on}
+use Rattle.typst_edits.proofs.Marks.{AllMarks, marks-append, marks-shift, none-hand}
+use Rattle.typst_edits.proofs.Names.{named-level}
+use Rattle.typst_edits.proofs.NestedBlocks.{nested-block-law}
+use Rattle.typst_edits.proofs.Sides.{count-none}
+use Rattle.typst_edits.proofs.Spots.{if-true}
+
+-- ---- what notes nothing
+
+abbrev Silent : {A : Type 0} → Level → Parser A → Type 0
+Silent l p = (z : Place) (s : Point) → AllMarks Never (run l p z s).asks
+
+module _ (l : Level) where
+  silent-gives : {A : Type 0} (a : A) → Silent l (gives a)
+  unfolding run
+  silent-gives a z s = tt
+
+  silent-peek : Silent l peek
+  unfolding run
+  silent-peek z s = none-hand Never l.classes s.held s.known z
+
+  silent-takes : (trims : Bool) (making : Making) → Silent l (does (takes trims making))
+  unfolding run
+  silent-takes trims making z s = none-hand Never l.classes s.held s.known z
+
+  silent-next : {A B : Type 0} (p : Parser B) (f : B → Parser A) → Silent l p → ((b : B) → Silent l (f b)) → Silent l (next p f)
+  unfolding run
+  silent-next p f h g z s =
+      let o = run l p z s in
+      let w = moved o.taken z in
+      marks-append Never o.asks (shift o.taken (run l (f o.value) w o.state).asks) (h z s) (marks-shift Never o.taken (run l (f o.value) w o.state).asks (g o.value w o.state))
+
+  silent-wraps : {A : Type 0} (f : A → Shape) (begin : Begin) (p : Parser A) → Silent l p → Silent l (wraps f begin p)
+  unfolding run
+  silent-wraps f begin p h z s = h z s
+
+  silent-scoped : {A : Type 0} (f : Reading → Reading) (p : Parser A) → Silent l p → Silent l (scoped f p)
+  unfolding run
+  silent-scoped f p h z s = h z _
+
+  silent-turns : {A : Type 0} (m : A → Meaning (Bool × A)) → ((x : A) (z : Place) (s : Point) → AllMarks Never (m x z s).asks) → (n : ℕ) (x : A) (z : Place) (s : Point) → AllMarks Never (turns m n x z s).asks
+  silent-turns m h zero x z s = tt
+  silent-turns {A} m h (suc n) x z s =
+      let o = m x z s in
+      let w = moved o.taken z in
+      let more = turns m n o.value.1 w o.state in
+      on_both (λ (u : Outcome A). AllMarks Never u.asks) (o.value.0 && nat_lt 0 o.taken) (joined o more) (as_last o)
+      (marks-append Never o.asks (shift o.taken more.asks) (h x z s) (marks-shift Never o.taken more.asks (silent-turns m h n o.value.1 w o.state))) (h x z s)
+
+  silent-repeat : {A : Type 0} (p : A → Parser (Bool × A)) (x : A) → ((y : A) → Silent l (p y)) → Silent l (repeat p x)
+  unfolding run repeated
+  silent-repeat p x h z s = silent-turns (λ y. run l (p y)) h (suc (bound z s)) x z s
+
+  -- ---- the steps
+
+  silent-eat : Silent l eat
+  unfolding eat eat_making
+  silent-eat = silent-next _ _ (silent-takes false _) (λ b. silent-next _ _ silent-peek (λ c. silent-gives tt))
+
+  silent-flush : Silent l flush_trivia
+  silent-flush = none-flush Never l
+
+  silent-skip : (stops : SyntaxKind → Bool) (n : ℕ) → Silent l (skip_one stops n)
+  unfolding skip_one
+  silent-skip stops n = silent-next _ _ silent-peek (λ a. silent-next _ _ silent-eat (λ b. silent-next _ _ silent-peek (λ c. silent-gives _)))
+
+  silent-within : {A : Type 0} (f : Reading → Reading) (p : Parser A) → Silent l p → Silent l (within f p)
+  unfolding within
+  silent-within f p h = silent-next _ _ (silent-scoped f p h) (λ a. silent-next _ _ silent-peek (λ b. silent-gives a))
+
+  silent-node : {A : Type 0} (f : A → Shape) (p : Parser A) → Silent l p → Silent l (node f p)
+  unfolding node
+  silent-node f p h = silent-next _ _ silent-peek (λ a. silent-next _ _ (silent-wraps f _ p h) (λ b. silent-gives _))
+
+  silent-deep : (stops : SyntaxKind → Bool) → Silent l (too_deep stops)
+  unfolding too_deep
+  silent-deep stops = silent-next _ _ (silent-node _ _ (silent-within _ _ (silent-repeat (skip_one stops) 0 (silent-skip stops)))) (λ a. silent-gives tt)
+
+  silent-empty : (p : Parser (Unit {0})) → Silent l p → Silent l (markup_is_empty p)
+  unfolding markup_is_empty node_with_trivia
+  silent-empty p h = silent-next _ _ (silent-next _ _ (silent-wraps _ _ _ (silent-next _ _ h (λ a. silent-flush))) (λ a. silent-gives _)) (λ a. silent-gives _)
+
+-- ---- where no level is left
+
+module _ (k : CharClasses) where
+  abbrev last : Level
+  last = blockless k 0 (meaning_of (rules k) k 0)
+
+  silent-skipped : Silent last (peek >> too_deep ends_block)
+  silent-skipped = silent-next last peek (λ a. too_deep ends_block) (silent-peek last) (λ a. silent-deep last ends_block)
+
+  silent-run : Silent last (markup_run ends_block)
+  unfolding markup_run run
+  silent-run z s = marks-shift Never 0 (run last (peek >> too_deep ends_block) (moved 0 z) s).asks (silent-skipped (moved 0 z) s)
+
+  silent-block : Silent last (peek >> content_block)
+  unfolding content_block
+  silent-block =
+      silent-next last _ _ (silent-peek last)
+      (λ a. silent-next last _ _ (silent-node last _ _ (silent-scoped last _ _ (silent-next last _ _ (silent-takes last false _) (λ b. silent-next last _ _ (silent-empty last _ silent-run) (λ c. none-close Never last))))) (λ b. silent-gives last tt))
+
+-- ---- a block in which pieces stand
+
+nothing : (ns : List Note) → length ns ≡ 0 → ns ≡ []
+nothing [] e = refl
+nothing (n ∷ ns) e = absurd (omega (arith, e))
+
+none-in : (k : CharClasses) (text : List ℕ) (s : Spot (Unit {0})) → Among s (blocks_of_text k text) → s.name ≡ block.Content → max_depth - s.fewer ≡ 0 → notes_in (unit_at s (start_of text)).asks ≡ 0
+unfolding blocks_of_text
+none-in k text s there name none =
+    let z = start_of text in
+    let y = moved s.at z in
+    let p = point_of s.start in
+    let named = among (Named (block_at k) max_depth) s _ there (named-level (rules k) k max_depth whole z (start_point markup_reading)) in
+    let reads : unit_at s z ≡ ended (block_at k 0 block.Content y p) =
+    ap (λ m. m y p) named.reads ∙ ap (λ v. ended (block_at k v s.name y p)) none ∙ ap (λ x. ended (block_at k 0 x y p)) name in
+    ap (λ (o : Outcome (Unit {0})). notes_in o.asks) reads ∙ count-none (block_at k 0 block.Content y p).asks (silent-block k y p)
+
+none-some : (o : Option (List ℕ)) (cuts : List ℕ) → o ≡ None → o ≡ Some cuts → ⊥
+none-some o cuts e f = let no = sym e ∙ f in absurd (cc)
+
+pub some-level : OpensApartLaw → (k : CharClasses) (text : List ℕ) (s : Spot (Unit {0})) (cuts : List ℕ) → Among s (blocks_of_text k text) → s.name ≡ block.Content → cuts_in (width (take s.at text)) (listed (log k text).notes) ≡ Some cuts → max_depth - s.fewer ≡ 0 → ⊥
+some-level apart k text s cuts there name have none =
+    let n = nested-block-law k text s there in
+    let many = none-in k text s there name none in
+    let long = n.long in
+    let empty : n.inner ≡ [] = nothing n.inner (omega (arith, many, long)) in
+    let rest = n.inner ++ n.closes ∷ n.later in
+    let notes : listed (log k text).notes ≡ n.earlier ++ n.opens ∷ rest = ap listed n.notes in
+    let at = n.opens.start in
+    let lv = n.opens.levels in
+    let before = opens-before apart k text n.opens s.name n.name rest [] n.earlier notes in
+    let here : opens_at at n.opens ≡ true = both-on (opens_content n.opens.mark) (at == at) (ap opens_content (n.name ∙ ap mark.Opens name)) (eq-eqb at at refl) in
+    let own : cuts_in at (n.opens ∷ rest) ≡ behind_first (starts lv (up_to_end lv rest)) = if-true (opens_at at n.opens) _ _ here in
+    let same_level : n.closes.levels ≡ lv = n.levels_end ∙ sym n.levels_there in
+    let ends : up_to_end lv (n.closes ∷ n.later) ≡ [] = if-true (is_closing n.closes.mark && n.closes.levels == lv) _ _ (both-on (is_closing n.closes.mark) (n.closes.levels == lv) (ap is_closing n.name_end) (eq-eqb n.closes.levels lv same_level)) in
+    let nothing_in : behind_first (starts lv (up_to_end lv rest)) ≡ None = ap (λ xs. behind_first (starts lv (up_to_end lv (xs ++ n.closes ∷ n.later)))) empty ∙ ap (λ xs. behind_first (starts lv xs)) ends in
+    let all : cuts_in (width (take s.at text)) (listed (log k text).notes) ≡ None =
+    ap (λ x. cuts_in x (listed (log k text).notes)) (sym n.start) ∙ ap (cuts_in at) notes ∙ cuts-past at n.earlier (n.opens ∷ rest) before ∙ own ∙ nothing_in in
+    none-some _ cuts all have

@@ -1,0 +1,317 @@
+-- What the entries of notes say of the pieces of a run, whose notes stand among others, nested in each other.
+use Rattle.std.proofs.Common.{◌≡◌, ℕ, zero, suc, ◌+◌, ◌<◌, ◌≤◌, ◌==◌, ne_eqb, eq-eqb, Bool, true, false, if◌then◌else◌, List, [], ◌∷◌, ◌++◌, length, take, drop, length-append, append_assoc, Some, None, refl, ap, sym, ◌∙◌, subst, arith}
+use Rattle.std.proofs.lemmas.Bool.{eqb-true}
+use Rattle.typst_tokens.specs.Sight.{width}
+use Rattle.typst_language.specs.declared.calls.Mark.{Mark}
+use Rattle.typst_language.specs.declared.calls.Mark.TheVariants as mark
+use Rattle.typst_language.specs.declared.calls.Note.{Note}
+use Rattle.typst_candidates.specs.declared.entry.Entry.{Entry}
+use Rattle.typst_candidates.specs.Cursors.{piece_of, first_piece, closing_of}
+use Rattle.typst_candidates.specs.Entries.{tag_of, count_of, entry_of, entries_by, last_start}
+use Rattle.typst_candidates.specs.Nested.{Nested, none, piece}
+use Rattle.typst_candidates.specs.Records.{IsRising}
+use Rattle.typst_candidates.proofs.Nested.{closing-found}
+use Rattle.typst_edits.specs.Every.{Every}
+use Rattle.typst_edits.specs.NumberedNotes.{of_level, Numbered, cut_behind, SaysOf}
+use Rattle.typst_edits.specs.Runs.{End}
+use Rattle.typst_edits.specs.RunTest.{SaysPiece, IsLast, BeginsAt}
+use Rattle.typst_edits.proofs.EntryNumbers.{got-entry, past-entry}
+use Rattle.typst_edits.proofs.NestedPieces.{first_own, piece-found, first-found, past-nested, own-here, some-own, head-same, tail-same, apart, rising-behind, entries-behind, entries-end}
+use Rattle.typst_edits.proofs.NoteNumbers.{level-append, numbered-at}
+use Rattle.typst_edits.proofs.Spots.{if-true, if-false}
+
+-- ---- notes by numbers
+
+-- A note of a level among some notes, of which so many stand before it; and so many entries do among all, with those of other notes before these.
+pub record NoteAt (lv before : ℕ) (ns : List Note) (i number : ℕ) : Type 0 where
+  pub earlier : List Note
+  pub note : Note
+  pub later : List Note
+  pub is : ns ≡ earlier ++ note ∷ later
+  pub own : note.levels ≡ lv
+  pub index : length (of_level lv earlier) ≡ i
+  pub all : before + length earlier ≡ number
+
+level-at : (lv : ℕ) (ms : List Note) (n : Note) (ns : List Note) → n.levels ≡ lv → of_level lv (ms ++ n ∷ ns) ≡ of_level lv ms ++ n ∷ of_level lv ns
+level-at lv ms n ns e = level-append lv ms (n ∷ ns) ∙ ap (λ us. of_level lv ms ++ us) (if-true (n.levels == lv) _ _ (eq-eqb n.levels lv e))
+
+pub level-long : (lv : ℕ) (ms : List Note) (n : Note) (ns : List Note) → n.levels ≡ lv → length (of_level lv (ms ++ n ∷ ns)) ≡ length (of_level lv ms) + suc (length (of_level lv ns))
+level-long lv ms n ns e = ap length (level-at lv ms n ns e) ∙ length-append (of_level lv ms) (n ∷ of_level lv ns)
+
+-- the one of a number says what the notes of the level do
+pub says-by : (lv : ℕ) (ns : List Note) (text : List ℕ) (e : ℕ → End (Bool × ℕ)) (ms : List Note) (n : Note) (ls : List Note) (i : ℕ) → Numbered (SaysOf text e) 0 (of_level lv ns) → ns ≡ ms ++ n ∷ ls → n.levels ≡ lv
+    → length (of_level lv ms) ≡ i → SaysOf text e i n
+says-by lv ns text e ms n ls i each is own index =
+    let firsts = of_level lv ms in
+    let there = numbered-at (SaysOf text e) 0 firsts n (of_level lv ls) (subst (λ us. Numbered (SaysOf text e) 0 us) (ap (of_level lv) is ∙ level-at lv ms n ls own) each) in
+    let same : 0 + length firsts ≡ i = omega (arith, index) in
+    subst (λ j. SaysOf text e j n) same there
+
+pub record Nth (lv : ℕ) (ns : List Note) (i : ℕ) : Type 0 where
+  pub earlier : List Note
+  pub note : Note
+  pub later : List Note
+  pub is : ns ≡ earlier ++ note ∷ later
+  pub own : note.levels ≡ lv
+  pub index : length (of_level lv earlier) ≡ i
+
+nth-behind : (lv : ℕ) (n : Note) (ns : List Note) (i j : ℕ) (h : Nth lv ns j) → length (of_level lv (n ∷ h.earlier)) ≡ i → Nth lv (n ∷ ns) i
+nth-behind lv n ns i j h index = record { earlier = n ∷ h.earlier; note = h.note; later = h.later; is = ap (λ us. n ∷ us) h.is; own = h.own; index = index }
+
+nth-by : (lv : ℕ) (n : Note) (ns : List Note) (b : Bool) → (n.levels == lv) ≡ b → (i : ℕ) → i < length (if b then n ∷ of_level lv ns else of_level lv ns) → ((j : ℕ) → j < length (of_level lv ns) → Nth lv ns j) → Nth lv (n ∷ ns) i
+nth-by lv n ns true t zero l rest = record { earlier = []; note = n; later = ns; is = refl; own = eqb-true n.levels lv t; index = refl }
+nth-by lv n ns true t (suc i) l rest = let h = rest i (omega (arith, l)) in nth-behind lv n ns (suc i) i h (ap length (if-true (n.levels == lv) _ _ t) ∙ ap suc h.index)
+nth-by lv n ns false t i l rest = let h = rest i l in nth-behind lv n ns i i h (ap length (if-false (n.levels == lv) _ _ t) ∙ h.index)
+
+pub nth-note : (lv : ℕ) (ns : List Note) (i : ℕ) → i < length (of_level lv ns) → Nth lv ns i
+nth-note lv [] i l = absurd (omega (arith, l))
+nth-note lv (n ∷ ns) i l = nth-by lv n ns (n.levels == lv) refl i l (λ j m. nth-note lv ns j m)
+
+numbered-first : (P : ℕ → Note → Type 0) (i : ℕ) (xs ys : List Note) → Numbered P i (xs ++ ys) → Numbered P i xs
+numbered-first P i [] ys h = tt
+numbered-first P i (x ∷ xs) ys h = (h.0, numbered-first P (suc i) xs ys h.1)
+
+every-numbered : (P : ℕ → Note → Type 0) (Q : Note → Type 0) (i end : ℕ) (xs : List Note) → ((m : ℕ) (n : Note) → m < end → P m n → Q n) → i + length xs ≤ end → Numbered P i xs → Every Q xs
+every-numbered P Q i end [] f l h = tt
+every-numbered P Q i end (x ∷ xs) f l h = (f i x (omega (arith, l)) h.0, every-numbered P Q (suc i) end xs f (omega (arith, l)) h.1)
+
+every-second : (Q : Note → Type 0) (xs ys : List Note) → Every Q (xs ++ ys) → Every Q ys
+every-second Q [] ys h = h
+every-second Q (x ∷ xs) ys h = every-second Q xs ys h.1
+
+every-none : (Q : Note → Type 0) (xs : List Note) → length xs ≡ 0 → Every Q xs
+every-none Q [] e = tt
+every-none Q (x ∷ xs) e = absurd (omega (arith, e))
+
+few-level : (lv : ℕ) (xs : List Note) → length (of_level lv xs) ≤ length xs
+few-level lv [] = omega arith
+few-level lv (x ∷ xs) = by-test (x.levels == lv) (few-level lv xs)
+  where
+    by-test : (b : Bool) → length (of_level lv xs) ≤ length xs → length (if b then x ∷ of_level lv xs else of_level lv xs) ≤ suc (length xs)
+    by-test true few = omega (arith, few)
+    by-test false few = omega (arith, few)
+
+-- ---- from one note up to another
+
+record Between (es : List Note) (o : Note) (ahead fs : List Note) (p : Note) (beyond : List Note) : Type 0 where
+  mids : List Note
+  earlier : fs ≡ es ++ mids
+  behind : o ∷ ahead ≡ mids ++ p ∷ beyond
+
+few-tail : (lv : ℕ) (x y : Note) (us vs : List Note) → x ≡ y → length (of_level lv (x ∷ us)) ≤ length (of_level lv (y ∷ vs)) → length (of_level lv us) ≤ length (of_level lv vs)
+few-tail lv x y us vs e l = by-test (x.levels == lv) (y.levels == lv) (ap (λ (n : Note). n.levels == lv) e) l
+  where
+    by-test : (a b : Bool) → a ≡ b → length (if a then x ∷ of_level lv us else of_level lv us) ≤ length (if b then y ∷ of_level lv vs else of_level lv vs) → length (of_level lv us) ≤ length (of_level lv vs)
+    by-test true true f l = omega (arith, l)
+    by-test true false f l = cc
+    by-test false true f l = cc
+    by-test false false f l = l
+
+-- of two notes of a level the one with no more of them before it comes first
+between : (lv : ℕ) (es : List Note) (o : Note) (ahead fs : List Note) (p : Note) (beyond : List Note) → es ++ o ∷ ahead ≡ fs ++ p ∷ beyond → p.levels ≡ lv → length (of_level lv es) ≤ length (of_level lv fs) → Between es o ahead fs p beyond
+between lv [] o ahead fs p beyond e own l = record { mids = fs; earlier = refl; behind = e }
+between lv (x ∷ es) o ahead [] p beyond e own l =
+    let same = head-same x p (es ++ o ∷ ahead) beyond e in
+    let there : length (of_level lv (x ∷ es)) ≡ suc (length (of_level lv es)) = ap length (if-true (x.levels == lv) _ _ (eq-eqb x.levels lv (ap (λ (n : Note). n.levels) same ∙ own))) in
+    absurd (omega (arith, l, there))
+between lv (x ∷ es) o ahead (y ∷ fs) p beyond e own l =
+    let same = head-same x y (es ++ o ∷ ahead) (fs ++ p ∷ beyond) e in
+    let i = between lv es o ahead fs p beyond (tail-same x y (es ++ o ∷ ahead) (fs ++ p ∷ beyond) e) own (few-tail lv x y es fs same l) in
+    record { mids = i.mids; earlier = ap (λ u. u ∷ fs) (sym same) ∙ ap (λ us. x ∷ us) i.earlier; behind = i.behind }
+
+-- what is nested up to a note of the level is so from another one on
+nested-mids : (lv : ℕ) (fs es mids : List Note) (o : Note) (ahead : List Note) (p : Note) (beyond : List Note) (line : Bool) (brackets : ℕ) → Nested lv fs → fs ≡ es ++ mids → o ∷ ahead ≡ mids ++ p ∷ beyond
+    → o.levels ≡ lv → o.mark ≡ mark.Piece line brackets → Nested lv mids
+nested-mids lv fs es [] o ahead p beyond line brackets nest e f own says = none lv
+nested-mids lv fs es (m ∷ ms) o ahead p beyond line brackets nest e f own says =
+    let same = head-same o m ahead (ms ++ p ∷ beyond) f in
+    let own_too : m.levels ≡ lv = ap (λ (n : Note). n.levels) (sym same) ∙ own in
+    let a = apart lv fs es m ms nest own_too e in
+    piece lv m ms line brackets (ap (λ (n : Note). n.mark) (sym same) ∙ says) own_too a.behind
+
+-- ---- among entries
+
+begins-at : (at : ℕ) (ms ns : List Note) (number : ℕ) → IsRising 0 (ms ++ ns) → first_own (λ n. n.start == at) 0 (length ms) ns ≡ Some number → BeginsAt (entries_by 0 (ms ++ ns)) (length ms) at number
+begins-at at ms ns number r h =
+    let es = entries_by 0 (ms ++ ns) in
+    ap (λ start. piece_of at 0 start (length ms) (drop (length ms) es)) (entries-end 0 ms ns r)
+    ∙ ap (piece_of at 0 (last_start 0 ms) (length ms)) (entries-behind 0 ms ns)
+    ∙ piece-found at 0 (last_start 0 ms) (length ms) ns (rising-behind 0 ms ns r) ∙ h
+
+-- What entries say of so many pieces of a run, by the numbers of its entries and the bytes at which the tokens behind the pieces begin.
+pub record FoundPieces (es : List Entry) (number cut : ℕ → ℕ) (value : ℕ → Bool × ℕ) (count : ℕ) : Type 0 where
+  pub goes_on : (i j : ℕ) → i ≤ j → j ≤ count → BeginsAt es (number i) (cut j) (number j)
+  pub rises : (i j : ℕ) → i < j → j ≤ count → number i < number j
+  pub last : IsLast es (number count)
+  pub not_last : (i : ℕ) → i < count → IsLast es (number i) → ⊥
+  pub says : (i : ℕ) → i ≤ count → SaysPiece es (number i) (value i)
+
+-- The notes of a run, nested among others: so many pieces, each with a note of the level whose token is behind it, and no piece of the run behind all.
+pub record RunAmong (lv : ℕ) (pre ns suf : List Note) (text : List ℕ) (e : ℕ → End (Bool × ℕ)) (count : ℕ) (number : ℕ → ℕ) : Type 0 where
+  pub nested : Nested lv ns
+  pub rising : IsRising 0 (pre ++ (ns ++ suf))
+  pub each : Numbered (SaysOf text e) 0 (of_level lv ns)
+  pub long : length (of_level lv ns) ≡ suc count
+  pub at : (i : ℕ) → i ≤ count → NoteAt lv (length pre) ns i (number i)
+  pub cuts_rise : (i j : ℕ) → i < j → j ≤ count → width (take (cut_behind i (e i)) text) < width (take (cut_behind j (e j)) text)
+  pub over : (number : ℕ) → first_own (λ n. true) 0 number suf ≡ None
+
+module _ (lv : ℕ) (pre ns suf : List Note) (text : List ℕ) (e : ℕ → End (Bool × ℕ)) (count : ℕ) (number : ℕ → ℕ) (h : RunAmong lv pre ns suf text e count number) where
+  abbrev all : List Note
+  all = pre ++ (ns ++ suf)
+
+  abbrev cut : ℕ → ℕ
+  cut i = width (take (cut_behind i (e i)) text)
+
+  says-at : (i : ℕ) (l : i ≤ count) → SaysOf text e i (h.at i l).note
+  says-at i l = let n = h.at i l in says-by lv ns text e n.earlier n.note n.later i h.each n.is n.own n.index
+
+  -- all before the note of a number, and all from it on
+  abbrev firsts_of : (i : ℕ) → i ≤ count → List Note
+  firsts_of i l = pre ++ (h.at i l).earlier
+
+  abbrev behind_of : (i : ℕ) → i ≤ count → List Note
+  behind_of i l = (h.at i l).later ++ suf
+
+  split-at : (i : ℕ) (l : i ≤ count) → all ≡ firsts_of i l ++ (h.at i l).note ∷ behind_of i l
+  split-at i l =
+      let n = h.at i l in
+      ap (λ us. pre ++ (us ++ suf)) n.is ∙ ap (λ us. pre ++ us) (append_assoc n.earlier (n.note ∷ n.later) suf) ∙ sym (append_assoc pre n.earlier (n.note ∷ (n.later ++ suf)))
+
+  firsts-long : (i : ℕ) (l : i ≤ count) → length (firsts_of i l) ≡ number i
+  firsts-long i l = length-append pre (h.at i l).earlier ∙ (h.at i l).all
+
+  up-to : (i j : ℕ) (l : i ≤ count) (m : j ≤ count) → i ≤ j → Between (h.at i l).earlier (h.at i l).note (h.at i l).later (h.at j m).earlier (h.at j m).note (h.at j m).later
+  up-to i j l m few =
+      let a = h.at i l in
+      let b = h.at j m in
+      let one = a.index in
+      let two = b.index in
+      between lv a.earlier a.note a.later b.earlier b.note b.later (sym a.is ∙ b.is) b.own (omega (arith, few, one, two))
+
+  -- none of the run's notes before one has its token where that has it
+  none-there : (i j : ℕ) (l : i ≤ count) (m : j ≤ count) (few : i ≤ j) → Every (λ n. (n.start == cut j) ≡ false) (of_level lv (up-to i j l m few).mids)
+  none-there i j l m few =
+      let b = h.at j m in
+      let f = up-to i j l m few in
+      let index = b.index in
+      let firsts = numbered-first (SaysOf text e) 0 (of_level lv b.earlier) (b.note ∷ of_level lv b.later) (subst (λ us. Numbered (SaysOf text e) 0 us) (ap (of_level lv) b.is ∙ level-at lv b.earlier b.note b.later b.own) h.each) in
+      let apart_all : Every (λ n. (n.start == cut j) ≡ false) (of_level lv b.earlier) =
+      every-numbered (SaysOf text e) (λ n. (n.start == cut j) ≡ false) 0 j (of_level lv b.earlier)
+      (λ d n less says. ne_eqb n.start (cut j) (λ same. (let start = says.start in let rise = h.cuts_rise d j less m in omega (arith, same, start, rise)))) (omega (arith, index)) firsts in
+      every-second (λ n. (n.start == cut j) ≡ false) (of_level lv (h.at i l).earlier) (of_level lv f.mids)
+      (subst (λ us. Every (λ n. (n.start == cut j) ≡ false) us) (ap (of_level lv) f.earlier ∙ level-append lv (h.at i l).earlier f.mids) apart_all)
+
+  mids-nested : (i j : ℕ) (l : i ≤ count) (m : j ≤ count) (few : i ≤ j) → Nested lv (up-to i j l m few).mids
+  mids-nested i j l m few =
+      let a = h.at i l in
+      let b = h.at j m in
+      let f = up-to i j l m few in
+      let v = (e i).value in
+      nested-mids lv b.earlier a.earlier f.mids a.note a.later b.note b.later v.0 v.1 (apart lv ns b.earlier b.note b.later h.nested b.own b.is).before f.earlier f.behind a.own (says-at i l).says.mark
+
+  mids-long : (i j : ℕ) (l : i ≤ count) (m : j ≤ count) (few : i ≤ j) → number i + length (up-to i j l m few).mids ≡ number j
+  mids-long i j l m few =
+      let f = up-to i j l m few in
+      let one = (h.at i l).all in
+      let two = (h.at j m).all in
+      let sum = ap length f.earlier in
+      let parts = length-append (h.at i l).earlier f.mids in
+      omega (arith, one, two, sum, parts)
+
+  goes-on : (i j : ℕ) → i ≤ j → j ≤ count → BeginsAt (entries_by 0 all) (number i) (cut j) (number j)
+  goes-on i j few m =
+      let l : i ≤ count = omega (arith, few, m) in
+      let a = h.at i l in
+      let b = h.at j m in
+      let f = up-to i j l m few in
+      let p : Note → Bool = λ n. n.start == cut j in
+      let before = firsts_of i l in
+      let behind = a.note ∷ behind_of i l in
+      let says = says-at j m in
+      let v = (e j).value in
+      let parts : behind ≡ f.mids ++ b.note ∷ behind_of j m = ap (λ us. us ++ suf) f.behind ∙ append_assoc f.mids (b.note ∷ b.later) suf in
+      let long_i = firsts-long i l in
+      let same : length before + length f.mids ≡ number j = (let sum = mids-long i j l m few in omega (arith, sum, long_i)) in
+      let found : first_own p 0 (length before) behind ≡ Some (number j) =
+      ap (first_own p 0 (length before)) parts
+      ∙ past-nested p lv (length before) f.mids (b.note ∷ behind_of j m) (mids-nested i j l m few) (none-there i j l m few)
+      ∙ own-here p (length before + length f.mids) b.note (behind_of j m) v.0 v.1 says.says.mark (eq-eqb b.note.start (cut j) says.start)
+      ∙ ap Some same in
+      let split = split-at i l in
+      subst (λ us. BeginsAt (entries_by 0 us) (number i) (cut j) (number j)) (sym split)
+      (subst (λ d. BeginsAt (entries_by 0 (before ++ behind)) d (cut j) (number j)) long_i (begins-at (cut j) before behind (number j) (subst (IsRising 0) split h.rising) found))
+
+  -- the entries behind one of the run
+  pub drop-at : (i : ℕ) (l : i ≤ count) → drop (suc (number i)) (entries_by 0 all) ≡ entries_by (h.at i l).note.start (behind_of i l)
+  drop-at i l =
+      let n = h.at i l in
+      ap (λ us. drop (suc (number i)) (entries_by 0 us)) (split-at i l) ∙ ap (λ d. drop (suc d) (entries_by 0 (firsts_of i l ++ n.note ∷ behind_of i l))) (sym (firsts-long i l)) ∙ past-entry 0 (firsts_of i l) n.note (behind_of i l)
+
+  first-drop : (i : ℕ) (l : i ≤ count) → first_piece 0 (suc (number i)) (drop (suc (number i)) (entries_by 0 all)) ≡ first_own (λ n. true) 0 (suc (number i)) (behind_of i l)
+  first-drop i l = ap (first_piece 0 (suc (number i))) (drop-at i l) ∙ first-found 0 (h.at i l).note.start (suc (number i)) (behind_of i l)
+
+  pub later-nested : (i : ℕ) (l : i ≤ count) → Nested lv (h.at i l).later
+  later-nested i l = let n = h.at i l in (apart lv ns n.earlier n.note n.later h.nested n.own n.is).behind
+
+  is-last : IsLast (entries_by 0 all) (number count)
+  is-last =
+      let l : count ≤ count = omega arith in
+      let n = h.at count l in
+      let p : Note → Bool = λ n. true in
+      let k = suc (number count) in
+      let few = ap (λ us. length (of_level lv us)) n.is in
+      let sum = level-long lv n.earlier n.note n.later n.own in
+      let index = n.index in
+      let long = h.long in
+      let nothing : length (of_level lv n.later) ≡ 0 = omega (arith, few, sum, index, long) in
+      first-drop count l ∙ past-nested p lv k n.later suf (later-nested count l) (every-none (λ n. p n ≡ false) (of_level lv n.later) nothing) ∙ h.over (k + length n.later)
+
+  rises : (i j : ℕ) → i < j → j ≤ count → number i < number j
+  rises i j less m =
+      let l : i ≤ count = omega (arith, less, m) in
+      let few : i ≤ j = omega (arith, less) in
+      let f = up-to i j l m few in
+      let one = (h.at i l).index in
+      let two = (h.at j m).index in
+      let sum = ap (λ us. length (of_level lv us)) f.earlier ∙ ap length (level-append lv (h.at i l).earlier f.mids) ∙ length-append (of_level lv (h.at i l).earlier) (of_level lv f.mids) in
+      let most = few-level lv f.mids in
+      let all_long = mids-long i j l m few in
+      omega (arith, less, one, two, sum, most, all_long)
+
+  not-last : (i : ℕ) → i < count → IsLast (entries_by 0 all) (number i) → ⊥
+  not-last i less nothing =
+      let long = h.long in
+      let l : i ≤ count = omega (arith, less) in
+      let n = h.at i l in
+      let few = ap (λ us. length (of_level lv us)) n.is in
+      let sum = level-long lv n.earlier n.note n.later n.own in
+      let index = n.index in
+      some-own lv (suc (number i)) n.later suf (later-nested i l) (omega (arith, few, sum, index, long, less)) (sym (first-drop i l) ∙ nothing)
+
+  says-piece : (i : ℕ) → i ≤ count → SaysPiece (entries_by 0 all) (number i) (e i).value
+  says-piece i l =
+      let n = h.at i l in
+      let says = (says-at i l).says in
+      let own : SaysPiece (entries_by 0 (firsts_of i l ++ n.note ∷ behind_of i l)) (length (firsts_of i l)) (e i).value = record {
+        entry = entry_of (last_start 0 (firsts_of i l)) n.note;
+        is = got-entry 0 (firsts_of i l) n.note (behind_of i l);
+        tag = ap (λ (m : Mark). tag_of m n.note.state) says.mark;
+        count = ap (λ (m : Mark). count_of m n.note.levels) says.mark;
+      } in
+      subst (λ us. SaysPiece (entries_by 0 us) (number i) (e i).value) (sym (split-at i l)) (subst (λ d. SaysPiece (entries_by 0 (firsts_of i l ++ n.note ∷ behind_of i l)) d (e i).value) (firsts-long i l) own)
+
+  pub found-pieces : FoundPieces (entries_by 0 all) number cut (λ i. (e i).value) count
+  found-pieces = record { goes_on = goes-on; rises = rises; last = is-last; not_last = not-last; says = says-piece }
+
+  -- a block ends behind its run's last piece
+  pub closing : (c : Note) (later : List Note) → suf ≡ c ∷ later → c.mark ≡ mark.Closes → closing_of 0 (suc (number count)) (drop (suc (number count)) (entries_by 0 all)) ≡ Some (length pre + length ns)
+  closing c later is says =
+      let l : count ≤ count = omega arith in
+      let n = h.at count l in
+      let k = suc (number count) in
+      let there = n.all in
+      let parts = ap length n.is in
+      let sum = length-append n.earlier (n.note ∷ n.later) in
+      let same : k + length n.later ≡ length pre + length ns = omega (arith, there, parts, sum) in
+      ap (closing_of 0 k) (drop-at count l ∙ ap (λ us. entries_by n.note.start (n.later ++ us)) is) ∙ closing-found lv k n.note.start n.later c later (later-nested count l) says ∙ ap Some same

@@ -1,0 +1,443 @@
+-- Marks stand in order by their tokens: each at the token of the one before it or behind that.
+use Rattle.std.proofs.Common.{◌≡◌, ℕ, zero, suc, ◌+◌, ◌-◌, ◌<◌, ◌≤◌, ◌==◌, Bool, true, false, ◌&&◌, nat_lt, List, [], ◌∷◌, ◌++◌, take, append_assoc, append-nil, Option, Some, None, refl, ap, sym, ◌∙◌, subst, arith}
+use Rattle.typst_kinds.specs.Kinds.{same}
+use Rattle.typst_kinds.specs.declared.kind.SyntaxKind.{SyntaxKind}
+use Rattle.typst_kinds.specs.declared.kind.SyntaxKind.TheVariants as kind
+use Rattle.typst_lines.specs.Place.{Place, moved}
+use Rattle.typst_lines.specs.Classes.{CharClasses}
+use Rattle.typst_tokens.specs.Sight.{width, position, hull_of}
+use Rattle.typst_candidates.specs.Records.{IsRising}
+use Rattle.typst_language.specs.declared.calls.Block.{Block}
+use Rattle.typst_language.specs.declared.calls.Block.TheVariants as block
+use Rattle.typst_language.specs.declared.calls.Call.{Call}
+use Rattle.typst_language.specs.declared.calls.Call.TheVariants.{MarkupExpr}
+use Rattle.typst_language.specs.declared.calls.Mark.{Mark}
+use Rattle.typst_language.specs.declared.calls.Mark.TheVariants as mark
+use Rattle.typst_language.specs.declared.calls.Note.{Note}
+use Rattle.typst_language.specs.declared.reading.Reading.{Reading}
+use Rattle.typst_language.specs.Ask.{Ask, shift, sunk, only_looks}
+use Rattle.typst_language.specs.Ask.Ask.{looked, marked}
+use Rattle.typst_language.specs.Depth.{deeper, is_end, too_deep}
+use Rattle.typst_language.specs.Hand.{len_at, hand_at}
+use Rattle.typst_language.specs.Knot.{meaning_of, level_of, blocks_of}
+use Rattle.typst_language.specs.Log.{Log, no_log, with_hull, with_note, logged}
+use Rattle.typst_language.specs.Point.{Trivia, Point, forgot, gap_of}
+use Rattle.typst_language.specs.Shape.{Shape, becomes}
+use Rattle.typst_language.specs.Shape.Making.{itself}
+use Rattle.typst_language.specs.Steps.{peek, node, node_with_trivia, note, flush_trivia, close_if}
+use Rattle.typst_language.specs.Syntax.{Op, Begin, Parser, ◌>>◌}
+use Rattle.typst_language.specs.Syntax.Begin.{at_token, at_trivia}
+use Rattle.typst_language.specs.Syntax.Op.{hand, so, further, column, erred, takes, takes_so, flushes, complains, advises, marks, is_deepest}
+use Rattle.typst_language.specs.Syntax.Parser.{gives, does, next, pick, repeat, wraps, grows, nests, scoped, either, calls, block}
+use Rattle.typst_language.specs.Meaning.{Outcome, Meaning, Level, plain, joined, answered, turns, as_last, bound, repeated, before, grown, is_more, growths, growing, nestings, nesting, given_up, bounded, blockless, entered, hand_of, hand_asks_of, start_point, done, run}
+use Rattle.typst_language.proofs.Ends.{hand-takes}
+use Rattle.typst_language.proofs.Knot.{Sane, sane-meaning, sane-block, sane-plain}
+use Rattle.typst_language.proofs.Places.{moved-sum}
+use Rattle.typst_language.proofs.Within.{on_both, on_if, grew}
+use Rattle.typst_grammar.specs.Grammar.{rules, production, max_depth, start_of, whole, parsed, log, block_production}
+use Rattle.typst_grammar.specs.Markup.{ends, ends_block, note_piece, markup_turn, markup_run, markup_is_empty, markup_head, markup_reading, content_block}
+use Rattle.typst_grammar.specs.Sequences.{code_block}
+use Rattle.typst_grammar.proofs.Guarded.{Guarded, guarded-close, guarded-deep, guarded-deeper, guarded-node}
+use Rattle.typst_grammar.proofs.GuardedCode.{guarded-production, guarded-inside-code}
+use Rattle.typst_edits.specs.InOrder.{InOrderLaw}
+use Rattle.typst_edits.specs.Joint.{minds}
+use Rattle.typst_edits.specs.PieceNotes.{listed}
+use Rattle.typst_edits.proofs.Boundary.{KnownAt}
+use Rattle.typst_edits.proofs.Bytes.{noted-more}
+use Rattle.typst_edits.proofs.Joint.{known-is, takes-call}
+use Rattle.typst_edits.proofs.Led.{behind_trivia, same-judged, before_trivia, Takes}
+use Rattle.typst_edits.proofs.Marks.{AllMarks, none-hand}
+use Rattle.typst_edits.proofs.Rising.{take-more}
+use Rattle.typst_edits.proofs.Spots.{if-true}
+use Rattle.typst_edits.proofs.Turns.{turn_tail, takes-turn, end-by}
+use Rattle.typst_edits.proofs.Widths.{width-moved, width-none}
+
+-- ---- marks in a list of asks
+
+-- from one place up to another
+abbrev Orders : ℕ → ℕ → List Ask → Type 0
+Orders lo hi [] = lo ≤ hi
+Orders lo hi (looked at look ∷ asks) = Orders lo hi asks
+Orders lo hi (marked at gap fewer m s ∷ asks) = (lo ≤ at) × Orders (at + gap) hi asks
+
+orders-low : (a b hi : ℕ) (ls : List Ask) → a ≤ b → Orders b hi ls → Orders a hi ls
+orders-low a b hi [] e h = omega (arith, e, h)
+orders-low a b hi (looked at look ∷ ls) e h = orders-low a b hi ls e h
+orders-low a b hi (marked at gap fewer m s ∷ ls) e h = (let low = h.0 in omega (arith, e, low), h.1)
+
+orders-append : (lo mid hi : ℕ) (ls ks : List Ask) → Orders lo mid ls → Orders mid hi ks → Orders lo hi (ls ++ ks)
+orders-append lo mid hi [] ks h i = orders-low lo mid hi ks h i
+orders-append lo mid hi (looked at look ∷ ls) ks h i = orders-append lo mid hi ls ks h i
+orders-append lo mid hi (marked at gap fewer m s ∷ ls) ks h i = (h.0, orders-append (at + gap) mid hi ls ks h.1 i)
+
+-- counted from so many characters before
+orders-shift : (d lo hi : ℕ) (ls : List Ask) → Orders lo hi ls → Orders (d + lo) (d + hi) (shift d ls)
+orders-shift d lo hi [] h = omega (arith, h)
+orders-shift d lo hi (looked at look ∷ ls) h = orders-shift d lo hi ls h
+orders-shift d lo hi (marked at gap fewer m s ∷ ls) h = (
+  let low = h.0 in omega (arith, low),
+  orders-low ((d + at) + gap) (d + (at + gap)) (d + hi) (shift d ls) (omega arith) (orders-shift d (at + gap) hi ls h.1),
+)
+
+orders-sunk : (lo hi : ℕ) (ls : List Ask) → Orders lo hi ls → Orders lo hi (sunk ls)
+orders-sunk lo hi [] h = h
+orders-sunk lo hi (looked at look ∷ ls) h = orders-sunk lo hi ls h
+orders-sunk lo hi (marked at gap fewer m s ∷ ls) h = (h.0, orders-sunk (at + gap) hi ls h.1)
+
+-- no marks at all
+orders-looks : (lo hi : ℕ) (ls : List Ask) → lo ≤ hi → Orders lo hi (only_looks ls)
+orders-looks lo hi [] h = h
+orders-looks lo hi (looked at look ∷ ls) h = orders-looks lo hi ls h
+orders-looks lo hi (marked at gap fewer m s ∷ ls) h = orders-looks lo hi ls h
+
+abbrev Unmarked : List Ask → Type 0
+Unmarked asks = AllMarks (λ at fewer m s. ⊥) asks
+
+orders-none : (lo hi : ℕ) (ls : List Ask) → lo ≤ hi → Unmarked ls → Orders lo hi ls
+orders-none lo hi [] h none = h
+orders-none lo hi (looked at look ∷ ls) h none = orders-none lo hi ls h none
+orders-none lo hi (marked at gap fewer m s ∷ ls) h none = absurd none.0
+
+-- ---- whatever the language can say, and notes nothing by itself
+
+-- from one place up to another that is so far behind what is taken
+abbrev Reaching : {A : Type 0} → ℕ → ℕ → Outcome A → Type 0
+Reaching lo gap o = Orders lo (o.taken + gap) o.asks
+
+abbrev InOrder : {A : Type 0} → Outcome A → Type 0
+InOrder o = Orders 0 o.taken o.asks
+
+abbrev AllInOrder : {A : Type 0} → Meaning A → Type 0
+AllInOrder m = (z : Place) (s : Point) → InOrder (m z s)
+
+order-joined : {A B : Type 0} (o : Outcome B) (p : Outcome A) → InOrder o → InOrder p → InOrder (joined o p)
+order-joined o p h k = orders-append 0 o.taken (o.taken + p.taken) o.asks _ h (orders-low o.taken (o.taken + 0) (o.taken + p.taken) (shift o.taken p.asks) (omega arith) (orders-shift o.taken 0 p.taken p.asks k))
+
+order-turns : {A : Type 0} (m : A → Meaning (Bool × A)) → ((x : A) → AllInOrder (m x)) → (n : ℕ) (x : A) → AllInOrder (turns m n x)
+order-turns m h zero x z s = omega arith
+order-turns m h (suc n) x z s =
+    let o = m x z s in
+    let p = turns m n o.value.1 (moved o.taken z) o.state in
+    on_both InOrder (o.value.0 && nat_lt 0 o.taken) (joined o p) (as_last o) (order-joined o p (h x z s) (order-turns m h n o.value.1 (moved o.taken z) o.state)) (h x z s)
+
+order-grown : {A : Type 0} (i : ℕ) (shape : Option Shape) (o : Outcome A) → InOrder o → InOrder (grown i shape o)
+order-grown i None o h = h
+order-grown i (Some shape) o h = h
+
+order-growths : {A : Type 0} (m : A → Meaning (Option Shape × A)) → ((x : A) → AllInOrder (m x)) → (n i : ℕ) (o : Outcome A) (z : Place) → InOrder o → InOrder (growths m n i o z)
+order-growths m h n zero o z k = k
+order-growths m h n (suc i) o z k =
+    let p = m o.value (moved o.taken z) o.state in
+    let all = order-grown n p.value.0 (answered p.value.1 (joined o p)) (order-joined o p k (h o.value (moved o.taken z) o.state)) in
+    on_both InOrder (is_more p.value.0 && nat_lt 0 p.taken) (growths m n i (grew n o p) z) (grew n o p) (order-growths m h n i (grew n o p) z all) all
+
+order-nestings : {A : Type 0} (f : A → Shape) (begin : Begin) (m : A → Meaning (Bool × A)) → ((x : A) → AllInOrder (m x)) → (n : ℕ) (x : A) → AllInOrder (nestings f begin m n x)
+order-nestings f begin m h zero x z s = omega arith
+order-nestings f begin m h (suc n) x z s =
+    let o = m x z s in
+    let p = nestings f begin m n o.value.1 (moved o.taken z) o.state in
+    on_both InOrder (o.value.0 && nat_lt 0 o.taken) (joined o p) (as_last o) (order-joined o p (h x z s) (order-nestings f begin m h n o.value.1 (moved o.taken z) o.state)) (h x z s)
+
+abbrev Silent : {A : Type 0} → Bool → Parser A → Type 0
+Silent seen p = Guarded (λ (m : Mark). false) seen p
+
+order-bounded : (b : Block) (m : Meaning (Unit {0})) → AllInOrder m → AllInOrder (bounded b m)
+order-bounded b m h z s =
+    let o = m z (forgot s) in
+    (omega arith, orders-append 0 o.taken o.taken o.asks _ (h z (forgot s)) (omega arith, omega arith))
+
+module _ (l : Level) (deep : (call : Call) → AllInOrder (l.deeper call)) (held : (b : Block) → AllInOrder (l.blocks b)) where
+  unmarked-hand : (z : Place) (s : Point) → Unmarked (hand_asks_of l z s)
+  unmarked-hand z s = none-hand (λ at fewer m t. ⊥) l.classes s.held s.known z
+
+  order-hand : (z : Place) (s : Point) (hi : ℕ) → Orders 0 hi (hand_asks_of l z s)
+  order-hand z s hi = orders-none 0 hi (hand_asks_of l z s) (omega arith) (unmarked-hand z s)
+
+  order-more : (z : Place) (s : Point) (hi at : ℕ) (look : _) → Orders 0 hi (hand_asks_of l z s ++ looked at look ∷ [])
+  order-more z s hi at look = orders-append 0 hi hi (hand_asks_of l z s) (looked at look ∷ []) (order-hand z s hi) (omega arith)
+
+  order-done : {A : Type 0} (seen : Bool) (o : Op A) → Silent seen (does o) → AllInOrder (done l o)
+  order-done seen hand q z s = order-hand z s 0
+  order-done seen (so way) q z s = order-more z s 0 _ _
+  order-done seen further q z s = order-more z s 0 _ _
+  order-done seen column q z s = order-more z s 0 _ _
+  order-done seen erred q z s = omega arith
+  order-done seen (takes trims making) q z s = order-hand z s _
+  order-done seen (takes_so way making) q z s = order-more z s _ _ _
+  order-done seen flushes q z s = order-hand z s _
+  order-done seen (complains message) q z s = omega arith
+  order-done seen (advises hint) q z s = omega arith
+  order-done seen (marks m) q z s = absurd (cc)
+  order-done seen is_deepest q z s = omega arith
+
+  order-run : {A : Type 0} (seen : Bool) (p : Parser A) → Silent seen p → AllInOrder (run l p)
+  unfolding run repeated growing nesting
+  order-run seen (gives a) q z s = omega arith
+  order-run seen (does o) q z s = order-done seen o q z s
+  order-run seen (next p f) q z s =
+      let o = run l p z s in
+      order-joined o (run l (f o.value) (moved o.taken z) o.state) (order-run seen p q.0 z s) (order-run _ (f o.value) (q.1 o.value) (moved o.taken z) o.state)
+  order-run seen (pick true p r) q z s = order-run seen p (q.0 refl) z s
+  order-run seen (pick false p r) q z s = order-run seen r (q.1 refl) z s
+  order-run seen (repeat p x) q z s = order-turns (λ y. run l (p y)) (λ y. order-run false (p y) (q y)) (suc (bound z s)) x z s
+  order-run seen (wraps f begin p) q z s = order-run false p q z s
+  order-run seen (grows begin p f) q z s = order-growths (λ y. run l (f y)) (λ y. order-run false (f y) (q.1 y)) (before begin s) (suc (bound z s)) (run l p z s) z (order-run false p q.0 z s)
+  order-run seen (nests f begin p x) q z s = order-nestings f begin (λ y. run l (p y)) (λ y. order-run false (p y) (q y)) (suc (bound z s)) x z s
+  order-run seen (scoped f p) q z s = order-run false p q z (entered (f s.reading) s)
+  order-run seen (either p is_wrong r) q z s =
+      let o = run l p z s in
+      let u = run l r z s in
+      on_both InOrder (is_wrong o.value) (given_up o u) o (orders-looks 0 u.taken (o.asks ++ u.asks) (omega arith)) (order-run false p q.0 z s)
+  order-run seen (calls call) q z s = orders-sunk 0 (l.deeper call z s).taken (l.deeper call z s).asks (deep call z s)
+  order-run seen (block b) q z s =
+      let o = done l flushes z s in
+      let p = bounded b (l.blocks b) (moved o.taken z) o.state in
+      on_if InOrder (l.has b) (joined o p) (plain tt s) (λ has. order-joined o p (order-hand z s o.taken) (order-bounded b (l.blocks b) (held b) (moved o.taken z) o.state)) (λ _. omega arith)
+
+-- ---- a run of pieces
+
+orders-high : (lo a b : ℕ) (ls : List Ask) → a ≤ b → Orders lo a ls → Orders lo b ls
+orders-high lo a b [] e h = omega (arith, e, h)
+orders-high lo a b (looked at look ∷ ls) e h = orders-high lo a b ls e h
+orders-high lo a b (marked at gap fewer m s ∷ ls) e h = (h.0, orders-high (at + gap) a b ls e h.1)
+
+-- what is behind it begins so far behind it
+order-next : {A B : Type 0} (lo mid gap : ℕ) (o : Outcome B) (p : Outcome A) → Reaching lo mid o → Reaching mid gap p → Reaching lo gap (joined o p)
+order-next lo mid gap o p h k =
+    orders-append lo (o.taken + mid) ((o.taken + p.taken) + gap) o.asks _ h
+    (orders-high (o.taken + mid) (o.taken + (p.taken + gap)) ((o.taken + p.taken) + gap) (shift o.taken p.asks) (omega arith) (orders-shift o.taken mid (p.taken + gap) p.asks k))
+
+reaching : {A : Type 0} (gap : ℕ) (o : Outcome A) → InOrder o → Reaching 0 gap o
+reaching gap o h = orders-high 0 o.taken (o.taken + gap) o.asks (omega arith) h
+
+all-taken : {A : Type 0} (o : Outcome A) → Reaching 0 0 o → InOrder o
+all-taken o h = orders-high 0 (o.taken + 0) o.taken o.asks (omega arith) h
+
+-- up to the token at hand behind it
+abbrev ToToken : {A : Type 0} → ℕ → Outcome A → Type 0
+ToToken lo o = Reaching lo (gap_of o.state.known) o
+
+hand-gap : (k : CharClasses) (held : Reading) (known : Option Trivia) (z : Place) → gap_of known ≤ (hand_at k held known z).gap
+unfolding hand_at
+hand-gap k held None z = omega arith
+hand-gap k held (Some t) z = omega arith
+
+-- a piece begins by taking the token at hand, with the trivia before it
+abbrev Leads : Level → Type 0
+Leads l = (h : Reading) (z : Place) (t : Trivia) (x : Bool × ℕ) → 0 < len_at l.classes h.mode (moved t.gap z) → Takes h z t t (minds (markup_head x.0 x.1 (hand_at l.classes h (Some t) z).kind)) (l.deeper (MarkupExpr x.0 x.1))
+
+module _ (l : Level) (deep : (call : Call) → AllInOrder (l.deeper call)) (held : (b : Block) → AllInOrder (l.blocks b)) where
+  silent : {A : Type 0} (p : Parser A) → Silent false p → AllInOrder (run l p)
+  silent p q = order-run l deep held false p q
+
+  peek-order : (lo : ℕ) (z : Place) (s : Point) → lo ≤ (hand_of l z s).gap → ToToken lo (run l peek z s)
+  unfolding run
+  peek-order lo z s e = orders-none lo (0 + (hand_of l z s).gap) (hand_asks_of l z s) (omega (arith, e)) (unmarked-hand l deep held z s)
+
+  note-order : (m : Mark) (z : Place) (s : Point) → ToToken 0 (run l (note m) z s)
+  unfolding run note
+  note-order m z s =
+      let a = run l peek z s in
+      let b = done l (marks m) z a.state in
+      let c = run l peek z b.state in
+      let gap = gap_of c.state.known in
+      let more = hand-gap l.classes a.state.held a.state.known z in
+      order-next 0 0 gap a (joined b (joined c (plain (tt {0}) c.state))) (reaching 0 a (order-hand l deep held z s 0))
+      (order-next 0 (gap_of a.state.known) gap b (joined c (plain (tt {0}) c.state)) (omega arith, omega arith)
+      (order-next (gap_of a.state.known) gap gap c (plain (tt {0}) c.state) (peek-order (gap_of a.state.known) z b.state more) (omega arith)))
+
+  tail-order : (brackets : ℕ) (z : Place) (s : Point) → ToToken 0 (run l (turn_tail brackets) z s)
+  unfolding run note_piece
+  tail-order brackets z s =
+      let a = run l peek z s in
+      let line = a.value.newlines.any in
+      let n = run l (note (mark.Piece line brackets)) z a.state in
+      let last : Outcome (Bool × (Bool × ℕ)) = plain (true, (line, brackets)) n.state in
+      let gap = gap_of n.state.known in
+      order-next 0 0 gap a (joined n last) (reaching 0 a (order-hand l deep held z s 0)) (order-next 0 gap gap n last (note-order (mark.Piece line brackets) z a.state) (omega arith))
+
+  module _ (stops : SyntaxKind → Bool) where
+    turn-order : (x : Bool × ℕ) (z : Place) (s : Point) → ToToken 0 (run l (markup_turn true stops x) z s)
+    unfolding run markup_turn
+    turn-order x z s =
+        let a = run l peek z s in
+        let d = run l (deeper (MarkupExpr x.0 x.1) x.1) z a.state in
+        let t = run l (turn_tail d.value) (moved d.taken z) d.state in
+        let none = reaching 0 a (order-hand l deep held z s 0) in
+        let stop : Outcome (Bool × (Bool × ℕ)) = plain (false, x) a.state in
+        on_if (λ (q : Outcome (Bool × (Bool × ℕ))). ToToken 0 (joined a q)) (ends stops x.1 a.value.kind) stop (joined d t)
+        (λ _. order-next 0 0 (gap_of a.state.known) a stop none (omega arith))
+        (λ _. order-next 0 0 (gap_of t.state.known) a (joined d t) none
+        (order-next 0 0 (gap_of t.state.known) d t (reaching 0 d (silent (deeper (MarkupExpr x.0 x.1) x.1) (guarded-deeper (λ (m : Mark). false) false (MarkupExpr x.0 x.1) x.1) z a.state)) (tail-order d.value (moved d.taken z) d.state)))
+
+    turn-known : (x : Bool × ℕ) (z : Place) (s : Point) → KnownAt (run l (markup_turn true stops x) z s).state
+    unfolding run markup_turn note_piece note
+    turn-known x z s =
+        let a = run l peek z s in
+        let d = run l (deeper (MarkupExpr x.0 x.1) x.1) z a.state in
+        let stop : Outcome (Bool × (Bool × ℕ)) = plain (false, x) a.state in
+        on_if (λ (q : Outcome (Bool × (Bool × ℕ))). KnownAt q.state) (ends stops x.1 a.value.kind) stop (joined d (run l (turn_tail d.value) (moved d.taken z) d.state))
+        (λ _. record { trivia = _; is = refl }) (λ _. record { trivia = _; is = refl })
+
+    stopped-order : (x : Bool × ℕ) (z : Place) (s : Point) → ends stops x.1 (hand_of l z s).kind ≡ true → ToToken (gap_of s.known) (run l (markup_turn true stops x) z s)
+    unfolding run markup_turn
+    stopped-order x z s e =
+        let a = run l peek z s in
+        let lo = gap_of s.known in
+        let here = peek-order lo z s (hand-gap l.classes s.held s.known z) in
+        let stop : Outcome (Bool × (Bool × ℕ)) = plain (false, x) a.state in
+        subst (λ (q : Outcome (Bool × (Bool × ℕ))). ToToken lo (joined a q)) (sym (if-true (ends stops x.1 a.value.kind) stop _ e)) (order-next lo (gap_of a.state.known) (gap_of a.state.known) a stop here (omega arith))
+
+    module _ (sd : (c : Call) → Sane (l.deeper c)) (sb : (b : Block) → Sane (l.blocks b)) (end_stops : stops kind.End ≡ true) (some_level : (l.levels == 0) ≡ false) (leads : Leads l) where
+      led-order : (x : Bool × ℕ) (z : Place) (t : Trivia) (r h : Reading) (e : ℕ) (a : Bool) → ends stops x.1 (hand_at l.classes h (Some t) z).kind ≡ false → ToToken t.gap (run l (markup_turn true stops x) z (before_trivia r h e a t))
+      unfolding hand_at
+      led-order x z t r h e a go =
+          let w = moved t.gap z in
+          let p = before_trivia r h e a (behind_trivia t) in
+          let o = run l (markup_turn true stops x) z (before_trivia r h e a t) in
+          let c = run l (markup_turn true stops x) w p in
+          let some = hand-takes l.classes h (Some t) z (end-by stops end_stops x.1 (hand_at l.classes h (Some t) z).kind go) in
+          let led = takes-turn l sd sb h z t t (same-judged h t) some_level stops x _ (leads h z t x some) go r e e a a (λ _. refl) in
+          let taken = led.taken in
+          let gap = ap (λ (q : Point). gap_of q.known) led.state in
+          let far = c.taken + gap_of c.state.known in
+          let hi = o.taken + gap_of o.state.known in
+          let from = orders-shift t.gap 0 far c.asks (turn-order x w p) in
+          subst (λ ls. Orders t.gap hi ls) (sym led.asks)
+          (orders-low t.gap (t.gap + 0) hi (shift t.gap c.asks) (omega arith) (orders-high (t.gap + 0) (t.gap + far) hi (shift t.gap c.asks) (omega (arith, taken, gap)) from))
+
+      piece-order : (x : Bool × ℕ) (z : Place) (s : Point) → KnownAt s → ToToken (gap_of s.known) (run l (markup_turn true stops x) z s)
+      piece-order x z s known = by-end (ends stops x.1 (hand_of l z s).kind) refl
+        where
+          by-end : (b : Bool) → ends stops x.1 (hand_of l z s).kind ≡ b → ToToken (gap_of s.known) (run l (markup_turn true stops x) z s)
+          by-end true e = stopped-order x z s e
+          by-end false e =
+              let t = known.trivia in
+              subst (λ p. ends stops x.1 (hand_of l z p).kind ≡ false → ToToken (gap_of p.known) (run l (markup_turn true stops x) z p)) (sym (known-is l.classes s t known.is))
+              (led-order x z t s.reading s.held s.empties s.is_after_error) e
+
+      pieces-order : (n : ℕ) (x : Bool × ℕ) (z : Place) (s : Point) → KnownAt s → ToToken (gap_of s.known) (turns (λ y. run l (markup_turn true stops y)) n x z s)
+      pieces-order zero x z s known = omega arith
+      pieces-order (suc n) x z s known =
+          let o = run l (markup_turn true stops x) z s in
+          let p = turns (λ y. run l (markup_turn true stops y)) n o.value.1 (moved o.taken z) o.state in
+          let first = piece-order x z s known in
+          on_both (λ (q : Outcome (Bool × ℕ)). ToToken (gap_of s.known) q) (o.value.0 && nat_lt 0 o.taken) (joined o p) (as_last o)
+          (order-next (gap_of s.known) (gap_of o.state.known) (gap_of p.state.known) o p first (pieces-order n o.value.1 (moved o.taken z) o.state (turn-known x z s))) first
+
+    module _ (sd : (c : Call) → Sane (l.deeper c)) (sb : (b : Block) → Sane (l.blocks b)) (end_stops : stops kind.End ≡ true) (leads : (l.levels == 0) ≡ false → Leads l) where
+      run-order : (z : Place) (s : Point) → ToToken 0 (run l (markup_run stops) z s)
+      unfolding run markup_run repeated
+      run-order z s =
+          let d = done l is_deepest z s in
+          let m = done l (marks (mark.Piece true 0)) z s in
+          let a = run l peek z s in
+          let r = run l (repeat (markup_turn true stops) (true, 0)) z a.state in
+          let skipped = run l (peek >> too_deep stops) z s in
+          let gap = gap_of r.state.known in
+          on_if (λ (q : Outcome (Unit {0})). ToToken 0 (joined d q)) (l.levels == 0) skipped (joined m (joined a (joined r (plain (tt {0}) r.state))))
+          (λ _. order-next 0 0 (gap_of skipped.state.known) d skipped (omega arith)
+          (reaching (gap_of skipped.state.known) skipped (silent (peek >> too_deep stops) (refl, λ _. guarded-deep (λ (m : Mark). false) _ stops) z s)))
+          (λ e. order-next 0 0 gap d (joined m (joined a (joined r (plain (tt {0}) r.state)))) (omega arith)
+          (order-next 0 (gap_of s.known) gap m (joined a (joined r (plain (tt {0}) r.state))) (omega arith, omega arith)
+          (order-next (gap_of s.known) (gap_of a.state.known) gap a (joined r (plain (tt {0}) r.state)) (peek-order (gap_of s.known) z s (hand-gap l.classes s.held s.known z))
+          (order-next (gap_of a.state.known) gap gap r (plain (tt {0}) r.state)
+          (pieces-order sd sb end_stops e (leads e) (suc (bound z a.state)) (true, 0) z a.state (record { trivia = _; is = refl })) (omega arith)))))
+
+      -- and the trivia behind it
+      flushed-order : AllInOrder (run l (markup_run stops >> flush_trivia))
+      unfolding run flush_trivia
+      flushed-order z s =
+          let o = run l (markup_run stops) z s in
+          let w = moved o.taken z in
+          let f = done l flushes w o.state in
+          let n = run l (peek >> gives (tt {0})) (moved f.taken w) f.state in
+          let gap = gap_of o.state.known in
+          let all = hand-gap l.classes o.state.held o.state.known w in
+          all-taken (joined o (joined f n)) (order-next 0 gap 0 o (joined f n) (run-order z s)
+          (order-next gap 0 0 f n (orders-none gap (f.taken + 0) (hand_asks_of l w o.state) (omega (arith, all)) (unmarked-hand l deep held w o.state)) (reaching 0 n (silent (peek >> gives (tt {0})) (refl, λ _. tt) (moved f.taken w) f.state))))
+
+  all-next : {A B : Type 0} (p : Parser B) (f : B → Parser A) → AllInOrder (run l p) → ((b : B) → AllInOrder (run l (f b))) → AllInOrder (run l (next p f))
+  unfolding run
+  all-next p f h k z s = let o = run l p z s in order-joined o (run l (f o.value) (moved o.taken z) o.state) (h z s) (k o.value (moved o.taken z) o.state)
+
+  all-node : {A : Type 0} (shape : A → Shape) (p : Parser A) → AllInOrder (run l p) → AllInOrder (run l (node shape p))
+  unfolding node run
+  all-node shape p h z s =
+      let a = run l peek z s in
+      let o = run l (wraps shape at_token p) z a.state in
+      order-joined a (joined o (plain o.value.0 o.state)) (order-hand l deep held z s 0) (order-joined o (plain o.value.0 o.state) (h z a.state) (omega arith))
+
+  all-scoped : {A : Type 0} (f : Reading → Reading) (p : Parser A) → AllInOrder (run l p) → AllInOrder (run l (scoped f p))
+  unfolding run
+  all-scoped f p h z s = h z (entered (f s.reading) s)
+
+  all-trivia : (k : SyntaxKind) (p : Parser (Unit {0})) → AllInOrder (run l (p >> flush_trivia)) → AllInOrder (run l (node_with_trivia k p))
+  unfolding node_with_trivia run
+  all-trivia k p h z s = let o = run l (wraps (λ _. becomes k) at_trivia (p >> flush_trivia)) z s in order-joined o (plain o.value.1 o.state) (h z s) (omega arith)
+
+-- ---- at every level
+
+module _ (k : CharClasses) where
+  leads-by : (levels : ℕ) → (levels == 0) ≡ false → Leads (level_of (rules k) k levels)
+  leads-by zero e = absurd (cc)
+  leads-by (suc n) e = λ h z t x some. takes-call k n h z t t (same-judged h t) x some
+
+  none-held : (levels : ℕ) (b : Block) → AllInOrder ((blockless k levels (meaning_of (rules k) k levels)).blocks b)
+  none-held levels b z s = omega arith
+
+  block-order : (levels : ℕ) → ((call : Call) → AllInOrder (meaning_of (rules k) k levels call)) → (b : Block) → AllInOrder (blocks_of (rules k) k levels (meaning_of (rules k) k levels) b)
+  unfolding content_block markup_is_empty code_block
+  block-order levels i block.Content =
+      let l = blockless k levels (meaning_of (rules k) k levels) in
+      let held = none-held levels in
+      all-next l i held peek _ (silent l i held peek refl) (λ _.
+      all-next l i held _ _ (all-node l i held _ _ (all-scoped l i held _ _ (all-next l i held _ _ (silent l i held (does (takes false itself)) refl) (λ _.
+      all-next l i held _ _ (all-next l i held _ _ (all-trivia l i held kind.Markup (markup_run ends_block) (flushed-order l i held ends_block (sane-meaning (rules k) k levels) (λ b. sane-plain tt) refl (leads-by levels))) (λ _. silent l i held (gives _) tt))
+      (λ _. silent l i held (close_if (same kind.RightBracket)) (guarded-close (λ (m : Mark). false) false (same kind.RightBracket)))))))
+      (λ _. silent l i held (gives (tt {0})) tt))
+  block-order levels i block.Code =
+      silent (blockless k levels (meaning_of (rules k) k levels)) i (none-held levels) (peek >> block_production block.Code) (refl, λ _. (guarded-node (λ (m : Mark). false) _ _ _ (guarded-inside-code (λ (m : Mark). false) false), λ _. tt))
+
+  call-order : (levels : ℕ) (call : Call) → AllInOrder (meaning_of (rules k) k levels call)
+  unfolding meaning_of
+  call-order zero call z s = omega arith
+  call-order (suc levels) call z s =
+      silent (level_of (rules k) k levels) (call-order levels) (block-order levels (call-order levels)) (production k call) (guarded-production (λ (m : Mark). false) false k call) z s
+
+  whole-order : (levels : ℕ) → AllInOrder (run (level_of (rules k) k levels) whole)
+  unfolding whole
+  whole-order levels = flushed-order (level_of (rules k) k levels) (call-order levels) (block-order levels (call-order levels)) is_end (sane-meaning (rules k) k levels) (sane-block (rules k) k levels) refl (leads-by levels)
+
+-- ---- in bytes
+
+-- so many notes more, in order
+record NotedOrder (from : ℕ) (ns : List Note) (h : Log) : Type 0 where
+  more : List Note
+  is : h.notes ≡ Some (ns ++ more)
+  rising : IsRising from more
+
+noted-order : (lv : ℕ) (text : List ℕ) (asks : List Ask) (h : Log) (ns : List Note) (lo hi : ℕ) → h.notes ≡ Some ns → Orders lo hi asks → NotedOrder (width (take lo text)) ns (logged lv (start_of text) h asks)
+unfolding position
+noted-order lv text [] h ns lo hi e r = record { more = []; is = e ∙ ap Some (sym (append-nil ns)); rising = tt }
+noted-order lv text (looked at look ∷ asks) h ns lo hi e r = noted-order lv text asks (with_hull (hull_of look (moved at (start_of text))) h) ns lo hi e r
+noted-order lv text (marked at gap fewer m s ∷ asks) h ns lo hi e r =
+    let z = start_of text in
+    let note : Note = record { mark = m; before = position (moved at z); start = position (moved gap (moved at z)); levels = lv - fewer; state = s; reach = h.reach; least = h.least } in
+    let i = noted-order lv text asks (with_note gap (lv - fewer) m s (moved at z) h) (ns ++ note ∷ []) (at + gap) hi (noted-more note h.notes ns e) r.1 in
+    let before : note.before ≡ width (take at text) = width-moved at text in
+    let start : note.start ≡ width (take (at + gap) text) = ap (λ (y : Place). width y.behind) (sym (moved-sum at gap z)) ∙ width-moved (at + gap) text in
+    let one = take-more lo at text r.0 in
+    let two = take-more at (at + gap) text (omega arith) in
+    record {
+      more = note ∷ i.more;
+      is = i.is ∙ ap Some (append_assoc ns (note ∷ []) i.more);
+      rising = (omega (arith, one, before), omega (arith, two, before, start), subst (λ n. IsRising n i.more) (sym start) i.rising);
+    }
+
+pub in-order-law : InOrderLaw
+unfolding log
+in-order-law k text =
+    let o = parsed k max_depth text in
+    let n = noted-order max_depth text o.asks no_log [] 0 o.taken refl (whole-order k max_depth (start_of text) (start_point markup_reading)) in
+    subst (λ ns. IsRising 0 ns) (sym (ap listed n.is)) (subst (λ d. IsRising d n.more) width-none n.rising)

@@ -1,0 +1,590 @@
+-- What code finds of a candidate that is pieces in a content block, by the numbers of its entries and a reading from its first token on.
+use Rattle.std.proofs.Common.{◌≡◌, ◌↔◌, ℕ, zero, suc, ◌+◌, ◌-◌, ◌<◌, ◌≤◌, ◌==◌, ne_eqb, nat_le, Bool, true, false, if◌then◌else◌, List, [], ◌∷◌, ◌++◌, length, take, drop, None, Some, refl, ap, sym, ◌∙◌, subst, arith}
+use Rattle.std.proofs.lemmas.Bool.Decides.{nat_tests}
+use Rattle.typst_lines.specs.Place.{Place, moved}
+use Rattle.typst_lines.specs.Classes.{CharClasses}
+use Rattle.typst_tree.specs.Tree.{Tree, bare}
+use Rattle.typst_tokens.specs.Sight.{width, position}
+use Rattle.typst_language.specs.declared.calls.Block.TheVariants as block
+use Rattle.typst_language.specs.declared.calls.Note.{Note}
+use Rattle.typst_language.specs.Ask.{shift}
+use Rattle.typst_language.specs.Meaning.{Outcome, less, start_point, entered, run}
+use Rattle.typst_language.specs.Shape.Making.{itself}
+use Rattle.typst_language.specs.Syntax.Op.{takes}
+use Rattle.typst_language.specs.Syntax.Parser.{does}
+use Rattle.typst_language.specs.Steps.{peek}
+use Rattle.typst_language.specs.Log.{Log, no_log, logged}
+use Rattle.typst_grammar.specs.Markup.{markup_reading}
+use Rattle.typst_language.specs.Point.{Trivia, Point, gap_of, pending, point_of}
+use Rattle.typst_language.specs.Shape.{hinted}
+use Rattle.typst_language.proofs.Places.{moved-sum}
+use Rattle.typst_candidates.specs.declared.entry.Entry.{Entry}
+use Rattle.typst_candidates.specs.Candidates.{Candidate}
+use Rattle.typst_candidates.specs.Entries.{Units, units_by, units_of, entry_of, entries_by, spliced, front_of, rear_of}
+use Rattle.typst_candidates.specs.Records.{IsRising, AllEnd, AllBegin}
+use Rattle.typst_candidates.proofs.Looks.{front-law, rear-law}
+use Rattle.typst_grammar.specs.Grammar.{max_depth, log, tree}
+use Rattle.typst_grammar.specs.Pieces.{given, first_look}
+use Rattle.typst_edits.specs.BlockRuns.{inner, look_first, look_again, bracket, inner_lead, run_at, opened_at, EndsBefore}
+use Rattle.typst_edits.specs.Bytes.{highest, lowest}
+use Rattle.typst_edits.specs.Edit.{Among, text_with}
+use Rattle.typst_edits.specs.Children.{together}
+use Rattle.typst_edits.specs.Frame.{Run, top, inner as block_inner, cut_at, end_by, is_over, nodes_now, Agrees, PassesPieces}
+use Rattle.typst_edits.specs.Frame.Gives.{of_pieces}
+use Rattle.typst_edits.specs.Answer.{candidates}
+use Rattle.typst_edits.specs.Hole.{path_of}
+use Rattle.typst_edits.specs.InnerJoint.{BeginsPast}
+use Rattle.typst_edits.specs.OpensApart.{OpensApartLaw}
+use Rattle.typst_edits.specs.Heads.{first_place, minds_at}
+use Rattle.typst_edits.specs.InnerPieces.{block_run, Around}
+use Rattle.typst_edits.specs.InnerBytes.{inner_end, inner_both}
+use Rattle.typst_edits.specs.InOrder.{InOrderLaw}
+use Rattle.typst_edits.specs.InnerPiecesTest.{front_count, InnerEntriesLaw, read_alone, end_alone, level_in, InnerReadLaw, InnerOnceLaw, InnerTestLaw, InnerPart, InnerPartLaw, InnerUnitsLaw}
+use Rattle.typst_edits.specs.OneReading.{TakesNone, again_end}
+use Rattle.typst_edits.specs.Resumed.{fresh, read_again}
+use Rattle.typst_edits.specs.Laws.{blocks_of_text}
+use Rattle.typst_edits.specs.PieceNotes.{listed}
+use Rattle.typst_edits.specs.Runs.{made, AllGo, End, end_of, asks_of}
+use Rattle.typst_edits.specs.Sequence.{Sequence, turn_of, first_of, first_end, then_of, then_end}
+use Rattle.typst_edits.specs.Spot.{Spot}
+use Rattle.typst_edits.proofs.Children.{given-together}
+use Rattle.typst_edits.proofs.InnerCandidates.{no-errors, inner-candidate-law}
+use Rattle.typst_edits.proofs.InnerPiecesLog.{inner-pieces-log-law}
+use Rattle.typst_edits.specs.Splice.{entries_from}
+use Rattle.typst_edits.proofs.InnerSplice.{inner-splice-law}
+use Rattle.typst_edits.proofs.InnerJoint.{first-same}
+use Rattle.typst_edits.proofs.Outcomes.{shift-zero}
+use Rattle.typst_edits.proofs.Resumed.{block-known, block-then-known, block-fresh, bracket-gap, inner-count-law, inner-goes-too, start-asks, start-known, start-same, start-goes}
+use Rattle.typst_edits.proofs.InnerBytes.{inner-decision-law}
+use Rattle.typst_edits.proofs.OneReading.{block-seen, block-sees, block-clear, takes-some, gives-again-law}
+use Rattle.typst_edits.proofs.RootPieces.{take-past}
+use Rattle.typst_edits.proofs.Seen.{end-first, end-second, end-shift}
+use Rattle.typst_edits.proofs.Widths.{width-append}
+
+-- ---- numbers of notes
+
+-- the greatest of some numbers says that all are no greater
+pub all-end : (at : ℕ) (ns : List Note) (n : Note) → (AllEnd at (ns ++ n ∷ []) → highest ns n.reach ≤ at) × (highest ns n.reach ≤ at → AllEnd at (ns ++ n ∷ []))
+all-end at [] n = ((λ h. h.0), (λ h. (h, tt)))
+all-end at (m ∷ ns) n = let i = all-end at ns n in ((λ h. (let a = h.0 in let b = i.0 h.1 in omega (arith, a, b))), (λ h. (omega (arith, h), i.1 (omega (arith, h)))))
+
+pub all-begin : (at : ℕ) (ns : List Note) (least : ℕ) → (AllBegin at ns least → at < lowest ns least) × (at < lowest ns least → AllBegin at ns least)
+all-begin at [] least = ((λ h. h), (λ h. h))
+all-begin at (m ∷ ns) least = let i = all-begin at ns least in ((λ h. (let a = h.0 in let b = i.0 h.1 in omega (arith, a, b))), (λ h. (omega (arith, h), i.1 (omega (arith, h)))))
+
+-- where a note is among the first that stand at a byte or before it with all looks, its token does
+counts-on : (here reach at rest : ℕ) (b : Bool) → nat_le (here + (reach - here)) at ≡ b → 0 < (if b then suc rest else 0) → here ≤ at
+counts-on here reach at rest true e l = let d : here + (reach - here) ≤ at = grind (arith, nat_tests, e) in omega (arith, d)
+counts-on here reach at rest false e l = absurd (omega (arith, l))
+
+counts-more : (n rest : ℕ) (b : Bool) → suc n < (if b then suc rest else 0) → n < rest
+counts-more n rest true l = omega (arith, l)
+counts-more n rest false l = absurd (omega (arith, l))
+
+here-is : (start : ℕ) (n : Note) → start ≤ n.before → n.before ≤ n.start → (start + (n.before - start)) + (n.start - n.before) ≡ n.start
+here-is start n a b = omega arith
+
+step-front : (at start : ℕ) (n : Note) (es : List Entry) → start ≤ n.before → n.before ≤ n.start
+    → front_of at start (entry_of start n ∷ es) ≡ (if nat_le (n.start + (n.reach - n.start)) at then suc (front_of at n.start es) else 0)
+step-front at start n es a b = ap (λ here. if nat_le (here + (n.reach - n.start)) at then suc (front_of at here es) else 0) (here-is start n a b)
+
+pub front-start : (ns more : List Note) (n : Note) (at start : ℕ) → IsRising start (ns ++ n ∷ more) → length ns < front_of at start (entries_by start (ns ++ n ∷ more)) → n.start ≤ at
+front-start [] more n at start r l = counts-on n.start n.reach at (front_of at n.start (entries_by n.start more)) _ refl (subst (λ j. 0 < j) (step-front at start n (entries_by n.start more) r.0 r.1) l)
+front-start (m ∷ ns) more n at start r l =
+    let es = entries_by m.start (ns ++ n ∷ more) in
+    front-start ns more n at m.start r.2 (counts-more (length ns) (front_of at m.start es) (nat_le (m.start + (m.reach - m.start)) at) (subst (λ j. suc (length ns) < j) (step-front at start m es r.0 r.1) l))
+
+pub units-are : (h : Log) (ns : List Note) → h.notes ≡ Some ns → units_of h ≡ units_by ns h.least
+units-are h ns e = ap (λ o. units_by (elim o as (λ _. List Note) [ None ↦ [] | Some ms ↦ ms ]) h.least) e
+
+-- ---- from characters to bytes
+
+pub short : (n : ℕ) (xs ys : List ℕ) → n ≤ length xs → width (take n (xs ++ ys)) ≤ width xs
+unfolding width
+short zero xs ys l = omega arith
+short (suc n) [] ys l = absurd (omega (arith, l))
+short (suc n) (x ∷ xs) ys l = let i = short n xs ys (omega (arith, l)) in omega (arith, i)
+
+-- where the looks before a token end before a stretch, the token begins there
+token-before : (k : CharClasses) (levels : ℕ) (front old rest : List ℕ) (s : Spot (Unit {0})) (i : ℕ) → 0 < i → EndsBefore k levels front old rest s i → 0 < (first_end i (run_at k levels s (text_with front old rest))).taken
+    → (let e = inner_end k levels i s (text_with front old rest) in e.taken + gap_of e.state.known ≤ length front)
+token-before k levels front old rest s i some looks more =
+    let z = text_with front old rest in
+    let opened = opened_at k levels s z in
+    let r = run_at k levels s z in
+    let o = inner_lead k levels (moved s.at z) (point_of s.start) in
+    let e = first_end i r in
+    let a = block-seen k levels s z i (length front - opened) (end-shift opened (length front - opened) (length front) (o.asks ++ asks_of (first_of i r)) (omega arith) (looks.before_run some)) in
+    omega (arith, a, more)
+
+-- where the looks at a block's bracket end before a stretch, its run begins there
+run-before : (k : CharClasses) (levels : ℕ) (front old rest : List ℕ) (s : Spot (Unit {0})) (i : ℕ) → s.at < length front → EndsBefore k levels front old rest s i → opened_at k levels s (text_with front old rest) ≤ length front
+unfolding run
+run-before k levels front old rest s i starts looks =
+    let z = text_with front old rest in
+    let y = moved s.at z in
+    let p = point_of s.start in
+    let most = length front - s.at in
+    let first = look_first k levels y p in
+    let again = look_again k levels y p in
+    let b = bracket k levels y p in
+    let all = end-shift s.at most (length front) (first.asks ++ (again.asks ++ b.asks)) (omega arith) looks.opens in
+    let behind = end-second most first.asks (again.asks ++ b.asks) all in
+    let one = (block-sees k levels s z peek y p most (omega arith)).ends (end-first most first.asks (again.asks ++ b.asks) all) in
+    let gap_one : gap_of first.state.known ≤ most = omega (arith, one) in
+    let two = (block-sees k levels s z peek y first.state most gap_one).ends (end-first most again.asks b.asks behind) in
+    let gap_two : gap_of again.state.known ≤ most = omega (arith, two) in
+    let three = (block-sees k levels s z (does (takes false itself)) y (entered markup_reading again.state) most gap_two).ends (end-second most again.asks b.asks behind) in
+    omega (arith, three, starts)
+
+-- so does the token of its first note
+first-before : (k : CharClasses) (levels : ℕ) (front old rest : List ℕ) (s : Spot (Unit {0})) (i : ℕ) (note : Note) → s.at < length front → EndsBefore k levels front old rest s i → AllGo (first_of i (run_at k levels s (text_with front old rest)))
+    → (let e = inner_end k levels i s (text_with front old rest) in
+    (0 < i → note.start ≡ width (take (e.taken + gap_of e.state.known) (front ++ (old ++ rest)))) → (i ≡ 0 → note.start ≡ width (take e.taken (front ++ (old ++ rest)))) → note.start ≤ width front)
+first-before k levels front old rest s zero note starts looks g more none =
+    let v = inner_end k levels 0 s (text_with front old rest) in
+    let l = run-before k levels front old rest s 0 starts looks in
+    subst (λ j. j ≤ width front) (sym (none refl)) (short v.taken front (old ++ rest) (omega (arith, l)))
+first-before k levels front old rest s (suc j) note starts looks g more none =
+    let v = inner_end k levels (suc j) s (text_with front old rest) in
+    subst (λ j. j ≤ width front) (sym (more (omega arith)))
+    (short (v.taken + gap_of v.state.known) front (old ++ rest) (token-before k levels front old rest s (suc j) (omega arith) looks (takes-some k levels front old old rest s (suc j) (omega arith) g)))
+
+-- ---- the law
+
+pub inner-entries-law : InOrderLaw → InnerEntriesLaw
+inner-entries-law ordered k levels front old rest s i n past t chosen name level g h known sum big =
+    let text = front ++ (old ++ rest) in
+    let z = text_with front old rest in
+    let l = log k text in
+    let d = inner-decision-law k levels front old rest s i n chosen name level g h in
+    let b = d.begins in
+    let e = d.ends in
+    let at = width front in
+    let end = width (front ++ old) in
+    let order_b = subst (λ ns. IsRising 0 ns) (ap listed b.notes) (ordered k text) in
+    let order_e = subst (λ ns. IsRising 0 ns) (ap listed e.notes) (ordered k text) in
+    let fronts : front_count k text at ≡ front_of at 0 (entries_by 0 (b.earlier ++ b.note ∷ b.later)) = ap (λ (u : Units). front_of at 0 u.entries) (units-are l _ b.notes) in
+    let units_e = units-are l _ e.notes in
+    let rears = ap (λ (u : Units). rear_of end 0 0 u.entries u.back) units_e in
+    let f = inner_both k levels i n s z in
+    let ends_at : 0 < i + n → e.note.start ≡ width (front ++ (old ++ take past rest)) = λ more.
+    d.trivia_end more ∙ ap width (take-past front old rest past (f.taken + gap_of f.state.known) (ap (λ v. f.taken + gap_of v) known ∙ sum)) in
+    let behind : 0 < i + n → end ≤ e.note.start = λ more.
+    (let here = ends_at more in
+    let one = width-append front old in
+    let two = width-append front (old ++ take past rest) in
+    let three = width-append old (take past rest) in
+    omega (arith, here, one, two, three)) in
+    record {
+      begins = b;
+      ends = e;
+      start = d.token;
+      start_first = d.token_first;
+      number = d.number;
+      number_end = d.number_end;
+      end = ends_at;
+      before = λ p.
+          (let q = subst (λ j. length b.earlier < j) fronts p in
+          let here = front-start b.earlier b.later b.note at 0 order_b q in
+          d.before ((all-end at b.earlier b.note).0 ((front-law b.earlier b.later b.note at order_b here).0 q)));
+      before_too = λ starts looks.
+          (let here : b.note.start ≤ at = first-before k levels front old rest s i b.note starts looks g d.token d.token_first in
+          subst (λ j. length b.earlier < j) (sym fronts) ((front-law b.earlier b.later b.note at order_b here).1 ((all-end at b.earlier b.note).1 (d.before_too looks))));
+      after = λ more q.
+          d.after_trivia past t known sum ((all-begin end e.later l.least).0 ((rear-law e.earlier e.later e.note end l.least order_e (behind more)).0 (subst (λ j. j ≤ length e.earlier) rears q)));
+      after_too = λ more looks.
+          subst (λ j. j ≤ length e.earlier) (sym rears) ((rear-law e.earlier e.later e.note end l.least order_e (behind more)).1 ((all-begin end e.later l.least).1 (d.after_trivia_too past t known sum more big looks)));
+    }
+
+-- ---- the pieces that are read
+
+take-nothing : {A : Type 0} (n : ℕ) → take {A = A} n [] ≡ []
+take-nothing zero = refl
+take-nothing (suc n) = refl
+
+hinted-empty : (hs : List (List ℕ)) → hinted hs [] ≡ []
+hinted-empty [] = refl
+hinted-empty (h ∷ hs) = refl
+
+hinted-nothing : (hs : List (List ℕ)) (n : ℕ) → hinted hs (less n []) ≡ []
+unfolding less
+hinted-nothing hs n = ap (hinted hs) (take-nothing (0 - n)) ∙ hinted-empty hs
+
+pub given-nodes : (s : Point) (os : List (Outcome (Bool × (Bool × ℕ)))) → (together s os).nodes ≡ given os []
+given-nodes s os = let o = together s os in sym (given-together s os [] ∙ ap (λ ts. ts ++ o.nodes) (hinted-nothing o.hints o.back))
+
+pub drop-all : (ts : List Tree) → drop (length ts) ts ≡ []
+drop-all [] = refl
+drop-all (t ∷ ts) = drop-all ts
+
+-- a block's run begins as if nothing were known but that it is markup
+module _ (k : CharClasses) (levels : ℕ) (front old new rest : List ℕ) (s : Spot (Unit {0})) (chosen : Among s (blocks_of_text k (front ++ (old ++ rest)))) (name : s.name ≡ block.Content) (level : max_depth - s.fewer ≡ suc levels) where
+  abbrev own : Run k (front ++ (old ++ rest))
+  own = block_run s levels chosen name level
+
+  abbrev z : Place
+  z = text_with front old rest
+
+  abbrev w : Place
+  w = text_with front new rest
+
+  abbrev p : Sequence
+  p = run_at k levels s z
+
+  abbrev q : Sequence
+  q = run_at k levels s w
+
+  -- a reading from a place on
+  abbrev made_at : ℕ → Bool × ℕ → Place → List (Outcome (Bool × (Bool × ℕ)))
+  made_at m x y = made (turn_of q) m x y (fresh q.level y)
+
+  abbrev ended_at : ℕ → Bool × ℕ → Place → End (Bool × ℕ)
+  ended_at m x y = end_of x (fresh q.level y) (made_at m x y)
+
+  -- what begins behind i pieces, in the new text
+  record Begun (i : ℕ) : Type 0 where
+    trivia : Trivia
+    opened : opened_at k levels s w ≡ opened_at k levels s z
+    same : first_end i q ≡ first_end i p
+    known : (first_end i q).state.known ≡ Some trivia
+    go : AllGo (first_of i q)
+    none : TakesNone i q
+    cut : cut_at own i z ≡ opened_at k levels s z + ((first_end i p).taken + gap_of (first_end i p).state.known)
+    place : moved trivia.gap (first_place i q) ≡ moved (cut_at own i z) w
+
+  not-first : (j : ℕ) → (suc j == 0) ≡ false
+  not-first j = ne_eqb (suc j) 0 (omega arith)
+
+  begun : (j : ℕ) → AllGo (first_of (suc j) p) → TakesNone (suc j) p → EndsBefore k levels front old rest s (suc j) → Begun (suc j)
+  begun j g none looks =
+      let i = suc j in
+      let f = first-same k levels front old new rest s i looks in
+      let at = block-known k levels (moved s.at z) (point_of s.start) i g in
+      let t = at.trivia in
+      let same : first_end i q ≡ first_end i p = ap (end_of (true, 0) p.point) f.first in
+      let opened : opened_at k levels s w ≡ opened_at k levels s z = ap (λ (o : Outcome (Unit {0})). s.at + o.taken) f.opened in
+      let b = (bracket k levels (moved s.at w) (point_of s.start)).taken in
+      let e = first_end i q in
+      let taken = ap (λ (v : End (Bool × ℕ)). v.taken) same in
+      let gap = ap gap_of at.is in
+      let count : ((s.at + b) + e.taken) + t.gap ≡ opened_at k levels s z + ((first_end i p).taken + gap_of (first_end i p).state.known) = omega (arith, opened, taken, gap) in
+      let cut : cut_at own i z ≡ opened_at k levels s z + ((first_end i p).taken + gap_of (first_end i p).state.known) = ap (λ v. opened_at k levels s z + (if v then 0 else (first_end i p).taken + gap_of (first_end i p).state.known)) (not-first j) in
+      let steps : moved (((s.at + b) + e.taken) + t.gap) w ≡ moved t.gap (first_place i q) = moved-sum ((s.at + b) + e.taken) t.gap w ∙ ap (moved t.gap) (moved-sum (s.at + b) e.taken w ∙ ap (moved e.taken) (moved-sum s.at b w)) in
+      record {
+        trivia = t;
+        opened = opened;
+        same = same;
+        known = ap (λ (v : End (Bool × ℕ)). v.state.known) same ∙ at.is;
+        go = subst (λ os. AllGo os) (sym f.first) g;
+        none = block-clear k levels front old new rest s i (omega arith) g looks none;
+        cut = cut;
+        place = sym steps ∙ ap (λ n. moved n w) (count ∙ sym cut);
+      }
+
+  -- where a block begins
+  pub begins-none : EndsBefore k levels front old rest s 0 → p.point.empties ≡ 0 → q.point.empties ≡ 0
+  unfolding run
+  begins-none looks clear = ap (λ (o : Outcome (Unit {0})). o.state.empties) (first-same k levels front old new rest s 0 looks).opened ∙ clear
+
+  -- pieces of the new text's run and those that are read from the place on, with what is carried there
+  pub record Alike (i m a : ℕ) (x : Bool × ℕ) (u : Trivia) : Type 0 where
+    pub go : AllGo (read_alone k levels x m (moved a w))
+    pub sum : (let e = end_alone k levels x m (moved a w) in end_by own i m u w ≡ a + (e.taken + gap_of e.state.known))
+    pub value : (then_end i m q).value ≡ (end_alone k levels x m (moved a w)).value
+    pub nodes : nodes_now own i m u w ≡ given (read_alone k levels x m (moved a w)) [] ++ pending (end_alone k levels x m (moved a w)).state.known
+
+  pub alike : (i m : ℕ) (u : Trivia) → AllGo (first_of i p) → p.point.empties ≡ 0 → (0 < i → TakesNone i p) → EndsBefore k levels front old rest s i → AllGo (then_of i m q) → (then_end i m q).state.known ≡ Some u
+      → Alike i m (cut_at own i z) (first_end i p).value u
+  alike zero zero u g clear none looks go known =
+      let f = first-same k levels front old new rest s 0 looks in
+      let opened : opened_at k levels s w ≡ opened_at k levels s z = ap (λ (o : Outcome (Unit {0})). s.at + o.taken) f.opened in
+      let a = cut_at own 0 z in
+      let b = (bracket k levels (moved s.at w) (point_of s.start)).taken in
+      let count : s.at + b ≡ a = omega (arith, opened) in
+      let place : q.place ≡ moved a w = sym (moved-sum s.at b w) ∙ ap (λ n. moved n w) count in
+      let behind : (fresh q.level (moved a w)).known ≡ Some u = ap (λ y. (fresh q.level y).known) (sym place) ∙ sym (start-known k levels (moved s.at w) (point_of s.start)) ∙ known in
+      let gap = ap gap_of behind in
+      record { go = tt; sum = omega (arith, opened, gap); value = refl; nodes = sym (ap pending behind) }
+  alike zero (suc n) u g clear none looks go known =
+      let m = suc n in
+      let f = first-same k levels front old new rest s 0 looks in
+      let opened : opened_at k levels s w ≡ opened_at k levels s z = ap (λ (o : Outcome (Unit {0})). s.at + o.taken) f.opened in
+      let b = (bracket k levels (moved s.at w) (point_of s.start)).taken in
+      let a = cut_at own 0 z in
+      let x : Bool × ℕ = (true, 0) in
+      let count : s.at + b ≡ a = omega (arith, opened) in
+      let place : q.place ≡ moved a w = sym (moved-sum s.at b w) ∙ ap (λ n. moved n w) count in
+      let same : then_of 0 m q ≡ made_at m x q.place = start-same k levels (moved s.at w) (point_of s.start) m (λ minds. begins-none looks clear) go in
+      let os : then_of 0 m q ≡ read_alone k levels x m (moved a w) = same ∙ ap (made_at m x) place in
+      let ends : then_end 0 m q ≡ end_alone k levels x m (moved a w) = ap (end_of x q.point) same ∙ ap (ended_at m x) place in
+      let taken = ap (λ (v : End (Bool × ℕ)). v.taken) ends in
+      let behind : (end_alone k levels x m (moved a w)).state.known ≡ Some u = ap (λ (v : End (Bool × ℕ)). v.state.known) (sym ends) ∙ known in
+      let gap = ap gap_of behind in
+      record {
+        go = subst (λ us. AllGo us) os go;
+        sum = omega (arith, opened, taken, gap);
+        value = ap (λ (v : End (Bool × ℕ)). v.value) ends;
+        nodes = ap (λ ts. ts ++ u.nodes) (given-nodes (then_end 0 m q).state (then_of 0 m q)) ∙ ap (λ us. given us [] ++ u.nodes) os
+            ∙ ap (λ ts. given (read_alone k levels x m (moved a w)) [] ++ ts) (sym (ap pending behind));
+      }
+  alike (suc j) zero u g clear none looks go known =
+      let i = suc j in
+      let b = begun j g (none (omega arith)) looks in
+      let opened = b.opened in
+      let cut = b.cut in
+      let a = cut_at own i z in
+      let taken = ap (λ (v : End (Bool × ℕ)). v.taken) b.same in
+      let gap_was = ap (λ (v : End (Bool × ℕ)). gap_of v.state.known) b.same in
+      let gap = ap gap_of known in
+      let new = ap (λ y. (fresh (inner k levels) y).known) (sym b.place) ∙ block-fresh k levels (moved s.at w) (point_of s.start) i b.trivia b.known in
+      let gap_now = ap gap_of new in
+      record {
+        go = tt;
+        sum = omega (arith, opened, cut, taken, gap_was, gap, gap_now);
+        value = ap (λ (v : End (Bool × ℕ)). v.value) b.same;
+        nodes = ap (λ v. drop (if v then 0 else length (pending (first_end i q).state.known)) u.nodes) (not-first j) ∙ ap (λ v. drop (length (pending v)) u.nodes) known ∙ drop-all u.nodes ∙ sym (ap pending new);
+      }
+  alike (suc j) (suc n) u g clear none looks go known =
+      let i = suc j in
+      let m = suc n in
+      let b = begun j g (none (omega arith)) looks in
+      let opened = b.opened in
+      let cut = b.cut in
+      let a = cut_at own i z in
+      let e = first_end i q in
+      let x = (first_end i p).value in
+      let y = moved b.trivia.gap (first_place i q) in
+      let carried : e.value ≡ x = ap (λ (v : End (Bool × ℕ)). v.value) b.same in
+      let ga = gives-again-law k (front ++ (old ++ rest)) own w i m b.trivia u (omega arith) (omega arith) b.go go b.known b.none in
+      let os : read_again i m b.trivia q ≡ read_alone k levels x m (moved a w) = ap (λ v. made_at m v y) carried ∙ ap (made_at m x) b.place in
+      let ends : again_end i m b.trivia q ≡ end_alone k levels x m (moved a w) = ap (λ v. ended_at m v y) carried ∙ ap (ended_at m x) b.place in
+      let taken = ap (λ (v : End (Bool × ℕ)). v.taken) b.same in
+      let gap_was = ap (λ (v : End (Bool × ℕ)). gap_of v.state.known) b.same in
+      let gap_is = ap gap_of b.known in
+      let took = ga.taken in
+      let taken_now = ap (λ (v : End (Bool × ℕ)). v.taken) ends in
+      let behind : (end_alone k levels x m (moved a w)).state.known ≡ Some u = ap (λ (v : End (Bool × ℕ)). v.state.known) (sym ends) ∙ ap (λ (v : Point). v.known) (sym ga.state) ∙ known in
+      let gap = ap gap_of behind in
+      record {
+        go = subst (λ us. AllGo us) os ga.go;
+        sum = omega (arith, opened, cut, taken, gap_was, gap_is, took, taken_now, gap);
+        value = ga.value ∙ ap (λ (v : End (Bool × ℕ)). v.value) ends;
+        nodes = ga.nodes ∙ ap (λ ts. ts ++ u.nodes) (given-nodes (again_end i m b.trivia q).state (read_again i m b.trivia q)) ∙ ap (λ us. given us [] ++ u.nodes) os
+            ∙ ap (λ ts. given (read_alone k levels x m (moved a w)) [] ++ ts) (sym (ap pending behind));
+      }
+
+  pub goes-there : (i m : ℕ) → AllGo (first_of i p) → p.point.empties ≡ 0 → (0 < i → TakesNone i p) → EndsBefore k levels front old rest s i → AllGo (read_alone k levels (first_end i p).value m (moved (cut_at own i z) w)) → AllGo (then_of i m q)
+  goes-there zero m g clear none looks go =
+      let f = first-same k levels front old new rest s 0 looks in
+      let opened : opened_at k levels s w ≡ opened_at k levels s z = ap (λ (o : Outcome (Unit {0})). s.at + o.taken) f.opened in
+      let b = (bracket k levels (moved s.at w) (point_of s.start)).taken in
+      let a = cut_at own 0 z in
+      let x : Bool × ℕ = (true, 0) in
+      let count : s.at + b ≡ a = omega (arith, opened) in
+      let place : q.place ≡ moved a w = sym (moved-sum s.at b w) ∙ ap (λ n. moved n w) count in
+      start-goes k levels (moved s.at w) (point_of s.start) m (λ minds. begins-none looks clear) (subst (λ y. AllGo (made_at m x y)) (sym place) go)
+  goes-there (suc j) m g clear none looks go =
+      let i = suc j in
+      let b = begun j g (none (omega arith)) looks in
+      let x = (first_end i p).value in
+      let y = moved b.trivia.gap (first_place i q) in
+      let os : read_again i m b.trivia q ≡ read_alone k levels x m (moved (cut_at own i z) w) = ap (λ v. made_at m v y) (ap (λ (v : End (Bool × ℕ)). v.value) b.same) ∙ ap (made_at m x) b.place in
+      inner-goes-too k levels (moved s.at w) (point_of s.start) i m b.trivia b.go (subst (λ us. AllGo us) (sym os) go) b.known b.none
+
+  pub first-goes : (i : ℕ) → EndsBefore k levels front old rest s i → AllGo (first_of i p) → AllGo (first_of i q)
+  first-goes i looks g = subst (λ os. AllGo os) (sym (first-same k levels front old new rest s i looks).first) g
+
+pub inner-read-law : InnerReadLaw
+inner-read-law k levels front old new rest s chosen name level i n m past t ts g h known sum around none looks behind =
+    let own = block_run s levels chosen name level in
+    let z = text_with front old rest in
+    let w = text_with front new rest in
+    let p = run_at k levels s z in
+    let over = is_over i n p in
+    let starts = around.starts in
+    let ends = around.ends in
+    let clear = no-errors k levels (front ++ (old ++ rest)) s chosen name level (omega (arith, starts, ends)) in
+    let x = (then_end i n p).value in (
+      (λ reads.
+          (let go = goes-there k levels front old new rest s chosen name level i m g clear none looks reads.go in
+          let u = block-then-known k levels (moved s.at w) (point_of s.start) i m (first-goes k levels front old new rest s chosen name level i looks g) go in
+          let a = alike k levels front old new rest s chosen name level i m u.trivia g clear none looks go u.is in
+          record {
+            behind = u.trivia;
+            passes = record {
+              first_go = g;
+              old_go = h;
+              new_go = go;
+              before = looks;
+              after = behind;
+              known = known;
+              known_now = u.is;
+              ends = sum;
+              shifted = a.sum ∙ reads.ends;
+              agrees = subst (λ y. Agrees own over m x y) (sym a.value) reads.agrees;
+            };
+            are = reads.nodes ∙ sym a.nodes;
+          })),
+      (λ gives.
+          (let a = alike k levels front old new rest s chosen name level i m gives.behind g clear none looks gives.passes.new_go gives.passes.known_now in
+          record {
+            go = a.go;
+            ends = sym a.sum ∙ gives.passes.shifted;
+            agrees = subst (λ y. Agrees own over m x y) a.value gives.passes.agrees;
+            nodes = gives.are ∙ a.nodes;
+          })),
+    )
+
+pub inner-once-law : InnerOnceLaw
+inner-once-law k levels front old new rest s chosen name level i n m j past ts us g around none looks one two =
+    let z = text_with front old rest in
+    let w = text_with front new rest in
+    let q = run_at k levels s w in
+    let a = cut_at (block_run s levels chosen name level) i z in
+    let x = (first_end i (run_at k levels s z)).value in
+    let starts = around.starts in
+    let ends = around.ends in
+    let clear = no-errors k levels (front ++ (old ++ rest)) s chosen name level (omega (arith, starts, ends)) in
+    let g_now = first-goes k levels front old new rest s chosen name level i looks g in
+    let go = goes-there k levels front old new rest s chosen name level i m g clear none looks one.go in
+    let go_too = goes-there k levels front old new rest s chosen name level i j g clear none looks two.go in
+    let u = block-then-known k levels (moved s.at w) (point_of s.start) i m g_now go in
+    let v = block-then-known k levels (moved s.at w) (point_of s.start) i j g_now go_too in
+    let b = alike k levels front old new rest s chosen name level i m u.trivia g clear none looks go u.is in
+    let d = alike k levels front old new rest s chosen name level i j v.trivia g clear none looks go_too v.is in
+    let sum = b.sum in
+    let sum_too = d.sum in
+    let end = one.ends in
+    let end_too = two.ends in
+    let gap = ap gap_of u.is in
+    let gap_too = ap gap_of v.is in
+    let same : m ≡ j = inner-count-law k levels (moved s.at w) (point_of s.start) i m j g_now go go_too (omega (arith, sum, sum_too, end, end_too, gap, gap_too)) in
+    (same, one.nodes ∙ ap (λ c. given (read_alone k levels x c (moved a w)) [] ++ pending (end_alone k levels x c (moved a w)).state.known) same ∙ sym two.nodes)
+
+-- ---- a candidate
+
+-- as it stands, it passes the test of looks only where it takes back no errors
+well : OpensApartLaw → (k : CharClasses) (levels : ℕ) (front old rest : List ℕ) (root : Tree) (s : Spot (Unit {0})) (chosen : Among s (blocks_of_text k (front ++ (old ++ rest)))) (name : s.name ≡ block.Content) (level : max_depth - s.fewer ≡ suc levels)
+    (c : Candidate) (i n past : ℕ) (t : Trivia) → bare root ≡ bare (tree k (front ++ (old ++ rest))) → Among c (candidates k (front ++ (old ++ rest)) (width front) (width (front ++ old)) root)
+    → c.is_block ≡ false → c.path ≡ path_of s.hole ++ 1 ∷ []
+    → c.start ≡ width (take (cut_at (block_run s levels chosen name level) i (text_with front old rest)) (front ++ (old ++ rest))) → (0 < i ↔ 0 < c.from) → c.end ≡ width (front ++ (old ++ take past rest)) → 0 < n
+    → AllGo (first_of i (run_at k levels s (text_with front old rest))) → AllGo (then_of i n (run_at k levels s (text_with front old rest)))
+    → (let e = inner_both k levels i n s (text_with front old rest) in e.state.known ≡ Some t → e.taken + t.gap ≡ (length front + length old) + past
+    → EndsBefore k levels front old rest s i → BeginsPast k levels front old rest s i n past t
+    → Around front old rest s × (0 < i → TakesNone i (run_at k levels s (text_with front old rest))))
+well apart k levels front old rest root s chosen name level c i n past t same candidate pieces path start led end some g h known sum looks behind =
+    let own = block_run s levels chosen name level in
+    let z = text_with front old rest in
+    let p = run_at k levels s z in
+    let x = (then_end i n p).value in
+    let stays : PassesPieces k front old old rest own i n n past t t = record {
+      first_go = g;
+      old_go = h;
+      new_go = h;
+      before = looks;
+      after = behind;
+      known = known;
+      known_now = known;
+      ends = sum;
+      shifted = sum;
+      agrees = agrees-itself own (is_over i n p) n x some;
+    } in
+    let b = inner-candidate-law apart k levels front old old rest root s chosen name level c i n n past t t same candidate pieces path start led end stays in
+    (b.0, (λ l minds. not-both (minds_at p (first_place i p) (first_end i p)) _ (b.1.starts l).1 minds))
+  where
+    not-both : (b : Bool) (a : ℕ) → b ≡ false → b ≡ true → a ≡ 0
+    not-both true a e f = cc
+    not-both false a e f = cc
+
+    agrees-itself : {text : List ℕ} (r : Run k text) (over : Bool) (m : ℕ) (x : Bool × ℕ) → 0 < m → Agrees r over m x x
+    agrees-itself r false m x l = (l, refl)
+    agrees-itself top true m x l = tt
+    agrees-itself (block_inner c levels a b d) true m x l = refl
+
+pub inner-test-law : InOrderLaw → OpensApartLaw → InnerTestLaw
+inner-test-law ordered apart k levels front old new rest root s chosen name level c i n m past t ts same candidate pieces path start led end some g h known sum big =
+    let own = block_run s levels chosen name level in
+    let e = inner-entries-law ordered k levels front old rest s i n past t chosen name level g h known sum big in
+    let more : 0 < i + n = omega (arith, some) in
+    let fine = well apart k levels front old rest root s chosen name level c i n past t same candidate pieces path start led end some g h known sum in
+    let read = λ (a : EndsBefore k levels front old rest s i) (b : BeginsPast k levels front old rest s i n past t).
+    (let f = fine a b in inner-read-law k levels front old new rest s chosen name level i n m past t ts g h known sum f.0 f.1 a b) in
+    record {
+      entries = e;
+      passes = λ first last reads.
+          (let gives = (read (e.before first) (e.after more last)).0 reads in
+          of_pieces own i n m past t gives.behind pieces (sym path) start led end gives.passes gives.are);
+      front_too = λ gives. e.before_too (fine gives.passes.before gives.passes.after).0.starts gives.passes.before;
+      rear_too = λ gives. e.after_too more gives.passes.after;
+      reads_too = λ gives. (read gives.passes.before gives.passes.after).1 gives;
+    }
+
+-- ---- the entries that are read
+
+pub inner-part-law : InnerPartLaw
+inner-part-law k levels front old new rest s chosen name level zero m some g none looks go = absurd (omega (arith, some))
+inner-part-law k levels front old new rest s chosen name level (suc j) m some g none looks go =
+    let i = suc j in
+    let z = text_with front old rest in
+    let w = text_with front new rest in
+    let p = run_at k levels s z in
+    let q = run_at k levels s w in
+    let a = cut_at (block_run s levels chosen name level) i z in
+    let b = begun k levels front old new rest s chosen name level j g none looks in
+    let opened = b.opened in
+    let cut = b.cut in
+    let e = first_end i q in
+    let taken = ap (λ (v : End (Bool × ℕ)). v.taken) b.same in
+    let gap_was = ap (λ (v : End (Bool × ℕ)). gap_of v.state.known) b.same in
+    let gap = gap_of e.state.known in
+    let y = moved b.trivia.gap (first_place i q) in
+    let log_of = λ (v : Bool × ℕ) (y : Place). logged (suc levels) y no_log ((run q.level peek y (start_point markup_reading)).asks ++ asks_of (made (turn_of q) m v y (fresh q.level y))) in
+    let count : (opened_at k levels s w + e.taken) + gap ≡ a = omega (arith, opened, cut, taken, gap_was) in
+    record {
+      log_is = inner-pieces-log-law k levels s w i m b.trivia some b.go go b.known b.none ∙ ap (λ v. log_of v y) (ap (λ (v : End (Bool × ℕ)). v.value) b.same) ∙ ap (log_of (first_end i p).value) b.place;
+      token = ap position (sym (moved-sum (opened_at k levels s w + e.taken) gap w) ∙ ap (λ n. moved n w) count);
+    }
+
+-- so it is of the first pieces of a block
+pub first-part : (k : CharClasses) (levels : ℕ) (front old new rest : List ℕ) (s : Spot (Unit {0})) (chosen : Among s (blocks_of_text k (front ++ (old ++ rest)))) (name : s.name ≡ block.Content) (level : max_depth - s.fewer ≡ suc levels)
+    (m : ℕ) → Around front old rest s → EndsBefore k levels front old rest s 0 → AllGo (then_of 0 m (run_at k levels s (text_with front new rest)))
+    → InnerPart k levels front old new rest s (cut_at (block_run s levels chosen name level) 0 (text_with front old rest)) 0 m
+first-part k levels front old new rest s chosen name level m around looks go =
+    let z = text_with front old rest in
+    let w = text_with front new rest in
+    let q = run_at k levels s w in
+    let a = cut_at (block_run s levels chosen name level) 0 z in
+    let f = first-same k levels front old new rest s 0 looks in
+    let opened : opened_at k levels s w ≡ opened_at k levels s z = ap (λ (o : Outcome (Unit {0})). s.at + o.taken) f.opened in
+    let b = (bracket k levels (moved s.at w) (point_of s.start)).taken in
+    let x : Bool × ℕ = (true, 0) in
+    let count : s.at + b ≡ a = omega (arith, opened) in
+    let place : q.place ≡ moved a w = sym (moved-sum s.at b w) ∙ ap (λ n. moved n w) count in
+    let starts = around.starts in
+    let ends = around.ends in
+    let clear = no-errors k levels (front ++ (old ++ rest)) s chosen name level (omega (arith, starts, ends)) in
+    let same : then_of 0 m q ≡ read_alone k levels x m q.place = start-same k levels (moved s.at w) (point_of s.start) m (λ minds. begins-none k levels front old new rest s chosen name level looks clear) go in
+    let lead = (inner_lead k levels (moved s.at w) (point_of s.start)).asks in
+    let asks = λ (v : Place). (first_look (level_in k levels) v).asks ++ asks_of (read_alone k levels x m v) in
+    let own : lead ++ shift 0 (asks_of (then_of 0 m q)) ≡ asks q.place =
+    ap (λ us. lead ++ us) (shift-zero (asks_of (then_of 0 m q))) ∙ ap (λ os. lead ++ asks_of os) same ∙ ap (λ us. us ++ asks_of (read_alone k levels x m q.place)) (start-asks k levels (moved s.at w) (point_of s.start)) in
+    record {
+      log_is = ap (logged (suc levels) q.place no_log) own ∙ ap (λ v. logged (suc levels) v no_log (asks v)) place;
+      token = ap (λ g. position (moved g (moved (opened_at k levels s w + 0) w))) (bracket-gap k levels (moved s.at w) (point_of s.start)) ∙ ap (λ j. position (moved j w)) (omega (arith, count));
+    }
+
+same-splice : (a c b d x y : ℕ) (l o : Log) (was : Units) → a ≡ c → b ≡ d → x ≡ y → l ≡ o → spliced a b (entries_from x l.notes) was ≡ spliced c d (entries_from y o.notes) was
+same-splice a c b d x y l o was e f g h = λ i. spliced (e i) (f i) (entries_from (g i) (h i).notes) was
+
+pub inner-units-law : InnerUnitsLaw
+inner-units-law k levels front old new rest s chosen name level i n m past t u some h none big big_new e =
+    let w = text_with front new rest in
+    let was = units_of (log k (front ++ (old ++ rest))) in
+    let never = λ (j : ℕ) (a : ℕ) (l : i + j ≡ 0). not-none i j a some l in
+    let v = inner-splice-law k levels front old new rest s i n m past t u chosen h (never n t.gap) (never m u.gap) big big_new in
+    let part = inner-part-law k levels front old new rest s chosen name level i m some h.pieces.first_go none h.pieces.looks h.pieces.new_go in
+    v ∙ same-splice _ _ _ _ _ _ _ _ was (sym e.number) (sym e.number_end) part.token part.log_is
+  where
+    not-none : (i j a : ℕ) → 0 < i → i + j ≡ 0 → a ≡ 0
+    not-none i j a l e = absurd (omega (arith, l, e))

@@ -1,0 +1,399 @@
+-- A candidate that isn't at the root is pieces of a content block's run.
+use Rattle.std.proofs.Common.{◌≡◌, ℕ, zero, suc, ◌+◌, ◌-◌, ◌<◌, ◌≤◌, ◌==◌, ne_eqb, Bool, true, false, ◌&&◌, List, [], ◌∷◌, ◌++◌, length, length-append, take, Option, Some, None, refl, ap, sym, ◌∙◌, subst, arith}
+use Rattle.std.proofs.Math.Seq.{take-append_seam}
+use Rattle.typst_kinds.specs.Kinds.{is_block}
+use Rattle.typst_kinds.specs.Head.{Head}
+use Rattle.typst_kinds.specs.declared.kind.SyntaxKind.{SyntaxKind}
+use Rattle.typst_kinds.specs.declared.kind.SyntaxKind.TheVariants as kind
+use Rattle.typst_lines.specs.Place.{Place, moved}
+use Rattle.typst_lines.specs.Classes.{CharClasses}
+use Rattle.typst_tree.specs.Tree.{Tree, forest, trees, text_of, made_error, bare, inner_of}
+use Rattle.typst_tree.specs.Laws.{start_at}
+use Rattle.typst_tokens.specs.Sight.{width}
+use Rattle.typst_language.specs.declared.calls.Block.{Block}
+use Rattle.typst_language.specs.declared.calls.Block.TheVariants as block
+use Rattle.typst_language.specs.declared.calls.Call.TheVariants.{MarkupExpr}
+use Rattle.typst_language.specs.declared.reading.Reading.{Reading}
+use Rattle.typst_language.specs.Hand.{hand_at, len_at}
+use Rattle.typst_language.specs.Meaning.{run}
+use Rattle.typst_language.specs.Point.{Trivia, gap_of, point_of}
+use Rattle.typst_language.specs.Steps.{peek}
+use Rattle.typst_language.proofs.Knot.{sane-meaning, sane-plain}
+use Rattle.typst_language.proofs.Leaves.{texts}
+use Rattle.typst_language.proofs.Places.{ahead-left, moved-sum}
+use Rattle.typst_candidates.specs.Units.{top_cuts, cuts_in}
+use Rattle.typst_candidates.specs.Candidates as candidate
+use Rattle.typst_candidates.specs.Candidates.{Child, laid, child_at, is_among, Candidate}
+use Rattle.typst_grammar.specs.Markup.{markup_head}
+use Rattle.typst_grammar.specs.Grammar.{rules, max_depth, start_of, parsed, log, tree}
+use Rattle.typst_edits.specs.Answer.{candidates}
+use Rattle.typst_edits.specs.BlockRuns.{inner, bracket, run_at, opened_at}
+use Rattle.typst_edits.specs.CandidateRuns.{IsPieces, InnerPiecesOf, InnerPiecesOfLaw}
+use Rattle.typst_edits.specs.Edit.{Among, text_with}
+use Rattle.typst_edits.specs.Every.{Every}
+use Rattle.typst_edits.specs.Frame.{is_over}
+use Rattle.typst_edits.specs.Hole.{Deep, fill, path_in, Hole, plug, path_of}
+use Rattle.typst_edits.specs.Hole.Deep.{bare as alone, under}
+use Rattle.typst_edits.specs.InnerBytes.{inner_end, inner_both}
+use Rattle.typst_edits.specs.InnerChildren.{block_with}
+use Rattle.typst_edits.specs.InnerPieces.{block_run, kids_in, markup_from}
+use Rattle.typst_edits.specs.Joint.{minds}
+use Rattle.typst_edits.specs.Laws.{blocks_of_text}
+use Rattle.typst_edits.specs.Leading.{bytes_of, opening_child, token_byte}
+use Rattle.typst_edits.specs.Occurrences.{goes}
+use Rattle.typst_edits.specs.OpensApart.{OpensApartLaw}
+use Rattle.typst_edits.specs.PieceNotes.{listed}
+use Rattle.typst_edits.specs.Runs.{AllGo, End}
+use Rattle.typst_edits.specs.Sequence.{Sequence, turn_of, first_of, first_end, then_of, then_end}
+use Rattle.typst_edits.specs.Spot.{Spot, kind_of, block_head, unit_at}
+use Rattle.typst_edits.specs.Standing.{is_block_head, seconds_of_text, IsOf, Stems, from_unit, from_second}
+use Rattle.typst_edits.proofs.BareCandidates.{bare-candidates-law}
+use Rattle.typst_edits.proofs.BlockPlaces.{hole-same}
+use Rattle.typst_edits.proofs.BlockRuns.{sane as in-sane}
+use Rattle.typst_edits.proofs.Boundary.{KnownAt}
+use Rattle.typst_edits.proofs.CandidateBlocks.{Covers, block-head, or_first}
+use Rattle.typst_edits.proofs.CandidateEnds.{begun}
+use Rattle.typst_edits.proofs.CandidateRuns.{cut-token, is-cut, picked, standing, matches, is-pieces}
+use Rattle.typst_edits.proofs.Cuts.{tokens-rise, cuts-within}
+use Rattle.typst_edits.proofs.Deepest.{some-level}
+use Rattle.typst_edits.proofs.Edit.{among, trees-of}
+use Rattle.typst_edits.proofs.Fronts.{Begins, begins-call}
+use Rattle.typst_edits.proofs.InnerCandidates.{OfBlock, of-block, joined-trees, lies, parted-in, plain-shape, seat-of, sooner}
+use Rattle.typst_edits.proofs.InnerCuts.{BlockCuts}
+use Rattle.typst_edits.proofs.Leading.{Plain, turn-over}
+use Rattle.typst_edits.proofs.MarkupCandidates.{of-run}
+use Rattle.typst_edits.proofs.MarkupPlaces.{InContent, Placed, in-tree, of-content}
+use Rattle.typst_edits.proofs.NoteNumbers.{go-fewer, take-longer}
+use Rattle.typst_edits.proofs.OneReading.{end-split-at}
+use Rattle.typst_edits.proofs.Placed.{deep_text, left_text}
+use Rattle.typst_edits.proofs.Resumed.{block-known}
+use Rattle.typst_edits.proofs.RunTrees.{tree-is}
+use Rattle.typst_edits.proofs.SecondBlocks.{none-there}
+use Rattle.typst_edits.proofs.StandingLevels.{standing-law}
+use Rattle.typst_edits.proofs.StartBytes.{start-plug, start-same}
+use Rattle.typst_edits.proofs.TokenNodes.{NoMarkup, no-wrong}
+use Rattle.typst_edits.proofs.InnerChildren.{tree-by-block}
+use Rattle.typst_edits.proofs.Widths.{width-append}
+
+-- ---- the markup of a block
+
+kid-plain : (at : ℕ) (ts : List Tree) (i : ℕ) (c : Child) → Every NoMarkup ts → child_at (laid at ts) i ≡ Some c → NoMarkup c.node
+kid-plain at [] i c h e = absurd (cc)
+kid-plain at (t ∷ ts) zero c h e =
+    let first : Child = record { start = at; end = at + length (text_of t); node = t } in
+    let same : first ≡ c = ap (or_first first) e in
+    subst (λ (d : Child). NoMarkup d.node) same h.0
+kid-plain at (t ∷ ts) (suc i) c h e = kid-plain (at + length (text_of t)) ts i c h.1 e
+
+-- of a content block's children the second alone is markup
+second-alone : (x : Tree) → Plain x → (at i : ℕ) (c : Child) → child_at (laid at (trees x.kids)) i ≡ Some c → c.node.head.is_inner ≡ true → c.node.head.kind ≡ kind.Markup → i ≡ 1
+second-alone x p at i c e inner markup =
+    let first = opening_child p.closed p.bracket in
+    let all = first ∷ (inner_of kind.Markup (forest p.kids) ∷ p.closing) in
+    let kids : trees x.kids ≡ all = ap (λ (t : Tree). trees t.kids) p.node ∙ trees-of all in
+    by-index at i c (subst (λ ts. child_at (laid at ts) i ≡ Some c) kids e) inner markup
+  where
+    opening : (closed : Bool) → NoMarkup (opening_child closed p.bracket)
+    opening true = p.first
+    opening false = no-wrong _ p.bracket p.first
+
+    by-index : (at i : ℕ) (c : Child) → child_at (laid at (opening_child p.closed p.bracket ∷ (inner_of kind.Markup (forest p.kids) ∷ p.closing))) i ≡ Some c → c.node.head.is_inner ≡ true → c.node.head.kind ≡ kind.Markup → i ≡ 1
+    by-index at zero c e inner markup =
+        let first : Child = record { start = at; end = at + length (text_of (opening_child p.closed p.bracket)); node = opening_child p.closed p.bracket } in
+        let same : first ≡ c = ap (or_first first) e in
+        absurd (subst (λ (d : Child). NoMarkup d.node) same (opening p.closed) inner markup)
+    by-index at (suc zero) c e inner markup = refl
+    by-index at (suc (suc i)) c e inner markup = absurd (kid-plain _ p.closing i c p.last e inner markup)
+
+-- ---- its node in the tree
+
+-- The candidate is of the markup of a content block's node, which stands in a hole.
+record InBlock (k : CharClasses) (text : List ℕ) (rs re : ℕ) (c : Candidate) : Type 0 where
+  hole : Hole
+  node : Tree
+  is : (parsed k max_depth text).nodes ≡ plug hole node
+  inner : node.head.is_inner ≡ true
+  step : ℕ
+  path_is : c.path ≡ path_of hole ++ step ∷ []
+  child : Child
+  there : child_at (laid (length (left_text hole) + length node.head.text) (trees node.kids)) step ≡ Some child
+  covers : Covers rs re child
+  content : InContent (listed (log k text).notes) (length (left_text hole)) node.head.kind child.node.head.kind
+
+kinds-apart : (h : SyntaxKind) → h ≡ kind.ContentBlock → kind.Markup ≡ h → ⊥
+kinds-apart h e f = let no = f ∙ e in absurd (cc)
+
+in-block : (k : CharClasses) (text : List ℕ) (rs re : ℕ) (c : Candidate) (d : Deep) (x : Tree) → tree k text ≡ fill d x → x.head.is_inner ≡ true → (step : ℕ) → c.path ≡ path_in d ++ step ∷ [] → (child : Child)
+    → child_at (laid ((0 + length (deep_text d)) + length x.head.text) (trees x.kids)) step ≡ Some child → Covers rs re child → InContent (listed (log k text).notes) (0 + length (deep_text d)) x.head.kind child.node.head.kind → InBlock k text rs re c
+unfolding tree
+in-block k text rs re c alone x is inner step path child there on content = absurd (kinds-apart x.head.kind content.content (ap (λ (t : Tree). t.head.kind) is))
+in-block k text rs re c (under head left d right) x is inner step path child there on content =
+    let hole : Hole = record { left = left; deep = d; right = right } in
+    let none_more : length head.text ≡ 0 = sym (ap (λ (t : Tree). length t.head.text) is) in
+    let sum = length-append head.text (left_text hole) in
+    let at : 0 + length (deep_text (under head left d right)) ≡ length (left_text hole) = omega (arith, none_more, sum) in
+    record {
+      hole = hole;
+      node = x;
+      is = sym (trees-of (parsed k max_depth text).nodes) ∙ ap (λ (t : Tree). trees t.kids) is ∙ trees-of (left ++ fill d x ∷ right);
+      inner = inner;
+      step = step;
+      path_is = path;
+      child = child;
+      there = subst (λ a. child_at (laid (a + length x.head.text) (trees x.kids)) step ≡ Some child) at there;
+      covers = on;
+      content = subst (λ a. InContent (listed (log k text).notes) a x.head.kind child.node.head.kind) at content;
+    }
+
+candidate-in : (k : CharClasses) (text : List ℕ) (rs re : ℕ) (root : Tree) (c : Candidate) → bare root ≡ bare (tree k text) → Among c (candidates k text rs re root) → c.is_block ≡ false → (c.path ≡ [] → ⊥) → InBlock k text rs re c
+candidate-in k text rs re root c same chosen pieces other =
+    let was = tree k text in
+    let ns = listed (log k text).notes in
+    let there : Among c (candidate.candidates ns rs re was) = subst (λ cs. Among c cs) (bare-candidates-law ns rs re root was same) chosen in
+    let inner : was.head.is_inner ≡ true = ap (λ (t : Tree). t.head.is_inner) (tree-is k text 0 0 tt tt) in
+    let p = among _ c _ there (in-tree ns rs re [] (top_cuts ns) 0 was inner) pieces other in
+    let content = of-content ns rs re c.path (p.child.start + length p.child.node.head.text) (trees p.child.node.kids) c (0 + length (deep_text p.deep)) p.node.head.kind p.child.node.head.kind p.own in
+    in-block k text rs re c p.deep p.node p.is p.inner p.step p.path_is p.child p.there p.covers content
+
+-- ---- the block's run
+
+-- where no further piece goes on the run ends
+inner-over : (k : CharClasses) (levels : ℕ) (text : List ℕ) (s : Spot (Unit {0})) (n : ℕ) → (let r = run_at k levels s (start_of text) in let e = first_end n r in
+    AllGo (first_of n r) → goes (turn_of r e.value (moved e.taken r.place) e.state) ≡ false → is_over 0 n r ≡ true)
+unfolding run
+inner-over k levels text s n g stopped =
+    let z = start_of text in
+    let r = run_at k levels s z in
+    let sd = sane-meaning (rules k) k (suc levels) in
+    let deep : (suc levels == 0) ≡ false = ne_eqb (suc levels) 0 (omega arith) in
+    let begins_with : (h : Reading) (z : Place) (t : Trivia) (x : Bool × ℕ) → 0 < len_at k h.mode (moved t.gap z) → Begins h z t (minds (markup_head x.0 x.1 (hand_at k h (Some t) z).kind)) ((inner k levels).deeper (MarkupExpr x.0 x.1)) =
+    λ h z t x more. begins-call k levels h z t x.0 x.1 more in
+    let stands = ((in-sane k levels peek).kept r.place (bracket k levels (moved s.at z) (point_of s.start)).state tt).known in
+    let known : KnownAt r.point = record { trivia = _; is = refl } in
+    let e = first_end n r in
+    turn-over r sd (λ b. sane-plain tt) deep refl begins_with stands known e.value (moved e.taken r.place) e.state (block-known k levels (moved s.at z) (point_of s.start) n g) stopped
+
+-- behind more pieces the next token begins further on
+inner-tokens : (k : CharClasses) (levels : ℕ) (text : List ℕ) (s : Spot (Unit {0})) (i j : ℕ) → i < j → AllGo (first_of j (run_at k levels s (start_of text)))
+    → token_byte text (inner_end k levels i s (start_of text)) < token_byte text (inner_end k levels j s (start_of text))
+unfolding run
+inner-tokens k levels text s i j l g =
+    let z = start_of text in
+    let r = run_at k levels s z in
+    let a = opened_at k levels s z in
+    let sd = sane-meaning (rules k) k (suc levels) in
+    let deep : (suc levels == 0) ≡ false = ne_eqb (suc levels) 0 (omega arith) in
+    let b = (bracket k levels (moved s.at z) (point_of s.start)).state in
+    let peeked = in-sane k levels peek in
+    let begins_with : (h : Reading) (z : Place) (t : Trivia) (x : Bool × ℕ) → 0 < len_at k h.mode (moved t.gap z) → Begins h z t (minds (markup_head x.0 x.1 (hand_at k h (Some t) z).kind)) ((inner k levels).deeper (MarkupExpr x.0 x.1)) =
+    λ h z t x more. begins-call k levels h z t x.0 x.1 more in
+    let stands = (peeked.kept r.place b tt).known in
+    let known : KnownAt r.point = record { trivia = _; is = refl } in
+    let room = peeked.within r.place b in
+    let more = tokens-rise r sd (λ b. sane-plain tt) deep refl begins_with stands known i j l g in
+    let most = cuts-within r sd (λ b. sane-plain tt) deep refl begins_with stands known j in
+    let last = cut-token j (first_end j r) (omega (arith, l)) in
+    let there : r.place ≡ moved a z = sym (moved-sum s.at (bracket k levels (moved s.at z) (point_of s.start)).taken z) in
+    let left = ahead-left a z in
+    let long = ap (λ (y : Place). length y.ahead) there in
+    let u = inner_end k levels i s z in
+    let v = inner_end k levels j s z in
+    take-longer (u.taken + gap_of u.state.known) (v.taken + gap_of v.state.known) text (omega (arith, more, last)) (omega (arith, room, most, more, left, long, last))
+
+module _ (k : CharClasses) (levels : ℕ) (front old rest : List ℕ) (s : Spot (Unit {0})) (there : Among s (blocks_of_text k (front ++ (old ++ rest)))) (name : s.name ≡ block.Content) (level : max_depth - s.fewer ≡ suc levels)
+    (some : 0 < (unit_at s (start_of (front ++ (old ++ rest)))).taken) (own : BlockCuts k levels (front ++ (old ++ rest)) s (width (take s.at (front ++ (old ++ rest))))) where
+  abbrev text : List ℕ
+  text = front ++ (old ++ rest)
+
+  abbrev z : Place
+  z = start_of text
+
+  abbrev q : Sequence
+  q = run_at k levels s z
+
+  abbrev byte : ℕ → ℕ
+  byte i = token_byte text (inner_end k levels i s z)
+
+  known-at : (m : ℕ) → AllGo (first_of m q) → KnownAt (first_end m q).state
+  known-at m g = block-known k levels (moved s.at z) (point_of s.start) m g
+
+  over : is_over 0 own.count q ≡ true
+  over = inner-over k levels text s own.count own.go own.over
+
+  rises : (i j : ℕ) → i < j → j ≤ own.count → byte i < byte j
+  rises i j less few = inner-tokens k levels text s i j less (go-fewer (turn_of q) (λ x. (in-sane k levels _).within) j own.count (true, 0) q.place q.point few own.go)
+
+  -- where pieces behind others end
+  both-end : (i n j : ℕ) → i + n ≡ j → token_byte text (inner_both k levels i n s z) ≡ byte j
+  both-end i n j sum =
+      let a = opened_at k levels s z in
+      sym (ap (λ (e : End (Bool × ℕ)). token_byte text (record e { taken = a + e.taken })) (end-split-at q i n)) ∙ ap byte sum
+
+  -- the last piece ends with the last child
+  all-bytes : byte own.count ≡ markup_from k levels text s + bytes_of (kids_in s.node)
+  all-bytes =
+      let st = standing q own.count 0 own.count (omega arith) own.go known-at in
+      let p = parted-in k levels front old rest s there name level some 0 own.count st.trivia tt st.go_on st.known own (token_byte text (inner_both k levels 0 own.count s z)) refl in
+      sym (both-end 0 own.count own.count (omega arith)) ∙ p.last (λ l. absurd (omega (arith, l))) over
+
+-- ---- the pieces
+
+inner-token : (k : CharClasses) (levels : ℕ) (text : List ℕ) (s : Spot (Unit {0})) (i : ℕ) → (let z = start_of text in let e = first_end i (run_at k levels s z) in
+    token_byte text (inner_end k levels i s z) ≡ width (take (opened_at k levels s z + (e.taken + gap_of e.state.known)) text))
+inner-token k levels text s i =
+    let z = start_of text in
+    let e = first_end i (run_at k levels s z) in
+    let a = opened_at k levels s z in
+    let same : (a + e.taken) + gap_of e.state.known ≡ a + (e.taken + gap_of e.state.known) = omega arith in
+    ap (λ d. width (take d text)) same
+
+-- where its run begins
+from-is : (k : CharClasses) (levels : ℕ) (text : List ℕ) (s : Spot (Unit {0})) → markup_from k levels text s ≡ width (take (opened_at k levels s (start_of text)) text)
+from-is k levels text s =
+    let a = opened_at k levels s (start_of text) in
+    let same : a + 0 ≡ a = omega arith in
+    ap (λ d. width (take d text)) same
+
+-- The pieces of a block's run that a candidate is.
+record HasPieces (k : CharClasses) (levels : ℕ) (front old rest : List ℕ) (s : Spot (Unit {0})) (there : Among s (blocks_of_text k (front ++ (old ++ rest)))) (name : s.name ≡ block.Content) (level : max_depth - s.fewer ≡ suc levels) (c : Candidate) : Type 0 where
+  i : ℕ
+  n : ℕ
+  past : ℕ
+  t : Trivia
+  is : IsPieces k front old rest (block_run s levels there name level) c i n past t
+
+pieces-of : (k : CharClasses) (levels : ℕ) (front old rest : List ℕ) (s : Spot (Unit {0})) (there : Among s (blocks_of_text k (front ++ (old ++ rest)))) (name : s.name ≡ block.Content) (level : max_depth - s.fewer ≡ suc levels) (c : Candidate)
+    → OfBlock k levels front old rest s c → HasPieces k levels front old rest s there name level c
+pieces-of k levels front old rest s there name level c b =
+    let text = front ++ (old ++ rest) in
+    let z = text_with front old rest in
+    let r = block_run s levels there name level in
+    let q = run_at k levels s z in
+    let rs = width front in
+    let re = width (front ++ old) in
+    let from = markup_from k levels text s in
+    let kids = kids_in s.node in
+    let own = b.own in
+    let cuts = own.cuts in
+    let wider = width-append front old in
+    let order : rs ≤ re = omega (arith, wider) in
+    let o = of-run rs re c.path from kids cuts c b.chosen in
+    let token = λ (i : ℕ). token_byte text (inner_end k levels i s z) in
+    let each = λ (d : ℕ) (h : is_among d cuts ≡ true). is-cut text (λ i. inner_end k levels i s z) own.count d (own.is.each d h) in
+    let p = picked cuts from kids rs re o.more order token own.count each (rises k levels front old rest s there name level b.some own) (all-bytes k levels front old rest s there name level b.some own) in
+    let i = p.i in
+    let n = p.j - i in
+    let order_is = p.order in
+    let few = p.few in
+    let go = standing q own.count i n (omega (arith, order_is, few)) own.go (known-at k levels front old rest s there name level b.some own) in
+    let end = token_byte text (inner_both k levels i n s z) in
+    let parted = parted-in k levels front old rest s there name level b.some i n go.trivia go.first_go go.go_on go.known own end refl in
+    let well = begun cuts from kids rs re o.more order q i n (token i) end parted p.led.0 p.start (both-end k levels front old rest s there name level b.some own i n p.j (omega (arith, order_is)) ∙ p.end) in
+    let ends = b.ends in
+    let begin = from-is k levels text s in
+    let before = sooner (opened_at k levels s z) front (old ++ rest) (subst (λ d. d < rs) begin b.starts) in
+    let m = matches k front old rest r c c.path cuts from kids o order token own.count (inner-token k levels text s) p begin (omega (arith, before)) (omega (arith, ends)) in
+    let h = is-pieces k front old rest r c own.count i p.j m (over k levels front old rest s there name level b.some own) go (λ l. (well.starts l).1) in
+    record { i = i; n = n; past = h.past; t = go.trivia; is = h.is }
+
+-- ---- the law
+
+name-is : (b : Block) → kind_of b ≡ kind.ContentBlock → b ≡ block.Content
+name-is block.Code e = absurd (cc)
+name-is block.Content e = refl
+
+-- the path but for its last step
+but-last : (path : List ℕ) (i : ℕ) (whole : List ℕ) → whole ≡ path ++ i ∷ [] → take (length whole - 1) whole ≡ path
+but-last path i whole e =
+    let long = length-append path (i ∷ []) in
+    let same = ap length e in
+    let short : length whole - 1 ≡ length path = omega (arith, long, same) in
+    ap (λ n. take n whole) short ∙ ap (take (length path)) e ∙ take-append_seam path (i ∷ [])
+
+-- where the children of a unit's node begin
+unit-byte : (k : CharClasses) (front old rest : List ℕ) (root : Tree) (s : Spot (Unit {0})) → Among s (blocks_of_text k (front ++ (old ++ rest))) → bare root ≡ bare (tree k (front ++ (old ++ rest))) → s.node.head ≡ block_head s.name
+    → start_at (path_of s.hole) 0 root ≡ length (left_text s.hole)
+unit-byte k front old rest root s there same head =
+    let path = path_of s.hole in
+    let none_more : length s.node.head.text ≡ 0 = ap (λ (h : Head). length h.text) head in
+    let is = start-same path 0 root (tree k (front ++ (old ++ rest))) same ∙ ap (start_at path 0) (tree-by-block k front old rest s there s.node refl) ∙ start-plug s.hole s.node in
+    omega (arith, is, none_more)
+
+module _ (apart : OpensApartLaw) (k : CharClasses) (front old rest : List ℕ) (root : Tree) (c : Candidate) (same : bare root ≡ bare (tree k (front ++ (old ++ rest))))
+    (chosen : Among c (candidates k (front ++ (old ++ rest)) (width front) (width (front ++ old)) root)) (pieces : c.is_block ≡ false) (b : InBlock k (front ++ (old ++ rest)) (width front) (width (front ++ old)) c) where
+  abbrev whole_text : List ℕ
+  whole_text = front ++ (old ++ rest)
+
+  -- its node isn't empty, and begins before the stretch
+  record Covered : Type 0 where
+    full : 0 < length (text_of b.node)
+    early : length (left_text b.hole) < width front
+
+  covered : Covered
+  covered =
+      let x = b.node in
+      let at = length (left_text b.hole) in
+      let l = lies (at + length x.head.text) (trees x.kids) b.step b.child b.there in
+      let from = l.from in
+      let to = l.to in
+      let starts = b.covers.starts in
+      let ends = b.covers.ends in
+      let order = width-append front old in
+      let held : length (text_of x) ≡ length x.head.text + length (texts (trees x.kids)) = length-append x.head.text _ ∙ ap (λ n. length x.head.text + n) (ap length (joined-trees x.kids)) in
+      record { full = omega (arith, from, to, starts, ends, order, held); early = omega (arith, from, starts) }
+
+  -- the block of its node, if that is a unit
+  module _ (s : Spot (Unit {0})) (there : Among s (blocks_of_text k (front ++ (old ++ rest)))) (of : IsOf b.hole b.node s) where
+    name : s.name ≡ block.Content
+    name = name-is s.name (ap (λ (h : Head). h.kind) (sym of.head) ∙ b.content.content)
+
+    full : 0 < length (text_of s.node)
+    full = subst (λ (t : Tree). 0 < length (text_of t)) (sym of.node) covered.full
+
+    place : length (left_text s.hole) ≡ width (take s.at (front ++ (old ++ rest)))
+    place = (seat-of k whole_text s there full).left_is
+
+    noted : cuts_in (width (take s.at (front ++ (old ++ rest)))) (listed (log k (front ++ (old ++ rest))).notes) ≡ Some b.content.cuts
+    noted =
+        let here = ap length (hole-same s.hole b.hole s.node b.node of.path of.nodes).0 in
+        subst (λ a. cuts_in a (listed (log k whole_text).notes) ≡ Some b.content.cuts) (sym here ∙ place) b.content.noted
+
+    by-level : (levels : ℕ) → max_depth - s.fewer ≡ suc levels → InnerPiecesOf k front old rest root c
+    by-level levels level =
+        let some = (seat-of k whole_text s there full).some in
+        let first = length (left_text b.hole) + length b.node.head.text in
+        let step : b.step ≡ 1 = second-alone b.node (subst Plain of.node (plain-shape k levels whole_text s there name level some)) first b.step b.child b.there b.covers.inner b.content.markup in
+        let path : c.path ≡ path_of s.hole ++ 1 ∷ [] = b.path_is ∙ ap (λ p. p ++ b.step ∷ []) (sym of.path) ∙ ap (λ i. path_of s.hole ++ i ∷ []) step in
+        let o = of-block apart k levels front old rest root s there name level c same chosen pieces path in
+        let p = pieces-of k levels front old rest s there name level c o in
+        let head : s.node.head ≡ block_head s.name = ap (λ (t : Tree). t.head) of.node ∙ of.head in
+        record {
+          s = s;
+          levels = levels;
+          among = there;
+          name = name;
+          level = level;
+          path = path;
+          around = o.around;
+          byte = ap (λ q. start_at q 0 root) (but-last (path_of s.hole) 1 c.path path) ∙ unit-byte k front old rest root s there same head ∙ place;
+          i = p.i;
+          n = p.n;
+          past = p.past;
+          t = p.t;
+          is = p.is;
+        }
+
+    of-unit : (left : ℕ) → max_depth - s.fewer ≡ left → InnerPiecesOf k front old rest root c
+    of-unit zero e = absurd (some-level apart k whole_text s b.content.cuts there name noted e)
+    of-unit (suc levels) e = by-level levels e
+
+  by-stems : Stems k (front ++ (old ++ rest)) b.hole b.node → InnerPiecesOf k front old rest root c
+  by-stems (from_unit s there of) = of-unit s there of (max_depth - s.fewer) refl
+  by-stems (from_second s there of) = absurd (none-there k front (old ++ rest) b.hole b.node s b.content.cuts there of covered.full covered.early b.content.noted)
+
+pub inner-pieces-of-law : OpensApartLaw → InnerPiecesOfLaw
+inner-pieces-of-law apart k front old rest root c same chosen pieces other =
+    let text = front ++ (old ++ rest) in
+    let b = candidate-in k text (width front) (width (front ++ old)) root c same chosen pieces other in
+    let is_one : is_block b.node.head.kind ≡ true = ap is_block b.content.content in
+    by-stems apart k front old rest root c same chosen pieces b (standing-law k text b.hole b.node b.is (block-head b.node b.inner is_one))

@@ -1,0 +1,167 @@
+-- Where a candidate that is pieces and doesn't stand at the root comes from: from a child that covers the replaced bytes and is the markup of a content block.
+use Rattle.std.proofs.Common.{◌≡◌, ℕ, zero, suc, ◌+◌, ◌<◌, Bool, true, false, ◌&&◌, if◌then◌else◌, List, [], ◌∷◌, ◌++◌, length, Option, Some, None, refl, ap, sym, ◌∙◌, subst, arith, append_assoc, append-nil, length-append}
+use Rattle.typst_kinds.specs.Kinds.{same}
+use Rattle.typst_kinds.specs.Head.{Head}
+use Rattle.typst_kinds.specs.declared.kind.SyntaxKind.{SyntaxKind}
+use Rattle.typst_kinds.specs.declared.kind.SyntaxKind.TheVariants as kind
+use Rattle.typst_kinds.proofs.Sameness.{same-is}
+use Rattle.typst_language.specs.declared.calls.Note.{Note}
+use Rattle.typst_language.proofs.Leaves.{texts}
+use Rattle.typst_tree.specs.Tree.{Forest, none, more, Tree, forest, trees, text_of, joined}
+use Rattle.typst_candidates.specs.Candidates.{Child, laid, first_near, child_at, Candidate, of_run, covers, run_in, candidates_at}
+use Rattle.typst_candidates.specs.Units.{cuts_in}
+use Rattle.typst_edits.specs.Edit.{Among}
+use Rattle.typst_edits.specs.Every.{Every}
+use Rattle.typst_edits.specs.Hole.{Deep, fill, path_in}
+use Rattle.typst_edits.specs.Hole.Deep.{bare, under}
+use Rattle.typst_edits.proofs.CandidateBlocks.{Covers, covers-is, or_first, split-child}
+use Rattle.typst_edits.proofs.Edit.{among}
+use Rattle.typst_edits.proofs.Every.{every-by}
+use Rattle.typst_edits.proofs.MarkupCandidates.{Alone, Below, Own, at-index, every-both, longer-other, node-every, own-run, paths-below, run-own}
+use Rattle.typst_edits.proofs.Placed.{deep_text}
+
+module _ (ns : List Note) (rs re : ℕ) where
+  -- In a tree that begins at a byte the candidate is children of a child of this node, which is a run and covers the replaced bytes.
+  pub record Placed (path : List ℕ) (at : ℕ) (t : Tree) (c : Candidate) : Type 0 where
+    pub deep : Deep
+    pub node : Tree
+    pub is : t ≡ fill deep node
+    pub inner : node.head.is_inner ≡ true
+    pub step : ℕ
+    pub path_is : c.path ≡ path ++ (path_in deep ++ step ∷ [])
+    pub child : Child
+    pub there : child_at (laid ((at + length (deep_text deep)) + length node.head.text) (trees node.kids)) step ≡ Some child
+    pub covers : Covers rs re child
+    pub own : Among c (of_run rs re c.path (child.start + length child.node.head.text) (trees child.node.kids) (run_in ns (at + length (deep_text deep)) node.head.kind child.node.head.kind))
+
+  -- what is found of the one of an index of some trees side by side
+  abbrev In : List ℕ → ℕ → ℕ → Forest → Candidate → Type 0
+  In path index at none c = Unit {0}
+  In path zero at (more h ks r) c = h.is_inner ≡ true → (c.path ≡ path → ⊥) → Placed path at (record { head = h; kids = ks }) c
+  In path (suc index) at (more h ks r) c = In path index (at + length (h.text ++ joined ks)) r c
+
+  abbrev Finds : List ℕ → ℕ → ℕ → Forest → Candidate → Type 0
+  Finds path index at f c = c.is_block ≡ false → In path index at f c
+
+  in-child : (path : List ℕ) (index at : ℕ) (f : Forest) (d : Child) (c : Candidate) → child_at (laid at (trees f)) index ≡ Some d → In path index at f c → d.node.head.is_inner ≡ true → (c.path ≡ path → ⊥) → Placed path d.start d.node c
+  in-child path index at none d c e h = absurd (cc)
+  in-child path zero at (more h ks r) d c e g =
+      let first : Child = record { start = at; end = at + length (text_of (record { head = h; kids = ks })); node = record { head = h; kids = ks } } in
+      let same : first ≡ d = ap (or_first first) e in
+      subst (λ (d : Child). d.node.head.is_inner ≡ true → (c.path ≡ path → ⊥) → Placed path d.start d.node c) same g
+  in-child path (suc index) at (more h ks r) d c e g = in-child path index (at + length (h.text ++ joined ks)) r d c e g
+
+  -- one within a child
+  within-child : (path : List ℕ) (at i : ℕ) (h : Head) (ks : Forest) (d : Child) (c : Candidate) → child_at (laid (at + length h.text) (trees ks)) i ≡ Some d → Placed (path ++ i ∷ []) d.start d.node c → Placed path at (record { head = h; kids = ks }) c
+  within-child path at i h ks d c e p =
+      let s = split-child (at + length h.text) i (trees ks) d e in
+      let x = p.node in
+      let own : Tree = record { head = h; kids = ks } in
+      let deep = under h s.left p.deep s.right in
+      let kids : ks ≡ forest (s.left ++ fill p.deep x ∷ s.right) = sym (forest-of ks) ∙ ap forest (s.is ∙ ap (λ t. s.left ++ t ∷ s.right) p.is) in
+      let one = length-append h.text (texts s.left ++ deep_text p.deep) in
+      let two = length-append (texts s.left) (deep_text p.deep) in
+      let start = s.start in
+      let at_is : d.start + length (deep_text p.deep) ≡ at + length (deep_text deep) = omega (arith, one, two, start) in
+      record {
+        deep = deep;
+        node = x;
+        is = ap (λ f. record { head = h; kids = f }) kids;
+        inner = p.inner;
+        step = p.step;
+        path_is = p.path_is ∙ append_assoc path (i ∷ []) (path_in p.deep ++ p.step ∷ []) ∙ ap (λ n. path ++ n ∷ (path_in p.deep ++ p.step ∷ [])) (sym s.index);
+        child = p.child;
+        there = subst (λ a. child_at (laid (a + length x.head.text) (trees x.kids)) p.step ≡ Some p.child) at_is p.there;
+        covers = p.covers;
+        own = subst (λ a. Among c (of_run rs re c.path (p.child.start + length p.child.node.head.text) (trees p.child.node.kids) (run_in ns a x.head.kind p.child.node.head.kind))) at_is p.own;
+      }
+    where
+      forest-of : (f : Forest) → forest (trees f) ≡ f
+      forest-of none = refl
+      forest-of (more h ks r) = ap (λ g. more h ks g) (forest-of r)
+
+  -- one of a child's own run
+  of-child : (path : List ℕ) (at i : ℕ) (h : Head) (ks : Forest) (d : Child) (c : Candidate) → child_at (laid (at + length h.text) (trees ks)) i ≡ Some d → Covers rs re d → h.is_inner ≡ true → c.path ≡ path ++ i ∷ []
+      → Among c (of_run rs re (path ++ i ∷ []) (d.start + length d.node.head.text) (trees d.node.kids) (run_in ns at h.kind d.node.head.kind)) → Placed path at (record { head = h; kids = ks }) c
+  of-child path at i h ks d c e on inner p own =
+      let none : List ℕ = [] in
+      let zero_more : at ≡ at + length none = omega arith in
+      record {
+        deep = bare;
+        node = record { head = h; kids = ks };
+        is = refl;
+        inner = inner;
+        step = i;
+        path_is = p;
+        child = d;
+        there = subst (λ a. child_at (laid (a + length h.text) (trees ks)) i ≡ Some d) zero_more e;
+        covers = on;
+        own = subst (λ a. Among c (of_run rs re c.path (d.start + length d.node.head.text) (trees d.node.kids) (run_in ns a h.kind d.node.head.kind))) zero_more
+            (subst (λ q. Among c (of_run rs re q (d.start + length d.node.head.text) (trees d.node.kids) (run_in ns at h.kind d.node.head.kind))) (sym p) own);
+      }
+
+  -- those of a child that covers the replaced bytes
+  abbrev OfChild : List ℕ → ℕ → ℕ → Head → Forest → Child → Candidate → Type 0
+  OfChild path at i h ks d c = Below (path ++ i ∷ []) c × (Finds (path ++ i ∷ []) i (at + length h.text) ks c
+      × (c.is_block ≡ false → c.path ≡ path ++ i ∷ [] → Among c (of_run rs re (path ++ i ∷ []) (d.start + length d.node.head.text) (trees d.node.kids) (run_in ns at h.kind d.node.head.kind))))
+
+  by-child : (path : List ℕ) (at i : ℕ) (h : Head) (ks r : Forest) (d : Child) (c : Candidate) → child_at (laid (at + length h.text) (trees ks)) i ≡ Some d → Covers rs re d → OfChild path at i h ks d c → Finds path zero at (more h ks r) c
+  by-child path at i h ks r d c e on o pieces inner other = by-path o.0.behind o.0.is
+    where
+      by-path : (behind : List ℕ) → c.path ≡ (path ++ i ∷ []) ++ behind → Placed path at (record { head = h; kids = ks }) c
+      by-path [] p = let here = p ∙ append-nil (path ++ i ∷ []) in of-child path at i h ks d c e on inner here (o.1.1 pieces here)
+      by-path (j ∷ behind) p =
+          within-child path at i h ks d c e (in-child (path ++ i ∷ []) i (at + length h.text) ks d c e (o.1.0 pieces) on.inner (λ same. longer-other (path ++ i ∷ []) j behind (sym same ∙ p)))
+
+  all-find : (path : List ℕ) (run : Option (List ℕ)) (index at : ℕ) (f : Forest) → Every (Finds path index at f) (candidates_at ns rs re path run index at f)
+  unfolding candidates_at
+  all-find path run index at none = tt
+  all-find path run (suc index) at (more h ks r) = all-find path run index (at + length (h.text ++ joined ks)) r
+  all-find path run zero at (more h ks r) =
+      let inside = at + length h.text in
+      let cs = laid inside (trees ks) in
+      let i = first_near rs cs in
+      node-every ns rs re (Finds path zero at (more h ks r)) path run at h ks r
+      (λ d e on.
+      let q = path ++ i ∷ [] in
+      let own = run_in ns at h.kind d.node.head.kind in
+      let all = candidates_at ns rs re q own i inside ks in
+      let mine : Every (λ c. c.is_block ≡ false → c.path ≡ q → Among c (of_run rs re q (d.start + length d.node.head.text) (trees d.node.kids) own)) all =
+      subst (λ cs. Every (λ c. c.is_block ≡ false → c.path ≡ q → Among c (of_run rs re q (d.start + length d.node.head.text) (trees d.node.kids) own)) cs) (sym (at-index ns rs re q own i inside ks d e))
+      (own-run ns rs re q own d.start d.node.head d.node.kids none) in
+      every-by (λ c o. by-child path at i h ks r d c e (covers-is rs re cs i d on) o) all
+      (every-both ns rs re (Below q) _ all (paths-below ns rs re q own i inside ks) (every-both ns rs re (Finds q i inside ks) _ all (all-find q own i inside ks) mine)))
+      (λ c a pieces inner other. absurd (let no = sym a.whole ∙ pieces in cc))
+      (every-by {Q = Finds path zero at (more h ks r)} (λ c o pieces inner other. absurd (other o.at_end)) _ (run-own rs re path inside (trees ks) run))
+
+  -- of a tree whose root is an inner node
+  pub in-tree : (path : List ℕ) (run : Option (List ℕ)) (at : ℕ) (t : Tree) → t.head.is_inner ≡ true → Every (λ c. c.is_block ≡ false → (c.path ≡ path → ⊥) → Placed path at t c) (candidates_at ns rs re path run zero at (more t.head t.kids none))
+  in-tree path run at t inner = every-by {Q = λ c. c.is_block ≡ false → (c.path ≡ path → ⊥) → Placed path at t c} (λ c f pieces other. f pieces inner other) _ (all-find path run zero at (more t.head t.kids none))
+
+-- ---- the markup of a content block
+
+-- The run is one that is noted, of markup in a content block.
+pub record InContent (ns : List Note) (at : ℕ) (parent child : SyntaxKind) : Type 0 where
+  pub content : parent ≡ kind.ContentBlock
+  pub markup : child ≡ kind.Markup
+  pub cuts : List ℕ
+  pub noted : cuts_in at ns ≡ Some cuts
+
+some-run : (rs re : ℕ) (path : List ℕ) (at : ℕ) (ts : List Tree) (c : Candidate) (run : Option (List ℕ)) → Among c (of_run rs re path at ts run) → (run ≡ None → ⊥)
+some-run rs re path at ts c None a e = among (λ d. ⊥) c [] a tt
+some-run rs re path at ts c (Some cuts) a e = absurd (cc)
+
+pub in-content : (ns : List Note) (at : ℕ) (parent child : SyntaxKind) → (run_in ns at parent child ≡ None → ⊥) → InContent ns at parent child
+in-content ns at parent child some = by-tests (same kind.ContentBlock parent) (same kind.Markup child) refl refl some
+  where
+    by-cuts : (o : Option (List ℕ)) → cuts_in at ns ≡ o → parent ≡ kind.ContentBlock → child ≡ kind.Markup → (o ≡ None → ⊥) → InContent ns at parent child
+    by-cuts None e p m some = absurd (some refl)
+    by-cuts (Some cuts) e p m some = record { content = p; markup = m; cuts = cuts; noted = e }
+
+    by-tests : (a b : Bool) → same kind.ContentBlock parent ≡ a → same kind.Markup child ≡ b → ((if a && b then cuts_in at ns else None) ≡ None → ⊥) → InContent ns at parent child
+    by-tests true true p m some = by-cuts (cuts_in at ns) refl (same-is kind.ContentBlock parent p) (same-is kind.Markup child m) some
+    by-tests true false p m some = absurd (some refl)
+    by-tests false b p m some = absurd (some refl)
+
+pub of-content : (ns : List Note) (rs re : ℕ) (path : List ℕ) (from : ℕ) (ts : List Tree) (c : Candidate) (at : ℕ) (parent child : SyntaxKind) → Among c (of_run rs re path from ts (run_in ns at parent child)) → InContent ns at parent child
+of-content ns rs re path from ts c at parent child a = in-content ns at parent child (some-run rs re path from ts c (run_in ns at parent child) a)

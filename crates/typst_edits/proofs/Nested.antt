@@ -1,0 +1,317 @@
+-- Marks stand in each other: pieces of a run say its level, and blocks, with the marks in them, a deeper one.
+use Rattle.std.proofs.Common.{◌≡◌, ℕ, zero, suc, ◌+◌, ◌-◌, ◌≤◌, ◌<◌, Bool, true, false, ◌&&◌, nat_lt, List, [], ◌∷◌, ◌++◌, drop, append_assoc, append-nil, Option, Some, None, refl, ap, sym, ◌∙◌, subst, arith}
+use Rattle.std.proofs.lemmas.List.{map-append}
+use Rattle.typst_kinds.specs.declared.kind.SyntaxKind.{SyntaxKind}
+use Rattle.typst_lines.specs.Place.{Place, moved}
+use Rattle.typst_lines.specs.Classes.{CharClasses}
+use Rattle.typst_tokens.specs.Sight.{position, hull_of}
+use Rattle.typst_candidates.specs.Nested.{Nested}
+use Rattle.typst_candidates.specs.Nested.Nested.{none as nothing, piece as one_piece, block as one_block}
+use Rattle.typst_language.specs.declared.calls.Block.{Block}
+use Rattle.typst_language.specs.declared.calls.Call.{Call}
+use Rattle.typst_language.specs.declared.calls.Mark.{Mark}
+use Rattle.typst_language.specs.declared.calls.Mark.TheVariants as mark
+use Rattle.typst_language.specs.declared.calls.Note.{Note}
+use Rattle.typst_language.specs.declared.reading.State.{State}
+use Rattle.typst_language.specs.Ask.{Ask, shift, shift_one, sunk, sink_one, only_looks}
+use Rattle.typst_language.specs.Ask.Ask.{looked, marked}
+use Rattle.typst_language.specs.Knot.{meaning_of, level_of, blocks_of}
+use Rattle.typst_language.specs.Log.{Log, no_log, with_hull, with_note, logged}
+use Rattle.typst_language.specs.Point.{Point, forgot, state_of, gap_of}
+use Rattle.typst_language.specs.Shape.{Shape}
+use Rattle.typst_language.specs.Calls.{Answer}
+use Rattle.typst_language.specs.Depth.{anywhere, skip_one, too_deep, deeper}
+use Rattle.typst_language.specs.Steps.{peek, eat, eat_making, node, within, note, flush_trivia}
+use Rattle.typst_language.specs.Syntax.{Op, Begin, Parser, ◌>>◌}
+use Rattle.typst_language.specs.Syntax.Op.{hand, so, further, column, erred, takes, takes_so, flushes, complains, advises, marks, is_deepest}
+use Rattle.typst_language.specs.Syntax.Parser.{gives, does, next, pick, repeat, wraps, grows, nests, scoped, either, calls, block}
+use Rattle.typst_language.specs.Meaning.{Outcome, Meaning, Level, plain, joined, answered, turns, as_last, bound, repeated, before, grown, is_more, growths, growing, nestings, nesting, given_up, bounded, blockless, entered, hand_asks_of, start_point, done, run}
+use Rattle.typst_language.proofs.Within.{on_both, on_if, grew}
+use Rattle.typst_grammar.specs.Grammar.{rules, production, max_depth, start_of, whole, parsed, log, block_production}
+use Rattle.typst_grammar.specs.Markup.{markup_reading, note_piece, markup_turn, markup_run}
+use Rattle.typst_grammar.proofs.Guarded.{Guarded, op_notes}
+use Rattle.typst_grammar.proofs.GuardedCode.{guarded-production, guarded-blocks}
+use Rattle.typst_edits.specs.Nested.{NestedLaw}
+use Rattle.typst_edits.specs.Laws.{block_at}
+use Rattle.typst_edits.specs.PieceNotes.{listed}
+use Rattle.typst_edits.specs.Spot.{ended}
+use Rattle.typst_edits.proofs.Bytes.{logged-append, noted-more}
+use Rattle.typst_edits.proofs.Marks.{AllMarks, none-hand}
+use Rattle.typst_edits.proofs.Rising.{pieces}
+
+-- ---- marks in a list of asks
+
+-- pieces one level above so many fewer, and blocks at so many fewer or deeper, short of a limit, each with what stands in it
+pub data Nests : ℕ → ℕ → List Ask → Type 0 where
+  bare : (end lo : ℕ) → Nests end lo []
+  seen : (end lo at : ℕ) (look : _) (asks : List Ask) → Nests end lo asks → Nests end lo (looked at look ∷ asks)
+  piece : (end lo at gap fewer : ℕ) (line : Bool) (brackets : ℕ) (s : State) (asks : List Ask) → suc fewer ≡ lo → Nests end lo asks → Nests end lo (marked at gap fewer (mark.Piece line brackets) s ∷ asks)
+  unit : (end lo at gap fewer to space : ℕ) (b : Block) (s t : State) (inner later : List Ask) → lo ≤ fewer → fewer < end → Nests end (suc fewer) inner → Nests end lo later
+      → Nests end lo (marked at gap fewer (mark.Opens b) s ∷ (inner ++ marked to space fewer mark.Closes t ∷ later))
+
+nests-append : (end lo : ℕ) (ls ks : List Ask) → Nests end lo ls → Nests end lo ks → Nests end lo (ls ++ ks)
+nests-append end lo ls ks (bare _ _) i = i
+nests-append end lo ls ks (seen _ _ at look asks h) i = seen end lo at look (asks ++ ks) (nests-append end lo asks ks h i)
+nests-append end lo ls ks (piece _ _ at gap fewer line brackets s asks e h) i = piece end lo at gap fewer line brackets s (asks ++ ks) e (nests-append end lo asks ks h i)
+nests-append end lo ls ks (unit _ _ at gap fewer to space b s t inner later e f h g) i =
+    subst (λ xs. Nests end lo (marked at gap fewer (mark.Opens b) s ∷ xs)) (sym (append_assoc inner (marked to space fewer mark.Closes t ∷ later) ks))
+    (unit end lo at gap fewer to space b s t inner (later ++ ks) e f h (nests-append end lo later ks g i))
+
+nests-shift : (d end lo : ℕ) (ls : List Ask) → Nests end lo ls → Nests end lo (shift d ls)
+nests-shift d end lo ls (bare _ _) = bare end lo
+nests-shift d end lo ls (seen _ _ at look asks h) = seen end lo (d + at) look (shift d asks) (nests-shift d end lo asks h)
+nests-shift d end lo ls (piece _ _ at gap fewer line brackets s asks e h) = piece end lo (d + at) gap fewer line brackets s (shift d asks) e (nests-shift d end lo asks h)
+nests-shift d end lo ls (unit _ _ at gap fewer to space b s t inner later e f h g) =
+    subst (λ xs. Nests end lo (marked (d + at) gap fewer (mark.Opens b) s ∷ xs)) (sym (map-append (shift_one d) inner (marked to space fewer mark.Closes t ∷ later)))
+    (unit end lo (d + at) gap fewer (d + to) space b s t (shift d inner) (shift d later) e f (nests-shift d end (suc fewer) inner h) (nests-shift d end lo later g))
+
+nests-sunk : (end lo : ℕ) (ls : List Ask) → Nests end lo ls → Nests (suc end) (suc lo) (sunk ls)
+nests-sunk end lo ls (bare _ _) = bare (suc end) (suc lo)
+nests-sunk end lo ls (seen _ _ at look asks h) = seen (suc end) (suc lo) at look (sunk asks) (nests-sunk end lo asks h)
+nests-sunk end lo ls (piece _ _ at gap fewer line brackets s asks e h) = piece (suc end) (suc lo) at gap (suc fewer) line brackets s (sunk asks) (ap suc e) (nests-sunk end lo asks h)
+nests-sunk end lo ls (unit _ _ at gap fewer to space b s t inner later e f h g) =
+    subst (λ xs. Nests (suc end) (suc lo) (marked at gap (suc fewer) (mark.Opens b) s ∷ xs)) (sym (map-append sink_one inner (marked to space fewer mark.Closes t ∷ later)))
+    (unit (suc end) (suc lo) at gap (suc fewer) to space b s t (sunk inner) (sunk later) (omega (arith, e)) (omega (arith, f)) (nests-sunk end (suc fewer) inner h) (nests-sunk end lo later g))
+
+-- where no pieces are
+nests-deep : (end lo : ℕ) (ls : List Ask) → lo ≤ 1 → Nests end 0 ls → Nests (suc end) lo (sunk ls)
+nests-deep end lo ls low (bare _ _) = bare (suc end) lo
+nests-deep end lo ls low (seen _ _ at look asks h) = seen (suc end) lo at look (sunk asks) (nests-deep end lo asks low h)
+nests-deep end lo ls low (piece _ _ at gap fewer line brackets s asks e h) = absurd (omega (arith, e))
+nests-deep end lo ls low (unit _ _ at gap fewer to space b s t inner later e f h g) =
+    subst (λ xs. Nests (suc end) lo (marked at gap (suc fewer) (mark.Opens b) s ∷ xs)) (sym (map-append sink_one inner (marked to space fewer mark.Closes t ∷ later)))
+    (unit (suc end) lo at gap (suc fewer) to space b s t (sunk inner) (sunk later) (omega (arith, low)) (omega (arith, f)) (nests-sunk end (suc fewer) inner h) (nests-deep end lo later low g))
+
+nests-looks : (end lo : ℕ) (ls : List Ask) → Nests end lo (only_looks ls)
+nests-looks end lo [] = bare end lo
+nests-looks end lo (looked at look ∷ ls) = seen end lo at look (only_looks ls) (nests-looks end lo ls)
+nests-looks end lo (marked at gap fewer m s ∷ ls) = nests-looks end lo ls
+
+nests-none : (end lo : ℕ) (ls : List Ask) → AllMarks (λ at fewer m s. ⊥) ls → Nests end lo ls
+nests-none end lo [] h = bare end lo
+nests-none end lo (looked at look ∷ ls) h = seen end lo at look ls (nests-none end lo ls h)
+nests-none end lo (marked at gap fewer m s ∷ ls) h = elim h.0 [ ]
+
+-- ---- whatever the language can say
+
+-- it notes these marks alone, and reads blocks by itself only where that is allowed
+abbrev Notes : {A : Type 0} → (Mark → Bool) → Bool → Parser A → Type 0
+Notes notes blocks (gives a) = Unit {0}
+Notes notes blocks (does o) = op_notes notes o ≡ true
+Notes notes blocks (next p f) = Notes notes blocks p × ((b : _) → Notes notes blocks (f b))
+Notes notes blocks (pick b p q) = (b ≡ true → Notes notes blocks p) × (b ≡ false → Notes notes blocks q)
+Notes notes blocks (repeat p x) = (y : _) → Notes notes blocks (p y)
+Notes notes blocks (wraps f begin p) = Notes notes blocks p
+Notes notes blocks (grows begin p f) = Notes notes blocks p × ((x : _) → Notes notes blocks (f x))
+Notes notes blocks (nests f begin p x) = (y : _) → Notes notes blocks (p y)
+Notes notes blocks (scoped f p) = Notes notes blocks p
+Notes notes blocks (either p is_wrong q) = Notes notes blocks p × Notes notes blocks q
+Notes notes blocks (calls c) = Unit {0}
+Notes notes blocks (block b) = blocks ≡ true
+
+notes-by : {A : Type 0} (notes : Mark → Bool) (at_hand : Bool) (p : Parser A) → Guarded notes at_hand p → Notes notes true p
+notes-by notes at_hand (gives a) q = tt
+notes-by notes at_hand (does o) q = q
+notes-by notes at_hand (next p f) q = (notes-by notes at_hand p q.0, λ b. notes-by notes _ (f b) (q.1 b))
+notes-by notes at_hand (pick b p r) q = (λ e. notes-by notes at_hand p (q.0 e), λ e. notes-by notes at_hand r (q.1 e))
+notes-by notes at_hand (repeat p x) q = λ y. notes-by notes false (p y) (q y)
+notes-by notes at_hand (wraps f begin p) q = notes-by notes false p q
+notes-by notes at_hand (grows begin p f) q = (notes-by notes false p q.0, λ x. notes-by notes false (f x) (q.1 x))
+notes-by notes at_hand (nests f begin p x) q = λ y. notes-by notes false (p y) (q y)
+notes-by notes at_hand (scoped f p) q = notes-by notes false p q
+notes-by notes at_hand (either p is_wrong r) q = (notes-by notes false p q.0, notes-by notes false r q.1)
+notes-by notes at_hand (calls c) q = tt
+notes-by notes at_hand (block b) q = refl
+
+module _ (end lo : ℕ) where
+  abbrev Nest : {A : Type 0} → Outcome A → Type 0
+  Nest o = Nests end lo o.asks
+
+  abbrev AllNest : {A : Type 0} → Meaning A → Type 0
+  AllNest m = (z : Place) (s : Point) → Nest (m z s)
+
+  nest-joined : {A B : Type 0} (o : Outcome B) (p : Outcome A) → Nest o → Nest p → Nest (joined o p)
+  nest-joined o p h k = nests-append end lo o.asks (shift o.taken p.asks) h (nests-shift o.taken end lo p.asks k)
+
+  nest-turns : {A : Type 0} (m : A → Meaning (Bool × A)) → ((x : A) → AllNest (m x)) → (n : ℕ) (x : A) → AllNest (turns m n x)
+  nest-turns m h zero x z s = bare end lo
+  nest-turns m h (suc n) x z s =
+      let o = m x z s in
+      let p = turns m n o.value.1 (moved o.taken z) o.state in
+      on_both Nest (o.value.0 && nat_lt 0 o.taken) (joined o p) (as_last o) (nest-joined o p (h x z s) (nest-turns m h n o.value.1 (moved o.taken z) o.state)) (h x z s)
+
+  nest-grown : {A : Type 0} (i : ℕ) (shape : Option Shape) (o : Outcome A) → Nest o → Nest (grown i shape o)
+  nest-grown i None o h = h
+  nest-grown i (Some shape) o h = h
+
+  nest-growths : {A : Type 0} (m : A → Meaning (Option Shape × A)) → ((x : A) → AllNest (m x)) → (n i : ℕ) (o : Outcome A) (z : Place) → Nest o → Nest (growths m n i o z)
+  nest-growths m h n zero o z k = k
+  nest-growths m h n (suc i) o z k =
+      let p = m o.value (moved o.taken z) o.state in
+      let all = nest-grown n p.value.0 (answered p.value.1 (joined o p)) (nest-joined o p k (h o.value (moved o.taken z) o.state)) in
+      on_both Nest (is_more p.value.0 && nat_lt 0 p.taken) (growths m n i (grew n o p) z) (grew n o p) (nest-growths m h n i (grew n o p) z all) all
+
+  nest-nestings : {A : Type 0} (f : A → Shape) (begin : Begin) (m : A → Meaning (Bool × A)) → ((x : A) → AllNest (m x)) → (n : ℕ) (x : A) → AllNest (nestings f begin m n x)
+  nest-nestings f begin m h zero x z s = bare end lo
+  nest-nestings f begin m h (suc n) x z s =
+      let o = m x z s in
+      let p = nestings f begin m n o.value.1 (moved o.taken z) o.state in
+      on_both Nest (o.value.0 && nat_lt 0 o.taken) (joined o p) (as_last o) (nest-joined o p (h x z s) (nest-nestings f begin m h n o.value.1 (moved o.taken z) o.state)) (h x z s)
+
+  module _ (l : Level) (notes : Mark → Bool) (blocks : Bool) (own : (m : Mark) (gap : ℕ) (s : State) → notes m ≡ true → Nests end lo (marked 0 gap 0 m s ∷ []))
+      (deep : (call : Call) (z : Place) (s : Point) → Nests end lo (sunk (l.deeper call z s).asks))
+      (held : blocks ≡ true → (b : Block) → l.has b ≡ true → (z : Place) (s : Point) → Nest (bounded b (l.blocks b) z s)) where
+    nest-hand : (z : Place) (s : Point) → Nests end lo (hand_asks_of l z s)
+    nest-hand z s = nests-none end lo (hand_asks_of l z s) (none-hand (λ at fewer m t. ⊥) l.classes s.held s.known z)
+
+    nest-more : (z : Place) (s : Point) (at : ℕ) (look : _) → Nests end lo (hand_asks_of l z s ++ looked at look ∷ [])
+    nest-more z s at look = nests-append end lo (hand_asks_of l z s) (looked at look ∷ []) (nest-hand z s) (seen end lo at look [] (bare end lo))
+
+    nest-done : {A : Type 0} (o : Op A) → op_notes notes o ≡ true → AllNest (done l o)
+    nest-done hand q z s = nest-hand z s
+    nest-done (so way) q z s = nest-more z s _ _
+    nest-done further q z s = nest-more z s _ _
+    nest-done column q z s = nest-more z s _ _
+    nest-done erred q z s = bare end lo
+    nest-done (takes trims making) q z s = nest-hand z s
+    nest-done (takes_so way making) q z s = nest-more z s _ _
+    nest-done flushes q z s = nest-hand z s
+    nest-done (complains message) q z s = bare end lo
+    nest-done (advises hint) q z s = bare end lo
+    nest-done (marks m) q z s = own m (gap_of s.known) (state_of s) q
+    nest-done is_deepest q z s = bare end lo
+
+    nest-run : {A : Type 0} (p : Parser A) → Notes notes blocks p → AllNest (run l p)
+    unfolding run repeated growing nesting
+    nest-run (gives a) q z s = bare end lo
+    nest-run (does o) q z s = nest-done o q z s
+    nest-run (next p f) q z s =
+        let o = run l p z s in
+        nest-joined o (run l (f o.value) (moved o.taken z) o.state) (nest-run p q.0 z s) (nest-run (f o.value) (q.1 o.value) (moved o.taken z) o.state)
+    nest-run (pick true p r) q z s = nest-run p (q.0 refl) z s
+    nest-run (pick false p r) q z s = nest-run r (q.1 refl) z s
+    nest-run (repeat p x) q z s = nest-turns (λ y. run l (p y)) (λ y. nest-run (p y) (q y)) (suc (bound z s)) x z s
+    nest-run (wraps f begin p) q z s = nest-run p q z s
+    nest-run (grows begin p f) q z s = nest-growths (λ y. run l (f y)) (λ y. nest-run (f y) (q.1 y)) (before begin s) (suc (bound z s)) (run l p z s) z (nest-run p q.0 z s)
+    nest-run (nests f begin p x) q z s = nest-nestings f begin (λ y. run l (p y)) (λ y. nest-run (p y) (q y)) (suc (bound z s)) x z s
+    nest-run (scoped f p) q z s = nest-run p q z (entered (f s.reading) s)
+    nest-run (either p is_wrong r) q z s =
+        let o = run l p z s in
+        let u = run l r z s in
+        on_both Nest (is_wrong o.value) (given_up o u) o (nests-looks end lo (o.asks ++ u.asks)) (nest-run p q.0 z s)
+    nest-run (calls call) q z s = deep call z s
+    nest-run (block b) q z s =
+        let o = done l flushes z s in
+        let p = bounded b (l.blocks b) (moved o.taken z) o.state in
+        on_if Nest (l.has b) (joined o p) (plain tt s) (λ has. nest-joined o p (nest-hand z s) (held q b has (moved o.taken z) o.state)) (λ _. bare end lo)
+
+-- ---- at every level
+
+own-piece : (end : ℕ) (m : Mark) (gap : ℕ) (s : State) → pieces m ≡ true → Nests end 1 (marked 0 gap 0 m s ∷ [])
+own-piece end (mark.Piece line brackets) gap s e = piece end 1 0 gap 0 line brackets s [] refl (bare end 1)
+own-piece end (mark.Opens b) gap s e = absurd (cc)
+own-piece end mark.Closes gap s e = absurd (cc)
+
+module _ (k : CharClasses) where
+  block-nests : (levels : ℕ) → ((call : Call) (z : Place) (s : Point) → Nests levels 0 (meaning_of (rules k) k levels call z s).asks) → (b : Block) (z : Place) (s : Point)
+      → Nests (suc levels) 1 (blocks_of (rules k) k levels (meaning_of (rules k) k levels) b z s).asks
+  block-nests levels i b =
+      nest-run (suc levels) 1 (blockless k levels (meaning_of (rules k) k levels)) pieces true (own-piece (suc levels))
+      (λ call z s. nests-deep levels 1 _ (omega arith) (i call z s)) (λ _ b has. absurd (cc)) (peek >> block_production b) (notes-by pieces false (peek >> block_production b) (guarded-blocks pieces false b (λ _ _. refl)))
+
+  call-nests : (levels : ℕ) (call : Call) (z : Place) (s : Point) → Nests levels 0 (meaning_of (rules k) k levels call z s).asks
+  unfolding meaning_of
+  call-nests zero call z s = bare 0 0
+  call-nests (suc levels) call z s =
+      nest-run (suc levels) 0 (level_of (rules k) k levels) (λ _. false) true (λ m gap s e. absurd (cc))
+      (λ call z s. nests-deep levels 0 _ (omega arith) (call-nests levels call z s))
+      (λ _ b has z s. let o = blocks_of (rules k) k levels (meaning_of (rules k) k levels) b z (forgot s) in
+      unit (suc levels) 0 0 0 0 o.taken 0 b (state_of s) (state_of o.state) o.asks [] (omega arith) (omega arith) (block-nests levels (call-nests levels) b z (forgot s)) (bare (suc levels) 0))
+      (production k call) (notes-by (λ _. false) false (production k call) (guarded-production (λ _. false) false k call)) z s
+
+-- ---- the run of a text reads no block by itself
+
+run-eat : Notes pieces false eat
+unfolding eat eat_making
+run-eat = (refl, λ _. (refl, λ _. tt))
+
+run-skip : (stops : SyntaxKind → Bool) (n : ℕ) → Notes pieces false (skip_one stops n)
+unfolding skip_one
+run-skip stops n = (refl, λ _. (run-eat, λ _. (refl, λ _. tt)))
+
+run-deep : (stops : SyntaxKind → Bool) → Notes pieces false (too_deep stops)
+unfolding too_deep node within
+run-deep stops = ((refl, λ _. ((λ n. run-skip stops n, λ _. (refl, λ _. tt)), λ _. tt)), λ _. tt)
+
+run-deeper : (call : Call) (answer : Answer call) → Notes pieces false (deeper call answer)
+unfolding deeper
+run-deeper call answer = (refl, λ _. (λ _. (run-deep anywhere, λ _. tt), λ _. tt))
+
+run-piece : (at_start : Bool) (nesting : ℕ) → Notes pieces false (note_piece true at_start nesting)
+unfolding note_piece note
+run-piece at_start nesting = (λ _. (refl, λ _. (refl, λ _. (refl, λ _. tt))), λ _. tt)
+
+run-turn : (stops : SyntaxKind → Bool) (x : Bool × ℕ) → Notes pieces false (markup_turn true stops x)
+unfolding markup_turn
+run-turn stops x = (refl, λ _. (λ _. tt, λ _. (run-deeper _ _, λ _. (refl, λ _. (run-piece _ _, λ _. tt)))))
+
+run-whole : Notes pieces false whole
+unfolding whole markup_run flush_trivia
+run-whole = ((refl, λ _. (λ _. (refl, λ _. run-deep _), λ _. (refl, λ _. (refl, λ _. (λ x. run-turn _ x, λ _. tt))))), λ _. (refl, λ _. (refl, λ _. tt)))
+
+whole-nests : (k : CharClasses) (levels : ℕ) (z : Place) (s : Point) → Nests (suc levels) 1 (run (level_of (rules k) k levels) whole z s).asks
+whole-nests k levels =
+    nest-run (suc levels) 1 (level_of (rules k) k levels) pieces false (own-piece (suc levels))
+    (λ call z s. nests-deep levels 1 _ (omega arith) (call-nests k levels call z s)) (λ e. absurd (cc)) whole run-whole
+
+-- ---- their notes
+
+-- so many notes more, which are nested
+pub record NotedNested (lv own : ℕ) (z : Place) (ns : List Note) (h : Log) : Type 0 where
+  pub more : List Note
+  pub is : h.notes ≡ Some (ns ++ more)
+  pub nested : Nested own more
+
+pub noted-nested : (lv own : ℕ) (z : Place) (h : Log) (ns : List Note) (asks : List Ask) → own ≤ lv → h.notes ≡ Some ns → Nests (suc lv) (suc own) asks → NotedNested lv (lv - own) z ns (logged lv z h asks)
+noted-nested lv own z h ns asks low e (bare _ _) = record { more = []; is = e ∙ ap Some (sym (append-nil ns)); nested = nothing (lv - own) }
+noted-nested lv own z h ns asks low e (seen _ _ at look more g) = noted-nested lv own z (with_hull (hull_of look (moved at z)) h) ns more low e g
+noted-nested lv own z h ns asks low e (piece _ _ at gap fewer line brackets s more same g) =
+    let left = lv - fewer in
+    let note : Note = record { mark = mark.Piece line brackets; before = position (moved at z); start = position (moved gap (moved at z)); levels = left; state = s; reach = h.reach; least = h.least } in
+    let r = noted-nested lv own z (with_note gap left (mark.Piece line brackets) s (moved at z) h) (ns ++ note ∷ []) more low (noted-more note h.notes ns e) g in
+    record { more = note ∷ r.more; is = r.is ∙ ap Some (append_assoc ns (note ∷ []) r.more); nested = one_piece (lv - own) note r.more line brackets refl (omega (arith, same)) r.nested }
+noted-nested lv own z h ns asks low e (unit _ _ at gap fewer to space b s t inner later deep short g f) =
+    let left = lv - fewer in
+    let one : Note = record { mark = mark.Opens b; before = position (moved at z); start = position (moved gap (moved at z)); levels = left; state = s; reach = h.reach; least = h.least } in
+    let h1 = with_note gap left (mark.Opens b) s (moved at z) h in
+    let i = noted-nested lv fewer z h1 (ns ++ one ∷ []) inner (omega (arith, short)) (noted-more one h.notes ns e) g in
+    let h2 = logged lv z h1 inner in
+    let two : Note = record { mark = mark.Closes; before = position (moved to z); start = position (moved space (moved to z)); levels = left; state = t; reach = h2.reach; least = h2.least } in
+    let h3 = with_note space left mark.Closes t (moved to z) h2 in
+    let r = noted-nested lv own z h3 (((ns ++ one ∷ []) ++ i.more) ++ two ∷ []) later low (noted-more two h2.notes ((ns ++ one ∷ []) ++ i.more) i.is) f in
+    let flat : (((ns ++ one ∷ []) ++ i.more) ++ two ∷ []) ++ r.more ≡ ns ++ one ∷ (i.more ++ two ∷ r.more) =
+    append_assoc ((ns ++ one ∷ []) ++ i.more) (two ∷ []) r.more ∙ append_assoc (ns ++ one ∷ []) i.more (two ∷ r.more) ∙ append_assoc ns (one ∷ []) (i.more ++ two ∷ r.more) in
+    record {
+      more = one ∷ (i.more ++ two ∷ r.more);
+      is = ap (λ (x : Log). x.notes) (logged-append lv z h1 inner (marked to space fewer mark.Closes t ∷ later)) ∙ r.is ∙ ap Some flat;
+      nested = one_block (lv - own) one two i.more r.more b refl refl refl (omega (arith, low, deep, short)) i.nested r.nested;
+    }
+
+pub nested-law : NestedLaw
+unfolding log
+nested-law k text =
+    let z = start_of text in
+    let r = noted-nested max_depth 0 z no_log [] (parsed k max_depth text).asks (omega arith) refl (whole-nests k max_depth z (start_point markup_reading)) in
+    subst (λ ns. Nested max_depth ns) (sym (ap listed r.is)) r.nested
+
+-- ---- of a block
+
+pub unit-nests : (k : CharClasses) (levels : ℕ) (b : Block) (z : Place) (s : Point) → Nests (suc levels) 1 (ended (block_at k levels b z s)).asks
+unit-nests k levels b z s = block-nests k levels (call-nests k levels) b z s
+
+pub same-some : {xs ys : List Note} → Some xs ≡ Some ys → xs ≡ ys
+same-some e = ap listed e
+
+pub same-behind : (ns xs ys : List Note) → ns ++ xs ≡ ns ++ ys → xs ≡ ys
+same-behind [] xs ys e = e
+same-behind (n ∷ ns) xs ys e = same-behind ns xs ys (ap (λ zs. drop 1 zs) e)

@@ -1,0 +1,135 @@
+-- A candidate among the children at the top of a text's tree is pieces of the text's run.
+use Rattle.std.proofs.Common.{◌≡◌, ℕ, ◌+◌, ◌-◌, ◌<◌, ◌≤◌, Bool, true, false, List, [], ◌++◌, length, length-append, append_assoc, take, Some, refl, ap, sym, ◌∙◌, arith}
+use Rattle.typst_lines.specs.Place.{Place, moved}
+use Rattle.typst_lines.specs.Classes.{CharClasses}
+use Rattle.typst_tree.specs.Tree.{Tree, trees, joined}
+use Rattle.typst_tokens.specs.Sight.{width}
+use Rattle.typst_language.specs.declared.calls.Call.TheVariants.{MarkupExpr}
+use Rattle.typst_language.specs.declared.reading.Reading.{Reading}
+use Rattle.typst_language.specs.Hand.{len_at, hand_at}
+use Rattle.typst_language.specs.Point.{Trivia, gap_of}
+use Rattle.typst_language.specs.Steps.{peek}
+use Rattle.typst_language.specs.Meaning.{run}
+use Rattle.typst_language.proofs.Knot.{sane-at, sane-meaning, sane-block}
+use Rattle.typst_grammar.specs.Markup.{markup_head}
+use Rattle.typst_grammar.specs.Grammar.{rules, max_depth, level_at, start_of, tree}
+use Rattle.typst_grammar.proofs.Whole.{leaves}
+use Rattle.typst_edits.specs.CandidateRuns.{RootPiecesOfLaw}
+use Rattle.typst_edits.specs.Edit.{text_with}
+use Rattle.typst_edits.specs.Frame.{is_over}
+use Rattle.typst_edits.specs.Joint.{minds, text_run}
+use Rattle.typst_edits.specs.Leading.{bytes_of, both, token_byte}
+use Rattle.typst_edits.specs.Occurrences.{goes}
+use Rattle.typst_edits.specs.RootPieces.{root_run}
+use Rattle.typst_edits.specs.Runs.{AllGo, End, piece_at, pieces, end_at, lead, start}
+use Rattle.typst_edits.proofs.Boundary.{KnownAt}
+use Rattle.typst_edits.proofs.CandidateEnds.{begun}
+use Rattle.typst_edits.proofs.CandidateRuns.{is-cut, cut-token, picked, standing, matches, is-pieces}
+use Rattle.typst_edits.proofs.Children.{top-known}
+use Rattle.typst_edits.proofs.Cuts.{token-cuts}
+use Rattle.typst_edits.proofs.Fronts.{Begins, begins-call}
+use Rattle.typst_edits.proofs.InnerCandidates.{joined-trees}
+use Rattle.typst_edits.proofs.Leading.{turn-over}
+use Rattle.typst_edits.proofs.NoteNumbers.{go-fewer}
+use Rattle.typst_edits.proofs.OneReading.{end-split-at}
+use Rattle.typst_edits.proofs.Root.{within}
+use Rattle.typst_edits.proofs.RootCandidates.{TopCuts, cuts-of-text, pieces-parted, head-none, of-the-root}
+use Rattle.typst_edits.proofs.Walk.{width-encodes}
+use Rattle.typst_edits.proofs.Widths.{width-append, width-none}
+
+-- where no further piece goes on the run ends
+run-over : (k : CharClasses) (text : List ℕ) (n : ℕ) → AllGo (pieces k n (start_of text)) → (let e = end_at k n (start_of text) in goes (piece_at k e.value (moved e.taken (start_of text)) e.state) ≡ false)
+    → is_over 0 n (text_run k (start_of text)) ≡ true
+unfolding run
+run-over k text n g stopped =
+    let z = start_of text in
+    let r = text_run k z in
+    let sd = sane-meaning (rules k) k max_depth in
+    let sb = sane-block (rules k) k max_depth in
+    let begins_with : (h : Reading) (z : Place) (t : Trivia) (x : Bool × ℕ) → 0 < len_at k h.mode (moved t.gap z) → Begins h z t (minds (markup_head x.0 x.1 (hand_at k h (Some t) z).kind)) ((level_at k max_depth).deeper (MarkupExpr x.0 x.1)) =
+    λ h z t x more. begins-call k 255 h z t x.0 x.1 more in
+    let stands = ((sane-at (rules k) k max_depth peek).kept z start tt).known in
+    let known : KnownAt r.point = record { trivia = _; is = refl } in
+    let e = end_at k n z in
+    turn-over r sd sb refl refl begins_with stands known e.value (moved e.taken z) e.state (top-known k n z g) stopped
+
+-- ---- the bytes of its tokens
+
+module _ (k : CharClasses) (text : List ℕ) (cuts : TopCuts k text) where
+  abbrev z : Place
+  z = start_of text
+
+  abbrev kids : List Tree
+  kids = trees (tree k text).kids
+
+  abbrev byte : ℕ → ℕ
+  byte i = token_byte text (end_at k i z)
+
+  goes-to : (i : ℕ) → i ≤ cuts.count → AllGo (pieces k i z)
+  goes-to i few = go-fewer (piece_at k) (within k) i cuts.count (true, 0) z (lead k z).state few cuts.go
+
+  over : is_over 0 cuts.count (text_run k z) ≡ true
+  over = run-over k text cuts.count cuts.go cuts.over
+
+  rises : (i j : ℕ) → i < j → j ≤ cuts.count → byte i < byte j
+  rises i j less few =
+      let more = token-cuts k text i j less (goes-to j few) in
+      let there = ap (λ d. width (take d text)) (cut-token j (end_at k j z) (omega (arith, less))) in
+      omega (arith, more, there)
+
+  -- where pieces behind others end
+  both-end : (i n j : ℕ) → i + n ≡ j → token_byte text (both k i n z) ≡ byte j
+  both-end i n j sum = sym (ap (λ (e : End (Bool × ℕ)). token_byte text e) (end-split-at (text_run k z) i n)) ∙ ap byte sum
+
+  -- the last piece ends with the last child
+  all-bytes : byte cuts.count ≡ 0 + bytes_of kids
+  all-bytes =
+      let s = standing (text_run k z) cuts.count 0 cuts.count (omega arith) cuts.go (λ m g. top-known k m z g) in
+      let p = pieces-parted k text 0 tt cuts.count s.trivia cuts s.go_on s.known in
+      sym (both-end 0 cuts.count cuts.count (omega arith)) ∙ p.last (λ l. absurd (omega (arith, l))) over
+
+-- ---- the ends of the children
+
+-- together they are the text's bytes
+pub kids-bytes : (k : CharClasses) (text : List ℕ) → bytes_of (trees (tree k text).kids) ≡ width text
+kids-bytes k text =
+    let t = tree k text in
+    let held = ap length (leaves k text) in
+    let long = width-encodes text in
+    let parts = length-append t.head.text (joined t.kids) in
+    let none_more = head-none k text in
+    let side_by_side = ap length (joined-trees t.kids) in
+    omega (arith, held, long, parts, none_more, side_by_side)
+
+behind-none : (text : List ℕ) (e : End (Bool × ℕ)) → token_byte text e ≡ width (take (0 + (e.taken + gap_of e.state.known)) text)
+behind-none text e = let same : e.taken + gap_of e.state.known ≡ 0 + (e.taken + gap_of e.state.known) = omega arith in ap (λ d. width (take d text)) same
+
+-- ---- the law
+
+pub root-pieces-of-law : RootPiecesOfLaw
+root-pieces-of-law k front old rest root c same chosen no_block path =
+    let text = front ++ (old ++ rest) in
+    let z = text_with front old rest in
+    let q = text_run k z in
+    let rs = width front in
+    let re = width (front ++ old) in
+    let kids = trees (tree k text).kids in
+    let bytes = λ (i : ℕ). token_byte text (end_at k i z) in
+    let cuts = cuts-of-text k text in
+    let o = of-the-root k text rs re root c cuts same chosen no_block path in
+    let wider = width-append front old in
+    let order : rs ≤ re = omega (arith, wider) in
+    let p = picked cuts.cuts 0 kids rs re o.more order bytes cuts.count (λ b h. is-cut text (λ i. end_at k i z) cuts.count b (cuts.each b h)) (rises k text cuts) (all-bytes k text cuts) in
+    let i = p.i in
+    let n = p.j - i in
+    let up_to = p.order in
+    let few = p.few in
+    let s = standing q cuts.count i n (omega (arith, up_to, few)) cuts.go (λ m g. top-known k m z g) in
+    let parted = pieces-parted k text i s.first_go n s.trivia cuts s.go_on s.known in
+    let well = begun cuts.cuts 0 kids rs re o.more order q i n (bytes i) (token_byte text (both k i n z)) parted p.led.0 p.start (both-end k text cuts i n p.j (omega (arith, up_to)) ∙ p.end) in
+    let held = kids-bytes k text in
+    let apart = ap width (append_assoc front old rest) in
+    let longer = width-append (front ++ old) rest in
+    let m = matches k front old rest (root_run k text) c [] cuts.cuts 0 kids o order bytes cuts.count (λ i. behind-none text (end_at k i z)) p (sym width-none) (omega arith) (omega (arith, held, apart, longer)) in
+    let h = is-pieces k front old rest (root_run k text) c cuts.count i p.j m (over k text cuts) s (λ l. (well.starts l).1) in
+    record { i = i; n = n; past = h.past; t = s.trivia; is = h.is }

@@ -1,0 +1,178 @@
+-- A reading that begins with one candidate serves another one, at the top of a text's tree.
+use Rattle.std.proofs.Common.{◌≡◌, ◌↔◌, ℕ, zero, suc, ◌+◌, ◌<◌, ◌≤◌, ◌^◌, ◌-◌, ne_eqb, ◌==◌, false, List, [], ◌++◌, append_assoc, take, Some, refl, ap, sym, ◌∙◌, subst, arith}
+use Rattle.typst_lines.specs.Place.{Place}
+use Rattle.typst_lines.specs.Classes.{CharClasses}
+use Rattle.typst_tree.specs.Tree.{Tree, bare, trees}
+use Rattle.typst_tokens.specs.Sight.{width}
+use Rattle.typst_language.specs.Point.{Trivia, gap_of}
+use Rattle.typst_candidates.specs.Candidates.{Candidate}
+use Rattle.typst_candidates.specs.Entries.{entries_by, units_of, spliced}
+use Rattle.typst_grammar.specs.declared.part.RunKind.TheVariants as of
+use Rattle.typst_grammar.specs.Grammar.{max_depth, start_of, log, tree}
+use Rattle.typst_edits.specs.Answer.{candidates}
+use Rattle.typst_edits.specs.BlockTest.{entries_in, front_in, rear_in}
+use Rattle.typst_edits.specs.CandidateRuns.{IsPieces, RootPiecesOfLaw}
+use Rattle.typst_edits.specs.Edit.{Among, text_with}
+use Rattle.typst_edits.specs.Frame.{Run, cut_at, Before, Behind, PassesPieces}
+use Rattle.typst_edits.specs.InOrder.{InOrderLaw}
+use Rattle.typst_edits.specs.Joint.{text_run, PassesJoint}
+use Rattle.typst_edits.specs.NumberedNotes.{cut_behind}
+use Rattle.typst_edits.specs.RootPieces.{root_run}
+use Rattle.typst_edits.specs.Runs.{AllGo, end_at, end_from}
+use Rattle.typst_edits.specs.RunNumbers.{number_of, RunNumbers, RunNumbersLaw}
+use Rattle.typst_edits.specs.RunTest.{BeginsAt, notes_by, FoundRun}
+use Rattle.typst_edits.specs.Sequence.{Sequence, then_of, then_end}
+use Rattle.typst_edits.specs.Served.{Served}
+use Rattle.typst_edits.proofs.Children.{top-known}
+use Rattle.typst_edits.proofs.Cuts.{cuts-law}
+use Rattle.typst_edits.proofs.PiecesTest.{alike, first-goes, goes-there, then-known, run-gives-law, run-part-law}
+use Rattle.typst_edits.proofs.RootCandidates.{cuts-of-text, of-the-root, root-candidate-law}
+use Rattle.typst_edits.proofs.RootPieces.{behind-zero, cut-is, joint-of}
+use Rattle.typst_edits.proofs.RootRuns.{kids-bytes}
+use Rattle.typst_edits.proofs.RunTest.{room, before-from, behind-from, behind-to, read-now, ends-within, same-pieces, notes, to-is, part-is, begins-now}
+use Rattle.typst_edits.proofs.Served.{seated, Entered, Chosen, ReadsFrom, read_from, same-end, meets-too, served}
+use Rattle.typst_edits.proofs.Widths.{width-append}
+
+cut-behind : (k : CharClasses) (text : List ℕ) (i : ℕ) → (let z = start_of text in cut_at (root_run k text) i z ≡ cut_behind i (end_at k i z))
+cut-behind k text zero = refl
+cut-behind k text (suc i) = let e = end_at k (suc i) (start_of text) in cut-is (suc i == 0) (e.taken + gap_of e.state.known) (ne_eqb (suc i) 0 (omega arith))
+
+module _ (in_order : InOrderLaw) (k : CharClasses) (front old new rest : List ℕ) (r : RunNumbers k (front ++ (old ++ rest))) (big : width (front ++ (old ++ rest)) < 2 ^ 64 - 1) where
+  abbrev text : List ℕ
+  text = front ++ (old ++ rest)
+
+  abbrev own : Run k (front ++ (old ++ rest))
+  own = root_run k (front ++ (old ++ rest))
+
+  abbrev z : Place
+  z = text_with front old rest
+
+  abbrev w : Place
+  w = text_with front new rest
+
+  abbrev q : Sequence
+  q = text_run k z
+
+  abbrev v : Sequence
+  v = text_run k w
+
+  byte-is : (i : ℕ) → width (take (cut_at own i z) text) ≡ width (take (cut_behind i (end_at k i z)) text)
+  byte-is i = ap (λ j. width (take j text)) (cut-behind k text i)
+
+  looks-behind : (c : Candidate) (i n past : ℕ) (t : Trivia) → IsPieces k front old rest own c i n past t → 0 < n → rear_in k front old rest ≤ number_of k text (i + n) ↔ Behind k front old rest own i n past t
+  looks-behind c i zero past t p some = absurd (omega (arith, some))
+  looks-behind c i (suc n) past t p some =
+      ((λ h. behind-from in_order k front old rest c i (suc n) past t p r big (suc n) refl h), (λ h. behind-to in_order k front old rest c i (suc n) past t p r big (suc n) refl h))
+
+  reads-from : (c : Candidate) (i n past : ℕ) (t : Trivia) → IsPieces k front old rest own c i n past t → Before k front old rest own i → ReadsFrom k front old new rest own of.Text max_depth i
+  reads-from c i n past t p looks =
+      let known = λ (m : ℕ) (go : AllGo (then_of i m v)). then-known k front old new rest i m (first-goes k front old new rest i looks p.go) go in
+      record {
+        go = λ m h. goes-there k front old new rest i m p.go p.none looks h;
+        known = known;
+        alike = λ m u go is. (let a = alike k front old new rest i m u p.go p.none looks go is in record { go = a.go; sum = a.sum; value = a.value; nodes = a.nodes });
+        within = λ m go.
+            (let u = known m go in
+            let a = alike k front old new rest i m u.trivia p.go p.none looks go u.is in
+            let sum = (read-now k front old new rest i m p.go p.none looks a.go).sum in
+            let most = ends-within k (front ++ (new ++ rest)) (i + m) in
+            omega (arith, sum, most));
+      }
+
+  entered : Entered k front old new rest own of.Text max_depth 0
+  entered = record {
+    number = number_of k text;
+    count = r.count;
+    most = r.most;
+    over = r.over;
+    begins = λ i l. subst (λ b. BeginsAt (entries_in k text) 0 b (number_of k text i)) (sym (byte-is i)) (r.begins i l);
+    goes_on = λ i j some l few. subst (λ b. BeginsAt (entries_in k text) (number_of k text i) b (number_of k text j)) (sym (byte-is j)) (r.goes_on i j l few);
+    rises = r.rises;
+    last = r.last;
+    not_last = r.not_last;
+    says = r.says;
+    cuts = λ i j l go. (let less = cuts-law k text i j l go in let one = byte-is i in let two = byte-is j in omega (arith, less, one, two));
+    known = λ i go. top-known k i z go;
+    meets = λ m x y h. tt;
+    met = λ m x y h block. absurd (let no : of.Text ≡ of.Block = block in cc);
+    room = λ c i n past t p. room in_order k front old rest c i n past t p r big;
+    before = λ c i n past t p l. before-from in_order k front old rest c i n past t p r big l;
+    behind = looks-behind;
+    reads = λ c i n past t p some looks. reads-from c i n past t p looks;
+  }
+
+  -- ---- a candidate
+
+  module _ (root : Tree) (c : Candidate) (same : bare root ≡ bare (tree k (front ++ (old ++ rest)))) (chosen : Among c (candidates k (front ++ (old ++ rest)) (width front) (width (front ++ old)) root)) (whole : c.is_block ≡ false) (at_root : c.path ≡ [])
+      (i n past : ℕ) (t : Trivia) (p : IsPieces k front old rest (root_run k (front ++ (old ++ rest))) c i n past t) (big_new : width (front ++ (new ++ rest)) < 2 ^ 64 - 1) where
+    -- the new pieces behind d old ones are joined to what is behind
+    joined : (d left m : ℕ) (u : Trivia) (first : Candidate) → n ≡ d + left → IsPieces k front old rest own first (i + d) left past t → Before k front old rest own (i + d) → Behind k front old rest own (i + d) left past t
+        → AllGo (then_of (i + d) m v) → PassesPieces k front old new rest own i n (d + m) past t u → PassesJoint k front old new rest (i + d) left m past t u
+    joined d left m u first sum f looks behind go h =
+        let well = root-candidate-law k front old new rest root c i n (d + m) past t u same chosen whole at_root p.start p.led p.end h in
+        let all = joint-of k front old new rest i n (d + m) past t u h well.goes_on in
+        let was = same-end q i n (i + d) left (omega (arith, sum)) in
+        let now = same-end v i (d + m) (i + d) m (omega arith) in
+        let taken = now.taken in
+        let shifted = all.shifted in
+        record {
+          first_go = f.go;
+          old_go = f.go_on;
+          new_go = go;
+          before = looks;
+          ends = behind-zero ((end_at k (i + d) z).taken + (end_from k (i + d) left z).taken) t.gap _ f.ends;
+          after = behind;
+          shifted = omega (arith, taken, shifted);
+          meets = meets-too q _ _ (then_end i n q) (then_end (i + d) left q) (then_end i (d + m) v) (then_end (i + d) m v) t u was.place was.value was.state now.value now.state all.meets;
+        }
+
+    units-of-part : (first : Candidate) (d left m : ℕ) (u : Trivia) → 0 < d → n ≡ d + left → 0 < left → IsPieces k front old rest own first (i + d) left past t → Before k front old rest own (i + d) → Behind k front old rest own (i + d) left past t
+        → AllGo (then_of (i + d) m v) → (then_end (i + d) m v).state.known ≡ Some u → PassesPieces k front old new rest own i n (d + m) past t u
+        → units_of (log k (front ++ (new ++ rest))) ≡ spliced (number_of k text (i + d)) (number_of k text (i + n)) (entries_by first.start (notes_by k (read_from k front old new rest own of.Text max_depth (i + d)) m)) (units_of (log k text))
+    units-of-part first d left m u some sum more f looks behind go known h =
+        let mid = i + d in
+        let units = units_of (log k text) in
+        let joint = joined d left m u first sum f looks behind go h in
+        let e = notes in_order k front old rest first mid left past t f r big in
+        let at : mid + left ≡ i + n = omega (arith, sum) in
+        let to = to-is in_order k front old rest first mid left past t f r big ∙ ap (number_of k text) at in
+        let there = read_from k front old new rest own of.Text max_depth mid in
+        let part = part-is k front old new rest mid m f.go f.none looks go ∙ ap (λ a. entries_by a (notes_by k there m)) (begins-now in_order k front old new rest root first mid left past t f r big) in
+        run-part-law k front old new rest mid left m past t u joint (λ none. absurd (omega (arith, none, some))) (λ none. absurd (omega (arith, none, some))) big big_new e
+        ∙ (λ a. spliced (e.from a) (to a) (part a) units)
+
+    candidate-of : Chosen k front old new rest own of.Text max_depth 0 entered c i n past t
+    unfolding entered
+    candidate-of =
+        let cuts = cuts-of-text k text in
+        let kids = trees (tree k text).kids in
+        let held = kids-bytes k text in
+        let apart = ap width (append_assoc front old rest) in
+        let longer = width-append (front ++ old) rest in
+        record {
+          is = p;
+          whole = whole;
+          path = sym at_root;
+          seat = seated front old [] 0 kids cuts.cuts c (of-the-root k text (width front) (width (front ++ old)) root c cuts same chosen whole at_root) (omega (arith, held, apart, longer));
+          passes = λ ts h.
+              (let g = (run-gives-law k front old new rest root c ts same chosen whole at_root).0 h in
+              let x = same-pieces in_order k front old new rest root c i n past t p r big ts g in
+              (g.m, x.behind, x.passes, x.are));
+          units = units-of-part;
+        }
+
+-- at the root a reading serves
+pub root-served : InOrderLaw → RunNumbersLaw → RootPiecesOfLaw → (k : CharClasses) (front old new rest : List ℕ) (root : Tree) (first c : Candidate) → bare root ≡ bare (tree k (front ++ (old ++ rest)))
+    → Among first (candidates k (front ++ (old ++ rest)) (width front) (width (front ++ old)) root) → Among c (candidates k (front ++ (old ++ rest)) (width front) (width (front ++ old)) root)
+    → first.is_block ≡ false → c.is_block ≡ false → first.path ≡ [] → c.path ≡ [] → c.start ≤ first.start
+    → width (front ++ (old ++ rest)) < 2 ^ 64 - 1 → width (front ++ (new ++ rest)) < 2 ^ 64 - 1
+    → (f : FoundRun k front old new rest first of.Text max_depth 0) (g : FoundRun k front old new rest c of.Text max_depth 0)
+    → f.from < front_in k front old rest → Served k front old new rest root of.Text max_depth 0 first c f g
+root-served in_order numbers pieces k front old new rest root first c same among_first among whole_first whole at_first at l big big_new f g begun =
+    let r = numbers k (front ++ (old ++ rest)) in
+    let p = pieces k front old rest root c same among whole at in
+    let p0 = pieces k front old rest root first same among_first whole_first at_first in
+    let e = entered in_order k front old new rest r big in
+    served k front old new rest (root_run k (front ++ (old ++ rest))) of.Text max_depth 0 e root same first c p.i p.n p.past p0.n p0.past p.t p0.t
+    (candidate-of in_order k front old new rest r big root c same among whole at p.i p.n p.past p.t p.is big_new) f g begun p0.i
+    (candidate-of in_order k front old new rest r big root first same among_first whole_first at_first p0.i p0.n p0.past p0.t p0.is big_new) l

@@ -1,0 +1,52 @@
+-- Where a run that is read by itself ends, no more pieces go on.
+use Rattle.std.proofs.Common.{◌≡◌, ℕ, zero, suc, ◌<◌, ◌≤◌, Bool, true, false, nat_lt, sym, ◌∙◌, arith}
+use Rattle.typst_lines.specs.Place.{moved}
+use Rattle.typst_lines.specs.Classes.{CharClasses}
+use Rattle.typst_language.specs.declared.calls.Block.{Block}
+use Rattle.typst_language.specs.Meaning.{Meaning, Level, run}
+use Rattle.typst_language.specs.Sound.{Within}
+use Rattle.typst_language.proofs.Knot.{Sane, sane-run, sane-meaning, sane-block, sane-plain}
+use Rattle.typst_grammar.specs.declared.part.RunKind.{RunKind}
+use Rattle.typst_grammar.specs.declared.part.RunKind.TheVariants as of
+use Rattle.typst_grammar.specs.Grammar.{rules}
+use Rattle.typst_grammar.specs.Markup.{markup_turn}
+use Rattle.typst_grammar.specs.Pieces.{AllGo, run_level, stops_of, blocks_in, first_look, end_on}
+use Rattle.typst_grammar.specs.Part.{IsOver}
+use Rattle.typst_edits.specs.RunTest.{Reading, read_by, OverLaw}
+use Rattle.typst_edits.proofs.Boundary.{first-of, stopped-is}
+use Rattle.typst_edits.proofs.NoteNumbers.{go-fewer, go-next}
+
+no-more : (m j : ℕ) → (m < j → ⊥) → j ≤ m
+no-more m zero f = omega arith
+no-more zero (suc j) f = absurd (f (omega arith))
+no-more (suc m) (suc j) f = let i = no-more m j (λ l. f (omega (arith, l))) in omega (arith, i)
+
+sane-in : (k : CharClasses) (levels : ℕ) (which : RunKind) (b : Block) → Sane (blocks_in k levels which b)
+sane-in k levels of.Text b = sane-block (rules k) k levels b
+sane-in k levels of.Block b = sane-plain tt
+
+module _ (k : CharClasses) (r : Reading) where
+  abbrev level : Level
+  level = run_level k r.levels r.which
+
+  abbrev turn : Bool × ℕ → Meaning (Bool × (Bool × ℕ))
+  turn x = run level (markup_turn true (stops_of r.which) x)
+
+  within : (x : Bool × ℕ) → Within (turn x)
+  within x = (sane-run level (sane-meaning (rules k) k r.levels) (sane-in k r.levels r.which) (markup_turn true (stops_of r.which) x)).within
+
+  -- fewer pieces go on, too
+  pub fewer-go : (m j : ℕ) → m ≤ j → AllGo (read_by k r j) → AllGo (read_by k r m)
+  fewer-go m j l g = go-fewer turn within m j r.carried r.place (first_look level r.place).state l g
+
+  none-behind : (m j : ℕ) → IsOver k r.levels r.which r.carried r.place m → AllGo (read_by k r j) → m < j → ⊥
+  none-behind m j over go l =
+      let s = (first_look level r.place).state in
+      let e = end_on level (stops_of r.which) r.carried m r.place in
+      let o = turn e.value (moved e.taken r.place) e.state in
+      let on = first-of o.value.0 (nat_lt 0 o.taken) (go-next turn within m r.carried r.place s (fewer-go (suc m) j l go)) in
+      let stopped : o.value.0 ≡ false = stopped-is level (stops_of r.which) e.value (moved e.taken r.place) e.state over in
+      let no : true ≡ false = sym on ∙ stopped in cc
+
+pub over-law : OverLaw
+over-law k r m j over go = no-more m j (none-behind k r m j over go)

@@ -1,0 +1,750 @@
+-- A reading that begins with one candidate serves another one of its run: for any run.
+use Rattle.std.proofs.Common.{◌≡◌, ◌⊎◌, inl, inr, ◌↔◌, ℕ, zero, suc, ◌+◌, ◌-◌, ◌<◌, ◌≤◌, ◌==◌, ne_eqb, if◌then◌else◌, min, Bool, true, false, List, [], ◌∷◌, ◌++◌, length, take, length-append, Option, None, Some, refl, ap, sym, ◌∙◌, subst, arith}
+use Rattle.std.proofs.lemmas.Bool.{eqb-true, eqb-false}
+use Rattle.std.proofs.lemmas.List.{take-append-le}
+use Rattle.std.specs.List.{slice_get}
+use Rattle.typst_lines.specs.Place.{Place, moved}
+use Rattle.typst_lines.specs.Classes.{CharClasses}
+use Rattle.typst_tree.specs.Tree.{Tree, bare, text_of}
+use Rattle.typst_tree.specs.Replace.{replaced_at}
+use Rattle.typst_tokens.specs.Sight.{width, position}
+use Rattle.typst_language.specs.Point.{Trivia, gap_of}
+use Rattle.typst_language.proofs.Places.{moved-min}
+use Rattle.typst_candidates.specs.declared.entry.Entry.{Entry}
+use Rattle.typst_candidates.specs.declared.entry.Tag.{Tag}
+use Rattle.typst_candidates.specs.declared.entry.Tag.TheVariants as tag
+use Rattle.typst_candidates.specs.Candidates.{Candidate, begins}
+use Rattle.typst_candidates.specs.Entries.{entries_by, units_of, spliced}
+use Rattle.typst_grammar.specs.declared.part.RunKind.{RunKind}
+use Rattle.typst_grammar.specs.declared.part.RunKind.TheVariants as of
+use Rattle.typst_grammar.specs.Grammar.{start_of, log, tree}
+use Rattle.typst_grammar.specs.Pieces.{run_level, stops_of, end_on}
+use Rattle.typst_edits.specs.BlockTest.{entries_in, front_in, rear_in}
+use Rattle.typst_edits.specs.CandidateRuns.{IsPieces}
+use Rattle.typst_edits.specs.Edit.{text_with}
+use Rattle.typst_edits.specs.Frame.{Run, read_as, opened_by, end_by, cut_at, is_over, nodes_now, path_to, Agrees, Before, Behind, PassesPieces, Gives, of_pieces}
+use Rattle.typst_edits.specs.Joint.{Meets as MeetsBehind}
+use Rattle.typst_edits.specs.KeptNodes.{kids_of_run, run_from, StandsBetween}
+use Rattle.typst_edits.specs.Leading.{bytes_of}
+use Rattle.typst_edits.specs.OneReading.{TakesNone, ServesMore}
+use Rattle.typst_edits.specs.RootPieces.{StandsAt}
+use Rattle.typst_edits.specs.Runs.{AllGo, End}
+use Rattle.typst_edits.specs.RunTest.{Reading, reading_on, read_by, carried_by, byte_behind, nodes_by, notes_by, SaysPiece, IsLast, BeginsAt, Ends, LooksFrom, PassesRead, FoundRun}
+use Rattle.typst_edits.specs.RunTest.Ends.{some as apart, none as at_once}
+use Rattle.typst_edits.specs.RunTest.LooksFrom.{pieces as from_pieces, closing as from_closing, nothing as from_nothing}
+use Rattle.typst_edits.specs.Sequence.{Sequence, first_of, first_end, then_of, then_end, then_place}
+use Rattle.typst_edits.specs.Served.{MeetsOn, PassesOn, reading_of, Served}
+use Rattle.typst_edits.proofs.BlockPlaces.{take-same}
+use Rattle.typst_edits.proofs.BlockTest.{byte-of, byte-at}
+use Rattle.typst_edits.proofs.Boundary.{KnownAt}
+use Rattle.typst_edits.proofs.CandidateEnds.{child-at, stands, from-there, from-full, from-early, to-late}
+use Rattle.typst_edits.proofs.EntryNumbers.{some-number}
+use Rattle.typst_edits.proofs.KeptNodes.{put-behind-law}
+use Rattle.typst_edits.proofs.MarkupCandidates.{OfStretch}
+use Rattle.typst_edits.proofs.NoteNumbers.{neither}
+use Rattle.typst_edits.proofs.OneReading.{first-split, end-split-at, later-place, go-first, go-second, go-both, one-reading-law}
+use Rattle.typst_edits.proofs.RootPieces.{take-past}
+use Rattle.typst_edits.proofs.Widths.{width-append}
+
+-- ---- among the children
+
+begins-less : (at : ℕ) (ts : List Tree) (n : ℕ) → at ≤ begins at ts n
+begins-less at [] n = omega arith
+begins-less at (t ∷ ts) zero = omega arith
+begins-less at (t ∷ ts) (suc n) = let more = begins-less (at + length (text_of t)) ts n in omega (arith, more)
+
+begins-on : (at : ℕ) (ts : List Tree) (m n : ℕ) → m ≤ n → begins at ts m ≤ begins at ts n
+begins-on at [] m n l = omega arith
+begins-on at (t ∷ ts) zero n l = begins-less at (t ∷ ts) n
+begins-on at (t ∷ ts) (suc m) zero l = absurd (omega (arith, l))
+begins-on at (t ∷ ts) (suc m) (suc n) l = begins-on (at + length (text_of t)) ts m n (omega (arith, l))
+
+-- A candidate is children of a run around a stretch, and the first of them isn't empty, but the first of all.
+pub record Seated (front old : List ℕ) (at : ℕ) (ts : List Tree) (c : Candidate) : Type 0 where
+  pub there : 0 < c.from → c.from < length ts
+  pub full : (some : 0 < c.from) → 0 < length (text_of (child-at at ts c.from (there some)).node)
+  pub begin : c.start ≡ begins at ts c.from
+  pub end : c.end ≡ begins at ts c.to
+  pub early : 0 < c.from → c.start < width front
+  pub late : width (front ++ old) ≤ c.end
+
+pub seated : (front old : List ℕ) (path : List ℕ) (at : ℕ) (ts : List Tree) (cuts : List ℕ) (c : Candidate) → OfStretch (width front) (width (front ++ old)) path at ts cuts c → width (front ++ old) ≤ at + bytes_of ts → Seated front old at ts c
+seated front old path at ts cuts c o all =
+    let rs = width front in
+    let re = width (front ++ old) in
+    let wider = width-append front old in
+    let order : rs ≤ re = omega (arith, wider) in
+    subst (λ d. Seated front old at ts d) (sym o.is) (record {
+      there = from-there cuts at ts rs re o.more order;
+      full = from-full cuts at ts rs re o.more order;
+      begin = refl;
+      end = refl;
+      early = from-early cuts at ts rs re o.more order;
+      late = to-late cuts at ts rs re o.more order all;
+    })
+
+module _ (front old : List ℕ) (at : ℕ) (ts : List Tree) (c d : Candidate) (s : Seated front old at ts c) (o : Seated front old at ts d) where
+  -- a candidate ends behind the child where another one begins
+  pub seats-in-order : d.from ≤ c.to
+  seats-in-order = at-most d.from c.to (λ l.
+      (let back = begins-on at ts c.to d.from (omega (arith, l)) in
+      let early = o.early (omega (arith, l)) in
+      let late = s.late in
+      let begin = o.begin in
+      let end = s.end in
+      let wider = width-append front old in
+      omega (arith, back, early, late, begin, end, wider)))
+    where
+      at-most : (m n : ℕ) → (n < m → ⊥) → m ≤ n
+      at-most zero n f = omega arith
+      at-most (suc m) zero f = absurd (f (omega arith))
+      at-most (suc m) (suc n) f = let i = at-most m n (λ l. f (omega (arith, l))) in omega (arith, i)
+
+  not-before : c.start ≡ d.start → 0 < c.from → c.from < d.from → ⊥
+  not-before same some l =
+      let x = child-at at ts c.from (s.there some) in
+      let past = x.past d.from l in
+      let full = s.full some in
+      let one = x.begin in
+      let begin = s.begin in
+      let other = o.begin in
+      omega (arith, past, full, one, begin, other, same)
+
+pub seat-stands : (front old : List ℕ) (at : ℕ) (ts : List Tree) (c : Candidate) → Seated front old at ts c → 0 < c.from → StandsAt at ts c.from c.start
+seat-stands front old at ts c s some = subst (λ b. StandsAt at ts c.from b) (sym s.begin) (stands at ts c.from (child-at at ts c.from (s.there some)) (s.full some))
+
+-- two that begin at one byte begin with the same child
+pub one-seat : (front old : List ℕ) (at : ℕ) (ts : List Tree) (c d : Candidate) → Seated front old at ts c → Seated front old at ts d → c.start ≡ d.start → (0 < c.from ↔ 0 < d.from) → c.from ≡ d.from
+one-seat front old at ts c d s o same both =
+    neither c.from d.from (λ l. not-before front old at ts c d s o same (both.1 (omega (arith, l))) l) (λ l. not-before front old at ts d c o s (sym same) (both.0 (omega (arith, l))) l)
+
+-- ---- what entries say
+
+abbrev entry_or : Entry → Option Entry → Entry
+entry_or e None = e
+entry_or e (Some f) = f
+
+abbrev line_in : Bool → Tag → Bool
+line_in b (tag.Piece line) = line
+line_in b _ = b
+
+-- an entry says one thing
+says-once : (es : List Entry) (a b : ℕ) (x y : Bool × ℕ) → SaysPiece es a x → SaysPiece es b y → a ≡ b → x ≡ y
+says-once es a b x y s o e =
+    let same : s.entry ≡ o.entry = ap (entry_or s.entry) (sym s.is ∙ ap (slice_get es) e ∙ o.is) in
+    let line : x.0 ≡ y.0 = ap (line_in x.0) (sym s.tag ∙ ap (λ (n : Entry). n.tag) same ∙ o.tag) in
+    let count : x.1 ≡ y.1 = sym s.count ∙ ap (λ (n : Entry). n.count) same ∙ o.count in
+    (λ j. (line j, count j))
+
+-- where as many bytes were passed the same place is
+one-place : (a b : ℕ) (text : List ℕ) → b ≤ length text → position (moved a (start_of text)) ≡ width (take b text) → moved a (start_of text) ≡ moved b (start_of text)
+one-place a b text l e =
+    let most = min-most a (length text) in
+    let there = moved-min a (start_of text) in
+    let same = take-same (min a (length text)) b text most l (sym (byte-at (min a (length text)) text) ∙ ap position there ∙ e) in
+    sym there ∙ ap (λ n. moved n (start_of text)) same
+  where
+    min-most : (m n : ℕ) → min m n ≤ n
+    min-most m n = omega arith
+
+less-than : (a b : ℕ) → a ≤ b → (a ≡ b → ⊥) → a < b
+less-than zero zero l f = absurd (f refl)
+less-than zero (suc b) l f = omega arith
+less-than (suc a) zero l f = absurd (omega (arith, l))
+less-than (suc a) (suc b) l f = let i = less-than a b (omega (arith, l)) (λ e. f (ap suc e)) in omega (arith, i)
+
+right-of : {A B : Type 0} → (A → ⊥) → A ⊎ B → B
+right-of f (inl a) = absurd (f a)
+right-of f (inr b) = b
+
+-- ---- pieces that end at the same place
+
+-- where as many pieces end is one end, however they are counted
+pub record SameEnd (q : Sequence) (i n j m : ℕ) : Type 0 where
+  pub value : (then_end i n q).value ≡ (then_end j m q).value
+  pub state : (then_end i n q).state ≡ (then_end j m q).state
+  pub place : then_place i n q ≡ then_place j m q
+  pub taken : (first_end i q).taken + (then_end i n q).taken ≡ (first_end j q).taken + (then_end j m q).taken
+
+pub same-end : (q : Sequence) (i n j m : ℕ) → i + n ≡ j + m → SameEnd q i n j m
+same-end q i n j m sum =
+    let one = end-split-at q i n in
+    let two = end-split-at q j m in
+    let taken : (first_end i q).taken + (then_end i n q).taken ≡ (first_end j q).taken + (then_end j m q).taken =
+    sym (ap (λ (e : End (Bool × ℕ)). e.taken) one) ∙ ap (λ x. (first_end x q).taken) sum ∙ ap (λ (e : End (Bool × ℕ)). e.taken) two in
+    record {
+      value = sym (ap (λ (e : End (Bool × ℕ)). e.value) one) ∙ ap (λ x. (first_end x q).value) sum ∙ ap (λ (e : End (Bool × ℕ)). e.value) two;
+      state = sym (ap (λ (e : End (Bool × ℕ)). e.state) one) ∙ ap (λ x. (first_end x q).state) sum ∙ ap (λ (e : End (Bool × ℕ)). e.state) two;
+      place = sym (later-place q i n) ∙ ap (λ x. moved x q.place) taken ∙ later-place q j m;
+      taken = taken;
+    }
+
+-- what meets behind them in two texts meets however they are counted
+pub meets-too : (r : Sequence) (y x : Place) (e o f g : End (Bool × ℕ)) (t u : Trivia) → y ≡ x → e.value ≡ o.value → e.state ≡ o.state → f.value ≡ g.value → f.state ≡ g.state → MeetsBehind r y e f t u → MeetsBehind r x o g t u
+meets-too r y x e o f g t u place value state value_now state_now h =
+    let there = subst (λ p. MeetsBehind r p e f t u) place h in
+    let one = subst (λ v. MeetsBehind r x (record e { value = v }) f t u) value there in
+    let two = subst (λ s. MeetsBehind r x (record e { value = o.value; state = s }) f t u) state one in
+    let three = subst (λ v. MeetsBehind r x (record e { value = o.value; state = o.state }) (record f { value = v }) t u) value_now two in
+    let four = subst (λ s. MeetsBehind r x (record e { value = o.value; state = o.state }) (record f { value = g.value; state = s }) t u) state_now three in
+    record { known = four.known; known_now = four.known_now; value = four.value; over = four.over; errors = four.errors }
+
+-- ---- a run, read by itself
+
+-- behind some pieces of a run the next begins at its first token
+cut-some : {k : CharClasses} {text : List ℕ} (r : Run k text) (i : ℕ) (z : Place) → 0 < i → (let e = first_end i (read_as r z) in cut_at r i z ≡ opened_by r z + (e.taken + gap_of e.state.known))
+cut-some {k} {text} r i z l =
+    let e = first_end i (read_as r z) in
+    ap (λ b. opened_by r z + (if b then 0 else e.taken + gap_of e.state.known)) (ne_eqb i 0 (omega (arith, l)))
+
+module _ (k : CharClasses) (front old new rest : List ℕ) (r : Run k (front ++ (old ++ rest))) (which : RunKind) (levels : ℕ) where
+  abbrev text : List ℕ
+  text = front ++ (old ++ rest)
+
+  abbrev now : List ℕ
+  now = front ++ (new ++ rest)
+
+  abbrev z : Place
+  z = text_with front old rest
+
+  abbrev w : Place
+  w = text_with front new rest
+
+  abbrev q : Sequence
+  q = read_as r z
+
+  abbrev v : Sequence
+  v = read_as r w
+
+  abbrev es : List Entry
+  es = entries_in k text
+
+  -- how the pieces behind i are read by themselves on the new text
+  abbrev pub read_from : ℕ → Reading
+  read_from i = reading_on which levels (first_end i q).value (moved (cut_at r i z) w)
+
+  -- so many characters stand before the token behind m of them
+  abbrev pub far_by : ℕ → ℕ → ℕ
+  far_by i m = let x = read_from i in let e = end_on (run_level k levels which) (stops_of which) x.carried m x.place in cut_at r i z + (e.taken + gap_of e.state.known)
+
+  -- m pieces that are read by themselves are those of the new text's run
+  pub record AlikeBy (i m : ℕ) (u : Trivia) : Type 0 where
+    pub go : AllGo (read_by k (read_from i) m)
+    pub sum : end_by r i m u w ≡ far_by i m
+    pub value : (then_end i m v).value ≡ carried_by k (read_from i) m
+    pub nodes : nodes_now r i m u w ≡ nodes_by k (read_from i) m
+
+  pub record ReadsFrom (i : ℕ) : Type 0 where
+    pub go : (m : ℕ) → AllGo (read_by k (read_from i) m) → AllGo (then_of i m v)
+    pub known : (m : ℕ) → AllGo (then_of i m v) → KnownAt (then_end i m v).state
+    pub alike : (m : ℕ) (u : Trivia) → AllGo (then_of i m v) → (then_end i m v).state.known ≡ Some u → AlikeBy i m u
+    pub within : (m : ℕ) → AllGo (then_of i m v) → far_by i m ≤ length now
+
+  -- What is known of a run's pieces by the numbers of their entries.
+  pub record Entered (entry : ℕ) : Type 0 where
+    pub number : ℕ → ℕ
+    pub count : ℕ
+    pub most : (i : ℕ) → AllGo (first_of i q) → i ≤ count
+    pub over : (i n : ℕ) → i + n ≤ count → is_over i n q ≡ (i + n == count)
+    pub begins : (i : ℕ) → i ≤ count → BeginsAt es entry (width (take (cut_at r i z) text)) (number i)
+    pub goes_on : (i j : ℕ) → 0 < j → i ≤ j → j ≤ count → BeginsAt es (number i) (width (take (cut_at r j z) text)) (number j)
+    pub rises : (i j : ℕ) → i < j → j ≤ count → number i < number j
+    pub last : IsLast es (number count)
+    pub not_last : (i : ℕ) → i < count → IsLast es (number i) → ⊥
+    pub says : (i : ℕ) → i ≤ count → SaysPiece es (number i) (first_end i q).value
+    pub cuts : (i j : ℕ) → i < j → AllGo (first_of j q) → width (take (cut_at r i z) text) < width (take (cut_at r j z) text)
+    pub known : (i : ℕ) → AllGo (first_of i q) → KnownAt (first_end i q).state
+    -- where its end is met
+    pub meets : (m : ℕ) (x y : Bool × ℕ) → (which ≡ of.Block → y.1 ≡ x.1) → Agrees r true m x y
+    pub met : (m : ℕ) (x y : Bool × ℕ) → Agrees r true m x y → which ≡ of.Block → y.1 ≡ x.1
+    -- of a candidate that is pieces of it
+    pub room : (c : Candidate) (i n past : ℕ) (t : Trivia) → IsPieces k front old rest r c i n past t → past ≤ length rest
+    pub before : (c : Candidate) (i n past : ℕ) (t : Trivia) → IsPieces k front old rest r c i n past t → number i < front_in k front old rest → Before k front old rest r i
+    pub behind : (c : Candidate) (i n past : ℕ) (t : Trivia) → IsPieces k front old rest r c i n past t → 0 < n → rear_in k front old rest ≤ number (i + n) ↔ Behind k front old rest r i n past t
+    pub reads : (c : Candidate) (i n past : ℕ) (t : Trivia) → IsPieces k front old rest r c i n past t → 0 < i → Before k front old rest r i → ReadsFrom i
+
+  -- What is known of one candidate that is pieces of the run.
+  pub record Chosen (entry : ℕ) (e : Entered entry) (c : Candidate) (i n past : ℕ) (t : Trivia) : Type 0 where
+    pub is : IsPieces k front old rest r c i n past t
+    pub whole : c.is_block ≡ false
+    pub path : path_to r ≡ c.path
+    pub seat : Seated front old (run_from r) (kids_of_run r) c
+    -- however it passes, its pieces are these
+    pub passes : (ts : List Tree) → Gives k front old new rest c ts → ((m : ℕ) × (u : Trivia) × PassesPieces k front old new rest r i n m past t u × (ts ≡ nodes_now r i m u w))
+    -- where the pieces behind d more are read by themselves, and it passes, the entries from there on are exchanged
+    pub units : (first : Candidate) (d left m : ℕ) (u : Trivia) → 0 < d → n ≡ d + left → 0 < left → IsPieces k front old rest r first (i + d) left past t → Before k front old rest r (i + d) → Behind k front old rest r (i + d) left past t
+        → AllGo (then_of (i + d) m v) → (then_end (i + d) m v).state.known ≡ Some u → PassesPieces k front old new rest r i n (d + m) past t u
+        → units_of (log k now) ≡ spliced (e.number (i + d)) (e.number (i + n)) (entries_by first.start (notes_by k (read_from (i + d)) m)) (units_of (log k text))
+
+  -- ---- the numbers that are found
+
+  module _ (entry : ℕ) (e : Entered entry) (c : Candidate) (i n past : ℕ) (t : Trivia) (p : IsPieces k front old rest r c i n past t) where
+    first-go : AllGo (first_of (i + n) q)
+    first-go = subst (λ os. AllGo os) (sym (first-split q i n)) (go-both (first_of i q) (then_of i n q) p.go p.go_on)
+
+    fits : i + n ≤ e.count
+    fits = e.most (i + n) first-go
+
+    some-in : (n : ℕ) → (n ≡ 0 → ⊥) → 0 < n
+    some-in zero f = absurd (f refl)
+    some-in (suc n) f = omega arith
+
+    -- without a piece it is the run's end
+    none-last : n ≡ 0 → IsLast es (e.number i)
+    none-last none =
+        let alone = p.empty none in
+        let over = sym (e.over 0 0 (omega arith)) ∙ alone.1 in
+        let count : 0 ≡ e.count = eqb-true 0 e.count over in
+        subst (λ j. IsLast es (e.number j)) (sym count ∙ sym alone.0) e.last
+
+    some-more : (IsLast es (e.number i) → ⊥) → 0 < n
+    some-more f = some-in n (λ none. f (none-last none))
+
+    none-more : IsLast es (e.number i) → n ≡ 0
+    none-more last = by n refl
+      where
+        by : (m : ℕ) → n ≡ m → n ≡ 0
+        by zero is = is
+        by (suc m) is = let all = fits in absurd (e.not_last i (omega (arith, all, is)) last)
+
+    -- where its end is by characters
+    end-chars : 0 < i + n → cut_at r (i + n) z ≡ (length front + length old) + past
+    end-chars some =
+        let split = end-split-at q i n in
+        let taken = ap (λ (u : End (Bool × ℕ)). u.taken) split in
+        let gap = ap (λ (u : End (Bool × ℕ)). gap_of u.state.known) split ∙ ap gap_of p.known in
+        let ends = p.ends in
+        let cut = cut-some r (i + n) z some in
+        omega (arith, taken, gap, ends, cut)
+
+    end-byte : 0 < i + n → c.end ≡ width (take (cut_at r (i + n) z) text)
+    end-byte some = p.end ∙ sym (ap width (take-past front old rest past (cut_at r (i + n) z) (end-chars some)))
+
+    ends-are : (a b : ℕ) → Ends es entry c a b → (a ≡ e.number i) × (b ≡ e.number (i + n))
+    ends-are a b (apart from to at more behind less) =
+        let all = fits in
+        let first : a ≡ e.number i = some-number from (e.number i) (sym at ∙ subst (λ d. BeginsAt es entry d (e.number i)) (sym p.start) (e.begins i (omega (arith, all)))) in
+        let some = some-more (λ l. more (subst (λ j. IsLast es j) (sym first) l)) in
+        let there = subst (λ d. BeginsAt es (e.number i) d (e.number (i + n))) (sym (end-byte (omega (arith, some)))) (e.goes_on i (i + n) (omega (arith, some)) (omega arith) all) in
+        (first, some-number to (e.number (i + n)) (sym behind ∙ subst (λ j. BeginsAt es j c.end (e.number (i + n))) (sym first) there))
+    ends-are a b (at_once from at last) =
+        let all = fits in
+        let first : a ≡ e.number i = some-number from (e.number i) (sym at ∙ subst (λ d. BeginsAt es entry d (e.number i)) (sym p.start) (e.begins i (omega (arith, all)))) in
+        let none = none-more (subst (λ j. IsLast es j) first last) in
+        let sum : i ≡ i + n = omega (arith, none) in
+        (first, first ∙ ap e.number sum)
+
+    looks-are : (from to a : ℕ) → LooksFrom es which from to a → from ≡ e.number i → 0 < n → a ≡ to
+    looks-are from to a (from_pieces more) is some = refl
+    looks-are from to a (from_closing number last block closes) is some = let none = none-more (subst (λ j. IsLast es j) is last) in absurd (omega (arith, none, some))
+    looks-are from to a (from_nothing number last own far) is some = let none = none-more (subst (λ j. IsLast es j) is last) in absurd (omega (arith, none, some))
+
+  -- ---- where the reading begins behind d more pieces
+
+  -- what a reading says of a candidate, by numbers
+  pub record Keys : Type 0 where
+    pub reading : Reading
+    pub mid : ℕ
+    pub from : ℕ
+    pub to : ℕ
+    pub looks : ℕ
+    pub carried_end : Bool × ℕ
+
+  pub record ServedBy (root : Tree) (first c : Candidate) (x : Keys) : Type 0 where
+    pub earlier : x.from ≤ x.mid
+    pub until : x.mid ≤ x.to
+    pub gives : (ts : List Tree) → Gives k front old new rest c ts
+        → ((m : ℕ) × PassesOn k front old new rest first c x.reading x.to x.looks x.carried_end m × (replaced_at c.path c.from c.to ts root ≡ replaced_at c.path first.from c.to (nodes_by k x.reading m) root))
+    pub gives_too : (m : ℕ) → PassesOn k front old new rest first c x.reading x.to x.looks x.carried_end m
+        → ((ts : List Tree) × Gives k front old new rest c ts × (replaced_at c.path c.from c.to ts root ≡ replaced_at c.path first.from c.to (nodes_by k x.reading m) root))
+    pub units : (m : ℕ) → PassesOn k front old new rest first c x.reading x.to x.looks x.carried_end m
+        → (which ≡ of.Block → (IsLast es x.from → ⊥) × ((c.start < first.start) ⊎ (0 < m)))
+        → units_of (log k now) ≡ spliced x.mid x.to (entries_by first.start (notes_by k x.reading m)) (units_of (log k text))
+
+  -- how far pieces of both texts go, by bytes
+  module _ (c : Candidate) (past : ℕ) (end : c.end ≡ width (front ++ (old ++ take past rest))) where
+    stop-width : width (take ((length front + length new) + past) now) + width old ≡ c.end + width new
+    stop-width =
+        let at = ap width (take-past front new rest past ((length front + length new) + past) refl) in
+        let a = width-append front (new ++ take past rest) in
+        let b = width-append new (take past rest) in
+        let d = width-append front (old ++ take past rest) in
+        let e = width-append old (take past rest) in
+        omega (arith, at, a, b, d, e, end)
+
+    byte-is : (i m : ℕ) → byte_behind k (read_from i) m ≡ width (take (far_by i m) now)
+    byte-is i m =
+        let x = read_from i in
+        let e = end_on (run_level k levels which) (stops_of which) x.carried m x.place in
+        byte-of (cut_at r i z) (e.taken + gap_of e.state.known) now
+
+    to-shifted : (i m : ℕ) → far_by i m ≡ (length front + length new) + past → byte_behind k (read_from i) m + width old ≡ c.end + width new
+    to-shifted i m e =
+        let here = byte-is i m ∙ ap (λ j. width (take j now)) e in
+        let stop = stop-width in
+        omega (arith, here, stop)
+
+    from-shifted : (i m : ℕ) → far_by i m ≤ length now → past ≤ length rest → byte_behind k (read_from i) m + width old ≡ c.end + width new → far_by i m ≡ (length front + length new) + past
+    from-shifted i m within room e =
+        let here = byte-is i m in
+        let stop = stop-width in
+        let one = length-append front (new ++ rest) in
+        let two = length-append new rest in
+        take-same (far_by i m) ((length front + length new) + past) now within (omega (arith, room, one, two)) (omega (arith, here, stop, e))
+
+  module _ (entry : ℕ) (e : Entered entry) (root : Tree) (same : bare root ≡ bare (tree k (front ++ (old ++ rest)))) (first c : Candidate) (i j n past n0 past0 : ℕ) (t t0 : Trivia)
+      (a : Chosen entry e c i n past t) (b : Chosen entry e first (i + suc j) n0 past0 t0) (begun : e.number (i + suc j) < front_in k front old rest) where
+    -- so many pieces stand before the reading begins
+    abbrev d : ℕ
+    d = suc j
+
+    abbrev mid : ℕ
+    mid = i + suc j
+
+    looks : Before k front old rest r mid
+    looks = e.before first mid n0 past0 t0 b.is begun
+
+    clear : TakesNone mid q
+    clear = b.is.none (omega arith)
+
+    -- it begins before the stretch, where pieces of the candidate are left
+    first-early : first.start < width front
+    first-early = b.seat.early (b.is.led.0 (omega arith))
+
+    starts-later : c.start < first.start
+    starts-later = let l = e.cuts i mid (omega arith) b.is.go in let one = a.is.start in let two = b.is.start in omega (arith, l, one, two)
+
+    in-order : mid < i + n
+    in-order = more-than mid (i + n) (λ l.
+        (let early = first-early in
+        let late = a.seat.late in
+        let wider = width-append front old in
+        let start = b.is.start in
+        let end = end-byte entry e c i n past t a.is (omega (arith, some-pieces)) in
+        by-order l (omega (arith, early, late, wider, start, end))))
+      where
+        more-than : (x y : ℕ) → (y ≤ x → ⊥) → x < y
+        more-than x zero f = absurd (f (omega arith))
+        more-than zero (suc y) f = omega arith
+        more-than (suc x) (suc y) f = let l = more-than x y (λ l. f (omega (arith, l))) in omega (arith, l)
+
+        -- a candidate without a piece is the whole run
+        some-pieces : 0 < n
+        some-pieces = by n refl
+          where
+            by : (m : ℕ) → n ≡ m → 0 < n
+            by (suc m) is = omega (arith, is)
+            by zero is =
+                let alone = a.is.empty is in
+                let over = sym (e.over 0 0 (omega arith)) ∙ alone.1 in
+                let none : 0 ≡ e.count = eqb-true 0 e.count over in
+                let most = e.most mid b.is.go in
+                absurd (omega (arith, none, most))
+
+        by-order : i + n ≤ mid → width (take (cut_at r mid z) text) < width (take (cut_at r (i + n) z) text) → ⊥
+        by-order l less = by (mid == i + n) refl
+          where
+            by : (s : Bool) → (mid == i + n) ≡ s → ⊥
+            by true is = let same_cut = ap (λ x. width (take (cut_at r x z) text)) (eqb-true mid (i + n) is) in omega (arith, less, same_cut)
+            by false is = let apart = eqb-false mid (i + n) is in let more = e.cuts (i + n) mid (less-than (i + n) mid l (λ s. apart (sym s))) b.is.go in omega (arith, less, more)
+
+    abbrev left : ℕ
+    left = n - d
+
+    left-is : n ≡ d + left
+    left-is = let l = in-order in omega (arith, l)
+
+    left-some : 0 < left
+    left-some = let l = in-order in omega (arith, l)
+
+    sum-is : mid + left ≡ i + n
+    sum-is = let l = left-is in omega (arith, l)
+
+    -- the candidate's pieces from there on
+    abbrev rest_of_it : Candidate
+    rest_of_it = record c { start = first.start; from = first.from }
+
+    rest-is : IsPieces k front old rest r rest_of_it mid left past t
+    rest-is =
+        let all = first-go entry e c i n past t a.is in
+        let here = subst (λ m. AllGo (first_of m q)) (sym sum-is) all in
+        let split = end-split-at q i n in
+        let other = end-split-at q mid left in
+        let taken = ap (λ (u : End (Bool × ℕ)). u.taken) split in
+        let taken_there = ap (λ (u : End (Bool × ℕ)). u.taken) other in
+        let both = ap (λ m. (first_end m q).taken) sum-is in
+        let ends = a.is.ends in
+        record {
+          go = b.is.go;
+          go_on = go-second (first_of mid q) (then_of mid left q) (subst (λ os. AllGo os) (first-split q mid left) here);
+          known = sym (ap (λ (u : End (Bool × ℕ)). u.state.known) other) ∙ ap (λ m. (first_end m q).state.known) sum-is ∙ ap (λ (u : End (Bool × ℕ)). u.state.known) split ∙ a.is.known;
+          ends = omega (arith, taken, taken_there, both, ends);
+          start = b.is.start;
+          led = b.is.led;
+          end = a.is.end;
+          none = b.is.none;
+          empty = λ none. (let some = left-some in absurd (omega (arith, none, some)));
+          early = b.is.early;
+        }
+
+    -- ---- what passes
+
+    serves : ServesMore k front old new rest r i d
+    serves = one-reading-law k front old new rest r i d b.is.go looks
+
+    reads : ReadsFrom mid
+    reads = e.reads first mid n0 past0 t0 b.is (omega arith) looks
+
+    abbrev On : ℕ → Type 0
+    On m = PassesOn k front old new rest first c (read_from mid) (e.number (i + n)) (e.number (i + n)) (first_end (i + n) q).value m
+
+    abbrev Test : ℕ → Trivia → Type 0
+    Test m u = PassesPieces k front old new rest r i n (d + m) past t u
+
+    value-is : (then_end i n q).value ≡ (first_end (i + n) q).value
+    value-is = sym (ap (λ (u : End (Bool × ℕ)). u.value) (end-split-at q i n))
+
+    over-is : is_over i n q ≡ (i + n == e.count)
+    over-is = e.over i n (fits entry e c i n past t a.is)
+
+    last-to : (i + n == e.count) ≡ true → IsLast es (e.number (i + n))
+    last-to is = subst (λ x. IsLast es (e.number x)) (sym (eqb-true (i + n) e.count is)) e.last
+
+    on-to : (i + n == e.count) ≡ false → IsLast es (e.number (i + n)) → ⊥
+    on-to is = e.not_last (i + n) (less-than (i + n) e.count (fits entry e c i n past t a.is) (eqb-false (i + n) e.count is))
+
+    agrees-from : (m : ℕ) (y : Bool × ℕ) → MeetsOn es which (e.number (i + n)) (c.start < first.start) m (first_end (i + n) q).value y → Agrees r (is_over i n q) (d + m) (then_end i n q).value y
+    agrees-from m y h = by (i + n == e.count) refl
+      where
+        by : (s : Bool) → (i + n == e.count) ≡ s → Agrees r (is_over i n q) (d + m) (then_end i n q).value y
+        by true is = subst (λ s. Agrees r s (d + m) (then_end i n q).value y) (sym (over-is ∙ is)) (e.meets (d + m) (then_end i n q).value y (λ block. h.block_end (last-to is) block ∙ sym (ap (λ (x : Bool × ℕ). x.1) value-is)))
+        by false is = subst (λ s. Agrees r s (d + m) (then_end i n q).value y) (sym (over-is ∙ is)) (omega arith, (h.goes_on (on-to is)).1 ∙ sym value-is)
+
+    agrees-to : (m : ℕ) (y : Bool × ℕ) → Agrees r (is_over i n q) (d + m) (then_end i n q).value y → MeetsOn es which (e.number (i + n)) (c.start < first.start) m (first_end (i + n) q).value y
+    agrees-to m y h = by (i + n == e.count) refl
+      where
+        by : (s : Bool) → (i + n == e.count) ≡ s → MeetsOn es which (e.number (i + n)) (c.start < first.start) m (first_end (i + n) q).value y
+        by true is = record {
+          goes_on = λ no. absurd (no (last-to is));
+          block_end = λ last block. e.met (d + m) (then_end i n q).value y (subst (λ s. Agrees r s (d + m) (then_end i n q).value y) (over-is ∙ is) h) block ∙ ap (λ (x : Bool × ℕ). x.1) value-is;
+        }
+        by false is = record {
+          goes_on = λ no. (inl starts-later, (subst (λ s. Agrees r s (d + m) (then_end i n q).value y) (over-is ∙ is) h).1 ∙ value-is);
+          block_end = λ last block. absurd (on-to is last);
+        }
+
+    some-n : 0 < n
+    some-n = let l = left-is in omega (arith, l)
+
+    -- so many pieces of the reading pass where the old ones and they do
+    record Passed (m : ℕ) : Type 0 where
+      behind : Trivia
+      go : AllGo (then_of mid m v)
+      known : (then_end mid m v).state.known ≡ Some behind
+      test : Test m behind
+      nodes : nodes_now r mid m behind w ≡ nodes_by k (read_from mid) m
+
+    to-test : (m : ℕ) → On m → Passed m
+    to-test m h =
+        let go = reads.go m h.go in
+        let u = reads.known m go in
+        let x = reads.alike m u.trivia go u.is in
+        record {
+          behind = u.trivia;
+          go = go;
+          known = u.is;
+          test = (serves.passes n m past t u.trivia).1 (
+            record { old_go = a.is.go_on; after = (e.behind c i n past t a.is some-n).0 h.behind; known = a.is.known; ends = a.is.ends },
+            record {
+              new_go = go;
+              known_now = u.is;
+              shifted = x.sum ∙ from-shifted c past a.is.end mid m (reads.within m go) (e.room c i n past t a.is) h.shifted;
+              agrees = agrees-from m (then_end mid m v).value (subst (λ y. MeetsOn es which (e.number (i + n)) (c.start < first.start) m (first_end (i + n) q).value y) (sym x.value) h.meets);
+            },
+          );
+          nodes = x.nodes;
+        }
+
+    from-test : (m : ℕ) (u : Trivia) → Test m u → On m × (nodes_now r mid m u w ≡ nodes_by k (read_from mid) m)
+    from-test m u h =
+        let parts = (serves.passes n m past t u).0 h in
+        let new_part = parts.1 in
+        let x = reads.alike m u new_part.new_go new_part.known_now in (
+          record {
+            behind = (e.behind c i n past t a.is some-n).1 parts.0.after;
+            go = x.go;
+            shifted = to-shifted c past a.is.end mid m (sym x.sum ∙ new_part.shifted);
+            meets = agrees-to m (carried_by k (read_from mid) m) (subst (λ y. Agrees r (is_over i n q) (d + m) (then_end i n q).value y) x.value new_part.agrees);
+          },
+          x.nodes,
+        )
+
+    behind-rest : Behind k front old rest r i n past t → Behind k front old rest r mid left past t
+    behind-rest h = (e.behind rest_of_it mid left past t rest-is left-some).0 (subst (λ x. rear_in k front old rest ≤ e.number x) (sym sum-is) ((e.behind c i n past t a.is some-n).1 h))
+
+    -- ---- the tree
+
+    first-more : AllGo (first_of (suc mid) q)
+    first-more =
+        let all = first-go entry e c i n past t a.is in
+        let l = in-order in
+        let sum : i + n ≡ suc mid + ((i + n) - suc mid) = omega (arith, l) in
+        go-first (first_of (suc mid) q) (then_of (suc mid) ((i + n) - suc mid) q) (subst (λ os. AllGo os) (first-split q (suc mid) ((i + n) - suc mid)) (subst (λ m. AllGo (first_of m q)) sum all))
+
+    between : StandsBetween k (front ++ (old ++ rest)) r i d c.from first.from
+    between = record {
+      first = λ none. none-led none;
+      starts = λ some. subst (λ x. StandsAt (run_from r) (kids_of_run r) c.from x) a.is.start (seat-stands front old (run_from r) (kids_of_run r) c a.seat (a.is.led.0 some));
+      ends = subst (λ x. StandsAt (run_from r) (kids_of_run r) first.from x) b.is.start (seat-stands front old (run_from r) (kids_of_run r) first b.seat (b.is.led.0 (omega arith)));
+    }
+      where
+        none-led : i ≡ 0 → c.from ≡ 0
+        none-led none = by c.from refl
+          where
+            by : (x : ℕ) → c.from ≡ x → c.from ≡ 0
+            by zero is = is
+            by (suc x) is = let some = a.is.led.1 (omega (arith, is)) in absurd (omega (arith, some, none))
+
+    put : (m : ℕ) (u : Trivia) → AllGo (then_of mid m v) → (then_end mid m v).state.known ≡ Some u
+        → replaced_at c.path c.from c.to (nodes_now r i (d + m) u w) root ≡ replaced_at c.path first.from c.to (nodes_now r mid m u w) root
+    put m u go known =
+        let x = e.known mid b.is.go in
+        let order = seats-in-order front old (run_from r) (kids_of_run r) c first a.seat b.seat in
+        subst (λ path. replaced_at path c.from c.to (nodes_now r i (d + m) u w) root ≡ replaced_at path first.from c.to (nodes_now r mid m u w) root) a.path
+        (put-behind-law k front old new rest r i d m x.trivia u c.from first.from c.to root same (omega arith) first-more looks x.is clear between order go known)
+
+    pub later : ServedBy root first c (record { reading = read_from mid; mid = e.number mid; from = e.number i; to = e.number (i + n); looks = e.number (i + n); carried_end = (first_end (i + n) q).value })
+    later = record {
+      earlier = (let l = e.rises i mid (omega arith) (e.most mid b.is.go) in omega (arith, l));
+      until = (let l = e.rises mid (i + n) in-order (fits entry e c i n past t a.is) in omega (arith, l));
+      gives = λ ts h.
+          (let p = a.passes ts h in
+          let m = p.0 - d in
+          let least = serves.least n p.0 past t p.1 p.2 in
+          let sum : p.0 ≡ d + m = omega (arith, least) in
+          let test : Test m p.1 = subst (λ x. PassesPieces k front old new rest r i n x past t p.1) sum p.2 in
+          let on = from-test m p.1 test in
+          let parts = ((serves.passes n m past t p.1).0 test).1 in
+          (m, on.0, ap (λ us. replaced_at c.path c.from c.to us root) (p.3 ∙ ap (λ x. nodes_now r i x p.1 w) sum) ∙ put m p.1 parts.new_go parts.known_now ∙ ap (λ us. replaced_at c.path first.from c.to us root) on.1));
+      gives_too = λ m h.
+          (let p = to-test m h in
+          let ts = nodes_now r i (d + m) p.behind w in
+          (ts, of_pieces r i n (d + m) past t p.behind a.whole a.path a.is.start a.is.led a.is.end p.test refl, put m p.behind p.go p.known ∙ ap (λ us. replaced_at c.path first.from c.to us root) p.nodes));
+      units = λ m h some. (let p = to-test m h in a.units rest_of_it d left m p.behind (omega arith) left-is left-some rest-is looks (behind-rest p.test.after) p.go p.known p.test);
+    }
+
+  -- ---- where the reading begins with the candidate
+
+  module _ (entry : ℕ) (root : Tree) (first c : Candidate) (g : FoundRun k front old new rest c which levels entry) (starts : c.start ≡ first.start) (from : c.from ≡ first.from) (begun : g.from < front_in k front old rest) where
+    abbrev OnOwn : ℕ → Type 0
+    OnOwn m = PassesOn k front old new rest first c (reading_of g) g.to g.looks g.carried_end m
+
+    abbrev Own : ℕ → Type 0
+    Own m = PassesRead k front old new rest c (reading_of g) g.from g.to g.looks g.carried_end m
+
+    not-led : c.start < first.start → ⊥
+    not-led l = omega (arith, l, starts)
+
+    own-from : (m : ℕ) → OnOwn m → Own m
+    own-from m h = record {
+      before = begun;
+      behind = h.behind;
+      go = h.go;
+      shifted = h.shifted;
+      meets = record { goes_on = λ more. (let x = h.meets.goes_on more in (right-of not-led x.0, x.1)); block_end = h.meets.block_end };
+    }
+
+    own-to : (m : ℕ) → Own m → OnOwn m
+    own-to m h = record {
+      behind = h.behind;
+      go = h.go;
+      shifted = h.shifted;
+      meets = record { goes_on = λ more. (let x = h.meets.goes_on more in (inr x.0, x.1)); block_end = h.meets.block_end };
+    }
+
+    put-there : (m : ℕ) → replaced_at c.path c.from c.to (nodes_by k (reading_of g) m) root ≡ replaced_at c.path first.from c.to (nodes_by k (reading_of g) m) root
+    put-there m = ap (λ x. replaced_at c.path x c.to (nodes_by k (reading_of g) m) root) from
+
+    ends-rise : (a b : ℕ) → Ends es entry c a b → a ≤ b
+    ends-rise a b (apart from to at more behind less) = omega (arith, less)
+    ends-rise a b (at_once from at last) = omega arith
+
+    at-start : ServedBy root first c (record { reading = reading_of g; mid = g.from; from = g.from; to = g.to; looks = g.looks; carried_end = g.carried_end })
+    at-start = record {
+      earlier = omega arith;
+      until = ends-rise g.from g.to g.ends;
+      gives = λ ts h. (let p = (g.gives ts).0 h in (p.0, own-to p.0 p.1, ap (λ us. replaced_at c.path c.from c.to us root) p.2 ∙ put-there p.0));
+      gives_too = λ m h. (let ts = nodes_by k (reading_of g) m in (ts, (g.gives ts).1 (m, own-from m h, refl), put-there m));
+      units = λ m h some.
+          g.units m (own-from m h) (λ block. (let x = some block in (x.0, right-of not-led x.1)))
+          ∙ ap (λ b. spliced g.from g.to (entries_by b (notes_by k (reading_of g) m)) (units_of (log k text))) starts;
+    }
+
+  -- ---- both
+
+  -- what is found of a candidate is what its pieces say
+  module _ (entry : ℕ) (e : Entered entry) (c : Candidate) (i n past : ℕ) (t : Trivia) (p : IsPieces k front old rest r c i n past t) (g : FoundRun k front old new rest c which levels entry) where
+    found-from : g.from ≡ e.number i
+    found-from = (ends-are entry e c i n past t p g.from g.to g.ends).0
+
+    found-to : g.to ≡ e.number (i + n)
+    found-to = (ends-are entry e c i n past t p g.from g.to g.ends).1
+
+    found-end : g.carried_end ≡ (first_end (i + n) q).value
+    found-end = says-once es g.to (e.number (i + n)) g.carried_end (first_end (i + n) q).value g.says_end (e.says (i + n) (fits entry e c i n past t p)) found-to
+
+    found-reading : g.from < front_in k front old rest → reading_of g ≡ read_from i
+    found-reading begun =
+        let all = fits entry e c i n past t p in
+        let carried = says-once es g.from (e.number i) g.carried (first_end i q).value g.says (e.says i (omega (arith, all))) found-from in
+        let cut = cut_at r i z in
+        let early = p.early in
+        let long = length-append front (new ++ rest) in
+        let bytes : width (take cut text) ≡ width (take cut now) = ap width (take-append-le cut front (old ++ rest) early ∙ sym (take-append-le cut front (new ++ rest) early)) in
+        let place = one-place g.at cut now (omega (arith, early, long)) (g.start_now begun ∙ p.start ∙ bytes) in
+        (λ x. reading_on which levels (carried x) (place x))
+
+  module _ (entry : ℕ) (e : Entered entry) (root : Tree) (same : bare root ≡ bare (tree k (front ++ (old ++ rest)))) (first c : Candidate) (i n past n0 past0 : ℕ) (t t0 : Trivia) (a : Chosen entry e c i n past t)
+      (f : FoundRun k front old new rest first which levels entry) (g : FoundRun k front old new rest c which levels entry) (begun : f.from < front_in k front old rest) where
+    abbrev keys : Keys
+    keys = record { reading = reading_of f; mid = f.from; from = g.from; to = g.to; looks = g.looks; carried_end = g.carried_end }
+
+    served-by : (d : ℕ) → Chosen entry e first (i + d) n0 past0 t0 → ServedBy root first c keys
+    served-by zero b =
+        let none : i + zero ≡ i = omega arith in
+        let starts = a.is.start ∙ ap (λ m. width (take (cut_at r m z) text)) (sym none) ∙ sym b.is.start in
+        let led : 0 < c.from ↔ 0 < first.from = ((λ l. b.is.led.0 (subst (λ m. 0 < m) (sym none) (a.is.led.1 l))), (λ l. a.is.led.0 (subst (λ m. 0 < m) none (b.is.led.1 l)))) in
+        let from = one-seat front old (run_from r) (kids_of_run r) c first a.seat b.seat starts led in
+        let mid : g.from ≡ f.from = found-from entry e c i n past t a.is g ∙ ap e.number (sym none) ∙ sym (found-from entry e first (i + zero) n0 past0 t0 b.is f) in
+        let there : g.from < front_in k front old rest = omega (arith, begun, mid) in
+        let reading : reading_of g ≡ reading_of f = found-reading entry e c i n past t a.is g there ∙ ap read_from (sym none) ∙ sym (found-reading entry e first (i + zero) n0 past0 t0 b.is f begun) in
+        subst (λ x. ServedBy root first c x) (λ x. record { reading = reading x; mid = mid x; from = g.from; to = g.to; looks = g.looks; carried_end = g.carried_end }) (at-start entry root first c g starts from there)
+    served-by (suc j) b =
+        let mid = found-from entry e first (i + suc j) n0 past0 t0 b.is f in
+        let there : e.number (i + suc j) < front_in k front old rest = omega (arith, begun, mid) in
+        let reading = found-reading entry e first (i + suc j) n0 past0 t0 b.is f begun in
+        let from = found-from entry e c i n past t a.is g in
+        let to = found-to entry e c i n past t a.is g in
+        let end = found-end entry e c i n past t a.is g in
+        let some = some-n entry e root same first c i j n past n0 past0 t t0 a b there in
+        let looks = looks-are entry e c i n past t a.is g.from g.to g.looks g.looks_from from some ∙ to in
+        subst (λ x. ServedBy root first c x) (λ x. record { reading = sym reading x; mid = sym mid x; from = sym from x; to = sym to x; looks = sym looks x; carried_end = sym end x }) (later entry e root same first c i j n past n0 past0 t t0 a b there)
+
+    -- a reading that begins with one candidate serves each that begins there or earlier
+    pub served : (i0 : ℕ) → Chosen entry e first i0 n0 past0 t0 → c.start ≤ first.start → Served k front old new rest root which levels entry first c f g
+    served i0 b l =
+        let sum : i0 ≡ i + (i0 - i) = not-more i0 i (λ less. (let more = e.cuts i0 i less a.is.go in let one = a.is.start in let two = b.is.start in omega (arith, more, one, two, l))) in
+        let s = served-by (i0 - i) (subst (λ m. Chosen entry e first m n0 past0 t0) sum b) in
+        record {
+          earlier = s.earlier;
+          until = s.until;
+          order = seats-in-order front old (run_from r) (kids_of_run r) c first a.seat b.seat;
+          gives = s.gives;
+          gives_too = s.gives_too;
+          units = s.units;
+        }
+      where
+        not-more : (x y : ℕ) → (x < y → ⊥) → x ≡ y + (x - y)
+        not-more x zero f = omega arith
+        not-more zero (suc y) f = absurd (f (omega arith))
+        not-more (suc x) (suc y) f = let more = not-more x y (λ less. f (omega (arith, less))) in omega (arith, more)

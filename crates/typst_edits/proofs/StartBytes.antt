@@ -1,0 +1,69 @@
+-- The byte at which the children begin of the node at the end of a path, in a tree with a hole there; spans aside it is the same.
+use Rattle.std.proofs.Common.{◌≡◌, ℕ, zero, suc, ◌+◌, List, [], ◌∷◌, ◌++◌, length, take, length-append, Option, Some, None, refl, ap, sym, ◌∙◌, arith}
+use Rattle.std.specs.Prelude.{slice_get, option_map}
+use Rattle.std.proofs.Math.Seq.{take-append_seam}
+use Rattle.typst_kinds.specs.Head.{inner_head}
+use Rattle.typst_kinds.specs.declared.kind.SyntaxKind.TheVariants as kind
+use Rattle.typst_tree.specs.Tree.{Tree, Forest, none, more, forest, trees, joined, bare, bare_forest, inner_of}
+use Rattle.typst_tree.specs.Laws.{start_at, or_none}
+use Rattle.typst_language.proofs.Leaves.{texts}
+use Rattle.typst_edits.specs.Hole.{Deep, fill, path_in, Hole, plug, path_of}
+use Rattle.typst_edits.specs.Hole.Deep.{bare as alone, under}
+use Rattle.typst_edits.proofs.Edit.{trees-of}
+use Rattle.typst_edits.proofs.InnerCandidates.{joined-trees}
+use Rattle.typst_edits.proofs.Placed.{deep_text, left_text}
+
+-- ---- spans aside
+
+joined-bare : (f : Forest) → joined (bare_forest f) ≡ joined f
+joined-bare none = refl
+joined-bare (more h ks r) = let a = joined-bare ks in let b = joined-bare r in (λ j. h.text ++ (a j ++ b j))
+
+taken-bare : (i : ℕ) (f : Forest) → joined (forest (take i (trees (bare_forest f)))) ≡ joined (forest (take i (trees f)))
+taken-bare zero f = refl
+taken-bare (suc i) none = refl
+taken-bare (suc i) (more h ks r) = let a = joined-bare ks in let b = taken-bare i r in (λ j. h.text ++ (a j ++ b j))
+
+got-bare : (i : ℕ) (f : Forest) → slice_get (trees (bare_forest f)) i ≡ option_map bare (slice_get (trees f) i)
+got-bare i none = refl
+got-bare zero (more h ks r) = refl
+got-bare (suc i) (more h ks r) = got-bare i r
+
+or-bare : (f : Tree → ℕ) → ((t : Tree) → f (bare t) ≡ f t) → (o : Option Tree) → or_none f (option_map bare o) ≡ or_none f o
+or-bare f h None = refl
+or-bare f h (Some t) = h t
+
+start-bare : (path : List ℕ) (i : ℕ) (t : Tree) → start_at path i (bare t) ≡ start_at path i t
+start-bare [] i t = ap (λ xs. length t.head.text + length xs) (taken-bare i t.kids)
+start-bare (j ∷ path) i t =
+    let a = taken-bare j t.kids in
+    let b : or_none (start_at path i) (slice_get (trees (bare_forest t.kids)) j) ≡ or_none (start_at path i) (slice_get (trees t.kids) j) =
+    ap (or_none (start_at path i)) (got-bare j t.kids) ∙ or-bare (start_at path i) (λ u. start-bare path i u) (slice_get (trees t.kids) j) in
+    (λ n. (length t.head.text + length (a n)) + b n)
+
+pub start-same : (path : List ℕ) (i : ℕ) (t u : Tree) → bare t ≡ bare u → start_at path i t ≡ start_at path i u
+start-same path i t u e = sym (start-bare path i t) ∙ ap (start_at path i) e ∙ start-bare path i u
+
+-- ---- in a hole
+
+got-behind : (xs : List Tree) (y : Tree) (ys : List Tree) → slice_get (xs ++ y ∷ ys) (length xs) ≡ Some y
+got-behind [] y ys = refl
+got-behind (x ∷ xs) y ys = got-behind xs y ys
+
+start-fill : (d : Deep) (x : Tree) → start_at (path_in d) 0 (fill d x) ≡ length (deep_text d) + length x.head.text
+start-fill alone x = omega arith
+start-fill (under head left d right) x =
+    let ts = left ++ fill d x ∷ right in
+    let before : joined (forest (take (length left) (trees (forest ts)))) ≡ texts left =
+    ap (λ us. joined (forest (take (length left) us))) (trees-of ts) ∙ ap (λ us. joined (forest us)) (take-append_seam left (fill d x ∷ right)) ∙ joined-trees (forest left) ∙ ap texts (trees-of left) in
+    let there : or_none (start_at (path_in d) 0) (slice_get (trees (forest ts)) (length left)) ≡ start_at (path_in d) 0 (fill d x) =
+    ap (λ us. or_none (start_at (path_in d) 0) (slice_get us (length left))) (trees-of ts) ∙ ap (or_none (start_at (path_in d) 0)) (got-behind left (fill d x) right) in
+    let below = start-fill d x in
+    let long = ap length before in
+    let one = length-append head.text (texts left ++ deep_text d) in
+    let two = length-append (texts left) (deep_text d) in
+    omega (arith, there, below, long, one, two)
+
+-- of a text's tree
+pub start-plug : (h : Hole) (x : Tree) → start_at (path_of h) 0 (inner_of kind.Markup (forest (plug h x))) ≡ length (left_text h) + length x.head.text
+start-plug h x = start-fill (under (inner_head kind.Markup) h.left h.deep h.right) x
