@@ -11,17 +11,13 @@ use Rattle.typst_tree.proofs.Numbering.{numbered_bare, text_numbered, nodes_numb
 use Rattle.std.specs.Str.{chars}
 use Rattle.typst_lines.specs.Classes.{CharClasses}
 use Rattle.typst_reparser.specs.Grammar.{tree}
-use Rattle.typst_reparser.specs.Restart.{AreKept}
-use Rattle.typst_reparser.specs.declared.restart.Restart.{Restart}
+use Rattle.typst_reparser.specs.Entries.{Units}
 use Rattle.typst_parser.specs.Held.{Held}
 use Rattle.typst_parser.specs.Headline.{file_of, Headline, AreNumbered, AreOrdered, numbered_in}
-use Rattle.typst_parser.specs.Records.{IsPlaced, IsPlacedBy, Records}
-use Rattle.typst_parser.proofs.Replaced.{IsOf, placed-span, numbered-spans, numbered-head}
+use Rattle.typst_parser.specs.Records.{AreUnits, IsPlaced, IsPlacedBy, Records}
+use Rattle.typst_parser.proofs.Replaced.{IsOf, IsDetached, placed-span, numbered-spans, numbered-head}
 
 -- ---- a tree without numbers
-
-abbrev IsDetached : Tree → Type 0
-IsDetached n = n.head.span ≡ None
 
 forest-detached : (f : Forest) → All IsDetached (preorder (with_each (spanned None) f))
 forest-detached none = All-nil IsDetached
@@ -99,12 +95,12 @@ placed-new None t u is inner numbered = tt
 placed-new (Some file) t u is inner numbered = let h = numbered-head file t u is inner in (numbered, h.0, h.1)
 
 -- what a source keeps whose whole text was read
-pub records-new : {C : Type 0} (k : CharClasses) (s : Held C) (file : Option ℕ) (rs : List Restart) (text : List ℕ) → text ≡ s.text → numbered_in file (tree k (chars text)) ≡ Some s.root → text_of s.root ≡ text → AreNumbered file s.root
-    → IsPlaced file s.root → AreKept k (chars text) rs → Records k s rs
-records-new k s file rs text e is leaves numbers placed restarts =
+pub records-new : {C : Type 0} (k : CharClasses) (s : Held C) (file : Option ℕ) (units : Units) (text : List ℕ) → text ≡ s.text → numbered_in file (tree k (chars text)) ≡ Some s.root → text_of s.root ≡ text → AreNumbered file s.root
+    → IsPlaced file s.root → AreUnits k text units → Records k s units
+records-new k s file units text e is leaves numbers placed are =
     let numbered : numbered_in file (tree k (chars s.text)) ≡ Some s.root = subst (λ t. numbered_in file (tree k (chars t)) ≡ Some s.root) e is in
     record {
       headline = headline-new k s file numbered (leaves ∙ e) numbers;
       placed = subst (λ f. IsPlaced f s.root) (sym (fresh-file file (tree k (chars s.text)) s.root numbered)) placed;
-      restarts = subst (λ t. AreKept k (chars t) rs) e restarts;
+      are = subst (λ t. AreUnits k t units) e are;
     }

@@ -3,9 +3,11 @@
 --   a node is found by its own span           Own: finds-own
 --   a node's bytes by its own number          Own: gives-own
 --   what a call of a source answers          Answered: not-found, looked-for, part-given, replaced, same-file
---   what an edit leaves of a tree            Reparsed: records-again; Replaced: spans and numbers of a node whose children were replaced
+--   an edit in bytes is one of characters     Changed: before, after, makes
+--   what an edit leaves of a tree            Reparsed: records-again, edits-again; Replaced: spans and numbers of a tree of which children were replaced
 pub mod Replaced
 pub mod Fresh
+pub mod Changed
 pub mod Reparsed
 pub mod Own
 pub mod Answered

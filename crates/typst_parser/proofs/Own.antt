@@ -1,8 +1,8 @@
 -- In a tree whose numbers are in order, a span and a number find their own node.
 use Rattle.std.proofs.Common.{◌≡◌, ℕ, zero, suc, ◌+◌, ◌-◌, ◌^◌, ◌≤◌, Bool, true, false, IsTrue, List, [], ◌∷◌, length, Option, Some, None, refl, sym, ap, subst, ◌∙◌, arith, eq-eqb, zero-add}
-use Rattle.std.specs.Prelude.{All, nat_lt, slice_get, option_map}
+use Rattle.std.specs.Prelude.{nat_lt, slice_get, option_map}
 use Rattle.std.proofs.lemmas.Bool.Decides.{nat_tests}
-use Rattle.std.proofs.lemmas.Option.{none-some, same_Some, slice_get_within, get_or_from_slice_get}
+use Rattle.std.proofs.lemmas.Option.{none-some, same_Some}
 use Rattle.std.specs.declared.ops.Range.{Range}
 use Rattle.typst_kinds.specs.Span.{Bytes}
 use Rattle.typst_kinds.specs.Span.{number_of}
@@ -14,12 +14,10 @@ use Rattle.typst_tree.proofs.SingleNodes.{place_self, place_same}
 use Rattle.typst_tree.proofs.RisingNumbers.{Rising, rising_from}
 use Rattle.typst_parser.specs.Headline.{IsNumberedIn, AreNumbered, file_of}
 use Rattle.typst_parser.specs.Find.{top, found, is_in_file, bytes_in, range_of, FindsOwn, GivesOwn}
+use Rattle.typst_parser.proofs.Replaced.{all-at}
 
 abbrev number : Tree → ℕ
 number t = number_of t.head.span
-
-all-at : {X : Type 0} (P : X → Type 0) (xs : List X) (i : ℕ) (x : X) → All P xs → slice_get xs i ≡ Some x → P x
-all-at P xs i x h g = subst P (get_or_from_slice_get xs i x x g) (h i x (slice_get_within xs i x g))
 
 -- ---- the first node with a number
 

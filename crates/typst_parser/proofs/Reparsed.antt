@@ -1,130 +1,248 @@
--- A tree of which some children were read anew.
-use Rattle.std.proofs.Common.{◌≡◌, ℕ, ◌≤◌, ◌^◌, true, List, [], ◌++◌, length, map, take, drop, Option, Some, None, refl, ap, sym, subst, ◌∙◌, arith}
-use Rattle.std.specs.Prelude.{option_map}
-use Rattle.std.specs.Str.{chars, IsUtf8}
+-- A tree that answers an edit.
+use Rattle.std.proofs.Common.{◌≡◌, ℕ, zero, suc, ◌+◌, ◌-◌, ◌<◌, ◌≤◌, ◌^◌, Bool, true, IsTrue, List, [], ◌∷◌, ◌++◌, length, take, drop, length-append, length-take-le, length-drop, Option, Some, None, refl, ap, sym, subst, ◌∙◌, arith}
+use Rattle.std.specs.Prelude.{IfSome, option_map, slice_get}
+use Rattle.std.specs.Str.{chars}
 use Rattle.std.specs.declared.ops.Range.{Range}
-use Rattle.std.proofs.lemmas.List.{map-append, take-map, drop-map}
-use Rattle.std.proofs.lemmas.Option.{none-some}
 use Rattle.std.proofs.lemmas.Str.{encodes-chars}
 use Rattle.typst_kinds.specs.Span.{number_of}
-use Rattle.typst_kinds.specs.Head.{Head, bare_head}
-use Rattle.typst_tree.specs.Tree.{Tree, bare, text_of}
-use Rattle.typst_tree.specs.Laws.{put_at}
-use Rattle.typst_tree.specs.Order.{upper_at}
-use Rattle.typst_tree.specs.Replace.{kids_of, with_kids, replaced_at, in_file, Reaches}
-use Rattle.typst_tree.proofs.ReplacesChildren.{replaces_children, text_bare}
-use Rattle.typst_tree.proofs.SpansAside.{over, trees_forest, forest_trees, parts_from_bare, bare_from_parts, lengths_from_bare}
+use Rattle.typst_kinds.specs.Head.{Head}
+use Rattle.typst_tree.specs.Tree.{Tree, bare, forest, joined, text_of}
+use Rattle.typst_tree.specs.Laws.{start_at, start_in, or_none}
+use Rattle.typst_tree.specs.Order.{AreInOrder, IsNumbered, numbers_of, upper_at}
+use Rattle.typst_tree.specs.Replace.{At, Reaches, kids_of, replaced_at}
+use Rattle.typst_tree.proofs.ReplacesChildren.{replaces_text, start_le, text_bare}
 use Rattle.typst_lines.specs.Classes.{CharClasses}
-use Rattle.typst_reparser.specs.Grammar.{tree}
-use Rattle.typst_reparser.specs.declared.restart.Restart.{Restart}
-use Rattle.typst_reparser.proofs.Restarts.{heads-same, is-inner}
+use Rattle.typst_reparser.specs.Sight.{width}
+use Rattle.typst_reparser.specs.Candidates.{Candidate}
+use Rattle.typst_reparser.specs.Answer.{IsAnswer}
+use Rattle.typst_reparser.specs.Answer as answer
+use Rattle.typst_reparser.specs.Answer.IsAnswer.{part, whole}
+use Rattle.typst_reparser.specs.CandidatePlaces.{StandsIn}
+use Rattle.typst_reparser.specs.Every.{Every}
+use Rattle.typst_reparser.specs.Grammar.{tree, log}
+use Rattle.typst_reparser.specs.PieceNotes.{listed}
+use Rattle.typst_reparser.proofs.CandidatePlaces.{candidate-places-law}
+use Rattle.typst_reparser.proofs.CandidateWorth.{tree-inner}
 use Rattle.typst_reparser.proofs.Whole.{leaves}
+use Rattle.typst_reparser.proofs.Widths.{width-append}
+use Rattle.typst_reparser.specs.Change.{Change, text_before, text_after, Makes, Holds, candidates}
+use Rattle.typst_reparser.specs.Entries.{Units, units_of}
+use Rattle.typst_reparser.specs.Reparse.{NonePasses, Takes}
+use Rattle.typst_reparser.specs.declared.replacement.Replacement.{Replacement}
 use Rattle.typst_parser.specs.Held.{Held}
-use Rattle.typst_parser.specs.Headline.{Headline, AreNumbered, file_of}
-use Rattle.typst_parser.specs.Records.{IsPlaced, Replaced, Records}
-use Rattle.typst_parser.proofs.Replaced.{replaced-spans, replaced-head, few-nodes}
+use Rattle.typst_parser.specs.Headline.{AreNumbered, AreOrdered, file_of, numbered_in}
+use Rattle.typst_parser.specs.Answers.{Answers, change_of}
+use Rattle.typst_parser.specs.Records.{Edits, IsEdited, IsPlaced, IsPlacedBy, ReadsWhole, Records}
+use Rattle.typst_parser.specs.Tried.{change_by}
+use Rattle.typst_parser.proofs.Changed.{after, before, long-now, makes, utf8-now, width-chars}
+use Rattle.typst_parser.proofs.Fresh.{fresh-file, fresh-numbers, placed-new}
+use Rattle.typst_parser.proofs.Replaced.{Stays, replaced-stays, few-nodes}
 
-over-kids : (t : Tree) → over t.head (kids_of t) ≡ t
-over-kids t = ap (λ f. record { head = t.head; kids = f }) (forest_trees t.kids)
+-- ---- a fresh tree is numbered as an answer's is
 
--- the children of trees that are the same, spans aside
-kids-bare : (t u : Tree) → bare t ≡ bare u → map bare (kids_of t) ≡ map bare (kids_of u)
-kids-bare t u e = (parts_from_bare t.head u.head (kids_of t) (kids_of u) (over-kids t) (over-kids u) e).kids
+pub numbered-same : (file : Option ℕ) (t : Tree) → answer.numbered_in file t ≡ numbered_in file t
+numbered-same None t = refl
+numbered-same (Some file) t = refl
 
-heads-bare : (t u : Tree) → bare t ≡ bare u → bare_head t.head ≡ bare_head u.head
-heads-bare t u e = ap (λ (v : Tree). v.head) e
+-- ---- numbers after an answer
 
-from-parts : (t u : Tree) → bare_head t.head ≡ bare_head u.head → map bare (kids_of t) ≡ map bare (kids_of u) → bare t ≡ bare u
-from-parts t u h k = bare_from_parts t.head u.head (kids_of t) (kids_of u) (over-kids t) (over-kids u) h k
+-- the numbers of a tree, and those of its root, are in order in the file of another
+record IsHeldAs (was now : Tree) : Type 0 where
+  file : file_of now ≡ file_of was
+  numbers : AreNumbered (file_of was) now
+  placed : IsPlaced (file_of was) now
 
--- a tree without a file takes no new children
-file-there : (from to : ℕ) (new : List Tree) (t u : Tree) (span : Option (ℕ × ℕ)) → t.head.span ≡ span → replaced_at [] from to new t ≡ Some u → option_map (λ place. place.0) span ≡ None → ⊥
-file-there from to new t u None e r n = none-some u (ap (λ s. option_map (with_kids t) (in_file s t.head (kids_of t) from to new)) (sym e) ∙ r)
-file-there from to new t u (Some p) e r n = none-some p.0 (sym n)
+abbrev pub KeepsNumbers : Tree → Tree → Type 0
+KeepsNumbers was now = IsNumbered was → IsNumbered now × AreInOrder (numbers_of now)
 
-pub root-inner : {C : Type 0} (k : CharClasses) (s : Held C) → Headline k s → s.root.head.is_inner ≡ true
-root-inner k s h = ap (λ (x : Head). x.is_inner) (heads-bare s.root (tree k (chars s.text)) h.tree) ∙ is-inner k (chars s.text)
+placed-part : (file : Option ℕ) (was now : Tree) → Stays was now → KeepsNumbers was now → IsPlaced file was → IsPlaced file now
+placed-part None was now s order p = tt
+placed-part (Some file) was now s order p =
+    ((order p.0).0, subst (λ (x : Head). 1 ≤ number_of x.span) (sym s.head) p.1, subst (λ (x : Head). upper_at x ≤ 2 ^ 47) (sym s.head) p.2)
 
-pub root-count : {C : Type 0} (k : CharClasses) (s : Held C) → Headline k s → length (kids_of s.root) ≡ length (kids_of (tree k (chars s.text)))
-root-count k s h = lengths_from_bare (kids_of s.root) (kids_of (tree k (chars s.text))) (kids-bare s.root (tree k (chars s.text)) h.tree)
+numbers-part : (file : Option ℕ) (was now : Tree) → Stays was now → KeepsNumbers was now → AreNumbered file was → IsPlaced file was → AreNumbered file now
+numbers-part None was now s order a p = absurd (s.numbered a)
+numbers-part (Some file) was now s order a p =
+    let placed = placed-part (Some file) was now s order p in
+    record { spans = s.spans file a.spans; order = (order p.0).1; few = few-nodes now placed.0 placed.1 placed.2 }
 
-module _ {C : Type 0} (k : CharClasses) (old now : Held C) (bytes : Range ℕ) (rs : List Restart) (h : Headline k old) (p : IsPlaced (file_of old.root) old.root)
-    (r : Replaced k old.text now.text old.root now.root bytes rs) where
-  abbrev t : Tree
-  t = old.root
+ordered-whole : (file : Option ℕ) (was now : Tree) → KeepsNumbers was now → IsPlaced file was → AreOrdered file now
+ordered-whole None was now order p = tt
+ordered-whole (Some file) was now order p = (order p.0).1
 
-  abbrev u : Tree
-  u = now.root
+placed-whole : (file : Option ℕ) (was now : Tree) → KeepsNumbers was now → IsPlaced file was → IsPlacedBy file now
+placed-whole None was now order p = tt
+placed-whole (Some file) was now order p = (order p.0).0
 
-  abbrev was : Tree
-  was = tree k (chars old.text)
+-- ---- where a candidate's children stand
 
-  abbrev is : Tree
-  is = tree k (chars now.text)
+joined-rises : (i j : ℕ) (ts : List Tree) → i ≤ j → length (joined (forest (take i ts))) ≤ length (joined (forest (take j ts)))
+joined-rises zero j ts h = omega arith
+joined-rises (suc i) zero ts h = absurd (omega (arith, h))
+joined-rises (suc i) (suc j) [] h = omega arith
+joined-rises (suc i) (suc j) (t ∷ ts) h =
+    omega (arith, joined-rises i j ts (omega (arith, h)), length-append t.head.text (joined t.kids ++ joined (forest (take i ts))), length-append t.head.text (joined t.kids ++ joined (forest (take j ts))), length-append (joined t.kids) (joined (forest (take i ts))), length-append (joined t.kids) (joined (forest (take j ts))))
 
-  abbrev xs : List Tree
-  xs = kids_of t
+start-rises : (path : List ℕ) (i j : ℕ) (t : Tree) → Reaches path i j t → start_at path i t ≤ start_at path j t
+start-rises [] i j t r = omega (arith, joined-rises i j (kids_of t) r.1)
+start-rises (n ∷ path) i j t r = below (slice_get (kids_of t) n) r (start-rises path i j)
+  where
+    below : (o : Option Tree) → At (Reaches path i j) o → ((k : Tree) → Reaches path i j k → start_at path i k ≤ start_at path j k) → start_in n t + or_none (start_at path i) o ≤ start_in n t + or_none (start_at path j) o
+    below None q f = absurd q
+    below (Some k) q f = omega (arith, f k q)
 
-  abbrev i : ℕ
-  i = r.range.start
+middle-of : {X : Type 0} (P : X → Type 0) (earlier : List X) (x : X) (later : List X) → Every P (earlier ++ x ∷ later) → P x
+middle-of P [] x later h = h.0
+middle-of P (y ∷ earlier) x later h = middle-of P earlier x later h.1
 
-  abbrev j : ℕ
-  j = r.range.end
+-- ---- what answers an edit
 
-  reaches : Reaches [] i j t
-  reaches =
-      let x = r.exchanges in
-      (root-inner k old h, x.from, omega (arith, x.to, root-count k old h))
+module _ (k : CharClasses) (front old new rest : List ℕ) (was now : Tree) (range : Range ℕ) (same : bare was ≡ bare (tree k (front ++ (old ++ rest)))) (is_now : bare now ≡ bare (tree k (front ++ (new ++ rest)))) where
+  abbrev cs : List Candidate
+  cs = answer.candidates k (front ++ (old ++ rest)) (width front) (width (front ++ old)) was
 
-  put-kids : kids_of (put_at [] i j r.nodes t) ≡ take i xs ++ (r.nodes ++ drop j xs)
-  put-kids = trees_forest (take i xs ++ (r.nodes ++ drop j xs))
+  inner : IsTrue was.head.is_inner
+  inner = subst (λ (b : Bool). IsTrue b) (sym (ap (λ (t : Tree). t.head.is_inner) same)) (tree-inner k (front ++ (old ++ rest)))
 
-  bare-parts : (ys : List Tree) → map bare (take i ys ++ (r.nodes ++ drop j ys)) ≡ take i (map bare ys) ++ (map bare r.nodes ++ drop j (map bare ys))
-  bare-parts ys =
-      map-append bare (take i ys) (r.nodes ++ drop j ys) ∙ ap (λ zs. map bare (take i ys) ++ zs) (map-append bare r.nodes (drop j ys))
-      ∙ ap (λ zs. zs ++ (map bare r.nodes ++ map bare (drop j ys))) (sym (take-map bare i ys)) ∙ ap (λ zs. take i (map bare ys) ++ (map bare r.nodes ++ zs)) (sym (drop-map bare j ys))
+  stands : (earlier : List Candidate) (c : Candidate) (later : List Candidate) → cs ≡ earlier ++ c ∷ later → StandsIn was c
+  stands earlier c later split =
+      let all = candidate-places-law (listed (log k (front ++ (old ++ rest))).notes) (width front) (width (front ++ old)) was inner (omega (arith, width-append front old)) in
+      middle-of (StandsIn was) earlier c later (subst (Every (StandsIn was)) split all)
 
-  kids-same : map bare (take i xs ++ (r.nodes ++ drop j xs)) ≡ map bare (kids_of is)
-  kids-same =
-      bare-parts xs ∙ ap (λ ys. take i ys ++ (map bare r.nodes ++ drop j ys)) (kids-bare t was h.tree) ∙ sym (bare-parts (kids_of was)) ∙ ap (map bare) (sym r.exchanges.kids)
-
-  pub tree-again : bare u ≡ bare is
-  tree-again =
-      let put = put_at [] i j r.nodes t in
-      replaces_children [] i j r.nodes t u reaches r.is
-      ∙ from-parts put is (heads-bare t was h.tree ∙ ap bare_head (heads-same k (chars old.text) (chars now.text))) (ap (map bare) put-kids ∙ kids-same)
-
-  head-same : u.head ≡ t.head
-  head-same = replaced-head i j r.nodes t u reaches r.is
-
-  pub file-same : file_of u ≡ file_of t
-  file-same = ap (λ (x : Head). option_map (λ place. place.0) x.span) head-same
-
-  placed-by : (file : Option ℕ) → file_of t ≡ file → IsPlaced file t → IsPlaced file u
-  placed-by None e q = tt
-  placed-by (Some file) e q = ((r.order q.0).0, subst (λ (x : Head). 1 ≤ number_of x.span) (sym head-same) q.1, subst (λ (x : Head). upper_at x ≤ 2 ^ 47) (sym head-same) q.2)
-
-  numbers-by : (file : Option ℕ) → file_of t ≡ file → AreNumbered file t → IsPlaced file t → AreNumbered file u
-  numbers-by None e a q = absurd (file-there i j r.nodes t u t.head.span refl r.is e)
-  numbers-by (Some file) e a q =
-      let o = r.order q.0 in
-      let placed = placed-by (Some file) e q in
+  held-part : (path : List ℕ) (from to : ℕ) (ts : List Tree) → Reaches path from to was → replaced_at path from to ts was ≡ Some now → KeepsNumbers was now → AreNumbered (file_of was) was → IsPlaced (file_of was) was → IsHeldAs was now
+  held-part path from to ts reaches put order numbers placed =
+      let s = replaced-stays path from to ts was now reaches put in
       record {
-        spans = replaced-spans file i j r.nodes t u reaches r.is a.spans;
-        order = o.1;
-        few = few-nodes u placed.0 placed.1 placed.2;
+        file = ap (λ (x : Head). option_map (λ place. place.0) x.span) s.head;
+        numbers = numbers-part (file_of was) was now s order numbers placed;
+        placed = placed-part (file_of was) was now s order placed;
       }
 
-  pub placed-again : IsPlaced (file_of u) u
-  placed-again = subst (λ f. IsPlaced f u) (sym file-same) (placed-by (file_of t) refl p)
+  held : IsAnswer k front old new rest cs was now range → KeepsNumbers was now → AreNumbered (file_of was) was → IsPlaced (file_of was) was → IsHeldAs was now
+  held (part earlier c later ts split refused gives put start end) order numbers placed = held-part c.path c.from c.to ts (stands earlier c later split).reaches put order numbers placed
+  held (whole refused is bytes) order numbers placed =
+      let file = file_of was in
+      let text = front ++ (new ++ rest) in
+      let numbered = sym (numbered-same file (tree k text)) ∙ is in
+      record {
+        file = fresh-file file (tree k text) now numbered;
+        numbers = fresh-numbers file (tree k text) now numbered (ordered-whole file was now order placed);
+        placed = placed-new file (tree k text) now numbered (tree-inner k text) (placed-whole file was now order placed);
+      }
 
-  -- the headline holds again
-  pub headline-again : IsUtf8 now.text → Headline k now
-  headline-again utf8 = record {
-    tree = tree-again;
-    leaves = sym (text_bare u) ∙ ap text_of tree-again ∙ text_bare is ∙ leaves k (chars now.text) ∙ encodes-chars now.text utf8;
-    numbers = subst (λ f. AreNumbered f u) (sym file-same) (numbers-by (file_of t) refl h.numbers p);
+  -- ---- its range
+
+  record Lies (n : ℕ) : Type 0 where
+    ordered : range.start ≤ range.end
+    within : range.end ≤ n
+
+  lies : IsAnswer k front old new rest cs was now range → length (text_of was) ≡ width (front ++ (old ++ rest)) → length (text_of now) ≡ width (front ++ (new ++ rest)) → Lies (width (front ++ (new ++ rest)))
+  lies (part earlier c later ts split refused gives put start end) long long_now =
+      let s = stands earlier c later split in
+      let from = start_at c.path c.from was in
+      let to = start_at c.path c.to was in
+      let rises = start-rises c.path c.from c.to was s.reaches in
+      let within = start_le c.path c.to was in
+      let text = ap length (replaces_text c.path c.from c.to ts was now s.reaches put) in
+      let sum : length (text_of now) + to ≡ from + length (joined (forest ts)) + length (text_of was) = omega (arith, text, rises, within, length-append (take from (text_of was)) (joined (forest ts) ++ drop to (text_of was)), length-append (joined (forest ts)) (drop to (text_of was)), length-take-le from (text_of was) (omega (arith, rises, within)), length-drop to (text_of was)) in
+      let widths : width (front ++ (old ++ rest)) + width new ≡ width (front ++ (new ++ rest)) + width old = omega (arith, width-append front (old ++ rest), width-append old rest, width-append front (new ++ rest), width-append new rest) in
+      record {
+        ordered = omega (arith, start, end, s.start, s.end, sum, widths, long, long_now);
+        within = omega (arith, start, end, s.start, s.end, sum, widths, long, long_now, rises, within);
+      }
+  lies (whole refused is bytes) long long_now = record { ordered = omega (arith, ap (λ (r : Range ℕ). r.start) bytes); within = omega (arith, ap (λ (r : Range ℕ). r.end) bytes) }
+
+-- ---- a source whose text was edited
+
+module _ {C : Type 0} (k : CharClasses) (old now : Held C) (e : Replacement) (h : IsEdited old.text now.text e) (units : Units) (had : Records k old units) where
+  abbrev c : Change
+  c = change_by h
+
+  tree-was : bare old.root ≡ bare (tree k (text_before c))
+  tree-was = had.headline.tree ∙ ap (λ s. bare (tree k s)) (sym (before old.text now.text e h))
+
+  -- its tree and its units are those of the edit
+  pub holds : Holds k c old.root units
+  holds = record { tree_is = tree-was; units_are = had.are.are ∙ ap (λ s. units_of (log k s)) (sym (before old.text now.text e h)) }
+
+  -- a text that is as the new one
+  module _ (text : List ℕ) (is : text ≡ now.text) (fits : length now.text < 2 ^ 64 - 1) where
+    -- it is what the edit makes
+    pub makes-text : Makes c text e
+    makes-text = subst (λ t. Makes c t e) (sym is) (makes old.text now.text e h had.are.fits fits)
+
+    -- where a part was read
+    module _ (units_now : Units) (range : Range ℕ) (read : Option (Range ℕ)) (some : read ≡ Some range)
+        (part : (x : Change) → Makes x text e → Holds k x old.root units → IfSome read (λ r. Takes k x old.root now.root units_now r)) (ordered : IfSome read (λ r. KeepsNumbers old.root now.root)) where
+      takes : Takes k c old.root now.root units_now range
+      takes = subst (λ o. IfSome o (λ r. Takes k c old.root now.root units_now r)) some (part c makes-text holds)
+
+      order : KeepsNumbers old.root now.root
+      order = subst (λ (o : Option (Range ℕ)). IfSome o (λ r. KeepsNumbers old.root now.root)) some ordered
+
+      tree-again : bare now.root ≡ bare (tree k (chars now.text))
+      tree-again = takes.tree_is ∙ ap (λ s. bare (tree k s)) (sym (after old.text now.text e h))
+
+      leaves-again : text_of now.root ≡ now.text
+      leaves-again = sym (text_bare now.root) ∙ ap text_of tree-again ∙ text_bare (tree k (chars now.text)) ∙ leaves k (chars now.text) ∙ encodes-chars now.text (utf8-now old.text now.text e h)
+
+      held-again : IsHeldAs old.root now.root
+      held-again = held k c.front c.old c.new c.rest old.root now.root range tree-was takes.tree_is takes.answer order had.headline.numbers had.placed
+
+      -- the records are those of the text now
+      pub records-again : Records k now units_now
+      records-again = record {
+        headline = record {
+          tree = tree-again;
+          leaves = leaves-again;
+          numbers = subst (λ f. AreNumbered f now.root) (sym held-again.file) held-again.numbers;
+        };
+        placed = subst (λ f. IsPlaced f now.root) (sym held-again.file) held-again.placed;
+        are = record { are = takes.units_are ∙ ap (λ s. units_of (log k s)) (sym (after old.text now.text e h)); fits = fits };
+      }
+
+      range-again : Lies k c.front c.old c.new c.rest old.root now.root range tree-was takes.tree_is (width (text_after c))
+      range-again =
+          lies k c.front c.old c.new c.rest old.root now.root range tree-was takes.tree_is takes.answer
+          (ap length had.headline.leaves ∙ sym (width-chars old.text h.utf8_old) ∙ ap width (sym (before old.text now.text e h)))
+          (ap length leaves-again ∙ sym (long-now old.text now.text e h))
+
+      pub edits-again : now.id ≡ old.id → now.classes ≡ old.classes → now.has_records ≡ true → Edits k old now now.text range
+      edits-again id classes has = record {
+        text_is = refl;
+        headline = records-again.headline;
+        id = id;
+        classes = classes;
+        file = held-again.file;
+        records = has;
+        ordered = range-again.ordered;
+        within = omega (arith, range-again.within, long-now old.text now.text e h);
+      }
+
+      pub answer-again : IsAnswer k c.front c.old c.new c.rest (candidates k c old.root) old.root now.root range
+      answer-again = takes.answer
+
+-- ---- what an edit of a source answers
+
+module _ {C : Type 0} (k : CharClasses) (old now : Held C) (with : List ℕ) (r : Range ℕ) (n : ℕ) (lines : List ℕ) (h : IsEdited old.text lines (record { start = r.start; old_end = r.end; new_end = n })) (same : h.with ≡ with) (range : Range ℕ) where
+  abbrev Answered : List ℕ → Type 0
+  Answered new = let c = change_of old.text r new in IsAnswer k c.front c.old c.new c.rest (candidates k c old.root) old.root now.root range
+
+  -- a part was read
+  pub answers-part : (old.has_records ≡ true) × Answered h.with → Answers k old now r with range
+  answers-part a = record { recorded = λ has. subst Answered same a.1; unrecorded = λ has. absurd (cc) }
+
+  is-whole : ReadsWhole k old now lines range → NonePasses k (change_by h) old.root → Answered h.with
+  is-whole w none =
+      let text = after old.text lines (record { start = r.start; old_end = r.end; new_end = n }) h in
+      let long = long-now old.text lines (record { start = r.start; old_end = r.end; new_end = n }) h in
+      whole none
+      (numbered-same (file_of old.root) (tree k (text_after (change_by h))) ∙ ap (λ s. numbered_in (file_of old.root) (tree k s)) (sym text) ∙ w.root)
+      (w.range_is ∙ ap (λ m. record { start = 0; end = m }) (sym long))
+
+  -- the whole was read
+  pub answers-whole : now.text ≡ lines → ReadsWhole k old now lines range → (old.has_records ≡ true → length lines < 2 ^ 64 - 1 → NonePasses k (change_by h) old.root) → Answers k old now r with range
+  answers-whole is w none = record {
+    recorded = λ has. subst Answered same (is-whole w (none has w.fits));
+    unrecorded = λ has. (w.range_is ∙ ap (λ (t : List ℕ). record { start = 0; end = length t }) (sym is), ap (λ (t : List ℕ). numbered_in (file_of old.root) (tree k (chars t))) is ∙ w.root);
   }
-
-  pub records-again : IsUtf8 now.text → Records k now rs
-  records-again utf8 = record { headline = headline-again utf8; placed = placed-again; restarts = r.exchanges.restarts }

@@ -1,15 +1,18 @@
--- A node whose children were replaced: its spans, its head and how many nodes it has.
+-- A tree of which children were replaced: its spans, its head and how many nodes it has.
 use Rattle.std.proofs.Common.{◌≡◌, ℕ, ◌+◌, ◌-◌, ◌*◌, ◌/◌, ◌^◌, ◌<◌, ◌≤◌, Bool, true, false, if◌then◌else◌, List, [], ◌∷◌, ◌++◌, take, drop, Option, Some, None, refl, ap, sym, subst, ◌∙◌, arith}
-use Rattle.std.specs.Prelude.{All, nat_le, option_map, slice_range}
-use Rattle.std.proofs.lemmas.List.Elements.{All-nil, All-cons, All-head, All-tail, All-append, All-take, All-drop}
+use Rattle.std.specs.Prelude.{All, nat_le, option_map, slice_get, slice_range}
+use Rattle.std.proofs.Math.ListN.{set}
+use Rattle.std.proofs.lemmas.List.Elements.{All-nil, All-cons, All-head, All-tail, All-append, All-take, All-drop, All-set}
+use Rattle.std.proofs.lemmas.Option.{none-some, slice_get_within, get_or_from_slice_get}
 use Rattle.typst_kinds.specs.Span.{number_of}
 use Rattle.typst_kinds.specs.Head.{Head}
 use Rattle.typst_tree.specs.Tree.{Forest, none, more, Tree, forest, trees, places, preorder, count, nodes}
 use Rattle.typst_tree.specs.Numbers.{placed, stride, numbered, numbered_forest, numbered_list, numberized}
 use Rattle.typst_tree.specs.Order.{upper_at, IsOrdered, IsNumbered}
 use Rattle.typst_tree.specs.Same.{front}
-use Rattle.typst_tree.specs.Replace.{kids_of, with_kids, in_file, swapped, exchanged, middle, back, replaced_at, Reaches}
-use Rattle.typst_tree.proofs.AlongPath.{exchange_some, exchange_none}
+use Rattle.typst_tree.specs.Replace.{kids_of, with_kids, in_file, swapped, exchanged, middle, back, replaced, replaced_at, Reaches}
+use Rattle.typst_tree.specs.Laws.{Along}
+use Rattle.typst_tree.proofs.AlongPath.{along, exchange_some, exchange_none}
 use Rattle.typst_tree.proofs.KeepsOrder.{replaced_numbered}
 
 -- ---- numbered nodes name the file
@@ -60,19 +63,19 @@ all-right P [] ys h = h
 all-right P (x ∷ xs) ys h = all-right P xs ys (All-tail P x (xs ++ ys) h)
 
 -- between the nodes of a forest and those of each of its trees
-spans-of-trees : (file : ℕ) (f : Forest) → All (IsOf file) (preorder f) → All (IsAllOf file) (trees f)
-spans-of-trees file none h = All-nil (IsAllOf file)
-spans-of-trees file (more h ks r) all =
+of-trees : (P : Tree → Type 0) (f : Forest) → All P (preorder f) → All (λ t. All P (places t)) (trees f)
+of-trees P none h = All-nil (λ t. All P (places t))
+of-trees P (more h ks r) all =
     let t : Tree = record { head = h; kids = ks } in
-    let below : All (IsOf file) (preorder ks ++ preorder r) = All-tail (IsOf file) t (preorder ks ++ preorder r) all in
-    All-cons (IsAllOf file) t (trees r)
-    (All-cons (IsOf file) t (preorder ks) (All-head (IsOf file) t (preorder ks ++ preorder r) all) (all-left (IsOf file) (preorder ks) (preorder r) below))
-    (spans-of-trees file r (all-right (IsOf file) (preorder ks) (preorder r) below))
+    let below : All P (preorder ks ++ preorder r) = All-tail P t (preorder ks ++ preorder r) all in
+    All-cons (λ u. All P (places u)) t (trees r)
+    (All-cons P t (preorder ks) (All-head P t (preorder ks ++ preorder r) all) (all-left P (preorder ks) (preorder r) below))
+    (of-trees P r (all-right P (preorder ks) (preorder r) below))
 
-spans-of-forest : (file : ℕ) (ts : List Tree) → All (IsAllOf file) ts → All (IsOf file) (preorder (forest ts))
-spans-of-forest file [] h = All-nil (IsOf file)
-spans-of-forest file (t ∷ ts) h =
-    All-append (IsOf file) (places t) (preorder (forest ts)) (All-head (IsAllOf file) t ts h) (spans-of-forest file ts (All-tail (IsAllOf file) t ts h))
+of-forest : (P : Tree → Type 0) (ts : List Tree) → All (λ t. All P (places t)) ts → All P (preorder (forest ts))
+of-forest P [] h = All-nil P
+of-forest P (t ∷ ts) h =
+    All-append P (places t) (preorder (forest ts)) (All-head (λ u. All P (places u)) t ts h) (of-forest P ts (All-tail (λ u. All P (places u)) t ts h))
 
 -- ---- the children after a replacement name the file
 
@@ -98,21 +101,62 @@ kids-spans file from to new t u (Some ys) s e all =
     let is : with_kids t ys ≡ u = cc in
     let a = front (slice_range (kids_of t) from to) new in
     let b = back a (slice_range (kids_of t) from to) new in
-    let old : All (IsAllOf file) (kids_of t) = spans-of-trees file t.kids (All-tail (IsOf file) t (preorder t.kids) all) in
+    let old : All (IsAllOf file) (kids_of t) = of-trees (IsOf file) t.kids (All-tail (IsOf file) t (preorder t.kids) all) in
     let kids : All (IsAllOf file) ys = exchanged-spans file t.head (kids_of t) (from + a) (to - b) (middle a b new) ys s old in
     subst (λ (v : Tree). All (IsOf file) (places v)) is
-    (All-cons (IsOf file) (with_kids t ys) (preorder (forest ys)) (All-head (IsOf file) t (preorder t.kids) all) (spans-of-forest file ys kids))
+    (All-cons (IsOf file) (with_kids t ys) (preorder (forest ys)) (All-head (IsOf file) t (preorder t.kids) all) (of-forest (IsOf file) ys kids))
 
 -- a tree whose nodes all name the file stays so
-pub replaced-spans : (file : ℕ) (from to : ℕ) (new : List Tree) (t u : Tree) → Reaches [] from to t → replaced_at [] from to new t ≡ Some u → All (IsOf file) (places t) → All (IsOf file) (places u)
+replaced-spans : (file : ℕ) (from to : ℕ) (new : List Tree) (t u : Tree) → Reaches [] from to t → replaced from to new t ≡ Some u → All (IsOf file) (places t) → All (IsOf file) (places u)
 replaced-spans file from to new t u r e all =
     let span : t.head.span ≡ Some (file, number_of t.head.span) = All-head (IsOf file) t (preorder t.kids) all in
     kids-spans file from to new t u (swapped file t.head (kids_of t) from to (slice_range (kids_of t) from to) new) refl
     (ap (λ sp. option_map (with_kids t) (in_file sp t.head (kids_of t) from to new)) (sym span) ∙ e) all
 
--- the node itself stays as it is
-pub replaced-head : (from to : ℕ) (new : List Tree) (t u : Tree) → Reaches [] from to t → replaced_at [] from to new t ≡ Some u → u.head ≡ t.head
-replaced-head from to new t u r e = (replaced_numbered from to new t u r e).head
+-- ---- along a path
+
+abbrev pub IsDetached : Tree → Type 0
+IsDetached n = n.head.span ≡ None
+
+-- a tree keeps its head and the file that all its nodes name, and some of its nodes have numbers
+pub record Stays (t u : Tree) : Type 0 where
+  pub head : u.head ≡ t.head
+  pub spans : (file : ℕ) → All (IsOf file) (places t) → All (IsOf file) (places u)
+  pub numbered : All IsDetached (places t) → ⊥
+
+-- a node without a file takes no new children
+takes-none : (from to : ℕ) (new : List Tree) (t u : Tree) (span : Option (ℕ × ℕ)) → option_map (with_kids t) (in_file span t.head (kids_of t) from to new) ≡ Some u → span ≡ None → ⊥
+takes-none from to new t u None e n = none-some u e
+takes-none from to new t u (Some p) e n = none-some p (sym n)
+
+stays : (from to : ℕ) (new : List Tree) (t u : Tree) → Reaches [] from to t → replaced from to new t ≡ Some u → Stays t u
+stays from to new t u r e = record {
+  head = (replaced_numbered from to new t u r e).head;
+  spans = λ file all. replaced-spans file from to new t u r e all;
+  numbered = λ all. takes-none from to new t u t.head.span e (All-head IsDetached t (preorder t.kids) all);
+}
+
+pub all-at : {X : Type 0} (P : X → Type 0) (xs : List X) (i : ℕ) (x : X) → All P xs → slice_get xs i ≡ Some x → P x
+all-at P xs i x h g = subst P (get_or_from_slice_get xs i x x g) (h i x (slice_get_within xs i x g))
+
+-- so does the tree of which a child does
+with-kid : (t k l : Tree) (i : ℕ) → slice_get (kids_of t) i ≡ Some k → Stays k l → Stays t (with_kids t (set (kids_of t) i l))
+with-kid t k l i there s = record {
+  head = refl;
+  spans = λ file all. (
+      let kids = of-trees (IsOf file) t.kids (All-tail (IsOf file) t (preorder t.kids) all) in
+      let kid = s.spans file (all-at (IsAllOf file) (kids_of t) i k kids there) in
+      All-cons (IsOf file) (with_kids t (set (kids_of t) i l)) (preorder (forest (set (kids_of t) i l))) (All-head (IsOf file) t (preorder t.kids) all)
+      (of-forest (IsOf file) (set (kids_of t) i l) (All-set (IsAllOf file) (kids_of t) i l kid kids)));
+  numbered = λ all. s.numbered (all-at (λ u. All IsDetached (places u)) (kids_of t) i k (of-trees IsDetached t.kids (All-tail IsDetached t (preorder t.kids) all)) there);
+}
+
+stays-along : (path : List ℕ) (t u : Tree) → Along Stays path t u → Stays t u
+stays-along [] t u l = l
+stays-along (i ∷ path) t u l = subst (Stays t) (sym l.3) (with-kid t l.0 l.1 i l.2 (stays-along path l.0 l.1 l.4))
+
+pub replaced-stays : (path : List ℕ) (from to : ℕ) (new : List Tree) (t u : Tree) → Reaches path from to t → replaced_at path from to new t ≡ Some u → Stays t u
+replaced-stays path from to new t u r e = stays-along path t u (along Stays from to new (stays from to new) path t u r e)
 
 -- ---- how many nodes there are
 

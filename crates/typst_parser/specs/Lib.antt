@@ -1,6 +1,7 @@
 pub mod Held
 pub mod Headline
 pub mod Records
+pub mod Answers
 pub mod Tried
 pub mod Find
 pub mod Found

@@ -1,17 +1,16 @@
 -- What a source keeps beside its text, lines and tree.
-use Rattle.std.specs.Prelude.{◌≡◌, ℕ, ◌≤◌, ◌^◌, true, List, [], length, Option, Some, None}
-use Rattle.std.specs.Str.{chars}
+use Rattle.std.specs.Prelude.{◌≡◌, ℕ, ◌+◌, ◌-◌, ◌<◌, ◌≤◌, ◌^◌, ◌++◌, true, List, length, take, drop, Option, Some, None}
+use Rattle.std.specs.Str.{chars, IsUtf8, IsCharBoundary}
 use Rattle.std.specs.declared.ops.Range.{Range}
 use Rattle.typst_kinds.specs.Span.{number_of}
 use Rattle.typst_tree.specs.Tree.{Tree}
-use Rattle.typst_tree.specs.Order.{AreInOrder, IsNumbered, numbers_of, upper_at}
-use Rattle.typst_tree.specs.Replace.{replaced_at}
+use Rattle.typst_tree.specs.Order.{IsNumbered, upper_at}
 use Rattle.typst_lines.specs.Classes.{CharClasses}
-use Rattle.typst_reparser.specs.Exchange.{Exchanges}
-use Rattle.typst_reparser.specs.Restart.{AreKept}
-use Rattle.typst_reparser.specs.declared.restart.Restart.{Restart}
+use Rattle.typst_reparser.specs.Entries.{Units, units_of}
+use Rattle.typst_reparser.specs.Grammar.{log, tree}
+use Rattle.typst_reparser.specs.declared.replacement.Replacement.{Replacement}
 use Rattle.typst_parser.specs.Held.{Held}
-use Rattle.typst_parser.specs.Headline.{Headline, file_of}
+use Rattle.typst_parser.specs.Headline.{Headline, file_of, numbered_in}
 
 -- where there is a file, the numbers below each node stand between its number and its upper end
 abbrev pub IsPlacedBy : Option ℕ → Tree → Type 0
@@ -23,19 +22,27 @@ abbrev pub IsPlaced : Option ℕ → Tree → Type 0
 IsPlaced None t = Unit {0}
 IsPlaced (Some file) t = IsNumbered t × (1 ≤ number_of t.head.span) × (upper_at t.head ≤ 2 ^ 47)
 
--- The headline holds, and the text can be read anew at each restart.
-pub record Records {C : Type 0} (k : CharClasses) (s : Held C) (rs : List Restart) : Type 0 where
+-- These are the units of a text's reading, which a machine word counts.
+pub record AreUnits (k : CharClasses) (text : List ℕ) (units : Units) : Type 0 where
+  pub are : units ≡ units_of (log k (chars text))
+  pub fits : length text < 2 ^ 64 - 1
+
+-- The headline holds, and the units are those of the text's reading.
+pub record Records {C : Type 0} (k : CharClasses) (s : Held C) (units : Units) : Type 0 where
   pub headline : Headline k s
   pub placed : IsPlaced (file_of s.root) s.root
-  pub restarts : AreKept k (chars s.text) rs
+  pub are : AreUnits k s.text units
 
--- what an edit of the text exchanges stands in the tree
-pub record Replaced (k : CharClasses) (old new : List ℕ) (t u : Tree) (bytes : Range ℕ) (rs : List Restart) : Type 0 where
-  pub nodes : List Tree
-  pub range : Range ℕ
-  pub exchanges : Exchanges k old new nodes range bytes rs
-  pub is : replaced_at [] range.start range.end nodes t ≡ Some u
-  pub order : IsNumbered t → IsNumbered u × AreInOrder (numbers_of u)
+-- In a text a stretch was replaced, whose ends are on character boundaries.
+pub record IsEdited (old new : List ℕ) (e : Replacement) : Type 0 where
+  pub with : List ℕ
+  pub utf8_old : IsUtf8 old
+  pub utf8 : IsUtf8 with
+  pub start : IsCharBoundary old e.start
+  pub end : IsCharBoundary old e.old_end
+  pub ordered : e.start ≤ e.old_end
+  pub is : new ≡ take e.start old ++ (with ++ drop e.old_end old)
+  pub new_end : e.new_end ≡ e.start + length with
 
 -- a source has another text now, and a range of it was read
 pub record Edits {C : Type 0} (k : CharClasses) (old new : Held C) (text : List ℕ) (range : Range ℕ) : Type 0 where
@@ -47,3 +54,9 @@ pub record Edits {C : Type 0} (k : CharClasses) (old new : Held C) (text : List 
   pub records : new.has_records ≡ true
   pub ordered : range.start ≤ range.end
   pub within : range.end ≤ length new.text
+
+-- the whole of a text was read, and its tree numbered in the file of the one before
+pub record ReadsWhole {C : Type 0} (k : CharClasses) (old new : Held C) (text : List ℕ) (range : Range ℕ) : Type 0 where
+  pub range_is : range ≡ record { start = 0; end = length text }
+  pub root : numbered_in (file_of old.root) (tree k (chars text)) ≡ Some new.root
+  pub fits : length text < 2 ^ 64 - 1

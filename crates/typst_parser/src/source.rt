@@ -4,20 +4,18 @@ ghost use Rattle.std.specs.Str.{IsCharBoundary, chars};
 ghost use Rattle.std.specs.String.{string_bytes};
 ghost use Rattle.typst_tree.specs.Tree.{text_of, bare, nodes};
 ghost use Rattle.typst_reparser.specs.Grammar.{tree};
-ghost use Rattle.typst_reparser.specs.Exchange.{IsEdited};
-ghost use Rattle.typst_reparser.specs.Restart.{AreKept};
-ghost use Rattle.typst_tree.specs.Replace.{kids_of};
 ghost use Rattle.typst_parser.specs.Headline.{Headline, edited, file_of, AreNumbered, AreOrdered, numbered_in};
-ghost use Rattle.typst_parser.specs.Tried.{Tries};
-ghost use Rattle.typst_parser.specs.Records.{Edits, IsPlaced, IsPlacedBy, Replaced};
+ghost use Rattle.typst_parser.specs.Tried.{Decides, Tries, change_by};
+ghost use Rattle.typst_parser.specs.Records.{AreUnits, Edits, IsPlaced, IsPlacedBy, IsEdited, ReadsWhole};
+ghost use Rattle.typst_parser.specs.Answers.{Answers, AnswersText};
 
 use std::alloc::{AllocError, Global};
 use std::fmt;
 use std::marker::Model;
 use std::ops::Range;
-use typst_kinds::{FileId, SourceError, Span, SpanNumber, SubRange, SyntaxKind};
+use typst_kinds::{FileId, SourceError, Span, SpanNumber, SubRange};
 use typst_lines::{Classes, Lines};
-use typst_reparser::{Replacement, Restart, read_edited, read_text, root_over};
+use typst_reparser::{Records, Replacement, parse_recorded, reparse};
 use typst_tree::{LinkedNode, SyntaxNode};
 
 /// The numbers that nodes can have.
@@ -35,8 +33,8 @@ pub struct Source<C: Classes> {
     root: SyntaxNode,
     classes: C,
     has_records: bool,
-    /// Where the text can be read anew, from its end to its start.
-    restarts: Vec<Restart>,
+    /// The units of the text's reading.
+    records: Records,
 }
 
 impl<C: Classes> Model for Source<C> {
@@ -50,7 +48,7 @@ impl<C: Classes> Model for Source<C> {
 
     ghost view = { λ a. record { id = a.id; text = a.lines; root = a.root; classes = a.classes; has_records = a.has_records } };
 
-    ghost invariant = { λ a. a.has_records ≡ true → Records (C.classes a.classes) (record { id = a.id; text = a.lines; root = a.root; classes = a.classes; has_records = a.has_records }) a.restarts.items };
+    ghost invariant = { λ a. a.has_records ≡ true → Records (C.classes a.classes) (record { id = a.id; text = a.lines; root = a.root; classes = a.classes; has_records = a.has_records }) a.records.units };
 }
 
 /// Numbers a tree over all numbers of a file, or takes its numbers away where there is none.
@@ -66,12 +64,11 @@ fn number(root: &mut SyntaxNode, file: Option<FileId>) -> Result<(), SourceError
     Ok(())
 }
 
-/// The tree of a text, numbered in a file, or without numbers where there is none, and where the
-/// text can be read anew.
+/// The tree of a text, numbered in a file, or without numbers where there is none, and its units.
 #[derive(Drop)]
 struct Parsed {
     root: SyntaxNode,
-    restarts: Vec<Restart>,
+    records: Records,
 }
 
 /// The tree of a text, numbered in a file, or without numbers where there is none.
@@ -85,55 +82,18 @@ fn parse_anew<C: Classes>(
     ensures leaves { IfOk result (λ made. text_of made.root ≡ text.now) }
     ensures numbers { IfOk result (λ made. AreNumbered file made.root) }
     ensures placed { IfOk result (λ made. IsPlaced file made.root) }
-    ensures restarts { IfOk result (λ made. AreKept (C.classes classes.now) (chars text.now) made.restarts.items) }
+    ensures units { IfOk result (λ made. AreUnits (C.classes classes.now) text.now made.records.units) }
     ensures refused { result ≡ Err SourceError.SpanNumbers → numbered_in file (tree (C.classes classes.now) (chars text.now)) ≡ None }
 {
-    let Ok(whole) = read_text(alloc, text, classes) else {
+    let Ok(whole) = parse_recorded(alloc, text, classes) else {
         return Err(SourceError::OutOfMemory);
     };
-    let Ok(mut root) = root_over(SyntaxKind::Markup, whole.nodes) else {
-        return Err(SourceError::OutOfMemory);
-    };
+    let mut root = whole.tree;
     number(&mut root, file)?;
     Ok(Parsed {
         root,
-        restarts: whole.restarts,
+        records: whole.records,
     })
-}
-
-/// Reads of an edited text what the edit may have changed, and puts the nodes in the place of those
-/// that stood there. It answers which bytes of the new text were read, or none where the nodes find
-/// no numbers: then the tree and the restarts stay as they were.
-fn reparse<C: Classes>(
-    alloc: Global,
-    root: &mut SyntaxNode,
-    old: &str,
-    new: &str,
-    edit: Replacement,
-    restarts: &mut Vec<Restart>,
-    classes: &C,
-) -> Result<Option<Range<usize>>, SourceError>
-    requires edit { IsEdited old.now new.now edit }
-    requires restarts { AreKept (C.classes classes.now) (chars old.now) restarts.old.items }
-    requires inner { IsTrue root.old.head.is_inner }
-    requires count { length (kids_of root.old) ≡ length (kids_of (tree (C.classes classes.now) (chars old.now))) }
-    ensures done { IfOk result (λ read. IfSome read (λ bytes. Replaced (C.classes classes.now) old.now new.now root.old root.new bytes restarts.new.items)) }
-    ensures undone { result ≡ Ok None → (root.new ≡ root.old) × (restarts.new ≡ restarts.old) }
-    ensures err { OnErr result ((root.new ≡ root.old) × (restarts.new ≡ restarts.old)) }
-    ensures memory { IfErr result (λ e. e ≡ SourceError.OutOfMemory) }
-{
-    let count = root.children().len();
-    let Ok(exchange) = read_edited(alloc, old, new, edit, restarts, count, classes) else {
-        return Err(SourceError::OutOfMemory);
-    };
-    match root.replace_at(&[], exchange.range, exchange.nodes) {
-        Ok(()) => {
-            *restarts = exchange.restarts;
-            Ok(Some(exchange.bytes))
-        }
-        Err(SourceError::SpanNumbers) => Ok(None),
-        Err(SourceError::OutOfMemory) => Err(SourceError::OutOfMemory),
-    }
 }
 
 /// What came of reading a part of a text.
@@ -170,7 +130,7 @@ impl<C: Classes + Drop> Source<C> {
             root: made.root,
             classes,
             has_records: true,
-            restarts: made.restarts,
+            records: made.records,
         })
     }
 
@@ -207,7 +167,7 @@ impl<C: Classes + Drop> Source<C> {
             root,
             classes,
             has_records: false,
-            restarts: Vec::new(alloc),
+            records: Records::new(alloc),
         })
     }
 }
@@ -320,6 +280,7 @@ impl<C: Classes> Source<C> {
         ensures headline { OnOk result (Headline (C.classes self.new.classes) self.new) }
         ensures kept { OnOk result ((self.new.id ≡ self.old.id) × (self.new.classes ≡ self.old.classes) × (file_of self.new.root ≡ file_of self.old.root)) }
         ensures records { OnOk result (self.new.has_records ≡ true) }
+        ensures answer { IfOk result (λ range. Answers (C.classes self.old.classes) self.old self.new replace with.now range) }
         ensures within { IfOk result (λ range. (range.start ≤ range.end) × (range.end ≤ length self.new.text)) }
         ensures err { OnErr result (self.new ≡ self.old) }
         ensures refused { result ≡ Err SourceError.SpanNumbers → numbered_in (file_of self.old.root) (tree (C.classes self.old.classes) (chars (edited self.old.text replace with.now))) ≡ None }
@@ -345,22 +306,24 @@ impl<C: Classes> Source<C> {
     fn read_edit(&mut self, edit: Replacement, lines: Lines<String>) -> Result<Tried, SourceError>
         requires { IsEdited self.old.text lines edit }
         ensures tried { IfOk result (λ t. Tries (C.classes self.old.classes) self.old self.new lines t) }
+        ensures decided { (e : IsEdited self.old.text lines edit) → IfOk result (λ t. Decides (C.classes self.old.classes) self.old self.new lines (change_by e) t) }
         ensures err { OnErr result (self.new ≡ self.old) }
         ensures memory { IfErr result (λ e. e ≡ SourceError.OutOfMemory) }
     {
-        if !self.has_records {
+        if !self.has_records || lines.len_bytes() == usize::MAX {
             return Ok(Tried::Undone(lines));
         }
-        let Some(bytes) = reparse(
+        let Ok(read) = reparse(
             self.alloc,
             &mut self.root,
-            self.lines.text(),
+            &mut self.records,
             lines.text(),
             edit,
-            &mut self.restarts,
             &self.classes,
-        )?
-        else {
+        ) else {
+            return Err(SourceError::OutOfMemory);
+        };
+        let Some(bytes) = read else {
             return Ok(Tried::Undone(lines));
         };
         self.lines = lines;
@@ -370,6 +333,7 @@ impl<C: Classes> Source<C> {
     /// Makes a text the text, by reading the whole of it.
     fn read_whole(&mut self, lines: Lines<String>) -> Result<Range<usize>, SourceError>
         ensures edits { IfOk result (λ range. Edits (C.classes self.old.classes) self.old self.new lines range) }
+        ensures whole { IfOk result (λ range. ReadsWhole (C.classes self.old.classes) self.old self.new lines range) }
         ensures err { OnErr result (self.new ≡ self.old) }
         ensures refused { result ≡ Err SourceError.SpanNumbers → numbered_in (file_of self.old.root) (tree (C.classes self.old.classes) (chars lines)) ≡ None }
     {
@@ -378,7 +342,7 @@ impl<C: Classes> Source<C> {
         let end = lines.len_bytes();
         self.lines = lines;
         self.root = made.root;
-        self.restarts = made.restarts;
+        self.records = made.records;
         self.has_records = true;
         Ok(0..end)
     }
@@ -391,6 +355,7 @@ impl<C: Classes> Source<C> {
         ensures headline { OnOk result (self.new.has_records ≡ true → Headline (C.classes self.new.classes) self.new) }
         ensures kept { OnOk result ((self.new.id ≡ self.old.id) × (self.new.classes ≡ self.old.classes) × (file_of self.new.root ≡ file_of self.old.root)) }
         ensures records { OnOk result ((self.old.text ≡ new.now → ⊥) → self.new.has_records ≡ true) }
+        ensures answer { IfOk result (λ range. (self.old.text ≡ new.now → ⊥) → AnswersText (C.classes self.old.classes) self.old self.new new.now range) }
         ensures within { IfOk result (λ range. (range.start ≤ range.end) × (range.end ≤ length self.new.text)) }
         ensures err { OnErr result (self.new ≡ self.old) }
         ensures refused { result ≡ Err SourceError.SpanNumbers → numbered_in (file_of self.old.root) (tree (C.classes self.old.classes) (chars new.now)) ≡ None }
@@ -410,8 +375,6 @@ impl<C: Classes + Copy> Source<C> {
     pub fn try_clone(&self) -> Result<Source<C>, AllocError>
         ensures { IfOk result (λ s. s ≡ self.now) }
     {
-        let mut restarts = Vec::new(self.alloc);
-        restarts.extend_from_slice(self.restarts.as_slice())?;
         Ok(Source {
             alloc: self.alloc,
             id: self.id,
@@ -419,7 +382,7 @@ impl<C: Classes + Copy> Source<C> {
             root: self.root.try_clone()?,
             classes: self.classes,
             has_records: self.has_records,
-            restarts,
+            records: self.records.try_clone(self.alloc)?,
         })
     }
 }

@@ -1,17 +1,25 @@
 -- From what a contract promises to the lemma behind it:
---   read_text                    Parts: from one restart to the next; Passing: all that are met, and their floors; Loops: pieces until one can be kept; Fresh: what is known at one is found anew
---   read_edited                  Exchanged: what the edit exchanges; Behind, Before: the restarts behind it and before it; Chosen: which are chosen; Onwards, Restarts, RestartBytes: what a restart is; MadeOn: pieces behind others
-pub mod Fresh
-pub mod MadeOn
-pub mod Loops
-pub mod Restarts
-pub mod RestartBytes
-pub mod Onwards
-pub mod Parts
-pub mod Passing
-pub mod Behind
-pub mod Before
-pub mod Chosen
-pub mod Exchanged
+--   parse_recorded               Numbers: the notes stand at bytes of the text
+--   read: blocks                 Blocks, BlockSteps
+--   read: a run                  Paths: where its block begins; ReadSteps: its entry
+--   read: pieces                 Reading: up to a byte; Serving: from candidate to candidate; Runs, RunSteps: of any run; Inner: of a content block
+--   reparse                      Answering, Turns: the candidates one after the other
+mod Laws
+mod Places
+mod Paths
+mod Numbers
+mod Reading
+mod Runs
+mod Answering
+mod Blocks
+mod BlockSteps
+mod Inner
+mod Serving
+mod RunSteps
+mod ReadSteps
+mod Turns
 -- What the crates above name of those below.
+pub use Rattle.typst_edits.proofs.CandidatePlaces
+pub use Rattle.typst_edits.proofs.CandidateWorth
 pub use Rattle.typst_edits.proofs.Whole
+pub use Rattle.typst_edits.proofs.Widths

@@ -1,179 +1,142 @@
-//! Reading a text anew where it was edited.
+//! Reading of an edited text what the edit may have changed.
 
-ghost use Rattle.std.specs.Prelude.{◌≡◌, IfOk, IfSome, OnOk, length};
-ghost use Rattle.std.specs.Str.{chars};
-ghost use Rattle.typst_edits.specs.Grammar.{tree};
-ghost use Rattle.typst_tree.specs.Tree.{trees};
-ghost use Rattle.typst_reparser.specs.Exchange.{AddsBefore, Exchanges, IsEdited, IsNearest, KeepsBehind, befores};
-ghost use Rattle.typst_reparser.specs.Restart.{AreKept, IsRest};
+ghost use Rattle.std.specs.Prelude.{◌≡◌, ℕ, ◌<◌, ◌≤◌, ◌^◌, Some, None, IfOk, IfSome, OnOk, OnErr, List, length, take, true};
+ghost use Rattle.typst_tree.specs.Order.{AreInOrder, IsNumbered, numbers_of};
+ghost use Rattle.typst_tree.specs.Replace.{Reaches};
+ghost use Rattle.typst_edits.specs.Edit.{Among};
+ghost use Rattle.typst_reparser.specs.Attempt.{Speaks, at_path};
+ghost use Rattle.typst_reparser.specs.Change.{Change, Makes, Holds, candidates};
+ghost use Rattle.typst_reparser.specs.Steps.{GoesOn, ServesFor, ServesOr};
+ghost use Rattle.typst_reparser.specs.Reparse.{CanTake, NonePasses, Puts, Takes, TakesPlace};
 
-use crate::goals::Goals;
-use crate::reading::{read_on, settle};
-use crate::restart::Restart;
+use crate::attempt::{Asked, Attempt, Part, Serving};
+use crate::replacement::Replacement;
 use std::alloc::{AllocError, Global};
 use std::ops::Range;
+use typst_candidates::{Candidate, Records, find_candidates};
+use typst_kinds::SourceError;
 use typst_lines::Classes;
 use typst_tree::SyntaxNode;
 
-/// Which stretch of a text was replaced, in bytes.
-#[derive(Debug, Clone, Copy)]
-pub struct Replacement {
-    /// Where the stretch begins.
-    pub start: usize,
-    /// Where it ended.
-    pub old_end: usize,
-    /// Where it ends now.
-    pub new_end: usize,
-}
-
-impl Replacement {
-    /// None, at a text's start.
-    fn at_start() -> Replacement {
-        Replacement {
-            start: 0,
-            old_end: 0,
-            new_end: 0,
-        }
-    }
-}
-
-/// A text that was read as a whole.
-#[derive(Drop)]
-pub struct Read {
-    /// The nodes at the top of its tree.
-    pub nodes: Vec<SyntaxNode>,
-    /// Where it can be read anew, from its end to its start.
-    pub restarts: Vec<Restart>,
-}
-
-/// What an edit of a text exchanges.
-#[derive(Drop)]
-pub struct Exchange {
-    /// The nodes that come.
-    pub nodes: Vec<SyntaxNode>,
-    /// The indices of those that go, at the top of the tree.
-    pub range: Range<usize>,
-    /// The bytes of the new text that were read.
-    pub bytes: Range<usize>,
-    /// Where the new text can be read anew, from its end to its start.
-    pub restarts: Vec<Restart>,
-}
-
-/// Reads a text of markup.
-pub fn read_text<C: Classes>(alloc: Global, text: &str, classes: &C) -> Result<Read, AllocError>
-    ensures nodes { IfOk result (λ w. IsRest (C.classes classes.now) (chars text.now) 0 w.nodes.items) }
-    ensures restarts { IfOk result (λ w. AreKept (C.classes classes.now) (chars text.now) w.restarts.items) }
-{
-    let none = Vec::new(alloc);
-    let goals = Goals::new(&none, Replacement::at_start());
-    let rest = read_on(alloc, text, Restart::start(), goals, classes)?;
-    let mut restarts = Vec::new(alloc);
-    settle(rest.met, usize::MAX, &mut restarts)?;
-    Ok(Read {
-        nodes: rest.nodes,
-        restarts,
-    })
-}
-
-/// Reads of an edited text what the edit may have changed. The restarts are those of the old text,
-/// from its end to its start, and there are so many nodes at the top of its tree.
-pub fn read_edited<C: Classes>(
+/// Reads of an edited text the first candidate that passes and whose nodes find numbers, and puts its
+/// nodes and units in place. Answers its range in the new text, in bytes, or `None` where there is
+/// none: then the tree and the units stay as they were.
+pub fn reparse<C: Classes>(
     alloc: Global,
-    old: &str,
+    root: &mut SyntaxNode,
+    records: &mut Records,
     new: &str,
     edit: Replacement,
-    restarts: &Vec<Restart>,
-    count: usize,
     classes: &C,
-) -> Result<Exchange, AllocError>
-    requires edit { IsEdited old.now new.now edit }
-    requires restarts { AreKept (C.classes classes.now) (chars old.now) restarts.now.items }
-    requires count { count ≡ length (trees (tree (C.classes classes.now) (chars old.now)).kids) }
-    ensures { IfOk result (λ e. Exchanges (C.classes classes.now) old.now new.now e.nodes.items e.range e.bytes e.restarts.items) }
+) -> Result<Option<Range<usize>>, AllocError>
+    requires { (c : Change) × (Makes c new.now edit × Holds (C.classes classes.now) c root.old records.old.units) }
+    ensures part { (c : Change) → Makes c new.now edit → Holds (C.classes classes.now) c root.old records.old.units → IfOk result (λ r. IfSome r (λ range. Takes (C.classes classes.now) c root.old root.new records.new.units range)) }
+    ensures none { (c : Change) → Makes c new.now edit → Holds (C.classes classes.now) c root.old records.old.units → result ≡ Ok None → NonePasses (C.classes classes.now) c root.old }
+    ensures undone { result ≡ Ok None → (root.new ≡ root.old) × (records.new.units ≡ records.old.units) }
+    ensures err { OnErr result ((root.new ≡ root.old) × (records.new.units ≡ records.old.units)) }
+    ensures ordered { IfOk result (λ r. IfSome r (λ _. IsNumbered root.old → IsNumbered root.new × AreInOrder (numbers_of root.new))) }
 {
-    let from = nearest(restarts, edit.start);
-    let goals = Goals::new(restarts, edit);
-    let rest = read_on(alloc, new, from, goals, classes)?;
-    let mut kept = Vec::new(alloc);
-    let Some((met, goal)) = rest.end else {
-        let floor = settle(rest.met, usize::MAX, &mut kept)?;
-        keep_before(restarts, edit.start, from, floor, &mut kept)?;
-        return Ok(Exchange {
-            nodes: rest.nodes,
-            range: from.nodes..count,
-            bytes: from.cursor..new.len(),
-            restarts: kept,
-        });
+    let Some(last) = records.last() else {
+        return Ok(None);
     };
-    keep_behind(goals, goal, met, &mut kept)?;
-    let floor = settle(rest.met, goal.floor, &mut kept)?;
-    keep_before(restarts, edit.start, from, floor, &mut kept)?;
-    Ok(Exchange {
-        nodes: rest.nodes,
-        range: from.nodes..goal.nodes,
-        bytes: from.cursor..goal.cursor,
-        restarts: kept,
-    })
+    let asked = Asked {
+        new,
+        edit,
+        front: records.front(edit.start),
+        rear: records.rear(edit.old_end, last),
+        classes,
+    };
+    let found = find_candidates(alloc, root, records, edit.start, edit.old_end)?;
+    let steps = &found.path;
+    let mut serving = None;
+    for candidate in &found.items {
+        let path = front_of(steps, candidate.depth);
+        serving = serving_of(serving, *candidate);
+        let end = take_place(alloc, root, records, &asked, *candidate, path, &mut serving)?;
+        if let Some(end) = end {
+            return Ok(Some(candidate.start..end));
+        }
+    }
+    Ok(None)
 }
 
-/// The first of the restarts up to which nothing was looked at behind a place, or else the start of the
-/// text.
-fn nearest(restarts: &Vec<Restart>, at: usize) -> Restart
-    ensures { IsNearest (befores at restarts.now.items) result }
+/// The reading, if it can go on for a candidate.
+fn serving_of<'s>(serving: Option<Serving<'s>>, candidate: Candidate) -> Option<Serving<'s>>
+    ensures { IfSome result (λ s. (serving.entry ≡ Some s) × GoesOn candidate s) }
 {
-    let mut index = 0usize;
-    'restarts: loop {
-        let Some(restart) = restarts.get(index) else {
-            return Restart::start();
-        };
-        if restart.reach <= at {
-            return *restart;
-        }
-        index = index.saturating_add(1);
+    let current = serving?;
+    if current.goes_on(candidate) {
+        return Some(current);
+    }
+    None
+}
+
+/// The first steps of a path, so many or all.
+fn front_of(path: &[usize], depth: usize) -> &[usize]
+    ensures { result.now ≡ take depth path.now }
+{
+    if depth < path.len() {
+        &path[..depth]
+    } else {
+        path
     }
 }
 
-/// Keeps the goals from the one on at which the reading stopped.
-fn keep_behind(
-    goals: Goals<'_>,
-    goal: Restart,
-    met: Restart,
-    kept: &mut Vec<Restart>,
-) -> Result<(), AllocError>
-    ensures { OnOk result (KeepsBehind goals.entry.restarts.now.items goals.entry.edit goal met kept.old.items kept.new.items) }
+/// Puts what takes the candidate's place there, if it passes and its nodes find numbers; answers where it
+/// ends in the new text. Else nothing changes.
+fn take_place<'s, C: Classes>(
+    alloc: Global,
+    root: &mut SyntaxNode,
+    records: &mut Records,
+    asked: &Asked<'s, C>,
+    candidate: Candidate,
+    path: &[usize],
+    serving: &mut Option<Serving<'s>>,
+) -> Result<Option<usize>, AllocError>
+    requires { CanTake (C.classes asked.now.classes.now) asked.now root.old records.old.units path.now candidate serving.old }
+    ensures taken { (c : Change) → Speaks (C.classes asked.now.classes.now) c asked.now root.old records.old.units → Among (at_path path.now candidate) (candidates (C.classes asked.now.classes.now) c root.old) → ServesFor (C.classes asked.now.classes.now) c root.old path.now candidate serving.old → IfOk result (λ end. TakesPlace (C.classes asked.now.classes.now) c (at_path path.now candidate) root.old root.new records.new.units end × ServesOr (C.classes asked.now.classes.now) c root.old path.now candidate.depth serving.new) }
+    ensures undone { result ≡ Ok None → (root.new ≡ root.old) × (records.new.units ≡ records.old.units) }
+    ensures err { OnErr result ((root.new ≡ root.old) × (records.new.units ≡ records.old.units)) }
+    ensures ordered { IfOk result (λ r. IfSome r (λ _. IsNumbered root.old → IsNumbered root.new × AreInOrder (numbers_of root.new))) }
 {
-    for index in 0..goals.len() {
-        if let Some(restart) = goals.get(index) {
-            if let Some(behind) = restart.behind(&goal, &met) {
-                kept.push(behind)?;
-            }
-        }
+    let attempt = Attempt {
+        root,
+        records,
+        asked,
+    };
+    let Some(part) = attempt.read(alloc, candidate, path, serving)? else {
+        return Ok(None);
+    };
+    let end = part.end;
+    if put(root, records, path, candidate.to, part)? {
+        return Ok(Some(end));
     }
-    Ok(())
+    Ok(None)
 }
 
-/// Keeps the restarts up to the one from which on the text was read, of those up to which nothing was
-/// looked at behind a place, with the floor of all looks behind that.
-fn keep_before(
-    restarts: &Vec<Restart>,
-    at: usize,
-    from: Restart,
-    floor: usize,
-    kept: &mut Vec<Restart>,
-) -> Result<(), AllocError>
-    ensures { OnOk result (AddsBefore (befores at restarts.now.items) from floor kept.old.items kept.new.items) }
+/// Puts a part in a candidate's place; answers false where its nodes find no numbers. Then, and where
+/// there is no memory, nothing changes.
+fn put(
+    root: &mut SyntaxNode,
+    records: &mut Records,
+    path: &[usize],
+    to: usize,
+    part: Part,
+) -> Result<bool, AllocError>
+    requires reaches { Reaches path.now part.first to root.old }
+    requires order { part.from ≤ part.to }
+    requires within { part.to < length records.old.units.entries }
+    ensures puts { IfOk result (λ done. Puts path.now part.first to part root.old root.new records.old.units records.new.units done) }
+    ensures err { OnErr result ((root.new ≡ root.old) × (records.new.units ≡ records.old.units)) }
+    ensures ordered { IfOk result (λ done. done ≡ true → IsNumbered root.old → IsNumbered root.new × AreInOrder (numbers_of root.new)) }
 {
-    let mut index = 0usize;
-    'before: loop {
-        let Some(restart) = restarts.get(index) else {
-            return Ok(());
-        };
-        if restart.reach <= at && restart.cursor <= from.cursor {
-            kept.push(Restart {
-                floor: restart.floor.min(floor),
-                ..*restart
-            })?;
+    records.reserve(&part.entries)?;
+    match root.replace_at(path, part.first..to, part.nodes) {
+        Ok(()) => {
+            records.put(&part.entries, part.from, part.to);
+            Ok(true)
         }
-        index = index.saturating_add(1);
+        Err(SourceError::SpanNumbers) => Ok(false),
+        Err(SourceError::OutOfMemory) => Err(AllocError),
     }
 }

@@ -1,12 +1,13 @@
-//! Reading anew, around an edit, what the edit may have changed.
+//! Reading anew, of an edited text, the first candidate that passes.
 #![tactic(auto)]
 
+mod attempt;
 mod edited;
-mod goals;
-mod reading;
-mod restart;
+mod read;
+mod replacement;
 
-pub use edited::{Exchange, Read, Replacement, read_edited, read_text};
-pub use restart::Restart;
-pub use typst_edits::{Noted, parse, parse_code, parse_math, parse_noted, root_over};
-pub use typst_language::{Block, Mark, Note};
+pub use edited::reparse;
+pub use read::{Recorded, parse_recorded};
+pub use replacement::Replacement;
+pub use typst_candidates::Records;
+pub use typst_edits::{Block, Mark, Note, Noted, parse, parse_code, parse_math, parse_noted};

@@ -1,0 +1,21 @@
+-- The laws of runs that this crate rests on, each by what it goes by.
+use Rattle.typst_edits.specs.RunTest.{InnerRunTestLaw, RunTestLaw}
+use Rattle.typst_edits.specs.Served.{ServedLaw}
+use Rattle.typst_edits.proofs.InOrder.{in-order-law}
+use Rattle.typst_edits.proofs.InnerRunNumbers.{inner-numbers-law}
+use Rattle.typst_edits.proofs.InnerRuns.{inner-pieces-of-law}
+use Rattle.typst_edits.proofs.InnerRunTest.{inner-run-test-law as by-inner}
+use Rattle.typst_edits.proofs.InnerServed.{served-law as by-first}
+use Rattle.typst_edits.proofs.OpensApart.{opens-apart-law}
+use Rattle.typst_edits.proofs.RootRuns.{root-pieces-of-law}
+use Rattle.typst_edits.proofs.RunNumbers.{run-numbers-law}
+use Rattle.typst_edits.proofs.RunTest.{run-test-law as by-own}
+
+pub run-test-law : RunTestLaw
+run-test-law = by-own in-order-law (run-numbers-law in-order-law) root-pieces-of-law
+
+pub inner-run-test-law : InnerRunTestLaw
+inner-run-test-law = by-inner opens-apart-law in-order-law (inner-numbers-law in-order-law) (inner-pieces-of-law opens-apart-law)
+
+pub served-law : ServedLaw
+served-law = by-first opens-apart-law in-order-law (run-numbers-law in-order-law) (inner-numbers-law in-order-law) root-pieces-of-law (inner-pieces-of-law opens-apart-law)

@@ -1,0 +1,132 @@
+-- Nodes at the ends of paths, and the bytes at which they begin.
+use Rattle.std.proofs.Common.{◌≡◌, ℕ, zero, suc, ◌+◌, ◌-◌, ◌≤◌, ◌<◌, ◌^◌, List, [], ◌∷◌, ◌++◌, append_assoc, append-nil, length, length-append, length-take-le, get_or, take, drop, Option, Some, None, refl, ap, sym, subst, ◌∙◌, arith}
+use Rattle.std.proofs.lemmas.Option.{slice_get_read}
+use Rattle.std.specs.List.{slice_get}
+use Rattle.typst_tree.specs.Tree.{Tree, Forest, none, more, forest, trees, joined, saturated, text_of}
+use Rattle.typst_tree.specs.Replace.{At, kids_of}
+use Rattle.typst_tree.specs.Laws.{AtPath, or_none, start_at, start_in}
+
+trees-forest : (ts : List Tree) → trees (forest ts) ≡ ts
+trees-forest [] = refl
+trees-forest (t ∷ ts) = ap (λ us. t ∷ us) (trees-forest ts)
+
+forest-trees : (f : Forest) → forest (trees f) ≡ f
+forest-trees none = refl
+forest-trees (more h ks r) = ap (λ g. more h ks g) (forest-trees r)
+
+pub children-are : (t : Tree) (xs : List Tree) → forest xs ≡ t.kids → xs ≡ kids_of t
+children-are t xs e = sym (trees-forest xs) ∙ ap trees e
+
+pub taken-length : (t : Tree) (xs : List Tree) (n : ℕ) → forest xs ≡ t.kids → n ≤ length (kids_of t) → n ≡ length (take n xs)
+taken-length t xs n e l =
+    let s = ap (λ (ys : List Tree). length ys) (children-are t xs e) in
+    sym (length-take-le n xs (omega (arith, s, l)))
+
+-- one more of several trees adds its text
+pub joined-next : (xs : List Tree) (i : ℕ) (d : Tree) → i < length xs → length (joined (forest (take (suc i) xs))) ≡ length (joined (forest (take i xs))) + length (text_of (get_or xs i d))
+joined-next [] i d l = absurd (omega (arith, l))
+joined-next (x ∷ xs) zero d l = let a = ap (λ ys. length (x.head.text ++ ys)) (append-nil (joined x.kids)) in omega (arith, a)
+joined-next (x ∷ xs) (suc i) d l =
+    let e = joined-next xs i d (omega (arith, l)) in
+    let a = length-append x.head.text (joined x.kids ++ joined (forest (take (suc i) xs))) in
+    let b = length-append (joined x.kids) (joined (forest (take (suc i) xs))) in
+    let c = length-append x.head.text (joined x.kids ++ joined (forest (take i xs))) in
+    let f = length-append (joined x.kids) (joined (forest (take i xs))) in
+    omega (arith, e, a, b, c, f)
+
+-- those taken are no more than all
+pub joined-taken : (xs : List Tree) (i : ℕ) → length (joined (forest (take i xs))) ≤ length (joined (forest xs))
+joined-taken xs zero = omega arith
+joined-taken [] (suc i) = omega arith
+joined-taken (x ∷ xs) (suc i) =
+    let e = joined-taken xs i in
+    let a = length-append x.head.text (joined x.kids ++ joined (forest xs)) in
+    let b = length-append (joined x.kids) (joined (forest xs)) in
+    let c = length-append x.head.text (joined x.kids ++ joined (forest (take i xs))) in
+    let f = length-append (joined x.kids) (joined (forest (take i xs))) in
+    omega (arith, e, a, b, c, f)
+
+-- where a child ends lies in the node's text
+pub child-ends : (t : Tree) (i : ℕ) (d : Tree) → i < length (kids_of t) → length t.head.text + (length (joined (forest (take i (kids_of t)))) + length (text_of (get_or (kids_of t) i d))) ≤ length (text_of t)
+child-ends t i d l =
+    let e = joined-next (kids_of t) i d l in
+    let a = joined-taken (kids_of t) (suc i) in
+    let f = ap (λ (g : Forest). length (joined g)) (forest-trees t.kids) in
+    let b = length-append t.head.text (joined t.kids) in
+    omega (arith, e, a, f, b)
+
+take-get : (xs : List Tree) (n i : ℕ) (d : Tree) → i < n → get_or (take n xs) i d ≡ get_or xs i d
+take-get xs zero i d l = absurd (omega (arith, l))
+take-get [] (suc n) i d l = refl
+take-get (x ∷ xs) (suc n) zero d l = refl
+take-get (x ∷ xs) (suc n) (suc i) d l = take-get xs n i d (omega (arith, l))
+
+-- the child of an index, among the first ones
+pub kid-is : (t : Tree) (xs : List Tree) (n i : ℕ) (d : Tree) → forest xs ≡ t.kids → i < n → d ≡ get_or (take n xs) i d → d ≡ get_or (kids_of t) i d
+kid-is t xs n i d same l is = is ∙ take-get xs n i d l ∙ ap (λ ys. get_or ys i d) (children-are t xs same)
+
+-- one child more
+pub record Further (t : Tree) (i sum : ℕ) : Type 0 where
+  pub within : sum ≤ length (text_of t)
+  pub is : sum ≡ length t.head.text + length (joined (forest (take (suc i) (kids_of t))))
+
+pub further : (t : Tree) (i at len : ℕ) (d : Tree) → length (text_of t) < 2 ^ 64 → i < length (kids_of t) → d ≡ get_or (kids_of t) i d → at ≡ length t.head.text + length (joined (forest (take i (kids_of t))))
+    → len ≡ saturated (length (text_of d)) → Further t i (at + len)
+further t i at len d few l is here long =
+    let ends = child-ends t i d l in
+    let next = joined-next (kids_of t) i d l in
+    let same = ap (λ (u : Tree). length (text_of u)) is in
+    let whole : len ≡ length (text_of d) = omega (arith, ends, same, few, long) in
+    record { within = omega (arith, ends, same, here, whole); is = omega (arith, next, same, here, whole) }
+
+-- ---- one step down
+
+take-whole : (xs : List ℕ) → take (length xs) xs ≡ xs
+take-whole [] = refl
+take-whole (x ∷ xs) = ap (λ ys. x ∷ ys) (take-whole xs)
+
+split-first : (xs : List ℕ) → 1 ≤ length xs → xs ≡ get_or xs 0 0 ∷ take (length xs - 1) (drop 1 xs)
+split-first [] l = absurd (omega (arith, l))
+split-first (x ∷ xs) l =
+    let n : length (x ∷ xs) - 1 ≡ length xs = omega arith in
+    ap (λ ys. x ∷ ys) (sym (ap (λ m. take m xs) n ∙ take-whole xs))
+
+at-within : (P : Tree → Type 0) (xs : List Tree) (i : ℕ) → At P (slice_get xs i) → i < length xs
+at-within P [] i h = absurd h
+at-within P (x ∷ xs) zero h = omega arith
+at-within P (x ∷ xs) (suc i) h = let l = at-within P xs i h in omega (arith, l)
+
+module _ (root : Tree) (path : List ℕ) (some : 1 ≤ length path) (leads : AtPath (λ _. Unit {0}) path root) (xs : List Tree) (same : forest xs ≡ root.kids) where
+  abbrev first : ℕ
+  first = get_or path 0 0
+
+  abbrev rest : List ℕ
+  rest = take (length path - 1) (drop 1 path)
+
+  leads-on : At (AtPath (λ _. Unit {0}) rest) (slice_get (kids_of root) first)
+  leads-on = subst (λ p. AtPath (λ _. Unit {0}) p root) (split-first path some) leads
+
+  pub first-within : first < length xs
+  first-within =
+      let w = at-within (AtPath (λ _. Unit {0}) rest) (kids_of root) first leads-on in
+      let s = ap (λ (ys : List Tree). length ys) (children-are root xs same) in
+      omega (arith, w, s)
+
+  module _ (child : Tree) (is : child ≡ get_or xs first child) where
+    got : slice_get (kids_of root) first ≡ Some child
+    got = ap (λ ys. slice_get ys first) (sym (children-are root xs same)) ∙ slice_get_read xs (length xs) first child refl first-within is
+
+    pub rest-leads : AtPath (λ _. Unit {0}) rest child
+    rest-leads = subst (At (AtPath (λ _. Unit {0}) rest)) got leads-on
+
+    pub child-within : start_in first root + length (text_of child) ≤ length (text_of root)
+    child-within =
+        let same_kids = children-are root xs same in
+        let s = ap (λ (ys : List Tree). length ys) same_kids in
+        let w = first-within in
+        let e = child-ends root first child (omega (arith, w, s)) in
+        let c = ap (λ (t : Tree). length (text_of t)) (is ∙ ap (λ ys. get_or ys first child) same_kids) in
+        omega (arith, e, c)
+
+    pub start-on : start_in first root + start_at rest 0 child ≡ start_at path 0 root
+    start-on = ap (λ o. start_in first root + or_none (start_at rest 0) o) (sym got) ∙ ap (λ p. start_at p 0 root) (sym (split-first path some))

@@ -1,0 +1,107 @@
+-- Places of a text in characters and in bytes.
+use Rattle.std.proofs.Common.{◌≡◌, ℕ, zero, suc, ◌+◌, ◌≤◌, ◌<◌, ◌^◌, ◌-◌, List, [], ◌∷◌, ◌++◌, length, take, drop, take-append-drop, append_assoc, append-nil, reverse, refl, ap, sym, subst, ◌∙◌, Some, arith}
+use Rattle.std.specs.Str.{chars, IsUtf8, IsCharBoundary}
+use Rattle.std.proofs.lemmas.List.{reverse-append}
+use Rattle.typst_lines.specs.Lines.{bytes}
+use Rattle.typst_lines.specs.Place.{Place, char_width, moved, moved_from, place_at}
+use Rattle.typst_lines.proofs.LineTable.{bytes-text, chars-split, front-ahead, front-boundary, front-chars}
+use Rattle.typst_tokens.specs.Sight.{position, width}
+use Rattle.typst_edits.specs.Ask.{Ask}
+use Rattle.typst_tree.specs.Tree.{Tree}
+use Rattle.typst_candidates.specs.Records.{AllFit}
+use Rattle.typst_edits.specs.Grammar.{start_of}
+use Rattle.typst_edits.specs.Part.{IsPart}
+use Rattle.typst_edits.specs.ReadPart.{ReadPart}
+use Rattle.typst_edits.specs.Log.{Log}
+use Rattle.typst_edits.proofs.BlockPart.{part-fits-law}
+use Rattle.typst_edits.proofs.Edit.{onto}
+use Rattle.typst_edits.proofs.Widths.{width-append, width-moved, width-none, width-onto}
+
+pub bytes-width : (cs : List ℕ) → width cs ≡ bytes cs
+unfolding width
+bytes-width [] = refl
+bytes-width (c ∷ cs) = let e = bytes-width cs in omega (arith, e)
+
+-- a text's bytes are those of its characters
+pub width-chars : (s : List ℕ) → IsUtf8 s → width (chars s) ≡ length s
+width-chars s u = bytes-width (chars s) ∙ bytes-text s u
+
+moved-is : (n : ℕ) (b cs : List ℕ) → moved_from n b cs ≡ record { behind = onto (take n cs) b; ahead = drop n cs }
+moved-is zero b cs = refl
+moved-is (suc n) b [] = refl
+moved-is (suc n) b (c ∷ cs) = moved-is n (c ∷ b) cs
+
+onto-reverse : (xs b : List ℕ) → onto xs b ≡ reverse xs ++ b
+onto-reverse [] b = refl
+onto-reverse (x ∷ xs) b = onto-reverse xs (x ∷ b) ∙ sym (append_assoc (reverse xs) (x ∷ []) b) ∙ ap (λ ys. ys ++ b) (sym (reverse-append (x ∷ []) xs))
+
+reverse-onto : (xs : List ℕ) → reverse xs ≡ onto xs []
+reverse-onto xs = sym (append-nil (reverse xs)) ∙ sym (onto-reverse xs [])
+
+-- all that stands on both sides of a place takes as many bytes as on those of another
+both-sides : (n : ℕ) (b a : List ℕ) → width (moved_from n b a).behind + width (moved_from n b a).ahead ≡ width b + width a
+unfolding width
+both-sides zero b a = refl
+both-sides (suc n) b [] = refl
+both-sides (suc n) b (c ∷ a) = let i = both-sides n (c ∷ b) a in omega (arith, i)
+
+-- a place further on lies within the text
+pub position-within : (n : ℕ) (z : Place) → position (moved n z) ≤ width z.behind + width z.ahead
+unfolding position
+position-within n z = let e = both-sides n z.behind z.ahead in omega (arith, e)
+
+at-end : (m : ℕ) (b : List ℕ) → moved_from m b [] ≡ record { behind = b; ahead = [] }
+at-end zero b = refl
+at-end (suc m) b = refl
+
+moved-twice : (m n j : ℕ) (b a : List ℕ) → j ≡ n + m → moved m (moved_from n b a) ≡ moved_from j b a
+moved-twice m zero j b a e = ap (λ i. moved_from i b a) (omega (arith, e))
+moved-twice m (suc n) j b [] e = at-end m b ∙ sym (at-end j b)
+moved-twice m (suc n) j b (c ∷ a) e =
+    let less : suc (j - 1) ≡ j = omega (arith, e) in
+    moved-twice m n (j - 1) (c ∷ b) a (omega (arith, e)) ∙ ap (λ i. moved_from i b (c ∷ a)) less
+
+-- one step after another
+pub moved-on : (m n : ℕ) (z : Place) → moved m (moved n z) ≡ moved (n + m) z
+moved-on m n z = moved-twice m n (n + m) z.behind z.ahead refl
+
+module _ (s : List ℕ) (u : IsUtf8 s) (n b : ℕ) (e : position (moved n (start_of (chars s))) ≡ b) where
+  size : b ≡ bytes (take n (chars s))
+  unfolding position
+  size = sym e ∙ width-moved n (chars s) ∙ bytes-width (take n (chars s))
+
+  -- so many characters on, at a byte, is a place between two characters
+  pub place-boundary : IsCharBoundary s b
+  place-boundary = front-boundary s u n b size
+
+  -- and the text's place at this byte
+  pub place-is : place_at s b ≡ moved n (start_of (chars s))
+  unfolding place_at
+  place-is =
+      ap (λ x. record { behind = reverse x; ahead = chars (drop b s) }) (front-chars s u n b size)
+      ∙ ap (λ x. record { behind = reverse (take n (chars s)); ahead = x }) (front-ahead s u n b size)
+      ∙ ap (λ x. record { behind = x; ahead = drop n (chars s) }) (reverse-onto (take n (chars s)))
+      ∙ sym (moved-is n [] (chars s))
+
+-- on both sides of a place of a text stand all its bytes
+pub sides-of : (cs : List ℕ) (n : ℕ) → width (moved n (start_of cs)).behind + width (moved n (start_of cs)).ahead ≡ width cs
+unfolding width
+sides-of cs n = let e = both-sides n [] cs in omega (arith, e)
+
+-- and so on those of one by its byte
+pub place-sides : (s : List ℕ) → IsUtf8 s → (b : ℕ) → IsCharBoundary s b → width (place_at s b).behind + width (place_at s b).ahead ≡ length s
+unfolding place_at
+place-sides s u b at =
+    let front = ap width (reverse-onto (chars (take b s))) in
+    let onto_none = width-onto (chars (take b s)) [] in
+    let zero = width-none in
+    let both = width-append (chars (take b s)) (chars (drop b s)) in
+    let whole = ap width (chars-split s u b at) in
+    let all = width-chars s u in
+    omega (arith, front, onto_none, zero, both, whole, all)
+
+-- ---- parts
+
+-- the notes of a part of a text that a machine word counts stand at its bytes
+pub part-fits : (levels : ℕ) (z : Place) (nodes : List Tree) (taken : ℕ) (asks : List Ask) (p : ReadPart) → width z.behind + width z.ahead < 2 ^ 64 - 1 → IsPart levels z nodes taken asks p → AllFit p.notes.items
+part-fits levels z nodes taken asks p few part = part-fits-law levels z asks p.notes.items few (sym (ap (λ (h : Log). h.notes) part.log))

@@ -1,0 +1,12 @@
+//! Which stretch of a text an edit replaces.
+
+/// Which stretch of a text was replaced, in bytes.
+#[derive(Debug, Clone, Copy)]
+pub struct Replacement {
+    /// Where the stretch begins.
+    pub start: usize,
+    /// Where it ended.
+    pub old_end: usize,
+    /// Where it ends now.
+    pub new_end: usize,
+}
