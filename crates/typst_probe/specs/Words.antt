@@ -6,7 +6,7 @@ use Rattle.typst_cli.specs.Printed.{printed}
 use Rattle.typst_cli.specs.PrintedTree.{code_tree_printed, math_tree_printed}
 use Rattle.typst_cli.specs.declared.command.Command.TheVariants as command
 use Rattle.typst_probe.specs.declared.word.Word.{Word}
-use Rattle.typst_probe.specs.declared.word.Word.TheVariants.{Tree, TreeWide, TreeNarrow, TreeCode, TreeMath, Tokens, TokensWide, TokensNarrow, TokensCode, TokensMath, Lines, Link, Stretches, Notes, Tags, Html, Spans, Edit, Candidates}
+use Rattle.typst_probe.specs.declared.word.Word.TheVariants.{Tree, TreeWide, TreeNarrow, TreeCode, TreeMath, Tokens, TokensWide, TokensNarrow, TokensCode, TokensMath, Lines, Link, Stretches, Notes, Tags, Html, Spans, Edit, Candidates, Everywhere, EverywhereInTurn}
 
 -- the word that a name stands for
 abbrev pub word_named : List ℕ → Option Word
@@ -30,7 +30,9 @@ word_named name =
     else (if bytes_eq name (codes "spans") then Some Spans
     else (if bytes_eq name (codes "edit") then Some Edit
     else (if bytes_eq name (codes "candidates") then Some Candidates
-    else None))))))))))))))))))
+    else (if bytes_eq name (codes "everywhere") then Some Everywhere
+    else (if bytes_eq name (codes "everywhere-in-turn") then Some EverywhereInTurn
+    else None))))))))))))))))))))
 
 -- all that a word of the program typst_syn prints about a text, which this program's word answers too
 abbrev pub printed_by : Word → List ℕ → Option (List ℕ)
@@ -53,3 +55,5 @@ printed_by Html text = Some (printed command.Html text)
 printed_by Spans text = None
 printed_by Edit text = None
 printed_by Candidates text = None
+printed_by Everywhere text = None
+printed_by EverywhereInTurn text = None

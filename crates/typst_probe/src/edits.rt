@@ -3,7 +3,7 @@
 use crate::spans;
 use std::alloc::{AllocError, Global};
 use typst_cli::tree::print_node;
-use typst_parser::{Source, SourceError, UnicodeClasses};
+use typst_parser::{Classes, Source, SourceError, UnicodeClasses};
 
 /// A text to be put in the place of a range of bytes.
 #[derive(Debug, Clone, Copy)]
@@ -14,6 +14,11 @@ pub struct Edit<'a> {
 }
 
 impl<'a> Edit<'a> {
+    /// The edit that puts a text in the place of these bytes.
+    pub fn new(start: usize, end: usize, with: &'a str) -> Edit<'a> {
+        Edit { start, end, with }
+    }
+
     /// The edit that three words name.
     pub fn from_words(start: &str, end: &str, with: &'a str) -> Option<Edit<'a>> {
         Some(Edit {
@@ -21,6 +26,50 @@ impl<'a> Edit<'a> {
             end: end.parse().ok()?,
             with,
         })
+    }
+
+    /// Whether nothing past ASCII is put in.
+    pub fn is_ascii(self) -> bool {
+        self.with.is_ascii()
+    }
+
+    /// The text after the edit; `None` where the range isn't one of the text.
+    pub fn applied(self, alloc: Global, text: &str) -> Result<Option<String>, AllocError> {
+        let (Some(front), Some(rear)) = (text.get(..self.start), text.get(self.end..)) else {
+            return Ok(None);
+        };
+        let mut all = String::from_str(alloc, front)?;
+        all.push_str(self.with)?;
+        all.push_str(rear)?;
+        Ok(Some(all))
+    }
+
+    /// The edit that makes the text of the text after this edit.
+    pub fn undone(self, text: &'a str) -> Edit<'a> {
+        Edit {
+            start: self.start,
+            end: self.start.saturating_add(self.with.len()),
+            with: text.get(self.start..self.end).unwrap_or(""),
+        }
+    }
+
+    /// Edits a source; answers false, and leaves it, where the range isn't one of its text.
+    pub fn make<C: Classes>(self, source: &mut Source<C>) -> Result<bool, SourceError> {
+        let text = source.text();
+        if self.start > self.end
+            || !text.is_char_boundary(self.start)
+            || !text.is_char_boundary(self.end)
+        {
+            return Ok(false);
+        }
+        source.edit(self.start..self.end, self.with)?;
+        Ok(true)
+    }
+
+    /// The edit as a line names it.
+    pub fn print(self, printed: &mut String) -> Result<(), AllocError> {
+        let Edit { start, end, with } = self;
+        write!(printed, "{start}..{end} {with:?}")
     }
 
     /// A source of the text after the edit, and the range that was parsed anew; `None` where the

@@ -4,6 +4,7 @@
 mod candidates;
 mod edits;
 mod escapes;
+mod everywhere;
 mod links;
 mod notes;
 mod reading;
@@ -12,6 +13,7 @@ mod spans;
 mod stretches;
 mod tags;
 mod tokens;
+mod whole;
 mod word;
 
 use anyhow::Context;
@@ -23,7 +25,8 @@ use std::{env, fs, io};
 use word::Word;
 
 const USAGE: &str =
-    "usage: typst_probe rows FILE.. | tree | tree-wide | tree-narrow | tree-code | tree-math | tokens | tokens-wide |\n    tokens-narrow | tokens-code | tokens-math | lines | link | stretches | notes | tags | html | spans | edit |\n    candidates | candidates START END | edit-spans START END TEXT";
+    "usage: typst_probe rows FILE.. | tree | tree-wide | tree-narrow | tree-code | tree-math | tokens | tokens-wide |\n    tokens-narrow | tokens-code | tokens-math | lines | link | stretches | notes | tags | html | spans | edit |\n    candidates | candidates START END | edit-spans START END TEXT | everywhere |
+    everywhere-in-turn";
 
 /// `rows FILE..` compares all rows of the files, and any other word answers about the text on
 /// standard input. Ends with status 1 where a row disagrees or something fails, and with status 2

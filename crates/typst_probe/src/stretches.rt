@@ -2,12 +2,12 @@
 
 use std::alloc::{AllocError, Global};
 use typst_lexer::raw_node;
-use typst_parser::{SubRange, UnicodeClasses};
+use typst_parser::SubRange;
 
 /// A line for each warning of the raw text, and for each of its hints behind it: the bytes that it is
 /// about, or `all` where it is about the whole text.
 pub fn answer(alloc: Global, text: &str) -> Result<String, AllocError> {
-    let node = raw_node(alloc, text, &UnicodeClasses)?;
+    let node = raw_node(alloc, text)?;
     let mut printed = String::new(alloc);
     for warning in node.diagnostics() {
         print_stretch(&mut printed, "warning", warning.sub_range())?;

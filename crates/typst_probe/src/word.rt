@@ -3,7 +3,7 @@
 ghost use Rattle.std.specs.Prelude.{◌≡◌, IfOk, IfSome, string_bytes};
 ghost use Rattle.typst_probe.specs.Words.{printed_by, word_named};
 
-use crate::{candidates, edits, links, notes, spans, stretches, tags, tokens};
+use crate::{candidates, edits, everywhere, links, notes, spans, stretches, tags, tokens};
 use std::alloc::{AllocError, Global};
 use typst_cli::{Command, tree};
 use typst_parser::{SyntaxMode, UnicodeClasses};
@@ -50,6 +50,10 @@ pub enum Word {
     Edit,
     /// What of a text may be read anew in an edit.
     Candidates,
+    /// Edits of a text at each of its places.
+    Everywhere,
+    /// Edits of a text, at each of its places another one.
+    EverywhereInTurn,
 }
 
 impl Word {
@@ -77,6 +81,8 @@ impl Word {
             "spans" => Some(Word::Spans),
             "edit" => Some(Word::Edit),
             "candidates" => Some(Word::Candidates),
+            "everywhere" => Some(Word::Everywhere),
+            "everywhere-in-turn" => Some(Word::EverywhereInTurn),
             _ => None,
         }
     }
@@ -105,6 +111,8 @@ impl Word {
             Word::Spans => spans::answer(alloc, text),
             Word::Edit => edits::row_answer(alloc, text),
             Word::Candidates => candidates::row_answer(alloc, text),
+            Word::Everywhere => everywhere::answer(alloc, text),
+            Word::EverywhereInTurn => everywhere::answer_in_turn(alloc, text),
         }
     }
 }

@@ -1,5 +1,5 @@
-use crate::rows::{Row, tree};
-use crate::trees::{END, has_numbers, leaves, many, number, numbered, numbers, replace};
+use crate::rows::{Row, leaf, tree};
+use crate::trees::{END, has_numbers, leaves, many, number, numbered, numbers, replace, same};
 use std::alloc::{AllocError, Global};
 use typst_kinds::{SourceError, SyntaxKind};
 use typst_tree::SyntaxNode;
@@ -37,26 +37,78 @@ fn a_leaf_under_markup(rt: HostRuntime) {
     }
 }
 
-/// Whether replacing the only leaf by leaves of these kinds is answered so, where two nodes have
-/// two numbers.
-fn answers(
-    alloc: Global,
-    kinds: &[SyntaxKind],
-    answer: Result<(), SourceError>,
-) -> Result<bool, AllocError> {
-    let new = leaves(alloc, kinds)?;
-    let mut node = tree(alloc, &A_UNDER_MARKUP)?;
-    let numbered = number(&mut node, 2, 4).is_ok();
-    let answered = replace(&mut node, &[], 0, 1, new) == answer;
-    Ok(numbered && answered && has_numbers(alloc, &node, &[2, 3])?)
+const B: [Row; 1] = [(SyntaxKind::Text, "b", None)];
+
+const B_AND_TILDE: [Row; 2] = [
+    (SyntaxKind::Text, "b", None),
+    (SyntaxKind::Shorthand, "~", None),
+];
+
+/// The nodes of these leaves, in order.
+fn leaves_of(alloc: Global, rows: &[Row]) -> Result<Vec<SyntaxNode>, AllocError> {
+    let mut all = Vec::new(alloc);
+    for (kind, text, _) in rows {
+        all.push(leaf(alloc, *kind, text)?)?;
+    }
+    Ok(all)
+}
+
+/// `a` under a node, which have the numbers 2 and 3 and no other.
+fn two_numbered(alloc: Global) -> Option<SyntaxNode> {
+    numbered(tree(alloc, &A_UNDER_MARKUP).ok()?, 4)
+}
+
+/// Whether `b` takes the place of `a`, with its number.
+fn takes_one(alloc: Global) -> Option<bool> {
+    let mut node = two_numbered(alloc)?;
+    let is_done = replace(&mut node, &[], 0, 1, leaves_of(alloc, &B).ok()?).is_ok();
+    let is_b = matches!(node.children(), [kid] if kid.leaf_text() == "b");
+    Some(is_done && is_b && has_numbers(alloc, &node, &[2, 3]).ok()?)
+}
+
+/// Whether numbers are too few for two leaves in the place of `a`, and nothing changes then.
+fn refuses_two(alloc: Global) -> Option<bool> {
+    let mut node = two_numbered(alloc)?;
+    let before = node.try_clone().ok()?;
+    let two = leaves_of(alloc, &B_AND_TILDE).ok()?;
+    let is_refused = replace(&mut node, &[], 0, 1, two) == Err(SourceError::SpanNumbers);
+    Some(is_refused && same(alloc, &node, &before))
 }
 
 #[test]
 fn two_numbers_are_enough_for_two_nodes(rt: HostRuntime) {
-    let one = [SyntaxKind::Space];
-    assert!(rt; answers(rt.alloc(), &one, Ok(())) == Ok(true));
-    let two = [SyntaxKind::Space, SyntaxKind::Shorthand];
-    assert!(rt; answers(rt.alloc(), &two, Err(SourceError::SpanNumbers)) == Ok(true));
+    assert!(rt; takes_one(rt.alloc()) == Some(true));
+    assert!(rt; refuses_two(rt.alloc()) == Some(true));
+}
+
+/// Whether a tree with numbers keeps them where those of another range are too few.
+fn keeps_numbers(alloc: Global) -> Option<bool> {
+    let mut node = two_numbered(alloc)?;
+    let before = node.try_clone().ok()?;
+    let is_refused = number(&mut node, 7, 8) == Err(SourceError::SpanNumbers);
+    Some(is_refused && same(alloc, &node, &before))
+}
+
+#[test]
+fn a_tree_that_finds_no_numbers_keeps_its_own(rt: HostRuntime) {
+    assert!(rt; keeps_numbers(rt.alloc()) == Some(true));
+}
+
+/// Whether a tree of no file refuses these leaves in the place of its first `to` children, and stays.
+fn refuses_without_file(alloc: Global, to: usize, rows: &[Row]) -> Option<bool> {
+    let mut node = tree(alloc, &A_UNDER_MARKUP).ok()?;
+    let before = node.try_clone().ok()?;
+    let new = leaves_of(alloc, rows).ok()?;
+    let is_refused = replace(&mut node, &[], 0, to, new) == Err(SourceError::SpanNumbers);
+    Some(is_refused && same(alloc, &node, &before))
+}
+
+/// Also where no new node asks for a number.
+#[test]
+fn a_tree_of_no_file_finds_no_numbers(rt: HostRuntime) {
+    assert!(rt; refuses_without_file(rt.alloc(), 1, &B) == Some(true));
+    assert!(rt; refuses_without_file(rt.alloc(), 1, &[]) == Some(true));
+    assert!(rt; refuses_without_file(rt.alloc(), 0, &[]) == Some(true));
 }
 
 // `a *b* c`, as the Rust original numbers it.

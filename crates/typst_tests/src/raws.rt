@@ -2,12 +2,11 @@
 use std::alloc::Global;
 use std::process::Abort;
 use typst_lexer::raw_node;
-use typst_lines::UnicodeClasses;
 
 /// Makes the node again where memory was refused once.
 fn expect_again(rt: &impl Abort, alloc: Global, text: &str) {
-    let first = raw_node(alloc, text, &UnicodeClasses);
-    let again = raw_node(alloc, text, &UnicodeClasses);
+    let first = raw_node(alloc, text);
+    let again = raw_node(alloc, text);
     match (first, again) {
         (Ok(first), Ok(again)) => assert!(rt; first.spanless_eq(&again)),
         (Ok(node), Err(_)) | (Err(_), Ok(node)) => assert!(rt; node.len() == text.len()),
@@ -15,7 +14,7 @@ fn expect_again(rt: &impl Abort, alloc: Global, text: &str) {
     }
 }
 
-const TEXTS: [&str; 5] = ["``", "```c++ x```", "```+c\n  a\n```", "```py```", "`a"];
+const TEXTS: [&str; 5] = ["``", "```c++ x```", "```+c\n  a\n```", "```++c```", "`a"];
 
 /// `rt try --test --fail-alloc N` refuses the Nth request.
 #[test]

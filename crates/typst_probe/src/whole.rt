@@ -1,0 +1,127 @@
+//! Whether a source holds what its text asks for.
+
+use std::alloc::{AllocError, Global};
+use typst_parser::{Classes, FileId, Lines, Source, SyntaxNode, parse};
+
+/// The tree and the lines of a text, made anew.
+#[derive(Drop)]
+pub struct Wanted {
+    tree: SyntaxNode,
+    lines: Lines<String>,
+}
+
+impl Wanted {
+    pub fn of<C: Classes>(alloc: Global, text: &str, classes: &C) -> Result<Wanted, AllocError> {
+        let tree = parse(alloc, text, classes)?;
+        let lines = Lines::new(alloc, String::from_str(alloc, text)?)?;
+        Ok(Wanted { tree, lines })
+    }
+}
+
+/// What of a source isn't as it has to be. Whether each node is found by its span is asked only where
+/// that is wanted.
+pub fn fault<C: Classes>(
+    alloc: Global,
+    source: &Source<C>,
+    wanted: &Wanted,
+    with_spans: bool,
+) -> Result<Option<&'static str>, AllocError> {
+    if source.text() != wanted.lines.text() {
+        return Ok(Some("text"));
+    }
+    if !source.root().spanless_eq(&wanted.tree) {
+        return Ok(Some("tree"));
+    }
+    if !are_same_lines(source.lines(), &wanted.lines) {
+        return Ok(Some("lines"));
+    }
+    let nodes = nodes(alloc, source.root())?;
+    if !have_text(nodes.as_slice(), source.text()) {
+        return Ok(Some("leaves"));
+    }
+    if !are_in_order(nodes.as_slice(), source.id()) {
+        return Ok(Some("numbers"));
+    }
+    if with_spans && !finds_all(source, nodes.as_slice()) {
+        return Ok(Some("spans"));
+    }
+    Ok(None)
+}
+
+/// Whether two tables of lines are the same.
+fn are_same_lines(one: &Lines<String>, other: &Lines<String>) -> bool {
+    for i in 0..other.len_lines() {
+        if one.line(i) != other.line(i) {
+            return false;
+        }
+    }
+    one.len_lines() == other.len_lines() && one.len_utf16() == other.len_utf16()
+}
+
+/// The nodes of a tree, each before its children.
+fn nodes(alloc: Global, root: &SyntaxNode) -> Result<Vec<&SyntaxNode>, AllocError> {
+    let mut all = Vec::new(alloc);
+    let mut left = Vec::new(alloc);
+    left.push(root)?;
+    for _ in 0..root.descendants() {
+        let Some(node) = left.pop() else {
+            return Ok(all);
+        };
+        all.push(node)?;
+        for child in node.children().iter().rev() {
+            left.push(child)?;
+        }
+    }
+    Ok(all)
+}
+
+/// Whether the leaves among these nodes, joined, are the text.
+fn have_text(nodes: &[&SyntaxNode], text: &str) -> bool {
+    let mut rest = text;
+    for node in nodes {
+        let Some(behind) = rest.strip_prefix(node.leaf_text()) else {
+            return false;
+        };
+        rest = behind;
+    }
+    rest.is_empty()
+}
+
+/// Whether the number of each node is one of the file and above those of the nodes before it.
+fn are_in_order(nodes: &[&SyntaxNode], file: FileId) -> bool {
+    let mut last = 0;
+    for node in nodes {
+        let number = node.span().number_or_zero();
+        if number <= last || node.span().id() != Some(file) {
+            return false;
+        }
+        last = number;
+    }
+    true
+}
+
+/// Whether the source finds a node, which begins at a byte, by its span, and its bytes by its number.
+fn finds<C: Classes>(source: &Source<C>, node: &SyntaxNode, start: usize) -> bool {
+    let (Some(found), Some(number)) = (source.find(node.span()), node.span().number()) else {
+        return false;
+    };
+    let range = start..start.saturating_add(node.len());
+    found.get().span() == node.span()
+        && found.kind() == node.kind()
+        && found.range() == range
+        && source.range(number, None) == Some(range)
+}
+
+/// Whether the source finds these nodes, which are all of its tree.
+fn finds_all<C: Classes>(source: &Source<C>, nodes: &[&SyntaxNode]) -> bool {
+    let mut start = 0usize;
+    for node in nodes {
+        if !finds(source, node, start) {
+            return false;
+        }
+        if node.children().is_empty() {
+            start = start.saturating_add(node.len());
+        }
+    }
+    start == source.text().len()
+}
