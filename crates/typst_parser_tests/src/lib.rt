@@ -4,15 +4,11 @@
 #![tactic(auto)]
 
 #[cfg(test)]
-mod answers;
-#[cfg(test)]
 mod code;
 #[cfg(test)]
 mod draws;
 #[cfg(test)]
 mod edits;
-#[cfg(test)]
-mod foreign;
 #[cfg(test)]
 mod guesses;
 #[cfg(test)]

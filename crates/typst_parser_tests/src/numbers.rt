@@ -4,8 +4,7 @@ use crate::sources::{Unicode, detached, edit, with_tree};
 use std::alloc::Global;
 use std::ops::Range;
 use typst_parser::{
-    FileId, LinkedNode, Span, SpanNumber, SubRange, SyntaxKind, SyntaxNode, UnicodeClasses,
-    is_ordered, parse,
+    FileId, LinkedNode, Span, SpanNumber, SubRange, SyntaxNode, UnicodeClasses, is_ordered, parse,
 };
 
 /// The number of a node.
@@ -143,46 +142,6 @@ fn stays_without_numbers(alloc: Global) -> Option<bool> {
 #[test]
 fn a_tree_without_numbers_stays_so(rt: HostRuntime) {
     assert!(rt; stays_without_numbers(rt.alloc()) == Some(true));
-}
-
-const TAGGED: &str = "```c++ x```";
-
-/// The tree of that text in which the tag is an identifier and the rest is text.
-fn cut_tag(alloc: Global) -> Option<SyntaxNode> {
-    let mut leaves = Vec::new(alloc);
-    for (kind, text) in [
-        (SyntaxKind::RawDelim, "```"),
-        (SyntaxKind::RawLang, "c"),
-        (SyntaxKind::Text, "++ x"),
-        (SyntaxKind::RawDelim, "```"),
-    ] {
-        let leaf = SyntaxNode::leaf(alloc, kind, text).ok()?;
-        leaves.push(leaf).ok()?;
-    }
-    let mut raw = SyntaxNode::inner(SyntaxKind::Raw, leaves);
-    raw.warn_at(
-        SubRange::new(3, 6)?,
-        "no whitespace between language tag and raw text",
-    )
-    .ok()?;
-    let mut nodes = Vec::new(alloc);
-    nodes.push(raw).ok()?;
-    Some(SyntaxNode::inner(SyntaxKind::Markup, nodes))
-}
-
-/// Whether such a tree stays until the first edit, which reads the whole text.
-fn mends_cut_tag(alloc: Global) -> Option<bool> {
-    let old = cut_tag(alloc)?;
-    let new = parse(alloc, TAGGED, &UnicodeClasses).ok()?;
-    let mut source = with_tree(alloc, TAGGED, &old)?;
-    let is_kept = source.root().spanless_eq(&old) && !old.spanless_eq(&new);
-    let read = edit(&mut source, (0, 0), "").ok()??;
-    Some(is_kept && read == (0..11) && source.root().spanless_eq(&new))
-}
-
-#[test]
-fn a_tree_with_a_cut_tag_is_parsed_anew(rt: HostRuntime) {
-    assert!(rt; mends_cut_tag(rt.alloc()) == Some(true));
 }
 
 /// Whether `Debug` prints this of a source.

@@ -17,13 +17,13 @@ pub fn has_lines(alloc: Global, lines: &Lines<String>, text: &str) -> Option<boo
 }
 
 /// Whether the tree is the one of the text, spans aside.
-pub fn has_tree(alloc: Global, root: &SyntaxNode, text: &str) -> Option<bool> {
+fn has_tree(alloc: Global, root: &SyntaxNode, text: &str) -> Option<bool> {
     let anew = parse(alloc, text, &UnicodeClasses).ok()?;
     Some(root.spanless_eq(&anew))
 }
 
 /// The nodes of a tree, each before its children.
-pub fn nodes(alloc: Global, root: &SyntaxNode) -> Option<Vec<&SyntaxNode>> {
+fn nodes(alloc: Global, root: &SyntaxNode) -> Option<Vec<&SyntaxNode>> {
     let mut all = Vec::new(alloc);
     let mut left = Vec::new(alloc);
     left.push(root).ok()?;
@@ -33,16 +33,6 @@ pub fn nodes(alloc: Global, root: &SyntaxNode) -> Option<Vec<&SyntaxNode>> {
         for child in node.children().iter().rev() {
             left.push(child).ok()?;
         }
-    }
-    Some(all)
-}
-
-/// The numbers of a tree's nodes, each before those of its children, 0 for one without.
-pub fn numbers(alloc: Global, root: &SyntaxNode) -> Option<Vec<u64>> {
-    let mut all = Vec::new(alloc);
-    let nodes = nodes(alloc, root)?;
-    for node in nodes.as_slice() {
-        all.push(node.span().number_or_zero()).ok()?;
     }
     Some(all)
 }
@@ -87,7 +77,7 @@ fn finds_all(source: &Unicode, nodes: &[&SyntaxNode]) -> bool {
 }
 
 /// Whether the numbers of all nodes rise, and each node is found by its own.
-pub fn has_numbers(alloc: Global, source: &Unicode) -> Option<bool> {
+fn has_numbers(alloc: Global, source: &Unicode) -> Option<bool> {
     let nodes = nodes(alloc, source.root())?;
     let all = nodes.as_slice();
     Some(all.len() == source.root().descendants() && is_rising(all) && finds_all(source, all))
@@ -115,7 +105,7 @@ fn have_same_spans(ones: &[&SyntaxNode], others: &[&SyntaxNode]) -> bool {
 }
 
 /// Whether two trees are the same, spans too.
-pub fn are_same_trees(alloc: Global, one: &SyntaxNode, other: &SyntaxNode) -> Option<bool> {
+fn are_same_trees(alloc: Global, one: &SyntaxNode, other: &SyntaxNode) -> Option<bool> {
     let (ones, others) = (nodes(alloc, one)?, nodes(alloc, other)?);
     Some(one.spanless_eq(other) && have_same_spans(ones.as_slice(), others.as_slice()))
 }
