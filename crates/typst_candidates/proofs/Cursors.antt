@@ -15,11 +15,11 @@ use Rattle.typst_candidates.proofs.Walks.{end-append}
 -- ---- where a place is
 
 -- a token begins no earlier than those before it
-end-after : (start : ℕ) (es : List Entry) → start ≤ end_of start es
+pub end-after : (start : ℕ) (es : List Entry) → start ≤ end_of start es
 end-after start [] = omega arith
 end-after start (e ∷ es) = let i = end-after ((start + e.step) + e.gap) es in omega (arith, i)
 
-end-within : (start n : ℕ) (es : List Entry) → end_of start (take n es) ≤ end_of start es
+pub end-within : (start n : ℕ) (es : List Entry) → end_of start (take n es) ≤ end_of start es
 end-within start zero es = end-after start es
 end-within start (suc n) [] = omega arith
 end-within start (suc n) (e ∷ es) = end-within ((start + e.step) + e.gap) n es

@@ -1,8 +1,8 @@
 -- Candidates one after the other.
-use Rattle.std.proofs.Common.{◌≡◌, ℕ, zero, suc, ◌+◌, ◌-◌, ◌*◌, ◌^◌, ◌<◌, ◌≤◌, max, min, Bool, true, false, List, [], ◌∷◌, ◌++◌, length, take, get_or, refl, ap, sym, subst, ◌∙◌, arith, add-one, append_assoc, if◌then◌else◌, Some, None, length-append}
-use Rattle.std.specs.Prelude.{◌==◌, ◌&&◌, ◌||◌, not, nat_lt, map, Option}
+use Rattle.std.proofs.Common.{◌≡◌, ℕ, zero, suc, ◌+◌, ◌-◌, ◌*◌, ◌^◌, ◌<◌, ◌≤◌, max, min, Bool, true, false, List, [], ◌∷◌, ◌++◌, length, take, get_or, refl, ap, sym, subst, ◌∙◌, arith, append_assoc, if◌then◌else◌, Some, None, length-append}
+use Rattle.std.specs.Prelude.{◌==◌, nat_lt, map, Option}
 use Rattle.std.proofs.lemmas.Bool.Decides.{nat_tests}
-use Rattle.std.proofs.lemmas.List.{map-append, append-nil, take-take, take_at}
+use Rattle.std.proofs.lemmas.List.{append-nil, length-map, map-append, take-take, take_at}
 use Rattle.typst_kinds.specs.Kinds.{is_block}
 use Rattle.typst_kinds.specs.declared.kind.SyntaxKind.{SyntaxKind}
 use Rattle.typst_language.specs.declared.calls.Note.{Note}
@@ -10,11 +10,65 @@ use Rattle.typst_tree.specs.Tree.{Tree, Forest, none, more, forest, trees, joine
 use Rattle.typst_candidates.specs.declared.candidate.Candidate as found
 use Rattle.typst_candidates.specs.declared.row.Near.{Near}
 use Rattle.typst_candidates.specs.declared.row.Stretch as row
-use Rattle.typst_candidates.specs.Candidates.{Candidate, Child, Stretch, laid, child_at, begins, first_near, end_near, back_past, holds_at, clings, leads, with_hash, around, from_of, to_of, on_past, is_all, stretches, of_children, of_stretches, of_run, of_block, covers, run_in, candidates_at}
+use Rattle.typst_candidates.specs.Candidates.{Candidate, Child, Stretch, laid, child_at, begins, first_near, around, is_all, stretches, of_children, of_stretches, of_run, of_block, covers, run_in, candidates_at}
 use Rattle.typst_candidates.specs.Rows.{IsEdge, IsNear, indices, spelled, is_covered, below}
-use Rattle.typst_candidates.proofs.Rows.{trees_forest, laid_length, begins_next, begins_most}
+use Rattle.typst_candidates.proofs.Rows.{laid_length, begins_next, begins_most}
+
+-- ---- the first of some and of others
+
+pub take_nothing : {X : Type 0} (n : ℕ) → take {A = X} n [] ≡ []
+take_nothing zero = refl
+take_nothing (suc n) = refl
+
+-- as many of the others as there is room for
+pub take_on : {X : Type 0} (n room : ℕ) (xs ys zs : List X) → zs ≡ take n xs → room ≡ n - length zs → zs ++ take room ys ≡ take n (xs ++ ys)
+take_on {X = X} n room xs ys zs e r = (λ k. e k ++ take (r k) ys) ∙ ((λ k. take n xs ++ take (n - length (e k)) ys) ∙ all n xs)
+  where
+    all : (m : ℕ) (us : List X) → take m us ++ take (m - length (take m us)) ys ≡ take m (us ++ ys)
+    all zero us = refl
+    all (suc m) [] = let rest : suc m - 0 ≡ suc m = omega arith in ap (λ (i : ℕ). take i ys) rest
+    all (suc m) (u ∷ us) =
+        let less : suc m - suc (length (take m us)) ≡ m - length (take m us) = omega arith in
+        ap (λ (vs : List X). u ∷ vs) (ap (λ (i : ℕ). take m us ++ take i ys) less ∙ all m us)
+
+-- with no room for more
+pub take_full : {X : Type 0} (n : ℕ) (xs ys zs : List X) → zs ≡ take n xs → n ≤ length zs → zs ≡ take n (xs ++ ys)
+take_full n xs ys zs e full = sym (append-nil zs) ∙ take_on n 0 xs ys zs e (omega arith)
+
+-- with room for one more
+pub take_one : {X : Type 0} (n : ℕ) (xs zs : List X) (y : X) → zs ≡ take n xs → length zs < n → zs ++ y ∷ [] ≡ take n (xs ++ y ∷ [])
+take_one {X = X} n xs zs y e less =
+    let room : suc (n - suc (length zs)) ≡ n - length zs = omega arith in
+    ap (λ (us : List X). zs ++ y ∷ us) (sym (take_nothing (n - suc (length zs)))) ∙ take_on n (suc (n - suc (length zs))) xs (y ∷ []) zs e room
 
 -- ---- stretches one after the other
+
+-- with fewer tries there are the first of them
+fewer_tries : (cuts : List ℕ) (cs : List Child) (i j m tries x : ℕ) → stretches cuts cs i j (min m tries) x ≡ take m (stretches cuts cs i j tries x)
+fewer_tries cuts cs i j zero tries x = let over : min 0 tries ≡ 0 = omega arith in ap (λ (n : ℕ). stretches cuts cs i j n x) over
+fewer_tries cuts cs i j (suc m) zero x = let over : min (suc m) 0 ≡ 0 = omega arith in ap (λ (n : ℕ). stretches cuts cs i j n x) over
+fewer_tries cuts cs i j (suc m) (suc tries) x =
+    let one : min (suc m) (suc tries) ≡ suc (min m tries) = omega arith in
+    ap (λ (n : ℕ). stretches cuts cs i j n x) one
+    ∙ ap (λ (ss : List Stretch). around cuts cs i j x ∷ ss) (behind (is_all cs (around cuts cs i j x)) (fewer_tries cuts cs i j m tries (2 * x)))
+  where
+    behind : (b : Bool) → stretches cuts cs i j (min m tries) (2 * x) ≡ take m (stretches cuts cs i j tries (2 * x))
+        → (if b then [] else stretches cuts cs i j (min m tries) (2 * x)) ≡ take m (if b then [] else stretches cuts cs i j tries (2 * x))
+    behind true further = sym (take_nothing m)
+    behind false further = further
+
+first_stretches : (path : List ℕ) (at : ℕ) (ts : List Tree) (m : ℕ) (ss : List Stretch) → of_stretches path at ts (take m ss) ≡ take m (of_stretches path at ts ss)
+first_stretches path at ts zero ss = refl
+first_stretches path at ts (suc m) [] = refl
+first_stretches path at ts (suc m) (s ∷ ss) = ap (λ (cs : List Candidate). of_children false path at ts s.from s.to ∷ cs) (first_stretches path at ts m ss)
+
+-- the first of a run, by as many tries
+pub first_of_run : (path cuts : List ℕ) (at : ℕ) (ts : List Tree) (i j m tries x : ℕ) → of_stretches path at ts (stretches cuts (laid at ts) i j (min m tries) x) ≡ take m (of_stretches path at ts (stretches cuts (laid at ts) i j tries x))
+first_of_run path cuts at ts i j m tries x = ap (of_stretches path at ts) (fewer_tries cuts (laid at ts) i j m tries x) ∙ first_stretches path at ts m (stretches cuts (laid at ts) i j tries x)
+
+-- with no tries left there are no more
+pub no_more : (path cuts : List ℕ) (at : ℕ) (ts : List Tree) (i j tries x : ℕ) (cs : List Candidate) → tries ≡ 0 → cs ≡ cs ++ of_stretches path at ts (stretches cuts (laid at ts) i j tries x)
+no_more path cuts at ts i j tries x cs over = sym (append-nil cs) ∙ ap (λ (n : ℕ). cs ++ of_stretches path at ts (stretches cuts (laid at ts) i j n x)) (sym over)
 
 -- with as many more children as there are, all are taken
 all_taken : (cuts : List ℕ) (at : ℕ) (ts : List Tree) (i j x : ℕ) → i ≤ length ts → length ts ≤ x → is_all (laid at ts) (around cuts (laid at ts) i j x) ≡ true
@@ -178,34 +232,47 @@ module _ (ns : List Note) (rs re : ℕ) (path : List ℕ) (at a : ℕ) (t : Tree
         → below ns rs re path at t ≡ candidates_at ns rs re (path ++ near.first.index ∷ []) (run_in ns at t.head.kind u.head.kind) 0 (begins a ts near.first.index) (forest (u ∷ [])) ++ of_block path a ts near.first.index u.head.kind
     below_then f = in_hand ∙ (ap (Rest ns rs re path at t.head.kind a ts near.first.index) (child_in_hand a ts near.first.index u h e) ∙ rw (covers_is a ts rs re near u is h e ∙ f) refl)
 
-    -- with what was found at the child
-    deeper : (longer : List ℕ) (run : Option (List ℕ)) (xs : List Candidate) → is_covered rs re near u.head.is_inner ≡ true → longer ≡ path ++ near.first.index ∷ [] → run ≡ run_in ns at t.head.kind u.head.kind
-        → xs ≡ candidates_at ns rs re longer run 0 near.first.byte (forest (u ∷ [])) → below ns rs re path at t ≡ xs ++ of_block path a ts near.first.index u.head.kind
-    deeper longer run xs f way same found =
+    -- with those at the child
+    deeper : (longer : List ℕ) (run : Option (List ℕ)) → is_covered rs re near u.head.is_inner ≡ true → longer ≡ path ++ near.first.index ∷ [] → run ≡ run_in ns at t.head.kind u.head.kind
+        → below ns rs re path at t ≡ candidates_at ns rs re longer run 0 near.first.byte (forest (u ∷ [])) ++ of_block path a ts near.first.index u.head.kind
+    deeper longer run f way same =
         below_then f ∙ ap (λ (ys : List Candidate). ys ++ of_block path a ts near.first.index u.head.kind)
-        (sym (found ∙ (λ k. candidates_at ns rs re (way k) (same k) 0 (is.first_edge.byte k) (forest (u ∷ [])))))
+        (sym (λ k. candidates_at ns rs re (way k) (same k) 0 (is.first_edge.byte k) (forest (u ∷ []))))
 
-    pub found_alone : (longer : List ℕ) (run : Option (List ℕ)) (xs : List Candidate) → is_covered rs re near u.head.is_inner ≡ true → longer ≡ path ++ near.first.index ∷ [] → run ≡ run_in ns at t.head.kind u.head.kind
-        → xs ≡ candidates_at ns rs re longer run 0 near.first.byte (forest (u ∷ [])) → is_block u.head.kind ≡ false → xs ≡ below ns rs re path at t
-    found_alone longer run xs f way same found no_block = sym (deeper longer run xs f way same found ∙ (rw no_block refl ∙ append-nil xs))
+    module _ (most : ℕ) (longer : List ℕ) (run : Option (List ℕ)) (f : is_covered rs re near u.head.is_inner ≡ true) (way : longer ≡ path ++ near.first.index ∷ []) (same : run ≡ run_in ns at t.head.kind u.head.kind) where
+      pub found_enough : (xs : List Candidate) → xs ≡ take most (candidates_at ns rs re longer run 0 near.first.byte (forest (u ∷ []))) → most ≤ length xs → xs ≡ take most (below ns rs re path at t)
+      found_enough xs found full =
+          take_full most (candidates_at ns rs re longer run 0 near.first.byte (forest (u ∷ []))) (of_block path a ts near.first.index u.head.kind) xs found full ∙ ap (take most) (sym (deeper longer run f way same))
 
-    pub found_block : (longer final : List ℕ) (run : Option (List ℕ)) (items later : List found.Candidate) (c : found.Candidate) → is_covered rs re near u.head.is_inner ≡ true → longer ≡ path ++ near.first.index ∷ [] → run ≡ run_in ns at t.head.kind u.head.kind
-        → map (spelled final) items ≡ candidates_at ns rs re longer run 0 near.first.byte (forest (u ∷ [])) → is_block u.head.kind ≡ true
-        → later ≡ items ++ c ∷ [] → spelled final c ≡ of_children true path a ts near.first.index (suc near.first.index) → map (spelled final) later ≡ below ns rs re path at t
-    found_block longer final run items later c f way same found block pushed one =
-        ap (map (spelled final)) pushed ∙ (map-append (spelled final) items (c ∷ []) ∙ (ap (λ (d : Candidate). map (spelled final) items ++ d ∷ []) one
-        ∙ sym (deeper longer run (map (spelled final) items) f way same found ∙ rw block refl)))
+      pub found_alone : (xs : List Candidate) → xs ≡ take most (candidates_at ns rs re longer run 0 near.first.byte (forest (u ∷ []))) → is_block u.head.kind ≡ false → xs ≡ take most (below ns rs re path at t)
+      found_alone xs found no_block = found ∙ ap (take most) (sym (deeper longer run f way same ∙ (rw no_block refl ∙ append-nil (candidates_at ns rs re longer run 0 near.first.byte (forest (u ∷ []))))))
+
+      pub found_block : (final : List ℕ) (items later : List found.Candidate) (c : found.Candidate)
+          → map (spelled final) items ≡ take most (candidates_at ns rs re longer run 0 near.first.byte (forest (u ∷ []))) → length items < most → is_block u.head.kind ≡ true
+          → later ≡ items ++ c ∷ [] → spelled final c ≡ of_children true path a ts near.first.index (suc near.first.index) → map (spelled final) later ≡ take most (below ns rs re path at t)
+      found_block final items later c found less block pushed one =
+          let d : Candidate = of_children true path a ts near.first.index (suc near.first.index) in
+          ap (map (spelled final)) pushed ∙ (map-append (spelled final) items (c ∷ []) ∙ (ap (λ (e : Candidate). map (spelled final) items ++ e ∷ []) one
+          ∙ (take_one most (candidates_at ns rs re longer run 0 near.first.byte (forest (u ∷ []))) (map (spelled final) items) d found (omega (arith, less, length-map items (spelled final)))
+          ∙ ap (take most) (sym (deeper longer run f way same ∙ rw block refl)))))
 
   -- a node's own run behind what was found below it
-  pub found_run : (final : List ℕ) (depth : ℕ) (cuts : List ℕ) (xs ys : List Candidate) → take depth final ≡ path → xs ≡ below ns rs re path at t
-      → ys ≡ xs ++ of_stretches (take depth final) a ts (stretches cuts (laid a ts) near.first.index near.end.index (suc (length ts)) 1)
-      → ys ≡ candidates_at ns rs re path (Some cuts) 0 at (forest (t ∷ []))
-  found_run final depth cuts xs ys way found grown =
-      grown ∙ ((λ k. found k ++ of_stretches (way k) a ts (stretches cuts (laid a ts) (is.first k) (is.end k) (suc (length ts)) 1))
-      ∙ ((λ k. below ns rs re path at t ++ of_run rs re path (sym inside k) (sym kids k) (Some cuts)) ∙ sym (node_is ns rs re path (Some cuts) at t)))
+  pub found_run : (most room : ℕ) (final : List ℕ) (depth : ℕ) (cuts : List ℕ) (items : List found.Candidate) (ys : List Candidate) → take depth final ≡ path → map (spelled final) items ≡ take most (below ns rs re path at t) → room ≡ most - length items
+      → ys ≡ map (spelled final) items ++ take room (of_stretches (take depth final) a ts (stretches cuts (laid a ts) near.first.index near.end.index (suc (length ts)) 1))
+      → ys ≡ take most (candidates_at ns rs re path (Some cuts) 0 at (forest (t ∷ [])))
+  found_run most room final depth cuts items ys way found left grown =
+      let xs : List Candidate = map (spelled final) items in
+      grown ∙ ((λ k. xs ++ take room (of_stretches (way k) a ts (stretches cuts (laid a ts) (is.first k) (is.end k) (suc (length ts)) 1)))
+      ∙ (take_on most room (below ns rs re path at t) (of_run rs re path a ts (Some cuts)) xs found (left ∙ ap (λ (n : ℕ). most - n) (sym (length-map items (spelled final))))
+      ∙ ((λ k. take most (below ns rs re path at t ++ of_run rs re path (sym inside k) (sym kids k) (Some cuts))) ∙ ap (take most) (sym (node_is ns rs re path (Some cuts) at t)))))
 
-  pub found_none : (xs : List Candidate) → xs ≡ below ns rs re path at t → xs ≡ candidates_at ns rs re path None 0 at (forest (t ∷ []))
-  found_none xs found = found ∙ (sym (append-nil (below ns rs re path at t)) ∙ sym (node_is ns rs re path None at t))
+  -- without it, where there is no room
+  pub found_full : (most : ℕ) (run : Option (List ℕ)) (xs : List Candidate) → xs ≡ take most (below ns rs re path at t) → most ≤ length xs → xs ≡ take most (candidates_at ns rs re path run 0 at (forest (t ∷ [])))
+  found_full most run xs found full =
+      take_full most (below ns rs re path at t) (of_run rs re path (at + length t.head.text) (trees t.kids) run) xs found full ∙ ap (take most) (sym (node_is ns rs re path run at t))
+
+  pub found_none : (most : ℕ) (xs : List Candidate) → xs ≡ take most (below ns rs re path at t) → xs ≡ take most (candidates_at ns rs re path None 0 at (forest (t ∷ [])))
+  found_none most xs found = found ∙ ap (take most) (sym (append-nil (below ns rs re path at t)) ∙ sym (node_is ns rs re path None at t))
 
 -- the block in hand
 pub one_block : (final path : List ℕ) (depth a : ℕ) (ts : List Tree) (rs re : ℕ) (near : Near) (inner : Bool) (c : found.Candidate) → IsNear a ts rs re near → is_covered rs re near inner ≡ true → take depth final ≡ path

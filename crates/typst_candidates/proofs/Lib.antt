@@ -3,6 +3,7 @@
 --   records: of_notes, rear, front, opening, last   Walks: entry by entry; Passes: over all of them
 --   next, back, cursor_at, piece_behind, piece_before, top_run, run_in, closing   Cursors
 --   put, push, next, back of the words       Words
+--   start of a walk                  Spans: by sums over words; pass_block   Blocks
 --   looks_law                        Looks: note by note
 --   nested_law                       Nested
 pub mod Found
@@ -13,4 +14,6 @@ pub mod Walks
 pub mod Cursors
 pub mod Nested
 pub mod Words
+pub mod Spans
+pub mod Blocks
 pub mod Passes

@@ -1,5 +1,5 @@
 -- Places among the entries of records.
-use Rattle.std.specs.Prelude.{ℕ, zero, suc, ◌+◌, ◌-◌, ◌==◌, ◌&&◌, Bool, true, false, if◌then◌else◌, List, [], ◌∷◌, take, Option, Some, None}
+use Rattle.std.specs.Prelude.{◌≡◌, ℕ, zero, suc, ◌+◌, ◌-◌, ◌^◌, ◌<◌, ◌≤◌, ◌==◌, ◌&&◌, Bool, true, false, if◌then◌else◌, List, [], ◌∷◌, length, take, drop, Option, Some, None}
 use Rattle.std.specs.List.{slice_get}
 use Rattle.typst_kinds.specs.Kinds.{same}
 use Rattle.typst_kinds.specs.declared.kind.SyntaxKind.{SyntaxKind}
@@ -35,6 +35,31 @@ entry_before p = last_of p.number p.entries
 
 abbrev pub before : Place → Place
 before p = record p { number = p.number - 1 }
+
+-- how many words are passed over at once
+abbrev pub block_len : ℕ
+block_len = 64
+
+-- the looks of some entries go fewer than 2^10 bytes forth, and fewer than 2^4 back
+abbrev pub AreNear : List Entry → Type 0
+AreNear [] = Unit {0}
+AreNear (e ∷ es) = (e.forth < 2 ^ 10) × (e.back < 2 ^ 4) × AreNear es
+
+-- a place behind the entries of a block, which take up so many bytes
+pub record PassesBlock (old new : Place) (span : ℕ) : Type 0 where
+  pub within : old.number + block_len ≤ length old.entries
+  pub new_is : new ≡ record old { number = old.number + block_len }
+  pub span_is : (start : ℕ) → end_of start (take block_len (drop old.number old.entries)) ≡ start + span
+  pub near : AreNear (take block_len (drop old.number old.entries))
+
+-- a place before the entries of a block, whose looks all begin behind a byte, but for those of its first entry, which begin so far back
+pub record PassesBack (at : ℕ) (old new : Place) (back : ℕ) : Type 0 where
+  pub span : ℕ
+  pub passes : PassesBlock new old span
+  pub behind : at + 2 ^ 4 ≤ start_at new
+  pub first : Entry
+  pub first_is : entry_behind new ≡ Some first
+  pub back_is : back ≡ first.back
 
 -- ---- the pieces of one run
 

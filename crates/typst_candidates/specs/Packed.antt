@@ -17,11 +17,20 @@ tags = tag.Piece false ∷ tag.Piece true ∷ tag.Closes
     ∷ tag.Opens block.Code mode.Markup ∷ tag.Opens block.Code mode.Math ∷ tag.Opens block.Code mode.Code
     ∷ tag.Opens block.Content mode.Markup ∷ tag.Opens block.Content mode.Math ∷ tag.Opens block.Content mode.Code ∷ []
 
+-- how many bits the looks of an entry take
+abbrev pub forth_bits : Tag → ℕ
+forth_bits (tag.Piece at_start) = 10
+forth_bits (tag.Opens b m) = 6
+forth_bits tag.Closes = 10
+
+abbrev pub back_bits : Tag → ℕ
+back_bits (tag.Piece at_start) = 4
+back_bits (tag.Opens b m) = 2
+back_bits tag.Closes = 4
+
 -- how many bits the parts of an entry take behind its tag's four, from the lowest on; the others hold its count
 abbrev pub widths : Tag → Widths
-widths (tag.Piece at_start) = record { step = 10; gap = 4; forth = 10; back = 4 }
-widths (tag.Opens b m) = record { step = 8; gap = 3; forth = 6; back = 3 }
-widths tag.Closes = record { step = 10; gap = 4; forth = 10; back = 4 }
+widths t = record { step = 8; gap = 4; forth = forth_bits t; back = back_bits t }
 
 -- an entry by its tag, with these widths of its parts, and by what stands behind the tag
 abbrev pub entry_by : Tag → Widths → ℕ → Entry
@@ -52,6 +61,15 @@ abbrev pub all_beside : List (Option Entry) → ℕ
 all_beside [] = 0
 all_beside (o ∷ os) = beside o + all_beside os
 
+-- how many bytes lie between the token before an entry and its own
+abbrev pub span : Option Entry → ℕ
+span None = 0
+span (Some e) = e.step + e.gap
+
+abbrev pub all_spans : List (Option Entry) → ℕ
+all_spans [] = 0
+all_spans (o ∷ os) = span o + all_spans os
+
 -- entries where those that are missing stand in order beside them
 abbrev pub filled : List (Option Entry) → List Entry → List Entry
 filled [] ws = []
@@ -62,6 +80,15 @@ filled (None ∷ os) (w ∷ ws) = w ∷ filled os ws
 -- how many entries stand beside some words
 abbrev pub wides : List Packed → ℕ
 wides ps = all_beside (map entry_in ps)
+
+-- how many bytes lie before the tokens of the entries that some words hold
+abbrev pub spans : List Packed → ℕ
+spans ps = all_spans (map entry_in ps)
+
+-- and before those of entries beside them
+abbrev pub lengths : List Entry → ℕ
+lengths [] = 0
+lengths (e ∷ es) = (e.step + e.gap) + lengths es
 
 abbrev pub unpacked : List Packed → List Entry → List Entry
 unpacked ps ws = filled (map entry_in ps) ws

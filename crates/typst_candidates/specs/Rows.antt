@@ -1,13 +1,18 @@
 -- Places between the children of a node (of private clauses).
-use Rattle.std.specs.Prelude.{◌≡◌, ℕ, ◌+◌, ◌^◌, ◌<◌, ◌≤◌, Option, Some, None, List, [], ◌∷◌, ◌++◌, length, take, option_map, ◌==◌, ◌&&◌, Bool, nat_lt, zero, suc, if◌then◌else◌}
+use Rattle.std.specs.Prelude.{◌≡◌, ℕ, ◌+◌, ◌^◌, ◌<◌, ◌≤◌, Option, Some, None, List, [], ◌∷◌, ◌++◌, length, take, option_map, ◌==◌, ◌&&◌, Bool, nat_lt, suc, if◌then◌else◌}
 use Rattle.typst_language.specs.declared.calls.Note.{Note}
-use Rattle.typst_tree.specs.Tree.{Tree, forest, trees, text_of}
+use Rattle.typst_tree.specs.Tree.{Tree, forest, trees}
 use Rattle.typst_candidates.specs.declared.cuts.Cuts.{Cuts}
 use Rattle.typst_candidates.specs.declared.candidate.Candidate as found
+use Rattle.typst_candidates.specs.declared.candidate.RunAt.{RunAt}
+use Rattle.typst_candidates.specs.declared.candidate.RunAt.TheVariants as run
+use Rattle.typst_candidates.specs.declared.entry.Entry.{Entry}
 use Rattle.typst_candidates.specs.declared.row.Edge.{Edge}
 use Rattle.typst_candidates.specs.declared.row.Near.{Near}
 use Rattle.typst_candidates.specs.declared.row.Stretch as row
 use Rattle.typst_candidates.specs.Candidates.{Candidate, Stretch, laid, child_at, begins, first_near, end_near, covers, run_in, of_block, candidates_at}
+use Rattle.typst_candidates.specs.Cursors.{pieces_in, pieces_of}
+use Rattle.typst_candidates.specs.Units.{behind_first}
 
 -- so many children stand before the place, which is this byte
 pub record IsEdge (at : ℕ) (ts : List Tree) (e : Edge) : Type 0 where
@@ -36,6 +41,12 @@ bytes_of c = c.starts.items
 -- those of a node that may be a run
 abbrev pub run_of : Option Cuts → Option (List ℕ)
 run_of run = option_map bytes_of run
+
+-- where the pieces begin, but for the first, of the run that a node is
+abbrev pub pieces_at : List Entry → RunAt → Option (List ℕ)
+pieces_at es run.Nothing = None
+pieces_at es run.Text = behind_first (pieces_of 0 0 es)
+pieces_at es (run.Block at) = pieces_in at 0 es
 
 -- a candidate whose path is the front of another
 abbrev pub spelled : List ℕ → found.Candidate → Candidate

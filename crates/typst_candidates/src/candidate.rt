@@ -1,13 +1,14 @@
-//! All candidates of an edit, in order.
+//! The first candidates of an edit, in order.
 
 ghost use Rattle.std.specs.Prelude.{◌≡◌, ℕ, List, ◌+◌, ◌<◌, ◌≤◌, ◌^◌, ◌++◌, ◌∷◌, [], IfOk, OnOk, length, map, suc, take};
 ghost use Rattle.typst_language.specs.declared.calls.Note.{Note};
 ghost use Rattle.typst_tree.specs.Tree.{forest, trees, text_of};
-ghost use Rattle.typst_candidates.specs.Candidates.{laid, run_in, stretches, of_stretches, candidates, candidates_at};
+ghost use Rattle.typst_candidates.specs.declared.entry.Entry.{Entry};
+ghost use Rattle.typst_candidates.specs.Candidates.{laid, stretches, of_stretches, candidates, candidates_at};
 ghost use Rattle.typst_candidates.specs.Cursors.{piece_run};
 ghost use Rattle.typst_candidates.specs.Entries.{end_of};
 ghost use Rattle.typst_candidates.specs.Nested.{Written};
-ghost use Rattle.typst_candidates.specs.Rows.{IsEdge, IsNear, Fits, below, bytes_of, run_of, spelled};
+ghost use Rattle.typst_candidates.specs.Rows.{IsEdge, IsNear, Fits, below, bytes_of, pieces_at, run_of, spelled};
 
 use crate::{Cuts, Near, Records, Row, Stretch};
 use std::alloc::{AllocError, Global};
@@ -41,12 +42,24 @@ pub struct Candidates {
     pub items: Vec<Candidate>,
 }
 
-/// The replaced bytes, and the units of the text.
+/// Which run a node is.
+#[derive(Debug, Clone, Copy, PartialEq, Eq)]
+enum RunAt {
+    /// None,
+    Nothing,
+    /// the text's own,
+    Text,
+    /// or that of the content block which begins at this byte.
+    Block(usize),
+}
+
+/// The units of the text, the replaced bytes, and how many candidates are asked for.
 #[derive(Clone, Copy)]
 struct Search<'a> {
     records: &'a Records,
     start: usize,
     end: usize,
+    most: usize,
 }
 
 /// The children of a stretch as a candidate.
@@ -63,21 +76,35 @@ fn of_stretch(is_block: bool, depth: usize, stretch: Stretch) -> Candidate
     }
 }
 
-/// Adds those of a run: the pieces with 1, 2, 4, .. more children on each side, until all are taken.
+/// The run that a child is, of a node which begins at byte `at`: the block's, where it is the markup of a
+/// content block.
+fn run_of_child(parent: SyntaxKind, child: SyntaxKind, at: usize) -> RunAt
+    ensures { (es : List Entry) → pieces_at es result ≡ piece_run es at parent child }
+{
+    if parent == SyntaxKind::ContentBlock && child == SyntaxKind::Markup {
+        RunAt::Block(at)
+    } else {
+        RunAt::Nothing
+    }
+}
+
+/// Adds the first `room` of a run: the pieces with 1, 2, 4, .. more children on each side, until all are
+/// taken.
 fn add_pieces(
     found: &mut Vec<Candidate>,
     row: &Row<'_>,
     cuts: &Cuts,
     near: Near,
     depth: usize,
+    room: usize,
 ) -> Result<(), AllocError>
     requires fits { Fits row.now.at row.now.kids.now }
     requires first { IsEdge row.now.at row.now.kids.now near.first }
     requires end { IsEdge row.now.at row.now.kids.now near.end }
-    ensures { OnOk result ((path : List ℕ) → map (spelled path) found.new.items ≡ map (spelled path) found.old.items ++ of_stretches (take depth path) row.now.at row.now.kids.now (stretches (bytes_of cuts.now) (laid row.now.at row.now.kids.now) near.first.index near.end.index (suc (length row.now.kids.now)) 1)) }
+    ensures { OnOk result ((path : List ℕ) → map (spelled path) found.new.items ≡ map (spelled path) found.old.items ++ take room (of_stretches (take depth path) row.now.at row.now.kids.now (stretches (bytes_of cuts.now) (laid row.now.at row.now.kids.now) near.first.index near.end.index (suc (length row.now.kids.now)) 1))) }
 {
     let mut more: usize = 1;
-    for _ in 0..row.len() + 1 {
+    for _ in 0..room.min(row.len() + 1) {
         let stretch = row.around(cuts, near, more);
         found.push(of_stretch(false, depth, stretch))?;
         if row.is_all(stretch) {
@@ -89,55 +116,51 @@ fn add_pieces(
 }
 
 impl Search<'_> {
-    /// The run that a child is, if it is the markup of a content block, which begins at byte `at`.
-    fn run_in(
-        &self,
-        alloc: Global,
-        parent: SyntaxKind,
-        child: SyntaxKind,
-        at: usize,
-    ) -> Result<Option<Cuts>, AllocError>
+    /// Where the pieces of a run begin, if it has any. Goes through the entries up to its end.
+    fn cuts(&self, alloc: Global, run: RunAt) -> Result<Option<Cuts>, AllocError>
         requires { end_of 0 self.now.records.now.units.entries < 2 ^ 64 }
-        ensures { IfOk result (λ run. run_of run ≡ piece_run self.now.records.now.units.entries at parent child) }
+        ensures { IfOk result (λ cuts. run_of cuts ≡ pieces_at self.now.records.now.units.entries run) }
     {
-        if parent == SyntaxKind::ContentBlock && child == SyntaxKind::Markup {
-            self.records.run_in(alloc, at)
-        } else {
-            Ok(None)
+        match run {
+            RunAt::Nothing => Ok(None),
+            RunAt::Text => self.records.top_run(alloc),
+            RunAt::Block(at) => self.records.run_in(alloc, at),
         }
     }
 
-    /// Those at a node, which begins at byte `at` and may be a run. The steps down to the deepest
-    /// node are added to its path.
+    /// The first at a node, which begins at byte `at` and may be a run, whose pieces are looked up only where
+    /// there is room for them. The steps down to the deepest node are added to its path.
     #[cycle(candidates)]
     fn candidates_at(
         &self,
         alloc: Global,
         node: &SyntaxNode,
         at: usize,
-        run: Option<Cuts>,
+        run: RunAt,
         path: &mut Vec<usize>,
     ) -> Result<Vec<Candidate>, AllocError>
         requires order { self.now.start ≤ self.now.end }
         requires fits { at + length (text_of node.now) < 2 ^ 64 }
         requires places { end_of 0 self.now.records.now.units.entries < 2 ^ 64 }
         ensures path { OnOk result (take (length path.old.items) path.new.items ≡ path.old.items) }
-        ensures found { IfOk result (λ found. (ns : List Note) → Written self.now.records.now.units.entries ns → map (spelled path.new.items) found.items ≡ candidates_at ns self.now.start self.now.end path.old.items (run_of run) 0 at (forest (node.now ∷ []))) }
+        ensures found { IfOk result (λ found. (ns : List Note) → Written self.now.records.now.units.entries ns → map (spelled path.new.items) found.items ≡ take self.now.most (candidates_at ns self.now.start self.now.end path.old.items (pieces_at self.now.records.now.units.entries run) 0 at (forest (node.now ∷ [])))) }
     {
         let row = Row::of(node, at);
         let near = row.near(self.start, self.end);
         let depth = path.len();
         let mut found = self.below(alloc, node, at, near, path)?;
-        match &run {
-            None => Ok(found),
-            Some(cuts) => {
-                add_pieces(&mut found, &row, cuts, near, depth)?;
-                Ok(found)
-            }
+        if found.len() >= self.most {
+            return Ok(found);
         }
+        let room = self.most - found.len();
+        let Some(cuts) = self.cuts(alloc, run)? else {
+            return Ok(found);
+        };
+        add_pieces(&mut found, &row, &cuts, near, depth, room)?;
+        Ok(found)
     }
 
-    /// Those at the child of a node that covers the replaced bytes, then that child if it is a
+    /// The first at the child of a node that covers the replaced bytes, then that child if it is a
     /// block.
     #[cycle(candidates)]
     fn below(
@@ -153,7 +176,7 @@ impl Search<'_> {
         requires places { end_of 0 self.now.records.now.units.entries < 2 ^ 64 }
         requires near { IsNear (at + length node.now.head.text) (trees node.now.kids) self.now.start self.now.end near }
         ensures path { OnOk result (take (length path.old.items) path.new.items ≡ path.old.items) }
-        ensures found { IfOk result (λ found. (ns : List Note) → Written self.now.records.now.units.entries ns → map (spelled path.new.items) found.items ≡ below ns self.now.start self.now.end path.old.items at node.now) }
+        ensures found { IfOk result (λ found. (ns : List Note) → Written self.now.records.now.units.entries ns → map (spelled path.new.items) found.items ≡ take self.now.most (below ns self.now.start self.now.end path.old.items at node.now)) }
     {
         let kids = node.children();
         let depth = path.len();
@@ -165,8 +188,11 @@ impl Search<'_> {
             return Ok(Vec::new(alloc));
         }
         path.push(near.first.index)?;
-        let run = self.run_in(alloc, node.kind(), child.kind(), at)?;
+        let run = run_of_child(node.kind(), child.kind(), at);
         let mut found = self.candidates_at(alloc, child, near.first.byte, run, path)?;
+        if found.len() >= self.most {
+            return Ok(found);
+        }
         if !child.kind().is_block() {
             return Ok(found);
         }
@@ -179,27 +205,29 @@ impl Search<'_> {
     }
 }
 
-/// The candidates of replacing the bytes `start..end` of a text, by its tree and the units of its
-/// reading, in order.
+/// The first `most` candidates of replacing the bytes `start..end` of a text, by its tree and the units of
+/// its reading, in order; all with `usize::MAX`. The pieces of a run are looked up only where what comes
+/// before them leaves room.
 pub fn find_candidates(
     alloc: Global,
     root: &SyntaxNode,
     records: &Records,
     start: usize,
     end: usize,
+    most: usize,
 ) -> Result<Candidates, AllocError>
     requires order { start ≤ end }
     requires fits { length (text_of root.now) < 2 ^ 64 }
     requires places { end_of 0 records.now.units.entries < 2 ^ 64 }
-    ensures { IfOk result (λ found. (ns : List Note) → Written records.now.units.entries ns → map (spelled found.path.items) found.items.items ≡ candidates ns start end root.now) }
+    ensures { IfOk result (λ found. (ns : List Note) → Written records.now.units.entries ns → map (spelled found.path.items) found.items.items ≡ take most (candidates ns start end root.now)) }
 {
     let search = Search {
         records,
         start,
         end,
+        most,
     };
-    let run = records.top_run(alloc)?;
     let mut path = Vec::new(alloc);
-    let items = search.candidates_at(alloc, root, 0, run, &mut path)?;
+    let items = search.candidates_at(alloc, root, 0, RunAt::Text, &mut path)?;
     Ok(Candidates { path, items })
 }

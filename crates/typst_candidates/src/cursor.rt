@@ -1,10 +1,10 @@
 //! A place among the entries of records.
 
-ghost use Rattle.std.specs.Prelude.{◌≡◌, ◌+◌, ◌^◌, ◌<◌, ◌≤◌, length, drop, Some, None};
+ghost use Rattle.std.specs.Prelude.{◌≡◌, ◌+◌, ◌^◌, ◌<◌, ◌≤◌, length, drop, MatchOption, Some, None};
 ghost use Rattle.typst_candidates.specs.Entries.{end_of};
 ghost use Rattle.typst_candidates.specs.Cursors as spec;
 
-use crate::entries::Walk;
+use crate::entries::{BLOCK, FARTHEST_BACK, Walk};
 use crate::entry::{Entry, Tag};
 use crate::records::Records;
 use std::marker::Model;
@@ -41,17 +41,17 @@ impl Records {
         }
     }
 
-    /// The place behind so many entries. Goes through these.
+    /// The place behind so many entries. Adds up the words of these.
     pub fn cursor_at(&self, number: usize) -> Cursor<'_>
         requires within { number ≤ length self.now.units.entries }
         requires fits { end_of 0 self.now.units.entries < 2 ^ 64 }
         ensures { result ≡ record { entries = self.now.units.entries; number = number } }
     {
-        let mut place = self.cursor();
-        for _ in 0..number {
-            let _ = place.next();
+        let walk = self.walk_at(number);
+        Cursor {
+            start: walk.start(),
+            walk,
         }
-        place
     }
 
     /// The place behind the last entry, whose token begins at the byte `last`, or 0 where there is none.
@@ -93,6 +93,7 @@ impl<'a> Cursor<'a> {
     }
 
     /// The entry behind it, behind which it goes; nothing where there is none.
+    #[inline]
     pub fn next(&mut self) -> Option<Entry>
         ensures entry { result ≡ spec.entry_behind self.old }
         ensures place { self.new ≡ spec.behind result self.old }
@@ -104,6 +105,7 @@ impl<'a> Cursor<'a> {
     }
 
     /// The entry before it, before which it goes; nothing where there is none.
+    #[inline]
     pub fn back(&mut self) -> Option<Entry>
         ensures entry { result ≡ spec.entry_before self.old }
         ensures place { self.new ≡ spec.before self.old }
@@ -111,6 +113,27 @@ impl<'a> Cursor<'a> {
         let entry = self.walk.back()?;
         self.start -= entry.step + entry.gap;
         Some(entry)
+    }
+
+    /// Passes over a block of entries before it, if all looks behind its first entry's begin more than so many
+    /// bytes behind the byte `at`; answers how far back those of its first entry begin. Else nothing changes, and
+    /// it is asked only so many steps later again.
+    #[inline]
+    pub(crate) fn pass_far_back(&mut self, steps: &mut usize, at: usize) -> Option<usize>
+        ensures { MatchOption result (self.new ≡ self.old) (λ back. spec.PassesBack at self.old self.new back) }
+    {
+        if *steps > 0 {
+            *steps -= 1;
+            return None;
+        }
+        let most = self.start.saturating_sub(at).saturating_sub(FARTHEST_BACK);
+        let Some(span) = self.walk.pass_block_back(most) else {
+            *steps = BLOCK;
+            return None;
+        };
+        self.start -= span;
+        let first = self.walk.copy().next()?;
+        Some(first.back)
     }
 
     /// The place before the first piece behind it of the run that it stands in. Goes through the entries up to

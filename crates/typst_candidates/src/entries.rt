@@ -1,8 +1,9 @@
 //! Entries in order, nearly all of them in words.
 
-ghost use Rattle.std.specs.Prelude.{◌≡◌, ◌+◌, ◌-◌, ◌^◌, ◌++◌, ◌∷◌, [], ◌≤◌, ◌<◌, IfOk, OnErr, OnOk, Some, length, drop, slice_get, suc, take, vec_capacity};
-ghost use Rattle.typst_candidates.specs.Cursors.{before, behind, entry_before, entry_behind};
-ghost use Rattle.typst_candidates.specs.Packed.{HasRoom, wides};
+ghost use Rattle.std.specs.Prelude.{◌≡◌, ◌+◌, ◌-◌, ◌^◌, ◌++◌, ◌∷◌, [], ◌≤◌, ◌<◌, IfOk, IfSome, None, OnErr, OnOk, Some, length, drop, slice_get, suc, take, vec_capacity};
+ghost use Rattle.typst_candidates.specs.Cursors.{PassesBlock, before, behind, block_len, entry_before, entry_behind, start_at};
+ghost use Rattle.typst_candidates.specs.Entries.{end_of};
+ghost use Rattle.typst_candidates.specs.Packed.{HasRoom, lengths, spans, wides};
 
 use crate::entry::Entry;
 use crate::packed::Packed;
@@ -149,6 +150,14 @@ impl Entries {
     }
 }
 
+/// So many words are passed over at once, where what is looked for can't be among them.
+pub(crate) const BLOCK: usize = 64;
+
+/// The looks of an entry that a word holds go fewer bytes forth, and fewer back.
+pub(crate) const FARTHEST_FORTH: usize = 1 << 10;
+
+pub(crate) const FARTHEST_BACK: usize = 1 << 4;
+
 /// A place between two entries.
 #[derive(Drop)]
 pub(crate) struct Walk<'a> {
@@ -186,7 +195,50 @@ impl<'a> Walk<'a> {
         }
     }
 
+    /// Where the token of the entry before it begins, in bytes, or 0 before the first. The places of the text
+    /// must be numbers of the machine. Adds up the words before it, many at a time.
+    pub(crate) fn start(&self) -> usize
+        requires { end_of 0 self.now.entries < 2 ^ 64 }
+        ensures { result ≡ start_at self.now }
+    {
+        spans(&self.words[..self.number]) + lengths(&self.wide[..self.passed])
+    }
+
+    /// Passes over a block of words behind it, if all of them hold entries and take up fewer bytes than `most`;
+    /// answers how many these are. Else nothing changes.
+    #[inline]
+    pub(crate) fn pass_block(&mut self, most: usize) -> Option<usize>
+        ensures none { result ≡ None → self.new ≡ self.old }
+        ensures some { IfSome result (λ span. PassesBlock self.old self.new span × span < most) }
+    {
+        if self.words.len() - self.number < BLOCK {
+            return None;
+        }
+        let span = block_span(&self.words[self.number..self.number + BLOCK])?;
+        if span >= most {
+            return None;
+        }
+        self.number += BLOCK;
+        Some(span)
+    }
+
+    /// Passes over a block of words before it in the same way.
+    #[inline]
+    pub(crate) fn pass_block_back(&mut self, most: usize) -> Option<usize>
+        ensures none { result ≡ None → self.new ≡ self.old }
+        ensures some { IfSome result (λ span. PassesBlock self.new self.old span × span < most) }
+    {
+        let number = self.number.checked_sub(BLOCK)?;
+        let span = block_span(&self.words[number..self.number])?;
+        if span >= most {
+            return None;
+        }
+        self.number = number;
+        Some(span)
+    }
+
     /// How many entries stand before it.
+    #[inline]
     pub(crate) fn number(&self) -> usize
         ensures number { result ≡ self.now.number }
         ensures within { result ≤ length self.now.entries }
@@ -195,6 +247,7 @@ impl<'a> Walk<'a> {
     }
 
     /// The entry behind it, behind which it goes; nothing where there is none.
+    #[inline]
     pub(crate) fn next(&mut self) -> Option<Entry>
         ensures entry { result ≡ entry_behind self.old }
         ensures place { self.new ≡ behind result self.old }
@@ -211,6 +264,7 @@ impl<'a> Walk<'a> {
     }
 
     /// The entry before it, before which it goes; nothing where there is none.
+    #[inline]
     pub(crate) fn back(&mut self) -> Option<Entry>
         ensures entry { result ≡ entry_before self.old }
         ensures place { self.new ≡ before self.old }
@@ -242,6 +296,42 @@ fn beside(words: &[Packed]) -> usize
         count += word.beside();
     }
     count
+}
+
+/// How many bytes the words of a block take up, if all of them hold entries.
+#[inline]
+fn block_span(words: &[Packed]) -> Option<usize>
+    requires { length words.now ≡ block_len }
+    ensures { IfSome result (λ span. (wides words.now ≡ 0) × (span ≡ spans words.now)) }
+{
+    if beside(words) > 0 {
+        return None;
+    }
+    Some(spans(words))
+}
+
+/// How many bytes lie between the tokens of the entries that some words hold and the tokens before these.
+fn spans(words: &[Packed]) -> usize
+    requires { spans words.now < 2 ^ 64 }
+    ensures { result ≡ spans words.now }
+{
+    let mut sum = 0;
+    for word in words {
+        sum += word.span();
+    }
+    sum
+}
+
+/// The same of entries beside the words.
+fn lengths(entries: &[Entry]) -> usize
+    requires { lengths entries.now < 2 ^ 64 }
+    ensures { result ≡ lengths entries.now }
+{
+    let mut sum = 0;
+    for entry in entries {
+        sum += entry.step + entry.gap;
+    }
+    sum
 }
 
 /// Puts a part in place of the items from the one numbered `from` up to the one numbered `to`, for which there

@@ -1,9 +1,9 @@
 //! What of a tree an edit may read anew: blocks that cover the replaced bytes, and pieces around
 //! them, in order; and the units of a text, by which it is decided.
 //!
-//! [`find_candidates`] gives all candidates. Who needs them one after the other walks down by [`Row::near`]
-//! and [`Near::covers`], and asks for a run's stretches by [`Row::around`] and [`Row::is_all`].
-//! [`Records`] keep the units beside a tree.
+//! [`find_candidates`] gives as many of the first candidates as are asked for. Who needs them one after the
+//! other walks down by [`Row::near`] and [`Near::covers`], and asks for a run's stretches by [`Row::around`]
+//! and [`Row::is_all`]. [`Records`] keep the units beside a tree.
 #![tactic(auto)]
 
 mod candidate;

@@ -27,6 +27,12 @@ struct Widths {
 /// How many bits a tag takes.
 const TAG: u32 = 4;
 
+/// How many bits its step and its gap take, which are the same for each tag: so many words are added up without a
+/// look at their tags.
+const STEP: u32 = 8;
+
+const GAP: u32 = 4;
+
 impl Packed {
     /// The word of an entry that no word holds.
     pub(crate) fn wide() -> Packed
@@ -50,6 +56,7 @@ impl Packed {
     }
 
     /// The entry that the word holds, where it holds one.
+    #[inline]
     pub(crate) fn entry(self) -> Option<Entry>
         ensures { result ≡ spec.entry_in self }
     {
@@ -71,12 +78,29 @@ impl Packed {
     }
 
     /// How many entries beside the words the word stands for: one, where it holds none itself.
+    #[inline]
     pub(crate) fn beside(self) -> usize
         ensures { result ≡ spec.beside (spec.entry_in self) }
     {
-        match self.entry() {
+        let (number, _) = split(self.word, TAG);
+        match tag_of(number) {
             None => 1,
             Some(_) => 0,
+        }
+    }
+
+    /// How many bytes lie between the token before the entry and its own, or none, where the word holds none.
+    #[inline]
+    pub(crate) fn span(self) -> usize
+        ensures value { result ≡ spec.span (spec.entry_in self) }
+        ensures small { result < 2 ^ 9 }
+    {
+        let (number, from_step) = split(self.word, TAG);
+        let (step, from_gap) = split(from_step, STEP);
+        let (gap, _) = split(from_gap, GAP);
+        match tag_of(number) {
+            None => 0,
+            Some(_) => step + gap,
         }
     }
 }
@@ -121,14 +145,14 @@ fn widths_of(tag: Tag) -> Widths
 {
     match tag {
         Tag::Opens(_, _) => Widths {
-            step: 8,
-            gap: 3,
+            step: STEP,
+            gap: GAP,
             forth: 6,
-            back: 3,
+            back: 2,
         },
         _ => Widths {
-            step: 10,
-            gap: 4,
+            step: STEP,
+            gap: GAP,
             forth: 10,
             back: 4,
         },
@@ -153,6 +177,7 @@ fn number(tag: Tag) -> usize
 }
 
 /// The tag of a number.
+#[inline]
 fn tag_of(number: usize) -> Option<Tag>
     ensures { result ≡ slice_get spec.tags number }
 {

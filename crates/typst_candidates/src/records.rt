@@ -1,12 +1,13 @@
 //! The units of a text, kept beside its tree.
 
-ghost use Rattle.std.specs.Prelude.{◌≡◌, ◌&&◌, ◌==◌, ◌↔◌, IsTrue, ℕ, Some, None, ◌≤◌, ◌<◌, ◌+◌, ◌-◌, ◌^◌, ◌++◌, ◌∷◌, [], suc, IfOk, IfSome, OnOk, OnErr, length};
+ghost use Rattle.std.specs.Prelude.{◌≡◌, ◌&&◌, ◌==◌, ◌↔◌, IsTrue, ℕ, Some, None, ◌≤◌, ◌<◌, ◌+◌, ◌-◌, ◌^◌, ◌++◌, ◌∷◌, [], suc, IfOk, IfSome, MatchOption, OnOk, OnErr, length};
+ghost use Rattle.typst_candidates.specs.Cursors.{PassesBlock};
 ghost use Rattle.typst_candidates.specs.Entries.{back_of, block_end, end_of, entries_by, entry_of, front_of, last_start, rear_of, spliced, units_by};
 ghost use Rattle.typst_candidates.specs.Entries as spec;
 ghost use Rattle.typst_candidates.specs.Packed.{HasRoom};
 ghost use Rattle.typst_candidates.specs.Records.{AllFit, is_opening, opening_of};
 
-use crate::entries::{Entries, Walk};
+use crate::entries::{BLOCK, Entries, FARTHEST_FORTH, Walk};
 use crate::entry::{self, Entry, Tag};
 use std::alloc::{AllocError, Global};
 use std::marker::Model;
@@ -130,6 +131,14 @@ impl Records {
         Some(at)
     }
 
+    /// The same where the places of the text are numbers of the machine. Adds up all entries, many at a time.
+    pub fn last_token(&self) -> usize
+        requires { end_of 0 self.now.units.entries < 2 ^ 64 }
+        ensures { result ≡ end_of 0 self.now.units.entries }
+    {
+        self.walk_at_end().start()
+    }
+
     /// The place before the first entry.
     pub(crate) fn walk(&self) -> Walk<'_>
         ensures { result ≡ record { entries = self.now.units.entries; number = 0 } }
@@ -169,7 +178,16 @@ impl Records {
     {
         let mut left = at;
         let mut place = self.walk();
-        loop {
+        let mut steps = 0;
+        'entries: loop {
+            if let Some(span) = pass_far(
+                &mut place,
+                &mut steps,
+                left.saturating_sub(FARTHEST_FORTH),
+            ) {
+                left -= span;
+                continue 'entries;
+            }
             let here = place.number();
             let Some(entry) = place.next() else {
                 return here;
@@ -193,7 +211,12 @@ impl Records {
     {
         let mut place = self.cursor_at_end(last);
         let mut back = self.back;
-        while is_behind(at, place.start(), back) {
+        let mut steps = 0;
+        'entries: while is_behind(at, place.start(), back) {
+            if let Some(first) = place.pass_far_back(&mut steps, at) {
+                back = first;
+                continue 'entries;
+            }
             let Some(entry) = place.back() else {
                 return 0;
             };
@@ -209,7 +232,12 @@ impl Records {
     {
         let mut left = at;
         let mut place = self.walk();
-        loop {
+        let mut steps = 0;
+        'entries: loop {
+            if let Some(span) = pass_far(&mut place, &mut steps, left) {
+                left -= span;
+                continue 'entries;
+            }
             let here = place.number();
             let entry = place.next()?;
             left = left_behind(left, &entry)?;
@@ -252,7 +280,25 @@ pub fn fit(notes: &[Note]) -> bool
     true
 }
 
+/// Passes over a block behind the place, if it takes up fewer bytes than `most`, and answers how many these are.
+/// Where it doesn't, it is asked only so many steps later again.
+#[inline]
+fn pass_far(place: &mut Walk<'_>, steps: &mut usize, most: usize) -> Option<usize>
+    ensures { MatchOption result (place.new ≡ place.old) (λ span. PassesBlock place.old place.new span × span < most) }
+{
+    if *steps > 0 {
+        *steps -= 1;
+        return None;
+    }
+    let Some(span) = place.pass_block(most) else {
+        *steps = BLOCK;
+        return None;
+    };
+    Some(span)
+}
+
 /// What is left of so many bytes behind the token of the entry.
+#[inline]
 fn left_behind(left: usize, entry: &Entry) -> Option<usize>
     ensures some { (rest : ℕ) → result ≡ Some rest → left ≡ (rest + entry.now.step) + entry.now.gap }
     ensures none { result ≡ None → left < entry.now.step + entry.now.gap }
@@ -261,6 +307,7 @@ fn left_behind(left: usize, entry: &Entry) -> Option<usize>
 }
 
 /// Whether looks that begin so far before the token at the byte `start` begin behind the byte `at`.
+#[inline]
 fn is_behind(at: usize, start: usize, back: usize) -> bool
     ensures { result ≡ spec.is_behind at start back }
 {

@@ -78,7 +78,7 @@ impl Records {
         requires fits { end_of 0 self.now.units.entries < 2 ^ 64 }
         ensures { result ≡ spec.closing_of 0 from (drop from self.now.units.entries) }
     {
-        let mut place = self.cursor_at(from);
+        let mut place = self.walk_at(from);
         let mut inside = 0usize;
         loop {
             let number = place.number();

@@ -8,7 +8,7 @@ use Rattle.std.proofs.lemmas.List.{length-take-le, take-append-drop, take-append
 use Rattle.std.proofs.Math.Seq.{take-append-add}
 use Rattle.typst_highlight.specs.declared.tags.Tag.{Tag}
 use Rattle.typst_highlight.specs.declared.tags.Tag.TheVariants as tag
-use Rattle.typst_highlight.specs.Html.{opening, escaped, span_start, span_end}
+use Rattle.typst_highlight.specs.Html.{opening, span_start, span_end}
 
 -- the first n bytes of what was put on a page
 pub part_put : (page old block : List ℕ) (a n end : ℕ) → end ≡ a + length block → n ≤ length block → a ≤ length old → take end page ≡ take a old ++ block → take (a + n) page ≡ take a old ++ take n block
@@ -86,11 +86,3 @@ utf8_span o text u = IsUtf8-append (span_start o) (text ++ span_end o) (utf8_sta
 
 pub utf8_byte : (b : ℕ) → b < 128 → IsUtf8 (b ∷ [])
 utf8_byte b l = IsUtf8-from_ascii (b ∷ []) (IsAscii-from_all (b ∷ []) (grind (arith, l)))
-
--- the beginning of a span and a node's own text, before what its children become
-pub node_put : (a b d : List ℕ) (g t : Option Tag) (text own inner kids : List ℕ) → b ≡ a ++ span_start g → d ≡ b ++ escaped text → g ≡ t → text ≡ own → inner ≡ kids → d ++ (inner ++ span_end g) ≡ a ++ (span_start t ++ (escaped own ++ (kids ++ span_end t)))
-node_put a b d g t text own inner kids e f same said made =
-    let first : d ≡ a ++ (span_start t ++ escaped own) =
-    f ∙ ((λ i. e i ++ escaped (said i)) ∙ (ap (λ o. (a ++ span_start o) ++ escaped own) same ∙ append_assoc a (span_start t) (escaped own))) in
-    (λ i. first i ++ (made i ++ span_end (same i)))
-    ∙ (append_assoc a (span_start t ++ escaped own) (kids ++ span_end t) ∙ ap (λ bs. a ++ bs) (append_assoc (span_start t) (escaped own) (kids ++ span_end t)))

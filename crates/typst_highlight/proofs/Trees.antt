@@ -138,7 +138,7 @@ found_law root k (more h ks r) front back up c n s w l =
     }
 
 -- the tag of the first of the trees
-tag_law : (root : Tree) (k : ℕ) (h : Head) (ks r : Forest) (front back : List Tree) (up : Option ℕ) (c : Context) → Stand root k (more h ks r) front back up → Fits root k (more h ks r) up c → tag c (tree_of h ks) r ≡ tag_of (at root k)
+pub tag_law : (root : Tree) (k : ℕ) (h : Head) (ks r : Forest) (front back : List Tree) (up : Option ℕ) (c : Context) → Stand root k (more h ks r) front back up → Fits root k (more h ks r) up c → tag c (tree_of h ks) r ≡ tag_of (at root k)
 tag_law root k h ks r front back up c s w =
     let t : Tree = tree_of h ks in
     let after : Stand root (k + (1 + count ks)) r (front ++ places t) back up = behind root k h ks r front back up s in

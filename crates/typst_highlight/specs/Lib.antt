@@ -2,5 +2,6 @@ pub mod Html
 pub mod Names
 pub mod Nodes
 pub mod Rules
+pub mod Stretches
 pub mod Tags
 pub mod Walk

@@ -17,9 +17,11 @@ use Rattle.typst_highlight.specs.declared.progress.Behind.{Behind, Nothing, Node
 use Rattle.typst_highlight.specs.declared.progress.Later.{Later}
 use Rattle.typst_highlight.specs.declared.progress.Level.{Level}
 use Rattle.typst_highlight.specs.declared.progress.Progress.{Progress}
+use Rattle.typst_highlight.specs.declared.stretches.Tagged.{Tagged}
 use Rattle.typst_highlight.specs.Rules.{rule_of, paren_tag, star_tag, underscore_tag, slash_tag, equals_tag, term_tag, is_name, is_field_access, is_dot}
 use Rattle.typst_highlight.specs.Names.{first_tag, name_alone}
 use Rattle.typst_highlight.specs.Html.{escaped, spanned, span_start, span_end}
+use Rattle.typst_highlight.specs.Stretches.{stretch}
 
 abbrev pub tree_of : Head → Forest → Tree
 tree_of h ks = record { head = h; kids = ks }
@@ -221,3 +223,56 @@ is_followed (more h ks r) = if is_trivia h.kind then is_followed r else holds_le
 -- what is round the node that a walk has come to on a level
 abbrev pub joined : Level → Progress → Context
 joined l p = record { parent = l.parent; outer = l.outer; offset = p.offset; trail = p.trail; ahead = leaf_ahead l.behind }
+
+-- what is round the root of a tree
+abbrev pub root_context : Context
+root_context = record { parent = None; outer = None; offset = 0; trail = record { before = None; name = None; earlier = None }; ahead = None }
+
+-- what the steps of a walk make of what the nodes are given to
+pub record Outlet (S : Type 0) : Type 0 where
+  -- at the beginning of a span
+  pub begun : S → Option Tag → S
+  -- what the end of the span is told
+  pub kept : S → Option Tag → Option Tag
+  -- by a node's own text
+  pub given : S → List ℕ → S
+  -- at the end of a span
+  pub ended : S → Option Tag → S
+
+-- what trees that stand side by side make of it
+abbrev pub walked_row : {S : Type 0} → Outlet S → Context → Forest → S → S
+walked_row o c none s = s
+walked_row o c (more h ks r) s =
+    let t : Tree = tree_of h ks in
+    walked_row o (past c t (passed c t r)) r (o.ended (walked_row o (within c t r) ks (o.given (o.begun s (spanned (tag c t r))) h.text)) (o.kept s (spanned (tag c t r))))
+
+-- what a node makes of it
+abbrev pub walked : {S : Type 0} → Outlet S → Context → Tree → Forest → S → S
+walked o c t r s =
+    o.ended (walked_row o (within c t r) t.kids (o.given (o.begun s (spanned (tag c t r))) t.head.text)) (o.kept s (spanned (tag c t r)))
+
+-- HTML that is written
+abbrev pub html : Outlet (List ℕ)
+html = record {
+  begun = λ s t. s ++ span_start t;
+  kept = λ s t. t;
+  given = λ s text. s ++ escaped text;
+  ended = λ s t. s ++ span_end t;
+}
+
+-- stretches with tags as they are made
+pub record Marks : Type 0 where
+  pub stretches : List Tagged
+  -- where the next one begins
+  pub end : ℕ
+  -- the tag of the innermost span
+  pub around : Option Tag
+
+-- stretches that are added
+abbrev pub tagger : Outlet Marks
+tagger = record {
+  begun = λ s t. record s { around = first_tag t s.around };
+  kept = λ s t. s.around;
+  given = λ s text. record s { stretches = s.stretches ++ stretch s.end text s.around; end = saturated (s.end + length text) };
+  ended = λ s t. record s { around = t };
+}

@@ -1,4 +1,4 @@
-//! Highlighting: tags of the nodes of a syntax tree, and the tree's text as HTML.
+//! Highlighting: tags of the nodes of a syntax tree, and the tree's text as HTML or as stretches with tags.
 #![tactic(auto)]
 
 mod context;
@@ -8,10 +8,13 @@ mod html;
 mod page;
 mod progress;
 mod rules;
+mod sink;
 mod spans;
+mod stretches;
 mod tags;
 mod walk;
 
 pub use highlighter::highlight;
 pub use html::highlight_html;
+pub use stretches::{Tagged, tag_stretches};
 pub use tags::{Tag, list_law};

@@ -1,8 +1,10 @@
 -- The node of a raw text.
-use Rattle.std.specs.Prelude.{ℕ, zero, suc, Bool, ◌==◌, ◌&&◌, nat_lt, if◌then◌else◌, List, [], ◌∷◌, ◌++◌, length, take, drop, reverse, Option, Some, None, option_map, codes, encode_utf8_all}
+use Rattle.std.specs.Prelude.{ℕ, zero, suc, Bool, ◌==◌, ◌&&◌, nat_lt, if◌then◌else◌, List, [], ◌∷◌, ◌++◌, length, take, drop, reverse, Option, Some, None, option_map, encode_utf8_all}
 use Rattle.std.specs.List.{prefix_len}
 use Rattle.typst_kinds.specs.declared.kind.SyntaxKind.TheVariants as kind
 use Rattle.typst_tree.specs.Tree.{Tree, forest, inner_of, error_of}
+use Rattle.typst_tokens.specs.declared.token.Fault.TheVariants as fault
+use Rattle.typst_lexer.specs.Faults.{message}
 use Rattle.typst_lexer.specs.RawLines.{leaf, is_tick, block_leaves, inline_leaves}
 use Rattle.typst_lexer.specs.RawTag.{tag, warned}
 
@@ -56,7 +58,7 @@ abbrev pub delimited_node : List ℕ → List ℕ → List ℕ → Tree
 delimited_node cs delim rest =
     if is_pair delim rest then two_delimiters
     else (elim (before_ticks (length delim) rest)
-    [ None ↦ error_of (codes "unclosed raw text") (encode_utf8_all cs) | Some inner ↦ closed_node delim inner ])
+    [ None ↦ error_of (message fault.UnclosedRaw cs) (encode_utf8_all cs) | Some inner ↦ closed_node delim inner ])
 
 -- The node of the characters of a raw text.
 unfoldable pub raw_node : List ℕ → Tree

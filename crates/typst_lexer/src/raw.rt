@@ -4,12 +4,14 @@ ghost use Rattle.std.specs.Str.{chars};
 ghost use Rattle.typst_lines.specs.Scanner.{place};
 ghost use Rattle.typst_lexer.specs.Raw as spec;
 
+use crate::faults::fault_node;
 use crate::raw_lines::{push_block, push_inline, push_leaf};
 use crate::raw_sets::Tick;
 use crate::raw_tag::{split_tag, warn};
 use std::alloc::{AllocError, Global};
 use typst_kinds::SyntaxKind;
 use typst_lines::Scanner;
+use typst_tokens::Fault;
 use typst_tree::SyntaxNode;
 
 /// The node of a raw text, whose characters begin with its backticks and end with them again. Where
@@ -25,7 +27,7 @@ pub fn raw_node(alloc: Global, text: &str) -> Result<SyntaxNode, AllocError>
         return Ok(node);
     }
     let Some(end) = before_ticks(rest, delim.len()) else {
-        let node = SyntaxNode::error(alloc, "unclosed raw text", text)?;
+        let node = fault_node(alloc, Fault::UnclosedRaw, text)?;
         return Ok(node);
     };
     let node = closed_node(alloc, delim, end.before())?;

@@ -8,6 +8,7 @@ use Rattle.typst_lines.specs.Newline.{ends_line}
 use Rattle.typst_lines.specs.Place.{char_width, place_at}
 use Rattle.typst_lines.specs.Lines.{utf16_len, units, bytes, line_table, lines_after, utf16_before, line_of}
 use Rattle.typst_lines.specs.Edited.{IsEdit, units_at, moved_line}
+use Rattle.typst_lines.specs.Pending.{UpTo}
 use Rattle.typst_lines.specs.declared.lines.Line.{Line}
 use Rattle.typst_lines.proofs.LineTable.{line_at, onto_if, starts_from, line_table-starts, width-positive, units-le, units-front, bytes-append, bytes-text, bytes-front, chars-split, chars-range, front-boundary, front-ahead, front-chars}
 use Rattle.typst_lines.proofs.LinesFromLaw.{after, later-line, earlier-line, after-starts, none-before, table-after}
@@ -170,10 +171,6 @@ small-moved b c u v (l ∷ ls) (m ∷ ms) e h =
 
 -- ---- lines up to a byte and those behind it
 
-abbrev pub UpTo : ℕ → List Line → Type 0
-UpTo b [] = Unit {0}
-UpTo b (l ∷ ls) = (l.byte_idx ≤ b) × UpTo b ls
-
 upto-more : (b c : ℕ) (ls : List Line) → b ≤ c → UpTo b ls → UpTo c ls
 upto-more b c [] le h = tt
 upto-more b c (l ∷ ls) le h = let first = h.0 in (omega (arith, le, first), upto-more b c ls le h.1)
@@ -220,6 +217,11 @@ dropped : (b low : ℕ) (ls : List Line) → rising (λ n. n.byte_idx) low ls �
 dropped b low [] r = refl
 dropped b low (l ∷ ls) r = dropped-by b low l ls (nat_le l.byte_idx b) refl r.1 (dropped b l.byte_idx ls r.1)
 
+-- only of none are none left
+none-moved : (f : Line → Line) (ls : List Line) → map f ls ≡ [] → ls ≡ []
+none-moved f [] e = refl
+none-moved f (l ∷ ls) e = absurd (cc)
+
 -- ---- a text in which a stretch was replaced
 
 module _ (s new : List ℕ) (u : IsUtf8 s) (v : IsUtf8 new) (start end new_end : ℕ) (e : IsEdit s new start end new_end) where
@@ -259,7 +261,10 @@ module _ (s new : List ℕ) (u : IsUtf8 s) (v : IsUtf8 new) (start end new_end :
       let sum : bytes (front ++ with) ≡ start + length e.with = bytes-append front with ∙ ap (λ n. n + bytes with) front-size ∙ ap (λ n. start + n) (bytes-text e.with e.utf8) in
       e.new_end_is ∙ sym sum ∙ ap bytes (sym (ap (take count) split-there ∙ take_at (front ++ with) rest count refl))
 
-  end-boundary : IsCharBoundary new new_end
+  pub start-boundary : IsCharBoundary new start
+  start-boundary = front-boundary new v (length front) start (sym front-size ∙ ap bytes (sym (ap (take (length front)) new-is ∙ take_at front (with ++ rest) (length front) refl)))
+
+  pub end-boundary : IsCharBoundary new new_end
   end-boundary = front-boundary new v count new_end end-size
 
   end-ahead : chars (drop new_end new) ≡ rest
@@ -346,11 +351,8 @@ module _ (s new : List ℕ) (u : IsUtf8 s) (v : IsUtf8 new) (start end new_end :
       let all : map (moved_line end new_end (units_at old) y.utf16_idx) old ≡ y ∷ ys = small-moved end new_end (units_at old) y.utf16_idx old (y ∷ ys) moves small in
       ap (λ ls. lines ++ map (moved_line end new_end (units_at ls) y.utf16_idx) ls) behind-is ∙ ap (λ ls. lines ++ ls) all ∙ is
 
--- a table's first lines and its last ones, as code takes them
-pub first-lines : (old table : List Line) (r n : ℕ) → old ≡ table → r ≡ n → take (r + 1) old ≡ take (suc n) table
-first-lines old table r n e f = let one : r + 1 ≡ suc n = omega (arith, f) in ap (λ j. take j old) one ∙ ap (take (suc n)) e
-
-pub last-lines : (old table : List Line) (r n : ℕ) → old ≡ table → r ≡ n → slice_range old (r + 1) (length old) ≡ drop (suc n) table
-last-lines old table r n e f =
-    let one : r + 1 ≡ suc n = omega (arith, f) in
-    ap (λ j. slice_range old j (length old)) one ∙ take_all (length old - suc n) (drop (suc n) old) (omega (arith, length-drop (suc n) old)) ∙ ap (drop (suc n)) e
+  -- where no line starts behind the stretch now, none did
+  pub none-behind : lines_after new new_end ≡ [] → behind ≡ []
+  none-behind e =
+      let moved = starts-moved end new_end (utf16_before s end) (utf16_before new new_end) end (utf16_before s end) new_end (utf16_before new new_end) rest (omega arith) (omega arith) (omega arith) (omega arith) in
+      behind-is ∙ none-moved (plainly end new_end (utf16_before s end) (utf16_before new new_end)) (starts_from end (utf16_before s end) rest) (sym moved ∙ sym new-behind ∙ e)

@@ -17,7 +17,7 @@ pub mod sets;
 pub use by_unicode::UnicodeClasses;
 pub use classes::{Classes, MathClass, is_id_continue, is_id_start, is_ident};
 pub use labels::{InName, is_valid_in_label_literal, is_valid_label_literal_id, ref_name};
-pub use lines::{Line, Lines, LinesFrom, Text};
+pub use lines::{EditedLines, Line, Lines, LinesFrom, Text};
 pub use links::{eat_front, link_prefix, without_last_signs};
 pub use newline::{is_newline, split_newlines};
 pub use scanner::{CharSet, Scanner, ScannerExt};

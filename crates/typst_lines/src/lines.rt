@@ -1,19 +1,20 @@
 //! The lines of a text, and positions in bytes, lines, columns and UTF-16 units.
-ghost use Rattle.std.specs.Prelude.{◌≡◌, ◌≢◌, ℕ, ◌+◌, ◌-◌, ◌≤◌, ◌<◌, ◌^◌, ◌++◌, List, length, map, Some, false, IsTrue, ◌↔◌, IfOk, IfSome, MatchOption, OnErr, OnOk, not, take, drop, reverse, slice_get, slice_index, nat_eq};
+ghost use Rattle.std.specs.Prelude.{◌≡◌, ◌≢◌, ℕ, ◌+◌, ◌-◌, ◌≤◌, ◌<◌, ◌^◌, ◌++◌, List, [], length, map, Some, false, IsTrue, ◌↔◌, IfOk, IfErr, IfSome, MatchOption, OnErr, OnOk, not, take, drop, reverse, slice_get, slice_index, nat_eq};
 ghost use Rattle.std.specs.Option.{SomeIff};
 ghost use Rattle.std.specs.Str.{IsCharBoundary, IsUtf8, chars};
-ghost use Rattle.std.specs.String.{string_bytes};
+ghost use Rattle.std.specs.String.{string_bytes, string_capacity};
 ghost use Rattle.std.specs.Cmp.{partial_equiv_from_equiv};
 ghost use Rattle.std.specs.Cmp.Lexicographic.{pointwise, nat_list_eq_equiv};
 ghost use Rattle.std.specs.Cmp.Rules.{hashing};
 ghost use Rattle.std.specs.Hash as fed;
 ghost use Rattle.std.proofs.Common.{rules};
 ghost use Rattle.typst_lines.specs.Blocks.{IsSharedEnd, IsSharedFront, is_plain_byte};
-ghost use Rattle.typst_lines.specs.Edited.{IsEdit, moved_line, units_at};
+ghost use Rattle.typst_lines.specs.Edited.{moved_line, units_at};
 ghost use Rattle.typst_lines.specs.Newline.{is_newline, ends_line};
+ghost use Rattle.typst_lines.specs.Pending.{AddsStarts, lines_behind, settled_lines};
 ghost use Rattle.typst_lines.specs.Place.{char_width, place_at, scout};
 ghost use Rattle.typst_lines.specs.Replacement.{Replaces};
-ghost use Rattle.typst_lines.specs.Lines.{IsLineOf, IsLineUpTo, IsPlainRun, utf16_len, units, line_table, lines_after, utf16_before, line_of, line_start, column_of, line_range, byte_at, byte_at_utf16, bytes, common_ends, common_front, IsCommonFront};
+ghost use Rattle.typst_lines.specs.Lines.{IsLine, IsLineOf, IsLineUpTo, IsPlainRun, utf16_len, units, line_table, lines_after, utf16_before, line_of, line_start, column_of, line_range, byte_at, byte_at_utf16, bytes, common_ends, common_front, IsCommonFront};
 
 use crate::blocks::{
     InChars, InUnits, LANES, alike_at_end, alike_at_front, boundary_within, measured, plain_lanes,
@@ -23,6 +24,7 @@ use crate::scanner::{Scanner, next_char};
 use std::alloc::{AllocError, Global};
 use std::hash::{Hash, Hasher};
 use std::marker::Model;
+use std::mem;
 use std::ops::Range;
 
 /// What holds a text, and gives the same one each time.
@@ -72,6 +74,18 @@ impl Line {
         ensures { result ≡ self.now.utf16_idx }
     {
         self.utf16_idx
+    }
+
+    /// Moves the line to as many bytes and units behind other ones as it was behind some.
+    #[inline]
+    fn shift(&mut self, end: usize, new_end: usize, base: usize, utf16_idx: usize)
+        ensures { self.new ≡ moved_line end new_end base utf16_idx self.old }
+    {
+        self.byte_idx = self.byte_idx.saturating_sub(end).saturating_add(new_end);
+        self.utf16_idx = self
+            .utf16_idx
+            .saturating_sub(base)
+            .saturating_add(utf16_idx);
     }
 }
 
@@ -412,64 +426,6 @@ impl<S: Text> Lines<S> {
     }
 }
 
-impl<S: Text> Lines<S> {
-    /// The lines of the text with another one in the place of a range of bytes, whose ends are on
-    /// character boundaries. What starts before the range stays, and what starts behind it moves.
-    pub fn edited(
-        &self,
-        alloc: Global,
-        replace: Range<usize>,
-        with: &str,
-    ) -> Result<Lines<String>, AllocError>
-        requires start { IsCharBoundary self.now replace.start }
-        requires end { IsCharBoundary self.now replace.end }
-        requires ordered { replace.start ≤ replace.end }
-        ensures { IfOk result (λ lines. lines ≡ take replace.start self.now ++ with.now ++ drop replace.end self.now) }
-    {
-        let Range { start, end } = replace;
-        let old = self.text();
-        let kept = old.len().saturating_sub(end.saturating_sub(start));
-        let mut text = String::with_capacity(alloc, kept.saturating_add(with.len()))?;
-        text.push_str(&old[..start])?;
-        text.push_str(with)?;
-        let new_end = text.len();
-        text.push_str(&old[end..])?;
-        let lines = self.edited_table(alloc, text.as_str(), start, end, new_end)?;
-        Ok(Lines { text, lines })
-    }
-
-    /// The table of the lines of an edited text, in which the stretch between two bytes ends at
-    /// another one now.
-    fn edited_table(
-        &self,
-        alloc: Global,
-        text: &str,
-        start: usize,
-        end: usize,
-        new_end: usize,
-    ) -> Result<Vec<Line>, AllocError>
-        requires edit { IsEdit self.now text.now start end new_end }
-        requires short { length text.now < 2 ^ 64 }
-        ensures { IfOk result (λ lines. lines.items ≡ line_table text.now) }
-    {
-        let old = self.lines.as_slice();
-        let before = start.saturating_sub(1);
-        let first = self.line_before(before);
-        let number = self.line_holding(before);
-        let behind = &old[self.line_holding(end) + 1..];
-        let mut lines = Vec::with_capacity(alloc, old.len())?;
-        lines.extend_from_slice(&old[..number + 1])?;
-        for line in LinesFrom::new(text, first.byte_idx, first.utf16_idx) {
-            if line.byte_idx > new_end {
-                move_lines(&mut lines, behind, end, new_end, line.utf16_idx)?;
-                return Ok(lines);
-            }
-            lines.push(line)?;
-        }
-        Ok(lines)
-    }
-}
-
 impl Lines<String> {
     /// A copy.
     pub fn try_clone(&self) -> Result<Lines<String>, AllocError>
@@ -521,9 +477,163 @@ impl Lines<String> {
         ensures ok { IfOk result (λ _. self.new ≡ take replace.start self.old ++ with.now ++ drop replace.end self.old) }
         ensures err { OnErr result (self.new ≡ self.old) }
     {
-        let alloc = *self.text.allocator();
-        *self = self.edited(alloc, replace, with)?;
+        *self = self.start_edit(replace, with)?.keep();
         Ok(())
+    }
+
+    /// Puts a text in the place of a range of bytes, as `edit` does, and hands the lines out, so that the
+    /// edit can be taken back without a request for memory. The lines of the empty text stand here until
+    /// those come back. After an error nothing has changed.
+    ///
+    /// It asks for memory for the removed text and the empty text's one line, and for more room only
+    /// where the text or the table has none left.
+    pub fn start_edit(
+        &mut self,
+        replace: Range<usize>,
+        with: &str,
+    ) -> Result<EditedLines, AllocError>
+        requires start { IsCharBoundary self.old replace.start }
+        requires end { IsCharBoundary self.old replace.end }
+        requires ordered { replace.start ≤ replace.end }
+        ensures before { IfOk result (λ edited. edited.before ≡ self.old) }
+        ensures after { IfOk result (λ edited. edited.after ≡ take replace.start self.old ++ with.now ++ drop replace.end self.old) }
+        ensures left { OnOk result (self.new ≡ []) }
+        ensures err { OnErr result (self.new ≡ self.old) }
+    {
+        let alloc = *self.text.allocator();
+        let empty = Lines::new(alloc, String::new(alloc))?;
+        match mem::replace(self, empty).edited(replace.start, replace.end, with) {
+            Ok(edited) => Ok(edited),
+            Err(lines) => {
+                *self = lines;
+                Err(AllocError)
+            }
+        }
+    }
+
+    /// The lines with a text in the place of a range of bytes, or the same lines where memory is wanting.
+    fn edited(self, start: usize, end: usize, with: &str) -> Result<EditedLines, Lines<String>>
+        requires start { IsCharBoundary self start }
+        requires end { IsCharBoundary self end }
+        requires ordered { start ≤ end }
+        ensures before { IfOk result (λ edited. edited.before ≡ self) }
+        ensures after { IfOk result (λ edited. edited.after ≡ take start self ++ with.now ++ drop end self) }
+        ensures err { IfErr result (λ lines. lines ≡ self) }
+    {
+        let alloc = *self.text.allocator();
+        let Ok(removed) = String::from_str(alloc, &self.text()[start..end]) else {
+            return Err(self);
+        };
+        let before = start.saturating_sub(1);
+        let first = self.line_before(before);
+        let kept = self.line_holding(before) + 1;
+        let behind = self.line_holding(end) + 1;
+        let Lines {
+            mut text,
+            mut lines,
+        } = self;
+        let known = lines.len();
+        let Ok(()) = text.reserve(with.len()) else {
+            return Err(Lines { text, lines });
+        };
+        put_text(&mut text, start, end, with);
+        let new_end = start + with.len();
+        let Ok(utf16_idx) = add_starts(&mut lines, text.as_str(), first, new_end) else {
+            put_text(&mut text, start, new_end, removed.as_str());
+            return Err(Lines { text, lines });
+        };
+        Ok(EditedLines {
+            text,
+            lines,
+            stretch: Stretch {
+                start,
+                end,
+                new_end,
+                kept,
+                behind,
+                known,
+                utf16_idx,
+            },
+            removed,
+        })
+    }
+}
+
+/// A stretch of a text that was replaced, and the lines of the table that it concerns.
+#[derive(Clone, Copy)]
+struct Stretch {
+    start: usize,
+    /// Where it ended, and where it ends now.
+    end: usize,
+    new_end: usize,
+    /// How many lines stay, from which one on they start behind the stretch, and how many there were.
+    kept: usize,
+    behind: usize,
+    known: usize,
+    /// The units before the first line behind the stretch now.
+    utf16_idx: usize,
+}
+
+/// Lines whose text was edited, while it isn't settled whether the edit stays. Contracts see the texts
+/// before and after it.
+#[derive(Drop)]
+pub struct EditedLines {
+    text: String,
+    /// The table before the edit, and then the lines that start in the stretch now.
+    lines: Vec<Line>,
+    stretch: Stretch,
+    removed: String,
+}
+
+impl Model for EditedLines {
+    ghost use Rattle.std.specs.Prelude.{string_bytes, string_capacity};
+    ghost use Rattle.typst_lines.specs.Pending.{Texts, HasRoom, IsPending, put_back};
+
+    ghost Value = { Texts };
+
+    ghost view = { λ a. record { before = put_back (string_bytes a.text) (string_bytes a.removed) a.stretch; after = string_bytes a.text } };
+
+    ghost invariant = { λ a. HasRoom (string_bytes a.text) (string_bytes a.removed) (string_capacity a.text) a.stretch × IsPending (put_back (string_bytes a.text) (string_bytes a.removed) a.stretch) (string_bytes a.text) a.lines.items a.stretch };
+}
+
+impl EditedLines {
+    /// The text after the edit.
+    #[inline]
+    pub fn text(&self) -> &str
+        ensures { result.now ≡ self.now.after }
+    {
+        self.text.as_str()
+    }
+
+    /// The lines after the edit. It asks for no memory, and goes through the lines behind the stretch.
+    pub fn keep(self) -> Lines<String>
+        ensures { result ≡ self.after }
+    {
+        let EditedLines {
+            text,
+            mut lines,
+            stretch,
+            ..
+        } = self;
+        let count = lines.len() - (stretch.behind - stretch.kept);
+        settle(lines.as_mut_slice(), stretch);
+        lines.truncate(count);
+        Lines { text, lines }
+    }
+
+    /// The lines before the edit. It asks for no memory, and puts the removed text back.
+    pub fn take_back(self) -> Lines<String>
+        ensures { result ≡ self.before }
+    {
+        let EditedLines {
+            mut text,
+            mut lines,
+            stretch,
+            removed,
+        } = self;
+        put_text(&mut text, stretch.start, stretch.new_end, removed.as_str());
+        lines.truncate(stretch.known);
+        Lines { text, lines }
     }
 }
 
@@ -635,29 +745,96 @@ fn shared_end_len(old: &str, new: &str) -> usize
     old.len() - old.ceil_char_boundary(old.len() - alike)
 }
 
-/// Adds lines that start behind a byte where they start if that is another byte now, and the first of
-/// them stands behind so many UTF-16 units.
-fn move_lines(
-    lines: &mut Vec<Line>,
-    behind: &[Line],
-    end: usize,
-    new_end: usize,
-    utf16_idx: usize,
-) -> Result<(), AllocError>
-    ensures { OnOk result (lines.new.items ≡ lines.old.items ++ map (moved_line end new_end (units_at behind.now) utf16_idx) behind.now) }
+/// Puts a text in the place of a range of bytes of one that has room for both.
+fn put_text(text: &mut String, start: usize, end: usize, with: &str)
+    requires start { IsCharBoundary (string_bytes text.old) start }
+    requires end { IsCharBoundary (string_bytes text.old) end }
+    requires ordered { start ≤ end }
+    requires room { length (string_bytes text.old) + length with.now ≤ string_capacity text.old }
+    ensures bytes { string_bytes text.new ≡ take start (string_bytes text.old) ++ with.now ++ drop end (string_bytes text.old) }
+    ensures capacity { string_capacity text.old ≤ string_capacity text.new }
 {
-    let base = match behind.first() {
+    match text.replace_range(start..end, with) {
+        Ok(()) => {}
+        Err(_) => unreachable!(),
+    }
+}
+
+/// Adds the lines of a text that start behind one of its lines and up to a byte. It answers the units
+/// before the next line, if there is one. After an error nothing has changed.
+fn add_starts(
+    lines: &mut Vec<Line>,
+    text: &str,
+    first: Line,
+    end: usize,
+) -> Result<usize, AllocError>
+    requires { IsLine text.now first }
+    ensures ok { IfOk result (λ utf16_idx. AddsStarts (lines_after text.now first.byte_idx) end utf16_idx lines.old.items lines.new.items) }
+    ensures err { OnErr result (lines.new.items ≡ lines.old.items) }
+{
+    let known = lines.len();
+    for line in LinesFrom::new(text, first.byte_idx, first.utf16_idx) {
+        if line.byte_idx > end {
+            return Ok(line.utf16_idx);
+        }
+        if lines.push(line).is_err() {
+            lines.truncate(known);
+            return Err(AllocError);
+        }
+    }
+    Ok(0)
+}
+
+/// Brings the lines that stand behind a table to the place of those of a stretch, which come to the end,
+/// and moves the lines behind the stretch.
+fn settle(lines: &mut [Line], stretch: Stretch)
+    requires kept { stretch.kept ≤ stretch.behind }
+    requires behind { stretch.behind ≤ stretch.known }
+    requires known { stretch.known ≤ length lines.old }
+    ensures { take (length lines.old - (stretch.behind - stretch.kept)) lines.new ≡ settled_lines stretch lines.old }
+{
+    let fresh = lines.len() - stretch.known;
+    move_behind(lines, stretch);
+    bring_forward(lines, stretch.kept, fresh);
+    bring_back(lines, stretch.kept + fresh, stretch.behind - stretch.kept);
+}
+
+/// Moves the lines of a table behind a stretch.
+fn move_behind(lines: &mut [Line], stretch: Stretch)
+    requires behind { stretch.behind ≤ stretch.known }
+    requires known { stretch.known ≤ length lines.old }
+    ensures { lines.new ≡ take stretch.behind lines.old ++ (map (moved_line stretch.end stretch.new_end (units_at (lines_behind stretch lines.old)) stretch.utf16_idx) (lines_behind stretch lines.old) ++ drop stretch.known lines.old) }
+{
+    let behind = &mut lines[stretch.behind..stretch.known];
+    move_lines(behind, stretch.end, stretch.new_end, stretch.utf16_idx);
+}
+
+/// Moves lines that start behind a byte to where they start if that is another byte now, and the first
+/// of them stands behind so many UTF-16 units.
+fn move_lines(lines: &mut [Line], end: usize, new_end: usize, utf16_idx: usize)
+    ensures { lines.new ≡ map (moved_line end new_end (units_at lines.old) utf16_idx) lines.old }
+{
+    let base = match lines.first() {
         Some(line) => line.utf16_idx,
         None => 0,
     };
-    for line in behind {
-        lines.push(Line {
-            byte_idx: line.byte_idx.saturating_sub(end).saturating_add(new_end),
-            utf16_idx: line
-                .utf16_idx
-                .saturating_sub(base)
-                .saturating_add(utf16_idx),
-        })?;
+    for line in lines.iter_mut() {
+        line.shift(end, new_end, base, utf16_idx);
     }
-    Ok(())
+}
+
+/// Brings the last so many items to the place `at`.
+fn bring_forward<T>(items: &mut [T], at: usize, count: usize)
+    requires { at + count ≤ length items.old }
+    ensures { let rest = drop at items.old in items.new ≡ take at items.old ++ (drop (length rest - count) rest ++ take (length rest - count) rest) }
+{
+    items[at..].rotate_right(count);
+}
+
+/// Brings so many items from the place `at` to the end.
+fn bring_back<T>(items: &mut [T], at: usize, count: usize)
+    requires { at + count ≤ length items.old }
+    ensures { let rest = drop at items.old in items.new ≡ take at items.old ++ (drop count rest ++ take count rest) }
+{
+    items[at..].rotate_left(count);
 }

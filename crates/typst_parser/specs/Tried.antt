@@ -1,5 +1,6 @@
 -- What reading a part of a text leaves.
-use Rattle.std.specs.Prelude.{◌≡◌, ℕ, ◌-◌, ◌<◌, ◌^◌, true, List, length}
+use Rattle.std.specs.Prelude.{◌≡◌, ℕ, ◌-◌, ◌<◌, ◌^◌, true, List, length, Option, Some, None}
+use Rattle.std.specs.declared.ops.Range.{Range}
 use Rattle.typst_lines.specs.Classes.{CharClasses}
 use Rattle.typst_reparser.specs.Answer.{IsAnswer}
 use Rattle.typst_reparser.specs.Change.{Change, candidates}
@@ -7,19 +8,18 @@ use Rattle.typst_reparser.specs.Reparse.{NonePasses}
 use Rattle.typst_parser.specs.Answers.{change_of}
 use Rattle.typst_parser.specs.Held.{Held}
 use Rattle.typst_parser.specs.Records.{Edits, IsEdited}
-use Rattle.typst_parser.specs.declared.source.Tried.{Tried}
-use Rattle.typst_parser.specs.declared.source.Tried.TheVariants.{Done, Undone}
 use Rattle.typst_reparser.specs.declared.replacement.Replacement.{Replacement}
 
 -- the edit that replaced a stretch of a text
 abbrev pub change_by : {old new : List ℕ} {e : Replacement} → IsEdited old new e → Change
 change_by {old} {new} {e} h = change_of old (record { start = e.start; end = e.old_end }) h.with
 
-abbrev pub Tries : {C : Type 0} → CharClasses → Held C → Held C → List ℕ → Tried → Type 0
-Tries k old new text (Done range) = Edits k old new text range
-Tries k old new text (Undone lines) = (new ≡ old) × (lines ≡ text)
+-- Where a part was read the source has the new text; else nothing changed.
+abbrev pub Tries : {C : Type 0} → CharClasses → Held C → Held C → List ℕ → Option (Range ℕ) → Type 0
+Tries k old new text (Some range) = Edits k old new text range
+Tries k old new text None = new ≡ old
 
 -- What is read is the answer of an edit; where nothing is read and there are records, no candidate passes whose nodes find numbers, but for a text that no machine word counts.
-abbrev pub Decides : {C : Type 0} → CharClasses → Held C → Held C → List ℕ → Change → Tried → Type 0
-Decides k old new text c (Done range) = (old.has_records ≡ true) × IsAnswer k c.front c.old c.new c.rest (candidates k c old.root) old.root new.root range
-Decides k old new text c (Undone lines) = old.has_records ≡ true → length text < 2 ^ 64 - 1 → NonePasses k c old.root
+abbrev pub Decides : {C : Type 0} → CharClasses → Held C → Held C → List ℕ → Change → Option (Range ℕ) → Type 0
+Decides k old new text c (Some range) = (old.has_records ≡ true) × IsAnswer k c.front c.old c.new c.rest (candidates k c old.root) old.root new.root range
+Decides k old new text c None = old.has_records ≡ true → length text < 2 ^ 64 - 1 → NonePasses k c old.root

@@ -9,7 +9,7 @@
 //! - A tree is a [`SyntaxNode`] of some [`SyntaxKind`], with its [`Diagnostic`]s and its [`Span`];
 //!   [`LinkedNode`] is a node with what stands round it.
 //! - [`highlight`] tells the [`Tag`] that a node is shown by, and [`highlight_html`] writes a tree's text
-//!   as HTML.
+//!   as HTML. [`tag_stretches`] gives the text as stretches, each a [`Tagged`] with its tag.
 //! - A [`Source`] holds a text with its lines and its numbered tree from edit to edit, finds nodes by
 //!   their spans and tells which bytes they stand for; [`SourceError`] is why one can't be made or edited.
 //! - What characters are letters, digits and word characters is asked of a value of [`Classes`];
@@ -26,7 +26,7 @@
 mod source;
 
 pub use source::Source;
-pub use typst_highlight::{Tag, highlight, highlight_html};
+pub use typst_highlight::{Tag, Tagged, highlight, highlight_html, tag_stretches};
 pub use typst_kinds::{
     Assoc, BinOp, Diagnostic, FileId, Hint, Severity, SourceError, Span, SpanNumber, SubRange,
     SyntaxKind, SyntaxMode, SyntaxSet, UnOp, set,

@@ -5,9 +5,9 @@ ghost use Rattle.std.specs.String.{string_bytes};
 ghost use Rattle.typst_tree.specs.Tree.{text_of, bare, nodes};
 ghost use Rattle.typst_reparser.specs.Grammar.{tree};
 ghost use Rattle.typst_parser.specs.Headline.{Headline, edited, file_of, AreNumbered, AreOrdered, numbered_in};
-ghost use Rattle.typst_parser.specs.Tried.{Decides, Tries, change_by};
-ghost use Rattle.typst_parser.specs.Records.{AreUnits, Edits, IsPlaced, IsPlacedBy, IsEdited, ReadsWhole};
-ghost use Rattle.typst_parser.specs.Answers.{Answers, AnswersText};
+ghost use Rattle.typst_parser.specs.Tried.{Decides, Tries};
+ghost use Rattle.typst_parser.specs.Records.{AreUnits, Edits, IsPlaced, IsPlacedBy, ReadsWhole};
+ghost use Rattle.typst_parser.specs.Answers.{Answers, AnswersText, change_of};
 
 use std::alloc::{AllocError, Global};
 use std::fmt;
@@ -94,15 +94,6 @@ fn parse_anew<C: Classes>(
         root,
         records: whole.records,
     })
-}
-
-/// What came of reading a part of a text.
-#[derive(Drop)]
-enum Tried {
-    /// It took the place of what was there, and this range of the text was read.
-    Done(Range<usize>),
-    /// Nothing changed.
-    Undone(Lines<String>),
 }
 
 impl<C: Classes + Drop> Source<C> {
@@ -286,61 +277,92 @@ impl<C: Classes> Source<C> {
         ensures refused { result ≡ Err SourceError.SpanNumbers → numbered_in (file_of self.old.root) (tree (C.classes self.old.classes) (chars (edited self.old.text replace with.now))) ≡ None }
     {
         let Range { start, end } = replace;
-        let Ok(lines) = self.lines.edited(self.alloc, replace, with) else {
-            return Err(SourceError::OutOfMemory);
-        };
-        let behind = self.text().len().saturating_sub(end);
-        let edit = Replacement {
-            start,
-            old_end: end,
-            new_end: lines.len_bytes().saturating_sub(behind),
-        };
-        match self.read_edit(edit, lines)? {
-            Tried::Done(range) => Ok(range),
-            Tried::Undone(lines) => Ok(self.read_whole(lines)?),
+        let _text = self.text();
+        if let Some(range) = self.read_part(start..end, with)? {
+            return Ok(range);
         }
+        Ok(self.read_whole(start..end, with)?)
     }
 
-    /// Makes a text the text, of which a stretch was replaced, by reading what that may have changed.
-    /// Where there are no records, or the new nodes find no numbers, nothing changes.
-    fn read_edit(&mut self, edit: Replacement, lines: Lines<String>) -> Result<Tried, SourceError>
-        requires { IsEdited self.old.text lines edit }
-        ensures tried { IfOk result (λ t. Tries (C.classes self.old.classes) self.old self.new lines t) }
-        ensures decided { (e : IsEdited self.old.text lines edit) → IfOk result (λ t. Decides (C.classes self.old.classes) self.old self.new lines (change_by e) t) }
+    /// Makes the edit by reading the first candidate that passes and whose nodes find numbers. Where there is
+    /// none, or there are no records, nothing changes.
+    fn read_part(
+        &mut self,
+        replace: Range<usize>,
+        with: &str,
+    ) -> Result<Option<Range<usize>>, SourceError>
+        requires start { IsCharBoundary self.old.text replace.start }
+        requires end { IsCharBoundary self.old.text replace.end }
+        requires ordered { replace.start ≤ replace.end }
+        ensures tried { IfOk result (λ t. Tries (C.classes self.old.classes) self.old self.new (edited self.old.text replace with.now) t) }
+        ensures decided { IfOk result (λ t. Decides (C.classes self.old.classes) self.old self.new (edited self.old.text replace with.now) (change_of self.old.text replace with.now) t) }
         ensures err { OnErr result (self.new ≡ self.old) }
         ensures memory { IfErr result (λ e. e ≡ SourceError.OutOfMemory) }
     {
-        if !self.has_records || lines.len_bytes() == usize::MAX {
-            return Ok(Tried::Undone(lines));
+        if !self.has_records {
+            return Ok(None);
         }
-        let Ok(read) = reparse(
+        let Range { start, end } = replace;
+        let behind = self.text().len().saturating_sub(end);
+        let Ok(edited) = self.lines.start_edit(start..end, with) else {
+            return Err(SourceError::OutOfMemory);
+        };
+        let text = edited.text();
+        if text.len() == usize::MAX {
+            self.lines = edited.take_back();
+            return Ok(None);
+        }
+        let edit = Replacement {
+            start,
+            old_end: end,
+            new_end: text.len().saturating_sub(behind),
+        };
+        match reparse(
             self.alloc,
             &mut self.root,
             &mut self.records,
-            lines.text(),
+            text,
             edit,
             &self.classes,
-        ) else {
-            return Err(SourceError::OutOfMemory);
-        };
-        let Some(bytes) = read else {
-            return Ok(Tried::Undone(lines));
-        };
-        self.lines = lines;
-        Ok(Tried::Done(bytes))
+        ) {
+            Ok(Some(range)) => {
+                self.lines = edited.keep();
+                Ok(Some(range))
+            }
+            Ok(None) => {
+                self.lines = edited.take_back();
+                Ok(None)
+            }
+            Err(AllocError) => {
+                self.lines = edited.take_back();
+                Err(SourceError::OutOfMemory)
+            }
+        }
     }
 
-    /// Makes a text the text, by reading the whole of it.
-    fn read_whole(&mut self, lines: Lines<String>) -> Result<Range<usize>, SourceError>
-        ensures edits { IfOk result (λ range. Edits (C.classes self.old.classes) self.old self.new lines range) }
-        ensures whole { IfOk result (λ range. ReadsWhole (C.classes self.old.classes) self.old self.new lines range) }
+    /// Makes the edit by reading the whole of the new text.
+    fn read_whole(&mut self, replace: Range<usize>, with: &str) -> Result<Range<usize>, SourceError>
+        requires start { IsCharBoundary self.old.text replace.start }
+        requires end { IsCharBoundary self.old.text replace.end }
+        requires ordered { replace.start ≤ replace.end }
+        ensures edits { IfOk result (λ range. Edits (C.classes self.old.classes) self.old self.new (edited self.old.text replace with.now) range) }
+        ensures whole { IfOk result (λ range. ReadsWhole (C.classes self.old.classes) self.old self.new (edited self.old.text replace with.now) range) }
         ensures err { OnErr result (self.new ≡ self.old) }
-        ensures refused { result ≡ Err SourceError.SpanNumbers → numbered_in (file_of self.old.root) (tree (C.classes self.old.classes) (chars lines)) ≡ None }
+        ensures refused { result ≡ Err SourceError.SpanNumbers → numbered_in (file_of self.old.root) (tree (C.classes self.old.classes) (chars (edited self.old.text replace with.now))) ≡ None }
     {
         let file = self.root.span().id();
-        let made = parse_anew(self.alloc, lines.text(), file, &self.classes)?;
-        let end = lines.len_bytes();
-        self.lines = lines;
+        let Ok(edited) = self.lines.start_edit(replace, with) else {
+            return Err(SourceError::OutOfMemory);
+        };
+        let made = match parse_anew(self.alloc, edited.text(), file, &self.classes) {
+            Ok(made) => made,
+            Err(error) => {
+                self.lines = edited.take_back();
+                return Err(error);
+            }
+        };
+        let end = edited.text().len();
+        self.lines = edited.keep();
         self.root = made.root;
         self.records = made.records;
         self.has_records = true;

@@ -1,30 +1,41 @@
 //! Tests of what no clause says and no row can. Of trees: depth, long texts, refused memory. Of
-//! sources: numbers, bytes of numbers, trees that are handed in, edits, many of them in a row, and
-//! refused memory. Of the program: its words over streams that stop, hold and fail.
+//! sources: numbers, bytes of numbers, trees that are handed in, and refused memory. Of the program: its
+//! words over streams that stop, hold and fail. Of what a language server shows: outline, foldings, selections,
+//! labels, tokens and reports.
 #![tactic(auto)]
 
 #[cfg(test)]
 mod code;
 #[cfg(test)]
-mod draws;
+mod deltas;
 #[cfg(test)]
-mod edits;
+mod folds;
+#[cfg(test)]
+mod foreign;
 #[cfg(test)]
 mod guesses;
 #[cfg(test)]
 mod math;
 #[cfg(test)]
+mod names;
+#[cfg(test)]
 mod numbers;
+#[cfg(test)]
+mod outlines;
 #[cfg(test)]
 mod program;
 #[cfg(test)]
 mod refusals;
 #[cfg(test)]
-mod rows;
+mod reports;
+#[cfg(test)]
+mod shown;
 #[cfg(test)]
 mod sources;
 #[cfg(test)]
 mod streams;
+#[cfg(test)]
+mod stretches;
 #[cfg(test)]
 mod trees;
 #[cfg(test)]

@@ -1,11 +1,9 @@
-//! Numbers of nodes, bytes of numbers, and trees that were handed in.
+//! Numbers of nodes, bytes of numbers, and clones.
 
-use crate::sources::{Unicode, detached, edit, with_tree};
+use crate::sources::{Unicode, detached, with_tree};
 use std::alloc::Global;
 use std::ops::Range;
-use typst_parser::{
-    FileId, LinkedNode, Span, SpanNumber, SubRange, SyntaxNode, UnicodeClasses, is_ordered, parse,
-};
+use typst_parser::{LinkedNode, Span, SpanNumber, SubRange, SyntaxNode};
 
 /// The number of a node.
 fn number(node: &SyntaxNode) -> Option<u64> {
@@ -103,45 +101,6 @@ fn unknown_numbers_have_no_bytes(rt: HostRuntime) {
 /// A source of file 2 and the text `b`, whose tree is that of `*a*`, numbered in file 1.
 fn numbered(alloc: Global) -> Option<Unicode> {
     with_tree(alloc, "b", detached(alloc, "*a*").ok()?.root())
-}
-
-/// A source of file 2 and the text `b`, whose tree is that of `*a*`, without numbers.
-fn unnumbered(alloc: Global) -> Option<Unicode> {
-    with_tree(alloc, "b", &parse(alloc, "*a*", &UnicodeClasses).ok()?)
-}
-
-/// Whether a tree is in order, numbered in file 1, and this long.
-fn is_of_first_file(root: &SyntaxNode, len: usize) -> bool {
-    root.span().id() == FileId::new(1) && is_ordered(root) && root.len() == len
-}
-
-/// Whether a tree of another file isn't searched, and the first edit parses all and numbers it there.
-fn parses_at_first(alloc: Global) -> Option<bool> {
-    let mut source = numbered(alloc)?;
-    let span = source.root().span();
-    if source.find(span).is_some() || source.root().len() != 3 {
-        return Some(false);
-    }
-    let read = edit(&mut source, (1, 1), "c").ok()?;
-    Some(read.is_some() && is_of_first_file(source.root(), 2))
-}
-
-#[test]
-fn a_tree_of_another_file_is_parsed_anew(rt: HostRuntime) {
-    assert!(rt; parses_at_first(rt.alloc()) == Some(true));
-}
-
-/// Whether a tree without numbers stays so.
-fn stays_without_numbers(alloc: Global) -> Option<bool> {
-    let mut source = unnumbered(alloc)?;
-    let read = edit(&mut source, (0, 0), "= ").ok()?;
-    let root = source.root();
-    Some(read.is_some() && root.span().id().is_none() && root.len() == 3)
-}
-
-#[test]
-fn a_tree_without_numbers_stays_so(rt: HostRuntime) {
-    assert!(rt; stays_without_numbers(rt.alloc()) == Some(true));
 }
 
 /// Whether `Debug` prints this of a source.

@@ -177,10 +177,12 @@ const BROKEN: Room = Room {
 };
 
 /// The failures, with their statuses and their lines.
-const FAILURES: [(Failure, u8, &str); 5] = [
+const FAILURES: [(Failure, u8, &str); 7] = [
     (Failure::Usage, 2, USAGE),
     (Failure::NotRead, 1, "read failed\n"),
     (Failure::NotUtf8, 1, "not UTF-8\n"),
+    (Failure::BadRange, 1, "bad range\n"),
+    (Failure::OutOfSpanNumbers, 1, "out of span numbers\n"),
     (Failure::OutOfMemory, 1, "out of memory\n"),
     (Failure::NotWritten, 1, "write failed\n"),
 ];

@@ -6,7 +6,7 @@ use crate::sources::{Unicode, detached, edit, with_tree};
 use crate::whole::{are_same, has_lines, is_whole};
 use std::alloc::{AllocError, Global};
 use std::ops::Range;
-use typst_parser::{SourceError, UnicodeClasses, parse};
+use typst_parser::{LinkedNode, SourceError, SyntaxKind, Tag, UnicodeClasses, highlight, parse};
 
 const TEXT: &str = "*a* #b";
 
@@ -121,4 +121,34 @@ fn holds_again(alloc: Global) -> Option<bool> {
 #[test]
 fn a_refused_tree_is_held_again(rt: HostRuntime) {
     assert!(rt; holds_again(rt.alloc()) != Some(false));
+}
+
+/// Whether the root over strong text leads to its leaves and back, and its tags are told.
+fn leads_to_leaves(root: LinkedNode<'_>) -> Option<bool> {
+    let star = root.leftmost_leaf()?;
+    let (strong, text) = (star.parent()?, star.next_leaf()?);
+    Some(
+        highlight(&strong) == Some(Tag::Strong)
+            && text.range() == (1..2)
+            && text.leaf_text() == "b"
+            && text.prev_leaf()?.offset() == 0
+            && star.next_sibling()?.kind() == SyntaxKind::Markup
+            && !star.hash_expr(),
+    )
+}
+
+/// Whether what a source tells of itself, and of its nodes, is told whatever was refused.
+fn tells_without_memory(alloc: Global) -> Option<bool> {
+    let source = detached(alloc, "*b*").ok()?;
+    let span = source.root().span();
+    let is_told = source.id().get() == 1
+        && source.text() == "*b*"
+        && source.lines().len_bytes() == 3
+        && source.range(span.number()?, None) == Some(0..3);
+    Some(is_told && leads_to_leaves(source.find(span)?) == Some(true))
+}
+
+#[test]
+fn a_source_tells_of_itself_without_memory(rt: HostRuntime) {
+    assert!(rt; tells_without_memory(rt.alloc()) != Some(false));
 }

@@ -15,12 +15,17 @@ pub fn detached(alloc: Global, text: &str) -> Result<Unicode, SourceError> {
     }
 }
 
-/// A source of file 2 with this text and a copy of this tree; nothing where memory was refused.
-pub fn with_tree(alloc: Global, text: &str, root: &SyntaxNode) -> Option<Unicode> {
-    let id = FileId::new(2)?;
+/// A source of a file with this text and a copy of this tree; nothing where memory was refused.
+pub fn with_root(alloc: Global, file: u16, text: &str, root: &SyntaxNode) -> Option<Unicode> {
+    let id = FileId::new(file)?;
     let root = root.try_clone().ok()?;
     let text = String::from_str(alloc, text).ok()?;
     Source::with_root(alloc, id, text, root, UnicodeClasses).ok()
+}
+
+/// A source of file 2 with this text and a copy of this tree; nothing where memory was refused.
+pub fn with_tree(alloc: Global, text: &str, root: &SyntaxNode) -> Option<Unicode> {
+    with_root(alloc, 2, text, root)
 }
 
 /// Edits, if the range is one of the text; answers which bytes were read, if they are some of the new

@@ -168,6 +168,16 @@ fn gives_again(alloc: Global, text: &str) -> bool {
     are_one(first, again, text.len())
 }
 
+/// The tree that comes with the notes of a text.
+fn noted(alloc: Global, text: &str) -> Option<SyntaxNode> {
+    Some(parse_noted(alloc, text, &UnicodeClasses).ok()?.tree)
+}
+
+/// Whether the tree comes with the notes, also where memory was refused once.
+fn gives_notes_again(alloc: Global, text: &str) -> bool {
+    are_one(noted(alloc, text), noted(alloc, text), text.len())
+}
+
 /// Five texts, whose parsing takes memory in different places.
 const TEXTS: [&str; 5] = [
     "",
@@ -182,5 +192,6 @@ const TEXTS: [&str; 5] = [
 fn parses_again_where_memory_is_refused(rt: HostRuntime) {
     for text in TEXTS {
         assert!(rt; gives_again(rt.alloc(), text));
+        assert!(rt; gives_notes_again(rt.alloc(), text));
     }
 }

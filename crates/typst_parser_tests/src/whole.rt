@@ -17,13 +17,13 @@ pub fn has_lines(alloc: Global, lines: &Lines<String>, text: &str) -> Option<boo
 }
 
 /// Whether the tree is the one of the text, spans aside.
-fn has_tree(alloc: Global, root: &SyntaxNode, text: &str) -> Option<bool> {
+pub fn has_tree(alloc: Global, root: &SyntaxNode, text: &str) -> Option<bool> {
     let anew = parse(alloc, text, &UnicodeClasses).ok()?;
     Some(root.spanless_eq(&anew))
 }
 
 /// The nodes of a tree, each before its children.
-fn nodes(alloc: Global, root: &SyntaxNode) -> Option<Vec<&SyntaxNode>> {
+pub fn nodes(alloc: Global, root: &SyntaxNode) -> Option<Vec<&SyntaxNode>> {
     let mut all = Vec::new(alloc);
     let mut left = Vec::new(alloc);
     left.push(root).ok()?;
@@ -105,7 +105,7 @@ fn have_same_spans(ones: &[&SyntaxNode], others: &[&SyntaxNode]) -> bool {
 }
 
 /// Whether two trees are the same, spans too.
-fn are_same_trees(alloc: Global, one: &SyntaxNode, other: &SyntaxNode) -> Option<bool> {
+pub fn are_same_trees(alloc: Global, one: &SyntaxNode, other: &SyntaxNode) -> Option<bool> {
     let (ones, others) = (nodes(alloc, one)?, nodes(alloc, other)?);
     Some(one.spanless_eq(other) && have_same_spans(ones.as_slice(), others.as_slice()))
 }

@@ -19,7 +19,7 @@ pub fn answer(alloc: Global, text: &str, start: usize, end: usize) -> Result<Str
     if records.last().is_none() {
         return String::from_str(alloc, "too long\n");
     }
-    let found = find_candidates(alloc, &noted.tree, &records, start, end)?;
+    let found = find_candidates(alloc, &noted.tree, &records, start, end, usize::MAX)?;
     let mut printed = String::new(alloc);
     for candidate in &found.items {
         print_candidate(&mut printed, candidate, found.path.as_slice())?;

@@ -1,7 +1,10 @@
-//! Edits of a source.
+//! Edits of a source. The first line of a row's text is the edit's words, START END TEXT, and the text
+//! comes behind that line.
 
+use crate::escapes::with_line_feeds;
 use crate::spans;
 use std::alloc::{AllocError, Global};
+use std::ops::Range;
 use typst_cli::tree::print_node;
 use typst_parser::{Classes, Source, SourceError, UnicodeClasses};
 
@@ -11,6 +14,15 @@ pub struct Edit<'a> {
     start: usize,
     end: usize,
     with: &'a str,
+}
+
+/// What came of an edit.
+#[derive(Debug, PartialEq, Eq, Drop)]
+pub enum Made {
+    /// It was made, and these bytes of the new text were read.
+    Read(Range<usize>),
+    /// Why it wasn't made.
+    Fault(&'static str),
 }
 
 impl<'a> Edit<'a> {
@@ -53,17 +65,20 @@ impl<'a> Edit<'a> {
         }
     }
 
-    /// Edits a source; answers false, and leaves it, where the range isn't one of its text.
-    pub fn make<C: Classes>(self, source: &mut Source<C>) -> Result<bool, SourceError> {
+    /// Edits a source; leaves it where the range isn't one of its text.
+    pub fn make<C: Classes>(self, source: &mut Source<C>) -> Result<Made, AllocError> {
         let text = source.text();
         if self.start > self.end
             || !text.is_char_boundary(self.start)
             || !text.is_char_boundary(self.end)
         {
-            return Ok(false);
+            return Ok(Made::Fault("bad range"));
         }
-        source.edit(self.start..self.end, self.with)?;
-        Ok(true)
+        match source.edit(self.start..self.end, self.with) {
+            Ok(read) => Ok(Made::Read(read)),
+            Err(SourceError::OutOfMemory) => Err(AllocError),
+            Err(SourceError::SpanNumbers) => Ok(Made::Fault("out of span numbers")),
+        }
     }
 
     /// The edit as a line names it.
@@ -72,56 +87,72 @@ impl<'a> Edit<'a> {
         write!(printed, "{start}..{end} {with:?}")
     }
 
-    /// A source of the text after the edit, and the range that was parsed anew; `None` where the
-    /// range isn't one of the text.
-    fn source(
+    /// A source of the text after the edit, and what came of it.
+    pub fn source<C: Classes + Drop>(
         self,
         alloc: Global,
         text: &str,
-    ) -> Result<Option<(Source<UnicodeClasses>, usize, usize)>, SourceError> {
-        if self.start > self.end
-            || !text.is_char_boundary(self.start)
-            || !text.is_char_boundary(self.end)
-        {
-            return Ok(None);
-        }
+        classes: C,
+    ) -> Result<(Source<C>, Made), SourceError> {
         let Ok(text) = String::from_str(alloc, text) else {
             return Err(SourceError::OutOfMemory);
         };
-        let mut source = Source::detached(alloc, text, UnicodeClasses)?;
-        if !source.text().is_char_boundary(self.start)
-            || !source.text().is_char_boundary(self.end)
-        {
-            return Ok(None);
+        let mut source = Source::detached(alloc, text, classes)?;
+        match self.make(&mut source) {
+            Ok(made) => Ok((source, made)),
+            Err(AllocError) => Err(SourceError::OutOfMemory),
         }
-        let parsed = source.edit(self.start..self.end, self.with)?;
-        Ok(Some((source, parsed.start, parsed.end)))
     }
 
-    /// The range that was parsed anew, on a line, and below it the tree with the number of each node.
+    /// What came of the edit, on a line, and below it the tree with the number of each node.
     pub fn spans(self, alloc: Global, text: &str) -> Result<String, AllocError> {
-        match self.source(alloc, text) {
-            Ok(Some((source, start, end))) => {
-                let tree = spans::tree(alloc, source.root())?;
-                format!(in alloc; "{start}..{end}\n{tree}")
-            }
-            Ok(None) => String::from_str(alloc, "bad range\n"),
+        match self.source(alloc, text, UnicodeClasses) {
+            Ok((source, made)) => made.spans(alloc, &source),
             Err(error) => spans::refusal(alloc, error),
         }
     }
 }
 
-/// What a row of the word `edit` is answered. Its first line is the edit's words, START END TEXT,
-/// and the text comes behind that line. The answer is the tree after the edit.
-pub fn row_answer(alloc: Global, text: &str) -> Result<String, AllocError> {
+impl Made {
+    /// The line of what came of an edit.
+    pub fn print(&self, printed: &mut String) -> Result<(), AllocError> {
+        match self {
+            Made::Read(read) => {
+                let (start, end) = (read.start, read.end);
+                writeln!(printed, "{start}..{end}")
+            }
+            Made::Fault(fault) => writeln!(printed, "{fault}"),
+        }
+    }
+
+    /// The line of what came of an edit, and below it the tree of the source with the number of each node,
+    /// where the edit was made.
+    fn spans<C: Classes>(&self, alloc: Global, source: &Source<C>) -> Result<String, AllocError> {
+        let mut answer = String::new(alloc);
+        self.print(&mut answer)?;
+        if let Made::Read(_) = self {
+            let tree = spans::tree(alloc, source.root())?;
+            answer.push_str(tree.as_str())?;
+        }
+        Ok(answer)
+    }
+}
+
+/// What a row of the word `edit` is answered: the tree after the edit.
+pub fn row_answer<C: Classes + Drop>(
+    alloc: Global,
+    text: &str,
+    classes: C,
+) -> Result<String, AllocError> {
     let Some((words, text)) = text.split_once('\n') else {
         return String::from_str(alloc, "no text\n");
     };
-    let Some(edit) = edit_of(words) else {
+    let words = with_line_feeds(alloc, words)?;
+    let Some(edit) = edit_of(words.as_str()) else {
         return String::from_str(alloc, "no edit\n");
     };
-    match edit.source(alloc, text) {
-        Ok(Some((source, _, _))) if source.root().len() == source.text().len() => {
+    match edit.source(alloc, text, classes) {
+        Ok((source, Made::Read(_))) if source.root().len() == source.text().len() => {
             let mut printed = String::new(alloc);
             print_node(alloc, &mut printed, source.root(), "", 0)?;
             Ok(printed)
@@ -131,8 +162,20 @@ pub fn row_answer(alloc: Global, text: &str) -> Result<String, AllocError> {
     }
 }
 
+/// What a row of the word `edit-spans` is answered: the range that was parsed anew, and the tree with
+/// the number of each node.
+pub fn spans_row_answer(alloc: Global, text: &str) -> Result<String, AllocError> {
+    let Some((words, text)) = text.split_once('\n') else {
+        return String::from_str(alloc, "no text\n");
+    };
+    match edit_of(words) {
+        Some(edit) => edit.spans(alloc, text),
+        None => String::from_str(alloc, "no edit\n"),
+    }
+}
+
 /// The edit that a line names.
-fn edit_of(words: &str) -> Option<Edit<'_>> {
+pub fn edit_of(words: &str) -> Option<Edit<'_>> {
     let (start, rest) = words.split_once(' ')?;
     let (end, with) = rest.split_once(' ')?;
     Edit::from_words(start, end, with)

@@ -3,7 +3,7 @@
 ghost use Rattle.std.specs.Prelude.{◌≡◌, IfSome, Some};
 ghost use Rattle.typst_probe.specs.Escapes.{character_named};
 
-use std::alloc::AllocError;
+use std::alloc::{AllocError, Global};
 
 /// Writes a line of a row with each escape put back into the character that it names. Gives false
 /// where an escape names none or isn't closed.
@@ -43,4 +43,13 @@ fn named(name: &str) -> Option<char>
 fn numbered(name: &str) -> Option<char> {
     let digits = name.strip_prefix("U+")?;
     char::from_u32(u32::from_str_radix(digits, 16).ok()?)
+}
+
+/// The text with a line feed in the place of each sign `␊`.
+pub fn with_line_feeds(alloc: Global, text: &str) -> Result<String, AllocError> {
+    let mut all = String::new(alloc);
+    for character in text.chars() {
+        all.push(if character == '␊' { '\n' } else { character })?;
+    }
+    Ok(all)
 }

@@ -1,6 +1,6 @@
-//! The words `everywhere` and `everywhere-in-turn`.
+//! The words `everywhere`, `everywhere-in-turn` and `everywhere-at`.
 
-use crate::edits::Edit;
+use crate::edits::{Edit, Made};
 use crate::spans;
 use crate::whole::{Wanted, fault};
 use std::alloc::{AllocError, Global};
@@ -14,7 +14,7 @@ const INSERTIONS: [&str; 21] = [
 ];
 
 /// How many bytes a text has at most that is edited in full with each class value, and by edits in a
-/// row too. In a longer one the other class values are asked only where something past ASCII is put
+/// row too, and in which each node is looked for. In a longer one the other class values are asked only where something past ASCII is put
 /// in: of ASCII all class values answer alike.
 const SHORT: usize = 63;
 
@@ -23,10 +23,10 @@ const SHORT: usize = 63;
 pub fn answer(alloc: Global, text: &str) -> Result<String, AllocError> {
     let all = edits(alloc, text)?;
     if text.len() <= SHORT {
-        return tallied(alloc, text, all.as_slice(), all.as_slice());
+        return tallied(alloc, text, all.as_slice(), all.as_slice(), true);
     }
     let others = past_ascii(alloc, all.as_slice())?;
-    tallied(alloc, text, all.as_slice(), others.as_slice())
+    tallied(alloc, text, all.as_slice(), others.as_slice(), false)
 }
 
 /// The same, where each place has the next of the insertions and not all of them: for texts in which
@@ -34,7 +34,18 @@ pub fn answer(alloc: Global, text: &str) -> Result<String, AllocError> {
 pub fn answer_in_turn(alloc: Global, text: &str) -> Result<String, AllocError> {
     let all = edits_in_turn(alloc, text)?;
     let others = past_ascii(alloc, all.as_slice())?;
-    tallied(alloc, text, all.as_slice(), others.as_slice())
+    tallied(alloc, text, all.as_slice(), others.as_slice(), false)
+}
+
+/// The same of all insertions at some places alone, also by edits in a row. The first line has the places,
+/// in bytes, and the text comes behind that line.
+pub fn answer_at(alloc: Global, text: &str) -> Result<String, AllocError> {
+    let Some((places, text)) = text.split_once('\n') else {
+        return String::from_str(alloc, "no text\n");
+    };
+    let all = edits_at(alloc, text, places)?;
+    let others = past_ascii(alloc, all.as_slice())?;
+    tallied(alloc, text, all.as_slice(), others.as_slice(), true)
 }
 
 /// How many edits agree of those with the classes of Unicode and of those with the two others.
@@ -43,10 +54,12 @@ fn tallied(
     text: &str,
     all: &[Edit<'static>],
     others: &[Edit<'static>],
+    is_in_a_row: bool,
 ) -> Result<String, AllocError> {
     let mut tally = Tally {
         agree: 0,
         first: String::new(alloc),
+        is_in_a_row,
     };
     tally.add(alloc, text, all, UnicodeClasses)?;
     tally.add(alloc, text, others, Wide)?;
@@ -63,6 +76,20 @@ fn edits(alloc: Global, text: &str) -> Result<Vec<Edit<'static>>, AllocError> {
         edits.push(Edit::new(start, end, ""))?;
     }
     insert(&mut edits, text.len())?;
+    Ok(edits)
+}
+
+/// The edits of a text at the bytes that words name.
+fn edits_at(alloc: Global, text: &str, places: &str) -> Result<Vec<Edit<'static>>, AllocError> {
+    let mut edits = Vec::new(alloc);
+    for place in places.split(' ') {
+        let at: usize = place.parse().unwrap_or(0);
+        insert(&mut edits, at)?;
+        if let Some(character) = text.get(at..).unwrap_or("").chars().next() {
+            let end = at.saturating_add(character.len_utf8());
+            edits.push(Edit::new(at, end, ""))?;
+        }
+    }
     Ok(edits)
 }
 
@@ -113,6 +140,8 @@ fn past_ascii(alloc: Global, edits: &[Edit<'static>]) -> Result<Vec<Edit<'static
 struct Tally {
     agree: u64,
     first: String,
+    /// Whether edits are made in a row, too.
+    is_in_a_row: bool,
 }
 
 impl Tally {
@@ -124,7 +153,7 @@ impl Tally {
         edits: &[Edit<'static>],
         classes: C,
     ) -> Result<(), AllocError> {
-        match Trial::new(alloc, text, classes) {
+        match Trial::new(alloc, text, classes, self.is_in_a_row) {
             Ok(mut trial) => self.go(alloc, &mut trial, edits),
             Err(error) => {
                 self.first = spans::refusal(alloc, error)?;
@@ -155,25 +184,31 @@ impl Tally {
     }
 
     fn printed(self, alloc: Global) -> Result<String, AllocError> {
-        let Tally { agree, first } = self;
+        let Tally { agree, first, .. } = self;
         format!(in alloc; "{first}{agree} edits agree\n")
     }
 }
 
 /// Two sources of a text. One stays as it was made, and an edit is made of a copy of it; of the other
-/// each edit is made and taken back, one after the other, where the text is short.
+/// each edit is made and taken back, one after the other, where that is wanted.
 #[derive(Drop)]
 struct Trial<'a, C: Classes> {
     text: &'a str,
     classes: C,
     fresh: Source<C>,
     used: Source<C>,
+    is_in_a_row: bool,
     /// What sources of the text are to hold.
     wanted: Wanted,
 }
 
 impl<'a, C: Classes + Copy + Drop> Trial<'a, C> {
-    fn new(alloc: Global, text: &'a str, classes: C) -> Result<Trial<'a, C>, SourceError> {
+    fn new(
+        alloc: Global,
+        text: &'a str,
+        classes: C,
+        is_in_a_row: bool,
+    ) -> Result<Trial<'a, C>, SourceError> {
         let Ok(owned) = String::from_str(alloc, text) else {
             return Err(SourceError::OutOfMemory);
         };
@@ -189,6 +224,7 @@ impl<'a, C: Classes + Copy + Drop> Trial<'a, C> {
             classes,
             fresh,
             used,
+            is_in_a_row,
             wanted,
         })
     }
@@ -207,7 +243,7 @@ impl<'a, C: Classes + Copy + Drop> Trial<'a, C> {
         if let Some(fault) = fault_of_edit(alloc, &mut fresh, edit, &wanted)? {
             return Ok(Some(fault));
         }
-        if self.text.len() > SHORT {
+        if !self.is_in_a_row {
             return Ok(None);
         }
         if let Some(fault) = fault_of_edit(alloc, &mut self.used, edit, &wanted)? {
@@ -224,10 +260,8 @@ fn fault_of_edit<C: Classes>(
     edit: Edit<'_>,
     wanted: &Wanted,
 ) -> Result<Option<&'static str>, AllocError> {
-    match edit.make(source) {
-        Ok(true) => fault(alloc, source, wanted, source.text().len() <= SHORT),
-        Ok(false) => Ok(Some("bad range")),
-        Err(SourceError::OutOfMemory) => Err(AllocError),
-        Err(SourceError::SpanNumbers) => Ok(Some("span numbers")),
+    match edit.make(source)? {
+        Made::Read(_) => fault(alloc, source, wanted, source.text().len() <= SHORT),
+        Made::Fault(fault) => Ok(Some(fault)),
     }
 }

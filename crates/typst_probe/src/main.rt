@@ -1,16 +1,22 @@
 //! Shows what the parser layer answers about a text, and compares that with rows of wanted answers.
 #![tactic(auto)]
 
+mod answers;
+mod calls;
 mod candidates;
+mod draws;
 mod edits;
 mod escapes;
 mod everywhere;
+mod in_a_row;
 mod links;
 mod notes;
 mod reading;
 mod row;
+mod runs;
 mod spans;
 mod stretches;
+mod tagged;
 mod tags;
 mod tokens;
 mod whole;
@@ -25,8 +31,11 @@ use std::{env, fs, io};
 use word::Word;
 
 const USAGE: &str =
-    "usage: typst_probe rows FILE.. | tree | tree-wide | tree-narrow | tree-code | tree-math | tokens | tokens-wide |\n    tokens-narrow | tokens-code | tokens-math | lines | link | stretches | notes | tags | html | spans | edit |\n    candidates | candidates START END | edit-spans START END TEXT | everywhere |
-    everywhere-in-turn";
+    "usage: typst_probe rows FILE.. | tree | tree-wide | tree-narrow | tree-code | tree-math | tree-math-wide |
+    tree-math-narrow | tokens | tokens-wide | tokens-narrow | tokens-code | tokens-math | lines | link |
+    stretches | notes | tags | tagged | html | spans | edit | edit-wide | edit-narrow | edit-spans | edits |
+    in-a-row | calls | runs | candidates | candidates START END | edit-spans START END TEXT | everywhere |
+    everywhere-in-turn | everywhere-at";
 
 /// `rows FILE..` compares all rows of the files, and any other word answers about the text on
 /// standard input. Ends with status 1 where a row disagrees or something fails, and with status 2

@@ -48,6 +48,34 @@ pub fn fault<C: Classes>(
     Ok(None)
 }
 
+/// Whether two sources have the same text, lines and tree, spans too.
+pub fn are_same<C: Classes>(
+    alloc: Global,
+    one: &Source<C>,
+    other: &Source<C>,
+) -> Result<bool, AllocError> {
+    let (ones, others) = (nodes(alloc, one.root())?, nodes(alloc, other.root())?);
+    Ok(
+        one.text() == other.text()
+            && one.root().spanless_eq(other.root())
+            && are_same_lines(one.lines(), other.lines())
+            && have_same_spans(ones.as_slice(), others.as_slice()),
+    )
+}
+
+/// Whether these nodes have the same spans, one by one.
+fn have_same_spans(ones: &[&SyntaxNode], others: &[&SyntaxNode]) -> bool {
+    if ones.len() != others.len() {
+        return false;
+    }
+    for place in 0..ones.len() {
+        if ones[place].span() != others[place].span() {
+            return false;
+        }
+    }
+    true
+}
+
 /// Whether two tables of lines are the same.
 fn are_same_lines(one: &Lines<String>, other: &Lines<String>) -> bool {
     for i in 0..other.len_lines() {

@@ -1,8 +1,10 @@
 -- From candidates that are asked one after the other to the answer of an edit.
-use Rattle.std.proofs.Common.{◌≡◌, ℕ, zero, suc, ◌+◌, ◌-◌, ◌≤◌, ◌<◌, ◌^◌, Bool, true, false, IsTrue, List, [], ◌∷◌, ◌++◌, length, take, drop, map, Option, Some, None, option_map, refl, ap, sym, subst, ◌∙◌, arith}
+use Rattle.std.proofs.Common.{◌≡◌, ℕ, zero, suc, ◌+◌, ◌-◌, ◌≤◌, ◌<◌, ◌^◌, Bool, true, false, IsTrue, List, [], ◌∷◌, ◌++◌, length, take, drop, map, Option, Some, None, Ok, Err, option_map, refl, ap, sym, subst, ◌∙◌, arith}
 use Rattle.std.proofs.lemmas.Option.{same_Some, slice_get-map}
 use Rattle.std.specs.List.{slice_get}
+use Rattle.std.specs.Prelude.{IfOk, IfSome, Result}
 use Rattle.std.specs.Str.{IsUtf8, chars}
+use Rattle.std.specs.declared.alloc.AllocError.{AllocError}
 use Rattle.std.specs.declared.ops.Range.{Range}
 use Rattle.typst_lines.specs.Classes.{CharClasses}
 use Rattle.typst_lines.proofs.LineTable.{bytes-length}
@@ -34,7 +36,8 @@ use Rattle.typst_edits.proofs.OpensApart.{opens-apart-law}
 use Rattle.typst_edits.proofs.Unique.{unique-law}
 use Rattle.typst_reparser.specs.Attempt.{Fails, IsPart, Speaks, at_path}
 use Rattle.typst_reparser.specs.Change.{Change, Holds, Makes, candidates, text_after, text_before}
-use Rattle.typst_reparser.specs.Reparse.{HasTaken, NonePasses, Takes}
+use Rattle.typst_reparser.specs.Reparse.{HasTaken, NonePassesOf, Takes, TakesFirst}
+use Rattle.typst_reparser.specs.declared.attempt.Asked.{Asked}
 use Rattle.typst_reparser.specs.declared.attempt.Part.{Part}
 use Rattle.typst_reparser.specs.declared.replacement.Replacement.{Replacement}
 use Rattle.typst_reparser.proofs.Numbers.{entries-end, entries-written}
@@ -52,6 +55,13 @@ pub each-next : {X : Type 0} (P : X → Type 0) (xs : List X) (i : ℕ) (x : X) 
 each-next P [] i x h e p = tt
 each-next P (y ∷ ys) zero x h e p = (subst P (sym (same_Some y x h)) p, tt)
 each-next P (y ∷ ys) (suc i) x h e p = (e.0, each-next P ys i x h e.1 p)
+
+-- of fewer too
+pub each-fewer : {X : Type 0} (P : X → Type 0) (xs : List X) (m n : ℕ) → n ≤ m → Every P (take m xs) → Every P (take n xs)
+each-fewer P xs m zero h e = tt
+each-fewer P xs zero (suc n) h e = absurd (omega arith)
+each-fewer P [] (suc m) (suc n) h e = tt
+each-fewer P (x ∷ xs) (suc m) (suc n) h e = (e.0, each-fewer P xs m n (omega arith) e.1)
 
 -- ---- children
 
@@ -108,11 +118,10 @@ module _ (k : CharClasses) (c : Change) (root : Tree) (units : Units) (h : Holds
   pub part-reaches : (d : Candidate) → Among d (candidates k c root) → (p : Part) → IsPart k c root d p → Reaches d.path p.first d.to root
   part-reaches d chosen p is = (reaches-from d.path d.from p.first d.to root (candidate-stands d chosen).reaches).0 is.first
 
-  -- the candidates that are found are those of the edit
-  pub found-candidates : (new : List ℕ) (e : Replacement) → Makes c new e → (cs : List Candidate)
-      → cs ≡ candidate.candidates (listed (log k (text_before c)).notes) e.start e.old_end root → cs ≡ candidates k c root
-  found-candidates new e m cs is =
-      is ∙ ap (λ n. candidate.candidates (listed (log k (text_before c)).notes) n e.old_end root) m.start
+  -- the candidates of the replaced bytes are those of the edit
+  pub candidates-are : (new : List ℕ) (e : Replacement) → Makes c new e → candidate.candidates (listed (log k (text_before c)).notes) e.start e.old_end root ≡ candidates k c root
+  candidates-are new e m =
+      ap (λ n. candidate.candidates (listed (log k (text_before c)).notes) n e.old_end root) m.start
       ∙ ap (λ n. candidate.candidates (listed (log k (text_before c)).notes) (width c.front) n root) m.old_end
 
   -- ---- one candidate
@@ -144,3 +153,25 @@ module _ (k : CharClasses) (c : Change) (root : Tree) (units : Units) (h : Holds
       let range : Range ℕ = record { start = d.start; end = end } in
       let answer : IsAnswer k c.front c.old c.new c.rest (candidates k c root) root now range = part (take i cs) d (drop (suc i) cs) taken.nodes split refused taken.gives taken.put refl taken.shifted in
       record { answer = answer; tree_is = answer-tree-law opens-apart-law k c.front c.old c.new c.rest root now range h.tree_is answer; units_are = taken.units_are }
+
+-- ---- candidates of a tree that stayed
+
+module _ (k : CharClasses) (c : Change) (root : Tree) (units : Units) (r : Tree) (r_is : r ≡ root) (u : Units) (u_is : u ≡ units) where
+  pub holds-still : Holds k c root units → Holds k c r u
+  holds-still h = subst (λ x. Holds k c x u) (sym r_is) (subst (λ v. Holds k c root v) (sym u_is) h)
+
+  pub speaks-still : {C : Type 0} (q : Asked C) → Speaks k c q root units → Speaks k c q r u
+  speaks-still q h = subst (λ x. Speaks k c q x u) (sym r_is) (subst (λ v. Speaks k c q root v) (sym u_is) h)
+
+  pub none-still : (n : ℕ) → NonePassesOf k c root n → NonePassesOf k c r n
+  none-still n h = subst (λ x. NonePassesOf k c x n) (sym r_is) h
+
+  -- what was taken of it is taken of the tree before
+  pub taken-before : (now : Tree) (units_now : Units) (n : ℕ) (o : Result (Option (Range ℕ)) AllocError) → IfOk o (λ x. TakesFirst k c r now units_now n x) → IfOk o (λ x. IfSome x (λ range. Takes k c root now units_now range))
+  taken-before now units_now n (Ok None) h = tt
+  taken-before now units_now n (Ok (Some range)) h = subst (λ x. Takes k c x now units_now range) r_is h
+  taken-before now units_now n (Err e) h = tt
+
+  -- where nothing was taken of it, there is none among so many
+  pub none-of : (now : Tree) (units_now : Units) (n : ℕ) (o : Result (Option (Range ℕ)) AllocError) → o ≡ Ok None → IfOk o (λ x. TakesFirst k c r now units_now n x) → NonePassesOf k c r n
+  none-of now units_now n o e h = subst (λ (p : Result (Option (Range ℕ)) AllocError). IfOk p (λ x. TakesFirst k c r now units_now n x)) e h

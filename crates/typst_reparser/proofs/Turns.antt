@@ -1,7 +1,7 @@
 -- What is asked of the candidates of an edit, one after the other.
-use Rattle.std.proofs.Common.{◌≡◌, ℕ, zero, suc, ◌+◌, ◌-◌, ◌≤◌, ◌<◌, ◌^◌, List, [], ◌∷◌, ◌++◌, length, take, map, Option, Some, None, option_map, refl, ap, sym, subst, ◌∙◌, arith}
+use Rattle.std.proofs.Common.{◌≡◌, ℕ, zero, suc, ◌+◌, ◌-◌, ◌≤◌, ◌<◌, ◌^◌, List, [], ◌∷◌, ◌++◌, length, min, take, map, Option, Some, None, option_map, refl, ap, sym, subst, ◌∙◌, arith}
 use Rattle.std.proofs.lemmas.Option.{same_Some, slice_get-map}
-use Rattle.std.proofs.lemmas.List.{length-map, take_all}
+use Rattle.std.proofs.lemmas.List.{length-map, length-take, take_all, take_min}
 use Rattle.std.specs.List.{slice_get}
 use Rattle.std.specs.Prelude.{IfSome}
 use Rattle.std.specs.Str.{IsUtf8}
@@ -27,7 +27,7 @@ use Rattle.typst_reparser.specs.Reparse.{CanTake, TakesPlace}
 use Rattle.typst_reparser.specs.Steps.{GoesOn, ServesFor, ServesOr}
 use Rattle.typst_reparser.specs.declared.attempt.Asked.{Asked}
 use Rattle.typst_reparser.specs.declared.attempt.Serving.{Serving}
-use Rattle.typst_reparser.proofs.Answering.{entries-are, found-candidates}
+use Rattle.typst_reparser.proofs.Answering.{candidates-are, entries-are}
 use Rattle.typst_reparser.proofs.Numbers.{entries-written}
 use Rattle.typst_reparser.proofs.Serving.{ServesAt, at-for}
 
@@ -47,26 +47,43 @@ module _ {C : Type 0} (k : CharClasses) (c : Change) (root : Tree) (units : Unit
     rear = rear ∙ ap (λ n. rear_of n 0 0 units.entries units.back) makes.old_end ∙ ap (λ (u : Units). rear_of (width (c.front ++ c.old)) 0 0 u.entries u.back) holds.units_are;
   }
 
-  module _ (path : List ℕ) (items : List code.Candidate) (found : (ns : List Note) → Written units.entries ns → map (spelled path) items ≡ candidate.candidates ns q.edit.start q.edit.old_end root) where
-    pub found-all : map (spelled path) items ≡ candidates k c root
-    found-all =
-        found-candidates k c root units holds q.new.now q.edit makes (map (spelled path) items)
-        (found (listed (log k (text_before c)).notes) (subst (λ es. Written es (listed (log k (text_before c)).notes)) (sym (entries-are k c root units holds)) (entries-written k (text_before c))))
+  -- what is found are the first candidates of the edit
+  pub found-first : (most : ℕ) (xs : List Candidate) → ((ns : List Note) → Written units.entries ns → xs ≡ take most (candidate.candidates ns q.edit.start q.edit.old_end root)) → xs ≡ take most (candidates k c root)
+  found-first most xs found =
+      found (listed (log k (text_before c)).notes) (subst (λ es. Written es (listed (log k (text_before c)).notes)) (sym (entries-are k c root units holds)) (entries-written k (text_before c)))
+      ∙ ap (take most) (candidates-are k c root units holds q.new.now q.edit makes)
 
+-- ---- so many of a list
+
+within-first : {X : Type 0} (n : ℕ) (xs : List X) (i : ℕ) (x : X) → slice_get (take n xs) i ≡ Some x → slice_get xs i ≡ Some x
+within-first zero xs i x h = absurd (cc)
+within-first (suc n) [] i x h = h
+within-first (suc n) (y ∷ ys) zero x h = h
+within-first (suc n) (y ∷ ys) (suc i) x h = within-first n ys i x h
+
+module _ (path : List ℕ) (items : List code.Candidate) (most : ℕ) (cs : List Candidate) (are : map (spelled path) items ≡ take most cs) where
+  pub counted : length items ≡ min most (length cs)
+  counted = sym (length-map items (spelled path)) ∙ (ap (λ (xs : List Candidate). length xs) are ∙ length-take most cs)
+
+  -- they are as many of the first as they are
+  pub as-many : map (spelled path) items ≡ take (length items) cs
+  as-many = are ∙ (sym (take_min most cs) ∙ ap (λ n. take n cs) (sym counted))
+
+  -- with room for more they are all
+  pub are-all : length items < most → take (length items) cs ≡ cs
+  are-all room = take_all (length items) cs (let n = counted in omega (arith, room, n))
+
+-- ---- one of them
+
+module _ {C : Type 0} (k : CharClasses) (c : Change) (root : Tree) (units : Units) (q : Asked C) (speaks : Speaks k c q root units) where
+  module _ (path : List ℕ) (items : List code.Candidate) (first : map (spelled path) items ≡ take (length items) (candidates k c root)) where
     pub found-at : (i : ℕ) (d : code.Candidate) → slice_get items i ≡ Some d → slice_get (candidates k c root) i ≡ Some (spelled path d)
-    found-at i d h = ap (λ xs. slice_get xs i) (sym found-all) ∙ slice_get-map (spelled path) items i ∙ ap (option_map (spelled path)) h
+    found-at i d h = within-first (length items) (candidates k c root) i (spelled path d) (ap (λ xs. slice_get xs i) (sym first) ∙ slice_get-map (spelled path) items i ∙ ap (option_map (spelled path)) h)
 
     pub found-among : (i : ℕ) (d : code.Candidate) → slice_get items i ≡ Some d → Among (spelled path d) (candidates k c root)
     found-among i d h = among-at (candidates k c root) i (spelled path d) (found-at i d h)
 
-    -- behind the last one all were asked
-    pub found-whole : (i : ℕ) → length items ≤ i → take i (candidates k c root) ≡ candidates k c root
-    found-whole i l =
-        let n = ap (λ (xs : List Candidate). length xs) found-all in
-        let m = length-map items (spelled path) in
-        take_all i (candidates k c root) (omega (arith, l, n, m))
-
-    module _ (text : IsUtf8 q.new.now) (front : q.front ≡ front_of q.edit.start 0 units.entries) (rear : q.rear ≡ rear_of q.edit.old_end 0 0 units.entries units.back) (i : ℕ) (d : code.Candidate) (at : slice_get items i ≡ Some d)
+    module _ (i : ℕ) (d : code.Candidate) (at : slice_get items i ≡ Some d)
         (way : List ℕ) (way_is : way ≡ take d.depth path) (was s : Option Serving) (so_far : ServesAt k c root path was) (goes : IfSome s (λ x. (was ≡ Some x) × GoesOn d x)) (r : Tree) (r_is : r ≡ root) (u : Units) (u_is : u ≡ units) where
       here-among : Among (at_path way d) (candidates k c root)
       here-among = subst (λ p. Among (at_path p d) (candidates k c root)) (sym way_is) (found-among i d at)
@@ -75,7 +92,7 @@ module _ {C : Type 0} (k : CharClasses) (c : Change) (root : Tree) (units : Unit
       here-serves = subst (λ p. ServesFor k c root p d s) (sym way_is) (at-for k c root path d was s so_far goes)
 
       here-speaks : Speaks k c q r u
-      here-speaks = subst (λ x. Speaks k c q x u) (sym r_is) (subst (λ v. Speaks k c q root v) (sym u_is) (asked-speaks text front rear))
+      here-speaks = subst (λ x. Speaks k c q x u) (sym r_is) (subst (λ v. Speaks k c q root v) (sym u_is) speaks)
 
       there-among : Among (at_path way d) (candidates k c r)
       there-among = subst (λ x. Among (at_path way d) (candidates k c x)) (sym r_is) here-among

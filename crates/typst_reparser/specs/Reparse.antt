@@ -1,13 +1,15 @@
 -- What an edit answers that reads a part of the new text.
-use Rattle.std.specs.Prelude.{◌≡◌, ℕ, ◌+◌, Bool, true, false, List, Option, Some, None}
+use Rattle.std.specs.Prelude.{◌≡◌, ℕ, ◌+◌, Bool, true, false, List, length, map, take, Option, Some, None}
 use Rattle.std.specs.declared.ops.Range.{Range}
 use Rattle.typst_lines.specs.Classes.{CharClasses}
 use Rattle.typst_tokens.specs.Sight.{width}
 use Rattle.typst_tree.specs.Tree.{Tree, bare}
 use Rattle.typst_tree.specs.Replace.{replaced_at}
 use Rattle.typst_candidates.specs.declared.candidate.Candidate as code
+use Rattle.typst_candidates.specs.declared.candidate.Candidates.{Candidates}
 use Rattle.typst_candidates.specs.Candidates.{Candidate}
 use Rattle.typst_candidates.specs.Entries.{Units, spliced, units_of}
+use Rattle.typst_candidates.specs.Rows.{spelled}
 use Rattle.typst_edits.specs.Answer.{IsAnswer, Refused}
 use Rattle.typst_edits.specs.Edit.{Among}
 use Rattle.typst_edits.specs.Every.{Every}
@@ -29,6 +31,27 @@ pub record Takes (k : CharClasses) (c : Change) (was now : Tree) (units : Units)
 -- No candidate passes whose nodes find numbers.
 abbrev pub NonePasses : CharClasses → Change → Tree → Type 0
 NonePasses k c was = Every (Refused k c.front c.old c.new c.rest was) (candidates k c was)
+
+-- ---- some candidates (of private clauses)
+
+-- Candidates of the code are the first of an edit's.
+abbrev pub AreFirst : CharClasses → Change → Tree → Candidates → Type 0
+AreFirst k c root found = map (spelled found.path.items) found.items.items ≡ take (length found.items.items) (candidates k c root)
+
+-- They are those of an edit that is asked of them.
+pub record CanTakeFirst {C : Type 0} (k : CharClasses) (q : Asked C) (root : Tree) (units : Units) (found : Candidates) : Type 0 where
+  pub change : Change
+  pub speaks : Speaks k change q root units
+  pub first : AreFirst k change root found
+
+-- None of the first so many passes whose nodes find numbers.
+abbrev pub NonePassesOf : CharClasses → Change → Tree → ℕ → Type 0
+NonePassesOf k c was n = Every (Refused k c.front c.old c.new c.rest was) (take n (candidates k c was))
+
+-- One took its place before which there is none, or there is none among so many.
+abbrev pub TakesFirst : CharClasses → Change → Tree → Tree → Units → ℕ → Option (Range ℕ) → Type 0
+TakesFirst k c was now units n None = NonePassesOf k c was n
+TakesFirst k c was now units n (Some range) = Takes k c was now units range
 
 -- ---- one candidate (of private clauses)
 

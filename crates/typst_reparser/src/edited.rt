@@ -7,16 +7,20 @@ ghost use Rattle.typst_edits.specs.Edit.{Among};
 ghost use Rattle.typst_reparser.specs.Attempt.{Speaks, at_path};
 ghost use Rattle.typst_reparser.specs.Change.{Change, Makes, Holds, candidates};
 ghost use Rattle.typst_reparser.specs.Steps.{GoesOn, ServesFor, ServesOr};
-ghost use Rattle.typst_reparser.specs.Reparse.{CanTake, NonePasses, Puts, Takes, TakesPlace};
+ghost use Rattle.typst_reparser.specs.Reparse.{AreFirst, CanTake, CanTakeFirst, NonePasses, NonePassesOf, Puts, Takes, TakesFirst, TakesPlace};
 
 use crate::attempt::{Asked, Attempt, Part, Serving};
 use crate::replacement::Replacement;
 use std::alloc::{AllocError, Global};
 use std::ops::Range;
-use typst_candidates::{Candidate, Records, find_candidates};
+use typst_candidates::{Candidate, Candidates, Records, find_candidates};
 use typst_kinds::SourceError;
 use typst_lines::Classes;
 use typst_tree::SyntaxNode;
+
+/// How many candidates are looked up at first. The first one nearly always passes, and these few are found
+/// around the edit; to find all goes from there to the ends of each run that the edit stands in.
+const FEW: usize = 4;
 
 /// Reads of an edited text the first candidate that passes and whose nodes find numbers, and puts its
 /// nodes and units in place. Answers its range in the new text, in bytes, or `None` where there is
@@ -36,9 +40,7 @@ pub fn reparse<C: Classes>(
     ensures err { OnErr result ((root.new ≡ root.old) × (records.new.units ≡ records.old.units)) }
     ensures ordered { IfOk result (λ r. IfSome r (λ _. IsNumbered root.old → IsNumbered root.new × AreInOrder (numbers_of root.new))) }
 {
-    let Some(last) = records.last() else {
-        return Ok(None);
-    };
+    let last = records.last_token();
     let asked = Asked {
         new,
         edit,
@@ -46,13 +48,41 @@ pub fn reparse<C: Classes>(
         rear: records.rear(edit.old_end, last),
         classes,
     };
-    let found = find_candidates(alloc, root, records, edit.start, edit.old_end)?;
+    let few = find_candidates(alloc, root, records, edit.start, edit.old_end, FEW)?;
+    if let Some(range) = take_first(alloc, root, records, &asked, &few, 0)? {
+        return Ok(Some(range));
+    }
+    if few.items.len() < FEW {
+        return Ok(None);
+    }
+    let all = find_candidates(alloc, root, records, edit.start, edit.old_end, usize::MAX)?;
+    take_first(alloc, root, records, &asked, &all, FEW)
+}
+
+/// Puts what takes the place of the first candidate there that passes and whose nodes find numbers, of these
+/// from the one numbered `from` on; answers its range in the new text, in bytes, or `None` where there is none.
+/// Then, and where there is no memory, nothing changes.
+fn take_first<C: Classes>(
+    alloc: Global,
+    root: &mut SyntaxNode,
+    records: &mut Records,
+    asked: &Asked<'_, C>,
+    found: &Candidates,
+    from: usize,
+) -> Result<Option<Range<usize>>, AllocError>
+    requires some { CanTakeFirst (C.classes asked.now.classes.now) asked.now root.old records.old.units found.now }
+    requires within { from ≤ length found.now.items.items }
+    ensures first { (c : Change) → Speaks (C.classes asked.now.classes.now) c asked.now root.old records.old.units → AreFirst (C.classes asked.now.classes.now) c root.old found.now → NonePassesOf (C.classes asked.now.classes.now) c root.old from → IfOk result (λ range. TakesFirst (C.classes asked.now.classes.now) c root.old root.new records.new.units (length found.now.items.items) range) }
+    ensures undone { result ≡ Ok None → (root.new ≡ root.old) × (records.new.units ≡ records.old.units) }
+    ensures err { OnErr result ((root.new ≡ root.old) × (records.new.units ≡ records.old.units)) }
+    ensures ordered { IfOk result (λ r. IfSome r (λ _. IsNumbered root.old → IsNumbered root.new × AreInOrder (numbers_of root.new))) }
+{
     let steps = &found.path;
     let mut serving = None;
-    for candidate in &found.items {
+    for candidate in &found.items[from..] {
         let path = front_of(steps, candidate.depth);
         serving = serving_of(serving, *candidate);
-        let end = take_place(alloc, root, records, &asked, *candidate, path, &mut serving)?;
+        let end = take_place(alloc, root, records, asked, *candidate, path, &mut serving)?;
         if let Some(end) = end {
             return Ok(Some(candidate.start..end));
         }

@@ -7,7 +7,7 @@ use typst_kinds::SyntaxKind;
 
 /// A heading from right to left with an equals sign of its own, and behind it tabs: in a text, in
 /// raw text and between them.
-const RIGHT_TO_LEFT: [Row; 25] = [
+pub(crate) const RIGHT_TO_LEFT: [Row; 25] = [
     (SyntaxKind::HeadingMarker, "=", None),
     (SyntaxKind::Space, " ", None),
     (SyntaxKind::Text, "שלום", None),
@@ -39,7 +39,7 @@ const RIGHT_TO_LEFT_HTML: &str =
     "<code><span class=\"typ-heading\">= שלום <span class=\"typ-strong\">*עולם*</span>\u{200f}&quot;&lt;&quot;=</span>\n\n\ta\t<span class=\"typ-raw\">`\tx`</span><span class=\"typ-label\">&lt;l&gt;</span></code>";
 
 /// A term with a call behind it.
-const TERM: [Row; 22] = [
+pub(crate) const TERM: [Row; 22] = [
     (SyntaxKind::TermMarker, "/", None),
     (SyntaxKind::Space, " ", None),
     (SyntaxKind::Text, "a", None),
@@ -68,7 +68,7 @@ const TERM_HTML: &str =
     "<code><span class=\"typ-marker\">/</span> <span class=\"typ-term\">a</span><span class=\"typ-punct\">:</span> b &amp; &#39;c&#39; <span class=\"typ-func\">#</span><span class=\"typ-func\">f</span><span class=\"typ-punct\">[</span>x<span class=\"typ-punct\">]</span> d</code>";
 
 /// A binding, and errors before and behind it.
-const ERRORS: [Row; 10] = [
+pub(crate) const ERRORS: [Row; 10] = [
     (SyntaxKind::Error, "*/", None),
     (SyntaxKind::Hash, "#", None),
     (SyntaxKind::Let, "let", None),

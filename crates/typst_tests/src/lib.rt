@@ -27,6 +27,8 @@ mod refusals;
 #[cfg(test)]
 mod rows;
 #[cfg(test)]
+mod tagged;
+#[cfg(test)]
 mod tokens;
 #[cfg(test)]
 mod trees;

@@ -1,9 +1,10 @@
 use crate::rows::{Row, tree};
 use crate::trees::{END, number, numbered, replace, same, sample};
 use std::alloc::{AllocError, Global};
+use std::hash::{DefaultHasher, Hash, Hasher};
 use typst_highlight::highlight_html;
 use typst_kinds::{SourceError, Span, SubRange, SyntaxKind};
-use typst_lines::{Lines, link_prefix, split_newlines};
+use typst_lines::{Line, Lines, LinesFrom, link_prefix, split_newlines};
 use typst_tree::SyntaxNode;
 
 // These tests pass whichever request for memory is refused: `rt try --test --fail-alloc N`.
@@ -246,10 +247,13 @@ fn empty(lines: &mut Lines<String>, way: Way) -> Result<bool, AllocError> {
     }
 }
 
-/// Whether lines change, or stay where memory was refused and change the next time; and a copy is
-/// made, if not at once then the next time.
+/// Whether lines are made, and a copy, if not at once then the next time; and change, or stay where memory
+/// was refused and change the next time.
 fn lines_change_or_stay(alloc: Global, way: Way) -> Option<bool> {
-    let mut before = lines(alloc, LINES).ok()?;
+    let mut before = match lines(alloc, LINES) {
+        Ok(made) => made,
+        Err(AllocError) => lines(alloc, LINES).ok()?,
+    };
     let mut copy = match before.try_clone() {
         Ok(copy) => copy,
         Err(AllocError) => before.try_clone().ok()?,
@@ -296,11 +300,42 @@ fn tell_of_themselves(lines: &Lines<String>) -> bool {
         && lines.replacement_range(LINES).is_none()
 }
 
-/// Whether lines tell positions, and aren't changed by an equal text, whatever was refused.
+/// What lines hash to.
+fn hash_of(lines: &Lines<String>) -> u64 {
+    let mut hasher = DefaultHasher::new();
+    lines.hash(&mut hasher);
+    hasher.finish()
+}
+
+/// Whether the second line of `LINES` starts at byte 7, with six UTF-16 units before it.
+fn is_second(line: Option<Line>) -> bool {
+    match line {
+        Some(line) => line.byte_idx() == 7 && line.utf16_idx() == 6,
+        None => false,
+    }
+}
+
+/// The second line of `LINES`, found without a table.
+fn second() -> Option<Line> {
+    LinesFrom::new(LINES, 0, 0).next()
+}
+
+/// Whether lines are compared and hashed by their texts, and those of a text are found without a table.
+fn are_alike(lines: &Lines<String>, copy: &Lines<String>, other: &Lines<String>) -> bool {
+    lines == copy
+        && lines != other
+        && hash_of(lines) == hash_of(copy)
+        && is_second(lines.line(1))
+        && is_second(second())
+}
+
+/// Whether lines tell positions and are compared, and aren't changed by an equal text, whatever was refused.
 fn lines_tell_without_memory(alloc: Global) -> Option<bool> {
-    let mut lines = lines(alloc, LINES).ok()?;
-    let is_kept = matches!(lines.replace(LINES), Ok(false));
-    Some(is_kept && tell_positions(&lines) && tell_of_themselves(&lines))
+    let (mut table, other) = (lines(alloc, LINES).ok()?, lines(alloc, "a").ok()?);
+    let copy = table.try_clone().ok()?;
+    let is_kept = matches!(table.replace(LINES), Ok(false));
+    let is_told = tell_positions(&table) && tell_of_themselves(&table);
+    Some(is_kept && is_told && are_alike(&table, &copy, &other))
 }
 
 #[test]

@@ -1,16 +1,16 @@
 -- Steps up from a node.
 use Rattle.std.proofs.Common.{◌≡◌, ℕ, zero, suc, ◌+◌, ◌-◌, ◌^◌, ◌<◌, ◌≤◌, List, [], ◌∷◌, ◌++◌, true, false, length, take, drop, Option, Some, None, refl, ap, sym, subst, ◌∙◌, arith, append_assoc, length-append, get_or}
-use Rattle.std.proofs.lemmas.List.{drop-append-le, length-drop, take-append-drop}
-use Rattle.typst_tree.proofs.LastLeaf.{last_append, last_none, last_alone, preorder_append}
+use Rattle.std.proofs.lemmas.List.{drop-append-le, length-drop}
+use Rattle.typst_tree.proofs.LastLeaf.{last_append, last_none, last_alone, preorder_split}
 use Rattle.std.proofs.Math.Seq.{drop-append_seam, drop-append-add}
 use Rattle.std.specs.Prelude.{slice_get, nat_le, nat_lt, find}
-use Rattle.typst_tree.proofs.SpansAside.{forest_trees, trees_forest}
+use Rattle.typst_tree.proofs.SpansAside.{forest_trees}
 use Rattle.typst_tree.proofs.Siblings.{find_behind}
 use Rattle.std.proofs.lemmas.Bool.Decides.{nat_tests}
 use Rattle.std.specs.Option.{option_map, option_or}
 use Rattle.std.proofs.lemmas.Option.{none-some}
 use Rattle.typst_tree.specs.Tree.{Forest, none, more, Tree, trees, nodes, places, forest, count, preorder}
-use Rattle.typst_tree.proofs.Rows.{Beside, beside, Over, over_at}
+use Rattle.typst_tree.proofs.Rows.{Beside, beside, Over, here_in, over_at}
 use Rattle.typst_tree.specs.Walks.{first_at, last_leaf, is_leaf, is_leaf_from, is_childless, if_none, Stands}
 use Rattle.typst_tree.specs.Rows.{IsChild, IsFork}
 use Rattle.typst_tree.specs.Branches.{IsAbove, leaf_after, leaf_until}
@@ -33,13 +33,14 @@ above_is a b w =
 pub no_parent : (a : LinkedNode) → a.number ≡ 0 → None ≡ parent (linked a)
 no_parent a e = ap (option_map (at a.root.now)) (sym (none_from a.number 0 0 (places a.root.now) (omega (arith, e))))
 
+-- a node stands in its tree, however that is named
+pub stands_in : (a : LinkedNode) {r : Tree} → a.root.now ≡ r → Stands (places r) a.number a.offset (places a.node.now)
+stands_in a e = subst (λ r. Stands (places r) a.number a.offset (places a.node.now)) e a.stands
+
 -- the tree of the first long row that a node is or is below, where its place is known
 pub tops_of : (a o : LinkedNode) (xs : List Tree) (x : Tree) → o.root.now ≡ a.root.now → reach_of a.known ≡ reach.Placed → IsFork a.root.now a.number o.node.now o.number → forest xs ≡ o.node.now.kids → x ≡ get_or xs (index_of a.known) x → a.offset < 2 ^ 64 - 1 → Tops a.root.now o.node.now o.number a.number a.offset (nodes a.node.now) a.known x
 tops_of a o xs x root e f g at small =
-    tops a.root.now a.number a.offset (nodes a.node.now) a.known o.node.now o.number o.offset xs x a.holds e f (subst (λ r. Stands (places r) o.number o.offset (places o.node.now)) root o.stands) g at small
-
-pub linked_at : (a : LinkedNode) (root : Tree) (n : ℕ) → a.root.now ≡ root → a.number ≡ n → linked a ≡ at root n
-linked_at a root n p q = λ i. record { root = p i; number = q i }
+    tops a.root.now a.number a.offset (nodes a.node.now) a.known o.node.now o.number o.offset xs x a.holds e f (stands_in o root) g at small
 
 -- the first leaf from a number on, where some trees begin there
 leaf_free : (n a b : ℕ) (k j : ℕ) (xs : List Tree) → k ≤ n → j ≤ n → first_at (is_leaf_from k) n a xs ≡ first_at (is_leaf_from j) n b xs
@@ -75,7 +76,6 @@ cut_within xs k b d m ys s l e =
 -- of the leaves from a number on, those below a node come before those behind it
 pub leaf_within : (b : LinkedNode) (k m : ℕ) → b.number ≤ k → k ≤ b.number + nodes b.node.now → m ≡ b.number + nodes b.node.now → leaf_after b.root.now k ≡ option_map (at b.root.now) (if_none (first_at (is_leaf_from k) b.number (start_of (linked b)) (places b.node.now)) (first_at (is_leaf_from 0) m 0 (drop m (places b.root.now))))
 leaf_within b k m l h e =
-    let d : ℕ = k - b.number in
     let there : k ≡ b.number + (k - b.number) = omega (arith, l) in
     let short : k - b.number ≤ length (places b.node.now) = omega (arith, l, h, length_places b.node.now) in
     let end : m ≡ b.number + length (places b.node.now) = omega (arith, e, length_places b.node.now) in
@@ -107,19 +107,18 @@ room a = omega (arith, a.stands.within, length_places a.node.now, length_places 
 pub inside_root : (a : LinkedNode) → a.number < nodes a.root.now
 inside_root a = omega (arith, a.stands.within, length_places a.node.now, length_places a.root.now)
 
-pub above_stands : (a : LinkedNode) (b : Above) → IsAbove a b → Stands (places a.root.now) b.parent.number b.parent.offset (places b.parent.node.now)
-above_stands a b w = subst (λ r. Stands (places r) b.parent.number b.parent.offset (places b.parent.node.now)) w.root b.parent.stands
+pub inside_top : (a t : LinkedNode) → t.root.now ≡ a.root.now → t.number ≡ 0 → a.number < t.number + nodes t.node.now
+inside_top a t root z = omega (arith, z, ap nodes (root_node t z ∙ root), inside_root a)
 
 pub beside_of : (a : LinkedNode) (b : Above) (xs : List Tree) → IsAbove a b → forest xs ≡ b.parent.node.now.kids → Beside a.root.now b.parent.node.now b.parent.number b.parent.offset a.node.now a.number a.offset b.index xs
 beside_of a b xs w e =
-    beside a.root.now b.parent.node.now b.parent.number b.parent.offset a.node.now a.number a.offset b.index xs e (above_stands a b w) w.child a.stands
+    beside a.root.now b.parent.node.now b.parent.number b.parent.offset a.node.now a.number a.offset b.index xs e (stands_in b.parent w.root) w.child a.stands
 
 -- the siblings before a node are passed over, and the node is the next
 pub over_above : (a : LinkedNode) (b : Above) (xs : List Tree) → IsAbove a b → forest xs ≡ b.parent.node.now.kids → Over b.parent.node.now b.parent.number b.parent.offset xs b.index a.number a.offset a.node.now
 over_above a b xs w e =
     let s = beside_of a b xs w e in
-    let same : trees b.parent.node.now.kids ≡ xs = sym (ap trees e) ∙ trees_forest xs in
-    over_at b.parent.node.now b.parent.number b.parent.offset xs b.index a.number a.offset a.node.now e (ap (λ ys. slice_get ys b.index) (sym same) ∙ w.child.here)
+    over_at b.parent.node.now b.parent.number b.parent.offset xs b.index a.number a.offset a.node.now e (here_in _ _ _ _ _ xs e w.child)
     (record { within = omega (arith, s.within); number = s.number; offset = omega (arith, s.start, a.stands.begins) })
 
 map_some : (f : ℕ → At) (x y : Option ℕ) (a : At) → Some a ≡ option_map f x → option_map f (if_none x y) ≡ Some a
@@ -191,8 +190,7 @@ until_top r root t n z e f w =
 -- a loop over the children before one begins with those before it
 pub until_row : (o : Tree) (n m i : ℕ) (xs : List Tree) → forest xs ≡ o.kids → m ≡ n + 1 + count (forest (take i xs)) → last_leaf m n (places o) ≡ last_leaf m n (o ∷ preorder (forest (take i xs)))
 until_row o n m i xs e h =
-    let rows : places o ≡ (o ∷ preorder (forest (take i xs))) ++ preorder (forest (drop i xs)) =
-    ap (λ f. o ∷ preorder f) (sym e) ∙ ap (λ ys. o ∷ ys) (ap (λ ys. preorder (forest ys)) (sym (take-append-drop i xs)) ∙ preorder_append (take i xs) (drop i xs)) in
+    let rows : places o ≡ (o ∷ preorder (forest (take i xs))) ++ preorder (forest (drop i xs)) = ap (λ f. o ∷ preorder f) (sym e) ∙ ap (λ ys. o ∷ ys) (preorder_split i xs) in
     let past : m ≤ n + length (o ∷ preorder (forest (take i xs))) = omega (arith, h, length_preorder (forest (take i xs))) in
     ap (last_leaf m n) rows ∙ (last_append m n (o ∷ preorder (forest (take i xs))) (preorder (forest (drop i xs)))
     ∙ if_none_right _ (last_leaf m n (o ∷ preorder (forest (take i xs)))) _ (last_none m _ (preorder (forest (drop i xs))) past) refl)

@@ -3,8 +3,7 @@ use Rattle.std.proofs.Common.{◌≡◌, Bool, true, false, ℕ, zero, suc, ◌+
 use Rattle.std.specs.Prelude.{slice_get, nat_lt}
 use Rattle.std.proofs.lemmas.Bool.Decides.{nat_tests}
 use Rattle.std.proofs.lemmas.Bool.{cases_lt, cases_eq}
-use Rattle.std.proofs.lemmas.List.{take-append-drop}
-use Rattle.std.proofs.lemmas.Option.{same_Some, none-some, slice_get_read}
+use Rattle.std.proofs.lemmas.Option.{same_Some, slice_get_read}
 use Rattle.std.proofs.Math.Logic.{∥∥₁_elim, ∥∥₁_map}
 use Rattle.std.proofs.Props.{props}
 use Rattle.typst_tree.specs.Tree.{Tree, forest, trees, nodes, places, count, preorder, joined, saturated}
@@ -15,19 +14,11 @@ use Rattle.typst_tree.specs.Branches.{EndsBy}
 use Rattle.typst_tree.specs.Rows.{IsChild, IsOpen, IsFork, IsPlaced, Holds, long}
 use Rattle.typst_tree.specs.declared.known.Known.{Known}
 use Rattle.typst_tree.specs.declared.known.Reach.TheVariants as reach
-use Rattle.typst_tree.proofs.LastLeaf.{preorder_append}
-use Rattle.typst_tree.proofs.NodesOfStretch.{standing, stands_get}
-use Rattle.typst_tree.proofs.Parents.{child_bounds, get_left, get_right, inside_forest, inside_tree}
-use Rattle.typst_tree.proofs.Rows.{kid_of}
-use Rattle.typst_tree.proofs.WalksInPreorder.{length_places, length_preorder}
-
--- a node below one that stands in a tree is one of its nodes
-pub get_inside : (xs : List Tree) (n b m : ℕ) (t : Tree) → Stands xs n b (places t) → n ≤ m → m < n + nodes t → slice_get (places t) (m - n) ≡ slice_get xs m
-get_inside xs n b m t s l h =
-    let w = standing xs n b (places t) s in
-    let at : length w.front + (m - n) ≡ m = omega (arith, w.number, l) in
-    let short : m - n < length (places t) = omega (arith, l, h, length_places t) in
-    sym (get_left (places t) w.back (m - n) short) ∙ (sym (get_right w.front (places t ++ w.back) (m - n)) ∙ (ap (slice_get (w.front ++ (places t ++ w.back))) at ∙ ap (λ ys. slice_get ys m) (sym w.whole)))
+use Rattle.typst_tree.proofs.LastLeaf.{preorder_split}
+use Rattle.typst_tree.proofs.NodesOfStretch.{stands_get}
+use Rattle.typst_tree.proofs.Parents.{child_bounds, get_inside, get_left, inside_forest, inside_tree}
+use Rattle.typst_tree.proofs.Rows.{first_of_row, kid_of, length_row, row_from}
+use Rattle.typst_tree.proofs.WalksInPreorder.{length_preorder}
 
 pub open_root : (root : Tree) → IsOpen root 0
 open_root root m o g l h = absurd (omega (arith, l))
@@ -39,8 +30,7 @@ ends_before root o n b t m i k x s c l h g =
     let own : slice_get (places o) (k - n) ≡ Some x = get_inside (places root) n b k o s (omega (arith, l)) (omega (arith, h, bounds.to)) ∙ g in
     let step : k - n ≡ suc (k - n - 1) = omega (arith, l) in
     let below : slice_get (preorder o.kids) (k - n - 1) ≡ Some x = ap (slice_get (places o)) (sym step) ∙ own in
-    let split : preorder o.kids ≡ preorder (forest (take i (trees o.kids))) ++ preorder (forest (drop i (trees o.kids))) =
-    ap preorder (sym (forest_trees o.kids)) ∙ (ap (λ ys. preorder (forest ys)) (sym (take-append-drop i (trees o.kids))) ∙ preorder_append (take i (trees o.kids)) (drop i (trees o.kids))) in
+    let split : preorder o.kids ≡ preorder (forest (take i (trees o.kids))) ++ preorder (forest (drop i (trees o.kids))) = ap preorder (sym (forest_trees o.kids)) ∙ preorder_split i (trees o.kids) in
     let short : k - n - 1 < length (preorder (forest (take i (trees o.kids)))) = omega (arith, l, h, c.number, length_preorder (forest (take i (trees o.kids)))) in
     let front : slice_get (preorder (forest (take i (trees o.kids)))) (k - n - 1) ≡ Some x =
     sym (get_left (preorder (forest (take i (trees o.kids)))) (preorder (forest (drop i (trees o.kids)))) (k - n - 1) short) ∙ (ap (λ ys. slice_get ys (k - n - 1)) (sym split) ∙ below) in
@@ -158,11 +148,6 @@ pub record InRow (root o : Tree) (m n b size i d e : ℕ) : Type 0 where
   pub fits : (t : Tree) → slice_get (trees o.kids) i ≡ Some t → d + size ≤ nodes t
   pub begins : b ≡ saturated (saturated (length (texts (take (n - d) (places root)))) + e)
 
-some_within : (xs : List Tree) (i : ℕ) (t : Tree) → slice_get xs i ≡ Some t → i < length xs
-some_within [] i t g = absurd (none-some t g)
-some_within (x ∷ xs) zero t g = omega arith
-some_within (x ∷ xs) (suc i) t g = omega (arith, some_within xs i t g)
-
 in_row_of : (root : Tree) (n b size i d e : ℕ) (o : Tree) (m : ℕ) → IsFork root n o m → IsPlaced root n b size i d e → InRow root o m n b size i d e
 in_row_of root n b size i d e o m f w =
     let number : w.above ≡ m = fork_same root n w.owner w.above o m w.fork f in
@@ -170,7 +155,7 @@ in_row_of root n b size i d e o m f w =
     let child : IsChild o m w.tree (n - d) i = subst (λ k. IsChild o k w.tree (n - d) i) number (subst (λ p. IsChild p w.above w.tree (n - d) i) node w.child) in
     record {
       after = w.after;
-      within = some_within (trees o.kids) i w.tree child.here;
+      within = (first_of_row (trees o.kids) i w.tree _ (row_from (trees o.kids) i w.tree child.here)).within;
       number = child.number;
       fits = λ t g. (let same : w.tree ≡ t = same_Some w.tree t (sym child.here ∙ g) in omega (arith, w.within, ap nodes same));
       begins = omega (arith, w.begins, w.stands.begins);
@@ -181,8 +166,7 @@ in_row root n b size k o m w e f = ∥∥₁_elim (w.at_placed e) (Prim.hlevel p
 
 pub index_within : (root : Tree) (n b size : ℕ) (k : Known) (o : Tree) (m : ℕ) (xs : List Tree) → Holds root n b size k → reach_of k ≡ reach.Placed → IsFork root n o m → forest xs ≡ o.kids → index_of k < length xs
 index_within root n b size k o m xs w e f g =
-    let same : trees o.kids ≡ xs = sym (ap trees g) ∙ trees_forest xs in
-    omega (arith, (in_row root n b size k o m w e f).within, ap length same)
+    omega (arith, (in_row root n b size k o m w e f).within, length_row xs o.kids g)
 
 -- the tree at the known index of a row: it has the node in it
 pub record Tops (root o : Tree) (m n b size : ℕ) (k : Known) (x : Tree) : Type 0 where
@@ -195,8 +179,7 @@ pub record Tops (root o : Tree) (m n b size : ℕ) (k : Known) (x : Tree) : Type
 pub tops : (root : Tree) (n b size : ℕ) (k : Known) (o : Tree) (m c : ℕ) (xs : List Tree) (x : Tree) → Holds root n b size k → reach_of k ≡ reach.Placed → IsFork root n o m → Stands (places root) m c (places o) → forest xs ≡ o.kids → x ≡ get_or xs (index_of k) x → b < 2 ^ 64 - 1 → Tops root o m n b size k x
 tops root n b size k o m c xs x w e f s g at small =
     let r = in_row root n b size k o m w e f in
-    let same : trees o.kids ≡ xs = sym (ap trees g) ∙ trees_forest xs in
-    let here : slice_get (trees o.kids) (index_of k) ≡ Some x = ap (λ ys. slice_get ys (index_of k)) same ∙ slice_get_read xs (length xs) (index_of k) x refl (index_within root n b size k o m xs w e f g) at in
+    let here : slice_get (trees o.kids) (index_of k) ≡ Some x = rw (← g, trees_forest) (slice_get_read xs (length xs) (index_of k) x refl (index_within root n b size k o m xs w e f g) at) in
     let kid = kid_of root o m c (index_of k) (trees o.kids) x (n - k.below) (saturated (c + length o.head.text + length (joined (forest (take (index_of k) (trees o.kids)))))) (forest_trees o.kids) s here r.number refl in
     let start : saturated (c + length o.head.text + length (joined (forest (take (index_of k) (trees o.kids))))) ≡ b - k.begins = omega (arith, kid.stands.begins, r.begins, small) in
     record {

@@ -1,5 +1,5 @@
 -- What a walk back found, seen from a node and from the node above it.
-use Rattle.std.proofs.Common.{◌≡◌, Bool, ℕ, ◌+◌, ◌-◌, ◌^◌, ◌<◌, ◌≤◌, ◌++◌, List, length, get_or, take, Some, refl, ap, subst, sym, ◌∙◌, arith, length-append}
+use Rattle.std.proofs.Common.{◌≡◌, Bool, ℕ, ◌+◌, ◌-◌, ◌<◌, ◌≤◌, ◌++◌, List, length, get_or, take, refl, ap, subst, sym, ◌∙◌, arith, length-append}
 use Rattle.std.specs.Prelude.{nat_lt, slice_get}
 use Rattle.std.proofs.lemmas.Option.{slice_get_read}
 use Rattle.typst_tree.specs.Tree.{Tree, count, forest, nodes, places, saturated, trees}
@@ -14,7 +14,7 @@ use Rattle.typst_tree.specs.declared.known.Known.{Known}
 use Rattle.typst_tree.specs.declared.known.Reach.TheVariants as reach
 use Rattle.typst_tree.proofs.Forks.{holds_child, holds_joined}
 use Rattle.typst_tree.proofs.NodesOfStretch.{stands_row}
-use Rattle.typst_tree.proofs.Rows.{over_at}
+use Rattle.typst_tree.proofs.Rows.{child_in, over_at}
 use Rattle.typst_tree.proofs.SpansAside.{trees_forest}
 use Rattle.typst_tree.proofs.StepDown.{at_slice_get, slice_get_is}
 use Rattle.typst_tree.proofs.WalksInPreorder.{length_places, within_in, within_self}
@@ -35,11 +35,8 @@ inside n a t k b u w =
       to = omega (arith, w.number, ap length w.whole, length-append w.front (places u ++ w.back), length-append (places u) w.back, length_places t, length_places u);
     }
 
-open_placed : reach.Open ≡ reach.Placed → ⊥
-open_placed e = cc
-
 holds_open : (root : Tree) (n b size : ℕ) (k : Known) → reach_of k ≡ reach.Open → IsOpen root n → Holds root n b size k
-holds_open root n b size k e up = record { at_open = λ _. up; at_placed = λ f. absurd (open_placed (sym e ∙ f)) }
+holds_open root n b size k e up = record { at_open = λ _. up; at_placed = λ f. absurd (cc) }
 
 pub itself : (t : Tree) (n : ℕ) (in_order : Bool) (f : Found) → f.node.now ≡ t → f.number ≡ n → f.begins ≡ 0 → reach_of f.known ≡ reach.Open → in_order_of f.known ≡ in_order → IsBelow t n in_order f
 itself t n in_order f e g h o q =
@@ -52,7 +49,7 @@ itself t n in_order f e g h o q =
 -- of a node above which all is open, the numbers and bytes to its children don't count
 follows_open : (a : Known) (is_long : Bool) (i x y z u : ℕ) (k : Known) → reach_of a ≡ reach.Open → Follows a is_long i x y k → Follows a is_long i z u k
 follows_open a is_long i x y z u k e w =
-    record { at_open = w.at_open; first = w.first; further = λ f g. absurd (open_placed (sym e ∙ g)); kept = w.kept }
+    record { at_open = w.at_open; first = w.first; further = λ f g. absurd (cc); kept = w.kept }
 
 pub above : (o : Tree) (n : ℕ) (t : Tree) (m c i : ℕ) (a way : Known) (is_long : Bool) (f g : Found) → IsChild o n t m i → Within n 0 (places o) m c (places t) → IsBelow t m (in_order_of f.known) f → is_long ≡ nat_lt long (length (trees o.kids)) → reach_of a ≡ reach.Open → Follows a is_long i 0 0 way → Joins way f.known (f.number - m) f.begins g.known → in_order_of g.known ≡ in_order_of f.known → g.node.now ≡ f.node.now → g.number ≡ f.number → g.begins ≡ saturated (c + f.begins) → IsBelow o n (in_order_of f.known) g
 above o n t m c i a way is_long f g child w below l free follows joins order node number begins =
@@ -85,8 +82,6 @@ seen o n i m c in_order f row e there passed =
 
 pub under : (o : Tree) (n i m : ℕ) (in_order : Bool) (f : Found) (row : List Tree) (x : Tree) → forest row ≡ o.kids → x ≡ get_or row i x → i < length row → m ≡ n + 1 + count (forest (take i row)) → IsBelow x m in_order f → IsBelowChild o n i (in_order_of f.known) f
 under o n i m in_order f row x e g h number below =
-    let same : trees o.kids ≡ row = sym (ap trees e) ∙ trees_forest row in
-    let here : slice_get (trees o.kids) i ≡ Some x = ap (λ ys. slice_get ys i) same ∙ slice_get_read row (length row) i x refl h g in
+    let child = child_in o n x m i row e (slice_get_read row (length row) i x refl h g) number in
     let own : IsBelow x m (in_order_of f.known) f = subst (λ o. IsBelow x m o f) (sym below.order) below in
-    let place : m ≡ n + 1 + count (forest (take i (trees o.kids))) = number ∙ ap (λ ys. n + 1 + count (forest (take i ys))) (sym same) in
-    subst (At (λ t. IsBelow t (n + 1 + count (forest (take i (trees o.kids)))) (in_order_of f.known) f)) (sym here) (subst (λ k. IsBelow x k (in_order_of f.known) f) place own)
+    subst (At (λ t. IsBelow t (n + 1 + count (forest (take i (trees o.kids)))) (in_order_of f.known) f)) (sym child.here) (subst (λ k. IsBelow x k (in_order_of f.known) f) child.number own)

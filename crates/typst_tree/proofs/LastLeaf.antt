@@ -1,11 +1,10 @@
 -- The laws of the last leaf.
-use Rattle.std.proofs.Common.{◌≡◌, ℕ, suc, ◌+◌, ◌<◌, ◌≤◌, List, [], ◌∷◌, ◌++◌, length, take, Option, Some, None, refl, ap, sym, ◌∙◌, arith, get_or, append_assoc, append-nil, length-append, Bool, true, false, ◌&&◌}
+use Rattle.std.proofs.Common.{◌≡◌, ℕ, suc, ◌+◌, ◌-◌, ◌^◌, ◌<◌, ◌≤◌, List, [], ◌∷◌, ◌++◌, length, take, drop, Option, Some, None, refl, ap, sym, ◌∙◌, arith, get_or, append_assoc, append-nil, length-append, true, false, ◌&&◌}
 use Rattle.std.specs.Prelude.{nat_lt, if◌then◌else◌}
-use Rattle.std.proofs.lemmas.List.{take_more}
+use Rattle.std.proofs.lemmas.List.{take_more, take-append-drop}
 use Rattle.std.proofs.lemmas.Bool.Decides.{nat_tests}
-use Rattle.std.proofs.lemmas.Option.{same_Some, none-some}
 use native.Mathlib.Numerals.{unary_clauses}
-use Rattle.typst_tree.specs.Tree.{Tree, forest, nodes, count, places, preorder}
+use Rattle.typst_tree.specs.Tree.{Tree, forest, nodes, count, places, preorder, saturated}
 use Rattle.typst_tree.specs.Walks.{last_leaf, if_none, is_leaf}
 use Rattle.typst_tree.proofs.WalksInPreorder.{length_preorder}
 
@@ -33,28 +32,30 @@ pub preorder_append : (xs ys : List Tree) → preorder (forest (xs ++ ys)) ≡ p
 preorder_append [] ys = refl
 preorder_append (x ∷ xs) ys = ap (λ zs. x ∷ zs) (rw (preorder_append xs ys) (sym (append_assoc (preorder x.kids) (preorder (forest xs)) (preorder (forest ys)))))
 
--- a loop from the back has k children left, of which the last is x
-pub record Back (b n : ℕ) (t : Tree) (xs : List Tree) (k i : ℕ) (x : Tree) : Type 0 where
-  pub counted : count (forest (take k xs)) ≡ count (forest (take i xs)) + nodes x
-  pub last : last_leaf b n (t ∷ preorder (forest (take k xs))) ≡ if_none (last_leaf b (n + 1 + count (forest (take i xs))) (places x)) (last_leaf b n (t ∷ preorder (forest (take i xs))))
+pub preorder_split : (i : ℕ) (xs : List Tree) → preorder (forest xs) ≡ preorder (forest (take i xs)) ++ preorder (forest (drop i xs))
+preorder_split i xs = ap (λ ys. preorder (forest ys)) (sym (take-append-drop i xs)) ∙ preorder_append (take i xs) (drop i xs)
 
-pub back : (b n : ℕ) (t : Tree) (xs : List Tree) (k i : ℕ) (x : Tree) → k ≡ i + 1 → x ≡ get_or xs i x → i < length xs → Back b n t xs k i x
-back b n t xs k i x next e h =
-    let more : take k xs ≡ take i xs ++ x ∷ [] = ap (λ m. take m xs) next ∙ (take_more xs i x h ∙ ap (λ y. take i xs ++ y ∷ []) (sym e)) in
-    let all : preorder (forest (take k xs)) ≡ preorder (forest (take i xs)) ++ places x = ap (λ ys. preorder (forest ys)) more ∙ (preorder_append (take i xs) (x ∷ []) ∙ ap (λ zs. preorder (forest (take i xs)) ++ zs) (append-nil (places x))) in
-    let number : n + length (t ∷ preorder (forest (take i xs))) ≡ n + 1 + count (forest (take i xs)) = omega (arith, length_preorder (forest (take i xs))) in
+-- a loop from the back has k children left, of which x, the last, has d nodes and ends before the number e
+pub record Back (b n : ℕ) (t : Tree) (xs : List Tree) (k e d : ℕ) (x : Tree) : Type 0 where
+  pub fits : d ≤ e
+  pub number : e - d ≡ n + 1 + count (forest (take (k - 1) xs))
+  pub counted : count (forest (take k xs)) ≡ count (forest (take (k - 1) xs)) + nodes x
+  pub last : last_leaf b n (t ∷ preorder (forest (take k xs))) ≡ if_none (last_leaf b (e - d) (places x)) (last_leaf b n (t ∷ preorder (forest (take (k - 1) xs))))
+
+pub back : (b n : ℕ) (t : Tree) (xs : List Tree) (k e d : ℕ) (x : Tree) → 0 < k → k ≤ length xs → x ≡ get_or xs (k - 1) x → e ≡ n + 1 + count (forest (take k xs)) → d ≡ saturated (nodes x) → n + 1 + count (forest (take k xs)) < 2 ^ 64 - 1 → Back b n t xs k e d x
+back b n t xs k e d x low high g end many small =
+    let next : k ≡ k - 1 + 1 = omega (arith, low) in
+    let more : take k xs ≡ take (k - 1) xs ++ x ∷ [] = ap (λ m. take m xs) next ∙ (take_more xs (k - 1) x (omega (arith, low, high)) ∙ ap (λ y. take (k - 1) xs ++ y ∷ []) (sym g)) in
+    let front = preorder (forest (take (k - 1) xs)) in
+    let all : preorder (forest (take k xs)) ≡ preorder (forest (take (k - 1) xs)) ++ places x = ap (λ ys. preorder (forest ys)) more ∙ (preorder_append (take (k - 1) xs) (x ∷ []) ∙ ap (λ zs. front ++ zs) (append-nil (places x))) in
+    let counted : count (forest (take k xs)) ≡ count (forest (take (k - 1) xs)) + nodes x = omega (arith, ap length all, length_preorder (forest (take k xs)), length_preorder (forest (take (k - 1) xs)), length_preorder x.kids, length-append front (places x)) in
+    let number : n + length (t ∷ preorder (forest (take (k - 1) xs))) ≡ e - d = omega (arith, length_preorder (forest (take (k - 1) xs)), counted, end, many, small) in
     record {
-      counted = omega (arith, ap length all, length_preorder (forest (take k xs)), length_preorder (forest (take i xs)), length_preorder x.kids, length-append (preorder (forest (take i xs))) (places x));
-      last = ap (λ zs. last_leaf b n (t ∷ zs)) all ∙ (last_append b n (t ∷ preorder (forest (take i xs))) (places x) ∙ ap (λ m. if_none (last_leaf b m (places x)) (last_leaf b n (t ∷ preorder (forest (take i xs))))) number);
+      fits = omega (arith, counted, end, many);
+      number = omega (arith, counted, end, many, small);
+      counted = counted;
+      last = ap (λ zs. last_leaf b n (t ∷ zs)) all ∙ (last_append b n (t ∷ front) (places x) ∙ ap (λ m. if_none (last_leaf b m (places x)) (last_leaf b n (t ∷ front))) number);
     }
-
-pub last_here : (b n : ℕ) (t : Tree) (xs : List Tree) (k i : ℕ) (x : Tree) (m f : ℕ) → Back b n t xs k i x → m ≡ n + 1 + count (forest (take i xs)) → Some f ≡ last_leaf b m (places x) → Some f ≡ last_leaf b n (t ∷ preorder (forest (take k xs)))
-last_here b n t xs k i x m f w e found =
-    sym (w.last ∙ ap (λ o. if_none o (last_leaf b n (t ∷ preorder (forest (take i xs))))) (ap (λ j. last_leaf b j (places x)) (sym e) ∙ sym found))
-
-pub last_next : (b n : ℕ) (t : Tree) (xs : List Tree) (k i : ℕ) (x : Tree) (m : ℕ) → Back b n t xs k i x → m ≡ n + 1 + count (forest (take i xs)) → None ≡ last_leaf b m (places x) → last_leaf b n (t ∷ preorder (forest (take k xs))) ≡ last_leaf b n (t ∷ preorder (forest (take i xs)))
-last_next b n t xs k i x m w e nothing =
-    w.last ∙ ap (λ o. if_none o (last_leaf b n (t ∷ preorder (forest (take i xs))))) (ap (λ j. last_leaf b j (places x)) (sym e) ∙ sym nothing)
 
 pub last_alone : (b n : ℕ) (t : Tree) (xs : List Tree) (i : ℕ) → n < b → i ≡ 0 → last_leaf b n (t ∷ preorder (forest (take i xs))) ≡ (if is_leaf t then Some n else None)
 last_alone b n t xs i h e =

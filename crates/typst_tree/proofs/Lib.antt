@@ -40,7 +40,7 @@ pub mod Texts
 --   next_sibling                         Siblings: find_past, find_here; Branches: behind_above; Rows: beside
 --   next_leaf, leftmost_leaf             WalksInPreorder: found_here, found_below, found_next, turn; PassesOver; Branches: leaf_found, leaf_not_found, over_above
 --   leaf_at                              PassesOver: byte_first, byte_next, byte_below, byte_none
---   prev_leaf                            LastLeaf: last_here, last_next; FoundBelow: itself, above; Forks: holds_joined; Rows: step_back; Branches: until_here, until_top
+--   prev_leaf                            LastLeaf: back; FoundBelow: itself, above; Forks: holds_joined; Rows: step_back; Branches: until_here, until_top
 --   find: a node finds itself            FindsOwnSpan: finds_own; SingleNodes: same_span
 --   find, find_number from `ordered`     RisingNumbers: none_past, found_only
 --   is_ordered                           RisingNumbers: climb_on, climb_fails, decided

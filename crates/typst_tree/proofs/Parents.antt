@@ -103,8 +103,7 @@ within_forest k n a b (suc j) (more g ks r) t e l h =
           rw own (first_append (has_child k) (n + 1) (a + length g.text) (preorder ks) (preorder r)
           ∙ (if_none_left _ _ (none_from k (n + 1 + length (preorder ks)) _ (preorder r) past)
           ∙ (within_forest k (n + 1) (a + length g.text) b j ks t at (omega (arith, l)) (omega (arith, h)) ∙ down))))
-      | inr c ↦ (let i = j - length (preorder ks) in
-          let at : slice_get (preorder r) (j - length (preorder ks)) ≡ Some t = sym (get_past (preorder ks) (preorder r) j (omega (arith, c, length_preorder ks))) ∙ e in
+      | inr c ↦ (let at : slice_get (preorder r) (j - length (preorder ks)) ≡ Some t = sym (get_past (preorder ks) (preorder r) j (omega (arith, c, length_preorder ks))) ∙ e in
           let own : list_any (λ m. m == k) (numbers (n + 1) ks) ≡ false = no_number_above k (n + 1) ks (omega (arith, l, c)) in
           let nothing : first_at (has_child k) (n + 1) (a + length g.text) (preorder ks) ≡ None = no_child_above k (n + 1) (a + length g.text) ks (omega (arith, l, c)) in
           let number : n + 1 + length (preorder ks) + (j - length (preorder ks)) ≡ n + suc j = omega (arith, c, length_preorder ks) in
@@ -153,13 +152,15 @@ parent_is root o n b t m i s c =
     let here : first_at (has_child m) n b (places o) ≡ Some n = rw holds refl in
     ap (option_map (at root)) (parent_within root m n b o (stands_get (places root) n b o s) bounds.from (omega (arith, bounds.to)) ∙ here)
 
+-- a node below one that stands in a tree is one of its nodes
+pub get_inside : (xs : List Tree) (n b m : ℕ) (t : Tree) → Stands xs n b (places t) → n ≤ m → m < n + nodes t → slice_get (places t) (m - n) ≡ slice_get xs m
+get_inside xs n b m t s l h =
+    let w = standing xs n b (places t) s in
+    let at : length w.front + (m - n) ≡ m = omega (arith, w.number, l) in
+    let short : m - n < length (places t) = omega (arith, l, h, length_places t) in
+    sym (get_left (places t) w.back (m - n) short) ∙ (sym (get_right w.front (places t ++ w.back) (m - n)) ∙ (ap (slice_get (w.front ++ (places t ++ w.back))) at ∙ ap (λ ys. slice_get ys m) (sym w.whole)))
+
 -- a node whose number is one of those of another node lies within it
 pub nested : (xs : List Tree) (n b m c : ℕ) (t u : Tree) → Stands xs n b (places t) → Stands xs m c (places u) → n ≤ m → m < n + nodes t → m + nodes u ≤ n + nodes t
 nested xs n b m c t u s r l h =
-    let w = standing xs n b (places t) s in
-    let front : n ≡ length w.front = omega (arith, w.number) in
-    let at : m ≡ length w.front + (m - n) = omega (arith, front, l) in
-    let short : m - n < length (places t) = omega (arith, l, h, length_places t) in
-    let found : slice_get (places t) (m - n) ≡ Some u =
-    sym (get_left (places t) w.back (m - n) short) ∙ (sym (get_right w.front (places t ++ w.back) (m - n)) ∙ (ap (slice_get (w.front ++ (places t ++ w.back))) (sym at) ∙ (ap (λ ys. slice_get ys m) (sym w.whole) ∙ stands_get xs m c u r))) in
-    omega (arith, l, inside_tree t (m - n) u found)
+    omega (arith, l, inside_tree t (m - n) u (get_inside xs n b m t s l h ∙ stands_get xs m c u r))

@@ -45,11 +45,6 @@ no_child_after k n a t h =
     let here : list_any (λ m. m == k) (numbers (n + 1) t.kids) ≡ false = no_number_above k (n + 1) t.kids (omega (arith, h)) in
     rw here (no_child_above k (n + 1) (a + length t.head.text) t.kids (omega (arith, h)))
 
-and_false : (x y : Bool) → (x && (y && false)) ≡ false
-and_false true true = refl
-and_false true false = refl
-and_false false y = refl
-
 never : (x : Bool) → (x && false) ≡ false
 never true = refl
 never false = refl
@@ -66,7 +61,7 @@ ended : (b n a : ℕ) (t : Tree) → saturated (a + length (text_of t)) ≤ b �
 ended b n a t h =
     let reach : b < saturated (saturated a + length (text_of t)) → ⊥ = λ l. omega (arith, h, l) in
     let fails : nat_lt b (saturated (saturated a + length (text_of t))) ≡ false = grind (arith, nat_tests, reach) in
-    rw fails (and_false (is_childless t.kids) (nat_le (saturated a) b))
+    rw (fails, never (nat_le (saturated a) b)) (never (is_childless t.kids))
 
 pub no_byte_above : (b n a : ℕ) (f : Forest) → saturated (a + length (joined f)) ≤ b → first_at (holds_byte b) n a (preorder f) ≡ None
 no_byte_above b n a none h = refl

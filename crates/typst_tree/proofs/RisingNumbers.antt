@@ -1,18 +1,19 @@
 -- Numbers that rise, and searches for one of them.
 use Rattle.std.proofs.Common.{◌≡◌, ℕ, zero, suc, take, drop, ◌+◌, ◌<◌, ◌≤◌, Bool, true, false, IsTrue, List, [], ◌∷◌, ◌++◌, length, get_or, map, Option, Some, None, refl, ap, sym, subst, ◌∙◌, arith, ◌↔◌, cond}
 use Rattle.std.specs.Prelude.{nat_le, All, AllPairs, is_some, IsSome, IfSome, option_and_then}
-use Rattle.std.proofs.lemmas.List.{map-append, take-append-drop}
+use Rattle.std.proofs.lemmas.List.{map-append}
 use Rattle.std.proofs.lemmas.List.Elements.{All-cons}
 use Rattle.std.proofs.lemmas.List.Kept.{AllPairs-cons}
 use Rattle.std.proofs.lemmas.Bool.Decides.{nat_tests}
 use Rattle.typst_kinds.specs.Span.{number_of}
 use Rattle.typst_tree.specs.Tree.{Forest, none, more, Tree, forest, places, preorder, nodes, text_of, saturated, count, joined}
 use Rattle.typst_tree.specs.Order.{numbers, numbers_of, AreInOrder}
-use Rattle.typst_tree.specs.Walks.{first_at, Stands, texts}
+use Rattle.typst_tree.specs.Walks.{first_at, Stands}
 use Rattle.typst_tree.specs.Ordered.{climb, begins_past, IsKey}
-use Rattle.typst_tree.proofs.LastLeaf.{if_none_nothing, preorder_append}
+use Rattle.typst_tree.proofs.LastLeaf.{if_none_nothing, preorder_split}
 use Rattle.typst_tree.proofs.NodesOfStretch.{standing}
-use Rattle.typst_tree.proofs.WalksInPreorder.{first_append, first_of_more, first_same, length_preorder, texts_preorder}
+use Rattle.typst_tree.proofs.Rows.{passed_front}
+use Rattle.typst_tree.proofs.WalksInPreorder.{first_of_more}
 
 -- the numbers of some nodes are at least a, and each is above the one before it
 abbrev pub Rising : ℕ → List Tree → Type 0
@@ -160,21 +161,14 @@ none_ahead p m n a zero xs x rest key h row e = refl
 none_ahead p m n a (suc i) xs x rest key h row e =
     let least : number x ≤ m = (let begins : begins_past m (forest (x ∷ rest)) ≡ false = ap (λ ys. begins_past m (forest ys)) (sym row) ∙ e (omega arith) in grind (arith, nat_tests, begins)) in
     let whole : preorder (forest xs) ≡ preorder (forest (take (suc i) xs)) ++ (x ∷ (preorder x.kids ++ preorder (forest rest))) =
-    ap (λ ys. preorder (forest ys)) (sym (take-append-drop (suc i) xs)) ∙ (preorder_append (take (suc i) xs) (drop (suc i) xs) ∙ ap (λ ys. preorder (forest (take (suc i) xs)) ++ preorder (forest ys)) row) in
+    preorder_split (suc i) xs ∙ ap (λ ys. preorder (forest (take (suc i) xs)) ++ preorder (forest ys)) row in
     none_before p m n a 0 (preorder (forest (take (suc i) xs))) x (preorder x.kids ++ preorder (forest rest)) key least (subst (Rising 0) whole h)
 
 -- nothing is found before the last tree of a row that begins at the key or before it
 pub order_ahead : (p : ℕ → ℕ → Tree → Bool) (m n a i k c : ℕ) (xs : List Tree) (x : Tree) (rest : List Tree) → IsKey p m → Rising 0 (preorder (forest xs)) → drop i xs ≡ x ∷ rest → (0 < i → begins_past m (forest (drop i xs)) ≡ false) → k ≡ n + count (forest (take i xs)) → c ≡ saturated (a + length (joined (forest (take i xs)))) → first_at p n a (preorder (forest xs)) ≡ first_at p k c (preorder (forest (x ∷ rest)))
 order_ahead p m n a i k c xs x rest key h row e f g =
-    let whole : preorder (forest xs) ≡ preorder (forest (take i xs)) ++ preorder (forest (x ∷ rest)) =
-    ap (λ ys. preorder (forest ys)) (sym (take-append-drop i xs)) ∙ (preorder_append (take i xs) (drop i xs) ∙ ap (λ ys. preorder (forest (take i xs)) ++ preorder (forest ys)) row) in
-    let first : n + length (preorder (forest (take i xs))) ≡ k = omega (arith, f, length_preorder (forest (take i xs))) in
-    ap (first_at p n a) whole
-    ∙ (first_append p n a (preorder (forest (take i xs))) (preorder (forest (x ∷ rest)))
-    ∙ rw (none_ahead p m n a i xs x rest key h row e, first) (first_same p k (a + length (texts (preorder (forest (take i xs))))) c (preorder (forest (x ∷ rest))) (omega (arith, g, ap length (texts_preorder (forest (take i xs)))))))
+    passed_front p n a i k c xs f g (none_ahead p m n a i xs x rest key h row e) ∙ ap (λ ys. first_at p k c (preorder (forest ys))) row
 
 pub rising_from_index : (i : ℕ) (xs : List Tree) (x : Tree) (rest : List Tree) → drop i xs ≡ x ∷ rest → Rising 0 (preorder (forest xs)) → Rising 0 (preorder (forest (x ∷ rest)))
 rising_from_index i xs x rest row h =
-    let whole : preorder (forest xs) ≡ preorder (forest (take i xs)) ++ preorder (forest (x ∷ rest)) =
-    ap (λ ys. preorder (forest ys)) (sym (take-append-drop i xs)) ∙ (preorder_append (take i xs) (drop i xs) ∙ ap (λ ys. preorder (forest (take i xs)) ++ preorder (forest ys)) row) in
-    rising_back 0 (preorder (forest (take i xs))) (preorder (forest (x ∷ rest))) (subst (Rising 0) whole h)
+    rising_back 0 (preorder (forest (take i xs))) (preorder (forest (x ∷ rest))) (subst (Rising 0) (preorder_split i xs ∙ ap (λ ys. preorder (forest (take i xs)) ++ preorder (forest ys)) row) h)

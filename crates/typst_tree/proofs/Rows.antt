@@ -2,16 +2,15 @@
 use Rattle.std.proofs.Common.{◌≡◌, Bool, ℕ, zero, suc, ◌+◌, ◌-◌, ◌<◌, ◌≤◌, ◌^◌, List, [], ◌∷◌, ◌++◌, length, take, drop, Some, None, refl, ap, sym, subst, ◌∙◌, arith, append-nil, length-append, get_or, inl, inr}
 use Rattle.std.specs.Prelude.{slice_get}
 use Rattle.std.proofs.lemmas.Bool.{cases_lt}
-use Rattle.std.proofs.lemmas.List.{take-append-drop, drop_more}
 use Rattle.std.proofs.lemmas.Option.{same_Some, none-some, slice_get_read}
 use Rattle.typst_tree.specs.Tree.{Forest, none, more, Tree, forest, trees, count, nodes, places, preorder, joined, text_of, saturated}
 use Rattle.typst_tree.proofs.SpansAside.{trees_forest}
 use Rattle.typst_tree.specs.Passed.{IsPassed}
 use Rattle.typst_tree.specs.Walks.{Stands, Within, texts, first_at}
 use Rattle.typst_tree.specs.Rows.{IsChild}
-use Rattle.typst_tree.proofs.LastLeaf.{preorder_append}
+use Rattle.typst_tree.proofs.LastLeaf.{preorder_split}
 use Rattle.typst_tree.proofs.NodesOfStretch.{stands_row}
-use Rattle.typst_tree.proofs.WalksInPreorder.{length_preorder, texts_preorder, within_first, within_in, first_append, first_same}
+use Rattle.typst_tree.proofs.WalksInPreorder.{length_preorder, texts_preorder, within_first, within_in, first_append, first_same, turn}
 use Rattle.typst_tree.proofs.Parents.{count_split}
 
 -- before any tree of a row is passed over
@@ -24,7 +23,7 @@ row_within o n b m c i xs e number offset =
     record {
       front = o ∷ preorder (forest (take i xs));
       back = [];
-      whole = ap (λ f. o ∷ preorder f) (sym e) ∙ ap (λ ys. o ∷ ys) (ap (λ ys. preorder (forest ys)) (sym (take-append-drop i xs)) ∙ (preorder_append (take i xs) (drop i xs) ∙ ap (λ ys. preorder (forest (take i xs)) ++ ys) (sym (append-nil (preorder (forest (drop i xs)))))));
+      whole = ap (λ f. o ∷ preorder f) (sym e) ∙ ap (λ ys. o ∷ ys) (preorder_split i xs ∙ ap (λ ys. preorder (forest (take i xs)) ++ ys) (sym (append-nil (preorder (forest (drop i xs))))));
       number = omega (arith, number, length_preorder (forest (take i xs)));
       offset = omega (arith, offset, length-append o.head.text (texts (preorder (forest (take i xs)))), ap length (texts_preorder (forest (take i xs))));
     }
@@ -32,11 +31,7 @@ row_within o n b m c i xs e number offset =
 -- and stand behind those before them
 pub row_stands : (root o : Tree) (n b i : ℕ) (xs : List Tree) → forest xs ≡ o.kids → Stands (places root) n b (places o) → Stands (places root) (n + 1 + count (forest (take i xs))) (saturated (b + length o.head.text + length (joined (forest (take i xs))))) (preorder (forest (drop i xs)))
 row_stands root o n b i xs e s =
-    stands_row (places root) n b (n + 1 + count (forest (take i xs))) (saturated (b + length o.head.text + length (joined (forest (take i xs))))) (places o) (preorder (forest (drop i xs))) s
-    (row_within o n b (n + 1 + count (forest (take i xs))) (saturated (b + length o.head.text + length (joined (forest (take i xs))))) i xs e refl refl)
-
-nothing_first : (x : Tree) (ys : List Tree) → [] ≡ x ∷ ys → ⊥
-nothing_first x ys e = let long : length {A = Tree} [] ≡ length (x ∷ ys) = ap length e in omega (arith, long)
+    stands_row _ _ _ _ _ _ _ s (row_within o n b _ _ i xs e refl refl)
 
 -- the row from a tree on, of which it is the first
 pub record First (xs : List Tree) (i : ℕ) (x : Tree) (ys : List Tree) : Type 0 where
@@ -45,10 +40,11 @@ pub record First (xs : List Tree) (i : ℕ) (x : Tree) (ys : List Tree) : Type 0
   pub counted : count (forest (take (i + 1) xs)) ≡ count (forest (take i xs)) + nodes x
   pub long : length (joined (forest (take (i + 1) xs))) ≡ length (joined (forest (take i xs))) + length (text_of x)
   pub within : i < length xs
+  pub all : count (forest (take (i + 1) xs)) ≤ count (forest xs)
 
 pub first_of_row : (xs : List Tree) (i : ℕ) (x : Tree) (ys : List Tree) → drop i xs ≡ x ∷ ys → First xs i x ys
-first_of_row [] zero x ys e = let apart : ⊥ = nothing_first x ys e in absurd apart
-first_of_row [] (suc i) x ys e = let apart : ⊥ = nothing_first x ys e in absurd apart
+first_of_row [] zero x ys e = absurd (omega (arith, ap length e))
+first_of_row [] (suc i) x ys e = absurd (omega (arith, ap length e))
 first_of_row (z ∷ xs) zero x ys e =
     let same : z ≡ x = cc in
     let others : xs ≡ ys = cc in
@@ -58,6 +54,7 @@ first_of_row (z ∷ xs) zero x ys e =
       counted = omega (arith, ap nodes same);
       long = omega (arith, ap (λ u. length (text_of u)) same, length-append z.head.text (joined z.kids ++ []), length-append z.head.text (joined z.kids), ap length (append-nil (joined z.kids)));
       within = omega arith;
+      all = omega arith;
     }
 first_of_row (z ∷ xs) (suc i) x ys e =
     let w = first_of_row xs i x ys e in
@@ -69,7 +66,12 @@ first_of_row (z ∷ xs) (suc i) x ys e =
       counted = omega (arith, w.counted, ap (λ us. count (forest us)) more);
       long = omega (arith, w.long, ap (λ us. length (joined (forest us))) more, length-append z.head.text (joined z.kids ++ joined (forest (take (i + 1) xs))), length-append (joined z.kids) (joined (forest (take (i + 1) xs))), length-append z.head.text (joined z.kids ++ joined (forest (take i xs))), length-append (joined z.kids) (joined (forest (take i xs))));
       within = omega (arith, w.within);
+      all = omega (arith, w.all, ap (λ us. count (forest us)) more);
     }
+
+-- the tree that a loop over a row stands at
+pub tree_at : (xs : List Tree) (i : ℕ) (x : Tree) → x ≡ get_or xs i x → i < length xs → First xs i x (drop (i + 1) xs)
+tree_at xs i x e h = first_of_row xs i x _ (turn xs i x e h).first
 
 -- the row from the index of a tree on begins with it
 pub row_from : (xs : List Tree) (i : ℕ) (x : Tree) → slice_get xs i ≡ Some x → drop i xs ≡ x ∷ drop (i + 1) xs
@@ -84,6 +86,39 @@ index_counted none i h = omega (arith, h)
 index_counted (more g ks r) zero h = omega arith
 index_counted (more g ks r) (suc i) h = omega (arith, index_counted r i (omega (arith, h)))
 
+pub child_in : (o : Tree) (n : ℕ) (t : Tree) (m i : ℕ) (xs : List Tree) → forest xs ≡ o.kids → slice_get xs i ≡ Some t → m ≡ n + 1 + count (forest (take i xs)) → IsChild o n t m i
+child_in o n t m i xs e g p = record { here = rw (← e, trees_forest) g; number = rw (← e, trees_forest) p }
+
+pub here_in : (o : Tree) (n : ℕ) (t : Tree) (m i : ℕ) (xs : List Tree) → forest xs ≡ o.kids → IsChild o n t m i → slice_get xs i ≡ Some t
+here_in o n t m i xs e c = rw (← e, trees_forest) at c.here
+
+pub length_row : (xs : List Tree) (f : Forest) → forest xs ≡ f → length (trees f) ≡ length xs
+length_row xs f e = rw (← e, trees_forest) refl
+
+-- the tree behind those that are passed
+pub record Over (o : Tree) (n b : ℕ) (xs : List Tree) (i m c : ℕ) (x : Tree) : Type 0 where
+  pub child : IsChild o n x m i
+  pub inside : Within n b (places o) m c (places x)
+  pub fits : m + nodes x ≤ n + nodes o
+  pub next : IsPassed xs (n + 1) (saturated (b + length o.head.text)) (i + 1) (m + nodes x) (saturated (c + length (text_of x)))
+
+pub over_at : (o : Tree) (n b : ℕ) (xs : List Tree) (i m c : ℕ) (x : Tree) → forest xs ≡ o.kids → slice_get xs i ≡ Some x → IsPassed xs (n + 1) (saturated (b + length o.head.text)) i m c → Over o n b xs i m c x
+over_at o n b xs i m c x e here w =
+    let row : drop i xs ≡ x ∷ drop (i + 1) xs = row_from xs i x here in
+    let f = first_of_row xs i x (drop (i + 1) xs) row in
+    let child = child_in o n x m i xs e here w.number in
+    let behind : Within n b (places o) m c (preorder (forest (drop i xs))) = row_within o n b m c i xs e w.number (omega (arith, w.offset)) in
+    let begins : Within n b (places o) m c (preorder (forest (x ∷ drop (i + 1) xs))) = subst (λ ys. Within n b (places o) m c (preorder (forest ys))) row behind in
+    record {
+      child = child;
+      inside = within_in _ _ _ _ _ _ _ _ _ begins (within_first m c x (drop (i + 1) xs) (omega (arith, w.offset)));
+      fits = omega (arith, child.number, count_split o.kids i x child.here);
+      next = record { within = omega (arith, f.within); number = omega (arith, w.number, f.counted); offset = omega (arith, w.offset, f.long) };
+    }
+
+pub over : (o : Tree) (n b : ℕ) (xs : List Tree) (i m c : ℕ) (x : Tree) → forest xs ≡ o.kids → x ≡ get_or xs i x → i < length xs → IsPassed xs (n + 1) (saturated (b + length o.head.text)) i m c → Over o n b xs i m c x
+over o n b xs i m c x e g l w = over_at o n b xs i m c x e (slice_get_read xs (length xs) i x refl l g) w
+
 -- a loop over the children of a node stands at one of them
 pub record Kid (root o : Tree) (n i : ℕ) (xs : List Tree) (x : Tree) (m c : ℕ) : Type 0 where
   pub stands : Stands (places root) m c (places x)
@@ -91,44 +126,23 @@ pub record Kid (root o : Tree) (n i : ℕ) (xs : List Tree) (x : Tree) (m c : �
 
 pub kid_of : (root o : Tree) (n b i : ℕ) (xs : List Tree) (x : Tree) (m c : ℕ) → forest xs ≡ o.kids → Stands (places root) n b (places o) → slice_get xs i ≡ Some x → m ≡ n + 1 + count (forest (take i xs)) → c ≡ saturated (b + length o.head.text + length (joined (forest (take i xs)))) → Kid root o n i xs x m c
 kid_of root o n b i xs x m c e s g p q =
-    let row : drop i xs ≡ x ∷ drop (i + 1) xs = row_from xs i x g in
-    let w = first_of_row xs i x (drop (i + 1) xs) row in
-    let same : trees o.kids ≡ xs = sym (ap trees e) ∙ trees_forest xs in
-    let stands : Stands (places root) m c (preorder (forest (drop i xs))) = rw (p, q) (row_stands root o n b i xs e s) in
-    let first : Stands (places root) m c (preorder (forest (x ∷ drop (i + 1) xs))) = subst (λ ys. Stands (places root) m c (preorder (forest ys))) row stands in
-    let here : slice_get (trees o.kids) i ≡ Some x = ap (λ ys. slice_get ys i) same ∙ w.here in
-    let number : m ≡ n + 1 + count (forest (take i (trees o.kids))) = p ∙ ap (λ ys. n + 1 + count (forest (take i ys))) (sym same) in
-    record {
-      stands = stands_row (places root) m c m c (preorder (forest (x ∷ drop (i + 1) xs))) (places x) first (within_first m c x (drop (i + 1) xs) (omega (arith, q)));
-      child = record { here = here; number = number };
-    }
-
-pub count_append : (xs ys : List Tree) → count (forest (xs ++ ys)) ≡ count (forest xs) + count (forest ys)
-count_append [] ys = omega arith
-count_append (x ∷ xs) ys = omega (arith, count_append xs ys)
-
-abbrev Starts : ℕ → Tree → ℕ → ℕ → List Tree → Type 0
-Starts b o c i xs = saturated (b + length o.head.text + length (joined (forest (take i xs)))) ≡ c
+    let short = (first_of_row xs i x _ (row_from xs i x g)).within in
+    let w = over_at o n b xs i m c x e g (record { within = omega (arith, short); number = p; offset = omega (arith, q) }) in
+    record { stands = stands_row _ _ _ _ _ _ _ s w.inside; child = w.child }
 
 -- what stands beside a child: where the children behind it begin, and how far they go
 pub record Beside (root o : Tree) (n b : ℕ) (t : Tree) (m c i : ℕ) (xs : List Tree) : Type 0 where
   pub within : i < length xs
   pub number : m ≡ n + 1 + count (forest (take i xs))
-  pub start : Starts b o c i xs
+  pub start : saturated (b + length o.head.text + length (joined (forest (take i xs)))) ≡ c
 
 pub beside : (root o : Tree) (n b : ℕ) (t : Tree) (m c i : ℕ) (xs : List Tree) → forest xs ≡ o.kids → Stands (places root) n b (places o) → IsChild o n t m i → Stands (places root) m c (places t) → Beside root o n b t m c i xs
 beside root o n b t m c i xs e s child here =
-    let same : trees o.kids ≡ xs = sym (ap trees e) ∙ trees_forest xs in
-    let get : slice_get xs i ≡ Some t = ap (λ ys. slice_get ys i) (sym same) ∙ child.here in
-    let row : drop i xs ≡ t ∷ drop (i + 1) xs = row_from xs i t get in
-    let w = first_of_row xs i t (drop (i + 1) xs) row in
-    let number : m ≡ n + 1 + count (forest (take i xs)) = child.number ∙ ap (λ ys. n + 1 + count (forest (take i ys))) same in
-    let start = row_stands root o n b i xs e s in
-    let offset : saturated (b + length o.head.text + length (joined (forest (take i xs)))) ≡ c = start.begins ∙ (ap (λ j. saturated (length (texts (take j (places root))))) (sym number) ∙ sym here.begins) in
+    let number : m ≡ n + 1 + count (forest (take i xs)) = rw (← e, trees_forest) at child.number in
     record {
-      within = w.within;
+      within = (first_of_row xs i t _ (row_from xs i t (here_in o n t m i xs e child))).within;
       number = number;
-      start = offset;
+      start = (row_stands root o n b i xs e s).begins ∙ (ap (λ j. saturated (length (texts (take j (places root))))) (sym number) ∙ sym here.begins);
     }
 
 -- a loop from the back over a row goes on to the tree before
@@ -138,9 +152,7 @@ pub record Prior (xs : List Tree) (i : ℕ) (x : Tree) : Type 0 where
 
 pub prior : (xs : List Tree) (i : ℕ) (x : Tree) → 0 < i → i ≤ length xs → x ≡ get_or xs (i - 1) x → Prior xs i x
 prior xs i x low high g =
-    let short : i - 1 < length xs = omega (arith, low, high) in
-    let row : drop (i - 1) xs ≡ x ∷ drop (i - 1 + 1) xs = drop_more xs (i - 1) x short ∙ ap (λ y. y ∷ drop (i - 1 + 1) xs) (sym g) in
-    let w = first_of_row xs (i - 1) x (drop (i - 1 + 1) xs) row in
+    let w = tree_at xs (i - 1) x g (omega (arith, low, high)) in
     let next : i - 1 + 1 ≡ i = omega (arith, low) in
     record {
       counts = ap (λ j. count (forest (take j xs))) (sym next) ∙ w.counted;
@@ -171,9 +183,8 @@ step_back root o n b i xs x k p e s low high g number offset fits =
 -- where nothing is found in trees that are passed over, what is found is in those behind them
 pub passed_front : (p : ℕ → ℕ → Tree → Bool) (n a i m c : ℕ) (xs : List Tree) → m ≡ n + count (forest (take i xs)) → c ≡ saturated (a + length (joined (forest (take i xs)))) → first_at p n a (preorder (forest (take i xs))) ≡ None → first_at p n a (preorder (forest xs)) ≡ first_at p m c (preorder (forest (drop i xs)))
 passed_front p n a i m c xs number offset nothing =
-    let whole : preorder (forest xs) ≡ preorder (forest (take i xs)) ++ preorder (forest (drop i xs)) = ap (λ ys. preorder (forest ys)) (sym (take-append-drop i xs)) ∙ preorder_append (take i xs) (drop i xs) in
     let first : n + length (preorder (forest (take i xs))) ≡ m = omega (arith, number, length_preorder (forest (take i xs))) in
-    ap (first_at p n a) whole
+    ap (first_at p n a) (preorder_split i xs)
     ∙ (first_append p n a (preorder (forest (take i xs))) (preorder (forest (drop i xs)))
     ∙ rw (nothing, first) (first_same p m (a + length (texts (preorder (forest (take i xs))))) c (preorder (forest (drop i xs))) (omega (arith, offset, ap length (texts_preorder (forest (take i xs)))))))
 
@@ -187,29 +198,3 @@ all_counted (x ∷ xs) (suc i) h = ap (λ k. 1 + (count x.kids + k)) (all_counte
 pub passed_inside : (o : Tree) (n a i m c k : ℕ) (xs : List Tree) → forest xs ≡ o.kids → IsPassed xs (n + 1) a i m c → m ≤ k → k < n + nodes o → i < length xs
 passed_inside o n a i m c k xs e w l h =
     elim (cases_lt i (length xs)) [ inl short ↦ short | inr long ↦ absurd (omega (arith, w.number, all_counted xs i long, ap count e, l, h)) ]
-
--- the tree behind those that are passed
-pub record Over (o : Tree) (n b : ℕ) (xs : List Tree) (i m c : ℕ) (x : Tree) : Type 0 where
-  pub child : IsChild o n x m i
-  pub inside : Within n b (places o) m c (places x)
-  pub fits : m + nodes x ≤ n + nodes o
-  pub next : IsPassed xs (n + 1) (saturated (b + length o.head.text)) (i + 1) (m + nodes x) (saturated (c + length (text_of x)))
-
-pub over_at : (o : Tree) (n b : ℕ) (xs : List Tree) (i m c : ℕ) (x : Tree) → forest xs ≡ o.kids → slice_get xs i ≡ Some x → IsPassed xs (n + 1) (saturated (b + length o.head.text)) i m c → Over o n b xs i m c x
-over_at o n b xs i m c x e here w =
-    let row : drop i xs ≡ x ∷ drop (i + 1) xs = row_from xs i x here in
-    let f = first_of_row xs i x (drop (i + 1) xs) row in
-    let same : trees o.kids ≡ xs = sym (ap trees e) ∙ trees_forest xs in
-    let kid : slice_get (trees o.kids) i ≡ Some x = ap (λ ys. slice_get ys i) same ∙ here in
-    let number : m ≡ n + 1 + count (forest (take i (trees o.kids))) = w.number ∙ ap (λ ys. n + 1 + count (forest (take i ys))) (sym same) in
-    let behind : Within n b (places o) m c (preorder (forest (drop i xs))) = row_within o n b m c i xs e w.number (omega (arith, w.offset)) in
-    let begins : Within n b (places o) m c (preorder (forest (x ∷ drop (i + 1) xs))) = subst (λ ys. Within n b (places o) m c (preorder (forest ys))) row behind in
-    record {
-      child = record { here = kid; number = number };
-      inside = within_in n b (places o) m c (preorder (forest (x ∷ drop (i + 1) xs))) m c (places x) begins (within_first m c x (drop (i + 1) xs) (omega (arith, w.offset)));
-      fits = omega (arith, number, count_split o.kids i x kid);
-      next = record { within = omega (arith, f.within); number = omega (arith, w.number, f.counted); offset = omega (arith, w.offset, f.long) };
-    }
-
-pub over : (o : Tree) (n b : ℕ) (xs : List Tree) (i m c : ℕ) (x : Tree) → forest xs ≡ o.kids → x ≡ get_or xs i x → i < length xs → IsPassed xs (n + 1) (saturated (b + length o.head.text)) i m c → Over o n b xs i m c x
-over o n b xs i m c x e g l w = over_at o n b xs i m c x e (slice_get_read xs (length xs) i x refl l g) w

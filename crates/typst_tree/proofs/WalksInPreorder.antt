@@ -76,11 +76,6 @@ pub within_rest : (k b m c : ℕ) (x : Tree) (rest : List Tree) → m ≡ k + no
 within_rest k b m c x rest e f =
     record { front = places x; back = []; whole = ap (λ ys. places x ++ ys) (sym (append-nil (preorder (forest rest)))); number = omega (arith, e, length_places x); offset = rw texts_places f }
 
--- of a node and those below it, those below it
-pub within_below : (n a c : ℕ) (t : Tree) → c ≡ saturated (a + length t.head.text) → Within n a (places t) (n + 1) c (preorder t.kids)
-within_below n a c t e =
-    record { front = t ∷ []; back = []; whole = ap (λ ys. t ∷ ys) (sym (append-nil (preorder t.kids))); number = refl; offset = rw append-nil e }
-
 -- where the walk through a first tree finds nothing, the walk goes on behind it
 pub found_next : (p : ℕ → ℕ → Tree → Bool) (k b m c : ℕ) (x : Tree) (rest : List Tree) → m ≡ k + nodes x → c ≡ saturated (b + length (text_of x)) → first_at p k b (places x) ≡ None → first_at p k b (preorder (forest (x ∷ rest))) ≡ first_at p m c (preorder (forest rest))
 found_next p k b m c x rest e f nothing =
@@ -109,7 +104,7 @@ found_below p n a c t ts h fails e f =
     rw (falls, e) (first_same p (n + 1) (a + length t.head.text) c (preorder t.kids) (omega (arith, f)))
 
 pub within_children : (n a c : ℕ) (t : Tree) (ts : List Tree) → forest ts ≡ t.kids → c ≡ saturated (a + length t.head.text) → Within n a (places t) (n + 1) c (preorder (forest ts))
-within_children n a c t ts e f = rw e (within_below n a c t f)
+within_children n a c t ts e f = rw e (record { front = t ∷ []; back = []; whole = ap (λ ys. t ∷ ys) (sym (append-nil (preorder t.kids))); number = refl; offset = rw append-nil f })
 
 pub within_same : (n a : ℕ) (xs : List Tree) (k b : ℕ) (ts us : List Tree) → ts ≡ us → Within n a xs k b (preorder (forest ts)) → Within n a xs k b (preorder (forest us))
 within_same n a xs k b ts us e h = subst (λ ys. Within n a xs k b (preorder (forest ys))) e h

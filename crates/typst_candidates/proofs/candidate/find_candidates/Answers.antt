@@ -1,4 +1,4 @@
-use Rattle.std.proofs.Common.{List, ◌∷◌, [], ap, ◌∙◌}
+use Rattle.std.proofs.Common.{◌∷◌, [], ap, take, ◌∙◌}
 use Rattle.typst_tree.specs.Tree.{forest}
 use Rattle.typst_candidates.specs.Candidates.{candidates_at}
 use Rattle.typst_candidates.specs.Units.{top_cuts}
@@ -7,5 +7,5 @@ use Rattle.typst_candidates.proofs.candidate.find_candidates.Goals as goal
 
 pub returns : goal.returns
 returns c = λ ns w.
-    c.in_ok-items.ensures.found ns w ∙ ap (λ run. candidates_at ns c.args.start c.args.end c.new-path.result.items run 0 0 (forest (c.args.root.now ∷ []))) (c.in_ok-run.ensures ∙ top-run c.args.records.now.units.entries ns w)
-    ∙ ap (λ path. candidates_at ns c.args.start c.args.end path (top_cuts ns) 0 0 (forest (c.args.root.now ∷ []))) c.new-path.ensures.items
+    c.in_ok-items.ensures.found ns w ∙ ap (λ run. take c.args.most (candidates_at ns c.args.start c.args.end c.new-path.result.items run 0 0 (forest (c.args.root.now ∷ [])))) (top-run c.args.records.now.units.entries ns w)
+    ∙ ap (λ path. take c.args.most (candidates_at ns c.args.start c.args.end path (top_cuts ns) 0 0 (forest (c.args.root.now ∷ [])))) c.new-path.ensures.items

@@ -1,12 +1,11 @@
-use Rattle.std.proofs.Common.{◌≡◌, ◌+◌, ◌<◌, ◌≤◌, ◌^◌, ◌∷◌, ap, sym, ◌∙◌, arith, length, drop, take, refl}
-use Rattle.std.proofs.lemmas.List.{drop_more, take-append-drop}
+use Rattle.std.proofs.Common.{◌+◌, ◌<◌, ◌^◌, ap, sym, ◌∙◌, arith, length, drop, refl}
 use Rattle.typst_kinds.specs.Span.{number_of}
-use Rattle.typst_tree.specs.Tree.{forest, places, saturated, count}
+use Rattle.typst_tree.specs.Tree.{places, saturated, count}
 use Rattle.typst_tree.specs.Walks.{Within}
 use Rattle.typst_tree.specs.Wanted.{wanted}
 use Rattle.typst_tree.proofs.RisingNumbers.{if_some, in_order_first, none_past, found_only, order_ahead, rising_below, rising_from_index}
-use Rattle.typst_tree.proofs.Rows.{count_append, first_of_row, row_within}
-use Rattle.typst_tree.proofs.WalksInPreorder.{found_below, within_first, within_in, within_same, within_self}
+use Rattle.typst_tree.proofs.Rows.{row_within, tree_at}
+use Rattle.typst_tree.proofs.WalksInPreorder.{found_below, within_first, within_in, within_same, within_self, turn}
 use Rattle.typst_tree.proofs.order.+first_in_order.Goals as goal
 
 pub returns-then-key-number_or_zero-clause-first : goal.returns-then-key-number_or_zero-clause-first
@@ -22,11 +21,10 @@ first_in_order-requires t c =
     let i = c.last_up_to-index.result in
     let xs = c.children-row.result.now in
     let x = c.index-row-index.result in
-    let row : drop c.last_up_to-index.result c.children-row.result.now ≡ c.index-row-index.result ∷ drop (c.last_up_to-index.result + 1) c.children-row.result.now = drop_more xs i x c.last_up_to-index.ensures.within ∙ ap (λ y. y ∷ drop (i + 1) xs) (sym c.index-row-index.is) in
-    let w = first_of_row xs i x (drop (i + 1) xs) row in
-    let all : count (forest (take (c.last_up_to-index.result + 1) c.children-row.result.now)) ≤ count c.args.node.now.kids = omega (arith, count_append (take (i + 1) xs) (drop (i + 1) xs), ap (λ ys. count (forest ys)) (take-append-drop (i + 1) xs), ap count c.children-row.ensures) in
+    let row = (turn xs i x c.index-row-index.is c.last_up_to-index.ensures.within).first in
+    let w = tree_at xs i x c.index-row-index.is c.last_up_to-index.ensures.within in
     let rising = rising_from_index i xs x (drop (i + 1) xs) row (rising_below c.args.node.now xs c.children-row.ensures c.requires.in_order) in
-    (omega (arith, c.decreases, w.counted, all), (omega (arith, c.before_index-passed.ensures.number, w.counted, all, c.requires.counted), (in_order_first x (drop (i + 1) xs) rising, c.requires.keyed)))
+    (omega (arith, c.decreases, w.counted, w.all, ap count c.children-row.ensures), (omega (arith, c.before_index-passed.ensures.number, w.counted, w.all, ap count c.children-row.ensures, c.requires.counted), (in_order_first x (drop (i + 1) xs) rising, c.requires.keyed)))
 
 pub returns-clause-first : goal.returns-clause-first
 returns-clause-first t c =
@@ -34,7 +32,7 @@ returns-clause-first t c =
     let i = c.last_up_to-index.result in
     let xs = c.children-row.result.now in
     let x = c.index-row-index.result in
-    let row : drop c.last_up_to-index.result c.children-row.result.now ≡ c.index-row-index.result ∷ drop (c.last_up_to-index.result + 1) c.children-row.result.now = drop_more xs i x c.last_up_to-index.ensures.within ∙ ap (λ y. y ∷ drop (i + 1) xs) (sym c.index-row-index.is) in
+    let row = (turn xs i x c.index-row-index.is c.last_up_to-index.ensures.within).first in
     let all = rising_below c.args.node.now xs c.children-row.ensures c.requires.in_order in
     let rising = rising_from_index i xs x (drop (i + 1) xs) row all in
     c.first_in_order.ensures.first
@@ -47,7 +45,7 @@ returns-clause-spot t c =
     let i = c.last_up_to-index.result in
     let xs = c.children-row.result.now in
     let x = c.index-row-index.result in
-    let row : drop c.last_up_to-index.result c.children-row.result.now ≡ c.index-row-index.result ∷ drop (c.last_up_to-index.result + 1) c.children-row.result.now = drop_more xs i x c.last_up_to-index.ensures.within ∙ ap (λ y. y ∷ drop (i + 1) xs) (sym c.index-row-index.is) in
+    let row = (turn xs i x c.index-row-index.is c.last_up_to-index.ensures.within).first in
     let begin : c.before_index-passed.result.offset < 2 ^ 64 = omega (arith, c.before_index-passed.ensures.offset) in
     let here = row_within c.args.node.now c.args.number c.args.offset c.before_index-passed.result.number c.before_index-passed.result.offset i xs c.children-row.ensures (omega (arith, c.before_index-passed.ensures.number)) (omega (arith, c.before_index-passed.ensures.offset)) in
     let kid : Within c.args.number c.args.offset (places c.args.node.now) c.before_index-passed.result.number c.before_index-passed.result.offset (places c.index-row-index.result) = within_in _ _ _ _ _ _ _ _ _ (within_same _ _ _ _ _ _ _ row here) (within_first c.before_index-passed.result.number c.before_index-passed.result.offset x (drop (i + 1) xs) begin) in

@@ -5,17 +5,17 @@ use Rattle.typst_tree.proofs.order.summed_back_to.Goals as goal
 
 pub overflow_sub-at : goal.overflow_sub-at
 overflow_sub-at c =
-    let w = prior c.args.row.now c.loop-i.i c.index-row-i.result (omega arith) c.loop-i.invariant.within c.index-row-i.is in
+    let w = prior _ _ _ (omega arith) c.loop-i.invariant.within c.index-row-i.is in
     omega (arith, c.descendants-at.ensures, w.counts, c.loop-i.invariant.number, c.loop-i.auto.at-fits)
 
 pub overflow_sub-begin : goal.overflow_sub-begin
 overflow_sub-begin c =
-    let w = prior c.args.row.now c.loop-i.i c.index-row-i.result (omega arith) c.loop-i.invariant.within c.index-row-i.is in
+    let w = prior _ _ _ (omega arith) c.loop-i.invariant.within c.index-row-i.is in
     omega (arith, c.len-begin.ensures, w.longs, c.loop-i.invariant.offset, c.loop-i.auto.begin-fits)
 
 pub loop-i-preserved : goal.loop-i-preserved
 loop-i-preserved c =
-    let w = prior c.args.row.now c.loop-i.i c.index-row-i.result (omega arith) c.loop-i.invariant.within c.index-row-i.is in
+    let w = prior _ _ _ (omega arith) c.loop-i.invariant.within c.index-row-i.is in
     let count : c.descendants-at.result ≡ nodes c.index-row-i.result = omega (arith, c.descendants-at.ensures, w.counts, c.loop-i.invariant.number, c.loop-i.auto.at-fits) in
     let long : c.len-begin.result ≡ length (text_of c.index-row-i.result) = omega (arith, c.len-begin.ensures, w.longs, c.loop-i.invariant.offset, c.loop-i.auto.begin-fits) in
     record {

@@ -1,7 +1,8 @@
-use Rattle.std.proofs.Common.{◌<◌, ap, arith, length}
+use Rattle.std.proofs.Common.{ap, arith}
 use Rattle.typst_tree.specs.Tree.{nodes}
-use Rattle.typst_tree.proofs.Rows.{over, passed_inside, passed_none}
+use Rattle.typst_tree.proofs.Rows.{Over, over, passed_inside, passed_none}
 use Rattle.typst_tree.proofs.search.child_over.Goals as goal
+use Rattle.typst_tree.proofs.search.child_over.Goals.{After-index-row-at}
 
 pub loop-at-init : goal.loop-at-init
 loop-at-init c =
@@ -10,27 +11,23 @@ loop-at-init c =
 
 pub bounds-row-at : goal.bounds-row-at
 bounds-row-at c =
-    passed_inside c.args.over.node.now c.args.over.number _ c.loop-at.at.index c.loop-at.at.number c.loop-at.at.offset c.args.wanted c.children-row.result.now c.children-row.ensures c.loop-at.invariant.passed c.loop-at.invariant.before c.requires.to
+    passed_inside c.args.over.node.now c.args.over.number _ _ _ _ c.args.wanted _ c.children-row.ensures c.loop-at.invariant.passed c.loop-at.invariant.before c.requires.to
+
+-- the child that is looked at
+here : (c : After-index-row-at) → Over c.args.over.node.now c.args.over.number c.args.over.offset c.children-row.result.now c.loop-at.at.index c.loop-at.at.number c.loop-at.at.offset c.index-row-at.result
+here c =
+    over c.args.over.node.now c.args.over.number _ _ _ _ _ _ c.children-row.ensures c.index-row-at.is
+    (passed_inside c.args.over.node.now c.args.over.number _ _ _ _ c.args.wanted _ c.children-row.ensures c.loop-at.invariant.passed c.loop-at.invariant.before c.requires.to) c.loop-at.invariant.passed
 
 pub overflow_add-at : goal.overflow_add-at
-overflow_add-at c =
-    let at = c.loop-at.at in
-    let inside : c.loop-at.at.index < length c.children-row.result.now = passed_inside c.args.over.node.now c.args.over.number _ c.loop-at.at.index c.loop-at.at.number c.loop-at.at.offset c.args.wanted c.children-row.result.now c.children-row.ensures c.loop-at.invariant.passed c.loop-at.invariant.before c.requires.to in
-    let o = over c.args.over.node.now c.args.over.number c.args.over.offset c.children-row.result.now at.index at.number at.offset c.index-row-at.result c.children-row.ensures c.index-row-at.is inside c.loop-at.invariant.passed in
-    omega (arith, c.descendants.ensures, o.fits, c.requires.counted)
+overflow_add-at c = omega (arith, c.descendants.ensures, (here (goal.at.overflow_add-at c).After-index-row-at).fits, c.requires.counted)
 
 pub behind-at-requires-clause-counted : goal.behind-at-requires-clause-counted
-behind-at-requires-clause-counted c =
-    let at = c.loop-at.at in
-    let inside : c.loop-at.at.index < length c.children-row.result.now = passed_inside c.args.over.node.now c.args.over.number _ c.loop-at.at.index c.loop-at.at.number c.loop-at.at.offset c.args.wanted c.children-row.result.now c.children-row.ensures c.loop-at.invariant.passed c.loop-at.invariant.before c.requires.to in
-    let o = over c.args.over.node.now c.args.over.number c.args.over.offset c.children-row.result.now at.index at.number at.offset c.index-row-at.result c.children-row.ensures c.index-row-at.is inside c.loop-at.invariant.passed in
-    omega (arith, o.fits, c.requires.counted)
+behind-at-requires-clause-counted c = omega (arith, (here (goal.at.behind-at-requires-clause-counted c).After-index-row-at).fits, c.requires.counted)
 
 pub returns-then-wanted-at : goal.returns-then-wanted-at
 returns-then-wanted-at c =
-    let at = c.loop-at.at in
-    let inside : c.loop-at.at.index < length c.children-row.result.now = passed_inside c.args.over.node.now c.args.over.number _ c.loop-at.at.index c.loop-at.at.number c.loop-at.at.offset c.args.wanted c.children-row.result.now c.children-row.ensures c.loop-at.invariant.passed c.loop-at.invariant.before c.requires.to in
-    let o = over c.args.over.node.now c.args.over.number c.args.over.offset c.children-row.result.now at.index at.number at.offset c.index-row-at.result c.children-row.ensures c.index-row-at.is inside c.loop-at.invariant.passed in
+    let o = here (goal.at.returns-then-wanted-at c).After-index-row-at in
     let t = c.tree.ensures in
     record {
       child = rw (t.node, t.number, t.index) o.child;
@@ -41,9 +38,7 @@ returns-then-wanted-at c =
 
 pub loop-at-preserved : goal.loop-at-preserved
 loop-at-preserved c =
-    let at = c.loop-at.at in
-    let inside : c.loop-at.at.index < length c.children-row.result.now = passed_inside c.args.over.node.now c.args.over.number _ c.loop-at.at.index c.loop-at.at.number c.loop-at.at.offset c.args.wanted c.children-row.result.now c.children-row.ensures c.loop-at.invariant.passed c.loop-at.invariant.before c.requires.to in
-    let o = over c.args.over.node.now c.args.over.number c.args.over.offset c.children-row.result.now at.index at.number at.offset c.index-row-at.result c.children-row.ensures c.index-row-at.is inside c.loop-at.invariant.passed in
+    let o = here (goal.at.loop-at-preserved c).After-index-row-at in
     record {
       passed = rw (c.behind-at.ensures.index, c.behind-at.ensures.number, c.behind-at.ensures.offset) o.next;
       before = omega (arith, c.behind-at.ensures.number, c.descendants.ensures, c.if-wanted-at.false, o.fits, c.requires.counted);

@@ -1,42 +1,38 @@
 use Rattle.std.proofs.Common.{◌≡◌, ◌+◌, ap, sym, ◌∙◌, arith, length, take, drop, get_or}
 use Rattle.std.proofs.lemmas.List.{take-append-drop}
-use Rattle.typst_tree.specs.Tree.{nodes, forest, count, preorder, joined, text_of, saturated}
-use Rattle.typst_tree.specs.Walks.{first_at, holds_byte}
+use Rattle.typst_tree.specs.Tree.{nodes, forest, count, joined, text_of, saturated}
 use Rattle.typst_tree.proofs.PassesOver.{no_byte_above}
-use Rattle.typst_tree.proofs.Rows.{count_append, first_of_row, prior}
+use Rattle.typst_tree.proofs.Stretches.{count-append}
+use Rattle.typst_tree.proofs.Rows.{Prior, first_of_row, prior}
 use Rattle.typst_tree.proofs.WalksInPreorder.{turn}
 use Rattle.typst_tree.proofs.search.passed_by_turns.Goals as goal
+use Rattle.typst_tree.proofs.search.passed_by_turns.Goals.{After-index-row-index}
 
 pub returns-then-byte-next-clause-nothing : goal.returns-then-byte-next-clause-nothing
-returns-then-byte-next-clause-nothing c =
-    let start : saturated (c.args.over.offset + length c.args.over.node.now.head.text) ≡ c.front-front.result.offset = sym c.front-front.ensures.offset in
-    ap (λ a. first_at (holds_byte c.args.byte) (c.args.over.number + 1) a (preorder (forest (take c.loop-tree.front.index c.args.row.now)))) start
-    ∙ c.loop-tree.invariant.nothing
+returns-then-byte-next-clause-nothing c = rw (sym c.front-front.ensures.offset) c.loop-tree.invariant.nothing
 
 pub returns-then-begin-byte-clause-nothing : goal.returns-then-begin-byte-clause-nothing
 returns-then-begin-byte-clause-nothing c =
-    let start : saturated (c.args.over.offset + length c.args.over.node.now.head.text) ≡ c.front-front.result.offset = sym c.front-front.ensures.offset in
-    ap (λ a. first_at (holds_byte c.args.byte) (c.args.over.number + 1) a (preorder (forest (take c.loop-tree.index c.args.row.now)))) start
-    ∙ no_byte_above c.args.byte (c.args.over.number + 1) c.front-front.result.offset (forest (take c.loop-tree.index c.args.row.now)) (omega (arith, c.saturating_add-begin.ensures, c.loop-tree.invariant.offset, c.if-begin-byte.true))
+    rw (sym c.front-front.ensures.offset) (no_byte_above c.args.byte (c.args.over.number + 1) c.front-front.result.offset (forest (take c.loop-tree.index c.args.row.now)) (omega (arith, c.saturating_add-begin.ensures, c.loop-tree.invariant.offset, c.if-begin-byte.true)))
+
+-- the last child that is left
+here : (c : After-index-row-index) → Prior c.args.row.now c.loop-tree.index c.index-row-index.result
+here c = prior _ _ _ (omega (arith, c.loop-tree.invariant.back)) (omega (arith, c.loop-tree.invariant.back)) c.index-row-index.is
 
 pub overflow_sub-end : goal.overflow_sub-end
-overflow_sub-end c =
-    let w = prior c.args.row.now c.loop-tree.index c.index-row-index.result (omega (arith, c.loop-tree.invariant.back)) (omega (arith, c.loop-tree.invariant.back)) c.index-row-index.is in
-    omega (arith, c.descendants-end.ensures, w.counts, c.loop-tree.invariant.number)
+overflow_sub-end c = omega (arith, c.descendants-end.ensures, (here (goal.at.overflow_sub-end c).After-index-row-index).counts, c.loop-tree.invariant.number)
 
 pub overflow_sub-left-in-loop-tree : goal.overflow_sub-left-in-loop-tree
-overflow_sub-left-in-loop-tree c =
-    let w = prior c.args.row.now c.loop-tree.index c.index-row-index.result (omega (arith, c.loop-tree.invariant.back)) (omega (arith, c.loop-tree.invariant.back)) c.index-row-index.is in
-    omega (arith, c.len-left.ensures, w.longs, c.loop-tree.invariant.offset)
+overflow_sub-left-in-loop-tree c = omega (arith, c.len-left.ensures, (here (goal.at.overflow_sub-left-in-loop-tree c).After-index-row-index).longs, c.loop-tree.invariant.offset)
 
 pub loop-tree-preserved : goal.loop-tree-preserved
 loop-tree-preserved c =
     let is : c.tree-item.result ≡ get_or c.args.row.now c.loop-tree.front.index c.tree-item.result = c.tree-item.is ∙ ap (λ i. get_or c.args.row.now i c.tree-item.result) (sym c.loop-tree.invariant.front) in
     let t = turn c.args.row.now c.loop-tree.front.index c.tree-item.result is (omega (arith, c.loop-tree.invariant.front)) in
     let r = first_of_row c.args.row.now c.loop-tree.front.index c.tree-item.result _ t.first in
-    let w = prior c.args.row.now c.loop-tree.index c.index-row-index.result (omega (arith, c.loop-tree.invariant.back)) (omega (arith, c.loop-tree.invariant.back)) c.index-row-index.is in
+    let w = here (goal.at.loop-tree-preserved c).After-index-row-index in
     let all : count (forest (take c.loop-tree.index c.args.row.now)) + count (forest (drop c.loop-tree.index c.args.row.now)) ≡ count c.args.over.node.now.kids =
-    omega (arith, ap count c.requires.row, count_append (take c.loop-tree.index c.args.row.now) (drop c.loop-tree.index c.args.row.now), ap (λ ys. count (forest ys)) (take-append-drop c.loop-tree.index c.args.row.now)) in
+    omega (arith, ap count c.requires.row, count-append (take c.loop-tree.index c.args.row.now) (drop c.loop-tree.index c.args.row.now), ap (λ ys. count (forest ys)) (take-append-drop c.loop-tree.index c.args.row.now)) in
     let many : c.descendants-end.result ≡ nodes c.index-row-index.result = omega (arith, c.descendants-end.ensures, w.counts, all, c.requires.counted) in
     let long : c.len-left.result ≡ length (text_of c.index-row-index.result) = omega (arith, c.len-left.ensures, w.longs, c.loop-tree.invariant.offset, c.loop-tree.auto.left-fits) in
     let next : take c.behind-next.result.index c.args.row.now ≡ take (c.loop-tree.front.index + 1) c.args.row.now = ap (λ i. take i c.args.row.now) c.behind-next.ensures.index in

@@ -15,7 +15,7 @@ returns-in_default c =
     let es = c.args.self.now.units.entries in
     let p = c.loop-entry.place in
     let e = c.in_ok-entry.entry in
-    ap (λ n. Some n) c.number-number.ensures
+    ap (λ n. Some n) c.number-number.ensures.number
     ∙ sym (closing-on es c.loop-entry.inside p.number e _ (behind-found-in es p e c.loop-entry.invariant.entries c.in_ok-entry.ensures.entry) (sym c.in_default.ensures))
     ∙ c.loop-entry.invariant.later
 

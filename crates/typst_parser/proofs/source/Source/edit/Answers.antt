@@ -1,41 +1,37 @@
-use Rattle.std.proofs.Common.{◌∙◌, ℕ, List, ap, subst, refl}
+use Rattle.std.proofs.Common.{◌≡◌, ◌∙◌, ◌-◌, length, None, ap, subst, refl}
+use Rattle.typst_parser.specs.Answers.{change_of}
+use Rattle.typst_parser.specs.Headline.{edited}
 use Rattle.typst_parser.specs.Held.{Held}
 use Rattle.typst_parser.specs.Records.{ReadsWhole}
-use Rattle.typst_parser.specs.Tried.{Decides, Tries, change_by}
+use Rattle.typst_parser.specs.Tried.{Decides, Tries}
 use Rattle.typst_parser.proofs.Changed.{edited-by}
-use Rattle.typst_parser.proofs.Reparsed.{answers-part, answers-whole}
+use Rattle.typst_parser.proofs.Reparsed.{answers-whole}
 use Rattle.typst_parser.proofs.source.Source.edit.Goals as goal
 
-pub read_edit-requires : goal.read_edit-requires
-read_edit-requires g c =
-    edited-by c.self.inside.lines c.args.self.now.text c.text.result.now c.in-Ok.lines c.args.with.now c.args.replace c.saturating_sub-behind.result c.len_bytes.result c.saturating_sub.result
-    (ap (λ (s : Held g.row.C.Denot). s.text) c.self.view_is) c.text.ensures c.text.utf8 c.utf8.with c.requires.start c.requires.end c.requires.ordered c.in-Ok.ensures c.saturating_sub-behind.ensures c.len_bytes.ensures c.saturating_sub.ensures
-
-pub returns-in-Done-clause-answer : goal.returns-in-Done-clause-answer
-returns-in-Done-clause-answer g c =
+pub returns-in-Some-clause-answer : goal.returns-in-Some-clause-answer
+returns-in-Some-clause-answer g c =
     let k = g.C.Classes.classes c.args.self.now.classes in
     let old = c.args.self.now in
-    let now = c.read_edit.new.self in
-    let h =
-    edited-by c.self.inside.lines c.args.self.now.text c.text.result.now c.in-Ok.lines c.args.with.now c.args.replace c.saturating_sub-behind.result c.len_bytes.result c.saturating_sub.result
-    (ap (λ (s : Held g.row.C.Denot). s.text) c.self.view_is) c.text.ensures c.text.utf8 c.utf8.with c.requires.start c.requires.end c.requires.ordered c.in-Ok.ensures c.saturating_sub-behind.ensures c.len_bytes.ensures c.saturating_sub.ensures in
-    let decided = subst (Decides k old now c.in-Ok.lines (change_by h)) c.in-Done.is (c.in_ok-range.ensures.decided h) in
-    answers-part k old now c.args.with.now c.args.replace c.saturating_sub.result c.in-Ok.lines h refl c.in-Done.range decided
+    let now = c.read_part.new.self in
+    let text = edited old.text c.args.replace c.args.with.now in
+    let read = subst (Decides k old now text (change_of old.text c.args.replace c.args.with.now)) c.in-Some.is c.in_ok-range.ensures.decided in
+    let has = read.0 in
+    record { recorded = λ _. read.1; unrecorded = λ none. absurd (cc) }
 
-pub returns-in_ok-read_whole-in-Undone-clause-answer : goal.returns-in_ok-read_whole-in-Undone-clause-answer
-returns-in_ok-read_whole-in-Undone-clause-answer g c =
+pub returns-clause-answer : goal.returns-clause-answer
+returns-clause-answer g c =
     let k = g.C.Classes.classes c.args.self.now.classes in
     let old = c.args.self.now in
-    let mid = c.read_edit.new.self in
+    let mid = c.read_part.new.self in
     let now = c.read_whole.new.self in
-    let range = c.in_ok-read_whole-in-Undone.field-0 in
-    let h =
-    edited-by c.self.inside.lines c.args.self.now.text c.text.result.now c.in-Ok.lines c.args.with.now c.args.replace c.saturating_sub-behind.result c.len_bytes.result c.saturating_sub.result
-    (ap (λ (s : Held g.row.C.Denot). s.text) c.self.view_is) c.text.ensures c.text.utf8 c.utf8.with c.requires.start c.requires.end c.requires.ordered c.in-Ok.ensures c.saturating_sub-behind.ensures c.len_bytes.ensures c.saturating_sub.ensures in
-    let none = subst (Decides k old mid c.in-Ok.lines (change_by h)) c.in-Undone.is (c.in_ok-range.ensures.decided h) in
-    let tried = subst (Tries k old mid c.in-Ok.lines) c.in-Undone.is c.in_ok-range.ensures.tried in
-    let edits = c.in_ok-read_whole-in-Undone.ensures.edits in
-    let whole = c.in_ok-read_whole-in-Undone.ensures.whole in
-    let read : ReadsWhole k old now c.in-Undone.lines range = subst (λ (s : Held g.row.C.Denot). ReadsWhole (g.C.Classes.classes s.classes) s now c.in-Undone.lines range) tried.0 whole in
-    answers-whole k old now c.args.with.now c.args.replace c.saturating_sub.result c.in-Ok.lines h refl range (edits.text_is ∙ tried.1)
-    (subst (λ (t : List ℕ). ReadsWhole k old now t range) tried.1 read) none
+    let r = c.args.replace in
+    let with = c.args.with.now in
+    let text = edited old.text r with in
+    let was = c.text-text.result.now in
+    let range = c.in_ok-read_whole.field-0 in
+    let n = length text - (length was - r.end) in
+    let h = edited-by old.text old.text was text with r (length was - r.end) (length text) n refl c.text-text.ensures c.text-text.utf8 c.utf8.with c.requires.start c.requires.end c.requires.ordered refl refl refl refl in
+    let none = subst (Decides k old mid text (change_of old.text r with)) c.in_default.is c.in_ok-range.ensures.decided in
+    let same = subst (Tries k old mid text) c.in_default.is c.in_ok-range.ensures.tried in
+    let read = subst (λ (s : Held g.row.C.Denot). ReadsWhole (g.C.Classes.classes s.classes) s now (edited s.text r with) range) same c.in_ok-read_whole.ensures.whole in
+    answers-whole k old now with r n text h refl range (c.in_ok-read_whole.ensures.edits.text_is ∙ ap (λ (s : Held g.row.C.Denot). edited s.text r with) same) read none

@@ -1,16 +1,15 @@
-use Rattle.std.proofs.Common.{ap, arith, length, refl, sym, ◌∙◌}
+use Rattle.std.proofs.Common.{ap, arith, refl, sym, ◌∙◌}
 use Rattle.std.specs.Prelude.{nat_lt}
 use Rattle.typst_tree.specs.Tree.{trees}
 use Rattle.typst_tree.specs.Rows.{long}
 use Rattle.typst_tree.proofs.FoundBelow.{above, seen}
-use Rattle.typst_tree.proofs.SpansAside.{trees_forest}
+use Rattle.typst_tree.proofs.Rows.{length_row}
 use Rattle.typst_tree.proofs.StepDown.{at_slice_get}
 use Rattle.typst_tree.proofs.back.Found.below.Goals as goal
 
 pub before_index-at-requires-clause-within : goal.before_index-at-requires-clause-within
 before_index-at-requires-clause-within c =
-    let kids = trees c.args.over.now.kids in
-    omega (arith, (at_slice_get _ kids c.args.index c.requires.child).0, ap length (sym (ap trees c.children-row.ensures) ∙ trees_forest c.children-row.result.now))
+    omega (arith, (at_slice_get _ (trees c.args.over.now.kids) c.args.index c.requires.child).0, length_row c.children-row.result.now _ c.children-row.ensures)
 
 pub overflow_sub-self : goal.overflow_sub-self
 overflow_sub-self c =
@@ -24,6 +23,6 @@ returns-clause-below c =
     let at = c.before_index-at.result in
     let row = c.children-row.result.now in
     let w = seen o n c.args.index at.number at.offset _ c.args.self row c.children-row.ensures c.requires.child c.before_index-at.ensures in
-    let is_long = ap (λ ts. nat_lt long (length ts)) (sym (trees_forest row) ∙ ap trees c.children-row.ensures) in
+    let is_long = ap (nat_lt long) (sym (length_row row _ c.children-row.ensures)) in
     let order = c.of_child-way.ensures.in_order ∙ (c.open.ensures.in_order ∙ c.in_order.ensures) in
     above o n w.kid at.number at.offset c.args.index c.open.result c.of_child-way.result _ c.args.self _ w.child w.within w.below is_long c.open.ensures.reach c.of_child-way.ensures.follows c.then.ensures.joins (c.then.ensures.in_order (sym order) ∙ order) refl refl c.saturating_add.ensures

@@ -4,28 +4,27 @@ use Rattle.typst_tree.specs.Steps.{at}
 use Rattle.typst_tree.specs.Walks.{numbers}
 use Rattle.typst_tree.specs.Rows.{IsChild}
 use Rattle.typst_tree.proofs.Forks.{holds_child, later}
-use Rattle.typst_tree.proofs.NodesOfStretch.{row, stands_same}
+use Rattle.typst_tree.proofs.NodesOfStretch.{Row, row, stands_same}
 use Rattle.typst_tree.proofs.Rows.{first_of_row, index_counted}
 use Rattle.typst_tree.proofs.WalksInPreorder.{length_places}
 use Rattle.typst_tree.proofs.linked.LinkedChildrenIterator.next.Goals as goal
+use Rattle.typst_tree.proofs.linked.LinkedChildrenIterator.next.Goals.{After-saturating_add}
 
 pub overflow_add-self : goal.overflow_add-self
 overflow_add-self c =
-    let r = row (places c.args.self.now.root.now) c.args.self.now.number c.args.self.now.offset c.in_ok-node.node.now c.in_ok-node.rest.now _ _ _ (omega (arith, length_places c.args.self.now.root.now, c.args.self.now.counted)) (stands_same _ _ _ _ _ c.in_ok-node.ensures.cases.0 c.args.self.now.stands) c.descendants.ensures refl refl in
-    omega (arith, r.exact, r.others.within, length_places c.args.self.now.root.now, c.args.self.now.counted)
+    let s = c.args.self.now in
+    let r = row (places s.root.now) s.number s.offset c.in_ok-node.node.now c.in_ok-node.rest.now _ _ _ (omega (arith, length_places s.root.now, s.counted)) (stands_same _ _ _ _ _ c.in_ok-node.ensures.cases.0 s.stands) c.descendants.ensures refl refl in
+    omega (arith, r.exact, r.others.within, length_places s.root.now, s.counted)
 
 pub overflow_add-self-2 : goal.overflow_add-self-2
 overflow_add-self-2 c =
-    let w = first_of_row (trees c.args.self.now.parent.node.now.kids) c.args.self.now.index c.in_ok-node.node.now c.in_ok-node.rest.now (sym c.args.self.now.row ∙ c.in_ok-node.ensures.cases.0) in
-    omega (arith, index_counted c.args.self.now.parent.node.now.kids (c.args.self.now.index + 1) (omega (arith, w.within)), c.args.self.now.node.within, length_places c.args.self.now.parent.node.now, length_places c.args.self.now.root.now, c.args.self.now.counted)
+    let s = c.args.self.now in
+    let w = first_of_row (trees s.parent.node.now.kids) s.index _ _ (sym s.row ∙ c.in_ok-node.ensures.cases.0) in
+    omega (arith, index_counted s.parent.node.now.kids (s.index + 1) (omega (arith, w.within)), s.node.within, length_places s.parent.node.now, length_places s.root.now, s.counted)
 
 pub known_of-requires : goal.known_of-requires
 known_of-requires c =
-    let s = c.args.self.now in
-    record {
-      number = omega (arith, s.before);
-      offset = later (places s.root.now) s.parent.number s.parent.offset s.number s.offset _ _ s.node s.stands (omega (arith, s.before));
-    }
+    record { number = omega (arith, c.args.self.now.before); offset = later _ _ _ _ _ _ _ c.args.self.now.node c.args.self.now.stands (omega (arith, c.args.self.now.before)) }
 
 pub invariant_of-child : goal.invariant_of-child
 invariant_of-child c =
@@ -42,31 +41,38 @@ invariant_of-child c =
       holds = holds_child s.root.now p.node.now p.number p.offset p.known p.is_long t s.number s.offset s.index c.known_of.result p.many s.node r.first child s.holds c.known_of.ensures.follows;
     }
 
+here : (c : After-saturating_add) → Row (places c.args.self.now.root.now) c.args.self.now.number c.args.self.now.offset c.in_ok-node.node.now c.in_ok-node.rest.now c.descendants.result c.len.result c.saturating_add.result
+here c =
+    let s = c.args.self.now in
+    row _ _ _ _ _ _ _ _ (omega (arith, length_places s.root.now, s.counted)) (stands_same _ _ _ _ _ c.in_ok-node.ensures.cases.0 s.stands) c.descendants.ensures c.len.ensures c.saturating_add.ensures
+
+-- the child comes before those that are left
+steps : (c : After-saturating_add) → map (at c.args.self.now.root.now) (numbers c.args.self.now.number (forest c.args.self.now.rest.now)) ≡ at c.args.self.now.root.now c.args.self.now.number ∷ map (at c.args.self.now.root.now) (numbers (c.args.self.now.number + c.descendants.result) (forest c.in_ok-node.rest.now))
+steps c =
+    let s = c.args.self.now in
+    let next : s.number + 1 + count c.in_ok-node.node.now.kids ≡ s.number + c.descendants.result = omega (arith, (here c).exact) in
+    ap (λ ts. map (at s.root.now) (numbers s.number (forest ts))) c.in_ok-node.ensures.cases.0
+    ∙ ap (λ m. at s.root.now s.number ∷ map (at s.root.now) (numbers m (forest c.in_ok-node.rest.now))) next
+
 pub invariant_of-self-2 : goal.invariant_of-self-2
 invariant_of-self-2 c =
-    let r = row (places c.args.self.now.root.now) c.args.self.now.number c.args.self.now.offset c.in_ok-node.node.now c.in_ok-node.rest.now c.descendants.result c.len.result c.saturating_add.result (omega (arith, length_places c.args.self.now.root.now, c.args.self.now.counted)) (stands_same _ _ _ _ _ c.in_ok-node.ensures.cases.0 c.args.self.now.stands) c.descendants.ensures c.len.ensures c.saturating_add.ensures in
-    let w = first_of_row (trees c.args.self.now.parent.node.now.kids) c.args.self.now.index c.in_ok-node.node.now c.in_ok-node.rest.now (sym c.args.self.now.row ∙ c.in_ok-node.ensures.cases.0) in
+    let s = c.args.self.now in
+    let r = here (goal.at.invariant_of-self-2 c).After-saturating_add in
+    let w = first_of_row (trees s.parent.node.now.kids) s.index _ _ (sym s.row ∙ c.in_ok-node.ensures.cases.0) in
     record {
-      counted = c.args.self.now.counted;
+      counted = s.counted;
       stands = r.others;
-      node = c.args.self.now.node;
+      node = s.node;
       row = sym w.rest;
-      before = omega (arith, c.args.self.now.before, r.exact, w.counted);
-      ordered = c.args.self.now.ordered;
-      holds = c.args.self.now.holds;
+      before = omega (arith, s.before, r.exact, w.counted);
+      ordered = s.ordered;
+      holds = s.holds;
     }
 
 pub returns-clause-steps : goal.returns-clause-steps
-returns-clause-steps c =
-    let r = row (places c.args.self.now.root.now) c.args.self.now.number c.args.self.now.offset c.in_ok-node.node.now c.in_ok-node.rest.now c.descendants.result c.len.result c.saturating_add.result (omega (arith, length_places c.args.self.now.root.now, c.args.self.now.counted)) (stands_same _ _ _ _ _ c.in_ok-node.ensures.cases.0 c.args.self.now.stands) c.descendants.ensures c.len.ensures c.saturating_add.ensures in
-    let next : c.args.self.now.number + 1 + count c.in_ok-node.node.now.kids ≡ c.args.self.now.number + c.descendants.result = omega (arith, r.exact) in
-    ap (λ ts. map (at c.args.self.now.root.now) (numbers c.args.self.now.number (forest ts))) c.in_ok-node.ensures.cases.0
-    ∙ ap (λ m. at c.args.self.now.root.now c.args.self.now.number ∷ map (at c.args.self.now.root.now) (numbers m (forest c.in_ok-node.rest.now))) next
+returns-clause-steps c = steps (goal.at.returns-clause-steps c).After-saturating_add
 
 pub returns-clause-goes : goal.returns-clause-goes
 returns-clause-goes c =
-    let r = row (places c.args.self.now.root.now) c.args.self.now.number c.args.self.now.offset c.in_ok-node.node.now c.in_ok-node.rest.now c.descendants.result c.len.result c.saturating_add.result (omega (arith, length_places c.args.self.now.root.now, c.args.self.now.counted)) (stands_same _ _ _ _ _ c.in_ok-node.ensures.cases.0 c.args.self.now.stands) c.descendants.ensures c.len.ensures c.saturating_add.ensures in
-    let next : c.args.self.now.number + 1 + count c.in_ok-node.node.now.kids ≡ c.args.self.now.number + c.descendants.result = omega (arith, r.exact) in
-    let fewer = ap (λ ts. length (map (at c.args.self.now.root.now) (numbers c.args.self.now.number (forest ts)))) c.in_ok-node.ensures.cases.0
-    ∙ ap (λ m. length (at c.args.self.now.root.now c.args.self.now.number ∷ map (at c.args.self.now.root.now) (numbers m (forest c.in_ok-node.rest.now)))) next in
+    let fewer = ap length (steps (goal.at.returns-clause-goes c).After-saturating_add) in
     record { on = λ _. (tt, tt, omega (arith, fewer)); keeps = tt; rests = λ _. tt }

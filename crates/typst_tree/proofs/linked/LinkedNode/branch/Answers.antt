@@ -1,6 +1,5 @@
 use Rattle.std.proofs.Common.{◌≡◌, ap, arith, sym, ◌∙◌}
 use Rattle.typst_tree.specs.Tree.{nodes, places}
-use Rattle.typst_tree.specs.Walks.{Stands}
 use Rattle.typst_tree.proofs.Parents.{nested}
 use Rattle.typst_tree.proofs.linked.LinkedNode.branch.Goals as goal
 
@@ -11,8 +10,7 @@ returns c =
     let kid = c.tree_of-kid in
     let number : t.number ≡ kid.result.spot.number = c.child.ensures.number in
     let node : t.node.now ≡ kid.result.spot.node.now = c.child.ensures.node in
-    let stands : Stands (places a.root.now) kid.result.spot.number kid.result.spot.offset (places kid.result.spot.node.now) = kid.ensures.stands in
-    let to = nested (places a.root.now) kid.result.spot.number kid.result.spot.offset a.number a.offset kid.result.spot.node.now a.node.now stands a.stands kid.ensures.from kid.ensures.to in
+    let to = nested (places a.root.now) _ _ _ _ kid.result.spot.node.now a.node.now kid.ensures.stands a.stands kid.ensures.from kid.ensures.to in
     record {
       root = c.child.ensures.root ∙ c.in_ok-owner.ensures.0;
       above = record {

@@ -1,6 +1,6 @@
 use Rattle.std.proofs.Common.{◌≡◌, ◌-◌, ap, arith, sym, ◌∙◌, length}
 use Rattle.std.specs.Prelude.{nat_lt}
-use Rattle.typst_tree.specs.Tree.{places, trees}
+use Rattle.typst_tree.specs.Tree.{trees}
 use Rattle.typst_tree.specs.Follows.{Follows, in_order_of}
 use Rattle.typst_tree.specs.Rows.{long}
 use Rattle.typst_tree.proofs.Forks.{holds_child, later}
@@ -10,11 +10,10 @@ use Rattle.typst_tree.proofs.linked.LinkedNode.child.Goals as goal
 pub known_of-requires : goal.known_of-requires
 known_of-requires c =
     let a = c.args.self in
-    let spot = c.args.kid.spot in
-    let bounds = child_bounds a.node.now a.number spot.node.now spot.number c.args.kid.index c.requires.child in
+    let bounds = child_bounds _ _ _ _ _ c.requires.child in
     record {
       number = omega (arith, c.as_parent.ensures.number, bounds.from);
-      offset = omega (arith, c.as_parent.ensures.offset, later (places a.root.now) a.number a.offset spot.number spot.offset (places a.node.now) (places spot.node.now) a.stands c.requires.stands (omega (arith, bounds.from)));
+      offset = omega (arith, c.as_parent.ensures.offset, later _ _ _ _ _ _ _ a.stands c.requires.stands (omega (arith, bounds.from)));
     }
 
 pub invariant_of-result : goal.invariant_of-result

@@ -10,7 +10,5 @@ child_over-requires-clause-counted c =
 
 pub returns-clause-stands : goal.returns-clause-stands
 returns-clause-stands c =
-    let a = c.args.self in
-    let kid = c.child_over.result.spot in
-    stands_row (places a.root.now) c.spot.result.number c.spot.result.offset kid.number kid.offset (places c.spot.result.node.now) (places kid.node.now)
-    (rw (c.spot.ensures.number, c.spot.ensures.offset, c.spot.ensures.node) a.stands) c.child_over.ensures.spot
+    stands_row (places c.args.self.root.now) c.spot.result.number c.spot.result.offset _ _ (places c.spot.result.node.now) _
+    (rw (c.spot.ensures.number, c.spot.ensures.offset, c.spot.ensures.node) c.args.self.stands) c.child_over.ensures.spot

@@ -4,13 +4,13 @@ use Rattle.typst_tree.proofs.SpansAside.{trees_forest}
 use Rattle.typst_tree.specs.Steps.{at}
 use Rattle.typst_tree.specs.Walks.{numbers}
 use Rattle.typst_tree.specs.Follows.{in_order_of}
+use Rattle.typst_tree.proofs.Branches.{room}
 use Rattle.typst_tree.proofs.NodesOfStretch.{node_here, stands_row}
-use Rattle.typst_tree.proofs.WalksInPreorder.{length_places, within_children}
+use Rattle.typst_tree.proofs.WalksInPreorder.{within_children}
 use Rattle.typst_tree.proofs.linked.LinkedNode.children.Goals as goal
 
 pub overflow_add-result : goal.overflow_add-result
-overflow_add-result c =
-    omega (arith, c.args.self.stands.within, length_places c.args.self.node.now, length_places c.args.self.root.now, c.args.self.counted)
+overflow_add-result c = omega (arith, room c.args.self)
 
 pub invariant_of-result : goal.invariant_of-result
 invariant_of-result c =

@@ -2,14 +2,13 @@ use Rattle.std.proofs.Common.{ap, ◌∙◌, arith, Some, sym}
 use Rattle.std.specs.Option.{option_map}
 use Rattle.typst_tree.specs.Steps.{at}
 use Rattle.typst_tree.specs.Wanted.{wanted}
+use Rattle.typst_tree.proofs.Branches.{room}
 use Rattle.typst_tree.proofs.NodesOfStretch.{first_here}
 use Rattle.typst_tree.proofs.RisingNumbers.{in_order_here}
-use Rattle.typst_tree.proofs.WalksInPreorder.{length_places}
 use Rattle.typst_tree.proofs.linked.LinkedNode.first.Goals as goal
 
 pub find_in-requires-clause-counted : goal.find_in-requires-clause-counted
-find_in-requires-clause-counted c =
-    omega (arith, c.args.self.stands.within, length_places c.args.self.node.now, length_places c.args.self.root.now, c.args.self.counted)
+find_in-requires-clause-counted c = omega (arith, room c.args.self)
 
 pub find_in-requires-clause-ordered : goal.find_in-requires-clause-ordered
 find_in-requires-clause-ordered c = λ e.

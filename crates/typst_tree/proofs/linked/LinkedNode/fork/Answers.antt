@@ -1,9 +1,8 @@
-use Rattle.std.proofs.Common.{◌≡◌, ◌∙◌, ap, arith, length, slice_get, subst, sym}
-use Rattle.typst_tree.specs.Tree.{nodes, places, trees}
-use Rattle.typst_tree.proofs.SpansAside.{trees_forest}
+use Rattle.std.proofs.Common.{◌≡◌, ◌∙◌, ap, arith, subst, sym}
+use Rattle.typst_tree.specs.Tree.{nodes}
+use Rattle.typst_tree.proofs.Rows.{length_row}
 use Rattle.typst_tree.specs.Rows.{IsChild, IsOpen}
-use Rattle.typst_tree.specs.Walks.{Stands}
-use Rattle.typst_tree.proofs.Branches.{inside_root, root_node}
+use Rattle.typst_tree.proofs.Branches.{inside_top, stands_in}
 use Rattle.typst_tree.proofs.Forks.{ends_by, ends_open, open_child, open_root}
 use Rattle.typst_tree.proofs.NodesOfStretch.{stands_get}
 use Rattle.typst_tree.proofs.linked.LinkedNode.fork.Goals as goal
@@ -12,23 +11,21 @@ pub loop-over-init : goal.loop-over-init
 loop-over-init c =
     let root = ap (λ a. a.root) c.top-over.ensures in
     let number = ap (λ a. a.number) c.top-over.ensures in
-    let whole = root_node c.top-over.result number in
     record {
       root = root;
       from = omega (arith, number);
-      to = omega (arith, number, ap nodes (whole ∙ root), inside_root c.args.self);
+      to = inside_top c.args.self c.top-over.result root number;
       clear = subst (IsOpen c.args.self.root.now) (sym number) (open_root c.args.self.root.now);
     }
 
 pub returns-then-children-gt-LONG : goal.returns-then-children-gt-LONG
 returns-then-children-gt-LONG c =
-    let i = c.loop-over.invariant in
-    let rows : c.children.result.now ≡ trees c.loop-over.over.node.now.kids = sym (trees_forest c.children.result.now) ∙ ap trees c.children.ensures in (
+    let i = c.loop-over.invariant in (
       i.root,
       record {
-        here = ap (λ r. slice_get (places r) c.loop-over.over.number) (sym i.root) ∙ stands_get (places c.loop-over.over.root.now) c.loop-over.over.number c.loop-over.over.offset c.loop-over.over.node.now c.loop-over.over.stands;
+        here = stands_get _ _ _ c.loop-over.over.node.now (stands_in c.loop-over.over i.root);
         first = i.clear;
-        many = omega (arith, c.if-children-gt-LONG.true, ap length rows);
+        many = omega (arith, c.if-children-gt-LONG.true, length_row _ _ c.children.ensures);
         from = omega (arith, c.loop-over-test.true);
         to = i.to;
       },
@@ -38,8 +35,7 @@ pub returns-then-end-least : goal.returns-then-end-least
 returns-then-end-least c =
     let over = c.loop-over.over in
     let i = c.loop-over.invariant in
-    let stands : Stands (places c.args.self.root.now) over.number over.offset (places over.node.now) = subst (λ r. Stands (places r) over.number over.offset (places over.node.now)) i.root over.stands in
-    ends_by c.args.self.root.now c.args.self.number c.args.least over.node.now over.number over.offset stands i.clear i.from i.to (omega (arith, c.if-end-least.true, c.end.ensures))
+    ends_by c.args.self.root.now c.args.self.number c.args.least over.node.now over.number over.offset (stands_in over i.root) i.clear i.from i.to (omega (arith, c.if-end-least.true, c.end.ensures))
 
 pub returns : goal.returns
 returns c =
@@ -51,12 +47,10 @@ loop-over-preserved c =
     let over = c.loop-over.over in
     let i = c.loop-over.invariant in
     let kid = c.child_over.result in
-    let rows : c.children.result.now ≡ trees over.node.now.kids = sym (trees_forest c.children.result.now) ∙ ap trees c.children.ensures in
-    let stands : Stands (places c.args.self.root.now) over.number over.offset (places over.node.now) = subst (λ r. Stands (places r) over.number over.offset (places over.node.now)) i.root over.stands in
     let child : IsChild over.node.now over.number kid.spot.node.now c.child-over.result.number kid.index = rw (c.child-over.ensures.number) c.child_over.ensures.child in
     record {
       root = c.child-over.ensures.root ∙ i.root;
       from = omega (arith, c.child-over.ensures.number, c.child_over.ensures.from);
       to = omega (arith, c.child-over.ensures.number, ap nodes c.child-over.ensures.node, c.child_over.ensures.to);
-      clear = open_child c.args.self.root.now over.node.now over.number over.offset kid.spot.node.now c.child-over.result.number kid.index stands child i.clear (omega (arith, c.if-children-gt-LONG.false, ap length rows));
+      clear = open_child c.args.self.root.now over.node.now over.number over.offset kid.spot.node.now c.child-over.result.number kid.index (stands_in over i.root) child i.clear (omega (arith, c.if-children-gt-LONG.false, length_row _ _ c.children.ensures));
     }

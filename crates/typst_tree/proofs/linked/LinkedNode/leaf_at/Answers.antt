@@ -9,7 +9,7 @@ use Rattle.typst_tree.proofs.NodesOfStretch.{first_here, stands_row}
 use Rattle.typst_tree.proofs.Parents.{child_bounds}
 use Rattle.typst_tree.proofs.PassesOver.{no_byte_after, no_byte_before}
 use Rattle.typst_tree.proofs.linked.LinkedNode.leaf_at.Goals as goal
-use Rattle.typst_tree.proofs.linked.LinkedNode.leaf_at.Goals.{then-byte-self-via-then-byte-self, then-byte-self-via-else-byte-self+then-saturating_add-byte}
+use Rattle.typst_tree.proofs.linked.LinkedNode.leaf_at.Goals.{In_default, then-byte-self-via-then-byte-self, then-byte-self-via-else-byte-self+then-saturating_add-byte}
 
 pub returns-then-byte-self : goal.returns-then-byte-self
 returns-then-byte-self c =
@@ -25,31 +25,26 @@ child_at-requires c = omega (arith, room c.loop-kid.over, c.spot.ensures.number,
 
 pub child-over-requires-clause-stands : goal.child-over-requires-clause-stands
 child-over-requires-clause-stands c =
-    let over = c.loop-kid.over in
-    let kid = c.in-Some.kid.spot in
-    stands_row (places over.root.now) c.spot.result.number c.spot.result.offset kid.number kid.offset (places c.spot.result.node.now) (places kid.node.now)
-    (rw (c.spot.ensures.number, c.spot.ensures.offset, c.spot.ensures.node) over.stands) c.in-Some.ensures.kid.within
+    stands_row (places c.loop-kid.over.root.now) c.spot.result.number c.spot.result.offset _ _ (places c.spot.result.node.now) _
+    (rw (c.spot.ensures.number, c.spot.ensures.offset, c.spot.ensures.node) c.loop-kid.over.stands) c.in-Some.ensures.kid.within
 
 pub loop-kid-smaller : goal.loop-kid-smaller
 loop-kid-smaller c =
-    let kid = c.in-Some.kid in
-    let bounds = child_bounds c.spot.result.node.now c.spot.result.number kid.spot.node.now kid.spot.number kid.index c.in-Some.ensures.kid.child in
+    let bounds = child_bounds _ _ _ _ _ c.in-Some.ensures.kid.child in
     omega (arith, bounds.from, bounds.to, ap nodes c.spot.ensures.node, ap nodes c.child-over.ensures.node)
+
+-- the last node is the one that may hold it
+own : (c : In_default) → first_at (holds_byte c.args.byte) c.args.self.number c.args.self.offset (places c.args.self.node.now) ≡ (if holds_byte c.args.byte 0 c.loop-kid.over.offset c.loop-kid.over.node.now then Some c.loop-kid.over.number else None)
+own c = c.loop-kid.invariant.found ∙ rw (sym c.spot.ensures.node, sym c.spot.ensures.number, sym c.spot.ensures.offset) (c.child_at.ensures.none c.in_default.is)
 
 pub returns-then-holds_byte : goal.returns-then-holds_byte
 returns-then-holds_byte c =
     let a = c.args.self in
-    let o = c.loop-kid.over in
-    let own : first_at (holds_byte c.args.byte) c.loop-kid.over.number c.loop-kid.over.offset (places c.loop-kid.over.node.now) ≡ (if holds_byte c.args.byte 0 c.loop-kid.over.offset c.loop-kid.over.node.now then Some c.loop-kid.over.number else None) =
-    rw (sym c.spot.ensures.node, sym c.spot.ensures.number, sym c.spot.ensures.offset) (c.child_at.ensures.none c.in_default.is) in
-    let found = c.loop-kid.invariant.found ∙ (own ∙ ap (λ h. if h then Some o.number else None) (sym c.if-holds_byte.ensures)) in
-    ap (λ r. Some (at r o.number)) c.loop-kid.invariant.root ∙ (ap (option_map (at a.root.now)) (sym found) ∙ first_here (holds_byte c.args.byte) a.root.now a.number a.offset a.node.now a.stands)
+    let found = own (goal.at.returns-then-holds_byte c).In_default ∙ ap (λ h. if h then Some c.loop-kid.over.number else None) (sym c.if-holds_byte.ensures) in
+    ap (λ r. Some (at r c.loop-kid.over.number)) c.loop-kid.invariant.root ∙ (ap (option_map (at a.root.now)) (sym found) ∙ first_here (holds_byte c.args.byte) a.root.now a.number a.offset a.node.now a.stands)
 
 pub returns-else-holds_byte : goal.returns-else-holds_byte
 returns-else-holds_byte c =
     let a = c.args.self in
-    let o = c.loop-kid.over in
-    let own : first_at (holds_byte c.args.byte) c.loop-kid.over.number c.loop-kid.over.offset (places c.loop-kid.over.node.now) ≡ (if holds_byte c.args.byte 0 c.loop-kid.over.offset c.loop-kid.over.node.now then Some c.loop-kid.over.number else None) =
-    rw (sym c.spot.ensures.node, sym c.spot.ensures.number, sym c.spot.ensures.offset) (c.child_at.ensures.none c.in_default.is) in
-    let found = c.loop-kid.invariant.found ∙ (own ∙ ap (λ h. if h then Some o.number else None) (sym c.if-holds_byte.ensures)) in
+    let found = own (goal.at.returns-else-holds_byte c).In_default ∙ ap (λ h. if h then Some c.loop-kid.over.number else None) (sym c.if-holds_byte.ensures) in
     ap (option_map (at a.root.now)) (sym found) ∙ first_here (holds_byte c.args.byte) a.root.now a.number a.offset a.node.now a.stands

@@ -5,19 +5,18 @@ use Rattle.typst_tree.specs.Branches.{leaf_until}
 use Rattle.typst_tree.specs.Linked.{linked}
 use Rattle.typst_tree.proofs.Branches.{beside_of, none_alone, until_here, until_row}
 use Rattle.typst_tree.proofs.Parents.{child_bounds}
-use Rattle.typst_tree.proofs.Rows.{step_back}
+use Rattle.typst_tree.proofs.Rows.{StepBack, step_back}
 use Rattle.typst_tree.proofs.linked.LinkedNode.leaf_before.Goals as goal
+use Rattle.typst_tree.proofs.linked.LinkedNode.leaf_before.Goals.{After-index-row-at}
 
 pub last_leaf-requires : goal.last_leaf-requires
 last_leaf-requires c =
-    let p = c.args.above.parent in
-    let bounds = child_bounds p.node.now p.number c.args.self.node.now c.args.self.number c.args.above.index c.requires.child in
+    let bounds = child_bounds _ _ _ _ _ c.requires.child in
     record { from = omega (arith, bounds.from); to = omega (arith, bounds.to) }
 
 pub returns-then-self-eq18446744073709551615 : goal.returns-then-self-eq18446744073709551615
 returns-then-self-eq18446744073709551615 c =
-    let p = c.args.above.parent in
-    subst (λ r. leaf_until r c.args.self.number ≡ option_or (option_map linked c.last_leaf.result) (leaf_until r p.number)) c.requires.root c.last_leaf.ensures
+    subst (λ r. leaf_until r c.args.self.number ≡ option_or (option_map linked c.last_leaf.result) (leaf_until r c.args.above.parent.number)) c.requires.root c.last_leaf.ensures
 
 pub loop-at-init : goal.loop-at-init
 loop-at-init c =
@@ -31,20 +30,20 @@ loop-at-init c =
       small = omega (arith, f.offset, c.args.self.stands.begins);
     }
 
+-- the child that is looked at
+here : (c : After-index-row-at) → StepBack c.args.above.parent.root.now c.args.above.parent.node.now c.args.above.parent.number c.args.above.parent.offset c.loop-at.at.index c.children-row.result.now c.index-row-at.result c.loop-at.at.number c.loop-at.at.offset
+here c =
+    let i = c.loop-at.invariant in
+    step_back c.args.above.parent.root.now c.args.above.parent.node.now _ _ _ _ _ _ _ c.children-row.ensures c.args.above.parent.stands (omega (arith, c.loop-at-test.true)) i.within c.index-row-at.is i.number i.offset i.small
+
 pub before-at-requires : goal.before-at-requires
 before-at-requires c =
-    let p = c.args.above.parent in
-    let at = c.loop-at.at in
-    let i = c.loop-at.invariant in
-    let s = step_back p.root.now p.node.now p.number p.offset at.index c.children-row.result.now c.index-row-at.result at.number at.offset c.children-row.ensures p.stands (omega (arith, c.loop-at-test.true)) i.within c.index-row-at.is i.number i.offset i.small in
+    let s = here (goal.at.before-at-requires c).After-index-row-at in
     record { index = omega (arith, c.loop-at-test.true); counted = s.counts; measured = s.reaches }
 
 pub child-kid-requires : goal.child-kid-requires
 child-kid-requires c =
-    let p = c.args.above.parent in
-    let at = c.loop-at.at in
-    let i = c.loop-at.invariant in
-    let s = step_back p.root.now p.node.now p.number p.offset at.index c.children-row.result.now c.index-row-at.result at.number at.offset c.children-row.ensures p.stands (omega (arith, c.loop-at-test.true)) i.within c.index-row-at.is i.number i.offset i.small in
+    let s = here (goal.at.child-kid-requires c).After-index-row-at in
     let t = c.tree.ensures in
     let b = c.before-at.ensures in
     record {
@@ -54,10 +53,7 @@ child-kid-requires c =
 
 pub last_leaf-requires-in-loop-at : goal.last_leaf-requires-in-loop-at
 last_leaf-requires-in-loop-at c =
-    let p = c.args.above.parent in
-    let at = c.loop-at.at in
-    let i = c.loop-at.invariant in
-    let s = step_back p.root.now p.node.now p.number p.offset at.index c.children-row.result.now c.index-row-at.result at.number at.offset c.children-row.ensures p.stands (omega (arith, c.loop-at-test.true)) i.within c.index-row-at.is i.number i.offset i.small in
+    let s = here (goal.at.last_leaf-requires-in-loop-at c).After-index-row-at in
     let number = c.child-kid.ensures.number ∙ (c.tree.ensures.number ∙ c.before-at.ensures.number) in
     record { from = omega (arith, number); to = omega (arith, number, s.counts, ap nodes (c.child-kid.ensures.node ∙ c.tree.ensures.node)) }
 
@@ -68,10 +64,9 @@ returns-in-Some c =
 
 pub loop-at-preserved : goal.loop-at-preserved
 loop-at-preserved c =
-    let p = c.args.above.parent in
     let at = c.loop-at.at in
     let i = c.loop-at.invariant in
-    let s = step_back p.root.now p.node.now p.number p.offset at.index c.children-row.result.now c.index-row-at.result at.number at.offset c.children-row.ensures p.stands (omega (arith, c.loop-at-test.true)) i.within c.index-row-at.is i.number i.offset i.small in
+    let s = here (goal.at.loop-at-preserved c).After-index-row-at in
     let root : c.child-kid.result.root.now ≡ c.args.self.root.now = c.child-kid.ensures.root ∙ c.requires.root in
     let b = c.before-at.ensures in
     record {

@@ -1,11 +1,12 @@
 use Rattle.std.proofs.Common.{◌≡◌, ◌+◌, ap, arith, sym, ◌∙◌}
-use Rattle.typst_tree.specs.Tree.{count, nodes, places}
+use Rattle.typst_tree.specs.Tree.{count, nodes}
 use Rattle.typst_tree.specs.Branches.{leaf_after}
 use Rattle.typst_tree.specs.Linked.{linked}
 use Rattle.typst_tree.proofs.Branches.{leaf_found, leaf_not_found, over_above, room}
 use Rattle.typst_tree.proofs.NodesOfStretch.{stands_row}
-use Rattle.typst_tree.proofs.Rows.{all_counted, over}
+use Rattle.typst_tree.proofs.Rows.{Over, all_counted, over}
 use Rattle.typst_tree.proofs.linked.LinkedNode.leaf_behind.Goals as goal
+use Rattle.typst_tree.proofs.linked.LinkedNode.leaf_behind.Goals.{After-index-row-at}
 
 pub behind-at-requires : goal.behind-at-requires
 behind-at-requires c =
@@ -23,14 +24,16 @@ loop-at-init c =
       found = ap (leaf_after c.args.self.root.now) (sym (b.number ∙ ap (λ m. m + nodes c.args.self.node.now) p.number));
     }
 
+-- the child that is looked at
+here : (c : After-index-row-at) → Over c.args.above.parent.node.now c.args.above.parent.number c.args.above.parent.offset c.children-row.result.now c.loop-at.at.index c.loop-at.at.number c.loop-at.at.offset c.index-row-at.result
+here c = over c.args.above.parent.node.now c.args.above.parent.number _ _ _ _ _ _ c.children-row.ensures c.index-row-at.is c.loop-at-test.true c.loop-at.invariant.passed
+
 pub child-kid-requires : goal.child-kid-requires
 child-kid-requires c =
-    let p = c.args.above.parent in
-    let at = c.loop-at.at in
-    let o = over p.node.now p.number p.offset c.children-row.result.now at.index at.number at.offset c.index-row-at.result c.children-row.ensures c.index-row-at.is c.loop-at-test.true c.loop-at.invariant.passed in
+    let o = here (goal.at.child-kid-requires c).After-index-row-at in
     let t = c.tree.ensures in
     record {
-      stands = rw (t.node, t.number, t.offset) (stands_row (places p.root.now) p.number p.offset at.number at.offset (places p.node.now) (places c.index-row-at.result) p.stands o.inside);
+      stands = rw (t.node, t.number, t.offset) (stands_row _ _ _ _ _ _ _ c.args.above.parent.stands o.inside);
       child = rw (t.node, t.number, t.index) o.child;
     }
 
@@ -42,23 +45,17 @@ returns-in-Some c =
     ∙ leaf_found c.child-kid.result c.loop-at.at.number (linked c.in-Some.leaf) (omega (arith, number)) (omega (arith, number)) c.in-Some.ensures)
 
 pub behind-at-requires-in-loop-at-clause-counted : goal.behind-at-requires-in-loop-at-clause-counted
-behind-at-requires-in-loop-at-clause-counted c =
-    let p = c.args.above.parent in
-    let at = c.loop-at.at in
-    let o = over p.node.now p.number p.offset c.children-row.result.now at.index at.number at.offset c.index-row-at.result c.children-row.ensures c.index-row-at.is c.loop-at-test.true c.loop-at.invariant.passed in
-    omega (arith, o.fits, room p)
+behind-at-requires-in-loop-at-clause-counted c = omega (arith, (here (goal.at.behind-at-requires-in-loop-at-clause-counted c).After-index-row-at).fits, room c.args.above.parent)
 
 pub loop-at-preserved : goal.loop-at-preserved
 loop-at-preserved c =
-    let p = c.args.above.parent in
     let at = c.loop-at.at in
-    let o = over p.node.now p.number p.offset c.children-row.result.now at.index at.number at.offset c.index-row-at.result c.children-row.ensures c.index-row-at.is c.loop-at-test.true c.loop-at.invariant.passed in
     let root : c.child-kid.result.root.now ≡ c.args.self.root.now = c.child-kid.ensures.root ∙ c.requires.root in
     let number : c.child-kid.result.number ≡ c.loop-at.at.number = c.child-kid.ensures.number ∙ c.tree.ensures.number in
     let next = c.behind-at-in-loop-at in
     let end : c.child-kid.result.number + nodes c.child-kid.result.node.now ≡ next.result.number = omega (arith, number, ap nodes (c.child-kid.ensures.node ∙ c.tree.ensures.node), next.ensures.number) in
     record {
-      passed = rw (next.ensures.index, next.ensures.number, next.ensures.offset) o.next;
+      passed = rw (next.ensures.index, next.ensures.number, next.ensures.offset) (here (goal.at.loop-at-preserved c).After-index-row-at).next;
       found = c.loop-at.invariant.found ∙ (ap (λ r. leaf_after r at.number) (sym root)
           ∙ (leaf_not_found c.child-kid.result at.number (omega (arith, number)) (omega (arith, number)) c.in_default.ensures
           ∙ (ap (leaf_after c.child-kid.result.root.now) end ∙ ap (λ r. leaf_after r next.result.number) root)));
@@ -66,7 +63,5 @@ loop-at-preserved c =
 
 pub returns : goal.returns
 returns c =
-    let p = c.args.above.parent in
-    let at = c.loop-at.at in
-    let end : c.loop-at.at.number ≡ c.args.above.parent.number + nodes c.args.above.parent.node.now = omega (arith, c.loop-at.invariant.passed.number, all_counted c.children-row.result.now at.index (omega (arith, c.loop-at-test.false)), ap count c.children-row.ensures) in
+    let end : c.loop-at.at.number ≡ c.args.above.parent.number + nodes c.args.above.parent.node.now = omega (arith, c.loop-at.invariant.passed.number, all_counted c.children-row.result.now c.loop-at.at.index (omega (arith, c.loop-at-test.false)), ap count c.children-row.ensures) in
     c.loop-at.invariant.found ∙ ap (leaf_after c.args.self.root.now) end

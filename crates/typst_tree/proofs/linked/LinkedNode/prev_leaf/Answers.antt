@@ -1,14 +1,10 @@
 use Rattle.std.proofs.Common.{ap, sym, ◌∙◌, arith}
-use Rattle.typst_tree.specs.Tree.{nodes}
 use Rattle.typst_tree.specs.Branches.{leaf_until}
-use Rattle.typst_tree.proofs.Branches.{inside_root, root_node, until_top}
+use Rattle.typst_tree.proofs.Branches.{inside_top, until_top}
 use Rattle.typst_tree.proofs.linked.LinkedNode.prev_leaf.Goals as goal
 
 pub last_leaf-requires-clause-to : goal.last_leaf-requires-clause-to
-last_leaf-requires-clause-to c =
-    let root = ap (λ a. a.root) c.top.ensures in
-    let number = ap (λ a. a.number) c.top.ensures in
-    omega (arith, number, ap nodes (root_node c.top.result number ∙ root), inside_root c.args.self)
+last_leaf-requires-clause-to c = omega (arith, inside_top c.args.self c.top.result (ap (λ a. a.root) c.top.ensures) (ap (λ a. a.number) c.top.ensures))
 
 pub returns-in_default-branch : goal.returns-in_default-branch
 returns-in_default-branch c =
@@ -25,9 +21,7 @@ returns-in-Some-leaf_before c =
 pub last_leaf-requires-3-clause-to : goal.last_leaf-requires-3-clause-to
 last_leaf-requires-3-clause-to c =
     let w = c.in_Some-branch.ensures in
-    let root = ap (λ a. a.root) c.top-2.ensures in
-    let number = ap (λ a. a.number) c.top-2.ensures in
-    omega (arith, number, ap nodes (root_node c.top-2.result number ∙ root), inside_root c.in_Some-branch.branch.above.parent, ap nodes (w.above.root ∙ w.root))
+    omega (arith, inside_top c.in_Some-branch.branch.above.parent c.top-2.result (ap (λ a. a.root) c.top-2.ensures ∙ sym (w.above.root ∙ w.root)) (ap (λ a. a.number) c.top-2.ensures))
 
 pub returns : goal.returns
 returns c =

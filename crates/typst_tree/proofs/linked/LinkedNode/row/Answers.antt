@@ -4,7 +4,7 @@ use Rattle.typst_tree.specs.Order.{AreInOrder, numbers_of}
 use Rattle.typst_tree.proofs.SpansAside.{trees_forest}
 use Rattle.typst_tree.specs.Steps.{at}
 use Rattle.typst_tree.specs.Walks.{numbers}
-use Rattle.typst_tree.proofs.Branches.{above_stands, beside_of}
+use Rattle.typst_tree.proofs.Branches.{beside_of, stands_in}
 use Rattle.typst_tree.specs.Rows.{Holds}
 use Rattle.typst_tree.specs.Follows.{in_order_of}
 use Rattle.typst_tree.proofs.NodesOfStretch.{node_here}
@@ -25,8 +25,8 @@ invariant_of-result c =
     let p = c.as_parent.ensures in
     record {
       counted = c.args.self.counted;
-      stands = rw (b.number, sym b.start, c.from_index.ensures) (row_stands c.args.self.root.now c.args.above.parent.node.now c.args.above.parent.number c.args.above.parent.offset c.args.above.index c.children.result.now c.children.ensures (above_stands c.args.self c.args.above c.requires));
-      node = rw (p.node, p.number, p.offset) (above_stands c.args.self c.args.above c.requires);
+      stands = rw (b.number, sym b.start, c.from_index.ensures) (row_stands c.args.self.root.now c.args.above.parent.node.now c.args.above.parent.number c.args.above.parent.offset c.args.above.index c.children.result.now c.children.ensures (stands_in above c.requires.root));
+      node = rw (p.node, p.number, p.offset) (stands_in above c.requires.root);
       row = c.from_index.ensures ∙ (ap (drop c.args.above.index) same ∙ ap (λ t. drop c.args.above.index (trees t.kids)) (sym p.node));
       before = rw (p.node, p.number) (b.number ∙ ap (λ xs. c.args.above.parent.number + 1 + count (forest (take c.args.above.index xs))) same);
       ordered = λ e. subst (λ r. AreInOrder (numbers_of r)) c.requires.root (above.ordered (ap in_order_of (sym p.known) ∙ e));

@@ -6,10 +6,7 @@ use Rattle.typst_tree.proofs.NodesOfStretch.{stands_row}
 use Rattle.typst_tree.proofs.linked.LinkedNode.with_found.Goals as goal
 
 pub overflow_sub-found : goal.overflow_sub-found
-overflow_sub-found c =
-    let a = c.args.self in
-    let f = c.args.found in
-    (inside a.number 0 a.node.now f.number f.begins f.node.now c.requires.within).from
+overflow_sub-found c = (inside c.args.self.number 0 c.args.self.node.now c.args.found.number c.args.found.begins c.args.found.node.now c.requires.within).from
 
 pub invariant_of-result : goal.invariant_of-result
 invariant_of-result c =

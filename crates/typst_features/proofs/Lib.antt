@@ -1,0 +1,4 @@
+pub mod DataEditsMade
+pub mod HoldingNodes
+pub mod SelectedNodes
+pub mod TokenLines

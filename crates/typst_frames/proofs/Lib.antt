@@ -1,0 +1,15 @@
+-- From what a contract promises to the lemma behind it:
+--   bytes that were read, or none            Taken: first-kept, value-kept, short-at-end
+--   a line that was read, or why none was    Lines: line-read, line-cut, line-long; Taken: reads-line, cut-line, long-line
+--   a number in a header                     Numbers: number-parsed, number-none
+--   a head by its lines                      Heads: goes-on, goes-malformed, goes-err, goes-end, goes-out
+--   a frame by its head and its body         Heads: behind, head-failed, passed, cut-short
+--   what was written is read again           Again: frame-again
+--   bytes that were written piece by piece   Writing: Appends-piece
+
+pub mod Again
+pub mod Heads
+pub mod Lines
+pub mod Numbers
+pub mod Taken
+pub mod Writing

@@ -1,0 +1,12 @@
+//! The frames of the Language Server Protocol, over any reader and writer.
+#![tactic(auto)]
+
+mod bytes;
+mod header;
+pub mod reader;
+#[cfg(test)]
+mod tests;
+pub mod writer;
+
+pub use reader::{End, Frame, FrameReader};
+pub use writer::{write_frame, written_is_read};

@@ -1,0 +1,17 @@
+use Rattle.std.proofs.Common.{ap, sym, subst, ◌∙◌, None, length, refl}
+use Rattle.typst_tree.specs.Tree.{saturated, text_of}
+use Rattle.typst_highlight.specs.Stretches.{AreJoined}
+use Rattle.typst_highlight.proofs.Outlets.{tagger_root, joined_root}
+use Rattle.typst_highlight.proofs.stretches.tag_stretches.Goals as goal
+
+pub returns-clause-stretches : goal.returns-clause-stretches
+returns-clause-stretches c =
+    ap (λ t. t.stretches) c.tagger.view_is
+    ∙ tagger_root c.args.root.now (record { stretches = c.new.result.items; end = 0; around = None }) _ c.new.ensures.items refl refl c.in_ok-give_tree.ensures
+
+pub returns-clause-joined : goal.returns-clause-joined
+returns-clause-joined c =
+    let same =
+    ap (λ t. t.stretches) c.tagger.view_is
+    ∙ tagger_root c.args.root.now (record { stretches = c.new.result.items; end = 0; around = None }) _ c.new.ensures.items refl refl c.in_ok-give_tree.ensures in
+    subst (λ ts. AreJoined 0 ts (saturated (length (text_of c.args.root.now)))) (sym same) (joined_root c.args.root.now)

@@ -1,0 +1,4 @@
+pub mod Columns
+pub mod Plain
+pub mod Starts
+pub mod Positions

@@ -1,0 +1,11 @@
+//! Lines and positions as the Language Server Protocol has them.
+#![tactic(auto)]
+
+pub mod columns;
+pub mod positions;
+mod starts;
+#[cfg(test)]
+mod tests;
+
+pub use columns::Encoding;
+pub use positions::{Position, Positions};

@@ -1,0 +1,117 @@
+//! The word `edits`.
+
+use crate::edits::{Edit, Made, edit_of};
+use crate::escapes::with_line_feeds;
+use crate::spans::refusal;
+use crate::whole::{Wanted, are_same, fault};
+use std::alloc::{AllocError, Global};
+use typst_parser::{Source, SourceError, UnicodeClasses};
+
+/// What edits of a text answer that are made one after the other: they stand on the first lines, and the
+/// text comes behind an empty line. Each has a line with the bytes that it reads, and a line for each
+/// thing that isn't as it has to be.
+pub fn answer(alloc: Global, text: &str) -> Result<String, AllocError> {
+    let Some((edits, text)) = text.split_once("\n\n") else {
+        return String::from_str(alloc, "no text\n");
+    };
+    match Source::detached(alloc, String::from_str(alloc, text)?, UnicodeClasses) {
+        Ok(mut source) => answer_all(alloc, &mut source, edits),
+        Err(error) => refusal(alloc, error),
+    }
+}
+
+fn answer_all(
+    alloc: Global,
+    source: &mut Source<UnicodeClasses>,
+    edits: &str,
+) -> Result<String, AllocError> {
+    let mut printed = String::new(alloc);
+    for line in edits.split('\n') {
+        let line = with_line_feeds(alloc, line)?;
+        match edit_of(line.as_str()) {
+            Some(edit) => print_answer(alloc, &mut printed, source, edit)?,
+            None => printed.push_str("no edit\n")?,
+        }
+    }
+    Ok(printed)
+}
+
+/// Makes an edit of a source and of a copy, and has another copy replace its text by the new one.
+fn print_answer(
+    alloc: Global,
+    printed: &mut String,
+    source: &mut Source<UnicodeClasses>,
+    edit: Edit<'_>,
+) -> Result<(), AllocError> {
+    let (mut copy, mut other) = (source.try_clone()?, source.try_clone()?);
+    let Some(text) = edit.applied(alloc, copy.text())? else {
+        return printed.push_str("bad range\n");
+    };
+    let wanted = Wanted::of(alloc, text.as_str(), &UnicodeClasses)?;
+    let made = make_again(alloc, source, &copy, edit)?;
+    let of_copy = edit.make(&mut copy)?;
+    let by_text = replace(&mut other, text.as_str())?;
+    made.print(printed)?;
+    print_other(printed, "copy", &made, &of_copy)?;
+    print_other(printed, "replace", &made, &by_text)?;
+    print_fault(alloc, printed, "source", source, &wanted)?;
+    print_fault(alloc, printed, "replace", &other, &wanted)?;
+    if !are_same(alloc, source, &copy)? {
+        printed.push_str("copy: other spans\n")?;
+    }
+    Ok(())
+}
+
+/// Makes an edit. Where memory is refused, the source has to be as its copy, and the edit is made again.
+fn make_again(
+    alloc: Global,
+    source: &mut Source<UnicodeClasses>,
+    copy: &Source<UnicodeClasses>,
+    edit: Edit<'_>,
+) -> Result<Made, AllocError> {
+    if let Ok(made) = edit.make(source) {
+        return Ok(made);
+    }
+    if are_same(alloc, source, copy)? {
+        edit.make(source)
+    } else {
+        Ok(Made::Fault("changed"))
+    }
+}
+
+/// Replaces the text of a source.
+fn replace(source: &mut Source<UnicodeClasses>, text: &str) -> Result<Made, AllocError> {
+    match source.replace(text) {
+        Ok(read) => Ok(Made::Read(read)),
+        Err(SourceError::OutOfMemory) => Err(AllocError),
+        Err(SourceError::SpanNumbers) => Ok(Made::Fault("out of span numbers")),
+    }
+}
+
+/// Prints what came of the edit for another source, where it is something else.
+fn print_other(
+    printed: &mut String,
+    name: &str,
+    made: &Made,
+    other: &Made,
+) -> Result<(), AllocError> {
+    if made == other {
+        return Ok(());
+    }
+    write!(printed, "{name}: ")?;
+    other.print(printed)
+}
+
+/// Prints what of a source isn't as it has to be.
+fn print_fault(
+    alloc: Global,
+    printed: &mut String,
+    name: &str,
+    source: &Source<UnicodeClasses>,
+    wanted: &Wanted,
+) -> Result<(), AllocError> {
+    match fault(alloc, source, wanted, true)? {
+        None => Ok(()),
+        Some(fault) => writeln!(printed, "{name}: {fault}"),
+    }
+}
