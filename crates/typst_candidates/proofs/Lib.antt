@@ -1,5 +1,6 @@
 -- From what a contract promises to the lemma behind it:
---   a row's edges and stretches      Rows; Found: what is found in a row; Bytes: of a run; Nested: the run by its entries
+--   a row's edges and stretches      Rows; Found: what is found in a row; Nested: the run by its entries
+--   has, run: the bytes rise         Bytes
 --   records: of_notes, rear, front, opening, last   Walks: entry by entry; Passes: over all of them
 --   next, back, cursor_at, piece_behind, piece_before, top_run, run_in, closing   Cursors
 --   put, push, next, back of the words       Words
