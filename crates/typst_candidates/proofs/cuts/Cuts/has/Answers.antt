@@ -1,6 +1,5 @@
-use Rattle.std.proofs.Common.{ap, ◌∙◌}
+use Rattle.std.proofs.Common.{◌∙◌}
 use Rattle.std.proofs.lemmas.List.Sorted.{searched}
-use Rattle.typst_candidates.specs.Candidates.{is_among}
 use Rattle.typst_candidates.proofs.Bytes.{found-among}
 use Rattle.typst_candidates.proofs.cuts.Cuts.has.Goals as goal
 
