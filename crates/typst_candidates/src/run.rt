@@ -122,6 +122,26 @@ impl Records {
     }
 }
 
+impl<'a> Cursor<'a> {
+    /// The place before the first piece behind it, of the run that it stands in, whose token begins at byte
+    /// `at`. Goes through the entries up to there.
+    #[inline(never)]
+    pub fn piece_from(&self, at: usize) -> Option<Cursor<'a>>
+        ensures { result ≡ spec.placed self.now (spec.piece_of at 0 (spec.start_at self.now) self.now.number (drop self.now.number self.now.entries)) }
+    {
+        let mut place = self.copy();
+        let mut inside = 0usize;
+        loop {
+            let here = place.copy();
+            let entry = place.next()?;
+            if begins_piece(at, entry.tag, inside, place.start()) {
+                return Some(here);
+            }
+            inside = inside_behind(entry.tag, inside)?;
+        }
+    }
+}
+
 /// Whether a piece of a run itself begins at byte `at`, by an entry in so many blocks of the run whose token
 /// begins at the byte `start`.
 fn begins_piece(at: usize, tag: Tag, inside: usize, start: usize) -> bool
