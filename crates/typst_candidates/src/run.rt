@@ -112,10 +112,11 @@ impl<'a> Cursor<'a> {
         let mut place = self.copy();
         let mut inside = 0usize;
         loop {
-            let here = place.copy();
             let entry = place.next()?;
             if begins_piece(at, entry.tag, inside, place.start()) {
-                return Some(here);
+                // one step back here costs less than a copy of the place before each entry
+                place.back();
+                return Some(place);
             }
             inside = inside_behind(entry.tag, inside)?;
         }

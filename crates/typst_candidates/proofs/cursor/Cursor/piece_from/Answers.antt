@@ -1,6 +1,6 @@
 use Rattle.std.proofs.Common.{◌≡◌, ℕ, ◌-◌, ◌<◌, ◌==◌, ◌&&◌, suc, Some, drop, length, refl, ap, sym, ◌∙◌, arith}
 use Rattle.std.proofs.lemmas.Option.{slice_get_within}
-use Rattle.typst_candidates.specs.Cursors.{Place, inside_behind, leads, piece_of, placed, start_at}
+use Rattle.typst_candidates.specs.Cursors.{Place, before, inside_behind, leads, piece_of, placed, start_at}
 use Rattle.typst_candidates.proofs.Cursors.{behind-found-in, behind-missing-in, inside-grows, piece-none, piece-on, start-on}
 use Rattle.typst_candidates.proofs.cursor.Cursor.piece_from.Goals as goal
 
@@ -19,7 +19,8 @@ returns-then-begins_piece c =
     let there = behind-found-in es p e c.loop-entry.invariant.entries c.in_ok-entry.ensures.entry in
     let on = start-on es p _ e c.loop-entry.invariant.entries c.in_ok-entry.ensures.entry c.in_ok-entry.ensures.place in
     let test = ap (λ (s : ℕ). leads e.tag c.loop-entry.inside && s == c.args.at) (sym on ∙ sym c.start.ensures) ∙ sym c.begins_piece.ensures ∙ c.if-begins_piece.true in
-    ap (λ q. Some q) (c.copy-here.ensures.place ∙ ap (λ us. record { entries = us; number = p.number }) c.loop-entry.invariant.entries)
+    let same : suc p.number - 1 ≡ p.number = omega arith in
+    ap (λ q. Some q) (c.back.ensures.place ∙ ap before c.in_ok-entry.ensures.place ∙ ap (λ n. record { entries = p.entries; number = n }) same ∙ ap (λ us. record { entries = us; number = p.number }) c.loop-entry.invariant.entries)
     ∙ ap (placed c.args.self.now) (sym (piece-on es c.args.at c.loop-entry.inside (start_at p) p.number e _ (inside_behind e.tag c.loop-entry.inside) there test refl) ∙ c.loop-entry.invariant.later)
 
 pub returns-in_err-inside : goal.returns-in_err-inside
