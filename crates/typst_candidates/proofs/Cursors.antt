@@ -2,6 +2,7 @@
 use Rattle.std.proofs.Common.{◌≡◌, ℕ, zero, suc, ◌+◌, ◌-◌, ◌≤◌, ◌<◌, ◌^◌, Bool, ◌==◌, ◌&&◌, ◌++◌, true, false, if◌then◌else◌, List, [], ◌∷◌, length, get_or, take, drop, drop-cons, Option, None, Some, refl, ap, sym, subst, ◌∙◌, arith}
 use Rattle.std.proofs.Math.Seq.{take-suc}
 use Rattle.std.proofs.lemmas.Bool.{false≢true}
+use Rattle.std.proofs.lemmas.Bool.Decides.{nat_tests}
 use Rattle.std.proofs.lemmas.List.{append-nil}
 use Rattle.std.proofs.lemmas.Option.{slice_get_within, get_or_from_slice_get, slice_get-get_or}
 use Rattle.std.specs.List.{slice_get}
@@ -329,3 +330,19 @@ piece-on es at inside start n e b o h t i =
     ap (piece_of at inside start n) (cut es n e h)
     ∙ ap (λ c. if c then Some n else elim (inside_behind e.tag inside) as (λ _. Option ℕ) [ None ↦ None | Some further ↦ piece_of at further (token_at start e) (suc n) (drop (suc n) es) ]) t
     ∙ ap (λ x. if b then Some n else elim x as (λ _. Option ℕ) [ None ↦ None | Some further ↦ piece_of at further (token_at start e) (suc n) (drop (suc n) es) ]) i
+
+-- behind a piece of the run itself that begins elsewhere the same piece is the first that begins there
+pub piece-pass : (at : ℕ) (p q : Place) (e : Entry) → entry_behind p ≡ Some e → is_piece e.tag ≡ true → q ≡ record p { number = suc p.number } → (start_at q ≡ at → ⊥)
+    → piece_of at 0 (start_at q) q.number (drop q.number q.entries) ≡ piece_of at 0 (start_at p) p.number (drop p.number p.entries)
+piece-pass at p q e h piece n elsewhere =
+    let es = p.entries in
+    let leading : leads e.tag 0 ≡ true = ap (λ b. b && (0 == 0)) piece in
+    let on = start-on es p q e refl (sym h) n in
+    let other : (start_at q == at) ≡ false = not-same (start_at q) elsewhere in
+    let test : (leads e.tag 0 && token_at (start_at p) e == at) ≡ false = ap (λ b. b && token_at (start_at p) e == at) leading ∙ ap (λ s. s == at) (sym on) ∙ other in
+    sym
+    (piece-on es at 0 (start_at p) p.number e false (Some 0) h test (piece-inside e.tag 0 piece)
+    ∙ ap (λ s. piece_of at 0 s (suc p.number) (drop (suc p.number) es)) (sym on) ∙ ap (λ (r : Place). piece_of at 0 (start_at q) r.number (drop r.number r.entries)) (sym n))
+  where
+    not-same : (m : ℕ) → (m ≡ at → ⊥) → (m == at) ≡ false
+    not-same m ne = grind (arith, nat_tests)

@@ -114,6 +114,7 @@ impl<'a> Cursor<'a> {
         let mut place = self.copy();
         let mut inside = 0usize;
         loop {
+            pass_other_pieces(&mut place, inside, at);
             let entry = place.next()?;
             if begins_piece(at, entry.tag, inside, place.start()) {
                 // one step back here costs less than a copy of the place before each entry
@@ -121,6 +122,25 @@ impl<'a> Cursor<'a> {
                 return Some(place);
             }
             inside = inside_behind(entry.tag, inside)?;
+        }
+    }
+}
+
+/// Passes over entries at which pieces of the run itself begin, up to one whose token begins at byte `at`. In a block
+/// of the run there are none.
+fn pass_other_pieces(place: &mut Cursor<'_>, inside: usize, at: usize)
+    ensures entries { place.new.entries ≡ place.old.entries }
+    ensures on { place.old.number ≤ place.new.number }
+    ensures piece { spec.piece_of at inside (spec.start_at place.new) place.new.number (drop place.new.number place.new.entries) ≡ spec.piece_of at inside (spec.start_at place.old) place.old.number (drop place.old.number place.old.entries) }
+{
+    if inside > 0 {
+        return;
+    }
+    while place.pass_piece() {
+        if place.start() == at {
+            // one step back here costs less than a copy of the place before each entry
+            place.back();
+            return;
         }
     }
 }
