@@ -1,17 +1,71 @@
--- Bytes one after the other.
-use Rattle.std.proofs.Common.{◌≡◌, ℕ, ◌+◌, ◌<◌, ◌≤◌, true, false, List, length, drop, get_or, refl, ap, ◌∙◌, arith, eq-eqb, drop_of_length-le}
-use Rattle.std.specs.Prelude.{◌==◌}
+-- Bytes that rise: where the pieces of a run begin.
+use Rattle.std.proofs.Common.{◌≡◌, ℕ, zero, suc, ◌<◌, ◌≤◌, Bool, true, false, if◌then◌else◌, List, [], ◌∷◌, length, get_or, Option, None, Some, Result, Ok, Err, refl, ap, sym, ◌∙◌, ⊎_elim, arith, eq-eqb}
+use Rattle.std.specs.Prelude.{◌==◌, ◌||◌}
+use Rattle.std.specs.Result.{MatchResult, is_ok}
+use Rattle.std.specs.List.Sorted.{IsNonDecreasing}
+use Rattle.std.proofs.lemmas.Bool.{cases_lt}
 use Rattle.std.proofs.lemmas.Bool.Decides.{nat_tests}
-use Rattle.std.proofs.lemmas.List.{at_drop_more}
+use Rattle.typst_candidates.specs.declared.entry.Entry.{Entry}
 use Rattle.typst_candidates.specs.Candidates.{is_among}
+use Rattle.typst_candidates.specs.Cursors.{inside_behind, leads, pieces_of, token_at}
 
-pub among_here : (b : ℕ) (xs : List ℕ) (i : ℕ) → i < length xs → b ≡ get_or xs i 0 → is_among b (drop i xs) ≡ true
-among_here b xs i h e = at_drop_more (is_among b) xs i 0 h ∙ rw (eq-eqb b (get_or xs i 0) e) refl
+-- ---- whether a byte is among them
 
-pub among_next : (b : ℕ) (xs : List ℕ) (i : ℕ) → i < length xs → (b ≡ get_or xs i 0 → ⊥) → is_among b (drop i xs) ≡ is_among b (drop (i + 1) xs)
-among_next b xs i h ne =
-    let no : (b == get_or xs i 0) ≡ false = grind (arith, nat_tests) in
-    at_drop_more (is_among b) xs i 0 h ∙ rw no refl
+or-true : (b : Bool) → (b || true) ≡ true
+or-true true = refl
+or-true false = refl
 
-pub among_none : (b : ℕ) (xs : List ℕ) (i : ℕ) → length xs ≤ i → is_among b (drop i xs) ≡ false
-among_none b xs i h = ap (is_among b) (drop_of_length-le xs h)
+among-at : (b : ℕ) (xs : List ℕ) (i : ℕ) → i < length xs → get_or xs i 0 ≡ b → is_among b xs ≡ true
+among-at b [] i h e = absurd (omega (arith, h))
+among-at b (x ∷ xs) zero h e = ap (λ t. t || is_among b xs) (eq-eqb b x (sym e))
+among-at b (x ∷ xs) (suc i) h e = ap (λ t. (b == x) || t) (among-at b xs i (omega (arith, h)) e) ∙ or-true (b == x)
+
+among-none : (b : ℕ) (xs : List ℕ) → ((k : ℕ) → k < length xs → b ≡ get_or xs k 0 → ⊥) → is_among b xs ≡ false
+among-none b [] h = refl
+among-none b (x ∷ xs) h =
+    let ne : b ≡ x → ⊥ = h 0 (omega arith) in
+    let no : (b == x) ≡ false = grind (arith, nat_tests) in
+    ap (λ t. t || is_among b xs) no ∙ among-none b xs (λ k w. h (suc k) (omega (arith, w)))
+
+-- what a search by halves finds
+pub found-among : (b : ℕ) (xs : List ℕ) (r : Result ℕ ℕ)
+    → MatchResult r (λ i. (i < length xs) × (get_or xs i 0 ≡ b)) (λ i. (i ≤ length xs) × ((k : ℕ) → k < i → get_or xs k 0 < b) × ((k : ℕ) → i ≤ k → k < length xs → b < get_or xs k 0))
+    → is_ok r ≡ is_among b xs
+found-among b xs (Ok i) h = sym (among-at b xs i h.0 h.1)
+found-among b xs (Err i) h = sym (among-none b xs (λ k w e. ⊎_elim (λ l. (let less = h.1 k l in omega (arith, less, e))) (λ l. (let more = h.2 k l w in omega (arith, more, e))) (cases_lt k i)))
+
+-- ---- they rise
+
+abbrev pub RiseFrom : ℕ → List ℕ → Type 0
+RiseFrom least [] = Unit {0}
+RiseFrom least (b ∷ bs) = (least ≤ b) × RiseFrom b bs
+
+rise-sooner : (a b : ℕ) (xs : List ℕ) → a ≤ b → RiseFrom b xs → RiseFrom a xs
+rise-sooner a b [] h r = tt
+rise-sooner a b (x ∷ xs) h r = let least = r.0 in (omega (arith, h, least), r.1)
+
+pieces-rise : (inside start : ℕ) (es : List Entry) → RiseFrom start (pieces_of inside start es)
+pieces-rise inside start [] = tt
+pieces-rise inside start (e ∷ es) = step (leads e.tag inside) (inside_behind e.tag inside) (λ further. pieces-rise further (token_at start e) es)
+  where
+    step : (b : Bool) (o : Option ℕ) → ((further : ℕ) → RiseFrom (token_at start e) (pieces_of further (token_at start e) es))
+        → RiseFrom start (let behind = elim o as (λ _. List ℕ) [ None ↦ [] | Some further ↦ pieces_of further (token_at start e) es ] in if b then token_at start e ∷ behind else behind)
+    step true None rest = (omega arith, tt)
+    step true (Some further) rest = (omega arith, rest further)
+    step false None rest = tt
+    step false (Some further) rest = rise-sooner start (token_at start e) (pieces_of further (token_at start e) es) (omega arith) (rest further)
+
+least-first : (a : ℕ) (xs : List ℕ) (k d : ℕ) → RiseFrom a xs → k < length xs → a ≤ get_or xs k d
+least-first a [] k d r h = absurd (omega (arith, h))
+least-first a (x ∷ xs) zero d r h = r.0
+least-first a (x ∷ xs) (suc k) d r h = let rest = least-first x xs k d r.1 (omega (arith, h)) in let first = r.0 in omega (arith, rest, first)
+
+in-order : (a : ℕ) (xs : List ℕ) → RiseFrom a xs → IsNonDecreasing xs
+in-order a [] r i j d o h = absurd (omega (arith, h))
+in-order a (x ∷ xs) r zero zero d o h = omega arith
+in-order a (x ∷ xs) r zero (suc j) d o h = least-first x xs j d r.1 (omega (arith, h))
+in-order a (x ∷ xs) r (suc i) zero d o h = absurd (omega (arith, o))
+in-order a (x ∷ xs) r (suc i) (suc j) d o h = in-order x xs r.1 i j d (omega (arith, o)) (omega (arith, h))
+
+pub pieces-in-order : (inside start : ℕ) (es : List Entry) → IsNonDecreasing (pieces_of inside start es)
+pieces-in-order inside start es = in-order start (pieces_of inside start es) (pieces-rise inside start es)

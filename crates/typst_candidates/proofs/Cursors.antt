@@ -1,6 +1,7 @@
 -- Places among entries: where they are, and where the next piece of a run begins.
 use Rattle.std.proofs.Common.{◌≡◌, ℕ, zero, suc, ◌+◌, ◌-◌, ◌≤◌, ◌<◌, ◌^◌, Bool, ◌==◌, ◌&&◌, ◌++◌, true, false, if◌then◌else◌, List, [], ◌∷◌, length, get_or, take, drop, drop-cons, Option, None, Some, refl, ap, sym, subst, ◌∙◌, arith}
 use Rattle.std.proofs.Math.Seq.{take-suc}
+use Rattle.std.proofs.lemmas.Bool.{false≢true}
 use Rattle.std.proofs.lemmas.List.{append-nil}
 use Rattle.std.proofs.lemmas.Option.{slice_get_within, get_or_from_slice_get, slice_get-get_or}
 use Rattle.std.specs.List.{slice_get}
@@ -8,7 +9,7 @@ use Rattle.typst_candidates.specs.declared.entry.Entry.{Entry}
 use Rattle.typst_candidates.specs.declared.entry.Tag.{Tag}
 use Rattle.typst_candidates.specs.declared.entry.Tag.TheVariants as tag
 use Rattle.typst_candidates.specs.Entries.{end_of}
-use Rattle.typst_candidates.specs.Cursors.{Place, before, behind, entry_behind, entry_before, first_piece, last_piece, last_of, inside_behind, inside_before, leads, start_at, token_at, pieces_of, pieces_in, piece_of, closing_of, opens_content}
+use Rattle.typst_candidates.specs.Cursors.{Place, before, behind, entry_behind, entry_before, first_piece, last_piece, last_of, inside_behind, inside_before, is_piece, leads, start_at, token_at, pieces_of, pieces_in, piece_of, closing_of, opens_content}
 use Rattle.typst_candidates.specs.Units.{behind_first}
 use Rattle.typst_candidates.proofs.Walks.{end-append}
 
@@ -264,6 +265,24 @@ pieces-stop es inside start n e h i = pieces-on es inside start n e None h i ∙
 pub pieces-go : (es : List Entry) (inside start n : ℕ) (e : Entry) (further : ℕ) → slice_get es n ≡ Some e → inside_behind e.tag inside ≡ Some further
     → pieces_of inside start (drop n es) ≡ (if leads e.tag inside then token_at start e ∷ [] else []) ++ pieces_of further (token_at start e) (drop (suc n) es)
 pieces-go es inside start n e further h i = pieces-on es inside start n e (Some further) h i
+
+-- a piece's entry stands in the run itself, and what comes behind it in as many blocks
+piece-inside : (t : Tag) (inside : ℕ) → is_piece t ≡ true → inside_behind t inside ≡ Some inside
+piece-inside (tag.Piece at_start) inside h = refl
+piece-inside (tag.Opens block m) inside h = absurd (false≢true h)
+piece-inside tag.Closes inside h = absurd (false≢true h)
+
+-- behind a piece of the run itself its other pieces are left
+pub pieces-pass : (p q : Place) (e : Entry) → entry_behind p ≡ Some e → is_piece e.tag ≡ true → q ≡ record p { number = suc p.number }
+    → pieces_of 0 (start_at p) (drop p.number p.entries) ≡ start_at q ∷ pieces_of 0 (start_at q) (drop q.number q.entries)
+pieces-pass p q e h piece n =
+    let es = p.entries in
+    let leading : leads e.tag 0 ≡ true = ap (λ b. b && (0 == 0)) piece in
+    let on = start-on es p q e refl (sym h) n in
+    pieces-go es 0 (start_at p) p.number e 0 h (piece-inside e.tag 0 piece)
+    ∙ ap (λ b. (if b then token_at (start_at p) e ∷ [] else []) ++ pieces_of 0 (token_at (start_at p) e) (drop (suc p.number) es)) leading
+    ∙ ap (λ s. s ∷ pieces_of 0 s (drop (suc p.number) es)) (sym on)
+    ∙ ap (λ (r : Place). start_at q ∷ pieces_of 0 (start_at q) (drop r.number r.entries)) (sym n)
 
 pub closing-none : (es : List Entry) (inside number n : ℕ) → slice_get es n ≡ None → closing_of inside number (drop n es) ≡ None
 closing-none [] inside number zero h = refl

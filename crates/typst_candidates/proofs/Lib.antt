@@ -1,9 +1,10 @@
 -- From what a contract promises to the lemma behind it:
---   a row's edges and stretches      Rows; Found: what is found in a row; Bytes: of a run; Nested: the run by its entries
+--   a row's edges and stretches      Rows; Found: what is found in a row; Nested: the run by its entries
+--   has, run: the bytes rise         Bytes
 --   records: of_notes, rear, front, opening, last   Walks: entry by entry; Passes: over all of them
 --   next, back, cursor_at, piece_behind, piece_before, top_run, run_in, closing   Cursors
 --   put, push, next, back of the words       Words
---   start of a walk                  Spans: by sums over words; pass_block   Blocks
+--   start of a walk, put             Spans: by sums over words, Rounds: round the machine's numbers; pass_block   Blocks
 --   looks_law                        Looks: note by note
 --   nested_law                       Nested
 pub mod Found
@@ -15,5 +16,6 @@ pub mod Cursors
 pub mod Nested
 pub mod Words
 pub mod Spans
+pub mod Rounds
 pub mod Blocks
 pub mod Passes

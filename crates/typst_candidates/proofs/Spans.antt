@@ -1,5 +1,5 @@
 -- Where the token of the last of some entries begins, by sums over words and over those beside them.
-use Rattle.std.proofs.Common.{◌≡◌, ℕ, zero, suc, ◌+◌, ◌*◌, ◌/◌, ◌%◌, ◌≤◌, ◌<◌, ◌^◌, List, [], ◌∷◌, length, get_or, map, take, drop, Option, None, Some, refl, ap, subst, ◌∙◌, arith}
+use Rattle.std.proofs.Common.{◌≡◌, ℕ, zero, suc, ◌+◌, ◌-◌, ◌*◌, ◌/◌, ◌%◌, ◌≤◌, ◌<◌, ◌^◌, List, [], ◌∷◌, length, get_or, map, take, drop, Option, None, Some, refl, ap, sym, subst, ◌∙◌, arith}
 use Rattle.std.proofs.lemmas.List.{length-map, take-map}
 use Rattle.std.proofs.lemmas.Nat.{mod_below, pow_pos}
 use Rattle.std.specs.List.{slice_get}
@@ -81,3 +81,42 @@ wides-more [] (suc n) m = let e : suc n + m ≡ suc (n + m) = omega arith in let
     no-wides (suc m) = refl
 wides-more (p ∷ ps) zero m = let e : zero + m ≡ m = omega arith in let same = ap (λ k. wides (take k (p ∷ ps))) e in omega (arith, same)
 wides-more (p ∷ ps) (suc n) m = let e : suc n + m ≡ suc (n + m) = omega arith in let same = ap (λ k. wides (take k (p ∷ ps))) e in let i = wides-more ps n m in omega (arith, same, i)
+
+pub spans-more : (ps : List Packed) (n m : ℕ) → spans (take (n + m) ps) ≡ spans (take n ps) + spans (take m (drop n ps))
+spans-more [] zero m = let e : zero + m ≡ m = omega arith in let same = ap (λ k. spans (take k [])) e in omega (arith, same)
+spans-more [] (suc n) m = let e : suc n + m ≡ suc (n + m) = omega arith in let same = ap (λ k. spans (take k [])) e in let none = no-spans m in omega (arith, same, none)
+  where
+    no-spans : (m : ℕ) → spans (take m []) ≡ 0
+    no-spans zero = refl
+    no-spans (suc m) = refl
+spans-more (p ∷ ps) zero m = let e : zero + m ≡ m = omega arith in let same = ap (λ k. spans (take k (p ∷ ps))) e in omega (arith, same)
+spans-more (p ∷ ps) (suc n) m = let e : suc n + m ≡ suc (n + m) = omega arith in let same = ap (λ k. spans (take k (p ∷ ps))) e in let i = spans-more ps n m in omega (arith, same, i)
+
+pub lengths-more : (es : List Entry) (n m : ℕ) → lengths (take (n + m) es) ≡ lengths (take n es) + lengths (take m (drop n es))
+lengths-more [] zero m = let e : zero + m ≡ m = omega arith in let same = ap (λ k. lengths (take k [])) e in omega (arith, same)
+lengths-more [] (suc n) m = let e : suc n + m ≡ suc (n + m) = omega arith in let same = ap (λ k. lengths (take k [])) e in let none = no-lengths m in omega (arith, same, none)
+  where
+    no-lengths : (m : ℕ) → lengths (take m []) ≡ 0
+    no-lengths zero = refl
+    no-lengths (suc m) = refl
+lengths-more (d ∷ es) zero m = let e : zero + m ≡ m = omega arith in let same = ap (λ k. lengths (take k (d ∷ es))) e in omega (arith, same)
+lengths-more (d ∷ es) (suc n) m = let e : suc n + m ≡ suc (n + m) = omega arith in let same = ap (λ k. lengths (take k (d ∷ es))) e in let i = lengths-more es n m in omega (arith, same, i)
+
+-- ---- how many bytes lie between the tokens of two of them
+
+pub record Between (ps : List Packed) (ws : List Entry) (from to : ℕ) : Type 0 where
+  pub wide : wides (take to ps) ≡ wides (take from ps) + wides (take (to - from) (drop from ps))
+  pub bytes : end_of 0 (take to (unpacked ps ws))
+      ≡ end_of 0 (take from (unpacked ps ws)) + (spans (take (to - from) (drop from ps)) + lengths (take (wides (take (to - from) (drop from ps))) (drop (wides (take from ps)) ws)))
+
+pub between : (ps : List Packed) (ws : List Entry) (from to : ℕ) → from ≤ to → to ≤ length ps → wides ps ≡ length ws → Between ps ws from to
+between ps ws from to order within h =
+    let k = to - from in
+    let sum : from + k ≡ to = omega (arith, order) in
+    let wide : wides (take to ps) ≡ wides (take from ps) + wides (take k (drop from ps)) = ap (λ n. wides (take n ps)) (sym sum) ∙ wides-more ps from k in
+    let words : spans (take to ps) ≡ spans (take from ps) + spans (take k (drop from ps)) = ap (λ n. spans (take n ps)) (sym sum) ∙ spans-more ps from k in
+    let beside : lengths (take (wides (take to ps)) ws) ≡ lengths (take (wides (take from ps)) ws) + lengths (take (wides (take k (drop from ps))) (drop (wides (take from ps)) ws)) =
+    ap (λ n. lengths (take n ws)) wide ∙ lengths-more ws (wides (take from ps)) (wides (take k (drop from ps))) in
+    let first = start-sum ps ws from (omega (arith, order, within)) h in
+    let last = start-sum ps ws to within h in
+    record { wide = wide; bytes = omega (arith, first, last, words, beside) }

@@ -14,6 +14,15 @@ pub end-append : (start : ℕ) (es : List Entry) (e : Entry) → end_of start (e
 end-append start [] e = refl
 end-append start (d ∷ es) e = end-append ((start + d.step) + d.gap) es e
 
+end-from : (start : ℕ) (es : List Entry) → end_of start es ≡ start + end_of 0 es
+end-from start [] = omega arith
+end-from start (e ∷ es) = let here = end-from ((start + e.step) + e.gap) es in let first = end-from ((0 + e.step) + e.gap) es in omega (arith, here, first)
+
+-- of two lists of entries, one behind the other
+pub end-sum : (start : ℕ) (es ds : List Entry) → end_of start (es ++ ds) ≡ end_of start es + end_of 0 ds
+end-sum start [] ds = end-from start ds
+end-sum start (e ∷ es) ds = end-sum ((start + e.step) + e.gap) es ds
+
 counts : Bool → ℕ → ℕ
 counts b n = if b then 0 else n
 

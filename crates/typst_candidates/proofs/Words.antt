@@ -1,6 +1,7 @@
 -- Entries in words: one word, and the words of a list with those beside it.
-use Rattle.std.proofs.Common.{◌≡◌, ℕ, zero, suc, ◌+◌, ◌*◌, ◌/◌, ◌%◌, ◌^◌, ◌≤◌, ◌<◌, List, [], ◌∷◌, ◌++◌, length, get_or, map, take, drop, Option, None, Some, length-append, length-drop, length-take-le, refl, ap, sym, subst, ◌∙◌, arith}
+use Rattle.std.proofs.Common.{◌≡◌, ℕ, zero, suc, ◌+◌, ◌*◌, ◌/◌, ◌%◌, ◌^◌, ◌≤◌, ◌<◌, true, List, [], ◌∷◌, ◌++◌, length, get_or, map, take, drop, Option, None, Some, length-append, length-drop, length-take-le, refl, ap, sym, subst, ◌∙◌, arith}
 use Rattle.std.proofs.Math.Seq.{take-append_seam, drop-append_seam}
+use Rattle.std.proofs.lemmas.Bool.{false≢true}
 use Rattle.std.proofs.lemmas.List.{append-nil, map-append, drop-map, length-map, take-append-drop, take-map}
 use Rattle.std.proofs.lemmas.Nat.{shr_high, mod_low}
 use Rattle.std.proofs.lemmas.Option.{slice_get-map}
@@ -10,7 +11,8 @@ use Rattle.typst_candidates.specs.declared.entry.Entry.{Entry}
 use Rattle.typst_candidates.specs.declared.entry.Tag.{Tag}
 use Rattle.typst_candidates.specs.declared.packed.Packed.{Packed}
 use Rattle.typst_candidates.specs.declared.packed.Widths.{Widths}
-use Rattle.typst_candidates.specs.Packed.{tags, widths, entry_by, entry_in, beside, all_beside, filled, wides, unpacked}
+use Rattle.typst_candidates.specs.Packed.{tags, widths, entry_by, entry_in, beside, all_beside, filled, holds_piece, span, wides, unpacked}
+use Rattle.typst_candidates.specs.Cursors.{is_piece}
 
 -- ---- filled by those beside
 
@@ -282,6 +284,21 @@ holds ps ws n p e at h held =
       found = held-at (map entry_in ps) ws n e (option-at ps n p at ∙ ap (λ o. Some o) held) (omega (arith, h));
       same = omega (arith, more, one, two, none);
     }
+
+-- a word by which a piece begins
+pub record Passed (ps : List Packed) (ws : List Entry) (n : ℕ) (p : Packed) : Type 0 where
+  pub entry : Entry
+  pub found : slice_get (unpacked ps ws) n ≡ Some entry
+  pub leads : is_piece entry.tag ≡ true
+  pub same : wides (take (suc n) ps) ≡ wides (take n ps)
+  pub long : span (entry_in p) ≡ entry.step + entry.gap
+
+pub passed : (ps : List Packed) (ws : List Entry) (n : ℕ) (p : Packed) → slice_get ps n ≡ Some p → wides ps ≡ length ws → holds_piece (entry_in p) ≡ true → Passed ps ws n p
+passed ps ws n p at h piece = go (entry_in p) refl piece
+  where
+    go : (o : Option Entry) → entry_in p ≡ o → holds_piece o ≡ true → Passed ps ws n p
+    go None q t = absurd (false≢true t)
+    go (Some e) q t = let s = holds ps ws n p e at h q in record { entry = e; found = s.found; leads = t; same = s.same; long = ap span q }
 
 pub record Stands (ps : List Packed) (ws : List Entry) (n : ℕ) : Type 0 where
   pub found : slice_get (unpacked ps ws) n ≡ slice_get ws (wides (take n ps))

@@ -68,6 +68,13 @@ is_piece (tag.Piece at_start) = true
 is_piece (tag.Opens block m) = false
 is_piece tag.Closes = false
 
+-- a place behind an entry at which a piece begins
+pub record PassesPiece (old new : Place) : Type 0 where
+  pub entry : Entry
+  pub entry_is : entry_behind old ≡ Some entry
+  pub leads : is_piece entry.tag ≡ true
+  pub new_is : new ≡ record old { number = suc old.number }
+
 abbrev pub one_less : ℕ → Option ℕ
 one_less zero = None
 one_less (suc n) = Some n

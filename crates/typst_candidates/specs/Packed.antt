@@ -1,5 +1,5 @@
 -- Entries in words, and beside the words those that no word holds.
-use Rattle.std.specs.Prelude.{ℕ, ◌+◌, ◌≤◌, ◌/◌, ◌%◌, ◌^◌, true, false, List, [], ◌∷◌, map, Option, Some, None}
+use Rattle.std.specs.Prelude.{ℕ, ◌+◌, ◌≤◌, ◌/◌, ◌%◌, ◌^◌, Bool, true, false, List, [], ◌∷◌, map, Option, Some, None}
 use Rattle.std.specs.List.{slice_get}
 use Rattle.typst_kinds.specs.declared.mode.SyntaxMode.TheVariants as mode
 use Rattle.typst_language.specs.declared.calls.Block.TheVariants as block
@@ -8,6 +8,7 @@ use Rattle.typst_candidates.specs.declared.entry.Tag.{Tag}
 use Rattle.typst_candidates.specs.declared.entry.Tag.TheVariants as tag
 use Rattle.typst_candidates.specs.declared.packed.Packed.{Packed}
 use Rattle.typst_candidates.specs.declared.packed.Widths.{Widths}
+use Rattle.typst_candidates.specs.Cursors.{is_piece}
 
 -- ---- one word
 
@@ -60,6 +61,11 @@ beside (Some e) = 0
 abbrev pub all_beside : List (Option Entry) → ℕ
 all_beside [] = 0
 all_beside (o ∷ os) = beside o + all_beside os
+
+-- a word holds an entry at which a piece begins
+abbrev pub holds_piece : Option Entry → Bool
+holds_piece None = false
+holds_piece (Some e) = is_piece e.tag
 
 -- how many bytes lie between the token before an entry and its own
 abbrev pub span : Option Entry → ℕ

@@ -1,6 +1,6 @@
 //! A place among the entries of records.
 
-ghost use Rattle.std.specs.Prelude.{◌≡◌, ◌+◌, ◌^◌, ◌<◌, ◌≤◌, length, drop, MatchOption, Some, None};
+ghost use Rattle.std.specs.Prelude.{◌≡◌, ◌+◌, ◌-◌, ◌^◌, ◌<◌, ◌≤◌, length, drop, MatchBool, MatchOption, Some, None};
 ghost use Rattle.typst_candidates.specs.Entries.{end_of};
 ghost use Rattle.typst_candidates.specs.Cursors as spec;
 
@@ -102,6 +102,26 @@ impl<'a> Cursor<'a> {
         let entry = self.walk.next()?;
         self.start += entry.step + entry.gap;
         Some(entry)
+    }
+
+    /// Passes over the entry behind it, if a word holds it and a piece begins at it, and answers whether it did.
+    /// Nearly all entries are such, so what goes through a run passes these by it, and only the others by `next`.
+    #[inline]
+    pub(crate) fn pass_piece(&mut self) -> bool
+        ensures { MatchBool result (spec.PassesPiece self.old self.new) (self.new ≡ self.old) }
+    {
+        let Some(span) = self.walk.pass_piece() else {
+            return false;
+        };
+        self.start += span;
+        true
+    }
+
+    /// How many entries stand behind it.
+    pub(crate) fn left(&self) -> usize
+        ensures { result ≡ length self.now.entries - self.now.number }
+    {
+        self.walk.left()
     }
 
     /// The entry before it, before which it goes; nothing where there is none.

@@ -1,7 +1,7 @@
 //! Entries in order, nearly all of them in words.
 
-ghost use Rattle.std.specs.Prelude.{◌≡◌, ◌+◌, ◌-◌, ◌^◌, ◌++◌, ◌∷◌, [], ◌≤◌, ◌<◌, IfOk, IfSome, None, OnErr, OnOk, Some, length, drop, slice_get, suc, take, vec_capacity};
-ghost use Rattle.typst_candidates.specs.Cursors.{PassesBlock, before, behind, block_len, entry_before, entry_behind, start_at};
+ghost use Rattle.std.specs.Prelude.{◌≡◌, ◌+◌, ◌-◌, ◌%◌, ◌^◌, ◌++◌, ◌∷◌, [], ◌≤◌, ◌<◌, IfOk, IfSome, MatchOption, None, OnErr, OnOk, Some, length, drop, slice_get, suc, take, vec_capacity};
+ghost use Rattle.typst_candidates.specs.Cursors.{PassesBlock, PassesPiece, before, behind, block_len, entry_before, entry_behind, start_at};
 ghost use Rattle.typst_candidates.specs.Entries.{end_of};
 ghost use Rattle.typst_candidates.specs.Packed.{HasRoom, lengths, spans, wides};
 
@@ -98,18 +98,23 @@ impl Entries {
         Ok(Entries { words, wide })
     }
 
-    /// Puts a part in place of the entries behind the one numbered `from` up to the one numbered `to`.
+    /// Puts a part in place of the entries behind the one numbered `from` up to the one numbered `to`, and
+    /// answers how many bytes lay between the tokens of these two, counted round the machine's numbers.
     /// It takes no memory, since room was made before.
-    pub(crate) fn put(&mut self, part: &Entries, from: usize, to: usize)
+    pub(crate) fn put(&mut self, part: &Entries, from: usize, to: usize) -> usize
         requires order { from ≤ to }
         requires within { to < length self.old.entries }
         requires room { HasRoom (length self.old.entries) self.old.space (length part.now.entries) part.now.space }
-        ensures { self.new.entries ≡ take (suc from) self.old.entries ++ (part.now.entries ++ drop (suc to) self.old.entries) }
+        ensures entries { self.new.entries ≡ take (suc from) self.old.entries ++ (part.now.entries ++ drop (suc to) self.old.entries) }
+        ensures gone { (end_of 0 (take (suc from) self.old.entries) + result) % 2 ^ 64 ≡ end_of 0 (take (suc to) self.old.entries) % 2 ^ 64 }
     {
+        let between = &self.words[from + 1..to + 1];
         let first = beside(&self.words[..from + 1]);
-        let last = beside(&self.words[..to + 1]);
+        let last = first + beside(between);
+        let gone = spans(between).wrapping_add(lengths(&self.wide[first..last]));
         replace(&mut self.words, from + 1, to + 1, &part.words);
         replace(&mut self.wide, first, last, &part.wide);
+        gone
     }
 
     /// The place before the first.
@@ -263,6 +268,27 @@ impl<'a> Walk<'a> {
         Some(entry)
     }
 
+    /// Passes over the entry behind it, if a word holds it and a piece begins at it; answers how many bytes it
+    /// takes up. Else nothing changes. Reads no more of the word than these two facts.
+    #[inline]
+    pub(crate) fn pass_piece(&mut self) -> Option<usize>
+        ensures { MatchOption result (self.new ≡ self.old) (λ span. (p : PassesPiece self.old self.new) × (span ≡ p.entry.step + p.entry.gap)) }
+    {
+        let word = *self.words.get(self.number)?;
+        if !word.is_piece() {
+            return None;
+        }
+        self.number += 1;
+        Some(word.span() as usize)
+    }
+
+    /// How many entries stand behind it.
+    pub(crate) fn left(&self) -> usize
+        ensures { result ≡ length self.now.entries - self.now.number }
+    {
+        self.words.len() - self.number
+    }
+
     /// The entry before it, before which it goes; nothing where there is none.
     #[inline]
     pub(crate) fn back(&mut self) -> Option<Entry>
@@ -287,11 +313,28 @@ fn wide_at(wide: &[Entry], number: usize) -> Entry
     wide[number]
 }
 
-/// How many entries stand beside some words.
+/// How many entries stand beside some words. Adds up a block after the other.
 fn beside(words: &[Packed]) -> usize
     ensures { result ≡ wides words.now }
 {
-    let mut count = 0;
+    let mut count = 0usize;
+    let mut from = 0;
+    while from < words.len() {
+        let to = from + BLOCK.min(words.len() - from);
+        count += block_beside(&words[from..to]) as usize;
+        from = to;
+    }
+    count
+}
+
+/// The same of the words of a block. It adds in 32 bits, as the machine adds twice as many of these at once as of
+/// 64; they hold the sum, since each word counts one at most.
+#[inline]
+fn block_beside(words: &[Packed]) -> u32
+    requires { length words.now ≤ block_len }
+    ensures { result ≡ wides words.now }
+{
+    let mut count = 0u32;
     for word in words {
         count += word.beside();
     }
@@ -304,18 +347,35 @@ fn block_span(words: &[Packed]) -> Option<usize>
     requires { length words.now ≡ block_len }
     ensures { IfSome result (λ span. (wides words.now ≡ 0) × (span ≡ spans words.now)) }
 {
-    if beside(words) > 0 {
+    if block_beside(words) > 0 {
         return None;
     }
-    Some(spans(words))
+    Some(block_spans(words) as usize)
 }
 
-/// How many bytes lie between the tokens of the entries that some words hold and the tokens before these.
+/// How many bytes lie between the tokens of the entries that some words hold and the tokens before these, counted
+/// round the machine's numbers. Adds up a block after the other.
 fn spans(words: &[Packed]) -> usize
-    requires { spans words.now < 2 ^ 64 }
+    ensures { result ≡ spans words.now % 2 ^ 64 }
+{
+    let mut sum = 0usize;
+    let mut from = 0;
+    while from < words.len() {
+        let to = from + BLOCK.min(words.len() - from);
+        sum = sum.wrapping_add(block_spans(&words[from..to]) as usize);
+        from = to;
+    }
+    sum
+}
+
+/// The same of the words of a block. It adds in 32 bits, as `block_beside` does; they hold the sum, since no word
+/// takes up 2^9 bytes.
+#[inline]
+fn block_spans(words: &[Packed]) -> u32
+    requires { length words.now ≤ block_len }
     ensures { result ≡ spans words.now }
 {
-    let mut sum = 0;
+    let mut sum = 0u32;
     for word in words {
         sum += word.span();
     }
@@ -324,27 +384,31 @@ fn spans(words: &[Packed]) -> usize
 
 /// The same of entries beside the words.
 fn lengths(entries: &[Entry]) -> usize
-    requires { lengths entries.now < 2 ^ 64 }
-    ensures { result ≡ lengths entries.now }
+    ensures { result ≡ lengths entries.now % 2 ^ 64 }
 {
-    let mut sum = 0;
+    let mut sum = 0usize;
     for entry in entries {
-        sum += entry.step + entry.gap;
+        sum = sum.wrapping_add(entry.step).wrapping_add(entry.gap);
     }
     sum
 }
 
 /// Puts a part in place of the items from the one numbered `from` up to the one numbered `to`, for which there
-/// is room.
+/// is room. Where as many come as go, as at nearly every keystroke, it writes over them; the rotations that make
+/// place for more or fewer go through all items behind.
 fn replace<T: Copy>(items: &mut Vec<T>, from: usize, to: usize, part: &[T])
     requires order { from ≤ to }
     requires within { to ≤ length items.old.items }
     requires room { length items.old.items + length part.now ≤ vec_capacity items.old }
     ensures { items.new.items ≡ take from items.old.items ++ (part.now ++ drop to items.old.items) }
 {
-    let count = items.len();
     let more = part.len();
     let gone = to - from;
+    if more == gone {
+        items[from..to].copy_from_slice(part);
+        return;
+    }
+    let count = items.len();
     if items.extend_from_slice(part).is_err() {
         return;
     }

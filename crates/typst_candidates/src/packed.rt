@@ -79,7 +79,7 @@ impl Packed {
 
     /// How many entries beside the words the word stands for: one, where it holds none itself.
     #[inline]
-    pub(crate) fn beside(self) -> usize
+    pub(crate) fn beside(self) -> u32
         ensures { result ≡ spec.beside (spec.entry_in self) }
     {
         let (number, _) = split(self.word, TAG);
@@ -91,7 +91,7 @@ impl Packed {
 
     /// How many bytes lie between the token before the entry and its own, or none, where the word holds none.
     #[inline]
-    pub(crate) fn span(self) -> usize
+    pub(crate) fn span(self) -> u32
         ensures value { result ≡ spec.span (spec.entry_in self) }
         ensures small { result < 2 ^ 9 }
     {
@@ -100,8 +100,17 @@ impl Packed {
         let (gap, _) = split(from_gap, GAP);
         match tag_of(number) {
             None => 0,
-            Some(_) => step + gap,
+            Some(_) => (step + gap) as u32,
         }
+    }
+
+    /// Whether the word holds an entry at which a piece begins.
+    #[inline]
+    pub(crate) fn is_piece(self) -> bool
+        ensures { result ≡ spec.holds_piece (spec.entry_in self) }
+    {
+        let (number, _) = split(self.word, TAG);
+        matches!(tag_of(number), Some(Tag::Piece(_)))
     }
 }
 

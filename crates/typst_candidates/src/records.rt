@@ -21,14 +21,21 @@ pub struct Records {
     entries: Entries,
     /// How far before the token of the last note the looks behind it begin.
     back: usize,
+    /// Where the token of the last note begins, counted round the machine's numbers. It is kept, since an edit
+    /// that adds up all entries for it costs as much as all else.
+    last: usize,
 }
 
 impl Model for Records {
+    ghost use Rattle.std.specs.Prelude.{◌≡◌, ◌%◌, ◌^◌};
+    ghost use Rattle.typst_candidates.specs.Entries.{end_of};
     ghost use Rattle.typst_candidates.specs.Records.{Kept};
 
     ghost Value = { Kept };
 
     ghost view = { λ r. record { units = record { entries = r.entries.entries; back = r.back }; space = r.entries.space } };
+
+    ghost invariant = { λ r. r.last ≡ end_of 0 r.entries.entries % 2 ^ 64 };
 }
 
 impl Records {
@@ -39,6 +46,7 @@ impl Records {
         Records {
             entries: Entries::new(alloc),
             back: 0,
+            last: 0,
         }
     }
 
@@ -61,7 +69,16 @@ impl Records {
         ensures ok { OnOk result (self.new.units ≡ record self.old.units { entries = self.old.units.entries ++ entry_of start note.now ∷ [] }) }
         ensures err { OnErr result (self.new.units ≡ self.old.units) }
     {
-        self.entries.push(Entry::new(start, note))?;
+        self.push(Entry::new(start, note))
+    }
+
+    /// One entry more. Where there is no memory for it nothing changes.
+    fn push(&mut self, entry: Entry) -> Result<(), AllocError>
+        ensures ok { OnOk result (self.new.units ≡ record self.old.units { entries = self.old.units.entries ++ entry ∷ [] }) }
+        ensures err { OnErr result (self.new.units ≡ self.old.units) }
+    {
+        self.entries.push(entry)?;
+        self.last = self.last.wrapping_add(entry.step).wrapping_add(entry.gap);
         Ok(())
     }
 
@@ -97,9 +114,7 @@ impl Records {
         ensures ok { OnOk result (self.new.units ≡ record self.old.units { entries = self.old.units.entries ++ block_end start end reach least ∷ [] }) }
         ensures err { OnErr result (self.new.units ≡ self.old.units) }
     {
-        self.entries
-            .push(Entry::of_block_end(start, end, reach, least))?;
-        Ok(())
+        self.push(Entry::of_block_end(start, end, reach, least))
     }
 
     /// The last note's token begins at the byte `start`, and the looks behind it at `least`.
@@ -131,12 +146,12 @@ impl Records {
         Some(at)
     }
 
-    /// The same where the places of the text are numbers of the machine. Adds up all entries, many at a time.
+    /// The same where the places of the text are numbers of the machine. It is kept: nothing is added up.
     pub fn last_token(&self) -> usize
         requires { end_of 0 self.now.units.entries < 2 ^ 64 }
         ensures { result ≡ end_of 0 self.now.units.entries }
     {
-        self.walk_at_end().start()
+        self.last
     }
 
     /// The place before the first entry.
@@ -168,6 +183,7 @@ impl Records {
         Ok(Records {
             entries: self.entries.try_clone(alloc)?,
             back: self.back,
+            last: self.last,
         })
     }
 
@@ -264,7 +280,8 @@ impl Records {
         requires room { HasRoom (length self.old.units.entries) self.old.space (length part.now.units.entries) part.now.space }
         ensures { self.new.units ≡ spliced from to part.now.units.entries self.old.units }
     {
-        self.entries.put(&part.entries, from, to);
+        let gone = self.entries.put(&part.entries, from, to);
+        self.last = self.last.wrapping_sub(gone).wrapping_add(part.last);
     }
 }
 

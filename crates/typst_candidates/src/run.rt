@@ -1,6 +1,6 @@
 //! Where the pieces of a run begin, and where a block ends, by the records of a text.
 
-ghost use Rattle.std.specs.Prelude.{◌≡◌, ◌&&◌, ◌==◌, ◌<◌, ◌≤◌, ◌^◌, ◌++◌, ◌∷◌, [], if◌then◌else◌, IfOk, OnOk, drop, length, slice_get, take};
+ghost use Rattle.std.specs.Prelude.{◌≡◌, ◌+◌, ◌-◌, ◌&&◌, ◌==◌, ◌<◌, ◌≤◌, ◌^◌, ◌++◌, ◌∷◌, [], if◌then◌else◌, IfOk, drop, length, slice_get, take, vec_capacity, vec_len};
 ghost use Rattle.typst_candidates.specs.Cursors as spec;
 ghost use Rattle.typst_candidates.specs.Entries.{end_of};
 ghost use Rattle.typst_candidates.specs.Rows.{run_of};
@@ -20,13 +20,15 @@ impl<'a> Cursor<'a> {
         ensures { IfOk result (λ bytes. bytes.items ≡ spec.pieces_of 0 (spec.start_at self.now) (drop self.now.number self.now.entries)) }
     {
         let mut starts = Vec::new(alloc);
+        starts.reserve(self.left())?;
         let mut place = self.copy();
         let mut inside = 0usize;
         loop {
+            add_pieces(&mut starts, &mut place, inside);
             let Some(entry) = place.next() else {
                 return Ok(starts);
             };
-            add_piece(&mut starts, entry.tag, inside, place.start())?;
+            add_piece(&mut starts, entry.tag, inside, place.start());
             let Some(further) = inside_behind(entry.tag, inside) else {
                 return Ok(starts);
             };
@@ -130,19 +132,31 @@ fn begins_piece(at: usize, tag: Tag, inside: usize, start: usize) -> bool
     leads(tag, inside) && start == at
 }
 
-/// Adds the byte of an entry's token, where a piece of a run itself begins in so many blocks of the run.
-fn add_piece(
-    starts: &mut Vec<usize>,
-    tag: Tag,
-    inside: usize,
-    start: usize,
-) -> Result<(), AllocError>
-    ensures { OnOk result (starts.new.items ≡ starts.old.items ++ (if spec.leads tag inside then start ∷ [] else [])) }
+/// Passes over entries at which pieces of the run itself begin, and adds the bytes of their tokens, for which there
+/// is room. In a block of the run there are none.
+fn add_pieces(starts: &mut Vec<usize>, place: &mut Cursor<'_>, inside: usize)
+    requires { vec_len starts.old + (length place.old.entries - place.old.number) ≤ vec_capacity starts.old }
+    ensures entries { place.new.entries ≡ place.old.entries }
+    ensures on { place.old.number ≤ place.new.number }
+    ensures room { vec_len starts.new + (length place.new.entries - place.new.number) ≤ vec_capacity starts.new }
+    ensures starts { starts.new.items ++ spec.pieces_of inside (spec.start_at place.new) (drop place.new.number place.new.entries) ≡ starts.old.items ++ spec.pieces_of inside (spec.start_at place.old) (drop place.old.number place.old.entries) }
+{
+    while inside == 0 && place.pass_piece() {
+        starts.push_reserved(place.start());
+    }
+}
+
+/// Adds the byte of an entry's token, for which there is room, where a piece of a run itself begins in so many
+/// blocks of the run.
+fn add_piece(starts: &mut Vec<usize>, tag: Tag, inside: usize, start: usize)
+    requires { vec_len starts.old < vec_capacity starts.old }
+    ensures items { starts.new.items ≡ starts.old.items ++ (if spec.leads tag inside then start ∷ [] else []) }
+    ensures len { vec_len starts.new ≤ vec_len starts.old + 1 }
+    ensures capacity { vec_capacity starts.new ≡ vec_capacity starts.old }
 {
     if leads(tag, inside) {
-        starts.push(start)?;
+        starts.push_reserved(start);
     }
-    Ok(())
 }
 
 /// Whether a content block begins at byte `at`, by an entry whose token begins at the byte `start`.

@@ -1,6 +1,9 @@
-use Rattle.std.proofs.Common.{◌≡◌, take}
+use Rattle.std.proofs.Common.{◌≡◌, ◌≤◌, ◌-◌, length, take}
 use Rattle.typst_candidates.specs.Packed.{wides}
 use Rattle.typst_candidates.proofs.entries.beside.Given as goal
 
-abbrev pub invariant-loop-word : goal.invariant-loop-word
-invariant-loop-word l = l.count ≡ wides (take l.word-index l.words)
+abbrev pub invariant-loop-from : goal.invariant-loop-from
+invariant-loop-from l = record { within : l.from ≤ length l.words; count : l.count ≡ wides (take l.from l.words) }
+
+abbrev pub decreases-loop-from : goal.decreases-loop-from
+decreases-loop-from l = length l.words - l.from

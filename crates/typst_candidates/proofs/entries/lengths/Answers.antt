@@ -1,35 +1,14 @@
-use Rattle.std.proofs.Common.{false, ◌≡◌, ◌+◌, ◌<◌, suc, get_or, length, take, ap, sym, ◌∙◌, arith}
+use Rattle.std.proofs.Common.{false, ◌≡◌, ◌+◌, ◌%◌, ◌^◌, ◌<◌, suc, get_or, length, take, ap, sym, ◌∙◌, arith}
 use Rattle.typst_candidates.specs.declared.entry.Entry.{Entry}
 use Rattle.typst_candidates.specs.declared.entry.Tag.TheVariants as tag
 use Rattle.typst_candidates.specs.Packed.{lengths}
-use Rattle.typst_candidates.proofs.Spans.{lengths-few, lengths-next}
+use Rattle.typst_candidates.proofs.Rounds.{two-more}
+use Rattle.typst_candidates.proofs.Spans.{lengths-next}
 use Rattle.typst_candidates.proofs.entries.lengths.Goals as goal
 
 -- what would stand where there is no entry
 abbrev none : Entry
 none = record { tag = tag.Piece false; step = 0; gap = 0; forth = 0; back = 0; count = 0 }
-
-pub overflow_add-sum : goal.overflow_add-sum
-overflow_add-sum c =
-    let es = c.args.entries.now in
-    let i = c.loop-entry.entry-index in
-    let here : i < length es = omega arith in
-    let next = lengths-next es i none here in
-    let few = lengths-few es (suc i) in
-    let sum = c.loop-entry.invariant in
-    let fits = c.requires in
-    omega (arith, next, few, sum, fits)
-
-pub overflow_add-sum-in-loop-entry : goal.overflow_add-sum-in-loop-entry
-overflow_add-sum-in-loop-entry c =
-    let es = c.args.entries.now in
-    let i = c.loop-entry.entry-index in
-    let here : i < length es = omega arith in
-    let next = lengths-next es i none here in
-    let few = lengths-few es (suc i) in
-    let sum = c.loop-entry.invariant in
-    let fits = c.requires in
-    omega (arith, next, few, sum, fits)
 
 pub loop-entry-preserved : goal.loop-entry-preserved
 loop-entry-preserved c =
@@ -37,5 +16,5 @@ loop-entry-preserved c =
     let i = c.loop-entry.entry-index in
     let here : i < length es = omega arith in
     let one : suc i ≡ i + 1 = omega arith in
-    ap (λ k. k + ((get_or es i none).step + (get_or es i none).gap)) c.loop-entry.invariant
-    ∙ sym (lengths-next es i none here) ∙ ap (λ m. lengths (take m es)) one
+    two-more c.loop-entry.sum (lengths (take i es)) (get_or es i none).step (get_or es i none).gap c.loop-entry.invariant
+    ∙ ap (λ k. k % 2 ^ 64) (sym (lengths-next es i none here) ∙ ap (λ m. lengths (take m es)) one)

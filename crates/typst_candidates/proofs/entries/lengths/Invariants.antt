@@ -1,6 +1,6 @@
-use Rattle.std.proofs.Common.{◌≡◌, take}
+use Rattle.std.proofs.Common.{◌≡◌, ◌%◌, ◌^◌, take}
 use Rattle.typst_candidates.specs.Packed.{lengths}
 use Rattle.typst_candidates.proofs.entries.lengths.Given as goal
 
 abbrev pub invariant-loop-entry : goal.invariant-loop-entry
-invariant-loop-entry l = l.sum ≡ lengths (take l.entry-index l.entries)
+invariant-loop-entry l = l.sum ≡ lengths (take l.entry-index l.entries) % 2 ^ 64

@@ -1,25 +1,20 @@
-use Rattle.std.proofs.Common.{◌≡◌, ◌+◌, ◌<◌, suc, get_or, length, take, ap, sym, ◌∙◌, arith}
-use Rattle.typst_candidates.specs.Packed.{entry_in, span, spans}
-use Rattle.typst_candidates.proofs.Spans.{spans-few, spans-next}
+use Rattle.std.proofs.Common.{◌≡◌, ◌+◌, ◌-◌, ◌%◌, ◌^◌, take, drop, ap, sym, ◌∙◌, arith}
+use Rattle.typst_candidates.specs.Packed.{spans}
+use Rattle.typst_candidates.proofs.Rounds.{one-more-round}
+use Rattle.typst_candidates.proofs.Spans.{spans-more}
 use Rattle.typst_candidates.proofs.entries.spans.Goals as goal
 
-pub overflow_add-sum : goal.overflow_add-sum
-overflow_add-sum c =
+pub loop-from-preserved : goal.loop-from-preserved
+loop-from-preserved c =
     let ps = c.args.words.now in
-    let i = c.loop-word.word-index in
-    let here : i < length ps = omega arith in
-    let next = spans-next ps i (record { word = 0 }) here in
-    let few = spans-few ps (suc i) in
-    let one = c.span-sum.ensures.value in
-    let sum = c.loop-word.invariant in
-    let fits = c.requires in
-    omega (arith, next, few, one, sum, fits)
-
-pub loop-word-preserved : goal.loop-word-preserved
-loop-word-preserved c =
-    let ps = c.args.words.now in
-    let i = c.loop-word.word-index in
-    let here : i < length ps = omega arith in
-    let one : suc i ≡ i + 1 = omega arith in
-    ap (λ k. c.loop-word.sum + k) c.span-sum.ensures.value ∙ ap (λ k. k + span (entry_in (get_or ps i (record { word = 0 })))) c.loop-word.invariant
-    ∙ sym (spans-next ps i (record { word = 0 }) here) ∙ ap (λ m. spans (take m ps)) one
+    let n = c.loop-from.from in
+    let m = c.min.result in
+    let least = c.min.ensures in
+    let within = c.loop-from.invariant.within in
+    let long : (n + m) - n ≡ m = omega arith in
+    let one : c.block_spans.result ≡ spans (take m (drop n ps)) = c.block_spans.ensures ∙ ap (λ k. spans (take k (drop n ps))) long in
+    record {
+      within = omega (arith, least, within);
+      sum = one-more-round c.loop-from.sum (spans (take n ps)) c.block_spans.result c.loop-from.invariant.sum
+          ∙ ap (λ k. k % 2 ^ 64) (ap (λ k. spans (take n ps) + k) one ∙ sym (spans-more ps n m));
+    }

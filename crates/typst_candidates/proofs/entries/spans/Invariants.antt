@@ -1,6 +1,9 @@
-use Rattle.std.proofs.Common.{◌≡◌, take}
+use Rattle.std.proofs.Common.{◌≡◌, ◌≤◌, ◌-◌, ◌%◌, ◌^◌, length, take}
 use Rattle.typst_candidates.specs.Packed.{spans}
 use Rattle.typst_candidates.proofs.entries.spans.Given as goal
 
-abbrev pub invariant-loop-word : goal.invariant-loop-word
-invariant-loop-word l = l.sum ≡ spans (take l.word-index l.words)
+abbrev pub invariant-loop-from : goal.invariant-loop-from
+invariant-loop-from l = record { within : l.from ≤ length l.words; sum : l.sum ≡ spans (take l.from l.words) % 2 ^ 64 }
+
+abbrev pub decreases-loop-from : goal.decreases-loop-from
+decreases-loop-from l = length l.words - l.from

@@ -25,15 +25,9 @@ sums ps ws n passed p le is all view small =
     let few = (sides ps ws n n (omega arith) all).within in
     record { sum = omega (arith, sum, beside, here); fits = omega (arith, sum, beside, part, whole, small); within = omega (arith, few, is) }
 
-pub spans-requires : goal.spans-requires
-spans-requires c = let s = (sums c.self.inside.words.now c.self.inside.wide.now c.self.inside.number c.self.inside.passed c.args.self.now c.self.invariant.0 c.self.invariant.1 c.self.invariant.2 c.self.view_is c.requires).fits in omega (arith, s)
-
 pub slice_bounds-lengths-end : goal.slice_bounds-lengths-end
 slice_bounds-lengths-end c =
     sym (length-take-le c.self.inside.passed c.self.inside.wide.now (sums c.self.inside.words.now c.self.inside.wide.now c.self.inside.number c.self.inside.passed c.args.self.now c.self.invariant.0 c.self.invariant.1 c.self.invariant.2 c.self.view_is c.requires).within)
-
-pub lengths-requires : goal.lengths-requires
-lengths-requires c = let s = (sums c.self.inside.words.now c.self.inside.wide.now c.self.inside.number c.self.inside.passed c.args.self.now c.self.invariant.0 c.self.invariant.1 c.self.invariant.2 c.self.view_is c.requires).fits in omega (arith, s)
 
 pub overflow_add-result : goal.overflow_add-result
 overflow_add-result c =
@@ -42,5 +36,7 @@ overflow_add-result c =
 
 pub returns : goal.returns
 returns c =
-    let s = (sums c.self.inside.words.now c.self.inside.wide.now c.self.inside.number c.self.inside.passed c.args.self.now c.self.invariant.0 c.self.invariant.1 c.self.invariant.2 c.self.view_is c.requires).sum in
-    omega (arith, s, c.spans.ensures, c.lengths.ensures)
+    let s = sums c.self.inside.words.now c.self.inside.wide.now c.self.inside.number c.self.inside.passed c.args.self.now c.self.invariant.0 c.self.invariant.1 c.self.invariant.2 c.self.view_is c.requires in
+    let sum = s.sum in
+    let fits = s.fits in
+    omega (arith, sum, fits, c.spans.ensures, c.lengths.ensures)

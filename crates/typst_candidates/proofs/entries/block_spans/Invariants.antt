@@ -1,0 +1,6 @@
+use Rattle.std.proofs.Common.{◌≡◌, take}
+use Rattle.typst_candidates.specs.Packed.{spans}
+use Rattle.typst_candidates.proofs.entries.block_spans.Given as goal
+
+abbrev pub invariant-loop-word : goal.invariant-loop-word
+invariant-loop-word l = l.sum ≡ spans (take l.word-index l.words)

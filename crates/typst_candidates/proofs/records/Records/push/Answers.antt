@@ -1,0 +1,14 @@
+use Rattle.std.proofs.Common.{◌≡◌, ◌+◌, ◌%◌, ◌^◌, ap, ◌∙◌, arith}
+use Rattle.typst_candidates.specs.Entries.{end_of}
+use Rattle.typst_candidates.proofs.Rounds.{two-more}
+use Rattle.typst_candidates.proofs.Walks.{end-append}
+use Rattle.typst_candidates.proofs.records.Records.push.Goals as goal
+
+pub invariant_of-self-2 : goal.invariant_of-self-2
+invariant_of-self-2 c =
+    let es = c.self.inside.entries.entries in
+    let e = c.args.entry in
+    let end = end-append 0 es e in
+    let same = ap (end_of 0) c.in_ok-push.ensures.ok in
+    let sum : end_of 0 es + (e.step + e.gap) ≡ end_of 0 c.push.new.self.entries = omega (arith, end, same) in
+    two-more c.self.inside.last (end_of 0 es) e.step e.gap c.self.invariant ∙ ap (λ k. k % 2 ^ 64) sum
