@@ -103,21 +103,22 @@ impl Records {
         }
         self.walk_at(number).next()
     }
+}
 
-    /// The number of the first piece, from the entry `from` on, of the run that stands there whose token
-    /// begins at byte `at`. Goes through the entries up to there.
-    pub fn piece_at(&self, from: usize, at: usize) -> Option<usize>
-        requires within { from ≤ length self.now.units.entries }
-        requires fits { end_of 0 self.now.units.entries < 2 ^ 64 }
-        ensures { result ≡ spec.piece_of at 0 (end_of 0 (take from self.now.units.entries)) from (drop from self.now.units.entries) }
+impl<'a> Cursor<'a> {
+    /// The place before the first piece behind it, of the run that it stands in, whose token begins at byte
+    /// `at`. Goes through the entries up to there.
+    pub fn piece_from(&self, at: usize) -> Option<Cursor<'a>>
+        ensures { result ≡ spec.placed self.now (spec.piece_of at 0 (spec.start_at self.now) self.now.number (drop self.now.number self.now.entries)) }
     {
-        let mut place = self.cursor_at(from);
+        let mut place = self.copy();
         let mut inside = 0usize;
         loop {
-            let here = place.number();
             let entry = place.next()?;
             if begins_piece(at, entry.tag, inside, place.start()) {
-                return Some(here);
+                // one step back here costs less than a copy of the place before each entry
+                place.back();
+                return Some(place);
             }
             inside = inside_behind(entry.tag, inside)?;
         }
