@@ -16,6 +16,7 @@ use Rattle.typst_edits.specs.Point.{gap_of, pending}
 use Rattle.typst_candidates.specs.declared.candidate.Candidate as code
 use Rattle.typst_candidates.specs.declared.entry.Entry.{Entry}
 use Rattle.typst_candidates.specs.Candidates.{Candidate}
+use Rattle.typst_candidates.specs.Cursors as cursors
 use Rattle.typst_candidates.specs.Entries.{Units, end_of, entries_by, spliced, units_of}
 use Rattle.typst_candidates.specs.Records.{AllFit}
 use Rattle.typst_edits.specs.PieceReader.{PieceReader}
@@ -33,7 +34,7 @@ use Rattle.typst_edits.specs.RunTest.{Ends, FoundInner, FoundRun, IsLast, LooksF
 use Rattle.typst_edits.specs.Served.{MeetsOn, reading_of}
 use Rattle.typst_reparser.specs.Attempt.{Decides, Fails, IsPart, Speaks, at_path}
 use Rattle.typst_reparser.specs.Change.{Change, text_after, text_before}
-use Rattle.typst_reparser.specs.Steps.{AreBounds, Begins, BeginsThere, HasBlock, HasReadSome, HasReadTo, IsPassing, IsRunOf, IsWithBlock, Reads, ReadsInner, ServesNow, ServesRun}
+use Rattle.typst_reparser.specs.Steps.{AreBounds, Begins, BeginsThere, HasBlock, HasReadSome, HasReadTo, IsPassing, IsRunOf, IsWithBlock, Reads, ReadsInner, ServesNow, ServesRun, place_before}
 use Rattle.typst_reparser.specs.declared.attempt.Asked.{Asked}
 use Rattle.typst_reparser.specs.declared.attempt.Attempt.{Attempt}
 use Rattle.typst_reparser.specs.declared.attempt.Bounds.{Bounds}
@@ -46,7 +47,7 @@ use Rattle.typst_reparser.proofs.Answering.{entries-are, places-fit}
 use Rattle.typst_reparser.proofs.BlockSteps.{now-boundary, now-few, now-place}
 use Rattle.typst_reparser.proofs.Inner.{inner-first, inner-here, inner-says, with-block-part}
 use Rattle.typst_reparser.proofs.Places.{part-fits, width-chars}
-use Rattle.typst_reparser.proofs.Runs.{end-fails, ends-here, first-within, found-starts, looks-fail, looks-here, looks-taken, says-here, says-there, shift-in, to-within}
+use Rattle.typst_reparser.proofs.Runs.{end-fails, ends-here, first-within, found-starts, found-within, looks-fail, looks-here, looks-taken, says-here, says-there, shift-in, to-within}
 use Rattle.typst_reparser.proofs.Serving.{begun-serves, serves-again, serves-fail, serves-pass, serves-run, serves-some}
 
 pub if-ok : {A E : Type 0} (r : Result A E) (P Q : A → Type 0) → ((a : A) → P a → Q a) → IfOk r P → IfOk r Q
@@ -72,39 +73,45 @@ module _ {C : Type 0} (k : CharClasses) (a : Attempt C) (ch : Change) (path : Li
   pub step-end-no : ((end : ℕ) → end < 2 ^ 64 → end + a.asked.now.edit.old_end ≡ d.end + a.asked.now.edit.new_end → ⊥) → Fails k ch (at_path path d)
   step-end-no = end-fails k ch (at_path path d) run.kind run.levels run.first h.found h.ready.makes.fits_now a.asked.now.new.now a.asked.now.edit h.ready.makes
 
-  -- it begins at an entry
-  module _ (from : ℕ) (there : BeginsThere k ch path d run h.found from) where
+  -- it begins at a place
+  module _ (at : cursors.Place) (there : BeginsThere k ch path d run h.found at) where
     pub step-boundary : IsCharBoundary a.asked.now.new.now d.start
     step-boundary = now-boundary k ch a.asked.now a.root.now a.records.now.units h.ready h.found.at d.start (h.found.start_now there.before)
 
-    begins-now : (s : Option Serving) → Begins k (reading_on run.kind run.levels h.found.carried (place_at a.asked.now.new.now d.start)) d from s → ServesNow k ch a.root.now path d run s
+    begins-now : (s : Option Serving) → Begins k (reading_on run.kind run.levels h.found.carried (place_at a.asked.now.new.now d.start)) d at.number s → ServesNow k ch a.root.now path d run s
     begins-now s begins =
-        begun-serves k ch a.root.now path d run h.found h.among h.pieces from there s
-        (subst (λ z. Begins k (reading_on run.kind run.levels h.found.carried z) d from s) (now-place k ch a.asked.now a.root.now a.records.now.units h.ready h.found.at d.start (h.found.start_now there.before)) begins)
+        begun-serves k ch a.root.now path d run h.found h.among h.pieces at there s
+        (subst (λ z. Begins k (reading_on run.kind run.levels h.found.carried z) d at.number s) (now-place k ch a.asked.now a.root.now a.records.now.units h.ready h.found.at d.start (h.found.start_now there.before)) begins)
 
     pub step-begins : {E : Type 0} (r : Result (Option Serving) E)
-        → ((x : Bool × ℕ) → SaysPiece a.records.now.units.entries from x → IfOk r (λ s. Begins k (reading_on run.kind run.levels x (place_at a.asked.now.new.now d.start)) d from s)) → IfOk r (ServesNow k ch a.root.now path d run)
+        → ((x : Bool × ℕ) → SaysPiece at.entries at.number x → IfOk r (λ s. Begins k (reading_on run.kind run.levels x (place_at a.asked.now.new.now d.start)) d at.number s)) → IfOk r (ServesNow k ch a.root.now path d run)
     step-begins r begins =
-        if-ok r (λ s. Begins k (reading_on run.kind run.levels h.found.carried (place_at a.asked.now.new.now d.start)) d from s) (ServesNow k ch a.root.now path d run) begins-now
-        (begins h.found.carried (says-here k ch (at_path path d) run.kind run.levels run.first h.found a.records.now.units.entries is from there.is))
+        if-ok r (λ s. Begins k (reading_on run.kind run.levels h.found.carried (place_at a.asked.now.new.now d.start)) d at.number s) (ServesNow k ch a.root.now path d run) begins-now
+        (begins h.found.carried (says-here k ch (at_path path d) run.kind run.levels run.first h.found at there.is))
 
   module _ (b : Bounds) (finds : (path : List ℕ) (from to looks : ℕ) → Ends a.records.now.units.entries run.first (at_path path d) from to → LooksFrom a.records.now.units.entries run.kind from to looks
       → AreBounds a.records.now.units.entries from to looks (Some b)) where
     bounds : AreBounds a.records.now.units.entries h.found.from h.found.to h.found.looks (Some b)
     bounds = finds path h.found.from h.found.to h.found.looks step-ends step-looks
 
-    pub step-looks-no : ((b.from < a.asked.now.front) × (a.asked.now.rear ≤ b.looks) → ⊥) → Fails k ch (at_path path d)
+    from-there : b.from ≡ place_before (entries_in k (text_before ch)) h.found.from
+    from-there = bounds.0 ∙ ap (λ es. place_before es h.found.from) is
+
+    to-there : b.to ≡ place_before (entries_in k (text_before ch)) h.found.to
+    to-there = bounds.1 ∙ ap (λ es. place_before es h.found.to) is
+
+    pub step-looks-no : ((b.from.number < a.asked.now.front) × (a.asked.now.rear ≤ b.looks) → ⊥) → Fails k ch (at_path path d)
     step-looks-no = looks-fail k ch (at_path path d) run.kind run.levels run.first h.found a.records.now.units.entries is b bounds a.asked.now.front a.asked.now.rear h.ready.front h.ready.rear
 
-    pub step-to : b.to < length a.records.now.units.entries
-    step-to = to-within k ch (at_path path d) run.kind run.levels run.first h.found a.records.now.units.entries is b.to bounds.1
+    pub step-to : b.to.number < length b.to.entries
+    step-to = to-within k ch (at_path path d) run.kind run.levels run.first h.found b.to to-there
 
-    module _ (test : (b.from < a.asked.now.front) × (a.asked.now.rear ≤ b.looks)) where
+    module _ (test : (b.from.number < a.asked.now.front) × (a.asked.now.rear ≤ b.looks)) where
       looks : (h.found.from < front_in k ch.front ch.old ch.rest) × (rear_in k ch.front ch.old ch.rest ≤ h.found.looks)
       looks = looks-taken k ch (at_path path d) run.kind run.levels run.first h.found a.records.now.units.entries is b bounds a.asked.now.front a.asked.now.rear h.ready.front h.ready.rear test.0 test.1
 
       pub step-there : BeginsThere k ch path d run h.found b.from
-      step-there = record { is = bounds.0; before = looks.0 }
+      step-there = record { is = from-there; before = looks.0 }
 
       module _ (s : Serving) (now : ServesNow k ch a.root.now path d run (Some s)) (target : ℕ) (is_target : target + a.asked.now.edit.old_end ≡ d.end + a.asked.now.edit.new_end) where
         shift : target + width ch.old ≡ d.end + width ch.new
@@ -120,22 +127,18 @@ module _ {C : Type 0} (k : CharClasses) (a : Attempt C) (ch : Change) (path : Li
           pub step-again : ServesRun k ch a.root.now path d.depth t
           step-again = serves-run k ch a.root.now path d.depth t run.kind run.levels run.first h.run (serves-again k ch a.root.now path d run h.found s now.0 now.1 target shift t so_far kept)
 
-          module _ (fit : Bool) (fits : (y : Bool × ℕ) (m : ℕ) → SaysPiece a.records.now.units.entries b.to y → (t.any ≡ true ↔ 0 < m)
-              → (fit ≡ true ↔ ((t.reader.end ≡ target) × MeetsOn a.records.now.units.entries run.kind b.to (d.start < t.first.start) m y t.reader.carried))) where
-            fits-so : fit ≡ true ↔ ((t.reader.end ≡ target) × MeetsOn a.records.now.units.entries run.kind b.to (d.start < t.first.start) so_far.has.count h.found.carried_end t.reader.carried)
-            fits-so = fits h.found.carried_end so_far.has.count (says-there k ch (at_path path d) run.kind run.levels run.first h.found a.records.now.units.entries is b.to bounds.1) so_far.has.some
+          module _ (fit : Bool) (fits : (y : Bool × ℕ) (m : ℕ) → SaysPiece b.to.entries b.to.number y → (t.any ≡ true ↔ 0 < m)
+              → (fit ≡ true ↔ ((t.reader.end ≡ target) × MeetsOn b.to.entries run.kind b.to.number (d.start < t.first.start) m y t.reader.carried))) where
+            fits-so : fit ≡ true ↔ ((t.reader.end ≡ target) × MeetsOn b.to.entries run.kind b.to.number (d.start < t.first.start) so_far.has.count h.found.carried_end t.reader.carried)
+            fits-so = fits h.found.carried_end so_far.has.count (says-there k ch (at_path path d) run.kind run.levels run.first h.found b.to to-there) so_far.has.some
 
-            meets-there : MeetsOn a.records.now.units.entries run.kind b.to (d.start < t.first.start) so_far.has.count h.found.carried_end t.reader.carried
+            meets-there : MeetsOn b.to.entries run.kind b.to.number (d.start < t.first.start) so_far.has.count h.found.carried_end t.reader.carried
                 → MeetsOn (entries_in k (text_before ch)) run.kind h.found.to (d.start < t.first.start) so_far.has.count h.found.carried_end t.reader.carried
-            meets-there m =
-                subst (λ n. MeetsOn (entries_in k (text_before ch)) run.kind n (d.start < t.first.start) so_far.has.count h.found.carried_end t.reader.carried) bounds.1
-                (subst (λ es. MeetsOn es run.kind b.to (d.start < t.first.start) so_far.has.count h.found.carried_end t.reader.carried) is m)
+            meets-there = subst (λ (p : cursors.Place). MeetsOn p.entries run.kind p.number (d.start < t.first.start) so_far.has.count h.found.carried_end t.reader.carried) to-there
 
             meets-here : MeetsOn (entries_in k (text_before ch)) run.kind h.found.to (d.start < t.first.start) so_far.has.count h.found.carried_end t.reader.carried
-                → MeetsOn a.records.now.units.entries run.kind b.to (d.start < t.first.start) so_far.has.count h.found.carried_end t.reader.carried
-            meets-here m =
-                subst (λ es. MeetsOn es run.kind b.to (d.start < t.first.start) so_far.has.count h.found.carried_end t.reader.carried) (sym is)
-                (subst (λ n. MeetsOn (entries_in k (text_before ch)) run.kind n (d.start < t.first.start) so_far.has.count h.found.carried_end t.reader.carried) (sym bounds.1) m)
+                → MeetsOn b.to.entries run.kind b.to.number (d.start < t.first.start) so_far.has.count h.found.carried_end t.reader.carried
+            meets-here = subst (λ (p : cursors.Place). MeetsOn p.entries run.kind p.number (d.start < t.first.start) so_far.has.count h.found.carried_end t.reader.carried) (sym to-there)
 
             pub step-fail : (fit ≡ true → ⊥) → Fails k ch (at_path path d)
             step-fail never =
@@ -147,7 +150,7 @@ module _ {C : Type 0} (k : CharClasses) (a : Attempt C) (ch : Change) (path : Li
             step-pass holds p pieces any rest =
                 let m = fits-so.0 holds in
                 serves-pass k ch a.root.now path d run h.found s now.0 now.1 target shift t so_far kept h.ready.holds.tree_is h.ready.makes.fits h.ready.makes.fits_now h.among h.pieces h.run looks.1 m.0 (meets-there m.1)
-                b bounds.0 bounds.1 p rest.0 rest.1 rest.2 (any so_far.has.count so_far.has.some)
+                b from-there to-there p rest.0 rest.1 rest.2 (any so_far.has.count so_far.has.some)
                 (pieces k run.levels run.kind now.0.found.carried (moved now.0.found.at (text_with ch.front ch.new ch.rest)) so_far.has.count so_far.has.read)
 
 -- ---- what takes its place
@@ -184,13 +187,13 @@ module _ {C : Type 0} (k : CharClasses) (ch : Change) (q : Asked C) (root : Tree
       record { nodes = g.0; gives = g.1; puts = g.2 ∙ ap (λ ts. replaced_at path p.first.from d.to ts root) (sym passing-nodes) }
 
   -- pieces with their own entries
-  pub passing-part : (part : Part) → part.nodes ≡ p.pieces.nodes → part.first ≡ p.first.from → part.end ≡ p.pieces.end → (part.from ≡ p.from) × (part.to ≡ p.bounds.to) → part.entries.units.entries ≡ entries_by p.first.start p.pieces.notes.items
+  pub passing-part : (part : Part) → part.nodes ≡ p.pieces.nodes → part.first ≡ p.first.from → part.end ≡ p.pieces.end → (part.from ≡ p.from) × (part.to ≡ p.bounds.to.number) → part.entries.units.entries ≡ entries_by p.first.start p.pieces.notes.items
       → (run.kind ≡ of.Block → (IsLast (entries_in k (text_before ch)) f.from → ⊥) × ((d.start < p.first.start) ⊎ (0 < h.count))) → IsPart k ch root (at_path path d) part
   passing-part part nodes first end at entries more =
       let u = h.served.units h.count h.passes more in
       let es = entries ∙ ap (entries_by p.first.start) passing-notes in
       let from = at.0 ∙ h.entry in
-      let to = at.1 ∙ h.to in
+      let to = at.1 ∙ ap (λ (q : cursors.Place). q.number) h.to in
       let g = passing-gives in
       record {
         nodes = g.nodes;
@@ -199,7 +202,7 @@ module _ {C : Type 0} (k : CharClasses) (ch : Change) (q : Asked C) (root : Tree
         first = let l = h.served.order in omega (arith, l, first);
         end = let e = passing-end in omega (arith, e, end);
         order = let l = h.served.until in omega (arith, l, from, to);
-        within = to-within k ch (at_path path d) run.kind run.levels run.first f (entries_in k (text_before ch)) refl part.to to;
+        within = let w = found-within k ch (at_path path d) run.kind run.levels run.first f in omega (arith, w, to);
         units = u ∙ ap (λ n. spliced n f.to (entries_by p.first.start (notes_by k (reading_of h.begun) h.count)) (units_of (log k (text_before ch)))) (sym from)
             ∙ ap (λ n. spliced part.from n (entries_by p.first.start (notes_by k (reading_of h.begun) h.count)) (units_of (log k (text_before ch)))) (sym to)
             ∙ ap (λ xs. spliced part.from part.to xs (units_of (log k (text_before ch)))) (sym es);
@@ -209,9 +212,8 @@ module _ {C : Type 0} (k : CharClasses) (ch : Change) (q : Asked C) (root : Tree
       puts-by e = ap (λ (v : Vec Tree). replaced_at path part.first d.to v.items root) (sym e)
 
   -- in a block there are pieces in both texts
-  pub passing-more : p.any ≡ true → (IsLast units.entries p.bounds.from → ⊥) → (IsLast (entries_in k (text_before ch)) f.from → ⊥) × ((d.start < p.first.start) ⊎ (0 < h.count))
-  passing-more any more =
-      ((λ last. more (subst (λ n. IsLast units.entries n) (sym h.from) (subst (λ xs. IsLast xs f.from) (sym (entries-are k ch root units ready.holds)) last))), h.some.0 any)
+  pub passing-more : p.any ≡ true → (IsLast p.bounds.from.entries p.bounds.from.number → ⊥) → (IsLast (entries_in k (text_before ch)) f.from → ⊥) × ((d.start < p.first.start) ⊎ (0 < h.count))
+  passing-more any more = ((λ last. more (subst (λ (q : cursors.Place). IsLast q.entries q.number) (sym h.from) last)), h.some.0 any)
 
 -- ---- a block's run
 

@@ -12,6 +12,7 @@ use Rattle.typst_tokens.specs.Sight.{width}
 use Rattle.typst_tree.specs.Tree.{Tree, bare}
 use Rattle.typst_candidates.specs.declared.candidate.Candidate as code
 use Rattle.typst_candidates.specs.declared.entry.Entry.{Entry}
+use Rattle.typst_candidates.specs.Cursors as cursors
 use Rattle.typst_edits.specs.PieceReader.{PieceReader}
 use Rattle.typst_edits.specs.ReadPart.{ReadPart}
 use Rattle.typst_edits.specs.RunKind.{RunKind}
@@ -25,7 +26,7 @@ use Rattle.typst_edits.specs.Served.{MeetsOn, PassesOn, RunOf, Served, reading_o
 use Rattle.typst_edits.specs.Served.RunOf.{inner, own}
 use Rattle.typst_reparser.specs.Attempt.{Fails, at_path}
 use Rattle.typst_reparser.specs.Change.{Change, candidates, text_after, text_before}
-use Rattle.typst_reparser.specs.Steps.{Begins, BeginsThere, Fit, GoesOn, Grows, HasReadSome, HasReadTo, IsPassing, Serves, ServesFor, ServesNow, ServesOr, ServesRun}
+use Rattle.typst_reparser.specs.Steps.{Begins, BeginsThere, Fit, GoesOn, Grows, HasReadSome, HasReadTo, IsPassing, Serves, ServesFor, ServesNow, ServesOr, ServesRun, place_before}
 use Rattle.typst_reparser.specs.declared.attempt.Bounds.{Bounds}
 use Rattle.typst_reparser.specs.declared.attempt.Passing.{Passing}
 use Rattle.typst_reparser.specs.declared.attempt.Run.{Run}
@@ -82,10 +83,10 @@ for-now k c root path d run is o s e h =
 
 module _ (k : CharClasses) (c : Change) (root : Tree) (path : List ℕ) (d : code.Candidate) (run : Run) (g : FoundRun k c.front c.old c.new c.rest (at_path path d) run.kind run.levels run.first) where
   -- it begins
-  pub begun-serves : Among (at_path path d) (candidates k c root) → d.is_block ≡ false → (from : ℕ) → BeginsThere k c path d run g from
-      → (o : Option Serving) → Begins k (reading_of g) d from o → ServesNow k c root path d run o
-  begun-serves among pieces from there None h = absurd h
-  begun-serves among pieces from there (Some s) h = (subst (λ x. Serves k c root path d.depth run.kind run.levels run.first (record { reader = s.reader; any = s.any; first = x; from = s.from; last = s.last })) (sym h.2) at-it, goes)
+  pub begun-serves : Among (at_path path d) (candidates k c root) → d.is_block ≡ false → (at : cursors.Place) → BeginsThere k c path d run g at
+      → (o : Option Serving) → Begins k (reading_of g) d at.number o → ServesNow k c root path d run o
+  begun-serves among pieces at there None h = absurd h
+  begun-serves among pieces at there (Some s) h = (subst (λ x. Serves k c root path d.depth run.kind run.levels run.first (record { reader = s.reader; any = s.any; first = x; from = s.from; last = s.last })) (sym h.2) at-it, goes)
     where
       at-it : Serves k c root path d.depth run.kind run.levels run.first (record { reader = s.reader; any = s.any; first = d; from = s.from; last = s.last })
       at-it = record {
@@ -93,7 +94,7 @@ module _ (k : CharClasses) (c : Change) (root : Tree) (path : List ℕ) (d : cod
         pieces = pieces;
         among = among;
         found = g;
-        from = h.3 ∙ there.is;
+        from = h.3 ∙ ap (λ (p : cursors.Place). p.number) there.is;
         before = there.before;
         count = 0;
         read = h.0;
@@ -171,7 +172,7 @@ module _ (k : CharClasses) (c : Change) (root : Tree) (path : List ℕ) (d : cod
 
         -- where they do, it passes
         pub serves-pass : rear_in k c.front c.old c.rest ≤ g.looks → t.reader.end ≡ target → MeetsOn (entries_in k (text_before c)) run.kind g.to (d.start < t.first.start) h.has.count g.carried_end t.reader.carried
-            → (b : Bounds) → b.from ≡ g.from → b.to ≡ g.to → (p : Passing) → p.bounds ≡ b → p.first ≡ t.first → p.from ≡ t.from → (p.any ≡ true ↔ ((d.start < t.first.start) ⊎ (0 < h.has.count)))
+            → (b : Bounds) → b.from ≡ place_before (entries_in k (text_before c)) g.from → b.to ≡ place_before (entries_in k (text_before c)) g.to → (p : Passing) → p.bounds ≡ b → p.first ≡ t.first → p.from ≡ t.from → (p.any ≡ true ↔ ((d.start < t.first.start) ⊎ (0 < h.has.count)))
             → ArePieces k run.levels run.kind sv.found.carried (moved sv.found.at (text_with c.front c.new c.rest)) h.has.count p.pieces
             → IsPassing k c root path d run g p
         serves-pass behind at meets b from_is to_is p bounds first from any read =

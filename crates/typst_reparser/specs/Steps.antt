@@ -12,6 +12,7 @@ use Rattle.typst_edits.specs.Block.TheVariants as block
 use Rattle.typst_candidates.specs.declared.candidate.Candidate as code
 use Rattle.typst_candidates.specs.declared.entry.Entry.{Entry}
 use Rattle.typst_candidates.specs.Candidates.{Candidate}
+use Rattle.typst_candidates.specs.Cursors as cursors
 use Rattle.typst_candidates.specs.Entries.{block_end, entries_by, last_start}
 use Rattle.typst_edits.specs.ReadPart.{ReadPart}
 use Rattle.typst_edits.specs.PieceReader.{PieceReader}
@@ -45,10 +46,14 @@ entries_of start p = entries_by start p.notes.items ++ block_end (last_start sta
 
 -- ---- pieces
 
+-- the place before the entry of a number
+abbrev pub place_before : List Entry → ℕ → cursors.Place
+place_before es number = record { entries = es; number = number }
+
 -- Pieces begin and end at these entries, and looks have to begin behind the stretch from this one on, or from one that is none.
 abbrev pub AreBounds : List Entry → ℕ → ℕ → ℕ → Option Bounds → Type 0
 AreBounds es from to looks None = ⊥
-AreBounds es from to looks (Some b) = (b.from ≡ from) × (b.to ≡ to) × ((b.looks ≡ looks) ⊎ ((b.looks ≡ length es) × (length es ≤ looks)))
+AreBounds es from to looks (Some b) = (b.from ≡ place_before es from) × (b.to ≡ place_before es to) × ((b.looks ≡ looks) ⊎ ((b.looks ≡ length es) × (length es ≤ looks)))
 
 -- So many pieces were read that fewer end before a byte.
 pub record HasReadSome (k : CharClasses) (r : Reading) (end : ℕ) (any : Bool) (p : PieceReader) : Type 0 where
@@ -132,9 +137,9 @@ pub record Reads {C : Type 0} (k : CharClasses) (c : Change) (a : Attempt C) (pa
   pub found : FoundRun k c.front c.old c.new c.rest (at_path path d) r.kind r.levels r.first
   pub serves : ServesFor k c a.root.now path d s
 
--- It begins at this entry, before which all looks end before the stretch.
-pub record BeginsThere (k : CharClasses) (c : Change) (path : List ℕ) (d : code.Candidate) (r : Run) (f : FoundRun k c.front c.old c.new c.rest (at_path path d) r.kind r.levels r.first) (from : ℕ) : Type 0 where
-  pub is : from ≡ f.from
+-- It begins at this place, before which all looks end before the stretch.
+pub record BeginsThere (k : CharClasses) (c : Change) (path : List ℕ) (d : code.Candidate) (r : Run) (f : FoundRun k c.front c.old c.new c.rest (at_path path d) r.kind r.levels r.first) (at : cursors.Place) : Type 0 where
+  pub is : at ≡ place_before (entries_in k (text_before c)) f.from
   pub before : f.from < front_in k c.front c.old c.rest
 
 -- A reading begins with a candidate, at an entry.
@@ -149,8 +154,8 @@ ServesNow k c root path d r (Some s) = Serves k c root path d.depth r.kind r.lev
 
 -- Pieces were read that pass.
 pub record IsPassing (k : CharClasses) (c : Change) (root : Tree) (path : List ℕ) (d : code.Candidate) (run : Run) (f : FoundRun k c.front c.old c.new c.rest (at_path path d) run.kind run.levels run.first) (p : Passing) : Type 0 where
-  pub from : p.bounds.from ≡ f.from
-  pub to : p.bounds.to ≡ f.to
+  pub from : p.bounds.from ≡ place_before (entries_in k (text_before c)) f.from
+  pub to : p.bounds.to ≡ place_before (entries_in k (text_before c)) f.to
   -- their reading began with this candidate
   pub begun : FoundRun k c.front c.old c.new c.rest (at_path path p.first) run.kind run.levels run.first
   pub entry : p.from ≡ begun.from

@@ -25,13 +25,10 @@ ghost use Rattle.typst_reparser.specs.Steps.{AreBounds, Begins, BeginsThere, Can
 
 use crate::replacement::Replacement;
 use std::alloc::{AllocError, Global};
-use typst_candidates::{Candidate, Records, Tag};
-use typst_edits::{PieceReader, ReadPart, RunKind, parse_block, resume_pieces};
+use typst_candidates::{Candidate, Cursor, Records, Tag};
+use typst_edits::{MAX_DEPTH, PieceReader, ReadPart, RunKind, parse_block, resume_pieces};
 use typst_lines::Classes;
 use typst_tree::SyntaxNode;
-
-/// How many levels are left for what is called at the top of a text.
-const ALL_LEVELS: usize = 256;
 
 /// What takes a candidate's place.
 #[derive(Drop)]
@@ -61,12 +58,14 @@ struct Run {
     first: usize,
 }
 
-/// At which entries pieces of a run begin and end.
-#[derive(Clone, Copy)]
-struct Bounds {
-    from: usize,
-    to: usize,
-    /// From which entry on all looks have to begin behind the stretch.
+/// Where among the entries pieces of a run begin and end.
+#[derive(Drop)]
+struct Bounds<'a> {
+    /// The place before the entry at which they begin,
+    from: Cursor<'a>,
+    /// that before the entry at which they end,
+    to: Cursor<'a>,
+    /// and from which entry on all looks have to begin behind the stretch.
     looks: usize,
 }
 
@@ -87,8 +86,8 @@ pub(crate) struct Serving<'s> {
 
 /// Pieces that pass for a candidate.
 #[derive(Drop)]
-struct Passing {
-    bounds: Bounds,
+struct Passing<'a> {
+    bounds: Bounds<'a>,
     pieces: ReadPart,
     /// Whether there are any, read or left in place before them.
     any: bool,
@@ -273,7 +272,7 @@ impl<'a, 's, C: Classes> Attempt<'a, 's, C> {
         let run = Run {
             kind: RunKind::Text,
             at: 0,
-            levels: ALL_LEVELS,
+            levels: MAX_DEPTH,
             first: 0,
         };
         let Some(passing) = self.passing(alloc, candidate, run, serving)? else {
@@ -297,23 +296,11 @@ impl<'a, 's, C: Classes> Attempt<'a, 's, C> {
         let Some(passing) = self.passing(alloc, candidate, run, serving)? else {
             return Ok(None);
         };
-        if self.has_both(passing.any, passing.bounds.from) {
+        if has_both(passing.any, &passing.bounds.from) {
             let part = part_of_pieces(alloc, passing)?;
             return Ok(Some(part));
         }
         self.with_block(alloc, run, passing)
-    }
-
-    /// Whether there are pieces in both texts, where those of the old one begin at the entry of a number.
-    fn has_both(&self, any: bool, from: usize) -> bool
-        requires within { from < length self.now.records.now.units.entries }
-        requires fits { end_of 0 self.now.records.now.units.entries < 2 ^ 64 }
-        ensures { result ≡ true ↔ ((any ≡ true) × (IsLast self.now.records.now.units.entries from → ⊥)) }
-    {
-        if any {
-            return !self.is_last(from);
-        }
-        false
     }
 
     /// The pieces of a run that take a candidate's place, if it passes.
@@ -323,24 +310,24 @@ impl<'a, 's, C: Classes> Attempt<'a, 's, C> {
         candidate: Candidate,
         run: Run,
         serving: &mut Option<Serving<'s>>,
-    ) -> Result<Option<Passing>, AllocError>
+    ) -> Result<Option<Passing<'a>>, AllocError>
         requires { (c : Change) × (path : List ℕ) × Reads (C.classes self.now.asked.now.classes.now) c self.now path candidate run serving.old }
         ensures { (c : Change) (path : List ℕ) (h : Reads (C.classes self.now.asked.now.classes.now) c self.now path candidate run serving.old) → IfOk result (λ o. Settles (C.classes self.now.asked.now.classes.now) c self.now.root.now path candidate run h.found o × ServesOr (C.classes self.now.asked.now.classes.now) c self.now.root.now path candidate.depth serving.new) }
     {
         let Some(bounds) = self.bounds(run, candidate) else {
             return Ok(None);
         };
-        if !self.looks_pass(bounds.from, bounds.looks) {
+        if !self.looks_pass(bounds.from.number(), bounds.looks) {
             return Ok(None);
         }
         let Some(target) = self.new_end(candidate) else {
             return Ok(None);
         };
-        let Some(mut current) = self.serving(alloc, candidate, run, bounds.from, serving)? else {
+        let Some(mut current) = self.serving(alloc, candidate, run, &bounds.from, serving)? else {
             return Ok(None);
         };
         current.read_to(candidate, target, self.asked.classes)?;
-        if self.fits(&current, candidate, run.kind, bounds.to, target) {
+        if current.fits(candidate, run.kind, &bounds.to, target) {
             let passing = current.pass(candidate, bounds)?;
             return Ok(Some(passing));
         }
@@ -348,17 +335,17 @@ impl<'a, 's, C: Classes> Attempt<'a, 's, C> {
         Ok(None)
     }
 
-    /// The reading that serves the run, or one that begins with the candidate, at the entry of a number.
+    /// The reading that serves the run, or one that begins with the candidate, at a place.
     fn serving(
         &self,
         alloc: Global,
         candidate: Candidate,
         run: Run,
-        from: usize,
+        from: &Cursor<'_>,
         serving: &mut Option<Serving<'s>>,
     ) -> Result<Option<Serving<'s>>, AllocError>
-        requires { (c : Change) × (path : List ℕ) × (h : Reads (C.classes self.now.asked.now.classes.now) c self.now path candidate run serving.old) × BeginsThere (C.classes self.now.asked.now.classes.now) c path candidate run h.found from }
-        ensures begun { (c : Change) (path : List ℕ) (h : Reads (C.classes self.now.asked.now.classes.now) c self.now path candidate run serving.old) → BeginsThere (C.classes self.now.asked.now.classes.now) c path candidate run h.found from → IfOk result (λ o. ServesNow (C.classes self.now.asked.now.classes.now) c self.now.root.now path candidate run o) }
+        requires { (c : Change) × (path : List ℕ) × (h : Reads (C.classes self.now.asked.now.classes.now) c self.now path candidate run serving.old) × BeginsThere (C.classes self.now.asked.now.classes.now) c path candidate run h.found from.now }
+        ensures begun { (c : Change) (path : List ℕ) (h : Reads (C.classes self.now.asked.now.classes.now) c self.now path candidate run serving.old) → BeginsThere (C.classes self.now.asked.now.classes.now) c path candidate run h.found from.now → IfOk result (λ o. ServesNow (C.classes self.now.asked.now.classes.now) c self.now.root.now path candidate run o) }
         ensures taken { IfOk result (λ _. serving.new ≡ None) }
     {
         if let Some(current) = serving.take() {
@@ -367,19 +354,19 @@ impl<'a, 's, C: Classes> Attempt<'a, 's, C> {
         self.begin(alloc, candidate, run, from)
     }
 
-    /// A reading that begins with a candidate, at the entry of a number.
+    /// A reading that begins with a candidate, at a place.
     fn begin(
         &self,
         alloc: Global,
         candidate: Candidate,
         run: Run,
-        from: usize,
+        from: &Cursor<'_>,
     ) -> Result<Option<Serving<'s>>, AllocError>
         requires boundary { IsCharBoundary self.now.asked.now.new.now candidate.start }
         requires some { 0 < run.levels }
-        ensures { (x : Bool × ℕ) → SaysPiece self.now.records.now.units.entries from x → IfOk result (λ o. Begins (C.classes self.now.asked.now.classes.now) (reading_on run.kind run.levels x (place_at self.now.asked.now.new.now candidate.start)) candidate from o) }
+        ensures { (x : Bool × ℕ) → SaysPiece from.now.entries from.now.number x → IfOk result (λ o. Begins (C.classes self.now.asked.now.classes.now) (reading_on run.kind run.levels x (place_at self.now.asked.now.new.now candidate.start)) candidate from.now.number o) }
     {
-        let Some((at_start, nesting)) = self.carried(from) else {
+        let Some((at_start, nesting)) = carried_at(from) else {
             return Ok(None);
         };
         let reader = resume_pieces(
@@ -396,52 +383,32 @@ impl<'a, 's, C: Classes> Attempt<'a, 's, C> {
             reader,
             any: false,
             first: candidate,
-            from,
+            from: from.number(),
             last: candidate.end,
         }))
     }
 
-    /// Whether a reading ends at the byte where the candidate ends now, and may stand there before the entry
-    /// of a number.
-    fn fits(
-        &self,
-        current: &Serving<'_>,
-        candidate: Candidate,
-        kind: RunKind,
-        number: usize,
-        target: usize,
-    ) -> bool
-        requires within { number < length self.now.records.now.units.entries }
-        requires fits { end_of 0 self.now.records.now.units.entries < 2 ^ 64 }
-        ensures { (y : Bool × ℕ) (m : ℕ) → SaysPiece self.now.records.now.units.entries number y → (current.now.any ≡ true ↔ 0 < m) → (result ≡ true ↔ ((current.now.reader.end ≡ target) × MeetsOn self.now.records.now.units.entries kind number (candidate.start < current.now.first.start) m y current.now.reader.carried)) }
-    {
-        if current.reader.end() != target {
-            return false;
-        }
-        let carried = current.reader.carried();
-        self.meets(kind, number, current.has_pieces(candidate), carried)
-    }
-
-    /// At which entries the candidate begins and ends.
-    fn bounds(&self, run: Run, candidate: Candidate) -> Option<Bounds>
+    /// Where among the entries the candidate begins and ends.
+    fn bounds(&self, run: Run, candidate: Candidate) -> Option<Bounds<'a>>
         requires first { run.first ≤ length self.now.records.now.units.entries }
         requires fits { end_of 0 self.now.records.now.units.entries < 2 ^ 64 }
         ensures { (path : List ℕ) (from to looks : ℕ) → Ends self.now.records.now.units.entries run.first (at_path path candidate) from to → LooksFrom self.now.records.now.units.entries run.kind from to looks → AreBounds self.now.records.now.units.entries from to looks result }
     {
-        let from = self.records.piece_at(run.first, candidate.start)?;
-        if self.is_last(from) {
+        let from = self
+            .records
+            .cursor_at(run.first)
+            .piece_from(candidate.start)?;
+        if is_last(&from) {
+            let looks = self.looks_at_end(run.kind, from.number())?;
             return Some(Bounds {
+                to: from.copy(),
                 from,
-                to: from,
-                looks: self.looks_at_end(run.kind, from)?,
+                looks,
             });
         }
-        let to = self.records.piece_at(from, candidate.end)?;
-        Some(Bounds {
-            from,
-            to,
-            looks: to,
-        })
+        let to = from.piece_from(candidate.end)?;
+        let looks = to.number();
+        Some(Bounds { from, to, looks })
     }
 
     /// From which entry on all looks have to begin behind the stretch, where the entry of a number is all
@@ -458,48 +425,12 @@ impl<'a, 's, C: Classes> Attempt<'a, 's, C> {
         }
     }
 
-    /// Whether no piece of its run stands behind the entry of a number.
-    fn is_last(&self, number: usize) -> bool
-        requires within { number < length self.now.records.now.units.entries }
-        requires fits { end_of 0 self.now.records.now.units.entries < 2 ^ 64 }
-        ensures { IsTrue result ↔ IsLast self.now.records.now.units.entries number }
-    {
-        let place = self.records.cursor_at(self.behind(number));
-        place.piece_behind().is_none()
-    }
-
-    /// What is carried where the entry of a number stands, if a piece begins or ends there.
-    fn carried(&self, number: usize) -> Option<(bool, usize)>
-        ensures { (x : Bool × ℕ) → SaysPiece self.now.records.now.units.entries number x → result ≡ Some x }
-    {
-        let entry = self.records.entry(number)?;
-        match entry.tag {
-            Tag::Piece(at_start) => Some((at_start, entry.count)),
-            _ => None,
-        }
-    }
-
-    /// Whether pieces that carry this at their end may stand before the entry of a number.
-    fn meets(&self, kind: RunKind, number: usize, any: bool, carried: (bool, usize)) -> bool
-        requires within { number < length self.now.records.now.units.entries }
-        requires fits { end_of 0 self.now.records.now.units.entries < 2 ^ 64 }
-        ensures { (y : Bool × ℕ) (a b m : ℕ) → SaysPiece self.now.records.now.units.entries number y → (any ≡ true ↔ ((a < b) ⊎ (0 < m))) → (result ≡ true ↔ MeetsOn self.now.records.now.units.entries kind number (a < b) m y carried) }
-    {
-        let Some(was) = self.carried(number) else {
-            return false;
-        };
-        if self.is_last(number) {
-            return ends_alike(kind, was, carried);
-        }
-        goes_alike(any, was, carried)
-    }
-
     /// The nodes of pieces of a content block's run, with the entries of the whole block.
     fn with_block(
         &self,
         alloc: Global,
         run: Run,
-        passing: Passing,
+        passing: Passing<'_>,
     ) -> Result<Option<Part>, AllocError>
         requires text { IsUtf8 self.now.asked.now.new.now }
         requires fits { length self.now.asked.now.new.now < 2 ^ 64 - 1 }
@@ -570,8 +501,21 @@ impl Serving<'_> {
         Ok(())
     }
 
+    /// Whether it ends at the byte where the candidate ends now, and may stand there before the entry behind a
+    /// place.
+    fn fits(&self, candidate: Candidate, kind: RunKind, to: &Cursor<'_>, target: usize) -> bool
+        requires { to.now.number < length to.now.entries }
+        ensures { (y : Bool × ℕ) (m : ℕ) → SaysPiece to.now.entries to.now.number y → (self.now.any ≡ true ↔ 0 < m) → (result ≡ true ↔ ((self.now.reader.end ≡ target) × MeetsOn to.now.entries kind to.now.number (candidate.start < self.now.first.start) m y self.now.reader.carried)) }
+    {
+        if self.reader.end() != target {
+            return false;
+        }
+        let carried = self.reader.carried();
+        meets(kind, to, self.has_pieces(candidate), carried)
+    }
+
     /// What was read, for a candidate that it passes for.
-    fn pass(self, candidate: Candidate, bounds: Bounds) -> Result<Passing, AllocError>
+    fn pass<'a>(self, candidate: Candidate, bounds: Bounds<'a>) -> Result<Passing<'a>, AllocError>
         ensures pieces { (k : CharClasses) (levels : ℕ) (kind : RunKind) (x : Bool × ℕ) (z : Place) (m : ℕ) → HasRead k levels kind x z m self.entry.reader → IfOk result (λ p. ArePieces k levels kind x z m p.pieces) }
         ensures any { (m : ℕ) → (self.entry.any ≡ true ↔ 0 < m) → IfOk result (λ p. p.any ≡ true ↔ ((candidate.start < self.entry.first.start) ⊎ (0 < m))) }
         ensures rest { IfOk result (λ p. (p.bounds ≡ bounds) × (p.first ≡ self.entry.first) × (p.from ≡ self.entry.from)) }
@@ -605,6 +549,52 @@ fn above(path: &[usize]) -> Option<&[usize]>
     Some(&path[..path.len() - 1])
 }
 
+/// Whether no piece of its run stands behind the entry behind a place.
+fn is_last(place: &Cursor<'_>) -> bool
+    requires { place.now.number < length place.now.entries }
+    ensures { IsTrue result ↔ IsLast place.now.entries place.now.number }
+{
+    let mut behind = place.copy();
+    behind.next();
+    behind.piece_behind().is_none()
+}
+
+/// What is carried at a place, if a piece begins or ends there.
+fn carried_at(place: &Cursor<'_>) -> Option<(bool, usize)>
+    ensures { (x : Bool × ℕ) → SaysPiece place.now.entries place.now.number x → result ≡ Some x }
+{
+    let entry = place.copy().next()?;
+    match entry.tag {
+        Tag::Piece(at_start) => Some((at_start, entry.count)),
+        _ => None,
+    }
+}
+
+/// Whether there are pieces in both texts, where those of the old one begin at a place.
+fn has_both(any: bool, from: &Cursor<'_>) -> bool
+    requires { from.now.number < length from.now.entries }
+    ensures { result ≡ true ↔ ((any ≡ true) × (IsLast from.now.entries from.now.number → ⊥)) }
+{
+    if any {
+        return !is_last(from);
+    }
+    false
+}
+
+/// Whether pieces that carry this at their end may stand before the entry behind a place.
+fn meets(kind: RunKind, to: &Cursor<'_>, any: bool, carried: (bool, usize)) -> bool
+    requires { to.now.number < length to.now.entries }
+    ensures { (y : Bool × ℕ) (a b m : ℕ) → SaysPiece to.now.entries to.now.number y → (any ≡ true ↔ ((a < b) ⊎ (0 < m))) → (result ≡ true ↔ MeetsOn to.now.entries kind to.now.number (a < b) m y carried) }
+{
+    let Some(was) = carried_at(to) else {
+        return false;
+    };
+    if is_last(to) {
+        return ends_alike(kind, was, carried);
+    }
+    goes_alike(any, was, carried)
+}
+
 /// Whether pieces at the end of a run carry what the old ones did there, as far as it matters.
 fn ends_alike(kind: RunKind, was: (bool, usize), carried: (bool, usize)) -> bool
     ensures { result ≡ true ↔ (kind ≡ RunKind.Block → carried.1 ≡ was.1) }
@@ -623,14 +613,14 @@ fn goes_alike(any: bool, was: (bool, usize), carried: (bool, usize)) -> bool
 }
 
 /// The part of pieces with their own entries.
-fn part_of_pieces(alloc: Global, passing: Passing) -> Result<Part, AllocError>
+fn part_of_pieces(alloc: Global, passing: Passing<'_>) -> Result<Part, AllocError>
     requires start { passing.first.start < 2 ^ 64 - 1 }
     requires fits { AllFit passing.pieces.notes.items }
     ensures nodes { IfOk result (λ p. p.nodes ≡ passing.pieces.nodes) }
     ensures first { IfOk result (λ p. p.first ≡ passing.first.from) }
     ensures end { IfOk result (λ p. p.end ≡ passing.pieces.end) }
     ensures entries { IfOk result (λ p. p.entries.units.entries ≡ entries_by passing.first.start passing.pieces.notes.items) }
-    ensures bounds { IfOk result (λ p. (p.from ≡ passing.from) × (p.to ≡ passing.bounds.to)) }
+    ensures bounds { IfOk result (λ p. (p.from ≡ passing.from) × (p.to ≡ passing.bounds.to.number)) }
 {
     let Passing {
         bounds,
@@ -648,7 +638,7 @@ fn part_of_pieces(alloc: Global, passing: Passing) -> Result<Part, AllocError>
         end,
         entries,
         from,
-        to: bounds.to,
+        to: bounds.to.number(),
     })
 }
 

@@ -18,9 +18,11 @@ returns-in_default g c = λ ch path h.
 
 pub returns-then-not-looks_pass : goal.returns-then-not-looks_pass
 returns-then-not-looks_pass g c = λ ch path h.
-    let k = g.C.Classes.classes c.args.self.now.asked.now.classes.now in (
-      step-looks-no k c.args.self.now ch path c.args.candidate c.args.run c.args.serving.now h c.in-Some.bounds c.in-Some.ensures (λ p. (let yes = c.looks_pass.ensures.1 p in let never = c.if-not-looks_pass.true in absurd (cc))),
-      for-or k ch c.args.self.now.root.now path c.args.candidate c.args.serving.now h.serves,
+    let k = g.C.Classes.classes c.args.self.now.asked.now.classes.now in
+    let self = c.args.self.now in
+    let same = λ p. subst (λ n. (n < self.asked.now.front) × (self.asked.now.rear ≤ c.in-Some.bounds.looks)) (sym c.number.ensures) p in (
+      step-looks-no k self ch path c.args.candidate c.args.run c.args.serving.now h c.in-Some.bounds c.in-Some.ensures (λ p. (let yes = c.looks_pass.ensures.1 (same p) in let never = c.if-not-looks_pass.true in absurd (cc))),
+      for-or k ch self.root.now path c.args.candidate c.args.serving.now h.serves,
     )
 
 pub returns-in_default-new_end : goal.returns-in_default-new_end
@@ -33,8 +35,10 @@ returns-in_default-new_end g c = λ ch path h.
 pub serving-requires : goal.serving-requires
 serving-requires g c =
     let k = g.C.Classes.classes c.args.self.now.asked.now.classes.now in
+    let self = c.args.self.now in
     let h = c.requires.2 in
-    (c.requires.0, c.requires.1, h, step-there k c.args.self.now c.requires.0 c.requires.1 c.args.candidate c.args.run c.args.serving.now h c.in-Some.bounds c.in-Some.ensures (c.looks_pass.ensures.0 c.if-not-looks_pass.false))
+    let test = subst (λ n. (n < self.asked.now.front) × (self.asked.now.rear ≤ c.in-Some.bounds.looks)) c.number.ensures (c.looks_pass.ensures.0 c.if-not-looks_pass.false) in
+    (c.requires.0, c.requires.1, h, step-there k self c.requires.0 c.requires.1 c.args.candidate c.args.run c.args.serving.now h c.in-Some.bounds c.in-Some.ensures test)
 
 pub returns-in_default-2 : goal.returns-in_default-2
 returns-in_default-2 g c = λ ch path h.
@@ -44,7 +48,7 @@ returns-in_default-2 g c = λ ch path h.
     let d = c.args.candidate in
     let run = c.args.run in
     let o = c.args.serving.now in
-    let test = c.looks_pass.ensures.0 c.if-not-looks_pass.false in
+    let test = subst (λ n. (n < self.asked.now.front) × (self.asked.now.rear ≤ c.in-Some.bounds.looks)) c.number.ensures (c.looks_pass.ensures.0 c.if-not-looks_pass.false) in
     let there = step-there k self ch path d run o h c.in-Some.bounds c.in-Some.ensures test in
     absurd (subst (ServesNow k ch root path d run) c.in_default-2.is (c.in_ok-current.ensures.begun ch path h there))
 
@@ -56,7 +60,7 @@ read_to-requires g c =
     let d = c.args.candidate in
     let run = c.args.run in
     let o = c.args.serving.now in
-    let test = c.looks_pass.ensures.0 c.if-not-looks_pass.false in
+    let test = subst (λ n. (n < self.asked.now.front) × (self.asked.now.rear ≤ c.in-Some.bounds.looks)) c.number.ensures (c.looks_pass.ensures.0 c.if-not-looks_pass.false) in
     let ch = c.requires.0 in
     let path = c.requires.1 in
     let h = c.requires.2 in
@@ -65,13 +69,10 @@ read_to-requires g c =
     let now : ServesNow k ch root path d run (Some s) = subst (ServesNow k ch root path d run) c.in-Some-2.is (c.in_ok-current.ensures.begun ch path h there) in
     (reading_of now.0.found, step-some k self ch path d run o h c.in-Some.bounds c.in-Some.ensures test s now c.in-Some-new_end.target c.in-Some-new_end.ensures.some)
 
-pub fits-requires-clause-within : goal.fits-requires-clause-within
-fits-requires-clause-within g c =
+pub fits-requires : goal.fits-requires
+fits-requires g c =
     let k = g.C.Classes.classes c.args.self.now.asked.now.classes.now in
     step-to k c.args.self.now c.requires.0 c.requires.1 c.args.candidate c.args.run c.args.serving.now c.requires.2 c.in-Some.bounds c.in-Some.ensures
-
-pub fits-requires-clause-fits : goal.fits-requires-clause-fits
-fits-requires-clause-fits g c = step-places (g.C.Classes.classes c.args.self.now.asked.now.classes.now) c.args.self.now c.requires.0 c.requires.1 c.args.candidate c.args.run c.args.serving.now c.requires.2
 
 pub returns-then-fits : goal.returns-then-fits
 returns-then-fits g c = λ ch path h.
@@ -81,7 +82,7 @@ returns-then-fits g c = λ ch path h.
     let d = c.args.candidate in
     let run = c.args.run in
     let o = c.args.serving.now in
-    let test = c.looks_pass.ensures.0 c.if-not-looks_pass.false in
+    let test = subst (λ n. (n < self.asked.now.front) × (self.asked.now.rear ≤ c.in-Some.bounds.looks)) c.number.ensures (c.looks_pass.ensures.0 c.if-not-looks_pass.false) in
     let there = step-there k self ch path d run o h c.in-Some.bounds c.in-Some.ensures test in
     let s = c.in-Some-2.current in
     let now : ServesNow k ch root path d run (Some s) = subst (ServesNow k ch root path d run) c.in-Some-2.is (c.in_ok-current.ensures.begun ch path h there) in (
@@ -98,7 +99,7 @@ returns g c = λ ch path h.
     let d = c.args.candidate in
     let run = c.args.run in
     let o = c.args.serving.now in
-    let test = c.looks_pass.ensures.0 c.if-not-looks_pass.false in
+    let test = subst (λ n. (n < self.asked.now.front) × (self.asked.now.rear ≤ c.in-Some.bounds.looks)) c.number.ensures (c.looks_pass.ensures.0 c.if-not-looks_pass.false) in
     let there = step-there k self ch path d run o h c.in-Some.bounds c.in-Some.ensures test in
     let s = c.in-Some-2.current in
     let now : ServesNow k ch root path d run (Some s) = subst (ServesNow k ch root path d run) c.in-Some-2.is (c.in_ok-current.ensures.begun ch path h there) in (

@@ -4,7 +4,7 @@ use Rattle.typst_lines.specs.Place.{place_at}
 use Rattle.typst_reparser.specs.Attempt.{Decides, at_path}
 use Rattle.typst_reparser.specs.Steps.{HasBlock, ServesOr, Settles}
 use Rattle.typst_reparser.specs.declared.attempt.Part.{Part}
-use Rattle.typst_reparser.proofs.Answering.{entries-are, places-fit}
+use Rattle.typst_reparser.proofs.Answering.{places-fit}
 use Rattle.typst_reparser.proofs.ReadSteps.{inner-reads}
 use Rattle.typst_reparser.proofs.RunSteps.{block-decides, if-ok, inner-boundary, inner-bounds, new-few, passing-few, passing-more, passing-part, passing-start, says-inner}
 use Rattle.typst_reparser.proofs.Runs.{from-within}
@@ -20,23 +20,16 @@ returns-in_default g c = λ ch path inner.
     let found = c.in_ok-passing.ensures ch path h in
     (subst (Settles k ch c.args.self.now.root.now path c.args.candidate c.args.run h.found) c.in_default.is found.0, found.1)
 
-pub has_both-requires-clause-within : goal.has_both-requires-clause-within
-has_both-requires-clause-within g c =
+pub has_both-requires : goal.has_both-requires
+has_both-requires g c =
     let k = g.C.Classes.classes c.args.self.now.asked.now.classes.now in
     let ch = c.requires.0 in
     let path = c.requires.1 in
     let root = c.args.self.now.root.now in
-    let units = c.args.self.now.records.now.units in
     let run = c.args.run in
-    let r = c.requires.2 in
-    let h = inner-reads k c.args.self.now ch path c.args.candidate run c.args.serving.now r in
+    let h = inner-reads k c.args.self.now ch path c.args.candidate run c.args.serving.now c.requires.2 in
     let found = subst (Settles k ch root path c.args.candidate run h.found) c.in-Some.is (c.in_ok-passing.ensures ch path h).0 in
-    from-within k ch (at_path path c.args.candidate) run.kind run.levels run.first h.found units.entries (entries-are k ch root units r.ready.holds) c.in-Some.passing.bounds.from found.from
-
-pub has_both-requires-clause-fits : goal.has_both-requires-clause-fits
-has_both-requires-clause-fits g c =
-    let r = c.requires.2 in
-    places-fit (g.C.Classes.classes c.args.self.now.asked.now.classes.now) c.requires.0 c.args.self.now.root.now c.args.self.now.records.now.units r.ready.holds c.args.self.now.asked.now.new.now c.args.self.now.asked.now.edit r.ready.makes
+    from-within k ch (at_path path c.args.candidate) run.kind run.levels run.first h.found c.in-Some.passing.bounds.from found.from
 
 pub part_of_pieces-requires-clause-start : goal.part_of_pieces-requires-clause-start
 part_of_pieces-requires-clause-start g c =

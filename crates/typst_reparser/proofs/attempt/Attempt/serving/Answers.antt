@@ -9,8 +9,8 @@ returns-in-Some-clause-begun g c = λ ch path h there.
 
 pub begin-requires-clause-boundary : goal.begin-requires-clause-boundary
 begin-requires-clause-boundary g c =
-    step-boundary (g.C.Classes.classes c.args.self.now.asked.now.classes.now) c.args.self.now c.requires.0 c.requires.1 c.args.candidate c.args.run c.args.serving.now c.requires.2 c.args.from c.requires.3
+    step-boundary (g.C.Classes.classes c.args.self.now.asked.now.classes.now) c.args.self.now c.requires.0 c.requires.1 c.args.candidate c.args.run c.args.serving.now c.requires.2 c.args.from.now c.requires.3
 
 pub returns-clause-begun : goal.returns-clause-begun
 returns-clause-begun g c = λ ch path h there.
-    step-begins (g.C.Classes.classes c.args.self.now.asked.now.classes.now) c.args.self.now ch path c.args.candidate c.args.run c.args.serving.now h c.args.from there c.begin.result c.begin.ensures
+    step-begins (g.C.Classes.classes c.args.self.now.asked.now.classes.now) c.args.self.now ch path c.args.candidate c.args.run c.args.serving.now h c.args.from.now there c.begin.result c.begin.ensures
