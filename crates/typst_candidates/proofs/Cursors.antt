@@ -346,3 +346,9 @@ piece-pass at p q e h piece n elsewhere =
   where
     not-same : (m : ℕ) → (m ≡ at → ⊥) → (m == at) ≡ false
     not-same m ne = grind (arith, nat_tests)
+
+-- no block ends at a piece
+pub closing-pass : (inside : ℕ) (p q : Place) (e : Entry) → entry_behind p ≡ Some e → is_piece e.tag ≡ true → q ≡ record p { number = suc p.number }
+    → closing_of inside q.number (drop q.number q.entries) ≡ closing_of inside p.number (drop p.number p.entries)
+closing-pass inside p q e h piece n =
+    sym (closing-on p.entries inside p.number e (Some inside) h (piece-inside e.tag inside piece) ∙ ap (λ (r : Place). closing_of inside r.number (drop r.number r.entries)) (sym n))

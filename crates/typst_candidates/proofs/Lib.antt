@@ -2,7 +2,7 @@
 --   a row's edges and stretches      Rows; Found: what is found in a row; Nested: the run by its entries
 --   has, run: the bytes rise         Bytes
 --   records: of_notes, rear, front, opening, last   Walks: entry by entry; Passes: over all of them
---   next, back, cursor_at, piece_behind, piece_before, top_run, run_in, closing   Cursors
+--   next, back, cursor_at, piece_behind, piece_before, top_run, run_in, closing   Cursors; Openings: run_in by opening
 --   put, push, next, back of the words       Words
 --   start of a walk, put             Spans: by sums over words, Rounds: round the machine's numbers; pass_block   Blocks
 --   looks_law                        Looks: note by note
@@ -19,3 +19,4 @@ pub mod Spans
 pub mod Rounds
 pub mod Blocks
 pub mod Passes
+pub mod Openings

@@ -1,6 +1,6 @@
 //! Where the pieces of a run begin, and where a block ends, by the records of a text.
 
-ghost use Rattle.std.specs.Prelude.{◌≡◌, ◌+◌, ◌-◌, ◌&&◌, ◌==◌, ◌<◌, ◌≤◌, ◌^◌, ◌++◌, ◌∷◌, [], if◌then◌else◌, IfOk, drop, length, slice_get, vec_capacity, vec_len};
+ghost use Rattle.std.specs.Prelude.{◌≡◌, ◌+◌, ◌-◌, ◌&&◌, ◌==◌, ◌<◌, ◌≤◌, ◌^◌, ◌++◌, ◌∷◌, [], if◌then◌else◌, IfOk, drop, ℕ, length, slice_get, vec_capacity, vec_len};
 ghost use Rattle.typst_candidates.specs.Cursors as spec;
 ghost use Rattle.typst_candidates.specs.Entries.{end_of};
 ghost use Rattle.typst_candidates.specs.Rows.{run_of};
@@ -8,6 +8,7 @@ ghost use Rattle.typst_candidates.specs.Units.{behind_first};
 
 use crate::cursor::{Cursor, inside_behind, leads};
 use crate::cuts::Cuts;
+use crate::entries::Walk;
 use crate::entry::{Entry, Tag};
 use crate::records::Records;
 use std::alloc::{AllocError, Global};
@@ -59,12 +60,16 @@ impl Records {
     }
 
     /// The run of the content block that begins at byte `at`; `None` where no block or no piece of it is
-    /// noted, as at the limit of depth. Goes through the entries up to the block's end.
+    /// noted, as at the limit of depth. Passes over the entries up to the block, many at a time, and goes through
+    /// those up to its end.
     pub fn run_in(&self, alloc: Global, at: usize) -> Result<Option<Cuts>, AllocError>
         requires { end_of 0 self.now.units.entries < 2 ^ 64 }
         ensures { IfOk result (λ run. run_of run ≡ spec.pieces_in at 0 self.now.units.entries) }
     {
-        let mut place = self.cursor();
+        let Some(first) = self.opening(at) else {
+            return Ok(None);
+        };
+        let mut place = self.cursor_at(first);
         while let Some(entry) = place.next() {
             if begins_content(at, entry.tag, place.start()) {
                 return place.run(alloc);
@@ -83,6 +88,7 @@ impl Records {
         let mut place = self.walk_at(from);
         let mut inside = 0usize;
         loop {
+            pass_pieces(&mut place);
             let number = place.number();
             let entry = place.next()?;
             let Some(further) = inside_behind(entry.tag, inside) else {
@@ -124,6 +130,15 @@ impl<'a> Cursor<'a> {
             inside = inside_behind(entry.tag, inside)?;
         }
     }
+}
+
+/// Passes over entries at which pieces begin: no block ends at these.
+fn pass_pieces(place: &mut Walk<'_>)
+    ensures entries { place.new.entries ≡ place.old.entries }
+    ensures on { place.old.number ≤ place.new.number }
+    ensures closing { (inside : ℕ) → spec.closing_of inside place.new.number (drop place.new.number place.new.entries) ≡ spec.closing_of inside place.old.number (drop place.old.number place.old.entries) }
+{
+    while let Some(_) = place.pass_piece() {}
 }
 
 /// Passes over entries at which pieces of the run itself begin, up to one whose token begins at byte `at`. In a block
