@@ -1,4 +1,4 @@
-use Rattle.std.proofs.Common.{◌≡◌, ◌<◌, ◌≤◌, None, Some, true, false, refl, sym, subst, ◌∙◌}
+use Rattle.std.proofs.Common.{◌<◌, ◌≤◌, Some, refl, sym, subst}
 use Rattle.typst_edits.specs.Served.{reading_of}
 use Rattle.typst_reparser.specs.Steps.{ServesNow, ServesOr}
 use Rattle.typst_reparser.proofs.RunSteps.{step-again, step-end-no, step-ends, step-fail, step-first, step-looks, step-looks-no, step-pass, step-places, step-some, step-there, step-to}
