@@ -1,31 +1,23 @@
 -- The steps of reading pieces of a run anew.
-use Rattle.std.proofs.Common.{◌≡◌, ◌↔◌, ◌⊎◌, ℕ, suc, ◌+◌, ◌-◌, ◌≤◌, ◌<◌, ◌^◌, Bool, true, List, [], length, take, drop, Option, Some, None, refl, ap, sym, subst, ◌∙◌, arith}
+use Rattle.std.proofs.Common.{◌≡◌, ◌↔◌, ◌⊎◌, ℕ, ◌+◌, ◌-◌, ◌≤◌, ◌<◌, ◌^◌, Bool, true, List, length, Option, Some, None, ap, sym, subst, ◌∙◌, arith}
 use Rattle.std.specs.Prelude.{Result, Ok, Err, IfOk}
 use Rattle.std.specs.Global.{Vec}
-use Rattle.std.specs.Str.{IsCharBoundary, chars}
-use Rattle.typst_kinds.specs.declared.mode.SyntaxMode.{SyntaxMode}
+use Rattle.std.specs.Str.{IsCharBoundary}
 use Rattle.typst_lines.specs.Classes.{CharClasses}
 use Rattle.typst_lines.specs.Place.{Place, moved, place_at}
-use Rattle.typst_tokens.specs.Sight.{position, width}
+use Rattle.typst_tokens.specs.Sight.{width}
 use Rattle.typst_tree.specs.Tree.{Tree}
-use Rattle.typst_tree.specs.Laws.{start_at}
 use Rattle.typst_tree.specs.Replace.{replaced_at}
 use Rattle.typst_edits.specs.Block.TheVariants as block
 use Rattle.typst_edits.specs.Log.{Log}
-use Rattle.typst_edits.specs.Point.{gap_of, pending}
 use Rattle.typst_candidates.specs.declared.candidate.Candidate as code
-use Rattle.typst_candidates.specs.declared.entry.Entry.{Entry}
-use Rattle.typst_candidates.specs.Candidates.{Candidate}
 use Rattle.typst_candidates.specs.Cursors as cursors
 use Rattle.typst_candidates.specs.Entries.{Units, end_of, entries_by, spliced, units_of}
 use Rattle.typst_candidates.specs.Records.{AllFit}
-use Rattle.typst_edits.specs.PieceReader.{PieceReader}
-use Rattle.typst_edits.specs.ReadPart.{ReadPart}
 use Rattle.typst_edits.specs.RunKind.{RunKind}
 use Rattle.typst_edits.specs.RunKind.TheVariants as of
 use Rattle.typst_edits.specs.Grammar.{log}
 use Rattle.typst_edits.specs.Part.{ArePieces, HasRead}
-use Rattle.typst_edits.specs.Pieces.{asks_of, end_on, first_look, given, pieces_on, run_level, stops_of}
 use Rattle.typst_edits.specs.BlockTest.{SaysBlock, entries_in, front_in, rear_in}
 use Rattle.typst_edits.specs.Edit.{text_with}
 use Rattle.typst_edits.specs.Frame.{Gives}
@@ -33,8 +25,8 @@ use Rattle.typst_edits.specs.PieceNotes.{listed}
 use Rattle.typst_edits.specs.RunTest.{Ends, FoundInner, FoundRun, IsLast, LooksFrom, Reading, SaysPiece, nodes_by, notes_by, reading_on}
 use Rattle.typst_edits.specs.Served.{MeetsOn, reading_of}
 use Rattle.typst_reparser.specs.Attempt.{Decides, Fails, IsPart, Speaks, at_path}
-use Rattle.typst_reparser.specs.Change.{Change, text_after, text_before}
-use Rattle.typst_reparser.specs.Steps.{AreBounds, Begins, BeginsThere, HasBlock, HasReadSome, HasReadTo, IsPassing, IsRunOf, IsWithBlock, Reads, ReadsInner, ServesNow, ServesRun, place_before}
+use Rattle.typst_reparser.specs.Change.{Change, text_before}
+use Rattle.typst_reparser.specs.Steps.{AreBounds, Begins, BeginsThere, HasBlock, HasReadSome, HasReadTo, IsPassing, IsRunOf, Reads, ServesNow, ServesRun, place_before}
 use Rattle.typst_reparser.specs.declared.attempt.Asked.{Asked}
 use Rattle.typst_reparser.specs.declared.attempt.Attempt.{Attempt}
 use Rattle.typst_reparser.specs.declared.attempt.Bounds.{Bounds}
@@ -42,7 +34,6 @@ use Rattle.typst_reparser.specs.declared.attempt.Part.{Part}
 use Rattle.typst_reparser.specs.declared.attempt.Passing.{Passing}
 use Rattle.typst_reparser.specs.declared.attempt.Run.{Run}
 use Rattle.typst_reparser.specs.declared.attempt.Serving.{Serving}
-use Rattle.typst_reparser.specs.declared.replacement.Replacement.{Replacement}
 use Rattle.typst_reparser.proofs.Answering.{entries-are, places-fit}
 use Rattle.typst_reparser.proofs.BlockSteps.{now-boundary, now-few, now-place}
 use Rattle.typst_reparser.proofs.Inner.{inner-first, inner-here, inner-says, with-block-part}

@@ -1,34 +1,27 @@
 -- Pieces of a run: from what is found of a candidate to whether it passes.
-use Rattle.std.proofs.Common.{◌≡◌, ◌↔◌, ◌⊎◌, inl, inr, ℕ, suc, ◌+◌, ◌-◌, ◌≤◌, ◌<◌, ◌^◌, Bool, true, List, [], ◌++◌, length, take, drop, take-append-drop, Option, Some, None, refl, ap, sym, subst, ◌∙◌, arith}
+use Rattle.std.proofs.Common.{◌≡◌, ◌↔◌, ◌⊎◌, inl, inr, ℕ, suc, ◌+◌, ◌-◌, ◌≤◌, ◌<◌, ◌^◌, Bool, true, List, ◌++◌, length, take, drop, take-append-drop, Option, Some, None, refl, ap, sym, subst, ◌∙◌, arith}
 use Rattle.std.proofs.lemmas.Option.{same_Some}
 use Rattle.typst_lines.specs.Classes.{CharClasses}
 use Rattle.typst_lines.specs.Place.{Place, moved}
-use Rattle.typst_tokens.specs.Sight.{position, width}
-use Rattle.typst_tree.specs.Tree.{Tree}
-use Rattle.typst_edits.specs.Log.{Log}
+use Rattle.typst_tokens.specs.Sight.{width}
 use Rattle.typst_candidates.specs.declared.entry.Entry.{Entry}
 use Rattle.typst_candidates.specs.Candidates.{Candidate}
 use Rattle.typst_candidates.specs.Cursors as cursors
 use Rattle.typst_candidates.specs.Cursors.{closing_of, piece_of}
-use Rattle.typst_candidates.specs.Entries.{end_of, entries_by, spliced, units_of}
-use Rattle.typst_candidates.specs.Records.{AllFit}
+use Rattle.typst_candidates.specs.Entries.{end_of, units_of}
 use Rattle.typst_edits.specs.RunKind.{RunKind}
 use Rattle.typst_edits.specs.RunKind.TheVariants as of
-use Rattle.typst_edits.specs.ReadPart.{ReadPart}
-use Rattle.typst_edits.specs.Grammar.{log, start_of}
-use Rattle.typst_edits.specs.Part.{ArePieces}
+use Rattle.typst_edits.specs.Grammar.{log}
 use Rattle.typst_edits.specs.Pieces.{end_on, run_level, stops_of}
 use Rattle.typst_edits.specs.Point.{gap_of}
 use Rattle.typst_edits.specs.BlockTest.{entries_in, front_in, rear_in}
 use Rattle.typst_edits.specs.Edit.{text_with}
-use Rattle.typst_edits.specs.Frame.{Gives}
-use Rattle.typst_edits.specs.PieceNotes.{listed}
 use Rattle.typst_edits.specs.RunTest.{BeginsAt, Ends, FoundRun, IsLast, LooksFrom, SaysPiece, byte_behind, reading_on}
 use Rattle.typst_edits.specs.Served.{MeetsOn}
 use Rattle.typst_edits.specs.RunTest.Ends.{none, some}
 use Rattle.typst_edits.specs.RunTest.LooksFrom.{closing, nothing, pieces}
 use Rattle.typst_edits.proofs.Widths.{width-append}
-use Rattle.typst_reparser.specs.Attempt.{Fails, IsPart}
+use Rattle.typst_reparser.specs.Attempt.{Fails}
 use Rattle.typst_reparser.specs.Change.{Change, Makes, text_after, text_before}
 use Rattle.typst_reparser.specs.Steps.{AreBounds, Grows, place_before}
 use Rattle.typst_reparser.specs.declared.attempt.Bounds.{Bounds}

@@ -1,27 +1,23 @@
 -- One reading of the new text, from one candidate of a run to the next.
-use Rattle.std.proofs.Common.{◌≡◌, ◌↔◌, ◌⊎◌, inl, inr, ℕ, zero, suc, ◌+◌, ◌-◌, ◌≤◌, ◌<◌, ◌^◌, Bool, true, false, List, [], length, take, Option, Some, None, refl, ap, sym, subst, ◌∙◌, arith}
+use Rattle.std.proofs.Common.{◌≡◌, ◌↔◌, ◌⊎◌, ℕ, suc, ◌+◌, ◌-◌, ◌≤◌, ◌<◌, ◌^◌, Bool, true, false, List, take, Option, Some, None, refl, ap, sym, subst, ◌∙◌, arith}
 use Rattle.std.proofs.lemmas.Option.{same_Some}
 use Rattle.std.specs.Prelude.{IfSome}
-use Rattle.std.specs.List.{slice_get}
 use Rattle.typst_kinds.specs.declared.mode.SyntaxMode.{SyntaxMode}
 use Rattle.typst_edits.specs.Block.{Block}
 use Rattle.typst_edits.specs.Block.TheVariants as block
 use Rattle.typst_lines.specs.Classes.{CharClasses}
-use Rattle.typst_lines.specs.Place.{Place, moved}
+use Rattle.typst_lines.specs.Place.{moved}
 use Rattle.typst_tokens.specs.Sight.{width}
 use Rattle.typst_tree.specs.Tree.{Tree, bare}
 use Rattle.typst_candidates.specs.declared.candidate.Candidate as code
 use Rattle.typst_candidates.specs.declared.entry.Entry.{Entry}
 use Rattle.typst_candidates.specs.Cursors as cursors
-use Rattle.typst_edits.specs.PieceReader.{PieceReader}
-use Rattle.typst_edits.specs.ReadPart.{ReadPart}
 use Rattle.typst_edits.specs.RunKind.{RunKind}
 use Rattle.typst_edits.specs.Grammar.{tree}
-use Rattle.typst_edits.specs.Part.{ArePieces, HasRead}
-use Rattle.typst_edits.specs.BlockTest.{SaysBlock, entries_in, front_in, rear_in}
+use Rattle.typst_edits.specs.Part.{ArePieces}
+use Rattle.typst_edits.specs.BlockTest.{SaysBlock, entries_in, rear_in}
 use Rattle.typst_edits.specs.Edit.{Among, text_with}
-use Rattle.typst_edits.specs.Frame.{Gives}
-use Rattle.typst_edits.specs.RunTest.{FoundRun, byte_behind, reading_on}
+use Rattle.typst_edits.specs.RunTest.{FoundRun}
 use Rattle.typst_edits.specs.Served.{MeetsOn, PassesOn, RunOf, Served, reading_of}
 use Rattle.typst_edits.specs.Served.RunOf.{inner, own}
 use Rattle.typst_reparser.specs.Attempt.{Fails, at_path}

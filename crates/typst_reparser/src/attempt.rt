@@ -438,7 +438,7 @@ impl<'a, 's, C: Classes> Attempt<'a, 's, C> {
         requires boundary { IsCharBoundary self.now.asked.now.new.now run.at }
         requires first { (0 < run.first) × (run.first ≤ length self.now.records.now.units.entries) }
         requires block { (to : ℕ) × (levels : ℕ) × (mode : SyntaxMode) × SaysBlock self.now.records.now.units.entries (run.first - 1) to levels Block.Content mode }
-        ensures { (to levels : ℕ) (mode : SyntaxMode) → SaysBlock self.now.records.now.units.entries (run.first - 1) to levels Block.Content mode → IfOk result (λ part. HasBlock (C.classes self.now.asked.now.classes.now) (place_at self.now.asked.now.new.now run.at) run.at levels mode (run.first - 1) to passing.first.from passing.pieces part) }
+        ensures { (to levels : ℕ) (mode : SyntaxMode) → SaysBlock self.now.records.now.units.entries (run.first - 1) to levels Block.Content mode → IfOk result (λ part. HasBlock (C.classes self.now.asked.now.classes.now) (place_at self.now.asked.now.new.now run.at) run.at levels mode (run.first - 1) to passing.entry.first.from passing.entry.pieces part) }
     {
         let opens = run.first - 1;
         let Some(to) = self.records.closing(run.first) else {
@@ -518,7 +518,7 @@ impl Serving<'_> {
     fn pass<'a>(self, candidate: Candidate, bounds: Bounds<'a>) -> Result<Passing<'a>, AllocError>
         ensures pieces { (k : CharClasses) (levels : ℕ) (kind : RunKind) (x : Bool × ℕ) (z : Place) (m : ℕ) → HasRead k levels kind x z m self.entry.reader → IfOk result (λ p. ArePieces k levels kind x z m p.pieces) }
         ensures any { (m : ℕ) → (self.entry.any ≡ true ↔ 0 < m) → IfOk result (λ p. p.any ≡ true ↔ ((candidate.start < self.entry.first.start) ⊎ (0 < m))) }
-        ensures rest { IfOk result (λ p. (p.bounds ≡ bounds) × (p.first ≡ self.entry.first) × (p.from ≡ self.entry.from)) }
+        ensures rest { IfOk result (λ p. (p.bounds ≡ bounds.entry) × (p.first ≡ self.entry.first) × (p.from ≡ self.entry.from)) }
     {
         let any = self.has_pieces(candidate);
         let Serving {
@@ -616,11 +616,11 @@ fn goes_alike(any: bool, was: (bool, usize), carried: (bool, usize)) -> bool
 fn part_of_pieces(alloc: Global, passing: Passing<'_>) -> Result<Part, AllocError>
     requires start { passing.first.start < 2 ^ 64 - 1 }
     requires fits { AllFit passing.pieces.notes.items }
-    ensures nodes { IfOk result (λ p. p.nodes ≡ passing.pieces.nodes) }
-    ensures first { IfOk result (λ p. p.first ≡ passing.first.from) }
-    ensures end { IfOk result (λ p. p.end ≡ passing.pieces.end) }
-    ensures entries { IfOk result (λ p. p.entries.units.entries ≡ entries_by passing.first.start passing.pieces.notes.items) }
-    ensures bounds { IfOk result (λ p. (p.from ≡ passing.from) × (p.to ≡ passing.bounds.to.number)) }
+    ensures nodes { IfOk result (λ p. p.nodes ≡ passing.entry.pieces.nodes) }
+    ensures first { IfOk result (λ p. p.first ≡ passing.entry.first.from) }
+    ensures end { IfOk result (λ p. p.end ≡ passing.entry.pieces.end) }
+    ensures entries { IfOk result (λ p. p.entries.units.entries ≡ entries_by passing.entry.first.start passing.entry.pieces.notes.items) }
+    ensures bounds { IfOk result (λ p. (p.from ≡ passing.entry.from) × (p.to ≡ passing.entry.bounds.to.number)) }
 {
     let Passing {
         bounds,

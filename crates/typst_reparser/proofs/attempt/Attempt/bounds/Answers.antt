@@ -1,4 +1,4 @@
-use Rattle.std.proofs.Common.{◌<◌, ◌∙◌, length, sym, subst}
+use Rattle.std.proofs.Common.{◌<◌, length, sym, subst}
 use Rattle.typst_edits.specs.RunTest.{IsLast}
 use Rattle.typst_reparser.specs.Attempt.{at_path}
 use Rattle.typst_reparser.proofs.Numbers.{begins-behind}

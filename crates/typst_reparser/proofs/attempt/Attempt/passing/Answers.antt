@@ -1,4 +1,4 @@
-use Rattle.std.proofs.Common.{◌≡◌, ◌<◌, ◌≤◌, None, Some, true, false, refl, sym, subst, ◌∙◌}
+use Rattle.std.proofs.Common.{◌<◌, ◌≤◌, Some, refl, sym, subst}
 use Rattle.typst_edits.specs.Served.{reading_of}
 use Rattle.typst_reparser.specs.Steps.{ServesNow, ServesOr}
 use Rattle.typst_reparser.proofs.RunSteps.{step-again, step-end-no, step-ends, step-fail, step-first, step-looks, step-looks-no, step-pass, step-places, step-some, step-there, step-to}
@@ -20,7 +20,8 @@ pub returns-then-not-looks_pass : goal.returns-then-not-looks_pass
 returns-then-not-looks_pass g c = λ ch path h.
     let k = g.C.Classes.classes c.args.self.now.asked.now.classes.now in
     let self = c.args.self.now in
-    let same = λ p. subst (λ n. (n < self.asked.now.front) × (self.asked.now.rear ≤ c.in-Some.bounds.looks)) (sym c.number.ensures) p in (
+    let same : (c.in-Some.bounds.from.number < self.asked.now.front) × (self.asked.now.rear ≤ c.in-Some.bounds.looks) → (c.number.result < self.asked.now.front) × (self.asked.now.rear ≤ c.in-Some.bounds.looks) =
+    subst (λ n. (n < self.asked.now.front) × (self.asked.now.rear ≤ c.in-Some.bounds.looks)) (sym c.number.ensures) in (
       step-looks-no k self ch path c.args.candidate c.args.run c.args.serving.now h c.in-Some.bounds c.in-Some.ensures (λ p. (let yes = c.looks_pass.ensures.1 (same p) in let never = c.if-not-looks_pass.true in absurd (cc))),
       for-or k ch self.root.now path c.args.candidate c.args.serving.now h.serves,
     )

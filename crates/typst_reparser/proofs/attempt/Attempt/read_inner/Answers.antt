@@ -1,4 +1,4 @@
-use Rattle.std.proofs.Common.{◌≡◌, ◌-◌, ◌<◌, true, false, [], None, Some, sym, ◌∙◌, refl, arith, subst}
+use Rattle.std.proofs.Common.{◌-◌, subst}
 use Rattle.std.specs.Prelude.{Option}
 use Rattle.typst_lines.specs.Place.{place_at}
 use Rattle.typst_reparser.specs.Attempt.{Decides, at_path}

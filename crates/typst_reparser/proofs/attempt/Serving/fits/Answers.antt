@@ -1,4 +1,4 @@
-use Rattle.std.proofs.Common.{◌≡◌, ◌<◌, sym, subst, ◌∙◌}
+use Rattle.std.proofs.Common.{◌<◌, sym, subst, ◌∙◌}
 use Rattle.typst_edits.specs.Served.{MeetsOn}
 use Rattle.typst_reparser.proofs.attempt.Serving.fits.Goals as goal
 
