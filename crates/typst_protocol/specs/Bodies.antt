@@ -1,5 +1,7 @@
 -- The bodies that a server sends.
-use Rattle.std.specs.Prelude.{ℕ, List, ◌++◌, codes}
+use Rattle.std.specs.Prelude.{ℕ, List, [], ◌++◌, codes, Some}
+use Rattle.serde.specs.Event.{Log}
+use Rattle.serde_json.specs.Sent.{IsTextOf}
 use Rattle.typst_protocol.specs.declared.refusal.Refusal.{Refusal}
 use Rattle.typst_protocol.specs.declared.refusal.Refusal.TheVariants.{OutOfPlace, UnknownMethod, BadParameters, OutOfMemory, NotInitialized, LostDocument}
 use Rattle.typst_protocol.specs.declared.refusal.Unread.{Unread}
@@ -52,3 +54,7 @@ nameless why = response (codes "null") (codes "error") (error_of why)
 -- a notification has a method and parameters
 abbrev pub notification : List ℕ → List ℕ → List ℕ
 notification method params = codes "{\"jsonrpc\":\"2.0\",\"method\":\"" ++ method ++ codes "\",\"params\":" ++ params ++ codes "}"
+
+-- a text is the JSON of what a value writes, from nothing on
+abbrev pub IsJsonOf : (Log → Log → Type 0) → List ℕ → Type 0
+IsJsonOf writes text = (log : Log) × writes (Some []) log × IsTextOf log text

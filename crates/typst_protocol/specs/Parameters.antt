@@ -35,13 +35,15 @@ text_in name value = option_and_then as_str (member name value)
 abbrev pub count_in : List ℕ → Data → Option ℕ
 count_in name value = option_and_then as_u64 (option_and_then as_number (get name value))
 
--- the document that parameters speak of, its address and its text
+-- the document that parameters speak of
 abbrev pub document : Option Data → Option Data
 document params = member (codes "textDocument") params
 
+-- the address of the document
 abbrev pub uri : Option Data → Option (List ℕ)
 uri params = text_in (codes "uri") (document params)
 
+-- the whole text of the document
 abbrev pub whole_text : Option Data → Option (List ℕ)
 whole_text params = text_in (codes "text") (document params)
 
@@ -49,10 +51,11 @@ whole_text params = text_in (codes "text") (document params)
 abbrev pub position : Data → Option Position
 position value = option_and_then (λ line. option_map (λ column. record { line = line; column = column }) (count_in (codes "character") value)) (count_in (codes "line") value)
 
--- the position that parameters name, and their list of positions
+-- the position that parameters name
 abbrev pub position_in : Option Data → Option Position
 position_in value = option_and_then position (member (codes "position") value)
 
+-- the list of positions that parameters name
 abbrev pub positions : Option Data → Option Items
 positions value = option_and_then as_array (member (codes "positions") value)
 
@@ -112,11 +115,12 @@ pub data Edit : Type 0 where
   -- a text takes the place of a stretch
   ranged : Stretch → List ℕ → Edit
 
--- a change has a text, and takes the place of all unless it names a range
+-- a text takes the place of the range that a change names, and of all where it names none
 abbrev pub edit_of : Option Data → List ℕ → Option Edit
 edit_of None text = Some (whole text)
 edit_of (Some range) text = option_map (λ place. ranged place text) (stretch range)
 
+-- a change has a text
 abbrev pub edit : Data → Option Edit
 edit value = option_and_then (edit_of (get (codes "range") value)) (option_and_then as_str (get (codes "text") value))
 

@@ -1,8 +1,10 @@
 //! The bodies that a server sends.
 
-ghost use Rattle.std.specs.Prelude.{◌≡◌, IfOk};
+ghost use Rattle.std.specs.Prelude.{◌≡◌, IfOk, MatchResult};
 ghost use Rattle.std.specs.String.{string_bytes};
 ghost use Rattle.typst_protocol.specs.Bodies as spec;
+ghost use Rattle.typst_protocol.specs.Bodies.{IsJsonOf};
+ghost use Rattle.typst_protocol.specs.declared.refusal.Refusal.TheVariants as refusal;
 
 use crate::message::Id;
 use crate::refusal::Refusal;
@@ -46,7 +48,9 @@ pub fn notification(alloc: Global, method: &str, params: &str) -> Result<String,
 }
 
 /// A value as JSON. Only memory can lack.
-pub fn json_of<T: Serialize>(alloc: Global, value: &T) -> Result<String, Refusal> {
+pub fn json_of<T: Serialize>(alloc: Global, value: &T) -> Result<String, Refusal>
+    ensures { MatchResult result (λ text. IsJsonOf (T.writes value.now) (string_bytes text)) (λ why. why ≡ refusal.OutOfMemory) }
+{
     match serde_json::to_string(alloc, value) {
         Ok(text) => Ok(text),
         Err(_) => Err(Refusal::OutOfMemory),
