@@ -86,11 +86,18 @@ IsMessage d (message.Request r) = IsRequest d r
 IsMessage d (message.Notification n) = IsNotification d n
 IsMessage d message.Response = said d ≡ responds
 
--- a value isn't taken for a message where it says none, or where memory is refused
+-- whether a request is asked
+abbrev pub is_asked : Said → Bool
+is_asked (asks id) = true
+is_asked tells = false
+is_asked responds = false
+is_asked babbles = false
+
+-- a value isn't taken for a message where it says none, or where memory is refused for a request's identifier
 abbrev pub IsUnread : Data → Unread → Type 0
 IsUnread d NotJson = ⊥
 IsUnread d NotAMessage = said d ≡ babbles
-IsUnread d OutOfMemory = ⊤
+IsUnread d OutOfMemory = is_asked (said d) ≡ true
 
 -- a body isn't read where it is no JSON, or no text, or where memory is refused
 abbrev pub IsUnreadBody : List ℕ → Unread → Type 0

@@ -29,14 +29,17 @@ impl Model for Id {
 }
 
 impl Id {
-    ghost use Rattle.std.specs.Prelude.{◌≡◌, IfOk, MatchOption, false, true};
+    ghost use Rattle.std.specs.Prelude.{◌≡◌, MatchOption, MatchResult, false, true};
     ghost use Rattle.serde_json.specs.View.{view};
     ghost use Rattle.serde_json.specs.Written.{compact_text};
     ghost use Rattle.typst_protocol.specs.Messages.{is_id};
 
-    /// The identifier that a value is, none where it is no string and no whole number.
+    /// The identifier that a value is, none where it is no string and no whole number. Only an identifier
+    /// takes memory.
     pub fn of(alloc: Global, value: &Value) -> Result<Option<Id>, AllocError>
-        ensures { IfOk result (λ made. MatchOption made (is_id (view value.now) ≡ false) (λ id. (is_id (view value.now) ≡ true) × (id ≡ compact_text (view value.now)))) }
+        ensures { MatchResult result
+            (λ made. MatchOption made (is_id (view value.now) ≡ false) (λ id. (is_id (view value.now) ≡ true) × (id ≡ compact_text (view value.now))))
+            (λ _. is_id (view value.now) ≡ true) }
     {
         if !(value.is_string() || value.is_i64() || value.is_u64()) {
             return Ok(None);
@@ -96,7 +99,7 @@ pub fn read_json(alloc: Global, body: &[u8]) -> Result<Value, Unread>
 }
 
 impl<'a> Message<'a> {
-    /// The message that a value is.
+    /// The message that a value is. Only a request takes memory, for its identifier.
     pub fn of(alloc: Global, value: &'a Value) -> Result<Message<'a>, Unread>
         ensures { MatchResult result (IsMessage (view value.now)) (IsUnread (view value.now)) }
     {
