@@ -6,7 +6,7 @@ ghost use Rattle.typst_protocol.specs.Methods.{events, methods, named};
 /// What a request asks.
 #[derive(Debug, Clone, Copy, PartialEq, Eq)]
 pub enum Method {
-    /// To begin the session.
+    /// To begin a session.
     Initialize,
     /// To end it.
     Shutdown,
