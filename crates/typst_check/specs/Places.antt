@@ -37,5 +37,6 @@ pub record IsPlaceOf (text : List ℕ) (byte : ℕ) (p : Place) : Type 0 where
 pub record IsBase (text : List ℕ) (byte : ℕ) (p : Place) : Type 0 where
   pub boundary : IsCharBoundary text p.byte
   pub before : p.byte ≤ byte
+  pub line : p.line ≡ line_of text byte + 1
   pub column : p.column + length (chars (slice_range text p.byte byte)) ≡ column_of text byte + 1
   pub utf16_column : p.utf16_column + units (chars (slice_range text p.byte byte)) ≡ units_in_line text byte + 1

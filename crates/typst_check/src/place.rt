@@ -37,7 +37,7 @@ impl Place {
         let (characters, units) = count(&text[base.byte..byte]);
         Place {
             byte,
-            line: number + 1,
+            line: base.line,
             column: base.column + characters,
             utf16_column: base.utf16_column + units,
         }
@@ -50,26 +50,27 @@ impl Place {
         requires number { number ≡ line_of lines.now byte }
         ensures { IsBase lines.now byte result }
     {
+        let _text = lines.text();
         match last {
             Some(place) if place.line - 1 == number && place.byte <= byte => place,
             _ => Place::line_start(lines, number, byte),
         }
     }
 
-    /// Where the line of that number starts, as a place from which columns are counted.
+    /// Where the line of that number starts.
     fn line_start(lines: &Lines<&str>, number: usize, byte: usize) -> Place
         requires boundary { IsCharBoundary lines.now byte }
         requires number { number ≡ line_of lines.now byte }
         ensures { IsBase lines.now byte result }
     {
         let _text = lines.text();
-        let start = match lines.line(number) {
-            Some(line) => line.byte_idx(),
-            None => 0,
+        let (byte, line) = match lines.line(number) {
+            Some(line) => (line.byte_idx(), number + 1),
+            None => (0, 1),
         };
         Place {
-            byte: start,
-            line: 1,
+            byte,
+            line,
             column: 1,
             utf16_column: 1,
         }

@@ -2,5 +2,127 @@
 
 /// Colours for the tags of highlighting, for errors and for the numbers of lines, light or dark by the
 /// reader's setting.
-pub const STYLE: &str =
-    ":root {\n  color-scheme: light dark;\n  --typ-text: #1f2328;\n  --typ-ground: #ffffff;\n  --typ-quiet: #59636e;\n  --typ-comment: #57606a;\n  --typ-escape: #0a6570;\n  --typ-link: #0550ae;\n  --typ-raw: #6e4a12;\n  --typ-label: #0a6570;\n  --typ-heading: #1a4f9c;\n  --typ-marker: #8a3ffc;\n  --typ-math: #1a6b3c;\n  --typ-key: #b3261e;\n  --typ-num: #9a3d00;\n  --typ-str: #116329;\n  --typ-func: #6639ba;\n  --typ-pol: #8250df;\n  --typ-error-text: #a40e26;\n  --typ-warning-text: #8a5a00;\n}\n\n@media (prefers-color-scheme: dark) {\n  :root {\n    --typ-text: #e6edf3;\n    --typ-ground: #14181d;\n    --typ-quiet: #9aa4af;\n    --typ-comment: #98a2ad;\n    --typ-escape: #6fd3dd;\n    --typ-link: #79b8ff;\n    --typ-raw: #e3b778;\n    --typ-label: #6fd3dd;\n    --typ-heading: #8ab8ff;\n    --typ-marker: #c9a7ff;\n    --typ-math: #7fd6a0;\n    --typ-key: #ff8f87;\n    --typ-num: #ffb27d;\n    --typ-str: #8fd69b;\n    --typ-func: #d2b4ff;\n    --typ-pol: #c4a5ff;\n    --typ-error-text: #ff9aa8;\n    --typ-warning-text: #f0c36d;\n  }\n}\n\nbody {\n  margin: 0;\n  background: var(--typ-ground);\n  color: var(--typ-text);\n}\n\npre {\n  margin: 0;\n  padding: 1rem 1rem 1rem 5rem;\n  font: 1rem/1.55 ui-monospace, \"DejaVu Sans Mono\", Menlo, Consolas, monospace;\n  tab-size: 4;\n  white-space: pre-wrap;\n  overflow-wrap: anywhere;\n}\n\ncode { font: inherit; }\n\n.line {\n  display: inline-block;\n  width: 3rem;\n  margin-left: -4rem;\n  padding-right: 1rem;\n  color: var(--typ-quiet);\n  font-weight: normal;\n  text-align: right;\n  text-decoration: none;\n  user-select: none;\n}\n\n.line::before { content: attr(data-line); }\n.line:target { color: var(--typ-text); font-weight: bold; }\n\n.error { text-decoration: underline wavy var(--typ-error-text); }\n.warning { text-decoration: underline wavy var(--typ-warning-text); }\n.point::before { content: \"\\2038\"; color: var(--typ-error-text); font-weight: bold; }\n\n.typ-comment { color: var(--typ-comment); font-style: italic; }\n.typ-punct { color: var(--typ-quiet); }\n.typ-escape { color: var(--typ-escape); }\n.typ-strong { font-weight: bold; }\n.typ-emph { font-style: italic; }\n.typ-link { color: var(--typ-link); text-decoration: underline; }\n.typ-raw { color: var(--typ-raw); }\n.typ-label { color: var(--typ-label); }\n.typ-ref { color: var(--typ-label); }\n.typ-heading { color: var(--typ-heading); font-weight: bold; }\n.typ-marker { color: var(--typ-marker); font-weight: bold; }\n.typ-term { font-weight: bold; }\n.typ-math-delim { color: var(--typ-math); font-weight: bold; }\n.typ-math-op { color: var(--typ-math); }\n.typ-math-group { color: var(--typ-quiet); }\n.typ-key { color: var(--typ-key); }\n.typ-op { color: var(--typ-key); }\n.typ-num { color: var(--typ-num); }\n.typ-str { color: var(--typ-str); }\n.typ-func { color: var(--typ-func); }\n.typ-pol { color: var(--typ-pol); }\n";
+pub const STYLE: &str = ":root {
+  color-scheme: light dark;
+  --typ-text: #1f2328;
+  --typ-ground: #ffffff;
+  --typ-quiet: #59636e;
+  --typ-comment: #57606a;
+  --typ-escape: #0a6570;
+  --typ-link: #0550ae;
+  --typ-raw: #6e4a12;
+  --typ-label: #0a6570;
+  --typ-heading: #1a4f9c;
+  --typ-marker: #8a3ffc;
+  --typ-math: #1a6b3c;
+  --typ-key: #b3261e;
+  --typ-num: #9a3d00;
+  --typ-str: #116329;
+  --typ-func: #6639ba;
+  --typ-pol: #8250df;
+  --typ-error-text: #a40e26;
+  --typ-error-ground: #ffe9ec;
+  --typ-warning-text: #8a5a00;
+  --typ-warning-ground: #fff4d3;
+}
+
+@media (prefers-color-scheme: dark) {
+  :root {
+    --typ-text: #e6edf3;
+    --typ-ground: #14181d;
+    --typ-quiet: #9aa4af;
+    --typ-comment: #98a2ad;
+    --typ-escape: #6fd3dd;
+    --typ-link: #79b8ff;
+    --typ-raw: #e3b778;
+    --typ-label: #6fd3dd;
+    --typ-heading: #8ab8ff;
+    --typ-marker: #c9a7ff;
+    --typ-math: #7fd6a0;
+    --typ-key: #ff8f87;
+    --typ-num: #ffb27d;
+    --typ-str: #8fd69b;
+    --typ-func: #d2b4ff;
+    --typ-pol: #c4a5ff;
+    --typ-error-text: #ff9aa8;
+    --typ-error-ground: #4a1b25;
+    --typ-warning-text: #f0c36d;
+    --typ-warning-ground: #40330f;
+  }
+}
+
+body {
+  margin: 0;
+  background: var(--typ-ground);
+  color: var(--typ-text);
+}
+
+pre {
+  margin: 0;
+  padding: 1rem 1rem 1rem 5rem;
+  font: 1rem/1.55 ui-monospace, 'DejaVu Sans Mono', Menlo, Consolas, monospace;
+  tab-size: 4;
+  white-space: pre-wrap;
+  overflow-wrap: anywhere;
+}
+
+code { font: inherit; }
+
+.line {
+  display: inline-block;
+  width: 3rem;
+  margin-left: -4rem;
+  padding-right: 1rem;
+  color: var(--typ-quiet);
+  font-weight: normal;
+  text-align: right;
+  text-decoration: none;
+  user-select: none;
+}
+
+.line::before { content: attr(data-line); }
+.line:target { color: var(--typ-text); font-weight: bold; }
+
+.error {
+  background: var(--typ-error-ground);
+  text-decoration: underline wavy var(--typ-error-text);
+}
+
+.warning {
+  background: var(--typ-warning-ground);
+  text-decoration: underline wavy var(--typ-warning-text);
+}
+
+/* What is about no text stands between two characters, and takes no room. */
+.point { position: relative; }
+
+.point::before {
+  content: '‸';
+  position: absolute;
+  left: -0.5ch;
+  color: var(--typ-error-text);
+  font-weight: bold;
+}
+
+.typ-comment { color: var(--typ-comment); font-style: italic; }
+.typ-punct { color: var(--typ-quiet); }
+.typ-escape { color: var(--typ-escape); }
+.typ-strong { font-weight: bold; }
+.typ-emph { font-style: italic; }
+.typ-link { color: var(--typ-link); text-decoration: underline; }
+.typ-raw { color: var(--typ-raw); }
+.typ-label { color: var(--typ-label); }
+.typ-ref { color: var(--typ-label); }
+.typ-heading { color: var(--typ-heading); font-weight: bold; }
+.typ-marker { color: var(--typ-marker); font-weight: bold; }
+.typ-term { font-weight: bold; }
+.typ-math-delim { color: var(--typ-math); font-weight: bold; }
+.typ-math-op { color: var(--typ-math); }
+.typ-math-group { color: var(--typ-quiet); }
+.typ-key { color: var(--typ-key); }
+.typ-op { color: var(--typ-key); }
+.typ-num { color: var(--typ-num); }
+.typ-str { color: var(--typ-str); }
+.typ-func { color: var(--typ-func); }
+.typ-pol { color: var(--typ-pol); }
+";

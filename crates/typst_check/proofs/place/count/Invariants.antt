@@ -5,6 +5,6 @@ use Rattle.typst_check.proofs.place.count.Given as goal
 
 abbrev pub invariant-loop-c : goal.invariant-loop-c
 invariant-loop-c l = record {
-  characters : l.characters + length (drop (length l.yielded) (chars l.text)) ≡ length (chars l.text);
+  characters : l.characters ≡ length l.yielded;
   units : l.units + units (drop (length l.yielded) (chars l.text)) ≡ units (chars l.text);
 }
