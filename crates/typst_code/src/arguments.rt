@@ -81,7 +81,7 @@ fn argument_turns<L: Levels>(g: &L, p: &mut Parser<'_>, names: Names) -> Result<
         let before = p.left();
         let (more, next) = argument_turn(g, p, names)?;
         names = next;
-        if !more || p.left() >= before {
+        if !p.goes_on(more, before) {
             return Ok(names);
         }
     }
@@ -120,7 +120,7 @@ fn content_turns<L: Levels>(g: &L, p: &mut Parser<'_>) -> Result<(), AllocError>
     'turns: loop {
         let before = p.left();
         let more = content_turn(g, p)?;
-        if !more || p.left() >= before {
+        if !p.goes_on(more, before) {
             return Ok(());
         }
     }

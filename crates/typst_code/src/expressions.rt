@@ -175,7 +175,7 @@ pub fn code_expr<L: Levels>(
             return Ok(());
         };
         p.wrap(from, kind)?;
-        if p.left() >= before {
+        if !p.goes_on(true, before) {
             return Ok(());
         }
     }

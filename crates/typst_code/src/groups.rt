@@ -149,7 +149,7 @@ fn group_items<L: Levels>(g: &L, p: &mut Parser<'_>, items: Items) -> Result<Ite
         let before = p.left();
         let (more, next) = group_turn(g, p, items)?;
         items = next;
-        if !more || p.left() >= before {
+        if !p.goes_on(more, before) {
             return Ok(items);
         }
     }

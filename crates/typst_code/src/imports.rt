@@ -28,7 +28,7 @@ fn path_turns<L: Levels>(g: &L, p: &mut Parser<'_>) -> Result<(), AllocError>
     'turns: loop {
         let before = p.left();
         let more = path_turn(g, p)?;
-        if !more || p.left() >= before {
+        if !p.goes_on(more, before) {
             return Ok(());
         }
     }
@@ -101,7 +101,7 @@ fn import_turns<L: Levels>(g: &L, p: &mut Parser<'_>) -> Result<(), AllocError>
     'turns: loop {
         let before = p.left();
         let more = import_turn(g, p)?;
-        if !more || p.left() >= before {
+        if !p.goes_on(more, before) {
             return Ok(());
         }
     }

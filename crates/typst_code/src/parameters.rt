@@ -123,7 +123,7 @@ fn param_turns<L: Levels>(
         let before = p.left();
         let (more, next) = param_turn(g, p, so_far)?;
         so_far = next;
-        if !more || p.left() >= before {
+        if !p.goes_on(more, before) {
             return Ok(so_far);
         }
     }

@@ -363,7 +363,7 @@ fn destructuring_items<L: Levels>(
         let before = p.left();
         let (more, next) = destructuring_turn(g, p, role, found)?;
         found = next;
-        if !more || p.left() >= before {
+        if !p.goes_on(more, before) {
             return Ok(found);
         }
     }

@@ -36,7 +36,7 @@ fn code_turns<L: Levels>(g: &L, p: &mut Parser<'_>, stop: CodeStop) -> Result<()
     'turns: loop {
         let before = p.left();
         let more = code_turn(g, p, stop)?;
-        if !more || p.left() >= before {
+        if !p.goes_on(more, before) {
             return Ok(());
         }
     }

@@ -65,7 +65,7 @@ fn target<L: Levels>(g: &L, p: &mut Parser<'_>) -> Result<(), AllocError>
             return Ok(());
         };
         p.wrap(from, kind)?;
-        if p.left() >= before {
+        if !p.goes_on(true, before) {
             return Ok(());
         }
     }
@@ -165,7 +165,7 @@ pub(crate) fn conditional<L: Levels>(g: &L, p: &mut Parser<'_>) -> Result<(), Al
         let before = p.left();
         froms.push(p.marker())?;
         let more = conditional_turn(g, p)?;
-        if !more || p.left() >= before {
+        if !p.goes_on(more, before) {
             p.wrap_nested(froms, SyntaxKind::Conditional)?;
             return Ok(());
         }

@@ -2,6 +2,8 @@
 use Rattle.std.proofs.Common.{◌≡◌, ℕ, suc, ◌-◌, Bool, true, Option, Some, None, List, [], ◌++◌, refl, ap, ◌∙◌, subst, sym, arith}
 use Rattle.std.specs.Prelude.{◌∷◌, IsSome}
 use Rattle.std.specs.Str.{chars}
+use Rattle.typst_kinds.specs.declared.mode.SyntaxMode.{SyntaxMode}
+use Rattle.typst_kinds.specs.declared.mode.SyntaxMode.TheVariants as mode
 use Rattle.typst_lines.specs.Place.{Place, moved}
 use Rattle.typst_tokens.specs.Sight.{hull_of}
 use Rattle.typst_tree.specs.Tree.{Tree}
@@ -11,6 +13,7 @@ use Rattle.typst_language.specs.declared.calls.Note.{Note}
 use Rattle.typst_language.specs.Point.{Point}
 use Rattle.typst_language.specs.Ask.{Ask}
 use Rattle.typst_language.specs.Ask.Ask.{looked, marked}
+use Rattle.typst_language.specs.declared.reading.AtNewline.TheVariants as newline
 use Rattle.typst_language.specs.declared.reading.Reading.{Reading}
 use Rattle.typst_language.specs.Log.{Log, no_log, with_more, with_hull, with_note, logged}
 use Rattle.typst_language.specs.Knot.{meaning_of}
@@ -18,8 +21,9 @@ use Rattle.typst_language.specs.Meaning.{Guess, Meaning, Outcome, apart, less, s
 use Rattle.typst_language.specs.declared.calls.Behind.{Behind}
 use Rattle.typst_language.specs.Calls.{Answer}
 use Rattle.typst_language.specs.Steps.{peek}
-use Rattle.typst_code.specs.Markup.{content_block}
-use Rattle.typst_code.specs.Sequences.{code_block}
+use Rattle.typst_code.specs.Equations.{math_reading}
+use Rattle.typst_code.specs.Markup.{content_block, markup_reading}
+use Rattle.typst_code.specs.Sequences.{code_block, code_reading}
 use Rattle.typst_code.specs.Parens.{after_paren}
 use Rattle.typst_language.specs.Shape.{hinted}
 use Rattle.typst_language.specs.Sound.{Sound}
@@ -32,7 +36,7 @@ use Rattle.typst_code.specs.Cursor.{IsStart}
 use Rattle.typst_code.specs.View.{View, Runs, Goes, Called, Answers, Fits, Bare, at}
 use Rattle.typst_code.specs.Noted.{listed}
 use Rattle.typst_code.specs.Outside.{Blocks}
-use Rattle.typst_grammar.specs.Grammar.{rules, production, meaning, level_at, max_depth, start_of, parsed, log}
+use Rattle.typst_grammar.specs.Grammar.{rules, production, meaning, level_at, max_depth, start_of, parsed, parsed_in, whole, whole_code, whole_math, whole_in, log}
 use Rattle.typst_grammar.specs.Read.{IsParsed}
 use Rattle.typst_grammar.specs.Told.{guesses, told_at}
 
@@ -97,6 +101,13 @@ parsed-is k keeps text reading p v w h d =
       nodes = q.nodes ∙ ap (standing o) h.nodes ∙ ap (λ (ns : List Tree). hinted o.hints ns ++ o.nodes) (less-nil o.back) ∙ ap (λ (ns : List Tree). ns ++ o.nodes) (hinted-nil o.hints);
       log = q.log ∙ ap (λ z. logged max_depth z v.log o.asks) h.place ∙ ap (λ x. logged max_depth (start_of (chars text)) x o.asks) h.log;
     }
+
+-- the same of a text that is read in a mode
+pub parsed-in : (k : CharClasses) (keeps : Bool) (text : List ℕ) (m : SyntaxMode) (v w : View) → IsStart text (record { mode = m; at_newline = newline.Continue }) keeps v
+    → Goes (told_at k max_depth) (Bare (told_at k max_depth)) (Fits (told_at k max_depth)) (whole_in m) tt v w → IsParsed keeps (chars text) (parsed_in m k max_depth (chars text)) w
+parsed-in k keeps text mode.Markup v w h d = parsed-is k keeps text markup_reading whole v w h d
+parsed-in k keeps text mode.Code v w h d = parsed-is k keeps text code_reading whole_code v w h d
+parsed-in k keeps text mode.Math v w h d = parsed-is k keeps text math_reading whole_math v w h d
 
 -- where notes are kept, they are kept on
 pub still-kept : (levels : ℕ) (z : Place) (h : Log) (asks : List Ask) → IsSome h.notes → IsSome (logged levels z h asks).notes

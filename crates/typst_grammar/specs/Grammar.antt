@@ -1,6 +1,8 @@
 -- The whole grammar: what is read one level deeper, and the tree of a text.
 use Rattle.std.specs.Prelude.{ℕ, Bool, true, List, []}
 use Rattle.typst_kinds.specs.declared.kind.SyntaxKind.TheVariants as kind
+use Rattle.typst_kinds.specs.declared.mode.SyntaxMode.{SyntaxMode}
+use Rattle.typst_kinds.specs.declared.mode.SyntaxMode.TheVariants as mode
 use Rattle.typst_lines.specs.Place.{Place}
 use Rattle.typst_tree.specs.Tree.{Tree, forest, inner_of}
 use Rattle.typst_lines.specs.Classes.{CharClasses}
@@ -95,3 +97,15 @@ parsed_math k levels text = run (level_at k levels) whole_math (start_of text) (
 -- the tree of the characters of the text of a formula
 unfoldable pub tree_math : CharClasses → List ℕ → Tree
 tree_math k text = inner_of kind.Math (forest (parsed_math k max_depth text).nodes)
+
+-- the whole of a text in a mode, with all trivia
+abbrev pub whole_in : SyntaxMode → Parser (Unit {0})
+whole_in mode.Markup = whole
+whole_in mode.Code = whole_code
+whole_in mode.Math = whole_math
+
+-- what is read of the characters of a text in a mode, where so many levels are left
+abbrev pub parsed_in : SyntaxMode → CharClasses → ℕ → List ℕ → Outcome (Unit {0})
+parsed_in mode.Markup = parsed
+parsed_in mode.Code = parsed_code
+parsed_in mode.Math = parsed_math

@@ -7,9 +7,9 @@ ghost use Rattle.typst_tree.specs.Tree.{forest, inner_of, text_of};
 ghost use Rattle.typst_grammar.specs.Binding.{binds, has_errors};
 ghost use Rattle.typst_grammar.specs.Grammar as spec;
 
-use crate::{read_whole, read_whole_code, read_whole_math};
+use crate::read_whole;
 use std::alloc::{AllocError, Global};
-use typst_kinds::SyntaxKind;
+use typst_kinds::{SyntaxKind, SyntaxMode};
 use typst_language::Note;
 use typst_lines::Classes;
 use typst_tokens::Hull;
@@ -40,7 +40,8 @@ pub fn parse<C: Classes>(alloc: Global, text: &str, classes: &C) -> Result<Synta
     ensures leaves { IfOk result (λ t. text_of t ≡ text.now) }
     ensures binding { IfOk result (λ t. has_errors t ≡ false → binds t ≡ true) }
 {
-    let (nodes, _notes, _hull) = read_whole(alloc, text, false, classes)?.finish();
+    let read = read_whole(alloc, text, SyntaxMode::Markup, false, classes)?;
+    let (nodes, _notes, _hull) = read.finish();
     let root = root_over(SyntaxKind::Markup, nodes)?;
     Ok(root)
 }
@@ -56,7 +57,8 @@ pub fn parse_code<C: Classes>(
     ensures leaves { IfOk result (λ t. text_of t ≡ text.now) }
     ensures binding { IfOk result (λ t. has_errors t ≡ false → binds t ≡ true) }
 {
-    let (nodes, _notes, _hull) = read_whole_code(alloc, text, classes)?.finish();
+    let read = read_whole(alloc, text, SyntaxMode::Code, false, classes)?;
+    let (nodes, _notes, _hull) = read.finish();
     let root = root_over(SyntaxKind::Code, nodes)?;
     Ok(root)
 }
@@ -72,7 +74,8 @@ pub fn parse_math<C: Classes>(
     ensures leaves { IfOk result (λ t. text_of t ≡ text.now) }
     ensures binding { IfOk result (λ t. has_errors t ≡ false → binds t ≡ true) }
 {
-    let (nodes, _notes, _hull) = read_whole_math(alloc, text, classes)?.finish();
+    let read = read_whole(alloc, text, SyntaxMode::Math, false, classes)?;
+    let (nodes, _notes, _hull) = read.finish();
     let root = root_over(SyntaxKind::Math, nodes)?;
     Ok(root)
 }
@@ -97,7 +100,8 @@ pub fn parse_noted<C: Classes>(alloc: Global, text: &str, classes: &C) -> Result
     ensures binding { IfOk result (λ r. has_errors r.tree ≡ false → binds r.tree ≡ true) }
     ensures log { IfOk result (λ r. record { reach = r.hull.reach; least = r.hull.least; notes = Some r.notes.items } ≡ spec.log (C.classes classes.now) (chars text.now)) }
 {
-    let (nodes, notes, hull) = read_whole(alloc, text, true, classes)?.finish();
+    let read = read_whole(alloc, text, SyntaxMode::Markup, true, classes)?;
+    let (nodes, notes, hull) = read.finish();
     let tree = root_over(SyntaxKind::Markup, nodes)?;
     Ok(Noted { tree, notes, hull })
 }

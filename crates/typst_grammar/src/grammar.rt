@@ -2,7 +2,7 @@
 
 ghost use Rattle.std.specs.Prelude.{◌≡◌, ◌<◌, IfOk, false};
 ghost use Rattle.std.specs.Str.{chars};
-ghost use Rattle.typst_code.specs.View.{Calls};
+ghost use Rattle.typst_code.specs.View.{Calls, MeansFirst};
 ghost use Rattle.typst_code.specs.Outside.{MeansAroundAs};
 ghost use Rattle.typst_grammar.specs.Grammar as spec;
 ghost use Rattle.typst_grammar.specs.Read.{IsParsed};
@@ -63,17 +63,44 @@ pub fn make_call<C: Classes>(
     Ok(production(&below, p, call)?)
 }
 
-/// A parser that read a whole text of markup.
+/// Reads all of a text from its start, in a mode.
+fn read_all<L: Levels>(g: &L, p: &mut Parser<'_>, mode: SyntaxMode) -> Result<(), AllocError>
+    requires { L.may_call g.now }
+    ensures { MeansFirst (L.frame g.now) (spec.whole_in mode) p.old result p.new }
+{
+    match mode {
+        SyntaxMode::Markup => {
+            markup_run(g, p, Stop::End)?;
+            p.flush_trivia()?;
+            Ok(())
+        }
+        SyntaxMode::Code => {
+            p.look(g)?;
+            code_exprs(g, p, CodeStop::End)?;
+            p.flush_trivia()?;
+            Ok(())
+        }
+        SyntaxMode::Math => {
+            p.look(g)?;
+            math_exprs(g, p, MathStop::End)?;
+            p.flush_trivia()?;
+            Ok(())
+        }
+    }
+}
+
+/// A parser that read a whole text in a mode, and kept notes where it was to.
 pub fn read_whole<'s, C: Classes>(
     alloc: Global,
     text: &'s str,
+    mode: SyntaxMode,
     keeps_notes: bool,
     classes: &C,
 ) -> Result<Parser<'s>, AllocError>
-    ensures { IfOk result (λ p. IsParsed keeps_notes (chars text.now) (spec.parsed (C.classes classes.now) spec.max_depth (chars text.now)) p) }
+    ensures { IfOk result (λ p. IsParsed keeps_notes (chars text.now) (spec.parsed_in mode (C.classes classes.now) spec.max_depth (chars text.now)) p) }
 {
     let reading = Reading {
-        mode: SyntaxMode::Markup,
+        mode,
         at_newline: AtNewline::Continue,
     };
     let mut p = Parser::new(alloc, text, reading, keeps_notes)?;
@@ -82,55 +109,6 @@ pub fn read_whole<'s, C: Classes>(
         levels: MAX_DEPTH,
         call: make_call::<C>,
     };
-    markup_run(&g, &mut p, Stop::End)?;
-    p.flush_trivia()?;
-    Ok(p)
-}
-
-/// The same of a text of code.
-pub fn read_whole_code<'s, C: Classes>(
-    alloc: Global,
-    text: &'s str,
-    classes: &C,
-) -> Result<Parser<'s>, AllocError>
-    ensures { IfOk result (λ p. IsParsed false (chars text.now) (spec.parsed_code (C.classes classes.now) spec.max_depth (chars text.now)) p) }
-{
-    let reading = Reading {
-        mode: SyntaxMode::Code,
-        at_newline: AtNewline::Continue,
-    };
-    let mut p = Parser::new(alloc, text, reading, false)?;
-    let g = Grammar {
-        classes,
-        levels: MAX_DEPTH,
-        call: make_call::<C>,
-    };
-    p.look(&g)?;
-    code_exprs(&g, &mut p, CodeStop::End)?;
-    p.flush_trivia()?;
-    Ok(p)
-}
-
-/// The same of the text of a formula.
-pub fn read_whole_math<'s, C: Classes>(
-    alloc: Global,
-    text: &'s str,
-    classes: &C,
-) -> Result<Parser<'s>, AllocError>
-    ensures { IfOk result (λ p. IsParsed false (chars text.now) (spec.parsed_math (C.classes classes.now) spec.max_depth (chars text.now)) p) }
-{
-    let reading = Reading {
-        mode: SyntaxMode::Math,
-        at_newline: AtNewline::Continue,
-    };
-    let mut p = Parser::new(alloc, text, reading, false)?;
-    let g = Grammar {
-        classes,
-        levels: MAX_DEPTH,
-        call: make_call::<C>,
-    };
-    p.look(&g)?;
-    math_exprs(&g, &mut p, MathStop::End)?;
-    p.flush_trivia()?;
+    read_all(&g, &mut p, mode)?;
     Ok(p)
 }

@@ -11,7 +11,7 @@ mod part;
 
 pub use binding_laws::{binding_law, bindings_of_texts};
 pub use entry::{Noted, parse, parse_code, parse_math, parse_noted, root_over};
-pub use grammar::{MAX_DEPTH, make_call, production, read_whole, read_whole_code, read_whole_math};
+pub use grammar::{MAX_DEPTH, make_call, production, read_whole};
 pub use laws::{
     grammar_laws, leaves_law, notes_of_texts, trees_of_code, trees_of_formulas, trees_of_names,
     trees_of_patterns, trees_of_texts,

@@ -195,7 +195,7 @@ fn skip<L: Levels, S: Stops>(g: &L, p: &mut Parser<'_>, stops: &S) -> Result<usi
         let before = p.left();
         let (more, next) = skip_one(g, p, stops, count)?;
         count = next;
-        if !more || p.left() >= before {
+        if !p.goes_on(more, before) {
             return Ok(next);
         }
     }

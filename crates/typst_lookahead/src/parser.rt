@@ -1,6 +1,6 @@
 //! A parser that has read one token ahead.
 
-ghost use Rattle.std.specs.Prelude.{◌≡◌, ◌+◌, ◌≤◌, [], length, OnOk, IfOk, not};
+ghost use Rattle.std.specs.Prelude.{◌≡◌, ◌+◌, ◌≤◌, ◌<◌, [], length, OnOk, IfOk, false, not, true};
 ghost use Rattle.typst_lines.specs.Scanner.{place};
 ghost use Rattle.typst_tokens.specs.Sight.{position};
 ghost use Rattle.typst_language.specs.Meaning.{Level, entered, left as outside, same_mode, same_rule};
@@ -188,6 +188,15 @@ impl<'s> Parser<'s> {
         ensures { result ≡ bytes_left self.now.place }
     {
         left(&self.ahead.before)
+    }
+
+    /// Whether another turn comes: the one that was made asks for it, and has read something since so many
+    /// bytes were left. So each loop of productions ends.
+    pub fn goes_on(&self, more: bool, before: usize) -> bool
+        ensures goes { result ≡ true → (more ≡ true) × (bytes_left self.now.place < before) }
+        ensures stops { result ≡ false → more ≡ true → before ≤ bytes_left self.now.place }
+    {
+        more && self.left() < before
     }
 
     /// How many characters the token stands behind its line's start.

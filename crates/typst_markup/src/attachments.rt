@@ -76,7 +76,7 @@ fn attachment_turns<L: Levels>(g: &L, p: &mut Parser<'_>) -> Result<ChainSet, Al
         let before = p.left();
         let (more, next) = attachment_turn(g, p, signs)?;
         signs = next;
-        if !more || p.left() >= before {
+        if !p.goes_on(more, before) {
             return Ok(next);
         }
     }

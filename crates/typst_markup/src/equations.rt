@@ -80,7 +80,7 @@ fn math_turns<L: Levels>(g: &L, p: &mut Parser<'_>, stop: MathStop) -> Result<us
         let before = p.left();
         let (more, next) = math_turn(g, p, stop, count)?;
         count = next;
-        if !more || p.left() >= before {
+        if !p.goes_on(more, before) {
             return Ok(next);
         }
     }

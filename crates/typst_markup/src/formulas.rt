@@ -188,7 +188,7 @@ fn math_grown<L: Levels>(
         };
         callee = Callee::Other;
         wrap_grown(p, from, grown)?;
-        if p.left() >= before {
+        if !p.goes_on(true, before) {
             return Ok(Callee::Other);
         }
     }

@@ -192,7 +192,7 @@ fn math_argument_turns<L: Levels>(
         let before = p.left();
         let (more, next) = math_argument_turn(g, p, names)?;
         names = next;
-        if !more || p.left() >= before {
+        if !p.goes_on(more, before) {
             return Ok(names);
         }
     }

@@ -65,7 +65,7 @@ fn markup_turns<L: Levels>(
         let before = p.left();
         let (more, next) = markup_turn(g, p, is_run, stop, state)?;
         state = next;
-        if !more || p.left() >= before {
+        if !p.goes_on(more, before) {
             return Ok(next);
         }
     }

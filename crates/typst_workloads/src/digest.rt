@@ -2,7 +2,8 @@
 
 use typst_parser::{Lines, SyntaxKind, SyntaxNode, Tag};
 
-/// A digest of numbers and texts in the order in which they came.
+/// A digest of numbers and texts in the order in which they came. What an edit reads and which numbers it
+/// gives isn't taken in, since states of this library that agree in every text and tree may differ in it.
 #[derive(Debug, Clone, Copy)]
 pub struct Digest {
     value: u64,
@@ -81,16 +82,13 @@ impl Digest {
     }
 
     /// Takes in the length of a tree's text, the number of its nodes, and of each node at its top the
-    /// kind, the length of its text and its span's number.
+    /// kind and the length of its text.
     pub fn add_tree(&mut self, root: &SyntaxNode) {
         self.add_size(root.len());
         self.add_size(root.descendants());
         for child in root.children() {
             self.add_kind(Some(child.kind()));
             self.add_size(child.len());
-            if let Some(number) = child.span().number() {
-                self.add(number.get());
-            }
         }
     }
 

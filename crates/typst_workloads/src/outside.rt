@@ -58,9 +58,7 @@ fn replace(
     new: &str,
     outcome: &mut Outcome,
 ) -> anyhow::Result<()> {
-    let parsed = source.replace(new).map_err(told)?;
-    outcome.digest.add_size(parsed.start);
-    outcome.digest.add_size(parsed.end);
+    source.replace(new).map_err(told)?;
     outcome.digest.add_tree(source.root());
     Ok(())
 }

@@ -247,9 +247,7 @@ impl Desk {
         }
         self.left = self.left.saturating_sub(1);
         self.until_marked = self.until_marked.saturating_sub(1);
-        let parsed = self.source.edit(start..end, with).map_err(told)?;
-        outcome.digest.add_size(parsed.start);
-        outcome.digest.add_size(parsed.end);
+        self.source.edit(start..end, with).map_err(told)?;
         let at = start.saturating_add(with.len());
         self.ask(at, outcome);
         Ok(at)
@@ -275,7 +273,6 @@ impl Desk {
         let Some(number) = leaf.get().span().number() else {
             return;
         };
-        digest.add(number.get());
         if let Some(range) = self.source.range(number, None) {
             digest.add_size(range.start);
             digest.add_size(range.end);

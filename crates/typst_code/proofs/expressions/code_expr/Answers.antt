@@ -1,4 +1,4 @@
-use Rattle.std.proofs.Common.{arith}
+use Rattle.std.proofs.Common.{refl, arith}
 use Rattle.typst_lookahead.proofs.Grows.{grows-init, grows-next, grows-stuck, grows-last}
 use Rattle.typst_code.specs.Expressions.{code_expr}
 use Rattle.typst_code.proofs.expressions.code_expr.Goals as goal
@@ -7,11 +7,11 @@ pub turns-init : goal.turns-init
 turns-init g c l h b = grows-init h.sound c.marker-from.ensures.few c.marker-from.ensures.marker (c.in_ok-code_primary.ensures l h b)
 
 pub turns-preserved : goal.turns-preserved
-turns-preserved g c l h b = grows-next h.sound (c.turns.invariant l h b) (rw c.in-Some.is at (c.in_ok-kind.ensures.means l h b)) c.in_ok-wrap.ensures.wrapped (omega arith)
+turns-preserved g c l h b = grows-next h.sound (c.turns.invariant l h b) (rw c.in-Some.is at (c.in_ok-kind.ensures.means l h b)) c.in_ok-wrap.ensures.wrapped (let goes = c.goes_on.ensures.goes c.if-not-goes_on.false in omega arith)
 
-pub returns-then-left-before : goal.returns-then-left-before
+pub returns-then-not-goes_on : goal.returns-then-not-goes_on
 unfolding code_expr
-returns-then-left-before g c l h b = grows-stuck h.sound (c.turns.invariant l h b) (rw c.in-Some.is at (c.in_ok-kind.ensures.means l h b)) c.in_ok-wrap.ensures.wrapped (omega arith)
+returns-then-not-goes_on g c l h b = grows-stuck h.sound (c.turns.invariant l h b) (rw c.in-Some.is at (c.in_ok-kind.ensures.means l h b)) c.in_ok-wrap.ensures.wrapped (let stuck = c.goes_on.ensures.stops c.if-not-goes_on.true refl in omega arith)
 
 pub returns-in_default : goal.returns-in_default
 unfolding code_expr

@@ -11,17 +11,17 @@ use Rattle.typst_grammar.proofs.entry.parse_code.Goals as goal
 
 pub returns-clause-tree : goal.returns-clause-tree
 unfolding tree_code
-returns-clause-tree g c = c.in_ok-root.ensures ∙ ap (λ ts. inner_of kind.Code (forest ts)) (c.finish-nodes.ensures.nodes ∙ c.in_ok-read_whole_code.ensures.nodes)
+returns-clause-tree g c = c.in_ok-root.ensures ∙ ap (λ ts. inner_of kind.Code (forest ts)) (c.finish-nodes.ensures.nodes ∙ c.in_ok-read.ensures.nodes)
 
 pub returns-clause-leaves : goal.returns-clause-leaves
 unfolding tree_code
 returns-clause-leaves g c =
-    ap text_of (c.in_ok-root.ensures ∙ ap (λ ts. inner_of kind.Code (forest ts)) (c.finish-nodes.ensures.nodes ∙ c.in_ok-read_whole_code.ensures.nodes))
+    ap text_of (c.in_ok-root.ensures ∙ ap (λ ts. inner_of kind.Code (forest ts)) (c.finish-nodes.ensures.nodes ∙ c.in_ok-read.ensures.nodes))
     ∙ leaves-code (g.C.Classes.classes c.args.classes.now) (chars c.args.text.now) ∙ encodes-chars c.args.text.now c.utf8.text
 
 pub returns-clause-binding : goal.returns-clause-binding
 unfolding tree_code
 returns-clause-binding g c =
-    let is = c.in_ok-root.ensures ∙ ap (λ ts. inner_of kind.Code (forest ts)) (c.finish-nodes.ensures.nodes ∙ c.in_ok-read_whole_code.ensures.nodes) in
+    let is = c.in_ok-root.ensures ∙ ap (λ ts. inner_of kind.Code (forest ts)) (c.finish-nodes.ensures.nodes ∙ c.in_ok-read.ensures.nodes) in
     let k = g.C.Classes.classes c.args.classes.now in
     subst (λ (t : Tree). has_errors t ≡ false → binds t ≡ true) (sym is) (binding-code k (chars c.args.text.now))
