@@ -1,5 +1,9 @@
 -- From what a contract promises to the lemma behind it:
 --   push_escaped         EscapeLemmas: one character more
 --   base, line_start     PlaceLemmas: columns counted from another place of the line
+--   locate               PlacedLemmas: one more finding with its places
+--   check                CheckLemmas: from the text that was read to the input
+pub mod CheckLemmas
 pub mod EscapeLemmas
+pub mod PlacedLemmas
 pub mod PlaceLemmas

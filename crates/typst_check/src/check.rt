@@ -1,7 +1,7 @@
 //! Checking one text, over any reader and writers.
 
 ghost use Rattle.std.specs.Prelude.{◌≡◌, ◌≤◌, IfOk, IfSome, false, true};
-ghost use Rattle.typst_check.specs.Told.{has_error};
+ghost use Rattle.typst_check.specs.Printed.{IsChecked};
 
 use crate::report::Report;
 use crate::request::Form;
@@ -42,8 +42,8 @@ pub fn check<R: Read, W: Write, E: Write>(
     output: &mut W,
     errors: &mut E,
 ) -> u8
-    ensures clean { result ≡ 0 → IfSome (R.remaining input.old) (λ text. has_error text ≡ false) }
-    ensures erroneous { result ≡ 1 → IfSome (R.remaining input.old) (λ text. has_error text ≡ true) }
+    ensures clean { result ≡ 0 → IfSome (R.remaining input.old) (λ text. IsChecked form name.now text false (W.contents output.old) (W.contents output.new)) }
+    ensures erroneous { result ≡ 1 → IfSome (R.remaining input.old) (λ text. IsChecked form name.now text true (W.contents output.old) (W.contents output.new)) }
     ensures status { result ≤ 2 }
 {
     match answer(alloc, form, name, input, output) {
@@ -61,7 +61,7 @@ fn answer<R: Read, W: Write>(
     input: &mut R,
     output: &mut W,
 ) -> Result<bool, Failure>
-    ensures { IfOk result (λ erroneous. IfSome (R.remaining input.old) (λ text. erroneous ≡ has_error text)) }
+    ensures { IfOk result (λ erroneous. IfSome (R.remaining input.old) (λ text. IsChecked form name.now text erroneous (W.contents output.old) (W.contents output.new))) }
 {
     let text = read_text(alloc, input)?;
     let report = Report::of_text(alloc, form, name, text.as_str())?;

@@ -5,6 +5,7 @@ mod check;
 mod escape;
 mod finding;
 mod github;
+mod located;
 mod ndjson;
 mod page;
 mod place;

@@ -1,54 +1,98 @@
 //! Errors and warnings as JSON, an object a line.
 
-use crate::finding::Finding;
+ghost use Rattle.std.specs.Prelude.{◌≡◌, ◌++◌, IfOk, [], ◌∷◌, map};
+ghost use Rattle.json.specs.Print.{print};
+ghost use Rattle.typst_check.specs.Ndjson as spec;
+ghost use Rattle.typst_check.specs.Placed.{as_placed};
+
+use crate::located::Located;
 use crate::place::Place;
 use json::Writer;
-use std::alloc::AllocError;
+use std::alloc::{AllocError, Global};
+use typst_parser::Hint;
 
-/// Adds the line of a finding to lines that are written.
-pub fn push_finding(
-    lines: Vec<u8>,
-    name: &str,
-    finding: &Finding,
-    start: Place,
-    end: Place,
-) -> Result<Vec<u8>, AllocError> {
-    let mut writer = Writer::new(lines);
-    writer.begin_object()?;
-    writer.key("file")?;
-    writer.string(name)?;
-    writer.key("severity")?;
-    writer.string(finding.severity())?;
-    writer.key("message")?;
-    writer.string(finding.message())?;
-    writer.key("hints")?;
-    writer.begin_array()?;
-    for hint in finding.hints() {
-        writer.string(hint.message())?;
+/// A line for each finding.
+pub fn lines_of(alloc: Global, name: &str, located: &[Located]) -> Result<Vec<u8>, AllocError>
+    ensures { IfOk result (λ printed. printed.items ≡ spec.lines name.now (map as_placed located.now)) }
+{
+    let mut printed = Vec::new(alloc);
+    for one in located {
+        printed = push_line(printed, name, one)?;
     }
-    writer.end_array()?;
-    writer.key("start")?;
-    write_place(&mut writer, start)?;
-    writer.key("end")?;
-    write_place(&mut writer, end)?;
-    writer.end_object()?;
+    Ok(printed)
+}
+
+/// The lines with that of a finding behind them.
+fn push_line(lines: Vec<u8>, name: &str, located: &Located) -> Result<Vec<u8>, AllocError>
+    ensures { IfOk result (λ new. new.items ≡ lines.items ++ spec.line (spec.finding name.now (as_placed located.now))) }
+{
+    let mut writer = Writer::new(lines);
+    write_finding(&mut writer, name, located)?;
     end_line(writer)
 }
 
-/// The bytes with the end of a line behind the last object.
-pub fn end_line(writer: Writer) -> Result<Vec<u8>, AllocError> {
+/// The bytes with the end of a line behind what was written.
+pub fn end_line(writer: Writer) -> Result<Vec<u8>, AllocError>
+    ensures { IfOk result (λ new. new.items ≡ writer.before ++ spec.line writer.tokens) }
+{
     let mut lines = writer.into_inner();
     lines.push(b'\n')?;
     Ok(lines)
 }
 
+fn write_finding(writer: &mut Writer, name: &str, located: &Located) -> Result<(), AllocError>
+    ensures { spec.Adds result writer.old writer.new (spec.finding name.now (as_placed located.now)) }
+{
+    let finding = &located.finding;
+    writer.begin_object()?;
+    write_text(writer, "file", name)?;
+    write_text(writer, "severity", finding.severity())?;
+    write_text(writer, "message", finding.message())?;
+    write_hints(writer, finding.hints())?;
+    write_place(writer, "start", located.start)?;
+    write_place(writer, "end", located.end)?;
+    writer.end_object()
+}
+
+/// Writes a text under its name.
+pub fn write_text(writer: &mut Writer, name: &str, text: &str) -> Result<(), AllocError>
+    ensures { spec.Adds result writer.old writer.new (spec.text_member name.now text.now) }
+{
+    writer.key(name)?;
+    writer.string(text)
+}
+
 /// Writes a number under its name.
-pub fn write_count(writer: &mut Writer, name: &str, count: usize) -> Result<(), AllocError> {
+pub fn write_count(writer: &mut Writer, name: &str, count: usize) -> Result<(), AllocError>
+    ensures { spec.Adds result writer.old writer.new (spec.count_member name.now count) }
+{
     writer.key(name)?;
     writer.u64(count as u64)
 }
 
-fn write_place(writer: &mut Writer, place: Place) -> Result<(), AllocError> {
+fn write_hints(writer: &mut Writer, hints: &[Hint]) -> Result<(), AllocError>
+    ensures { spec.Adds result writer.old writer.new (spec.hints_member hints.now) }
+{
+    writer.key("hints")?;
+    writer.begin_array()?;
+    write_messages(writer, hints)?;
+    writer.end_array()
+}
+
+fn write_messages(writer: &mut Writer, hints: &[Hint]) -> Result<(), AllocError>
+    ensures { spec.Adds result writer.old writer.new (spec.messages hints.now) }
+{
+    for hint in hints {
+        writer.string(hint.message())?;
+    }
+    Ok(())
+}
+
+/// Writes a place under its name.
+fn write_place(writer: &mut Writer, name: &str, place: Place) -> Result<(), AllocError>
+    ensures { spec.Adds result writer.old writer.new (spec.place_member name.now place) }
+{
+    writer.key(name)?;
     writer.begin_object()?;
     write_count(writer, "byte", place.byte)?;
     write_count(writer, "line", place.line)?;

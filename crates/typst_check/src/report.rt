@@ -2,14 +2,15 @@
 
 ghost use Rattle.std.specs.Prelude.{◌≡◌, IfOk, map};
 ghost use Rattle.typst_check.specs.Found.{as_told};
-ghost use Rattle.typst_check.specs.Told.{any_error, has_error};
+ghost use Rattle.typst_check.specs.Printed.{Prints, PrintsTold};
+ghost use Rattle.typst_check.specs.Told.{any_error, told};
 
 use crate::finding::{Finding, findings};
-use crate::place::Place;
-use crate::request::Form;
+use crate::located::locate;
+use crate::request::{Form, Format};
 use crate::{github, ndjson, page, short, tree};
 use std::alloc::{AllocError, Global};
-use typst_parser::{Lines, UnicodeClasses, parse};
+use typst_parser::{Lines, SyntaxNode, UnicodeClasses, parse};
 
 /// What is printed about a text, and whether the text has errors.
 #[derive(Drop)]
@@ -19,20 +20,22 @@ pub struct Report {
 }
 
 impl Report {
+    ghost use Rattle.std.specs.Prelude.{◌≡◌, IfOk};
+    ghost use Rattle.std.specs.Str.{chars};
+    ghost use Rattle.typst_check.specs.Printed.{Prints};
+    ghost use Rattle.typst_check.specs.Told.{has_error};
+    ghost use Rattle.typst_lines.specs.UnicodeTables.{unicode_classes};
+    ghost use Rattle.typst_parser.specs.Grammar.{tree};
+
     /// What the form asks of a text of that name.
     pub fn of_text(alloc: Global, form: Form, name: &str, text: &str) -> Result<Report, AllocError>
-        ensures { IfOk result (λ report. report.has_errors ≡ has_error text.now) }
+        ensures errors { IfOk result (λ report. report.has_errors ≡ has_error text.now) }
+        ensures printed { IfOk result (λ report. Prints form name.now text.now (tree unicode_classes (chars text.now)) report.printed.items) }
     {
         let root = parse(alloc, text, &UnicodeClasses)?;
         let lines = Lines::new(alloc, text)?;
         let found = findings(alloc, &root)?;
-        let printed = match form {
-            Form::Short { color } => short_lines(alloc, name, &lines, &found, color)?,
-            Form::Ndjson => ndjson_lines(alloc, name, &lines, &found)?,
-            Form::Github => github_lines(alloc, name, &lines, &found)?,
-            Form::Tree => tree::push_node(Vec::new(alloc), &root, 0, 0)?,
-            Form::Page => page::page_of(alloc, name, &root, &lines, &found)?,
-        };
+        let printed = print(alloc, form, name, &root, &lines, &found)?;
         Ok(Report {
             printed,
             has_errors: any_error(&found),
@@ -52,53 +55,39 @@ fn any_error(found: &[Finding]) -> bool
     false
 }
 
-fn short_lines(
+/// What a form prints about a text of that name, whose tree and findings these are.
+fn print(
     alloc: Global,
+    form: Form,
     name: &str,
+    root: &SyntaxNode,
     lines: &Lines<&str>,
     found: &[Finding],
-    color: bool,
-) -> Result<Vec<u8>, AllocError> {
-    let mut printed = String::new(alloc);
-    let mut last = None;
-    for finding in found {
-        let start = Place::of_byte(lines, finding.start, last);
-        short::push_finding(&mut printed, name, finding, start, color)?;
-        last = Some(start);
+) -> Result<Vec<u8>, AllocError>
+    requires { map as_told found.now ≡ told root.now }
+    ensures { IfOk result (λ printed. Prints form name.now lines.now root.now printed.items) }
+{
+    match form {
+        Form::Findings(format) => print_findings(alloc, format, name, lines, found),
+        Form::Tree => tree::lines_of(alloc, root),
+        Form::Page => page::page_of(alloc, name, root, lines, found),
     }
-    Ok(printed.into_bytes())
 }
 
-fn ndjson_lines(
+/// The findings of a text of that name in a format.
+fn print_findings(
     alloc: Global,
+    format: Format,
     name: &str,
     lines: &Lines<&str>,
     found: &[Finding],
-) -> Result<Vec<u8>, AllocError> {
-    let mut printed = Vec::new(alloc);
-    let (mut last_start, mut last_end) = (None, None);
-    for finding in found {
-        let start = Place::of_byte(lines, finding.start, last_start);
-        let end = Place::of_byte(lines, finding.end, last_end);
-        printed = ndjson::push_finding(printed, name, finding, start, end)?;
-        (last_start, last_end) = (Some(start), Some(end));
+) -> Result<Vec<u8>, AllocError>
+    ensures { IfOk result (λ printed. PrintsTold format name.now lines.now (map as_told found.now) printed.items) }
+{
+    let located = locate(alloc, lines, found)?;
+    match format {
+        Format::Short { color } => Ok(short::lines_of(alloc, name, &located, color)?.into_bytes()),
+        Format::Ndjson => ndjson::lines_of(alloc, name, &located),
+        Format::Github => Ok(github::commands_of(alloc, name, &located)?.into_bytes()),
     }
-    Ok(printed)
-}
-
-fn github_lines(
-    alloc: Global,
-    name: &str,
-    lines: &Lines<&str>,
-    found: &[Finding],
-) -> Result<Vec<u8>, AllocError> {
-    let mut printed = String::new(alloc);
-    let (mut last_start, mut last_end) = (None, None);
-    for finding in found {
-        let start = Place::of_byte(lines, finding.start, last_start);
-        let end = Place::of_byte(lines, finding.end, last_end);
-        github::push_finding(&mut printed, name, finding, start, end)?;
-        (last_start, last_end) = (Some(start), Some(end));
-    }
-    Ok(printed.into_bytes())
 }

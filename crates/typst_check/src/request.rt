@@ -3,18 +3,25 @@
 use clap::{Arg, ArgAction, Command, Error};
 use std::alloc::Global;
 
-/// How the answer about a file is printed.
+/// How errors and warnings are printed.
+#[derive(Debug, Clone, Copy, PartialEq, Eq)]
+pub enum Format {
+    /// A line for each, as compilers print them, with colours or without.
+    Short { color: bool },
+    /// A JSON object a line for each.
+    Ndjson,
+    /// A workflow command of GitHub for each.
+    Github,
+}
+
+/// What is printed about a file.
 #[derive(Debug, Clone, Copy, PartialEq, Eq)]
 pub enum Form {
-    /// A line for each error and warning, with colours or without.
-    Short { color: bool },
-    /// A JSON object a line for each error and warning.
-    Ndjson,
-    /// A workflow command of GitHub for each error and warning.
-    Github,
-    /// A JSON object a line for each node of the tree.
+    /// Its errors and warnings.
+    Findings(Format),
+    /// Its tree, a JSON object a line for each node.
     Tree,
-    /// The text as an HTML page.
+    /// Its text as an HTML page.
     Page,
 }
 
@@ -43,7 +50,8 @@ impl<'a> Request<'a> {
         } else if matches.get_flag("page") {
             Form::Page
         } else {
-            form_named(matches.get_str("format"), matches.get_str("color"))
+            let color = matches.get_str("color") == Some("always");
+            Form::Findings(format_named(matches.get_str("format"), color))
         };
         let mut names = Vec::new(alloc);
         if let Some(files) = matches.get_strs("files") {
@@ -55,14 +63,13 @@ impl<'a> Request<'a> {
     }
 }
 
-/// The form of those names. Whether the output is a terminal isn't known, so `auto` is `never`.
-fn form_named(format: Option<&str>, color: Option<&str>) -> Form {
-    match format {
-        Some("ndjson") => Form::Ndjson,
-        Some("github") => Form::Github,
-        _ => Form::Short {
-            color: color == Some("always"),
-        },
+/// The format of a name. Whether the output is a terminal isn't known, so there are colours only where
+/// they are asked for.
+fn format_named(name: Option<&str>, color: bool) -> Format {
+    match name {
+        Some("ndjson") => Format::Ndjson,
+        Some("github") => Format::Github,
+        _ => Format::Short { color },
     }
 }
 

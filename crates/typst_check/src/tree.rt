@@ -1,26 +1,40 @@
 //! A syntax tree as JSON, a line for each node.
 
-use crate::ndjson::{end_line, write_count};
+ghost use Rattle.std.specs.Prelude.{◌≡◌, ◌++◌, IfOk};
+ghost use Rattle.typst_parser.specs.Tree.{more, none};
+ghost use Rattle.typst_check.specs.Ndjson.{Adds, line};
+ghost use Rattle.typst_check.specs.TreeLines as spec;
+
+use crate::ndjson::{end_line, write_count, write_text};
 use json::Writer;
-use std::alloc::AllocError;
+use std::alloc::{AllocError, Global};
 use typst_cli::tree::variant_name;
 use typst_parser::SyntaxNode;
 
+/// The lines of a tree.
+pub fn lines_of(alloc: Global, root: &SyntaxNode) -> Result<Vec<u8>, AllocError>
+    ensures { IfOk result (λ printed. printed.items ≡ spec.tree_lines root.now) }
+{
+    push_node(Vec::new(alloc), root, 0, 0)
+}
+
 /// Adds the lines of a node that begins at a byte, and of all below it, each before its children: its
 /// depth, its kind, its bytes and, of a leaf, its text.
-pub fn push_node(
+fn push_node(
     lines: Vec<u8>,
     node: &SyntaxNode,
     depth: usize,
     start: usize,
-) -> Result<Vec<u8>, AllocError> {
-    let mut lines = push_line(lines, node, depth, start)?;
+) -> Result<Vec<u8>, AllocError>
+    ensures { IfOk result (λ new. new.items ≡ lines.items ++ spec.node_lines depth start (more node.now.head node.now.kids none)) }
+{
+    let mut all = push_line(lines, node, depth, start)?;
     let mut kid_start = start.saturating_add(node.leaf_text().len());
     for kid in node.children() {
-        lines = push_node(lines, kid, depth.saturating_add(1), kid_start)?;
+        all = push_node(all, kid, depth.saturating_add(1), kid_start)?;
         kid_start = kid_start.saturating_add(kid.len());
     }
-    Ok(lines)
+    Ok(all)
 }
 
 fn push_line(
@@ -28,18 +42,38 @@ fn push_line(
     node: &SyntaxNode,
     depth: usize,
     start: usize,
-) -> Result<Vec<u8>, AllocError> {
+) -> Result<Vec<u8>, AllocError>
+    ensures { IfOk result (λ new. new.items ≡ lines.items ++ line (spec.node depth start (spec.end_of start node.now.head node.now.kids) node.now.head)) }
+{
     let mut writer = Writer::new(lines);
-    writer.begin_object()?;
-    write_count(&mut writer, "depth", depth)?;
-    writer.key("kind")?;
-    writer.string(variant_name(node.kind()))?;
-    write_count(&mut writer, "start", start)?;
-    write_count(&mut writer, "end", start.saturating_add(node.len()))?;
-    if !node.is_inner() {
-        writer.key("text")?;
-        writer.string(node.leaf_text())?;
-    }
-    writer.end_object()?;
+    write_node(&mut writer, node, depth, start)?;
     end_line(writer)
+}
+
+fn write_node(
+    writer: &mut Writer,
+    node: &SyntaxNode,
+    depth: usize,
+    start: usize,
+) -> Result<(), AllocError>
+    ensures { Adds result writer.old writer.new (spec.node depth start (spec.end_of start node.now.head node.now.kids) node.now.head) }
+{
+    let end = start.saturating_add(node.len());
+    writer.begin_object()?;
+    write_count(writer, "depth", depth)?;
+    write_text(writer, "kind", variant_name(node.kind()))?;
+    write_count(writer, "start", start)?;
+    write_count(writer, "end", end)?;
+    write_own_text(writer, node)?;
+    writer.end_object()
+}
+
+/// Writes the text of a leaf.
+fn write_own_text(writer: &mut Writer, node: &SyntaxNode) -> Result<(), AllocError>
+    ensures { Adds result writer.old writer.new (spec.own_text node.now.head) }
+{
+    if node.is_inner() {
+        return Ok(());
+    }
+    write_text(writer, "text", node.leaf_text())
 }
