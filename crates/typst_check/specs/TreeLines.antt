@@ -10,10 +10,17 @@ use Rattle.typst_check.specs.Ndjson.{count_member, line, text_member}
 abbrev pub own_text : Head → List Token
 own_text h = if h.is_inner then [] else text_member (codes "text") h.text
 
--- a node as an object: its depth, its kind, the bytes that it begins and ends at and, of a leaf, its text
+-- the bytes that a node begins and ends at
+abbrev pub range : ℕ → ℕ → List Token
+range start end = count_member (codes "start") start ++ count_member (codes "end") end
+
+-- a node's depth, its kind, its bytes and, of a leaf, its text
+abbrev pub members : ℕ → ℕ → ℕ → Head → List Token
+members depth start end h = count_member (codes "depth") depth ++ (text_member (codes "kind") (variant_name h.kind) ++ (range start end ++ own_text h))
+
+-- a node as an object
 abbrev pub node : ℕ → ℕ → ℕ → Head → List Token
-node depth start end h =
-    begin_object ∷ (count_member (codes "depth") depth ++ (text_member (codes "kind") (variant_name h.kind) ++ (count_member (codes "start") start ++ (count_member (codes "end") end ++ (own_text h ++ end_object ∷ [])))))
+node depth start end h = begin_object ∷ (members depth start end h ++ end_object ∷ [])
 
 -- where a node ends that begins at a byte
 abbrev pub end_of : ℕ → Head → Forest → ℕ

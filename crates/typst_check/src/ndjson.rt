@@ -5,6 +5,7 @@ ghost use Rattle.json.specs.Print.{print};
 ghost use Rattle.typst_check.specs.Ndjson as spec;
 ghost use Rattle.typst_check.specs.Placed.{as_placed};
 
+use crate::finding::Finding;
 use crate::located::Located;
 use crate::place::Place;
 use json::Writer;
@@ -43,15 +44,20 @@ pub fn end_line(writer: Writer) -> Result<Vec<u8>, AllocError>
 fn write_finding(writer: &mut Writer, name: &str, located: &Located) -> Result<(), AllocError>
     ensures { spec.Adds result writer.old writer.new (spec.finding name.now (as_placed located.now)) }
 {
-    let finding = &located.finding;
     writer.begin_object()?;
+    write_told(writer, name, &located.finding)?;
+    write_places(writer, located.start, located.end)?;
+    writer.end_object()
+}
+
+/// Writes what a finding in the file of that name tells.
+fn write_told(writer: &mut Writer, name: &str, finding: &Finding) -> Result<(), AllocError>
+    ensures { spec.Adds result writer.old writer.new (spec.told_members name.now finding.now.diagnostic.now) }
+{
     write_text(writer, "file", name)?;
     write_text(writer, "severity", finding.severity())?;
     write_text(writer, "message", finding.message())?;
-    write_hints(writer, finding.hints())?;
-    write_place(writer, "start", located.start)?;
-    write_place(writer, "end", located.end)?;
-    writer.end_object()
+    write_hints(writer, finding.hints())
 }
 
 /// Writes a text under its name.
@@ -88,15 +94,28 @@ fn write_messages(writer: &mut Writer, hints: &[Hint]) -> Result<(), AllocError>
     Ok(())
 }
 
+fn write_places(writer: &mut Writer, start: Place, end: Place) -> Result<(), AllocError>
+    ensures { spec.Adds result writer.old writer.new (spec.places_members start end) }
+{
+    write_place(writer, "start", start)?;
+    write_place(writer, "end", end)
+}
+
 /// Writes a place under its name.
 fn write_place(writer: &mut Writer, name: &str, place: Place) -> Result<(), AllocError>
     ensures { spec.Adds result writer.old writer.new (spec.place_member name.now place) }
 {
     writer.key(name)?;
     writer.begin_object()?;
+    write_numbers(writer, place)?;
+    writer.end_object()
+}
+
+fn write_numbers(writer: &mut Writer, place: Place) -> Result<(), AllocError>
+    ensures { spec.Adds result writer.old writer.new (spec.numbers place) }
+{
     write_count(writer, "byte", place.byte)?;
     write_count(writer, "line", place.line)?;
     write_count(writer, "column", place.column)?;
-    write_count(writer, "utf16_column", place.utf16_column)?;
-    writer.end_object()
+    write_count(writer, "utf16_column", place.utf16_column)
 }

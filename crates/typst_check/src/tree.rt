@@ -58,14 +58,30 @@ fn write_node(
 ) -> Result<(), AllocError>
     ensures { Adds result writer.old writer.new (spec.node depth start (spec.end_of start node.now.head node.now.kids) node.now.head) }
 {
-    let end = start.saturating_add(node.len());
     writer.begin_object()?;
+    write_members(writer, node, depth, start)?;
+    writer.end_object()
+}
+
+fn write_members(
+    writer: &mut Writer,
+    node: &SyntaxNode,
+    depth: usize,
+    start: usize,
+) -> Result<(), AllocError>
+    ensures { Adds result writer.old writer.new (spec.members depth start (spec.end_of start node.now.head node.now.kids) node.now.head) }
+{
     write_count(writer, "depth", depth)?;
     write_text(writer, "kind", variant_name(node.kind()))?;
+    write_range(writer, start, start.saturating_add(node.len()))?;
+    write_own_text(writer, node)
+}
+
+fn write_range(writer: &mut Writer, start: usize, end: usize) -> Result<(), AllocError>
+    ensures { Adds result writer.old writer.new (spec.range start end) }
+{
     write_count(writer, "start", start)?;
-    write_count(writer, "end", end)?;
-    write_own_text(writer, node)?;
-    writer.end_object()
+    write_count(writer, "end", end)
 }
 
 /// Writes the text of a leaf.
