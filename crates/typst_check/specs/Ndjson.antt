@@ -1,17 +1,12 @@
 -- Errors and warnings as JSON, an object a line.
-use Rattle.std.specs.Prelude.{◌≡◌, ℕ, List, [], ◌∷◌, ◌++◌, codes, OnOk, Result}
+use Rattle.std.specs.Prelude.{ℕ, List, [], ◌∷◌, ◌++◌, codes}
 use Rattle.std.specs.Fmt.{decimal}
 use Rattle.json.specs.Print.{print}
 use Rattle.json.specs.Token.{Token, begin_object, end_object, begin_array, end_array, key, string, number}
-use Rattle.json.specs.Written.{Written}
 use Rattle.typst_kinds.specs.Diagnostic.{Diagnostic, Hint}
 use Rattle.typst_check.specs.declared.place.Place.{Place}
 use Rattle.typst_check.specs.Placed.{Placed}
 use Rattle.typst_check.specs.Told.{severity_word}
-
--- a writer has these tokens behind those that it had
-abbrev pub Adds : {E : Type 0} → Result (Unit {0}) E → Written → Written → List Token → Type 0
-Adds r old new ts = OnOk r ((new.before ≡ old.before) × (new.tokens ≡ old.tokens ++ ts))
 
 -- tokens as a line
 abbrev pub line : List Token → List ℕ

@@ -1,7 +1,6 @@
 //! Errors and warnings as JSON, an object a line.
 
-ghost use Rattle.std.specs.Prelude.{◌≡◌, ◌++◌, IfOk, [], ◌∷◌, map};
-ghost use Rattle.json.specs.Print.{print};
+ghost use Rattle.std.specs.Prelude.{◌≡◌, ◌++◌, IfOk, OnOk, map};
 ghost use Rattle.typst_check.specs.Ndjson as spec;
 ghost use Rattle.typst_check.specs.Placed.{as_placed};
 
@@ -42,7 +41,8 @@ pub fn end_line(writer: Writer) -> Result<Vec<u8>, AllocError>
 }
 
 fn write_finding(writer: &mut Writer, name: &str, located: &Located) -> Result<(), AllocError>
-    ensures { spec.Adds result writer.old writer.new (spec.finding name.now (as_placed located.now)) }
+    ensures before { OnOk result (writer.new.before ≡ writer.old.before) }
+    ensures tokens { OnOk result (writer.new.tokens ≡ writer.old.tokens ++ spec.finding name.now (as_placed located.now)) }
 {
     writer.begin_object()?;
     write_told(writer, name, &located.finding)?;
@@ -52,7 +52,8 @@ fn write_finding(writer: &mut Writer, name: &str, located: &Located) -> Result<(
 
 /// Writes what a finding in the file of that name tells.
 fn write_told(writer: &mut Writer, name: &str, finding: &Finding) -> Result<(), AllocError>
-    ensures { spec.Adds result writer.old writer.new (spec.told_members name.now finding.now.diagnostic.now) }
+    ensures before { OnOk result (writer.new.before ≡ writer.old.before) }
+    ensures tokens { OnOk result (writer.new.tokens ≡ writer.old.tokens ++ spec.told_members name.now finding.now.diagnostic.now) }
 {
     write_text(writer, "file", name)?;
     write_text(writer, "severity", finding.severity())?;
@@ -62,7 +63,8 @@ fn write_told(writer: &mut Writer, name: &str, finding: &Finding) -> Result<(), 
 
 /// Writes a text under its name.
 pub fn write_text(writer: &mut Writer, name: &str, text: &str) -> Result<(), AllocError>
-    ensures { spec.Adds result writer.old writer.new (spec.text_member name.now text.now) }
+    ensures before { OnOk result (writer.new.before ≡ writer.old.before) }
+    ensures tokens { OnOk result (writer.new.tokens ≡ writer.old.tokens ++ spec.text_member name.now text.now) }
 {
     writer.key(name)?;
     writer.string(text)
@@ -70,14 +72,16 @@ pub fn write_text(writer: &mut Writer, name: &str, text: &str) -> Result<(), All
 
 /// Writes a number under its name.
 pub fn write_count(writer: &mut Writer, name: &str, count: usize) -> Result<(), AllocError>
-    ensures { spec.Adds result writer.old writer.new (spec.count_member name.now count) }
+    ensures before { OnOk result (writer.new.before ≡ writer.old.before) }
+    ensures tokens { OnOk result (writer.new.tokens ≡ writer.old.tokens ++ spec.count_member name.now count) }
 {
     writer.key(name)?;
     writer.u64(count as u64)
 }
 
 fn write_hints(writer: &mut Writer, hints: &[Hint]) -> Result<(), AllocError>
-    ensures { spec.Adds result writer.old writer.new (spec.hints_member hints.now) }
+    ensures before { OnOk result (writer.new.before ≡ writer.old.before) }
+    ensures tokens { OnOk result (writer.new.tokens ≡ writer.old.tokens ++ spec.hints_member hints.now) }
 {
     writer.key("hints")?;
     writer.begin_array()?;
@@ -86,7 +90,8 @@ fn write_hints(writer: &mut Writer, hints: &[Hint]) -> Result<(), AllocError>
 }
 
 fn write_messages(writer: &mut Writer, hints: &[Hint]) -> Result<(), AllocError>
-    ensures { spec.Adds result writer.old writer.new (spec.messages hints.now) }
+    ensures before { OnOk result (writer.new.before ≡ writer.old.before) }
+    ensures tokens { OnOk result (writer.new.tokens ≡ writer.old.tokens ++ spec.messages hints.now) }
 {
     for hint in hints {
         writer.string(hint.message())?;
@@ -95,7 +100,8 @@ fn write_messages(writer: &mut Writer, hints: &[Hint]) -> Result<(), AllocError>
 }
 
 fn write_places(writer: &mut Writer, start: Place, end: Place) -> Result<(), AllocError>
-    ensures { spec.Adds result writer.old writer.new (spec.places_members start end) }
+    ensures before { OnOk result (writer.new.before ≡ writer.old.before) }
+    ensures tokens { OnOk result (writer.new.tokens ≡ writer.old.tokens ++ spec.places_members start end) }
 {
     write_place(writer, "start", start)?;
     write_place(writer, "end", end)
@@ -103,7 +109,8 @@ fn write_places(writer: &mut Writer, start: Place, end: Place) -> Result<(), All
 
 /// Writes a place under its name.
 fn write_place(writer: &mut Writer, name: &str, place: Place) -> Result<(), AllocError>
-    ensures { spec.Adds result writer.old writer.new (spec.place_member name.now place) }
+    ensures before { OnOk result (writer.new.before ≡ writer.old.before) }
+    ensures tokens { OnOk result (writer.new.tokens ≡ writer.old.tokens ++ spec.place_member name.now place) }
 {
     writer.key(name)?;
     writer.begin_object()?;
@@ -112,7 +119,8 @@ fn write_place(writer: &mut Writer, name: &str, place: Place) -> Result<(), Allo
 }
 
 fn write_numbers(writer: &mut Writer, place: Place) -> Result<(), AllocError>
-    ensures { spec.Adds result writer.old writer.new (spec.numbers place) }
+    ensures before { OnOk result (writer.new.before ≡ writer.old.before) }
+    ensures tokens { OnOk result (writer.new.tokens ≡ writer.old.tokens ++ spec.numbers place) }
 {
     write_count(writer, "byte", place.byte)?;
     write_count(writer, "line", place.line)?;

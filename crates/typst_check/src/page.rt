@@ -80,7 +80,7 @@ impl<'p, 'l, 't> Page<'p, 'l, 't> {
     /// Writes a stretch of the text in pieces, which lines and findings divide.
     fn push_stretch(&mut self, stretch: &Tagged) -> Result<(), AllocError> {
         let (mut at, end) = (stretch.range.start, stretch.range.end);
-        while at < end {
+        'pieces: while at < end {
             self.reach(at)?;
             let cut = self.next_cut(at, end);
             self.push_piece(stretch.tag, at, cut)?;
@@ -104,7 +104,9 @@ impl<'p, 'l, 't> Page<'p, 'l, 't> {
         }
         self.open.retain(|finding| finding.end > at);
         for index in self.opened..self.order.len() {
-            let (start, place) = self.order[index];
+            let Some((start, place)) = self.order.get(index).copied() else {
+                break;
+            };
             if start > at {
                 break;
             }

@@ -1,8 +1,8 @@
 //! A syntax tree as JSON, a line for each node.
 
-ghost use Rattle.std.specs.Prelude.{◌≡◌, ◌++◌, IfOk};
+ghost use Rattle.std.specs.Prelude.{◌≡◌, ◌++◌, IfOk, OnOk};
 ghost use Rattle.typst_parser.specs.Tree.{more, none};
-ghost use Rattle.typst_check.specs.Ndjson.{Adds, line};
+ghost use Rattle.typst_check.specs.Ndjson.{line};
 ghost use Rattle.typst_check.specs.TreeLines as spec;
 
 use crate::ndjson::{end_line, write_count, write_text};
@@ -56,7 +56,8 @@ fn write_node(
     depth: usize,
     start: usize,
 ) -> Result<(), AllocError>
-    ensures { Adds result writer.old writer.new (spec.node depth start (spec.end_of start node.now.head node.now.kids) node.now.head) }
+    ensures before { OnOk result (writer.new.before ≡ writer.old.before) }
+    ensures tokens { OnOk result (writer.new.tokens ≡ writer.old.tokens ++ (spec.node depth start (spec.end_of start node.now.head node.now.kids) node.now.head)) }
 {
     writer.begin_object()?;
     write_members(writer, node, depth, start)?;
@@ -69,7 +70,8 @@ fn write_members(
     depth: usize,
     start: usize,
 ) -> Result<(), AllocError>
-    ensures { Adds result writer.old writer.new (spec.members depth start (spec.end_of start node.now.head node.now.kids) node.now.head) }
+    ensures before { OnOk result (writer.new.before ≡ writer.old.before) }
+    ensures tokens { OnOk result (writer.new.tokens ≡ writer.old.tokens ++ (spec.members depth start (spec.end_of start node.now.head node.now.kids) node.now.head)) }
 {
     write_count(writer, "depth", depth)?;
     write_text(writer, "kind", variant_name(node.kind()))?;
@@ -78,7 +80,8 @@ fn write_members(
 }
 
 fn write_range(writer: &mut Writer, start: usize, end: usize) -> Result<(), AllocError>
-    ensures { Adds result writer.old writer.new (spec.range start end) }
+    ensures before { OnOk result (writer.new.before ≡ writer.old.before) }
+    ensures tokens { OnOk result (writer.new.tokens ≡ writer.old.tokens ++ spec.range start end) }
 {
     write_count(writer, "start", start)?;
     write_count(writer, "end", end)
@@ -86,7 +89,8 @@ fn write_range(writer: &mut Writer, start: usize, end: usize) -> Result<(), Allo
 
 /// Writes the text of a leaf.
 fn write_own_text(writer: &mut Writer, node: &SyntaxNode) -> Result<(), AllocError>
-    ensures { Adds result writer.old writer.new (spec.own_text node.now.head) }
+    ensures before { OnOk result (writer.new.before ≡ writer.old.before) }
+    ensures tokens { OnOk result (writer.new.tokens ≡ writer.old.tokens ++ spec.own_text node.now.head) }
 {
     if node.is_inner() {
         return Ok(());
