@@ -26,7 +26,7 @@ formatted format.Github name placed = github.commands name placed
 pub record PrintsTold (f : Format) (name text : List ℕ) (all : List Told) (printed : List ℕ) : Type 0 where
   pub placed : List Placed
   pub places : ArePlaced text all placed
-  pub printed : printed ≡ formatted f name placed
+  pub shown : printed ≡ formatted f name placed
 
 -- what a form prints about a text of that tree; of a page nothing is said
 abbrev pub Prints : Form → List ℕ → List ℕ → Tree → List ℕ → Type 0
