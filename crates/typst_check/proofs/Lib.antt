@@ -4,8 +4,6 @@
 --   locate               PlacedLemmas: one more finding with its places
 --   lines_of, commands_of  LineLemmas: the lines of one more finding
 --   write_numbers, write_told  TokenLemmas: tokens one after another
---   check                CheckLemmas: from the text that was read to the input
-pub mod CheckLemmas
 pub mod EscapeLemmas
 pub mod LineLemmas
 pub mod PlacedLemmas
