@@ -1,17 +1,17 @@
 -- Columns that are counted from another place of the line.
-use Rattle.std.proofs.Common.{◌≡◌, ℕ, ◌+◌, ◌-◌, ◌≤◌, ◌<◌, List, [], ◌∷◌, ◌++◌, length, take, drop, get_or, slice_get, nat_le, Option, None, Some, ap, sym, subst, ◌∙◌, refl, arith, length-append, length-take-le}
+use Rattle.std.proofs.Common.{◌≡◌, ℕ, ◌+◌, ◌-◌, ◌≤◌, ◌<◌, List, [], ◌∷◌, length, take, drop, get_or, slice_get, nat_le, None, Some, ap, sym, subst, ◌∙◌, refl, arith, length-append}
 use Rattle.std.proofs.lemmas.List.{at_drop_more}
 use Rattle.std.proofs.lemmas.List.Sums.{count_by-le-length}
-use Rattle.std.specs.Prelude.{unwrap_or, IfSome}
+use Rattle.std.specs.Prelude.{unwrap_or}
 use Rattle.std.specs.List.{slice_range}
 use Rattle.std.specs.Str.{IsCharBoundary, IsUtf8, chars}
 use Rattle.typst_lines.specs.declared.lines.Line.{Line}
-use Rattle.typst_lines.specs.Lines.{IsLineOf, column_of, line_of, line_start, line_table, units, utf16_before, utf16_len, bytes}
+use Rattle.typst_lines.specs.Lines.{IsLineOf, column_of, line_of, line_table, units, utf16_before, utf16_len, bytes}
 use Rattle.typst_lines.proofs.LineTable.{chars-range, bytes-front, units-front, units-le, bytes-text, width-positive}
 use Rattle.typst_lines.proofs.RoundTrip.{column-is, start-is, units-range, line-boundary}
 use Rattle.typst_lines.proofs.TableOrder.{get-some, line_of-before, table-some}
 use Rattle.typst_check.specs.declared.place.Place.{Place}
-use Rattle.typst_check.specs.Places.{IsBase, IsPlace, line_begin, place_at, units_in_line}
+use Rattle.typst_check.specs.Places.{IsBase, IsPlace, line_begin, units_in_line}
 
 -- ---- counting characters and units
 

@@ -1,4 +1,4 @@
-use Rattle.std.proofs.Common.{◌≡◌, ◌+◌, ◌++◌, ◌∷◌, [], List, map, take, subst, sym, arith, rules}
+use Rattle.std.proofs.Common.{◌≡◌, ◌+◌, ◌++◌, ◌∷◌, [], List, map, take, subst, sym, arith}
 use Rattle.typst_check.specs.declared.located.Located.{Located}
 use Rattle.typst_check.specs.Found.{as_told}
 use Rattle.typst_check.specs.Placed.{ArePlaced, as_placed}
