@@ -1,0 +1,10 @@
+pub mod Escapes
+pub mod Found
+pub mod Github
+pub mod Ndjson
+pub mod Placed
+pub mod Places
+pub mod Printed
+pub mod Short
+pub mod Told
+pub mod TreeLines
