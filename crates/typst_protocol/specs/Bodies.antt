@@ -1,0 +1,54 @@
+-- The bodies that a server sends.
+use Rattle.std.specs.Prelude.{ℕ, List, ◌++◌, codes}
+use Rattle.typst_protocol.specs.declared.refusal.Refusal.{Refusal}
+use Rattle.typst_protocol.specs.declared.refusal.Refusal.TheVariants.{OutOfPlace, UnknownMethod, BadParameters, OutOfMemory, NotInitialized, LostDocument}
+use Rattle.typst_protocol.specs.declared.refusal.Unread.{Unread}
+use Rattle.typst_protocol.specs.declared.refusal.Unread.TheVariants as unread
+
+-- a response holds the identifier of its request, and one more member
+abbrev pub response : List ℕ → List ℕ → List ℕ → List ℕ
+response id name value = codes "{\"jsonrpc\":\"2.0\",\"id\":" ++ id ++ codes ",\"" ++ name ++ codes "\":" ++ value ++ codes "}"
+
+-- that member is a result
+abbrev pub success : List ℕ → List ℕ → List ℕ
+success id value = response id (codes "result") value
+
+-- an error has a code and a message
+abbrev pub error : List ℕ → List ℕ → List ℕ
+error code message = codes "{\"code\":" ++ code ++ codes ",\"message\":\"" ++ message ++ codes "\"}"
+
+-- the code of a refusal
+abbrev pub code_of : Refusal → List ℕ
+code_of OutOfPlace = codes "-32600"
+code_of UnknownMethod = codes "-32601"
+code_of BadParameters = codes "-32602"
+code_of OutOfMemory = codes "-32603"
+code_of NotInitialized = codes "-32002"
+code_of LostDocument = codes "-32801"
+
+-- the message of a refusal
+abbrev pub message_of : Refusal → List ℕ
+message_of OutOfPlace = codes "not at this time"
+message_of UnknownMethod = codes "unknown method"
+message_of BadParameters = codes "the parameters do not fit"
+message_of OutOfMemory = codes "out of memory"
+message_of NotInitialized = codes "not initialized"
+message_of LostDocument = codes "the text is not known: open the document again, or send it whole"
+
+-- or that member is the error of a refusal
+abbrev pub failure : List ℕ → Refusal → List ℕ
+failure id refusal = response id (codes "error") (error (code_of refusal) (message_of refusal))
+
+-- the error of a body that isn't taken for a message
+abbrev pub error_of : Unread → List ℕ
+error_of unread.NotJson = error (codes "-32700") (codes "not JSON")
+error_of unread.NotAMessage = error (codes "-32600") (codes "not a message")
+error_of unread.OutOfMemory = error (codes "-32603") (codes "out of memory")
+
+-- such a body is answered with no identifier
+abbrev pub nameless : Unread → List ℕ
+nameless why = response (codes "null") (codes "error") (error_of why)
+
+-- a notification has a method and parameters
+abbrev pub notification : List ℕ → List ℕ → List ℕ
+notification method params = codes "{\"jsonrpc\":\"2.0\",\"method\":\"" ++ method ++ codes "\",\"params\":" ++ params ++ codes "}"

@@ -1,0 +1,4 @@
+pub mod Bodies
+pub mod Methods
+pub mod Messages
+pub mod Parameters

@@ -1,0 +1,130 @@
+-- What the parameters of a message say.
+use Rattle.std.specs.Prelude.{◌≡◌, ℕ, ℤ, List, [], ◌∷◌, codes, MatchResult, Result, Bool, false, Option, None, Some, option_map, option_and_then, unwrap_or}
+use Rattle.std.specs.Option.{option_or}
+use Rattle.serde_json.specs.Data.{Data, Items, no_items, item}
+use Rattle.serde_json.specs.Find.{get, as_str, as_bool, as_number, as_i64, as_u64, as_array}
+use Rattle.serde_json.specs.View.{view}
+use Rattle.typst_positions.specs.declared.columns.Encoding.{Encoding}
+use Rattle.typst_positions.specs.declared.columns.Encoding.TheVariants.{Utf8, Utf16}
+use Rattle.typst_positions.specs.declared.positions.Position.{Position}
+use Rattle.typst_protocol.specs.Methods.{named}
+use Rattle.typst_protocol.specs.declared.refusal.Refusal.{Refusal}
+use Rattle.typst_protocol.specs.declared.refusal.Refusal.TheVariants.{BadParameters}
+use Rattle.typst_protocol.specs.declared.params.Params.{Params}
+use Rattle.typst_protocol.specs.declared.params.Stretch.{Stretch}
+use Rattle.typst_protocol.specs.declared.params.Change.{Change}
+use Rattle.typst_protocol.specs.declared.params.Change.TheVariants as change
+
+-- the value of the parameters, if there is one
+abbrev pub seen : Params → Option Data
+seen p = option_map (λ v. view v.now) p.value
+
+-- the parameters of a message
+abbrev pub params : Data → Option Data
+params message = get (codes "params") message
+
+-- a member
+abbrev pub member : List ℕ → Option Data → Option Data
+member name value = option_and_then (get name) value
+
+-- a member that is a text
+abbrev pub text_in : List ℕ → Option Data → Option (List ℕ)
+text_in name value = option_and_then as_str (member name value)
+
+-- a member that is a whole number from 0 on
+abbrev pub count_in : List ℕ → Data → Option ℕ
+count_in name value = option_and_then as_u64 (option_and_then as_number (get name value))
+
+-- the document that parameters speak of, its address and its text
+abbrev pub document : Option Data → Option Data
+document params = member (codes "textDocument") params
+
+abbrev pub uri : Option Data → Option (List ℕ)
+uri params = text_in (codes "uri") (document params)
+
+abbrev pub whole_text : Option Data → Option (List ℕ)
+whole_text params = text_in (codes "text") (document params)
+
+-- a position has a line and a character
+abbrev pub position : Data → Option Position
+position value = option_and_then (λ line. option_map (λ column. record { line = line; column = column }) (count_in (codes "character") value)) (count_in (codes "line") value)
+
+-- the position that parameters name, and their list of positions
+abbrev pub position_in : Option Data → Option Position
+position_in value = option_and_then position (member (codes "position") value)
+
+abbrev pub positions : Option Data → Option Items
+positions value = option_and_then as_array (member (codes "positions") value)
+
+-- a stretch has two positions
+abbrev pub stretch : Data → Option Stretch
+stretch value = option_and_then (λ start. option_map (λ end. record { start = start; end = end }) (option_and_then position (get (codes "end") value))) (option_and_then position (get (codes "start") value))
+
+-- the stretch that parameters name
+abbrev pub stretch_in : Option Data → Option Stretch
+stretch_in value = option_and_then stretch (member (codes "range") value)
+
+-- the version of the document
+abbrev pub version : Option Data → Option ℤ
+version value = option_and_then as_i64 (option_and_then as_number (member (codes "version") (document value)))
+
+-- the changes of the document's text
+abbrev pub changes : Option Data → Option Items
+changes value = option_and_then as_array (member (codes "contentChanges") value)
+
+-- the name of the tokens from which changes are told
+abbrev pub previous_tokens : Option Data → Option (List ℕ)
+previous_tokens value = text_in (codes "previousResultId") value
+
+-- whether a value is true
+abbrev pub is_true : Option Data → Bool
+is_true value = unwrap_or (option_and_then as_bool value) false
+
+-- whether the label is wanted among the references
+abbrev pub includes_label : Option Data → Bool
+includes_label value = is_true (member (codes "includeDeclaration") (member (codes "context") value))
+
+-- what the client says that it can do about a subject
+abbrev pub capabilities : List ℕ → Option Data → Option Data
+capabilities subject value = member subject (member (codes "capabilities") value)
+
+-- whether the client takes an outline as a tree
+abbrev pub takes_trees : Option Data → Bool
+takes_trees value = is_true (member (codes "hierarchicalDocumentSymbolSupport") (member (codes "documentSymbol") (capabilities (codes "textDocument") value)))
+
+-- an encoding has a name
+abbrev pub encoding_named : List ℕ → Option Encoding
+encoding_named name = named ((codes "utf-8", Utf8) ∷ (codes "utf-16", Utf16) ∷ []) name
+
+-- the first of the names that names an encoding counts
+abbrev pub first_encoding : Items → Option Encoding
+first_encoding no_items = None
+first_encoding (item name names) = option_or (option_and_then encoding_named (as_str name)) (first_encoding names)
+
+-- UTF-16 where the client offers no encoding that there is
+abbrev pub encoding : Option Data → Encoding
+encoding value = unwrap_or (option_and_then first_encoding (option_and_then as_array (member (codes "positionEncodings") (capabilities (codes "general") value)))) Utf16
+
+-- a change of a text
+pub data Edit : Type 0 where
+  -- the text is this one now
+  whole : List ℕ → Edit
+  -- a text takes the place of a stretch
+  ranged : Stretch → List ℕ → Edit
+
+-- a change has a text, and takes the place of all unless it names a range
+abbrev pub edit_of : Option Data → List ℕ → Option Edit
+edit_of None text = Some (whole text)
+edit_of (Some range) text = option_map (λ place. ranged place text) (stretch range)
+
+abbrev pub edit : Data → Option Edit
+edit value = option_and_then (edit_of (get (codes "range") value)) (option_and_then as_str (get (codes "text") value))
+
+-- the change that one of the code is
+abbrev pub edit_in : Change → Edit
+edit_in (change.Whole text) = whole text.now
+edit_in (change.Ranged place text) = ranged place text.now
+
+-- what is looked for is found, or refused where there is none
+abbrev pub Finds : {A B : Type 0} → (A → B) → Option B → Result A Refusal → Type 0
+Finds seen wanted result = MatchResult result (λ found. wanted ≡ Some (seen found)) (λ refusal. (refusal ≡ BadParameters) × (wanted ≡ None))

@@ -1,0 +1,4 @@
+mod Answered
+mod Edits
+mod Records
+mod Transcripts
