@@ -131,7 +131,7 @@ turn from to stream held what old new left answer (Some why) read h s =
 
 -- what reading says where no end was met before
 pub read-on : (old new : Stream) (result : Result Frame End) (held : List ℕ) → old.end ≡ None → Reads old new result held → AnswersAfter None old new result held
-read-on old new result held open h = subst (λ end. AnswersAfter end old new result held) open h
+read-on old new result held unended h = subst (λ end. AnswersAfter end old new result held) unended h
 
 -- a frame that was read, and what is done about it
 pub turns : (from to : Phase) (known left old new : Option (List ℕ)) (held : List ℕ) (what : Frame) (answer : Reply) (result : Option Ended) → IfSome known (λ stream. Answers stream (Ok what) held left)

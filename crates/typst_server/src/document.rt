@@ -122,7 +122,6 @@ impl Document {
     }
 
     /// The document with a text in the place of a range of bytes.
-    #[tactic(auto, using(crate::proofs::Edits::is_edited))]
     fn edited(self, replace: Range<usize>, with: &str) -> Result<Document, Refusal>
         requires start { IsCharBoundary self.source.text replace.start }
         requires end { IsCharBoundary self.source.text replace.end }
@@ -152,8 +151,8 @@ impl Document {
         ensures value { result ≡ byte_at self.now.encoding self.now.source.text position }
         ensures boundary { IsCharBoundary self.now.source.text result }
     {
-        self.positions
-            .to_byte(self.source.text(), self.encoding, position)
+        let text = self.source.text();
+        self.positions.to_byte(text, self.encoding, position)
     }
 
     /// The place of a byte, or of the start of the character that it is in.

@@ -1,7 +1,7 @@
 //! The documents that are open.
-ghost use Rattle.std.specs.Prelude.{◌≡◌, ℕ, List, MatchResult, None, OnErr, Some};
-ghost use Rattle.serde_json.specs.View.{items_view};
-ghost use Rattle.typst_protocol.specs.Parameters.{edit_in};
+ghost use Rattle.std.specs.Prelude.{◌≡◌, ℕ, IfOk, List, MatchResult, None, OnErr, Some};
+ghost use Rattle.serde_json.specs.View.{items_view, view};
+ghost use Rattle.typst_protocol.specs.Parameters.{edit, edit_in};
 ghost use Rattle.typst_server.specs.Documents.{IsMissing, IsUnknown, Keeps, KeepsOthers, Knows, after, found, known, next};
 
 use crate::document::Document;
@@ -71,11 +71,19 @@ impl Documents {
         ensures others { KeepsOthers uri.now self.old self.new }
     {
         for value in changes {
-            match Change::of(value) {
-                Some(change) => self.give(uri, change, encoding),
-                None => self.lose(uri),
-            }
+            self.make(uri, value, encoding);
         }
+    }
+
+    /// Makes a change of a document, which is lost where that is none.
+    fn make(&mut self, uri: &str, value: &Value, encoding: Encoding)
+        ensures text { Keeps encoding (λ text. next encoding text (edit (view value.now))) (found uri.now self.old) (found uri.now self.new) }
+        ensures others { KeepsOthers uri.now self.old self.new }
+    {
+        let Some(change) = Change::of(value) else {
+            return self.lose(uri);
+        };
+        self.give(uri, change, encoding);
     }
 
     /// Makes a change of a document, if it is open.
@@ -94,8 +102,8 @@ impl Documents {
     pub fn keep(&mut self, uri: &str, sent: Sent)
         ensures { (other : List ℕ) → found other self.new ≡ found other self.old }
     {
-        if let Some(Held::Known(document)) = self.held.get_mut(uri) {
-            document.keep(sent);
+        if let Some(held) = self.held.get_mut(uri) {
+            held.keep(sent);
         }
     }
 
@@ -133,18 +141,40 @@ impl Documents {
 }
 
 impl Held {
+    /// Keeps tokens as those that were sent last.
+    fn keep(&mut self, sent: Sent)
+        ensures { self.new ≡ self.old }
+    {
+        if let Held::Known(document) = self {
+            document.keep(sent);
+        }
+    }
+
     /// What is known after a change: nothing where it is refused, or changes a text that isn't known.
     fn changed(self, alloc: Global, change: Change<'_>, encoding: Encoding) -> Held
         ensures { Keeps encoding (λ text. next encoding text (Some (edit_in change.entry))) (Some (known self)) (Some (known result)) }
     {
-        let made = match (self, change) {
-            (Held::Known(document), _) => document.changed(alloc, change),
-            (Held::Lost, Change::Whole(text)) => Document::new(alloc, text, encoding),
-            (Held::Lost, Change::Ranged(_, _)) => Err(Refusal::LostDocument),
-        };
-        match made {
+        match self.after(alloc, change, encoding) {
             Ok(document) => Held::Known(document),
             Err(_) => Held::Lost,
+        }
+    }
+
+    /// The document after a change.
+    fn after(
+        self,
+        alloc: Global,
+        change: Change<'_>,
+        encoding: Encoding,
+    ) -> Result<Document, Refusal>
+        ensures { IfOk result (λ document. Keeps encoding (λ text. next encoding text (Some (edit_in change.entry))) (Some (known self)) (Some (Some document))) }
+    {
+        match self {
+            Held::Known(document) => document.changed(alloc, change),
+            Held::Lost => match change {
+                Change::Whole(text) => Document::new(alloc, text, encoding),
+                Change::Ranged(_, _) => Err(Refusal::LostDocument),
+            },
         }
     }
 }

@@ -1,9 +1,10 @@
 //! The server: what it holds between messages, and what it answers to each.
-ghost use Rattle.std.specs.Prelude.{◌≡◌, MatchResult};
+ghost use Rattle.std.specs.Prelude.{◌≡◌, ℕ, List, MatchResult};
 ghost use Rattle.std.specs.String.{string_bytes};
 ghost use Rattle.typst_protocol.specs.Methods.{methods, named};
 ghost use Rattle.typst_protocol.specs.declared.message.Message.TheVariants as message;
 ghost use Rattle.typst_server.specs.Answers.{IsAnswer, IsReplyTo, TakesEvent};
+ghost use Rattle.typst_server.specs.Documents.{IsUnknown, found};
 ghost use Rattle.typst_server.specs.Phases.{Follows, Responds, allowed, status_of};
 ghost use Rattle.typst_server.specs.declared.reply.Reply.TheVariants as reply;
 ghost use Rattle.typst_server.specs.declared.server.Phase.TheVariants as phase;
@@ -94,6 +95,7 @@ impl Server {
     pub fn answer_unread(&mut self, unread: Unread) -> Reply
         ensures reply { result ≡ reply.Nameless unread }
         ensures phase { self.new.phase ≡ self.old.phase }
+        ensures lost { (uri : List ℕ) → IsUnknown (found uri self.new.documents) }
     {
         self.documents.lose_all();
         Reply::Nameless(unread)
