@@ -39,7 +39,7 @@ IsReplyTo old new (message.Notification n) (reply.Notification text) = (old ≡ 
 IsReplyTo old new (message.Notification n) reply.Nothing = new ≡ old
 IsReplyTo old new message.Response answer = (answer ≡ reply.Nothing) × (new ≡ old)
 
--- what a client does with a document is told of while the session runs, or isn't
+-- what a client does with a document is answered by a notification between `initialize` and `shutdown` alone, or by nothing
 abbrev pub TakesEvent : Phase → Phase → Reply → Type 0
 TakesEvent old new (reply.Notification text) = (old ≡ Running) × (new ≡ old)
 TakesEvent old new reply.Nothing = new ≡ old
@@ -79,7 +79,7 @@ pub record IsExit (body : List ℕ) : Type 0 where
   pub told : said value ≡ tells
   pub exit : option_and_then told_by (method_of value) ≡ Some event.Exit
 
--- what may be done about a body, and where the session stands behind it: only a request has a response, with its identifier, and what is no
+-- what may be done about a body, and the phase behind it: only a request has a response, with its identifier, and what is no
 -- message has one without; where memory is refused anything may get the latter
 abbrev pub IsAnswer : Phase → Phase → List ℕ → Reply → Type 0
 IsAnswer old new body (reply.Response text) = IsAsked old new body (string_bytes text)

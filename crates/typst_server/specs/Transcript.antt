@@ -52,12 +52,12 @@ abbrev pub AreAnswered : Phase → List ℕ → List Reply → Phase → List �
 AreAnswered old stream [] new rest = (new ≡ old) × (rest ≡ stream)
 AreAnswered old stream (answer ∷ answers) new rest = (phase : Phase) × (left : List ℕ) × IsFirst old stream answer phase left × AreAnswered phase left answers new rest
 
--- a reply doesn't end the session
+-- behind a reply there may be more
 abbrev pub IsNoExit : Reply → Type 0
 IsNoExit (reply.Exit status) = ⊥
 IsNoExit _ = ⊤
 
--- the last of some replies, and no other one, ends the session so
+-- the last of some replies, and no other one, is the end, with this status
 pub record EndWith (answers : List Reply) (status : ℕ) : Type 0 where
   pub before : List Reply
   pub last : answers ≡ before ++ reply.Exit status ∷ []

@@ -125,7 +125,7 @@ impl Server {
         }
     }
 
-    /// The response to a request. Where memory for it is refused, the session stands where it stood.
+    /// The response to a request. Where memory for it is refused, the phase is as before.
     fn respond(&mut self, id: &Id, method: &str, params: Params<'_>) -> Result<String, AllocError>
         ensures { MatchResult result (λ text. Responds (allowed self.old.phase (named methods method.now)) self.old.phase self.new.phase id.now (string_bytes text)) (λ _. self.new.phase ≡ self.old.phase) }
     {
