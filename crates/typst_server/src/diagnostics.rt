@@ -1,6 +1,7 @@
 //! The errors and warnings of a document.
 
 use crate::document::Document;
+use crate::walk::{Extents, is_line_end};
 use std::alloc::{AllocError, Global};
 use std::ops::Range;
 use typst_features as features;
@@ -15,11 +16,12 @@ pub fn published(
     uri: &str,
     version: Option<i64>,
 ) -> Result<String, Refusal> {
+    let mut extents = Extents::new(document);
     let mut diagnostics = Vec::new(alloc);
     for problem in &features::problems(alloc, document.root())? {
         let bytes = widened(document.text(), problem.range.start, problem.range.end);
         diagnostics.push(Problem {
-            range: document.extent_of(&bytes),
+            range: extents.of(&bytes),
             severity: number_of(problem.diagnostic.severity()),
             source: "typst",
             message: message_of(alloc, problem.diagnostic)?,
@@ -78,9 +80,4 @@ fn widened(text: &str, start: usize, end: usize) -> Range<usize> {
         Some(c) => start.saturating_sub(c.len_utf8())..start,
         None => start..start,
     }
-}
-
-/// Whether a character ends a line of the protocol.
-fn is_line_end(c: char) -> bool {
-    c == '\n' || c == '\r'
 }

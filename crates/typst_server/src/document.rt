@@ -13,7 +13,7 @@ use std::marker::Model;
 use std::ops::Range;
 use typst_parser::{Source, SourceError, SyntaxNode, UnicodeClasses};
 use typst_positions::{Encoding, Position, Positions};
-use typst_protocol::values::{Extent, Place};
+use typst_protocol::values::Place;
 use typst_protocol::{Change, Refusal};
 
 /// The text of an open document with its tree, and its lines as the protocol has them.
@@ -165,14 +165,6 @@ impl Document {
         Place {
             line: position.line,
             character: position.column,
-        }
-    }
-
-    /// The places between which some bytes stand.
-    pub fn extent_of(&self, bytes: &Range<usize>) -> Extent {
-        Extent {
-            start: self.place_of(bytes.start),
-            end: self.place_of(bytes.end),
         }
     }
 

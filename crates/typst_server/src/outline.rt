@@ -1,6 +1,7 @@
 //! The outline of a document.
 
 use crate::document::Document;
+use crate::walk::Extents;
 use std::alloc::{AllocError, Global};
 use typst_features as features;
 use typst_features::SymbolKind;
@@ -34,9 +35,10 @@ fn list_of<'a>(
     uri: &'a str,
     found: &[features::Symbol],
 ) -> Result<Vec<FlatSymbol<'a>>, AllocError> {
+    let mut extents = Extents::new(document);
     let mut written = Vec::new(alloc);
     for symbol in found {
-        let range = document.extent_of(&symbol.range);
+        let range = extents.of(&symbol.range);
         written.push(FlatSymbol {
             name: name_of(document, symbol),
             kind: number_of(symbol.kind),
@@ -51,6 +53,7 @@ fn tree_of<'a>(
     document: &'a Document,
     found: &[features::Symbol],
 ) -> Result<Vec<Symbol<'a>>, AllocError> {
+    let (mut ranges, mut names) = (Extents::new(document), Extents::new(document));
     let mut outline = Outline {
         roots: Vec::new(alloc),
         open: Vec::new(alloc),
@@ -60,8 +63,8 @@ fn tree_of<'a>(
         outline.open.push(Symbol {
             name: name_of(document, symbol),
             kind: number_of(symbol.kind),
-            range: document.extent_of(&symbol.range),
-            selection_range: document.extent_of(&symbol.name),
+            range: ranges.of(&symbol.range),
+            selection_range: names.of(&symbol.name),
             children: Vec::new(alloc),
         })?;
     }

@@ -1,6 +1,7 @@
 //! Requests about a document.
 
 use crate::document::Document;
+use crate::walk::Extents;
 use std::alloc::{AllocError, Global};
 use typst_features as features;
 use typst_features::{FoldKind, Mention, MentionKind};
@@ -10,9 +11,10 @@ use typst_protocol::{Params, Refusal, json_of};
 
 /// The stretches to fold.
 pub fn foldings(alloc: Global, document: &Document) -> Result<String, Refusal> {
+    let mut extents = Extents::new(document);
     let mut written = Vec::new(alloc);
     for fold in &features::foldings(alloc, document.root())? {
-        let extent = document.extent_of(&fold.range);
+        let extent = extents.of(&fold.range);
         if extent.start.line == extent.end.line {
             continue;
         }
@@ -47,12 +49,13 @@ pub fn selections(
 }
 
 fn selection_at(alloc: Global, document: &Document, byte: usize) -> Result<Selection, AllocError> {
+    let mut extents = Extents::new(document);
     let mut around: Option<Box<Selection>> = None;
     let mut ranges = features::selections(alloc, document.root(), byte)?;
     ranges.reverse();
     for range in &ranges {
         let selection = Selection {
-            range: document.extent_of(range),
+            range: extents.of(range),
             parent: around,
         };
         around = Some(Box::new(alloc, selection)?);
@@ -60,7 +63,7 @@ fn selection_at(alloc: Global, document: &Document, byte: usize) -> Result<Selec
     match around {
         Some(selection) => Ok(Box::into_inner(selection)),
         None => Ok(Selection {
-            range: document.extent_of(&(byte..byte)),
+            range: extents.of(&(byte..byte)),
             parent: None,
         }),
     }
@@ -98,11 +101,12 @@ fn locations(
     uri: &str,
     mentions: &[Mention<'_>],
 ) -> Result<String, Refusal> {
+    let mut extents = Extents::new(document);
     let mut written = Vec::new(alloc);
     for mention in mentions {
         written.push(Location {
             uri,
-            range: document.extent_of(&mention.range),
+            range: extents.of(&mention.range),
         })?;
     }
     json_of(alloc, &written)
@@ -115,10 +119,11 @@ pub fn highlights(
     params: Params<'_>,
 ) -> Result<String, Refusal> {
     let byte = document.byte_of(params.position()?);
+    let mut extents = Extents::new(document);
     let mut written = Vec::new(alloc);
     for mention in &features::highlights(alloc, document.root(), byte)? {
         written.push(Highlight {
-            range: document.extent_of(&mention.range),
+            range: extents.of(&mention.range),
         })?;
     }
     json_of(alloc, &written)

@@ -7,7 +7,7 @@ use std::alloc::{AllocError, Global};
 use std::ops::Range;
 use typst_features::{Token, edit_between, token_stretches};
 use typst_parser::tag_stretches;
-use typst_protocol::values::{TokenChanges, TokenEdit, Tokens};
+use typst_protocol::values::{Place, TokenChanges, TokenEdit, Tokens};
 use typst_protocol::{Params, Refusal, json_of};
 
 /// The tokens that were sent last, by which changes are told.
@@ -56,21 +56,23 @@ impl<'a> Encoder<'a> {
     fn new(alloc: Global, document: &'a Document) -> Encoder<'a> {
         Encoder {
             numbers: Vec::new(alloc),
-            walk: Walk::new(document.text(), document.encoding()),
+            walk: Walk::new(document),
             line: 0,
             column: 0,
         }
     }
 
     fn add(&mut self, token: &Token) -> Result<(), AllocError> {
-        self.walk.go_to(token.start);
-        let (line, column) = (self.walk.line, self.walk.column);
-        self.walk.go_to(token.start.saturating_add(token.len));
+        let Place {
+            line,
+            character: column,
+        } = self.walk.go_to(token.start);
+        let end = self.walk.go_to(token.start.saturating_add(token.len));
         let before = if line == self.line { self.column } else { 0 };
         let numbers = [
             number(line.saturating_sub(self.line)),
             number(column.saturating_sub(before)),
-            number(self.walk.column.saturating_sub(column)),
+            number(end.character.saturating_sub(column)),
             type_of(token.tag),
             0,
         ];
