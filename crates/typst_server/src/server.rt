@@ -82,16 +82,14 @@ impl Server {
         match read_json(self.alloc, body) {
             Ok(value) => match Message::of(self.alloc, &value) {
                 Ok(message) => self.answer_message(message),
-                Err(Unread::OutOfMemory) => self.answer_unread(Unread::OutOfMemory),
-                Err(unread) => Reply::Nameless(unread),
+                Err(unread) => self.answer_unread(unread),
             },
-            Err(Unread::OutOfMemory) => self.answer_unread(Unread::OutOfMemory),
-            Err(unread) => Reply::Nameless(unread),
+            Err(unread) => self.answer_unread(unread),
         }
     }
 
-    /// What is to be done about a message that couldn't be read, though it may be one. It may have been a
-    /// change of any document, so none is known any more.
+    /// What is to be done about a body that isn't taken for a message. It may have been meant as a change of
+    /// any document, so none is known any more.
     pub fn answer_unread(&mut self, unread: Unread) -> Reply
         ensures reply { result ≡ reply.Nameless unread }
         ensures phase { self.new.phase ≡ self.old.phase }
