@@ -6,9 +6,9 @@ ghost use Rattle.typst_protocol.specs.Methods.{events, methods, named};
 /// What a request asks.
 #[derive(Debug, Clone, Copy, PartialEq, Eq)]
 pub enum Method {
-    /// To begin the session.
+    /// To begin.
     Initialize,
-    /// To end it.
+    /// To end.
     Shutdown,
     /// All tokens.
     TokensFull,
