@@ -1,0 +1,51 @@
+-- From what a body says to what may be done about it.
+use Rattle.std.proofs.Common.{◌≡◌, ℕ, List, Option, Some, option_and_then, inl, inr, subst, sym, ap, ◌∙◌, refl}
+use Rattle.std.specs.String.{string_bytes}
+use Rattle.serde_json.specs.Data.{Data}
+use Rattle.serde_json.specs.Read.{read as read_text}
+use Rattle.serde_json.specs.Written.{compact_text}
+use Rattle.typst_protocol.specs.Messages.{IsMessage, IsUnread, IsUnreadBody}
+use Rattle.typst_protocol.specs.Methods.{methods, named}
+use Rattle.typst_protocol.specs.declared.message.Message.{Message}
+use Rattle.typst_protocol.specs.declared.message.Message.TheVariants as message
+use Rattle.typst_protocol.specs.declared.refusal.Unread.{Unread}
+use Rattle.typst_server.specs.Answers.{IsAnswer, IsReplyTo, method_of, told_by}
+use Rattle.typst_server.specs.Phases.{Responds, allowed}
+use Rattle.typst_server.specs.declared.reply.Reply.{Reply}
+use Rattle.typst_server.specs.declared.reply.Reply.TheVariants as reply
+use Rattle.typst_server.specs.declared.server.Phase.{Phase}
+
+-- what may be done about a message may be done about a body that is its JSON
+pub answered : (old new : Phase) (body : List ℕ) (d : Data) (m : Message) (r : Reply) → read_text body ≡ Some d → IsMessage d m → IsReplyTo old new m r → IsAnswer old new body r
+answered old new body d (message.Request q) (reply.Response text) read meant told =
+    let by_name : Responds (allowed old (option_and_then (named methods) (method_of d))) old new q.id (string_bytes text) =
+    subst (λ name. Responds (allowed old (option_and_then (named methods) name)) old new q.id (string_bytes text)) (sym meant.method) told in
+    record {
+      value = d;
+      read = read;
+      id = meant.id;
+      asked = meant.asked;
+      response = subst (λ id. Responds (allowed old (option_and_then (named methods) (method_of d))) old new id (string_bytes text)) meant.named by_name;
+    }
+answered old new body d (message.Request q) (reply.Nameless why) read meant told = (inl told.0, told.1)
+answered old new body d (message.Request q) reply.Nothing read meant told = absurd told
+answered old new body d (message.Request q) (reply.Notification text) read meant told = absurd told
+answered old new body d (message.Request q) (reply.Exit status) read meant told = absurd told
+answered old new body d (message.Notification n) (reply.Response text) read meant told = absurd told
+answered old new body d (message.Notification n) (reply.Nameless why) read meant told = absurd told
+answered old new body d (message.Notification n) reply.Nothing read meant told = (record { value = d; read = read; says = inl meant.told }, told)
+answered old new body d (message.Notification n) (reply.Notification text) read meant told = (record { value = d; read = read; says = meant.told }, told.0, told.1)
+answered old new body d (message.Notification n) (reply.Exit status) read meant told =
+    (record { value = d; read = read; told = meant.told; exit = ap (λ name. option_and_then told_by name) meant.method ∙ told.0 }, told.1, told.2)
+answered old new body d message.Response reply.Nothing read meant told = (record { value = d; read = read; says = inr meant }, told.1)
+answered old new body d message.Response (reply.Response text) read meant told = let e = told.0 in cc
+answered old new body d message.Response (reply.Nameless why) read meant told = let e = told.0 in cc
+answered old new body d message.Response (reply.Notification text) read meant told = let e = told.0 in cc
+answered old new body d message.Response (reply.Exit status) read meant told = let e = told.0 in cc
+
+-- a body that isn't read, and one whose value says nothing
+pub unread_body : (phase : Phase) (body : List ℕ) (why : Unread) → IsUnreadBody body why → IsAnswer phase phase body (reply.Nameless why)
+unread_body phase body why unread = (inr (inl unread), refl)
+
+pub unread_value : (phase : Phase) (body : List ℕ) (d : Data) (why : Unread) → read_text body ≡ Some d → IsUnread d why → IsAnswer phase phase body (reply.Nameless why)
+unread_value phase body d why read unread = (inr (inr (record { value = d; read = read; none = unread })), refl)

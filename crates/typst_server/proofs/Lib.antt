@@ -1,0 +1,6 @@
+mod Answered
+mod Edits
+mod Held
+mod Records
+mod Texts
+mod Transcripts

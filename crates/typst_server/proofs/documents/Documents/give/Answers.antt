@@ -1,0 +1,6 @@
+use Rattle.std.proofs.Common.{rules}
+use Rattle.typst_server.proofs.Held.{others-updated}
+use Rattle.typst_server.proofs.documents.Documents.give.Goals as goal
+
+pub returns-in-Some-clause-others : goal.returns-in-Some-clause-others
+returns-in-Some-clause-others c = others-updated c.args.uri.now c.args.self.now.held (c.get_mut.follows.lender c.changed.result) _ ((c.get_mut.follows.holds c.changed.result).3 (search rules))

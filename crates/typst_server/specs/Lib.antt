@@ -1,0 +1,5 @@
+pub mod Answers
+pub mod Document
+pub mod Documents
+pub mod Phases
+pub mod Transcript

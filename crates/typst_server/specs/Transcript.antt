@@ -1,0 +1,131 @@
+-- What goes out while a stream of frames is answered.
+use Rattle.std.specs.Prelude.{◌≡◌, ⊤, ℕ, ◌<◌, ◌≤◌, List, [], ◌∷◌, ◌++◌, length, Option, None, Some, Ok}
+use Rattle.std.specs.List.{AllByRecursion, flat_map}
+use Rattle.std.specs.Option.{option_map_or}
+use Rattle.std.specs.String.{string_bytes}
+use Rattle.std.specs.Io.KnownBytes.{Appends}
+use Rattle.typst_frames.specs.Frames.{frame, written}
+use Rattle.typst_frames.specs.Stream.{Begins, EndsSo, longest}
+use Rattle.typst_frames.specs.declared.reader.End.TheVariants.{Clean}
+use Rattle.typst_frames.specs.declared.reader.Frame.{Frame}
+use Rattle.typst_frames.specs.declared.reader.Frame.TheVariants.{Body, TooLong, OutOfMemory}
+use Rattle.typst_protocol.specs.Bodies.{nameless}
+use Rattle.typst_protocol.specs.declared.refusal.Unread.TheVariants as unread
+use Rattle.typst_server.specs.Answers.{IsAnswer}
+use Rattle.typst_server.specs.Phases.{status_of}
+use Rattle.typst_server.specs.declared.reply.Reply.{Reply}
+use Rattle.typst_server.specs.declared.reply.Reply.TheVariants as reply
+use Rattle.typst_server.specs.declared.server.Phase.{Phase}
+use Rattle.typst_server.specs.declared.server.Phase.TheVariants.{Fresh}
+use Rattle.typst_server.specs.declared.streams.Ended.{Ended}
+use Rattle.typst_server.specs.declared.streams.Ended.TheVariants as ended
+
+-- the body that a reply sends, if it sends one
+abbrev pub body_of : Reply → Option (List ℕ)
+body_of reply.Nothing = None
+body_of (reply.Response text) = Some (string_bytes text)
+body_of (reply.Nameless why) = Some (nameless why)
+body_of (reply.Notification text) = Some (string_bytes text)
+body_of (reply.Exit status) = None
+
+-- the bytes that a reply sends: the frame of its body
+abbrev pub sent : Reply → List ℕ
+sent answer = option_map_or written (body_of answer) []
+
+-- THE TRANSCRIPT of some replies: their frames, in order
+abbrev pub transcript : List Reply → List ℕ
+transcript answers = flat_map sent answers
+
+-- a body is answered as `IsAnswer` says; one that is too long isn't read, and is no message
+pub record IsAnswered (old new : Phase) (body : List ℕ) (answer : Reply) : Type 0 where
+  pub read : length body ≤ longest → IsAnswer old new body answer
+  pub too_long : longest < length body → (answer ≡ reply.Nameless unread.NotAMessage) × (new ≡ old)
+
+-- a stream begins with a frame, and this is what is done about its body and stands behind it
+pub record IsFirst (old : Phase) (stream : List ℕ) (answer : Reply) (new : Phase) (rest : List ℕ) : Type 0 where
+  pub body : List ℕ
+  pub first : frame stream ≡ Ok (body, rest)
+  pub answered : IsAnswered old new body answer
+
+-- from one phase to another the first frames of a stream have these replies, one each and in order, and this stands behind them
+abbrev pub AreAnswered : Phase → List ℕ → List Reply → Phase → List ℕ → Type 0
+AreAnswered old stream [] new rest = (new ≡ old) × (rest ≡ stream)
+AreAnswered old stream (answer ∷ answers) new rest = (phase : Phase) × (left : List ℕ) × IsFirst old stream answer phase left × AreAnswered phase left answers new rest
+
+-- behind a reply there may be more
+abbrev pub IsNoExit : Reply → Type 0
+IsNoExit (reply.Exit status) = ⊥
+IsNoExit _ = ⊤
+
+-- the last of some replies, and no other one, is the end, with this status
+pub record EndWith (answers : List Reply) (status : ℕ) : Type 0 where
+  pub before : List Reply
+  pub last : answers ≡ before ++ reply.Exit status ∷ []
+  pub on : AllByRecursion IsNoExit before
+
+-- why it ended: the client said so, or no frame stands behind those that were answered, or what comes first couldn't be written
+abbrev pub IsReason : Ended → List ℕ → List Reply → Type 0
+IsReason (ended.Input end) rest answers = EndsSo end (frame rest) × AllByRecursion IsNoExit answers
+IsReason (ended.Exit status) rest answers = EndWith answers status
+IsReason ended.NotWritten rest answers = AllByRecursion IsNoExit answers
+IsReason ended.GaveUp rest answers = AllByRecursion IsNoExit answers
+
+-- how much of a transcript went out: all of it, or a beginning where a reply couldn't be written
+abbrev pub WentOut : Ended → Option (List ℕ) → Option (List ℕ) → List ℕ → Type 0
+WentOut (ended.Input end) old new bytes = Appends old new bytes
+WentOut (ended.Exit status) old new bytes = Appends old new bytes
+WentOut ended.NotWritten old new bytes = Begins old new bytes
+WentOut ended.GaveUp old new bytes = Appends old new bytes
+
+-- what was answered to a stream from one phase to another, and went out before it ended so
+pub record Ends (from to : Phase) (stream : List ℕ) (old new : Option (List ℕ)) (why : Ended) : Type 0 where
+  pub answers : List Reply
+  pub rest : List ℕ
+  pub answered : AreAnswered from stream answers to rest
+  pub out : WentOut why old new (transcript answers)
+  pub reason : IsReason why rest answers
+
+-- the status that is given then: by the phase where the input ends between frames, the client's where it says so, and else 1
+abbrev pub IsStatus : Ended → Phase → ℕ → Type 0
+IsStatus (ended.Input Clean) phase status = status ≡ status_of phase
+IsStatus (ended.Exit said) phase status = status ≡ said
+IsStatus _ phase status = status ≡ 1
+
+-- what was answered to a stream and went out before this status was given
+pub record Serves (stream : List ℕ) (old new : Option (List ℕ)) (status : ℕ) : Type 0 where
+  pub why : Ended
+  pub phase : Phase
+  pub ends : Ends Fresh phase stream old new why
+  pub given : IsStatus why phase status
+
+-- what may be done about a frame that was read: the body as `IsAnswer` says, if there is one
+abbrev pub AnswersFrame : Phase → Phase → Frame → List ℕ → Reply → Type 0
+AnswersFrame old new Body body answer = IsAnswer old new body answer
+AnswersFrame old new TooLong body answer = (answer ≡ reply.Nameless unread.NotAMessage) × (new ≡ old)
+AnswersFrame old new OutOfMemory body answer = (answer ≡ reply.Nameless unread.OutOfMemory) × (new ≡ old)
+
+-- a stream's first frame was answered, and this is left
+pub record GoesOn (from to : Phase) (stream : List ℕ) (old new left : Option (List ℕ)) : Type 0 where
+  pub answer : Reply
+  pub rest : List ℕ
+  pub first : IsFirst from stream answer to rest
+  pub on : IsNoExit answer
+  pub out : Appends old new (sent answer)
+  pub behind : left ≡ Some rest
+
+-- one turn answers a frame, or ends
+abbrev pub Turns : Phase → Phase → List ℕ → Option (List ℕ) → Option (List ℕ) → Option (List ℕ) → Option Ended → Type 0
+Turns from to stream old new left None = GoesOn from to stream old new left
+Turns from to stream old new left (Some why) = Ends from to stream old new why
+
+-- a reply by itself ends all where it says so, or can't be written
+abbrev pub EndsBy : Reply → Ended → Type 0
+EndsBy answer (ended.Exit status) = answer ≡ reply.Exit status
+EndsBy answer ended.NotWritten = IsNoExit answer
+EndsBy answer (ended.Input end) = ⊥
+EndsBy answer ended.GaveUp = ⊥
+
+-- what went out of a reply
+abbrev pub Sends : Reply → Option (List ℕ) → Option (List ℕ) → Option Ended → Type 0
+Sends answer old new None = Appends old new (sent answer) × IsNoExit answer
+Sends answer old new (Some why) = WentOut why old new (sent answer) × EndsBy answer why

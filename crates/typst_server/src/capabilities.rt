@@ -1,0 +1,55 @@
+//! What the server says of itself.
+
+use std::alloc::{AllocError, Global};
+use typst_parser::Tag;
+use typst_positions::Encoding;
+
+/// The names of the types of tokens, each at the place of its number.
+const TYPES: &str =
+    "[\"comment\",\"keyword\",\"operator\",\"number\",\"string\",\"function\",\"variable\",\"punctuation\",\"escape\",\"strong\",\"emph\",\"link\",\"raw\",\"label\",\"ref\",\"heading\",\"marker\",\"term\",\"delimiter\",\"error\"]";
+
+/// The number of the type of token that a tag is shown as.
+pub fn type_of(tag: Tag) -> u32 {
+    match tag {
+        Tag::Comment => 0,
+        Tag::Keyword => 1,
+        Tag::Operator | Tag::MathOperator => 2,
+        Tag::Number => 3,
+        Tag::String => 4,
+        Tag::Function => 5,
+        Tag::Interpolated => 6,
+        Tag::Punctuation | Tag::MathGroupingParens => 7,
+        Tag::Escape => 8,
+        Tag::Strong => 9,
+        Tag::Emph => 10,
+        Tag::Link => 11,
+        Tag::Raw => 12,
+        Tag::Label => 13,
+        Tag::Ref => 14,
+        Tag::Heading => 15,
+        Tag::ListMarker => 16,
+        Tag::ListTerm => 17,
+        Tag::MathDelimiter => 18,
+        Tag::Error => 19,
+    }
+}
+
+/// The answer to `initialize`.
+pub fn capabilities(alloc: Global, encoding: Encoding) -> Result<String, AllocError> {
+    let name = match encoding {
+        Encoding::Utf8 => "utf-8",
+        Encoding::Utf16 => "utf-16",
+    };
+    let mut text = String::new(alloc);
+    text.push_str("{\"capabilities\":{\"positionEncoding\":\"")?;
+    text.push_str(name)?;
+    text.push_str("\",\"textDocumentSync\":{\"openClose\":true,\"change\":2},")?;
+    text.push_str("\"documentSymbolProvider\":true,\"foldingRangeProvider\":true,")?;
+    text.push_str("\"selectionRangeProvider\":true,\"definitionProvider\":true,")?;
+    text.push_str("\"referencesProvider\":true,\"documentHighlightProvider\":true,")?;
+    text.push_str("\"semanticTokensProvider\":{\"legend\":{\"tokenTypes\":")?;
+    text.push_str(TYPES)?;
+    text.push_str(",\"tokenModifiers\":[]},\"range\":true,\"full\":{\"delta\":true}}},")?;
+    text.push_str("\"serverInfo\":{\"name\":\"typst_lsp\"}}")?;
+    Ok(text)
+}

@@ -1,0 +1,23 @@
+//! A server of the Language Server Protocol for Typst, over any reader and writer.
+//!
+//! [`serve`] answers the frames of a reader on a writer. [`Server`] is a session without its streams:
+//! [`Server::answer`] takes the body of a frame and says what is to be done about it, a [`Reply`].
+#![tactic(auto)]
+
+mod capabilities;
+mod diagnostics;
+mod document;
+mod documents;
+mod outline;
+mod reply;
+mod requests;
+mod server;
+mod streams;
+mod tokens;
+mod walk;
+
+pub use document::Document;
+pub use documents::Documents;
+pub use reply::Reply;
+pub use server::Server;
+pub use streams::serve;

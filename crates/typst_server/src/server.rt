@@ -1,0 +1,318 @@
+//! The server: what it holds between messages, and what it answers to each.
+ghost use Rattle.std.specs.Prelude.{◌≡◌, ℕ, List, MatchResult};
+ghost use Rattle.std.specs.String.{string_bytes};
+ghost use Rattle.typst_protocol.specs.Methods.{methods, named};
+ghost use Rattle.typst_protocol.specs.declared.message.Message.TheVariants as message;
+ghost use Rattle.typst_server.specs.Answers.{IsAnswer, IsReplyTo, TakesEvent};
+ghost use Rattle.typst_server.specs.Documents.{IsUnknown, found};
+ghost use Rattle.typst_server.specs.Phases.{Follows, Responds, allowed, status_of};
+ghost use Rattle.typst_server.specs.declared.reply.Reply.TheVariants as reply;
+ghost use Rattle.typst_server.specs.declared.server.Phase.TheVariants as phase;
+
+use crate::capabilities::capabilities;
+use crate::diagnostics::{published, withdrawn};
+use crate::document::Document;
+use crate::documents::Documents;
+use crate::reply::Reply;
+use crate::{outline, requests, tokens};
+use std::alloc::{AllocError, Global};
+use typst_positions::Encoding;
+use typst_protocol::{
+    Event, Id, Message, Method, Notification, Params, Refusal, Request, Unread, failure,
+    notification, read_json, success,
+};
+
+/// The method of the notifications that the server sends.
+const PUBLISH: &str = "textDocument/publishDiagnostics";
+
+/// Where a session stands.
+#[derive(Debug, Clone, Copy, PartialEq, Eq)]
+enum Phase {
+    /// `initialize` hasn't come yet.
+    Fresh,
+    /// Requests are answered.
+    Running,
+    /// `shutdown` has come.
+    ShutDown,
+}
+
+/// A session with a client.
+#[derive(Drop)]
+pub struct Server {
+    alloc: Global,
+    phase: Phase,
+    encoding: Encoding,
+    /// Whether the client takes an outline as a tree.
+    takes_trees: bool,
+    documents: Documents,
+    /// The name under which the next tokens are sent.
+    next_name: u64,
+}
+
+impl Server {
+    /// A session that hasn't begun.
+    pub fn new(alloc: Global) -> Server
+        ensures { result.phase ≡ phase.Fresh }
+    {
+        Server {
+            alloc,
+            phase: Phase::Fresh,
+            encoding: Encoding::Utf16,
+            takes_trees: false,
+            documents: Documents::new(alloc),
+            next_name: 1,
+        }
+    }
+
+    /// The status to end with, now that nothing more comes: 0 after `shutdown`, else 1.
+    pub fn status(&self) -> u8
+        ensures { result ≡ status_of self.now.phase }
+    {
+        match self.phase {
+            Phase::ShutDown => 0,
+            _ => 1,
+        }
+    }
+
+    /// What is to be done about the body of a frame.
+    #[tactic(auto, using(crate::proofs::Answered::answered, crate::proofs::Answered::unread_body, crate::proofs::Answered::unread_value))]
+    pub fn answer(&mut self, body: &[u8]) -> Reply
+        ensures { IsAnswer self.old.phase self.new.phase body.now result }
+    {
+        match read_json(self.alloc, body) {
+            Ok(value) => match Message::of(self.alloc, &value) {
+                Ok(message) => self.answer_message(message),
+                Err(unread) => self.answer_unread(unread),
+            },
+            Err(unread) => self.answer_unread(unread),
+        }
+    }
+
+    /// What is to be done about a body that isn't taken for a message. It may have been meant as a change of
+    /// any document, so none is known any more.
+    pub fn answer_unread(&mut self, unread: Unread) -> Reply
+        ensures reply { result ≡ reply.Nameless unread }
+        ensures phase { self.new.phase ≡ self.old.phase }
+        ensures lost { (uri : List ℕ) → IsUnknown (found uri self.new.documents) }
+    {
+        self.documents.lose_all();
+        Reply::Nameless(unread)
+    }
+
+    fn answer_message(&mut self, message: Message<'_>) -> Reply
+        ensures { IsReplyTo self.old.phase self.new.phase message.entry result }
+    {
+        match message {
+            Message::Request(request) => self.answer_request(request),
+            Message::Notification(notification) => self.take_notification(notification),
+            Message::Response => Reply::Nothing,
+        }
+    }
+
+    fn answer_request(&mut self, request: Request<'_>) -> Reply
+        ensures { IsReplyTo self.old.phase self.new.phase (message.Request request.entry) result }
+    {
+        let Request { id, method, params } = request;
+        // Made first, so that it is at hand where memory lacks later.
+        let Ok(refused) = failure(self.alloc, &id, Refusal::OutOfMemory) else {
+            return self.answer_unread(Unread::OutOfMemory);
+        };
+        match self.respond(&id, method, params) {
+            Ok(text) => Reply::Response(text),
+            Err(_) => Reply::Response(refused),
+        }
+    }
+
+    /// The response to a request. Where memory for it is refused, the phase is as before.
+    fn respond(&mut self, id: &Id, method: &str, params: Params<'_>) -> Result<String, AllocError>
+        ensures { MatchResult result (λ text. Responds (allowed self.old.phase (named methods method.now)) self.old.phase self.new.phase id.now (string_bytes text)) (λ _. self.new.phase ≡ self.old.phase) }
+    {
+        let before = self.phase;
+        let value = match self.value_for(method, params) {
+            Ok(value) => value,
+            Err(refusal) => return failure(self.alloc, id, refusal),
+        };
+        match success(self.alloc, id, value.as_str()) {
+            Ok(text) => Ok(text),
+            Err(error) => {
+                self.phase = before;
+                Err(error)
+            }
+        }
+    }
+
+    /// The value that answers a request, as JSON.
+    fn value_for(&mut self, method: &str, params: Params<'_>) -> Result<String, Refusal>
+        ensures { Follows (allowed self.old.phase (named methods method.now)) self.old.phase self.new.phase result }
+    {
+        let method = Method::of(method);
+        match self.phase {
+            Phase::Fresh => self.begin(method, params),
+            Phase::Running => self.ask(method, params),
+            Phase::ShutDown => Err(Refusal::OutOfPlace),
+        }
+    }
+
+    /// The value that answers the first request.
+    fn begin(&mut self, method: Option<Method>, params: Params<'_>) -> Result<String, Refusal>
+        requires { self.old.phase ≡ phase.Fresh }
+        ensures { Follows (allowed phase.Fresh method) self.old.phase self.new.phase result }
+    {
+        match method {
+            Some(method) => match method {
+                Method::Initialize => self.initialize(params),
+                _ => Err(Refusal::NotInitialized),
+            },
+            None => Err(Refusal::NotInitialized),
+        }
+    }
+
+    /// The value that answers a request between `initialize` and `shutdown`.
+    fn ask(&mut self, method: Option<Method>, params: Params<'_>) -> Result<String, Refusal>
+        requires { self.old.phase ≡ phase.Running }
+        ensures { Follows (allowed phase.Running method) self.old.phase self.new.phase result }
+    {
+        match method {
+            Some(method) => match method {
+                Method::Initialize => Err(Refusal::OutOfPlace),
+                Method::Shutdown => self.shut_down(),
+                _ => self.ask_document(method, params),
+            },
+            None => Err(Refusal::UnknownMethod),
+        }
+    }
+
+    fn initialize(&mut self, params: Params<'_>) -> Result<String, Refusal>
+        ensures { MatchResult result (λ _. self.new.phase ≡ phase.Running) (λ _. self.new.phase ≡ self.old.phase) }
+    {
+        let encoding = params.encoding();
+        let text = capabilities(self.alloc, encoding)?;
+        self.encoding = encoding;
+        self.takes_trees = params.takes_trees();
+        self.phase = Phase::Running;
+        Ok(text)
+    }
+
+    fn shut_down(&mut self) -> Result<String, Refusal>
+        ensures { MatchResult result (λ _. self.new.phase ≡ phase.ShutDown) (λ _. self.new.phase ≡ self.old.phase) }
+    {
+        let value = String::from_str(self.alloc, "null")?;
+        self.phase = Phase::ShutDown;
+        Ok(value)
+    }
+
+    /// The value that answers a request about a document.
+    fn ask_document(&mut self, method: Method, params: Params<'_>) -> Result<String, Refusal>
+        ensures { self.new.phase ≡ self.old.phase }
+    {
+        let uri = params.uri()?;
+        match method {
+            Method::TokensFull => self.fresh_tokens(uri, None),
+            Method::TokensDelta => self.fresh_tokens(uri, Some(params.previous_tokens()?)),
+            _ => self.look_at(self.documents.get(uri)?, uri, method, params),
+        }
+    }
+
+    /// All tokens of a document, which are kept: as changes where `previous` names the ones that were sent
+    /// last.
+    fn fresh_tokens(&mut self, uri: &str, previous: Option<&str>) -> Result<String, Refusal>
+        ensures { self.new.phase ≡ self.old.phase }
+    {
+        let document = self.documents.get(uri)?;
+        let fresh = tokens::answer(self.alloc, document, self.next_name, previous)?;
+        self.next_name = self.next_name.wrapping_add(1);
+        self.documents.keep(uri, fresh.sent);
+        Ok(fresh.text)
+    }
+
+    /// The value that answers a request that only looks at a document.
+    fn look_at(
+        &self,
+        document: &Document,
+        uri: &str,
+        method: Method,
+        params: Params<'_>,
+    ) -> Result<String, Refusal> {
+        let alloc = self.alloc;
+        match method {
+            Method::TokensRange => tokens::range(alloc, document, params),
+            Method::Symbols => outline::symbols(alloc, document, uri, self.takes_trees),
+            Method::Foldings => requests::foldings(alloc, document),
+            Method::Selections => requests::selections(alloc, document, params),
+            Method::Definition => requests::definition(alloc, document, uri, params),
+            Method::References => requests::references(alloc, document, uri, params),
+            Method::Highlights => requests::highlights(alloc, document, params),
+            _ => Err(Refusal::UnknownMethod),
+        }
+    }
+
+    fn take_notification(&mut self, notification: Notification<'_>) -> Reply
+        ensures { IsReplyTo self.old.phase self.new.phase (message.Notification notification.entry) result }
+    {
+        let Notification { method, params } = notification;
+        match Event::of(method) {
+            None => Reply::Nothing,
+            Some(event) => match event {
+                Event::Exit => Reply::Exit(self.status()),
+                _ => self.take_event(event, params),
+            },
+        }
+    }
+
+    /// What is to be done about what the client does with a document.
+    fn take_event(&mut self, event: Event, params: Params<'_>) -> Reply
+        ensures { TakesEvent self.old.phase self.new.phase result }
+    {
+        if self.phase != Phase::Running {
+            return Reply::Nothing;
+        }
+        let told = match event {
+            Event::Opened => self.opened(params),
+            Event::Changed => self.changed(params),
+            Event::Closed => self.closed(params),
+            Event::Exit => return Reply::Nothing,
+        };
+        match told {
+            Ok(text) => Reply::Notification(text),
+            Err(_) => Reply::Nothing,
+        }
+    }
+
+    fn opened(&mut self, params: Params<'_>) -> Result<String, Refusal>
+        ensures { self.new.phase ≡ self.old.phase }
+    {
+        let uri = params.uri()?;
+        match params.text() {
+            Ok(text) => self.documents.open(uri, text, self.encoding)?,
+            Err(_) => self.documents.lose(uri),
+        }
+        self.publish(uri, params.version())
+    }
+
+    fn changed(&mut self, params: Params<'_>) -> Result<String, Refusal>
+        ensures { self.new.phase ≡ self.old.phase }
+    {
+        let uri = params.uri()?;
+        match params.changes() {
+            Some(changes) => self.documents.change(uri, changes, self.encoding),
+            None => self.documents.lose(uri),
+        }
+        self.publish(uri, params.version())
+    }
+
+    /// The notification of the errors and warnings of a document, at a version of it.
+    fn publish(&self, uri: &str, version: Option<i64>) -> Result<String, Refusal> {
+        let document = self.documents.get(uri)?;
+        let problems = published(self.alloc, document, uri, version)?;
+        Ok(notification(self.alloc, PUBLISH, problems.as_str())?)
+    }
+
+    fn closed(&mut self, params: Params<'_>) -> Result<String, Refusal>
+        ensures { self.new.phase ≡ self.old.phase }
+    {
+        let uri = params.uri()?;
+        self.documents.close(uri)?;
+        let problems = withdrawn(self.alloc, uri)?;
+        Ok(notification(self.alloc, PUBLISH, problems.as_str())?)
+    }
+}
