@@ -1,9 +1,8 @@
 -- From what a body says to what may be done about it.
-use Rattle.std.proofs.Common.{◌≡◌, ℕ, List, Option, Some, option_and_then, inl, inr, subst, sym, ap, ◌∙◌, refl}
+use Rattle.std.proofs.Common.{◌≡◌, ℕ, List, Some, option_and_then, inl, inr, subst, sym, ap, ◌∙◌, refl}
 use Rattle.std.specs.String.{string_bytes}
 use Rattle.serde_json.specs.Data.{Data}
 use Rattle.serde_json.specs.Read.{read as read_text}
-use Rattle.serde_json.specs.Written.{compact_text}
 use Rattle.typst_protocol.specs.Messages.{IsMessage, IsUnread, IsUnreadBody}
 use Rattle.typst_protocol.specs.Methods.{methods, named}
 use Rattle.typst_protocol.specs.declared.message.Message.{Message}

@@ -2,7 +2,7 @@
 use Rattle.std.proofs.Common.{◌≡◌, ℕ, List, [], ◌∷◌, map, Bool, true, false, cond, Option, None, Some, option_map, refl, sym, ap, subst, ◌∙◌}
 use Rattle.std.proofs.lemmas.Map.Text.{btree_map_updates_text}
 use Rattle.std.proofs.lemmas.Slice.Eq.{bytes_eq-Decides}
-use Rattle.std.specs.BTreeMap.{BTreeMap, UpdatesBy, get_by_text, is_at}
+use Rattle.std.specs.BTreeMap.{BTreeMap, UpdatesBy, get_by_text}
 use Rattle.std.specs.Cmp.Lexicographic.{slice_cmp}
 use Rattle.std.specs.Map.{lookup}
 use Rattle.std.specs.Ordering.{nat_cmp}
@@ -12,7 +12,7 @@ use Rattle.std.specs.String.{string_bytes, string_cmp}
 use Rattle.std.specs.declared.alloc.Global.{Global}
 use Rattle.typst_server.specs.Documents.{IsUnknown, known}
 use Rattle.typst_server.specs.declared.documents.Held.{Held}
-use Rattle.typst_server.specs.declared.documents.Held.TheVariants.{Known, Lost}
+use Rattle.typst_server.specs.declared.documents.Held.TheVariants.{Lost}
 
 -- the others stay where one is set or taken out
 pub others-updated : (uri : List ℕ) (m n : BTreeMap (String Global) Held) (w : Option Held) → UpdatesBy string_cmp (λ k. slice_cmp nat_cmp uri (string_bytes k)) m n w → (other : List ℕ) → bytes_eq uri other ≡ false

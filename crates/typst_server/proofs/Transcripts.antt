@@ -1,18 +1,16 @@
 -- Transcripts that grow reply by reply.
-use Rattle.std.proofs.Common.{◌≡◌, ℕ, ◌<◌, ◌≤◌, List, [], ◌∷◌, ◌++◌, length, Option, None, Some, inl, IfSome, Result, Ok, Err, refl, sym, ap, subst, ◌∙◌, append_assoc, append-nil, arith, flat_map}
+use Rattle.std.proofs.Common.{◌≡◌, ℕ, List, [], ◌∷◌, ◌++◌, Option, None, Some, inl, IfSome, Result, Ok, Err, refl, sym, ap, subst, ◌∙◌, append_assoc, append-nil, arith}
 use Rattle.std.proofs.KnownBytes.{Appends-nil, Appends-trans}
 use Rattle.std.proofs.lemmas.Grind.{flat_map-append}
 use Rattle.std.specs.Io.KnownBytes.{Appends}
 use Rattle.std.specs.List.{AllByRecursion}
 use Rattle.typst_frames.proofs.Writing.{begins-after}
-use Rattle.typst_frames.specs.Frames.{frame}
-use Rattle.typst_frames.specs.Stream.{Answers, AnswersAfter, EndsSo, Passes, Reads, Stream, longest}
+use Rattle.typst_frames.specs.Stream.{Answers, AnswersAfter, Passes, Reads, Stream}
 use Rattle.typst_frames.specs.declared.reader.End.{End}
 use Rattle.typst_frames.specs.declared.reader.Frame.{Frame}
 use Rattle.typst_frames.specs.declared.reader.Frame.TheVariants.{Body, TooLong, OutOfMemory}
-use Rattle.typst_protocol.specs.declared.refusal.Unread.TheVariants as unread
 use Rattle.typst_server.specs.Answers.{IsAnswer}
-use Rattle.typst_server.specs.Transcript.{AnswersFrame, AreAnswered, EndWith, Ends, EndsBy, GoesOn, IsAnswered, IsFirst, IsNoExit, IsReason, IsStatus, Sends, Serves, Turns, WentOut, sent, transcript}
+use Rattle.typst_server.specs.Transcript.{AnswersFrame, AreAnswered, Ends, EndsBy, GoesOn, IsAnswered, IsFirst, IsNoExit, IsReason, IsStatus, Sends, Serves, Turns, WentOut, sent, transcript}
 use Rattle.typst_server.specs.declared.reply.Reply.{Reply}
 use Rattle.typst_server.specs.declared.reply.Reply.TheVariants as reply
 use Rattle.typst_server.specs.declared.server.Phase.{Phase}

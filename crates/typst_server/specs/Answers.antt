@@ -1,5 +1,5 @@
 -- What may be done about a body.
-use Rattle.std.specs.Prelude.{◌≡◌, ◌⊎◌, ⊤, ℕ, List, codes, Option, Some, option_and_then}
+use Rattle.std.specs.Prelude.{◌≡◌, ◌⊎◌, ℕ, List, codes, Option, Some, option_and_then}
 use Rattle.std.specs.String.{string_bytes}
 use Rattle.serde_json.specs.Data.{Data}
 use Rattle.serde_json.specs.Read.{read as read_text}
@@ -10,7 +10,6 @@ use Rattle.typst_protocol.specs.declared.message.Message.{Message}
 use Rattle.typst_protocol.specs.declared.message.Message.TheVariants as message
 use Rattle.typst_protocol.specs.declared.method.Event.{Event}
 use Rattle.typst_protocol.specs.declared.method.Event.TheVariants as event
-use Rattle.typst_protocol.specs.declared.method.Method.{Method}
 use Rattle.typst_protocol.specs.declared.refusal.Unread.{Unread}
 use Rattle.typst_protocol.specs.declared.refusal.Unread.TheVariants as unread
 use Rattle.typst_server.specs.Phases.{Responds, allowed, status_of}

@@ -1,4 +1,4 @@
-use Rattle.std.proofs.Common.{◌≡◌, ◌<◌, arith, get_or, length, subst}
+use Rattle.std.proofs.Common.{◌<◌, arith, get_or, length, subst}
 use Rattle.serde_json.specs.View.{view}
 use Rattle.typst_protocol.specs.Parameters.{edit}
 use Rattle.typst_server.proofs.Texts.{made-more, others-both}
