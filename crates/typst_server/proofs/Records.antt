@@ -1,5 +1,6 @@
 -- Records that stay through a replacement.
-use Rattle.std.proofs.Common.{◌≡◌, List, ℕ, Bool, true, false, refl, ap, ◌∙◌}
+use Rattle.std.proofs.Common.{◌≡◌, List, ℕ, Bool, true, false, refl, ap, ◌∙◌, Result, Ok, Err, OnOk}
+use Rattle.std.specs.Result.{is_ok}
 use Rattle.std.proofs.lemmas.Slice.Eq.{bytes_eq-Decides}
 use Rattle.std.specs.Str.{bytes_eq}
 use Rattle.typst_lines.specs.declared.by_unicode.UnicodeClasses.{UnicodeClasses}
@@ -13,3 +14,8 @@ by-test old new text false is before same other = other (λ e. let yes : bytes_e
 -- another text brings records, and by the same one nothing changes
 pub records-kept : (old new : Held UnicodeClasses) (text : List ℕ) → old.has_records ≡ true → (old.text ≡ text → new ≡ old) → ((old.text ≡ text → ⊥) → new.has_records ≡ true) → new.has_records ≡ true
 records-kept old new text before same other = by-test old new text (bytes_eq old.text text) refl before same other
+
+-- what is ensured where there is no error
+pub of-ok : {T E : Type 0} (result : Result T E) (P : Type 0) → true ≡ is_ok result → OnOk result P → P
+of-ok (Ok x) P is h = h
+of-ok (Err e) P is h = cc
