@@ -51,11 +51,9 @@ def emacs() -> list[str]:
 EDITORS = {"neovim": neovim, "lsp-mode": emacs, "eglot": emacs}
 
 
-def pace(editor: str, name: str) -> int:
+def pace(name: str) -> int:
     """How many edits are made before each checkpoint. There are few in a large document, as answers have megabytes."""
-    if name != "large":
-        return 10
-    return 40 if editor == "neovim" else 200
+    return 40 if name == "large" else 10
 
 
 def install() -> None:
@@ -76,7 +74,7 @@ def session(editor: str, name: str, options, room: pathlib.Path) -> Comparison:
     file = log / "document.typ"
     file.write_bytes(document(name))
     given = {"TRY_FILE": file, "TRY_LOG": log, "TRY_SERVER": HERE / "tap.py", "TRY_PROGRAM": options.program, "TRY_CLIENT": editor,
-             "TRY_EDITS": options.edits, "TRY_PACE": pace(editor, name), "TRY_SEED": options.seed + DOCUMENTS.index(name),
+             "TRY_EDITS": options.edits, "TRY_PACE": pace(name), "TRY_SEED": options.seed + DOCUMENTS.index(name),
              "HOME": log}
     env = {**os.environ, **{word: str(value) for word, value in given.items()}}
     run = subprocess.run(EDITORS[editor](), env=env, cwd=log, capture_output=True, text=True, timeout=3600)

@@ -56,6 +56,13 @@
 
 ;; Both
 
+(defun try-hide-errors ()
+  "Leaves errors and warnings unread, which are thousands in a large document.
+Emacs would look for the line of each from the start of the buffer, for minutes behind each change."
+  (if (equal try-client "lsp-mode")
+      (advice-add 'lsp--on-diagnostics :override #'ignore)
+    (cl-defmethod eglot-handle-notification (_server (_method (eql textDocument/publishDiagnostics)) &rest _))))
+
 (defun try-ask (method)
   (if (equal try-client "lsp-mode")
       (lsp-request (concat "textDocument/" method) (list :textDocument (lsp--text-document-identifier)))
@@ -129,6 +136,7 @@ This version of lsp-mode takes a character outside the BMP for one column."
     (find-file (getenv "TRY_FILE")))
   (buffer-enable-undo)
   (funcall (intern (concat "try-start-" try-client)))
+  (when (> (buffer-size) 100000) (try-hide-errors))
   (dotimes (number (string-to-number (getenv "TRY_EDITS")))
     (if (zerop (random 2)) (try-replace) (try-command))
     (when (< (random try-pace) 3) (try-ask "foldingRange"))

@@ -1,5 +1,5 @@
 -- Blocks of words that are passed over at once.
-use Rattle.std.proofs.Common.{◌≡◌, ℕ, zero, suc, ◌+◌, ◌-◌, ◌*◌, ◌/◌, ◌%◌, ◌^◌, ◌≤◌, ◌<◌, ◌==◌, ◌&&◌, max, nat_le, Bool, true, false, if◌then◌else◌, List, [], ◌∷◌, ◌++◌, length, length-drop, map, take, drop, Option, None, Some, refl, ap, sym, subst, ◌∙◌, arith}
+use Rattle.std.proofs.Common.{◌≡◌, ℕ, zero, suc, ◌+◌, ◌-◌, ◌/◌, ◌%◌, ◌^◌, ◌≤◌, ◌<◌, ◌==◌, ◌&&◌, max, nat_le, Bool, true, false, if◌then◌else◌, List, [], ◌∷◌, ◌++◌, length, length-drop, map, take, drop, Option, None, Some, refl, ap, sym, subst, ◌∙◌, arith}
 use Rattle.std.proofs.lemmas.Bool.Decides.{nat_tests}
 use Rattle.std.proofs.lemmas.List.{drop-map, length-map, take-append-drop, take-map}
 use Rattle.std.proofs.lemmas.Nat.{mod_below, pow_pos}
@@ -10,7 +10,7 @@ use Rattle.typst_candidates.specs.declared.entry.Tag.TheVariants as tag
 use Rattle.typst_candidates.specs.declared.packed.Packed.{Packed}
 use Rattle.typst_candidates.specs.Cursors.{AreNear}
 use Rattle.typst_candidates.specs.Entries.{end_of, front_of, is_behind, rear_of}
-use Rattle.typst_candidates.specs.Packed.{all_beside, all_spans, beside, entry_by, entry_in, back_bits, filled, forth_bits, lengths, spans, tags, unpacked, wides, widths}
+use Rattle.typst_candidates.specs.Packed.{all_beside, beside, entry_by, entry_in, back_bits, filled, forth_bits, spans, tags, unpacked, wides, widths}
 use Rattle.typst_candidates.specs.Records.{is_opening, opening_of}
 use Rattle.typst_candidates.proofs.Cursors.{cut, end-after}
 use Rattle.typst_candidates.proofs.Spans.{filled-end}
@@ -144,7 +144,7 @@ rear-over at start count (x ∷ xs) y ys back b a h =
     let here = (start + x.step) + x.gap in
     ap (max (if is_behind at start x.back then 0 else count)) (rear-over at here (suc count) xs y ys back b a h)
 
-take-more : (n m : ℕ) (es : List Entry) → take (n + m) es ≡ take n es ++ take m (drop n es)
+pub take-more : (n m : ℕ) (es : List Entry) → take (n + m) es ≡ take n es ++ take m (drop n es)
 take-more zero m es = ap (λ k. take k es) (omega arith)
 take-more (suc n) m [] = let e : suc n + m ≡ suc (n + m) = omega arith in ap (λ k. take k []) e ∙ none m
   where
@@ -161,10 +161,10 @@ end-more start (x ∷ xs) ys = end-more ((start + x.step) + x.gap) xs ys
 pub end-block : (es : List Entry) (n m : ℕ) → end_of 0 (take (n + m) es) ≡ end_of (end_of 0 (take n es)) (take m (drop n es))
 end-block es n m = ap (end_of 0) (take-more n m es) ∙ end-more 0 (take n es) (take m (drop n es))
 
-pub rear-block : (es : List Entry) (at back n : ℕ) (e : Entry) → slice_get es n ≡ Some e → is_behind at (end_of 0 (take (n + 64) es)) back ≡ true → AreNear (take 64 (drop n es)) → at + 2 ^ 4 ≤ end_of 0 (take n es)
-    → rear_of at 0 0 (take (n + 64) es) back ≡ rear_of at 0 0 (take n es) e.back
+pub rear-block : (es : List Entry) (at back n : ℕ) (e : Entry) → slice_get es n ≡ Some e → is_behind at (end_of 0 (take (n + 16) es)) back ≡ true → AreNear (take 16 (drop n es)) → at + 2 ^ 4 ≤ end_of 0 (take n es)
+    → rear_of at 0 0 (take (n + 16) es) back ≡ rear_of at 0 0 (take n es) e.back
 rear-block es at back n e here b near h =
-    let block : take 64 (drop n es) ≡ e ∷ take 63 (drop (suc n) es) = ap (take 64) (cut es n e here) in
-    let whole = take-more n 64 es ∙ ap (λ us. take n es ++ us) block in
+    let block : take 16 (drop n es) ≡ e ∷ take 15 (drop (suc n) es) = ap (take 16) (cut es n e here) in
+    let whole = take-more n 16 es ∙ ap (λ us. take n es ++ us) block in
     ap (λ us. rear_of at 0 0 us back) whole
-    ∙ rear-over at 0 0 (take n es) e (take 63 (drop (suc n) es)) back (ap (λ us. is_behind at (end_of 0 us) back) (sym whole) ∙ b) (subst AreNear block near) h
+    ∙ rear-over at 0 0 (take n es) e (take 15 (drop (suc n) es)) back (ap (λ us. is_behind at (end_of 0 us) back) (sym whole) ∙ b) (subst AreNear block near) h

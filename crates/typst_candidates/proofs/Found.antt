@@ -2,7 +2,7 @@
 use Rattle.std.proofs.Common.{◌≡◌, ℕ, zero, suc, ◌+◌, ◌-◌, ◌*◌, ◌^◌, ◌<◌, ◌≤◌, max, min, Bool, true, false, List, [], ◌∷◌, ◌++◌, length, take, get_or, refl, ap, sym, subst, ◌∙◌, arith, append_assoc, if◌then◌else◌, Some, None, length-append}
 use Rattle.std.specs.Prelude.{◌==◌, nat_lt, map, Option}
 use Rattle.std.proofs.lemmas.Bool.Decides.{nat_tests}
-use Rattle.std.proofs.lemmas.List.{append-nil, length-map, map-append, take-take, take_at}
+use Rattle.std.proofs.lemmas.List.{append-nil, length-map, length-take, map-append, take-take, take_all, take_at}
 use Rattle.typst_kinds.specs.Kinds.{is_block}
 use Rattle.typst_kinds.specs.declared.kind.SyntaxKind.{SyntaxKind}
 use Rattle.typst_language.specs.declared.calls.Note.{Note}
@@ -34,6 +34,14 @@ take_on {X = X} n room xs ys zs e r = (λ k. e k ++ take (r k) ys) ∙ ((λ k. t
 -- with no room for more
 pub take_full : {X : Type 0} (n : ℕ) (xs ys zs : List X) → zs ≡ take n xs → n ≤ length zs → zs ≡ take n (xs ++ ys)
 take_full n xs ys zs e full = sym (append-nil zs) ∙ take_on n 0 xs ys zs e (omega arith)
+
+-- those that are fewer than asked for are as many as any greater number asks for
+pub take_others : {X : Type 0} (n m : ℕ) (xs zs : List X) → zs ≡ take n xs → length zs < n → length zs ≤ m → zs ≡ take m xs
+take_others n m xs zs e less within =
+    let long : length zs ≡ min n (length xs) = ap (λ (us : List _). length us) e ∙ length-take n xs in
+    let all : length xs ≤ n = omega (arith, long, less) in
+    let too : length xs ≤ m = omega (arith, long, less, within) in
+    e ∙ (take_all n xs all ∙ sym (take_all m xs too))
 
 -- with room for one more
 pub take_one : {X : Type 0} (n : ℕ) (xs zs : List X) (y : X) → zs ≡ take n xs → length zs < n → zs ++ y ∷ [] ≡ take n (xs ++ y ∷ [])
@@ -171,11 +179,15 @@ forest_trees : (f : Forest) → forest (trees f) ≡ f
 forest_trees none = refl
 forest_trees (more h ks r) = ap (more h ks) (forest_trees r)
 
+-- a node ends where its last child does
+pub ends_of : (at a : ℕ) (t : Tree) (ts : List Tree) → ts ≡ trees t.kids → a ≡ at + length t.head.text → begins a ts (length ts) ≡ at + length (text_of t)
+ends_of at a t ts e p =
+    let kids : joined (forest ts) ≡ joined t.kids = ap (λ us. joined (forest us)) e ∙ ap joined (forest_trees t.kids) in
+    omega (arith, p, begins_end a ts, ap length kids, length-append t.head.text (joined t.kids))
+
 -- the end of a node can be counted, and so can its children's
 pub fits_of : (at a : ℕ) (t : Tree) (ts : List Tree) → ts ≡ trees t.kids → a ≡ at + length t.head.text → at + length (text_of t) < 2 ^ 64 → begins a ts (length ts) < 2 ^ 64
-fits_of at a t ts e p h =
-    let kids : joined (forest ts) ≡ joined t.kids = ap (λ us. joined (forest us)) e ∙ ap joined (forest_trees t.kids) in
-    omega (arith, p, h, begins_end a ts, ap length kids, length-append t.head.text (joined t.kids))
+fits_of at a t ts e p h = omega (arith, h, ends_of at a t ts e p)
 
 pub child_fits : (a : ℕ) (ts : List Tree) (n : ℕ) (d : Tree) → n < length ts → begins a ts (length ts) < 2 ^ 64 → begins a ts n + length (text_of (get_or ts n d)) < 2 ^ 64
 child_fits a ts n d h fits = omega (arith, begins_next a ts n d h, begins_most a ts (n + 1) (omega arith))

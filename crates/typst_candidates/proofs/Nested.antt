@@ -1,5 +1,5 @@
 -- What the entries of nested notes say without their levels: where the pieces of a run begin, and where a block ends.
-use Rattle.std.proofs.Common.{◌≡◌, ℕ, zero, suc, ◌+◌, ◌-◌, ◌<◌, ◌≤◌, ◌==◌, ◌&&◌, ne_eqb, eq-eqb, Bool, true, false, if◌then◌else◌, List, [], ◌∷◌, ◌++◌, append_assoc, length, length-append, Option, None, Some, refl, ap, sym, subst, ◌∙◌, arith}
+use Rattle.std.proofs.Common.{◌≡◌, ℕ, suc, ◌+◌, ◌<◌, ◌≤◌, ◌==◌, ◌&&◌, ne_eqb, eq-eqb, Bool, true, false, if◌then◌else◌, List, [], ◌∷◌, ◌++◌, append_assoc, length, length-append, Option, None, Some, refl, ap, sym, subst, ◌∙◌, arith}
 use Rattle.typst_language.specs.declared.calls.Block.{Block}
 use Rattle.typst_language.specs.declared.calls.Mark.{Mark}
 use Rattle.typst_language.specs.declared.calls.Mark.TheVariants as mark

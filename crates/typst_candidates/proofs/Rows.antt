@@ -1,9 +1,9 @@
 -- Children with their bytes, taken from the front.
-use Rattle.std.proofs.Common.{◌≡◌, ℕ, zero, suc, ◌+◌, ◌-◌, ◌^◌, ◌<◌, ◌≤◌, Bool, true, false, min, List, [], ◌∷◌, length, take, drop, get_or, refl, ap, sym, ◌∙◌, arith, add-one, nat_lt, nat_le, drop_of_length-le}
+use Rattle.std.proofs.Common.{◌≡◌, ℕ, zero, suc, ◌+◌, ◌-◌, ◌^◌, ◌<◌, ◌≤◌, Bool, true, false, min, List, [], ◌∷◌, length, drop, get_or, refl, ap, sym, subst, ◌∙◌, arith, add-one, nat_lt, nat_le, drop_of_length-le}
 use Rattle.std.specs.Prelude.{◌||◌, not, max}
 use Rattle.std.proofs.lemmas.Bool.Decides.{nat_tests}
 use Rattle.typst_tree.specs.Tree.{Tree, forest, trees, text_of, saturated}
-use Rattle.typst_candidates.specs.Candidates.{first_near, end_near, clings, leads, with_hash, around, Stretch, Child, laid, begins, begun, ended, holds_at, back_past, on_past}
+use Rattle.typst_candidates.specs.Candidates.{first_near, end_near, clings, leads, with_hash, around, Child, laid, begins, begun, ended, holds_at, back_past, on_past}
 
 pub trees_forest : (ts : List Tree) → trees (forest ts) ≡ ts
 trees_forest [] = refl
@@ -29,6 +29,13 @@ pub begins_least : (at : ℕ) (ts : List Tree) (n : ℕ) → at ≤ begins at ts
 begins_least at [] n = omega arith
 begins_least at (t ∷ ts) zero = omega arith
 begins_least at (t ∷ ts) (suc n) = omega (arith, begins_least (at + length (text_of t)) ts n)
+
+-- children begin in order
+pub begins_order : (at : ℕ) (ts : List Tree) (n m : ℕ) → n ≤ m → begins at ts n ≤ begins at ts m
+begins_order at [] n m h = omega arith
+begins_order at (t ∷ ts) zero m h = begins_least at (t ∷ ts) m
+begins_order at (t ∷ ts) (suc n) zero h = absurd (omega arith)
+begins_order at (t ∷ ts) (suc n) (suc m) h = begins_order (at + length (text_of t)) ts n m (omega (arith, h))
 
 -- no child begins behind the last one's end
 pub begins_most : (at : ℕ) (ts : List Tree) (n : ℕ) → n ≤ length ts → begins at ts n ≤ begins at ts (length ts)
@@ -97,7 +104,7 @@ begun_suc b at [] n h lt = absurd (omega arith)
 begun_suc b at (x ∷ ts) zero h lt = let yes : nat_lt at b ≡ true = grind (arith, nat_tests) in rw (yes, begins_first (at + length (text_of x)) ts) refl
 begun_suc b at (x ∷ ts) (suc n) h lt = begun_suc b (at + length (text_of x)) ts n (omega arith) lt
 
-begun_none : (b c : ℕ) (ts : List Tree) → b ≤ c → begun b (laid c ts) ≡ 0
+pub begun_none : (b c : ℕ) (ts : List Tree) → b ≤ c → begun b (laid c ts) ≡ 0
 begun_none b c [] h = refl
 begun_none b c (x ∷ ts) h = let no : nat_lt c b ≡ false = grind (arith, nat_tests) in rw no refl
 
@@ -118,6 +125,14 @@ pub begun_all : (b at : ℕ) (ts : List Tree) (n : ℕ) → Begun b at ts n → 
 begun_all b at ts n known h =
     let none : drop n ts ≡ [] = drop_of_length-le ts h in
     omega (arith, known, ap (λ us. begun b (laid (begins at ts n) us)) none)
+
+-- where one begins before a byte, so do those before it
+pub begun_upto : (b at : ℕ) (ts : List Tree) (n : ℕ) → n < length ts → begins at ts n < b → Begun b at ts (n + 1)
+begun_upto b at ts zero h lt = begun_next b at ts 0 (begun_first b at ts) h lt
+begun_upto b at ts (suc n) h lt =
+    let earlier : Begun b at ts (n + 1) = begun_upto b at ts n (omega (arith, h)) (omega (arith, lt, begins_order at ts n (suc n) (omega arith))) in
+    let next : n + 1 ≡ suc n = omega arith in
+    begun_next b at ts (suc n) (subst (Begun b at ts) next earlier) h lt
 
 -- ---- how many end at a byte or before it
 
@@ -175,6 +190,25 @@ first_stop b at ts n m known h e = omega (arith, e, begun_stop b at ts n known h
 
 pub first_all : (b at : ℕ) (ts : List Tree) (n m : ℕ) → Begun b at ts n → length ts ≤ n → m ≡ n - 1 → m ≡ first_near b (laid at ts)
 first_all b at ts n m known h e = omega (arith, e, begun_all b at ts n known h)
+
+-- from the last one back
+begun_here : (b at : ℕ) (ts : List Tree) (n : ℕ) → Begun b at ts n → (n < length ts → b ≤ begins at ts n) → begun b (laid at ts) ≡ n
+begun_here b at ts n known behind = pick (nat_lt n (length ts)) refl
+  where
+    pick : (c : Bool) → nat_lt n (length ts) ≡ c → begun b (laid at ts) ≡ n
+    pick true e = begun_stop b at ts n known (behind (grind (arith, nat_tests)))
+    pick false e = let all : length ts ≤ n = grind (arith, nat_tests) in begun_all b at ts n known all
+
+pub back_stop_first : (b at : ℕ) (ts : List Tree) (n m : ℕ) → n ≤ length ts → (n < length ts → b ≤ begins at ts n) → 0 < n → m ≡ n - 1 → begins at ts m < b → m ≡ first_near b (laid at ts)
+back_stop_first b at ts n m within behind some e lt =
+    let next : m + 1 ≡ n = omega (arith, some, e) in
+    let known : Begun b at ts n = subst (Begun b at ts) next (begun_upto b at ts m (omega (arith, within, some, e)) lt) in
+    omega (arith, e, begun_here b at ts n known behind)
+
+pub back_all_first : (b at : ℕ) (ts : List Tree) (n : ℕ) → (n < length ts → b ≤ begins at ts n) → n ≡ 0 → n ≡ first_near b (laid at ts)
+back_all_first b at ts n behind e =
+    let known : Begun b at ts n = subst (Begun b at ts) (sym e) (begun_first b at ts) in
+    omega (arith, e, begun_here b at ts n known behind)
 
 pub end_stop : (b at : ℕ) (ts : List Tree) (n m : ℕ) → Ended b at ts n → n < length ts → b < begins at ts (n + 1) → m ≡ n + 1 → m ≡ end_near b (laid at ts)
 end_stop b at ts n m known h lt e = omega (arith, e, ended_stop b at ts n known h lt, laid_length at ts)

@@ -38,7 +38,7 @@ before p = record p { number = p.number - 1 }
 
 -- how many words are passed over at once
 abbrev pub block_len : ℕ
-block_len = 64
+block_len = 16
 
 -- the looks of some entries go fewer than 2^10 bytes forth, and fewer than 2^4 back
 abbrev pub AreNear : List Entry → Type 0

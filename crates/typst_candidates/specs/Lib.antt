@@ -7,4 +7,6 @@ pub mod Packed
 pub mod Records
 pub mod Cursors
 pub mod Nested
+pub mod Anchors
+pub mod Tallies
 pub mod RecordExamples

@@ -1,8 +1,9 @@
 -- Places between the children of a node (of private clauses).
-use Rattle.std.specs.Prelude.{◌≡◌, ℕ, ◌+◌, ◌^◌, ◌<◌, ◌≤◌, Option, Some, None, List, [], ◌∷◌, ◌++◌, length, take, option_map, ◌==◌, ◌&&◌, Bool, nat_lt, suc, if◌then◌else◌}
+use Rattle.std.specs.Prelude.{◌≡◌, ℕ, ◌+◌, ◌-◌, ◌^◌, ◌<◌, ◌≤◌, Option, Some, None, List, [], ◌∷◌, ◌++◌, length, take, filter, ◌==◌, ◌&&◌, Bool, nat_lt, nat_le, suc, if◌then◌else◌}
 use Rattle.typst_language.specs.declared.calls.Note.{Note}
 use Rattle.typst_tree.specs.Tree.{Tree, forest, trees}
 use Rattle.typst_candidates.specs.declared.cuts.Cuts.{Cuts}
+use Rattle.typst_candidates.specs.declared.cuts.Window.{Window}
 use Rattle.typst_candidates.specs.declared.candidate.Candidate as found
 use Rattle.typst_candidates.specs.declared.candidate.RunAt.{RunAt}
 use Rattle.typst_candidates.specs.declared.candidate.RunAt.TheVariants as run
@@ -34,13 +35,22 @@ pub record IsNear (at : ℕ) (ts : List Tree) (rs re : ℕ) (near : Near) : Type
 abbrev pub indices : row.Stretch → Stretch
 indices s = record { from = s.from.index; to = s.to.index }
 
--- where the pieces of a run begin, but for its first
+-- where the pieces of a run begin within its window, but for its first
 abbrev pub bytes_of : Cuts → List ℕ
 bytes_of c = c.starts.items
 
--- those of a node that may be a run
-abbrev pub run_of : Option Cuts → Option (List ℕ)
-run_of run = option_map bytes_of run
+-- the bytes of a window among some
+abbrev pub within : Window → List ℕ → List ℕ
+within w bs = filter (λ b. nat_le w.from b && nat_le b w.to) bs
+
+-- a window of all bytes
+abbrev pub IsWhole : Window → Type 0
+IsWhole w = (w.from ≡ 0) × (w.to ≡ 2 ^ 64 - 1)
+
+-- what is found of where the pieces of a run begin is what lies within a window
+abbrev pub IsRun : Window → Option (List ℕ) → Option Cuts → Type 0
+IsRun w all None = all ≡ None
+IsRun w all (Some cuts) = (bs : List ℕ) × (all ≡ Some bs) × (cuts.window ≡ w) × (bytes_of cuts ≡ within w bs)
 
 -- where the pieces begin, but for the first, of the run that a node is
 abbrev pub pieces_at : List Entry → RunAt → Option (List ℕ)

@@ -1,9 +1,11 @@
 //! A place among the entries of records.
 
 ghost use Rattle.std.specs.Prelude.{◌≡◌, ◌+◌, ◌-◌, ◌^◌, ◌<◌, ◌≤◌, length, drop, MatchBool, MatchOption, Some, None};
+ghost use Rattle.typst_candidates.specs.Anchors.{IsAnchor};
 ghost use Rattle.typst_candidates.specs.Entries.{end_of};
 ghost use Rattle.typst_candidates.specs.Cursors as spec;
 
+use crate::anchor::Anchor;
 use crate::entries::{BLOCK, FARTHEST_BACK, Walk};
 use crate::entry::{Entry, Tag};
 use crate::records::Records;
@@ -51,6 +53,18 @@ impl Records {
         Cursor {
             start: walk.start(),
             walk,
+        }
+    }
+
+    /// The anchor's place. Adds up no entries.
+    pub(crate) fn cursor_from(&self, anchor: Anchor) -> Cursor<'_>
+        requires places { end_of 0 self.now.units.entries < 2 ^ 64 }
+        requires anchor { IsAnchor self.now.units.entries anchor }
+        ensures { result ≡ record { entries = self.now.units.entries; number = anchor.number } }
+    {
+        Cursor {
+            walk: self.walk_at(anchor.number),
+            start: anchor.start,
         }
     }
 

@@ -3,10 +3,19 @@
 ghost use Rattle.std.specs.Prelude.{◌≡◌};
 ghost use Rattle.std.specs.List.Sorted.{IsNonDecreasing};
 
-/// Where the pieces of a run begin, in bytes, but for its first. At the last of them the run ends.
+/// The bytes of a text from one to another, both among them.
+#[derive(Debug, Clone, Copy, PartialEq, Eq)]
+pub struct Window {
+    pub from: usize,
+    pub to: usize,
+}
+
+/// Where the pieces of a run begin within a window, in bytes, but for the run's first. At the last of the pieces
+/// the run ends.
 #[derive(Drop)]
 pub struct Cuts {
     pub(crate) starts: Vec<usize>,
+    pub window: Window,
     ghost rise: { IsNonDecreasing starts.items },
 }
 
@@ -14,7 +23,7 @@ impl Cuts {
     ghost use Rattle.typst_candidates.specs.Candidates.{is_among};
     ghost use Rattle.typst_candidates.specs.Rows.{bytes_of};
 
-    /// Whether a piece that isn't the run's first begins at the byte. Goes by halves, since each child
+    /// Whether a piece that isn't the run's first begins at the byte, which is one of the window's. Goes by halves, since each child
     /// near an edit asks, and the bytes rise.
     pub fn has(&self, byte: usize) -> bool
         ensures { result ≡ is_among byte (bytes_of self.now) }

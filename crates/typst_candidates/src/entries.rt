@@ -1,8 +1,9 @@
 //! Entries in order, nearly all of them in words.
 
-ghost use Rattle.std.specs.Prelude.{◌≡◌, ◌+◌, ◌-◌, ◌%◌, ◌^◌, ◌++◌, ◌∷◌, [], ◌≤◌, ◌<◌, IfOk, IfSome, MatchOption, None, OnErr, OnOk, Some, length, drop, slice_get, suc, take, vec_capacity};
+ghost use Rattle.std.specs.Prelude.{ℕ, List, ◌≡◌, ◌+◌, ◌-◌, ◌%◌, ◌^◌, ◌++◌, ◌∷◌, [], ◌≤◌, ◌<◌, IfOk, IfSome, MatchOption, None, OnErr, OnOk, Some, length, drop, slice_get, suc, take, vec_capacity};
 ghost use Rattle.typst_candidates.specs.Cursors.{PassesBlock, PassesPiece, before, behind, block_len, entry_before, entry_behind, start_at};
 ghost use Rattle.typst_candidates.specs.Entries.{end_of};
+ghost use Rattle.typst_candidates.specs.Tallies.{IsTally};
 ghost use Rattle.typst_candidates.specs.Packed.{HasRoom, lengths, spans, wides};
 
 use crate::entry::Entry;
@@ -15,17 +16,52 @@ use std::marker::Model;
 pub(crate) struct Entries {
     words: Vec<Packed>,
     wide: Vec<Entry>,
+    tally: Tally,
+}
+
+/// How many entries stand beside so many words. It is kept for one place, so that walks which begin there or behind
+/// count only on.
+#[derive(Clone, Copy)]
+struct Tally {
+    number: usize,
+    passed: usize,
+}
+
+impl Tally {
+    /// That of no words.
+    fn first() -> Tally
+        ensures tally { (ps : List Packed) → IsTally ps result }
+        ensures first { result.number ≡ 0 }
+    {
+        Tally {
+            number: 0,
+            passed: 0,
+        }
+    }
+
+    /// The same, where it is of no more than so many words, else that of none.
+    fn upto(self, number: usize) -> Tally
+        ensures same { (ps qs : List Packed) → IsTally ps self → take number qs ≡ take number ps → number ≤ length qs → IsTally qs result }
+        ensures upto { result.number ≤ number }
+    {
+        if self.number <= number {
+            self
+        } else {
+            Tally::first()
+        }
+    }
 }
 
 impl Model for Entries {
     ghost use Rattle.std.specs.Prelude.{◌≡◌, length, vec_capacity};
+    ghost use Rattle.typst_candidates.specs.Tallies.{IsTally};
     ghost use Rattle.typst_candidates.specs.Packed.{Held, unpacked, wides};
 
     ghost Value = { Held };
 
     ghost view = { λ e. record { entries = unpacked e.words.items e.wide.items; space = record { wide = length e.wide.items; room = vec_capacity e.words; wide_room = vec_capacity e.wide } } };
 
-    ghost invariant = { λ e. wides e.words.items ≡ length e.wide.items };
+    ghost invariant = { λ e. (wides e.words.items ≡ length e.wide.items) × IsTally e.words.items e.tally };
 }
 
 impl Entries {
@@ -36,6 +72,7 @@ impl Entries {
         Entries {
             words: Vec::new(alloc),
             wide: Vec::new(alloc),
+            tally: Tally::first(),
         }
     }
 
@@ -95,7 +132,11 @@ impl Entries {
         words.extend_from_slice(&self.words)?;
         let mut wide = Vec::new(alloc);
         wide.extend_from_slice(&self.wide)?;
-        Ok(Entries { words, wide })
+        Ok(Entries {
+            words,
+            wide,
+            tally: self.tally,
+        })
     }
 
     /// Puts a part in place of the entries behind the one numbered `from` up to the one numbered `to`, and
@@ -112,6 +153,7 @@ impl Entries {
         let first = beside(&self.words[..from + 1]);
         let last = first + beside(between);
         let gone = spans(between).wrapping_add(lengths(&self.wide[first..last]));
+        self.tally = self.tally.upto(from + 1);
         replace(&mut self.words, from + 1, to + 1, &part.words);
         replace(&mut self.wide, first, last, &part.wide);
         gone
@@ -129,7 +171,7 @@ impl Entries {
         }
     }
 
-    /// The place behind so many.
+    /// The place behind so many. Goes through the words before it, but for those of the tally.
     pub(crate) fn walk_at(&self, number: usize) -> Walk<'_>
         requires { number ≤ length self.now.entries }
         ensures { result ≡ record { entries = self.now.entries; number = number } }
@@ -138,8 +180,17 @@ impl Entries {
             words: &self.words,
             wide: &self.wide,
             number,
-            passed: beside(&self.words[..number]),
+            passed: passed_at(&self.words, self.tally, number),
         }
+    }
+
+    /// Keeps the tally of so many words.
+    pub(crate) fn tally_at(&mut self, number: usize)
+        requires { number ≤ length self.old.entries }
+        ensures { self.new ≡ self.old }
+    {
+        let passed = passed_at(&self.words, self.tally, number);
+        self.tally = Tally { number, passed };
     }
 
     /// The place behind the last.
@@ -155,8 +206,9 @@ impl Entries {
     }
 }
 
-/// So many words are passed over at once, where what is looked for can't be among them.
-pub(crate) const BLOCK: usize = 64;
+/// So many words are passed over at once, where what is looked for can't be among them. Of more words one is more
+/// often such that they can't be passed over.
+pub(crate) const BLOCK: usize = 16;
 
 /// The looks of an entry that a word holds go fewer bytes forth, and fewer back.
 pub(crate) const FARTHEST_FORTH: usize = 1 << 10;
@@ -311,6 +363,17 @@ fn wide_at(wide: &[Entry], number: usize) -> Entry
     ensures { slice_get wide.now number ≡ Some result }
 {
     wide[number]
+}
+
+/// How many entries stand beside so many words. Goes through those behind the tally's, where it is of fewer, or else
+/// through all.
+fn passed_at(words: &[Packed], tally: Tally, number: usize) -> usize
+    requires tally { IsTally words.now tally }
+    requires within { number ≤ length words.now }
+    ensures { result ≡ wides (take number words.now) }
+{
+    let from = tally.upto(number);
+    from.passed + beside(&words[from.number..number])
 }
 
 /// How many entries stand beside some words. Adds up a block after the other.

@@ -6,6 +6,7 @@
 //! and [`Row::is_all`]. [`Records`] keep the units beside a tree.
 #![tactic(auto)]
 
+mod anchor;
 mod candidate;
 mod cursor;
 mod cuts;
@@ -19,7 +20,7 @@ mod run;
 
 pub use candidate::{Candidate, Candidates, find_candidates};
 pub use cursor::Cursor;
-pub use cuts::Cuts;
+pub use cuts::{Cuts, Window};
 pub use entry::{Entry, Tag};
 pub use laws::{candidates_of_texts, looks_law, nested_law, records_of_texts};
 pub use records::{Records, fit};

@@ -7,6 +7,7 @@ ghost use Rattle.typst_candidates.specs.Entries as spec;
 ghost use Rattle.typst_candidates.specs.Packed.{HasRoom};
 ghost use Rattle.typst_candidates.specs.Records.{AllFit, is_opening, opening_of};
 
+use crate::anchor::Anchor;
 use crate::entries::{BLOCK, Entries, FARTHEST_FORTH, Walk};
 use crate::entry::{self, Entry, Tag};
 use std::alloc::{AllocError, Global};
@@ -24,10 +25,12 @@ pub struct Records {
     /// Where the token of the last note begins, counted round the machine's numbers. It is kept, since an edit
     /// that adds up all entries for it costs as much as all else.
     last: usize,
+    pub(crate) anchor: Anchor,
 }
 
 impl Model for Records {
     ghost use Rattle.std.specs.Prelude.{◌≡◌, ◌%◌, ◌^◌};
+    ghost use Rattle.typst_candidates.specs.Anchors.{IsAnchor};
     ghost use Rattle.typst_candidates.specs.Entries.{end_of};
     ghost use Rattle.typst_candidates.specs.Records.{Kept};
 
@@ -35,7 +38,7 @@ impl Model for Records {
 
     ghost view = { λ r. record { units = record { entries = r.entries.entries; back = r.back }; space = r.entries.space } };
 
-    ghost invariant = { λ r. r.last ≡ end_of 0 r.entries.entries % 2 ^ 64 };
+    ghost invariant = { λ r. (r.last ≡ end_of 0 r.entries.entries % 2 ^ 64) × IsAnchor r.entries.entries r.anchor };
 }
 
 impl Records {
@@ -47,6 +50,7 @@ impl Records {
             entries: Entries::new(alloc),
             back: 0,
             last: 0,
+            anchor: Anchor::first(),
         }
     }
 
@@ -169,6 +173,14 @@ impl Records {
         self.entries.walk_at(number)
     }
 
+    /// Keeps the tally of so many words, so that walks which begin there or behind count only on.
+    pub(crate) fn tally_at(&mut self, number: usize)
+        requires { number ≤ length self.old.units.entries }
+        ensures { self.new ≡ self.old }
+    {
+        self.entries.tally_at(number);
+    }
+
     /// The place behind the last entry.
     pub(crate) fn walk_at_end(&self) -> Walk<'_>
         ensures { result ≡ record { entries = self.now.units.entries; number = length self.now.units.entries } }
@@ -184,16 +196,16 @@ impl Records {
             entries: self.entries.try_clone(alloc)?,
             back: self.back,
             last: self.last,
+            anchor: self.anchor,
         })
     }
 
     /// How many of the first notes stand, with all looks before them, at the byte `at` or before it. Goes
-    /// through these and one more.
+    /// through these and one more, from the anchor on where that serves.
     pub fn front(&self, at: usize) -> usize
         ensures { result ≡ front_of at 0 self.now.units.entries }
     {
-        let mut left = at;
-        let mut place = self.walk();
+        let (mut place, mut left) = self.front_place(at);
         let mut steps = 0;
         'entries: loop {
             if let Some(span) = pass_far(
@@ -246,8 +258,7 @@ impl Records {
     pub fn opening(&self, at: usize) -> Option<usize>
         ensures { result ≡ opening_of at 0 0 self.now.units.entries }
     {
-        let mut left = at;
-        let mut place = self.walk();
+        let (mut place, mut left) = self.opening_place(at);
         let mut steps = 0;
         'entries: loop {
             if let Some(span) = pass_far(&mut place, &mut steps, left) {
@@ -281,6 +292,7 @@ impl Records {
         ensures { self.new.units ≡ spliced from to part.now.units.entries self.old.units }
     {
         let gone = self.entries.put(&part.entries, from, to);
+        self.anchor = self.anchor.upto(from);
         self.last = self.last.wrapping_sub(gone).wrapping_add(part.last);
     }
 }

@@ -1,11 +1,11 @@
 //! Children that stand side by side, and the stretches of them around an edit.
 
-ghost use Rattle.std.specs.Prelude.{◌≡◌, ◌+◌, ◌-◌, ◌<◌, ◌≤◌, ◌^◌, ◌||◌, not, min, length};
+ghost use Rattle.std.specs.Prelude.{◌≡◌, ◌+◌, ◌-◌, ◌<◌, ◌≤◌, ◌^◌, ◌||◌, ◌&&◌, nat_le, not, min, length};
 ghost use Rattle.typst_tree.specs.Tree.{trees, text_of};
-ghost use Rattle.typst_candidates.specs.Candidates.{laid, first_near, end_near, clings, is_hash, is_sign, leads, holds_at, back_past, on_past, with_hash, around, is_all};
+ghost use Rattle.typst_candidates.specs.Candidates.{laid, begins, first_near, end_near, clings, is_hash, is_sign, leads, holds_at, back_past, on_past, with_hash, around, is_all};
 ghost use Rattle.typst_candidates.specs.Rows.{IsEdge, IsNear, Fits, bytes_of, indices, is_covered};
 
-use crate::Cuts;
+use crate::{Cuts, Window};
 use typst_kinds::SyntaxKind;
 use typst_tree::SyntaxNode;
 
@@ -31,11 +31,14 @@ pub struct Stretch {
     pub to: Edge,
 }
 
-/// The children of a node, and the byte at which the first begins.
+/// The children of a node, the byte at which the first begins, and the one at which the last ends, where it can
+/// be counted.
 #[derive(Clone, Copy)]
 pub struct Row<'a> {
     pub kids: &'a [SyntaxNode],
     pub at: usize,
+    pub end: usize,
+    ghost ends: { Fits at kids.now → end ≡ begins at kids.now (length kids.now) },
 }
 
 impl Near {
@@ -49,6 +52,15 @@ impl Near {
             && self.first.byte < start
             && end < self.end.byte
             && child.is_inner()
+    }
+}
+
+impl Stretch {
+    /// Whether it begins and ends at bytes of the window.
+    pub fn lies_in(self, window: Window) -> bool
+        ensures { result ≡ (nat_le window.from self.from.byte && nat_le self.to.byte window.to) }
+    {
+        window.from <= self.from.byte && self.to.byte <= window.to
     }
 }
 
@@ -95,6 +107,7 @@ impl<'a> Row<'a> {
         Row {
             kids: node.children(),
             at: at + node.leaf_text().len(),
+            end: at.saturating_add(node.len()),
         }
     }
 
@@ -114,6 +127,18 @@ impl<'a> Row<'a> {
         Edge {
             index: 0,
             byte: self.at,
+        }
+    }
+
+    /// The place behind all children.
+    fn rear(&self) -> Edge
+        requires { Fits self.now.at self.now.kids.now }
+        ensures index { result.index ≡ length self.now.kids.now }
+        ensures edge { IsEdge self.now.at self.now.kids.now result }
+    {
+        Edge {
+            index: self.kids.len(),
+            byte: self.end,
         }
     }
 
@@ -146,8 +171,22 @@ impl<'a> Row<'a> {
         }
     }
 
-    /// The last child that begins before the byte, else the first.
+    /// The last child that begins before the byte, else the first. Goes to it from the nearer end.
     fn last_begun(&self, byte: usize) -> Edge
+        requires { Fits self.now.at self.now.kids.now }
+        ensures index { result.index ≡ first_near byte (laid self.now.at self.now.kids.now) }
+        ensures edge { IsEdge self.now.at self.now.kids.now result }
+        ensures before { 0 < result.index → result.byte < byte }
+    {
+        if byte.saturating_sub(self.at) < self.end.saturating_sub(byte) {
+            self.on_to_begun(byte)
+        } else {
+            self.back_to_begun(byte)
+        }
+    }
+
+    /// The same, from the first child on.
+    fn on_to_begun(&self, byte: usize) -> Edge
         requires { Fits self.now.at self.now.kids.now }
         ensures index { result.index ≡ first_near byte (laid self.now.at self.now.kids.now) }
         ensures edge { IsEdge self.now.at self.now.kids.now result }
@@ -160,6 +199,23 @@ impl<'a> Row<'a> {
             next = self.behind(next);
         }
         last
+    }
+
+    /// The same, from the last child back.
+    fn back_to_begun(&self, byte: usize) -> Edge
+        requires { Fits self.now.at self.now.kids.now }
+        ensures index { result.index ≡ first_near byte (laid self.now.at self.now.kids.now) }
+        ensures edge { IsEdge self.now.at self.now.kids.now result }
+        ensures before { 0 < result.index → result.byte < byte }
+    {
+        let mut edge = self.rear();
+        while edge.index > 0 {
+            edge = self.before(edge);
+            if edge.byte < byte {
+                return edge;
+            }
+        }
+        edge
     }
 
     /// The place behind the first child that ends after the byte, else behind the last. Children

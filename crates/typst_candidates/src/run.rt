@@ -1,13 +1,13 @@
 //! Where the pieces of a run begin, and where a block ends, by the records of a text.
 
-ghost use Rattle.std.specs.Prelude.{◌≡◌, ◌+◌, ◌-◌, ◌&&◌, ◌==◌, ◌<◌, ◌≤◌, ◌^◌, ◌++◌, ◌∷◌, [], if◌then◌else◌, IfOk, drop, ℕ, length, slice_get, vec_capacity, vec_len};
+ghost use Rattle.std.specs.Prelude.{◌≡◌, ◌+◌, ◌-◌, ◌&&◌, ◌==◌, ◌<◌, ◌≤◌, ◌^◌, ◌++◌, ◌∷◌, [], if◌then◌else◌, nat_le, IfOk, OnOk, drop, ℕ, length, slice_get};
 ghost use Rattle.typst_candidates.specs.Cursors as spec;
 ghost use Rattle.typst_candidates.specs.Entries.{end_of};
-ghost use Rattle.typst_candidates.specs.Rows.{run_of};
+ghost use Rattle.typst_candidates.specs.Rows.{IsRun, within};
 ghost use Rattle.typst_candidates.specs.Units.{behind_first};
 
 use crate::cursor::{Cursor, inside_behind, leads};
-use crate::cuts::Cuts;
+use crate::cuts::{Cuts, Window};
 use crate::entries::Walk;
 use crate::entry::{Entry, Tag};
 use crate::records::Records;
@@ -15,21 +15,22 @@ use std::alloc::{AllocError, Global};
 use typst_language::Block;
 
 impl<'a> Cursor<'a> {
-    /// Where the pieces behind the place begin, in bytes, of the run that it stands in. Goes through the
-    /// entries up to the end of the run.
-    fn starts(&self, alloc: Global) -> Result<Vec<usize>, AllocError>
-        ensures { IfOk result (λ bytes. bytes.items ≡ spec.pieces_of 0 (spec.start_at self.now) (drop self.now.number self.now.entries)) }
+    /// Where the pieces behind the place begin, in bytes, of the run that it stands in, within a window. Goes through
+    /// the entries up to the window's end.
+    fn starts(&self, alloc: Global, window: Window) -> Result<Vec<usize>, AllocError>
+        ensures { IfOk result (λ bytes. bytes.items ≡ within window (spec.pieces_of 0 (spec.start_at self.now) (drop self.now.number self.now.entries))) }
     {
         let mut starts = Vec::new(alloc);
-        starts.reserve(self.left())?;
         let mut place = self.copy();
         let mut inside = 0usize;
         loop {
-            add_pieces(&mut starts, &mut place, inside);
             let Some(entry) = place.next() else {
                 return Ok(starts);
             };
-            add_piece(&mut starts, entry.tag, inside, place.start());
+            if place.start() > window.to {
+                return Ok(starts);
+            }
+            add_piece(&mut starts, entry.tag, inside, place.start(), window.from)?;
             let Some(further) = inside_behind(entry.tag, inside) else {
                 return Ok(starts);
             };
@@ -37,34 +38,45 @@ impl<'a> Cursor<'a> {
         }
     }
 
-    /// The run that the place stands in, if a piece of it begins behind the place.
-    fn run(&self, alloc: Global) -> Result<Option<Cuts>, AllocError>
-        ensures { IfOk result (λ run. run_of run ≡ behind_first (spec.pieces_of 0 (spec.start_at self.now) (drop self.now.number self.now.entries))) }
+    /// The run that the place stands in, within a window, if a piece of it begins behind the place.
+    fn run(&self, alloc: Global, window: Window) -> Result<Option<Cuts>, AllocError>
+        ensures { IfOk result (λ run. IsRun window (behind_first (spec.pieces_of 0 (spec.start_at self.now) (drop self.now.number self.now.entries))) run) }
     {
-        let mut starts = self.starts(alloc)?;
-        if starts.is_empty() {
+        let Some(mut first) = self.piece_behind() else {
             return Ok(None);
-        }
-        starts.remove(0);
-        Ok(Some(Cuts { starts }))
+        };
+        first.next();
+        let starts = first.starts(alloc, window)?;
+        Ok(Some(Cuts { starts, window }))
     }
 }
 
 impl Records {
-    /// The text's own run. Goes through all entries.
-    pub fn top_run(&self, alloc: Global) -> Result<Option<Cuts>, AllocError>
+    /// The text's own run within a window. Goes through the entries from the anchor on, or else from the first, up to
+    /// the window's end.
+    pub fn top_run(&self, alloc: Global, window: Window) -> Result<Option<Cuts>, AllocError>
         requires { end_of 0 self.now.units.entries < 2 ^ 64 }
-        ensures { IfOk result (λ run. run_of run ≡ behind_first (spec.pieces_of 0 0 self.now.units.entries)) }
+        ensures { IfOk result (λ run. IsRun window (behind_first (spec.pieces_of 0 0 self.now.units.entries)) run) }
     {
-        self.cursor().run(alloc)
+        let Some(mut first) = self.cursor().piece_behind() else {
+            return Ok(None);
+        };
+        first.next();
+        let starts = self.later_place(first, window.from).starts(alloc, window)?;
+        Ok(Some(Cuts { starts, window }))
     }
 
-    /// The run of the content block that begins at byte `at`; `None` where no block or no piece of it is
+    /// The run of the content block that begins at byte `at`, within a window; `None` where no block or no piece of it is
     /// noted, as at the limit of depth. Passes over the entries up to the block, many at a time, and goes through
-    /// those up to its end.
-    pub fn run_in(&self, alloc: Global, at: usize) -> Result<Option<Cuts>, AllocError>
+    /// those up to the window's end.
+    pub fn run_in(
+        &self,
+        alloc: Global,
+        at: usize,
+        window: Window,
+    ) -> Result<Option<Cuts>, AllocError>
         requires { end_of 0 self.now.units.entries < 2 ^ 64 }
-        ensures { IfOk result (λ run. run_of run ≡ spec.pieces_in at 0 self.now.units.entries) }
+        ensures { IfOk result (λ run. IsRun window (spec.pieces_in at 0 self.now.units.entries) run) }
     {
         let Some(first) = self.opening(at) else {
             return Ok(None);
@@ -72,7 +84,7 @@ impl Records {
         let mut place = self.cursor_at(first);
         while let Some(entry) = place.next() {
             if begins_content(at, entry.tag, place.start()) {
-                return place.run(alloc);
+                return place.run(alloc, window);
             }
         }
         Ok(None)
@@ -168,31 +180,21 @@ fn begins_piece(at: usize, tag: Tag, inside: usize, start: usize) -> bool
     leads(tag, inside) && start == at
 }
 
-/// Passes over entries at which pieces of the run itself begin, and adds the bytes of their tokens, for which there
-/// is room. In a block of the run there are none.
-fn add_pieces(starts: &mut Vec<usize>, place: &mut Cursor<'_>, inside: usize)
-    requires { vec_len starts.old + (length place.old.entries - place.old.number) ≤ vec_capacity starts.old }
-    ensures entries { place.new.entries ≡ place.old.entries }
-    ensures on { place.old.number ≤ place.new.number }
-    ensures room { vec_len starts.new + (length place.new.entries - place.new.number) ≤ vec_capacity starts.new }
-    ensures starts { starts.new.items ++ spec.pieces_of inside (spec.start_at place.new) (drop place.new.number place.new.entries) ≡ starts.old.items ++ spec.pieces_of inside (spec.start_at place.old) (drop place.old.number place.old.entries) }
+/// Adds the byte of an entry's token, where a piece of a run itself begins in so many blocks of the run, at the byte
+/// `from` or behind it.
+fn add_piece(
+    starts: &mut Vec<usize>,
+    tag: Tag,
+    inside: usize,
+    start: usize,
+    from: usize,
+) -> Result<(), AllocError>
+    ensures { OnOk result (starts.new.items ≡ starts.old.items ++ (if spec.leads tag inside && nat_le from start then start ∷ [] else [])) }
 {
-    while inside == 0 && place.pass_piece() {
-        starts.push_reserved(place.start());
+    if leads(tag, inside) && from <= start {
+        starts.push(start)?;
     }
-}
-
-/// Adds the byte of an entry's token, for which there is room, where a piece of a run itself begins in so many
-/// blocks of the run.
-fn add_piece(starts: &mut Vec<usize>, tag: Tag, inside: usize, start: usize)
-    requires { vec_len starts.old < vec_capacity starts.old }
-    ensures items { starts.new.items ≡ starts.old.items ++ (if spec.leads tag inside then start ∷ [] else []) }
-    ensures len { vec_len starts.new ≤ vec_len starts.old + 1 }
-    ensures capacity { vec_capacity starts.new ≡ vec_capacity starts.old }
-{
-    if leads(tag, inside) {
-        starts.push_reserved(start);
-    }
+    Ok(())
 }
 
 /// Whether a content block begins at byte `at`, by an entry whose token begins at the byte `start`.

@@ -3,8 +3,8 @@ use Rattle.std.specs.Prelude.{◌≡◌, ⊤, ℕ, List, Bool, Option}
 use Rattle.std.specs.Io.KnownBytes.{Appends}
 use Rattle.std.specs.Str.{chars}
 use Rattle.typst_lines.specs.UnicodeTables.{unicode_classes}
-use Rattle.typst_parser.specs.Grammar.{tree}
-use Rattle.typst_parser.specs.Tree.{Tree}
+use Rattle.typst_cli.specs.Grammar.{tree}
+use Rattle.typst_cli.specs.Tree.{Tree}
 use Rattle.typst_check.specs.declared.request.Form.{Form}
 use Rattle.typst_check.specs.declared.request.Form.TheVariants as form
 use Rattle.typst_check.specs.declared.request.Format.{Format}

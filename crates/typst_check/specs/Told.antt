@@ -6,8 +6,8 @@ use Rattle.typst_kinds.specs.declared.diagnostic.Severity.TheVariants as severit
 use Rattle.typst_kinds.specs.Diagnostic.{Diagnostic}
 use Rattle.typst_kinds.specs.Span.{Bytes}
 use Rattle.typst_lines.specs.UnicodeTables.{unicode_classes}
-use Rattle.typst_parser.specs.Grammar.{tree}
-use Rattle.typst_parser.specs.Tree.{Forest, none, more, Tree, joined, saturated}
+use Rattle.typst_cli.specs.Grammar.{tree}
+use Rattle.typst_cli.specs.Tree.{Forest, none, more, Tree, joined, saturated}
 
 -- an error or a warning, and the bytes that it is about
 pub record Told : Type 0 where

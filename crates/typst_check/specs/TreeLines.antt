@@ -2,7 +2,7 @@
 use Rattle.std.specs.Prelude.{ℕ, ◌+◌, List, [], ◌∷◌, ◌++◌, length, codes, if◌then◌else◌}
 use Rattle.json.specs.Token.{Token, begin_object, end_object}
 use Rattle.typst_kinds.specs.Head.{Head}
-use Rattle.typst_parser.specs.Tree.{Forest, none, more, Tree, joined, saturated}
+use Rattle.typst_cli.specs.Tree.{Forest, none, more, Tree, joined, saturated}
 use Rattle.typst_cli.specs.Variants.{variant_name}
 use Rattle.typst_check.specs.Ndjson.{count_member, line, text_member}
 

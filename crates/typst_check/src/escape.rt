@@ -6,7 +6,7 @@ ghost use Rattle.std.specs.Str.{chars};
 ghost use Rattle.typst_check.specs.Escapes as spec;
 
 use std::alloc::AllocError;
-use typst_parser::is_newline;
+use typst_cli::is_newline;
 
 /// What a text becomes a part of, by which some of its characters are written otherwise.
 #[derive(Debug, Clone, Copy, PartialEq, Eq)]

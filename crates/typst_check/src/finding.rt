@@ -1,12 +1,12 @@
 //! The errors and warnings of a text.
 
 ghost use Rattle.std.specs.Prelude.{◌≡◌, ◌+◌, ◌++◌, IfOk, OnOk, length, map};
-ghost use Rattle.typst_parser.specs.Tree.{more, none, saturated, text_of};
+ghost use Rattle.typst_cli.specs.Tree.{more, none, saturated, text_of};
 ghost use Rattle.typst_check.specs.Found.{as_told};
 ghost use Rattle.typst_check.specs.Told as spec;
 
 use std::alloc::{AllocError, Global};
-use typst_parser::{Diagnostic, Hint, Severity, SubRange, SyntaxNode};
+use typst_cli::{Diagnostic, Hint, Severity, SubRange, SyntaxNode};
 
 /// An error or a warning of a text, with the bytes that it is about.
 #[derive(Clone, Copy)]

@@ -8,7 +8,7 @@ use crate::escape::{Target, push_escaped};
 use crate::located::Located;
 use crate::place::Place;
 use std::alloc::{AllocError, Global};
-use typst_parser::Hint;
+use typst_cli::Hint;
 
 /// A command for each finding.
 pub fn commands_of(alloc: Global, name: &str, located: &[Located]) -> Result<String, AllocError>

@@ -7,7 +7,7 @@ ghost use Rattle.typst_check.specs.Placed.{ArePlaced, as_placed};
 use crate::finding::Finding;
 use crate::place::Place;
 use std::alloc::{AllocError, Global};
-use typst_parser::Lines;
+use typst_cli::Lines;
 
 /// An error or a warning, and the places between which it is.
 #[derive(Clone, Copy)]

@@ -9,7 +9,7 @@ use crate::located::Located;
 use crate::place::Place;
 use json::Writer;
 use std::alloc::{AllocError, Global};
-use typst_parser::Hint;
+use typst_cli::Hint;
 
 /// A line for each finding.
 pub fn lines_of(alloc: Global, name: &str, located: &[Located]) -> Result<Vec<u8>, AllocError>

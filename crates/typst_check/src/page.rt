@@ -6,7 +6,7 @@ use crate::escape::{Target, push_escaped};
 use crate::finding::Finding;
 use crate::style::STYLE;
 use std::alloc::{AllocError, Global};
-use typst_parser::{Lines, SyntaxNode, Tag, Tagged, tag_stretches};
+use typst_cli::{Lines, SyntaxNode, Tag, Tagged, tag_stretches};
 
 /// The page of a text of that name. It takes a time in proportion to the text, as long as few findings
 /// are about the same bytes.

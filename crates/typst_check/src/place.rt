@@ -4,7 +4,7 @@ ghost use Rattle.std.specs.Prelude.{◌≡◌, length};
 ghost use Rattle.std.specs.Str.{chars};
 ghost use Rattle.typst_lines.specs.Lines.{units};
 
-use typst_parser::Lines;
+use typst_cli::Lines;
 
 /// A place in a text. Lines and columns are counted from 1.
 #[derive(Debug, Clone, Copy, PartialEq, Eq)]

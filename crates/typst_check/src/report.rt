@@ -10,7 +10,7 @@ use crate::located::locate;
 use crate::request::{Form, Format};
 use crate::{github, ndjson, page, short, tree};
 use std::alloc::{AllocError, Global};
-use typst_parser::{Lines, SyntaxNode, UnicodeClasses, parse};
+use typst_cli::{Lines, SyntaxNode, UnicodeClasses, parse};
 
 /// What is printed about a text, and whether the text has errors.
 #[derive(Drop)]
@@ -25,7 +25,7 @@ impl Report {
     ghost use Rattle.typst_check.specs.Printed.{Prints};
     ghost use Rattle.typst_check.specs.Told.{has_error};
     ghost use Rattle.typst_lines.specs.UnicodeTables.{unicode_classes};
-    ghost use Rattle.typst_parser.specs.Grammar.{tree};
+    ghost use Rattle.typst_cli.specs.Grammar.{tree};
 
     /// What the form asks of a text of that name.
     pub fn of_text(alloc: Global, form: Form, name: &str, text: &str) -> Result<Report, AllocError>

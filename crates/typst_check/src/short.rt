@@ -9,7 +9,7 @@ use crate::finding::Finding;
 use crate::located::Located;
 use crate::place::Place;
 use std::alloc::{AllocError, Global};
-use typst_parser::Hint;
+use typst_cli::Hint;
 
 /// How a part of a line is shown.
 #[derive(Debug, Clone, Copy, PartialEq, Eq)]

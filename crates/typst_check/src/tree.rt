@@ -1,15 +1,15 @@
 //! A syntax tree as JSON, a line for each node.
 
 ghost use Rattle.std.specs.Prelude.{◌≡◌, ◌++◌, IfOk, OnOk};
-ghost use Rattle.typst_parser.specs.Tree.{more, none};
+ghost use Rattle.typst_cli.specs.Tree.{more, none};
 ghost use Rattle.typst_check.specs.Ndjson.{line};
 ghost use Rattle.typst_check.specs.TreeLines as spec;
 
 use crate::ndjson::{end_line, write_count, write_text};
 use json::Writer;
 use std::alloc::{AllocError, Global};
+use typst_cli::SyntaxNode;
 use typst_cli::tree::variant_name;
-use typst_parser::SyntaxNode;
 
 /// The lines of a tree.
 pub fn lines_of(alloc: Global, root: &SyntaxNode) -> Result<Vec<u8>, AllocError>

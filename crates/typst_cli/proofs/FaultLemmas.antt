@@ -1,8 +1,8 @@
 -- From what is known of an answer to what is promised of a run.
 use Rattle.std.proofs.Common.{◌≡◌, List, ℕ, Option, None, Some, Result, Ok, Err, IsUtf8, subst, refl}
 use Rattle.std.specs.Prelude.{IfErr, IfSome, IsErrAnd, String}
-use Rattle.typst_kinds.specs.declared.error.SourceError.{SourceError}
-use Rattle.typst_kinds.specs.declared.error.SourceError.TheVariants as source_error
+use Rattle.typst_parser.specs.SourceError.{SourceError}
+use Rattle.typst_parser.specs.SourceError.TheVariants as source_error
 use Rattle.std.proofs.lemmas.Str.{IsUtf8-string_bytes}
 use Rattle.std.specs.String.{string_bytes}
 use Rattle.std.specs.Io.KnownBytes.{Appends}

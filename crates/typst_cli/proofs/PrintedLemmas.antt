@@ -2,7 +2,7 @@
 use Rattle.std.proofs.Common.{◌≡◌, ◌∙◌, ℕ, ◌+◌, ◌<◌, ◌++◌, ◌∷◌, List, Some, None, slice_get, length, drop, ap, sym, append_assoc, append-nil, arith}
 use Rattle.std.proofs.lemmas.List.{drop_more}
 use Rattle.std.proofs.lemmas.Option.{slice_get_within, get_or_from_slice_get}
-use Rattle.typst_lines.specs.declared.lines.Line.{Line}
+use Rattle.typst_parser.specs.Line.{Line}
 use Rattle.typst_cli.specs.Printed.{row, rows}
 
 pub rows-step : (n : ℕ) (table : List Line) (line : Line) → slice_get table n ≡ Some line

@@ -2,7 +2,7 @@
 use Rattle.std.proofs.Common.{◌≡◌, ℕ, ◌+◌, ◌<◌, List, ◌++◌, length, get_or, drop, cond, ap, sym, ◌∙◌, append_assoc}
 use Rattle.std.specs.Prelude.{encode_utf8}
 use Rattle.std.proofs.lemmas.List.{at_drop_more}
-use Rattle.typst_lines.specs.Newline.{is_newline}
+use Rattle.typst_parser.specs.Newline.{is_newline}
 use Rattle.typst_cli.specs.PrintedTree.{spaced}
 
 spaced_at : (cs : List ℕ) (n c : ℕ) → n < length cs → c ≡ get_or cs n c → spaced (drop n cs) ≡ encode_utf8 (cond (is_newline c) 32 c) ++ spaced (drop (n + 1) cs)

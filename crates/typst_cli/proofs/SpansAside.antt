@@ -1,12 +1,12 @@
 -- What is printed of a tree doesn't tell its spans.
 use Rattle.std.proofs.Common.{◌≡◌, ℕ, ◌+◌, List, ◌++◌, length, refl, sym, ap, ◌∙◌}
-use Rattle.typst_kinds.specs.Head.{Head}
-use Rattle.typst_tree.specs.Tree.{Forest, none, more, Tree, bare, bare_forest, joined, text_of}
-use Rattle.typst_tree.proofs.Numbering.{joined_bare}
+use Rattle.typst_parser.specs.Head.{Head}
+use Rattle.typst_parser.specs.Tree.{Forest, none, more, Tree, bare, bare_forest, joined, text_of}
+use Rattle.typst_parser.proofs.Numbering.{joined_bare}
 use Rattle.std.specs.Prelude.{[]}
 use Rattle.std.specs.Str.{chars}
 use Rattle.std.specs.declared.ops.Range.{Range}
-use Rattle.typst_lines.specs.UnicodeTables.{unicode_classes}
+use Rattle.typst_parser.specs.UnicodeTables.{unicode_classes}
 use Rattle.typst_parser.specs.Grammar.{tree}
 use Rattle.typst_cli.specs.PrintedEdit.{range_line, edit_printed}
 use Rattle.typst_cli.specs.PrintedTree.{lines, node_lines, deeper, tree_printed}

@@ -6,9 +6,9 @@ use Rattle.std.specs.declared.io.Error.{Error}
 use Rattle.std.specs.declared.io.ErrorKind.TheVariants as kind
 use Rattle.std.specs.Str.{IsUtf8}
 use Rattle.std.specs.declared.ops.Range.{Range}
-use Rattle.typst_kinds.specs.declared.error.SourceError.{SourceError}
-use Rattle.typst_kinds.specs.declared.error.SourceError.TheVariants as source_error
-use Rattle.typst_lines.specs.UnicodeTables.{unicode_classes}
+use Rattle.typst_parser.specs.SourceError.{SourceError}
+use Rattle.typst_parser.specs.SourceError.TheVariants as source_error
+use Rattle.typst_parser.specs.UnicodeTables.{unicode_classes}
 use Rattle.std.specs.Str.{chars}
 use Rattle.typst_parser.specs.Grammar.{tree}
 use Rattle.typst_parser.specs.Headline.{edited, numbered_in}

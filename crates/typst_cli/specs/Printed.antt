@@ -2,11 +2,11 @@
 use Rattle.std.specs.Prelude.{ℕ, ◌+◌, List, [], ◌∷◌, ◌++◌, length, codes, Option, Some, None, if◌then◌else◌}
 use Rattle.std.specs.Fmt.{decimal}
 use Rattle.std.specs.Str.{chars, bytes_eq}
-use Rattle.typst_lines.specs.Lines.{line_table, units}
-use Rattle.typst_lines.specs.declared.lines.Line.{Line}
+use Rattle.typst_parser.specs.Lines.{line_table, units}
+use Rattle.typst_parser.specs.Line.{Line}
 use Rattle.typst_cli.specs.declared.command.Command.{Command}
 use Rattle.typst_cli.specs.declared.command.Command.TheVariants.{Lines, Tree, Html}
-use Rattle.typst_lines.specs.UnicodeTables.{unicode_classes}
+use Rattle.typst_parser.specs.UnicodeTables.{unicode_classes}
 use Rattle.typst_cli.specs.PrintedHtml.{html_printed}
 use Rattle.typst_cli.specs.PrintedTree.{tree_printed}
 

@@ -3,7 +3,7 @@ use Rattle.std.specs.Prelude.{◌≡◌, ◌≤◌, ℕ, List, ◌++◌, length,
 use Rattle.std.specs.Str.{IsCharBoundary}
 use Rattle.std.specs.Fmt.{decimal}
 use Rattle.std.specs.declared.ops.Range.{Range}
-use Rattle.typst_lines.specs.UnicodeTables.{unicode_classes}
+use Rattle.typst_parser.specs.UnicodeTables.{unicode_classes}
 use Rattle.typst_parser.specs.Headline.{edited}
 use Rattle.typst_cli.specs.Asked.{Asked, about, edits}
 use Rattle.typst_cli.specs.Printed.{printed}

@@ -1,9 +1,9 @@
 -- The HTML of a text as it is printed.
 use Rattle.std.specs.Prelude.{ℕ, List, ◌++◌, codes}
 use Rattle.std.specs.Str.{chars}
-use Rattle.typst_lines.specs.Classes.{CharClasses}
+use Rattle.typst_parser.specs.Classes.{CharClasses}
 use Rattle.typst_parser.specs.Grammar.{tree}
-use Rattle.typst_highlight.specs.Html.{html_of}
+use Rattle.typst_parser.specs.Html.{html_of}
 
 -- the HTML of a text's tree, by some classes of characters, as it is printed
 abbrev pub html_printed : CharClasses → List ℕ → List ℕ

@@ -2,13 +2,13 @@
 use Rattle.std.specs.Prelude.{ℕ, ◌+◌, List, [], ◌∷◌, ◌++◌, length, codes, encode_utf8, if◌then◌else◌}
 use Rattle.std.specs.Str.{chars}
 use Rattle.std.specs.Fmt.{decimal}
-use Rattle.typst_lines.specs.Newline.{is_newline}
-use Rattle.typst_kinds.specs.declared.diagnostic.Severity.{Severity}
-use Rattle.typst_kinds.specs.declared.diagnostic.Severity.TheVariants as severity
-use Rattle.typst_tree.specs.Diagnostic.{Diagnostic, Hint}
-use Rattle.typst_kinds.specs.Head.{Head}
-use Rattle.typst_tree.specs.Tree.{Forest, none, more, Tree, joined, text_of}
-use Rattle.typst_lines.specs.Classes.{CharClasses}
+use Rattle.typst_parser.specs.Newline.{is_newline}
+use Rattle.typst_parser.specs.Severity.{Severity}
+use Rattle.typst_parser.specs.Severity.TheVariants as severity
+use Rattle.typst_parser.specs.Diagnostic.{Diagnostic, Hint}
+use Rattle.typst_parser.specs.Head.{Head}
+use Rattle.typst_parser.specs.Tree.{Forest, none, more, Tree, joined, text_of}
+use Rattle.typst_parser.specs.Classes.{CharClasses}
 use Rattle.typst_parser.specs.Grammar.{tree, tree_code, tree_math}
 use Rattle.typst_cli.specs.Variants.{variant_name}
 

@@ -1,7 +1,7 @@
 -- The names of kinds in printed trees.
 use Rattle.std.specs.Prelude.{ℕ, List, codes}
-use Rattle.typst_kinds.specs.declared.kind.SyntaxKind.{SyntaxKind}
-use Rattle.typst_kinds.specs.declared.kind.SyntaxKind.TheVariants as kind
+use Rattle.typst_parser.specs.SyntaxKind.{SyntaxKind}
+use Rattle.typst_parser.specs.SyntaxKind.TheVariants as kind
 
 -- the name that the code has for each kind
 abbrev pub variant_name : SyntaxKind → List ℕ

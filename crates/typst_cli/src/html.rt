@@ -1,7 +1,7 @@
 //! The word `html`.
 
 ghost use Rattle.std.specs.Prelude.{◌≡◌, [], ◌∷◌, ◌++◌, IfOk, string_bytes};
-ghost use Rattle.typst_highlight.specs.Html.{plain, read};
+ghost use Rattle.typst_parser.specs.Html.{plain, read};
 ghost use Rattle.typst_cli.specs.PrintedHtml.{html_printed};
 
 use std::alloc::{AllocError, Global};

@@ -15,3 +15,10 @@ mod variants;
 pub use command::Command;
 pub use failure::Failure;
 pub use program::run;
+// What programs name of the library beside what is answered to words.
+pub use typst_parser::{
+    Block, Classes, Diagnostic, FileId, Hint, Lines, LinkedNode, Mark, Note, Severity, Source,
+    SourceError, Span, SpanNumber, SubRange, SyntaxKind, SyntaxMode, SyntaxNode, Tag, Tagged,
+    UnicodeClasses, highlight, is_newline, is_ordered, link_prefix, parse, parse_code, parse_math,
+    parse_noted, tag_stretches,
+};

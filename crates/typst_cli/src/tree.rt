@@ -1,7 +1,7 @@
 //! The word `tree`.
 
 ghost use Rattle.std.specs.Prelude.{◌≡◌, ◌+◌, ◌<◌, ◌^◌, ◌++◌, length, IfOk, OnOk, string_bytes};
-ghost use Rattle.typst_tree.specs.Tree.{text_of};
+ghost use Rattle.typst_parser.specs.Tree.{text_of};
 ghost use Rattle.typst_cli.specs.PrintedTree as spec;
 
 pub use crate::variants::variant_name;

@@ -10,7 +10,7 @@ use Rattle.typst_kinds.specs.declared.operator.BinOp.TheVariants as binary
 use Rattle.typst_kinds.specs.declared.operator.UnOp.{UnOp}
 use Rattle.typst_kinds.specs.declared.operator.UnOp.TheVariants as unary
 use Rattle.typst_language.specs.declared.calls.Block.TheVariants as block
-use Rattle.typst_language.specs.declared.calls.Call.TheVariants.{CodeExpr}
+use Rattle.typst_language.specs.Calls.Call.{CodeExpr}
 use Rattle.typst_language.specs.Shape.{Shape, becomes}
 use Rattle.typst_language.specs.Syntax.{Parser, ◌>>=◌, ◌>>◌}
 use Rattle.typst_language.specs.Syntax.Op.{further}

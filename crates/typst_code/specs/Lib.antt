@@ -20,7 +20,6 @@ pub use Rattle.typst_lookahead.specs.Expected
 pub use Rattle.typst_lookahead.specs.Noted
 pub use Rattle.typst_lookahead.specs.Remembered
 pub use Rattle.typst_lookahead.specs.View
-pub use Rattle.typst_lookahead.specs.declared.depth
 pub use Rattle.typst_markup.specs.Attachments
 pub use Rattle.typst_markup.specs.Delimited
 pub use Rattle.typst_markup.specs.Embedded

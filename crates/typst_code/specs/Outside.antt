@@ -2,12 +2,9 @@
 use Rattle.std.specs.Prelude.{◌≡◌, Result}
 use Rattle.std.specs.declared.alloc.AllocError.{AllocError}
 use Rattle.typst_language.specs.declared.calls.Block.TheVariants as block
-use Rattle.typst_language.specs.declared.calls.Call.{Call}
-use Rattle.typst_language.specs.Calls.{Answer}
 use Rattle.typst_language.specs.Meaning.{Level}
 use Rattle.typst_language.specs.Syntax.{Parser}
-use Rattle.typst_lookahead.specs.declared.depth.Answered.{Answered}
-use Rattle.typst_lookahead.specs.View.{View, Frame, Fills, ReadsBlock, Reads, ReadsAs, ReadsBy}
+use Rattle.typst_lookahead.specs.View.{View, Frame, Fills, ReadsBlock, Reads, ReadsBy}
 use Rattle.typst_markup.specs.Markup.{content_block}
 use Rattle.typst_lines.specs.Place.{Place}
 use Rattle.typst_language.specs.declared.reading.Reading.{Reading}
@@ -28,7 +25,3 @@ MeansAround f q old r new = (l : Level) → Fills l f → Blocks l → Reads l q
 -- the same where the code answers in its own terms
 abbrev pub MeansAroundBy : {A B : Type 0} → Frame → (B → A) → Parser A → View → Result B AllocError → View → Type 0
 MeansAroundBy f told q old r new = (l : Level) → Fills l f → Blocks l → ReadsBy l told q old r new
-
--- the same of what answers as a call
-abbrev pub MeansAroundAs : Frame → (call : Call) → Parser (Answer call) → View → Result Answered AllocError → View → Type 0
-MeansAroundAs f call q old r new = (l : Level) → Fills l f → Blocks l → ReadsAs l call q old r new

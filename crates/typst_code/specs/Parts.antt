@@ -2,7 +2,7 @@
 use Rattle.std.specs.Prelude.{Bool, true, false, codes}
 use Rattle.typst_kinds.specs.Kinds.{same, is_terminator}
 use Rattle.typst_kinds.specs.declared.kind.SyntaxKind.TheVariants as kind
-use Rattle.typst_language.specs.declared.calls.Call.TheVariants.{CodeExpr}
+use Rattle.typst_language.specs.Calls.Call.{CodeExpr}
 use Rattle.typst_language.specs.declared.reading.AtNewline.TheVariants.{Continue}
 use Rattle.typst_language.specs.declared.reading.Reading.{Reading}
 use Rattle.typst_language.specs.Syntax.{Parser, ◌>>=◌}

@@ -5,7 +5,7 @@ use Rattle.typst_kinds.specs.Sets as set
 use Rattle.typst_kinds.specs.declared.kind.SyntaxKind.{SyntaxKind}
 use Rattle.typst_kinds.specs.declared.kind.SyntaxKind.TheVariants as kind
 use Rattle.typst_kinds.specs.SeenNames.{has_name, with_name}
-use Rattle.typst_language.specs.declared.calls.Call.TheVariants.{Pattern}
+use Rattle.typst_language.specs.Calls.Call.{Pattern}
 use Rattle.typst_language.specs.declared.calls.Role.{Role}
 use Rattle.typst_language.specs.declared.calls.Role.TheVariants as role
 use Rattle.typst_language.specs.Shape.{Change, Shape, Seen, becomes, encloses}

@@ -5,7 +5,7 @@ use Rattle.typst_kinds.specs.Sets as set
 use Rattle.typst_kinds.specs.declared.kind.SyntaxKind.{SyntaxKind}
 use Rattle.typst_kinds.specs.declared.kind.SyntaxKind.TheVariants as kind
 use Rattle.typst_language.specs.declared.calls.Block.TheVariants as block
-use Rattle.typst_language.specs.declared.calls.Call.TheVariants.{CodeExpr}
+use Rattle.typst_language.specs.Calls.Call.{CodeExpr}
 use Rattle.typst_language.specs.declared.calls.Role.TheVariants as role
 use Rattle.typst_language.specs.Shape.{Shape, becomes}
 use Rattle.typst_language.specs.Shape.Making.{surprise}

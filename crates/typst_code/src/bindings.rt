@@ -6,11 +6,10 @@ ghost use Rattle.typst_code.specs.Bindings as spec;
 
 use crate::parameters::params;
 use crate::parts::expression_if;
-use crate::patterns::deeper_pattern;
 use std::alloc::AllocError;
 use typst_kinds::{Names, SyntaxKind};
 use typst_language::{Change, Role};
-use typst_lookahead::{Levels, Parser};
+use typst_lookahead::{Levels, Parser, deeper_pattern};
 
 /// What is bound.
 #[derive(Debug, Clone, Copy, PartialEq, Eq)]

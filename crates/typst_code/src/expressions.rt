@@ -19,8 +19,7 @@ use crate::statements::{
 use crate::{let_binding, named, placeholder};
 use std::alloc::AllocError;
 use typst_kinds::{Assoc, BinOp, SyntaxKind, UnOp};
-use typst_language::Call;
-use typst_lookahead::{Answered, Levels, Parser, deeper};
+use typst_lookahead::{Levels, Parser, deeper_code_expr};
 use typst_markup::equation;
 
 /// An operator and its operand.
@@ -30,8 +29,7 @@ fn unary_expr<L: Levels>(g: &L, p: &mut Parser<'_>, op: UnOp) -> Result<(), Allo
 {
     let from = p.marker();
     p.eat(g)?;
-    let operand = Call::CodeExpr(false, op.precedence());
-    deeper(g, p, operand, Answered::Nothing)?;
+    deeper_code_expr(g, p, false, op.precedence())?;
     p.wrap(from, SyntaxKind::Unary)?;
     Ok(())
 }
@@ -96,8 +94,7 @@ fn binary_expr<L: Levels>(
     ensures fine { IfOk result (λ kind. IfSome kind (λ k. is_error k ≡ false)) }
 {
     p.eat(g)?;
-    let operand = Call::CodeExpr(false, operand_least(op));
-    deeper(g, p, operand, Answered::Nothing)?;
+    deeper_code_expr(g, p, false, operand_least(op))?;
     Ok(Some(SyntaxKind::Binary))
 }
 

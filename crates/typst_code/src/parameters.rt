@@ -8,11 +8,11 @@ ghost use Rattle.typst_code.specs.Params as spec;
 ghost use Rattle.typst_code.specs.Patterns.{name_of, name_of_one};
 
 use crate::parts::{code_expression, separator};
-use crate::patterns::{deeper_pattern, sink, wrap_named, wrap_sink};
+use crate::patterns::{sink, wrap_named, wrap_sink};
 use std::alloc::AllocError;
 use typst_kinds::{Names, SyntaxKind, set};
 use typst_language::{AtNewline, Change, Role};
-use typst_lookahead::{Levels, Parser};
+use typst_lookahead::{Levels, Parser, deeper_pattern};
 use typst_tree::SyntaxNode;
 
 /// Whether the first of some nodes is a name.

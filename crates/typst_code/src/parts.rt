@@ -5,15 +5,14 @@ ghost use Rattle.typst_code.specs.Parts as spec;
 
 use std::alloc::AllocError;
 use typst_kinds::SyntaxKind;
-use typst_language::Call;
-use typst_lookahead::{Answered, Levels, Parser, deeper};
+use typst_lookahead::{Levels, Parser, deeper_code_expr};
 
 /// Reads an expression with all its operators.
 pub fn code_expression<L: Levels>(g: &L, p: &mut Parser<'_>) -> Result<(), AllocError>
     requires { L.may_call g.now }
     ensures { Means (L.frame g.now) spec.code_expression p.old result p.new }
 {
-    deeper(g, p, Call::CodeExpr(false, 0), Answered::Nothing)?;
+    deeper_code_expr(g, p, false, 0)?;
     Ok(())
 }
 
@@ -22,7 +21,7 @@ pub(crate) fn atomic_expression<L: Levels>(g: &L, p: &mut Parser<'_>) -> Result<
     requires { L.may_call g.now }
     ensures { Means (L.frame g.now) spec.atomic_expression p.old result p.new }
 {
-    deeper(g, p, Call::CodeExpr(true, 0), Answered::Nothing)?;
+    deeper_code_expr(g, p, true, 0)?;
     Ok(())
 }
 

@@ -11,27 +11,9 @@ use crate::parts::{atomic_expression, separator};
 use crate::parts_listing::Parts;
 use std::alloc::{AllocError, Global};
 use typst_kinds::{Names, SyntaxKind, Text, set};
-use typst_language::{AtNewline, Call, Change, Role};
-use typst_lookahead::{Anywhere, Levels, Parser, too_deep};
+use typst_language::{AtNewline, Change, Role};
+use typst_lookahead::{Levels, Parser, deeper_pattern};
 use typst_tree::SyntaxNode;
-
-/// Reads a pattern one level deeper; answers the names that were seen.
-pub fn deeper_pattern<L: Levels>(
-    g: &L,
-    p: &mut Parser<'_>,
-    role: Role,
-    names: Names,
-) -> Result<Names, AllocError>
-    requires { L.may_call g.now }
-    ensures { Means (L.frame g.now) (spec.deeper_pattern role names) p.old result p.new }
-{
-    if g.levels() == 0 {
-        too_deep(g, p, &Anywhere)?;
-        return Ok(names);
-    }
-    let answered = g.call(p, Call::Pattern(role, names))?;
-    Ok(answered.names(p.alloc()))
-}
 
 /// The name that the first of some nodes is.
 pub(crate) fn name_of(alloc: Global, nodes: &[SyntaxNode]) -> Result<Option<Text>, AllocError>

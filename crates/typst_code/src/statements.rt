@@ -9,11 +9,11 @@ ghost use Rattle.typst_code.specs.Outside.{MeansAround, MeansAroundBy};
 
 use crate::arguments::arguments;
 use crate::sequences::{read_code, read_content};
-use crate::{code_expression, deeper_pattern, expression_if};
+use crate::{code_expression, expression_if};
 use std::alloc::AllocError;
 use typst_kinds::{Names, SyntaxKind, set};
-use typst_language::{Call, Role};
-use typst_lookahead::{Answered, Levels, Parser, deeper};
+use typst_language::Role;
+use typst_lookahead::{Levels, Parser, deeper_code_expr, deeper_pattern};
 use typst_markup::begins_code;
 
 /// `{ .. }` or `[ .. ]`
@@ -123,7 +123,7 @@ pub(crate) fn contextual<L: Levels>(
 {
     let from = p.marker();
     p.eat(g)?;
-    deeper(g, p, Call::CodeExpr(atomic, 0), Answered::Nothing)?;
+    deeper_code_expr(g, p, atomic, 0)?;
     p.wrap(from, SyntaxKind::Contextual)?;
     Ok(())
 }

@@ -50,7 +50,7 @@ block-part-law text c u ns e =
 -- ---- places
 
 -- a place on, the text is as long as before
-width-kept : (n : ℕ) (b a : List ℕ) → width (moved_from n b a).behind + width (moved_from n b a).ahead ≡ width b + width a
+width-kept : (n : ℕ) (b a : List ℕ) → width (moved_from n b a).before + width (moved_from n b a).ahead ≡ width b + width a
 width-kept zero b a = refl
 width-kept (suc n) b [] = refl
 width-kept (suc n) b (c ∷ cs) =
@@ -63,7 +63,7 @@ fit-more : (ns : List Note) (n : Note) → AllFit ns → n.start < 2 ^ 64 - 1 �
 fit-more [] n h s = (s, tt)
 fit-more (m ∷ ns) n h s = (h.0, fit-more ns n h.1 s)
 
-fits-from : (lv : ℕ) (z : Place) (asks : List Ask) (h : Log) (was ns : List Note) → width z.behind + width z.ahead < 2 ^ 64 - 1 → h.notes ≡ Some was → AllFit was → (logged lv z h asks).notes ≡ Some ns → AllFit ns
+fits-from : (lv : ℕ) (z : Place) (asks : List Ask) (h : Log) (was ns : List Note) → width z.before + width z.ahead < 2 ^ 64 - 1 → h.notes ≡ Some was → AllFit was → (logged lv z h asks).notes ≡ Some ns → AllFit ns
 unfolding position
 fits-from lv z [] h was ns small e fit is = subst AllFit (same-notes was ns (sym e ∙ is)) fit
   where
@@ -73,8 +73,8 @@ fits-from lv z (looked at look ∷ asks) h was ns small e fit is = fits-from lv 
 fits-from lv z (marked at gap fewer m s ∷ asks) h was ns small e fit is =
     let y = moved at z in
     let note : Note = record { mark = m; before = position y; start = position (moved gap y); levels = lv - fewer; state = s; reach = h.reach; least = h.least } in
-    let one = width-kept at z.behind z.ahead in
-    let two = width-kept gap y.behind y.ahead in
+    let one = width-kept at z.before z.ahead in
+    let two = width-kept gap y.before y.ahead in
     fits-from lv z asks (with_note gap (lv - fewer) m s y h) (was ++ note ∷ []) ns small (noted-more note h.notes was e) (fit-more was note fit (omega (arith, one, two, small))) is
 
 pub part-fits-law : PartFitsLaw

@@ -183,7 +183,7 @@ module _ (in_order : InOrderLaw) (k : CharClasses) (front old rest : List ℕ) w
 
 pub byte-of : (at n : ℕ) (text : List ℕ) → position (moved n (moved at (start_of text))) ≡ width (take (at + n) text)
 unfolding position
-byte-of at n text = ap (λ (y : Place). width y.behind) (sym (moved-sum at n (start_of text))) ∙ width-moved (at + n) text
+byte-of at n text = ap (λ (y : Place). width y.before) (sym (moved-sum at n (start_of text))) ∙ width-moved (at + n) text
 
 pub byte-at : (at : ℕ) (text : List ℕ) → position (moved at (start_of text)) ≡ width (take at text)
 unfolding position

@@ -213,12 +213,12 @@ begin-by front old rest end past [] e a f = tt
 begin-by front old rest end past (looked at look ∷ asks) e a f =
     let d = past + at in
     let there : end + at ≡ (length front + length old) + d = omega (arith, e) in
-    let place : moved (end + at) (text_with front old rest) ≡ moved d (record { behind = onto old (onto front []); ahead = rest }) = ap (λ n. moved n (text_with front old rest)) there ∙ past-is d front old rest in
+    let place : moved (end + at) (text_with front old rest) ≡ moved d (record { before = onto old (onto front []); ahead = rest }) = ap (λ n. moved n (text_with front old rest)) there ∙ past-is d front old rest in
     let one = length-append front (old ++ rest) in
     let two = length-append old rest in
     let room : d ≤ length rest = omega (arith, a.0, there, one, two) in
     let early : width (front ++ old) ≡ width (onto old (onto front [])) = omega (arith, width-append front old, width-onto old (onto front []), width-onto front [], width-none) in
-    let begins : width (onto old (onto front [])) < near look.back (moved d (record { behind = onto old (onto front []); ahead = rest })) = subst (λ n. n < near look.back (moved d (record { behind = onto old (onto front []); ahead = rest }))) early (subst (λ y. width (front ++ old) < near look.back y) place f.0) in
+    let begins : width (onto old (onto front [])) < near look.back (moved d (record { before = onto old (onto front []); ahead = rest })) = subst (λ n. n < near look.back (moved d (record { before = onto old (onto front []); ahead = rest }))) early (subst (λ y. width (front ++ old) < near look.back y) place f.0) in
     (near-by look.back d (onto old (onto front [])) rest room begins, room, begin-by front old rest end past asks e a.1 f.1)
 begin-by front old rest end past (marked at gap fewer m s ∷ asks) e a f = begin-by front old rest end past asks e a f
 
@@ -227,10 +227,10 @@ begin-to front old rest end past [] e f = tt
 begin-to front old rest end past (looked at look ∷ asks) e f =
     let d = past + at in
     let there : end + at ≡ (length front + length old) + d = omega (arith, e) in
-    let place : moved (end + at) (text_with front old rest) ≡ moved d (record { behind = onto old (onto front []); ahead = rest }) = ap (λ n. moved n (text_with front old rest)) there ∙ past-is d front old rest in
+    let place : moved (end + at) (text_with front old rest) ≡ moved d (record { before = onto old (onto front []); ahead = rest }) = ap (λ n. moved n (text_with front old rest)) there ∙ past-is d front old rest in
     let early : width (front ++ old) ≡ width (onto old (onto front [])) = omega (arith, width-append front old, width-onto old (onto front []), width-onto front [], width-none) in
     let begins = near-to look.back d (onto old (onto front [])) rest f.0 f.1 in
-    (subst (λ y. width (front ++ old) < near look.back y) (sym place) (subst (λ n. n < near look.back (moved d (record { behind = onto old (onto front []); ahead = rest }))) (sym early) begins), begin-to front old rest end past asks e f.2)
+    (subst (λ y. width (front ++ old) < near look.back y) (sym place) (subst (λ n. n < near look.back (moved d (record { before = onto old (onto front []); ahead = rest }))) (sym early) begins), begin-to front old rest end past asks e f.2)
 begin-to front old rest end past (marked at gap fewer m s ∷ asks) e f = begin-to front old rest end past asks e f
 
 -- ---- the two notes of a block

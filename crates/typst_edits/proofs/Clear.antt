@@ -4,10 +4,9 @@ use Rattle.std.specs.List.{flat_map}
 use Rattle.typst_lines.specs.Place.{Place, moved}
 use Rattle.typst_lines.specs.Classes.{CharClasses}
 use Rattle.typst_language.specs.declared.calls.Block.{Block}
-use Rattle.typst_language.specs.declared.calls.Call.{Call}
 use Rattle.typst_language.specs.declared.reading.Reading.{Reading}
 use Rattle.typst_language.specs.Ask.{SameIn}
-use Rattle.typst_language.specs.Calls.{Answer}
+use Rattle.typst_language.specs.Calls.{Call, Answer}
 use Rattle.typst_language.specs.Hand.{at_trivia, hand_at}
 use Rattle.typst_language.specs.Point.{Point, forgot}
 use Rattle.typst_language.specs.Shape.{Shape}

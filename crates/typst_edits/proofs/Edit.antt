@@ -22,10 +22,10 @@ take-front zero xs ys zs h = refl
 take-front (suc n) [] ys zs h = absurd (omega arith)
 take-front (suc n) (x ∷ xs) ys zs h = let l : n ≤ length xs = omega arith in ap (λ u. Some x ∷ u) (take-front n xs ys zs l)
 
-same-before : (at : ℕ) (look : Look) (behind front ys zs : List ℕ) → at + look.front ≤ length front → Agree look (moved at (record { behind = behind; ahead = front ++ ys })) (moved at (record { behind = behind; ahead = front ++ zs }))
-same-before zero look behind front ys zs h = record { behind = refl; ahead = take-front look.front front ys zs (omega arith) }
-same-before (suc n) look behind [] ys zs h = absurd (omega arith)
-same-before (suc n) look behind (c ∷ front) ys zs h = same-before n look (c ∷ behind) front ys zs (omega arith)
+same-before : (at : ℕ) (look : Look) (before front ys zs : List ℕ) → at + look.front ≤ length front → Agree look (moved at (record { before = before; ahead = front ++ ys })) (moved at (record { before = before; ahead = front ++ zs }))
+same-before zero look before front ys zs h = record { before = refl; ahead = take-front look.front front ys zs (omega arith) }
+same-before (suc n) look before [] ys zs h = absurd (omega arith)
+same-before (suc n) look before (c ∷ front) ys zs h = same-before n look (c ∷ before) front ys zs (omega arith)
 
 pub before-same : (asks : List Ask) (front old new rest : List ℕ) → AllEndBy (length front) asks → SameIn asks (text_with front old rest) (text_with front new rest)
 before-same [] front old new rest h = tt
@@ -35,33 +35,33 @@ before-same (marked at gap fewer mark s ∷ asks) front old new rest h = (tt, be
 -- ---- after it
 
 abbrev pub onto : List ℕ → List ℕ → List ℕ
-onto [] behind = behind
-onto (c ∷ cs) behind = onto cs (c ∷ behind)
+onto [] before = before
+onto (c ∷ cs) before = onto cs (c ∷ before)
 
-moved-over : (xs ys behind : List ℕ) → moved (length xs) (record { behind = behind; ahead = xs ++ ys }) ≡ record { behind = onto xs behind; ahead = ys }
-moved-over [] ys behind = refl
-moved-over (c ∷ xs) ys behind =
+moved-over : (xs ys before : List ℕ) → moved (length xs) (record { before = before; ahead = xs ++ ys }) ≡ record { before = onto xs before; ahead = ys }
+moved-over [] ys before = refl
+moved-over (c ∷ xs) ys before =
     let e : length (c ∷ xs) ≡ suc (length xs) = omega arith in
-    ap (λ n. moved n (record { behind = behind; ahead = (c ∷ xs) ++ ys })) e ∙ moved-over xs ys (c ∷ behind)
+    ap (λ n. moved n (record { before = before; ahead = (c ∷ xs) ++ ys })) e ∙ moved-over xs ys (c ∷ before)
 
 same-after : (n : ℕ) (look : Look) (known bs cs rest : List ℕ) → look.back ≤ n + length known → n ≤ length rest
-    → Agree look (moved n (record { behind = known ++ bs; ahead = rest })) (moved n (record { behind = known ++ cs; ahead = rest }))
-same-after zero look known bs cs rest h k = record { behind = take-front look.back known bs cs (omega arith); ahead = refl }
+    → Agree look (moved n (record { before = known ++ bs; ahead = rest })) (moved n (record { before = known ++ cs; ahead = rest }))
+same-after zero look known bs cs rest h k = record { before = take-front look.back known bs cs (omega arith); ahead = refl }
 same-after (suc n) look known bs cs [] h k = absurd (omega arith)
 same-after (suc n) look known bs cs (c ∷ rest) h k = same-after n look (c ∷ known) bs cs rest (omega arith) (omega arith)
 
 after-look : (at : ℕ) (look : Look) (d : ℕ) (bs cs rest : List ℕ) → look.back ≤ d + at → d + at ≤ length rest
-    → Agree look (moved at (moved d (record { behind = bs; ahead = rest }))) (moved at (moved d (record { behind = cs; ahead = rest })))
+    → Agree look (moved at (moved d (record { before = bs; ahead = rest }))) (moved at (moved d (record { before = cs; ahead = rest })))
 after-look at look d bs cs rest h k =
-    rw (← moved-sum d at (record { behind = bs; ahead = rest }), ← moved-sum d at (record { behind = cs; ahead = rest })) (same-after (d + at) look [] bs cs rest (omega arith) k)
+    rw (← moved-sum d at (record { before = bs; ahead = rest }), ← moved-sum d at (record { before = cs; ahead = rest })) (same-after (d + at) look [] bs cs rest (omega arith) k)
 
-after-looks : (asks : List Ask) (d : ℕ) (bs cs rest : List ℕ) → AllBeginIn d rest asks → SameIn asks (moved d (record { behind = bs; ahead = rest })) (moved d (record { behind = cs; ahead = rest }))
+after-looks : (asks : List Ask) (d : ℕ) (bs cs rest : List ℕ) → AllBeginIn d rest asks → SameIn asks (moved d (record { before = bs; ahead = rest })) (moved d (record { before = cs; ahead = rest }))
 after-looks [] d bs cs rest h = tt
 after-looks (looked at look ∷ asks) d bs cs rest h = (after-look at look d bs cs rest h.0 h.1, after-looks asks d bs cs rest h.2)
 after-looks (marked at gap fewer mark s ∷ asks) d bs cs rest h = (tt, after-looks asks d bs cs rest h)
 
 -- so many characters past the edit
-pub past-is : (d : ℕ) (front mid rest : List ℕ) → moved ((length front + length mid) + d) (text_with front mid rest) ≡ moved d (record { behind = onto mid (onto front []); ahead = rest })
+pub past-is : (d : ℕ) (front mid rest : List ℕ) → moved ((length front + length mid) + d) (text_with front mid rest) ≡ moved d (record { before = onto mid (onto front []); ahead = rest })
 past-is d front mid rest =
     moved-sum (length front + length mid) d _ ∙ ap (moved d) (moved-sum (length front) (length mid) _ ∙ ap (moved (length mid)) (moved-over front (mid ++ rest) []) ∙ moved-over mid rest (onto front []))
 

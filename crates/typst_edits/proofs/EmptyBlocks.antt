@@ -162,7 +162,7 @@ module _ (k : CharClasses) (levels : ℕ) (z : Place) (s : Point) where
       let alike : hand_of l y p ≡ g = (λ i. hand_at k (h.held i) (known i) y) in
       let ends_it : ends_block g.kind ≡ true = stops-by (same kind.RightBracket g.kind) (ends_block g.kind) (ap (λ (a : Hand). ends ends_block 0 a.kind) (sym alike) ∙ e) in
       let w = moved t.gap y in
-      token-still k w.behind w.ahead (ap ends_block (sym (hand-token k mode.Markup t y)) ∙ ends_it)
+      token-still k w.before w.ahead (ap ends_block (sym (hand-token k mode.Markup t y)) ∙ ends_it)
 
 -- ---- one note
 

@@ -216,7 +216,7 @@ end-by true false e = absurd (cc)
 end-by false c e = e
 
 -- at the text's end no token looks back
-pub end-look : (k : CharClasses) (b a : List ℕ) → a ≡ [] → (look (token k mode.Markup) (record { behind = b; ahead = a })).back ≡ 0
+pub end-look : (k : CharClasses) (b a : List ℕ) → a ≡ [] → (look (token k mode.Markup) (record { before = b; ahead = a })).back ≡ 0
 unfolding token
 end-look k b [] e = refl
 end-look k b (c ∷ a) e = absurd (cc)
@@ -234,7 +234,7 @@ empty-text-law k front old rest past t e known =
     let h = hand_of r.level z r.point in
     let last : y.ahead ≡ [] = ap (λ n. (moved n z).ahead) (sym (hand-gap r.level z t.gap r.point (record { held = refl; trivia = t; known = known; gap = refl })))
     ∙ hand-ends k mode.Markup r.point.known z (end-by (same kind.RightBracket h.kind) (is_end h.kind) e) in
-    let none : (token_look r.level y).back ≡ 0 = end-look k y.behind y.ahead last in
+    let none : (token_look r.level y).back ≡ 0 = end-look k y.before y.ahead last in
     let asked = onwards-looks r (true, 0) (moved t.gap z) s (record { held = refl; trivia = _; known = refl; gap = refl }) stops in
     record {
       note = one.note;

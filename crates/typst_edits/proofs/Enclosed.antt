@@ -10,7 +10,7 @@ use Rattle.typst_tree.specs.Tree.{Tree, text_of}
 use Rattle.typst_lines.specs.Classes.{CharClasses}
 use Rattle.typst_language.proofs.TokenTexts.{text-token}
 use Rattle.typst_language.specs.declared.calls.Block.{Block}
-use Rattle.typst_language.specs.declared.calls.Call.{Call}
+use Rattle.typst_language.specs.Calls.{Call}
 use Rattle.typst_language.specs.declared.reading.AtNewline.{AtNewline}
 use Rattle.typst_language.specs.declared.reading.AtNewline.TheVariants.{Continue, Stop, ContextualContinue, StopParBreak, RequireColumn}
 use Rattle.typst_language.specs.declared.reading.Reading.{Reading}

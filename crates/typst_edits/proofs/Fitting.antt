@@ -24,7 +24,7 @@ use Rattle.typst_edits.proofs.Enclosed.{Alone, state_from}
 -- each place shows the same as itself
 pub same-here : (asks : List Ask) (z : Place) → SameIn asks z z
 same-here [] z = tt
-same-here (looked at look ∷ asks) z = (record { behind = refl; ahead = refl }, same-here asks z)
+same-here (looked at look ∷ asks) z = (record { before = refl; ahead = refl }, same-here asks z)
 same-here (marked at gap fewer mark s ∷ asks) z = (tt, same-here asks z)
 
 tail-none : {A : Type 0} (ys : List A) (y : A) → ys ++ y ∷ [] ≡ [] → ⊥

@@ -116,7 +116,7 @@ minus-bare k p =
 emphasis-bare : (k : CharClasses) (s : SyntaxKind) (p : Place) → is_still s ≡ false → Bare (emphasis k s) p
 unfolding emphasis sign text_from
 emphasis-bare k s p h =
-    bare-if (passes k.word (slice_get p.behind 0)) _ _ p (bare-if (passes k.word (scout 1 p)) _ _ p (text-bare k (moved 1 p)) h) h
+    bare-if (passes k.word (slice_get p.before 0)) _ _ p (bare-if (passes k.word (scout 1 p)) _ _ p (text-bare k (moved 1 p)) h) h
 
 heading-bare : (k : CharClasses) (p : Place) → Bare (heading k) p
 unfolding heading
@@ -139,7 +139,7 @@ link-end-bare (quoted e) = refl
 
 link-bare : (p : Place) → Bare link p
 unfolding link
-link-bare p = link-end-bare (spanned in_link (brackets []) p.behind p.ahead).1
+link-bare p = link-end-bare (spanned in_link (brackets []) p.before p.ahead).1
 
 link-or-text-bare : (k : CharClasses) (p : Place) → Bare (link_or_text k) p
 unfolding link_or_text
@@ -170,7 +170,7 @@ unfolding raw
 raw-bare p =
     let ticks = run (λ c. c == 96) p in
     let q = past (λ c. c == 96) p in
-    bare-if (length ticks == 2) _ _ q refl (raw-end-bare (spanned in_raw (fence (length ticks) 0) q.behind q.ahead).1)
+    bare-if (length ticks == 2) _ _ q refl (raw-end-bare (spanned in_raw (fence (length ticks) 0) q.before q.ahead).1)
 
 either : (P : Reader Memory Token → Type 0) (b : Bool) (x y : Reader Memory Token) → P x → P y → P (if b then x else y)
 either P true x y h i = h
@@ -255,14 +255,14 @@ block-fore : (p : Place) → (look block_comment p).back ≡ 0
 unfolding block_comment
 block-fore p =
     let q = moved 2 p in
-    let n = length (spanned in_comment (comment 0 0) q.behind q.ahead).0 in
-    let one = comment-back q.ahead q.behind (comment 0 0) in
+    let n = length (spanned in_comment (comment 0 0) q.before q.ahead).0 in
+    let one = comment-back q.ahead q.before (comment 0 0) in
     let two = skip-back n q.ahead no_look refl in
     skip-back 2 p.ahead _ (omega (arith, one, two))
 
 hash-bare : (k : CharClasses) (p : Place) → Bare (hash k Markup) p
 unfolding hash shebang of_mode markup sign
-hash-bare k p = bare-if (is_none (slice_get p.behind 0)) _ _ p (bare-if (passes (λ d. d == 33) (scout 1 p)) _ _ p refl refl) refl
+hash-bare k p = bare-if (is_none (slice_get p.before 0)) _ _ p (bare-if (passes (λ d. d == 33) (scout 1 p)) _ _ p refl refl) refl
 
 slash-fore : (k : CharClasses) (p : Place) → Fore (slash k Markup) p
 unfolding slash of_mode
@@ -376,7 +376,7 @@ trivia-by : (k : CharClasses) (z : Place) (b : Bool) (a c : Ahead) (gap : ℕ) (
     → AllAhead (looked 0 (look (token k Markup) z) ∷ (if b then shift (len_at k Markup z) later else []))
 trivia-by k z true a c gap later e f g more h =
     let l = len_at k Markup z in
-    let own = token-fore k z.behind z.ahead (and-left (is_trivia (token_at k Markup z).kind) (nat_lt 0 l) e) in
+    let own = token-fore k z.before z.ahead (and-left (is_trivia (token_at k Markup z).kind) (nat_lt 0 l) e) in
     let there : moved a.gap z ≡ moved gap (moved l z) = ap (λ n. moved n z) f ∙ moved-sum l gap z in
     (own, ahead-shift l later (more (subst (λ p. (look (token k Markup) p).back ≡ 0) there h)))
 trivia-by k z false a c gap later e f g more h = (subst (λ n. (look (token k Markup) (moved n z)).back ≡ 0) g h, tt)

@@ -12,8 +12,8 @@ use Rattle.typst_lines.specs.Classes.{CharClasses}
 use Rattle.typst_language.proofs.TokenTexts.{text-token}
 use Rattle.typst_language.specs.Nodes.{token_node}
 use Rattle.typst_language.specs.declared.calls.Block.{Block}
-use Rattle.typst_language.specs.declared.calls.Call.{Call}
-use Rattle.typst_language.specs.declared.calls.Call.TheVariants.{MarkupExpr}
+use Rattle.typst_language.specs.Calls.{Call}
+use Rattle.typst_language.specs.Calls.Call.{MarkupExpr}
 use Rattle.typst_language.specs.declared.reading.Reading.{Reading}
 use Rattle.typst_language.specs.Ask.{Ask}
 use Rattle.typst_language.specs.Ask.Ask.{looked}

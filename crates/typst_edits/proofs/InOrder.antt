@@ -9,8 +9,8 @@ use Rattle.typst_tokens.specs.Sight.{width, position, hull_of}
 use Rattle.typst_candidates.specs.Records.{IsRising}
 use Rattle.typst_language.specs.declared.calls.Block.{Block}
 use Rattle.typst_language.specs.declared.calls.Block.TheVariants as block
-use Rattle.typst_language.specs.declared.calls.Call.{Call}
-use Rattle.typst_language.specs.declared.calls.Call.TheVariants.{MarkupExpr}
+use Rattle.typst_language.specs.Calls.{Call}
+use Rattle.typst_language.specs.Calls.Call.{MarkupExpr}
 use Rattle.typst_language.specs.declared.calls.Mark.{Mark}
 use Rattle.typst_language.specs.declared.calls.Mark.TheVariants as mark
 use Rattle.typst_language.specs.declared.calls.Note.{Note}
@@ -426,7 +426,7 @@ noted-order lv text (marked at gap fewer m s ∷ asks) h ns lo hi e r =
     let note : Note = record { mark = m; before = position (moved at z); start = position (moved gap (moved at z)); levels = lv - fewer; state = s; reach = h.reach; least = h.least } in
     let i = noted-order lv text asks (with_note gap (lv - fewer) m s (moved at z) h) (ns ++ note ∷ []) (at + gap) hi (noted-more note h.notes ns e) r.1 in
     let before : note.before ≡ width (take at text) = width-moved at text in
-    let start : note.start ≡ width (take (at + gap) text) = ap (λ (y : Place). width y.behind) (sym (moved-sum at gap z)) ∙ width-moved (at + gap) text in
+    let start : note.start ≡ width (take (at + gap) text) = ap (λ (y : Place). width y.before) (sym (moved-sum at gap z)) ∙ width-moved (at + gap) text in
     let one = take-more lo at text r.0 in
     let two = take-more at (at + gap) text (omega arith) in
     record {

@@ -8,8 +8,8 @@ use Rattle.typst_tree.specs.Tree.{Tree, forest, trees, text_of, inner_of, made_e
 use Rattle.typst_tokens.specs.Sight.{width}
 use Rattle.typst_language.specs.declared.calls.Block.{Block}
 use Rattle.typst_language.specs.declared.calls.Block.TheVariants as block
-use Rattle.typst_language.specs.declared.calls.Call.{Call}
-use Rattle.typst_language.specs.declared.calls.Call.TheVariants.{MarkupExpr}
+use Rattle.typst_language.specs.Calls.{Call}
+use Rattle.typst_language.specs.Calls.Call.{MarkupExpr}
 use Rattle.typst_language.specs.declared.reading.Reading.{Reading}
 use Rattle.typst_language.specs.Hand.{told, len_at, hand_at, utf8_ahead}
 use Rattle.typst_language.specs.Point.{Trivia, Point, point_of, gap_of, pending}

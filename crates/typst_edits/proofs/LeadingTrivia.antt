@@ -6,8 +6,8 @@ use Rattle.typst_lines.specs.Place.{Place, moved}
 use Rattle.typst_lines.specs.Classes.{CharClasses}
 use Rattle.typst_tree.specs.Tree.{Tree, forest, trees, inner_of}
 use Rattle.typst_language.specs.declared.calls.Block.{Block}
-use Rattle.typst_language.specs.declared.calls.Call.{Call}
-use Rattle.typst_language.specs.declared.calls.Call.TheVariants.{MarkupExpr}
+use Rattle.typst_language.specs.Calls.{Call}
+use Rattle.typst_language.specs.Calls.Call.{MarkupExpr}
 use Rattle.typst_language.specs.declared.reading.Reading.{Reading}
 use Rattle.typst_language.specs.Depth.{is_end}
 use Rattle.typst_language.specs.Hand.{told, len_at, hand_at}

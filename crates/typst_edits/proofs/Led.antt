@@ -9,7 +9,7 @@ use Rattle.typst_tree.specs.Tree.{Tree, text_of}
 use Rattle.typst_tokens.specs.Reader.{Look}
 use Rattle.typst_language.proofs.TokenTexts.{text-token}
 use Rattle.typst_language.specs.Nodes.{token_node}
-use Rattle.typst_language.specs.declared.calls.Call.{Call}
+use Rattle.typst_language.specs.Calls.{Call}
 use Rattle.typst_language.specs.declared.reading.Reading.{Reading}
 use Rattle.typst_language.specs.Ask.{Ask, shift, shift_one, sunk}
 use Rattle.typst_language.specs.Ask.Ask.{looked}

@@ -8,7 +8,6 @@ use Rattle.typst_tokens.specs.Sight.{position, hull_of}
 use Rattle.typst_candidates.specs.Nested.{Nested}
 use Rattle.typst_candidates.specs.Nested.Nested.{none as nothing, piece as one_piece, block as one_block}
 use Rattle.typst_language.specs.declared.calls.Block.{Block}
-use Rattle.typst_language.specs.declared.calls.Call.{Call}
 use Rattle.typst_language.specs.declared.calls.Mark.{Mark}
 use Rattle.typst_language.specs.declared.calls.Mark.TheVariants as mark
 use Rattle.typst_language.specs.declared.calls.Note.{Note}
@@ -19,7 +18,7 @@ use Rattle.typst_language.specs.Knot.{meaning_of, level_of, blocks_of}
 use Rattle.typst_language.specs.Log.{Log, no_log, with_hull, with_note, logged}
 use Rattle.typst_language.specs.Point.{Point, forgot, state_of, gap_of}
 use Rattle.typst_language.specs.Shape.{Shape}
-use Rattle.typst_language.specs.Calls.{Answer}
+use Rattle.typst_language.specs.Calls.{Call, Answer}
 use Rattle.typst_language.specs.Depth.{anywhere, skip_one, too_deep, deeper}
 use Rattle.typst_language.specs.Steps.{peek, eat, eat_making, node, within, note, flush_trivia}
 use Rattle.typst_language.specs.Syntax.{Op, Begin, Parser, ◌>>◌}

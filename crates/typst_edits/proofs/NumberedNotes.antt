@@ -9,8 +9,8 @@ use Rattle.typst_lines.specs.Classes.{CharClasses}
 use Rattle.typst_tokens.specs.Sight.{width, position}
 use Rattle.typst_language.specs.declared.calls.Block.{Block}
 use Rattle.typst_language.specs.declared.calls.Block.TheVariants as block
-use Rattle.typst_language.specs.declared.calls.Call.{Call}
-use Rattle.typst_language.specs.declared.calls.Call.TheVariants.{MarkupExpr}
+use Rattle.typst_language.specs.Calls.{Call}
+use Rattle.typst_language.specs.Calls.Call.{MarkupExpr}
 use Rattle.typst_language.specs.declared.calls.Mark.{Mark}
 use Rattle.typst_language.specs.declared.calls.Mark.TheVariants as mark
 use Rattle.typst_language.specs.declared.calls.Note.{Note}
@@ -165,7 +165,7 @@ says-of m x z s d text e i note same n =
     let h = n.holds in
     let says : Says text note v = record { mark = n.mark ∙ h.says; before = n.before ∙ width-moved n.at text ∙ ap (λ a. width (take a text)) h.at_is; state = n.state ∙ h.told } in
     let begins : note.start ≡ width (take (cut_behind i v) text) =
-    n.start ∙ ap (λ (y : Place). width y.behind) (sym (moved-sum n.at n.gap w)) ∙ width-moved (n.at + n.gap) text ∙ ap (λ a. width (take a text)) (h.cut ∙ sym (cut-from d i u)) in
+    n.start ∙ ap (λ (y : Place). width y.before) (sym (moved-sum n.at n.gap w)) ∙ width-moved (n.at + n.gap) text ∙ ap (λ a. width (take a text)) (h.cut ∙ sym (cut-from d i u)) in
     let both = subst (λ (y : End (Bool × ℕ)). Says text note y × (note.start ≡ width (take (cut_behind i y) text))) (sym same) (says, begins) in
     record { says = both.0; start = both.1 }
 

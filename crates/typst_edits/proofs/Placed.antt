@@ -9,8 +9,7 @@ use Rattle.typst_lines.specs.Place.{Place, moved}
 use Rattle.typst_tree.specs.Tree.{Tree, error_of}
 use Rattle.typst_lines.specs.Classes.{CharClasses}
 use Rattle.typst_language.specs.declared.calls.Block.{Block}
-use Rattle.typst_language.specs.declared.calls.Call.{Call}
-use Rattle.typst_language.specs.Calls.{Answer}
+use Rattle.typst_language.specs.Calls.{Call, Answer}
 use Rattle.typst_language.specs.Hand.{utf8_ahead}
 use Rattle.typst_language.specs.Point.{Point, forgot}
 use Rattle.typst_language.specs.Shape.{Change, Shape, hinted, is_delimited, in_parens}

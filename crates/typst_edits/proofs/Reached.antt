@@ -7,7 +7,7 @@ use Rattle.typst_lines.specs.Place.{Place, moved}
 use Rattle.typst_tree.specs.Tree.{Tree}
 use Rattle.typst_lines.specs.Classes.{CharClasses}
 use Rattle.typst_language.specs.Tokens.{token}
-use Rattle.typst_language.specs.declared.calls.Call.{Call}
+use Rattle.typst_language.specs.Calls.{Call}
 use Rattle.typst_language.specs.declared.reading.Reading.{Reading}
 use Rattle.typst_language.specs.Ask.{SameIn}
 use Rattle.typst_language.specs.Hand.{Hand, token_at, len_at, at_trivia, Ahead, direct, after_trivia, ahead_by, ahead, hand_at, hand_asks}

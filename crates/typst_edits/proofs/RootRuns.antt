@@ -4,7 +4,7 @@ use Rattle.typst_lines.specs.Place.{Place, moved}
 use Rattle.typst_lines.specs.Classes.{CharClasses}
 use Rattle.typst_tree.specs.Tree.{Tree, trees, joined}
 use Rattle.typst_tokens.specs.Sight.{width}
-use Rattle.typst_language.specs.declared.calls.Call.TheVariants.{MarkupExpr}
+use Rattle.typst_language.specs.Calls.Call.{MarkupExpr}
 use Rattle.typst_language.specs.declared.reading.Reading.{Reading}
 use Rattle.typst_language.specs.Hand.{len_at, hand_at}
 use Rattle.typst_language.specs.Point.{Trivia, gap_of}

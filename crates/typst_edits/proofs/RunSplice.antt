@@ -385,7 +385,7 @@ run-splice-law k front old new rest i n m past t u h over over_new big big_new =
     let ended : OverAt k i n z → Both k i n m z w = λ o.
     (let stops : ends r.stops x.1 (told (hand_of l (moved t.gap y) (passed t s))).kind ≡ true = ap (ends is_end x.1) (passed-kind l y t s h.meets.known) ∙ o in
     let each : Every (λ a. a ≡ looked 0 seen) last = (refl, (onwards-looks r x (moved t.gap y) (passed t s) knows_passed stops).each) in
-    let still : seen.back ≡ 0 = end-look k (moved t.gap y).behind (moved t.gap y).ahead (ends-there k y s t x.1 held h.meets.known o) in
+    let still : seen.back ≡ 0 = end-look k (moved t.gap y).before (moved t.gap y).ahead (ends-there k y s t x.1 held h.meets.known o) in
     let still_new : (token_look l (moved u.gap v)).back ≡ 0 = ap (λ (a : Look). a.back) same_seen ∙ still in
     record {
       behind = [];

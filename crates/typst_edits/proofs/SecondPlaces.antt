@@ -6,9 +6,8 @@ use Rattle.typst_tree.specs.Tree.{Tree, text_of}
 use Rattle.typst_tokens.specs.Sight.{width}
 use Rattle.typst_lines.specs.Classes.{CharClasses}
 use Rattle.typst_language.specs.declared.calls.Block.{Block}
-use Rattle.typst_language.specs.declared.calls.Call.{Call}
 use Rattle.typst_language.specs.declared.reading.Reading.{Reading}
-use Rattle.typst_language.specs.Calls.{Answer}
+use Rattle.typst_language.specs.Calls.{Call, Answer}
 use Rattle.typst_language.specs.Hand.{utf8_ahead, at_trivia, hand_at}
 use Rattle.typst_language.specs.Point.{Point, forgot}
 use Rattle.typst_language.specs.Shape.{Shape}

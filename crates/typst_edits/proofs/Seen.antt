@@ -7,7 +7,7 @@ use Rattle.typst_lines.specs.Classes.{CharClasses}
 use Rattle.typst_tree.specs.Tree.{Tree}
 use Rattle.typst_tokens.specs.Reader.{look}
 use Rattle.typst_language.specs.declared.calls.Block.{Block}
-use Rattle.typst_language.specs.declared.calls.Call.{Call}
+use Rattle.typst_language.specs.Calls.{Call}
 use Rattle.typst_language.specs.declared.reading.Reading.{Reading}
 use Rattle.typst_language.specs.Ask.{Ask, shift, sunk, only_looks}
 use Rattle.typst_language.specs.Ask.Ask.{looked, marked}

@@ -101,14 +101,14 @@ units-side lv z first p all =
 
 -- where two texts have the same first notes, and the same behind their own asks, the units of the one are those of the other with the own ones exchanged
 pub splice-sides : (lv : ℕ) (front xs ys : List ℕ) (first : List Ask) (p : Noting) (own all own_new all_new : List Ask) (behind : List Entry) (back : ℕ)
-    → (let z : Place = record { behind = []; ahead = front ++ xs } in
-    let w : Place = record { behind = []; ahead = front ++ ys } in
+    → (let z : Place = record { before = []; ahead = front ++ xs } in
+    let w : Place = record { before = []; ahead = front ++ ys } in
     AllEndBy (length front) first → AllNotedBy (length front) first → p.at + p.gap ≤ length front → Side lv z p own all behind back → Side lv w p own_new all_new behind back
     → units_of (logged lv w no_log (first ++ noting p ∷ all_new))
     ≡ spliced (notes_in first) (notes_in first + notes_in own) (entries_from (token_start w p) (logged lv w no_log own_new).notes) (units_of (logged lv z no_log (first ++ noting p ∷ all))))
 splice-sides lv front xs ys first p own all own_new all_new behind back ends noted within a b =
-    let z : Place = record { behind = []; ahead = front ++ xs } in
-    let w : Place = record { behind = []; ahead = front ++ ys } in
+    let z : Place = record { before = []; ahead = front ++ xs } in
+    let w : Place = record { before = []; ahead = front ++ ys } in
     let front_is = ap (entries_by 0) (sym (front-same lv front xs ys first p 0 none_yet ends noted within)) in
     let es = entries_by 0 (fresh_notes lv z (first ++ noting p ∷ [])) in
     let fs = entries_by (token_start z p) (fresh_notes lv z own) in

@@ -91,49 +91,49 @@ stretch-first zero xs ys h = refl
 stretch-first (suc n) [] ys h = absurd (omega (arith, h))
 stretch-first (suc n) (c ∷ xs) ys h = let i = stretch-first n xs ys (omega (arith, h)) in omega (arith, i)
 
-far-same : (at n : ℕ) (b front xs ys : List ℕ) → at + n ≤ length front → far n (moved at (record { behind = b; ahead = front ++ xs })) ≡ far n (moved at (record { behind = b; ahead = front ++ ys }))
+far-same : (at n : ℕ) (b front xs ys : List ℕ) → at + n ≤ length front → far n (moved at (record { before = b; ahead = front ++ xs })) ≡ far n (moved at (record { before = b; ahead = front ++ ys }))
 unfolding far position
 far-same zero n b front xs ys h = ap (λ d. width b + d) (stretch-first n front xs (omega (arith, h)) ∙ sym (stretch-first n front ys (omega (arith, h))))
 far-same (suc at) n b [] xs ys h = absurd (omega (arith, h))
 far-same (suc at) n b (c ∷ front) xs ys h = far-same at n (c ∷ b) front xs ys (omega (arith, h))
 
-behind-same : (at : ℕ) (b front xs ys : List ℕ) → at ≤ length front → (moved_from at b (front ++ xs)).behind ≡ (moved_from at b (front ++ ys)).behind
-behind-same zero b front xs ys h = refl
-behind-same (suc at) b [] xs ys h = absurd (omega (arith, h))
-behind-same (suc at) b (c ∷ front) xs ys h = behind-same at (c ∷ b) front xs ys (omega (arith, h))
+passed-same : (at : ℕ) (b front xs ys : List ℕ) → at ≤ length front → (moved_from at b (front ++ xs)).before ≡ (moved_from at b (front ++ ys)).before
+passed-same zero b front xs ys h = refl
+passed-same (suc at) b [] xs ys h = absurd (omega (arith, h))
+passed-same (suc at) b (c ∷ front) xs ys h = passed-same at (c ∷ b) front xs ys (omega (arith, h))
 
-position-same : (at : ℕ) (front xs ys : List ℕ) → at ≤ length front → position (moved at (record { behind = []; ahead = front ++ xs })) ≡ position (moved at (record { behind = []; ahead = front ++ ys }))
+position-same : (at : ℕ) (front xs ys : List ℕ) → at ≤ length front → position (moved at (record { before = []; ahead = front ++ xs })) ≡ position (moved at (record { before = []; ahead = front ++ ys }))
 unfolding position
-position-same at front xs ys h = ap width (behind-same at [] front xs ys h)
+position-same at front xs ys h = ap width (passed-same at [] front xs ys h)
 
-near-same : (at n : ℕ) (front xs ys : List ℕ) → at ≤ length front → near n (moved at (record { behind = []; ahead = front ++ xs })) ≡ near n (moved at (record { behind = []; ahead = front ++ ys }))
+near-same : (at n : ℕ) (front xs ys : List ℕ) → at ≤ length front → near n (moved at (record { before = []; ahead = front ++ xs })) ≡ near n (moved at (record { before = []; ahead = front ++ ys }))
 unfolding near position
-near-same at n front xs ys h = ap (λ b. suc (width b) - stretch n b) (behind-same at [] front xs ys h)
+near-same at n front xs ys h = ap (λ b. suc (width b) - stretch n b) (passed-same at [] front xs ys h)
 
-start-same : (p : Noting) (front xs ys : List ℕ) → p.at + p.gap ≤ length front → token_start (record { behind = []; ahead = front ++ xs }) p ≡ token_start (record { behind = []; ahead = front ++ ys }) p
+start-same : (p : Noting) (front xs ys : List ℕ) → p.at + p.gap ≤ length front → token_start (record { before = []; ahead = front ++ xs }) p ≡ token_start (record { before = []; ahead = front ++ ys }) p
 start-same p front xs ys h =
-    ap position (sym (moved-sum p.at p.gap (record { behind = []; ahead = front ++ xs }))) ∙ position-same (p.at + p.gap) front xs ys h ∙ ap position (moved-sum p.at p.gap (record { behind = []; ahead = front ++ ys }))
+    ap position (sym (moved-sum p.at p.gap (record { before = []; ahead = front ++ xs }))) ∙ position-same (p.at + p.gap) front xs ys h ∙ ap position (moved-sum p.at p.gap (record { before = []; ahead = front ++ ys }))
 
 note-same : (lv : ℕ) (p : Noting) (front xs ys : List ℕ) (reach least : ℕ) → p.at + p.gap ≤ length front
-    → note_by lv (record { behind = []; ahead = front ++ xs }) reach least p.at p.gap p.fewer p.mark p.state ≡ note_by lv (record { behind = []; ahead = front ++ ys }) reach least p.at p.gap p.fewer p.mark p.state
+    → note_by lv (record { before = []; ahead = front ++ xs }) reach least p.at p.gap p.fewer p.mark p.state ≡ note_by lv (record { before = []; ahead = front ++ ys }) reach least p.at p.gap p.fewer p.mark p.state
 note-same lv p front xs ys reach least h =
     let here = note_with lv reach least p.fewer p.mark p.state in
-    ap (λ b. here b (token_start (record { behind = []; ahead = front ++ xs }) p)) (position-same p.at front xs ys (omega (arith, h)))
-    ∙ ap (λ s. here (position (moved p.at (record { behind = []; ahead = front ++ ys }))) s) (start-same p front xs ys h)
+    ap (λ b. here b (token_start (record { before = []; ahead = front ++ xs }) p)) (position-same p.at front xs ys (omega (arith, h)))
+    ∙ ap (λ s. here (position (moved p.at (record { before = []; ahead = front ++ ys }))) s) (start-same p front xs ys h)
 
 pub front-same : (lv : ℕ) (front xs ys : List ℕ) (asks : List Ask) (p : Noting) (reach least : ℕ) → AllEndBy (length front) asks → AllNotedBy (length front) asks → p.at + p.gap ≤ length front
-    → notes_from lv (record { behind = []; ahead = front ++ xs }) reach least (asks ++ noting p ∷ []) ≡ notes_from lv (record { behind = []; ahead = front ++ ys }) reach least (asks ++ noting p ∷ [])
+    → notes_from lv (record { before = []; ahead = front ++ xs }) reach least (asks ++ noting p ∷ []) ≡ notes_from lv (record { before = []; ahead = front ++ ys }) reach least (asks ++ noting p ∷ [])
 front-same lv front xs ys [] p reach least h g e = ap (λ n. n ∷ []) (note-same lv p front xs ys reach least e)
 front-same lv front xs ys (looked at look ∷ asks) p reach least h g e =
-    let w : Place = record { behind = []; ahead = front ++ ys } in
-    let z : Place = record { behind = []; ahead = front ++ xs } in
+    let w : Place = record { before = []; ahead = front ++ ys } in
+    let z : Place = record { before = []; ahead = front ++ xs } in
     ap (λ n. notes_from lv z (max reach n) (min least (near look.back (moved at z))) (asks ++ noting p ∷ [])) (far-same at look.front [] front xs ys h.0)
     ∙ ap (λ n. notes_from lv z (max reach (far look.front (moved at w))) (min least n) (asks ++ noting p ∷ [])) (near-same at look.back front xs ys (omega (arith, h.0)))
     ∙ front-same lv front xs ys asks p (max reach (far look.front (moved at w))) (min least (near look.back (moved at w))) h.1 g e
 front-same lv front xs ys (marked at gap fewer m s ∷ asks) p reach least h g e =
     let q : Noting = record { at = at; gap = gap; fewer = fewer; mark = m; state = s } in
-    let z : Place = record { behind = []; ahead = front ++ xs } in
-    let w : Place = record { behind = []; ahead = front ++ ys } in
+    let z : Place = record { before = []; ahead = front ++ xs } in
+    let w : Place = record { before = []; ahead = front ++ ys } in
     ap (λ n. n ∷ notes_from lv z 0 (2 ^ 64 - 1) (asks ++ noting p ∷ [])) (note-same lv q front xs ys reach least g.0)
     ∙ ap (λ ns. note_by lv w reach least at gap fewer m s ∷ ns) (front-same lv front xs ys asks p 0 (2 ^ 64 - 1) h g.1 e)
 
@@ -144,10 +144,10 @@ ahead-is zero b a = refl
 ahead-is (suc d) b [] = refl
 ahead-is (suc d) b (c ∷ a) = ahead-is d (c ∷ b) a
 
-behind-is : (d : ℕ) (b a : List ℕ) → (moved_from d b a).behind ≡ onto (take d a) b
-behind-is zero b a = refl
-behind-is (suc d) b [] = refl
-behind-is (suc d) b (c ∷ a) = behind-is d (c ∷ b) a
+passed-is : (d : ℕ) (b a : List ℕ) → (moved_from d b a).before ≡ onto (take d a) b
+passed-is zero b a = refl
+passed-is (suc d) b [] = refl
+passed-is (suc d) b (c ∷ a) = passed-is d (c ∷ b) a
 
 onto-append : (xs b : List ℕ) → onto xs b ≡ onto xs [] ++ b
 onto-append [] b = refl
@@ -164,22 +164,22 @@ take-width zero a = omega arith
 take-width (suc d) [] = omega arith
 take-width (suc d) (c ∷ a) = let i = take-width d a in omega (arith, i)
 
-pub position-behind : (d : ℕ) (early rest : List ℕ) → position (moved d (record { behind = early; ahead = rest })) ≡ width early + width (take d rest)
+pub position-behind : (d : ℕ) (early rest : List ℕ) → position (moved d (record { before = early; ahead = rest })) ≡ width early + width (take d rest)
 unfolding position
 position-behind d early rest = omega (arith, moved-width d early rest)
 
-far-behind : (n d : ℕ) (early rest : List ℕ) → far n (moved d (record { behind = early; ahead = rest })) ≡ width early + (width (take d rest) + stretch n (drop d rest))
+far-behind : (n d : ℕ) (early rest : List ℕ) → far n (moved d (record { before = early; ahead = rest })) ≡ width early + (width (take d rest) + stretch n (drop d rest))
 unfolding far position
 far-behind n d early rest = let a = ap (stretch n) (ahead-is d early rest) in omega (arith, a, moved-width d early rest)
 
-near-behind : (n d : ℕ) (early rest : List ℕ) → n ≤ d → d ≤ length rest → near n (moved d (record { behind = early; ahead = rest })) ≡ width early + (suc (width (take d rest)) - stretch n (onto (take d rest) []))
+near-behind : (n d : ℕ) (early rest : List ℕ) → n ≤ d → d ≤ length rest → near n (moved d (record { before = early; ahead = rest })) ≡ width early + (suc (width (take d rest)) - stretch n (onto (take d rest) []))
 unfolding near position
 near-behind n d early rest h k =
     let late = onto (take d rest) [] in
-    let all : (moved_from d early rest).behind ≡ late ++ early = behind-is d early rest ∙ onto-append (take d rest) early in
+    let all : (moved_from d early rest).before ≡ late ++ early = passed-is d early rest ∙ onto-append (take d rest) early in
     let long = onto-length d [] rest k in
     let fits : n ≤ length late = omega (arith, h, long) in
-    let one : stretch n (moved_from d early rest).behind ≡ stretch n late = ap (stretch n) all ∙ stretch-first n late early fits in
+    let one : stretch n (moved_from d early rest).before ≡ stretch n late = ap (stretch n) all ∙ stretch-first n late early fits in
     let least = stretch-to n late [] fits in
     let two : stretch n late ≤ width late = subst (λ u. stretch n u ≤ width late) (append-nil late) least in
     let three = width-onto (take d rest) [] in
@@ -211,7 +211,7 @@ entry-same : (t : Tag) (count a b c d e f g h : ℕ) → a ≡ e → b ≡ f →
 entry-same t count a b c d e f g h i j k l = ap (λ n. entry_with t count n b c d) i ∙ ap (λ n. entry_with t count e n c d) j ∙ ap (λ n. entry_with t count e f n d) k ∙ ap (λ n. entry_with t count e f g n) l
 
 -- the place so many characters on, behind the stretch
-behind-place : (front mid rest : List ℕ) (end past at : ℕ) → end ≡ (length front + length mid) + past → moved (end + at) (text_with front mid rest) ≡ moved (past + at) (record { behind = onto mid (onto front []); ahead = rest })
+behind-place : (front mid rest : List ℕ) (end past at : ℕ) → end ≡ (length front + length mid) + past → moved (end + at) (text_with front mid rest) ≡ moved (past + at) (record { before = onto mid (onto front []); ahead = rest })
 behind-place front mid rest end past at e =
     let there : end + at ≡ (length front + length mid) + (past + at) = omega (arith, e) in
     ap (λ n. moved n (text_with front mid rest)) there ∙ past-is (past + at) front mid rest

@@ -5,9 +5,8 @@ use Rattle.typst_tree.specs.Tree.{Tree, forest}
 use Rattle.typst_language.specs.Nodes.{token_node}
 use Rattle.typst_lines.specs.Place.{Place, moved}
 use Rattle.typst_language.specs.declared.calls.Block.{Block}
-use Rattle.typst_language.specs.declared.calls.Call.{Call}
 use Rattle.typst_language.specs.declared.reading.Reading.{Reading}
-use Rattle.typst_language.specs.Calls.{Answer}
+use Rattle.typst_language.specs.Calls.{Call, Answer}
 use Rattle.typst_language.specs.Hand.{token_by, len_by}
 use Rattle.typst_language.specs.Meaning.{Outcome, Meaning, Level, less, joined, answered, followed, turns, as_last, bound, repeated, before, inside, reshaped, wrapped, grown, is_more, growths, growing, nestings, nesting, closed, bounded, given_up, plain, same_mode, entered, left, left_to, deeper_by_one, taken_node, node_by, reader_so, gave, hand_of, hand_asks_of, done, run}
 use Rattle.typst_language.specs.Point.{Point, Trivia, pending, forgot}

@@ -8,7 +8,7 @@ use Rattle.typst_lines.specs.Classes.{CharClasses}
 use Rattle.typst_lines.specs.Place.{Place, moved}
 use Rattle.typst_language.specs.declared.calls.Block.{Block}
 use Rattle.typst_language.specs.declared.calls.Block.TheVariants as block
-use Rattle.typst_language.specs.declared.calls.Call.{Call}
+use Rattle.typst_language.specs.Calls.{Call}
 use Rattle.typst_language.specs.Knot.{blocks_of, meaning_of, level_of}
 use Rattle.typst_language.specs.Meaning.{Outcome, Level, less, joined, plain, before, inside, reshaped, wrapped, blockless, start_point, run}
 use Rattle.typst_language.specs.Point.{Point, pending}

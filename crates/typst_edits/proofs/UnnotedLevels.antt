@@ -5,9 +5,8 @@ use Rattle.typst_lines.specs.Classes.{CharClasses}
 use Rattle.typst_lines.specs.Place.{Place, moved}
 use Rattle.typst_language.specs.declared.calls.Block.{Block}
 use Rattle.typst_language.specs.declared.calls.Block.TheVariants as block
-use Rattle.typst_language.specs.declared.calls.Call.{Call}
 use Rattle.typst_language.specs.declared.reading.Reading.{Reading}
-use Rattle.typst_language.specs.Calls.{Answer}
+use Rattle.typst_language.specs.Calls.{Call, Answer}
 use Rattle.typst_language.specs.Depth.{is_end}
 use Rattle.typst_language.proofs.Ends.{token-ends, token-takes}
 use Rattle.typst_language.specs.Hand.{token_at, AtHand, told, len_at, ahead, hand_at}

@@ -22,24 +22,24 @@ stretch-by (suc n) [] [] h = absurd (omega (arith, h))
 stretch-by (suc n) [] (c ∷ more) h = absurd (omega (arith, h, width-positive c))
 stretch-by (suc n) (c ∷ front) more h = let i = stretch-by n front more (omega (arith, h)) in omega (arith, i)
 
-behind-most : (n : ℕ) (b a : List ℕ) → width b ≤ width (moved_from n b a).behind
+passed-most : (n : ℕ) (b a : List ℕ) → width b ≤ width (moved_from n b a).before
 unfolding width
-behind-most zero b a = omega arith
-behind-most (suc n) b [] = omega arith
-behind-most (suc n) b (c ∷ a) = let i = behind-most n (c ∷ b) a in omega (arith, i)
+passed-most zero b a = omega arith
+passed-most (suc n) b [] = omega arith
+passed-most (suc n) b (c ∷ a) = let i = passed-most n (c ∷ b) a in omega (arith, i)
 
 abbrev end_by : ℕ → ℕ → List ℕ → List ℕ → ℕ
-end_by at n b a = width (moved_from at b a).behind + stretch n (moved_from at b a).ahead
+end_by at n b a = width (moved_from at b a).before + stretch n (moved_from at b a).ahead
 
 ends-by : (at n : ℕ) (b front more : List ℕ) → at ≤ length (front ++ more) → end_by at n b (front ++ more) ≤ width b + width front → at + n ≤ length front
 unfolding width
 ends-by zero n b front more l h = omega (arith, stretch-by n front more (omega (arith, h)))
 ends-by (suc at) n b [] [] l h = absurd (omega (arith, l))
-ends-by (suc at) n b [] (c ∷ more) l h = absurd (omega (arith, h, behind-most at (c ∷ b) more, width-positive c))
+ends-by (suc at) n b [] (c ∷ more) l h = absurd (omega (arith, h, passed-most at (c ∷ b) more, width-positive c))
 ends-by (suc at) n b (c ∷ front) more l h = let i = ends-by at n (c ∷ b) front more (omega (arith, l)) (omega (arith, h)) in omega (arith, i)
 
 -- a look that ends by a place in bytes ends by it in characters
-pub far-by : (at n : ℕ) (front more : List ℕ) → at ≤ length (front ++ more) → far n (moved at (record { behind = []; ahead = front ++ more })) ≤ width front → at + n ≤ length front
+pub far-by : (at n : ℕ) (front more : List ℕ) → at ≤ length (front ++ more) → far n (moved at (record { before = []; ahead = front ++ more })) ≤ width front → at + n ≤ length front
 unfolding far position width
 far-by at n front more l h = ends-by at n [] front more l (omega (arith, h))
 
@@ -56,7 +56,7 @@ ends-to zero n b front more h = let i = stretch-to n front more (omega (arith, h
 ends-to (suc at) n b [] more h = absurd (omega (arith, h))
 ends-to (suc at) n b (c ∷ front) more h = let i = ends-to at n (c ∷ b) front more (omega (arith, h)) in omega (arith, i)
 
-pub far-to : (at n : ℕ) (front more : List ℕ) → at + n ≤ length front → far n (moved at (record { behind = []; ahead = front ++ more })) ≤ width front
+pub far-to : (at n : ℕ) (front more : List ℕ) → at + n ≤ length front → far n (moved at (record { before = []; ahead = front ++ more })) ≤ width front
 unfolding far position width
 far-to at n front more h = let i = ends-to at n [] front more h in omega (arith, i)
 
@@ -65,7 +65,7 @@ far-to at n front more h = let i = ends-to at n [] front more h in omega (arith,
 -- what was passed since
 record Since (n : ℕ) (b a : List ℕ) : Type 0 where
   late : List ℕ
-  is : (moved_from n b a).behind ≡ late ++ b
+  is : (moved_from n b a).before ≡ late ++ b
   long : length late ≡ n
 
 since : (n : ℕ) (b a : List ℕ) → n ≤ length a → Since n b a
@@ -87,18 +87,18 @@ unfolding width
 width-onto [] b = omega arith
 width-onto (c ∷ xs) b = let i = width-onto xs (c ∷ b) in omega (arith, i)
 
-begins-late : (n m : ℕ) (early rest : List ℕ) → m ≤ length rest → stretch n (moved_from m early rest).behind + width early ≤ width (moved_from m early rest).behind → n ≤ m
+begins-late : (n m : ℕ) (early rest : List ℕ) → m ≤ length rest → stretch n (moved_from m early rest).before + width early ≤ width (moved_from m early rest).before → n ≤ m
 begins-late n m early rest l h =
     let s = since m early rest l in
     omega (arith, s.long, begins-by n s.late early (subst (λ xs. stretch n xs + width early ≤ width xs) s.is h))
 
 -- a look from a place behind begins behind it in characters, where it does in bytes
-pub near-by : (n m : ℕ) (early rest : List ℕ) → m ≤ length rest → width early < near n (moved m (record { behind = early; ahead = rest })) → n ≤ m
+pub near-by : (n m : ℕ) (early rest : List ℕ) → m ≤ length rest → width early < near n (moved m (record { before = early; ahead = rest })) → n ≤ m
 unfolding near position
 near-by n m early rest l h = begins-late n m early rest l (omega (arith, h))
 
 -- and the other way round
-begins-early : (n m : ℕ) (early rest : List ℕ) → n ≤ m → m ≤ length rest → stretch n (moved_from m early rest).behind + width early ≤ width (moved_from m early rest).behind
+begins-early : (n m : ℕ) (early rest : List ℕ) → n ≤ m → m ≤ length rest → stretch n (moved_from m early rest).before + width early ≤ width (moved_from m early rest).before
 begins-early n m early rest h l =
     let s = since m early rest l in
     let i = stretch-to n s.late early (omega (arith, h, s.long)) in
@@ -106,17 +106,17 @@ begins-early n m early rest h l =
     let both : stretch n (s.late ++ early) + width early ≤ width (s.late ++ early) = omega (arith, i, w) in
     subst (λ xs. stretch n xs + width early ≤ width xs) (sym s.is) both
 
-pub near-to : (n m : ℕ) (early rest : List ℕ) → n ≤ m → m ≤ length rest → width early < near n (moved m (record { behind = early; ahead = rest }))
+pub near-to : (n m : ℕ) (early rest : List ℕ) → n ≤ m → m ≤ length rest → width early < near n (moved m (record { before = early; ahead = rest }))
 unfolding near position
 near-to n m early rest h l = let i = begins-early n m early rest h l in omega (arith, i)
 
-pub moved-width : (n : ℕ) (b a : List ℕ) → width (moved_from n b a).behind ≡ width (take n a) + width b
+pub moved-width : (n : ℕ) (b a : List ℕ) → width (moved_from n b a).before ≡ width (take n a) + width b
 unfolding width
 moved-width zero b a = omega arith
 moved-width (suc n) b [] = omega arith
 moved-width (suc n) b (c ∷ a) = let i = moved-width n (c ∷ b) a in omega (arith, i)
 
 -- the byte offset of a character of a text
-pub width-moved : (n : ℕ) (text : List ℕ) → width (moved n (record { behind = []; ahead = text })).behind ≡ width (take n text)
+pub width-moved : (n : ℕ) (text : List ℕ) → width (moved n (record { before = []; ahead = text })).before ≡ width (take n text)
 unfolding width
 width-moved n text = omega (arith, moved-width n [] text)

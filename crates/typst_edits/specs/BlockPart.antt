@@ -27,4 +27,4 @@ BlockPartLaw = (text : List ℕ) (c : Spot (Unit {0})) (u : Outcome (Unit {0})) 
 
 -- The law of a part's places: in a text that a machine word counts the token of each note that is made in reading a part of it begins at a byte of the text.
 abbrev pub PartFitsLaw : Type 0
-PartFitsLaw = (levels : ℕ) (z : Place) (asks : List Ask) (ns : List Note) → width z.behind + width z.ahead < 2 ^ 64 - 1 → (logged levels z no_log asks).notes ≡ Some ns → AllFit ns
+PartFitsLaw = (levels : ℕ) (z : Place) (asks : List Ask) (ns : List Note) → width z.before + width z.ahead < 2 ^ 64 - 1 → (logged levels z no_log asks).notes ≡ Some ns → AllFit ns

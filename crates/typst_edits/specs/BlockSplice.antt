@@ -21,7 +21,7 @@ closing c taken = record { at = c.at + taken; gap = 0; fewer = c.fewer; mark = m
 
 -- what is logged of a block that gives this outcome, behind the note where it begins
 abbrev pub block_log : {A : Type 0} → List ℕ → Spot A → Outcome (Unit {0}) → Log
-block_log text c u = logged max_depth (record { behind = []; ahead = text }) no_log (shift c.at (lowered c.fewer u.asks) ++ noting (closing c u.taken) ∷ [])
+block_log text c u = logged max_depth (record { before = []; ahead = text }) no_log (shift c.at (lowered c.fewer u.asks) ++ noting (closing c u.taken) ∷ [])
 
 -- The entries between a block's two notes, with the second, are exchanged for those of the block on the new text; the first is that with this number.
 pub record SplicedBlock (k : CharClasses) (front old new rest : List ℕ) (c : Spot (Unit {0})) : Type 0 where

@@ -15,7 +15,7 @@ pub data Among {X : Type 0} (x : X) : List X → Type 0 where
 
 -- the start of a text: what lies before the stretch, the stretch, and the rest
 abbrev pub text_with : List ℕ → List ℕ → List ℕ → Place
-text_with front mid rest = record { behind = []; ahead = front ++ (mid ++ rest) }
+text_with front mid rest = record { before = []; ahead = front ++ (mid ++ rest) }
 
 -- every look ends so many characters on, or before
 abbrev pub AllEndBy : ℕ → List Ask → Type 0

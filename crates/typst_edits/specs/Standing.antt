@@ -8,10 +8,9 @@ use Rattle.typst_tree.specs.Tree.{Tree}
 use Rattle.typst_lines.specs.Place.{moved}
 use Rattle.typst_lines.specs.Classes.{CharClasses}
 use Rattle.typst_language.specs.declared.calls.Block.{Block}
-use Rattle.typst_language.specs.declared.calls.Call.{Call}
 use Rattle.typst_language.specs.Ask.{Ask}
 use Rattle.typst_language.specs.Ask.Ask.{looked, marked}
-use Rattle.typst_language.specs.Calls.{Answer}
+use Rattle.typst_language.specs.Calls.{Call, Answer}
 use Rattle.typst_language.specs.Point.{forgot}
 use Rattle.typst_language.specs.Knot.{Rules, meaning_of, level_of}
 use Rattle.typst_language.specs.Steps.{peek}

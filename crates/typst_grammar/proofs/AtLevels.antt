@@ -1,6 +1,7 @@
 -- What holds of each level.
 use Rattle.std.proofs.Common.{◌≡◌, ℕ, suc, ◌-◌, Bool, true, Option, Some, None, List, [], ◌++◌, refl, ap, ◌∙◌, subst, sym, arith}
-use Rattle.std.specs.Prelude.{◌∷◌, IsSome}
+use Rattle.std.specs.Prelude.{◌∷◌, IsSome, Result}
+use Rattle.std.specs.declared.alloc.AllocError.{AllocError}
 use Rattle.std.specs.Str.{chars}
 use Rattle.typst_kinds.specs.declared.mode.SyntaxMode.{SyntaxMode}
 use Rattle.typst_kinds.specs.declared.mode.SyntaxMode.TheVariants as mode
@@ -8,8 +9,9 @@ use Rattle.typst_lines.specs.Place.{Place, moved}
 use Rattle.typst_tokens.specs.Sight.{hull_of}
 use Rattle.typst_tree.specs.Tree.{Tree}
 use Rattle.typst_lines.specs.Classes.{CharClasses}
-use Rattle.typst_language.specs.declared.calls.Call.{Call}
+use Rattle.typst_language.specs.declared.calls.ChainSet.{ChainSet}
 use Rattle.typst_language.specs.declared.calls.Note.{Note}
+use Rattle.typst_language.specs.declared.calls.Role.{Role}
 use Rattle.typst_language.specs.Point.{Point}
 use Rattle.typst_language.specs.Ask.{Ask}
 use Rattle.typst_language.specs.Ask.Ask.{looked, marked}
@@ -17,9 +19,10 @@ use Rattle.typst_language.specs.declared.reading.AtNewline.TheVariants as newlin
 use Rattle.typst_language.specs.declared.reading.Reading.{Reading}
 use Rattle.typst_language.specs.Log.{Log, no_log, with_more, with_hull, with_note, logged}
 use Rattle.typst_language.specs.Knot.{meaning_of}
-use Rattle.typst_language.specs.Meaning.{Guess, Meaning, Outcome, apart, less, standing, start_point, run}
+use Rattle.typst_language.specs.Meaning.{Guess, Level, Meaning, Outcome, apart, less, standing, start_point, run}
 use Rattle.typst_language.specs.declared.calls.Behind.{Behind}
-use Rattle.typst_language.specs.Calls.{Answer}
+use Rattle.typst_language.specs.Calls.{Call, Answer}
+use Rattle.typst_language.specs.Calls.Call.{MarkupExpr, CodeExpr, MathExpr, Pattern}
 use Rattle.typst_language.specs.Steps.{peek}
 use Rattle.typst_code.specs.Equations.{math_reading}
 use Rattle.typst_code.specs.Markup.{content_block, markup_reading}
@@ -31,9 +34,8 @@ use Rattle.typst_language.specs.Syntax.{Parser, ◌>>◌}
 use Rattle.typst_language.proofs.Blind.{run-blind}
 use Rattle.typst_language.proofs.Knot.{sound-level}
 use Rattle.typst_code.proofs.Knowing.{knows-none}
-use Rattle.typst_code.specs.depth.Answered.{Answered}
 use Rattle.typst_code.specs.Cursor.{IsStart}
-use Rattle.typst_code.specs.View.{View, Runs, Goes, Called, Answers, Fits, Bare, at}
+use Rattle.typst_code.specs.View.{View, Runs, Goes, Does, Makes, Calls, Frame, Fills, Fits, Bare, at}
 use Rattle.typst_code.specs.Noted.{listed}
 use Rattle.typst_code.specs.Outside.{Blocks}
 use Rattle.typst_grammar.specs.Grammar.{rules, production, meaning, level_at, max_depth, start_of, parsed, parsed_in, whole, whole_code, whole_math, whole_in, log}
@@ -63,21 +65,36 @@ blocks-at k levels = record {
 fits-level : (k : CharClasses) (i j : ℕ) {v : View} → Fits (told_at k i) v → Fits (told_at k j) v
 fits-level k i j c = record { known = c.known; hand = c.hand; own = c.own; here = c.here; there = c.there; log = c.log; knows = c.knows }
 
-pub makes-production : (k : CharClasses) (levels : ℕ) {call : Call} {a : Answered} {old new : View} → Answers (told_at k levels) call (production k call) a old new → Called (told_at k (suc levels)) call a old new
+pub makes-production : (k : CharClasses) (levels : ℕ) {call : Call} {a : Answer call} {old new : View} → Does (told_at k levels) (production k call) a old new → Makes (told_at k (suc levels)) call a old new
 unfolding meaning_of
 makes-production k levels {call = call} {a = a} {old = old} {new = new} h =
     let e : levels ≡ suc levels - 1 = omega arith in
     record {
-      answer = h.answer;
-      is = h.is;
-      makes = record {
-        ran = λ c. (let r = (h.does.ran (fits-level k (suc levels) levels c)).runs in
-            let same = told-run k levels (production k call) old.place old.state in
-            let runs = subst (λ (o : Outcome (Answer call)). Runs levels o h.answer old new) same r in
-            subst (λ (n : ℕ). Runs n (meaning k (suc levels) call old.place old.state) h.answer old new) e runs);
-        ready = λ c. fits-level k levels (suc levels) (h.does.ready (fits-level k (suc levels) levels c));
-      };
+      ran = λ c. (let r = (h.ran (fits-level k (suc levels) levels c)).runs in
+          let same = told-run k levels (production k call) old.place old.state in
+          let runs = subst (λ (o : Outcome (Answer call)). Runs levels o a old new) same r in
+          subst (λ (n : ℕ). Runs n (meaning k (suc levels) call old.place old.state) a old new) e runs);
+      ready = λ c. fits-level k levels (suc levels) (h.ready (fits-level k (suc levels) levels c));
     }
+
+-- what a call gives at references, it gives at what they point to
+pub calls-at : (l : Level) (call : Call) (r : Result (Answer call) AllocError) {v w old new : View} → v ≡ old → w ≡ new → Calls l call v r w → Calls l call old r new
+calls-at l call r {w = w} {old = old} e f h = subst (λ (y : View). Calls l call old r y) f (subst (λ (x : View). Calls l call x r w) e h)
+
+-- calls fill a level where each gives what the level says
+pub fills-level : (k : CharClasses) (levels : ℕ) {f : Frame} → k ≡ f.classes → levels ≡ f.levels
+    → ((old new : View) (at_start : Bool) (nesting : ℕ) (r : Result ℕ AllocError) → f.gives (MarkupExpr at_start nesting) old r new → Calls (told_at k levels) (MarkupExpr at_start nesting) old r new)
+    → ((old new : View) (atomic : Bool) (least : ℕ) (r : Result (Unit {0}) AllocError) → f.gives (CodeExpr atomic least) old r new → Calls (told_at k levels) (CodeExpr atomic least) old r new)
+    → ((old new : View) (least : ℕ) (signs : ChainSet) (r : Result (Unit {0}) AllocError) → f.gives (MathExpr least signs) old r new → Calls (told_at k levels) (MathExpr least signs) old r new)
+    → ((old new : View) (role : Role) (names : List (List ℕ)) (r : Result (List (List ℕ)) AllocError) → f.gives (Pattern role names) old r new → Calls (told_at k levels) (Pattern role names) old r new)
+    → Fills (told_at k levels) f
+fills-level k levels {f = f} classes same markup code math pattern = record { classes = classes; sound = sound-at k levels; levels = same; reads = reads }
+  where
+    reads : (old new : View) (call : Call) (r : Result (Answer call) AllocError) → f.gives call old r new → Calls (told_at k levels) call old r new
+    reads old new (MarkupExpr at_start nesting) r h = markup old new at_start nesting r h
+    reads old new (CodeExpr atomic least) r h = code old new atomic least r h
+    reads old new (MathExpr least signs) r h = math old new least signs r h
+    reads old new (Pattern role names) r h = pattern old new role names r h
 
 pub less-nil : {A : Type 0} (n : ℕ) → less {A = A} n [] ≡ []
 unfolding less

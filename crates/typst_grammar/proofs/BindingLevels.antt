@@ -6,8 +6,8 @@ use Rattle.typst_lines.specs.Place.{Place}
 use Rattle.typst_lines.specs.Classes.{CharClasses}
 use Rattle.typst_language.specs.declared.calls.Block.{Block}
 use Rattle.typst_language.specs.declared.calls.Block.TheVariants as block
-use Rattle.typst_language.specs.declared.calls.Call.{Call}
-use Rattle.typst_language.specs.declared.calls.Call.TheVariants.{CodeExpr}
+use Rattle.typst_language.specs.Calls.{Call}
+use Rattle.typst_language.specs.Calls.Call.{CodeExpr}
 use Rattle.typst_language.specs.Depth.{deeper}
 use Rattle.typst_language.specs.Knot.{blocks_of}
 use Rattle.typst_language.specs.Meaning.{Meaning, blockless, run}

@@ -4,7 +4,7 @@ use Rattle.std.proofs.Common.{◌==◌, if◌then◌else◌, codes, take, ◌≡
 use Rattle.typst_lines.specs.Place.{Place, moved}
 use Rattle.typst_tree.specs.Tree.{Tree, forest}
 use Rattle.typst_lines.specs.Classes.{CharClasses}
-use Rattle.typst_language.specs.declared.calls.Call.TheVariants.{CodeExpr}
+use Rattle.typst_language.specs.Calls.Call.{CodeExpr}
 use Rattle.typst_code.specs.declared.heads.CodeTail.{CodeTail}
 use Rattle.typst_code.specs.declared.heads.CodeTail.TheVariants as tail
 use Rattle.typst_code.specs.Arguments.{arguments}

@@ -18,7 +18,7 @@ use Rattle.typst_language.specs.Nodes.{token_node, plain_node, fault_node, is_ra
 use Rattle.typst_tokens.specs.declared.token.Fault.{Fault}
 use Rattle.typst_tokens.specs.declared.token.Token.{Token}
 use Rattle.typst_language.specs.declared.calls.Block.{Block}
-use Rattle.typst_language.specs.declared.calls.Call.{Call}
+use Rattle.typst_language.specs.Calls.{Call}
 use Rattle.typst_language.specs.declared.calls.Mark.{Mark}
 use Rattle.typst_language.specs.declared.calls.Mark.TheVariants as mark
 use Rattle.typst_language.specs.declared.reading.Reading.{Reading}

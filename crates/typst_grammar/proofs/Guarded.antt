@@ -7,7 +7,6 @@ use Rattle.typst_kinds.specs.declared.kind.SyntaxKind.TheVariants as kind
 use Rattle.typst_code.specs.declared.bindings.Bound.{Bound}
 use Rattle.typst_code.specs.declared.bindings.Bound.TheVariants as bound
 use Rattle.typst_language.specs.declared.calls.Block.{Block}
-use Rattle.typst_language.specs.declared.calls.Call.{Call}
 use Rattle.typst_language.specs.declared.calls.Mark.{Mark}
 use Rattle.typst_language.specs.declared.calls.Role.{Role}
 use Rattle.typst_language.specs.declared.calls.Way.{Way}
@@ -17,7 +16,7 @@ use Rattle.typst_code.specs.head.MarkupHead.{MarkupHead}
 use Rattle.typst_code.specs.head.MarkupHead.TheVariants as head
 use Rattle.typst_language.specs.declared.reading.Reading.{Reading}
 use Rattle.typst_code.specs.Bindings.{bound_name as bound_function, bound_part, equals, binding, let_binding}
-use Rattle.typst_language.specs.Calls.{Answer}
+use Rattle.typst_language.specs.Calls.{Call, Answer}
 use Rattle.typst_code.specs.Closures.{right_side, headed, name_shape, underscore_shape, behind_name, behind_underscore, named, placeholder}
 use Rattle.typst_language.specs.Depth.{anywhere, skip_one, too_deep, deeper, is_end}
 use Rattle.typst_code.specs.Embedded.{embedded_end, embedded_expr, embedded}

@@ -2,8 +2,8 @@
 use Rattle.std.proofs.Common.{ℕ, zero, suc, true, false, refl}
 use Rattle.typst_kinds.specs.declared.kind.SyntaxKind.TheVariants as kind
 use Rattle.typst_lines.specs.Classes.{CharClasses}
-use Rattle.typst_language.specs.declared.calls.Call.{Call}
-use Rattle.typst_language.specs.declared.calls.Call.TheVariants.{MarkupExpr, CodeExpr, MathExpr, Pattern}
+use Rattle.typst_language.specs.Calls.{Call}
+use Rattle.typst_language.specs.Calls.Call.{MarkupExpr, CodeExpr, MathExpr, Pattern}
 use Rattle.typst_language.specs.Knot.{meaning_of}
 use Rattle.typst_language.specs.Meaning.{start_point, run}
 use Rattle.typst_language.specs.Syntax.{Parser}

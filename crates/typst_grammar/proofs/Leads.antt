@@ -4,7 +4,7 @@ use Rattle.typst_kinds.specs.Kinds.{is_error}
 use Rattle.typst_lines.specs.Place.{Place, moved}
 use Rattle.typst_tree.specs.Tree.{Tree, text_of}
 use Rattle.typst_language.specs.declared.calls.Block.{Block}
-use Rattle.typst_language.specs.declared.calls.Call.{Call}
+use Rattle.typst_language.specs.Calls.{Call}
 use Rattle.typst_language.specs.Hand.{Hand, AtHand, told}
 use Rattle.typst_language.specs.Point.{Point, pending}
 use Rattle.typst_language.specs.declared.reading.Reading.{Reading}

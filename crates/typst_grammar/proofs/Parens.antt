@@ -8,7 +8,7 @@ use Rattle.typst_tree.specs.Tree.{Tree, forest, inner_of}
 use Rattle.typst_language.specs.declared.calls.Behind.{Behind}
 use Rattle.typst_language.specs.declared.calls.Behind.TheVariants as behind
 use Rattle.typst_language.specs.declared.calls.Block.{Block}
-use Rattle.typst_language.specs.declared.calls.Call.{Call}
+use Rattle.typst_language.specs.Calls.{Call}
 use Rattle.typst_language.specs.declared.calls.Role.{Role}
 use Rattle.typst_code.specs.declared.listing.Items.{Items}
 use Rattle.typst_code.specs.Closures.{closure_shape}

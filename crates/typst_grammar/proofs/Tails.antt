@@ -8,7 +8,7 @@ use Rattle.typst_kinds.specs.declared.operator.BinOp.TheVariants as binary
 use Rattle.typst_lines.specs.Place.{Place, moved}
 use Rattle.typst_tree.specs.Tree.{Tree, forest}
 use Rattle.typst_lines.specs.Classes.{CharClasses}
-use Rattle.typst_language.specs.declared.calls.Call.TheVariants.{CodeExpr}
+use Rattle.typst_language.specs.Calls.Call.{CodeExpr}
 use Rattle.typst_code.specs.Arguments.{calls_directly}
 use Rattle.typst_code.specs.Statements.{field}
 use Rattle.typst_code.specs.declared.heads.CodeTail.{CodeTail}

@@ -8,9 +8,8 @@ use Rattle.typst_tree.specs.Tree.{Tree, forest, inner_of}
 use Rattle.typst_lines.specs.Classes.{CharClasses}
 use Rattle.typst_language.specs.declared.calls.Block.{Block}
 use Rattle.typst_language.specs.declared.calls.Block.TheVariants as block
-use Rattle.typst_language.specs.declared.calls.Call.{Call}
-use Rattle.typst_language.specs.declared.calls.Call.TheVariants.{MarkupExpr, CodeExpr, MathExpr, Pattern}
-use Rattle.typst_language.specs.Calls.{Answer}
+use Rattle.typst_language.specs.Calls.Call.{MarkupExpr, CodeExpr, MathExpr, Pattern}
+use Rattle.typst_language.specs.Calls.{Call, Answer}
 use Rattle.typst_language.specs.Syntax.{Parser, ◌>>◌}
 use Rattle.typst_language.specs.Steps.{peek, flush_trivia}
 use Rattle.typst_language.specs.Depth.{is_end}
@@ -56,7 +55,7 @@ abbrev pub max_depth : ℕ
 max_depth = 256
 
 abbrev pub start_of : List ℕ → Place
-start_of text = record { behind = []; ahead = text }
+start_of text = record { before = []; ahead = text }
 
 -- the run of a whole text, with all trivia
 unfoldable pub whole : Parser (Unit {0})

@@ -3,7 +3,7 @@ use Rattle.std.specs.Prelude.{◌≡◌, ℕ, Bool, List, encode_utf8_all}
 use Rattle.typst_kinds.specs.declared.kind.SyntaxKind.{SyntaxKind}
 use Rattle.typst_tree.specs.Tree.{text_of}
 use Rattle.typst_lines.specs.Classes.{CharClasses}
-use Rattle.typst_language.specs.declared.calls.Call.{Call}
+use Rattle.typst_language.specs.Calls.{Call}
 use Rattle.typst_language.specs.Meaning.{Meaning, run}
 use Rattle.typst_language.specs.Sound.{Lawful}
 use Rattle.typst_code.specs.Markup.{markup_turn, markup_exprs, markup_run}

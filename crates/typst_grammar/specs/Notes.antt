@@ -56,7 +56,7 @@ pub record Notes (beyond : CharClasses) : Type 0 where
       noted (piece true 0) 0 0 256 0 (2 ^ 64 - 1) ∷ noted (mark.Opens block.Content) 2 2 255 3 1 ∷
       noted (piece true 0) 3 3 255 3 3 ∷ noted mark.Closes 6 6 255 6 4 ∷ noted (piece false 0) 6 6 256 7 7 ∷
       []
-  -- a star looks at the character behind it
+  -- a star looks at the character before it
   pub stars : brief_log (log (by_law beyond) (codes "a*b* c")) ≡
       noted (piece true 0) 0 0 256 0 (2 ^ 64 - 1) ∷ noted (piece false 0) 1 1 256 4 1 ∷ noted (piece false 0) 3 3 256 5 1 ∷
       noted (piece false 0) 6 6 256 7 3 ∷ []

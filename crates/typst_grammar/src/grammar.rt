@@ -3,64 +3,101 @@
 ghost use Rattle.std.specs.Prelude.{◌≡◌, ◌<◌, IfOk, false};
 ghost use Rattle.std.specs.Str.{chars};
 ghost use Rattle.typst_code.specs.View.{Calls, MeansFirst};
-ghost use Rattle.typst_code.specs.Outside.{MeansAroundAs};
+ghost use Rattle.typst_language.specs.Calls.Call.{MarkupExpr, CodeExpr, MathExpr, Pattern};
 ghost use Rattle.typst_grammar.specs.Grammar as spec;
 ghost use Rattle.typst_grammar.specs.Read.{IsParsed};
 ghost use Rattle.typst_grammar.specs.Told.{told_at};
 
 use std::alloc::{AllocError, Global};
 use typst_code::{
-    Answered, CodeStop, Grammar, Levels, MathStop, Parser, Stop, code_expr, code_exprs,
-    markup_expr, markup_run, math_expr, math_exprs, pattern,
+    CodeStop, Grammar, Levels, MathStop, Parser, Stop, code_expr, code_exprs, markup_expr,
+    markup_run, math_expr, math_exprs, pattern,
 };
-use typst_kinds::SyntaxMode;
-use typst_language::{AtNewline, Call, Reading};
+use typst_kinds::{Names, SyntaxMode};
+use typst_language::{AtNewline, ChainSet, Reading, Role};
 use typst_lines::Classes;
 
 /// How deep calls may nest.
 pub const MAX_DEPTH: usize = 256;
 
-/// Reads what a call asks for.
-pub fn production<L: Levels>(g: &L, p: &mut Parser<'_>, call: Call) -> Result<Answered, AllocError>
-    requires { L.may_call g.now }
-    ensures { MeansAroundAs (L.frame g.now) call (spec.production (L.frame g.now).classes call) p.old result p.new }
-{
-    match call {
-        Call::MarkupExpr(at_start, nesting) => {
-            let nesting = markup_expr(g, p, at_start, nesting)?;
-            Ok(Answered::Brackets(nesting))
+/// A grammar whose calls are made by the functions below, with these classes and so many levels.
+macro_rules! grammar {
+    ($classes:expr, $levels:expr) => {
+        Grammar {
+            classes: $classes,
+            levels: $levels,
+            markup_expr: call_markup_expr,
+            code_expr: call_code_expr,
+            math_expr: call_math_expr,
+            pattern: call_pattern,
         }
-        Call::CodeExpr(atomic, least) => {
-            code_expr(g, p, atomic, least)?;
-            Ok(Answered::Nothing)
-        }
-        Call::MathExpr(least, stops) => {
-            math_expr(g, p, least, stops)?;
-            Ok(Answered::Nothing)
-        }
-        Call::Pattern(role, names) => {
-            let seen = pattern(g, p, role, names)?;
-            Ok(Answered::Names(seen))
-        }
-    }
+    };
 }
 
-/// Makes a call where so many levels are left.
-pub fn make_call<C: Classes>(
+pub(crate) use grammar;
+
+/// Reads an expression of markup where so many levels are left.
+#[cycle(knot)]
+pub(crate) fn call_markup_expr<C: Classes>(
     classes: &C,
     p: &mut Parser<'_>,
     levels: usize,
-    call: Call,
-) -> Result<Answered, AllocError>
+    at_start: bool,
+    nesting: usize,
+) -> Result<usize, AllocError>
     requires { 0 < levels }
-    ensures { Calls (told_at (C.classes classes.now) levels) call p.old result p.new }
+    ensures { Calls (told_at (C.classes classes.now) levels) (MarkupExpr at_start nesting) p.old result p.new }
 {
-    let below = Grammar {
-        classes,
-        levels: levels - 1,
-        call: make_call::<C>,
-    };
-    Ok(production(&below, p, call)?)
+    let below = grammar!(classes, levels - 1);
+    Ok(markup_expr(&below, p, at_start, nesting)?)
+}
+
+/// Reads an expression of code where so many levels are left.
+#[cycle(knot)]
+pub(crate) fn call_code_expr<C: Classes>(
+    classes: &C,
+    p: &mut Parser<'_>,
+    levels: usize,
+    atomic: bool,
+    least: u8,
+) -> Result<(), AllocError>
+    requires { 0 < levels }
+    ensures { Calls (told_at (C.classes classes.now) levels) (CodeExpr atomic least) p.old result p.new }
+{
+    let below = grammar!(classes, levels - 1);
+    Ok(code_expr(&below, p, atomic, least)?)
+}
+
+/// Reads an expression of a formula where so many levels are left.
+#[cycle(knot)]
+pub(crate) fn call_math_expr<C: Classes>(
+    classes: &C,
+    p: &mut Parser<'_>,
+    levels: usize,
+    least: u8,
+    signs: ChainSet,
+) -> Result<(), AllocError>
+    requires { 0 < levels }
+    ensures { Calls (told_at (C.classes classes.now) levels) (MathExpr least signs) p.old result p.new }
+{
+    let below = grammar!(classes, levels - 1);
+    Ok(math_expr(&below, p, least, signs)?)
+}
+
+/// Reads a pattern where so many levels are left.
+#[cycle(knot)]
+pub(crate) fn call_pattern<C: Classes>(
+    classes: &C,
+    p: &mut Parser<'_>,
+    levels: usize,
+    role: Role,
+    names: Names,
+) -> Result<Names, AllocError>
+    requires { 0 < levels }
+    ensures { Calls (told_at (C.classes classes.now) levels) (Pattern role names) p.old result p.new }
+{
+    let below = grammar!(classes, levels - 1);
+    Ok(pattern(&below, p, role, names)?)
 }
 
 /// Reads all of a text from its start, in a mode.
@@ -104,11 +141,7 @@ pub fn read_whole<'s, C: Classes>(
         at_newline: AtNewline::Continue,
     };
     let mut p = Parser::new(alloc, text, reading, keeps_notes)?;
-    let g = Grammar {
-        classes,
-        levels: MAX_DEPTH,
-        call: make_call::<C>,
-    };
+    let g = grammar!(classes, MAX_DEPTH);
     read_all(&g, &mut p, mode)?;
     Ok(p)
 }

@@ -13,7 +13,7 @@ ghost use Rattle.typst_grammar.specs.declared.part.RunKind.{RunKind};
 ghost use Rattle.typst_grammar.specs.Part.{ArePieces, HasRead, HasReadOn, IsBlock, IsGiven, IsResumed, IsTokenStart};
 ghost use Rattle.typst_grammar.specs.Pieces.{stops_of};
 
-use crate::grammar::make_call;
+use crate::grammar::{call_code_expr, call_markup_expr, call_math_expr, call_pattern, grammar};
 use std::alloc::{AllocError, Global};
 use typst_code::{Grammar, Levels, Log, Parser, Stop, code_block, content_block, markup_turn};
 use typst_kinds::SyntaxMode;
@@ -57,11 +57,7 @@ pub fn parse_block<C: Classes>(
         at_newline: AtNewline::Continue,
     };
     let mut p = resume(alloc, text, at, reading);
-    let g = Grammar {
-        classes,
-        levels,
-        call: make_call::<C>,
-    };
+    let g = grammar!(classes, levels);
     p.look(&g)?;
     match block {
         Block::Content => content_block(&g, &mut p)?,
@@ -120,11 +116,7 @@ pub fn resume_pieces<'s, C: Classes>(
         at_newline: AtNewline::Continue,
     };
     let mut parser = resume(alloc, text, at, reading);
-    let g = Grammar {
-        classes,
-        levels,
-        call: make_call::<C>,
-    };
+    let g = grammar!(classes, levels);
     parser.look(&g)?;
     let end = token_start(&mut parser)?;
     Ok(PieceReader {
@@ -143,11 +135,7 @@ impl<'s> PieceReader<'s> {
         ensures read { (levels : ℕ) (kind : RunKind) (x : Bool × ℕ) (z : Place) (m : ℕ) → HasRead (C.classes classes.now) levels kind x z m self.old → IfOk result (λ more. HasReadOn (C.classes classes.now) levels kind x z m more self.new) }
         ensures shorter { (levels : ℕ) (kind : RunKind) (x : Bool × ℕ) (z : Place) (m : ℕ) → HasRead (C.classes classes.now) levels kind x z m self.old → IfOk result (λ more. more ≡ true → bytes_left self.new.parser.place < bytes_left self.old.parser.place) }
     {
-        let g = Grammar {
-            classes,
-            levels: self.levels,
-            call: make_call::<C>,
-        };
+        let g = grammar!(classes, self.levels);
         let (more, carried) = read_piece(&g, &mut self.parser, self.kind, self.carried)?;
         if !more {
             return Ok(false);

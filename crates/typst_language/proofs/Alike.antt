@@ -3,14 +3,13 @@ use Rattle.std.proofs.Common.{None, Some, ◌≡◌, ℕ, zero, suc, Bool, true,
 use Rattle.typst_lines.specs.Place.{Place, moved}
 use Rattle.typst_lines.specs.Classes.{CharClasses}
 use Rattle.typst_language.specs.declared.calls.Block.{Block}
-use Rattle.typst_language.specs.declared.calls.Call.{Call}
 use Rattle.typst_language.specs.Point.{Point, forgot}
 use Rattle.typst_language.specs.Syntax.{Op, Begin, Parser}
 use Rattle.typst_language.specs.Syntax.Op.{hand, so, further, column, erred, takes, takes_so, flushes, complains, advises, marks, is_deepest}
 use Rattle.typst_language.specs.Syntax.Parser.{gives, does, next, pick, repeat, wraps, grows, nests, scoped, either, calls, block}
 use Rattle.typst_language.specs.Meaning.{Outcome, Meaning, Level, joined, answered, followed, turns, as_last, bound, repeated, before, wrapped, grown, is_more, growths, growing, nestings, nesting, closed, bounded, deeper_by_one, given_up, chosen, entered, left_to, plain, no_guess, done, run}
 use Rattle.typst_language.specs.Sound.{Alike}
-use Rattle.typst_language.specs.Calls.{Answer}
+use Rattle.typst_language.specs.Calls.{Call, Answer}
 use Rattle.typst_language.specs.Shape.{Shape}
 use Rattle.typst_language.proofs.Within.{grew, nest}
 

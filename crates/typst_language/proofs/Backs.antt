@@ -4,7 +4,7 @@ use Rattle.typst_lines.specs.Place.{Place, moved}
 use Rattle.typst_kinds.specs.Kinds.{is_error}
 use Rattle.typst_lexer.specs.Tree.{Tree, forest, joined as text_joined, text_of}
 use Rattle.typst_language.specs.declared.calls.Block.{Block}
-use Rattle.typst_language.specs.declared.calls.Call.{Call}
+use Rattle.typst_language.specs.Calls.{Call}
 use Rattle.typst_language.specs.Point.{Point}
 use Rattle.typst_language.specs.Hand.{Hand, len_by, token_by}
 use Rattle.typst_language.specs.Ask.Ask.{looked}

@@ -125,7 +125,7 @@ string-end-goes (quoted e) = refl
 
 pub string-goes : (p : Place) → Goes string p
 unfolding string
-string-goes p = string-end-goes (spanned in_string (quoted false) (moved 1 p).behind (moved 1 p).ahead).1
+string-goes p = string-end-goes (spanned in_string (quoted false) (moved 1 p).before (moved 1 p).ahead).1
 
 -- a keyword is no end
 abbrev IsWord : Option SyntaxKind → Type 0
@@ -153,9 +153,9 @@ keyword-fine name =
 word-or-name-goes : (rest : List ℕ) (s : SyntaxKind) (p : Place) → is_end s ≡ false → Goes (keyword_or_name rest s) p
 unfolding keyword_or_name
 word-or-name-goes rest s p h =
-    goes-if (passes (λ c. c == 64) (slice_get p.behind 1)) _ _ p refl
-    (goes-if (passes (λ c. c == 46) (slice_get p.behind 1)) _ _ p
-    (goes-if (passes (λ c. c == 46) (slice_get p.behind 2)) _ _ p h refl) h)
+    goes-if (passes (λ c. c == 64) (slice_get p.before 1)) _ _ p refl
+    (goes-if (passes (λ c. c == 46) (slice_get p.before 1)) _ _ p
+    (goes-if (passes (λ c. c == 46) (slice_get p.before 2)) _ _ p h refl) h)
 
 name-goes : (name : List ℕ) → is_end (named name).kind ≡ false
 name-goes name = by_test (bytes_eq name (codes "_"))
@@ -179,7 +179,7 @@ ident-goes k c p =
 invalid-goes : (d : ℕ) (p : Place) → Goes (invalid d) p
 unfolding invalid foreign
 invalid-goes d p =
-    goes-if (passes (λ x. x == 35) (slice_get p.behind 0)) _ _ p refl
+    goes-if (passes (λ x. x == 35) (slice_get p.before 0)) _ _ p refl
     (goes-if (d == 38) _ _ p (goes-if (passes (λ c. c == 38) (scout 0 (moved 1 p))) _ _ (moved 1 p) refl refl)
     (goes-if (d == 124) _ _ p (goes-if (passes (λ c. c == 124) (scout 0 (moved 1 p))) _ _ (moved 1 p) refl refl)
     (goes-if (d == 126) _ _ p (goes-if (passes (λ c. c == 61) (scout 0 (moved 1 p))) _ _ (moved 1 p) refl refl) refl)))

@@ -79,7 +79,7 @@ minus-goes k p =
 emphasis-goes : (k : CharClasses) (s : SyntaxKind) (p : Place) → is_end s ≡ false → Goes (emphasis k s) p
 unfolding emphasis sign text_from
 emphasis-goes k s p h =
-    goes-if (passes k.word (slice_get p.behind 0)) _ _ p (goes-if (passes k.word (scout 1 p)) _ _ p (text-goes k (moved 1 p)) h) h
+    goes-if (passes k.word (slice_get p.before 0)) _ _ p (goes-if (passes k.word (scout 1 p)) _ _ p (text-goes k (moved 1 p)) h) h
 
 heading-goes : (k : CharClasses) (p : Place) → Goes (heading k) p
 unfolding heading
@@ -102,7 +102,7 @@ link-end-goes (quoted e) = refl
 
 link-goes : (p : Place) → Goes link p
 unfolding link
-link-goes p = link-end-goes (spanned in_link (brackets []) p.behind p.ahead).1
+link-goes p = link-end-goes (spanned in_link (brackets []) p.before p.ahead).1
 
 link-or-text-goes : (k : CharClasses) (p : Place) → Goes (link_or_text k) p
 unfolding link_or_text
@@ -133,7 +133,7 @@ unfolding raw
 raw-goes p =
     let ticks = run (λ c. c == 96) p in
     let q = past (λ c. c == 96) p in
-    goes-if (length ticks == 2) _ _ q refl (raw-end-goes (spanned in_raw (fence (length ticks) 0) q.behind q.ahead).1)
+    goes-if (length ticks == 2) _ _ q refl (raw-end-goes (spanned in_raw (fence (length ticks) 0) q.before q.ahead).1)
 
 markup-goes : (k : CharClasses) (c : ℕ) (p : Place) → Goes (markup k c) p
 unfolding markup sign marker text_from
@@ -168,7 +168,7 @@ mode-goes k Code c d p e = code-goes k c p
 hash-goes : (k : CharClasses) (m : SyntaxMode) (d : ℕ) (p : Place) → scout 0 p ≡ Some d → Goes (hash k m) p
 unfolding hash shebang
 hash-goes k m d p e =
-    goes-if (is_none (slice_get p.behind 0)) _ _ p (goes-if (passes (λ d. d == 33) (scout 1 p)) _ _ p refl (mode-goes k m 35 d p e)) (mode-goes k m 35 d p e)
+    goes-if (is_none (slice_get p.before 0)) _ _ p (goes-if (passes (λ d. d == 33) (scout 1 p)) _ _ p refl (mode-goes k m 35 d p e)) (mode-goes k m 35 d p e)
 
 slash-goes : (k : CharClasses) (m : SyntaxMode) (d : ℕ) (p : Place) → scout 0 p ≡ Some d → Goes (slash k m) p
 unfolding slash line_comment block_comment
@@ -202,7 +202,7 @@ ends-at k m b (c ∷ a) h = let g = token-goes k m b c a in absurd (cc)
 
 -- no character is ahead of the end
 pub token-ends : (k : CharClasses) (m : SyntaxMode) (z : Place) → is_end (token_at k m z).kind ≡ true → z.ahead ≡ []
-token-ends k m z h = ends-at k m z.behind z.ahead h
+token-ends k m z h = ends-at k m z.before z.ahead h
 
 none-left : (k : CharClasses) (m : SyntaxMode) (b : List ℕ) → is_end (token_at k m (place b [])).kind ≡ true
 unfolding token
@@ -214,7 +214,7 @@ takes-at k m b [] h = let e = none-left k m b in absurd (cc)
 
 -- another token takes a character
 pub token-takes : (k : CharClasses) (m : SyntaxMode) (z : Place) → is_end (token_at k m z).kind ≡ false → 0 < len_at k m z
-token-takes k m z h = takes-at k m z.behind z.ahead h
+token-takes k m z h = takes-at k m z.before z.ahead h
 
 -- ---- the token at hand
 

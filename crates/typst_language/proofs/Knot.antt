@@ -2,8 +2,7 @@
 use Rattle.std.proofs.Common.{◌≡◌, ℕ, zero, suc, true, false, inl, refl, arith}
 use Rattle.typst_lines.specs.Classes.{CharClasses}
 use Rattle.typst_language.specs.declared.calls.Block.{Block}
-use Rattle.typst_language.specs.declared.calls.Call.{Call}
-use Rattle.typst_language.specs.Calls.{Answer, no_answer}
+use Rattle.typst_language.specs.Calls.{Call, Answer, no_answer}
 use Rattle.typst_language.specs.Steps.{peek}
 use Rattle.typst_language.specs.Syntax.{Parser, ◌>>◌}
 use Rattle.typst_language.specs.Meaning.{Meaning, Level, plain, blockless, run}

@@ -16,7 +16,6 @@ use Rattle.typst_kinds.specs.Names.{name_of}
 use Rattle.std.specs.Prelude.{codes, None}
 use Rattle.typst_lines.proofs.Bools.{on}
 use Rattle.typst_language.specs.declared.calls.Block.{Block}
-use Rattle.typst_language.specs.declared.calls.Call.{Call}
 use Rattle.typst_language.specs.Point.{Trivia, Point, forgot}
 use Rattle.typst_language.specs.Shape.{Making, made, hinted_error, hinted_last, hinted, Change, changed, on_first, first_changed, is_delimited, in_parens, renamed_last, parens_renamed, without_parens, Shape, shaped, count_empty, after_node, after_change, after_shape}
 use Rattle.typst_language.specs.Shape.Change.{stays, turns_wrong, is_not, renamed, unparened}
@@ -32,7 +31,7 @@ use Rattle.typst_language.specs.Syntax.Op.{hand, so, further, column, erred, tak
 use Rattle.typst_language.specs.Syntax.Parser.{gives, does, next, pick, repeat, wraps, grows, nests, scoped, either, calls, block}
 use Rattle.typst_language.specs.Meaning.{Outcome, Meaning, Level, less, joined, answered, followed, turns, as_last, bound, repeated, before, inside, reshaped, wrapped, grown, is_more, growths, growing, nestings, nesting, closed, bounded, given_up, plain, same_mode, entered, left, taken_node, node_by, reader_so, gave, hand_of, hand_asks_of, asked, done, run}
 use Rattle.typst_language.specs.Sound.{Tidy, Backs, Stands}
-use Rattle.typst_language.specs.Calls.{Answer}
+use Rattle.typst_language.specs.Calls.{Call, Answer}
 use Rattle.typst_language.specs.Ask.{Ask}
 use Rattle.typst_language.specs.Ask.Ask.{looked}
 use Rattle.typst_tokens.specs.Reader.{look}

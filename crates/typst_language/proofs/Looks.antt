@@ -114,8 +114,8 @@ skip-covers (suc n) e l (c ∷ a) h =
 pub front-covers : {M A : Type 0} (r : Reader M A) (p : Place) → min (eaten r p) (suc (length p.ahead)) ≤ (look r p).front
 front-covers (answer a) p = omega arith
 front-covers (peek n k) p = omega (arith, front-covers (k (scout n p)) p)
-front-covers (glance n k) p = omega (arith, front-covers (k (slice_get p.behind n)) p)
-front-covers (span m state k) p = let r = spanned m state p.behind p.ahead in omega (arith, front-covers (k r.0 r.1) p)
+front-covers (glance n k) p = omega (arith, front-covers (k (slice_get p.before n)) p)
+front-covers (span m state k) p = let r = spanned m state p.before p.ahead in omega (arith, front-covers (k r.0 r.1) p)
 front-covers (eat r) p =
     eat-covers (eaten r (moved 1 p)) (look r (moved 1 p)) p.ahead (omega (arith, ahead-left 1 p, front-covers r (moved 1 p)))
 front-covers (skip n r) p =
@@ -156,4 +156,4 @@ token-same r z w g =
 
 pub column-same : (z w : Place) → Agree (record { back = suc (column_at z); front = 0 }) z w → column_at w ≡ column_at z
 unfolding column_at
-column-same z w g = run-same (λ c. not (is_newline c)) z.behind w.behind g.behind
+column-same z w g = run-same (λ c. not (is_newline c)) z.before w.before g.before

@@ -5,7 +5,7 @@ use Rattle.std.proofs.Math.Seq.{take-length, drop-nil}
 use Rattle.typst_lines.specs.Place.{Place, moved, moved_from}
 use Rattle.typst_language.specs.Meaning.{less}
 
-at-end : (n : ℕ) (b : List ℕ) → moved_from n b [] ≡ record { behind = b; ahead = [] }
+at-end : (n : ℕ) (b : List ℕ) → moved_from n b [] ≡ record { before = b; ahead = [] }
 at-end zero b = refl
 at-end (suc n) b = refl
 
@@ -15,7 +15,7 @@ sum-from (suc m) n b [] = let e : suc m + n ≡ suc (m + n) = omega arith in rw 
 sum-from (suc m) n b (c ∷ a) = let e : suc m + n ≡ suc (m + n) = omega arith in rw e (sum-from m n (c ∷ b) a)
 
 pub moved-sum : (m n : ℕ) (z : Place) → moved (m + n) z ≡ moved n (moved m z)
-moved-sum m n z = sum-from m n z.behind z.ahead
+moved-sum m n z = sum-from m n z.before z.ahead
 
 min-from : (n : ℕ) (b a : List ℕ) → moved_from (min n (length a)) b a ≡ moved_from n b a
 min-from n b [] = let e : min n 0 ≡ 0 = omega arith in rw e (sym (at-end n b))
@@ -24,7 +24,7 @@ min-from (suc n) b (c ∷ a) = let e : min (suc n) (suc (length a)) ≡ suc (min
 
 -- behind the end is the end
 pub moved-min : (n : ℕ) (z : Place) → moved (min n (length z.ahead)) z ≡ moved n z
-moved-min n z = min-from n z.behind z.ahead
+moved-min n z = min-from n z.before z.ahead
 
 ahead-from : (n : ℕ) (b a : List ℕ) → (moved_from n b a).ahead ≡ drop n a
 ahead-from zero b a = refl
@@ -32,18 +32,18 @@ ahead-from (suc n) b [] = refl
 ahead-from (suc n) b (c ∷ a) = ahead-from n (c ∷ b) a
 
 pub moved-ahead : (n : ℕ) (z : Place) → (moved n z).ahead ≡ drop n z.ahead
-moved-ahead n z = ahead-from n z.behind z.ahead
+moved-ahead n z = ahead-from n z.before z.ahead
 
 pub ahead-left : (n : ℕ) (z : Place) → length (moved n z).ahead ≡ length z.ahead - n
 ahead-left n z = ap length (moved-ahead n z) ∙ length-drop n z.ahead
 
-behind-from : (n : ℕ) (b a : List ℕ) → n ≤ length a → length (moved_from n b a).behind ≡ length b + n
-behind-from zero b a h = omega arith
-behind-from (suc n) b [] h = absurd (omega arith)
-behind-from (suc n) b (c ∷ a) h = let l : n ≤ length a = omega arith in omega (arith, behind-from n (c ∷ b) a l)
+before-from : (n : ℕ) (b a : List ℕ) → n ≤ length a → length (moved_from n b a).before ≡ length b + n
+before-from zero b a h = omega arith
+before-from (suc n) b [] h = absurd (omega arith)
+before-from (suc n) b (c ∷ a) h = let l : n ≤ length a = omega arith in omega (arith, before-from n (c ∷ b) a l)
 
-pub moved-behind : (n : ℕ) (z : Place) → n ≤ length z.ahead → length (moved n z).behind ≡ length z.behind + n
-moved-behind n z h = behind-from n z.behind z.ahead h
+pub moved-before : (n : ℕ) (z : Place) → n ≤ length z.ahead → length (moved n z).before ≡ length z.before + n
+moved-before n z h = before-from n z.before z.ahead h
 
 -- ---- lists without their ends
 

@@ -11,7 +11,7 @@ use Rattle.typst_lines.proofs.Bools.{on}
 use Rattle.typst_language.specs.declared.reading.AtNewline.{AtNewline}
 use Rattle.typst_language.specs.declared.reading.AtNewline.TheVariants.{Continue, Stop, ContextualContinue, StopParBreak, RequireColumn}
 use Rattle.typst_language.specs.declared.calls.Block.{Block}
-use Rattle.typst_language.specs.declared.calls.Call.{Call}
+use Rattle.typst_language.specs.Calls.{Call}
 use Rattle.typst_language.specs.declared.reading.Reading.{Reading}
 use Rattle.typst_language.specs.Point.{Point}
 use Rattle.typst_language.specs.Shape.{Shape, changed, after_node, after_shape}

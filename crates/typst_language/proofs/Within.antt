@@ -6,7 +6,7 @@ use Rattle.typst_lines.specs.Place.{Place, moved}
 use Rattle.typst_lines.specs.Classes.{CharClasses}
 pub use Rattle.typst_lines.proofs.Bools.{and-second}
 use Rattle.typst_language.specs.declared.calls.Block.{Block}
-use Rattle.typst_language.specs.declared.calls.Call.{Call}
+use Rattle.typst_language.specs.Calls.{Call}
 use Rattle.typst_language.specs.Point.{Trivia, Point, gap_of}
 use Rattle.typst_language.specs.Shape.{Shape, after_node, after_shape}
 use Rattle.typst_language.specs.Shape.Shape.{keeps, holds, lacks, warns, fails}

@@ -3,8 +3,7 @@ use Rattle.std.specs.Prelude.{ℕ, ◌+◌, ◌-◌, ◌^◌, min, Bool, true, f
 use Rattle.typst_kinds.specs.declared.kind.SyntaxKind.{SyntaxKind}
 use Rattle.typst_kinds.specs.declared.kind.SyntaxKind.TheVariants as kind
 use Rattle.typst_language.specs.declared.reading.AtNewline.TheVariants.{Continue}
-use Rattle.typst_language.specs.declared.calls.Call.{Call}
-use Rattle.typst_language.specs.Calls.{Answer}
+use Rattle.typst_language.specs.Calls.{Call, Answer}
 use Rattle.typst_language.specs.Shape.Shape.{fails}
 use Rattle.typst_language.specs.Syntax.{Parser, ◌>>=◌, ◌>>◌}
 use Rattle.typst_language.specs.Syntax.Op.{is_deepest}

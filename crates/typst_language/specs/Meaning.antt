@@ -16,13 +16,12 @@ use Rattle.typst_language.specs.declared.reading.AtNewline.TheVariants.{Continue
 use Rattle.typst_language.specs.declared.calls.Behind.{Behind}
 use Rattle.typst_language.specs.declared.calls.Behind.TheVariants.{Nothing}
 use Rattle.typst_language.specs.declared.calls.Block.{Block}
-use Rattle.typst_language.specs.declared.calls.Call.{Call}
 use Rattle.typst_language.specs.declared.calls.Mark.TheVariants as mark
 use Rattle.typst_language.specs.declared.calls.Way.{Way}
 use Rattle.typst_language.specs.declared.reading.Reading.{Reading}
 use Rattle.typst_language.specs.Ask.{Ask, shift, sunk, only_looks}
 use Rattle.typst_language.specs.Ask.Ask.{looked, marked}
-use Rattle.typst_language.specs.Calls.{Answer, token_so}
+use Rattle.typst_language.specs.Calls.{Call, Answer, token_so}
 use Rattle.typst_language.specs.Point.{Point, state_of, forgot, pending, gap_of}
 use Rattle.typst_language.specs.Hand.{Hand, told, known_by, hand_at, hand_asks, text_ahead, token_by, len_by, column_at, column_look}
 use Rattle.typst_language.specs.Shape.{Making, made, hinted, Shape, shaped, after_node, after_shape, Seen, seen}

@@ -3,7 +3,7 @@ use Rattle.std.specs.Prelude.{◌≡◌, ℕ, ◌+◌, ◌≤◌, false, length,
 use Rattle.typst_lines.specs.Place.{Place, moved}
 use Rattle.typst_lexer.specs.Tree.{forest, joined}
 use Rattle.typst_language.specs.declared.calls.Block.{Block}
-use Rattle.typst_language.specs.declared.calls.Call.{Call}
+use Rattle.typst_language.specs.Calls.{Call}
 use Rattle.typst_language.specs.Ask.{SameIn}
 use Rattle.typst_language.specs.Hand.{utf8_ahead}
 use Rattle.typst_language.specs.Point.{Trivia, Point}

@@ -28,7 +28,7 @@ bare beyond = blockless (by_law beyond) 1 (λ c z s. plain (no_answer c) s)
 
 -- what a parser gives at the start of a text
 abbrev pub of_text : {A : Type 0} → CharClasses → List ℕ → Parser A → Outcome A
-of_text beyond text p = run (bare beyond) p (record { behind = []; ahead = text }) (start_point as_markup)
+of_text beyond text p = run (bare beyond) p (record { before = []; ahead = text }) (start_point as_markup)
 
 abbrev pub is_star : SyntaxKind → Bool
 is_star kind.Star = true

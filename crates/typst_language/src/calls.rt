@@ -1,7 +1,7 @@
-//! What the grammar adds to the language: what may be called, what is noted, and how else a token is read.
+//! What the grammar adds to the language: what its calls are told, what is noted, and how else a token is read.
 
 use crate::reading::State;
-use typst_kinds::{Names, SyntaxMode};
+use typst_kinds::SyntaxMode;
 
 /// What the names of a pattern are.
 #[derive(Debug, Clone, Copy, PartialEq, Eq)]
@@ -12,23 +12,6 @@ pub enum Role {
     Binding,
     /// New names of what a closure is called with.
     Parameter,
-}
-
-/// What is read one level deeper.
-#[derive(Drop)]
-pub enum Call {
-    /// An expression of markup, whether at the start of a line, and in how many brackets. It
-    /// answers in how many brackets what comes after it stands.
-    MarkupExpr(bool, usize),
-    /// An expression of code, whether atomic, and how tightly its operators bind at least. It answers
-    /// nothing.
-    CodeExpr(bool, u8),
-    /// An expression of a formula, how tightly its operators bind at least, and at which signs of
-    /// attachments it ends. It answers nothing.
-    MathExpr(u8, ChainSet),
-    /// A pattern, what its names are, and which names were seen before it. It answers which were seen
-    /// behind it.
-    Pattern(Role, Names),
 }
 
 /// What comes behind a name, an underscore or parens.

@@ -25,17 +25,17 @@ one-more : (n : ℕ) → 1 + n ≡ suc n
 one-more n = omega arith
 
 -- the first name goes up to a dot
-pub names-run : (behind cs : List ℕ) → names_of cs ≡ take (prefix_len no_dot cs) cs ∷ rest_of (names_of (moved_from (prefix_len no_dot cs) behind cs).ahead)
-names-run behind [] = refl
-names-run behind (c ∷ cs) = by (names-run (c ∷ behind) cs) (c == 46) refl
+pub names-run : (before cs : List ℕ) → names_of cs ≡ take (prefix_len no_dot cs) cs ∷ rest_of (names_of (moved_from (prefix_len no_dot cs) before cs).ahead)
+names-run before [] = refl
+names-run before (c ∷ cs) = by (names-run (c ∷ before) cs) (c == 46) refl
   where
-    by : names_of cs ≡ take (prefix_len no_dot cs) cs ∷ rest_of (names_of (moved_from (prefix_len no_dot cs) (c ∷ behind) cs).ahead) → (t : Bool) → (c == 46) ≡ t → names_of (c ∷ cs) ≡ take (prefix_len no_dot (c ∷ cs)) (c ∷ cs) ∷ rest_of (names_of (moved_from (prefix_len no_dot (c ∷ cs)) behind (c ∷ cs)).ahead)
+    by : names_of cs ≡ take (prefix_len no_dot cs) cs ∷ rest_of (names_of (moved_from (prefix_len no_dot cs) (c ∷ before) cs).ahead) → (t : Bool) → (c == 46) ≡ t → names_of (c ∷ cs) ≡ take (prefix_len no_dot (c ∷ cs)) (c ∷ cs) ∷ rest_of (names_of (moved_from (prefix_len no_dot (c ∷ cs)) before (c ∷ cs)).ahead)
     by more true e = rw (e, e) refl
     by more false e = rw (e, one-more (prefix_len no_dot cs)) (ap (longer c) more)
 
 -- the names from a place on
 pub names-past : (p : Place) → names_of p.ahead ≡ run no_dot p ∷ names_behind (past no_dot p)
-names-past p = names-run p.behind p.ahead
+names-past p = names-run p.before p.ahead
 
 -- what a name becomes with those behind it
 pub first-names : (p q : Place) (name : List ℕ) (node : Tree) → q ≡ past no_dot p → name ≡ run no_dot p → node ≡ name_node name → named_node (names_of p.ahead) ≡ fields_node node (names_behind q)
@@ -44,9 +44,9 @@ first-names p q name node e n h = ap named_node (names-past p) ∙ rw (h, n, e) 
 -- behind a dot the next name takes what stands before it
 pub next-name : (p q w : Place) (name : List ℕ) (old new : Tree) → passes (λ c. c == 46) (scout 0 p) ≡ true → q ≡ moved 1 p → w ≡ past no_dot q → name ≡ run no_dot q → new ≡ field_node old name
     → fields_node old (names_behind p) ≡ fields_node new (names_behind w)
-next-name p q w name old new t e f n h = by p.behind p.ahead t e
+next-name p q w name old new t e f n h = by p.before p.ahead t e
   where
-    by : (b a : List ℕ) → passes (λ c. c == 46) (scout 0 (record { behind = b; ahead = a })) ≡ true → q ≡ moved_from 1 b a → fields_node old (rest_of (names_of a)) ≡ fields_node new (names_behind w)
+    by : (b a : List ℕ) → passes (λ c. c == 46) (scout 0 (record { before = b; ahead = a })) ≡ true → q ≡ moved_from 1 b a → fields_node old (rest_of (names_of a)) ≡ fields_node new (names_behind w)
     by b [] t e = absurd (cc)
     by b (c ∷ cs) t e =
         let there : names_of q.ahead ≡ names_of cs = ap (λ (x : Place). names_of x.ahead) e in
@@ -56,7 +56,7 @@ next-name p q w name old new t e f n h = by p.behind p.ahead t e
 pub no-names : (p : Place) (node : Tree) → passes (λ c. c == 46) (scout 0 p) ≡ false → passes no_dot (scout 0 p) ≡ false → fields_node node (names_behind p) ≡ node
 no-names p node t s = by p.ahead t s
   where
-    by : (a : List ℕ) → passes (λ c. c == 46) (scout 0 (record { behind = []; ahead = a })) ≡ false → passes no_dot (scout 0 (record { behind = []; ahead = a })) ≡ false → fields_node node (rest_of (names_of a)) ≡ node
+    by : (a : List ℕ) → passes (λ c. c == 46) (scout 0 (record { before = []; ahead = a })) ≡ false → passes no_dot (scout 0 (record { before = []; ahead = a })) ≡ false → fields_node node (rest_of (names_of a)) ≡ node
     by [] t s = refl
     by (c ∷ cs) t s = absurd (cc)
 
@@ -82,14 +82,14 @@ dot-taken r p q t h e = (sym t ∙ h, e ∙ ap (λ (b : Bool). if b then moved 1
 
 -- fewer characters are ahead behind a dot and a name
 pub dot-shortens : (p q w : Place) → passes (λ c. c == 46) (scout 0 p) ≡ true → q ≡ moved 1 p → w ≡ past no_dot q → length w.ahead < length p.ahead
-dot-shortens p q w t e f = by p.behind p.ahead t e
+dot-shortens p q w t e f = by p.before p.ahead t e
   where
-    by : (b a : List ℕ) → passes (λ c. c == 46) (scout 0 (record { behind = b; ahead = a })) ≡ true → q ≡ moved_from 1 b a → length w.ahead < length a
+    by : (b a : List ℕ) → passes (λ c. c == 46) (scout 0 (record { before = b; ahead = a })) ≡ true → q ≡ moved_from 1 b a → length w.ahead < length a
     by b [] t e = absurd (cc)
     by b (c ∷ cs) t e =
         let last : length w.ahead ≡ length (past no_dot q).ahead = ap (λ (x : Place). length x.ahead) f in
         let first : length q.ahead ≡ length cs = ap (λ (x : Place). length x.ahead) e in
-        omega (arith, last, first, moved-less (prefix_len no_dot q.ahead) q.behind q.ahead)
+        omega (arith, last, first, moved-less (prefix_len no_dot q.ahead) q.before q.ahead)
 
 -- ---- the text
 

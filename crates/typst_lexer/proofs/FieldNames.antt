@@ -57,7 +57,7 @@ run-looks k c b a e = (1, (ap (λ t. widened 0 1 (glimpse (at_char k c t) (place
 -- a name goes on to what doesn't continue it
 pub rest-run : (k : CharClasses) (v : Sight) → Covers v → sight (rest k) v ≡ sight (rest k) (went_past (continues k) v)
 rest-run k v h =
-    sight-pairs (in_fields k) (quoted false) (λ c _. continues k c) ended (run-goes k) (run-looks k) v.place.behind v.place.ahead v.reach v.least h
+    sight-pairs (in_fields k) (quoted false) (λ c _. continues k c) ended (run-goes k) (run-looks k) v.place.before v.place.ahead v.reach v.least h
     ∙ ap (λ n. sight (rest k) (went n (saw (suc n) v))) (len-same (continues k) v.place.ahead)
 
 -- ---- turns behind a name
@@ -78,7 +78,7 @@ stopped k c b a r l h e =
 
 -- no field follows
 pub rest-end : (k : CharClasses) (v : Sight) → Covers v → passes (continues k) (scout 0 v.place) ≡ false → is_field k (scout 0 v.place) (scout 1 v.place) ≡ false → sight (rest k) v ≡ (plain kind.MathFieldAccess, saw 2 v)
-rest-end k v h e f = at-stop v.place.behind v.place.ahead v.reach v.least h e f
+rest-end k v h e f = at-stop v.place.before v.place.ahead v.reach v.least h e f
   where
     at-stop : (b a : List ℕ) (r l : ℕ) → Covers (record { place = place b a; reach = r; least = l }) → passes (continues k) (slice_get a 0) ≡ false → is_field k (slice_get a 0) (slice_get a 1) ≡ false
         → sight (rest k) (record { place = place b a; reach = r; least = l }) ≡ (plain kind.MathFieldAccess, saw 2 (record { place = place b a; reach = r; least = l }))
@@ -101,7 +101,7 @@ field-on k c d b a r l h e f =
     ∙ ap (sight (rest k)) (same-sight _ _ _ _ _ _ refl (omega (arith, far-on 1 c b (d ∷ a), far-next 1 (place b (c ∷ d ∷ a)))) refl)
 
 pub rest-field : (k : CharClasses) (v : Sight) → Covers v → passes (continues k) (scout 0 v.place) ≡ false → is_field k (scout 0 v.place) (scout 1 v.place) ≡ true → sight (rest k) v ≡ sight (rest k) (went 2 (saw 2 v))
-rest-field k v h e f = on v.place.behind v.place.ahead v.reach v.least h e f
+rest-field k v h e f = on v.place.before v.place.ahead v.reach v.least h e f
   where
     never : (t : Bool) → (t && false) ≡ true → ⊥
     never true g = cc
@@ -139,7 +139,7 @@ stops k v w e = ap (λ (x : Sight). passes (continues k) (scout 0 x.place)) e �
 pub field-shortens : (k : CharClasses) (v w : Sight) → is_field k (scout 0 v.place) (scout 1 v.place) ≡ true → w ≡ went_past (continues k) (went 2 (saw 2 v)) → length w.place.ahead < length v.place.ahead
 field-shortens k v w e f =
     let u = moved 2 v.place in
-    omega (arith, ap (λ (x : Sight). length x.place.ahead) f, moved-less (prefix_len (continues k) u.ahead) u.behind u.ahead, shorter v.place.behind v.place.ahead e)
+    omega (arith, ap (λ (x : Sight). length x.place.ahead) f, moved-less (prefix_len (continues k) u.ahead) u.before u.ahead, shorter v.place.before v.place.ahead e)
   where
     shorter : (b a : List ℕ) → is_field k (slice_get a 0) (slice_get a 1) ≡ true → length (moved_from 2 b a).ahead < length a
     shorter b [] e = absurd (cc)

@@ -112,8 +112,8 @@ least-step n m blank line s q t nl eq et il b e =
 pub record IsAtRow (cs : List ℕ) (start : Place) (line : List ℕ) (s : Place) : Type 0 where
   pub ending : List ℕ
   pub from_start : start.ahead ≡ (ending ++ line) ++ s.ahead
-  pub whole : reverse start.behind ++ start.ahead ≡ cs
-  pub behind : reverse s.behind ++ s.ahead ≡ cs
+  pub whole : reverse start.before ++ start.ahead ≡ cs
+  pub behind : reverse s.before ++ s.ahead ≡ cs
   pub at_end : prefix_len in_line s.ahead ≡ 0
   pub last : last_of (row ending line) (later_rows s.ahead) ≡ last_row cs
 
@@ -125,7 +125,7 @@ row-step cs line next start s q t h some nl eq et il = record {
       sym (take-append-drop (line_end_len s) s.ahead) ∙ ap (λ x. take (line_end_len s) s.ahead ++ x) (sym (moved-ahead (line_end_len s) s) ∙ sym (ap (λ p. p.ahead) eq) ∙ sym (take-append-drop (prefix_len in_line q.ahead) q.ahead)
       ∙ ap (λ x. x ++ drop (prefix_len in_line q.ahead) q.ahead) (sym il) ∙ ap (λ x. next ++ x) (sym t_ahead)) ∙ sym (append_assoc (take (line_end_len s) s.ahead) next t.ahead);
   whole = h.behind;
-  behind = ap (λ p. reverse p.behind ++ p.ahead) (et ∙ ap (λ p. past in_line p) eq) ∙ moved-whole (prefix_len in_line (moved (line_end_len s) s).ahead) (moved (line_end_len s) s) ∙ moved-whole (line_end_len s) s ∙ h.behind;
+  behind = ap (λ p. reverse p.before ++ p.ahead) (et ∙ ap (λ p. past in_line p) eq) ∙ moved-whole (prefix_len in_line (moved (line_end_len s) s).ahead) (moved (line_end_len s) s) ∙ moved-whole (line_end_len s) s ∙ h.behind;
   at_end = ap (prefix_len in_line) t_ahead ∙ past-run in_line q.ahead;
   last =
       ap (last_of (row (take (line_end_len s) s.ahead) next)) (ap later_rows t_ahead ∙ later-past q.ahead)
@@ -137,13 +137,13 @@ row-step cs line next start s q t h some nl eq et il = record {
     t_ahead : t.ahead ≡ drop (prefix_len in_line q.ahead) q.ahead
     t_ahead = ap (λ p. p.ahead) et ∙ moved-ahead (prefix_len in_line q.ahead) q
 
-pub row-first : (cs line : List ℕ) (start s : Place) → start.behind ≡ [] → start.ahead ≡ cs → s ≡ past in_line start → line ≡ run in_line start → IsAtRow cs start line s
+pub row-first : (cs line : List ℕ) (start s : Place) → start.before ≡ [] → start.ahead ≡ cs → s ≡ past in_line start → line ≡ run in_line start → IsAtRow cs start line s
 unfolding last_row
 row-first cs line start s b a es il = record {
   ending = [];
   from_start = sym (take-append-drop (prefix_len in_line start.ahead) start.ahead) ∙ ap (λ x. x ++ drop (prefix_len in_line start.ahead) start.ahead) (sym il) ∙ ap (λ x. line ++ x) (sym s_ahead);
   whole = whole;
-  behind = ap (λ p. reverse p.behind ++ p.ahead) es ∙ moved-whole (prefix_len in_line start.ahead) start ∙ whole;
+  behind = ap (λ p. reverse p.before ++ p.ahead) es ∙ moved-whole (prefix_len in_line start.ahead) start ∙ whole;
   at_end = ap (prefix_len in_line) s_ahead ∙ past-run in_line start.ahead;
   last = ap (last_of (row [] line)) (ap later_rows s_ahead ∙ later-past start.ahead ∙ ap later_rows a) ∙ ap (λ x. last_of (row [] x) (later_rows cs)) (il ∙ ap first_line a);
 }
@@ -151,18 +151,18 @@ row-first cs line start s b a es il = record {
     s_ahead : s.ahead ≡ drop (prefix_len in_line start.ahead) start.ahead
     s_ahead = ap (λ p. p.ahead) es ∙ moved-ahead (prefix_len in_line start.ahead) start
 
-    whole : reverse start.behind ++ start.ahead ≡ cs
+    whole : reverse start.before ++ start.ahead ≡ cs
     whole = ap (λ x. reverse x ++ start.ahead) b ∙ a
 
 -- ---- a space at a line's end
 
-pub spare-no : (line behind : List ℕ) → behind ≡ reverse line → false ≡ passes (λ c. c == 32) (slice_get behind 0) → false ≡ has_spare_space line
-spare-no line behind e f = ap (λ b. b && passes is_tick (find (λ c. not (is_whitespace c)) (reverse line))) (f ∙ ap (λ x. passes (λ c. c == 32) (slice_get x 0)) e)
+pub spare-no : (line before : List ℕ) → before ≡ reverse line → false ≡ passes (λ c. c == 32) (slice_get before 0) → false ≡ has_spare_space line
+spare-no line before e f = ap (λ b. b && passes is_tick (find (λ c. not (is_whitespace c)) (reverse line))) (f ∙ ap (λ x. passes (λ c. c == 32) (slice_get x 0)) e)
 
-pub spare-found : (line : List ℕ) (p : Place) (c : ℕ) → find (λ c. not (is_whitespace c)) p.behind ≡ find (λ c. not (is_whitespace c)) (reverse line)
-    → true ≡ passes (λ c. c == 32) (slice_get (reverse line) 0) → Some c ≡ slice_get p.behind 0 → is_whitespace c ≡ false → (c == 96) ≡ has_spare_space line
+pub spare-found : (line : List ℕ) (p : Place) (c : ℕ) → find (λ c. not (is_whitespace c)) p.before ≡ find (λ c. not (is_whitespace c)) (reverse line)
+    → true ≡ passes (λ c. c == 32) (slice_get (reverse line) 0) → Some c ≡ slice_get p.before 0 → is_whitespace c ≡ false → (c == 96) ≡ has_spare_space line
 spare-found line p c h f e w =
-    found p.behind (sym e) ∙ ap (passes is_tick) h ∙ ap (λ b. b && passes is_tick (find (λ c. not (is_whitespace c)) (reverse line))) f
+    found p.before (sym e) ∙ ap (passes is_tick) h ∙ ap (λ b. b && passes is_tick (find (λ c. not (is_whitespace c)) (reverse line))) f
   where
     found : (xs : List ℕ) → slice_get xs 0 ≡ Some c → (c == 96) ≡ passes is_tick (find (λ c. not (is_whitespace c)) xs)
     found [] g = absurd (cc)
@@ -176,34 +176,34 @@ module _ (cs : List ℕ) (l : LastLine) (h : IsLastLine cs l) where
   unfolding closing
   row_end blank spare b e = rw (sym (ap is_blank h.line) ∙ b, sym (ap has_spare_space h.line) ∙ e) refl
 
-  pub trim-blank : true ≡ is_blank (chars l.line.now) → (reverse (place l.start).behind ≡ front cs) × ((place l.start).ahead ≡ closing cs)
+  pub trim-blank : true ≡ is_blank (chars l.line.now) → (reverse (place l.start).before ≡ front cs) × ((place l.start).ahead ≡ closing cs)
   trim-blank b =
       let is : (place l.start).ahead ≡ closing cs = h.from_start ∙ sym (row_end true (has_spare_space (chars l.line.now)) (sym b) refl) in
-      (sym (front-is cs (reverse (place l.start).behind) (sym h.whole ∙ ap (λ x. reverse (place l.start).behind ++ x) is)), is)
+      (sym (front-is cs (reverse (place l.start).before) (sym h.whole ∙ ap (λ x. reverse (place l.start).before ++ x) is)), is)
 
-  pub trim-none : false ≡ is_blank (chars l.line.now) → false ≡ has_spare_space (chars l.line.now) → (reverse (place l.end).behind ≡ front cs) × ((place l.end).ahead ≡ closing cs)
+  pub trim-none : false ≡ is_blank (chars l.line.now) → false ≡ has_spare_space (chars l.line.now) → (reverse (place l.end).before ≡ front cs) × ((place l.end).ahead ≡ closing cs)
   trim-none b e =
       let none = row_end false false (sym b) (sym e) in
       (ap reverse h.to_end ∙ reverse-reverse cs ∙ sym (front-is cs cs (sym (append-nil cs) ∙ ap (λ x. cs ++ x) (sym none))), h.nothing_left ∙ sym none)
 
-  pub trim-spare : false ≡ is_blank (chars l.line.now) → true ≡ has_spare_space (chars l.line.now) → (q : Place) → q ≡ moved_back (place l.end) → (reverse q.behind ≡ front cs) × (q.ahead ≡ closing cs)
+  pub trim-spare : false ≡ is_blank (chars l.line.now) → true ≡ has_spare_space (chars l.line.now) → (q : Place) → q ≡ moved_back (place l.end) → (reverse q.before ≡ front cs) × (q.ahead ≡ closing cs)
   trim-spare b e q m =
       let one = row_end false true (sym b) (sym e) in
       let ends = ends-closing cs in
       let whole : cs ≡ ends.before ++ 32 ∷ [] = ends.is ∙ ap (λ x. ends.before ++ x) one in
-      let back : (place l.end).behind ≡ 32 ∷ reverse ends.before = h.to_end ∙ ap reverse whole ∙ reverse-append ends.before (32 ∷ []) in
+      let back : (place l.end).before ≡ 32 ∷ reverse ends.before = h.to_end ∙ ap reverse whole ∙ reverse-append ends.before (32 ∷ []) in
       let is : q ≡ at (reverse ends.before) (32 ∷ []) = m ∙ ap (λ x. back_from x (place l.end).ahead) back ∙ ap (λ x. at (reverse ends.before) (32 ∷ x)) h.nothing_left in
-      (ap (λ p. reverse p.behind) is ∙ reverse-reverse ends.before ∙ sym (front-is cs ends.before ends.is), ap (λ p. p.ahead) is ∙ sym one)
+      (ap (λ p. reverse p.before) is ∙ reverse-reverse ends.before ∙ sym (front-is cs ends.before ends.is), ap (λ p. p.ahead) is ∙ sym one)
 
 pub last-line : (cs line : List ℕ) (start s : Place) → IsAtRow cs start line s → is_none (scout 0 s) ≡ true
-    → (line ≡ (last_row cs).line) × (start.ahead ≡ (last_row cs).ending ++ (last_row cs).line) × (reverse start.behind ++ start.ahead ≡ cs) × (s.behind ≡ reverse cs) × (s.ahead ≡ [])
+    → (line ≡ (last_row cs).line) × (start.ahead ≡ (last_row cs).ending ++ (last_row cs).line) × (reverse start.before ++ start.ahead ≡ cs) × (s.before ≡ reverse cs) × (s.ahead ≡ [])
 last-line cs line start s h n =
     let none : s.ahead ≡ [] = nothing s.ahead n in
     let last : row h.ending line ≡ last_row cs = sym (ap (last_of (row h.ending line)) (ap later_rows none ∙ later-none)) ∙ h.last in (
       ap (λ r. r.line) last,
       h.from_start ∙ ap (λ x. (h.ending ++ line) ++ x) none ∙ append-nil (h.ending ++ line) ∙ ap chars_of last,
       h.whole,
-      sym (reverse-reverse s.behind) ∙ ap reverse (sym (append-nil (reverse s.behind)) ∙ ap (λ x. reverse s.behind ++ x) (sym none) ∙ h.behind),
+      sym (reverse-reverse s.before) ∙ ap reverse (sym (append-nil (reverse s.before)) ∙ ap (λ x. reverse s.before ++ x) (sym none) ∙ h.behind),
       none,
     )
   where

@@ -28,12 +28,12 @@ size k p = 1 + prefix_len (continues k) (moved 1 p).ahead
 pub behind-is : (k : CharClasses) (v u w : Sight) → u ≡ went 1 (saw 2 v) → w ≡ went_past (continues k) u → w.place ≡ moved (size k v.place) v.place
 behind-is k v u w e f =
     ap (λ (x : Sight). x.place) f ∙ ap (λ (x : Sight). past (continues k) x.place) e
-    ∙ moved-more 1 (prefix_len (continues k) (moved 1 v.place).ahead) v.place.behind v.place.ahead
+    ∙ moved-more 1 (prefix_len (continues k) (moved 1 v.place).ahead) v.place.before v.place.ahead
 
 -- the text stays
 pub text-stays : (n : ℕ) (z w : Place) → w ≡ moved n z → text_of w ≡ text_of z
 unfolding text_of
-text-stays n z w e = ap (λ (x : Place). encode_utf8_all (reverse x.behind ++ x.ahead)) e ∙ ap encode_utf8_all (text-on n z.behind z.ahead)
+text-stays n z w e = ap (λ (x : Place). encode_utf8_all (reverse x.before ++ x.ahead)) e ∙ ap encode_utf8_all (text-on n z.before z.ahead)
 
 own-on : (test : ℕ → Bool) (c : ℕ) (b a : List ℕ) → slice_get a 0 ≡ Some c
     → take (1 + prefix_len test (moved_from 1 b a).ahead) a ≡ c ∷ take (prefix_len test (moved_from 1 b a).ahead) (moved_from 1 b a).ahead
@@ -45,7 +45,7 @@ own-on test c b (d ∷ a) e =
 
 -- its characters
 pub own-is : (k : CharClasses) (c : ℕ) (p : Place) (cs : List ℕ) → scout 0 p ≡ Some c → cs ≡ take (size k p) p.ahead → cs ≡ c ∷ run (continues k) (moved 1 p)
-own-is k c p cs e f = f ∙ own-on (continues k) c p.behind p.ahead e
+own-is k c p cs e f = f ∙ own-on (continues k) c p.before p.ahead e
 
 pub own-some : (own cs : List ℕ) (c : ℕ) → chars own ≡ c ∷ cs → 0 < length own
 own-some own cs c e = line-some own (subst (λ t. 0 < length t) (sym e) (omega arith))

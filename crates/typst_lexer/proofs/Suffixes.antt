@@ -20,7 +20,7 @@ start-of text = refl
 -- ---- the digits of a base
 
 pub second-on : (p : Place) → (moved 1 (moved 1 p)).ahead ≡ drop 2 p.ahead
-second-on p = by p.behind p.ahead
+second-on p = by p.before p.ahead
   where
     by : (b a : List ℕ) → (moved 1 (moved_from 1 b a)).ahead ≡ drop 2 a
     by b [] = refl

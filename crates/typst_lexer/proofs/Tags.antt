@@ -15,7 +15,7 @@ use Rattle.typst_tree.specs.Tree.{Tree, error_of, remarked, advised}
 use Rattle.typst_lexer.specs.RawLines.{leaf, is_tick}
 use Rattle.typst_lexer.specs.Raw.{ticks, past_ticks, before_ticks, tag_leaves, is_pair, two_delimiters, closed_node, delimited_node, raw_node}
 use Rattle.typst_lexer.specs.RawTag.{in_tag, tag, width, stretch, treated, is_whole, only_tag, warned}
-use Rattle.typst_lexer.proofs.Moves.{at, start-ahead, start-behind, moved-ahead, moved-behind}
+use Rattle.typst_lexer.proofs.Moves.{at, start-ahead, start-before, moved-ahead, moved-before}
 
 -- ---- where the tag ends
 
@@ -26,14 +26,14 @@ module _ (text : List ℕ) (p q : Place) (start : p ≡ place_at text 0) (moves 
   ahead-is : p.ahead ≡ chars text
   ahead-is = ap (λ x. x.ahead) start ∙ start-ahead text
 
-  behind-is : p.behind ≡ []
-  behind-is = ap (λ x. x.behind) start ∙ start-behind text
+  before-is : p.before ≡ []
+  before-is = ap (λ x. x.before) start ∙ start-before text
 
-  pub tag-behind : reverse q.behind ≡ tag (chars text)
+  pub tag-before : reverse q.before ≡ tag (chars text)
   unfolding tag
-  tag-behind =
-      ap (λ x. reverse x.behind) moves ∙ moved-behind (prefix_len in_tag p.ahead) p
-      ∙ ap (λ x. reverse x ++ take (prefix_len in_tag p.ahead) p.ahead) behind-is ∙ ap (λ x. take (prefix_len in_tag x) x) ahead-is
+  tag-before =
+      ap (λ x. reverse x.before) moves ∙ moved-before (prefix_len in_tag p.ahead) p
+      ∙ ap (λ x. reverse x ++ take (prefix_len in_tag p.ahead) p.ahead) before-is ∙ ap (λ x. take (prefix_len in_tag x) x) ahead-is
 
   pub tag-ahead : q.ahead ≡ drop (length (tag (chars text))) (chars text)
   unfolding tag
@@ -88,10 +88,10 @@ warned-not n tag inner t e = rw e refl
 
 -- ---- backticks at the end
 
-pub ticks-step : (count i : ℕ) (p q : Place) → i < count → passes (λ c. c == 96) (slice_get p.behind 0) ≡ true → q ≡ moved_back p → past_ticks (count - (i + 1)) q.behind ≡ past_ticks (count - i) p.behind
-ticks-step count i p q lt e m = ap (λ x. past_ticks (count - (i + 1)) x.behind) m ∙ from p.behind p.ahead e
+pub ticks-step : (count i : ℕ) (p q : Place) → i < count → passes (λ c. c == 96) (slice_get p.before 0) ≡ true → q ≡ moved_back p → past_ticks (count - (i + 1)) q.before ≡ past_ticks (count - i) p.before
+ticks-step count i p q lt e m = ap (λ x. past_ticks (count - (i + 1)) x.before) m ∙ from p.before p.ahead e
   where
-    from : (xs ys : List ℕ) → passes (λ c. c == 96) (slice_get xs 0) ≡ true → past_ticks (count - (i + 1)) (moved_back (at xs ys)).behind ≡ past_ticks (count - i) xs
+    from : (xs ys : List ℕ) → passes (λ c. c == 96) (slice_get xs 0) ≡ true → past_ticks (count - (i + 1)) (moved_back (at xs ys)).before ≡ past_ticks (count - i) xs
     from [] ys e = absurd (cc)
     from (c ∷ xs) ys e = let more : count - i ≡ suc (count - (i + 1)) = omega arith in rw (more, e) refl
 

@@ -34,7 +34,7 @@ own-eats k mode c d p e t = let same : c ≡ d = grind (arith, nat_tests) in mod
 hash-eats : (k : CharClasses) (mode : SyntaxMode) (c : ℕ) (p : Place) → scout 0 p ≡ Some c → (c == 35) ≡ true → 1 ≤ eaten (hash k mode) p
 unfolding hash shebang
 hash-eats k mode c p e t =
-    either (is_none (slice_get p.behind 0)) _ _ p
+    either (is_none (slice_get p.before 0)) _ _ p
     (λ _. either (passes (λ d. d == 33) (scout 1 p)) _ _ p (λ _. omega (arith, line-eats in_line c 35 p e t refl)) (own-eats k mode c 35 p e t))
     (own-eats k mode c 35 p e t)
 

@@ -51,7 +51,7 @@ at_suffix (Suffix b) z = past (is_digit_of b) (moved 2 z)
 
 -- A number without its suffix, by its characters.
 abbrev pub without_suffix : NumberFault → List ℕ → List ℕ
-without_suffix f taken = reverse (at_suffix f (place [] taken)).behind
+without_suffix f taken = reverse (at_suffix f (place [] taken)).before
 
 -- The suffix.
 abbrev pub suffix_of : NumberFault → List ℕ → List ℕ

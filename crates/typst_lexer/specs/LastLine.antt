@@ -9,6 +9,6 @@ use Rattle.typst_lexer.specs.declared.raw_lines.LastLine.{LastLine}
 pub record IsLastLine (cs : List ℕ) (l : LastLine) : Type 0 where
   pub line : chars l.line.now ≡ (last_row cs).line
   pub from_start : (place l.start).ahead ≡ (last_row cs).ending ++ (last_row cs).line
-  pub whole : reverse (place l.start).behind ++ (place l.start).ahead ≡ cs
-  pub to_end : (place l.end).behind ≡ reverse cs
+  pub whole : reverse (place l.start).before ++ (place l.start).ahead ≡ cs
+  pub to_end : (place l.end).before ≡ reverse cs
   pub nothing_left : (place l.end).ahead ≡ []

@@ -44,12 +44,12 @@ pub record Differ (k : CharClasses) (l : Look) (p q : Place) (t u : Token) (m n 
   pub first_taken : eaten (token k Markup) p ≡ m
   pub second_taken : eaten (token k Markup) q ≡ n
 
--- A star between two characters of words is text: the character behind counts, and the one ahead.
+-- A star between two characters of words is text: the character before counts, and the one ahead.
 pub record StarLook (beyond : CharClasses) : Type 0 where
   pub before_space : look (token (by_law beyond) Markup) (place (codes "a") (codes "* ")) ≡ reach 1 2
   pub shorter_ahead : Differ (by_law beyond) (reach 1 1) (place (codes "a") (codes "* ")) (place (codes "a") (codes "*b")) (plain kind.Star) (plain kind.Text) 1 2
   pub at_start : look (token (by_law beyond) Markup) (place [] (codes "*b")) ≡ reach 1 2
-  pub shorter_behind : Differ (by_law beyond) (reach 0 2) (place [] (codes "*b")) (place (codes "a") (codes "*b")) (plain kind.Star) (plain kind.Text) 1 2
+  pub shorter_before : Differ (by_law beyond) (reach 0 2) (place [] (codes "*b")) (place (codes "a") (codes "*b")) (plain kind.Star) (plain kind.Text) 1 2
 
 -- A text goes on through `h` where the last slash of `http://` is missing.
 pub record TextLook (k : CharClasses) : Type 0 where

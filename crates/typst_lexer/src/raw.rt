@@ -53,7 +53,7 @@ fn two_delimiters(alloc: Global) -> Result<SyntaxNode, AllocError>
 
 /// The place in the text before the backticks that it ends in, where there are so many.
 fn before_ticks(text: &str, count: usize) -> Option<Scanner<'_>>
-    ensures { MatchOption result (spec.before_ticks count (chars text.now) ≡ None) (λ s. spec.before_ticks count (chars text.now) ≡ Some (reverse (place s).behind)) }
+    ensures { MatchOption result (spec.before_ticks count (chars text.now) ≡ None) (λ s. spec.before_ticks count (chars text.now) ≡ Some (reverse (place s).before)) }
 {
     let mut s = Scanner::new(text);
     s.jump(text.len());

@@ -192,7 +192,7 @@ fn last_line(text: &str) -> LastLine<'_>
 impl<'a> LastLine<'a> {
     /// The place from which on all is trimmed.
     fn trimmed_from(&self) -> Scanner<'a>
-        ensures front { (cs : List ℕ) → IsLastLine cs self.now → reverse (place result).behind ≡ spec.front cs }
+        ensures front { (cs : List ℕ) → IsLastLine cs self.now → reverse (place result).before ≡ spec.front cs }
         ensures closing { (cs : List ℕ) → IsLastLine cs self.now → (place result).ahead ≡ spec.closing cs }
     {
         if is_blank(self.line) {

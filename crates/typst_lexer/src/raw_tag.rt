@@ -12,7 +12,7 @@ use typst_tree::SyntaxNode;
 
 /// The place behind the tag in what stands behind the backticks.
 pub(crate) fn split_tag(inner: &str) -> Scanner<'_>
-    ensures tag { reverse (place result).behind ≡ spec.tag (chars inner.now) }
+    ensures tag { reverse (place result).before ≡ spec.tag (chars inner.now) }
     ensures rest { (place result).ahead ≡ drop (length (spec.tag (chars inner.now))) (chars inner.now) }
 {
     let mut s = Scanner::new(inner);

@@ -65,7 +65,7 @@ module _ (old new : List ℕ) (u : IsUtf8 old) (v : IsUtf8 new) where
   unfolding place_at
   shares-front n h = record { front = chars (take n old); first = chars-split old u n h.old_boundary; second = chars-split new v n h.new_boundary ∙ ap (λ t. chars t ++ chars (drop n new)) (sym h.same) }
 
-  shares-end : (n : ℕ) → IsSharedEnd old new n → Shares (reverse (chars old)) (reverse (chars new)) (place_at old (length old - n)).behind (place_at new (length new - n)).behind
+  shares-end : (n : ℕ) → IsSharedEnd old new n → Shares (reverse (chars old)) (reverse (chars new)) (place_at old (length old - n)).before (place_at new (length new - n)).before
   unfolding place_at
   shares-end n h =
       let i = length old - n in
@@ -77,9 +77,9 @@ module _ (old new : List ℕ) (u : IsUtf8 old) (v : IsUtf8 new) where
       }
 
   module _ (n : ℕ) (p q : Place) where
-    -- the characters ahead of a shared front, and those behind a shared end
+    -- the characters ahead of a shared front, and those before a shared end
     pub ahead-shared : IsSharedFront old new n → p ≡ place_at old n → q ≡ place_at new n → Shares (chars old) (chars new) p.ahead q.ahead
     ahead-shared h e f = rw (e, f) (shares-front n h)
 
-    pub behind-shared : IsSharedEnd old new n → p ≡ place_at old (length old - n) → q ≡ place_at new (length new - n) → Shares (reverse (chars old)) (reverse (chars new)) p.behind q.behind
-    behind-shared h e f = rw (e, f) (shares-end n h)
+    pub before-shared : IsSharedEnd old new n → p ≡ place_at old (length old - n) → q ≡ place_at new (length new - n) → Shares (reverse (chars old)) (reverse (chars new)) p.before q.before
+    before-shared h e f = rw (e, f) (shares-end n h)

@@ -7,7 +7,7 @@ use Rattle.std.specs.Cmp.Lexicographic.{pointwise}
 use Rattle.std.specs.Str.{chars, IsUtf8, IsCharBoundary}
 use Rattle.typst_lines.proofs.LineTable.{bytes-append, bytes-text, bytes-front, chars-split}
 use Rattle.typst_lines.proofs.PlaceLemmas.{head-splits}
-use Rattle.typst_lines.proofs.RoundTrip.{bytes-behind}
+use Rattle.typst_lines.proofs.RoundTrip.{bytes-before}
 use Rattle.typst_lines.specs.Lines.{bytes, common_front, common_ends, IsCommonFront}
 use Rattle.typst_lines.specs.Place.{Place, place_at, moved, moved_back, scout, passes}
 
@@ -65,14 +65,14 @@ drop-all s = ap (drop (length s)) (sym (append-nil s)) ∙ drop_at s [] (length 
 pub take-all : (s : List ℕ) → take (length s) s ≡ s
 take-all s = sym (append-nil (take (length s) s)) ∙ ap (λ t. take (length s) s ++ t) (sym (drop-all s)) ∙ take-append-drop (length s) s
 
-behind-end : (s : List ℕ) → (place_at s (length s)).behind ≡ reverse (chars s)
+before-end : (s : List ℕ) → (place_at s (length s)).before ≡ reverse (chars s)
 unfolding place_at
-behind-end s = ap (λ t. reverse (chars t)) (take-all s)
+before-end s = ap (λ t. reverse (chars t)) (take-all s)
 
 -- the bytes of what was passed going back
-pub passed-back : (s : List ℕ) → IsUtf8 s → (i : ℕ) → IsCharBoundary s i → (xs : List ℕ) → reverse (chars s) ≡ xs ++ (place_at s i).behind → length s - i ≡ bytes xs
+pub passed-back : (s : List ℕ) → IsUtf8 s → (i : ℕ) → IsCharBoundary s i → (xs : List ℕ) → reverse (chars s) ≡ xs ++ (place_at s i).before → length s - i ≡ bytes xs
 passed-back s u i at xs e =
-    omega (arith, ap bytes (behind-end s), ap bytes e, bytes-append xs (place_at s i).behind, bytes-behind s u i at, bytes-behind s u (length s) (IsCharBoundary-end s), at.0)
+    omega (arith, ap bytes (before-end s), ap bytes e, bytes-append xs (place_at s i).before, bytes-before s u i at, bytes-before s u (length s) (IsCharBoundary-end s), at.0)
 
 bytes-ahead : (s : List ℕ) → IsUtf8 s → (i : ℕ) → IsCharBoundary s i → i + bytes (place_at s i).ahead ≡ length s
 bytes-ahead s u i at =
@@ -103,10 +103,10 @@ IsCommonFront-at old new t w u v e f i j =
     (common-at old new u v i j))
 
 -- the characters passed going back
-pub common-back : (old new t : List ℕ) → IsUtf8 old → t ≡ old → (i : ℕ) (us vs : List ℕ) → IsCharBoundary t i → us ≡ (place_at t i).behind
+pub common-back : (old new t : List ℕ) → IsUtf8 old → t ≡ old → (i : ℕ) (us vs : List ℕ) → IsCharBoundary t i → us ≡ (place_at t i).before
     → Shares (reverse (chars old)) (reverse (chars new)) us vs → Differ us vs → length old - i ≡ bytes (common_front (reverse (chars old)) (reverse (chars new)))
 common-back old new t u e i us vs at is h d =
-    passed-back old u i (subst (λ x. IsCharBoundary x i) e at) h.front (h.first ∙ ap (λ x. h.front ++ x) (is ∙ ap (λ x. (place_at x i).behind) e)) ∙ ap bytes (sym (shares-is (reverse (chars old)) (reverse (chars new)) us vs h d))
+    passed-back old u i (subst (λ x. IsCharBoundary x i) e at) h.front (h.first ∙ ap (λ x. h.front ++ x) (is ∙ ap (λ x. (place_at x i).before) e)) ∙ ap bytes (sym (shares-is (reverse (chars old)) (reverse (chars new)) us vs h d))
 
 -- the next character isn't the one that is asked for
 pub not-next : (c : ℕ) (o : Option ℕ) → passes (λ d. d == c) o ≡ false → o ≡ Some c → ⊥
@@ -120,18 +120,18 @@ is-next c (Some d) e = let same : c ≡ d = grind (arith, nat_tests) in ap Some 
 pub ahead-step : (p : Place) (c : ℕ) → Some c ≡ scout 0 p → p.ahead ≡ c ∷ (moved 1 p).ahead
 ahead-step p c e = let t = head-splits p.ahead c (sym e) in rw t.1 refl
 
-pub behind-step : (p : Place) (c : ℕ) → Some c ≡ slice_get p.behind 0 → p.behind ≡ c ∷ (moved_back p).behind
-behind-step p c e = let t = head-splits p.behind c (sym e) in rw t.1 refl
+pub before-step : (p : Place) (c : ℕ) → Some c ≡ slice_get p.before 0 → p.before ≡ c ∷ (moved_back p).before
+before-step p c e = let t = head-splits p.before c (sym e) in rw t.1 refl
 
-none-behind : (cs : List ℕ) → slice_get cs 0 ≡ None → cs ≡ []
-none-behind [] e = refl
-none-behind (c ∷ cs) e = absurd (cc)
+none-before : (cs : List ℕ) → slice_get cs 0 ≡ None → cs ≡ []
+none-before [] e = refl
+none-before (c ∷ cs) e = absurd (cc)
 
-pub behind-none : (p : Place) → None ≡ slice_get p.behind 0 → p.behind ≡ []
-behind-none p e = none-behind p.behind (sym e)
+pub before-none : (p : Place) → None ≡ slice_get p.before 0 → p.before ≡ []
+before-none p e = none-before p.before (sym e)
 
-pub behind-all : (s : List ℕ) → (place_at s (length s)).behind ≡ reverse (chars s)
-behind-all s = behind-end s
+pub before-all : (s : List ℕ) → (place_at s (length s)).before ≡ reverse (chars s)
+before-all s = before-end s
 
 pub common_ends-at : (old new t a b : List ℕ) (n m : ℕ) → t ≡ old → IsCommonFront t new n → a ≡ drop n t → b ≡ drop n new → m ≡ bytes (common_front (reverse (chars a)) (reverse (chars b))) → (n, m) ≡ common_ends old new
 unfolding common_ends

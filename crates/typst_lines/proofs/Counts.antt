@@ -15,7 +15,7 @@ use Rattle.typst_lines.specs.Place.{Place, place_at}
 use Rattle.typst_lines.specs.declared.lines.Line.{Line}
 use Rattle.typst_lines.proofs.LineTable.{units-append, bytes-append, bytes-front, chars-split}
 use Rattle.typst_lines.proofs.PlaceLemmas.{chars-ahead}
-use Rattle.typst_lines.proofs.RoundTrip.{HasPassed, reach, reach-from, overshot, overshot-low, units-behind, upto-boundary, upto-units}
+use Rattle.typst_lines.proofs.RoundTrip.{HasPassed, reach, reach-from, overshot, overshot-low, units-before, upto-boundary, upto-units}
 
 chars-low : (b : ℕ) → b < 128 → chars_begun b ≡ 1
 chars-low b lt = grind (arith, nat_tests)
@@ -177,13 +177,13 @@ module _ (s t : List ℕ) (v : IsUtf8 t) (same : t ≡ s) (u : ℕ) (l : Line) (
 
   before : utf16_before t (l.byte_idx + near) ≡ l.utf16_idx + n
   before =
-      let first : utf16_before t l.byte_idx ≡ l.utf16_idx = sym (units-behind t l.byte_idx) ∙ upto-units s t v same u l of in
+      let first : utf16_before t l.byte_idx ≡ l.utf16_idx = sym (units-before t l.byte_idx) ∙ upto-units s t v same u l of in
       let both : chars (take (l.byte_idx + near) t) ≡ chars (take l.byte_idx t) ++ chars (take near (drop l.byte_idx t)) =
       ap chars (take-add l.byte_idx near t) ∙ chars-append (take l.byte_idx t) (take near (drop l.byte_idx t)) (IsUtf8-take t l.byte_idx v start) in
       omega (arith, ap units both, units-append (chars (take l.byte_idx t)) (chars (take near (drop l.byte_idx t))), first, part)
 
-  pub near-units : units (place_at t (l.byte_idx + near)).behind ≡ l.utf16_idx + n
-  near-units = units-behind t (l.byte_idx + near) ∙ before
+  pub near-units : units (place_at t (l.byte_idx + near)).before ≡ l.utf16_idx + n
+  near-units = units-before t (l.byte_idx + near) ∙ before
 
   pub near-reach : reach u (place_at t (l.byte_idx + near)) ≡ least_place s u
   near-reach = reach-from t v (l.byte_idx + near) u near-boundary (omega (arith, before, few, of.before)) ∙ ap (λ x. least_place x u) same

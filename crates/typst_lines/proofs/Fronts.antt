@@ -12,7 +12,7 @@ use Rattle.typst_lines.specs.Labels.{is_name, is_label_id}
 use Rattle.typst_lines.specs.Links.{after, front, without_last_signs, link_prefix}
 
 abbrev at : List ℕ → List ℕ → Place
-at behind ahead = record { behind = behind; ahead = ahead }
+at before ahead = record { before = before; ahead = ahead }
 
 pub front-step : (awaited inside cs : List ℕ) (c : ℕ) → after awaited c ≡ Some inside → front awaited (c ∷ cs) ≡ (c ∷ (front inside cs).0, (front inside cs).1)
 front-step awaited inside cs c e = rw (e, front) refl
@@ -43,11 +43,11 @@ left-step awaited inside p q start c h s e m = from p.ahead refl
         let same : Some c ≡ Some d = s ∙ ap (λ x. slice_get x 0) a in
         let is : d ≡ c = cc in
         let here : p.ahead ≡ c ∷ ys = a ∙ ap (λ x. x ∷ ys) is in
-        let there : q ≡ at (c ∷ p.behind) ys = m ∙ ap (moved_from 1 p.behind) here in
+        let there : q ≡ at (c ∷ p.before) ys = m ∙ ap (moved_from 1 p.before) here in
         let split : front awaited p.ahead ≡ (c ∷ (front inside ys).0, (front inside ys).1) = ap (front awaited) here ∙ front-step awaited inside ys c e in
         record {
           ends =
-              ap (λ x. moved (length (front inside x.ahead).0) x) there ∙ sym (ap (λ x. moved_from (length (front awaited x).0) p.behind x) here ∙ ap (λ r. moved_from (length r.0) p.behind (c ∷ ys)) (front-step awaited inside ys c e)) ∙ h.ends;
+              ap (λ x. moved (length (front inside x.ahead).0) x) there ∙ sym (ap (λ x. moved_from (length (front awaited x).0) p.before x) here ∙ ap (λ r. moved_from (length r.0) p.before (c ∷ ys)) (front-step awaited inside ys c e)) ∙ h.ends;
           brackets = ap (λ x. (front inside x.ahead).1) there ∙ sym (ap (λ r. r.1) split) ∙ h.brackets;
         }
 
@@ -71,22 +71,22 @@ left-end awaited p start h s = from p.ahead refl
         (sym (ap (λ r. moved (length r.0) p) split) ∙ h.ends, sym (ap (λ r. r.1) split) ∙ h.brackets)
     from (d ∷ ys) a = let bad : None ≡ Some d = s ∙ ap (λ x. slice_get x 0) a in absurd (cc)
 
--- ---- the characters behind
+-- ---- the characters before
 
-behind-from : (n : ℕ) (xs ys : List ℕ) → reverse (moved_from n xs ys).behind ≡ reverse xs ++ take n ys
-behind-from zero xs ys = sym (append-nil (reverse xs))
-behind-from (suc n) xs [] = sym (append-nil (reverse xs))
-behind-from (suc n) xs (c ∷ ys) = behind-from n (c ∷ xs) ys ∙ ap (λ t. t ++ take n ys) (reverse-append (c ∷ []) xs) ∙ append_assoc (reverse xs) (c ∷ []) (take n ys)
+before-from : (n : ℕ) (xs ys : List ℕ) → reverse (moved_from n xs ys).before ≡ reverse xs ++ take n ys
+before-from zero xs ys = sym (append-nil (reverse xs))
+before-from (suc n) xs [] = sym (append-nil (reverse xs))
+before-from (suc n) xs (c ∷ ys) = before-from n (c ∷ xs) ys ∙ ap (λ t. t ++ take n ys) (reverse-append (c ∷ []) xs) ∙ append_assoc (reverse xs) (c ∷ []) (take n ys)
 
 start-of : (text : List ℕ) → place_at text 0 ≡ at [] (chars text)
 unfolding place_at
 start-of text = ap (λ x. at (reverse x) (chars text)) chars-nil
 
 -- the front of a text
-pub front-behind : (text : List ℕ) (p q : Place) → p ≡ place_at text 0 → q ≡ moved (length (front [] p.ahead).0) p → reverse q.behind ≡ (front [] (chars text)).0
-front-behind text p q e m =
+pub front-before : (text : List ℕ) (p q : Place) → p ≡ place_at text 0 → q ≡ moved (length (front [] p.ahead).0) p → reverse q.before ≡ (front [] (chars text)).0
+front-before text p q e m =
     let here : p ≡ at [] (chars text) = e ∙ start-of text in
-    ap (λ x. reverse x.behind) (m ∙ ap (λ x. moved (length (front [] x.ahead).0) x) here) ∙ behind-from (length (front [] (chars text)).0) [] (chars text) ∙ front-taken [] (chars text)
+    ap (λ x. reverse x.before) (m ∙ ap (λ x. moved (length (front [] x.ahead).0) x) here) ∙ before-from (length (front [] (chars text)).0) [] (chars text) ∙ front-taken [] (chars text)
 
 pub front-of : (text : List ℕ) (p : Place) → p ≡ place_at text 0 → p.ahead ≡ chars text
 front-of text p e = ap (λ x. x.ahead) (e ∙ start-of text)

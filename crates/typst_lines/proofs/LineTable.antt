@@ -111,22 +111,22 @@ starts_from b u (c ∷ cs) =
     onto_if (ends_line c (slice_get cs 0)) (line_at (char_width c + b) (utf16_len c + u)) (starts_from (char_width c + b) (utf16_len c + u) cs)
 
 abbrev later : List ℕ → List ℕ → List Place
-later behind [] = []
-later behind (c ∷ cs) = places_from (c ∷ behind) cs
+later before [] = []
+later before (c ∷ cs) = places_from (c ∷ before) cs
 
-places-split : (behind cs : List ℕ) → places_from behind cs ≡ between behind cs ∷ later behind cs
-places-split behind [] = refl
-places-split behind (c ∷ cs) = refl
+places-split : (before cs : List ℕ) → places_from before cs ≡ between before cs ∷ later before cs
+places-split before [] = refl
+places-split before (c ∷ cs) = refl
 
 kept-place : (t : Bool) (p : Place) (ps : List Place) (ls : List Line) → map measured ps ≡ ls → map measured (cond t (p ∷ ps) ps) ≡ onto_if t (measured p) ls
 kept-place true p ps ls e = ap (λ xs. measured p ∷ xs) e
 kept-place false p ps ls e = e
 
-table-later : (behind cs : List ℕ) → map measured (filter starts_line (later behind cs)) ≡ starts_from (bytes behind) (units behind) cs
-table-later behind [] = refl
-table-later behind (c ∷ cs) =
-    ap (λ ps. map measured (filter starts_line ps)) (places-split (c ∷ behind) cs)
-    ∙ kept-place (ends_line c (slice_get cs 0)) (between (c ∷ behind) cs) (filter starts_line (later (c ∷ behind) cs)) _ (table-later (c ∷ behind) cs)
+table-later : (before cs : List ℕ) → map measured (filter starts_line (later before cs)) ≡ starts_from (bytes before) (units before) cs
+table-later before [] = refl
+table-later before (c ∷ cs) =
+    ap (λ ps. map measured (filter starts_line ps)) (places-split (c ∷ before) cs)
+    ∙ kept-place (ends_line c (slice_get cs 0)) (between (c ∷ before) cs) (filter starts_line (later (c ∷ before) cs)) _ (table-later (c ∷ before) cs)
 
 pub line_table-starts : (s : List ℕ) → line_table s ≡ line_at 0 0 ∷ starts_from 0 0 (chars s)
 unfolding line_table
@@ -139,9 +139,9 @@ module _ (s : List ℕ) (u : IsUtf8 s) (i : ℕ) (at : IsCharBoundary s i) where
   unfolding place_at
   ahead-is = refl
 
-  pub behind-is : (place_at s i).behind ≡ reverse (chars (take i s))
+  pub before-is : (place_at s i).before ≡ reverse (chars (take i s))
   unfolding place_at
-  behind-is = refl
+  before-is = refl
 
 pub ahead-text : (s : List ℕ) → (place_at s 0).ahead ≡ chars s
 unfolding place_at

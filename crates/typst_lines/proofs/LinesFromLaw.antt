@@ -7,7 +7,7 @@ use Rattle.std.proofs.lemmas.Bool.{not-true}
 use Rattle.typst_lines.proofs.Bools.{and-first, and-second}
 use Rattle.typst_lines.proofs.LineTable.{line_at, onto_if, starts_from, line_table-starts, width-positive, chars-split, bytes-front, place-end, ahead-text}
 use Rattle.typst_lines.proofs.PlaceLemmas.{head-splits, IsStep-from_ascii}
-use Rattle.typst_lines.proofs.RoundTrip.{units-behind, units-moved}
+use Rattle.typst_lines.proofs.RoundTrip.{units-before, units-moved}
 use Rattle.typst_lines.specs.Blocks.{is_plain_byte, IsPlainFront}
 use Rattle.typst_lines.specs.Newline.{is_newline, ends_line}
 use Rattle.typst_lines.specs.Place.{Place, place_at, moved, scout, char_width, IsStep}
@@ -64,7 +64,7 @@ starts-step b u p c e = let t = head-splits p.ahead c (sym e) in rw t.1 refl
 -- one step of a loop from a place to the next
 module _ (s : List ℕ) (v : IsUtf8 s) (i : ℕ) (at : IsCharBoundary s i) (c j : ℕ) (there : IsStep s i c j) where
   pub units-next : utf16_before s j ≡ utf16_before s i + utf16_len c
-  units-next = omega (arith, units-behind s i, units-behind s j, ap (λ p. units p.behind) there.moves, units-moved (place_at s i) c (sym there.next))
+  units-next = omega (arith, units-before s i, units-before s j, ap (λ p. units p.before) there.moves, units-moved (place_at s i) c (sym there.next))
 
   step : lines_after s i ≡ onto_if (ends_line c (scout 0 (place_at s j))) (line_at j (utf16_before s j)) (lines_after s j)
   step =

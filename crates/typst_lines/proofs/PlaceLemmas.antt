@@ -54,14 +54,14 @@ module _ (s : List ℕ) (u : IsUtf8 s) (i c j : ℕ) (start : IsCharBoundary s i
   is_scalar : IsScalar c
   is_scalar = let all = scalars-chars (drop i s) (IsUtf8-drop s i u start) in and-first _ _ (rw ahead at all)
 
-  behind : reverse (chars (take j s)) ≡ c ∷ reverse (chars (take i s))
-  behind =
+  before : reverse (chars (take j s)) ≡ c ∷ reverse (chars (take i s))
+  before =
       ap reverse (ap chars front ∙ chars-append (take i s) (encode_utf8 c) (IsUtf8-take s i u start) ∙ ap (λ t. chars (take i s) ++ t) (chars-encode_utf8 c coded))
       ∙ reverse-append (chars (take i s)) (c ∷ [])
 
   moves : place_at s j ≡ moved 1 (place_at s i)
   unfolding place_at
-  moves = rw (ahead, behind) refl
+  moves = rw (ahead, before) refl
 
   next : scout 0 (place_at s i) ≡ Some c
   unfolding place_at
@@ -95,14 +95,14 @@ pub head-splits : (ahead : List ℕ) (c : ℕ) → slice_get ahead 0 ≡ Some c 
 head-splits [] c e = absurd (cc)
 head-splits (d ∷ rest) c e = (rest, cc)
 
-past_list : (test : ℕ → Bool) (behind rest : List ℕ) (c : ℕ) → test c ≡ true
-    → moved_from (prefix_len test (c ∷ rest)) behind (c ∷ rest) ≡ moved_from (prefix_len test rest) (c ∷ behind) rest
-past_list test behind rest c e = let more : 1 + prefix_len test rest ≡ suc (prefix_len test rest) = omega arith in rw (e, more) refl
+past_list : (test : ℕ → Bool) (before rest : List ℕ) (c : ℕ) → test c ≡ true
+    → moved_from (prefix_len test (c ∷ rest)) before (c ∷ rest) ≡ moved_from (prefix_len test rest) (c ∷ before) rest
+past_list test before rest c e = let more : 1 + prefix_len test rest ≡ suc (prefix_len test rest) = omega arith in rw (e, more) refl
 
 pub past-step : (test : ℕ → Bool) (p : Place) (c : ℕ) → scout 0 p ≡ Some c → test c ≡ true → past test (moved 1 p) ≡ past test p
 past-step test p c e t =
     let s = head-splits p.ahead c e in
-    rw s.1 (sym (past_list test p.behind s.0 c t))
+    rw s.1 (sym (past_list test p.before s.0 c t))
 
 moved-ahead : (n : ℕ) (xs ys : List ℕ) → (moved_from n xs ys).ahead ≡ drop n ys
 moved-ahead zero xs ys = refl
@@ -123,9 +123,9 @@ chars-between s u i j n le start end e =
     (ap chars (drop_split s i j le) ∙ chars-append (slice_range s i j) (drop j s) (IsUtf8-between s i j u le start end))
     (ap (λ p. p.ahead) e ∙ moved-ahead n (reverse (chars (take i s))) (chars (drop i s)))
 
--- what is behind the end of a step
-behind-step : (s : List ℕ) (i c j : ℕ) → IsStep s i c j → Some c ≡ slice_get (place_at s j).behind 0
-behind-step s i c j step =
+-- what is before the end of a step
+before-step : (s : List ℕ) (i c j : ℕ) → IsStep s i c j → Some c ≡ slice_get (place_at s j).before 0
+before-step s i c j step =
     let split = head-splits (place_at s i).ahead c step.next in
     rw (step.moves, split.1) refl
 
@@ -147,7 +147,7 @@ IsStep-from_front s u front c j v end e =
     let second : drop i s ≡ encode_utf8 c ++ drop j s = ap (drop i) whole ∙ drop_at front _ i refl in
     let start = IsCharBoundary-from_take s i u le (subst IsUtf8 (sym first) v) in
     let step = IsStep-from_bytes s u i c j start (drop j s) second (omega (arith, length-drop j s, end.0)) in
-    record { boundary = start; last = sym (behind-step s i c j step); moves = back-step s i c j step }
+    record { boundary = start; last = sym (before-step s i c j step); moves = back-step s i c j step }
 
 pub IsFirst-from_nothing : (s : List ℕ) (j : ℕ) → take j s ≡ [] → IsFirst s j
 unfolding place_at
@@ -175,10 +175,10 @@ word_at-step n word p q lt e =
     let more : n + 1 ≡ suc n = omega arith in
     rw more
     (ap (λ w. word_at n w p) (drop-cons word n 0 lt)
-    ∙ ap (λ o. passes (λ d. d == get_or word n 0) o && word_at (suc n) (drop (suc n) word) p) (sym (ap (scout 0) e ∙ scout-moved n p.behind p.ahead)))
+    ∙ ap (λ o. passes (λ d. d == get_or word n 0) o && word_at (suc n) (drop (suc n) word) p) (sym (ap (scout 0) e ∙ scout-moved n p.before p.ahead)))
 
 pub moved-step : (n : ℕ) (p q r : Place) → q ≡ moved n p → r ≡ moved 1 q → r ≡ moved (n + 1) p
-moved-step n p q r e f = let more : n + 1 ≡ suc n = omega arith in rw more (f ∙ ap (moved 1) e ∙ moved-moved n p.behind p.ahead)
+moved-step n p q r e f = let more : n + 1 ≡ suc n = omega arith in rw more (f ∙ ap (moved 1) e ∙ moved-moved n p.before p.ahead)
 
 -- a later place has the greater byte offset
 pub cursor-le : (s : List ℕ) → IsUtf8 s → (i j n : ℕ) → IsCharBoundary s i → IsCharBoundary s j → place_at s j ≡ moved n (place_at s i) → i ≤ j
@@ -212,7 +212,7 @@ scalars-both (suc n) (c ∷ cs) e =
     (rw (first, rest.0) refl, rest.1)
 
 abbrev pub at_place : List ℕ → List ℕ → Place
-at_place xs ys = record { behind = xs; ahead = ys }
+at_place xs ys = record { before = xs; ahead = ys }
 
 moved-whole : (n : ℕ) (xs cs : List ℕ) → moved_from n (reverse xs) cs ≡ at_place (reverse (xs ++ take n cs)) (drop n cs)
 moved-whole zero xs cs = rw append-nil refl
@@ -262,6 +262,6 @@ pub chars-ahead : (s : List ℕ) (i : ℕ) → chars (drop i s) ≡ (place_at s 
 unfolding place_at
 chars-ahead s i = refl
 
-pub chars-behind : (s : List ℕ) (i : ℕ) → chars (take i s) ≡ reverse (place_at s i).behind
+pub chars-before : (s : List ℕ) (i : ℕ) → chars (take i s) ≡ reverse (place_at s i).before
 unfolding place_at
-chars-behind s i = sym (reverse-reverse (chars (take i s)))
+chars-before s i = sym (reverse-reverse (chars (take i s)))

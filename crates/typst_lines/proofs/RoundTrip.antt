@@ -34,11 +34,11 @@ bytes-between s u i j le at end =
 -- ---- the least place with so many units
 
 abbrev pub enough : ℕ → Place → Bool
-enough u p = nat_le u (units p.behind)
+enough u p = nat_le u (units p.before)
 
 -- the first place from here on with so many units before it
 abbrev pub reach : ℕ → Place → Option Place
-reach u p = slice_get (filter (enough u) (places_from p.behind p.ahead)) 0
+reach u p = slice_get (filter (enough u) (places_from p.before p.ahead)) 0
 
 too-few : (u n : ℕ) → n < u → nat_le u n ≡ false
 too-few u n lt = grind (arith, nat_tests)
@@ -46,11 +46,11 @@ too-few u n lt = grind (arith, nat_tests)
 so-many : (u n : ℕ) → u ≤ n → nat_le u n ≡ true
 so-many u n le = grind (arith, nat_tests)
 
-skip : (u : ℕ) (xs ys behind : List ℕ) → units xs + units behind ≤ u → filter (enough u) (places_from behind (xs ++ ys)) ≡ filter (enough u) (places_from (reverse_aux xs behind) ys)
-skip u [] ys behind le = refl
-skip u (c ∷ xs) ys behind le =
+skip : (u : ℕ) (xs ys before : List ℕ) → units xs + units before ≤ u → filter (enough u) (places_from before (xs ++ ys)) ≡ filter (enough u) (places_from (reverse_aux xs before) ys)
+skip u [] ys before le = refl
+skip u (c ∷ xs) ys before le =
     let positive = utf16_len-positive c in
-    rw (too-few u (units behind) (omega arith)) (skip u xs ys (c ∷ behind) (omega arith))
+    rw (too-few u (units before) (omega arith)) (skip u xs ys (c ∷ before) (omega arith))
 
 units-reverse_aux : (xs ys : List ℕ) → units (reverse_aux xs ys) ≡ units xs + units ys
 units-reverse_aux [] ys = omega arith
@@ -60,14 +60,14 @@ bytes-reverse_aux : (xs ys : List ℕ) → bytes (reverse_aux xs ys) ≡ bytes x
 bytes-reverse_aux [] ys = omega arith
 bytes-reverse_aux (c ∷ xs) ys = omega (arith, bytes-reverse_aux xs (c ∷ ys))
 
--- what stands behind a place of a text
-pub units-behind : (s : List ℕ) (i : ℕ) → units (place_at s i).behind ≡ utf16_before s i
+-- what stands before a place of a text
+pub units-before : (s : List ℕ) (i : ℕ) → units (place_at s i).before ≡ utf16_before s i
 unfolding place_at
-units-behind s i = omega (arith, units-reverse_aux (chars (take i s)) [])
+units-before s i = omega (arith, units-reverse_aux (chars (take i s)) [])
 
-pub bytes-behind : (s : List ℕ) → IsUtf8 s → (i : ℕ) → IsCharBoundary s i → bytes (place_at s i).behind ≡ i
+pub bytes-before : (s : List ℕ) → IsUtf8 s → (i : ℕ) → IsCharBoundary s i → bytes (place_at s i).before ≡ i
 unfolding place_at
-bytes-behind s u i at = omega (arith, bytes-reverse_aux (chars (take i s)) [], bytes-front s u i at)
+bytes-before s u i at = omega (arith, bytes-reverse_aux (chars (take i s)) [], bytes-front s u i at)
 
 -- a place with no more units before it is passed
 pub reach-from : (s : List ℕ) → IsUtf8 s → (i u : ℕ) → IsCharBoundary s i → utf16_before s i ≤ u → reach u (place_at s i) ≡ least_place s u
@@ -76,20 +76,20 @@ reach-from s v i u at le =
     ap (λ ps. slice_get ps 0) (sym (skip u (chars (take i s)) (chars (drop i s)) [] (omega arith)))
     ∙ ap (λ cs. slice_get (filter (enough u) (places_from [] cs)) 0) (sym (chars-split s v i at))
 
-pub reach-here : (u : ℕ) (p : Place) → u ≤ units p.behind → reach u p ≡ Some p
-reach-here u p le = here p.behind p.ahead (so-many u (units p.behind) le)
+pub reach-here : (u : ℕ) (p : Place) → u ≤ units p.before → reach u p ≡ Some p
+reach-here u p le = here p.before p.ahead (so-many u (units p.before) le)
   where
-    here : (xs ys : List ℕ) → nat_le u (units xs) ≡ true → slice_get (filter (enough u) (places_from xs ys)) 0 ≡ Some (record { behind = xs; ahead = ys })
+    here : (xs ys : List ℕ) → nat_le u (units xs) ≡ true → slice_get (filter (enough u) (places_from xs ys)) 0 ≡ Some (record { before = xs; ahead = ys })
     here xs [] t = rw t refl
     here xs (c ∷ ys) t = rw t refl
 
-pub reach-on : (u : ℕ) (p : Place) (c : ℕ) → Some c ≡ scout 0 p → units p.behind < u → reach u (moved 1 p) ≡ reach u p
+pub reach-on : (u : ℕ) (p : Place) (c : ℕ) → Some c ≡ scout 0 p → units p.before < u → reach u (moved 1 p) ≡ reach u p
 reach-on u p c e lt =
     let t = head-splits p.ahead c (sym e) in
-    rw (t.1, too-few u (units p.behind) lt) refl
+    rw (t.1, too-few u (units p.before) lt) refl
 
-pub reach-end : (u : ℕ) (p : Place) → p.ahead ≡ [] → units p.behind < u → reach u p ≡ None
-reach-end u p e lt = rw (e, too-few u (units p.behind) lt) refl
+pub reach-end : (u : ℕ) (p : Place) → p.ahead ≡ [] → units p.before < u → reach u p ≡ None
+reach-end u p e lt = rw (e, too-few u (units p.before) lt) refl
 
 not-past : (u n k : ℕ) → n ≤ u → nat_lt u n ≡ false
 not-past u n k le = grind (arith, nat_tests)
@@ -101,9 +101,9 @@ unfolding byte_at_utf16
 back-from_utf16 s v b at =
     let n = utf16_before s b in
     let p = place_at s b in
-    let first : least_place s n ≡ Some p = sym (reach-from s v b n at (omega arith)) ∙ reach-here n p (omega (arith, units-behind s b)) in
-    let some : byte_reached n p ≡ Some (bytes p.behind) = rw (not-past n (units p.behind) 0 (omega (arith, units-behind s b))) refl in
-    rw first (some ∙ ap Some (bytes-behind s v b at))
+    let first : least_place s n ≡ Some p = sym (reach-from s v b n at (omega arith)) ∙ reach-here n p (omega (arith, units-before s b)) in
+    let some : byte_reached n p ≡ Some (bytes p.before) = rw (not-past n (units p.before) 0 (omega (arith, units-before s b))) refl in
+    rw first (some ∙ ap Some (bytes-before s v b at))
 
 module _ (s : List ℕ) (v : IsUtf8 s) (b : ℕ) (end : IsCharBoundary s b) (l : Line) (of : IsLineOf s b l) where
   sound : IsLine s l
@@ -244,12 +244,12 @@ module _ (s t : List ℕ) (v : IsUtf8 t) (same : t ≡ s) (b : ℕ) (end : IsCha
   column-back = back-from_line_column s text b bound l of
 
 -- the way from units to a byte
-pub units-moved : (p : Place) (c : ℕ) → Some c ≡ scout 0 p → units (moved 1 p).behind ≡ utf16_len c + units p.behind
+pub units-moved : (p : Place) (c : ℕ) → Some c ≡ scout 0 p → units (moved 1 p).before ≡ utf16_len c + units p.before
 units-moved p c e = let t = head-splits p.ahead c (sym e) in rw t.1 refl
 
 -- more units than asked for stand before a place, which is the text's end
 abbrev pub overshot : ℕ → Place → Bool
-overshot u p = nat_lt u (units p.behind) && length p.ahead == 0
+overshot u p = nat_lt u (units p.before) && length p.ahead == 0
 
 module _ (s t : List ℕ) (v : IsUtf8 t) (same : t ≡ s) (u : ℕ) where
   module _ (l : Line) (of : IsLineUpTo s u l) where
@@ -259,26 +259,26 @@ module _ (s t : List ℕ) (v : IsUtf8 t) (same : t ≡ s) (u : ℕ) where
     pub upto-boundary : IsCharBoundary t l.byte_idx
     upto-boundary = upto-sound.boundary
 
-    pub upto-units : units (place_at t l.byte_idx).behind ≡ l.utf16_idx
-    upto-units = units-behind t l.byte_idx ∙ sym upto-sound.counted
+    pub upto-units : units (place_at t l.byte_idx).before ≡ l.utf16_idx
+    upto-units = units-before t l.byte_idx ∙ sym upto-sound.counted
 
-  pub utf16-found : (i : ℕ) → IsCharBoundary t i → reach u (place_at t i) ≡ least_place s u → u ≤ units (place_at t i).behind → overshot u (place_at t i) ≡ false → Some i ≡ byte_at_utf16 s u
+  pub utf16-found : (i : ℕ) → IsCharBoundary t i → reach u (place_at t i) ≡ least_place s u → u ≤ units (place_at t i).before → overshot u (place_at t i) ≡ false → Some i ≡ byte_at_utf16 s u
   unfolding byte_at_utf16
   utf16-found i at found le over =
       let p = place_at t i in
       let first : least_place s u ≡ Some p = sym found ∙ reach-here u p le in
-      let some : byte_reached u p ≡ Some (bytes p.behind) = rw over refl in
-      sym (rw first (some ∙ ap Some (bytes-behind t v i at)))
+      let some : byte_reached u p ≡ Some (bytes p.before) = rw over refl in
+      sym (rw first (some ∙ ap Some (bytes-before t v i at)))
 
-  pub utf16-short : (p : Place) → reach u p ≡ least_place s u → None ≡ scout 0 p → units p.behind < u → byte_at_utf16 s u ≡ None
+  pub utf16-short : (p : Place) → reach u p ≡ least_place s u → None ≡ scout 0 p → units p.before < u → byte_at_utf16 s u ≡ None
   unfolding byte_at_utf16
   utf16-short p found e lt = let none : least_place s u ≡ None = sym found ∙ reach-end u p (place-end p e) lt in rw none refl
 
-  pub utf16-over : (p : Place) → reach u p ≡ least_place s u → None ≡ scout 0 p → u < units p.behind → byte_at_utf16 s u ≡ None
+  pub utf16-over : (p : Place) → reach u p ≡ least_place s u → None ≡ scout 0 p → u < units p.before → byte_at_utf16 s u ≡ None
   unfolding byte_at_utf16
   utf16-over p found e lt =
       let first : least_place s u ≡ Some p = sym found ∙ reach-here u p (omega arith) in
-      let over : nat_lt u (units p.behind) ≡ true = grind (arith, nat_tests) in
+      let over : nat_lt u (units p.before) ≡ true = grind (arith, nat_tests) in
       rw first (rw (over, place-end p e) refl)
 
 pub none-from : (o : Option ℕ) → true ≡ is_none o → None ≡ o
@@ -294,10 +294,10 @@ some-long [] e = absurd (cc)
 some-long (c ∷ cs) e = grind (arith, nat_tests)
 
 pub overshot-some : (u : ℕ) (p : Place) → false ≡ is_none (scout 0 p) → overshot u p ≡ false
-overshot-some u p e = and-right (nat_lt u (units p.behind)) (length p.ahead == 0) (some-long p.ahead e)
+overshot-some u p e = and-right (nat_lt u (units p.before)) (length p.ahead == 0) (some-long p.ahead e)
 
-pub overshot-low : (u : ℕ) (p : Place) → units p.behind ≤ u → overshot u p ≡ false
-overshot-low u p le = rw (not-past u (units p.behind) 0 le) refl
+pub overshot-low : (u : ℕ) (p : Place) → units p.before ≤ u → overshot u p ≡ false
+overshot-low u p le = rw (not-past u (units p.before) 0 le) refl
 
 pub byte_at-none : (s : List ℕ) (i column : ℕ) → line_range s i ≡ None → byte_at s i column ≡ None
 unfolding byte_at

@@ -72,13 +72,13 @@ lone-stretch c rest n e = rw (n, e) refl
 
 -- behind a line end
 abbrev behind_end : Bool → List ℕ → List ℕ → List ℕ
-behind_end b behind ahead = (moved_from (if b then 2 else 1) behind ahead).ahead
+behind_end b before ahead = (moved_from (if b then 2 else 1) before ahead).ahead
 
-end-cases : (c : ℕ) (rest behind : List ℕ) (b : Bool) → crlf c rest ≡ b → is_newline c ≡ true → stretches (c ∷ rest) ≡ [] ∷ stretches (behind_end b behind (c ∷ rest))
-end-cases c rest behind true e n =
+end-cases : (c : ℕ) (rest before : List ℕ) (b : Bool) → crlf c rest ≡ b → is_newline c ≡ true → stretches (c ∷ rest) ≡ [] ∷ stretches (behind_end b before (c ∷ rest))
+end-cases c rest before true e n =
     let left = lf-next c rest e in
-    ap (λ t. stretches (c ∷ t)) left.1 ∙ both-stretch c left.0 n (rw left.1 at e) ∙ ap (λ t. [] ∷ stretches (behind_end true behind (c ∷ t))) (sym left.1)
-end-cases c rest behind false e n = lone-stretch c rest n e
+    ap (λ t. stretches (c ∷ t)) left.1 ∙ both-stretch c left.0 n (rw left.1 at e) ∙ ap (λ t. [] ∷ stretches (behind_end true before (c ∷ t))) (sym left.1)
+end-cases c rest before false e n = lone-stretch c rest n e
 
 line-end-is : (q : Place) (c : ℕ) (rest : List ℕ) → q.ahead ≡ c ∷ rest → is_newline c ≡ true → line_end_len q ≡ (if crlf c rest then 2 else 1)
 line-end-is q c rest e n = rw (e, n) refl
@@ -88,10 +88,10 @@ pub glued-end : (xs : List ℕ) (q r : Place) (c : ℕ) → Some c ≡ scout 0 q
 glued-end xs q r c e n m =
     let rest = (moved 1 q).ahead in
     let at = ahead-step q c e in
-    let there : r.ahead ≡ behind_end (crlf c rest) q.behind (c ∷ rest) =
-    ap (λ p. p.ahead) m ∙ ap (λ k. (moved k q).ahead) (line-end-is q c rest at n) ∙ ap (λ t. (moved_from (if crlf c rest then 2 else 1) q.behind t).ahead) at in
-    ap (λ t. glued xs (stretches t)) at ∙ ap (glued xs) (end-cases c rest q.behind (crlf c rest) refl n)
-    ∙ ap (λ t. t ∷ stretches (behind_end (crlf c rest) q.behind (c ∷ rest))) (append-nil xs) ∙ ap (λ t. xs ∷ stretches t) (sym there)
+    let there : r.ahead ≡ behind_end (crlf c rest) q.before (c ∷ rest) =
+    ap (λ p. p.ahead) m ∙ ap (λ k. (moved k q).ahead) (line-end-is q c rest at n) ∙ ap (λ t. (moved_from (if crlf c rest then 2 else 1) q.before t).ahead) at in
+    ap (λ t. glued xs (stretches t)) at ∙ ap (glued xs) (end-cases c rest q.before (crlf c rest) refl n)
+    ∙ ap (λ t. t ∷ stretches (behind_end (crlf c rest) q.before (c ∷ rest))) (append-nil xs) ∙ ap (λ t. xs ∷ stretches t) (sym there)
 
 pub glued-last : (xs : List ℕ) (q : Place) → q.ahead ≡ [] → glued xs (stretches q.ahead) ≡ xs ∷ []
 glued-last xs q e = ap (λ t. glued xs (stretches t)) e ∙ ap (λ t. t ∷ []) (append-nil xs)

@@ -7,16 +7,16 @@ use Rattle.typst_lines.specs.Place.{Place, moved_back}
 use Rattle.typst_lines.specs.Ends.{without_last}
 
 abbrev at : List ℕ → List ℕ → Place
-at behind ahead = record { behind = behind; ahead = ahead }
+at before ahead = record { before = before; ahead = ahead }
 
 abbrev pub stripped : (ℕ → Bool) → List ℕ → List ℕ
 stripped test back = drop (prefix_len test back) back
 
 module _ (test : ℕ → Bool) where
-  pub strip-step : (p q : Place) (c : ℕ) → Some c ≡ slice_get p.behind 0 → test c ≡ true → q ≡ moved_back p → stripped test q.behind ≡ stripped test p.behind
-  strip-step p q c s e m = ap (λ x. stripped test x.behind) m ∙ from p.behind p.ahead s
+  pub strip-step : (p q : Place) (c : ℕ) → Some c ≡ slice_get p.before 0 → test c ≡ true → q ≡ moved_back p → stripped test q.before ≡ stripped test p.before
+  strip-step p q c s e m = ap (λ x. stripped test x.before) m ∙ from p.before p.ahead s
     where
-      from : (xs ys : List ℕ) → Some c ≡ slice_get xs 0 → stripped test (moved_back (at xs ys)).behind ≡ stripped test xs
+      from : (xs ys : List ℕ) → Some c ≡ slice_get xs 0 → stripped test (moved_back (at xs ys)).before ≡ stripped test xs
       from [] ys g = absurd (cc)
       from (d ∷ xs) ys g =
           let is : d ≡ c = cc in
@@ -24,8 +24,8 @@ module _ (test : ℕ → Bool) where
           let passes : test d ≡ true = ap test is ∙ e in
           rw (passes, more) refl
 
-  pub strip-stop : (p : Place) (c : ℕ) → Some c ≡ slice_get p.behind 0 → test c ≡ false → stripped test p.behind ≡ p.behind
-  strip-stop p c s e = from p.behind s
+  pub strip-stop : (p : Place) (c : ℕ) → Some c ≡ slice_get p.before 0 → test c ≡ false → stripped test p.before ≡ p.before
+  strip-stop p c s e = from p.before s
     where
       from : (xs : List ℕ) → Some c ≡ slice_get xs 0 → stripped test xs ≡ xs
       from [] g = absurd (cc)
@@ -34,8 +34,8 @@ module _ (test : ℕ → Bool) where
           let stops : test d ≡ false = ap test is ∙ e in
           rw stops refl
 
-  pub strip-end : (p : Place) → None ≡ slice_get p.behind 0 → stripped test p.behind ≡ p.behind
-  strip-end p s = from p.behind s
+  pub strip-end : (p : Place) → None ≡ slice_get p.before 0 → stripped test p.before ≡ p.before
+  strip-end p s = from p.before s
     where
       from : (xs : List ℕ) → None ≡ slice_get xs 0 → stripped test xs ≡ xs
       from [] g = refl

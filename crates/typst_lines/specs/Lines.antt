@@ -22,12 +22,12 @@ bytes (c ∷ cs) = char_width c + bytes cs
 
 -- the place between these characters, the nearest first, and those
 abbrev pub between : List ℕ → List ℕ → Place
-between behind ahead = record { behind = behind; ahead = ahead }
+between before ahead = record { before = before; ahead = ahead }
 
 -- the places of a text from one on, in order
 abbrev pub places_from : List ℕ → List ℕ → List Place
-places_from behind [] = between behind [] ∷ []
-places_from behind (c ∷ ahead) = between behind (c ∷ ahead) ∷ places_from (c ∷ behind) ahead
+places_from before [] = between before [] ∷ []
+places_from before (c ∷ ahead) = between before (c ∷ ahead) ∷ places_from (c ∷ before) ahead
 
 -- all places of a text, in order
 abbrev pub places : List ℕ → List Place
@@ -36,14 +36,14 @@ places text = places_from [] (chars text)
 -- a line starts at the text's start and after each line end
 abbrev pub starts_behind : List ℕ → Option ℕ → Bool
 starts_behind [] next = true
-starts_behind (c ∷ behind) next = ends_line c next
+starts_behind (c ∷ before) next = ends_line c next
 
 abbrev pub starts_line : Place → Bool
-starts_line p = starts_behind p.behind (scout 0 p)
+starts_line p = starts_behind p.before (scout 0 p)
 
 -- how many bytes and UTF-16 units stand before a place
 abbrev pub measured : Place → Line
-measured p = record { byte_idx = bytes p.behind; utf16_idx = units p.behind }
+measured p = record { byte_idx = bytes p.before; utf16_idx = units p.before }
 
 -- the line table: the places where a line starts, measured
 unfoldable pub line_table : List ℕ → List Line
@@ -109,11 +109,11 @@ byte_at text line column = option_and_then (byte_in_range text column) (line_ran
 
 -- the least place with at least so many UTF-16 units before it
 abbrev pub least_place : List ℕ → ℕ → Option Place
-least_place text utf16 = slice_get (filter (λ p. nat_le utf16 (units p.behind)) (places text)) 0
+least_place text utf16 = slice_get (filter (λ p. nat_le utf16 (units p.before)) (places text)) 0
 
 -- its byte; none where that place is the text's end with more units before it
 abbrev pub byte_reached : ℕ → Place → Option ℕ
-byte_reached utf16 p = if nat_lt utf16 (units p.behind) && length p.ahead == 0 then None else Some (bytes p.behind)
+byte_reached utf16 p = if nat_lt utf16 (units p.before) && length p.ahead == 0 then None else Some (bytes p.before)
 
 unfoldable pub byte_at_utf16 : List ℕ → ℕ → Option ℕ
 byte_at_utf16 text utf16 = option_and_then (byte_reached utf16) (least_place text utf16)

@@ -5,14 +5,14 @@ use Rattle.std.specs.Char.{IsScalar, len_utf8}
 use Rattle.std.specs.Str.{chars, IsCharBoundary}
 use Rattle.std.specs.List.{prefix_len}
 
--- the characters behind, nearest first, and those ahead
+-- the characters before, nearest first, and those ahead
 pub record Place : Type 0 where
-  pub behind : List ℕ
+  pub before : List ℕ
   pub ahead : List ℕ
 
 -- how a place is stored in ghost fields
 abbrev pub place_code : Coded Place
-place_code = code_by (List ℕ × List ℕ) (coded× (coded_list coded_ℕ) (coded_list coded_ℕ)) (λ z. (z.behind, z.ahead)) (λ p. record { behind = p.0; ahead = p.1 }) (λ _. refl)
+place_code = code_by (List ℕ × List ℕ) (coded× (coded_list coded_ℕ) (coded_list coded_ℕ)) (λ z. (z.before, z.ahead)) (λ p. record { before = p.0; ahead = p.1 }) (λ _. refl)
 
 -- how many bytes a character takes; a word that tactics do not look into
 unfoldable pub char_width : ℕ → ℕ
@@ -20,24 +20,24 @@ char_width c = len_utf8 c
 
 -- the place at a byte offset of a text
 unfoldable pub place_at : List ℕ → ℕ → Place
-place_at text at = record { behind = reverse (chars (take at text)); ahead = chars (drop at text) }
+place_at text at = record { before = reverse (chars (take at text)); ahead = chars (drop at text) }
 
 -- the place n characters on, or the text's end
 abbrev pub moved_from : ℕ → List ℕ → List ℕ → Place
-moved_from zero behind ahead = record { behind = behind; ahead = ahead }
-moved_from (suc n) behind [] = record { behind = behind; ahead = [] }
-moved_from (suc n) behind (c ∷ ahead) = moved_from n (c ∷ behind) ahead
+moved_from zero before ahead = record { before = before; ahead = ahead }
+moved_from (suc n) before [] = record { before = before; ahead = [] }
+moved_from (suc n) before (c ∷ ahead) = moved_from n (c ∷ before) ahead
 
 abbrev pub moved : ℕ → Place → Place
-moved n p = moved_from n p.behind p.ahead
+moved n p = moved_from n p.before p.ahead
 
 -- the place one character back, or the text's start
 abbrev pub back_from : List ℕ → List ℕ → Place
-back_from [] ahead = record { behind = []; ahead = ahead }
-back_from (c ∷ behind) ahead = record { behind = behind; ahead = c ∷ ahead }
+back_from [] ahead = record { before = []; ahead = ahead }
+back_from (c ∷ before) ahead = record { before = before; ahead = c ∷ ahead }
 
 abbrev pub moved_back : Place → Place
-moved_back p = back_from p.behind p.ahead
+moved_back p = back_from p.before p.ahead
 
 -- a place at or after another
 abbrev pub IsAfter : Place → Place → Type 0
@@ -51,10 +51,10 @@ bytes_ahead n p = length (encode_utf8_all (take n p.ahead))
 abbrev pub scout : ℕ → Place → Option ℕ
 scout n p = slice_get p.ahead n
 
--- the character n places ahead; below 0 the places behind are counted, and -1 is the nearest
+-- the character n places ahead; below 0 the places before are counted, and -1 is the nearest
 abbrev pub around : ℤ → Place → Option ℕ
 around (pos n) p = slice_get p.ahead n
-around (negsuc n) p = slice_get p.behind n
+around (negsuc n) p = slice_get p.before n
 
 -- whether the next character passes
 abbrev pub passes : (ℕ → Bool) → Option ℕ → Bool
@@ -86,12 +86,12 @@ pub record IsStep (text : List ℕ) (at c end : ℕ) : Type 0 where
 -- the character c stands in the text from one byte offset to the other, and one goes back over it
 pub record IsStepBack (text : List ℕ) (start c at : ℕ) : Type 0 where
   pub boundary : IsCharBoundary text start
-  pub last : slice_get (place_at text at).behind 0 ≡ Some c
+  pub last : slice_get (place_at text at).before 0 ≡ Some c
   pub moves : place_at text start ≡ moved_back (place_at text at)
 
--- no character stands behind
+-- no character stands before
 pub record IsFirst (text : List ℕ) (at : ℕ) : Type 0 where
-  pub last : slice_get (place_at text at).behind 0 ≡ None
+  pub last : slice_get (place_at text at).before 0 ≡ None
   pub stays : place_at text at ≡ moved_back (place_at text at)
 
 -- no character follows

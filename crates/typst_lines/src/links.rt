@@ -54,7 +54,7 @@ impl Brackets {
         }
     }
 
-    /// Whether a link goes on through the character, which is then behind.
+    /// Whether a link goes on through the character, which is then before.
     fn pass(&mut self, c: char) -> Result<bool, AllocError>
         ensures turn { IfOk result (λ goes_on. spec.after self.old c ≡ (if goes_on then Some self.new else None)) }
         ensures same { IfOk result (λ goes_on. OnFalse goes_on (self.new ≡ self.old)) }

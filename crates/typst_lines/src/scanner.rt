@@ -76,12 +76,12 @@ impl<'a> Scanner<'a> {
     }
 
     /// The character so many characters on; a negative number counts back, and -1 is the character
-    /// directly behind.
+    /// directly before.
     pub fn scout(&self, n: isize) -> Option<char>
         ensures { result ≡ around n (place self.now) }
     {
         if n < 0 {
-            self.nth_behind(n.unsigned_abs() - 1)
+            self.nth_before(n.unsigned_abs() - 1)
         } else {
             self.nth_ahead(n.unsigned_abs())
         }
@@ -98,23 +98,23 @@ impl<'a> Scanner<'a> {
         ahead.peek()
     }
 
-    /// The character behind with so many characters between it and the cursor.
-    fn nth_behind(&self, n: usize) -> Option<char>
-        ensures { result ≡ slice_get (place self.now).behind n }
+    /// The character before with so many characters between it and the cursor.
+    fn nth_before(&self, n: usize) -> Option<char>
+        ensures { result ≡ slice_get (place self.now).before n }
     {
-        let mut behind = *self;
+        let mut before = *self;
         for i in 0..n {
-            behind.uneat()?;
+            before.uneat()?;
         }
-        behind.last()
+        before.last()
     }
 
-    /// The character behind.
+    /// The character before.
     #[inline]
     pub fn last(&self) -> Option<char>
-        ensures { result ≡ slice_get (place self.now).behind 0 }
+        ensures { result ≡ slice_get (place self.now).before 0 }
     {
-        match char_behind(self.text, self.cursor) {
+        match char_before(self.text, self.cursor) {
             Some((c, _)) => Some(c),
             None => None,
         }
@@ -131,12 +131,12 @@ impl<'a> Scanner<'a> {
         }
     }
 
-    /// Whether a character stands directly behind.
+    /// Whether a character stands directly before.
     #[inline]
     pub fn is_after(&self, wanted: char) -> bool
-        ensures { result ≡ passes (λ c. c == wanted) (slice_get (place self.now).behind 0) }
+        ensures { result ≡ passes (λ c. c == wanted) (slice_get (place self.now).before 0) }
     {
-        match char_behind(self.text, self.cursor) {
+        match char_before(self.text, self.cursor) {
             Some((c, _)) => c == wanted,
             None => false,
         }
@@ -161,10 +161,10 @@ impl<'a> Scanner<'a> {
         }
     }
 
-    /// The text behind the cursor.
+    /// The text before the cursor.
     pub fn before(&self) -> &'a str
         ensures bytes { result.now ≡ take self.now.cursor self.now.text.now }
-        ensures characters { chars result.now ≡ reverse (place self.now).behind }
+        ensures characters { chars result.now ≡ reverse (place self.now).before }
     {
         &self.text[..self.cursor]
     }
@@ -180,7 +180,7 @@ impl<'a> Scanner<'a> {
     /// The text from a byte offset, on a character boundary and not past the cursor, to the cursor.
     pub fn from(&self, start: usize) -> &'a str
         requires boundary { IsCharBoundary self.now.text.now start }
-        requires behind { start ≤ self.now.cursor }
+        requires before { start ≤ self.now.cursor }
         ensures { result.now ≡ slice_range self.now.text.now start self.now.cursor }
     {
         &self.text[start..self.cursor]
@@ -223,14 +223,14 @@ impl<'a> Scanner<'a> {
         }
     }
 
-    /// Goes back over the character behind, and gives it.
+    /// Goes back over the character before, and gives it.
     #[inline]
     pub fn uneat(&mut self) -> Option<char>
-        ensures last { result ≡ slice_get (place self.old).behind 0 }
+        ensures last { result ≡ slice_get (place self.old).before 0 }
         ensures moved { place self.new ≡ moved_back (place self.old) }
         ensures same_text { self.new.text.now ≡ self.old.text.now }
     {
-        match char_behind(self.text, self.cursor) {
+        match char_before(self.text, self.cursor) {
             Some((c, start)) => {
                 self.cursor = start;
                 Some(c)
@@ -432,7 +432,7 @@ pub(crate) fn next_char(text: &str, at: usize) -> Option<(char, usize)>
 
 /// The character that ends at the offset, and where it begins.
 #[inline(always)]
-fn char_behind(text: &str, at: usize) -> Option<(char, usize)>
+fn char_before(text: &str, at: usize) -> Option<(char, usize)>
     requires { IsCharBoundary text.now at }
     ensures { MatchOption result (IsFirst text.now at) (λ r. IsStepBack text.now r.1 r.0 at) }
 {

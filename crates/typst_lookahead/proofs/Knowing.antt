@@ -32,7 +32,7 @@ end-moved n z =
     let all : min (n + k) (length z.ahead) ≡ length z.ahead = omega arith in
     sym (moved-sum n k z) ∙ sym (moved-min (n + k) z) ∙ ap (λ m. moved m z) all
 
-place-by : (b a c d : List ℕ) → moved_from (length a) b a ≡ moved_from (length d) c d → length a ≡ length d → ◌≡◌ {A = Place} (record { behind = b; ahead = a }) (record { behind = c; ahead = d })
+place-by : (b a c d : List ℕ) → moved_from (length a) b a ≡ moved_from (length d) c d → length a ≡ length d → ◌≡◌ {A = Place} (record { before = b; ahead = a }) (record { before = c; ahead = d })
 place-by b [] c [] e l = e
 place-by b [] c (y ∷ d) e l = absurd (omega arith)
 place-by b (x ∷ a) c [] e l = absurd (omega arith)
@@ -49,7 +49,7 @@ no-more z w e f h =
     let n = length z.ahead - length w.ahead in
     let left = ahead-left n z in
     let long : length (moved n z).ahead ≡ length w.ahead = omega arith in
-    let same = place-by (moved n z).behind (moved n z).ahead w.behind w.ahead (end-moved n z ∙ e) long in
+    let same = place-by (moved n z).before (moved n z).ahead w.before w.ahead (end-moved n z ∙ e) long in
     let bytes = ap bytes_left same in
     let none = none-bytes n z (omega arith) (omega arith) in
     ap (λ m. moved m z) (sym none) ∙ same

@@ -172,7 +172,7 @@ was-read i f =
 -- where nothing stands between the places, the token is passed
 pub stands-passed : (a : ReadAhead) → a.line.text.now ≡ a.after.text.now → Stands (record a { is_read = false; before = a.after; start = a.after })
 stands-passed a same =
-    let n = length (place a.after).behind in
+    let n = length (place a.after).before in
     let none : n - n ≡ 0 = omega arith in
     record { start = rw none refl; after = rw none refl; start_text = refl; after_text = refl; line_text = same }
 

@@ -7,11 +7,10 @@ use Rattle.typst_tree.specs.Tree.{Tree, text_of, error_of}
 use Rattle.typst_lines.specs.Classes.{CharClasses}
 use Rattle.typst_tokens.specs.Sight.{hull_of}
 use Rattle.typst_tokens.specs.declared.hull.Hull.{Hull}
-use Rattle.typst_language.specs.declared.calls.Call.{Call}
 use Rattle.typst_language.specs.declared.calls.Mark.{Mark}
 use Rattle.typst_language.specs.declared.reading.Newlines.{Newlines}
 use Rattle.typst_language.specs.declared.reading.Reading.{Reading}
-use Rattle.typst_language.specs.Calls.{Answer}
+use Rattle.typst_language.specs.Calls.{Call, Answer}
 use Rattle.typst_language.specs.Point.{Point, Trivia, gap_of, state_of}
 use Rattle.typst_language.specs.Ask.{Ask, shift}
 use Rattle.typst_language.specs.Hand.{Hand, AtHand, told, known_by, hand_at, hand_asks, column_at, column_look}

@@ -3,10 +3,9 @@ use Rattle.std.proofs.Common.{Option, None, ◌≡◌, ℕ, ◌+◌, ◌<◌, �
 use Rattle.typst_kinds.specs.declared.kind.SyntaxKind.{SyntaxKind}
 use Rattle.typst_lines.specs.Place.{moved}
 use Rattle.typst_tree.specs.Tree.{Tree, error_of}
-use Rattle.typst_language.specs.declared.calls.Call.{Call}
 use Rattle.typst_language.specs.declared.calls.Mark.{Mark}
 use Rattle.typst_language.specs.declared.reading.Reading.{Reading}
-use Rattle.typst_language.specs.Calls.{Answer}
+use Rattle.typst_language.specs.Calls.{Call, Answer}
 use Rattle.typst_language.specs.Point.{Point, Trivia, gap_of, pending, is_nil, state_of}
 use Rattle.typst_language.specs.Log.{with_note}
 use Rattle.typst_language.specs.Hand.{AtHand, told, column_at}

@@ -28,7 +28,7 @@ use Rattle.typst_lookahead.specs.AheadCursor.{IsAhead, distance}
 use Rattle.typst_lookahead.specs.Bytes.{bytes_left}
 use Rattle.typst_lookahead.proofs.Bytes.{some-bytes, none-bytes}
 use Rattle.typst_lookahead.proofs.Hulls.{In, itself-in, second-in, first-in, same-hull}
-use Rattle.typst_language.proofs.Places.{moved-sum, moved-min, moved-behind, ahead-left}
+use Rattle.typst_language.proofs.Places.{moved-sum, moved-min, moved-before, ahead-left}
 use Rattle.typst_language.proofs.Within.{if-same, and-second, on_both, on_if}
 
 and-none : (b : Bool) (n : ℕ) → n ≡ 0 → (b && nat_lt 0 n) ≡ false
@@ -228,8 +228,8 @@ some-trivia k m z w t e h b =
     let f : is_trivia (token_at k m z).kind ≡ true = ap (λ (q : Token × Place). is_trivia q.0.kind) e ∙ h in
     rw (f, lt-ltb 0 (len_at k m z) some) refl
 
-pub distance-is : (from to : Place) (n : ℕ) → n ≤ length from.ahead → to ≡ moved n from → length to.behind - length from.behind ≡ n
-distance-is from to n h e = let b = ap (λ (p : Place). length p.behind) e ∙ moved-behind n from h in omega arith
+pub distance-is : (from to : Place) (n : ℕ) → n ≤ length from.ahead → to ≡ moved n from → length to.before - length from.before ≡ n
+distance-is from to n h e = let b = ap (λ (p : Place). length p.before) e ∙ moved-before n from h in omega arith
 
 -- what was looked at for the tokens that were read one after the other
 pub tokens-stop : (k : CharClasses) (m : SyntaxMode) (z : Place) → at_trivia k m z ≡ false → tokens_at k m z ≡ token_hull k m z
@@ -330,6 +330,6 @@ whole-is k held now ts from z tokens a h l =
     ∙ ap (λ n. joined_hull (tokens_at k m from) (column_hull held n z (token_hull k m z))) line-is
     ∙ ap (λ p. joined_hull (tokens_at k m from) (column_hull held f.newlines p (token_hull k m p))) place-is
 
-pub start-is : (text : List ℕ) → place_at text 0 ≡ record { behind = []; ahead = chars text }
+pub start-is : (text : List ℕ) → place_at text 0 ≡ record { before = []; ahead = chars text }
 unfolding place_at
-start-is text = ap (λ xs. record { behind = reverse xs; ahead = chars text }) chars-nil
+start-is text = ap (λ xs. record { before = reverse xs; ahead = chars text }) chars-nil

@@ -12,7 +12,7 @@ use Rattle.typst_lookahead.specs.Bytes.{token_hull, column_hull}
 
 -- how many characters stand between two scanners
 abbrev pub distance : Scanner → Scanner → ℕ
-distance from to = length (place to).behind - length (place from).behind
+distance from to = length (place to).before - length (place from).before
 
 -- the token that was read ahead, with the trivia before it
 abbrev pub hand_of_ahead : ReadAhead → List Tree → Hand

@@ -40,7 +40,7 @@ pub record IsReady (i : Inside) : Type 0 where
 -- at a text's start, before anything was asked
 pub record IsStart (text : List ℕ) (reading : Reading) (keeps : Bool) (v : View) : Type 0 where
   pub nodes : v.nodes ≡ []
-  pub place : v.place ≡ record { behind = []; ahead = chars text }
+  pub place : v.place ≡ record { before = []; ahead = chars text }
   pub state : v.state ≡ start_point reading
   pub log : v.log ≡ blank_log keeps
   pub memo : v.memo ≡ []

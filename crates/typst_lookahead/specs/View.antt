@@ -1,5 +1,5 @@
 -- What a parser of the code shows, and what it ensures.
-use Rattle.std.specs.Prelude.{◌≡◌, ℕ, ◌+◌, ◌-◌, ◌<◌, ◌≤◌, length, true, List, ◌++◌, [], ◌∷◌, take, drop, Option, None, option_map, Result, Ok, Err}
+use Rattle.std.specs.Prelude.{◌≡◌, ℕ, Bool, ◌+◌, ◌-◌, ◌<◌, ◌≤◌, length, true, List, ◌++◌, [], ◌∷◌, take, drop, Option, None, option_map, Result, Ok, Err}
 use Rattle.std.specs.declared.alloc.AllocError.{AllocError}
 use denote.Ref.{MutBor}
 use Rattle.typst_lines.specs.Place.{Place, moved}
@@ -9,12 +9,13 @@ use Rattle.typst_tree.specs.Tree.{Tree}
 use Rattle.typst_tokens.specs.declared.hull.Hull.{Hull}
 use Rattle.typst_language.specs.declared.calls.Behind.{Behind}
 use Rattle.typst_language.specs.declared.calls.Block.{Block}
-use Rattle.typst_language.specs.declared.calls.Call.{Call}
-use Rattle.typst_language.specs.declared.calls.Call.TheVariants.{MarkupExpr, CodeExpr, MathExpr, Pattern}
+use Rattle.typst_language.specs.declared.calls.ChainSet.{ChainSet}
+use Rattle.typst_language.specs.Calls.Call.{MarkupExpr, CodeExpr, MathExpr, Pattern}
 use Rattle.typst_language.specs.declared.calls.Mark.{Mark}
 use Rattle.typst_language.specs.declared.calls.Mark.TheVariants.{Opens, Closes}
+use Rattle.typst_language.specs.declared.calls.Role.{Role}
 use Rattle.typst_language.specs.declared.reading.Reading.{Reading}
-use Rattle.typst_language.specs.Calls.{Answer}
+use Rattle.typst_language.specs.Calls.{Call, Answer}
 use Rattle.typst_language.specs.Point.{Point, forgot, state_of}
 use Rattle.typst_language.specs.Hand.{Hand, known_by}
 use Rattle.typst_language.specs.Log.{Log, logged, with_hull, with_note}
@@ -23,8 +24,6 @@ use Rattle.typst_language.specs.Sound.{Sound}
 use Rattle.typst_language.specs.Syntax.{Parser, ◌>>◌}
 use Rattle.typst_language.specs.Meaning.{Outcome, Level, apart, asked, flushed_state, hand_of, hand_asks_of, left, standing, run}
 use Rattle.typst_language.specs.Steps.{peek}
-use Rattle.typst_lookahead.specs.declared.depth.Answered.{Answered}
-use Rattle.typst_lookahead.specs.declared.depth.Answered.TheVariants.{Brackets, Nothing, Names}
 use Rattle.typst_lookahead.specs.Bytes.{LiesIn, token_hull, column_hull}
 use Rattle.typst_language.specs.Nodes.{is_leaf}
 use Rattle.typst_lookahead.specs.Noted.{hull_in}
@@ -104,32 +103,10 @@ GoesIf l P Q p old (Err e) new = Unit {0}
 abbrev pub Reads : {A : Type 0} → Level → Parser A → View → Result A AllocError → View → Type 0
 Reads l p old r new = GoesIf l (Fits l) (Fits l) p old r new
 
--- what the code says that a call answered
-abbrev pub said : (call : Call) → Answer call → Answered
-said (MarkupExpr at_start nesting) n = Brackets n
-said (CodeExpr atomic least) x = Nothing
-said (MathExpr least chain) x = Nothing
-said (Pattern role names) seen = Names seen
-
--- a call was made, and this is what the code says that it answered
-pub record Called (l : Level) (call : Call) (a : Answered) (old new : View) : Type 0 where
-  pub answer : Answer call
-  pub is : a ≡ said call answer
-  pub makes : Makes l call answer old new
-
-abbrev pub Calls : Level → Call → View → Result Answered AllocError → View → Type 0
-Calls l call old (Ok a) new = Called l call a old new
+-- unless memory is refused
+abbrev pub Calls : Level → (call : Call) → View → Result (Answer call) AllocError → View → Type 0
+Calls l call old (Ok a) new = Makes l call a old new
 Calls l call old (Err e) new = Unit {0}
-
--- the code did what a parser does that answers as a call
-pub record Answers (l : Level) (call : Call) (p : Parser (Answer call)) (a : Answered) (old new : View) : Type 0 where
-  pub answer : Answer call
-  pub is : a ≡ said call answer
-  pub does : Does l p answer old new
-
-abbrev pub ReadsAs : Level → (call : Call) → Parser (Answer call) → View → Result Answered AllocError → View → Type 0
-ReadsAs l call p old (Ok a) new = Answers l call p a old new
-ReadsAs l call p old (Err e) new = Unit {0}
 
 -- the token at hand was asked for
 pub record Looked (l : Level) (v w : View) : Type 0 where
@@ -233,14 +210,14 @@ pub record Dropped (v w : View) : Type 0 where
 pub record Frame : Type 1 where
   pub classes : CharClasses
   pub levels : ℕ
-  pub gives : Call → View → Result Answered AllocError → View → Type 0
+  pub gives : (call : Call) → View → Result (Answer call) AllocError → View → Type 0
 
 -- what the calls give is what the level says
 pub record Fills (l : Level) (f : Frame) : Type 0 where
   pub classes : l.classes ≡ f.classes
   pub sound : Sound l
   pub levels : l.levels ≡ f.levels
-  pub reads : (old new : View) (call : Call) (r : Result Answered AllocError) → f.gives call old r new → Calls l call old r new
+  pub reads : (old new : View) (call : Call) (r : Result (Answer call) AllocError) → f.gives call old r new → Calls l call old r new
 
 -- what the code reads wherever such calls are made
 abbrev pub Means : {A : Type 0} → Frame → Parser A → View → Result A AllocError → View → Type 0
@@ -262,10 +239,6 @@ growth x = (option_map becomes x.0, x.1)
 abbrev pub bare_growth : Option SyntaxKind → Option Shape × Unit {0}
 bare_growth kind = (option_map becomes kind, tt)
 
--- the same of what answers as a call
-abbrev pub MeansAs : Frame → (call : Call) → Parser (Answer call) → View → Result Answered AllocError → View → Type 0
-MeansAs f call q old r new = (l : Level) → Fills l f → ReadsAs l call q old r new
-
 -- the same where no token was asked for before it
 abbrev pub MeansFirst : {A : Type 0} → Frame → Parser A → View → Result A AllocError → View → Type 0
 MeansFirst f q old r new = (l : Level) → Fills l f → GoesIf l (Bare l) (Fits l) q old r new
@@ -274,10 +247,21 @@ MeansFirst f q old r new = (l : Level) → Fills l f → GoesIf l (Bare l) (Fits
 abbrev pub MeansLast : {A : Type 0} → Frame → Parser A → View → Result A AllocError → View → Type 0
 MeansLast f q old r new = (l : Level) → Fills l f → GoesIf l (Fits l) (Loose l) q old r new
 
--- calls may be made above the limit
-abbrev pub MayNest : ℕ → (MutBor View → ℕ → Call → Type 0) → Type 0
-MayNest levels pre = (old : MutBor View) (call : Call) → 0 < levels → pre old levels call
+-- what a function does that makes calls, with a parser, so many levels and two things that it is told
+abbrev pub Calling : Type 0 → Type 0 → Type 0 → Type 1
+Calling A B R = MutBor View → ℕ → A → B → Result R AllocError → MutBor View → Type 0
 
--- what a function gives of what its reference points to
-abbrev pub given : (MutBor View → ℕ → Call → Result Answered AllocError → MutBor View → Type 0) → ℕ → Call → View → Result Answered AllocError → View → Type 0
-given post levels call old r new = (v : MutBor View) × (w : MutBor View) × (v.now ≡ old) × (w.now ≡ new) × post v levels call r w
+-- it may be called above the limit
+abbrev pub MayNest : {A B : Type 0} → ℕ → (MutBor View → ℕ → A → B → Type 0) → Type 0
+MayNest {A = A} {B = B} levels pre = (old : MutBor View) (x : A) (y : B) → 0 < levels → pre old levels x y
+
+-- what it gives of what its reference points to
+abbrev pub given : {A B R : Type 0} → Calling A B R → ℕ → A → B → View → Result R AllocError → View → Type 0
+given post levels x y old r new = (v : MutBor View) × (w : MutBor View) × (v.now ≡ old) × (w.now ≡ new) × post v levels x y r w
+
+-- what four such functions give, one for each that may be called
+abbrev pub given_by : Calling Bool ℕ ℕ → Calling Bool ℕ (Unit {0}) → Calling ℕ ChainSet (Unit {0}) → Calling Role (List (List ℕ)) (List (List ℕ)) → ℕ → (call : Call) → View → Result (Answer call) AllocError → View → Type 0
+given_by markup code math pattern levels (MarkupExpr at_start nesting) = given markup levels at_start nesting
+given_by markup code math pattern levels (CodeExpr atomic least) = given code levels atomic least
+given_by markup code math pattern levels (MathExpr least signs) = given math levels least signs
+given_by markup code math pattern levels (Pattern role names) = given pattern levels role names

@@ -1,61 +1,36 @@
 //! The limit of depth, and what stands in place of what lies deeper.
 
-ghost use Rattle.std.specs.Prelude.{◌≡◌, ◌<◌, ℕ, Bool, List, refl};
+ghost use Rattle.std.specs.Prelude.{◌≡◌, ◌<◌, Bool, refl};
 ghost use Rattle.typst_kinds.specs.declared.kind.SyntaxKind.{SyntaxKind as Kind};
+ghost use Rattle.typst_language.specs.Calls.Call.{MarkupExpr, CodeExpr, MathExpr, Pattern};
 ghost use Rattle.typst_language.specs.Depth as spec;
 ghost use Rattle.typst_language.specs.Syntax.Parser.{repeat};
-ghost use Rattle.typst_lookahead.specs.View.{MayNest, Means, MeansAs, given, said};
-ghost use Rattle.typst_language.specs.Calls.{Answer};
-ghost use Rattle.typst_lookahead.specs.declared.depth.Answered.TheVariants.{Brackets, Names as Seen};
+ghost use Rattle.typst_lookahead.specs.View.{MayNest, Means, given_by};
 
 use crate::parser::Parser;
-use std::alloc::{AllocError, Global};
+use std::alloc::AllocError;
 use typst_kinds::{Names, SyntaxKind};
-use typst_language::{AtNewline, Call};
+use typst_language::{AtNewline, ChainSet, Role};
 use typst_lines::{Classes, MathClass};
 
-/// What a call answered.
-#[derive(Drop)]
-pub enum Answered {
-    /// In how many brackets what comes behind an expression of markup stands.
-    Brackets(usize),
-    /// Nothing.
-    Nothing,
-    /// Which names were seen.
-    Names(Names),
-}
-
-impl Answered {
-    /// In how many brackets what comes behind stands.
-    pub fn brackets(self) -> usize
-        ensures { (n : ℕ) → self ≡ Brackets n → result ≡ n }
-    {
-        match self {
-            Answered::Brackets(nesting) => nesting,
-            _ => 0,
-        }
-    }
-
-    /// Which names were seen.
-    pub fn names(self, alloc: Global) -> Names
-        ensures { (seen : List (List ℕ)) → self ≡ Seen seen → result ≡ seen }
-    {
-        match self {
-            Answered::Names(names) => names,
-            _ => Names::new(alloc),
-        }
-    }
-}
-
-/// How calls are made: by which classes of characters, how deep they may still nest, and by which function.
+/// How calls are made: by which classes of characters, how deep they may still nest, and by which
+/// functions. Each takes the classes, the parser and how many levels are left, and then what is read.
 #[derive(Clone, Copy)]
-pub struct Grammar<'g, C, F> {
+pub struct Grammar<'g, C, M, D, F, P> {
     pub classes: &'g C,
     pub levels: usize,
-    pub call: F,
+    /// Reads an expression of markup.
+    pub markup_expr: M,
+    /// Reads an expression of code.
+    pub code_expr: D,
+    /// Reads an expression of a formula.
+    pub math_expr: F,
+    /// Reads a pattern.
+    pub pattern: P,
 }
 
 /// What calls are made with: by which classes of characters, how deep they may still nest, and by what.
+/// A call reads one level deeper, where one is left.
 pub trait Levels: Classes {
     ghost use Rattle.typst_lookahead.specs.View.{Frame};
 
@@ -69,35 +44,86 @@ pub trait Levels: Classes {
     fn levels(&self) -> usize
         ensures { result ≡ (frame self.now).levels };
 
-    /// Reads one level deeper, where one is left.
-    fn call(&self, p: &mut Parser<'_>, call: Call) -> Result<Answered, AllocError>
+    /// Reads an expression of markup, whether at the start of a line, and in how many brackets; answers
+    /// in how many brackets what comes behind it stands.
+    fn markup_expr(
+        &self,
+        p: &mut Parser<'_>,
+        at_start: bool,
+        nesting: usize,
+    ) -> Result<usize, AllocError>
         requires may { may_call self.now }
         requires above { 0 < (frame self.now).levels }
-        ensures { (frame self.now).gives call p.old result p.new };
+        ensures { (frame self.now).gives (MarkupExpr at_start nesting) p.old result p.new };
+
+    /// Reads an expression of code, whether atomic; its operators bind at least so tightly.
+    fn code_expr(&self, p: &mut Parser<'_>, atomic: bool, least: u8) -> Result<(), AllocError>
+        requires may { may_call self.now }
+        requires above { 0 < (frame self.now).levels }
+        ensures { (frame self.now).gives (CodeExpr atomic least) p.old result p.new };
+
+    /// Reads an expression of a formula, up to one of some signs of attachments; its operators bind at
+    /// least so tightly.
+    fn math_expr(&self, p: &mut Parser<'_>, least: u8, signs: ChainSet) -> Result<(), AllocError>
+        requires may { may_call self.now }
+        requires above { 0 < (frame self.now).levels }
+        ensures { (frame self.now).gives (MathExpr least signs) p.old result p.new };
+
+    /// Reads a pattern, before which these names were seen; answers which were seen behind it.
+    fn pattern(&self, p: &mut Parser<'_>, role: Role, names: Names) -> Result<Names, AllocError>
+        requires may { may_call self.now }
+        requires above { 0 < (frame self.now).levels }
+        ensures { (frame self.now).gives (Pattern role names) p.old result p.new };
 
     // the calls are made by the same classes
     ghost same: { (s : Self) → (frame s).classes ≡ Self.Classes.classes s };
 }
 
-impl<'g, C: Classes, F: Fn(&C, &mut Parser<'_>, usize, Call) -> Result<Answered, AllocError>> Levels
-    for Grammar<'g, C, F> {
-    ghost frame = { λ g. record { classes = C.classes g.classes.now; levels = g.levels; gives = given (F.post g.call g.classes) g.levels } };
+impl<'g, C, M, D, F, P> Levels for Grammar<'g, C, M, D, F, P>
+where
+    C: Classes,
+    M: Fn(&C, &mut Parser<'_>, usize, bool, usize) -> Result<usize, AllocError>,
+    D: Fn(&C, &mut Parser<'_>, usize, bool, u8) -> Result<(), AllocError>,
+    F: Fn(&C, &mut Parser<'_>, usize, u8, ChainSet) -> Result<(), AllocError>,
+    P: Fn(&C, &mut Parser<'_>, usize, Role, Names) -> Result<Names, AllocError>,
+{
+    ghost frame = { λ g. record { classes = C.classes g.classes.now; levels = g.levels; gives = given_by (M.post g.markup_expr g.classes) (D.post g.code_expr g.classes) (F.post g.math_expr g.classes) (P.post g.pattern g.classes) g.levels } };
 
     ghost same = { λ g. refl };
 
-    ghost may_call = { λ g. MayNest g.levels (F.pre g.call g.classes) };
+    ghost may_call = { λ g. MayNest g.levels (M.pre g.markup_expr g.classes) × MayNest g.levels (D.pre g.code_expr g.classes) × MayNest g.levels (F.pre g.math_expr g.classes) × MayNest g.levels (P.pre g.pattern g.classes) };
 
     fn levels(&self) -> usize {
         self.levels
     }
 
     #[inline(always)]
-    fn call(&self, p: &mut Parser<'_>, call: Call) -> Result<Answered, AllocError> {
-        (self.call)(self.classes, p, self.levels, call)
+    fn markup_expr(
+        &self,
+        p: &mut Parser<'_>,
+        at_start: bool,
+        nesting: usize,
+    ) -> Result<usize, AllocError> {
+        (self.markup_expr)(self.classes, p, self.levels, at_start, nesting)
+    }
+
+    #[inline(always)]
+    fn code_expr(&self, p: &mut Parser<'_>, atomic: bool, least: u8) -> Result<(), AllocError> {
+        (self.code_expr)(self.classes, p, self.levels, atomic, least)
+    }
+
+    #[inline(always)]
+    fn math_expr(&self, p: &mut Parser<'_>, least: u8, signs: ChainSet) -> Result<(), AllocError> {
+        (self.math_expr)(self.classes, p, self.levels, least, signs)
+    }
+
+    #[inline(always)]
+    fn pattern(&self, p: &mut Parser<'_>, role: Role, names: Names) -> Result<Names, AllocError> {
+        (self.pattern)(self.classes, p, self.levels, role, names)
     }
 }
 
-impl<'g, C: Classes, F> Classes for Grammar<'g, C, F> {
+impl<'g, C: Classes, M, D, F, P> Classes for Grammar<'g, C, M, D, F, P> {
     ghost classes = { λ g. C.classes g.classes.now };
 
     ghost lawful = { λ g. C.lawful g.classes.now };
@@ -157,22 +183,79 @@ impl Stops for Anywhere {
     }
 }
 
-/// Reads one level deeper. What lies too deep is skipped, and the answer is the one handed in.
+/// Reads an expression of markup one level deeper, as [`Levels::markup_expr`]. What lies too deep is
+/// skipped, and stands in no more brackets.
 #[inline(always)]
-pub fn deeper<L: Levels>(
+pub fn deeper_markup_expr<L: Levels>(
     g: &L,
     p: &mut Parser<'_>,
-    call: Call,
-    answer: Answered,
-) -> Result<Answered, AllocError>
+    at_start: bool,
+    nesting: usize,
+) -> Result<usize, AllocError>
     requires { L.may_call g.now }
-    ensures { (x : Answer call) → answer ≡ said call x → MeansAs (L.frame g.now) call (spec.deeper call x) p.old result p.new }
+    ensures { Means (L.frame g.now) (spec.deeper (MarkupExpr at_start nesting) nesting) p.old result p.new }
 {
     if g.levels() == 0 {
         too_deep(g, p, &Anywhere)?;
-        return Ok(answer);
+        return Ok(nesting);
     }
-    Ok(g.call(p, call)?)
+    Ok(g.markup_expr(p, at_start, nesting)?)
+}
+
+/// Reads an expression of code one level deeper, as [`Levels::code_expr`]. What lies too deep is skipped.
+#[inline(always)]
+pub fn deeper_code_expr<L: Levels>(
+    g: &L,
+    p: &mut Parser<'_>,
+    atomic: bool,
+    least: u8,
+) -> Result<(), AllocError>
+    requires { L.may_call g.now }
+    ensures { Means (L.frame g.now) (spec.deeper (CodeExpr atomic least) tt) p.old result p.new }
+{
+    if g.levels() == 0 {
+        too_deep(g, p, &Anywhere)?;
+        return Ok(());
+    }
+    Ok(g.code_expr(p, atomic, least)?)
+}
+
+/// Reads an expression of a formula one level deeper, as [`Levels::math_expr`]. What lies too deep is
+/// skipped.
+#[inline(always)]
+pub fn deeper_math_expr<L: Levels>(
+    g: &L,
+    p: &mut Parser<'_>,
+    least: u8,
+    signs: ChainSet,
+) -> Result<(), AllocError>
+    requires { L.may_call g.now }
+    ensures { Means (L.frame g.now) (spec.deeper (MathExpr least signs) tt) p.old result p.new }
+{
+    if g.levels() == 0 {
+        too_deep(g, p, &Anywhere)?;
+        return Ok(());
+    }
+    Ok(g.math_expr(p, least, signs)?)
+}
+
+/// Reads a pattern one level deeper, as [`Levels::pattern`]. What lies too deep is skipped, and no name
+/// is seen in it.
+#[inline(always)]
+pub fn deeper_pattern<L: Levels>(
+    g: &L,
+    p: &mut Parser<'_>,
+    role: Role,
+    names: Names,
+) -> Result<Names, AllocError>
+    requires { L.may_call g.now }
+    ensures { Means (L.frame g.now) (spec.deeper (Pattern role names) names) p.old result p.new }
+{
+    if g.levels() == 0 {
+        too_deep(g, p, &Anywhere)?;
+        return Ok(names);
+    }
+    Ok(g.pattern(p, role, names)?)
 }
 
 /// Makes one error of what lies too deep.

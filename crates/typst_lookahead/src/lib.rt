@@ -15,7 +15,10 @@ mod wraps;
 
 pub use ahead::{ReadAhead, judged, left, no_newlines};
 pub use checkpoint::Checkpoint;
-pub use depth::{Answered, Anywhere, Grammar, Levels, Stops, deeper, is_end, too_deep};
+pub use depth::{
+    Anywhere, Grammar, Levels, Stops, deeper_code_expr, deeper_markup_expr, deeper_math_expr,
+    deeper_pattern, is_end, too_deep,
+};
 pub use log::Log;
 pub use memo::Guessed;
 pub use parser::Parser;

@@ -12,7 +12,7 @@ from-ahead (suc n) xs [] = refl
 from-ahead (suc n) xs (c ∷ ys) = from-ahead n (c ∷ xs) ys
 
 ahead-moved : (n : ℕ) (p : Place) → (moved n p).ahead ≡ drop n p.ahead
-ahead-moved n p = from-ahead n p.behind p.ahead
+ahead-moved n p = from-ahead n p.before p.ahead
 
 from-next : (n : ℕ) (xs ys : List ℕ) → scout 0 (moved_from n xs ys) ≡ slice_get ys n
 from-next zero xs ys = refl
@@ -26,7 +26,7 @@ from-one n xs (c ∷ ys) = refl
 
 -- behind digits a brace may come
 ending : (q w : Place) (b : Bool) → b ≡ passes (λ c. c == 125) (scout 0 (past is_ascii_hexdigit q)) → w ≡ (if b then moved 1 (past is_ascii_hexdigit q) else past is_ascii_hexdigit q) → w ≡ moved (in_braces q.ahead).len q
-ending q w b e f = of-brace b (e ∙ ap (passes (λ c. c == 125)) (from-next n q.behind q.ahead)) f
+ending q w b e f = of-brace b (e ∙ ap (passes (λ c. c == 125)) (from-next n q.before q.ahead)) f
   where
     n : ℕ
     n = prefix_len is_ascii_hexdigit q.ahead
@@ -42,7 +42,7 @@ past-braces p q r w b begun e f g h =
     let inner : w ≡ moved (in_braces q.ahead).len q = ending q w b (g ∙ ap (λ x. passes (λ c. c == 125) (scout 0 x)) f) (h ∙ ap (λ x. if b then moved 1 x else x) f) in
     let here : q.ahead ≡ drop 1 p.ahead = ap (λ x. x.ahead) e ∙ ahead-moved 1 p in
     let n = (in_braces (drop 1 p.ahead)).len in
-    inner ∙ ap (λ x. moved (in_braces x).len q) here ∙ ap (moved n) e ∙ from-one n p.behind p.ahead
+    inner ∙ ap (λ x. moved (in_braces x).len q) here ∙ ap (moved n) e ∙ from-one n p.before p.ahead
     ∙ ap (λ t. moved (if t then one_more (in_braces (drop 1 p.ahead)) else record { len = 0; stands_for = None }).len p) begun
 
 -- a turn takes something

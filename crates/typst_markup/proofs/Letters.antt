@@ -12,15 +12,15 @@ none-of : (k : CharClasses) (cs : List ℕ) → slice_get cs 0 ≡ None → true
 none-of k [] e = refl
 none-of k (c ∷ cs) e = absurd (cc)
 
-alone : (cs behind : List ℕ) (c : ℕ) → slice_get cs 0 ≡ Some c → is_none (slice_get (moved_from 1 behind cs).ahead 0) ≡ true → cs ≡ c ∷ []
-alone [] behind c e f = absurd (cc)
-alone (x ∷ []) behind c e f = cc
-alone (x ∷ y ∷ cs) behind c e f = absurd (cc)
+alone : (cs before : List ℕ) (c : ℕ) → slice_get cs 0 ≡ Some c → is_none (slice_get (moved_from 1 before cs).ahead 0) ≡ true → cs ≡ c ∷ []
+alone [] before c e f = absurd (cc)
+alone (x ∷ []) before c e f = cc
+alone (x ∷ y ∷ cs) before c e f = absurd (cc)
 
-several : (k : CharClasses) (cs behind : List ℕ) → is_none (slice_get (moved_from 1 behind cs).ahead 0) ≡ false → are_letters k cs ≡ list_all k.alphabetic cs
-several k [] behind f = refl
-several k (x ∷ []) behind f = absurd (cc)
-several k (x ∷ y ∷ cs) behind f = refl
+several : (k : CharClasses) (cs before : List ℕ) → is_none (slice_get (moved_from 1 before cs).ahead 0) ≡ false → are_letters k cs ≡ list_all k.alphabetic cs
+several k [] before f = refl
+several k (x ∷ []) before f = absurd (cc)
+several k (x ∷ y ∷ cs) before f = refl
 
 either-so : (a m b : Bool) → b ≡ a → b ≡ true → b ≡ (a || m)
 either-so true m b e f = e
@@ -41,7 +41,7 @@ module _ (k : CharClasses) (text : List ℕ) (p : Place) (start : p ≡ place_at
 
   module _ (q : Place) (goes : q ≡ moved 1 p) {done : Bool} (d : done ≡ is_none (scout 0 q)) where
     one : {first : Option ℕ} (c : ℕ) → first ≡ scout 0 p → first ≡ Some c → done ≡ true → chars text ≡ c ∷ []
-    one c e f t = sym from-start ∙ alone p.ahead p.behind c (sym e ∙ f) (ap (λ (x : Place). is_none (scout 0 x)) (sym goes) ∙ sym d ∙ t)
+    one c e f t = sym from-start ∙ alone p.ahead p.before c (sym e ∙ f) (ap (λ (x : Place). is_none (scout 0 x)) (sym goes) ∙ sym d ∙ t)
 
     -- it is a letter
     pub one-letter : {first : Option ℕ} (c : ℕ) {b : Bool} → first ≡ scout 0 p → first ≡ Some c → done ≡ true → b ≡ k.alphabetic c → b ≡ true → b ≡ are_letters k (chars text)
@@ -53,4 +53,4 @@ module _ (k : CharClasses) (text : List ℕ) (p : Place) (start : p ≡ place_at
 
     -- it is more than one character
     pub all-letters : done ≡ false → are_letters k (chars text) ≡ list_all k.alphabetic (chars text)
-    all-letters t = ap (are_letters k) (sym from-start) ∙ several k p.ahead p.behind (ap (λ (x : Place). is_none (scout 0 x)) (sym goes) ∙ sym d ∙ t) ∙ ap (list_all k.alphabetic) from-start
+    all-letters t = ap (are_letters k) (sym from-start) ∙ several k p.ahead p.before (ap (λ (x : Place). is_none (scout 0 x)) (sym goes) ∙ sym d ∙ t) ∙ ap (list_all k.alphabetic) from-start

@@ -4,7 +4,7 @@ use Rattle.typst_kinds.specs.Kinds.{same}
 use Rattle.typst_kinds.specs.declared.kind.SyntaxKind.{SyntaxKind}
 use Rattle.typst_kinds.specs.declared.kind.SyntaxKind.TheVariants as kind
 use Rattle.typst_kinds.specs.declared.mode.SyntaxMode.TheVariants as mode
-use Rattle.typst_language.specs.declared.calls.Call.TheVariants.{CodeExpr}
+use Rattle.typst_language.specs.Calls.Call.{CodeExpr}
 use Rattle.typst_language.specs.declared.reading.AtNewline.TheVariants as newline
 use Rattle.typst_language.specs.declared.reading.Reading.{Reading}
 use Rattle.typst_language.specs.Syntax.{Parser, ◌>>=◌, ◌>>◌}

@@ -5,7 +5,7 @@ use Rattle.typst_kinds.specs.Sets.{math_expr}
 use Rattle.typst_kinds.specs.declared.kind.SyntaxKind.{SyntaxKind}
 use Rattle.typst_kinds.specs.declared.kind.SyntaxKind.TheVariants as kind
 use Rattle.typst_kinds.specs.declared.mode.SyntaxMode.TheVariants as mode
-use Rattle.typst_language.specs.declared.calls.Call.TheVariants.{MathExpr}
+use Rattle.typst_language.specs.Calls.Call.{MathExpr}
 use Rattle.typst_language.specs.declared.calls.ChainSet.{ChainSet}
 use Rattle.typst_language.specs.declared.reading.AtNewline.TheVariants as newline
 use Rattle.typst_language.specs.declared.reading.Reading.{Reading}

@@ -2,12 +2,9 @@
 use Rattle.std.specs.Prelude.{Result}
 use Rattle.std.specs.declared.alloc.AllocError.{AllocError}
 use Rattle.typst_language.specs.declared.calls.Block.TheVariants as block
-use Rattle.typst_language.specs.declared.calls.Call.{Call}
-use Rattle.typst_language.specs.Calls.{Answer}
 use Rattle.typst_language.specs.Meaning.{Level}
 use Rattle.typst_language.specs.Syntax.{Parser}
-use Rattle.typst_lookahead.specs.declared.depth.Answered.{Answered}
-use Rattle.typst_lookahead.specs.View.{View, Frame, Fills, ReadsBlock, Reads, ReadsAs}
+use Rattle.typst_lookahead.specs.View.{View, Frame, Fills, ReadsBlock, Reads}
 use Rattle.typst_markup.specs.Markup.{content_block}
 
 -- each block may be read there
@@ -17,7 +14,3 @@ pub record Outside (l : Level) : Type 0 where
 -- what the code reads where no block is being read
 abbrev pub MeansOutside : {A : Type 0} → Frame → Parser A → View → Result A AllocError → View → Type 0
 MeansOutside f q old r new = (l : Level) → Fills l f → Outside l → Reads l q old r new
-
--- the same of what answers as a call
-abbrev pub MeansOutsideAs : Frame → (call : Call) → Parser (Answer call) → View → Result Answered AllocError → View → Type 0
-MeansOutsideAs f call q old r new = (l : Level) → Fills l f → Outside l → ReadsAs l call q old r new

@@ -7,8 +7,8 @@ ghost use Rattle.typst_markup.specs.Attachments as spec;
 
 use std::alloc::AllocError;
 use typst_kinds::SyntaxKind;
-use typst_language::{Call, ChainSet, Change};
-use typst_lookahead::{Answered, Levels, Parser, deeper};
+use typst_language::{ChainSet, Change};
+use typst_lookahead::{Levels, Parser, deeper_math_expr};
 
 /// Whether a token is one of the signs.
 pub(crate) fn is_in(signs: ChainSet, kind: SyntaxKind) -> bool
@@ -39,7 +39,7 @@ pub(crate) fn operand<L: Levels>(
     ensures { Means (L.frame g.now) (spec.operand least signs) p.old result p.new }
 {
     let from = p.marker();
-    deeper(g, p, Call::MathExpr(least, signs), Answered::Nothing)?;
+    deeper_math_expr(g, p, least, signs)?;
     p.change(from, Change::Unparened)?;
     Ok(())
 }

@@ -7,8 +7,8 @@ ghost use Rattle.typst_markup.specs.Embedded as spec;
 use crate::starts::begins_statement;
 use std::alloc::AllocError;
 use typst_kinds::{SyntaxKind, SyntaxMode};
-use typst_language::{AtNewline, Call, Reading};
-use typst_lookahead::{Answered, Levels, Parser, deeper, is_end};
+use typst_language::{AtNewline, Reading};
+use typst_lookahead::{Levels, Parser, deeper_code_expr, is_end};
 
 /// A hash and an expression of code.
 pub fn embedded<L: Levels>(g: &L, p: &mut Parser<'_>) -> Result<(), AllocError>
@@ -35,7 +35,7 @@ fn embedded_expr<L: Levels>(g: &L, p: &mut Parser<'_>) -> Result<(), AllocError>
         return Ok(());
     }
     let is_statement = begins_statement(p.current());
-    deeper(g, p, Call::CodeExpr(true, 0), Answered::Nothing)?;
+    deeper_code_expr(g, p, true, 0)?;
     embedded_end(g, p, is_statement)?;
     Ok(())
 }

@@ -11,8 +11,8 @@ ghost use Rattle.typst_markup.specs.Stops.{math_stops_at};
 use crate::stops::MathStop;
 use std::alloc::AllocError;
 use typst_kinds::{SyntaxKind, SyntaxMode, set};
-use typst_language::{AtNewline, Call, ChainSet, Reading};
-use typst_lookahead::{Answered, Levels, Parser, Stops, deeper, too_deep};
+use typst_language::{AtNewline, ChainSet, Reading};
+use typst_lookahead::{Levels, Parser, Stops, deeper_math_expr, too_deep};
 
 /// No signs of attachments.
 pub fn no_signs() -> ChainSet
@@ -29,7 +29,7 @@ fn math_expression<L: Levels>(g: &L, p: &mut Parser<'_>) -> Result<(), AllocErro
     requires { L.may_call g.now }
     ensures { Means (L.frame g.now) spec.math_expression p.old result p.new }
 {
-    deeper(g, p, Call::MathExpr(0, no_signs()), Answered::Nothing)?;
+    deeper_math_expr(g, p, 0, no_signs())?;
     Ok(())
 }
 

@@ -9,8 +9,8 @@ ghost use Rattle.typst_markup.specs.Stops.{stops_at};
 use crate::stops::Stop;
 use std::alloc::AllocError;
 use typst_kinds::SyntaxKind;
-use typst_language::{Call, Mark};
-use typst_lookahead::{Answered, Levels, Parser, Stops, deeper, too_deep};
+use typst_language::Mark;
+use typst_lookahead::{Levels, Parser, Stops, deeper_markup_expr, too_deep};
 
 /// Reads expressions up to a stop.
 pub fn markup_exprs<L: Levels>(
@@ -87,9 +87,7 @@ pub fn markup_turn<L: Levels>(
     if ends(stop, nesting, p.current()) {
         return Ok((false, state));
     }
-    let call = Call::MarkupExpr(at_start, nesting);
-    let answered = deeper(g, p, call, Answered::Brackets(nesting))?;
-    let nesting = answered.brackets();
+    let nesting = deeper_markup_expr(g, p, at_start, nesting)?;
     let has_newline = p.had_newline();
     note_piece(g, p, is_run, has_newline, nesting)?;
     Ok((true, (has_newline, nesting)))

@@ -11,3 +11,6 @@ pub mod Changed
 pub mod Reparsed
 pub mod Own
 pub mod Answered
+-- What the crates above name of those below.
+pub use Rattle.typst_tree.proofs.Numbering
+pub use Rattle.typst_highlight.proofs.Reading

@@ -2,7 +2,7 @@
 
 use crate::trees::{are_one, is_too_deep, lowest, repeated, stops_between};
 use std::alloc::{AllocError, Global};
-use typst_parser::{SyntaxNode, UnicodeClasses, parse_code};
+use typst_cli::{SyntaxNode, UnicodeClasses, parse_code};
 
 /// The tree of so many times one part, and then the rest.
 fn tree(alloc: Global, part: &str, count: usize, rest: &str) -> Result<SyntaxNode, AllocError> {

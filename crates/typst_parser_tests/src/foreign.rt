@@ -3,7 +3,7 @@
 use crate::sources::{Unicode, edit, edited, with_root};
 use crate::whole::{are_same_trees, has_lines, has_tree, nodes};
 use std::alloc::Global;
-use typst_parser::{
+use typst_cli::{
     FileId, Source, SpanNumber, SubRange, SyntaxKind, SyntaxNode, UnicodeClasses, is_ordered, parse,
 };
 

@@ -3,7 +3,7 @@
 use crate::trees::repeated;
 use std::alloc::{AllocError, Global};
 use std::cell::Cell;
-use typst_parser::parse_code;
+use typst_cli::parse_code;
 use typst_test_classes::Counting;
 
 /// How many nodes the tree has of forty nested parens that are read twice, and how often a class was

@@ -2,7 +2,7 @@
 
 use crate::trees::{are_one, repeated, stops_between};
 use std::alloc::{AllocError, Global};
-use typst_parser::{SyntaxNode, UnicodeClasses, parse_math};
+use typst_cli::{SyntaxNode, UnicodeClasses, parse_math};
 
 /// The tree of so many times one part, and then an `a`.
 fn tree(alloc: Global, part: &str, count: usize) -> Result<SyntaxNode, AllocError> {

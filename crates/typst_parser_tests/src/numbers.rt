@@ -3,7 +3,7 @@
 use crate::sources::{Unicode, detached, with_tree};
 use std::alloc::Global;
 use std::ops::Range;
-use typst_parser::{LinkedNode, Span, SpanNumber, SubRange, SyntaxNode};
+use typst_cli::{LinkedNode, Span, SpanNumber, SubRange, SyntaxNode};
 
 /// The number of a node.
 fn number(node: &SyntaxNode) -> Option<u64> {

@@ -6,7 +6,7 @@ use crate::sources::{Unicode, detached, edit, with_tree};
 use crate::whole::{are_same, has_lines, is_whole};
 use std::alloc::{AllocError, Global};
 use std::ops::Range;
-use typst_parser::{LinkedNode, SourceError, SyntaxKind, Tag, UnicodeClasses, highlight, parse};
+use typst_cli::{LinkedNode, SourceError, SyntaxKind, Tag, UnicodeClasses, highlight, parse};
 
 const TEXT: &str = "*a* #b";
 

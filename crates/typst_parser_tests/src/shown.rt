@@ -2,11 +2,11 @@
 
 use std::alloc::{AllocError, Global};
 use std::ops::Range;
+use typst_cli::{Severity, UnicodeClasses, parse, tag_stretches};
 use typst_features::{
     Fold, FoldKind, Mention, MentionKind, Problem, Symbol, SymbolKind, definitions, foldings,
     highlights, problems, references, selections, symbols, token_stretches,
 };
-use typst_parser::{Severity, UnicodeClasses, parse, tag_stretches};
 
 /// The bytes of a range of a text, or a question mark where it is none.
 fn part<'a>(text: &'a str, range: &Range<usize>) -> &'a str {

@@ -2,7 +2,7 @@
 
 use std::alloc::Global;
 use std::ops::Range;
-use typst_parser::{FileId, Source, SourceError, SyntaxNode, UnicodeClasses};
+use typst_cli::{FileId, Source, SourceError, SyntaxNode, UnicodeClasses};
 
 /// A source whose class value is that of Unicode.
 pub type Unicode = Source<UnicodeClasses>;

@@ -3,7 +3,7 @@
 
 use std::alloc::{AllocError, Global};
 use std::cell::Cell;
-use typst_parser::{SyntaxNode, UnicodeClasses, parse, parse_noted};
+use typst_cli::{SyntaxNode, UnicodeClasses, parse, parse_noted};
 use typst_test_classes::Counting;
 
 /// Whether a class value that counts is asked, and answers what Unicode does.

@@ -2,7 +2,7 @@
 
 use crate::sources::Unicode;
 use std::alloc::Global;
-use typst_parser::{Lines, SyntaxNode, UnicodeClasses, parse};
+use typst_cli::{Lines, SyntaxNode, UnicodeClasses, parse};
 
 /// Whether the lines are those of the text, as they are made anew.
 pub fn has_lines(alloc: Global, lines: &Lines<String>, text: &str) -> Option<bool> {

@@ -5,7 +5,7 @@ use crate::escapes::with_line_feeds;
 use crate::spans::refusal;
 use crate::whole::{Wanted, are_same, fault};
 use std::alloc::{AllocError, Global};
-use typst_parser::{Source, SourceError, UnicodeClasses};
+use typst_cli::{Source, SourceError, UnicodeClasses};
 
 /// What edits of a text answer that are made one after the other: they stand on the first lines, and the
 /// text comes behind an empty line. Each has a line with the bytes that it reads, and a line for each

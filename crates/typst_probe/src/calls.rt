@@ -4,7 +4,7 @@ use crate::edits::{Edit, edit_of};
 use crate::spans::refusal;
 use std::alloc::{AllocError, Global};
 use std::cell::Cell;
-use typst_parser::Source;
+use typst_cli::Source;
 use typst_test_classes::Counting;
 
 /// Which bytes an edit reads, and whether classes are asked at least so often when the source is made,

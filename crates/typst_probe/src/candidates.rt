@@ -2,7 +2,7 @@
 
 use std::alloc::{AllocError, Global};
 use typst_candidates::{Candidate, Records, find_candidates, fit};
-use typst_parser::{UnicodeClasses, parse_noted};
+use typst_cli::{UnicodeClasses, parse_noted};
 
 /// What may be read anew where a range of bytes of the text is replaced, in order. Each candidate has
 /// a line: `block`, the path to it and its bytes; or `run`, the path to the node whose children it is,
@@ -19,7 +19,15 @@ pub fn answer(alloc: Global, text: &str, start: usize, end: usize) -> Result<Str
     if records.last().is_none() {
         return String::from_str(alloc, "too long\n");
     }
-    let found = find_candidates(alloc, &noted.tree, &records, start, end, usize::MAX)?;
+    let found = find_candidates(
+        alloc,
+        &noted.tree,
+        &records,
+        start,
+        end,
+        usize::MAX,
+        usize::MAX,
+    )?;
     let mut printed = String::new(alloc);
     for candidate in &found.items {
         print_candidate(&mut printed, candidate, found.path.as_slice())?;

@@ -6,7 +6,7 @@ use crate::spans;
 use std::alloc::{AllocError, Global};
 use std::ops::Range;
 use typst_cli::tree::print_node;
-use typst_parser::{Classes, Source, SourceError, UnicodeClasses};
+use typst_cli::{Classes, Source, SourceError, UnicodeClasses};
 
 /// A text to be put in the place of a range of bytes.
 #[derive(Debug, Clone, Copy)]

@@ -4,7 +4,7 @@ use crate::edits::{Edit, Made};
 use crate::spans;
 use crate::whole::{Wanted, fault};
 use std::alloc::{AllocError, Global};
-use typst_parser::{Classes, Source, SourceError, UnicodeClasses};
+use typst_cli::{Classes, Source, SourceError, UnicodeClasses};
 use typst_test_classes::{Narrow, Wide};
 
 /// What is put in at each place.

@@ -6,7 +6,7 @@ use crate::escapes::with_line_feeds;
 use crate::spans::refusal;
 use crate::whole::{Wanted, fault};
 use std::alloc::{AllocError, Global};
-use typst_parser::{Source, SourceError, UnicodeClasses};
+use typst_cli::{Source, SourceError, UnicodeClasses};
 
 /// How many edits agree that are drawn and made of one source, one after the other. The first line has
 /// their numbers (`Numbers`), the second one what they put in, with `|` between, and the text comes

@@ -1,7 +1,7 @@
 //! The word `link`.
 
 use std::alloc::{AllocError, Global};
-use typst_parser::link_prefix;
+use typst_cli::link_prefix;
 
 /// The range in bytes of the link that the text begins with, and whether its brackets are balanced.
 pub fn answer(alloc: Global, text: &str) -> Result<String, AllocError> {

@@ -1,7 +1,7 @@
 //! The word `notes`.
 
 use std::alloc::{AllocError, Global};
-use typst_parser::{Block, Mark, Note, UnicodeClasses, parse_noted};
+use typst_cli::{Block, Mark, Note, UnicodeClasses, parse_noted};
 
 /// What is noted in reading the text as markup. Each note has a line: what begins or ends, the bytes
 /// at which the trivia before it begin and end, how many levels are left, where all looks before it

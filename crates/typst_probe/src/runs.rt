@@ -3,8 +3,7 @@
 use crate::draws::boundary;
 use crate::edits::Edit;
 use std::alloc::{AllocError, Global};
-use typst_cli::{Command, run, tree};
-use typst_parser::{SourceError, UnicodeClasses};
+use typst_cli::{Command, SourceError, UnicodeClasses, run, tree};
 
 const WORDS: [(&str, Command); 3] = [
     ("lines", Command::Lines),

@@ -2,7 +2,7 @@
 
 use std::alloc::{AllocError, Global};
 use typst_cli::tree::{print_errors, print_remarks, variant_name};
-use typst_parser::{LinkedNode, Source, SourceError, SyntaxNode, UnicodeClasses};
+use typst_cli::{LinkedNode, Source, SourceError, SyntaxNode, UnicodeClasses};
 
 /// The syntax tree of the text as markup, as a source holds it: printed as a tree, with `@` and the
 /// number of each node behind its range. Where no source can be made, nothing but the reason.

@@ -1,8 +1,8 @@
 //! The word `stretches`.
 
 use std::alloc::{AllocError, Global};
+use typst_cli::SubRange;
 use typst_lexer::raw_node;
-use typst_parser::SubRange;
 
 /// A line for each warning of the raw text, and for each of its hints behind it: the bytes that it is
 /// about, or `all` where it is about the whole text.

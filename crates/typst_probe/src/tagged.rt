@@ -1,7 +1,7 @@
 //! The word `tagged`.
 
 use std::alloc::{AllocError, Global};
-use typst_parser::{UnicodeClasses, parse, tag_stretches};
+use typst_cli::{UnicodeClasses, parse, tag_stretches};
 
 /// The stretches of the text's tree: a line for each, with its range in bytes and its tag, or `none`.
 pub fn answer(alloc: Global, text: &str) -> Result<String, AllocError> {

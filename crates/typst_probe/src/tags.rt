@@ -1,7 +1,7 @@
 //! The word `tags`.
 
 use std::alloc::{AllocError, Global};
-use typst_parser::{LinkedNode, UnicodeClasses, highlight, parse};
+use typst_cli::{LinkedNode, UnicodeClasses, highlight, parse};
 
 /// The tags of the nodes of the text's tree, each node's before those below it: a line for each node
 /// that has one, with its range in bytes and the tag. A tree with more nodes than can be counted is

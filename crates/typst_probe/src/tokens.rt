@@ -2,8 +2,8 @@
 
 use std::alloc::{AllocError, Global};
 use typst_cli::tree::{print_head, variant_name};
+use typst_cli::{Classes, SyntaxMode, UnicodeClasses};
 use typst_lexer::{Lexer, make_node};
-use typst_parser::{Classes, SyntaxMode, UnicodeClasses};
 use typst_tokens::Token;
 
 /// The tokens of the text in a mode. Each has a line with its kind, its range in bytes and, for an

@@ -1,7 +1,7 @@
 //! Whether a source holds what its text asks for.
 
 use std::alloc::{AllocError, Global};
-use typst_parser::{Classes, FileId, Lines, Source, SyntaxNode, parse};
+use typst_cli::{Classes, FileId, Lines, Source, SyntaxNode, parse};
 
 /// The tree and the lines of a text, made anew.
 #[derive(Drop)]

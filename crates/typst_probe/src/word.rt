@@ -8,8 +8,7 @@ use crate::{
     tagged, tags, tokens,
 };
 use std::alloc::{AllocError, Global};
-use typst_cli::{Command, tree};
-use typst_parser::{SyntaxMode, UnicodeClasses};
+use typst_cli::{Command, SyntaxMode, UnicodeClasses, tree};
 use typst_test_classes::{Narrow, Wide};
 
 /// What can be asked about a text.

@@ -37,7 +37,7 @@ module _ {C : Type 0} (k : CharClasses) (ch : Change) (q : Asked C) (root : Tree
   pub now-place : place_at q.new.now b ≡ moved n (text_with ch.front ch.new ch.rest)
   now-place = place-is q.new.now ready.text n b at-byte ∙ ap (λ cs. moved n (start_of cs)) ready.makes.is
 
-  pub now-few : width (moved n (text_with ch.front ch.new ch.rest)).behind + width (moved n (text_with ch.front ch.new ch.rest)).ahead < 2 ^ 64 - 1
+  pub now-few : width (moved n (text_with ch.front ch.new ch.rest)).before + width (moved n (text_with ch.front ch.new ch.rest)).ahead < 2 ^ 64 - 1
   now-few = let s = sides-of (text_after ch) n in let f = ready.makes.fits_now in omega (arith, s, f)
 
 module _ {C : Type 0} (k : CharClasses) (ch : Change) (q : Asked C) (root : Tree) (units : Units) (ready : Speaks k ch q root units) (d : Candidate) (chosen : Among d (candidates k ch root)) (block : d.is_block ≡ true)

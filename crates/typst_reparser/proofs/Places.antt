@@ -26,7 +26,7 @@ bytes-width (c ∷ cs) = let e = bytes-width cs in omega (arith, e)
 pub width-chars : (s : List ℕ) → IsUtf8 s → width (chars s) ≡ length s
 width-chars s u = bytes-width (chars s) ∙ bytes-text s u
 
-moved-is : (n : ℕ) (b cs : List ℕ) → moved_from n b cs ≡ record { behind = onto (take n cs) b; ahead = drop n cs }
+moved-is : (n : ℕ) (b cs : List ℕ) → moved_from n b cs ≡ record { before = onto (take n cs) b; ahead = drop n cs }
 moved-is zero b cs = refl
 moved-is (suc n) b [] = refl
 moved-is (suc n) b (c ∷ cs) = moved-is n (c ∷ b) cs
@@ -39,18 +39,18 @@ reverse-onto : (xs : List ℕ) → reverse xs ≡ onto xs []
 reverse-onto xs = sym (append-nil (reverse xs)) ∙ sym (onto-reverse xs [])
 
 -- all that stands on both sides of a place takes as many bytes as on those of another
-both-sides : (n : ℕ) (b a : List ℕ) → width (moved_from n b a).behind + width (moved_from n b a).ahead ≡ width b + width a
+both-sides : (n : ℕ) (b a : List ℕ) → width (moved_from n b a).before + width (moved_from n b a).ahead ≡ width b + width a
 unfolding width
 both-sides zero b a = refl
 both-sides (suc n) b [] = refl
 both-sides (suc n) b (c ∷ a) = let i = both-sides n (c ∷ b) a in omega (arith, i)
 
 -- a place further on lies within the text
-pub position-within : (n : ℕ) (z : Place) → position (moved n z) ≤ width z.behind + width z.ahead
+pub position-within : (n : ℕ) (z : Place) → position (moved n z) ≤ width z.before + width z.ahead
 unfolding position
-position-within n z = let e = both-sides n z.behind z.ahead in omega (arith, e)
+position-within n z = let e = both-sides n z.before z.ahead in omega (arith, e)
 
-at-end : (m : ℕ) (b : List ℕ) → moved_from m b [] ≡ record { behind = b; ahead = [] }
+at-end : (m : ℕ) (b : List ℕ) → moved_from m b [] ≡ record { before = b; ahead = [] }
 at-end zero b = refl
 at-end (suc m) b = refl
 
@@ -63,7 +63,7 @@ moved-twice m (suc n) j b (c ∷ a) e =
 
 -- one step after another
 pub moved-on : (m n : ℕ) (z : Place) → moved m (moved n z) ≡ moved (n + m) z
-moved-on m n z = moved-twice m n (n + m) z.behind z.ahead refl
+moved-on m n z = moved-twice m n (n + m) z.before z.ahead refl
 
 module _ (s : List ℕ) (u : IsUtf8 s) (n b : ℕ) (e : position (moved n (start_of (chars s))) ≡ b) where
   size : b ≡ bytes (take n (chars s))
@@ -78,18 +78,18 @@ module _ (s : List ℕ) (u : IsUtf8 s) (n b : ℕ) (e : position (moved n (start
   pub place-is : place_at s b ≡ moved n (start_of (chars s))
   unfolding place_at
   place-is =
-      ap (λ x. record { behind = reverse x; ahead = chars (drop b s) }) (front-chars s u n b size)
-      ∙ ap (λ x. record { behind = reverse (take n (chars s)); ahead = x }) (front-ahead s u n b size)
-      ∙ ap (λ x. record { behind = x; ahead = drop n (chars s) }) (reverse-onto (take n (chars s)))
+      ap (λ x. record { before = reverse x; ahead = chars (drop b s) }) (front-chars s u n b size)
+      ∙ ap (λ x. record { before = reverse (take n (chars s)); ahead = x }) (front-ahead s u n b size)
+      ∙ ap (λ x. record { before = x; ahead = drop n (chars s) }) (reverse-onto (take n (chars s)))
       ∙ sym (moved-is n [] (chars s))
 
 -- on both sides of a place of a text stand all its bytes
-pub sides-of : (cs : List ℕ) (n : ℕ) → width (moved n (start_of cs)).behind + width (moved n (start_of cs)).ahead ≡ width cs
+pub sides-of : (cs : List ℕ) (n : ℕ) → width (moved n (start_of cs)).before + width (moved n (start_of cs)).ahead ≡ width cs
 unfolding width
 sides-of cs n = let e = both-sides n [] cs in omega (arith, e)
 
 -- and so on those of one by its byte
-pub place-sides : (s : List ℕ) → IsUtf8 s → (b : ℕ) → IsCharBoundary s b → width (place_at s b).behind + width (place_at s b).ahead ≡ length s
+pub place-sides : (s : List ℕ) → IsUtf8 s → (b : ℕ) → IsCharBoundary s b → width (place_at s b).before + width (place_at s b).ahead ≡ length s
 unfolding place_at
 place-sides s u b at =
     let front = ap width (reverse-onto (chars (take b s))) in
@@ -103,5 +103,5 @@ place-sides s u b at =
 -- ---- parts
 
 -- the notes of a part of a text that a machine word counts stand at its bytes
-pub part-fits : (levels : ℕ) (z : Place) (nodes : List Tree) (taken : ℕ) (asks : List Ask) (p : ReadPart) → width z.behind + width z.ahead < 2 ^ 64 - 1 → IsPart levels z nodes taken asks p → AllFit p.notes.items
+pub part-fits : (levels : ℕ) (z : Place) (nodes : List Tree) (taken : ℕ) (asks : List Ask) (p : ReadPart) → width z.before + width z.ahead < 2 ^ 64 - 1 → IsPart levels z nodes taken asks p → AllFit p.notes.items
 part-fits levels z nodes taken asks p few part = part-fits-law levels z asks p.notes.items few (sym (ap (λ (h : Log). h.notes) part.log))

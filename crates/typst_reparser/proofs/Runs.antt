@@ -99,6 +99,23 @@ none-found es first at n p e h begins = never (h ∙ ap (Found at) e ∙ ap (cur
     never : ◌≡◌ {A = Option cursors.Place} None (Some (place_before es n)) → ⊥
     never q = cc
 
+-- the same is found from another place of the same entries from which the same piece comes first
+found-same : (es : List Entry) (first at : ℕ) (p : cursors.Place) → p.entries ≡ es → piece_of at 0 (cursors.start_at p) p.number (drop p.number es) ≡ piece_of at 0 (end_of 0 (take first es)) first (drop first es) → Found at p ≡ Found at (place_before es first)
+found-same es first at p e f =
+    ap (λ us. cursors.placed p (piece_of at 0 (cursors.start_at p) p.number (drop p.number us))) e ∙ ap (cursors.placed p) f ∙ same (piece_of at 0 (end_of 0 (take first es)) first (drop first es))
+  where
+    same : (o : Option ℕ) → cursors.placed p o ≡ cursors.placed (place_before es first) o
+    same None = refl
+    same (Some n) = ap (λ (us : List Entry). Some (place_before us n)) e
+
+pub found-by : (es : List Entry) (first at : ℕ) (p q : cursors.Place) → p.entries ≡ es → piece_of at 0 (cursors.start_at p) p.number (drop p.number es) ≡ piece_of at 0 (end_of 0 (take first es)) first (drop first es) → ◌≡◌ {A = Option cursors.Place} (Some q) (Found at p)
+    → IsFound es first at q
+found-by es first at p q e f h = is-found es first at (place_before es first) q refl (h ∙ found-same es first at p e f)
+
+pub none-by : (es : List Entry) (first at n : ℕ) (p : cursors.Place) → p.entries ≡ es → piece_of at 0 (cursors.start_at p) p.number (drop p.number es) ≡ piece_of at 0 (end_of 0 (take first es)) first (drop first es) → ◌≡◌ {A = Option cursors.Place} None (Found at p)
+    → BeginsAt es first at n → ⊥
+none-by es first at n p e f h begins = none-found es first at n (place_before es first) refl (h ∙ found-same es first at p e f) begins
+
 pub found-behind : (es : List Entry) (first at : ℕ) (p : cursors.Place) → IsFound es first at p → p.number < length p.entries
 found-behind es first at p found = subst (λ (q : cursors.Place). q.number < length q.entries) (sym found.1) (begins-behind first at es p.number found.0).most
 

@@ -396,7 +396,7 @@ impl<'a, 's, C: Classes> Attempt<'a, 's, C> {
     {
         let from = self
             .records
-            .cursor_at(run.first)
+            .run_place(run.first, candidate.start)
             .piece_from(candidate.start)?;
         if is_last(&from) {
             let looks = self.looks_at_end(run.kind, from.number())?;

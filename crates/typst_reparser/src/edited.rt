@@ -22,10 +22,34 @@ use typst_tree::SyntaxNode;
 /// around the edit; to find all goes from there to the ends of each run that the edit stands in.
 const FEW: usize = 4;
 
+/// How many bytes on each side of an edit pieces of runs are looked up at first. Those around an edit lie within a few
+/// hundred bytes; the further pieces of a long run cost more than all else that an edit does.
+const REACH: usize = 1000;
+
 /// Reads of an edited text the first candidate that passes and whose nodes find numbers, and puts its
 /// nodes and units in place. Answers its range in the new text, in bytes, or `None` where there is
 /// none: then the tree and the units stay as they were.
 pub fn reparse<C: Classes>(
+    alloc: Global,
+    root: &mut SyntaxNode,
+    records: &mut Records,
+    new: &str,
+    edit: Replacement,
+    classes: &C,
+) -> Result<Option<Range<usize>>, AllocError>
+    requires { (c : Change) × (Makes c new.now edit × Holds (C.classes classes.now) c root.old records.old.units) }
+    ensures part { (c : Change) → Makes c new.now edit → Holds (C.classes classes.now) c root.old records.old.units → IfOk result (λ r. IfSome r (λ range. Takes (C.classes classes.now) c root.old root.new records.new.units range)) }
+    ensures none { (c : Change) → Makes c new.now edit → Holds (C.classes classes.now) c root.old records.old.units → result ≡ Ok None → NonePasses (C.classes classes.now) c root.old }
+    ensures undone { result ≡ Ok None → (root.new ≡ root.old) × (records.new.units ≡ records.old.units) }
+    ensures err { OnErr result ((root.new ≡ root.old) × (records.new.units ≡ records.old.units)) }
+    ensures ordered { IfOk result (λ r. IfSome r (λ _. IsNumbered root.old → IsNumbered root.new × AreInOrder (numbers_of root.new))) }
+{
+    records.go_near(edit.start);
+    reparse_near(alloc, root, records, new, edit, classes)
+}
+
+/// The same, from where the records have their anchor.
+fn reparse_near<C: Classes>(
     alloc: Global,
     root: &mut SyntaxNode,
     records: &mut Records,
@@ -48,15 +72,24 @@ pub fn reparse<C: Classes>(
         rear: records.rear(edit.old_end, last),
         classes,
     };
-    let few = find_candidates(alloc, root, records, edit.start, edit.old_end, FEW)?;
+    let few = find_candidates(alloc, root, records, edit.start, edit.old_end, FEW, REACH)?;
     if let Some(range) = take_first(alloc, root, records, &asked, &few, 0)? {
         return Ok(Some(range));
     }
-    if few.items.len() < FEW {
+    let tried = few.items.len();
+    if tried < few.most {
         return Ok(None);
     }
-    let all = find_candidates(alloc, root, records, edit.start, edit.old_end, usize::MAX)?;
-    take_first(alloc, root, records, &asked, &all, FEW)
+    let all = find_candidates(
+        alloc,
+        root,
+        records,
+        edit.start,
+        edit.old_end,
+        usize::MAX,
+        usize::MAX,
+    )?;
+    take_first(alloc, root, records, &asked, &all, tried)
 }
 
 /// Puts what takes the place of the first candidate there that passes and whose nodes find numbers, of these

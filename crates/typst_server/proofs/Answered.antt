@@ -4,12 +4,16 @@ use Rattle.std.specs.String.{string_bytes}
 use Rattle.serde_json.specs.Data.{Data}
 use Rattle.serde_json.specs.Read.{read as read_text}
 use Rattle.typst_protocol.specs.Messages.{IsMessage, IsUnread, IsUnreadBody}
+use Rattle.typst_positions.specs.declared.columns.Encoding.{Encoding}
 use Rattle.typst_protocol.specs.Methods.{methods, named}
+use Rattle.typst_protocol.specs.Parameters as parameters
 use Rattle.typst_protocol.specs.declared.message.Message.{Message}
 use Rattle.typst_protocol.specs.declared.message.Message.TheVariants as message
 use Rattle.typst_protocol.specs.declared.refusal.Unread.{Unread}
 use Rattle.typst_server.specs.Answers.{IsAnswer, IsReplyTo, method_of, told_by}
+use Rattle.typst_server.specs.Left.{IsKnownAfter, IsKnownBy, IsLeft, IsLeftBy, IsTold, LeavesSo}
 use Rattle.typst_server.specs.Phases.{Responds, allowed}
+use Rattle.typst_server.specs.declared.documents.Documents.{Documents}
 use Rattle.typst_server.specs.declared.reply.Reply.{Reply}
 use Rattle.typst_server.specs.declared.reply.Reply.TheVariants as reply
 use Rattle.typst_server.specs.declared.server.Phase.{Phase}
@@ -48,3 +52,24 @@ unread_body phase body why unread = (inr (inl unread), refl)
 
 pub unread_value : (phase : Phase) (body : List ℕ) (d : Data) (why : Unread) → read_text body ≡ Some d → IsUnread d why → IsAnswer phase phase body (reply.Nameless why)
 unread_value phase body d why read unread = (inr (inr (record { value = d; read = read; none = unread })), refl)
+
+-- what a message of the code leaves known is what the body leaves known that is its JSON
+left : (phase : Phase) (encoding : Encoding) (body : List ℕ) (old new : Documents) (d : Data) (m : Message) → read_text body ≡ Some d → IsMessage d m → IsLeftBy m phase encoding old new → LeavesSo phase encoding body old new
+left phase encoding body old new d (message.Request q) read meant same =
+    record { value = d; read = read; left = subst (λ s. IsLeft s phase encoding d old new) (sym meant.asked) same }
+left phase encoding body old new d (message.Notification n) read meant told =
+    let by_name : IsTold phase encoding (option_and_then told_by (method_of d)) (parameters.seen n.params) old new =
+    subst (λ name. IsTold phase encoding (option_and_then told_by name) (parameters.seen n.params) old new) (sym meant.method) told in
+    let by_params : IsTold phase encoding (option_and_then told_by (method_of d)) (parameters.params d) old new =
+    subst (λ p. IsTold phase encoding (option_and_then told_by (method_of d)) p old new) meant.params by_name in
+    record { value = d; read = read; left = subst (λ s. IsLeft s phase encoding d old new) (sym meant.told) by_params }
+left phase encoding body old new d message.Response read meant same =
+    record { value = d; read = read; left = subst (λ s. IsLeft s phase encoding d old new) (sym meant) same }
+
+pub known_after : (phase : Phase) (encoding : Encoding) (body : List ℕ) (old new : Documents) (d : Data) (m : Message) (r : Reply) → read_text body ≡ Some d → IsMessage d m → IsKnownBy m phase encoding old new r
+    → IsKnownAfter phase encoding body old new r
+known_after phase encoding body old new d m (reply.Nameless why) read meant known = known
+known_after phase encoding body old new d m (reply.Response text) read meant known = left phase encoding body old new d m read meant known
+known_after phase encoding body old new d m (reply.Notification text) read meant known = left phase encoding body old new d m read meant known
+known_after phase encoding body old new d m reply.Nothing read meant known = left phase encoding body old new d m read meant known
+known_after phase encoding body old new d m (reply.Exit status) read meant known = left phase encoding body old new d m read meant known

@@ -1,7 +1,10 @@
 mod Answered
+mod Decoding
 mod Edits
+mod Encoding
 mod Held
 mod Records
 mod Responses
 mod Texts
 mod Transcripts
+mod Walking

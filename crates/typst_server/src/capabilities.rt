@@ -1,4 +1,6 @@
 //! What the server says of itself.
+ghost use Rattle.std.specs.Prelude.{◌≡◌};
+ghost use Rattle.typst_server.specs.Numbers as spec;
 
 use std::alloc::{AllocError, Global};
 use typst_parser::Tag;
@@ -9,7 +11,9 @@ const TYPES: &str =
     "[\"comment\",\"keyword\",\"operator\",\"number\",\"string\",\"function\",\"variable\",\"punctuation\",\"escape\",\"strong\",\"emph\",\"link\",\"raw\",\"label\",\"ref\",\"heading\",\"marker\",\"term\",\"delimiter\",\"error\"]";
 
 /// The number of the type of token that a tag is shown as.
-pub fn type_of(tag: Tag) -> u32 {
+pub fn type_of(tag: Tag) -> u32
+    ensures { result ≡ spec.type_of tag }
+{
     match tag {
         Tag::Comment => 0,
         Tag::Keyword => 1,

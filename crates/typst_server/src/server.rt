@@ -1,10 +1,12 @@
 //! The server: what it holds between messages, and what it answers to each.
-ghost use Rattle.std.specs.Prelude.{◌≡◌, ℕ, List, MatchResult};
+ghost use Rattle.std.specs.Prelude.{◌≡◌, MatchResult, Some};
 ghost use Rattle.std.specs.String.{string_bytes};
 ghost use Rattle.typst_protocol.specs.Methods.{methods, named};
 ghost use Rattle.typst_protocol.specs.declared.message.Message.TheVariants as message;
 ghost use Rattle.typst_server.specs.Answers.{IsAnswer, IsReplyTo, TakesEvent};
-ghost use Rattle.typst_server.specs.Documents.{IsUnknown, found};
+ghost use Rattle.typst_protocol.specs.Parameters as parameters;
+ghost use Rattle.typst_protocol.specs.declared.method.Event.TheVariants as event;
+ghost use Rattle.typst_server.specs.Left.{AreSame, AreUnknown, IsDone, IsKnownAfter, IsKnownBy, IsTaken, IsTold};
 ghost use Rattle.typst_server.specs.Phases.{Follows, Responds, allowed, status_of};
 ghost use Rattle.typst_server.specs.declared.reply.Reply.TheVariants as reply;
 ghost use Rattle.typst_server.specs.declared.server.Phase.TheVariants as phase;
@@ -75,9 +77,10 @@ impl Server {
     }
 
     /// What is to be done about the body of a frame.
-    #[tactic(auto, using(crate::proofs::Answered::answered, crate::proofs::Answered::unread_body, crate::proofs::Answered::unread_value))]
+    #[tactic(auto, using(crate::proofs::Answered::answered, crate::proofs::Answered::known_after, crate::proofs::Answered::unread_body, crate::proofs::Answered::unread_value))]
     pub fn answer(&mut self, body: &[u8]) -> Reply
-        ensures { IsAnswer self.old.phase self.new.phase body.now result }
+        ensures answer { IsAnswer self.old.phase self.new.phase body.now result }
+        ensures documents { IsKnownAfter self.old.phase self.old.encoding body.now self.old.documents self.new.documents result }
     {
         match read_json(self.alloc, body) {
             Ok(value) => match Message::of(self.alloc, &value) {
@@ -93,14 +96,15 @@ impl Server {
     pub fn answer_unread(&mut self, unread: Unread) -> Reply
         ensures reply { result ≡ reply.Nameless unread }
         ensures phase { self.new.phase ≡ self.old.phase }
-        ensures lost { (uri : List ℕ) → IsUnknown (found uri self.new.documents) }
+        ensures lost { AreUnknown self.new.documents }
     {
         self.documents.lose_all();
         Reply::Nameless(unread)
     }
 
     fn answer_message(&mut self, message: Message<'_>) -> Reply
-        ensures { IsReplyTo self.old.phase self.new.phase message.entry result }
+        ensures reply { IsReplyTo self.old.phase self.new.phase message.entry result }
+        ensures documents { IsKnownBy message.entry self.old.phase self.old.encoding self.old.documents self.new.documents result }
     {
         match message {
             Message::Request(request) => self.answer_request(request),
@@ -110,7 +114,8 @@ impl Server {
     }
 
     fn answer_request(&mut self, request: Request<'_>) -> Reply
-        ensures { IsReplyTo self.old.phase self.new.phase (message.Request request.entry) result }
+        ensures reply { IsReplyTo self.old.phase self.new.phase (message.Request request.entry) result }
+        ensures documents { IsKnownBy (message.Request request.entry) self.old.phase self.old.encoding self.old.documents self.new.documents result }
     {
         let Request { id, method, params } = request;
         // Made first, so that it is at hand where memory lacks later.
@@ -125,7 +130,8 @@ impl Server {
 
     /// The response to a request. Where memory for it is refused, the phase is as before.
     fn respond(&mut self, id: &Id, method: &str, params: Params<'_>) -> Result<String, AllocError>
-        ensures { MatchResult result (λ text. Responds (allowed self.old.phase (named methods method.now)) self.old.phase self.new.phase id.now (string_bytes text)) (λ _. self.new.phase ≡ self.old.phase) }
+        ensures response { MatchResult result (λ text. Responds (allowed self.old.phase (named methods method.now)) self.old.phase self.new.phase id.now (string_bytes text)) (λ _. self.new.phase ≡ self.old.phase) }
+        ensures documents { AreSame self.old.documents self.new.documents }
     {
         let before = self.phase;
         let value = match self.value_for(method, params) {
@@ -143,7 +149,8 @@ impl Server {
 
     /// The value that answers a request, as JSON.
     fn value_for(&mut self, method: &str, params: Params<'_>) -> Result<String, Refusal>
-        ensures { Follows (allowed self.old.phase (named methods method.now)) self.old.phase self.new.phase result }
+        ensures phase { Follows (allowed self.old.phase (named methods method.now)) self.old.phase self.new.phase result }
+        ensures documents { AreSame self.old.documents self.new.documents }
     {
         let method = Method::of(method);
         match self.phase {
@@ -156,7 +163,8 @@ impl Server {
     /// The value that answers the first request.
     fn begin(&mut self, method: Option<Method>, params: Params<'_>) -> Result<String, Refusal>
         requires { self.old.phase ≡ phase.Fresh }
-        ensures { Follows (allowed phase.Fresh method) self.old.phase self.new.phase result }
+        ensures phase { Follows (allowed phase.Fresh method) self.old.phase self.new.phase result }
+        ensures documents { AreSame self.old.documents self.new.documents }
     {
         match method {
             Some(method) => match method {
@@ -170,7 +178,8 @@ impl Server {
     /// The value that answers a request between `initialize` and `shutdown`.
     fn ask(&mut self, method: Option<Method>, params: Params<'_>) -> Result<String, Refusal>
         requires { self.old.phase ≡ phase.Running }
-        ensures { Follows (allowed phase.Running method) self.old.phase self.new.phase result }
+        ensures phase { Follows (allowed phase.Running method) self.old.phase self.new.phase result }
+        ensures documents { AreSame self.old.documents self.new.documents }
     {
         match method {
             Some(method) => match method {
@@ -183,7 +192,8 @@ impl Server {
     }
 
     fn initialize(&mut self, params: Params<'_>) -> Result<String, Refusal>
-        ensures { MatchResult result (λ _. self.new.phase ≡ phase.Running) (λ _. self.new.phase ≡ self.old.phase) }
+        ensures phase { MatchResult result (λ _. self.new.phase ≡ phase.Running) (λ _. self.new.phase ≡ self.old.phase) }
+        ensures documents { AreSame self.old.documents self.new.documents }
     {
         let encoding = params.encoding();
         let text = capabilities(self.alloc, encoding)?;
@@ -194,7 +204,8 @@ impl Server {
     }
 
     fn shut_down(&mut self) -> Result<String, Refusal>
-        ensures { MatchResult result (λ _. self.new.phase ≡ phase.ShutDown) (λ _. self.new.phase ≡ self.old.phase) }
+        ensures phase { MatchResult result (λ _. self.new.phase ≡ phase.ShutDown) (λ _. self.new.phase ≡ self.old.phase) }
+        ensures documents { AreSame self.old.documents self.new.documents }
     {
         let value = String::from_str(self.alloc, "null")?;
         self.phase = Phase::ShutDown;
@@ -203,7 +214,8 @@ impl Server {
 
     /// The value that answers a request about a document.
     fn ask_document(&mut self, method: Method, params: Params<'_>) -> Result<String, Refusal>
-        ensures { self.new.phase ≡ self.old.phase }
+        ensures phase { self.new.phase ≡ self.old.phase }
+        ensures documents { AreSame self.old.documents self.new.documents }
     {
         let uri = params.uri()?;
         match method {
@@ -216,7 +228,8 @@ impl Server {
     /// All tokens of a document, which are kept: as changes where `previous` names the ones that were sent
     /// last.
     fn fresh_tokens(&mut self, uri: &str, previous: Option<&str>) -> Result<String, Refusal>
-        ensures { self.new.phase ≡ self.old.phase }
+        ensures phase { self.new.phase ≡ self.old.phase }
+        ensures documents { AreSame self.old.documents self.new.documents }
     {
         let document = self.documents.get(uri)?;
         let fresh = tokens::answer(self.alloc, document, self.next_name, previous)?;
@@ -247,7 +260,8 @@ impl Server {
     }
 
     fn take_notification(&mut self, notification: Notification<'_>) -> Reply
-        ensures { IsReplyTo self.old.phase self.new.phase (message.Notification notification.entry) result }
+        ensures reply { IsReplyTo self.old.phase self.new.phase (message.Notification notification.entry) result }
+        ensures documents { IsKnownBy (message.Notification notification.entry) self.old.phase self.old.encoding self.old.documents self.new.documents result }
     {
         let Notification { method, params } = notification;
         match Event::of(method) {
@@ -261,7 +275,8 @@ impl Server {
 
     /// What is to be done about what the client does with a document.
     fn take_event(&mut self, event: Event, params: Params<'_>) -> Reply
-        ensures { TakesEvent self.old.phase self.new.phase result }
+        ensures reply { TakesEvent self.old.phase self.new.phase result }
+        ensures documents { IsTold self.old.phase self.old.encoding (Some event) (parameters.seen params.entry) self.old.documents self.new.documents }
     {
         if self.phase != Phase::Running {
             return Reply::Nothing;
@@ -279,7 +294,8 @@ impl Server {
     }
 
     fn opened(&mut self, params: Params<'_>) -> Result<String, Refusal>
-        ensures { self.new.phase ≡ self.old.phase }
+        ensures phase { self.new.phase ≡ self.old.phase }
+        ensures documents { IsTaken self.old.encoding (Some event.Opened) (parameters.seen params.entry) self.old.documents self.new.documents }
     {
         let uri = params.uri()?;
         match params.text() {
@@ -290,7 +306,8 @@ impl Server {
     }
 
     fn changed(&mut self, params: Params<'_>) -> Result<String, Refusal>
-        ensures { self.new.phase ≡ self.old.phase }
+        ensures phase { self.new.phase ≡ self.old.phase }
+        ensures documents { IsTaken self.old.encoding (Some event.Changed) (parameters.seen params.entry) self.old.documents self.new.documents }
     {
         let uri = params.uri()?;
         match params.changes() {
@@ -308,7 +325,8 @@ impl Server {
     }
 
     fn closed(&mut self, params: Params<'_>) -> Result<String, Refusal>
-        ensures { self.new.phase ≡ self.old.phase }
+        ensures phase { self.new.phase ≡ self.old.phase }
+        ensures documents { IsTaken self.old.encoding (Some event.Closed) (parameters.seen params.entry) self.old.documents self.new.documents }
     {
         let uri = params.uri()?;
         self.documents.close(uri)?;

@@ -1,4 +1,7 @@
 //! The tokens of a document: what of it is shown how.
+ghost use Rattle.std.specs.Prelude.{◌≡◌, ◌^◌, ◌<◌, [], length, IfOk, OnOk};
+ghost use Rattle.typst_server.specs.Numbers as spec;
+ghost use Rattle.typst_server.specs.Numbers.{IsAdded, all_shown, clipped, decoded, encoded, shown, shown_in};
 
 use crate::capabilities::type_of;
 use crate::document::Document;
@@ -30,16 +33,45 @@ fn numbers_of(
     alloc: Global,
     document: &Document,
     within: &Range<usize>,
-) -> Result<Vec<u32>, AllocError> {
+) -> Result<Vec<u32>, AllocError>
+    ensures numbers { IfOk result (λ numbers. numbers.items ≡ encoded 0 0 (all_shown document.now within.now)) }
+    ensures decoded { length document.now.source.text < 2 ^ 32 → IfOk result (λ numbers. decoded 0 0 numbers.items ≡ all_shown document.now within.now) }
+{
     let tagged = tag_stretches(alloc, document.root())?;
     let tokens = token_stretches(alloc, document.text(), tagged.as_slice())?;
+    encode(alloc, document, tokens.as_slice(), within)
+}
+
+/// Some tokens of a document in these numbers.
+fn encode(
+    alloc: Global,
+    document: &Document,
+    tokens: &[Token],
+    within: &Range<usize>,
+) -> Result<Vec<u32>, AllocError>
+    ensures { IfOk result (λ numbers. numbers.items ≡ encoded 0 0 (shown_in document.now.encoding document.now.source.text within.now tokens.now)) }
+{
     let mut encoder = Encoder::new(alloc, document);
-    for token in &tokens {
-        if token.start < within.end && within.start < token.start.saturating_add(token.len) {
+    for token in tokens {
+        if touches(token, within) {
             encoder.add(token)?;
         }
     }
     Ok(encoder.numbers)
+}
+
+/// Whether a token has a byte of a range.
+fn touches(token: &Token, range: &Range<usize>) -> bool
+    ensures { result ≡ spec.touches range.now token.now }
+{
+    token.start < range.end && range.start < end_of(token)
+}
+
+/// Where a token ends.
+fn end_of(token: &Token) -> usize
+    ensures { result ≡ spec.end_of token.now }
+{
+    token.start.saturating_add(token.len)
 }
 
 /// Tokens on their way into numbers.
@@ -53,7 +85,11 @@ struct Encoder<'a> {
 }
 
 impl<'a> Encoder<'a> {
-    fn new(alloc: Global, document: &'a Document) -> Encoder<'a> {
+    fn new(alloc: Global, document: &'a Document) -> Encoder<'a>
+        ensures numbers { result.numbers.items ≡ [] }
+        ensures walk { result.walk ≡ document.now }
+        ensures start { (result.line ≡ 0) × (result.column ≡ 0) }
+    {
         Encoder {
             numbers: Vec::new(alloc),
             walk: Walk::new(document),
@@ -62,12 +98,15 @@ impl<'a> Encoder<'a> {
         }
     }
 
-    fn add(&mut self, token: &Token) -> Result<(), AllocError> {
+    fn add(&mut self, token: &Token) -> Result<(), AllocError>
+        ensures walk { self.new.walk ≡ self.old.walk }
+        ensures added { OnOk result (IsAdded self.old self.new (shown self.old.walk.encoding self.old.walk.source.text token.now)) }
+    {
         let Place {
             line,
             character: column,
         } = self.walk.go_to(token.start);
-        let end = self.walk.go_to(token.start.saturating_add(token.len));
+        let end = self.walk.go_to(end_of(token));
         let before = if line == self.line { self.column } else { 0 };
         let numbers = [
             number(line.saturating_sub(self.line)),
@@ -84,7 +123,9 @@ impl<'a> Encoder<'a> {
 }
 
 /// A count as the protocol's numbers have it.
-fn number(count: usize) -> u32 {
+fn number(count: usize) -> u32
+    ensures { result ≡ clipped count }
+{
     u32::try_from(count).unwrap_or(u32::MAX)
 }
 

@@ -1,6 +1,12 @@
 //! Places in a document, each reached from the one before it.
+ghost use Rattle.std.specs.Prelude.{◌≡◌, ◌≤◌, IfSome, false, length};
+ghost use Rattle.std.specs.Str.{chars};
+ghost use Rattle.typst_positions.specs.Columns.{width};
+ghost use Rattle.typst_positions.specs.Starts as starts;
+ghost use Rattle.typst_server.specs.Places.{IsOneLine, IsPlaceOf, IsWay, wide};
 
 use crate::document::Document;
+use std::marker::Model;
 use std::ops::Range;
 use typst_positions::Encoding;
 use typst_protocol::values::{Extent, Place};
@@ -15,53 +21,109 @@ pub struct Walk<'a> {
     place: Place,
 }
 
+impl<'a> Model for Walk<'a> {
+    ghost use Rattle.typst_server.specs.Document.{Opened, opened_code};
+    ghost use Rattle.typst_server.specs.Places.{IsPlaceOf};
+
+    ghost Value = { Opened };
+
+    ghost coded = { opened_code };
+
+    ghost view = { λ walk. walk.document.now };
+
+    ghost invariant = { λ walk. IsPlaceOf walk.document.now walk.byte walk.place };
+}
+
 impl<'a> Walk<'a> {
     /// At the start of a document.
-    pub fn new(document: &'a Document) -> Walk<'a> {
+    pub fn new(document: &'a Document) -> Walk<'a>
+        ensures { result ≡ document.now }
+    {
         Walk {
             document,
             byte: 0,
-            place: Place {
-                line: 0,
-                character: 0,
-            },
+            place: document.place_of(0),
         }
     }
 
     /// Goes to a byte, and tells its place.
-    pub fn go_to(&mut self, byte: usize) -> Place {
-        self.place = match self.width_to(byte) {
-            Some(width) => self.beside(byte, width),
-            None => self.document.place_of(byte),
-        };
+    pub fn go_to(&mut self, byte: usize) -> Place
+        ensures place { IsPlaceOf self.old byte result }
+        ensures document { self.new ≡ self.old }
+    {
+        self.place = place_from(self.document, self.byte, self.place, byte);
         self.byte = byte;
         self.place
     }
+}
 
-    /// How wide the text between the present byte and another is, if it has no line end.
-    fn width_to(&self, byte: usize) -> Option<usize> {
-        let (from, to) = (self.byte.min(byte), self.byte.max(byte));
-        let between = self.document.text().get(from..to)?;
-        let encoding = self.document.encoding();
-        let mut width: usize = 0;
-        for c in between.chars() {
-            if is_line_end(c) {
-                return None;
-            }
-            width = width.saturating_add(width_of(c, encoding));
-        }
-        Some(width)
+/// The place of a byte, from that of another one.
+fn place_from(document: &Document, from: usize, place: Place, to: usize) -> Place
+    requires { IsPlaceOf document.now from place }
+    ensures { IsPlaceOf document.now to result }
+{
+    let Place { line, character } = place;
+    let character = match width_between(document, from.min(to), from.max(to)) {
+        Some(width) if from <= to => character.saturating_add(width),
+        Some(width) => character.saturating_sub(width),
+        None => return document.place_of(to),
+    };
+    Place { line, character }
+}
+
+/// How wide the text between two bytes is, if they are on one line, and between characters.
+fn width_between(document: &Document, from: usize, to: usize) -> Option<usize>
+    requires { from ≤ to }
+    ensures { IfSome result (λ count. IsWay document.now.encoding document.now.source.text from to count) }
+{
+    let text = document.text();
+    if !text.is_char_boundary(from) || !text.is_char_boundary(to) {
+        return None;
     }
+    let between = &text[from..to];
+    if holds_end(between.as_bytes()) {
+        return None;
+    }
+    Some(width_of(between, document.encoding()))
+}
 
-    /// The place of a byte that is so many columns away in the same line.
-    fn beside(&self, byte: usize, width: usize) -> Place {
-        let Place { line, character } = self.place;
-        let character = if byte < self.byte {
-            character.saturating_sub(width)
-        } else {
-            character.saturating_add(width)
-        };
-        Place { line, character }
+/// Whether a line ends in a text.
+fn holds_end(text: &[u8]) -> bool
+    ensures { result ≡ false → IsOneLine text.now 0 (length text.now) }
+{
+    for byte in text {
+        if ends_line(*byte) {
+            return true;
+        }
+    }
+    false
+}
+
+/// Whether a byte ends a line of the protocol.
+fn ends_line(byte: u8) -> bool
+    ensures { result ≡ starts.is_line_end byte }
+{
+    byte == b'\n' || byte == b'\r'
+}
+
+/// How wide a text is in the units of an encoding.
+fn width_of(text: &str, encoding: Encoding) -> usize
+    ensures { result ≡ wide encoding (chars text.now) }
+{
+    let mut count: usize = 0;
+    for c in text.chars() {
+        count = count.saturating_add(unit_count(c, encoding));
+    }
+    count
+}
+
+/// How wide a character is.
+fn unit_count(c: char, encoding: Encoding) -> usize
+    ensures { result ≡ width encoding c }
+{
+    match encoding {
+        Encoding::Utf8 => c.len_utf8(),
+        Encoding::Utf16 => c.len_utf16(),
     }
 }
 
@@ -72,9 +134,24 @@ pub struct Extents<'a> {
     ends: Walk<'a>,
 }
 
+impl<'a> Model for Extents<'a> {
+    ghost use Rattle.std.specs.Prelude.{◌≡◌};
+    ghost use Rattle.typst_server.specs.Document.{Opened, opened_code};
+
+    ghost Value = { Opened };
+
+    ghost coded = { opened_code };
+
+    ghost view = { λ extents. extents.starts };
+
+    ghost invariant = { λ extents. extents.ends ≡ extents.starts };
+}
+
 impl<'a> Extents<'a> {
     /// Those of a document.
-    pub fn new(document: &'a Document) -> Extents<'a> {
+    pub fn new(document: &'a Document) -> Extents<'a>
+        ensures { result ≡ document.now }
+    {
         Extents {
             starts: Walk::new(document),
             ends: Walk::new(document),
@@ -82,7 +159,11 @@ impl<'a> Extents<'a> {
     }
 
     /// The places between which some bytes stand.
-    pub fn of(&mut self, bytes: &Range<usize>) -> Extent {
+    pub fn of(&mut self, bytes: &Range<usize>) -> Extent
+        ensures start { IsPlaceOf self.old bytes.now.start result.start }
+        ensures end { IsPlaceOf self.old bytes.now.end result.end }
+        ensures document { self.new ≡ self.old }
+    {
         Extent {
             start: self.starts.go_to(bytes.start),
             end: self.ends.go_to(bytes.end),
@@ -93,12 +174,4 @@ impl<'a> Extents<'a> {
 /// Whether a character ends a line of the protocol.
 pub fn is_line_end(c: char) -> bool {
     c == '\n' || c == '\r'
-}
-
-/// The width of a character in the units of an encoding.
-fn width_of(c: char, encoding: Encoding) -> usize {
-    match encoding {
-        Encoding::Utf8 => c.len_utf8(),
-        Encoding::Utf16 => c.len_utf16(),
-    }
 }

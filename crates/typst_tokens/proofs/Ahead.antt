@@ -19,7 +19,7 @@ far-whole (suc n) b (c ∷ a) e = far-on n c b a ∙ far-whole n (c ∷ b) a (om
 pub skipped : (cs : List ℕ) (z y : Place) (r l m e : ℕ) → take (length cs) z.ahead ≡ cs → y ≡ moved (length cs) z → e ≡ position y → m ≡ max r e
     → ◌≡◌ {A = Sight} (record { place = y; reach = m; least = l }) (went (length cs) (record { place = z; reach = r; least = l }))
 skipped cs z y r l m e t p f g =
-    let end : e ≡ far (length cs) z = f ∙ ap position p ∙ sym (far-whole (length cs) z.behind z.ahead (sym (ap length t))) in
+    let end : e ≡ far (length cs) z = f ∙ ap position p ∙ sym (far-whole (length cs) z.before z.ahead (sym (ap length t))) in
     same-sight _ _ _ _ _ _ p (g ∙ ap (max r) end) refl
 
 -- they take as many bytes as the text that they are
@@ -31,4 +31,4 @@ bytes-of text z u t = sym (ap (λ x. length (encode_utf8_all x)) t ∙ ap length
 pub seen-to : (n : ℕ) (z y w : Place) (o : Option ℕ) (r l m e : ℕ) → m ≡ max r e → e ≡ position w + (if is_none o then 1 else 0) → w ≡ moved 1 y → o ≡ scout 0 y → y ≡ moved n z
     → ◌≡◌ {A = Sight} (record { place = z; reach = m; least = l }) (saw (suc n) (record { place = z; reach = r; least = l }))
 seen-to n z y w o r l m e g f p h q =
-    peeked n z w o r l m e g f (p ∙ ap (moved 1) q ∙ moved-moved n z.behind z.ahead) (h ∙ ap (scout 0) q ∙ scout-on n z.behind z.ahead)
+    peeked n z w o r l m e g f (p ∙ ap (moved 1) q ∙ moved-moved n z.before z.ahead) (h ∙ ap (scout 0) q ∙ scout-on n z.before z.ahead)

@@ -19,7 +19,7 @@ module _ (k : CharClasses) (c : ℕ) (p : Place) (e : scout 0 p ≡ Some c) wher
   invalid-eats : (d : ℕ) → 1 ≤ eaten (invalid d) p
   unfolding invalid foreign
   invalid-eats d =
-      either (passes (λ x. x == 35) (slice_get p.behind 0)) _ _ p (λ _. omega arith)
+      either (passes (λ x. x == 35) (slice_get p.before 0)) _ _ p (λ _. omega arith)
       (either (d == 38) _ _ p (λ _. omega arith)
       (either (d == 124) _ _ p (λ _. omega arith)
       (either (d == 126) _ _ p (λ _. omega arith) (omega arith))))

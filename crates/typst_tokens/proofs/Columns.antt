@@ -17,9 +17,9 @@ use Rattle.typst_tokens.specs.declared.hull.Hull.{Hull}
 pub same-hull : (r s l m : ℕ) → r ≡ s → l ≡ m → ◌≡◌ {A = Hull} (record { reach = r; least = l }) (record { reach = s; least = m })
 same-hull r s l m e f = rw (e, f) refl
 
-pub behind-most : (s : List ℕ) (i : ℕ) → IsUtf8 s → IsCharBoundary s i → length (place_at s i).behind ≤ i
+pub before-most : (s : List ℕ) (i : ℕ) → IsUtf8 s → IsCharBoundary s i → length (place_at s i).before ≤ i
 unfolding place_at
-behind-most s i u b =
+before-most s i u b =
     let cs = chars (take i s) in
     let whole = ap length (encodes-chars (take i s) (IsUtf8-take s i u b)) in
     omega (arith, length-reverse cs, length-le-encodes cs, whole, length-take i s, b.0)
@@ -40,65 +40,65 @@ none-some c e = cc
 none-some2 : (x : ℕ) → None ≡ Some x → ⊥
 none-some2 x e = cc
 
-pub some-behind : (xs : List ℕ) (c : ℕ) → Some c ≡ slice_get xs 0 → xs ≡ c ∷ drop 1 xs
-some-behind [] c e = absurd (none-some c e)
-some-behind (x ∷ xs) c e = ap (λ y. y ∷ xs) (some-first x c e)
+pub some-before : (xs : List ℕ) (c : ℕ) → Some c ≡ slice_get xs 0 → xs ≡ c ∷ drop 1 xs
+some-before [] c e = absurd (none-some c e)
+some-before (x ∷ xs) c e = ap (λ y. y ∷ xs) (some-first x c e)
 
-pub none-behind : (xs : List ℕ) → None ≡ slice_get xs 0 → xs ≡ []
-none-behind [] e = refl
-none-behind (x ∷ xs) e = absurd (none-some2 x e)
+pub none-before : (xs : List ℕ) → None ≡ slice_get xs 0 → xs ≡ []
+none-before [] e = refl
+none-before (x ∷ xs) e = absurd (none-some2 x e)
 
-back-from : (b a : List ℕ) (c : ℕ) → b ≡ c ∷ drop 1 b → (moved_back (record { behind = b; ahead = a })).behind ≡ drop 1 b
+back-from : (b a : List ℕ) (c : ℕ) → b ≡ c ∷ drop 1 b → (moved_back (record { before = b; ahead = a })).before ≡ drop 1 b
 back-from [] a c e = cc
 back-from (x ∷ b) a c e = refl
 
-pub back-is : (z : Place) (c : ℕ) → Some c ≡ slice_get z.behind 0 → (moved_back z).behind ≡ drop 1 z.behind
-back-is z c e = back-from z.behind z.ahead c (some-behind z.behind c e)
+pub back-is : (z : Place) (c : ℕ) → Some c ≡ slice_get z.before 0 → (moved_back z).before ≡ drop 1 z.before
+back-is z c e = back-from z.before z.ahead c (some-before z.before c e)
 
 -- ---- what is looked at for a column
 
 -- one character back
-pub near-back : (n : ℕ) (z : Place) (c : ℕ) → Some c ≡ slice_get z.behind 0 → near (suc n) z ≡ near n (moved_back z)
-near-back n z c e = at z.behind z.ahead e
+pub near-back : (n : ℕ) (z : Place) (c : ℕ) → Some c ≡ slice_get z.before 0 → near (suc n) z ≡ near n (moved_back z)
+near-back n z c e = at z.before z.ahead e
   where
-    at : (b a : List ℕ) → Some c ≡ slice_get b 0 → near (suc n) (record { behind = b; ahead = a }) ≡ near n (moved_back (record { behind = b; ahead = a }))
+    at : (b a : List ℕ) → Some c ≡ slice_get b 0 → near (suc n) (record { before = b; ahead = a }) ≡ near n (moved_back (record { before = b; ahead = a }))
     at [] a e = absurd (none-some c e)
     at (d ∷ b) a e = near-on n d b a
 
-pub column-least : (z y : Place) (c : ℕ) → near (suc (column_at z)) z ≡ near (suc (prefix_len in_line y.behind)) y → Some c ≡ slice_get y.behind 0 → is_newline c ≡ true
+pub column-least : (z y : Place) (c : ℕ) → near (suc (column_at z)) z ≡ near (suc (prefix_len in_line y.before)) y → Some c ≡ slice_get y.before 0 → is_newline c ≡ true
     → suc (position (moved_back y)) ≡ near (suc (column_at z)) z
 column-least z y c h e t =
-    let none = line-stop y.behind (drop 1 y.behind) c (some-behind y.behind c e) t in
+    let none = line-stop y.before (drop 1 y.before) c (some-before y.before c e) t in
     sym (h ∙ ap (λ n. near (suc n) y) none ∙ near-back 0 y c e ∙ near-none (moved_back y))
 
-pub column-start : (z y : Place) → near (suc (column_at z)) z ≡ near (suc (prefix_len in_line y.behind)) y → None ≡ slice_get y.behind 0 → 0 ≡ near (suc (column_at z)) z
+pub column-start : (z y : Place) → near (suc (column_at z)) z ≡ near (suc (prefix_len in_line y.before)) y → None ≡ slice_get y.before 0 → 0 ≡ near (suc (column_at z)) z
 column-start z y h e =
-    let none : prefix_len in_line y.behind ≡ 0 = ap (prefix_len in_line) (none-behind y.behind e) in
+    let none : prefix_len in_line y.before ≡ 0 = ap (prefix_len in_line) (none-before y.before e) in
     near-start y e ∙ sym (h ∙ ap (λ n. near (suc n) y) none)
 
-pub column-back : (z y w : Place) (c : ℕ) → near (suc (column_at z)) z ≡ near (suc (prefix_len in_line y.behind)) y → Some c ≡ slice_get y.behind 0 → is_newline c ≡ false → w ≡ moved_back y
-    → near (suc (column_at z)) z ≡ near (suc (prefix_len in_line w.behind)) w
+pub column-back : (z y w : Place) (c : ℕ) → near (suc (column_at z)) z ≡ near (suc (prefix_len in_line y.before)) y → Some c ≡ slice_get y.before 0 → is_newline c ≡ false → w ≡ moved_back y
+    → near (suc (column_at z)) z ≡ near (suc (prefix_len in_line w.before)) w
 column-back z y w c h e t m =
-    let more = line-more y.behind (drop 1 y.behind) c (some-behind y.behind c e) t in
-    let rest = ap (prefix_len in_line) (ap (λ (p : Place). p.behind) m ∙ back-is y c e) in
-    h ∙ ap (λ n. near (suc n) y) more ∙ near-back (suc (prefix_len in_line (drop 1 y.behind))) y c e ∙ ap (near (suc (prefix_len in_line (drop 1 y.behind)))) (sym m) ∙ ap (λ n. near (suc n) w) (sym rest)
+    let more = line-more y.before (drop 1 y.before) c (some-before y.before c e) t in
+    let rest = ap (prefix_len in_line) (ap (λ (p : Place). p.before) m ∙ back-is y c e) in
+    h ∙ ap (λ n. near (suc n) y) more ∙ near-back (suc (prefix_len in_line (drop 1 y.before))) y c e ∙ ap (near (suc (prefix_len in_line (drop 1 y.before)))) (sym m) ∙ ap (λ n. near (suc n) w) (sym rest)
 
-pub back-smaller : (z : Place) (c : ℕ) → Some c ≡ slice_get z.behind 0 → position (moved_back z) < position z
-back-smaller z c e = at z.behind z.ahead e
+pub back-smaller : (z : Place) (c : ℕ) → Some c ≡ slice_get z.before 0 → position (moved_back z) < position z
+back-smaller z c e = at z.before z.ahead e
   where
-    at : (b a : List ℕ) → Some c ≡ slice_get b 0 → position (moved_back (record { behind = b; ahead = a })) < position (record { behind = b; ahead = a })
+    at : (b a : List ℕ) → Some c ≡ slice_get b 0 → position (moved_back (record { before = b; ahead = a })) < position (record { before = b; ahead = a })
     at [] a e = absurd (none-some c e)
-    at (d ∷ b) a e = position-step d (record { behind = b; ahead = d ∷ a }) refl
+    at (d ∷ b) a e = position-step d (record { before = b; ahead = d ∷ a }) refl
 
 -- ---- the frame law
 
--- what stands behind, turned so that it stands ahead
-turned : (p q : Place) → Agree (column_look p) p q → Agree (run_look (column_at p) no_look) (place [] p.behind) (place [] q.behind)
+-- what stands before, turned so that it stands ahead
+turned : (p q : Place) → Agree (column_look p) p q → Agree (run_look (column_at p) no_look) (place [] p.before) (place [] q.before)
 unfolding column_at
 turned p q g =
-    agree-narrow (run_look (column_at p) no_look) (record { back = 0; front = suc (column_at p) }) (place [] p.behind) (place [] q.behind) (omega arith) (omega arith)
-    (record { behind = refl; ahead = g.behind })
+    agree-narrow (run_look (column_at p) no_look) (record { back = 0; front = suc (column_at p) }) (place [] p.before) (place [] q.before) (omega arith) (omega arith)
+    (record { before = refl; ahead = g.before })
 
 pub column-frame : (p q : Place) → Agree (column_look p) p q → column_at p ≡ column_at q
 unfolding column_at
-column-frame p q g = (run-agree in_line no_look [] p.behind [] q.behind (turned p q g)).long
+column-frame p q g = (run-agree in_line no_look [] p.before [] q.before (turned p q g)).long

@@ -3,7 +3,7 @@ use Rattle.std.proofs.Common.{◌≡◌, ◌≤◌, ℕ, zero, suc, ◌+◌, ◌
 use Rattle.std.specs.List.{prefix_len}
 use Rattle.typst_lines.specs.Place.{Place, moved, moved_from, scout, run, past}
 use Rattle.typst_tokens.specs.Reader.{place, both, no_look, Step, ask, glimpse, Machine, Turn, spanned, span_look, Reader, exec, eaten, Look, look, marked, Agree, SameReading, widened, from_before, from_far, skip_look}
-use Rattle.typst_tokens.specs.Reader.Step.{turn, see, see_behind}
+use Rattle.typst_tokens.specs.Reader.Step.{turn, see, see_back}
 use Rattle.typst_tokens.specs.Reader.Turn.{leave, last, go}
 use Rattle.typst_tokens.specs.Reader.Reader.{answer, peek, glance, span, eat, see_run, skip, eat_run}
 
@@ -42,7 +42,7 @@ back-agree (suc b) xs ys c e =
     ap (λ t. Some c ∷ t) (rw n at e)
 
 step-agree : (l : Look) (pb pa qb qa : List ℕ) → Agree (from_before pa l) (place pb pa) (place qb qa) → Agree l (moved_from 1 pb pa) (moved_from 1 qb qa)
-step-agree l pb [] qb [] g = record { behind = g.behind; ahead = take-shorter l.front (max 1 l.front) _ _ (omega arith) g.ahead }
+step-agree l pb [] qb [] g = record { before = g.before; ahead = take-shorter l.front (max 1 l.front) _ _ (omega arith) g.ahead }
 step-agree l pb [] qb (d ∷ qa) g = let first = first-agree (max 1 l.front) [] (d ∷ qa) (omega arith) g.ahead in absurd (cc)
 step-agree l pb (c ∷ pa) qb [] g = let first = first-agree (suc l.front) (c ∷ pa) [] (omega arith) g.ahead in absurd (cc)
 step-agree l pb (c ∷ pa) qb (d ∷ qa) g =
@@ -50,7 +50,7 @@ step-agree l pb (c ∷ pa) qb (d ∷ qa) g =
     let same : d ≡ c = cc in
     let ahead' = subst (λ x. take (suc l.front) (marked (c ∷ pa)) ≡ take (suc l.front) (marked (x ∷ qa))) same g.ahead in
     subst (λ x. Agree l (place (c ∷ pb) pa) (place (x ∷ qb) qa)) (sym same)
-    (record { behind = back-agree l.back pb qb c g.behind; ahead = front-agree l.front pa qa c ahead' })
+    (record { before = back-agree l.back pb qb c g.before; ahead = front-agree l.front pa qa c ahead' })
 
 from_before-same : (l : Look) (xs ys : List ℕ) → slice_get xs 0 ≡ slice_get ys 0 → from_before xs l ≡ from_before ys l
 from_before-same l [] [] e = refl
@@ -64,11 +64,11 @@ from_before-some l (x ∷ xs) = omega arith
 
 agree-first : (l m : Look) (p q : Place) → Agree (both l m) p q → Agree l p q
 agree-first l m p q g =
-    record { behind = take-shorter l.back (max l.back m.back) _ _ (omega arith) g.behind; ahead = take-shorter l.front (max l.front m.front) _ _ (omega arith) g.ahead }
+    record { before = take-shorter l.back (max l.back m.back) _ _ (omega arith) g.before; ahead = take-shorter l.front (max l.front m.front) _ _ (omega arith) g.ahead }
 
 agree-second : (l m : Look) (p q : Place) → Agree (both l m) p q → Agree m p q
 agree-second l m p q g =
-    record { behind = take-shorter m.back (max l.back m.back) _ _ (omega arith) g.behind; ahead = take-shorter m.front (max l.front m.front) _ _ (omega arith) g.ahead }
+    record { before = take-shorter m.back (max l.back m.back) _ _ (omega arith) g.before; ahead = take-shorter m.front (max l.front m.front) _ _ (omega arith) g.ahead }
 
 narrowed : (back front : ℕ) (l : Look) (p q : Place) → Agree (widened back front l) p q → Agree l p q
 narrowed back front l p q g = agree-second (record { back = back; front = front }) l p q g
@@ -76,8 +76,8 @@ narrowed back front l p q g = agree-second (record { back = back; front = front 
 scout-same : (n : ℕ) (l : Look) (p q : Place) → Agree (widened 0 (suc n) l) p q → scout n p ≡ scout n q
 scout-same n l p q g = scout-agree n _ _ (take-shorter (suc n) (max (suc n) l.front) _ _ (omega arith) g.ahead)
 
-behind-same : (n : ℕ) (l : Look) (p q : Place) → Agree (widened (suc n) 0 l) p q → slice_get p.behind n ≡ slice_get q.behind n
-behind-same n l p q g = scout-agree n _ _ (take-shorter (suc n) (max (suc n) l.back) _ _ (omega arith) g.behind)
+before-same : (n : ℕ) (l : Look) (p q : Place) → Agree (widened (suc n) 0 l) p q → slice_get p.before n ≡ slice_get q.before n
+before-same n l p q g = scout-agree n _ _ (take-shorter (suc n) (max (suc n) l.back) _ _ (omega arith) g.before)
 
 -- ---- questions at one place
 
@@ -94,9 +94,9 @@ step-frame (see n k) p q g =
       answers = rest.answers ∙ ap (λ o. ask (k o) q) same;
       looks = ap (widened 0 (suc n)) (rest.looks ∙ ap (λ o. glimpse (k o) q) same);
     }
-step-frame (see_behind k) p q g =
-    let same = behind-same 0 (glimpse (k (slice_get p.behind 0)) p) p q g in
-    let rest = step-frame (k (slice_get p.behind 0)) p q (narrowed 1 0 _ p q g) in
+step-frame (see_back k) p q g =
+    let same = before-same 0 (glimpse (k (slice_get p.before 0)) p) p q g in
+    let rest = step-frame (k (slice_get p.before 0)) p q (narrowed 1 0 _ p q g) in
     record {
       answers = rest.answers ∙ ap (λ o. ask (k o) q) same;
       looks = ap (widened 1 0) (rest.looks ∙ ap (λ o. glimpse (k o) q) same);
@@ -109,11 +109,11 @@ record SameSpan {M : Type 0} (m : Machine M) (state : M) (pb pa qb qa : List ℕ
   looks : span_look m state pb pa ≡ span_look m state qb qa
 
 abbrev pub turned : {M : Type 0} → Machine M → M → List ℕ → ℕ → List ℕ → Turn M → List ℕ × M
-turned m state behind c ahead t = elim t [ leave ↦ ([], state) | last after ↦ (c ∷ [], after) | go after ↦ (let r = spanned m after (c ∷ behind) ahead in (c ∷ r.0, r.1)) ]
+turned m state before c ahead t = elim t [ leave ↦ ([], state) | last after ↦ (c ∷ [], after) | go after ↦ (let r = spanned m after (c ∷ before) ahead in (c ∷ r.0, r.1)) ]
 
 -- what is looked at behind the turn at a character
 abbrev pub turn_look : {M : Type 0} → Machine M → List ℕ → ℕ → List ℕ → Turn M → Look
-turn_look m behind c ahead t = elim t [ leave ↦ no_look | last after ↦ no_look | go after ↦ from_before (c ∷ ahead) (span_look m after (c ∷ behind) ahead) ]
+turn_look m before c ahead t = elim t [ leave ↦ no_look | last after ↦ no_look | go after ↦ from_before (c ∷ ahead) (span_look m after (c ∷ before) ahead) ]
 
 turn-agree : {M : Type 0} (m : Machine M) (state : M) (c : ℕ) (pb pa qb qa : List ℕ) (t : Turn M)
     → ((after : M) → Agree (span_look m after (c ∷ pb) pa) (place (c ∷ pb) pa) (place (c ∷ qb) qa) → SameSpan m after (c ∷ pb) pa (c ∷ qb) qa)
@@ -150,7 +150,7 @@ span-agree m state pb (c ∷ pa) qb (d ∷ qa) g =
 -- ---- readers
 
 pub agree-narrow : (l m : Look) (p q : Place) → l.back ≤ m.back → l.front ≤ m.front → Agree m p q → Agree l p q
-agree-narrow l m p q b f g = record { behind = take-shorter l.back m.back _ _ b g.behind; ahead = take-shorter l.front m.front _ _ f g.ahead }
+agree-narrow l m p q b f g = record { before = take-shorter l.back m.back _ _ b g.before; ahead = take-shorter l.front m.front _ _ f g.ahead }
 
 abbrev pub run_look : ℕ → Look → Look
 run_look n l = widened 0 (suc n) (from_far n l)
@@ -216,26 +216,26 @@ frame (peek n k) p q g =
       looks = ap (widened 0 (suc n)) (rest.looks ∙ ap (λ o. look (k o) q) same);
     }
 frame (glance n k) p q g =
-    let same = behind-same n (look (k (slice_get p.behind n)) p) p q g in
-    let rest = frame (k (slice_get p.behind n)) p q (narrowed (suc n) 0 _ p q g) in
+    let same = before-same n (look (k (slice_get p.before n)) p) p q g in
+    let rest = frame (k (slice_get p.before n)) p q (narrowed (suc n) 0 _ p q g) in
     record {
       answers = rest.answers ∙ ap (λ o. (exec (k o) q).0) same;
       lengths = rest.lengths ∙ ap (λ o. eaten (k o) q) same;
       looks = ap (widened (suc n) 0) (rest.looks ∙ ap (λ o. look (k o) q) same);
     }
 frame (span m state k) p q g =
-    let r = spanned m state p.behind p.ahead in
-    let l = span_look m state p.behind p.ahead in
-    let s = span-agree m state p.behind p.ahead q.behind q.ahead (agree-first l (look (k r.0 r.1) p) p q g) in
+    let r = spanned m state p.before p.ahead in
+    let l = span_look m state p.before p.ahead in
+    let s = span-agree m state p.before p.ahead q.before q.ahead (agree-first l (look (k r.0 r.1) p) p q g) in
     let rest = frame (k r.0 r.1) p q (agree-second l (look (k r.0 r.1) p) p q g) in
     record {
       answers = rest.answers ∙ ap (λ o. (exec (k o.0 o.1) q).0) s.taken;
       lengths = rest.lengths ∙ ap (λ o. eaten (k o.0 o.1) q) s.taken;
-      looks = ap (λ m. both m (look (k r.0 r.1) p)) s.looks ∙ ap (both (span_look m state q.behind q.ahead)) (rest.looks ∙ ap (λ o. look (k o.0 o.1) q) s.taken);
+      looks = ap (λ m. both m (look (k r.0 r.1) p)) s.looks ∙ ap (both (span_look m state q.before q.ahead)) (rest.looks ∙ ap (λ o. look (k o.0 o.1) q) s.taken);
     }
 frame (eat r) p q g =
     let l = look r (moved 1 p) in
-    let rest = frame r (moved 1 p) (moved 1 q) (step-agree l p.behind p.ahead q.behind q.ahead g) in
+    let rest = frame r (moved 1 p) (moved 1 q) (step-agree l p.before p.ahead q.before q.ahead g) in
     let first = first-agree (from_before p.ahead l).front p.ahead q.ahead (from_before-some l p.ahead) g.ahead in
     record {
       answers = rest.answers;
@@ -245,7 +245,7 @@ frame (eat r) p q g =
 frame (eat_run test k) p q g =
     let n = prefix_len test p.ahead in
     let l = look (k (run test p)) (past test p) in
-    let s = run-agree test l p.behind p.ahead q.behind q.ahead g in
+    let s = run-agree test l p.before p.ahead q.before q.ahead g in
     let rest = frame (k (run test p)) (past test p) (past test q) s.rest in
     record {
       answers = rest.answers ∙ ap (λ t. (exec (k t) (past test q)).0) s.taken;
@@ -253,7 +253,7 @@ frame (eat_run test k) p q g =
       looks = ap (λ m. run_look m l) s.long ∙ ap (run_look (prefix_len test q.ahead)) (rest.looks ∙ ap (λ t. look (k t) (past test q)) s.taken);
     }
 frame (skip n r) p q g =
-    let s = skip-agree n (look r (moved n p)) p.behind p.ahead q.behind q.ahead g in
+    let s = skip-agree n (look r (moved n p)) p.before p.ahead q.before q.ahead g in
     let rest = frame r (moved n p) (moved n q) s.rest in
     record {
       answers = rest.answers;
@@ -263,7 +263,7 @@ frame (skip n r) p q g =
 frame (see_run test k) p q g =
     let n = prefix_len test p.ahead in
     let l = look (k (run test p)) p in
-    let s = run-agree test no_look p.behind p.ahead q.behind q.ahead (agree-narrow (run_look n no_look) (widened 0 (suc n) l) p q (omega arith) (omega arith) g) in
+    let s = run-agree test no_look p.before p.ahead q.before q.ahead (agree-narrow (run_look n no_look) (widened 0 (suc n) l) p q (omega arith) (omega arith) g) in
     let rest = frame (k (run test p)) p q (narrowed 0 (suc n) l p q g) in
     record {
       answers = rest.answers ∙ ap (λ t. (exec (k t) q).0) s.taken;

@@ -49,8 +49,8 @@ link-sight : (v : Sight) → Covers v → sight link v ≡ (link_end (brackets (
 unfolding link
 link-sight v h =
     let f = front [] v.place.ahead in
-    ap (λ (r : List ℕ × Memory). (link_end r.1, went (length (without_last_signs r.0)) (saw_by (span_look in_link (brackets []) v.place.behind v.place.ahead) v))) (link-front [] v.place.behind v.place.ahead)
-    ∙ ap (λ (l : Look). (link_end (brackets f.1), went (length (without_last_signs f.0)) (saw_by l v))) (link-look [] v.place.behind v.place.ahead)
+    ap (λ (r : List ℕ × Memory). (link_end r.1, went (length (without_last_signs r.0)) (saw_by (span_look in_link (brackets []) v.place.before v.place.ahead) v))) (link-front [] v.place.before v.place.ahead)
+    ∙ ap (λ (l : Look). (link_end (brackets f.1), went (length (without_last_signs f.0)) (saw_by l v))) (link-look [] v.place.before v.place.ahead)
     ∙ ap (λ (u : Sight). (link_end (brackets f.1), went (length (without_last_signs f.0)) u)) (saw-ahead (suc (length f.0)) v h)
 
 -- a link was read: all of its front was looked at, and its text gone past
@@ -85,5 +85,5 @@ pub link-prefix-is : (p : Place) → exec link p ≡ (ended (link_prefix p.ahead
 unfolding link link_prefix
 link-prefix-is p =
     let f = front [] p.ahead in
-    ap (λ (r : List ℕ × Memory). (link_end r.1, moved (length (without_last_signs r.0)) p)) (link-front [] p.behind p.ahead)
+    ap (λ (r : List ℕ × Memory). (link_end r.1, moved (length (without_last_signs r.0)) p)) (link-front [] p.before p.ahead)
     ∙ ap (λ t. (t, moved (length (without_last_signs f.0)) p)) (sym (ended-is f.1 (length f.1 == 0) refl))

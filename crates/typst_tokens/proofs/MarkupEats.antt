@@ -19,7 +19,7 @@ use Rattle.typst_tokens.specs.Labels.{label}
 emphasis-eats : (k : CharClasses) (s : SyntaxKind) (p : Place) → 1 ≤ eaten (emphasis k s) p
 unfolding emphasis sign text_from
 emphasis-eats k s p =
-    either (passes k.word (slice_get p.behind 0)) _ _ p (λ _. either (passes k.word (scout 1 p)) _ _ p (λ _. omega arith) (omega arith)) (omega arith)
+    either (passes k.word (slice_get p.before 0)) _ _ p (λ _. either (passes k.word (scout 1 p)) _ _ p (λ _. omega arith) (omega arith)) (omega arith)
 
 pub markup-eats : (c : ℕ) (p : Place) (e : scout 0 p ≡ Some c) (k : CharClasses) → 1 ≤ eaten (markup k c) p
 unfolding markup link_or_text label label_or_text ref_marker ref_or_text backslash dot minus emphasis sign heading marker numbering text_from

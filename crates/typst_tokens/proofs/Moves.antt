@@ -22,14 +22,14 @@ moved-min (suc n) xs (c ∷ ys) = let e : min (suc n) (suc (length ys)) ≡ suc 
 pub exec-moved : {M A : Type 0} (r : Reader M A) (p : Place) → (exec r p).1 ≡ moved (eaten r p) p
 exec-moved (answer a) p = refl
 exec-moved (peek n k) p = exec-moved (k (scout n p)) p
-exec-moved (glance n k) p = exec-moved (k (slice_get p.behind n)) p
-exec-moved (span m state k) p = let r = spanned m state p.behind p.ahead in exec-moved (k r.0 r.1) p
+exec-moved (glance n k) p = exec-moved (k (slice_get p.before n)) p
+exec-moved (span m state k) p = let r = spanned m state p.before p.ahead in exec-moved (k r.0 r.1) p
 exec-moved (eat r) p =
     let e : 1 + eaten r (moved 1 p) ≡ suc (eaten r (moved 1 p)) = omega arith in
-    exec-moved r (moved 1 p) ∙ moved-more 1 (eaten r (moved 1 p)) p.behind p.ahead ∙ ap (λ n. moved n p) e
+    exec-moved r (moved 1 p) ∙ moved-more 1 (eaten r (moved 1 p)) p.before p.ahead ∙ ap (λ n. moved n p) e
 exec-moved (skip n r) p =
     let m = min n (length p.ahead) in
-    exec-moved r (moved n p) ∙ ap (moved (eaten r (moved n p))) (moved-min n p.behind p.ahead) ∙ moved-more m (eaten r (moved n p)) p.behind p.ahead
+    exec-moved r (moved n p) ∙ ap (moved (eaten r (moved n p))) (moved-min n p.before p.ahead) ∙ moved-more m (eaten r (moved n p)) p.before p.ahead
 exec-moved (eat_run test k) p =
-    exec-moved (k (run test p)) (past test p) ∙ moved-more (prefix_len test p.ahead) (eaten (k (run test p)) (past test p)) p.behind p.ahead
+    exec-moved (k (run test p)) (past test p) ∙ moved-more (prefix_len test p.ahead) (eaten (k (run test p)) (past test p)) p.before p.ahead
 exec-moved (see_run test k) p = exec-moved (k (run test p)) p

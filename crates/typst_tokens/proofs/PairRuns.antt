@@ -22,7 +22,7 @@ len-off : (test : ℕ → Option ℕ → Bool) (c : ℕ) (a : List ℕ) → test
 len-off test c a e = rw e refl
 
 pairs-on : (test : ℕ → Option ℕ → Bool) (c : ℕ) (z : Place) → Some c ≡ scout 0 z → test c (scout 1 z) ≡ true → past_pairs test (moved 1 z) ≡ past_pairs test z
-pairs-on test c z e g = on z.behind z.ahead e g
+pairs-on test c z e g = on z.before z.ahead e g
   where
     on : (b a : List ℕ) → Some c ≡ slice_get a 0 → test c (slice_get a 1) ≡ true → past_pairs test (moved_from 1 b a) ≡ past_pairs test (place b a)
     on b [] e g = absurd (cc)
@@ -31,7 +31,7 @@ pairs-on test c z e g = on z.behind z.ahead e g
         sym (ap (λ n. moved_from n b (d ∷ a)) (len-on test d a (ap (λ x. test x (slice_get a 0)) same ∙ g)))
 
 pairs-off : (test : ℕ → Option ℕ → Bool) (c : ℕ) (z : Place) → Some c ≡ scout 0 z → test c (scout 1 z) ≡ false → past_pairs test z ≡ z
-pairs-off test c z e g = off z.behind z.ahead e g
+pairs-off test c z e g = off z.before z.ahead e g
   where
     off : (b a : List ℕ) → Some c ≡ slice_get a 0 → test c (slice_get a 1) ≡ false → past_pairs test (place b a) ≡ place b a
     off b [] e g = absurd (cc)
@@ -40,7 +40,7 @@ pairs-off test c z e g = off z.behind z.ahead e g
         ap (λ n. moved_from n b (d ∷ a)) (len-off test d a (ap (λ x. test x (slice_get a 0)) same ∙ g))
 
 pairs-end : (test : ℕ → Option ℕ → Bool) (z : Place) → None ≡ scout 0 z → past_pairs test z ≡ z
-pairs-end test z e = at-end z.behind z.ahead e
+pairs-end test z e = at-end z.before z.ahead e
   where
     at-end : (b a : List ℕ) → None ≡ slice_get a 0 → past_pairs test (place b a) ≡ place b a
     at-end b [] e = refl
@@ -54,7 +54,7 @@ prefix-off test c a e = rw e refl
 
 -- behind a run of characters that pass by themselves the run goes on
 pub pairs-past : (alone : ℕ → Bool) (pairs : ℕ → Option ℕ → Bool) (z : Place) → past_pairs (either alone pairs) (past alone z) ≡ past_pairs (either alone pairs) z
-pairs-past alone pairs z = on z.behind z.ahead
+pairs-past alone pairs z = on z.before z.ahead
   where
     by : (b a : List ℕ) (c : ℕ) (t : Bool) → alone c ≡ t → past_pairs (either alone pairs) (past alone (place (c ∷ b) a)) ≡ past_pairs (either alone pairs) (place (c ∷ b) a)
         → past_pairs (either alone pairs) (past alone (place b (c ∷ a))) ≡ past_pairs (either alone pairs) (place b (c ∷ a))
@@ -70,7 +70,7 @@ pairs-past alone pairs z = on z.behind z.ahead
 
 -- what comes next there does not pass by itself
 pub past-stops : (alone : ℕ → Bool) (z : Place) → passes alone (scout 0 (past alone z)) ≡ false
-past-stops alone z = on z.behind z.ahead
+past-stops alone z = on z.before z.ahead
   where
     by : (b a : List ℕ) (c : ℕ) (t : Bool) → alone c ≡ t → passes alone (scout 0 (past alone (place (c ∷ b) a))) ≡ false → passes alone (scout 0 (past alone (place b (c ∷ a)))) ≡ false
     by b a c false e rest = ap (λ n. passes alone (scout 0 (moved_from n b (c ∷ a)))) (prefix-off alone c a e) ∙ e
@@ -116,8 +116,8 @@ run-on alone pairs (Some c) p y w o m n e = ap (past_pairs (either alone pairs))
 pub run-shortens : (alone : ℕ → Bool) (pairs : ℕ → Option ℕ → Bool) (o p : Option ℕ) (z y w : Place) → y ≡ past alone z → o ≡ scout 0 y → w ≡ moved 1 y → pair_passes pairs o p ≡ true → length w.ahead < length z.ahead
 run-shortens alone pairs None p z y w f o m e = absurd (cc)
 run-shortens alone pairs (Some c) p z y w f o m e =
-    let less = moved-less (prefix_len alone z.ahead) z.behind z.ahead in
-    omega (arith, less, ap (λ (x : Place). length x.ahead) f, ap (λ (x : Place). length x.ahead) m, shorter y.behind y.ahead o)
+    let less = moved-less (prefix_len alone z.ahead) z.before z.ahead in
+    omega (arith, less, ap (λ (x : Place). length x.ahead) f, ap (λ (x : Place). length x.ahead) m, shorter y.before y.ahead o)
   where
     shorter : (b a : List ℕ) → Some c ≡ slice_get a 0 → length (moved_from 1 b a).ahead < length a
     shorter b [] e = absurd (cc)
@@ -140,7 +140,7 @@ bytes-on test s u i c d start lt is next e =
       one.boundary,
       (
         ap (past_pairs test) one.moves ∙ pairs-on test c z (sym one.next) (ap (test c) behind ∙ second.1),
-        subst (λ (y : Place). length y.ahead ≤ length z.ahead) (sym one.moves) (moved-less 1 z.behind z.ahead),
+        subst (λ (y : Place). length y.ahead ≤ length z.ahead) (sym one.moves) (moved-less 1 z.before z.ahead),
       ),
     )
   where
@@ -157,7 +157,7 @@ pub pairs-seen : (test : ℕ → Option ℕ → Bool) (v : Sight) → saw 1 (wen
 pairs-seen test v =
     let n = pairs_len test v.place.ahead in
     let up : suc (0 + n) ≡ suc n = omega arith in
-    same-sight _ _ _ _ _ _ refl (omega (arith, far-moved 0 n v.place.behind v.place.ahead, ap (λ k. far k v.place) up)) refl
+    same-sight _ _ _ _ _ _ refl (omega (arith, far-moved 0 n v.place.before v.place.ahead, ap (λ k. far k v.place) up)) refl
 
 -- ---- what a machine takes, it takes at once
 

@@ -7,9 +7,9 @@ use Rattle.std.specs.Prelude.{encode_utf8, encode_utf8_all}
 use Rattle.std.specs.Str.{chars, IsUtf8, IsCharBoundary}
 use Rattle.typst_lines.specs.Place.{Place, place_at, char_width, moved, moved_from, moved_back, back_from, scout, run, past}
 use Rattle.typst_tokens.specs.Reader.{place, both, no_look, Step, ask, glimpse, spanned, span_look, Reader, exec, eaten, Look, look, from_before, from_far, skip_look}
-use Rattle.typst_tokens.specs.Reader.Step.{turn, see, see_behind}
+use Rattle.typst_tokens.specs.Reader.Step.{turn, see, see_back}
 use Rattle.typst_tokens.specs.Reader.Reader.{answer, peek, glance, span, eat, see_run, skip, eat_run}
-use Rattle.typst_tokens.specs.Sight.{width, position, stretch, far, near, Sight, Covers, fresh, saw, saw_behind, saw_by, went, went_past, regard, sight, text_of, hull_of}
+use Rattle.typst_tokens.specs.Sight.{width, position, stretch, far, near, Sight, Covers, fresh, saw, saw_back, saw_by, went, went_past, regard, sight, text_of, hull_of}
 use Rattle.typst_tokens.specs.declared.hull.Hull.{Hull}
 use Rattle.typst_tokens.proofs.Moves.{exec-moved, moved-more}
 
@@ -30,7 +30,7 @@ unfolding width char_width
 width-encodes [] = refl
 width-encodes (c ∷ xs) = omega (arith, length-append (encode_utf8 c) (encode_utf8_all xs), length-encode c, width-encodes xs)
 
--- a byte offset is the bytes behind it
+-- a byte offset is the bytes before it
 pub offset-is : (text : List ℕ) (i : ℕ) → IsUtf8 text → IsCharBoundary text i → i ≡ position (place_at text i)
 unfolding position place_at
 offset-is text i u b =
@@ -51,7 +51,7 @@ far-max a b z = omega (arith, stretch-max a b z.ahead)
 
 pub near-max : (a b : ℕ) (z : Place) → near (max a b) z ≡ min (near a z) (near b z)
 unfolding near
-near-max a b z = omega (arith, stretch-max a b z.behind)
+near-max a b z = omega (arith, stretch-max a b z.before)
 
 pub far-none : (z : Place) → far 0 z ≡ position z
 unfolding far stretch
@@ -103,7 +103,7 @@ position-grows (suc n) b (c ∷ a) = omega (arith, position-on c b a, position-g
 
 pub position-step : (c : ℕ) (z : Place) → Some c ≡ scout 0 z → position z < position (moved 1 z)
 unfolding char_width
-position-step c z e = step z.behind z.ahead e
+position-step c z e = step z.before z.ahead e
   where
     step : (b a : List ℕ) → Some c ≡ slice_get a 0 → position (place b a) < position (moved_from 1 b a)
     step b [] e = absurd (cc)
@@ -116,19 +116,19 @@ end-from zero b (c ∷ a) = omega (arith, far-on 0 c b a, far-none (place (c ∷
 end-from (suc n) b (c ∷ a) = end-from n (c ∷ b) a ∙ sym (far-on (suc n) c b a)
 
 pub end-is : (n : ℕ) (z : Place) (o : Option ℕ) → o ≡ scout n z → position (moved (suc n) z) + (if is_none o then 1 else 0) ≡ far (suc n) z
-end-is n z o e = rw e (end-from n z.behind z.ahead)
+end-is n z o e = rw e (end-from n z.before z.ahead)
 
--- the mark or the character behind
-pub near-some : (z : Place) (c : ℕ) → Some c ≡ slice_get z.behind 0 → suc (position (moved_back z)) ≡ near 1 z
-near-some z c e = some z.behind z.ahead e
+-- the mark or the character before
+pub near-some : (z : Place) (c : ℕ) → Some c ≡ slice_get z.before 0 → suc (position (moved_back z)) ≡ near 1 z
+near-some z c e = some z.before z.ahead e
   where
     some : (b a : List ℕ) → Some c ≡ slice_get b 0 → suc (position (back_from b a)) ≡ near 1 (place b a)
     some [] a e = absurd (cc)
     some (d ∷ b) a e = sym (near-on 0 d b a ∙ near-none (place b (d ∷ a)))
 
-pub near-start : (z : Place) → None ≡ slice_get z.behind 0 → 0 ≡ near 1 z
+pub near-start : (z : Place) → None ≡ slice_get z.before 0 → 0 ≡ near 1 z
 unfolding near stretch position width
-near-start z e = none z.behind z.ahead e
+near-start z e = none z.before z.ahead e
   where
     none : (b a : List ℕ) → None ≡ slice_get b 0 → 0 ≡ near 1 (place b a)
     none [] a e = refl
@@ -142,16 +142,16 @@ same-sight z w r s l m e f g = rw (e, f, g) refl
 pub covers-saw : (n : ℕ) (v : Sight) → Covers v → Covers (saw n v)
 covers-saw n v h = record { reach = omega (arith, h.reach); least = h.least }
 
-pub covers-saw_behind : (n : ℕ) (v : Sight) → Covers v → Covers (saw_behind n v)
-covers-saw_behind n v h = record { reach = h.reach; least = omega (arith, h.least) }
+pub covers-saw_back : (n : ℕ) (v : Sight) → Covers v → Covers (saw_back n v)
+covers-saw_back n v h = record { reach = h.reach; least = omega (arith, h.least) }
 
 pub covers-saw_by : (l : Look) (v : Sight) → Covers v → Covers (saw_by l v)
 covers-saw_by l v h = record { reach = omega (arith, h.reach); least = omega (arith, h.least) }
 
 pub covers-went : (n : ℕ) (v : Sight) → Covers v → Covers (went n v)
 covers-went n v h = record {
-  reach = omega (arith, position-moved n v.place.behind v.place.ahead);
-  least = omega (arith, h.least, position-grows n v.place.behind v.place.ahead);
+  reach = omega (arith, position-moved n v.place.before v.place.ahead);
+  least = omega (arith, h.least, position-grows n v.place.before v.place.ahead);
 }
 
 pub covers-past : (test : ℕ → Bool) (v : Sight) → Covers v → Covers (went_past test v)
@@ -177,7 +177,7 @@ went-nowhere v h = same-sight _ _ _ _ _ _ refl (omega (arith, far-none v.place, 
 pub saw-ahead : (n : ℕ) (v : Sight) → Covers v → saw_by (record { back = 0; front = n }) v ≡ saw n v
 saw-ahead n v h = same-sight _ _ _ _ _ _ refl refl (omega (arith, near-none v.place, h.least))
 
-pub saw-back : (n : ℕ) (v : Sight) → Covers v → saw_by (record { back = n; front = 0 }) v ≡ saw_behind n v
+pub saw-back : (n : ℕ) (v : Sight) → Covers v → saw_by (record { back = n; front = 0 }) v ≡ saw_back n v
 saw-back n v h = same-sight _ _ _ _ _ _ refl (omega (arith, far-none v.place, h.reach)) refl
 
 -- the same stretch, from one character before, and from several
@@ -244,9 +244,9 @@ regard-is (see n k) v h =
     regard-is (k (scout n v.place)) (saw (suc n) v) (covers-saw (suc n) v h)
     ∙ ap (λ w. (ask rest v.place, saw_by (glimpse rest v.place) w)) (sym (saw-ahead (suc n) v h))
     ∙ ap (λ w. (ask rest v.place, w)) (sym (saw-both (record { back = 0; front = suc n }) (glimpse rest v.place) v))
-regard-is (see_behind k) v h =
-    let rest = k (slice_get v.place.behind 0) in
-    regard-is (k (slice_get v.place.behind 0)) (saw_behind 1 v) (covers-saw_behind 1 v h)
+regard-is (see_back k) v h =
+    let rest = k (slice_get v.place.before 0) in
+    regard-is (k (slice_get v.place.before 0)) (saw_back 1 v) (covers-saw_back 1 v h)
     ∙ ap (λ w. (ask rest v.place, saw_by (glimpse rest v.place) w)) (sym (saw-back 1 v h))
     ∙ ap (λ w. (ask rest v.place, w)) (sym (saw-both (record { back = 1; front = 0 }) (glimpse rest v.place) v))
 
@@ -260,14 +260,14 @@ sight-is (peek n k) v h =
     ∙ ap (λ w. (e.0, as_place e.1 (saw_by (look rest v.place) w))) (sym (saw-ahead (suc n) v h))
     ∙ ap (λ w. (e.0, as_place e.1 w)) (sym (saw-both (record { back = 0; front = suc n }) (look rest v.place) v))
 sight-is (glance n k) v h =
-    let rest = k (slice_get v.place.behind n) in
+    let rest = k (slice_get v.place.before n) in
     let e = exec rest v.place in
-    sight-is (k (slice_get v.place.behind n)) (saw_behind (suc n) v) (covers-saw_behind (suc n) v h)
+    sight-is (k (slice_get v.place.before n)) (saw_back (suc n) v) (covers-saw_back (suc n) v h)
     ∙ ap (λ w. (e.0, as_place e.1 (saw_by (look rest v.place) w))) (sym (saw-back (suc n) v h))
     ∙ ap (λ w. (e.0, as_place e.1 w)) (sym (saw-both (record { back = suc n; front = 0 }) (look rest v.place) v))
 sight-is (span m state k) v h =
-    let r = spanned m state v.place.behind v.place.ahead in
-    let l = span_look m state v.place.behind v.place.ahead in
+    let r = spanned m state v.place.before v.place.ahead in
+    let l = span_look m state v.place.before v.place.ahead in
     let rest = k r.0 r.1 in
     let e = exec rest v.place in
     sight-is (k r.0 r.1) (saw_by l v) (covers-saw_by l v h)
@@ -275,7 +275,7 @@ sight-is (span m state k) v h =
 sight-is (eat r) v h =
     let e = exec r (moved 1 v.place) in
     sight-is r (went 1 v) (covers-went 1 v h)
-    ∙ ap (λ w. (e.0, as_place e.1 w)) (sym (saw-before (look r (moved 1 v.place)) v.reach v.least v.place.behind v.place.ahead h))
+    ∙ ap (λ w. (e.0, as_place e.1 w)) (sym (saw-before (look r (moved 1 v.place)) v.reach v.least v.place.before v.place.ahead h))
 sight-is (see_run test k) v h =
     let rest = k (run test v.place) in
     let n = suc (prefix_len test v.place.ahead) in
@@ -286,7 +286,7 @@ sight-is (see_run test k) v h =
 sight-is (skip n r) v h =
     let e = exec r (moved n v.place) in
     sight-is r (went n v) (covers-went n v h)
-    ∙ ap (λ w. (e.0, as_place e.1 w)) (sym (saw-skipped n (look r (moved n v.place)) v.reach v.least v.place.behind v.place.ahead h))
+    ∙ ap (λ w. (e.0, as_place e.1 w)) (sym (saw-skipped n (look r (moved n v.place)) v.reach v.least v.place.before v.place.ahead h))
 sight-is (eat_run test k) v h =
     let rest = k (run test v.place) in
     let n = prefix_len test v.place.ahead in
@@ -294,7 +294,7 @@ sight-is (eat_run test k) v h =
     let l = look rest (past test v.place) in
     let u = saw (suc n) v in
     sight-is (k (run test v.place)) (went n u) (covers-went n u (covers-saw (suc n) v h))
-    ∙ ap (λ w. (e.0, as_place e.1 w)) (sym (saw-skipped n l u.reach u.least v.place.behind v.place.ahead (covers-saw (suc n) v h)))
+    ∙ ap (λ w. (e.0, as_place e.1 w)) (sym (saw-skipped n l u.reach u.least v.place.before v.place.ahead (covers-saw (suc n) v h)))
     ∙ ap (λ k. (e.0, as_place e.1 (saw_by k u))) (sym (from_far-is n l v.place.ahead (prefix-most test v.place.ahead)))
     ∙ ap (λ w. (e.0, as_place e.1 (saw_by (from_far n l) w))) (sym (saw-ahead (suc n) v h))
     ∙ ap (λ w. (e.0, as_place e.1 w)) (sym (saw-both (record { back = 0; front = suc n }) (from_far n l) v))
@@ -336,54 +336,54 @@ pub ran : (n : ℕ) (z y w : Place) (o : Option ℕ) (r l m e : ℕ) → m ≡ m
     → ◌≡◌ {A = Sight} (record { place = y; reach = m; least = l }) (went n (saw (suc n) (record { place = z; reach = r; least = l })))
 ran n z y w o r l m e g f p h q =
     let up : suc (0 + n) ≡ suc n = omega arith in
-    let one = far-read 0 y w o e f p h ∙ ap (far 1) q ∙ far-moved 0 n z.behind z.ahead ∙ ap (λ k. far k z) up in
+    let one = far-read 0 y w o e f p h ∙ ap (far 1) q ∙ far-moved 0 n z.before z.ahead ∙ ap (λ k. far k z) up in
     same-sight _ _ _ _ _ _ q (omega (arith, g, one, far-next n z)) refl
 
 pub two-moved : (z y x : Place) → y ≡ moved 1 z → x ≡ moved 1 y → x ≡ moved 2 z
-two-moved z y x e f = f ∙ ap (moved 1) e ∙ moved-more 1 1 z.behind z.ahead
+two-moved z y x e f = f ∙ ap (moved 1) e ∙ moved-more 1 1 z.before z.ahead
 
 pub two-scout : (z y : Place) (o : Option ℕ) → y ≡ moved 1 z → o ≡ scout 0 y → o ≡ scout 1 z
-two-scout z y o e f = f ∙ ap (scout 0) e ∙ second z.behind z.ahead
+two-scout z y o e f = f ∙ ap (scout 0) e ∙ second z.before z.ahead
   where
     second : (b a : List ℕ) → scout 0 (moved_from 1 b a) ≡ slice_get a 1
     second b [] = refl
     second b (c ∷ a) = refl
 
 -- where a look begins that read a character last
-pub start-is : (z y : Place) (o : Option ℕ) (e : ℕ) → e ≡ (if is_none o then 0 else position y + 1) → y ≡ moved_back z → o ≡ slice_get z.behind 0 → e ≡ near 1 z
+pub start-is : (z y : Place) (o : Option ℕ) (e : ℕ) → e ≡ (if is_none o then 0 else position y + 1) → y ≡ moved_back z → o ≡ slice_get z.before 0 → e ≡ near 1 z
 start-is z y None e f g h = f ∙ near-start z h
 start-is z y (Some c) e f g h = let one : position y + 1 ≡ suc (position y) = omega arith in f ∙ one ∙ ap (λ w. suc (position w)) g ∙ near-some z c h
 
 -- and further back
-back-on-one : (n : ℕ) (z y : Place) → y ≡ moved_back z → (slice_get y.behind n ≡ slice_get z.behind (suc n)) × (near (suc n) y ≡ near (suc (suc n)) z)
+back-on-one : (n : ℕ) (z y : Place) → y ≡ moved_back z → (slice_get y.before n ≡ slice_get z.before (suc n)) × (near (suc n) y ≡ near (suc (suc n)) z)
 unfolding near stretch position width
-back-on-one n z y e = rw e (by z.behind z.ahead)
+back-on-one n z y e = rw e (by z.before z.ahead)
   where
-    by : (b a : List ℕ) → (slice_get (back_from b a).behind n ≡ slice_get b (suc n)) × (near (suc n) (back_from b a) ≡ near (suc (suc n)) (place b a))
+    by : (b a : List ℕ) → (slice_get (back_from b a).before n ≡ slice_get b (suc n)) × (near (suc n) (back_from b a) ≡ near (suc (suc n)) (place b a))
     by [] a = (refl, refl)
     by (c ∷ b) a = (refl, omega arith)
 
-pub second-start-is : (z y x : Place) (o : Option ℕ) (e : ℕ) → e ≡ (if is_none o then 0 else position x + 1) → y ≡ moved_back z → x ≡ moved_back y → o ≡ slice_get y.behind 0
-    → (o ≡ slice_get z.behind 1) × (e ≡ near 2 z)
+pub second-start-is : (z y x : Place) (o : Option ℕ) (e : ℕ) → e ≡ (if is_none o then 0 else position x + 1) → y ≡ moved_back z → x ≡ moved_back y → o ≡ slice_get y.before 0
+    → (o ≡ slice_get z.before 1) × (e ≡ near 2 z)
 second-start-is z y x o e f g h k = let b = back-on-one 0 z y g in (k ∙ b.0, start-is y x o e f h k ∙ b.1)
 
-pub third-start-is : (z y x w : Place) (o : Option ℕ) (e : ℕ) → e ≡ (if is_none o then 0 else position w + 1) → y ≡ moved_back z → x ≡ moved_back y → w ≡ moved_back x → o ≡ slice_get x.behind 0
-    → (o ≡ slice_get z.behind 2) × (e ≡ near 3 z)
+pub third-start-is : (z y x w : Place) (o : Option ℕ) (e : ℕ) → e ≡ (if is_none o then 0 else position w + 1) → y ≡ moved_back z → x ≡ moved_back y → w ≡ moved_back x → o ≡ slice_get x.before 0
+    → (o ≡ slice_get z.before 2) × (e ≡ near 3 z)
 third-start-is z y x w o e f g h i k = let b = back-on-one 1 z y g in let s = second-start-is y x w o e f h i k in (s.0 ∙ b.0, s.1 ∙ b.1)
 
-pub glanced : (n : ℕ) (z : Place) (r l m s : ℕ) → m ≡ min l s → s ≡ near n z → ◌≡◌ {A = Sight} (record { place = z; reach = r; least = m }) (saw_behind n (record { place = z; reach = r; least = l }))
+pub glanced : (n : ℕ) (z : Place) (r l m s : ℕ) → m ≡ min l s → s ≡ near n z → ◌≡◌ {A = Sight} (record { place = z; reach = r; least = m }) (saw_back n (record { place = z; reach = r; least = l }))
 glanced n z r l m s g f = same-sight _ _ _ _ _ _ refl refl (g ∙ ap (min l) f)
 
 -- ---- the text around a place
 
-pub text-on : (n : ℕ) (b a : List ℕ) → reverse (moved_from n b a).behind ++ (moved_from n b a).ahead ≡ reverse b ++ a
+pub text-on : (n : ℕ) (b a : List ℕ) → reverse (moved_from n b a).before ++ (moved_from n b a).ahead ≡ reverse b ++ a
 text-on zero b a = refl
 text-on (suc n) b [] = refl
 text-on (suc n) b (c ∷ a) = text-on n (c ∷ b) a ∙ ap (λ t. t ++ a) (reverse-append (c ∷ []) b) ∙ append_assoc (reverse b) (c ∷ []) a
 
 text-moved : (n : ℕ) (z : Place) → text_of (moved n z) ≡ text_of z
 unfolding text_of
-text-moved n z = ap encode_utf8_all (text-on n z.behind z.ahead)
+text-moved n z = ap encode_utf8_all (text-on n z.before z.ahead)
 
 -- a reader stays in its text
 pub text-read : {M A : Type 0} (r : Reader M A) (z : Place) → text_of (exec r z).1 ≡ text_of z

@@ -22,7 +22,7 @@ module _ {A M : Type 0} (step : M → ℕ → Turn M) (state : M) (k : M → Rea
   pub step-go : (after : M) (c : ℕ) (v w : Sight) → Covers v → Some c ≡ scout 0 v.place → w ≡ went 1 v → step state c ≡ go after
       → sight (eat_span (by_character step) state k) v ≡ sight (eat_span (by_character step) after k) w
   step-go after c v w h e f t =
-      step-at c v.reach v.least v.place.behind v.place.ahead e h
+      step-at c v.reach v.least v.place.before v.place.ahead e h
       ∙ ap (turned_sight (by_character step) state k (saw 1 v)) t
       ∙ ap (sight (eat_span (by_character step) after k)) (went-seen v ∙ sym f)
 
@@ -30,13 +30,13 @@ module _ {A M : Type 0} (step : M → ℕ → Turn M) (state : M) (k : M → Rea
   pub step-last : (after : M) (c : ℕ) (v w : Sight) → Covers v → Some c ≡ scout 0 v.place → w ≡ went 1 v → step state c ≡ last after
       → sight (eat_span (by_character step) state k) v ≡ sight (k after) w
   step-last after c v w h e f t =
-      step-at c v.reach v.least v.place.behind v.place.ahead e h
+      step-at c v.reach v.least v.place.before v.place.ahead e h
       ∙ ap (turned_sight (by_character step) state k (saw 1 v)) t
       ∙ ap (sight (k after)) (went-seen v ∙ sym f)
 
   -- the text ends
   pub step-end : (v : Sight) → Covers v → None ≡ scout 0 v.place → sight (eat_span (by_character step) state k) v ≡ sight (k state) (saw 1 v)
-  step-end v h e = at-end v.place.behind v.place.ahead v.reach v.least h e
+  step-end v h e = at-end v.place.before v.place.ahead v.reach v.least h e
     where
       at-end : (b a : List ℕ) (r l : ℕ) → Covers (record { place = place b a; reach = r; least = l }) → None ≡ slice_get a 0
           → sight (eat_span (by_character step) state k) (record { place = place b a; reach = r; least = l }) ≡ sight (k state) (saw 1 (record { place = place b a; reach = r; least = l }))
@@ -45,7 +45,7 @@ module _ {A M : Type 0} (step : M → ℕ → Turn M) (state : M) (k : M → Rea
 
 -- who reaches the end by eating looked at it
 pub end-seen : (v : Sight) → None ≡ scout 0 v.place → saw 1 v ≡ went 1 v
-end-seen v e = at-end v.place.behind v.place.ahead v.reach v.least e
+end-seen v e = at-end v.place.before v.place.ahead v.reach v.least e
   where
     at-end : (b a : List ℕ) (r l : ℕ) → None ≡ slice_get a 0 → ◌≡◌ {A = Sight} (saw 1 (record { place = place b a; reach = r; least = l })) (went 1 (record { place = place b a; reach = r; least = l }))
     at-end b [] r l e = refl

@@ -92,7 +92,7 @@ flow-looks k c b a e = by (way k c (slice_get a 0) e)
     by (by_letter h g) = (2, (ap (λ x. widened 0 1 (glimpse (text_step k x) (place b (x ∷ a)))) h ∙ (letter-is k b a g).1, omega arith))
 
 pub rest-past : (k : CharClasses) (v : Sight) → Covers v → sight (rest k) v ≡ sight (rest k) (went_past_pairs (flowing k) v)
-rest-past k v h = sight-pairs (in_text k) blank (flowing k) (λ _. answer (plain kind.Text)) (flow-goes k) (flow-looks k) v.place.behind v.place.ahead v.reach v.least h
+rest-past k v h = sight-pairs (in_text k) blank (flowing k) (λ _. answer (plain kind.Text)) (flow-goes k) (flow-looks k) v.place.before v.place.ahead v.reach v.least h
 
 module _ (k : CharClasses) (c : ℕ) (v w : Sight) (h : Covers v) (s : saw 1 v ≡ v) (t : Turn Memory) (g : regard (text_step k c) v ≡ (t, w)) where
   both-are : ◌≡◌ {A = Turn Memory × Sight} (ask (text_step k c) v.place, saw_by (glimpse (text_step k c) v.place) v) (t, w)
@@ -121,13 +121,13 @@ step-at k c b (d ∷ a) r l w t h s g e =
 
 -- a text goes on through a character, or leaves it
 pub rest-on : (k : CharClasses) (c : ℕ) (v w : Sight) → Covers v → saw 1 v ≡ v → Some c ≡ scout 0 v.place → regard (text_step k c) v ≡ (go blank, w) → sight (rest k) v ≡ sight (rest k) (went 1 w)
-rest-on k c v w h s e g = step-at k c v.place.behind v.place.ahead v.reach v.least w (go blank) h s g e
+rest-on k c v w h s e g = step-at k c v.place.before v.place.ahead v.reach v.least w (go blank) h s g e
 
 pub rest-off : (k : CharClasses) (c : ℕ) (v w : Sight) → Covers v → saw 1 v ≡ v → Some c ≡ scout 0 v.place → regard (text_step k c) v ≡ (leave, w) → sight (rest k) v ≡ (plain kind.Text, w)
-rest-off k c v w h s e g = step-at k c v.place.behind v.place.ahead v.reach v.least w leave h s g e
+rest-off k c v w h s e g = step-at k c v.place.before v.place.ahead v.reach v.least w leave h s g e
 
 pub rest-end : (k : CharClasses) (v : Sight) → Covers v → saw 1 v ≡ v → None ≡ scout 0 v.place → sight (rest k) v ≡ (plain kind.Text, v)
-rest-end k v h s e = at-end v.place.behind v.place.ahead v.reach v.least h s e
+rest-end k v h s e = at-end v.place.before v.place.ahead v.reach v.least h s e
   where
     at-end : (b a : List ℕ) (r l : ℕ) → Covers (record { place = place b a; reach = r; least = l })
         → saw 1 (record { place = place b a; reach = r; least = l }) ≡ record { place = place b a; reach = r; least = l } → None ≡ slice_get a 0
@@ -148,7 +148,7 @@ rest-covers k c v w t h g = subst Covers (ap (λ (p : Turn Memory × Sight). p.1
 
 -- behind a character and a run fewer are ahead
 pub rest-shortens : (test : ℕ → Option ℕ → Bool) (c : ℕ) (z y : Place) → y ≡ z → Some c ≡ scout 0 z → length (past_pairs test (moved 1 y)).ahead < length z.ahead
-rest-shortens test c z y e s = rw e (shorter z.behind z.ahead s)
+rest-shortens test c z y e s = rw e (shorter z.before z.ahead s)
   where
     shorter : (b a : List ℕ) → Some c ≡ slice_get a 0 → length (past_pairs test (moved_from 1 b a)).ahead < length a
     shorter b [] s = absurd (cc)

@@ -7,11 +7,11 @@ use Rattle.typst_tokens.specs.Sight.{Sight, Covers, far, regard, saw_word, went,
 use Rattle.typst_tokens.proofs.Sights.{far-moved, far-none, same-sight}
 
 pub scout-moved : (n : ℕ) (p : Place) → scout n (moved 1 p) ≡ scout (suc n) p
-scout-moved n p = scout-from n p.behind p.ahead
+scout-moved n p = scout-from n p.before p.ahead
   where
-    scout-from : (n : ℕ) (behind ahead : List ℕ) → slice_get (moved_from 1 behind ahead).ahead n ≡ slice_get ahead (suc n)
-    scout-from n behind [] = refl
-    scout-from n behind (c ∷ ahead) = refl
+    scout-from : (n : ℕ) (before ahead : List ℕ) → slice_get (moved_from 1 before ahead).ahead n ≡ slice_get ahead (suc n)
+    scout-from n before [] = refl
+    scout-from n before (c ∷ ahead) = refl
 
 -- a word after the next character
 pub word_at-moved : (n : ℕ) (word : List ℕ) (p : Place) → word_at n word (moved 1 p) ≡ word_at (suc n) word p
@@ -22,7 +22,7 @@ pub word_reach-moved : (n : ℕ) (word : List ℕ) (p : Place) (r : ℕ) → wor
 word_reach-moved n [] p r = refl
 word_reach-moved n (c ∷ word) p r =
     let e : suc (n + 1) ≡ suc (suc n) = omega arith in
-    let f : far (suc n) (moved 1 p) ≡ far (suc (suc n)) p = far-moved n 1 p.behind p.ahead ∙ ap (λ m. far m p) e in
+    let f : far (suc n) (moved 1 p) ≡ far (suc (suc n)) p = far-moved n 1 p.before p.ahead ∙ ap (λ m. far m p) e in
     rw (scout-moved n p, f, word_reach-moved (suc n) word p (max r (far (suc (suc n)) p))) refl
 
 pub regard-see_word : {A : Type 0} (n : ℕ) (word : List ℕ) (found other : Step A) (v : Sight) → regard (see_word n word found other) v ≡ (if word_at n word v.place then regard found (saw_word n word v) else regard other (saw_word n word v))
@@ -82,10 +82,10 @@ pub record Looking (word : List ℕ) (z : Place) (first : ℕ) (n : ℕ) (at : P
 
 module _ (word : List ℕ) (z : Place) (first n : ℕ) (at next : Place) (r : ℕ) (o : Option ℕ) (lt : n < length word) (h : Looking word z first n at r) (e : o ≡ scout 0 at) (m : next ≡ moved 1 at) where
   here : o ≡ scout n z
-  here = e ∙ ap (scout 0) h.place ∙ scout-on n z.behind z.ahead
+  here = e ∙ ap (scout 0) h.place ∙ scout-on n z.before z.ahead
 
   far-here : far 1 at ≡ far (suc n) z
-  far-here = let q : suc (0 + n) ≡ suc n = omega arith in ap (far 1) h.place ∙ far-moved 0 n z.behind z.ahead ∙ ap (λ k. far k z) q
+  far-here = let q : suc (0 + n) ≡ suc n = omega arith in ap (far 1) h.place ∙ far-moved 0 n z.before z.ahead ∙ ap (λ k. far k z) q
 
   split : drop n word ≡ get_or word n 0 ∷ drop (suc n) word
   split = drop-cons word n 0 lt
@@ -105,7 +105,7 @@ module _ (word : List ℕ) (z : Place) (first n : ℕ) (at next : Place) (r : �
       rw q
       (record {
         found = found-is ∙ rw t refl;
-        place = m ∙ ap (moved 1) h.place ∙ moved-moved n z.behind z.ahead;
+        place = m ∙ ap (moved 1) h.place ∙ moved-moved n z.before z.ahead;
         reach = reach-is ∙ rw t refl;
       })
 

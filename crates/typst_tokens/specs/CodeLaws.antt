@@ -25,16 +25,16 @@ abbrev pub reach : ℕ → ℕ → Look
 reach back front = record { back = back; front = front }
 
 -- The look of the token that the character c begins, the token, and how many characters it takes.
-pub record Shows (k : CharClasses) (behind : List ℕ) (c : ℕ) (ahead : List ℕ) (l : Look) (t : Token) (n : ℕ) : Type 0 where
-  pub look : look (code k c) (place behind (c ∷ ahead)) ≡ l
-  pub token : (exec (code k c) (place behind (c ∷ ahead))).0 ≡ t
-  pub taken : eaten (code k c) (place behind (c ∷ ahead)) ≡ n
+pub record Shows (k : CharClasses) (before : List ℕ) (c : ℕ) (ahead : List ℕ) (l : Look) (t : Token) (n : ℕ) : Type 0 where
+  pub look : look (code k c) (place before (c ∷ ahead)) ≡ l
+  pub token : (exec (code k c) (place before (c ∷ ahead))).0 ≡ t
+  pub taken : eaten (code k c) (place before (c ∷ ahead)) ≡ n
 
 -- The looks of some tokens.
 pub record CodeLooks (beyond : CharClasses) : Type 0 where
   -- `let` and the space behind it, and the mark before it
   pub keyword : Shows (by_law beyond) [] 108 (codes "et x") (reach 1 4) (plain kind.Let) 3
-  -- after a dot two places behind count
+  -- after a dot two places before count
   pub after_dot : Shows (by_law beyond) (codes ".") 108 (codes "et") (reach 2 4) (plain kind.Ident) 3
   pub after_dots : Shows (by_law beyond) (codes "..") 108 (codes "et") (reach 2 4) (plain kind.Let) 3
   pub after_at : Shows (by_law beyond) (codes "@") 108 (codes "et") (reach 1 4) (plain kind.Ident) 3

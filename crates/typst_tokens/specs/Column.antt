@@ -7,7 +7,7 @@ use Rattle.typst_tokens.specs.Reader.{Look}
 
 -- The column of a place: the characters back to the last newline character, or to the start.
 unfoldable pub column_at : Place → ℕ
-column_at p = prefix_len in_line p.behind
+column_at p = prefix_len in_line p.before
 
 -- A column is looked for back to that newline character, or to the mark before the text.
 abbrev pub column_look : Place → Look

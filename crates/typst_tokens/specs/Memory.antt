@@ -4,12 +4,12 @@ use Rattle.std.specs.Prelude.{ℕ, Bool, List}
 pub data Memory : Type 0 where
   -- nothing
   blank : Memory
-  -- within a block comment: the character behind, or 0 where it ended a delimiter, and how many
+  -- within a block comment: the character before, or 0 where it ended a delimiter, and how many
   -- comments are open around the innermost one
   comment : ℕ → ℕ → Memory
-  -- within a raw text: how many backticks in a row close it, and how many stand behind
+  -- within a raw text: how many backticks in a row close it, and how many stand before
   fence : ℕ → ℕ → Memory
   -- within a link: the closing brackets that are still to come, the innermost first
   brackets : List ℕ → Memory
-  -- within a string: whether a backslash behind takes the next character
+  -- within a string: whether a backslash before takes the next character
   quoted : Bool → Memory

@@ -4,7 +4,7 @@ use Rattle.std.specs.Prelude.{◌≡◌, ℕ, zero, suc, ◌+◌, ◌-◌, max, 
 use Rattle.typst_lines.specs.Place.{Place, moved, scout, passes, run, past}
 use Rattle.std.specs.List.{prefix_len}
 
--- how many places behind and ahead were looked at, of the text with one mark before its first character and one after its last
+-- how many places before and ahead were looked at, of the text with one mark before its first character and one after its last
 pub record Look : Type 0 where
   pub back : ℕ
   pub front : ℕ
@@ -33,7 +33,7 @@ skip_look (suc n) [] l = from_before [] l
 skip_look (suc n) (c ∷ ahead) l = from_before (c ∷ ahead) (skip_look n ahead l)
 
 abbrev pub place : List ℕ → List ℕ → Place
-place behind ahead = record { behind = behind; ahead = ahead }
+place before ahead = record { before = before; ahead = ahead }
 
 -- ---- questions at one place
 
@@ -42,18 +42,18 @@ pub data Step (A : Type 0) : Type 0 where
   turn : A → Step A
   -- the character n places ahead
   see : ℕ → (Option ℕ → Step A) → Step A
-  -- the character behind
-  see_behind : (Option ℕ → Step A) → Step A
+  -- the character before
+  see_back : (Option ℕ → Step A) → Step A
 
 abbrev pub ask : {A : Type 0} → Step A → Place → A
 ask (turn a) p = a
 ask (see n k) p = ask (k (scout n p)) p
-ask (see_behind k) p = ask (k (slice_get p.behind 0)) p
+ask (see_back k) p = ask (k (slice_get p.before 0)) p
 
 abbrev pub glimpse : {A : Type 0} → Step A → Place → Look
 glimpse (turn a) p = no_look
 glimpse (see n k) p = widened 0 (suc n) (glimpse (k (scout n p)) p)
-glimpse (see_behind k) p = widened 1 0 (glimpse (k (slice_get p.behind 0)) p)
+glimpse (see_back k) p = widened 1 0 (glimpse (k (slice_get p.before 0)) p)
 
 -- a word that stands n places ahead is looked at up to the first character that differs
 abbrev pub see_word : {A : Type 0} → ℕ → List ℕ → Step A → Step A → Step A
@@ -79,16 +79,16 @@ by_character step memory = see 0 (λ c. turn (elim c [ None ↦ leave | Some c �
 
 -- the characters that a machine takes, and its memory at the end
 abbrev pub spanned : {M : Type 0} → Machine M → M → List ℕ → List ℕ → List ℕ × M
-spanned m state behind [] = ([], state)
-spanned m state behind (c ∷ ahead) =
-    elim (ask (m state) (place behind (c ∷ ahead)))
-    [ leave ↦ ([], state) | last after ↦ (c ∷ [], after) | go after ↦ (let r = spanned m after (c ∷ behind) ahead in (c ∷ r.0, r.1)) ]
+spanned m state before [] = ([], state)
+spanned m state before (c ∷ ahead) =
+    elim (ask (m state) (place before (c ∷ ahead)))
+    [ leave ↦ ([], state) | last after ↦ (c ∷ [], after) | go after ↦ (let r = spanned m after (c ∷ before) ahead in (c ∷ r.0, r.1)) ]
 
 abbrev pub span_look : {M : Type 0} → Machine M → M → List ℕ → List ℕ → Look
-span_look m state behind [] = record { back = 0; front = 1 }
-span_look m state behind (c ∷ ahead) =
-    widened 0 1 (both (glimpse (m state) (place behind (c ∷ ahead)))
-    (elim (ask (m state) (place behind (c ∷ ahead))) [ leave ↦ no_look | last after ↦ no_look | go after ↦ from_before (c ∷ ahead) (span_look m after (c ∷ behind) ahead) ]))
+span_look m state before [] = record { back = 0; front = 1 }
+span_look m state before (c ∷ ahead) =
+    widened 0 1 (both (glimpse (m state) (place before (c ∷ ahead)))
+    (elim (ask (m state) (place before (c ∷ ahead))) [ leave ↦ no_look | last after ↦ no_look | go after ↦ from_before (c ∷ ahead) (span_look m after (c ∷ before) ahead) ]))
 
 -- ---- readers
 
@@ -98,7 +98,7 @@ pub data Reader (M A : Type 0) : Type 0 where
   answer : A → Reader M A
   -- the character n places ahead
   peek : ℕ → (Option ℕ → Reader M A) → Reader M A
-  -- the character n places behind
+  -- the character n places before
   glance : ℕ → (Option ℕ → Reader M A) → Reader M A
   -- the characters that a machine takes, which stay ahead, and its memory at the end
   span : Machine M → M → (List ℕ → M → Reader M A) → Reader M A
@@ -115,8 +115,8 @@ pub data Reader (M A : Type 0) : Type 0 where
 abbrev pub exec : {M A : Type 0} → Reader M A → Place → A × Place
 exec (answer a) p = (a, p)
 exec (peek n k) p = exec (k (scout n p)) p
-exec (glance n k) p = exec (k (slice_get p.behind n)) p
-exec (span m state k) p = let r = spanned m state p.behind p.ahead in exec (k r.0 r.1) p
+exec (glance n k) p = exec (k (slice_get p.before n)) p
+exec (span m state k) p = let r = spanned m state p.before p.ahead in exec (k r.0 r.1) p
 exec (eat r) p = exec r (moved 1 p)
 exec (see_run test k) p = exec (k (run test p)) p
 exec (skip n r) p = exec r (moved n p)
@@ -126,8 +126,8 @@ exec (eat_run test k) p = exec (k (run test p)) (past test p)
 abbrev pub eaten : {M A : Type 0} → Reader M A → Place → ℕ
 eaten (answer a) p = 0
 eaten (peek n k) p = eaten (k (scout n p)) p
-eaten (glance n k) p = eaten (k (slice_get p.behind n)) p
-eaten (span m state k) p = let r = spanned m state p.behind p.ahead in eaten (k r.0 r.1) p
+eaten (glance n k) p = eaten (k (slice_get p.before n)) p
+eaten (span m state k) p = let r = spanned m state p.before p.ahead in eaten (k r.0 r.1) p
 eaten (eat r) p = suc (eaten r (moved 1 p))
 eaten (see_run test k) p = eaten (k (run test p)) p
 eaten (skip n r) p = min n (length p.ahead) + eaten r (moved n p)
@@ -136,8 +136,8 @@ eaten (eat_run test k) p = prefix_len test p.ahead + eaten (k (run test p)) (pas
 abbrev pub look : {M A : Type 0} → Reader M A → Place → Look
 look (answer a) p = no_look
 look (peek n k) p = widened 0 (suc n) (look (k (scout n p)) p)
-look (glance n k) p = widened (suc n) 0 (look (k (slice_get p.behind n)) p)
-look (span m state k) p = let r = spanned m state p.behind p.ahead in both (span_look m state p.behind p.ahead) (look (k r.0 r.1) p)
+look (glance n k) p = widened (suc n) 0 (look (k (slice_get p.before n)) p)
+look (span m state k) p = let r = spanned m state p.before p.ahead in both (span_look m state p.before p.ahead) (look (k r.0 r.1) p)
 look (eat r) p = from_before p.ahead (look r (moved 1 p))
 look (see_run test k) p = widened 0 (suc (prefix_len test p.ahead)) (look (k (run test p)) p)
 look (skip n r) p = skip_look n p.ahead (look r (moved n p))
@@ -165,7 +165,7 @@ marked (c ∷ cs) = Some c ∷ marked cs
 
 -- two places agree on a look
 pub record Agree (l : Look) (p q : Place) : Type 0 where
-  pub behind : take l.back (marked p.behind) ≡ take l.back (marked q.behind)
+  pub before : take l.back (marked p.before) ≡ take l.back (marked q.before)
   pub ahead : take l.front (marked p.ahead) ≡ take l.front (marked q.ahead)
 
 -- what was read is the same

@@ -5,7 +5,7 @@ use Rattle.std.specs.Coded.{Coded, code_by, coded×, coded_ℕ}
 use Rattle.std.specs.List.{prefix_len}
 use Rattle.typst_lines.specs.Place.{Place, place_code, char_width, moved, scout, passes, run}
 use Rattle.typst_tokens.specs.Reader.{Look, Step, Reader, spanned, span_look}
-use Rattle.typst_tokens.specs.Reader.Step.{turn, see, see_behind}
+use Rattle.typst_tokens.specs.Reader.Step.{turn, see, see_back}
 use Rattle.typst_tokens.specs.Reader.Reader.{answer, peek, glance, span, eat, see_run, skip, eat_run}
 use Rattle.typst_tokens.specs.declared.hull.Hull.{Hull}
 
@@ -16,7 +16,7 @@ width (c ∷ cs) = char_width c + width cs
 
 -- the byte offset of a place
 unfoldable pub position : Place → ℕ
-position z = width z.behind
+position z = width z.before
 
 -- how many bytes n places take, the mark at the end one of them
 unfoldable pub stretch : ℕ → List ℕ → ℕ
@@ -28,13 +28,13 @@ stretch (suc n) (c ∷ cs) = char_width c + stretch n cs
 unfoldable pub far : ℕ → Place → ℕ
 far n z = position z + stretch n z.ahead
 
--- where n places behind begin, counted from the mark before the text
+-- where n places before begin, counted from the mark before the text
 unfoldable pub near : ℕ → Place → ℕ
-near n z = suc (position z) - stretch n z.behind
+near n z = suc (position z) - stretch n z.before
 
 -- the text around a place
 unfoldable pub text_of : Place → List ℕ
-text_of z = encode_utf8_all (reverse z.behind ++ z.ahead)
+text_of z = encode_utf8_all (reverse z.before ++ z.ahead)
 
 -- the bytes that a look at a place spans
 abbrev pub hull_of : Look → Place → Hull
@@ -61,9 +61,9 @@ fresh z = record { place = z; reach = position z; least = suc (position z) }
 abbrev pub saw : ℕ → Sight → Sight
 saw n v = record v { reach = max v.reach (far n v.place) }
 
--- n places behind were looked at
-abbrev pub saw_behind : ℕ → Sight → Sight
-saw_behind n v = record v { least = min v.least (near n v.place) }
+-- n places before were looked at
+abbrev pub saw_back : ℕ → Sight → Sight
+saw_back n v = record v { least = min v.least (near n v.place) }
 
 abbrev pub saw_by : Look → Sight → Sight
 saw_by l v = record v { reach = max v.reach (far l.front v.place); least = min v.least (near l.back v.place) }
@@ -88,16 +88,16 @@ saw_word n word v = record v { reach = word_reach n word v.place v.reach }
 abbrev pub regard : {A : Type 0} → Step A → Sight → A × Sight
 regard (turn a) v = (a, v)
 regard (see n k) v = regard (k (scout n v.place)) (saw (suc n) v)
-regard (see_behind k) v = regard (k (slice_get v.place.behind 0)) (saw_behind 1 v)
+regard (see_back k) v = regard (k (slice_get v.place.before 0)) (saw_back 1 v)
 
 -- the answer of a reader, where it was given, and what was looked at for it
 abbrev pub sight : {M A : Type 0} → Reader M A → Sight → A × Sight
 sight (answer a) v = (a, v)
 sight (peek n k) v = sight (k (scout n v.place)) (saw (suc n) v)
-sight (glance n k) v = sight (k (slice_get v.place.behind n)) (saw_behind (suc n) v)
+sight (glance n k) v = sight (k (slice_get v.place.before n)) (saw_back (suc n) v)
 sight (span m state k) v =
-    let r = spanned m state v.place.behind v.place.ahead in
-    sight (k r.0 r.1) (saw_by (span_look m state v.place.behind v.place.ahead) v)
+    let r = spanned m state v.place.before v.place.ahead in
+    sight (k r.0 r.1) (saw_by (span_look m state v.place.before v.place.ahead) v)
 sight (eat r) v = sight r (went 1 v)
 sight (see_run test k) v = sight (k (run test v.place)) (saw (suc (prefix_len test v.place.ahead)) v)
 sight (skip n r) v = sight r (went n v)

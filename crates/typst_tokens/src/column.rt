@@ -7,7 +7,7 @@ ghost use Rattle.typst_tokens.specs.Sight.{hull_of};
 use crate::hull::Hull;
 use typst_lines::{Scanner, is_newline};
 
-/// How many characters stand between the last newline character behind, or the text's start, and
+/// How many characters stand between the last newline character before, or the text's start, and
 /// here; and what was looked at for it.
 #[inline(never)]
 pub fn column(s: &Scanner<'_>) -> (usize, Hull)
@@ -15,11 +15,11 @@ pub fn column(s: &Scanner<'_>) -> (usize, Hull)
     ensures hull { result.1 ≡ hull_of (spec.column_look (place s.now)) (place s.now) }
 {
     let reach = s.cursor();
-    let mut behind = *s;
+    let mut at = *s;
     let mut count = 0usize;
-    'back: while let Some(c) = behind.uneat() {
+    'back: while let Some(c) = at.uneat() {
         if is_newline(c) {
-            let least = behind.cursor() + 1;
+            let least = at.cursor() + 1;
             return (count, Hull { reach, least });
         }
         count = count.saturating_add(1);

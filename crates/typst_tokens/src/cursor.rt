@@ -114,42 +114,42 @@ impl<'a> Cursor<'a> {
         c
     }
 
-    /// The character behind.
+    /// The character before.
     #[inline]
     pub fn last(&mut self) -> Option<char>
-        ensures last { result ≡ slice_get self.old.place.behind 0 }
-        ensures sight { self.new ≡ spec.saw_behind 1 self.old }
+        ensures last { result ≡ slice_get self.old.place.before 0 }
+        ensures sight { self.new ≡ spec.saw_back 1 self.old }
     {
-        let mut behind = self.s;
-        let c = behind.uneat();
-        self.least = self.least.min(start_of(&behind, c));
+        let mut before = self.s;
+        let c = before.uneat();
+        self.least = self.least.min(start_of(&before, c));
         c
     }
 
-    /// The character before the one behind.
+    /// The character before the last.
     #[inline]
     pub fn second_last(&mut self) -> Option<char>
-        ensures second_last { result ≡ slice_get self.old.place.behind 1 }
-        ensures sight { self.new ≡ spec.saw_behind 2 self.old }
+        ensures second_last { result ≡ slice_get self.old.place.before 1 }
+        ensures sight { self.new ≡ spec.saw_back 2 self.old }
     {
-        let mut behind = self.s;
-        behind.uneat();
-        let c = behind.uneat();
-        self.least = self.least.min(start_of(&behind, c));
+        let mut before = self.s;
+        before.uneat();
+        let c = before.uneat();
+        self.least = self.least.min(start_of(&before, c));
         c
     }
 
-    /// The character two before the one behind.
+    /// The character two before the last.
     #[inline]
     pub fn third_last(&mut self) -> Option<char>
-        ensures third_last { result ≡ slice_get self.old.place.behind 2 }
-        ensures sight { self.new ≡ spec.saw_behind 3 self.old }
+        ensures third_last { result ≡ slice_get self.old.place.before 2 }
+        ensures sight { self.new ≡ spec.saw_back 3 self.old }
     {
-        let mut behind = self.s;
-        behind.uneat();
-        behind.uneat();
-        let c = behind.uneat();
-        self.least = self.least.min(start_of(&behind, c));
+        let mut before = self.s;
+        before.uneat();
+        before.uneat();
+        let c = before.uneat();
+        self.least = self.least.min(start_of(&before, c));
         c
     }
 

@@ -1,58 +1,96 @@
 //! Does the jobs that users of the library wait for, on texts that it makes from a seed, and prints a
-//! digest of all that came out.
+//! digest of all that came out; or repeats one call on the text on standard input, and tells the time.
 #![tactic(auto)]
 
 mod broken;
 mod changed;
 mod digest;
 mod document;
+mod edited;
 mod job;
 mod opening;
 mod outside;
 mod positions;
 mod random;
+#[cfg(test)]
+mod tests;
 mod typing;
 mod walking;
+mod work;
 
 use digest::Outcome;
 use job::Job;
 use std::alloc::Global;
-use std::env;
+use std::time::Instant;
+use std::{env, io};
+use work::Work;
 
 const USAGE: &str =
-    "usage: typst_workloads typing|blocks|broken|walking|opening|outside|positions|all SEED ROUNDS [check]";
+    "usage: typst_workloads typing|blocks|broken|walking|opening|outside|positions|all SEED ROUNDS [check]\n       typst_workloads lines|parse|parse-code|parse-math|html|edit N";
 
-/// Reads the words `JOB SEED ROUNDS`, does the job on so many rounds of inputs, and prints how many
-/// results were held against others made anew, how many agreed, and the digest of all results. The word
-/// `check` behind them leaves the digest out. Where a result differs, it ends with an error. Without words
-/// it prints which ones it takes.
+/// Without words it prints which ones it takes.
 fn main(rt: HostRuntime) -> anyhow::Result<()> {
-    let alloc = rt.alloc();
-    let words = words(&rt, alloc)?;
-    let (name, seed, rounds, is_check) = match words.as_slice() {
-        [] => {
-            println!(rt; "{USAGE}")?;
-            return Ok(());
+    let words = words(&rt, rt.alloc())?;
+    match words.as_slice() {
+        [] => println!(rt; "{USAGE}")?,
+        [work, rounds] => repeat(&rt, work.as_str(), rounds.as_str())?,
+        [jobs, seed, rounds] => do_jobs(&rt, jobs.as_str(), seed.as_str(), rounds.as_str(), false)?,
+        [jobs, seed, rounds, check] if check.as_str() == "check" => {
+            do_jobs(&rt, jobs.as_str(), seed.as_str(), rounds.as_str(), true)?;
         }
-        [name, seed, rounds] => (name, seed, rounds, false),
-        [name, seed, rounds, check] if check.as_str() == "check" => (name, seed, rounds, true),
         _ => anyhow::bail!("{USAGE}"),
-    };
-    let seed = seed.as_str().parse::<u64>()?;
-    let rounds = rounds.as_str().parse::<usize>()?;
-    let jobs = Job::named(name.as_str());
+    }
+    Ok(())
+}
+
+/// Does the jobs of a name on so many rounds of inputs, and prints how many results were held against
+/// others made anew, how many agreed, and where it isn't only a check the digest of all results. Where a
+/// result differs, it ends with an error.
+fn do_jobs(
+    rt: &HostRuntime,
+    name: &str,
+    seed: &str,
+    rounds: &str,
+    is_check: bool,
+) -> anyhow::Result<()> {
+    let seed = seed.parse::<u64>()?;
+    let rounds = rounds.parse::<usize>()?;
+    let jobs = Job::named(name);
     if jobs.is_empty() {
         anyhow::bail!("{USAGE}");
     }
     let mut all_agree = true;
     for job in jobs {
-        let outcome = job.run(alloc, seed, rounds)?;
-        report(&rt, *job, &outcome, is_check)?;
+        let outcome = job.run(rt.alloc(), seed, rounds)?;
+        report(rt, *job, &outcome, is_check)?;
         all_agree = all_agree && outcome.differing.is_none();
     }
     if !all_agree {
         anyhow::bail!("some results differ from those made in another way");
     }
+    Ok(())
+}
+
+/// Does the work of a name so many times on the text on standard input, and prints
+/// `WORD bytes B checksum C` on standard output and the nanoseconds of a round on standard error.
+fn repeat(rt: &HostRuntime, word: &str, rounds: &str) -> anyhow::Result<()> {
+    let alloc = rt.alloc();
+    let Some(work) = Work::from_word(word) else {
+        anyhow::bail!("{USAGE}");
+    };
+    let rounds = rounds.parse::<u64>()?;
+    let text = io::read_to_string(alloc, rt.reader())?;
+    let bytes = text.len();
+    let mut subject = work.subject(alloc, text)?;
+    let start = Instant::now(rt)?;
+    let mut checksum = 0u64;
+    for _ in 0..rounds {
+        checksum = checksum.rotate_left(1) ^ subject.round(alloc)?;
+    }
+    let nanoseconds = start.elapsed(rt)?.as_nanos() / u128::from(rounds.max(1));
+    let word = work.word();
+    println!(rt; "{word} bytes {bytes} checksum {checksum}")?;
+    eprintln!(rt; "{nanoseconds}")?;
     Ok(())
 }
 

@@ -1,40 +1,58 @@
-use Rattle.std.proofs.Common.{◌≡◌, ◌+◌, ◌*◌, ◌-◌, ◌++◌, min, suc, length, take, arith, sym, ap, ◌∙◌, ℕ, List}
+use Rattle.std.proofs.Common.{◌≡◌, ◌+◌, ◌*◌, ◌-◌, ◌≤◌, ◌++◌, ◌∷◌, [], min, suc, length, take, arith, sym, ap, ◌∙◌, ℕ, List, length-append}
 use Rattle.std.specs.Prelude.{map}
+use Rattle.std.proofs.lemmas.List.{length-map, take-take}
 use Rattle.typst_tree.specs.Tree.{Tree}
 use Rattle.typst_candidates.specs.Candidates.{Candidate, laid, of_stretches, stretches}
 use Rattle.typst_candidates.specs.Rows.{bytes_of, spelled}
+use Rattle.typst_candidates.specs.declared.candidate.Candidate as found
 use Rattle.typst_candidates.proofs.Found.{first_of_run, no_more, last_piece, next_piece, one_piece, not_all, all_by_test}
+use Rattle.typst_candidates.proofs.Windows.{added_front, in_window}
 use Rattle.typst_candidates.proofs.candidate.add_pieces.Goals as goal
 
 all_first : (at : ℕ) (ts : List Tree) (cuts : List ℕ) (i j : ℕ) (path : List ℕ) (room : ℕ) (cs : List Candidate)
     → cs ++ of_stretches path at ts (stretches cuts (laid at ts) i j (min room (suc (length ts))) 1) ≡ cs ++ take room (of_stretches path at ts (stretches cuts (laid at ts) i j (suc (length ts)) 1))
 all_first at ts cuts i j path room cs = ap (λ (ds : List Candidate). cs ++ ds) (first_of_run path cuts at ts i j room (suc (length ts)) 1)
 
-pub returns : goal.returns
-returns c = λ path.
-    let over : min c.args.room (suc (length c.args.row.now.kids.now)) - c.loop.counter ≡ 0 = omega (arith, c.loop-test.false, c.len.ensures.value) in
-    no_more (take c.args.depth path) (bytes_of c.args.cuts.now) c.args.row.now.at c.args.row.now.kids.now c.args.near.first.index c.args.near.end.index _ c.loop.more (map (spelled path) c.loop.found.items) over
-    ∙ (c.loop.invariant path ∙ all_first c.args.row.now.at c.args.row.now.kids.now (bytes_of c.args.cuts.now) c.args.near.first.index c.args.near.end.index (take c.args.depth path) c.args.room (map (spelled path) c.args.found.now.items))
+pub returns-clause-added : goal.returns-clause-added
+returns-clause-added c = λ bs e path.
+    let over : min c.args.room (suc (length c.args.row.now.kids.now)) - c.loop-added.added ≡ 0 = omega (arith, c.loop-added-test.false, c.len.ensures.value) in
+    no_more (take c.args.depth path) bs c.args.row.now.at c.args.row.now.kids.now c.args.near.first.index c.args.near.end.index _ c.loop-added.more (map (spelled path) c.loop-added.found.items) over
+    ∙ (c.loop-added.invariant.left bs e path ∙ all_first c.args.row.now.at c.args.row.now.kids.now bs c.args.near.first.index c.args.near.end.index (take c.args.depth path) c.args.room (map (spelled path) c.args.found.now.items))
 
-pub returns-then-is_all : goal.returns-then-is_all
-returns-then-is_all c = λ path.
+pub returns-then-not-lies_in-clause-added : goal.returns-then-not-lies_in-clause-added
+returns-then-not-lies_in-clause-added c = λ bs e path.
+    let ts = c.args.row.now.kids.now in
+    let ends : min c.args.room (suc (length ts)) ≤ c.args.room = omega arith in
+    let less : c.loop-added.added ≤ c.args.room = omega (arith, c.loop-added-test.true) in
+    let long : length (map (spelled path) c.loop-added.found.items) ≡ length (map (spelled path) c.args.found.now.items) + c.loop-added.added = omega (arith, c.loop-added.invariant.many, length-map c.loop-added.found.items (spelled path), length-map c.args.found.now.items (spelled path)) in
+    added_front (map (spelled path) c.loop-added.found.items) _ (map (spelled path) c.args.found.now.items) _ c.loop-added.added
+    (c.loop-added.invariant.left bs e path ∙ all_first c.args.row.now.at ts bs c.args.near.first.index c.args.near.end.index (take c.args.depth path) c.args.room (map (spelled path) c.args.found.now.items)) long
+    ∙ ap (λ (ds : List Candidate). map (spelled path) c.args.found.now.items ++ ds) (take-take c.loop-added.added c.args.room _ less)
+
+pub returns-then-is_all-clause-added : goal.returns-then-is_all-clause-added
+returns-then-is_all-clause-added c = λ bs e path.
     let w = c.around-stretch.ensures in
-    let is = one_piece path c.args.depth c.args.row.now.at c.args.row.now.kids.now c.around-stretch.result _ c.of_stretch.result w.from w.to w.value c.of_stretch.ensures in
-    sym (last_piece (bytes_of c.args.cuts.now) c.args.row.now.at c.args.row.now.kids.now c.args.near.first.index c.args.near.end.index path c.args.depth (min c.args.room (suc (length c.args.row.now.kids.now))) c.loop.counter c.loop.more c.loop.found.items c.push.new.self.items c.of_stretch.result
-    (omega (arith, c.loop-test.true, c.len.ensures.value)) c.in_ok-push.ensures.items is (all_by_test (laid c.args.row.now.at c.args.row.now.kids.now) _ _ _ w.value (sym c.is_all.ensures ∙ c.if-is_all.true)))
-    ∙ (c.loop.invariant path ∙ all_first c.args.row.now.at c.args.row.now.kids.now (bytes_of c.args.cuts.now) c.args.near.first.index c.args.near.end.index (take c.args.depth path) c.args.room (map (spelled path) c.args.found.now.items))
+    let there = in_window c.args.cuts.now.window bs (bytes_of c.args.cuts.now) c.args.row.now.at c.args.row.now.kids.now c.args.near.first.index c.args.near.end.index c.loop-added.more c.around-stretch.result c.requires.order c.requires.end.within e w.from w.to w.value (sym c.lies_in.ensures ∙ c.if-not-lies_in.false) in
+    let is = one_piece path c.args.depth c.args.row.now.at c.args.row.now.kids.now c.around-stretch.result _ c.of_stretch.result w.from w.to there c.of_stretch.ensures in
+    sym (last_piece bs c.args.row.now.at c.args.row.now.kids.now c.args.near.first.index c.args.near.end.index path c.args.depth (min c.args.room (suc (length c.args.row.now.kids.now))) c.loop-added.added c.loop-added.more c.loop-added.found.items c.push.new.self.items c.of_stretch.result
+    (omega (arith, c.loop-added-test.true, c.len.ensures.value)) c.in_ok-push.ensures.items is (all_by_test (laid c.args.row.now.at c.args.row.now.kids.now) _ _ _ there (sym c.is_all.ensures ∙ c.if-is_all.true)))
+    ∙ (c.loop-added.invariant.left bs e path ∙ all_first c.args.row.now.at c.args.row.now.kids.now bs c.args.near.first.index c.args.near.end.index (take c.args.depth path) c.args.room (map (spelled path) c.args.found.now.items))
 
 pub overflow_mul-more : goal.overflow_mul-more
 overflow_mul-more c =
-    let less = not_all (bytes_of c.args.cuts.now) c.args.row.now.at c.args.row.now.kids.now c.args.near.first.index c.args.near.end.index c.loop.more c.requires.first.within (all_by_test (laid c.args.row.now.at c.args.row.now.kids.now) _ _ _ c.around-stretch.ensures.value (sym c.is_all.ensures ∙ c.if-is_all.false)) in
+    let less = not_all (bytes_of c.args.cuts.now) c.args.row.now.at c.args.row.now.kids.now c.args.near.first.index c.args.near.end.index c.loop-added.more c.requires.first.within (all_by_test (laid c.args.row.now.at c.args.row.now.kids.now) _ _ _ c.around-stretch.ensures.value (sym c.is_all.ensures ∙ c.if-is_all.false)) in
     omega (arith, less, c.len.ensures.value, c.len.ensures.small)
 
-pub loop-preserved : goal.loop-preserved
-loop-preserved c = λ path.
-    let w = c.around-stretch.ensures in
-    let is = one_piece path c.args.depth c.args.row.now.at c.args.row.now.kids.now c.around-stretch.result _ c.of_stretch.result w.from w.to w.value c.of_stretch.ensures in
-    let twice : 2 * c.loop.more ≡ c.loop.more * 2 = omega arith in
-    sym (next_piece (bytes_of c.args.cuts.now) c.args.row.now.at c.args.row.now.kids.now c.args.near.first.index c.args.near.end.index path c.args.depth (min c.args.room (suc (length c.args.row.now.kids.now))) c.loop.counter c.loop.more c.loop.found.items c.push.new.self.items c.of_stretch.result
-    (omega (arith, c.loop-test.true, c.len.ensures.value)) c.in_ok-push.ensures.items is (all_by_test (laid c.args.row.now.at c.args.row.now.kids.now) _ _ _ w.value (sym c.is_all.ensures ∙ c.if-is_all.false))
-    ∙ ap (λ (x : ℕ). map (spelled path) c.push.new.self.items ++ of_stretches (take c.args.depth path) c.args.row.now.at c.args.row.now.kids.now (stretches (bytes_of c.args.cuts.now) (laid c.args.row.now.at c.args.row.now.kids.now) c.args.near.first.index c.args.near.end.index (min c.args.room (suc (length c.args.row.now.kids.now)) - (c.loop.counter + 1)) x)) twice)
-    ∙ c.loop.invariant path
+pub loop-added-preserved : goal.loop-added-preserved
+loop-added-preserved c = record {
+  many = omega (arith, c.loop-added.invariant.many, ap (λ (ds : List found.Candidate). length ds) c.in_ok-push.ensures.items, length-append c.loop-added.found.items (c.of_stretch.result ∷ []));
+  left = λ bs e path.
+      (let w = c.around-stretch.ensures in
+      let there = in_window c.args.cuts.now.window bs (bytes_of c.args.cuts.now) c.args.row.now.at c.args.row.now.kids.now c.args.near.first.index c.args.near.end.index c.loop-added.more c.around-stretch.result c.requires.order c.requires.end.within e w.from w.to w.value (sym c.lies_in.ensures ∙ c.if-not-lies_in.false) in
+      let is = one_piece path c.args.depth c.args.row.now.at c.args.row.now.kids.now c.around-stretch.result _ c.of_stretch.result w.from w.to there c.of_stretch.ensures in
+      let twice : 2 * c.loop-added.more ≡ c.loop-added.more * 2 = omega arith in
+      sym (next_piece bs c.args.row.now.at c.args.row.now.kids.now c.args.near.first.index c.args.near.end.index path c.args.depth (min c.args.room (suc (length c.args.row.now.kids.now))) c.loop-added.added c.loop-added.more c.loop-added.found.items c.push.new.self.items c.of_stretch.result
+      (omega (arith, c.loop-added-test.true, c.len.ensures.value)) c.in_ok-push.ensures.items is (all_by_test (laid c.args.row.now.at c.args.row.now.kids.now) _ _ _ there (sym c.is_all.ensures ∙ c.if-is_all.false))
+      ∙ ap (λ (x : ℕ). map (spelled path) c.push.new.self.items ++ of_stretches (take c.args.depth path) c.args.row.now.at c.args.row.now.kids.now (stretches bs (laid c.args.row.now.at c.args.row.now.kids.now) c.args.near.first.index c.args.near.end.index (min c.args.room (suc (length c.args.row.now.kids.now)) - (c.loop-added.added + 1)) x)) twice)
+      ∙ c.loop-added.invariant.left bs e path);
+}

@@ -1,7 +1,7 @@
 use Rattle.std.proofs.Common.{◌++◌, [], ◌∷◌, ap, sym, ◌∙◌}
 use Rattle.std.specs.Prelude.{codes}
-use Rattle.typst_highlight.specs.Html.{plain, read}
-use Rattle.typst_highlight.proofs.Reading.{text_first}
+use Rattle.typst_parser.specs.Html.{plain, read}
+use Rattle.typst_parser.proofs.Reading.{text_first}
 use Rattle.typst_cli.proofs.html.answer.Goals as goal
 
 pub returns-clause-shown : goal.returns-clause-shown

@@ -1,7 +1,7 @@
 use Rattle.std.proofs.Common.{◌≡◌, ◌∙◌, ◌<◌, Some, None, ap, sym, arith, length, slice_get}
 use Rattle.std.specs.String.{string_bytes}
 use Rattle.std.proofs.lemmas.Option.{slice_get-get_or}
-use Rattle.typst_lines.specs.Lines.{line_table}
+use Rattle.typst_parser.specs.Lines.{line_table}
 use Rattle.typst_cli.proofs.PrintedLemmas.{rows-printed}
 use Rattle.typst_cli.proofs.lines.answer.Goals as goal
 use Rattle.typst_cli.proofs.lines.answer.Goals.{in-Some+in_ok-push_row, in_default}

@@ -1,6 +1,6 @@
 use Rattle.std.proofs.Common.{◌≡◌, ◌++◌, drop}
 use Rattle.std.specs.String.{string_bytes}
-use Rattle.typst_lines.specs.Lines.{line_table}
+use Rattle.typst_parser.specs.Lines.{line_table}
 use Rattle.typst_cli.specs.Printed.{rows}
 use Rattle.typst_cli.proofs.lines.answer.Given as goal
 

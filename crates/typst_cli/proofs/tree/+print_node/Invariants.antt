@@ -1,5 +1,5 @@
 use Rattle.std.proofs.Common.{◌≡◌, ◌+◌, ◌<◌, ◌≤◌, ◌++◌, length, drop, string_bytes}
-use Rattle.typst_tree.specs.Tree.{forest, joined, text_of, count, nodes}
+use Rattle.typst_parser.specs.Tree.{forest, joined, text_of, count, nodes}
 use Rattle.typst_cli.specs.PrintedTree.{lines, node_lines, deeper}
 use Rattle.typst_cli.proofs.tree.+print_node.Given as goal
 

@@ -4,7 +4,7 @@ use Rattle.std.proofs.lemmas.Iterator.Consumers.{YieldsList-turn, YieldsList-end
 use Rattle.std.proofs.lemmas.List.{length_push, at_drop_all}
 use Rattle.std.specs.Str.{chars}
 use Rattle.std.specs.String.{string_bytes}
-use Rattle.typst_lines.specs.Newline.{is_newline}
+use Rattle.typst_parser.specs.Newline.{is_newline}
 use Rattle.typst_cli.specs.PrintedTree.{spaced}
 use Rattle.typst_cli.proofs.Printing.{spaced_more}
 use Rattle.typst_cli.proofs.tree.print_message.Goals as goal

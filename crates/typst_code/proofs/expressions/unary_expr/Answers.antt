@@ -9,4 +9,4 @@ pub returns : goal.returns
 unfolding unary_expr
 returns g c l h =
     does-node (λ _. becomes kind.Unary) h.sound c.marker-from.ensures.few c.marker-from.ensures.marker
-    (does-next (c.in_ok-eat.ensures l h) (rw (sym c.precedence.ensures) ((c.in_ok-deeper.ensures tt refl l h).does))) c.in_ok-wrap.ensures.wrapped
+    (does-next (c.in_ok-eat.ensures l h) (rw (sym c.precedence.ensures) (c.in_ok-deeper_code_expr.ensures l h))) c.in_ok-wrap.ensures.wrapped

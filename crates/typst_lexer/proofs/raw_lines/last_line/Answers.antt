@@ -1,7 +1,7 @@
 use Rattle.std.proofs.Common.{sym, ap, ◌∙◌}
 use Rattle.std.specs.Str.{chars}
 use Rattle.typst_lines.specs.Scanner.{place}
-use Rattle.typst_lexer.proofs.Moves.{start-ahead, start-behind, end-next, line-shorter}
+use Rattle.typst_lexer.proofs.Moves.{start-ahead, start-before, end-next, line-shorter}
 use Rattle.typst_lexer.proofs.Loops.{row-first, row-step, last-line}
 use Rattle.typst_lexer.proofs.raw_lines.last_line.Goals as goal
 
@@ -9,7 +9,7 @@ pub loop-start-init : goal.loop-start-init
 loop-start-init c =
     let p = place c.new-s.result in
     let text = c.args.text.now in
-    (c.eat_while-line.utf8, row-first (chars text) (chars c.eat_while-line.result.now) p (place c.eat_while-line.new.self) (ap (λ q. q.behind) c.new-s.ensures.place ∙ start-behind text) (ap (λ q. q.ahead) c.new-s.ensures.place ∙ start-ahead text) c.eat_while-line.ensures.moved c.eat_while-line.ensures.taken)
+    (c.eat_while-line.utf8, row-first (chars text) (chars c.eat_while-line.result.now) p (place c.eat_while-line.new.self) (ap (λ q. q.before) c.new-s.ensures.place ∙ start-before text) (ap (λ q. q.ahead) c.new-s.ensures.place ∙ start-ahead text) c.eat_while-line.ensures.moved c.eat_while-line.ensures.taken)
 
 pub loop-start-smaller : goal.loop-start-smaller
 loop-start-smaller c =

@@ -8,4 +8,4 @@ use Rattle.typst_lexer.proofs.token_laws.look_of_a_comment.Goals as goal
 
 pub returns : goal.returns
 unfolding token of_mode hash slash star markup whitespace line_comment block_comment line_ends text sign text_from minus hyphen emphasis marker_or_text
-returns c = λ k. record { look = refl; shorter = record { agree = record { behind = refl; ahead = refl }; first = refl; second = refl; first_taken = refl; second_taken = refl } }
+returns c = λ k. record { look = refl; shorter = record { agree = record { before = refl; ahead = refl }; first = refl; second = refl; first_taken = refl; second_taken = refl } }

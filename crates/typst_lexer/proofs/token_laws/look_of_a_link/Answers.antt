@@ -6,4 +6,4 @@ use Rattle.typst_lexer.proofs.token_laws.look_of_a_link.Goals as goal
 
 pub returns : goal.returns
 unfolding token of_mode markup link_or_text link
-returns c = λ k. record { look = refl; shorter = record { agree = record { behind = refl; ahead = refl }; first = refl; second = refl; first_taken = refl; second_taken = refl } }
+returns c = λ k. record { look = refl; shorter = record { agree = record { before = refl; ahead = refl }; first = refl; second = refl; first_taken = refl; second_taken = refl } }

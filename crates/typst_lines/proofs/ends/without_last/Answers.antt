@@ -1,6 +1,6 @@
 use Rattle.std.proofs.Common.{◌≡◌, reverse, sym, ap, ◌∙◌}
 use Rattle.std.specs.Str.{chars}
-use Rattle.typst_lines.proofs.CommonEnds.{behind-all}
+use Rattle.typst_lines.proofs.CommonEnds.{before-all}
 use Rattle.typst_lines.specs.Scanner.{place}
 use Rattle.typst_lines.proofs.Trimmed.{stripped, strip-step, strip-stop}
 use Rattle.typst_lines.proofs.ends.without_last.Goals as goal
@@ -8,7 +8,7 @@ use Rattle.typst_lines.proofs.ends.without_last.Goals as goal
 pub loop-c-init : goal.loop-c-init
 loop-c-init g c =
     let text = c.args.text.now in
-    let all : (place c.jump.new.self).behind ≡ reverse (chars text) = rw (c.jump.ensures.moved, c.new-s.ensures.text) (behind-all text) in
+    let all : (place c.jump.new.self).before ≡ reverse (chars text) = rw (c.jump.ensures.moved, c.new-s.ensures.text) (before-all text) in
     ap (stripped (g.S.CharSet.members c.args.set.now)) all
 
 pub returns-then-not-has : goal.returns-then-not-has

@@ -5,7 +5,7 @@ use Rattle.typst_lines.proofs.Trimmed.{stripped}
 use Rattle.typst_lines.proofs.ends.without_last.Given as goal
 
 abbrev pub invariant-loop-c : goal.invariant-loop-c
-invariant-loop-c g l = let test = g.S.CharSet.members l.set in stripped test (place l.s).behind ≡ stripped test (reverse (chars l.text))
+invariant-loop-c g l = let test = g.S.CharSet.members l.set in stripped test (place l.s).before ≡ stripped test (reverse (chars l.text))
 
 abbrev pub decreases-loop-c : goal.decreases-loop-c
-decreases-loop-c g l = length (place l.s).behind
+decreases-loop-c g l = length (place l.s).before

@@ -7,4 +7,4 @@ use Rattle.typst_markup.proofs.attachments.operand.Goals as goal
 
 pub returns : goal.returns
 unfolding operand
-returns g c l h = does-node (λ _. keeps unparened) h.sound c.marker-from.ensures.few c.marker-from.ensures.marker ((c.in_ok-deeper.ensures tt refl l h).does) c.in_ok-change.ensures
+returns g c l h = does-node (λ _. keeps unparened) h.sound c.marker-from.ensures.few c.marker-from.ensures.marker (c.in_ok-deeper_math_expr.ensures l h) c.in_ok-change.ensures

@@ -13,4 +13,4 @@ pub returns : goal.returns
 unfolding embedded_expr
 returns g c l h =
     does-next (does-peek _) (does-other (rw (sym c.current.ensures, sym c.had_trivia.ensures) (sym c.is_bare.ensures ∙ c.if-is_bare.false))
-    (does-next ((c.in_ok-deeper.ensures tt refl l h).does) (rw (sym (c.begins_statement-is_statement.ensures ∙ ap begins_statement c.current-2.ensures)) (c.in_ok-embedded_end.ensures l h))))
+    (does-next (c.in_ok-deeper_code_expr.ensures l h) (rw (sym (c.begins_statement-is_statement.ensures ∙ ap begins_statement c.current-2.ensures)) (c.in_ok-embedded_end.ensures l h))))

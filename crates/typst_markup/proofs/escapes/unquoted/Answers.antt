@@ -11,15 +11,15 @@ without_last-push [] c = refl
 without_last-push (x ∷ []) c = refl
 without_last-push (x ∷ y ∷ xs) c = ap (λ t. x ∷ t) (without_last-push (y ∷ xs) c)
 
-back-behind : (rs ahead : List ℕ) → reverse (back_from rs ahead).behind ≡ without_last (reverse rs)
-back-behind [] ahead = refl
-back-behind (c ∷ rs) ahead = sym (ap without_last (reverse-append (c ∷ []) rs) ∙ without_last-push (reverse rs) c)
+back-before : (rs ahead : List ℕ) → reverse (back_from rs ahead).before ≡ without_last (reverse rs)
+back-before [] ahead = refl
+back-before (c ∷ rs) ahead = sym (ap without_last (reverse-append (c ∷ []) rs) ∙ without_last-push (reverse rs) c)
 
 -- all but the last character of a text
-before-last : (text : List ℕ) → reverse (moved_back (place_at text (length text))).behind ≡ without_last (chars text)
+before-last : (text : List ℕ) → reverse (moved_back (place_at text (length text))).before ≡ without_last (chars text)
 unfolding place_at
 before-last text =
-    back-behind (reverse (chars (take (length text) text))) _
+    back-before (reverse (chars (take (length text) text))) _
     ∙ ap without_last (reverse-reverse (chars (take (length text) text)) ∙ ap chars (take-length text))
 
 -- all but the first
@@ -27,7 +27,7 @@ after-first : (text : List ℕ) → (moved 1 (place_at text 0)).ahead ≡ drop 1
 unfolding place_at
 after-first text = first (chars text)
   where
-    first : (cs : List ℕ) → (moved 1 (record { behind = reverse (chars (take 0 text)); ahead = cs })).ahead ≡ drop 1 cs
+    first : (cs : List ℕ) → (moved 1 (record { before = reverse (chars (take 0 text)); ahead = cs })).ahead ≡ drop 1 cs
     first [] = refl
     first (c ∷ cs) = refl
 
@@ -37,4 +37,4 @@ returns c =
     let rest : chars text ≡ drop 1 (chars c.args.text.now) = c.after.ensures.characters ∙ ap (λ p. p.ahead) (c.eat.ensures.moved ∙ ap (moved 1) c.new-first.ensures.place) ∙ after-first c.args.text.now in
     let same : c.after-2.result.now ≡ text = c.after-2.ensures.bytes ∙ sym c.after.ensures.bytes in
     let end = ap (λ t. place_at t (length c.after-2.result.now)) c.new-last.ensures.text ∙ ap (λ t. place_at text (length t)) same in
-    c.before-2.ensures.characters ∙ ap (λ p. reverse p.behind) (c.uneat.ensures.moved ∙ ap moved_back (c.jump.ensures.moved ∙ end)) ∙ before-last text ∙ ap without_last rest
+    c.before-2.ensures.characters ∙ ap (λ p. reverse p.before) (c.uneat.ensures.moved ∙ ap moved_back (c.jump.ensures.moved ∙ end)) ∙ before-last text ∙ ap without_last rest

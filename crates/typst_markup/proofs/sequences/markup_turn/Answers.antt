@@ -21,10 +21,7 @@ returns-then-ends g c l h = does-next (does-peek _) (does-pick (ap (ends (stops_
 pub returns : goal.returns
 unfolding markup_turn
 returns g c l h =
-    let made = c.in_ok-answered.ensures c.args.state.1 refl l h in
-    let same = c.brackets-nesting.ensures made.answer made.is in
+    let nesting = c.in_ok-nesting.nesting in
     let has_newline = c.had_newline-has_newline.result in
-    let noted = subst (λ n. Does l (note_piece c.args.is_run has_newline n) tt c.deeper.new.p c.note_piece.new.p) same (c.in_ok-note_piece.ensures l h) in
-    rw same
-    (does-next (does-peek _) (does-other (ap (ends (stops_at c.args.stop) c.args.state.1) (sym c.current.ensures) ∙ sym c.ends.ensures ∙ c.if-ends.false)
-    (does-next made.does (noted-behind l c.args.is_run has_newline made.answer c.deeper.new.p c.note_piece.new.p c.had_newline-has_newline.ensures noted))))
+    does-next (does-peek _) (does-other (ap (ends (stops_at c.args.stop) c.args.state.1) (sym c.current.ensures) ∙ sym c.ends.ensures ∙ c.if-ends.false)
+    (does-next (c.in_ok-nesting.ensures l h) (noted-behind l c.args.is_run has_newline nesting c.deeper_markup_expr.new.p c.note_piece.new.p c.had_newline-has_newline.ensures (c.in_ok-note_piece.ensures l h))))

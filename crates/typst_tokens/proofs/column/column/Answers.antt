@@ -4,7 +4,7 @@ use Rattle.std.specs.List.{prefix_len}
 use Rattle.typst_lines.specs.Place.{Place}
 use Rattle.typst_lines.specs.Scanner.{place}
 use Rattle.typst_lines.specs.Classes.{in_line}
-use Rattle.typst_tokens.proofs.Columns.{same-hull, behind-most, some-behind, back-is, line-more, column-back, column-least, column-start, back-smaller}
+use Rattle.typst_tokens.proofs.Columns.{same-hull, before-most, some-before, back-is, line-more, column-back, column-least, column-start, back-smaller}
 use Rattle.typst_tokens.specs.Column.{column_at}
 use Rattle.typst_tokens.specs.Sight.{position}
 use Rattle.typst_tokens.proofs.Sights.{offset-is, far-none}
@@ -17,17 +17,17 @@ back-init c = record { rest = zero-add _; near = refl; before = omega arith; siz
 pub back-preserved : goal.back-preserved
 back-preserved c =
     let s = c.args.s.now in
-    let z = place c.back.behind in
+    let z = place c.back.at in
     let w = place c.uneat.new.self in
-    let first = some-behind z.behind c.in-Some.c c.in-Some.ensures.last in
-    let rest = ap (λ (p : Place). p.behind) c.in-Some.ensures.moved ∙ back-is z c.in-Some.c c.in-Some.ensures.last in
-    let more = line-more z.behind _ c.in-Some.c first (sym c.is_newline.ensures ∙ c.if-is_newline.false) in
+    let first = some-before z.before c.in-Some.c c.in-Some.ensures.last in
+    let rest = ap (λ (p : Place). p.before) c.in-Some.ensures.moved ∙ back-is z c.in-Some.c c.in-Some.ensures.last in
+    let more = line-more z.before _ c.in-Some.c first (sym c.is_newline.ensures ∙ c.if-is_newline.false) in
     let same = ap (prefix_len in_line) rest in
     let long = ap length first in
     let long_rest = ap length rest in
     let i = c.back.invariant.rest in
     let j = c.back.invariant.size in
-    let most = behind-most s.text.now s.cursor (IsUtf8-had _ s.utf8) s.boundary in
+    let most = before-most s.text.now s.cursor (IsUtf8-had _ s.utf8) s.boundary in
     record {
       rest = omega arith;
       near = column-back (place s) z w c.in-Some.c c.back.invariant.near c.in-Some.ensures.last (sym c.is_newline.ensures ∙ c.if-is_newline.false) c.in-Some.ensures.moved;
@@ -38,7 +38,7 @@ back-preserved c =
 pub overflow_add-least : goal.overflow_add-least
 overflow_add-least c =
     let s = c.args.s.now in
-    let y = place c.back.behind in
+    let y = place c.back.at in
     let b = c.uneat.new.self in
     let at = offset-is b.text.now b.cursor (IsUtf8-had _ b.utf8) b.boundary ∙ ap position c.in-Some.ensures.moved in
     let whole = c.cursor-reach.ensures ∙ offset-is s.text.now s.cursor (IsUtf8-had _ s.utf8) s.boundary in
@@ -50,7 +50,7 @@ unfolding column_at
 returns-then-is_newline-clause-hull c =
     let s = c.args.s.now in
     let z = place s in
-    let y = place c.back.behind in
+    let y = place c.back.at in
     let b = c.uneat.new.self in
     let at = offset-is b.text.now b.cursor (IsUtf8-had _ b.utf8) b.boundary ∙ ap position c.in-Some.ensures.moved in
     same-hull _ _ _ _ (c.cursor-reach.ensures ∙ offset-is s.text.now s.cursor (IsUtf8-had _ s.utf8) s.boundary ∙ sym (far-none z))
@@ -61,4 +61,4 @@ returns-clause-hull c =
     let s = c.args.s.now in
     let z = place s in
     same-hull _ _ _ _ (c.cursor-reach.ensures ∙ offset-is s.text.now s.cursor (IsUtf8-had _ s.utf8) s.boundary ∙ sym (far-none z))
-    (column-start z (place c.back.behind) c.back.invariant.near c.in_default.ensures.last)
+    (column-start z (place c.back.at) c.back.invariant.near c.in_default.ensures.last)

@@ -1,4 +1,4 @@
-use Rattle.std.proofs.Common.{◌≡◌, ◌+◌, ◌-◌, ◌^◌, ◌≤◌, ◌<◌, ◌∙◌, ℕ, take, drop, ap, sym, subst, refl, arith}
+use Rattle.std.proofs.Common.{◌≡◌, ◌+◌, ◌∙◌, ℕ, ap, sym, subst, refl, arith}
 use Rattle.typst_candidates.specs.Cursors.{PassesBlock, Place, entry_behind, start_at}
 use Rattle.typst_candidates.specs.Entries.{end_of}
 use Rattle.typst_candidates.proofs.Blocks.{end-block}
@@ -6,7 +6,7 @@ use Rattle.typst_candidates.proofs.cursor.Cursor.pass_far_back.Goals as goal
 
 -- where a block begins that ends at a place
 begun : (old new : Place) (span : ℕ) → PassesBlock new old span → start_at old ≡ start_at new + span
-begun old new span p = ap start_at p.new_is ∙ end-block new.entries new.number 64 ∙ p.span_is (start_at new)
+begun old new span p = ap start_at p.new_is ∙ end-block new.entries new.number 16 ∙ p.span_is (start_at new)
 
 pub invariant_of-self-2 : goal.invariant_of-self-2
 invariant_of-self-2 c =

@@ -1,14 +1,13 @@
-use Rattle.std.proofs.Common.{◌≡◌, ◌+◌, ◌-◌, ◌≤◌, ◌++◌, length, drop}
-use Rattle.std.specs.Prelude.{vec_capacity, vec_len}
+use Rattle.std.proofs.Common.{◌≡◌, ◌-◌, ◌≤◌, ◌++◌, length, drop}
 use Rattle.typst_candidates.specs.Cursors.{pieces_of, start_at}
+use Rattle.typst_candidates.specs.Rows.{within}
 use Rattle.typst_candidates.proofs.cursor.Cursor.starts.Given as goal
 
 abbrev pub invariant-loop-entry : goal.invariant-loop-entry
 invariant-loop-entry l = record {
   entries : l.place.entries ≡ l.self.entries;
-  within : l.inside ≤ l.place.number;
-  room : vec_len l.starts + (length l.place.entries - l.place.number) ≤ vec_capacity l.starts;
-  later : l.starts.items ++ pieces_of l.inside (start_at l.place) (drop l.place.number l.self.entries) ≡ pieces_of 0 (start_at l.self) (drop l.self.number l.self.entries);
+  few : l.inside ≤ l.place.number;
+  later : l.starts.items ++ within l.window (pieces_of l.inside (start_at l.place) (drop l.place.number l.self.entries)) ≡ within l.window (pieces_of 0 (start_at l.self) (drop l.self.number l.self.entries));
 }
 
 abbrev pub decreases-loop-entry : goal.decreases-loop-entry

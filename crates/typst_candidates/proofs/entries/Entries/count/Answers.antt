@@ -6,4 +6,4 @@ use Rattle.typst_candidates.proofs.entries.Entries.count.Goals as goal
 pub returns : goal.returns
 returns c =
     let long : c.len.result ≡ length c.self.inside.words.items = omega arith in
-    long ∙ sym (unpacked-length c.self.inside.words.items c.self.inside.wide.items c.self.invariant) ∙ ap (λ (h : Held). length h.entries) c.self.view_is
+    long ∙ sym (unpacked-length c.self.inside.words.items c.self.inside.wide.items c.self.invariant.0) ∙ ap (λ (h : Held). length h.entries) c.self.view_is

@@ -1,6 +1,8 @@
 use Rattle.std.proofs.Common.{◌≡◌, suc, ◌+◌, ◌-◌, ◌≤◌, ◌%◌, ◌^◌, ◌++◌, length, take, drop, length-take-le, ap, sym, ◌∙◌, arith, rules}
 use Rattle.typst_candidates.specs.Entries.{end_of}
 use Rattle.typst_candidates.specs.Packed.{Held, lengths, spans, unpacked, wides}
+use Rattle.std.proofs.lemmas.List.{length-append, take-append-le}
+use Rattle.typst_candidates.proofs.Tallies.{fewer}
 use Rattle.typst_candidates.proofs.Rounds.{both-between}
 use Rattle.typst_candidates.proofs.Spans.{between}
 use Rattle.typst_candidates.proofs.Words.{few, put-entries, put-kept, sides, unpacked-length}
@@ -11,7 +13,7 @@ pub slice_bounds-between-end : goal.slice_bounds-between-end
 slice_bounds-between-end c =
     let same = ap length c.deref.ensures.value in
     let own = ap (λ (h : Held). length h.entries) c.self.view_is in
-    let long = unpacked-length c.self.inside.words.items c.self.inside.wide.items c.self.invariant in
+    let long = unpacked-length c.self.inside.words.items c.self.inside.wide.items c.self.invariant.0 in
     let order = c.requires.order in
     let within = c.requires.within in
     omega (arith, same, own, long, order, within)
@@ -20,7 +22,7 @@ pub slice_bounds-beside-end : goal.slice_bounds-beside-end
 slice_bounds-beside-end c =
     let same = ap length c.deref-2.ensures.value in
     let own = ap (λ (h : Held). length h.entries) c.self.view_is in
-    let long = unpacked-length c.self.inside.words.items c.self.inside.wide.items c.self.invariant in
+    let long = unpacked-length c.self.inside.words.items c.self.inside.wide.items c.self.invariant.0 in
     let order = c.requires.order in
     let within = c.requires.within in
     sym (length-take-le (c.args.from + 1) c.deref-2.result.now (omega (arith, same, own, long, order, within)))
@@ -28,14 +30,14 @@ slice_bounds-beside-end c =
 pub overflow_add-last : goal.overflow_add-last
 overflow_add-last c =
     let own = ap (λ (h : Held). length h.entries) c.self.view_is in
-    let long = unpacked-length c.self.inside.words.items c.self.inside.wide.items c.self.invariant in
+    let long = unpacked-length c.self.inside.words.items c.self.inside.wide.items c.self.invariant.0 in
     let order = c.requires.order in
     let within = c.requires.within in
     let ps = c.self.inside.words.items in
     let ws = c.self.inside.wide.items in
     let upto : c.args.to + 1 ≤ length ps = omega (arith, own, long, within) in
-    let b = between ps ws (c.args.from + 1) (c.args.to + 1) (omega (arith, order)) upto c.self.invariant in
-    let s = sides ps ws (c.args.from + 1) (c.args.to + 1) (omega (arith, order)) c.self.invariant in
+    let b = between ps ws (c.args.from + 1) (c.args.to + 1) (omega (arith, order)) upto c.self.invariant.0 in
+    let s = sides ps ws (c.args.from + 1) (c.args.to + 1) (omega (arith, order)) c.self.invariant.0 in
     let least = s.order in
     let most = s.within in
     let first : c.beside-first.result ≡ wides (take (c.args.from + 1) ps) = c.beside-first.ensures ∙ ap (λ us. wides (take (c.args.from + 1) us)) c.deref-2.ensures.value in
@@ -49,14 +51,14 @@ pub offset_bounds-deref-first : goal.offset_bounds-deref-first
 offset_bounds-deref-first c =
     let same = ap length c.deref-3.ensures.value in
     let own = ap (λ (h : Held). length h.entries) c.self.view_is in
-    let long = unpacked-length c.self.inside.words.items c.self.inside.wide.items c.self.invariant in
+    let long = unpacked-length c.self.inside.words.items c.self.inside.wide.items c.self.invariant.0 in
     let order = c.requires.order in
     let within = c.requires.within in
     let ps = c.self.inside.words.items in
     let ws = c.self.inside.wide.items in
     let upto : c.args.to + 1 ≤ length ps = omega (arith, own, long, within) in
-    let b = between ps ws (c.args.from + 1) (c.args.to + 1) (omega (arith, order)) upto c.self.invariant in
-    let s = sides ps ws (c.args.from + 1) (c.args.to + 1) (omega (arith, order)) c.self.invariant in
+    let b = between ps ws (c.args.from + 1) (c.args.to + 1) (omega (arith, order)) upto c.self.invariant.0 in
+    let s = sides ps ws (c.args.from + 1) (c.args.to + 1) (omega (arith, order)) c.self.invariant.0 in
     let least = s.order in
     let most = s.within in
     let first : c.beside-first.result ≡ wides (take (c.args.from + 1) ps) = c.beside-first.ensures ∙ ap (λ us. wides (take (c.args.from + 1) us)) c.deref-2.ensures.value in
@@ -70,14 +72,14 @@ pub slice_bounds-lengths-end : goal.slice_bounds-lengths-end
 slice_bounds-lengths-end c =
     let same = ap length c.deref-3.ensures.value in
     let own = ap (λ (h : Held). length h.entries) c.self.view_is in
-    let long = unpacked-length c.self.inside.words.items c.self.inside.wide.items c.self.invariant in
+    let long = unpacked-length c.self.inside.words.items c.self.inside.wide.items c.self.invariant.0 in
     let order = c.requires.order in
     let within = c.requires.within in
     let ps = c.self.inside.words.items in
     let ws = c.self.inside.wide.items in
     let upto : c.args.to + 1 ≤ length ps = omega (arith, own, long, within) in
-    let b = between ps ws (c.args.from + 1) (c.args.to + 1) (omega (arith, order)) upto c.self.invariant in
-    let s = sides ps ws (c.args.from + 1) (c.args.to + 1) (omega (arith, order)) c.self.invariant in
+    let b = between ps ws (c.args.from + 1) (c.args.to + 1) (omega (arith, order)) upto c.self.invariant.0 in
+    let s = sides ps ws (c.args.from + 1) (c.args.to + 1) (omega (arith, order)) c.self.invariant.0 in
     let least = s.order in
     let most = s.within in
     let first : c.beside-first.result ≡ wides (take (c.args.from + 1) ps) = c.beside-first.ensures ∙ ap (λ us. wides (take (c.args.from + 1) us)) c.deref-2.ensures.value in
@@ -89,16 +91,16 @@ slice_bounds-lengths-end c =
 pub replace-requires-clause-within : goal.replace-requires-clause-within
 replace-requires-clause-within c =
     let own = ap (λ (h : Held). length h.entries) c.self.view_is in
-    let long = unpacked-length c.self.inside.words.items c.self.inside.wide.items c.self.invariant in
+    let long = unpacked-length c.self.inside.words.items c.self.inside.wide.items c.self.invariant.0 in
     let within = c.requires.within in
     omega (arith, own, long, within)
 
 pub replace-requires-clause-room : goal.replace-requires-clause-room
 replace-requires-clause-room c =
     let own = ap (λ (h : Held). length h.entries) c.self.view_is in
-    let long = unpacked-length c.self.inside.words.items c.self.inside.wide.items c.self.invariant in
+    let long = unpacked-length c.self.inside.words.items c.self.inside.wide.items c.self.invariant.0 in
     let part = ap (λ (h : Held). length h.entries) c.part.view_is in
-    let part_long = unpacked-length c.part.inside.words.items c.part.inside.wide.items c.part.invariant in
+    let part_long = unpacked-length c.part.inside.words.items c.part.inside.wide.items c.part.invariant.0 in
     let same = ap length c.deref-4.ensures.value in
     let room = c.requires.room.0 in
     let words = ap (λ (h : Held). h.space.room) c.self.view_is in
@@ -110,14 +112,14 @@ replace-requires-2-clause-order c = omega arith
 pub replace-requires-2-clause-within : goal.replace-requires-2-clause-within
 replace-requires-2-clause-within c =
     let own = ap (λ (h : Held). length h.entries) c.self.view_is in
-    let long = unpacked-length c.self.inside.words.items c.self.inside.wide.items c.self.invariant in
+    let long = unpacked-length c.self.inside.words.items c.self.inside.wide.items c.self.invariant.0 in
     let order = c.requires.order in
     let within = c.requires.within in
     let ps = c.self.inside.words.items in
     let ws = c.self.inside.wide.items in
     let upto : c.args.to + 1 ≤ length ps = omega (arith, own, long, within) in
-    let b = between ps ws (c.args.from + 1) (c.args.to + 1) (omega (arith, order)) upto c.self.invariant in
-    let s = sides ps ws (c.args.from + 1) (c.args.to + 1) (omega (arith, order)) c.self.invariant in
+    let b = between ps ws (c.args.from + 1) (c.args.to + 1) (omega (arith, order)) upto c.self.invariant.0 in
+    let s = sides ps ws (c.args.from + 1) (c.args.to + 1) (omega (arith, order)) c.self.invariant.0 in
     let least = s.order in
     let most = s.within in
     let first : c.beside-first.result ≡ wides (take (c.args.from + 1) ps) = c.beside-first.ensures ∙ ap (λ us. wides (take (c.args.from + 1) us)) c.deref-2.ensures.value in
@@ -133,14 +135,14 @@ besides : (c : After-replace-2) → c.replace-2.new.items.items
     ≡ take (wides (take (c.args.from + 1) c.self.inside.words.items)) c.self.inside.wide.items ++ (c.part.inside.wide.items ++ drop (wides (take (c.args.to + 1) c.self.inside.words.items)) c.self.inside.wide.items)
 besides c =
     let own = ap (λ (h : Held). length h.entries) c.self.view_is in
-    let long = unpacked-length c.self.inside.words.items c.self.inside.wide.items c.self.invariant in
+    let long = unpacked-length c.self.inside.words.items c.self.inside.wide.items c.self.invariant.0 in
     let order = c.requires.order in
     let within = c.requires.within in
     let ps = c.self.inside.words.items in
     let ws = c.self.inside.wide.items in
     let upto : c.args.to + 1 ≤ length ps = omega (arith, own, long, within) in
-    let b = between ps ws (c.args.from + 1) (c.args.to + 1) (omega (arith, order)) upto c.self.invariant in
-    let s = sides ps ws (c.args.from + 1) (c.args.to + 1) (omega (arith, order)) c.self.invariant in
+    let b = between ps ws (c.args.from + 1) (c.args.to + 1) (omega (arith, order)) upto c.self.invariant.0 in
+    let s = sides ps ws (c.args.from + 1) (c.args.to + 1) (omega (arith, order)) c.self.invariant.0 in
     let least = s.order in
     let most = s.within in
     let first : c.beside-first.result ≡ wides (take (c.args.from + 1) ps) = c.beside-first.ensures ∙ ap (λ us. wides (take (c.args.from + 1) us)) c.deref-2.ensures.value in
@@ -156,16 +158,25 @@ besides c =
 within : (c : After-replace-2) → c.args.to + 1 ≤ length c.self.inside.words.items
 within c =
     let own = ap (λ (h : Held). length h.entries) c.self.view_is in
-    let long = unpacked-length c.self.inside.words.items c.self.inside.wide.items c.self.invariant in
+    let long = unpacked-length c.self.inside.words.items c.self.inside.wide.items c.self.invariant.0 in
     let h = c.requires.within in
     omega (arith, own, long, h)
 
 pub invariant_of-self : goal.invariant_of-self
 invariant_of-self c =
     let order = c.requires.order in
-    ap wides (words c)
-    ∙ put-kept c.self.inside.words.items c.part.inside.words.items c.self.inside.wide.items c.part.inside.wide.items (c.args.from + 1) (c.args.to + 1) (omega (arith, order)) (within c) c.self.invariant c.part.invariant
-    ∙ sym (ap length (besides c))
+    let ps = c.self.inside.words.items in
+    let front = take (c.args.from + 1) ps in
+    let rest = c.part.inside.words.items ++ drop (c.args.to + 1) ps in
+    let few = length-take-le (c.args.from + 1) ps (let w = within c in omega (arith, w, order)) in
+    let same : take (c.args.from + 1) c.replace.new.items.items ≡ front = ap (take (c.args.from + 1)) (words c) ∙ take-append-le (c.args.from + 1) front rest (omega (arith, few)) ∙ sym (fewer (c.args.from + 1) (c.args.from + 1) ps (omega arith)) in
+    let long = ap length (words c) in
+    let all = length-append front rest in (
+      ap wides (words c)
+          ∙ put-kept ps c.part.inside.words.items c.self.inside.wide.items c.part.inside.wide.items (c.args.from + 1) (c.args.to + 1) (omega (arith, order)) (within c) c.self.invariant.0 c.part.invariant.0
+          ∙ sym (ap length (besides c)),
+      c.upto-self-inside.ensures.same ps c.replace.new.items.items c.self.invariant.1 same (omega (arith, few, long, all)),
+    )
 
 pub returns-clause-entries : goal.returns-clause-entries
 returns-clause-entries c =
@@ -178,7 +189,7 @@ returns-clause-entries c =
     let b : c.args.to + 1 ≡ suc c.args.to = omega arith in
     ap (λ us. unpacked us c.replace-2.new.items.items) (words c)
     ∙ ap (unpacked (take (c.args.from + 1) ps ++ (qs ++ drop (c.args.to + 1) ps))) (besides c)
-    ∙ put-entries ps qs ws vs (c.args.from + 1) (c.args.to + 1) (omega (arith, order)) (within c) c.self.invariant c.part.invariant
+    ∙ put-entries ps qs ws vs (c.args.from + 1) (c.args.to + 1) (omega (arith, order)) (within c) c.self.invariant.0 c.part.invariant.0
     ∙ ap (λ n. take n (unpacked ps ws) ++ (unpacked qs vs ++ drop (c.args.to + 1) (unpacked ps ws))) a
     ∙ ap (λ n. take (suc c.args.from) (unpacked ps ws) ++ (unpacked qs vs ++ drop n (unpacked ps ws))) b
     ∙ ap (λ (h : Held). take (suc c.args.from) h.entries ++ (unpacked qs vs ++ drop (suc c.args.to) h.entries)) c.self.view_is
@@ -187,14 +198,14 @@ returns-clause-entries c =
 pub returns-clause-gone : goal.returns-clause-gone
 returns-clause-gone c =
     let own = ap (λ (h : Held). length h.entries) c.self.view_is in
-    let long = unpacked-length c.self.inside.words.items c.self.inside.wide.items c.self.invariant in
+    let long = unpacked-length c.self.inside.words.items c.self.inside.wide.items c.self.invariant.0 in
     let order = c.requires.order in
     let within = c.requires.within in
     let ps = c.self.inside.words.items in
     let ws = c.self.inside.wide.items in
     let upto : c.args.to + 1 ≤ length ps = omega (arith, own, long, within) in
-    let b = between ps ws (c.args.from + 1) (c.args.to + 1) (omega (arith, order)) upto c.self.invariant in
-    let s = sides ps ws (c.args.from + 1) (c.args.to + 1) (omega (arith, order)) c.self.invariant in
+    let b = between ps ws (c.args.from + 1) (c.args.to + 1) (omega (arith, order)) upto c.self.invariant.0 in
+    let s = sides ps ws (c.args.from + 1) (c.args.to + 1) (omega (arith, order)) c.self.invariant.0 in
     let least = s.order in
     let most = s.within in
     let first : c.beside-first.result ≡ wides (take (c.args.from + 1) ps) = c.beside-first.ensures ∙ ap (λ us. wides (take (c.args.from + 1) us)) c.deref-2.ensures.value in

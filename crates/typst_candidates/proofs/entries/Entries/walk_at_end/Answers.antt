@@ -16,5 +16,5 @@ returns c =
     let long : c.len.result ≡ length ps = omega arith in
     let es : unpacked c.deref.result.now c.deref-2.result.now ≡ c.args.self.now.entries =
     ap (λ us. unpacked us c.deref-2.result.now) c.deref.ensures.value ∙ ap (unpacked ps) c.deref-2.ensures.value ∙ ap (λ (h : Held). h.entries) c.self.view_is in
-    let n : c.len.result ≡ length c.args.self.now.entries = long ∙ sym (unpacked-length ps ws c.self.invariant) ∙ ap (λ (h : Held). length h.entries) c.self.view_is in
+    let n : c.len.result ≡ length c.args.self.now.entries = long ∙ sym (unpacked-length ps ws c.self.invariant.0) ∙ ap (λ (h : Held). length h.entries) c.self.view_is in
     ap (λ us. of us c.len.result) es ∙ ap (of c.args.self.now.entries) n

@@ -12,9 +12,9 @@ invariant_of-self c =
     let ps = c.self.inside.words.now in
     let inside = c.self.invariant.0 in
     let within = c.if-self-lt-BLOCK.false in
-    let long : (n + 64) - n ≡ 64 = omega arith in
-    let none : wides (take 64 (drop n ps)) ≡ 0 = sym (ap (λ k. wides (take k (drop n ps))) long) ∙ c.in_ok-span.ensures.0 in
-    let more = wides-more ps n 64 in
+    let long : (n + 16) - n ≡ 16 = omega arith in
+    let none : wides (take 16 (drop n ps)) ≡ 0 = sym (ap (λ k. wides (take k (drop n ps))) long) ∙ c.in_ok-span.ensures.0 in
+    let more = wides-more ps n 16 in
     let passed = c.self.invariant.1 in
     (omega (arith, inside, within), omega (arith, more, none, passed), c.self.invariant.2)
 
@@ -25,13 +25,13 @@ returns-clause-some c =
     let ws = c.self.inside.wide.now in
     let inside = c.self.invariant.0 in
     let within = c.if-self-lt-BLOCK.false in
-    let long : (n + 64) - n ≡ 64 = omega arith in
-    let none : wides (take 64 (drop n ps)) ≡ 0 = sym (ap (λ k. wides (take k (drop n ps))) long) ∙ c.in_ok-span.ensures.0 in
-    let sum : c.in_ok-span.span ≡ spans (take 64 (drop n ps)) = c.in_ok-span.ensures.1 ∙ ap (λ k. spans (take k (drop n ps))) long in
-    let fits : n + 64 ≤ length ps = omega (arith, inside, within) in
-    let b = block-of ps ws n 64 c.in_ok-span.span fits c.self.invariant.2 none sum in
+    let long : (n + 16) - n ≡ 16 = omega arith in
+    let none : wides (take 16 (drop n ps)) ≡ 0 = sym (ap (λ k. wides (take k (drop n ps))) long) ∙ c.in_ok-span.ensures.0 in
+    let sum : c.in_ok-span.span ≡ spans (take 16 (drop n ps)) = c.in_ok-span.ensures.1 ∙ ap (λ k. spans (take k (drop n ps))) long in
+    let fits : n + 16 ≤ length ps = omega (arith, inside, within) in
+    let b = block-of ps ws n 16 c.in_ok-span.span fits c.self.invariant.2 none sum in
     let count = unpacked-length ps ws c.self.invariant.2 in
     let less = c.if-span-most.false in (
-      subst (λ (p : Place). PassesBlock p (record { entries = unpacked ps ws; number = n + 64 }) c.in_ok-span.span) c.self.view_is (record { within = omega (arith, fits, count); new_is = refl; span_is = b.span_is; near = b.near }),
+      subst (λ (p : Place). PassesBlock p (record { entries = unpacked ps ws; number = n + 16 }) c.in_ok-span.span) c.self.view_is (record { within = omega (arith, fits, count); new_is = refl; span_is = b.span_is; near = b.near }),
       omega (arith, less),
     )

@@ -1,4 +1,4 @@
-use Rattle.std.proofs.Common.{◌≡◌, ℕ, suc, ◌+◌, ◌-◌, ◌^◌, ◌≤◌, ◌<◌, List, drop, length, length-drop, refl, ap, sym, subst, ◌∙◌, arith}
+use Rattle.std.proofs.Common.{◌≡◌, ℕ, suc, ◌+◌, ◌-◌, ◌≤◌, ◌<◌, List, drop, length, length-drop, refl, ap, sym, subst, ◌∙◌, arith}
 use Rattle.std.proofs.lemmas.List.{drop-drop}
 use Rattle.std.proofs.lemmas.Option.{slice_get_within}
 use Rattle.typst_candidates.specs.declared.entry.Entry.{Entry}
@@ -27,16 +27,16 @@ entries-preserved-in-Some c =
     let less = c.in-Some.ensures.1 in
     let most = c.saturating_sub.ensures in
     let inv = c.entries.invariant in
-    let number : q.number ≡ p.number + 64 = ap (λ (r : Place). r.number) passes.new_is in
+    let number : q.number ≡ p.number + 16 = ap (λ (r : Place). r.number) passes.new_is in
     let same : q.entries ≡ es = ap (λ (r : Place). r.entries) passes.new_is ∙ inv.entries in
     let long = ap length inv.entries in
     let left = inv.within in
     let fits = passes.within in
     let there = passes.span_is start in
-    let over = front-over 64 at start (drop p.number p.entries) (omega (arith, fits, length-drop p.number p.entries)) passes.near (omega (arith, there, less, most, left)) in
-    let rest : drop 64 (drop p.number p.entries) ≡ drop q.number es = drop-drop 64 p.number p.entries ∙ ap (λ m. drop m p.entries) (omega (arith, number)) ∙ ap (drop q.number) inv.entries in
+    let over = front-over 16 at start (drop p.number p.entries) (omega (arith, fits, length-drop p.number p.entries)) passes.near (omega (arith, there, less, most, left)) in
+    let rest : drop 16 (drop p.number p.entries) ≡ drop q.number es = drop-drop 16 p.number p.entries ∙ ap (λ m. drop m p.entries) (omega (arith, number)) ∙ ap (drop q.number) inv.entries in
     let before : front_of at start (drop p.number es) ≡ front_of at start (drop p.number p.entries) = ap (λ us. front_of at start (drop p.number us)) (sym inv.entries) in
-    let behind = ap (λ m. front_of at m (drop 64 (drop p.number p.entries))) there ∙ ap (front_of at (start + span)) rest in
+    let behind = ap (λ m. front_of at m (drop 16 (drop p.number p.entries))) there ∙ ap (front_of at (start + span)) rest in
     let sum : start + span ≡ at - (c.entries.left - span) = omega (arith, less, most, left) in
     let later = ap (λ m. front_of at m (drop q.number es)) sum in
     let all = inv.count in

@@ -1,4 +1,4 @@
-use Rattle.std.proofs.Common.{◌≡◌, ℕ, Bool, true, false, suc, ◌+◌, ◌-◌, ◌≤◌, ◌<◌, ◌==◌, ◌&&◌, if◌then◌else◌, List, take, Option, Some, drop, length, length-drop, refl, ap, sym, subst, ◌∙◌, arith}
+use Rattle.std.proofs.Common.{◌≡◌, ℕ, Bool, true, false, suc, ◌+◌, ◌-◌, ◌≤◌, ◌<◌, ◌==◌, ◌&&◌, if◌then◌else◌, List, take, Some, drop, length, length-drop, refl, ap, sym, subst, ◌∙◌, arith}
 use Rattle.std.proofs.lemmas.List.{drop-drop}
 use Rattle.std.proofs.lemmas.Option.{slice_get_within}
 use Rattle.typst_candidates.specs.declared.entry.Entry.{Entry}
@@ -27,18 +27,18 @@ entries-preserved-in-Some c =
     let passes = c.in-Some.ensures.0 in
     let less = c.in-Some.ensures.1 in
     let inv = c.entries.invariant in
-    let number : q.number ≡ p.number + 64 = ap (λ (r : Place). r.number) passes.new_is in
+    let number : q.number ≡ p.number + 16 = ap (λ (r : Place). r.number) passes.new_is in
     let same : q.entries ≡ es = ap (λ (r : Place). r.entries) passes.new_is ∙ inv.entries in
     let left = inv.within in
     let fits = passes.within in
     let there = passes.span_is start in
-    let over = opening-over 64 at start p.number (drop p.number p.entries) (omega (arith, fits, length-drop p.number p.entries)) (omega (arith, there, less, left)) in
-    let rest : drop 64 (drop p.number p.entries) ≡ drop q.number es = drop-drop 64 p.number p.entries ∙ ap (λ m. drop m p.entries) (omega (arith, number)) ∙ ap (drop q.number) inv.entries in
+    let over = opening-over 16 at start p.number (drop p.number p.entries) (omega (arith, fits, length-drop p.number p.entries)) (omega (arith, there, less, left)) in
+    let rest : drop 16 (drop p.number p.entries) ≡ drop q.number es = drop-drop 16 p.number p.entries ∙ ap (λ m. drop m p.entries) (omega (arith, number)) ∙ ap (drop q.number) inv.entries in
     let before : opening_of at start p.number (drop p.number es) ≡ opening_of at start p.number (drop p.number p.entries) = ap (λ us. opening_of at start p.number (drop p.number us)) (sym inv.entries) in
     let sum : start + span ≡ at - (c.entries.left - span) = omega (arith, less, left) in
-    let behind : opening_of at (end_of start (take 64 (drop p.number p.entries))) (p.number + 64) (drop 64 (drop p.number p.entries)) ≡ opening_of at (at - (c.entries.left - span)) q.number (drop q.number es) =
-    ap (λ m. opening_of at m (p.number + 64) (drop 64 (drop p.number p.entries))) (there ∙ sum)
-    ∙ ap (λ n. opening_of at (at - (c.entries.left - span)) n (drop 64 (drop p.number p.entries))) (sym number) ∙ ap (opening_of at (at - (c.entries.left - span)) q.number) rest in
+    let behind : opening_of at (end_of start (take 16 (drop p.number p.entries))) (p.number + 16) (drop 16 (drop p.number p.entries)) ≡ opening_of at (at - (c.entries.left - span)) q.number (drop q.number es) =
+    ap (λ m. opening_of at m (p.number + 16) (drop 16 (drop p.number p.entries))) (there ∙ sum)
+    ∙ ap (λ n. opening_of at (at - (c.entries.left - span)) n (drop 16 (drop p.number p.entries))) (sym number) ∙ ap (opening_of at (at - (c.entries.left - span)) q.number) rest in
     record { entries = same; within = omega (arith, left); later = sym (before ∙ over ∙ behind) ∙ inv.later }
 
 pub returns-in_err-entry : goal.returns-in_err-entry

@@ -1,6 +1,5 @@
-use Rattle.std.proofs.Common.{◌≡◌, ℕ, ◌+◌, ◌≤◌, ◌^◌, List, length, take, drop, true, false, Some, ap, sym, subst, ◌∙◌, arith}
+use Rattle.std.proofs.Common.{◌≡◌, ℕ, ◌+◌, ◌≤◌, ◌^◌, length, take, drop, true, false, Some, ap, sym, subst, ◌∙◌, arith}
 use Rattle.std.specs.List.{slice_get}
-use Rattle.typst_candidates.specs.declared.entry.Entry.{Entry}
 use Rattle.typst_candidates.specs.Cursors.{AreNear, Place, start_at}
 use Rattle.typst_candidates.specs.Entries.{end_of, is_behind, rear_of}
 use Rattle.typst_candidates.proofs.Blocks.{rear-block}
@@ -18,12 +17,12 @@ entries-preserved-in-Some c =
     let is = passed.passes.new_is in
     let behind : is_behind at (start_at p) c.entries.back ≡ true = ap (λ (s : ℕ). is_behind at s c.entries.back) (sym c.start.ensures) ∙ sym c.is_behind.ensures ∙ c.entries-test.true in
     let same : q.entries ≡ es = sym (ap (λ (r : Place). r.entries) is) ∙ inv.entries in
-    let number : p.number ≡ q.number + 64 = ap (λ (r : Place). r.number) is in
+    let number : p.number ≡ q.number + 16 = ap (λ (r : Place). r.number) is in
     let fits = passed.passes.within in
     let long = ap length same in
-    let test : is_behind at (end_of 0 (take (q.number + 64) es)) c.entries.back ≡ true =
-    ap (λ us. is_behind at (end_of 0 (take (q.number + 64) us)) c.entries.back) (sym inv.entries) ∙ ap (λ n. is_behind at (end_of 0 (take n p.entries)) c.entries.back) (sym number) ∙ behind in
-    let over = rear-block es at c.entries.back q.number passed.first (subst (λ us. slice_get us q.number ≡ Some passed.first) same passed.first_is) test (subst (λ us. AreNear (take 64 (drop q.number us))) same passed.passes.near)
+    let test : is_behind at (end_of 0 (take (q.number + 16) es)) c.entries.back ≡ true =
+    ap (λ us. is_behind at (end_of 0 (take (q.number + 16) us)) c.entries.back) (sym inv.entries) ∙ ap (λ n. is_behind at (end_of 0 (take n p.entries)) c.entries.back) (sym number) ∙ behind in
+    let over = rear-block es at c.entries.back q.number passed.first (subst (λ us. slice_get us q.number ≡ Some passed.first) same passed.first_is) test (subst (λ us. AreNear (take 16 (drop q.number us))) same passed.passes.near)
     (subst (λ us. at + 2 ^ 4 ≤ end_of 0 (take q.number us)) same passed.behind) in
     record {
       entries = same;

@@ -1,8 +1,8 @@
-use Rattle.std.proofs.Common.{◌≡◌, ℕ, ◌-◌, ◌<◌, ◌==◌, ◌&&◌, suc, Some, List, Option, take, drop, length, ap, sym, subst, ◌∙◌, arith}
+use Rattle.std.proofs.Common.{◌≡◌, ℕ, ◌-◌, ◌<◌, ◌==◌, ◌&&◌, suc, List, Option, take, drop, length, ap, sym, subst, ◌∙◌, arith}
 use Rattle.std.specs.Prelude.{IfOk}
 use Rattle.std.proofs.lemmas.Option.{slice_get_within}
 use Rattle.typst_candidates.specs.Cursors.{Place, opens_content, pieces_of, pieces_in, start_at}
-use Rattle.typst_candidates.specs.Rows.{run_of}
+use Rattle.typst_candidates.specs.Rows.{IsRun}
 use Rattle.typst_candidates.specs.Units.{behind_first}
 use Rattle.typst_candidates.proofs.Cursors.{behind-found-in, behind-missing-in, in-none, in-on, start-on}
 use Rattle.typst_candidates.specs.Entries.{end_of}
@@ -10,7 +10,7 @@ use Rattle.typst_candidates.proofs.Openings.{not-opened, opened}
 use Rattle.typst_candidates.proofs.records.Records.run_in.Goals as goal
 
 pub returns-in_default : goal.returns-in_default
-returns-in_default c = sym (not-opened c.args.at 0 0 c.args.self.now.units.entries (sym c.in_default.ensures))
+returns-in_default c = not-opened c.args.at 0 0 c.args.self.now.units.entries (sym c.in_default.ensures)
 
 pub cursor_at-place-requires : goal.cursor_at-place-requires
 cursor_at-place-requires c =
@@ -43,7 +43,7 @@ returns-then-begins_content c =
     let same = ap (λ us. behind_first (pieces_of 0 (start_at c.next.new.self) (drop c.next.new.self.number us))) (ap (λ (q : Place). q.entries) moved ∙ c.loop-entry.invariant.entries)
     ∙ ap (λ (n : ℕ). behind_first (pieces_of 0 (start_at c.next.new.self) (drop n es))) (ap (λ (q : Place). q.number) moved)
     ∙ ap (λ (s : ℕ). behind_first (pieces_of 0 s (drop (suc p.number) es))) on in
-    subst (λ (o : Option (List ℕ)). IfOk c.run.result (λ run. run_of run ≡ o)) (same ∙ found) c.run.ensures
+    subst (λ (o : Option (List ℕ)). IfOk c.run.result (λ run. IsRun c.args.window o run)) (same ∙ found) c.run.ensures
 
 pub loop-entry-smaller : goal.loop-entry-smaller
 loop-entry-smaller c =
@@ -74,4 +74,4 @@ pub returns : goal.returns
 returns c =
     let es = c.args.self.now.units.entries in
     let p = c.loop-entry.place in
-    sym (in-none es c.args.at (start_at p) p.number (behind-missing-in es p c.loop-entry.invariant.entries c.in_default-next.ensures.entry)) ∙ c.loop-entry.invariant.later
+    sym (c.loop-entry.invariant.later) ∙ in-none es c.args.at (start_at p) p.number (behind-missing-in es p c.loop-entry.invariant.entries c.in_default-next.ensures.entry)

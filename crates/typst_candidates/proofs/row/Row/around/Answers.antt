@@ -1,5 +1,4 @@
-use Rattle.std.proofs.Common.{◌≡◌, ◌-◌, ◌+◌, max, min, length, arith, ap, sym, ◌∙◌, refl, ℕ}
-use Rattle.typst_candidates.specs.Candidates.{Stretch}
+use Rattle.std.proofs.Common.{arith}
 use Rattle.typst_candidates.specs.Rows.{bytes_of}
 use Rattle.typst_candidates.proofs.Rows.{around_is}
 use Rattle.typst_candidates.proofs.row.Row.around.Goals as goal

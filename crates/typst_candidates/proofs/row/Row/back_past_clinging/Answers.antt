@@ -1,4 +1,4 @@
-use Rattle.std.proofs.Common.{arith, sym, ap, ◌∙◌, ◌-◌}
+use Rattle.std.proofs.Common.{arith, sym, ap, ◌∙◌}
 use Rattle.typst_candidates.specs.Candidates.{back_past, holds_at, laid, clings}
 use Rattle.typst_candidates.proofs.Rows.{back_step, back_stop}
 use Rattle.typst_candidates.proofs.row.Row.back_past_clinging.Goals as goal

@@ -1,4 +1,4 @@
-use Rattle.std.proofs.Common.{arith, sym, ap, ◌∙◌, ◌-◌}
+use Rattle.std.proofs.Common.{arith, sym, ap, ◌∙◌}
 use Rattle.std.specs.Prelude.{not}
 use Rattle.typst_candidates.specs.Candidates.{back_past, holds_at, laid, leads}
 use Rattle.typst_candidates.specs.Rows.{bytes_of}

@@ -1,7 +1,6 @@
-use Rattle.std.proofs.Common.{◌≡◌, ◌+◌, ◌-◌, ◌<◌, ◌≤◌, ◌^◌, length, arith}
-use Rattle.typst_tree.specs.Tree.{text_of}
+use Rattle.std.proofs.Common.{◌≡◌, ◌+◌, ◌-◌, arith}
 use Rattle.typst_candidates.specs.Candidates.{begins}
-use Rattle.typst_candidates.proofs.Rows.{stepped, Stepped}
+use Rattle.typst_candidates.proofs.Rows.{stepped}
 use Rattle.typst_candidates.proofs.row.Row.before.Goals as goal
 
 pub overflow_sub-result : goal.overflow_sub-result

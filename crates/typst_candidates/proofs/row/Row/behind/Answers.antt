@@ -1,4 +1,4 @@
-use Rattle.std.proofs.Common.{arith, sym, ◌∙◌}
+use Rattle.std.proofs.Common.{arith}
 use Rattle.typst_candidates.proofs.Rows.{stepped}
 use Rattle.typst_candidates.proofs.row.Row.behind.Goals as goal
 

@@ -1,4 +1,4 @@
-use Rattle.std.proofs.Common.{◌≡◌, ◌<◌, ◌≤◌, ◌+◌, arith, ap, sym, ◌∙◌}
+use Rattle.std.proofs.Common.{arith, ap, ◌∙◌}
 use Rattle.typst_candidates.specs.Candidates.{begins}
 use Rattle.typst_candidates.proofs.Rows.{ended_from, ended_next, end_stop, end_all}
 use Rattle.typst_candidates.proofs.row.Row.first_ended.Goals as goal

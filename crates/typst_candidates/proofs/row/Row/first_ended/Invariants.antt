@@ -1,4 +1,4 @@
-use Rattle.std.proofs.Common.{◌≡◌, ◌-◌, ◌<◌, length}
+use Rattle.std.proofs.Common.{◌-◌, length}
 use Rattle.typst_candidates.specs.Rows.{IsEdge}
 use Rattle.typst_candidates.proofs.Rows.{Ended}
 use Rattle.typst_candidates.proofs.row.Row.first_ended.Given as goal

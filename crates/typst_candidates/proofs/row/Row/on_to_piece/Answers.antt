@@ -1,8 +1,8 @@
-use Rattle.std.proofs.Common.{◌≡◌, arith, sym, ap, ◌∙◌, ◌-◌, ◌+◌, length, ℕ}
+use Rattle.std.proofs.Common.{arith, sym, ap, ◌∙◌, ◌-◌, length, ℕ}
 use Rattle.std.specs.Prelude.{not, ◌||◌}
 use Rattle.typst_candidates.specs.Candidates.{on_past, holds_at, laid, leads, clings}
 use Rattle.typst_candidates.specs.Rows.{bytes_of}
-use Rattle.typst_candidates.proofs.Rows.{on_step, on_stop}
+use Rattle.typst_candidates.proofs.Rows.{on_step}
 use Rattle.typst_candidates.proofs.row.Row.on_to_piece.Goals as goal
 
 pub loop-edge-preserved : goal.loop-edge-preserved

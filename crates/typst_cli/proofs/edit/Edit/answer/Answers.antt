@@ -1,7 +1,7 @@
 use Rattle.std.proofs.Common.{◌≡◌, ◌≤◌, ℕ, List, length, Option, None, Some, Err, inr, ap, subst, ◌∙◌, refl}
 use Rattle.std.specs.Str.{chars}
 use Rattle.std.specs.String.{string_bytes}
-use Rattle.typst_lines.specs.UnicodeTables.{unicode_classes}
+use Rattle.typst_parser.specs.UnicodeTables.{unicode_classes}
 use Rattle.typst_parser.specs.Grammar.{tree}
 use Rattle.typst_parser.specs.Headline.{edited, file_of, numbered_in}
 use Rattle.typst_parser.proofs.Fresh.{fresh-file}

@@ -29,7 +29,7 @@ loop-left-init g c =
     let passed = near-units c.args.self.now c.text-text.result.now c.text-text.utf8 c.text-text.ensures c.args.utf16_idx line c.line_before_utf16-line.ensures c.range_from.result.now c.range_from.ensures.value near.result.0 near.result.1 near.ensures.boundary near.ensures.measured near.ensures.bounded in
     record {
       found = ap (reach c.args.utf16_idx) here ∙ near-reach c.args.self.now c.text-text.result.now c.text-text.utf8 c.text-text.ensures c.args.utf16_idx line c.line_before_utf16-line.ensures c.range_from.result.now c.range_from.ensures.value near.result.0 near.result.1 near.ensures.boundary near.ensures.measured near.ensures.bounded;
-      left = omega (arith, ap (λ p. units p.behind) here, passed);
+      left = omega (arith, ap (λ p. units p.before) here, passed);
       not_over = ap (overshot c.args.utf16_idx) here ∙ near-before c.args.self.now c.text-text.result.now c.text-text.utf8 c.text-text.ensures c.args.utf16_idx line c.line_before_utf16-line.ensures c.range_from.result.now c.range_from.ensures.value near.result.0 near.result.1 near.ensures.boundary near.ensures.measured near.ensures.bounded;
       same_text = c.jump.ensures.same_text ∙ c.new-scanner.ensures.text ∙ c.text-text.ensures;
     }
@@ -44,7 +44,7 @@ pub returns-then-done : goal.returns-then-done
 returns-then-done g c =
     let p = place c.loop-left.scanner in
     let q = place c.eat.new.self in
-    let more = ap (λ p. units p.behind) c.in_ok-eat.ensures.moved ∙ units-moved p c.in_ok-eat.field-0 c.in_ok-eat.ensures.next in
+    let more = ap (λ p. units p.before) c.in_ok-eat.ensures.moved ∙ units-moved p c.in_ok-eat.field-0 c.in_ok-eat.ensures.next in
     let on : reach c.args.utf16_idx q ≡ least_place c.args.self.now c.args.utf16_idx =
     ap (reach c.args.utf16_idx) c.in_ok-eat.ensures.moved ∙ reach-on c.args.utf16_idx p c.in_ok-eat.field-0 c.in_ok-eat.ensures.next (omega (arith, c.loop-left-test.true, c.loop-left.invariant.left)) ∙ c.loop-left.invariant.found in
     sym (utf16-over c.args.self.now c.text-text.result.now c.text-text.utf8 c.text-text.ensures c.args.utf16_idx q on (none-from (scout 0 q) c.if-done.ensures) (omega (arith, more, c.if-units-left.true, c.utf16_len-units.ensures, c.loop-left.invariant.left, c.loop-left-test.true)))
@@ -53,7 +53,7 @@ pub loop-left-preserved : goal.loop-left-preserved
 loop-left-preserved g c =
     let p = place c.loop-left.scanner in
     let q = place c.eat.new.self in
-    let more = ap (λ p. units p.behind) c.in_ok-eat.ensures.moved ∙ units-moved p c.in_ok-eat.field-0 c.in_ok-eat.ensures.next in
+    let more = ap (λ p. units p.before) c.in_ok-eat.ensures.moved ∙ units-moved p c.in_ok-eat.field-0 c.in_ok-eat.ensures.next in
     let over : overshot c.args.utf16_idx q ≡ false = elim c.else-units-left.branch [
       | else-units-left-via-then-units-left+else-done w ↦ overshot-some c.args.utf16_idx q (sym w.if-done.false ∙ w.done.ensures)
       | else-units-left-via-else-units-left w ↦ overshot-low c.args.utf16_idx q (omega (arith, more, c.utf16_len-units.ensures, c.loop-left.invariant.left, w.if-units-left.false, c.loop-left-test.true))

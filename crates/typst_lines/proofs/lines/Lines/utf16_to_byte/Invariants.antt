@@ -8,7 +8,7 @@ abbrev pub invariant-loop-left : goal.invariant-loop-left
 invariant-loop-left g l =
     record {
       found : reach l.utf16_idx (place l.scanner) ≡ least_place l.self l.utf16_idx;
-      left : l.left ≡ l.utf16_idx - units (place l.scanner).behind;
+      left : l.left ≡ l.utf16_idx - units (place l.scanner).before;
       not_over : overshot l.utf16_idx (place l.scanner) ≡ false;
       same_text : l.scanner.text.now ≡ l.self;
     }

@@ -17,13 +17,13 @@ returns-then-is_none c l =
     let a = i.ahead in
     let nil = ap is_nil (sym c.as_slice.ensures.value) ∙ sym c.is_none.ensures ∙ c.if-is_none.true in
     let empty = nil-is i.trivia.items nil in
-    let gap = none (length (place a.start).behind) in
+    let gap = none (length (place a.start).before) in
     let hand-is = same-hand _ _ _ _ _ _ _ _ _ _ _ _ refl empty gap refl refl refl in
     rw (sym c.self.view_is)
     (λ f. record {
       nodes = rw empty (sym (append-nil i.nodes.items));
       place = c.self.invariant.stands.start;
-      state = ap (λ (r : Bool). record { reading = i.state.reading; held = i.state.held; empties = i.state.empties; is_after_error = i.state.is_after_error; known = if r then known_by (record (hand_of_ahead a i.trivia.items) { gap = length (place a.start).behind - length (place a.start).behind }) else None }) (was-read i f)
+      state = ap (λ (r : Bool). record { reading = i.state.reading; held = i.state.held; empties = i.state.empties; is_after_error = i.state.is_after_error; known = if r then known_by (record (hand_of_ahead a i.trivia.items) { gap = length (place a.start).before - length (place a.start).before }) else None }) (was-read i f)
           ∙ ap (λ (h : Hand). record { reading = i.state.reading; held = i.state.held; empties = i.state.empties; is_after_error = i.state.is_after_error; known = known_by h }) hand-is
           ∙ sym (flushed-none (hand_of_ahead a i.trivia.items) (view_of i).state i.trivia.items nil refl);
       hand = hand-is;
@@ -38,13 +38,13 @@ returns c l =
     let i = c.self.inside in
     let a = i.ahead in
     let some = ap is_nil (sym c.as_slice.ensures.value) ∙ sym c.is_none.ensures ∙ c.if-is_none.false in
-    let gap = none (length (place a.start).behind) in
+    let gap = none (length (place a.start).before) in
     let hand-is = same-hand _ _ _ _ _ _ _ _ _ _ _ _ refl c.in_ok-push_all.ensures.none gap refl refl refl in
     rw (sym c.self.view_is)
     (λ f. record {
       nodes = c.in_ok-push_all.ensures.ok;
       place = c.self.invariant.stands.start;
-      state = ap (λ (r : Bool). record { reading = i.state.reading; held = i.state.held; empties = 0; is_after_error = false; known = if r then known_by (record (hand_of_ahead a c.push_all.new.more.items) { gap = length (place a.start).behind - length (place a.start).behind }) else None }) (was-read i f)
+      state = ap (λ (r : Bool). record { reading = i.state.reading; held = i.state.held; empties = 0; is_after_error = false; known = if r then known_by (record (hand_of_ahead a c.push_all.new.more.items) { gap = length (place a.start).before - length (place a.start).before }) else None }) (was-read i f)
           ∙ ap (λ (h : Hand). record { reading = i.state.reading; held = i.state.held; empties = 0; is_after_error = false; known = known_by h }) hand-is
           ∙ sym (flushed-some (hand_of_ahead a i.trivia.items) (view_of i).state i.trivia.items some refl);
       hand = hand-is;

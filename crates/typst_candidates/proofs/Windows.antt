@@ -1,0 +1,202 @@
+-- A stretch of a run that lies in a window is the same by the pieces that begin there alone.
+use Rattle.std.proofs.Common.{◌≡◌, ℕ, zero, suc, ◌+◌, ◌-◌, ◌≤◌, ◌<◌, Bool, true, false, max, min, List, [], ◌∷◌, ◌++◌, length, take, refl, ap, sym, ◌∙◌, arith, nat_lt, nat_le}
+use Rattle.std.specs.Prelude.{◌==◌, ◌||◌, ◌&&◌, not}
+use Rattle.std.proofs.lemmas.Bool.{leb-true}
+use Rattle.std.proofs.lemmas.Bool.Decides.{nat_tests}
+use Rattle.std.proofs.Math.Seq.{take-append-add, take-append_seam}
+use Rattle.typst_tree.specs.Tree.{Tree, text_of}
+use Rattle.typst_candidates.specs.declared.cuts.Window.{Window}
+use Rattle.typst_candidates.specs.declared.row.Stretch as row
+use Rattle.typst_candidates.specs.Candidates.{Child, Stretch, laid, begun, ended, first_near, end_near, clings, is_hash, is_among, leads, holds_at, back_past, on_past, begins, with_hash, from_of, to_of, around}
+use Rattle.typst_candidates.specs.Rows.{IsEdge, indices, within}
+use Rattle.typst_candidates.proofs.Rows.{laid_length, begins_order, begun_none}
+
+-- ---- the bytes of a window
+
+among_within : (w : Window) (b : ℕ) (bs : List ℕ) → w.from ≤ b → b ≤ w.to → is_among b (within w bs) ≡ is_among b bs
+among_within w b [] from to = refl
+among_within w b (c ∷ cs) from to = pick (among_within w b cs from to) (nat_le w.from c && nat_le c w.to) refl
+  where
+    other : (t : Bool) → (b == c) ≡ t → (nat_le w.from c && nat_le c w.to) ≡ false → t ≡ false
+    other false e f = refl
+    other true e f =
+        let same : b ≡ c = grind (arith, nat_tests) in
+        let low : nat_le w.from c ≡ true = grind (arith, nat_tests) in
+        let high : nat_le c w.to ≡ true = grind (arith, nat_tests) in
+        absurd (cc)
+
+    pick : is_among b (within w cs) ≡ is_among b cs → (t : Bool) → (nat_le w.from c && nat_le c w.to) ≡ t → is_among b (within w (c ∷ cs)) ≡ is_among b (c ∷ cs)
+    pick rest true e = rw e (ap (λ (o : Bool). (b == c) || o) rest)
+    pick rest false e = rw (e, other (b == c) refl e) rest
+
+leads_within : (w : Window) (bs : List ℕ) (c : Child) → w.from ≤ c.start → c.start ≤ w.to → leads (within w bs) c ≡ leads bs c
+leads_within w bs c from to = ap (λ (o : Bool). nat_lt c.start c.end && o) (among_within w c.start bs from to)
+
+-- ---- the same test where it says the same
+
+holds_same : (f g : Child → Bool) (at : ℕ) (ts : List Tree) (n : ℕ) → ((c : Child) → c.start ≡ begins at ts n → f c ≡ g c) → holds_at f (laid at ts) n ≡ holds_at g (laid at ts) n
+holds_same f g at [] n same = refl
+holds_same f g at (t ∷ ts) zero same = same (record { start = at; end = at + length (text_of t); node = t }) refl
+holds_same f g at (t ∷ ts) (suc n) same = holds_same f g (at + length (text_of t)) ts n same
+
+back_most : (f : ℕ → Bool) (n : ℕ) → back_past f n ≤ n
+back_most f zero = omega arith
+back_most f (suc n) = pick (back_most f n) (f (suc n)) refl
+  where
+    pick : back_past f n ≤ n → (b : Bool) → f (suc n) ≡ b → back_past f (suc n) ≤ suc n
+    pick less true e = let here : back_past f (suc n) ≡ back_past f n = rw e refl in omega (arith, here, less)
+    pick less false e = let here : back_past f (suc n) ≡ suc n = rw e refl in omega (arith, here)
+
+back_same : (f g : ℕ → Bool) (n : ℕ) → ((k : ℕ) → back_past f n ≤ k → k ≤ n → f k ≡ g k) → back_past f n ≡ back_past g n
+back_same f g zero same = refl
+back_same f g (suc n) same = pick (back_same f g n) (f (suc n)) refl
+  where
+    most : back_past f (suc n) ≤ suc n
+    most = back_most f (suc n)
+
+    pick : (((k : ℕ) → back_past f n ≤ k → k ≤ n → f k ≡ g k) → back_past f n ≡ back_past g n) → (b : Bool) → f (suc n) ≡ b → back_past f (suc n) ≡ back_past g (suc n)
+    pick less true e =
+        let here : back_past f (suc n) ≡ back_past f n = rw e refl in
+        let there : g (suc n) ≡ true = sym (same (suc n) most (omega arith)) ∙ e in
+        let further : back_past g (suc n) ≡ back_past g n = rw there refl in
+        here ∙ (less (λ k low high. same k (omega (arith, here, low)) (omega (arith, high))) ∙ sym further)
+    pick less false e =
+        let here : back_past f (suc n) ≡ suc n = rw e refl in
+        let there : g (suc n) ≡ false = sym (same (suc n) most (omega arith)) ∙ e in
+        let stops : back_past g (suc n) ≡ suc n = rw there refl in
+        here ∙ sym stops
+
+on_least : (f : ℕ → Bool) (limit n : ℕ) → n ≤ on_past f limit n
+on_least f zero n = omega arith
+on_least f (suc limit) n = pick (on_least f limit (suc n)) (f n) refl
+  where
+    pick : suc n ≤ on_past f limit (suc n) → (b : Bool) → f n ≡ b → n ≤ on_past f (suc limit) n
+    pick next true e = let here : on_past f (suc limit) n ≡ on_past f limit (suc n) = rw e refl in omega (arith, here, next)
+    pick next false e = let here : on_past f (suc limit) n ≡ n = rw e refl in omega (arith, here)
+
+on_same : (f g : ℕ → Bool) (limit n : ℕ) → ((k : ℕ) → n ≤ k → k ≤ on_past f limit n → f k ≡ g k) → on_past f limit n ≡ on_past g limit n
+on_same f g zero n same = refl
+on_same f g (suc limit) n same = pick (on_same f g limit (suc n)) (f n) refl
+  where
+    least : n ≤ on_past f (suc limit) n
+    least = on_least f (suc limit) n
+
+    pick : (((k : ℕ) → suc n ≤ k → k ≤ on_past f limit (suc n) → f k ≡ g k) → on_past f limit (suc n) ≡ on_past g limit (suc n)) → (b : Bool) → f n ≡ b → on_past f (suc limit) n ≡ on_past g (suc limit) n
+    pick next true e =
+        let here : on_past f (suc limit) n ≡ on_past f limit (suc n) = rw e refl in
+        let there : g n ≡ true = sym (same n (omega arith) least) ∙ e in
+        let further : on_past g (suc limit) n ≡ on_past g limit (suc n) = rw there refl in
+        here ∙ (next (λ k low high. same k (omega (arith, low)) (omega (arith, here, high))) ∙ sym further)
+    pick next false e =
+        let here : on_past f (suc limit) n ≡ n = rw e refl in
+        let there : g n ≡ false = sym (same n (omega arith) least) ∙ e in
+        let stops : on_past g (suc limit) n ≡ n = rw there refl in
+        here ∙ sym stops
+
+-- ---- a stretch in a window
+
+hash_most : (cs : List Child) (n : ℕ) → with_hash cs n ≤ n
+hash_most cs n = pick (nat_lt 0 n && holds_at (λ c. is_hash c.node) cs (n - 1)) refl
+  where
+    pick : (b : Bool) → (nat_lt 0 n && holds_at (λ c. is_hash c.node) cs (n - 1)) ≡ b → with_hash cs n ≤ n
+    pick true e = let here : with_hash cs n ≡ n - 1 = rw e refl in omega (arith, here)
+    pick false e = let here : with_hash cs n ≡ n = rw e refl in omega (arith, here)
+
+module _ (w : Window) (bs : List ℕ) (at : ℕ) (ts : List Tree) (i j x : ℕ) (order : i ≤ j) (last : j ≤ length ts)
+    (low : w.from ≤ begins at ts (from_of (within w bs) (laid at ts) i x)) (high : begins at ts (to_of (within w bs) (laid at ts) j x) ≤ w.to) where
+  left : ℕ
+  left = with_hash (laid at ts) (back_past (holds_at (λ c. clings c.node) (laid at ts)) (i - max x 2))
+
+  right : ℕ
+  right = min (j + x) (length (laid at ts))
+
+  limit : ℕ
+  limit = length (laid at ts) - right
+
+  middle : left ≤ right
+  unfolding left right
+  middle =
+      omega (arith, hash_most (laid at ts) (back_past (holds_at (λ c. clings c.node) (laid at ts)) (i - max x 2)), back_most (holds_at (λ c. clings c.node) (laid at ts)) (i - max x 2), order, last, laid_length at ts)
+
+  first : from_of (within w bs) (laid at ts) i x ≤ left
+  unfolding left
+  first = back_most (holds_at (λ c. not (leads (within w bs) c)) (laid at ts)) left
+
+  final : right ≤ to_of (within w bs) (laid at ts) j x
+  unfolding right
+  final = on_least (holds_at (λ c. clings c.node || not (leads (within w bs) c)) (laid at ts)) (length (laid at ts) - right) right
+
+  -- the pieces that begin in the window say the same of each child of the stretch, and of the one behind it
+  leads_here : (k : ℕ) → from_of (within w bs) (laid at ts) i x ≤ k → k ≤ to_of (within w bs) (laid at ts) j x → (c : Child) → c.start ≡ begins at ts k → leads (within w bs) c ≡ leads bs c
+  leads_here k least most c e =
+      leads_within w bs c
+      (omega (arith, e, low, begins_order at ts (from_of (within w bs) (laid at ts) i x) k least))
+      (omega (arith, e, high, begins_order at ts k (to_of (within w bs) (laid at ts) j x) most))
+
+  from_same : from_of (within w bs) (laid at ts) i x ≡ from_of bs (laid at ts) i x
+  unfolding left
+  from_same = back_same (holds_at (λ c. not (leads (within w bs) c)) (laid at ts)) (holds_at (λ c. not (leads bs c)) (laid at ts)) left
+      (λ k least most. holds_same (λ c. not (leads (within w bs) c)) (λ c. not (leads bs c)) at ts k (λ c e. ap not (leads_here k least (omega (arith, most, middle, final)) c e)))
+
+  to_same : to_of (within w bs) (laid at ts) j x ≡ to_of bs (laid at ts) j x
+  unfolding right
+  to_same = on_same (holds_at (λ c. clings c.node || not (leads (within w bs) c)) (laid at ts)) (holds_at (λ c. clings c.node || not (leads bs c)) (laid at ts)) (length (laid at ts) - right) right
+      (λ k least most. holds_same (λ c. clings c.node || not (leads (within w bs) c)) (λ c. clings c.node || not (leads bs c)) at ts k
+      (λ c e. ap (λ (b : Bool). clings c.node || not b) (leads_here k (omega (arith, first, middle, least)) most c e)))
+
+  around_within : around (within w bs) (laid at ts) i j x ≡ around bs (laid at ts) i j x
+  around_within = λ k. record { from = from_same k; to = to_same k }
+
+pub in_window : (w : Window) (bs cuts : List ℕ) (at : ℕ) (ts : List Tree) (i j x : ℕ) (s : row.Stretch) → i ≤ j → j ≤ length ts → cuts ≡ within w bs → IsEdge at ts s.from → IsEdge at ts s.to
+    → indices s ≡ around cuts (laid at ts) i j x → (nat_le w.from s.from.byte && nat_le s.to.byte w.to) ≡ true → indices s ≡ around bs (laid at ts) i j x
+in_window w bs cuts at ts i j x s order last e from to is lies =
+    let there : indices s ≡ around (within w bs) (laid at ts) i j x = is ∙ ap (λ (ds : List ℕ). around ds (laid at ts) i j x) e in
+    let first : s.from.index ≡ from_of (within w bs) (laid at ts) i x = ap (λ (r : Stretch). r.from) there in
+    let final : s.to.index ≡ to_of (within w bs) (laid at ts) j x = ap (λ (r : Stretch). r.to) there in
+    let begin : s.from.byte ≡ begins at ts (from_of (within w bs) (laid at ts) i x) = from.byte ∙ ap (begins at ts) first in
+    let end : s.to.byte ≡ begins at ts (to_of (within w bs) (laid at ts) j x) = to.byte ∙ ap (begins at ts) final in
+    let low : w.from ≤ s.from.byte = leb-true w.from s.from.byte (left_true (nat_le w.from s.from.byte) (nat_le s.to.byte w.to) lies) in
+    let high : s.to.byte ≤ w.to = leb-true s.to.byte w.to (right_true (nat_le w.from s.from.byte) (nat_le s.to.byte w.to) lies) in
+    there ∙ around_within w bs at ts i j x order last (omega (arith, low, begin)) (omega (arith, high, end))
+  where
+    left_true : (a b : Bool) → (a && b) ≡ true → a ≡ true
+    left_true true b f = refl
+    left_true false b f = f
+
+    right_true : (a b : Bool) → (a && b) ≡ true → b ≡ true
+    right_true true b f = f
+    right_true false b f = absurd (cc)
+
+-- ---- the children near an edit
+
+begun_ended : (rs re at : ℕ) (ts : List Tree) → rs ≤ re → begun rs (laid at ts) ≤ suc (ended re (laid at ts))
+begun_ended rs re at [] h = omega arith
+begun_ended rs re at (t ∷ ts) h = pick (begun_ended rs re (at + length (text_of t)) ts h) (nat_lt at rs) (nat_le (at + length (text_of t)) re) refl refl
+  where
+    pick : begun rs (laid (at + length (text_of t)) ts) ≤ suc (ended re (laid (at + length (text_of t)) ts)) → (a b : Bool) → nat_lt at rs ≡ a → nat_le (at + length (text_of t)) re ≡ b → begun rs (laid at (t ∷ ts)) ≤ suc (ended re (laid at (t ∷ ts)))
+    pick rest false b e f = let none : begun rs (laid at (t ∷ ts)) ≡ 0 = rw e refl in omega (arith, none)
+    pick rest true true e f =
+        let one : begun rs (laid at (t ∷ ts)) ≡ suc (begun rs (laid (at + length (text_of t)) ts)) = rw e refl in
+        let too : ended re (laid at (t ∷ ts)) ≡ suc (ended re (laid (at + length (text_of t)) ts)) = rw f refl in
+        omega (arith, one, too, rest)
+    pick rest true false e f =
+        let one : begun rs (laid at (t ∷ ts)) ≡ suc (begun rs (laid (at + length (text_of t)) ts)) = rw e refl in
+        let behind : re < at + length (text_of t) = grind (arith, nat_tests) in
+        omega (arith, one, begun_none rs (at + length (text_of t)) ts (omega (arith, behind, h)))
+
+begun_most : (b at : ℕ) (ts : List Tree) → begun b (laid at ts) ≤ length ts
+begun_most b at [] = omega arith
+begun_most b at (t ∷ ts) = pick (begun_most b (at + length (text_of t)) ts) (nat_lt at b) refl
+  where
+    pick : begun b (laid (at + length (text_of t)) ts) ≤ length ts → (a : Bool) → nat_lt at b ≡ a → begun b (laid at (t ∷ ts)) ≤ length (t ∷ ts)
+    pick rest false e = let none : begun b (laid at (t ∷ ts)) ≡ 0 = rw e refl in omega (arith, none)
+    pick rest true e = let one : begun b (laid at (t ∷ ts)) ≡ suc (begun b (laid (at + length (text_of t)) ts)) = rw e refl in omega (arith, one, rest)
+
+pub near_order : (rs re at : ℕ) (ts : List Tree) → rs ≤ re → first_near rs (laid at ts) ≤ end_near re (laid at ts)
+near_order rs re at ts h = omega (arith, begun_ended rs re at ts h, begun_most rs at ts, laid_length at ts)
+
+-- ---- so many of what is added
+
+pub added_front : {X : Type 0} (xs ys zs us : List X) (n : ℕ) → xs ++ ys ≡ zs ++ us → length xs ≡ length zs + n → xs ≡ zs ++ take n us
+added_front xs ys zs us n e long =
+    sym (take-append_seam xs ys) ∙ (ap (take (length xs)) e ∙ (ap (λ (m : ℕ). take m (zs ++ us)) long ∙ take-append-add zs us n))

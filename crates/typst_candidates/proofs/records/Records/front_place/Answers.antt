@@ -1,0 +1,22 @@
+use Rattle.std.proofs.Common.{◌≡◌, ◌-◌, drop, ap, subst, arith}
+use Rattle.typst_candidates.specs.Anchors.{IsAnchor}
+use Rattle.typst_candidates.specs.Cursors.{Place}
+use Rattle.typst_candidates.specs.Entries.{front_of}
+use Rattle.typst_candidates.specs.Records.{Kept}
+use Rattle.typst_candidates.proofs.Anchors.{front-from}
+use Rattle.typst_candidates.proofs.records.Records.front_place.Goals as goal
+
+pub returns-then-reach-at-clause-count : goal.returns-then-reach-at-clause-count
+returns-then-reach-at-clause-count c =
+    let es = c.args.self.now.units.entries in
+    let at = c.args.at in
+    let a = c.self.inside.anchor in
+    let h = subst (λ (k : Kept). IsAnchor k.units.entries a) c.self.view_is c.self.invariant.1 in
+    let le = c.if-reach-at.true in
+    let order = h.order in
+    let is = ap (λ (p : Place). p.number) c.walk_at.ensures in
+    let same = ap (λ n. front_of at (at - (at - a.start)) (drop n es)) is in
+    let near : at - (at - a.start) ≡ a.start = omega (arith, le, order) in
+    let back = ap (λ s. front_of at s (drop a.number es)) near in
+    let all = front-from es a at h le in
+    omega (arith, is, same, back, all)

@@ -1,0 +1,234 @@
+-- What is read back of the numbers of tokens.
+use Rattle.std.proofs.Common.{◌≡◌, ℕ, ◌+◌, ◌-◌, ◌^◌, ◌<◌, ◌≤◌, ◌==◌, ◌⊎◌, inl, inr, Bool, true, false, cond, not, List, [], ◌∷◌, ◌++◌, length, drop, Option, None, Some, refl, sym, ap, subst, ◌∙◌, arith, append_assoc, length-drop, length-take, if◌then◌else◌}
+use Rattle.std.proofs.lemmas.Bool.{cases_lt, eq-eqb, le-leb, lt-leb, ne_eqb}
+use Rattle.std.proofs.lemmas.List.FromFn.{length-range_with_len}
+use Rattle.std.proofs.lemmas.List.Sums.{count_by-le-length, length-filter}
+use Rattle.std.specs.Char.{len_utf8}
+use Rattle.std.specs.List.{prefix_len, range_with_len}
+use Rattle.std.specs.Prelude.{slice_index, slice_range}
+use Rattle.std.specs.Str.{IsUtf8, chars}
+use Rattle.std.specs.declared.ops.Range.{Range}
+use Rattle.typst_parser.specs.Stretches.{AreJoined}
+use Rattle.typst_parser.specs.Tagged.{Tagged}
+use Rattle.typst_parser.specs.Tag.{Tag}
+use Rattle.typst_features.specs.Tokens.{ends_line, lines, stretch, stretches, token}
+use Rattle.typst_features.specs.declared.tokens.Token.{Token}
+use Rattle.typst_positions.specs.Columns.{column_of, measured, width}
+use Rattle.typst_positions.specs.Positions.{line_of, position_of}
+use Rattle.typst_positions.specs.Starts.{is_line_end, line_at, line_starts, starts_between, starts_line}
+use Rattle.typst_positions.specs.declared.columns.Encoding.{Encoding}
+use Rattle.typst_positions.specs.declared.positions.Position.{Position}
+use Rattle.typst_positions.proofs.Places.{held, position-is, some-below, start-boundary, utf8-line}
+use Rattle.typst_positions.proofs.Shifts.{count-mono}
+use Rattle.typst_positions.proofs.Widths.{total, total-text, width-le}
+use Rattle.typst_server.specs.Numbers.{Shown, clipped, decoded, encoded, end_of, five, shown, shown_in, touches}
+
+-- ---- tokens that are in order
+
+-- a token stands at or behind a line and a column
+abbrev After : ℕ → ℕ → Shown → Type 0
+After line column s = (line < s.line) ⊎ ((line ≡ s.line) × (column ≤ s.column))
+
+-- the numbers of a token fit those of the protocol
+record IsSmall (s : Shown) : Type 0 where
+  pub line : s.line < 2 ^ 32
+  pub column : s.column < 2 ^ 32
+  pub size : s.size < 2 ^ 32
+
+-- tokens follow one on another
+abbrev AreOrdered : ℕ → ℕ → List Shown → Type 0
+AreOrdered line column [] = Unit {0}
+AreOrdered line column (s ∷ ss) = After line column s × (IsSmall s × AreOrdered s.line s.column ss)
+
+clipped-small : (n : ℕ) → n < 2 ^ 32 → clipped n ≡ n
+clipped-small n h = omega (arith, h)
+
+-- how many columns are told
+abbrev right_of : ℕ → ℕ → Shown → ℕ
+right_of line column s = s.column - (if s.line == line then column else 0)
+
+abbrev start_by : Bool → ℕ → ℕ → ℕ
+start_by same column right = if same then column + right else right
+
+start-back : (line column : ℕ) (s : Shown) → After line column s → start_by (s.line - line == 0) column (right_of line column s) ≡ s.column
+start-back line column s (inl less) =
+    let down : (s.line - line == 0) ≡ false = ne_eqb (s.line - line) 0 (λ e. absurd (omega (arith, less, e))) in
+    let other : (s.line == line) ≡ false = ne_eqb s.line line (λ e. absurd (omega (arith, less, e))) in
+    ap (λ b. start_by b column (right_of line column s)) down ∙ ap (λ b. s.column - (if b then column else 0)) other ∙ omega arith
+start-back line column s (inr same) =
+    let down : (s.line - line == 0) ≡ true = eq-eqb (s.line - line) 0 (omega (arith, same.0)) in
+    let here : (s.line == line) ≡ true = eq-eqb s.line line (sym same.0) in
+    ap (λ b. start_by b column (right_of line column s)) down ∙ ap (λ b. column + (s.column - (if b then column else 0))) here ∙ omega (arith, same.1)
+
+-- a token with what is read behind it
+abbrev placed : ℕ → ℕ → ℕ → ℕ → ℕ → List ℕ → List Shown
+placed line column size kind modifiers rest = record { line = line; column = column; size = size; kind = kind; modifiers = modifiers } ∷ decoded line column rest
+
+after-le : (line column : ℕ) (s : Shown) → After line column s → line ≤ s.line
+after-le line column s (inl less) = omega (arith, less)
+after-le line column s (inr same) = omega (arith, same.0)
+
+-- one token is read back
+one-back : (line column : ℕ) (s : Shown) (rest : List ℕ) → After line column s → IsSmall s → decoded line column (five line column s ++ rest) ≡ s ∷ decoded s.line s.column rest
+one-back line column s rest after small =
+    let down : ℕ = s.line - line in
+    let right : ℕ = right_of line column s in
+    let le = after-le line column s after in
+    let first : clipped down ≡ down = clipped-small down (omega (arith, small.line)) in
+    let second : clipped right ≡ right = clipped-small right (omega (arith, small.column)) in
+    let third : clipped s.size ≡ s.size = clipped-small s.size small.size in
+    let here : line + down ≡ s.line = omega (arith, le) in
+    ap (λ n. placed (line + n) (start_by (n == 0) column (clipped right)) (clipped s.size) s.kind s.modifiers rest) first
+    ∙ ap (λ n. placed (line + down) (start_by (down == 0) column n) (clipped s.size) s.kind s.modifiers rest) second
+    ∙ ap (λ n. placed (line + down) (start_by (down == 0) column right) n s.kind s.modifiers rest) third
+    ∙ ap (λ n. placed n (start_by (down == 0) column right) s.size s.kind s.modifiers rest) here
+    ∙ ap (λ n. placed s.line n s.size s.kind s.modifiers rest) (start-back line column s after)
+
+-- and so are all
+read-back : (line column : ℕ) (ss : List Shown) → AreOrdered line column ss → decoded line column (encoded line column ss) ≡ ss
+read-back line column [] h = refl
+read-back line column (s ∷ ss) h = one-back line column s (encoded s.line s.column ss) h.0 h.1.0 ∙ ap (λ l. s ∷ l) (read-back s.line s.column ss h.1.1)
+
+-- ---- positions are in order, and small
+
+measured-mono : (e : Encoding) (cs : List ℕ) (a b : ℕ) → a ≤ b → measured (width e) len_utf8 a cs ≤ measured (width e) len_utf8 b cs
+measured-mono e [] a b h = omega arith
+measured-mono e (c ∷ cs) a b h = elim (cases_lt a (len_utf8 c)) [
+  | inl lt ↦
+      let none : measured (width e) len_utf8 a (c ∷ cs) ≡ 0 = ap (λ t. cond t (width e c + measured (width e) len_utf8 (a - len_utf8 c) cs) 0) (lt-leb (len_utf8 c) a lt) in
+      omega (arith, none)
+  | inr ge ↦
+      let one : measured (width e) len_utf8 a (c ∷ cs) ≡ width e c + measured (width e) len_utf8 (a - len_utf8 c) cs =
+      ap (λ t. cond t (width e c + measured (width e) len_utf8 (a - len_utf8 c) cs) 0) (le-leb (len_utf8 c) a ge) in
+      let two : measured (width e) len_utf8 b (c ∷ cs) ≡ width e c + measured (width e) len_utf8 (b - len_utf8 c) cs =
+      ap (λ t. cond t (width e c + measured (width e) len_utf8 (b - len_utf8 c) cs) 0) (le-leb (len_utf8 c) b (omega (arith, ge, h))) in
+      omega (arith, one, two, measured-mono e cs (a - len_utf8 c) (b - len_utf8 c) (omega (arith, h)))
+]
+
+column-mono : (e : Encoding) (line : List ℕ) (a b : ℕ) → a ≤ b → column_of e line a ≤ column_of e line b
+unfolding column_of
+column-mono e line a b h = measured-mono e (chars line) a b h
+
+measured-le : (e : Encoding) (cs : List ℕ) (most : ℕ) → measured (width e) len_utf8 most cs ≤ total len_utf8 cs
+measured-le e [] most = omega arith
+measured-le e (c ∷ cs) most = elim (cases_lt most (len_utf8 c)) [
+  | inl lt ↦
+      let none : measured (width e) len_utf8 most (c ∷ cs) ≡ 0 = ap (λ t. cond t (width e c + measured (width e) len_utf8 (most - len_utf8 c) cs) 0) (lt-leb (len_utf8 c) most lt) in
+      omega (arith, none)
+  | inr ge ↦
+      let one : measured (width e) len_utf8 most (c ∷ cs) ≡ width e c + measured (width e) len_utf8 (most - len_utf8 c) cs =
+      ap (λ t. cond t (width e c + measured (width e) len_utf8 (most - len_utf8 c) cs) 0) (le-leb (len_utf8 c) most ge) in
+      omega (arith, one, width-le e c, measured-le e cs (most - len_utf8 c))
+]
+
+column-le : (e : Encoding) (line : List ℕ) (n : ℕ) → IsUtf8 line → column_of e line n ≤ length line
+unfolding column_of
+column-le e line n u = omega (arith, measured-le e (chars line) n, total-text line u)
+
+line-le : (text : List ℕ) (start : ℕ) → length (line_at text start) ≤ length text
+unfolding line_at
+line-le text start = omega (arith, length-take (prefix_len (λ c. not (is_line_end c)) (drop start text)) (drop start text), length-drop start text)
+
+column-small : (e : Encoding) (text : List ℕ) (byte : ℕ) → IsUtf8 text → (position_of e text byte).column ≤ length text
+column-small e text byte u =
+    let h = held text byte in
+    let line : IsUtf8 (line_at text h.start) = utf8-line text h.start u (start-boundary text (line_of text byte) h.start u h.at) in
+    let is : (position_of e text byte).column ≡ column_of e (line_at text h.start) (byte - h.start) =
+    sym (ap (λ (p : Position). p.column) (position-is e text byte (line_of text byte) (column_of e (line_at text h.start) (byte - h.start)) h.start refl h.at refl)) in
+    omega (arith, is, column-le e (line_at text h.start) (byte - h.start) line, line-le text h.start)
+
+starts-few : (text : List ℕ) → length (line_starts text) ≤ length text + 1
+unfolding line_starts starts_between
+starts-few text =
+    let all : List ℕ = range_with_len 0 (length text + 1 - 0) in
+    omega (arith, length-filter (starts_line text) all, count_by-le-length (starts_line text) all, length-range_with_len 0 (length text + 1 - 0))
+
+line-small : (text : List ℕ) (byte : ℕ) → line_of text byte ≤ length text
+line-small text byte = let h = held text byte in omega (arith, some-below (line_starts text) (line_of text byte) h.start h.at, starts-few text)
+
+-- ---- from byte to byte
+
+pub in-order : (e : Encoding) (text : List ℕ) (a : ℕ) (t : Token) → a ≤ t.start → After (position_of e text a).line (position_of e text a).column (shown e text t)
+in-order e text a t h = elim (cases_lt (line_of text a) (line_of text t.start)) [
+  | inl less ↦ inl less
+  | inr more ↦
+      let same : line_of text a ≡ line_of text t.start = omega (arith, more, count-mono a t.start (line_starts text) h) in
+      let start : ℕ = slice_index (line_starts text) (line_of text a) in
+      let there : (position_of e text t.start).column ≡ column_of e (line_at text start) (t.start - start) =
+      ap (λ n. column_of e (line_at text (slice_index (line_starts text) n)) (t.start - slice_index (line_starts text) n)) (sym same) in
+      inr (same, omega (arith, there, column-mono e (line_at text start) (a - start) (t.start - start) (omega (arith, h))))
+]
+
+small : (e : Encoding) (text : List ℕ) (t : Token) → IsUtf8 text → length text < 2 ^ 32 → IsSmall (shown e text t)
+small e text t u h =
+    record {
+      line = omega (arith, h, line-small text t.start);
+      column = omega (arith, h, column-small e text t.start u);
+      size = omega (arith, h, column-small e text (end_of t) u);
+    }
+
+-- ---- the tokens of stretches rise
+
+abbrev Rising : ℕ → List Token → Type 0
+Rising a [] = Unit {0}
+Rising a (t ∷ ts) = (a ≤ t.start) × Rising t.start ts
+
+lower : (a b : ℕ) (ts : List Token) → a ≤ b → Rising b ts → Rising a ts
+lower a b [] le h = tt
+lower a b (t ∷ ts) le h = (omega (arith, le, h.0), h.1)
+
+by_none : (none : Bool) (t : Tag) (a n : ℕ) (rest : List Token) → Rising a rest → Rising a ((if none then [] else record { start = a; len = n; tag = t } ∷ []) ++ rest)
+by_none true t a n rest h = h
+by_none false t a n rest h = (omega arith, h)
+
+token-rises : (t : Tag) (a n : ℕ) (rest : List Token) → Rising a rest → Rising a (token t a n ++ rest)
+token-rises t a n rest h = by_none (n == 0) t a n rest h
+
+by_end : (ends : Bool) (a : ℕ) (xs ys rest : List Token) → Rising a (xs ++ rest) → Rising a (ys ++ rest) → Rising a ((if ends then xs else ys) ++ rest)
+by_end true a xs ys rest h k = h
+by_end false a xs ys rest h k = k
+
+lines-rise : (t : Tag) (a n : ℕ) (bs : List ℕ) (rest : List Token) → Rising (a + n + length bs) rest → Rising a (lines t a n bs ++ rest)
+lines-rise t a n [] rest h = token-rises t a n rest (lower a (a + n + 0) rest (omega arith) h)
+lines-rise t a n (b ∷ bs) rest h =
+    let on : Rising (a + n + 1 + 0 + length bs) rest = lower (a + n + 1 + 0 + length bs) (a + n + length (b ∷ bs)) rest (omega arith) h in
+    let more : Rising (a + (n + 1) + length bs) rest = lower (a + (n + 1) + length bs) (a + n + length (b ∷ bs)) rest (omega arith) h in
+    let next : Rising a (lines t (a + n + 1) 0 bs ++ rest) = lower a (a + n + 1) (lines t (a + n + 1) 0 bs ++ rest) (omega arith) (lines-rise t (a + n + 1) 0 bs rest on) in
+    by_end (ends_line b) a (token t a n ++ lines t (a + n + 1) 0 bs) (lines t a (n + 1) bs) rest
+    (subst (Rising a) (sym (append_assoc (token t a n) (lines t (a + n + 1) 0 bs) rest)) (token-rises t a n (lines t (a + n + 1) 0 bs ++ rest) next))
+    (lines-rise t a (n + 1) bs rest more)
+
+stretch-rises : (text : List ℕ) (a e : ℕ) (o : Option Tag) (rest : List Token) → a ≤ e → Rising e rest → Rising a (stretch text a e o ++ rest)
+stretch-rises text a e None rest le h = lower a e rest le h
+stretch-rises text a e (Some t) rest le h =
+    lines-rise t a 0 (slice_range text a e) rest (lower (a + 0 + length (slice_range text a e)) e rest (omega (arith, le, length-take (e - a) (drop a text))) h)
+
+stretches-rise : (text : List ℕ) (a b : ℕ) (ss : List Tagged) → AreJoined a ss b → Rising a (stretches text ss)
+stretches-rise text a b [] h = tt
+stretches-rise text a b (s ∷ ss) h =
+    subst (λ k. Rising k (stretches text (s ∷ ss))) h.0
+    (stretch-rises text s.range.start s.range.end s.tag (stretches text ss) (omega (arith, h.0, h.1.0)) (stretches-rise text s.range.end b ss h.1.1))
+
+-- ---- so they are read back
+
+by_test : (test : Bool) (line column : ℕ) (s : Shown) (taken left : List Shown) → AreOrdered line column (s ∷ taken) → AreOrdered line column left → AreOrdered line column (if test then s ∷ taken else left)
+by_test true line column s taken left h k = h
+by_test false line column s taken left h k = k
+
+ordered : (e : Encoding) (text : List ℕ) (range : Range ℕ) → IsUtf8 text → length text < 2 ^ 32 → (line column a : ℕ) (ts : List Token) → ((t : Token) → a ≤ t.start → After line column (shown e text t)) → Rising a ts
+    → AreOrdered line column (shown_in e text range ts)
+ordered e text range u h line column a [] after r = tt
+ordered e text range u h line column a (t ∷ ts) after r =
+    let rest : List Shown = shown_in e text range ts in
+    let s : Shown = shown e text t in
+    by_test (touches range t) line column s rest rest
+    (after t r.0, (small e text t u h, ordered e text range u h s.line s.column t.start ts (λ v le. in-order e text t.start v le) r.1))
+    (ordered e text range u h line column a ts after (lower a t.start ts r.0 r.1))
+
+from_start : (s : Shown) → After 0 0 s
+from_start s = elim (cases_lt 0 s.line) [ inl less ↦ inl less | inr more ↦ inr (omega (arith, more), omega arith) ]
+
+pub tokens-back : (e : Encoding) (text : List ℕ) (range : Range ℕ) (ss : List Tagged) (b : ℕ) → IsUtf8 text → length text < 2 ^ 32 → AreJoined 0 ss b
+    → decoded 0 0 (encoded 0 0 (shown_in e text range (stretches text ss))) ≡ shown_in e text range (stretches text ss)
+tokens-back e text range ss b u h joined =
+    read-back 0 0 (shown_in e text range (stretches text ss)) (ordered e text range u h 0 0 0 (stretches text ss) (λ t le. from_start (shown e text t)) (stretches-rise text 0 b ss joined))

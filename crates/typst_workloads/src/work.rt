@@ -1,0 +1,124 @@
+//! The kinds of work.
+ghost use Rattle.std.specs.Prelude.{◌≡◌};
+ghost use Rattle.typst_workloads.specs.Words.{word_of, work_named};
+
+use crate::edited::Edited;
+use std::alloc::{AllocError, Global};
+use typst_parser::{
+    Lines, SyntaxNode, UnicodeClasses, highlight_html, parse, parse_code, parse_math,
+};
+
+/// A kind of work on a text.
+#[derive(Debug, Clone, Copy, PartialEq, Eq)]
+pub enum Work {
+    /// Finds where the lines start.
+    Lines,
+    /// Makes the syntax tree.
+    Parse,
+    /// Makes the syntax tree of code.
+    ParseCode,
+    /// Makes the syntax tree of a formula.
+    ParseMath,
+    /// Writes the syntax tree as HTML.
+    Html,
+    /// Puts a letter into the middle of a source, or takes it out.
+    Edit,
+}
+
+/// What a kind of work is done on.
+#[derive(Drop)]
+pub enum Subject {
+    /// A text, whose lines are found.
+    Lines(String),
+    /// A text, whose tree is made.
+    Text(String),
+    /// A text of code, whose tree is made.
+    Code(String),
+    /// The text of a formula, whose tree is made.
+    Math(String),
+    /// A syntax tree, which is written as HTML.
+    Tree(SyntaxNode),
+    /// A source, which is edited.
+    Source(Edited),
+}
+
+impl Work {
+    /// The work of that name.
+    pub fn from_word(word: &str) -> Option<Work>
+        ensures { result ≡ work_named word.now }
+    {
+        match word {
+            "lines" => Some(Work::Lines),
+            "parse" => Some(Work::Parse),
+            "parse-code" => Some(Work::ParseCode),
+            "parse-math" => Some(Work::ParseMath),
+            "html" => Some(Work::Html),
+            "edit" => Some(Work::Edit),
+            _ => None,
+        }
+    }
+
+    /// Its name.
+    pub fn word(self) -> &'static str
+        ensures { result.now ≡ word_of self }
+    {
+        match self {
+            Work::Lines => "lines",
+            Work::Parse => "parse",
+            Work::ParseCode => "parse-code",
+            Work::ParseMath => "parse-math",
+            Work::Html => "html",
+            Work::Edit => "edit",
+        }
+    }
+
+    /// What it is done on, made from a text.
+    pub fn subject(self, alloc: Global, text: String) -> anyhow::Result<Subject> {
+        Ok(match self {
+            Work::Lines => Subject::Lines(text),
+            Work::Parse => Subject::Text(text),
+            Work::ParseCode => Subject::Code(text),
+            Work::ParseMath => Subject::Math(text),
+            Work::Html => Subject::Tree(parse(alloc, text.as_str(), &UnicodeClasses)?),
+            Work::Edit => Subject::Source(Edited::new(alloc, text)?),
+        })
+    }
+}
+
+impl Subject {
+    /// Does the work once, and sums up what came out.
+    pub fn round(&mut self, alloc: Global) -> anyhow::Result<u64> {
+        Ok(match self {
+            Subject::Lines(text) => lines(alloc, text.as_str())?,
+            Subject::Text(text) => size(&parse(alloc, text.as_str(), &UnicodeClasses)?),
+            Subject::Code(text) => size(&parse_code(alloc, text.as_str(), &UnicodeClasses)?),
+            Subject::Math(text) => size(&parse_math(alloc, text.as_str(), &UnicodeClasses)?),
+            Subject::Tree(root) => html(alloc, root)?,
+            Subject::Source(edited) => edited.round()?,
+        })
+    }
+}
+
+/// The starts of all lines of the text, in bytes and UTF-16 units, added up.
+fn lines(alloc: Global, text: &str) -> Result<u64, AllocError> {
+    let lines = Lines::new(alloc, text)?;
+    let mut sum = lines.len_utf16() as u64;
+    for i in 0..lines.len_lines() {
+        if let Some(line) = lines.line(i) {
+            sum = sum
+                .wrapping_add(line.byte_idx() as u64)
+                .wrapping_add(line.utf16_idx() as u64);
+        }
+    }
+    Ok(sum)
+}
+
+/// The length of a tree's text and the number of its nodes, added up.
+fn size(root: &SyntaxNode) -> u64 {
+    (root.len() as u64).wrapping_add(root.descendants() as u64)
+}
+
+/// The length of the tree's text as HTML.
+fn html(alloc: Global, root: &SyntaxNode) -> Result<u64, AllocError> {
+    Ok(highlight_html(alloc, root)?.len() as u64)
+}
