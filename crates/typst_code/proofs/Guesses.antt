@@ -1,5 +1,5 @@
 -- What comes behind parens, by where they go on behind the first one.
-use Rattle.std.proofs.Common.{◌≡◌, ℕ, ◌+◌, Bool, true, false, List, [], ◌++◌, Option, Some, refl, ap, sym, ◌∙◌, subst}
+use Rattle.std.proofs.Common.{◌≡◌, ℕ, ◌+◌, ◌-◌, ◌^◌, ◌≤◌, Bool, true, false, List, [], ◌++◌, Option, Some, refl, ap, sym, ◌∙◌, subst}
 use Rattle.typst_kinds.specs.declared.kind.SyntaxKind.{SyntaxKind}
 use Rattle.typst_lines.specs.Place.{Place, moved}
 use Rattle.typst_language.specs.hull.Hull.{Hull}
@@ -10,6 +10,8 @@ use Rattle.typst_language.specs.Hand.{Hand, told}
 use Rattle.typst_markup.specs.Markup.{at_newline}
 use Rattle.typst_language.specs.Meaning.{Guess, Level, Outcome, asked, before, entered, hand_asks_of, hand_of, inside, left, run, start_point}
 use Rattle.typst_language.specs.Nodes.{is_leaf}
+use Rattle.typst_language.specs.Ask.{only_looks}
+use Rattle.typst_language.specs.Log.{logged}
 use Rattle.typst_lookahead.specs.Noted.{hull_in}
 use Rattle.typst_language.specs.Point.{Point}
 use Rattle.typst_lookahead.specs.Remembered.{Comes, LooksIn}
@@ -18,9 +20,11 @@ use Rattle.typst_language.specs.Steps.{eat, eat_making, node, peek, within}
 use Rattle.typst_language.specs.Syntax.{Parser, ◌>>◌}
 use Rattle.typst_language.specs.Syntax.Parser.{gives, next, wraps}
 use Rattle.typst_language.specs.Syntax.Begin.{at_token}
-use Rattle.typst_lookahead.specs.View.{View, Fits, Found, at, behind_paren}
+use Rattle.typst_lookahead.specs.View.{View, Fits, Found, behind_paren, guess_at, looked_too}
+use Rattle.typst_lookahead.specs.View.{begun as guess_begun}
 use Rattle.typst_lookahead.proofs.Runs.{asked-same, shape-held, shape-known}
-use Rattle.typst_lookahead.proofs.Either.{Passed, paren-looks}
+use Rattle.typst_lookahead.proofs.Either.{Back, goes-nowhere, here-looks, paren-looks}
+use Rattle.typst_lookahead.proofs.Knowing.{looks-in, looks-more, looks-within, same-looks}
 use Rattle.typst_lookahead.proofs.Tails.{AllIn, Is, hulls, hulls-looks, in-both, in-first, in-second, is-gives, is-next, is-peek, is-scoped, is-self, is-takes, is-wraps, looks-hulls}
 use Rattle.typst_code.specs.Groups.{group, group_rest, group_shape}
 use Rattle.typst_code.specs.Parens.{after_paren, as_group, behind_group, guess_of}
@@ -168,34 +172,43 @@ Tells l = (z : Place) (outer : Reading) → l.guess l.levels z outer ≡ guess_o
 state-same : (l : Level) (v : View) → Fits l v → asked (hand_of l v.place v.state) v.state ≡ v.state
 state-same l v f = sym (asked-same l v f ∙ ap (λ (h : Hand). asked h v.state) f.hand)
 
--- a first reading would find what is remembered
-pub found-passed : {l : Level} {v : View} {b : Behind} → Fits l v → Tells l → Found l v b → Passed l as_group b v
-found-passed {l = l} {v = v} {b = b} f tells found =
+told-behind : (l : Level) (v : View) (w : Place) → Tells l → behind_paren v ≡ w → guess_at l v ≡ guess_of l w v.state.reading
+told-behind l v w tells here = tells (behind_paren v) v.state.reading ∙ ap (λ (z : Place). guess_of l z v.state.reading) here
+
+-- a first reading would find what is remembered, and would look at no more
+pub found-back : {l : Level} {v w : View} {b : Behind} {hull : Hull} → Tells l → Found l v b hull → w ≡ looked_too hull v → v.log.least ≤ 2 ^ 64 - 1 → Fits l v → Back l as_group b v w
+found-back {l = l} {v = v} {b = b} {hull = hull} tells found is least f =
     let same = state-same l v f in
     let leaf : is_leaf (hand_of l v.place v.state).token ≡ true = ap (λ (h : Hand). is_leaf h.token) (sym f.hand) ∙ found.leaf in
     let w = paren-end l v.place v.state same leaf in
     let here : behind_paren v ≡ w = ap (λ (h : Hand). moved (h.gap + h.len) v.place) f.hand in
-    let told : Comes (guess_of l w v.state.reading) (hull_in v.log) w b =
-    subst (λ (z : Place). Comes (guess_of l z v.state.reading) (hull_in v.log) z b) here
-    (subst (λ (g : Guess). Comes g (hull_in v.log) (behind_paren v) b) (tells (behind_paren v) v.state.reading) found.comes) in
-    record {
-      value = same-value l v.place v.state same leaf ∙ sym told.behind;
-      looks = looks-before l v.place v.state same leaf (hull_in v.log) (paren-looks f) told.looks;
-    }
+    let told = told-behind l v w tells here in
+    let first = run l as_group v.place v.state in
+    let behind : logged l.levels (behind_paren v) v.log (only_looks (guess_at l v).asks) ≡ logged l.levels w v.log (only_looks (guess_of l w v.state.reading).asks) = rw (told, here) refl in
+    let all = same-looks l.levels v.log v.place w first.asks (guess_of l w v.state.reading).asks (λ u i k. looks-after l v.place v.state same leaf u k)
+        (λ u i k. looks-before l v.place v.state same leaf u (looks-more (hull_in v.log) u v.place (hand_asks_of l v.place v.state) i (paren-looks f)) k) in
+    goes-nowhere hull (same-value l v.place v.state same leaf ∙ sym (ap (λ (g : Guess). g.behind) told) ∙ sym found.behind) (found.looks ∙ behind ∙ sym all) is least f
 
 -- and what it found may be remembered
-pub passed-found : {l : Level} {v : View} {b : Behind} → Fits l v → Tells l → Passed l as_group b v → is_leaf v.hand.token ≡ true → Found l v b
-passed-found {l = l} {v = v} {b = b} f tells passed plain =
+pub back-comes : {l : Level} (old : View) {first back : View} {b : Behind} → Tells l → first ≡ guess_begun old → Fits l first → Back l as_group b first back
+    → is_leaf back.hand.token ≡ true → Comes (guess_at l back) back.here (hull_in back.log) (behind_paren back) b
+back-comes {l = l} old {first = first} {back = back} {b = b} tells e fits k plain =
+    let v = guess_begun old in
+    let f : Fits l v = subst (λ (x : View). Fits l x) e fits in
+    let g : Back l as_group b v back = subst (λ (x : View). Back l as_group b x back) e k in
     let same = state-same l v f in
-    let leaf : is_leaf (hand_of l v.place v.state).token ≡ true = ap (λ (h : Hand). is_leaf h.token) (sym f.hand) ∙ plain in
+    let token : back.hand ≡ v.hand = ap (λ (x : View). x.hand) g.same in
+    let leaf : is_leaf (hand_of l v.place v.state).token ≡ true = ap (λ (h : Hand). is_leaf h.token) (sym f.hand ∙ sym token) ∙ plain in
     let w = paren-end l v.place v.state same leaf in
     let here : behind_paren v ≡ w = ap (λ (h : Hand). moved (h.gap + h.len) v.place) f.hand in
-    let comes : Comes (guess_of l w v.state.reading) (hull_in v.log) w b = record {
-      behind = sym passed.value ∙ same-value l v.place v.state same leaf;
-      looks = looks-after l v.place v.state same leaf (hull_in v.log) passed.looks;
+    let told = told-behind l v w tells here in
+    let asks = (run l as_group v.place v.state).asks in
+    let log = logged l.levels v.place v.log (only_looks asks) in
+    let inside : LooksIn (hull_in log) w (guess_of l w v.state.reading).asks = looks-after l v.place v.state same leaf (hull_in log) (looks-in l.levels v.place v.log asks) in
+    let comes : Comes (guess_of l w v.state.reading) v.here (hull_in log) w b = record {
+      behind = sym g.value ∙ same-value l v.place v.state same leaf;
+      looks = inside;
+      least = λ u i k. looks-within l.levels v.place v.log asks u i (looks-before l v.place v.state same leaf u (looks-more v.here u v.place (hand_asks_of l v.place v.state) i (here-looks f)) k);
     } in
-    record {
-      leaf = plain;
-      comes = subst (λ (g : Guess). Comes g (hull_in v.log) (behind_paren v) b) (sym (tells (behind_paren v) v.state.reading))
-          (subst (λ (z : Place). Comes (guess_of l z v.state.reading) (hull_in v.log) z b) (sym here) comes);
-    }
+    let there : Comes (guess_at l v) v.here (hull_in log) (behind_paren v) b = rw (told, here) comes in
+    subst (λ (x : View). Comes (guess_at l x) x.here (hull_in x.log) (behind_paren x) b) (sym g.same) there

@@ -35,15 +35,6 @@ fn as_group<L: Levels>(g: &L, p: &mut Parser<'_>) -> Result<Behind, AllocError>
     Ok(behind_group(kind, p.current()))
 }
 
-/// The same, remembering what turns out wrong within it.
-fn first_reading<L: Levels>(g: &L, p: &mut Parser<'_>) -> Result<Behind, AllocError>
-    requires { L.may_call g.now }
-    ensures { Means (L.frame g.now) spec.as_group p.old result p.new }
-{
-    p.begin_guess();
-    Ok(as_group(g, p)?)
-}
-
 /// Reads a group, and where what comes behind it asks for that, goes back and reads parameters or what
 /// is assigned to.
 fn guess<L: Levels>(g: &L, p: &mut Parser<'_>) -> Result<Behind, AllocError>
@@ -51,22 +42,25 @@ fn guess<L: Levels>(g: &L, p: &mut Parser<'_>) -> Result<Behind, AllocError>
     requires paren { p.old.hand.kind ≡ kind.LeftParen }
     ensures { MeansAround (L.frame g.now) spec.either_reading p.old result p.new }
 {
+    let aside = p.begin_guess();
     let place = p.checkpoint();
-    let behind = first_reading(g, p)?;
+    let behind = as_group(g, p)?;
     match behind {
         Behind::Arrow => {
             p.restore(place)?;
             p.remember(behind, g)?;
+            p.look_too(aside);
             params(g, p)?;
             p.drop_notes(place);
         }
         Behind::Eq => {
             p.restore(place)?;
             p.remember(behind, g)?;
+            p.look_too(aside);
             destructuring(g, p, Role::Target, Names::new(p.alloc()))?;
             p.drop_notes(place);
         }
-        Behind::Nothing => {}
+        Behind::Nothing => p.look_before(place, aside),
     }
     Ok(behind)
 }
@@ -82,12 +76,14 @@ fn readings<L: Levels>(g: &L, p: &mut Parser<'_>) -> Result<Behind, AllocError>
     }
     let place = p.checkpoint();
     match p.guessed(g) {
-        Some(Behind::Arrow) => {
+        Some((Behind::Arrow, hull)) => {
+            p.look_too(hull);
             params(g, p)?;
             p.drop_notes(place);
             return Ok(Behind::Arrow);
         }
-        Some(Behind::Eq) => {
+        Some((Behind::Eq, hull)) => {
+            p.look_too(hull);
             destructuring(g, p, Role::Target, Names::new(p.alloc()))?;
             p.drop_notes(place);
             return Ok(Behind::Eq);

@@ -3,12 +3,11 @@ use Rattle.std.proofs.Common.{Option, ◌≡◌, ℕ, ◌+◌, ◌-◌, ◌<◌,
 use borrow.Author.Tests.{lt-ltb}
 use Rattle.std.proofs.Math.Seq.{take-length}
 use Rattle.typst_lines.specs.Place.{moved}
-use Rattle.typst_kinds.specs.Kinds.{is_error}
-use Rattle.typst_tree.specs.Tree.{Tree, text_of}
+use Rattle.typst_tree.specs.Tree.{Tree}
 use Rattle.typst_language.specs.declared.reading.Reading.{Reading}
 use Rattle.typst_language.specs.Point.{Point, Trivia, pending}
 use Rattle.typst_language.specs.Hand.{AtHand, Hand, told}
-use Rattle.typst_language.specs.Shape.{Change, Making, Shape, after_node, first_changed, hinted, shaped}
+use Rattle.typst_language.specs.Shape.{Change, Making, Shape, first_changed, hinted, shaped}
 use Rattle.typst_language.specs.Shape.Change.{stays, turns_wrong, is_not, renamed, unparened}
 use Rattle.typst_language.specs.Shape.Shape.{keeps, holds, lacks, warns, fails}
 use Rattle.typst_language.specs.Shape.Making.{itself}

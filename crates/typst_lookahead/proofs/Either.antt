@@ -20,13 +20,13 @@ use Rattle.typst_language.specs.Syntax.Parser.{either}
 use Rattle.typst_language.specs.Meaning.{Level, given_up, hand_asks_of, run}
 use Rattle.typst_lookahead.specs.declared.memo.Guessed.{Guessed}
 use Rattle.typst_lookahead.specs.Remembered.{Knows, LooksIn, end_of}
-use Rattle.typst_lookahead.specs.View.{View, Runs, Ran, Goes, Does, Dropped, Fits, at}
+use Rattle.typst_lookahead.specs.View.{View, Runs, Ran, Goes, Does, Dropped, Fits, at, looked_too}
 use Rattle.typst_lookahead.specs.Noted.{listed}
 use Rattle.typst_lookahead.specs.Checkpoint.{Leaves, Saved, forgot_notes, is_some, saved, went_back}
 use Rattle.typst_lookahead.specs.Noted.{hull_in, least_of, reach_of, unnoted}
 use Rattle.typst_language.proofs.Places.{take-both, drop-both, take-all, drop-all}
-use Rattle.typst_lookahead.proofs.Logs.{Among, among-is, is-among, logged-append, same-log, with-again}
-use Rattle.typst_lookahead.proofs.Knowing.{end-moved, knows-at, looks-again}
+use Rattle.typst_lookahead.proofs.Logs.{among-is, is-among, logged-append, same-log}
+use Rattle.typst_lookahead.proofs.Knowing.{end-moved, knows-at, looks-among, looks-more, looks-notes}
 
 -- ---- notes that are dropped
 
@@ -110,19 +110,7 @@ only-append [] ys = refl
 only-append (looked at look ∷ xs) ys = ap (λ asks. looked at look ∷ asks) (only-append xs ys)
 only-append (marked at gap fewer mark s ∷ xs) ys = only-append xs ys
 
--- looks leave the notes, and begin no later
-looks-notes : (levels : ℕ) (z : Place) (h : Log) (asks : List Ask) → (logged levels z h (only_looks asks)).notes ≡ h.notes
-looks-notes levels z h [] = refl
-looks-notes levels z h (looked at look ∷ asks) = looks-notes levels z (with_hull (hull_of look (moved at z)) h) asks
-looks-notes levels z h (marked at gap fewer mark s ∷ asks) = looks-notes levels z h asks
-
-looks-among : (u : Hull) (levels : ℕ) (z : Place) (h : Log) (asks : List Ask) → Among u h → Among u (logged levels z h (only_looks asks))
-looks-among u levels z h [] a = a
-looks-among u levels z h (looked at look ∷ asks) a =
-    let w = hull_of look (moved at z) in
-    looks-among u levels z (with_hull w h) asks (record { reach = let r = a.reach in omega arith; least = let l = a.least in omega arith })
-looks-among u levels z h (marked at gap fewer mark s ∷ asks) a = looks-among u levels z h asks a
-
+-- looks begin no later
 looks-least : (levels : ℕ) (z : Place) (h : Log) (asks : List Ask) → (logged levels z h (only_looks asks)).least ≤ h.least
 looks-least levels z h [] = omega arith
 looks-least levels z h (looked at look ∷ asks) = let e = looks-least levels z (with_hull (hull_of look (moved at z)) h) asks in omega arith
@@ -182,65 +170,24 @@ both-log levels z h xs ys b =
     unnoted-logged levels z c g ys (omega arith) (omega arith) ∙ ap (λ x. logged levels z x (only_looks ys)) (unnoted-same c g (omega arith))
     ∙ sym (ap (logged levels z h) (only-append xs ys) ∙ logged-append levels z h (only_looks xs) (only_looks ys))
 
-pub ran-given_up : {A : Type 0} {l : Level} {p q : Parser A} {is_wrong : A → Bool} {a b : A} {old mid last : View} (memo : List Guessed)
-    → is_wrong a ≡ true → old.log.least ≤ 2 ^ 64 - 1 → Ran l p a old mid → Ran l q b (record old { log = unnoted (length (listed old.log.notes)) mid.log; memo = memo }) last
+-- the first reading is given up: the second one is all, and the looks of both stay
+ran-given_up : {A : Type 0} {l : Level} {p q : Parser A} {is_wrong : A → Bool} {a b : A} {old last : View} (memo : List Guessed)
+    → is_wrong a ≡ true → old.log.least ≤ 2 ^ 64 - 1 → (at l p old).value ≡ a → Ran l q b (record old { log = logged l.levels old.place old.log (only_looks (at l p old).asks); memo = memo }) last
     → Ran l (either p is_wrong q) b old (forgot_notes (saved old) last)
 unfolding run
-ran-given_up {l = l} {p = p} {q = q} {is_wrong = is_wrong} {a = a} {b = b} {old = old} {mid = mid} {last = last} memo e least h k =
+ran-given_up {l = l} {p = p} {q = q} {is_wrong = is_wrong} {b = b} {old = old} {last = last} memo e least value k =
     let o = at l p old in
     let r = at l q old in
-    let z = old.place in
-    let c = length (listed old.log.notes) in
     let n = l.levels in
-    let back = ap (unnoted c) h.runs.log ∙ back-log n z old.log o.asks least in
+    let c = length (listed old.log.notes) in
     let runs : Runs n (given_up o r) b old (forgot_notes (saved old) last) = record {
       value = k.runs.value;
       place = k.runs.place;
       state = k.runs.state;
       nodes = k.runs.nodes;
-      log = ap (unnoted c) (k.runs.log ∙ ap (λ x. logged n z x r.asks) back) ∙ both-log n z old.log o.asks r.asks least;
+      log = ap (unnoted c) k.runs.log ∙ both-log n old.place old.log o.asks r.asks least;
     } in
-    record { runs = subst (λ t. Runs n (if t then given_up o r else o) b old (forgot_notes (saved old) last)) (sym (ap is_wrong h.runs.value ∙ e)) runs }
-
--- a reading would answer this, and look at nothing new
-pub record Passed {A : Type 0} (l : Level) (p : Parser A) (a : A) (v : View) : Type 0 where
-  pub value : (at l p v).value ≡ a
-  pub looks : LooksIn (hull_in v.log) v.place (at l p v).asks
-
--- where it would be given up, and all its looks are known, the second reading is all
-ran-passed : {A : Type 0} {l : Level} {p q : Parser A} {is_wrong : A → Bool} {a b : A} {old last : View}
-    → is_wrong a ≡ true → old.log.least ≤ 2 ^ 64 - 1 → Passed l p a old → Ran l q b old last → Ran l (either p is_wrong q) b old (forgot_notes (saved old) last)
-unfolding run
-ran-passed {l = l} {p = p} {q = q} {is_wrong = is_wrong} {a = a} {b = b} {old = old} {last = last} e least h k =
-    let o = at l p old in
-    let r = at l q old in
-    let z = old.place in
-    let n = l.levels in
-    let c = length (listed old.log.notes) in
-    let none = looks-again n z old.log o.asks h.looks in
-    let runs : Runs n (given_up o r) b old (forgot_notes (saved old) last) = record {
-      value = k.runs.value;
-      place = k.runs.place;
-      state = k.runs.state;
-      nodes = k.runs.nodes;
-      log = ap (unnoted c) (k.runs.log ∙ ap (λ x. logged n z x r.asks) (sym none)) ∙ both-log n z old.log o.asks r.asks least;
-    } in
-    record { runs = subst (λ t. Runs n (if t then given_up o r else o) b old (forgot_notes (saved old) last)) (sym (ap is_wrong h.value ∙ e)) runs }
-
--- what is remembered changes no reading
-memo-ran : {A : Type 0} {l : Level} {q : Parser A} {b : A} {back now last : View} → now ≡ record back { memo = now.memo } → Ran l q b now last → Ran l q b back last
-memo-ran {l = l} {q = q} {b = b} {back = back} {now = now} {last = last} is k =
-    let r : Ran l q b (record back { memo = now.memo }) last = subst (λ (v : View). Ran l q b v last) is k in
-    record { runs = record { value = r.runs.value; place = r.runs.place; state = r.runs.state; nodes = r.runs.nodes; log = r.runs.log } }
-
--- the token at hand is the same behind going back
-back-fits : {A : Type 0} {l : Level} {p : Parser A} {a : A} {old mid : View} {memo : List Guessed} → old.log.least ≤ 2 ^ 64 - 1 → Fits l old → Ran l p a old mid → Knows l.guess (end_of old.place) memo → Fits l (record old { log = unnoted (length (listed old.log.notes)) mid.log; memo = memo })
-back-fits {l = l} {p = p} {old = old} least f h knows =
-    let c = length (listed old.log.notes) in
-    let o = at l p old in
-    let back = ap (unnoted c) h.runs.log ∙ back-log l.levels old.place old.log o.asks least in
-    let among = looks-among old.here l.levels old.place old.log o.asks (among-is old.here old.log f.log) in
-    record { known = f.known; hand = f.hand; own = f.own; here = f.here; there = f.there; log = subst (λ (x : Log). with_hull old.here x ≡ x) (sym back) (is-among old.here _ among); knows = knows }
+    record { runs = subst (λ t. Runs n (if t then given_up o r else o) b old (forgot_notes (saved old) last)) (sym (ap is_wrong value ∙ e)) runs }
 
 unnoted-fits : {l : Level} {v : View} (c : ℕ) → Fits l v → Fits l (record v { log = unnoted c v.log })
 unnoted-fits {v = v} c f =
@@ -254,32 +201,21 @@ pub does-chosen : {A : Type 0} {l : Level} {P Q : View → Type 0} {p q : Parser
     → is_wrong a ≡ false → Goes l P Q p a old mid → Goes l P Q (either p is_wrong q) a old mid
 does-chosen e d = record { ran = λ c. ran-chosen e (d.ran c); ready = d.ready }
 
--- the looks of a reading lie in what was looked at behind it
-looks-in : (n : ℕ) (z : Place) (h : Log) (asks : List Ask) → LooksIn (hull_in (logged n z h (only_looks asks))) z asks
-looks-in n z h [] = tt
-looks-in n z h (looked at look ∷ asks) =
-    let u = hull_of look (moved at z) in
-    let a = looks-among u n z (with_hull u h) asks (with-again u h) in
-    (record { reach = a.reach; least = a.least }, looks-in n z (with_hull u h) asks)
-looks-in n z h (marked at gap fewer mark s ∷ asks) = looks-in n z h asks
+-- the code stands where it began: a reading would answer this from there, all that it would look at was looked at, and what is remembered may be another
+pub record Back {A : Type 0} (l : Level) (p : Parser A) (a : A) (old back : View) : Type 0 where
+  pub value : (at l p old).value ≡ a
+  pub same : back ≡ record old { log = logged l.levels old.place old.log (only_looks (at l p old).asks); memo = back.memo }
+  pub knows : Knows l.guess (end_of old.place) back.memo
+  pub least : old.log.least ≤ 2 ^ 64 - 1
 
--- where the first reading isn't given up, it is all
-pub passed-chosen : {A : Type 0} {l : Level} {p q : Parser A} {is_wrong : A → Bool} {a : A} {v : View} → is_wrong a ≡ false → Passed l p a v → Passed l (either p is_wrong q) a v
-unfolding run
-passed-chosen {l = l} {p = p} {q = q} {is_wrong = is_wrong} {a = a} {v = v} e h =
-    let o = at l p v in
-    let r = at l q v in
-    let right = sym (ap is_wrong h.value ∙ e) in
-    record {
-      value = subst (λ b. (if b then given_up o r else o).value ≡ a) right h.value;
-      looks = subst (λ b. LooksIn (hull_in v.log) v.place (if b then given_up o r else o).asks) right h.looks;
-    }
-
--- the code went back to where it began, and perhaps remembered something
-pub record Back {A : Type 0} (l : Level) (p : Parser A) (a : A) (old back : View) : Type 1 where
-  pub fits : Fits l back
-  pub passed : Passed l p a back
-  pub again : {b : A} {q : Parser A} {is_wrong : A → Bool} {last : View} → is_wrong a ≡ true → Ran l q b back last → Ran l (either p is_wrong q) b old (forgot_notes (saved old) last)
+-- the token at hand is the same there
+pub back-fits : {A : Type 0} {l : Level} {p : Parser A} {a : A} {old back : View} → Fits l old → Back l p a old back → Fits l back
+back-fits {l = l} {p = p} {old = old} {back = back} f b =
+    let o = at l p old in
+    let log = logged l.levels old.place old.log (only_looks o.asks) in
+    let among = looks-among old.here l.levels old.place old.log o.asks (among-is old.here old.log f.log) in
+    let fits : Fits l (record old { log = log; memo = back.memo }) = record { known = f.known; hand = f.hand; own = f.own; here = f.here; there = f.there; log = is-among old.here log among; knows = b.knows } in
+    subst (λ (v : View). Fits l v) (sym b.same) fits
 
 -- the first reading turned out wrong, and the code went back
 pub goes-back : {A : Type 0} {l : Level} {p : Parser A} {a : A} {c : Saved} {old mid back : View}
@@ -289,45 +225,62 @@ goes-back {l = l} {p = p} {a = a} {c = c} {old = old} {mid = mid} {back = back} 
     let r = d.ran f in
     let o = at l p old in
     let n = length (listed old.log.notes) in
-    let home : View = record old { log = unnoted n mid.log; memo = mid.memo } in
-    let same : back ≡ home = went ∙ ap (λ (x : Saved). went_back x mid) at-c ∙ back-stands old mid f few (leaves f) in
+    let same : back ≡ record old { log = unnoted n mid.log; memo = mid.memo } = went ∙ ap (λ (x : Saved). went_back x mid) at-c ∙ back-stands old mid f few (leaves f) in
+    let memo : back.memo ≡ mid.memo = ap (λ (v : View). v.memo) same in
     let end : end_of old.place ≡ end_of mid.place = sym (ap end_of r.runs.place ∙ end-moved o.taken old.place) in
     let log : unnoted n mid.log ≡ logged l.levels old.place old.log (only_looks o.asks) = ap (unnoted n) r.runs.log ∙ back-log l.levels old.place old.log o.asks least in
-    let looks : LooksIn (hull_in (unnoted n mid.log)) old.place o.asks = subst (λ (h : Log). LooksIn (hull_in h) old.place o.asks) (sym log) (looks-in l.levels old.place old.log o.asks) in
-    let fits : Fits l home = back-fits least f r (knows-at refl end (d.ready f).knows) in
-    let passed : Passed l p a home = record { value = r.runs.value; looks = looks } in
     record {
-      fits = subst (λ (v : View). Fits l v) (sym same) fits;
-      passed = subst (λ (v : View). Passed l p a v) (sym same) passed;
-      again = λ {b} {q} {is_wrong} {last} e k. ran-given_up mid.memo e least r (subst (λ (v : View). Ran l q b v last) same k);
+      value = r.runs.value;
+      same = same ∙ ap (λ (h : Log). record old { log = h; memo = mid.memo }) log ∙ ap (λ (es : List Guessed). record old { log = logged l.levels old.place old.log (only_looks o.asks); memo = es }) (sym memo);
+      knows = knows-at memo end (d.ready f).knows;
+      least = least;
     }
 
--- the code never read it, since it was remembered
-pub goes-nowhere : {A : Type 0} {l : Level} {p : Parser A} {a : A} {old : View} → old.log.least ≤ 2 ^ 64 - 1 → Passed l p a old → Fits l old → Back l p a old old
-goes-nowhere {l = l} {p = p} {a = a} {old = old} least e f =
-    record { fits = f; passed = e; again = λ {b} {q} {is_wrong} {last} wrong k. ran-passed wrong least e k }
+-- the code never read it, since what it would answer and look at was remembered
+pub goes-nowhere : {A : Type 0} {l : Level} {p : Parser A} {a : A} {old now : View} (hull : Hull)
+    → (at l p old).value ≡ a → with_hull hull old.log ≡ logged l.levels old.place old.log (only_looks (at l p old).asks) → now ≡ looked_too hull old → old.log.least ≤ 2 ^ 64 - 1 → Fits l old → Back l p a old now
+goes-nowhere {l = l} {p = p} {old = old} {now = now} hull value log is least f =
+    let memo : now.memo ≡ old.memo = ap (λ (v : View). v.memo) is in
+    record {
+      value = value;
+      same = is ∙ ap (λ (h : Log). record old { log = h }) log ∙ ap (λ (es : List Guessed). record old { log = logged l.levels old.place old.log (only_looks (at l p old).asks); memo = es }) (sym memo);
+      knows = knows-at memo refl f.knows;
+      least = least;
+    }
+
+-- where the first reading isn't given up, it is all
+pub back-chosen : {A : Type 0} {l : Level} {p q : Parser A} {is_wrong : A → Bool} {a : A} {old back : View} → is_wrong a ≡ false → Back l p a old back → Back l (either p is_wrong q) a old back
+unfolding run
+back-chosen {A = A} {l = l} {p = p} {q = q} {is_wrong = is_wrong} {a = a} {old = old} {back = back} e h =
+    let o = at l p old in
+    let r = at l q old in
+    let right = sym (ap is_wrong h.value ∙ e) in
+    record {
+      value = subst (λ b. (if b then given_up o r else o).value ≡ a) right h.value;
+      same = subst (λ b. back ≡ record old { log = logged l.levels old.place old.log (only_looks (if b then given_up o r else o).asks); memo = back.memo }) right h.same;
+      knows = h.knows;
+      least = h.least;
+    }
 
 -- what is remembered may change
 pub back-changed : {A : Type 0} {l : Level} {p : Parser A} {a : A} {old back now : View} → now ≡ record back { memo = now.memo } → Knows l.guess (end_of back.place) now.memo → Back l p a old back → Back l p a old now
-back-changed {l = l} {p = p} {a = a} {old = old} {back = back} {now = now} is knows b =
-    let f = b.fits in
-    let mid : View = record back { memo = now.memo } in
-    let fits : Fits l mid = record { known = f.known; hand = f.hand; own = f.own; here = f.here; there = f.there; log = f.log; knows = knows } in
-    let passed : Passed l p a mid = record { value = b.passed.value; looks = b.passed.looks } in
-    record {
-      fits = subst (λ (v : View). Fits l v) (sym is) fits;
-      passed = subst (λ (v : View). Passed l p a v) (sym is) passed;
-      again = λ {b = x} {q} {is_wrong} {last} e k. b.again e (memo-ran is k);
-    }
+back-changed {l = l} {p = p} {old = old} {back = back} {now = now} is knows b = record {
+  value = b.value;
+  same = is ∙ ap (λ (v : View). record v { memo = now.memo }) b.same;
+  knows = knows-at refl (sym (ap (λ (v : View). end_of v.place) b.same)) knows;
+  least = b.least;
+}
 
 -- the second reading was made from there, and what was noted is dropped
 pub does-either : {A : Type 0} {l : Level} {p q : Parser A} {is_wrong : A → Bool} {a b : A} {c : Saved} {old back last new : View}
     → c ≡ saved old → is_wrong a ≡ true → (Fits l old → Back l p a old back) → Does l q b back last → new ≡ forgot_notes c last → Does l (either p is_wrong q) b old new
-does-either {l = l} {p = p} {q = q} {is_wrong = is_wrong} {b = b} {c = c} {old = old} {last = last} {new = new} at-c e goes k gone =
+does-either {l = l} {p = p} {q = q} {is_wrong = is_wrong} {b = b} {c = c} {old = old} {back = back} {last = last} {new = new} at-c e goes k gone =
     let end : new ≡ forgot_notes (saved old) last = gone ∙ ap (λ (x : Saved). forgot_notes x last) at-c in
     record {
-      ran = λ f. (let g = goes f in subst (λ (v : View). Ran l (either p is_wrong q) b old v) (sym end) (g.again e (k.ran g.fits)));
-      ready = λ f. subst (λ (v : View). Fits l v) (sym end) (unnoted-fits (length (listed old.log.notes)) (k.ready (goes f).fits));
+      ran = λ f. (let g = goes f in
+          let second = subst (λ (v : View). Ran l q b v last) g.same (k.ran (back-fits f g)) in
+          subst (λ (v : View). Ran l (either p is_wrong q) b old v) (sym end) (ran-given_up back.memo e g.least g.value second));
+      ready = λ f. subst (λ (v : View). Fits l v) (sym end) (unnoted-fits (length (listed old.log.notes)) (k.ready (back-fits f (goes f))));
     }
 
 -- behind it something may be forgotten
@@ -341,23 +294,26 @@ does-dropped {l = l} {p = p} {a = a} {old = old} {mid = mid} {new = new} d g = r
       subst (λ (v : View). Fits l v) (sym d.same) fits);
 }
 
--- what is asked for the token at hand was looked at
-pub paren-looks : {l : Level} {v : View} → Fits l v → LooksIn (hull_in v.log) v.place (hand_asks_of l v.place v.state)
+-- what is asked for the token at hand was looked at for it
+pub here-looks : {l : Level} {v : View} → Fits l v → LooksIn v.here v.place (hand_asks_of l v.place v.state)
 unfolding hand_asks
-paren-looks {l = l} {v = v} f =
+here-looks {l = l} {v = v} f =
     let k = l.classes in
     let held = v.state.held in
     let t : Trivia = record { nodes = v.hand.trivia; gap = v.hand.gap; newlines = v.hand.newlines } in
     let w = moved v.hand.gap v.place in
     let own = token_hull k held.mode w in
-    let a = among-is v.here v.log f.log in
     let here : v.here ≡ column_hull held v.hand.newlines w own = f.here ∙ ap (column_hull held v.hand.newlines w) f.own in
-    let b : Among (column_hull held v.hand.newlines w own) v.log = subst (λ (u : Hull). Among u v.log) here a in
-    subst (λ (x : Option Trivia). LooksIn (hull_in v.log) v.place (hand_asks k held x v.place)) (sym f.known) (by-column k held t v.place v.log (asks_column held t.newlines) b)
+    subst (λ (u : Hull). LooksIn u v.place (hand_asks_of l v.place v.state)) (sym here)
+    (subst (λ (x : Option Trivia). LooksIn (column_hull held v.hand.newlines w own) v.place (hand_asks k held x v.place)) (sym f.known) (by-column k held t v.place (asks_column held t.newlines)))
   where
-    by-column : (k : CharClasses) (held : Reading) (t : Trivia) (z : Place) (h : Log) (c : Bool)
-        → (let w = moved t.gap z in let own = token_hull k held.mode w in Among (if c then joined_hull own (hull_of (column_look w) w) else own) h)
-        → LooksIn (hull_in h) z (looked t.gap (look (token k held.mode) (moved t.gap z)) ∷ (if c then looked t.gap (column_look (moved t.gap z)) ∷ [] else []))
-    by-column k held t z h true a =
-        (record { reach = let r = a.reach in omega arith; least = let l = a.least in omega arith }, (record { reach = let r = a.reach in omega arith; least = let l = a.least in omega arith }, tt))
-    by-column k held t z h false a = (record { reach = a.reach; least = a.least }, tt)
+    by-column : (k : CharClasses) (held : Reading) (t : Trivia) (z : Place) (c : Bool)
+        → (let w = moved t.gap z in let own = token_hull k held.mode w in LooksIn (if c then joined_hull own (hull_of (column_look w) w) else own) z (looked t.gap (look (token k held.mode) w) ∷ (if c then looked t.gap (column_look w) ∷ [] else [])))
+    by-column k held t z true = (record { reach = omega arith; least = omega arith }, (record { reach = omega arith; least = omega arith }, tt))
+    by-column k held t z false = (record { reach = omega arith; least = omega arith }, tt)
+
+-- and so it was among all that was
+pub paren-looks : {l : Level} {v : View} → Fits l v → LooksIn (hull_in v.log) v.place (hand_asks_of l v.place v.state)
+paren-looks {l = l} {v = v} f =
+    let a = among-is v.here v.log f.log in
+    looks-more v.here (hull_in v.log) v.place (hand_asks_of l v.place v.state) (record { reach = a.reach; least = a.least }) (here-looks f)

@@ -14,7 +14,7 @@ pub mod Trivia
 --   the token further on, hints  Words
 --   the first node changed, seen Changes
 --   the token at hand            Ready: what it becomes; ReadSo: read in another way
---   a reading that is given up   Checkpoints: going back; Either: the law; Begins: what leaves what stood before; Knowing, Tails: what is remembered
+--   a reading that is given up   Checkpoints: going back; Either: the law; Begins: what leaves what stood before; Knowing, Tails: what is remembered; Aside: what was looked at before it
 pub mod Knowing
 pub mod Blocks
 pub mod Runs
@@ -26,6 +26,7 @@ pub mod Ready
 pub mod ReadSo
 pub mod Checkpoints
 pub mod Either
+pub mod Aside
 pub mod Tails
 pub mod Begins
 pub mod Changes

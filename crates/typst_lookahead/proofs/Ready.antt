@@ -1,5 +1,5 @@
 -- What the parser of the code does to the token at hand.
-use Rattle.std.proofs.Common.{Option, Some, None, ◌≡◌, ◌≤◌, ℕ, ◌+◌, ◌-◌, Bool, true, false, if◌then◌else◌, List, [], ◌∷◌, ◌++◌, take, drop, length, length-append, refl, ap, sym, ◌∙◌, arith}
+use Rattle.std.proofs.Common.{Option, Some, None, ◌≡◌, ◌≤◌, ℕ, ◌+◌, ◌-◌, Bool, true, false, if◌then◌else◌, List, [], ◌∷◌, ◌++◌, length, length-append, refl, ap, sym, ◌∙◌, arith}
 use Rattle.typst_kinds.specs.Kinds.{is_error}
 use Rattle.typst_lines.specs.Place.{Place, moved}
 use Rattle.typst_lines.specs.Scanner.{place}
@@ -13,7 +13,7 @@ use Rattle.typst_language.specs.declared.reading.Reading.{Reading}
 use Rattle.typst_language.specs.Point.{Point, Trivia, gap_of, is_nil, state_of}
 use Rattle.typst_language.specs.Hand.{Hand, column_at, judged, hand_at, hand_asks, known_by}
 use Rattle.typst_language.specs.Log.{with_hull, logged}
-use Rattle.typst_language.specs.Shape.{Making, Shape, shaped, count_empty, after_node, after_shape}
+use Rattle.typst_language.specs.Shape.{Making, count_empty, after_node}
 use Rattle.typst_language.specs.Steps.{note}
 use Rattle.typst_language.specs.Syntax.Op.{column, takes}
 use Rattle.typst_language.specs.Syntax.Parser.{does}
@@ -23,7 +23,7 @@ use Rattle.typst_lookahead.specs.Bytes.{column_hull, token_hull, whole_at}
 use Rattle.typst_lookahead.specs.Cursor.{view_of}
 use Rattle.typst_lookahead.specs.AheadCursor.{Stands, hand_of_ahead}
 use Rattle.typst_lookahead.specs.declared.ahead.ReadAhead.{ReadAhead}
-use Rattle.typst_lookahead.specs.View.{View, Goes, Does, Fits, Bare, Looked, Left, Rewrapped, unasked, noted_here}
+use Rattle.typst_lookahead.specs.View.{View, Goes, Does, Fits, Bare, Looked, Left, unasked, noted_here}
 use Rattle.typst_lookahead.specs.Noted.{with_noted}
 use Rattle.typst_lookahead.proofs.Logs.{logged-none, logged-some}
 use Rattle.typst_lookahead.proofs.Runs.{column_seen, fits-looked, asked-log}

@@ -8,11 +8,11 @@ use Rattle.typst_language.specs.declared.reading.Reading.{Reading}
 use Rattle.typst_language.specs.Calls.{Call, Answer}
 use Rattle.typst_language.specs.Point.{Point, Trivia, gap_of, pending, is_nil, state_of}
 use Rattle.typst_language.specs.Log.{with_note}
-use Rattle.typst_language.specs.Hand.{AtHand, told, column_at}
+use Rattle.typst_language.specs.Hand.{told, column_at}
 use Rattle.typst_language.specs.Shape.{Making, Shape, becomes, seen}
 use Rattle.typst_language.specs.Sound.{Sound}
 use Rattle.typst_language.specs.Syntax.{Parser, Begin}
-use Rattle.typst_language.specs.Syntax.Op.{hand, column, erred, takes, complains, marks, is_deepest}
+use Rattle.typst_language.specs.Syntax.Op.{column, erred, takes, complains, marks, is_deepest}
 use Rattle.typst_language.specs.Syntax.Parser.{gives, does, next, pick, repeat, wraps, scoped, calls}
 use Rattle.typst_language.specs.Steps.{peek, eat_making, flush_trivia, within, node, node_with_trivia, note}
 use Rattle.typst_language.specs.Meaning.{Level, before, entered, left, same_mode}
@@ -20,7 +20,7 @@ use Rattle.typst_lookahead.specs.Bytes.{bytes_left}
 use Rattle.typst_lookahead.specs.View.{View, Ran, Goes, Does, Makes, Fits, Bare, Loose, Looked, Left, Flushed, Rewrapped, unasked, noted_here}
 use Rattle.typst_lookahead.specs.Remembered.{Knows, end_of}
 use Rattle.typst_lookahead.proofs.Knowing.{knows-at}
-use Rattle.typst_lookahead.proofs.Runs.{ran-next, ran-gives, ran-calls, ran-pick, ran-other, ran-hand, ran-column, ran-erred, ran-deepest, ran-marks, Eaten, ran-takes, eaten-bare, ran-flushes, flushed-fits, ran-complains, ran-scoped, ran-wraps, rewrapped-fits, ran-turn, ran-last, looked-fits, ran-look, after-peek, column_seen, fits-more, noted}
+use Rattle.typst_lookahead.proofs.Runs.{ran-next, ran-gives, ran-calls, ran-pick, ran-other, ran-hand, ran-column, ran-erred, ran-deepest, ran-marks, Eaten, ran-takes, eaten-bare, ran-flushes, flushed-fits, ran-complains, ran-scoped, ran-wraps, rewrapped-fits, ran-turn, ran-last, looked-fits, ran-look, column_seen, fits-more, noted}
 
 pub does-next : {A B : Type 0} {l : Level} {P Q R : View → Type 0} {p : Parser B} {f : B → Parser A} {b : B} {a : A} {old mid new : View}
     → Goes l P Q p b old mid → Goes l Q R (f b) a mid new → Goes l P R (next p f) a old new

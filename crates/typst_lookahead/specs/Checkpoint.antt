@@ -6,7 +6,7 @@ use Rattle.typst_tokens.specs.declared.hull.Hull.{Hull}
 use Rattle.typst_language.specs.declared.reading.State.{State}
 use Rattle.typst_language.specs.Point.{state_of}
 use Rattle.typst_language.specs.Hand.{Hand, known_by}
-use Rattle.typst_lookahead.specs.Noted.{listed, unnoted}
+use Rattle.typst_lookahead.specs.Noted.{listed, looked_before, unnoted}
 use Rattle.typst_lookahead.specs.View.{View}
 
 -- ---- what a checkpoint keeps
@@ -82,3 +82,7 @@ pub record Leaves (old mid : View) : Type 0 where
 -- what was noted since is dropped
 abbrev pub forgot_notes : Saved → View → View
 forgot_notes c v = record v { log = unnoted c.notes v.log }
+
+-- looks that were made before it count at the first note since, or where there is none since the last note
+abbrev pub looked_since : Saved → Hull → View → View
+looked_since c u v = record v { log = looked_before c.notes u v.log }

@@ -1,10 +1,10 @@
 -- What the log of the code does with notes.
-use Rattle.std.specs.Prelude.{ℕ, max, min, List, [], ◌∷◌, take, drop, Option, Some, None, option_map}
+use Rattle.std.specs.Prelude.{ℕ, zero, suc, nat_lt, max, min, if◌then◌else◌, List, [], ◌∷◌, length, take, drop, Option, Some, None, option_map}
 use Rattle.typst_tokens.specs.declared.hull.Hull.{Hull}
 use Rattle.typst_language.specs.declared.calls.Mark.{Mark}
 use Rattle.typst_language.specs.declared.calls.Note.{Note}
 use Rattle.typst_language.specs.declared.reading.State.{State}
-use Rattle.typst_language.specs.Log.{Log, least_behind, reach_behind, with_more}
+use Rattle.typst_language.specs.Log.{Log, least_behind, reach_behind, with_hull, with_more}
 
 -- something was noted, between two byte offsets of which the first is that of the trivia before it
 abbrev pub with_noted : Mark → ℕ → ℕ → ℕ → State → Log → Log
@@ -40,3 +40,21 @@ unnoted count h = record {
   least = least_of h.least (drop count (listed h.notes));
   notes = option_map (take count) h.notes;
 }
+
+-- all looks since the last note are set aside but these
+abbrev pub looked_alone : Hull → Log → Log
+looked_alone u h = record h { reach = u.reach; least = u.least }
+
+-- a look that was made before a note counts at it
+abbrev pub note_behind : Hull → Note → Note
+note_behind u note = record note { reach = max note.reach u.reach; least = min note.least u.least }
+
+-- the same of the note of a number
+abbrev pub notes_behind : ℕ → Hull → List Note → List Note
+notes_behind n u [] = []
+notes_behind zero u (note ∷ notes) = note_behind u note ∷ notes
+notes_behind (suc n) u (note ∷ notes) = note ∷ notes_behind n u notes
+
+-- looks that were made before the note of a number count at it, and where there is none since the last note
+abbrev pub looked_before : ℕ → Hull → Log → Log
+looked_before n u h = if nat_lt n (length (listed h.notes)) then record h { notes = option_map (notes_behind n u) h.notes } else with_hull u h

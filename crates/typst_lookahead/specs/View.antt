@@ -22,11 +22,12 @@ use Rattle.typst_language.specs.Log.{Log, logged, with_hull, with_note}
 use Rattle.typst_language.specs.Shape.{Shape, becomes, shaped, after_shape}
 use Rattle.typst_language.specs.Sound.{Sound}
 use Rattle.typst_language.specs.Syntax.{Parser, ◌>>◌}
-use Rattle.typst_language.specs.Meaning.{Outcome, Level, apart, asked, flushed_state, hand_of, hand_asks_of, left, standing, run}
+use Rattle.typst_language.specs.Ask.{only_looks}
+use Rattle.typst_language.specs.Meaning.{Guess, Outcome, Level, apart, asked, flushed_state, hand_of, hand_asks_of, left, standing, run}
 use Rattle.typst_language.specs.Steps.{peek}
 use Rattle.typst_lookahead.specs.Bytes.{LiesIn, token_hull, column_hull}
 use Rattle.typst_language.specs.Nodes.{is_leaf}
-use Rattle.typst_lookahead.specs.Noted.{hull_in}
+use Rattle.typst_lookahead.specs.Noted.{hull_in, looked_alone}
 use Rattle.typst_lookahead.specs.declared.memo.Guessed.{Guessed}
 use Rattle.typst_lookahead.specs.Remembered.{Comes, Knows, end_of}
 
@@ -183,21 +184,34 @@ pub record ReadsBlock (l : Level) (b : Block) (p : Parser (Unit {0})) : Type 0 w
 abbrev pub behind_paren : View → Place
 behind_paren v = moved (v.hand.gap + v.hand.len) v.place
 
--- this comes behind the parens at hand, and all that is looked at for it was looked at
-pub record Found (l : Level) (v : View) (b : Behind) : Type 0 where
-  pub leaf : is_leaf v.hand.token ≡ true
-  pub comes : Comes (l.guess l.levels (behind_paren v) v.state.reading) (hull_in v.log) (behind_paren v) b
+-- what a first reading of the parens at hand finds
+abbrev pub guess_at : Level → View → Guess
+guess_at l v = l.guess l.levels (behind_paren v) v.state.reading
 
--- what is remembered is of as many levels and the same reading, and all that was looked at for it was looked at
+-- this comes behind the parens at hand, and a stretch is what a first reading of them would look at beyond what was looked at
+pub record Found (l : Level) (v : View) (b : Behind) (hull : Hull) : Type 0 where
+  pub leaf : is_leaf v.hand.token ≡ true
+  pub behind : b ≡ (guess_at l v).behind
+  pub looks : with_hull hull v.log ≡ logged l.levels (behind_paren v) v.log (only_looks (guess_at l v).asks)
+
+-- what is remembered is of as many levels and the same reading, and all that was looked at for its paren was looked at
 pub record IsThis (n : ℕ) (v : View) (e : Guessed) : Type 0 where
   pub levels : e.levels ≡ n
   pub outer : e.outer ≡ v.state.reading
-  pub looks : LiesIn e.hull (hull_in v.log)
+  pub paren : LiesIn e.paren (hull_in v.log)
 
--- nothing changed but what is remembered, and where it is so that this comes behind the parens at hand it stays so
+-- nothing changed but what is remembered, and where this comes behind the parens at hand, and no more was looked at than for them, all that is remembered stays so
 pub record Remembers (levels : ℕ) (b : Behind) (v w : View) : Type 0 where
   pub same : w ≡ record v { memo = w.memo }
-  pub knows : (l : Level) → l.levels ≡ levels → (is_leaf v.hand.token ≡ true → Found l v b) → Knows l.guess (end_of v.place) v.memo → Knows l.guess (end_of v.place) w.memo
+  pub knows : (l : Level) → l.levels ≡ levels → (is_leaf v.hand.token ≡ true → Comes (guess_at l v) v.here (hull_in v.log) (behind_paren v) b) → Knows l.guess (end_of v.place) v.memo → Knows l.guess (end_of v.place) w.memo
+
+-- a first reading begins: all looks are set aside but those for the token at hand
+abbrev pub begun : View → View
+begun v = record v { log = looked_alone v.here v.log }
+
+-- this was looked at too
+abbrev pub looked_too : Hull → View → View
+looked_too u v = record v { log = with_hull u v.log }
 
 -- nothing changed but what is remembered, and what is no more told stays so
 pub record Dropped (v w : View) : Type 0 where

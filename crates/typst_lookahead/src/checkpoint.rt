@@ -2,12 +2,13 @@
 
 ghost use Rattle.std.specs.Prelude.{◌≡◌, ◌≤◌, ◌-◌, ◌^◌, OnOk, length};
 ghost use Rattle.typst_lookahead.specs.AheadCursor.{Stands};
-ghost use Rattle.typst_lookahead.specs.Checkpoint.{first_of, forgot_notes, saved, went_back};
+ghost use Rattle.typst_lookahead.specs.Checkpoint.{first_of, forgot_notes, looked_since, saved, went_back};
 
 use crate::ReadAhead;
 use crate::parser::Parser;
 use std::alloc::AllocError;
 use typst_language::State;
+use typst_tokens::Hull;
 use typst_tree::SyntaxNode;
 
 /// Where a parser stood: how many nodes and notes there were, and the token at hand. It keeps no
@@ -58,6 +59,13 @@ impl<'s> Parser<'s> {
         self.state.empties = to.state.empties.min(self.nodes.len());
         self.log.drop_notes(to.notes);
         Ok(())
+    }
+
+    /// This was looked at before the place: it counts at what was noted first since.
+    pub fn look_before(&mut self, since: Checkpoint<'s>, hull: Hull)
+        ensures { self.new ≡ looked_since (saved_by since.entry) hull self.old }
+    {
+        self.log.look_before(since.notes, hull);
     }
 
     /// Drops what was noted since, behind a second reading of the same place. What was looked at

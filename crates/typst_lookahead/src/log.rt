@@ -4,7 +4,7 @@ ghost use Rattle.std.specs.Prelude.{◌≡◌, ◌≤◌, ◌-◌, ◌^◌, OnOk
 ghost use Rattle.typst_language.specs.Log.{blank_log, with_hull};
 ghost use Rattle.typst_lookahead.specs.Bytes.{LiesIn, joined_hull};
 ghost use Rattle.typst_lookahead.specs.Noted as spec;
-ghost use Rattle.typst_lookahead.specs.Noted.{hull_in, listed, unnoted, with_noted};
+ghost use Rattle.typst_lookahead.specs.Noted.{hull_in, listed, looked_alone, looked_before, unnoted, with_noted};
 
 use std::alloc::{AllocError, Global};
 use std::marker::Model;
@@ -58,6 +58,33 @@ impl Log {
         ensures { self.new ≡ with_hull hull self.old }
     {
         self.hull = joined(self.hull, hull);
+    }
+
+    /// All that was looked at since the last note is set aside but this; answers what it was.
+    pub fn set_aside(&mut self, hull: Hull) -> Hull
+        ensures aside { result ≡ hull_in self.old }
+        ensures least { self.old.least ≤ 2 ^ 64 - 1 }
+        ensures alone { self.new ≡ looked_alone hull self.old }
+    {
+        let _least = self.hull.least;
+        let aside = self.hull;
+        self.hull = hull;
+        aside
+    }
+
+    /// This was looked at before the note of a number, or where there is none since the last note.
+    pub fn look_before(&mut self, count: usize, hull: Hull)
+        ensures { self.new ≡ looked_before count hull self.old }
+    {
+        if let Some(notes) = &mut self.notes {
+            if count < notes.len() {
+                let note = &mut notes[count];
+                note.reach = note.reach.max(hull.reach);
+                note.least = note.least.min(hull.least);
+                return;
+            }
+        }
+        self.look(hull);
     }
 
     /// Something begins or ends: the trivia before it at one place, and the token at another, in

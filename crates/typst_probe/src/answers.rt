@@ -43,23 +43,59 @@ fn print_answer(
     source: &mut Source<UnicodeClasses>,
     edit: Edit<'_>,
 ) -> Result<(), AllocError> {
-    let (mut copy, mut other) = (source.try_clone()?, source.try_clone()?);
-    let Some(text) = edit.applied(alloc, copy.text())? else {
+    let Some(text) = edit.applied(alloc, source.text())? else {
         return printed.push_str("bad range\n");
     };
     let wanted = Wanted::of(alloc, text.as_str(), &UnicodeClasses)?;
-    let made = make_again(alloc, source, &copy, edit)?;
-    let of_copy = edit.make(&mut copy)?;
-    let by_text = replace(&mut other, text.as_str())?;
-    made.print(printed)?;
-    print_other(printed, "copy", &made, &of_copy)?;
-    print_other(printed, "replace", &made, &by_text)?;
+    let other = source.try_clone()?;
+    let made = print_made(alloc, printed, source, edit)?;
     print_fault(alloc, printed, "source", source, &wanted)?;
-    print_fault(alloc, printed, "replace", &other, &wanted)?;
+    print_replaced(alloc, printed, other, text.as_str(), &made, &wanted)
+}
+
+/// Makes an edit of a source and of a copy.
+fn print_made(
+    alloc: Global,
+    printed: &mut String,
+    source: &mut Source<UnicodeClasses>,
+    edit: Edit<'_>,
+) -> Result<Made, AllocError> {
+    let copy = source.try_clone()?;
+    let made = make_again(alloc, source, &copy, edit)?;
+    made.print(printed)?;
+    print_copy(alloc, printed, source, copy, edit, &made)?;
+    Ok(made)
+}
+
+/// Makes an edit of a copy, and prints what is other there than in the source.
+fn print_copy(
+    alloc: Global,
+    printed: &mut String,
+    source: &Source<UnicodeClasses>,
+    mut copy: Source<UnicodeClasses>,
+    edit: Edit<'_>,
+    made: &Made,
+) -> Result<(), AllocError> {
+    let of_copy = edit.make(&mut copy)?;
+    print_other(printed, "copy", made, &of_copy)?;
     if !are_same(alloc, source, &copy)? {
         printed.push_str("copy: other spans\n")?;
     }
     Ok(())
+}
+
+/// Replaces the text of a copy, and prints what is other there than behind the edit.
+fn print_replaced(
+    alloc: Global,
+    printed: &mut String,
+    mut other: Source<UnicodeClasses>,
+    text: &str,
+    made: &Made,
+    wanted: &Wanted,
+) -> Result<(), AllocError> {
+    let by_text = replace(&mut other, text)?;
+    print_other(printed, "replace", made, &by_text)?;
+    print_fault(alloc, printed, "replace", &other, wanted)
 }
 
 /// Makes an edit. Where memory is refused, the source has to be as its copy, and the edit is made again.

@@ -1,4 +1,4 @@
-use Rattle.std.proofs.Common.{◌≡◌, ◌≤◌, true, arith}
+use Rattle.std.proofs.Common.{arith}
 use Rattle.typst_lookahead.proofs.Steps.{turning-next, does-last}
 use Rattle.typst_lookahead.proofs.depth.skip.Goals as goal
 

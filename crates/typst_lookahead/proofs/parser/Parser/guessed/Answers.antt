@@ -20,7 +20,7 @@ returns-then-is_this g c l n f =
     found-is {l = l} {v = c.args.self.now} c.in-Some.entry.now c.entries.at _ _ f (ap (λ (v : View). slice_get v.memo c.entries.at) (sym c.self.view_is) ∙ get) c.if-entry-left.false
     (c.left-left.ensures ∙ ap bytes_left (place-behind i.ahead c.self.invariant.stands) ∙ ap (λ (v : View). bytes_left (behind_paren v)) c.self.view_is)
     leaf
-    (n ∙ sym c.levels.ensures) this.levels this.outer this.looks
+    (n ∙ sym c.levels.ensures) this.levels this.outer this.paren
 
 pub entries-smaller : goal.entries-smaller
 entries-smaller g c =
