@@ -2,18 +2,18 @@
 use Rattle.std.proofs.Common.{◌≡◌, ℕ, suc, ◌+◌, ◌-◌, ◌≤◌, ◌<◌, ◌==◌, ◌&&◌, nat_le, Bool, true, false, if◌then◌else◌, List, [], ◌∷◌, ◌++◌, length, take, take-suc, drop, Option, None, Some, refl, ap, sym, subst, ◌∙◌, arith}
 use Rattle.std.proofs.lemmas.Bool.Decides.{nat_tests}
 use Rattle.std.proofs.lemmas.Option.{get_or_from_slice_get, slice_get_within}
-use Rattle.std.proofs.lemmas.List.{drop-drop, length-append, length-take-le, take-append-drop, take-append-le}
+use Rattle.std.proofs.lemmas.List.{drop-append-le, drop-take, length-append, length-drop, length-take-le, take-append-drop, take-append-le}
 use Rattle.std.specs.List.{slice_get}
 use Rattle.typst_candidates.specs.declared.anchor.Anchor.{Anchor}
 use Rattle.typst_candidates.specs.declared.cuts.Window.{Window}
 use Rattle.typst_candidates.specs.declared.entry.Entry.{Entry}
 use Rattle.typst_candidates.specs.Anchors.{AllLooksEnd, IsAnchor, inside_of}
-use Rattle.typst_candidates.specs.Cursors.{inside_behind, leads, piece_of, pieces_of, token_at}
+use Rattle.typst_candidates.specs.Cursors.{Place, behind, entry_behind, inside_behind, leads, piece_of, pieces_of, start_at, token_at}
 use Rattle.typst_candidates.specs.Entries.{end_of, front_of}
 use Rattle.typst_candidates.specs.Records.{opening_of}
 use Rattle.typst_candidates.specs.Rows.{within}
-use Rattle.typst_candidates.proofs.Blocks.{opening-over, take-more}
-use Rattle.typst_candidates.proofs.Cursors.{end-after}
+use Rattle.typst_candidates.proofs.Blocks.{opening-over}
+use Rattle.typst_candidates.proofs.Cursors.{behind-found-in, end-after, inside-grows, start-on}
 use Rattle.typst_candidates.proofs.Tallies.{fewer}
 
 -- ---- the anchor of entries that stay
@@ -26,7 +26,9 @@ same-front n es fs a h le same long =
       start = h.start ∙ ap (end_of 0) (sym few);
       order = h.order;
       looks = subst (AllLooksEnd a.reach 0) (sym few) h.looks;
-      run = ap (inside_of 0) few ∙ h.run;
+      first = h.first;
+      outer = let le1 = h.first in h.outer ∙ ap (end_of 0) (fewer (a.first - 1) a.number es (omega (arith, le1)) ∙ ap (take (a.first - 1)) (sym few) ∙ sym (fewer (a.first - 1) a.number fs (omega (arith, le1))));
+      run = ap (λ us. inside_of 0 (drop a.first us)) few ∙ h.run;
     }
 
 pub anchor-append : (es : List Entry) (e : Entry) (a : Anchor) → IsAnchor es a → IsAnchor (es ++ e ∷ []) a
@@ -75,26 +77,118 @@ end-over start [] vs = refl
 end-over start (u ∷ us) vs = end-over (token_at start u) us vs
 
 -- behind an entry more
-pub record Further (es : List Entry) (n start reach inside : ℕ) : Type 0 where
+pub record Further (es : List Entry) (n start reach : ℕ) : Type 0 where
   pub start_is : start ≡ end_of 0 (take n es)
   pub order : start ≤ reach
   pub looks : AllLooksEnd reach 0 (take n es)
-  pub run : inside_of 0 (take n es) ≡ Some inside
 
-pub goes-further : (es : List Entry) (n start end reach more inside further : ℕ) (e : Entry) → slice_get es n ≡ Some e → start ≡ token_at (end_of 0 (take n es)) e → end ≡ start + e.forth → reach ≤ more → end ≤ more
-    → AllLooksEnd reach 0 (take n es) → inside_of 0 (take n es) ≡ Some inside → inside_behind e.tag inside ≡ Some further → Further es (suc n) start more further
-goes-further es n start end reach more inside further e h s f le upto l i b =
-    let lt = slice_get_within es n e h in
-    let whole : take (suc n) es ≡ take n es ++ e ∷ [] = take-suc es n e lt ∙ ap (λ d. take n es ++ d ∷ []) (get_or_from_slice_get es n e e h) in
+one-more : (es : List Entry) (n : ℕ) (e : Entry) → slice_get es n ≡ Some e → take (suc n) es ≡ take n es ++ e ∷ []
+one-more es n e h = take-suc es n e (slice_get_within es n e h) ∙ ap (λ d. take n es ++ d ∷ []) (get_or_from_slice_get es n e e h)
+
+pub goes-further : (es : List Entry) (n start end reach more : ℕ) (e : Entry) → slice_get es n ≡ Some e → start ≡ token_at (end_of 0 (take n es)) e → end ≡ start + e.forth → reach ≤ more → end ≤ more → AllLooksEnd reach 0 (take n es) → Further es (suc n) start more
+goes-further es n start end reach more e h s f le upto l =
+    let whole = one-more es n e h in
     record {
       start_is = s ∙ sym (ap (end_of 0) whole ∙ end-over 0 (take n es) (e ∷ []));
       order = omega (arith, f, upto);
       looks = subst (AllLooksEnd more 0) (sym whole) (looks-on more 0 (take n es) e (looks-more reach more 0 (take n es) le l) (omega (arith, s, f, upto)));
-      run = ap (inside_of 0) whole ∙ inside-on 0 inside further (take n es) e i b;
     }
 
-pub anchors : (es : List Entry) (n start reach : ℕ) (a : Anchor) → n ≤ length es → Further es n start reach 0 → a ≡ record { number = n; start = start; reach = reach } → IsAnchor es a
-anchors es n start reach a within h is = subst (IsAnchor es) (sym is) (record { within = within; start = h.start_is; order = h.order; looks = h.looks; run = h.run })
+pub run-further : (es : List Entry) (first n inside further : ℕ) (e : Entry) → slice_get es n ≡ Some e → first ≤ n → inside_of 0 (drop first (take n es)) ≡ Some inside → inside_behind e.tag inside ≡ Some further
+    → inside_of 0 (drop first (take (suc n) es)) ≡ Some further
+run-further es first n inside further e h le i b =
+    let lt = slice_get_within es n e h in
+    let long = length-take-le n es (omega (arith, lt)) in
+    let split = drop-append-le first (take n es) (e ∷ []) (omega (arith, long, le)) in
+    ap (λ us. inside_of 0 (drop first us)) (one-more es n e h) ∙ ap (inside_of 0) split ∙ inside-on 0 inside further (drop first (take n es)) e i b
+
+-- a run begins in no block of it
+pub run-begins : (es : List Entry) (n : ℕ) → inside_of 0 (drop n (take n es)) ≡ Some 0
+run-begins es n = let none : n ≡ n + 0 = omega arith in ap (λ m. inside_of 0 (drop n (take m es))) none ∙ ap (inside_of 0) (drop-take n 0 es)
+
+pub anchors : (es : List Entry) (n start reach first outer : ℕ) (a : Anchor) → n ≤ length es → first ≤ n → Further es n start reach → outer ≡ end_of 0 (take (first - 1) es) → inside_of 0 (drop first (take n es)) ≡ Some 0
+    → a ≡ record { number = n; start = start; reach = reach; first = first; outer = outer } → IsAnchor es a
+anchors es n start reach first outer a within le h around run is =
+    subst (IsAnchor es) (sym is) (record { within = within; start = h.start_is; order = h.order; looks = h.looks; first = le; outer = around; run = run })
+
+-- ---- on from an anchor, entry by entry
+
+-- what is known at a place behind an anchor, in so many blocks of its run
+pub record Passed (es : List Entry) (a : Anchor) (p : Place) (reach inside : ℕ) : Type 0 where
+  pub entries : p.entries ≡ es
+  pub few : inside ≤ p.number
+  pub behind : a.number ≤ p.number
+  pub looks : AllLooksEnd reach 0 (take p.number es)
+  pub run : inside_of 0 (drop a.first (take p.number es)) ≡ Some inside
+
+pub at-anchor : (es : List Entry) (a : Anchor) (p : Place) → IsAnchor es a → p ≡ record { entries = es; number = a.number } → Passed es a p a.reach 0
+at-anchor es a p h is =
+    subst (λ q. Passed es a q a.reach 0) (sym is) (record { entries = refl; few = omega arith; behind = omega arith; looks = h.looks; run = h.run })
+
+further-on : (es : List Entry) (a : Anchor) (p q : Place) (e : Entry) (start end reach more inside : ℕ) → Passed es a p reach inside → ◌≡◌ {A = Option Entry} (Some e) (entry_behind p) → q ≡ behind (Some e) p
+    → start ≡ start_at q → end ≡ start + e.forth → reach ≤ more → end ≤ more → Further es (suc p.number) start more
+further-on es a p q e start end reach more inside h there moved s f le upto =
+    let here = behind-found-in es p e h.entries there in
+    let token = s ∙ start-on es p q e h.entries there moved ∙ ap (λ us. token_at (end_of 0 (take p.number us)) e) h.entries in
+    goes-further es p.number start end reach more e here token f le upto h.looks
+
+-- and at the place behind the next entry, of which this is the start
+pub record PassedOn (es : List Entry) (a : Anchor) (p : Place) (start reach inside : ℕ) : Type 0 where
+  pub passed : Passed es a p reach inside
+  pub further : Further es p.number start reach
+  pub within : p.number ≤ length es
+
+pub passed-on : (es : List Entry) (a : Anchor) (p q : Place) (e : Entry) (start end reach more inside further : ℕ) → Passed es a p reach inside → IsAnchor es a → ◌≡◌ {A = Option Entry} (Some e) (entry_behind p) → q ≡ behind (Some e) p
+    → start ≡ start_at q → end ≡ start + e.forth → reach ≤ more → end ≤ more → inside_behind e.tag inside ≡ Some further → PassedOn es a q start more further
+passed-on es a p q e start end reach more inside further h anchor there moved s f le upto b =
+    let here = behind-found-in es p e h.entries there in
+    let number : q.number ≡ suc p.number = ap (λ (r : Place). r.number) moved in
+    let lt = slice_get_within es p.number e here in
+    let on = further-on es a p q e start end reach more inside h there moved s f le upto in
+    let first = anchor.first in
+    let after = h.behind in
+    let few = h.few in
+    let grows = inside-grows e.tag inside further b in
+    let run = run-further es a.first p.number inside further e here (omega (arith, first, after)) h.run b in
+    record {
+      passed = record {
+        entries = ap (λ (r : Place). r.entries) moved ∙ h.entries;
+        few = omega (arith, number, few, grows);
+        behind = omega (arith, number, after);
+        looks = subst (λ n. AllLooksEnd more 0 (take n es)) (sym number) on.looks;
+        run = ap (λ n. inside_of 0 (drop a.first (take n es))) number ∙ run;
+      };
+      further = subst (λ n. Further es n start more) (sym number) on;
+      within = omega (arith, number, lt);
+    }
+
+-- an anchor behind that entry, in no block of the run
+pub anchor-on : (es : List Entry) (a b : Anchor) (p : Place) (start reach inside : ℕ) → PassedOn es a p start reach inside → IsAnchor es a → inside ≡ 0 → b ≡ record { number = p.number; start = start; reach = reach; first = a.first; outer = a.outer } → IsAnchor es b
+anchor-on es a b p start reach inside h anchor none is =
+    let first = anchor.first in
+    let after = h.passed.behind in
+    anchors es p.number start reach a.first a.outer b h.within (omega (arith, first, after)) h.further anchor.outer (h.passed.run ∙ ap (λ n. Some n) none) is
+
+-- an anchor at the begin of the block that begins behind another
+pub record AnchorIn (es : List Entry) (a b : Anchor) : Type 0 where
+  pub anchor : IsAnchor es b
+  pub behind : a.number < b.number
+
+pub anchor-in : (es : List Entry) (a b : Anchor) (p q : Place) (e : Entry) (start end more : ℕ) → IsAnchor es a → p ≡ record { entries = es; number = a.number } → ◌≡◌ {A = Option Entry} (Some e) (entry_behind p) → q ≡ behind (Some e) p
+    → start ≡ start_at q → end ≡ start + e.forth → a.reach ≤ more → end ≤ more → b ≡ record { number = q.number; start = start; reach = more; first = q.number; outer = a.start } → AnchorIn es a b
+anchor-in es a b p q e start end more h at there moved s f le upto is =
+    let passed = at-anchor es a p h at in
+    let on = further-on es a p q e start end a.reach more 0 passed there moved s f le upto in
+    let here = behind-found-in es p e passed.entries there in
+    let lt = slice_get_within es p.number e here in
+    let number : q.number ≡ suc p.number = ap (λ (r : Place). r.number) moved in
+    let first : p.number ≡ a.number = ap (λ (r : Place). r.number) at in
+    let last : b.number ≡ q.number = ap (λ (c : Anchor). c.number) is in
+    let around : a.number ≡ q.number - 1 = omega (arith, number, first) in
+    record {
+      anchor = anchors es q.number start more q.number a.start b (omega (arith, number, lt)) (omega arith) (subst (λ n. Further es n start more) (sym number) on) (h.start ∙ ap (λ n. end_of 0 (take n es)) around) (run-begins es q.number) is;
+      behind = omega (arith, number, first, last);
+    }
 
 -- ---- what comes behind entries of which nothing is looked for
 
@@ -162,31 +256,66 @@ front-from es a at h le =
     let there = ap (λ s. front_of at s (drop a.number es)) h.start in
     omega (arith, split, whole, long, there)
 
-pub opening-from : (es : List Entry) (a : Anchor) (at : ℕ) → IsAnchor es a → a.start < at → opening_of at a.start a.number (drop a.number es) ≡ opening_of at 0 0 es
-opening-from es a at h lt =
-    let there = h.start in
-    sym (opening-over a.number at 0 0 es h.within (omega (arith, there, lt)) ∙ ap (λ s. opening_of at s (0 + a.number) (drop a.number es)) (sym there) ∙ ap (λ n. opening_of at a.start n (drop a.number es)) (omega arith))
+pub opening-at : (es : List Entry) (n start at : ℕ) → n ≤ length es → start ≡ end_of 0 (take n es) → start < at → opening_of at start n (drop n es) ≡ opening_of at 0 0 es
+opening-at es n start at within there lt =
+    sym (opening-over n at 0 0 es within (omega (arith, there, lt)) ∙ ap (λ s. opening_of at s (0 + n) (drop n es)) (sym there) ∙ ap (λ m. opening_of at start m (drop n es)) (omega arith))
 
-pub piece-from : (es : List Entry) (a : Anchor) (at : ℕ) → IsAnchor es a → a.start < at → piece_of at 0 (end_of 0 (take a.number es)) a.number (drop a.number es) ≡ piece_of at 0 0 0 es
+pub opening-from : (es : List Entry) (a : Anchor) (at : ℕ) → IsAnchor es a → a.start < at → opening_of at a.start a.number (drop a.number es) ≡ opening_of at 0 0 es
+opening-from es a at h lt = opening-at es a.number a.start at h.within h.start lt
+
+pub opening-around : (es : List Entry) (a : Anchor) (at n : ℕ) → IsAnchor es a → n ≡ a.first - 1 → a.outer < at → opening_of at a.outer n (drop n es) ≡ opening_of at 0 0 es
+opening-around es a at n h is lt =
+    let first = h.first in
+    let within = h.within in
+    opening-at es n a.outer at (omega (arith, is, first, within)) (h.outer ∙ ap (λ m. end_of 0 (take m es)) (sym is)) lt
+
+-- the entries behind some, up to more of them and behind these
+record Parts (es : List Entry) (n m : ℕ) : Type 0 where
+  front : take n es ++ drop n (take m es) ≡ take m es
+  rest : drop n es ≡ drop n (take m es) ++ drop m es
+  end_is : end_of (end_of 0 (take n es)) (drop n (take m es)) ≡ end_of 0 (take m es)
+  long : length (drop n (take m es)) ≡ m - n
+
+parts : (es : List Entry) (n m : ℕ) → n ≤ m → m ≤ length es → Parts es n m
+parts es n m le within =
+    let whole = length-take-le m es within in
+    let front : take n es ++ drop n (take m es) ≡ take m es = ap (λ us. us ++ drop n (take m es)) (fewer n m es le) ∙ take-append-drop n (take m es) in
+    let some = length-drop n (take m es) in
+    record {
+      front = front;
+      rest = ap (drop n) (sym (take-append-drop m es)) ∙ drop-append-le n (take m es) (drop m es) (omega (arith, whole, le));
+      end_is = sym (end-over 0 (take n es) (drop n (take m es))) ∙ ap (end_of 0) front;
+      long = omega (arith, some, whole);
+    }
+
+-- the first piece of an anchor's run that begins at a byte behind it comes behind it
+pub piece-from : (es : List Entry) (a : Anchor) (at : ℕ) → IsAnchor es a → a.start < at → piece_of at 0 (end_of 0 (take a.number es)) a.number (drop a.number es) ≡ piece_of at 0 (end_of 0 (take a.first es)) a.first (drop a.first es)
 piece-from es a at h lt =
     let there = h.start in
-    let long = length-take-le a.number es h.within in
-    sym (ap (piece_of at 0 0 0) (sym (take-append-drop a.number es)) ∙ piece-split at 0 0 0 0 (take a.number es) (drop a.number es) h.run (omega (arith, there, lt)) ∙ ap (λ n. piece_of at 0 (end_of 0 (take a.number es)) n (drop a.number es)) (omega (arith, long)))
-
--- the same pieces of the text's own run come behind an anchor as behind a place before it
-pub pieces-from : (es : List Entry) (a : Anchor) (n : ℕ) (w : Window) → IsAnchor es a → n ≤ a.number → inside_of 0 (take n es) ≡ Some 0 → a.start < w.from
-    → within w (pieces_of 0 (end_of 0 (take a.number es)) (drop a.number es)) ≡ within w (pieces_of 0 (end_of 0 (take n es)) (drop n es))
-pieces-from es a n w h le run lt =
-    let there = h.start in
-    let k = a.number - n in
-    let us = take n es in
-    let vs = take k (drop n es) in
+    let le = h.first in
+    let p = parts es a.first a.number le h.within in
+    let end_is = p.end_is in
+    let long = p.long in
+    let vs = drop a.first (take a.number es) in
     let ws = drop a.number es in
-    let sum : n + k ≡ a.number = omega (arith, le) in
-    let rest : drop k (drop n es) ≡ ws = drop-drop k n es ∙ ap (λ m. drop m es) (omega (arith, le)) in
-    let both : us ++ vs ≡ take a.number es = sym (take-more n k es) ∙ ap (λ m. take m es) sum in
-    let end_is : end_of (end_of 0 us) vs ≡ end_of 0 (take a.number es) = sym (end-over 0 us vs) ∙ ap (end_of 0) both in
+    sym
+    (ap (piece_of at 0 (end_of 0 (take a.first es)) a.first) p.rest ∙ piece-split at 0 (end_of 0 (take a.first es)) a.first 0 vs ws h.run (omega (arith, end_is, there, lt))
+    ∙ ap (λ s. piece_of at 0 s (a.first + length vs) ws) end_is ∙ ap (λ n. piece_of at 0 (end_of 0 (take a.number es)) n ws) (omega (arith, long, le)))
+
+-- the same pieces of an anchor's run come behind it as behind a place of the run before it
+pub pieces-from : (es : List Entry) (a : Anchor) (n : ℕ) (w : Window) → IsAnchor es a → a.first ≤ n → n ≤ a.number → inside_of 0 (drop a.first (take n es)) ≡ Some 0 → a.start < w.from
+    → within w (pieces_of 0 (end_of 0 (take a.number es)) (drop a.number es)) ≡ within w (pieces_of 0 (end_of 0 (take n es)) (drop n es))
+pieces-from es a n w h behind le run lt =
+    let there = h.start in
+    let inside = h.within in
+    let p = parts es n a.number le inside in
+    let end_is = p.end_is in
+    let us = drop a.first (take n es) in
+    let vs = drop n (take a.number es) in
+    let ws = drop a.number es in
+    let long = length-take-le n es (omega (arith, le, inside)) in
+    let both : us ++ vs ≡ drop a.first (take a.number es) = sym (drop-append-le a.first (take n es) vs (omega (arith, long, behind))) ∙ ap (drop a.first) p.front in
     let inner : inside_of 0 vs ≡ Some 0 = sym (inside-over 0 0 us vs run) ∙ ap (inside_of 0) both ∙ h.run in
     sym
-    (ap (λ es. within w (pieces_of 0 (end_of 0 us) es)) (sym (take-append-drop k (drop n es))) ∙ pieces-split w 0 (end_of 0 us) 0 vs (drop k (drop n es)) inner (omega (arith, end_is, there, lt))
-    ∙ ap (λ s. within w (pieces_of 0 s (drop k (drop n es)))) end_is ∙ ap (λ us. within w (pieces_of 0 (end_of 0 (take a.number es)) us)) rest)
+    (ap (λ xs. within w (pieces_of 0 (end_of 0 (take n es)) xs)) p.rest ∙ pieces-split w 0 (end_of 0 (take n es)) 0 vs ws inner (omega (arith, end_is, there, lt))
+    ∙ ap (λ s. within w (pieces_of 0 s ws)) end_is)

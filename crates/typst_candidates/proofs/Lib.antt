@@ -3,6 +3,7 @@
 --   has, run: the bytes rise         Bytes
 --   records: of_notes, rear, front, opening, last   Walks: entry by entry; Passes: over all of them
 --   next, back, cursor_at, piece_behind, piece_before, top_run, run_in, closing   Cursors; Openings: run_in by opening
+--   the anchor, and what is looked up from it   Anchors; Starts: top_run, run_in by their first piece
 --   put, push, next, back of the words       Words
 --   start of a walk, put             Spans: by sums over words, Rounds: round the machine's numbers; pass_block   Blocks
 --   looks_law                        Looks: note by note

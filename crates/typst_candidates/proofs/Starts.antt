@@ -1,7 +1,7 @@
 -- Where the pieces of a run begin within a window, and its first piece.
 use Rattle.std.proofs.Common.{◌≡◌, ℕ, suc, ◌+◌, ◌≤◌, ◌<◌, ◌&&◌, nat_le, Bool, true, false, if◌then◌else◌, List, [], ◌∷◌, ◌++◌, length, length-drop, take, drop, Option, None, Some, refl, ap, sym, ◌∙◌, arith}
 use Rattle.std.proofs.lemmas.Bool.Decides.{nat_tests}
-use Rattle.std.proofs.lemmas.List.{drop-drop}
+use Rattle.std.proofs.lemmas.List.{drop-drop, drop-take}
 use Rattle.std.proofs.lemmas.List.Elements.{filter-append}
 use Rattle.std.proofs.lemmas.List.Kept.{IsNonDecreasingBy-filter}
 use Rattle.std.specs.List.Sorted.{IsNonDecreasing}
@@ -14,7 +14,7 @@ use Rattle.typst_candidates.specs.Cursors.{Place, behind, entry_behind, first_pi
 use Rattle.typst_candidates.specs.Entries.{end_of}
 use Rattle.typst_candidates.specs.Rows.{within}
 use Rattle.typst_candidates.specs.Units.{behind_first}
-use Rattle.typst_candidates.proofs.Anchors.{end-over, inside-over}
+use Rattle.typst_candidates.proofs.Anchors.{end-over}
 use Rattle.typst_candidates.proofs.Blocks.{take-more}
 use Rattle.typst_candidates.proofs.Bytes.{pieces-in-order}
 use Rattle.typst_candidates.proofs.Cursors.{steps-on}
@@ -172,7 +172,8 @@ the-first inside start number n (e ∷ es) h = by (leads e.tag inside) refl (ins
 pub record Firsts (es : List Entry) (number n : ℕ) : Type 0 where
   pub within : n < length es
   pub rest : behind_first (pieces_of 0 (end_of 0 (take number es)) (drop number es)) ≡ Some (pieces_of 0 (end_of 0 (take (n + 1) es)) (drop (n + 1) es))
-  pub run : inside_of 0 (take number es) ≡ Some 0 → inside_of 0 (take (n + 1) es) ≡ Some 0
+  pub order : number ≤ n + 1
+  pub run : inside_of 0 (drop number (take (n + 1) es)) ≡ Some 0
 
 pub firsts : (es : List Entry) (number n : ℕ) → first_piece 0 number (drop number es) ≡ Some n → Firsts es number n
 firsts es number n h =
@@ -189,7 +190,8 @@ firsts es number n h =
     record {
       within = omega (arith, sum, long, inner);
       rest = ap behind_first f.pieces ∙ ap (λ s. Some (pieces_of 0 s (drop (suc k) (drop number es)))) end_is ∙ ap (λ us. Some (pieces_of 0 (end_of 0 (take (n + 1) es)) us)) back;
-      run = λ q. (sym (ap (inside_of 0) front) ∙ inside-over 0 0 (take number es) (take (suc k) (drop number es)) q ∙ f.run);
+      order = omega (arith, sum);
+      run = ap (λ m. inside_of 0 (drop number (take m es))) (sym all) ∙ ap (inside_of 0) (drop-take number (suc k) es) ∙ f.run;
     }
 
 -- the pieces behind the first one of a run that begins behind a place
@@ -201,11 +203,16 @@ behind-run p first now o h e n =
     let is = steps-on p.entries at.0 first now o f.within at.2 e n in
     f.rest ∙ sym (ap (λ (q : Place). Some (pieces_of 0 (start_at q) (drop q.number q.entries))) is)
 
--- which stands in no block of the text's own run
-pub stands-in-run : (p first now : Place) (o : Option Entry) → placed p (first_piece 0 p.number (drop p.number p.entries)) ≡ Some first → o ≡ entry_behind first → now ≡ behind o first → inside_of 0 (take p.number p.entries) ≡ Some 0
-    → inside_of 0 (take now.number now.entries) ≡ Some 0
-stands-in-run p first now o h e n run =
+-- behind which no block of the run is open
+pub record StandsInRun (first : ℕ) (p : Place) : Type 0 where
+  pub order : first ≤ p.number
+  pub run : inside_of 0 (drop first (take p.number p.entries)) ≡ Some 0
+
+pub stands-in-run : (p first now : Place) (o : Option Entry) → placed p (first_piece 0 p.number (drop p.number p.entries)) ≡ Some first → o ≡ entry_behind first → now ≡ behind o first → StandsInRun p.number now
+stands-in-run p first now o h e n =
     let at = placed-at p first (first_piece 0 p.number (drop p.number p.entries)) h in
     let f = firsts p.entries p.number at.0 at.1 in
     let is = steps-on p.entries at.0 first now o f.within at.2 e n in
-    ap (λ (q : Place). inside_of 0 (take q.number q.entries)) is ∙ f.run run
+    let order = f.order in
+    let number = ap (λ (q : Place). q.number) is in
+    record { order = omega (arith, order, number); run = ap (λ (q : Place). inside_of 0 (drop p.number (take q.number q.entries))) is ∙ f.run }

@@ -1,5 +1,5 @@
 -- A place among the entries that is kept from one edit to the next.
-use Rattle.std.specs.Prelude.{◌≡◌, ℕ, ◌+◌, ◌≤◌, List, [], ◌∷◌, length, take, Option, Some, None}
+use Rattle.std.specs.Prelude.{◌≡◌, ℕ, ◌+◌, ◌-◌, ◌≤◌, List, [], ◌∷◌, length, take, drop, Option, Some, None}
 use Rattle.typst_candidates.specs.declared.entry.Entry.{Entry}
 use Rattle.typst_candidates.specs.declared.anchor.Anchor.{Anchor}
 use Rattle.typst_candidates.specs.Cursors.{inside_behind, token_at}
@@ -15,10 +15,12 @@ abbrev pub AllLooksEnd : ℕ → ℕ → List Entry → Type 0
 AllLooksEnd at start [] = Unit {0}
 AllLooksEnd at start (e ∷ es) = (token_at start e + e.forth ≤ at) × AllLooksEnd at (token_at start e) es
 
--- An anchor of entries stands in no block of the text's own run; where it is and how far the looks before it go is told.
+-- An anchor of entries stands in no block of the run that begins behind the first of them; where it is, where that run's block is, and how far the looks before it go is told.
 pub record IsAnchor (es : List Entry) (a : Anchor) : Type 0 where
   pub within : a.number ≤ length es
   pub start : a.start ≡ end_of 0 (take a.number es)
   pub order : a.start ≤ a.reach
   pub looks : AllLooksEnd a.reach 0 (take a.number es)
-  pub run : inside_of 0 (take a.number es) ≡ Some 0
+  pub first : a.first ≤ a.number
+  pub outer : a.outer ≡ end_of 0 (take (a.first - 1) es)
+  pub run : inside_of 0 (drop a.first (take a.number es)) ≡ Some 0

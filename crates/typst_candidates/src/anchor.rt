@@ -1,6 +1,6 @@
 //! The place near the last edit, from which the next one looks things up.
 
-ghost use Rattle.std.specs.Prelude.{◌≡◌, ◌+◌, ◌-◌, ◌<◌, ◌≤◌, ◌^◌, Some, List, drop, length, take};
+ghost use Rattle.std.specs.Prelude.{◌≡◌, ◌+◌, ◌-◌, ◌<◌, ◌≤◌, ◌^◌, IfSome, Some, List, drop, length, take};
 ghost use Rattle.typst_candidates.specs.declared.entry.Entry.{Entry};
 ghost use Rattle.typst_candidates.specs.declared.cuts.Window.{Window};
 ghost use Rattle.typst_candidates.specs.Anchors.{IsAnchor, inside_of};
@@ -9,24 +9,39 @@ ghost use Rattle.typst_candidates.specs.Entries.{end_of, front_of};
 ghost use Rattle.typst_candidates.specs.Records.{opening_of};
 ghost use Rattle.typst_candidates.specs.Rows.{within};
 
+use crate::Window;
 use crate::cursor::{Cursor, inside_behind};
 use crate::entries::Walk;
+use crate::entry::Tag;
 use crate::records::Records;
+use typst_language::Block;
 
-/// A place among the entries that stands in no block of the text's own run. One is kept a while before the last
-/// edit, since the next one is mostly near: what it asks for is looked up from there on, and not from the first entry.
+/// A place among the entries that stands in no block of its run: of the text's own, or of that of a block. One is kept
+/// a while before the last edit, since the next one is mostly near: what it asks for is looked up from there on, and
+/// not from the first entry.
 #[derive(Debug, Clone, Copy, PartialEq, Eq)]
 pub(crate) struct Anchor {
     /// How many entries stand before it,
     pub number: usize,
     /// where the token of the last of them begins, in bytes, or 0,
     pub start: usize,
-    /// and where the looks of all of them end, or behind that.
+    /// where the looks of all of them end, or behind that,
     pub reach: usize,
+    /// behind how many entries its run begins: behind none the text's own, else behind the one that opens a block,
+    pub first: usize,
+    /// and where the token of the entry before that one begins, in bytes, or 0.
+    pub outer: usize,
 }
 
 /// So many bytes before an edit an anchor is put: most candidates begin behind it.
 const BEFORE: usize = 1 << 10;
+
+/// An anchor is put into a block only where no place before the block is so near to the edit: it is no longer of use
+/// once an edit stands outside.
+const FAR: usize = 1 << 12;
+
+/// It goes into so many blocks at most, one in the other, since the entries of each are gone through once more.
+const MOST_BLOCKS: usize = 4;
 
 impl Anchor {
     /// The one before all entries.
@@ -37,6 +52,8 @@ impl Anchor {
             number: 0,
             start: 0,
             reach: 0,
+            first: 0,
+            outer: 0,
         }
     }
 
@@ -53,27 +70,101 @@ impl Anchor {
 }
 
 impl Records {
-    /// Puts the anchor a while before the byte `at`; the units stay. Goes through the entries from where it stands, or
-    /// from the first where it stands behind that.
+    /// Puts the anchor a while before the byte `at`; the units stay. Goes through the entries from where it stands up
+    /// to the byte, or from the first where it stands behind that or the byte isn't in its run.
     pub fn go_near(&mut self, at: usize)
         requires { end_of 0 self.old.units.entries < 2 ^ 64 }
         ensures { self.new ≡ self.old }
     {
-        let before = at.saturating_sub(BEFORE);
-        let from = if self.anchor.start <= before {
-            self.anchor
-        } else {
-            Anchor::first()
+        let window = Window {
+            from: at.saturating_sub(BEFORE),
+            to: at,
         };
-        self.anchor = self.last_anchor(from, before);
+        let outer = self.outer_anchor(window);
+        self.anchor = self.inner_anchor(outer, window);
         self.tally_at(self.anchor.number);
     }
 
-    /// The last anchor at the byte `before` or before it, from one on.
-    fn last_anchor(&self, from: Anchor, before: usize) -> Anchor
+    /// The last anchor at the window's first byte or before it, in the run of the one that is kept, where that stands
+    /// there and the window's last byte is in the run, or else in the text's own.
+    fn outer_anchor(&self, window: Window) -> Anchor
+        requires { end_of 0 self.now.units.entries < 2 ^ 64 }
+        ensures { IsAnchor self.now.units.entries result }
+    {
+        if self.anchor.start <= window.from {
+            if let Some(anchor) = self.last_anchor(self.anchor, window) {
+                return anchor;
+            }
+        }
+        match self.last_anchor(Anchor::first(), window) {
+            Some(anchor) => anchor,
+            None => Anchor::first(),
+        }
+    }
+
+    /// The same from one on, in the innermost content block that the window's last byte is in, of the outermost blocks
+    /// that begin far before it.
+    fn inner_anchor(&self, outer: Anchor, window: Window) -> Anchor
+        requires places { end_of 0 self.now.units.entries < 2 ^ 64 }
+        requires outer { IsAnchor self.now.units.entries outer }
+        ensures { IsAnchor self.now.units.entries result }
+    {
+        let mut found = outer;
+        let mut anchor = outer;
+        for _ in 0..MOST_BLOCKS {
+            if window.to.saturating_sub(anchor.start) <= FAR {
+                return found;
+            }
+            let Some((block, begin)) = self.into_block(anchor, window.from) else {
+                return found;
+            };
+            let Some(inner) = self.last_anchor(begin, window) else {
+                return found;
+            };
+            anchor = inner;
+            if block == Block::Content {
+                found = inner;
+            }
+        }
+        found
+    }
+
+    /// Which block begins behind an anchor, and the anchor at the begin of its run, if that is at the byte `before` or
+    /// before it.
+    fn into_block(&self, outer: Anchor, before: usize) -> Option<(Block, Anchor)>
+        requires places { end_of 0 self.now.units.entries < 2 ^ 64 }
+        requires outer { IsAnchor self.now.units.entries outer }
+        ensures anchor { IfSome result (λ r. IsAnchor self.now.units.entries r.1) }
+        ensures behind { IfSome result (λ r. outer.number < r.1.number) }
+    {
+        let mut place = self.cursor_from(outer);
+        let entry = place.next()?;
+        let Tag::Opens(block, _) = entry.tag else {
+            return None;
+        };
+        let start = place.start();
+        if start > before {
+            return None;
+        }
+        let end = start.checked_add(entry.forth)?;
+        let number = place.number();
+        let begin = Anchor {
+            number,
+            start,
+            reach: outer.reach.max(end),
+            first: number,
+            outer: outer.start,
+        };
+        Some((block, begin))
+    }
+
+    /// The last anchor of a run at the window's first byte or before it, from one on; nothing where the run ends at
+    /// the window's last byte or before it.
+    fn last_anchor(&self, from: Anchor, window: Window) -> Option<Anchor>
         requires places { end_of 0 self.now.units.entries < 2 ^ 64 }
         requires from { IsAnchor self.now.units.entries from }
-        ensures { IsAnchor self.now.units.entries result }
+        ensures anchor { IfSome result (λ a. IsAnchor self.now.units.entries a) }
+        ensures order { IfSome result (λ a. from.number ≤ a.number) }
     {
         let mut anchor = from;
         let mut reach = from.reach;
@@ -81,25 +172,23 @@ impl Records {
         let mut place = self.cursor_from(from);
         loop {
             let Some(entry) = place.next() else {
-                return anchor;
+                return Some(anchor);
             };
             let start = place.start();
-            let Some(end) = start.checked_add(entry.forth) else {
-                return anchor;
-            };
-            let Some(further) = inside_behind(entry.tag, inside) else {
-                return anchor;
-            };
-            if start > before {
-                return anchor;
+            if start > window.to {
+                return Some(anchor);
             }
+            let end = start.checked_add(entry.forth)?;
+            let further = inside_behind(entry.tag, inside)?;
             reach = reach.max(end);
             inside = further;
-            if inside == 0 {
+            if inside == 0 && start <= window.from {
                 anchor = Anchor {
                     number: place.number(),
                     start,
                     reach,
+                    first: from.first,
+                    outer: from.outer,
                 };
             }
         }
@@ -116,6 +205,7 @@ impl Records {
             number,
             start,
             reach,
+            ..
         } = self.anchor;
         if reach <= at {
             return (self.walk_at(number), at - start);
@@ -123,45 +213,62 @@ impl Records {
         (self.walk(), at)
     }
 
-    /// The same of entries at which a block begins whose token begins at the byte.
+    /// The same of entries at which a block begins whose token begins at the byte; where the anchor stands in that very
+    /// block, the place before the block.
     pub(crate) fn opening_place(&self, at: usize) -> (Walk<'_>, usize)
         ensures entries { result.0.entries ≡ self.now.units.entries }
         ensures within { result.1 ≤ at }
         ensures later { opening_of at (at - result.1) result.0.number (drop result.0.number self.now.units.entries) ≡ opening_of at 0 0 self.now.units.entries }
     {
-        let Anchor { number, start, .. } = self.anchor;
+        let Anchor {
+            number,
+            start,
+            first,
+            outer,
+            ..
+        } = self.anchor;
         if start < at {
             return (self.walk_at(number), at - start);
+        }
+        if outer < at {
+            return (self.walk_at(first.saturating_sub(1)), at - outer);
         }
         (self.walk(), at)
     }
 
-    /// A place before the first piece of a run whose token begins at byte `at`: the anchor's, where the run is the
-    /// text's own and it stands before the byte, else the one behind the first `first` entries, behind which the run
-    /// begins.
+    /// A place before the first piece of a run whose token begins at byte `at`: the anchor's, where it stands in that
+    /// run and before the byte, else the one behind the first `first` entries, behind which the run begins.
     pub fn run_place(&self, first: usize, at: usize) -> Cursor<'_>
         requires first { first ≤ length self.now.units.entries }
         requires places { end_of 0 self.now.units.entries < 2 ^ 64 }
         ensures entries { result.entries ≡ self.now.units.entries }
         ensures piece { piece_of at 0 (start_at result) result.number (drop result.number self.now.units.entries) ≡ piece_of at 0 (end_of 0 (take first self.now.units.entries)) first (drop first self.now.units.entries) }
     {
-        if first == 0 && self.anchor.start < at {
+        if first == self.anchor.first && self.anchor.start < at {
             return self.cursor_from(self.anchor);
         }
         self.cursor_at(first)
     }
 
-    /// A place behind which the same pieces of the text's own run begin, as far as they begin at the byte `from` or
-    /// behind it: the anchor's, where it stands before the byte and behind the place, else the place.
-    pub(crate) fn later_place<'a>(&'a self, place: Cursor<'a>, from: usize) -> Cursor<'a>
+    /// A place behind which the same pieces begin of the run behind the first `first` entries, as far as they begin at
+    /// the byte `from` or behind it: the anchor's, where it stands in that run, before the byte and behind the place,
+    /// else the place.
+    pub(crate) fn later_place<'a>(
+        &'a self,
+        first: usize,
+        place: Cursor<'a>,
+        from: usize,
+    ) -> Cursor<'a>
         requires places { end_of 0 self.now.units.entries < 2 ^ 64 }
         requires entries { place.entries ≡ self.now.units.entries }
-        requires run { inside_of 0 (take place.number place.entries) ≡ Some 0 }
+        requires order { first ≤ place.number }
+        requires run { inside_of 0 (drop first (take place.number place.entries)) ≡ Some 0 }
         ensures entries { result.entries ≡ self.now.units.entries }
         ensures pieces { (w : Window) → w.from ≡ from → within w (pieces_of 0 (start_at result) (drop result.number result.entries)) ≡ within w (pieces_of 0 (start_at place.entry) (drop place.entry.number place.entry.entries)) }
     {
-        if self.anchor.start < from && place.number() <= self.anchor.number {
-            return self.cursor_from(self.anchor);
+        let anchor = self.anchor;
+        if first == anchor.first && anchor.start < from && place.number() <= anchor.number {
+            return self.cursor_from(anchor);
         }
         place
     }

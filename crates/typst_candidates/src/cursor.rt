@@ -43,13 +43,20 @@ impl Records {
         }
     }
 
-    /// The place behind so many entries. Adds up the words of these.
+    /// The place behind so many entries. Adds up the words of these, but for the place before the block that the anchor
+    /// stands in.
     pub fn cursor_at(&self, number: usize) -> Cursor<'_>
         requires within { number ≤ length self.now.units.entries }
         requires fits { end_of 0 self.now.units.entries < 2 ^ 64 }
         ensures { result ≡ record { entries = self.now.units.entries; number = number } }
     {
         let walk = self.walk_at(number);
+        if number == self.anchor.first.saturating_sub(1) {
+            return Cursor {
+                walk,
+                start: self.anchor.outer,
+            };
+        }
         Cursor {
             start: walk.start(),
             walk,

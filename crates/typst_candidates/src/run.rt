@@ -37,38 +37,43 @@ impl<'a> Cursor<'a> {
             inside = further;
         }
     }
-
-    /// The run that the place stands in, within a window, if a piece of it begins behind the place.
-    fn run(&self, alloc: Global, window: Window) -> Result<Option<Cuts>, AllocError>
-        ensures { IfOk result (λ run. IsRun window (behind_first (spec.pieces_of 0 (spec.start_at self.now) (drop self.now.number self.now.entries))) run) }
-    {
-        let Some(mut first) = self.piece_behind() else {
-            return Ok(None);
-        };
-        first.next();
-        let starts = first.starts(alloc, window)?;
-        Ok(Some(Cuts { starts, window }))
-    }
 }
 
 impl Records {
-    /// The text's own run within a window. Goes through the entries from the anchor on, or else from the first, up to
-    /// the window's end.
+    /// The text's own run within a window. Goes through the entries from the anchor on, where that stands in the run, or
+    /// else from the first, up to the window's end.
     pub fn top_run(&self, alloc: Global, window: Window) -> Result<Option<Cuts>, AllocError>
         requires { end_of 0 self.now.units.entries < 2 ^ 64 }
         ensures { IfOk result (λ run. IsRun window (behind_first (spec.pieces_of 0 0 self.now.units.entries)) run) }
     {
-        let Some(mut first) = self.cursor().piece_behind() else {
+        self.run_behind(alloc, &self.cursor(), window)
+    }
+
+    /// The run that begins behind a place, within a window, if a piece of it begins there. Goes through the entries in
+    /// the same way.
+    fn run_behind(
+        &self,
+        alloc: Global,
+        place: &Cursor<'_>,
+        window: Window,
+    ) -> Result<Option<Cuts>, AllocError>
+        requires places { end_of 0 self.now.units.entries < 2 ^ 64 }
+        requires entries { place.now.entries ≡ self.now.units.entries }
+        ensures { IfOk result (λ run. IsRun window (behind_first (spec.pieces_of 0 (spec.start_at place.now) (drop place.now.number place.now.entries))) run) }
+    {
+        let Some(mut first) = place.piece_behind() else {
             return Ok(None);
         };
         first.next();
-        let starts = self.later_place(first, window.from).starts(alloc, window)?;
+        let later = self.later_place(place.number(), first, window.from);
+        let starts = later.starts(alloc, window)?;
         Ok(Some(Cuts { starts, window }))
     }
 
     /// The run of the content block that begins at byte `at`, within a window; `None` where no block or no piece of it is
     /// noted, as at the limit of depth. Passes over the entries up to the block, many at a time, and goes through
-    /// those up to the window's end.
+    /// those of the block from the anchor on, where that stands in its run, or else from its begin, up to the window's
+    /// end.
     pub fn run_in(
         &self,
         alloc: Global,
@@ -84,7 +89,7 @@ impl Records {
         let mut place = self.cursor_at(first);
         while let Some(entry) = place.next() {
             if begins_content(at, entry.tag, place.start()) {
-                return place.run(alloc, window);
+                return self.run_behind(alloc, &place, window);
             }
         }
         Ok(None)

@@ -1,12 +1,12 @@
 -- What comes behind parens, by where they go on behind the first one.
-use Rattle.std.proofs.Common.{◌≡◌, ℕ, ◌+◌, ◌-◌, ◌^◌, ◌≤◌, Bool, true, false, List, [], ◌++◌, Option, Some, refl, ap, sym, ◌∙◌, subst}
+use Rattle.std.proofs.Common.{◌≡◌, ◌+◌, ◌-◌, ◌^◌, ◌≤◌, Bool, true, List, [], ◌++◌, refl, ap, sym, ◌∙◌, subst}
 use Rattle.typst_kinds.specs.declared.kind.SyntaxKind.{SyntaxKind}
 use Rattle.typst_lines.specs.Place.{Place, moved}
 use Rattle.typst_language.specs.hull.Hull.{Hull}
 use Rattle.typst_language.specs.declared.calls.Behind.{Behind}
 use Rattle.typst_language.specs.declared.reading.AtNewline.TheVariants as newline
 use Rattle.typst_language.specs.declared.reading.Reading.{Reading}
-use Rattle.typst_language.specs.Hand.{Hand, told}
+use Rattle.typst_language.specs.Hand.{Hand}
 use Rattle.typst_markup.specs.Markup.{at_newline}
 use Rattle.typst_language.specs.Meaning.{Guess, Level, Outcome, asked, before, entered, hand_asks_of, hand_of, inside, left, run, start_point}
 use Rattle.typst_language.specs.Nodes.{is_leaf}
@@ -16,7 +16,7 @@ use Rattle.typst_lookahead.specs.Noted.{hull_in}
 use Rattle.typst_language.specs.Point.{Point}
 use Rattle.typst_lookahead.specs.Remembered.{Comes, LooksIn}
 use Rattle.typst_language.specs.Shape.{after_shape}
-use Rattle.typst_language.specs.Steps.{eat, eat_making, node, peek, within}
+use Rattle.typst_language.specs.Steps.{eat, eat_making, node, within}
 use Rattle.typst_language.specs.Syntax.{Parser, ◌>>◌}
 use Rattle.typst_language.specs.Syntax.Parser.{gives, next, wraps}
 use Rattle.typst_language.specs.Syntax.Begin.{at_token}
@@ -186,7 +186,7 @@ found-back {l = l} {v = v} {b = b} {hull = hull} tells found is least f =
     let first = run l as_group v.place v.state in
     let behind : logged l.levels (behind_paren v) v.log (only_looks (guess_at l v).asks) ≡ logged l.levels w v.log (only_looks (guess_of l w v.state.reading).asks) = rw (told, here) refl in
     let all = same-looks l.levels v.log v.place w first.asks (guess_of l w v.state.reading).asks (λ u i k. looks-after l v.place v.state same leaf u k)
-        (λ u i k. looks-before l v.place v.state same leaf u (looks-more (hull_in v.log) u v.place (hand_asks_of l v.place v.state) i (paren-looks f)) k) in
+    (λ u i k. looks-before l v.place v.state same leaf u (looks-more (hull_in v.log) u v.place (hand_asks_of l v.place v.state) i (paren-looks f)) k) in
     goes-nowhere hull (same-value l v.place v.state same leaf ∙ sym (ap (λ (g : Guess). g.behind) told) ∙ sym found.behind) (found.looks ∙ behind ∙ sym all) is least f
 
 -- and what it found may be remembered

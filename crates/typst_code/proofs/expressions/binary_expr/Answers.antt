@@ -1,4 +1,4 @@
-use Rattle.std.proofs.Common.{refl, sym}
+use Rattle.std.proofs.Common.{sym}
 use Rattle.typst_lookahead.proofs.Steps.{does-next, does-gives}
 use Rattle.typst_code.specs.Expressions.{binary_expr}
 use Rattle.typst_code.proofs.expressions.binary_expr.Goals as goal

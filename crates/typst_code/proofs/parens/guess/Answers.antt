@@ -1,5 +1,4 @@
-use Rattle.std.proofs.Common.{refl, ap, sym, ◌∙◌, subst}
-use Rattle.typst_kinds.specs.declared.kind.SyntaxKind.TheVariants as kind
+use Rattle.std.proofs.Common.{refl, ap, ◌∙◌}
 use Rattle.typst_language.specs.Depth.{is_end}
 use Rattle.typst_lookahead.specs.Checkpoint.{saved}
 use Rattle.typst_lookahead.specs.View.{View}

@@ -1,4 +1,3 @@
-use Rattle.std.proofs.Common.{refl}
 use Rattle.typst_code.proofs.parts.code_expression.Goals as goal
 
 pub returns : goal.returns

@@ -1,4 +1,3 @@
-use Rattle.std.proofs.Common.{refl}
 use Rattle.typst_kinds.specs.declared.kind.SyntaxKind.TheVariants as kind
 use Rattle.typst_language.specs.Shape.{becomes}
 use Rattle.typst_lookahead.proofs.Steps.{does-next, does-node}

@@ -7,16 +7,18 @@ use Rattle.typst_candidates.specs.Rows.{within}
 use Rattle.typst_candidates.proofs.Anchors.{pieces-from}
 use Rattle.typst_candidates.proofs.records.Records.later_place.Goals as goal
 
-pub returns-then-number-self-clause-pieces : goal.returns-then-number-self-clause-pieces
-returns-then-number-self-clause-pieces c = λ w is.
+pub returns-then-number-anchor-clause-pieces : goal.returns-then-number-anchor-clause-pieces
+returns-then-number-anchor-clause-pieces c = λ w is.
     let es = c.args.self.now.units.entries in
     let p = c.args.place in
-    let lt = c.if-self-from.true in
-    let le = c.if-number-self.true in
+    let same = c.if-first-anchor.true in
+    let lt = c.if-anchor-from.true in
+    let le = c.if-number-anchor.true in
     let number = c.number.ensures in
     let a = c.self.inside.anchor in
     let h = subst (λ (k : Kept). IsAnchor k.units.entries a) c.self.view_is c.self.invariant.1 in
-    let run = subst (λ us. inside_of 0 (take p.number us) ≡ Some 0) c.requires.entries c.requires.run in
+    let order = c.requires.order in
+    let run = subst (λ n. inside_of 0 (drop n (take p.number es)) ≡ Some 0) same (subst (λ us. inside_of 0 (drop c.args.first (take p.number us)) ≡ Some 0) c.requires.entries c.requires.run) in
     ap (λ (q : Place). within w (pieces_of 0 (start_at q) (drop q.number q.entries))) c.cursor_from.ensures
-    ∙ pieces-from es a p.number w h (omega (arith, le, number)) run (omega (arith, lt, is))
+    ∙ pieces-from es a p.number w h (omega (arith, same, order)) (omega (arith, le, number)) run (omega (arith, lt, is))
     ∙ sym (ap (λ us. within w (pieces_of 0 (end_of 0 (take p.number us)) (drop p.number us))) c.requires.entries)

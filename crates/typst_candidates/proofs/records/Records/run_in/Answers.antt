@@ -43,7 +43,7 @@ returns-then-begins_content c =
     let same = ap (λ us. behind_first (pieces_of 0 (start_at c.next.new.self) (drop c.next.new.self.number us))) (ap (λ (q : Place). q.entries) moved ∙ c.loop-entry.invariant.entries)
     ∙ ap (λ (n : ℕ). behind_first (pieces_of 0 (start_at c.next.new.self) (drop n es))) (ap (λ (q : Place). q.number) moved)
     ∙ ap (λ (s : ℕ). behind_first (pieces_of 0 s (drop (suc p.number) es))) on in
-    subst (λ (o : Option (List ℕ)). IfOk c.run.result (λ run. IsRun c.args.window o run)) (same ∙ found) c.run.ensures
+    subst (λ (o : Option (List ℕ)). IfOk c.run_behind.result (λ run. IsRun c.args.window o run)) (same ∙ found) c.run_behind.ensures
 
 pub loop-entry-smaller : goal.loop-entry-smaller
 loop-entry-smaller c =

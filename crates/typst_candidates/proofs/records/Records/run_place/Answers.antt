@@ -1,4 +1,4 @@
-use Rattle.std.proofs.Common.{◌≡◌, take, drop, ap, sym, subst, ◌∙◌}
+use Rattle.std.proofs.Common.{take, drop, ap, sym, subst, ◌∙◌}
 use Rattle.typst_candidates.specs.Anchors.{IsAnchor}
 use Rattle.typst_candidates.specs.Cursors.{Place, piece_of, start_at}
 use Rattle.typst_candidates.specs.Entries.{end_of}
@@ -12,6 +12,6 @@ returns-then-self-at-clause-piece c =
     let at = c.args.at in
     let a = c.self.inside.anchor in
     let h = subst (λ (k : Kept). IsAnchor k.units.entries a) c.self.view_is c.self.invariant.1 in
-    let first : c.args.first ≡ 0 = c.if-first-eq0.true in
+    let first = c.if-first-self.true in
     ap (λ (p : Place). piece_of at 0 (start_at p) p.number (drop p.number es)) c.cursor_from.ensures
     ∙ piece-from es a at h c.if-self-at.true ∙ sym (ap (λ n. piece_of at 0 (end_of 0 (take n es)) n (drop n es)) first)
