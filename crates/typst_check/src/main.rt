@@ -1,28 +1,15 @@
 //! Checks files of Typst: prints their errors and warnings, their trees, or their text as a page.
 #![tactic(auto)]
 
-mod check;
-mod escape;
-mod finding;
-mod github;
-mod located;
-mod ndjson;
-mod page;
-mod place;
-mod report;
 mod request;
-mod short;
-mod style;
-#[cfg(test)]
-mod tests;
-mod tree;
 
-use crate::check::{Fault, check, tell};
-use crate::request::{Form, Request};
+use crate::request::Request;
 use std::alloc::Global;
 use std::env;
 use std::fs::File;
 use std::process::ExitCode;
+use typst_cli::check::{Fault, check, tell};
+use typst_cli::form::Form;
 
 /// The name that stands for standard input among the words.
 const STANDARD_INPUT: &str = "-";

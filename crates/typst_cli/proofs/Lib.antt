@@ -5,9 +5,19 @@
 --   words                        WordLemmas: how many ask for something, the numbers among them
 --   what a run tells and gives    FaultLemmas: from an answer's faults to a run's
 --   edits printed                SpansAside: spans aside, trees are printed the same
+--   push_escaped                 EscapeLemmas: one character more
+--   base, line_start             PlaceLemmas: columns counted from another place of the line
+--   locate                       PlacedLemmas: one more finding with its places
+--   lines_of, commands_of        LineLemmas: the lines of one more finding
+--   write_numbers, write_told    TokenLemmas: tokens one after another
 mod PrintedLemmas
 mod Printing
 mod StreamLemmas
 mod SpansAside
 pub mod WordLemmas
 pub mod FaultLemmas
+pub mod EscapeLemmas
+pub mod LineLemmas
+pub mod PlacedLemmas
+pub mod PlaceLemmas
+pub mod TokenLemmas

@@ -1,9 +1,19 @@
 pub mod Asked
+pub mod Checked
+pub mod Escapes
 pub mod Faults
+pub mod Found
+pub mod Github
+pub mod Ndjson
+pub mod Placed
+pub mod Places
 pub mod Printed
 pub mod PrintedEdit
 pub mod PrintedHtml
 pub mod PrintedTree
+pub mod Short
+pub mod Told
+pub mod TreeLines
 pub mod Variants
 -- What the crates above name of those below.
 pub use Rattle.typst_parser.specs.Grammar

@@ -1,15 +1,29 @@
-//! What the program answers to its words, over any reader and writers.
+//! What the programs print, over any reader and writers: `typst_syn` answers to its words (program.rt),
+//! `typst_check` tells what is wrong with a text (check.rt).
 #![tactic(auto)]
 
+pub mod check;
 pub mod command;
 mod edit;
+mod escape;
 pub mod failure;
+mod finding;
+pub mod form;
+mod github;
 mod html;
 mod lines;
+mod located;
+mod ndjson;
+mod page;
+mod place;
 pub mod program;
+pub mod report;
 mod request;
+mod short;
 pub mod streams;
+mod style;
 pub mod tree;
+mod tree_lines;
 mod variants;
 
 pub use command::Command;

@@ -1,15 +1,11 @@
--- Blocks, which are noted as units, and the calls that code makes.
-use Rattle.std.proofs.Common.{◌≡◌, ℕ, Bool, List, ◌-◌, [], ◌∷◌, ◌++◌, refl, ap, sym, subst, ◌∙◌, arith}
+-- Blocks, which are noted as units.
+use Rattle.std.proofs.Common.{◌≡◌, ℕ, ◌-◌, [], ◌∷◌, ◌++◌, refl, ap, sym, ◌∙◌, arith}
 use Rattle.std.specs.Prelude.{Result, Ok, Err}
 use Rattle.std.specs.declared.alloc.AllocError.{AllocError}
-use denote.Ref.{MutBor}
 use Rattle.typst_lines.specs.Place.{moved}
 use Rattle.typst_language.specs.declared.calls.Block.{Block}
-use Rattle.typst_language.specs.declared.calls.ChainSet.{ChainSet}
 use Rattle.typst_language.specs.declared.calls.Mark.TheVariants.{Opens, Closes}
-use Rattle.typst_language.specs.declared.calls.Role.{Role}
 use Rattle.typst_language.specs.Calls.{Call, Answer}
-use Rattle.typst_language.specs.Calls.Call.{MarkupExpr, CodeExpr, MathExpr, Pattern}
 use Rattle.typst_language.specs.Ask.Ask.{marked}
 use Rattle.typst_language.specs.Point.{Point, forgot, state_of}
 use Rattle.typst_language.specs.Log.{logged, with_note}
@@ -19,7 +15,7 @@ use Rattle.typst_language.specs.Syntax.Op.{flushes}
 use Rattle.typst_language.specs.Syntax.Parser.{does, block}
 use Rattle.typst_language.specs.Steps.{peek, read_block}
 use Rattle.typst_language.specs.Meaning.{Outcome, Level, apart, bounded, done, run}
-use Rattle.typst_lookahead.specs.View.{View, Runs, Ran, Goes, Does, Calls, Calling, given_by, Frame, Fills, Fits, Loose, Looked, Opened, Closed, ReadsBlock, noted_here, unasked}
+use Rattle.typst_lookahead.specs.View.{View, Runs, Ran, Goes, Does, Calls, Frame, Fills, Fits, Loose, Looked, Opened, Closed, ReadsBlock, noted_here, unasked}
 use Rattle.typst_lookahead.proofs.Logs.{logged-append}
 use Rattle.typst_lookahead.proofs.Runs.{runs-followed, ran-next, ran-gives, ran-look, ran-flushes, flushed-fits, looked-fits}
 
@@ -39,21 +35,6 @@ calls-apart l call old new (Err e) h = tt
 
 pub fills-apart : {l : Level} {f : Frame} → Fills l f → Fills (apart l) f
 fills-apart {l = l} h = record { classes = h.classes; sound = sound-apart h.sound; levels = h.levels; reads = λ old new call r p. calls-apart l call old new r (h.reads old new call r p) }
-
--- what functions that make calls give at references, they give at what these point to
-module _ (l : Level) (markup : Calling Bool ℕ ℕ) (code : Calling Bool ℕ (Unit {0})) (math : Calling ℕ ChainSet (Unit {0})) (pattern : Calling Role (List (List ℕ)) (List (List ℕ))) (levels : ℕ)
-    (m : (v w : MutBor View) (at_start : Bool) (nesting : ℕ) (r : Result ℕ AllocError) → markup v levels at_start nesting r w → Calls l (MarkupExpr at_start nesting) v.now r w.now)
-    (c : (v w : MutBor View) (atomic : Bool) (least : ℕ) (r : Result (Unit {0}) AllocError) → code v levels atomic least r w → Calls l (CodeExpr atomic least) v.now r w.now)
-    (f : (v w : MutBor View) (least : ℕ) (signs : ChainSet) (r : Result (Unit {0}) AllocError) → math v levels least signs r w → Calls l (MathExpr least signs) v.now r w.now)
-    (p : (v w : MutBor View) (role : Role) (names : List (List ℕ)) (r : Result (List (List ℕ)) AllocError) → pattern v levels role names r w → Calls l (Pattern role names) v.now r w.now) where
-  at-views : (call : Call) (r : Result (Answer call) AllocError) {v w old new : View} → v ≡ old → w ≡ new → Calls l call v r w → Calls l call old r new
-  at-views call r {w = w} {old = old} e f h = subst (λ (y : View). Calls l call old r y) f (subst (λ (x : View). Calls l call x r w) e h)
-
-  pub calls-given : (old new : View) (call : Call) (r : Result (Answer call) AllocError) → given_by markup code math pattern levels call old r new → Calls l call old r new
-  calls-given old new (MarkupExpr at_start nesting) r h = at-views (MarkupExpr at_start nesting) r h.2 h.3 (m h.0 h.1 at_start nesting r h.4)
-  calls-given old new (CodeExpr atomic least) r h = at-views (CodeExpr atomic least) r h.2 h.3 (c h.0 h.1 atomic least r h.4)
-  calls-given old new (MathExpr least signs) r h = at-views (MathExpr least signs) r h.2 h.3 (f h.0 h.1 least signs r h.4)
-  calls-given old new (Pattern role names) r h = at-views (Pattern role names) r h.2 h.3 (p h.0 h.1 role names r h.4)
 
 -- ---- a block
 

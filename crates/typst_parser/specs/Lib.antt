@@ -8,6 +8,7 @@ pub mod Found
 -- What the crates above name of those below.
 pub use Rattle.typst_reparser.specs.Grammar
 pub use Rattle.typst_kinds.specs.Head
+pub use Rattle.typst_kinds.specs.Span
 pub use Rattle.typst_kinds.specs.declared.diagnostic.Severity
 pub use Rattle.typst_kinds.specs.declared.error.SourceError
 pub use Rattle.typst_kinds.specs.declared.kind.SyntaxKind

@@ -1,9 +1,11 @@
 //! Tests of what no clause says and no row can. Of trees: depth, long texts, refused memory. Of
 //! sources: numbers, bytes of numbers, trees that are handed in, and refused memory. Of the program: its
 //! words over streams that stop, hold and fail. Of what a language server shows: outline, foldings, selections,
-//! labels, tokens and reports.
+//! labels, tokens and reports. Of the checker: what each form prints.
 #![tactic(auto)]
 
+#[cfg(test)]
+mod checks;
 #[cfg(test)]
 mod code;
 #[cfg(test)]

@@ -6,6 +6,7 @@ use crate::opening::opening;
 use crate::outside::outside;
 use crate::positions::positions;
 use crate::random::Random;
+use crate::sums::sums;
 use crate::typing::{blocks, typing};
 use crate::walking::walking;
 use std::alloc::Global;
@@ -27,6 +28,8 @@ pub enum Job {
     Outside,
     /// Finding positions in lines.
     Positions,
+    /// Summing up short texts, as it was done by hand. It is no job of users and isn't timed.
+    Sums,
 }
 
 /// All jobs.
@@ -38,6 +41,7 @@ const ALL: &[Job] = &[
     Job::Opening,
     Job::Outside,
     Job::Positions,
+    Job::Sums,
 ];
 
 impl Job {
@@ -51,6 +55,7 @@ impl Job {
             "opening" => &[Job::Opening],
             "outside" => &[Job::Outside],
             "positions" => &[Job::Positions],
+            "sums" => &[Job::Sums],
             "all" => ALL,
             _ => &[],
         }
@@ -66,6 +71,7 @@ impl Job {
             Job::Opening => "opening",
             Job::Outside => "outside",
             Job::Positions => "positions",
+            Job::Sums => "sums",
         }
     }
 
@@ -82,6 +88,7 @@ impl Job {
                 Job::Opening => opening(alloc, &mut random, round, &mut outcome)?,
                 Job::Outside => outside(alloc, &mut random, &mut outcome)?,
                 Job::Positions => positions(alloc, &mut random, &mut outcome)?,
+                Job::Sums => sums(alloc, &mut outcome)?,
             }
         }
         Ok(outcome)

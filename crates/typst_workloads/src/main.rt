@@ -12,8 +12,7 @@ mod opening;
 mod outside;
 mod positions;
 mod random;
-#[cfg(test)]
-mod tests;
+mod sums;
 mod typing;
 mod walking;
 mod work;
@@ -26,7 +25,7 @@ use std::{env, io};
 use work::Work;
 
 const USAGE: &str =
-    "usage: typst_workloads typing|blocks|broken|walking|opening|outside|positions|all SEED ROUNDS [check]\n       typst_workloads lines|parse|parse-code|parse-math|html|edit N";
+    "usage: typst_workloads typing|blocks|broken|walking|opening|outside|positions|sums|all SEED ROUNDS [check]\n       typst_workloads lines|parse|parse-code|parse-math|html|edit N";
 
 /// Without words it prints which ones it takes.
 fn main(rt: HostRuntime) -> anyhow::Result<()> {

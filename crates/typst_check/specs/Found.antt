@@ -1,7 +1,0 @@
--- Findings as contracts see them.
-use Rattle.typst_check.specs.declared.finding.Finding.{Finding}
-use Rattle.typst_check.specs.Told.{Told}
-
--- what a finding tells, and of which bytes
-abbrev pub as_told : Finding → Told
-as_told f = record { diagnostic = f.diagnostic.now; start = f.start; end = f.end }

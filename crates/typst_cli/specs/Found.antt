@@ -1,0 +1,7 @@
+-- Findings as contracts see them.
+use Rattle.typst_cli.specs.declared.finding.Finding.{Finding}
+use Rattle.typst_cli.specs.Told.{Told}
+
+-- what a finding tells, and of which bytes
+abbrev pub as_told : Finding → Told
+as_told f = record { diagnostic = f.diagnostic.now; start = f.start; end = f.end }

@@ -1,0 +1,60 @@
+-- What is told of a text: its errors and warnings.
+use Rattle.std.specs.Prelude.{ℕ, ◌+◌, List, [], ◌∷◌, ◌++◌, Bool, true, false, ◌||◌, Option, None, Some, length, codes, min, max}
+use Rattle.std.specs.Str.{chars}
+use Rattle.typst_parser.specs.Severity.{Severity}
+use Rattle.typst_parser.specs.Severity.TheVariants as severity
+use Rattle.typst_parser.specs.Diagnostic.{Diagnostic}
+use Rattle.typst_parser.specs.Span.{Bytes}
+use Rattle.typst_parser.specs.UnicodeTables.{unicode_classes}
+use Rattle.typst_parser.specs.Grammar.{tree}
+use Rattle.typst_parser.specs.Tree.{Forest, none, more, Tree, joined, saturated}
+
+-- an error or a warning, and the bytes that it is about
+pub record Told : Type 0 where
+  pub diagnostic : Diagnostic
+  pub start : ℕ
+  pub end : ℕ
+
+-- where what is told of a node of the bytes a to b begins: with the node, or with the part of it that it is about
+abbrev pub from_byte : ℕ → ℕ → Option Bytes → ℕ
+from_byte a b None = a
+from_byte a b (Some part) = min (saturated (a + part.start)) b
+
+-- where it ends
+abbrev pub to_byte : ℕ → ℕ → Option Bytes → ℕ
+to_byte a b None = b
+to_byte a b (Some part) = max (min (saturated (a + part.end)) b) (from_byte a b (Some part))
+
+-- what is told of a node of the bytes a to b
+abbrev pub told_of : ℕ → ℕ → List Diagnostic → List Told
+told_of a b [] = []
+told_of a b (d ∷ ds) = record { diagnostic = d; start = from_byte a b d.sub_range; end = to_byte a b d.sub_range } ∷ told_of a b ds
+
+-- what is told of trees that stand side by side from byte a on: of each node before those below it
+abbrev pub told_in : ℕ → Forest → List Told
+told_in a none = []
+told_in a (more h ks r) =
+    told_of a (saturated (a + length (h.text ++ joined ks))) h.diagnostics
+    ++ (told_in (saturated (a + length h.text)) ks ++ told_in (saturated (a + length (h.text ++ joined ks))) r)
+
+-- what is told of a tree
+abbrev pub told : Tree → List Told
+told t = told_in 0 (more t.head t.kids none)
+
+abbrev pub is_grave : Severity → Bool
+is_grave severity.Error = true
+is_grave severity.Warning = false
+
+-- the word for how grave it is
+abbrev pub severity_word : Severity → List ℕ
+severity_word severity.Error = codes "error"
+severity_word severity.Warning = codes "warning"
+
+-- an error is among them
+abbrev pub any_error : List Told → Bool
+any_error [] = false
+any_error (t ∷ ts) = is_grave t.diagnostic.severity || any_error ts
+
+-- a text has an error
+abbrev pub has_error : List ℕ → Bool
+has_error text = any_error (told (tree unicode_classes (chars text)))

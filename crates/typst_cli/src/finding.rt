@@ -1,0 +1,108 @@
+//! The errors and warnings of a text.
+
+ghost use Rattle.std.specs.Prelude.{◌≡◌, ◌+◌, ◌++◌, IfOk, OnOk, length, map};
+ghost use Rattle.typst_parser.specs.Tree.{more, none, saturated, text_of};
+ghost use Rattle.typst_cli.specs.Found.{as_told};
+ghost use Rattle.typst_cli.specs.Told as spec;
+
+use std::alloc::{AllocError, Global};
+use typst_parser::{Diagnostic, Hint, Severity, SubRange, SyntaxNode};
+
+/// An error or a warning of a text, with the bytes that it is about.
+#[derive(Clone, Copy)]
+pub struct Finding<'t> {
+    pub start: usize,
+    pub end: usize,
+    diagnostic: &'t Diagnostic,
+}
+
+impl<'t> Finding<'t> {
+    ghost use Rattle.std.specs.Prelude.{◌≡◌};
+    ghost use Rattle.typst_cli.specs.Told as spec;
+
+    pub fn is_error(&self) -> bool
+        ensures { result ≡ spec.is_grave self.now.diagnostic.now.severity }
+    {
+        self.diagnostic.severity() == Severity::Error
+    }
+
+    /// The word for how grave it is.
+    pub fn severity(&self) -> &'static str
+        ensures { result.now ≡ spec.severity_word self.now.diagnostic.now.severity }
+    {
+        if self.is_error() { "error" } else { "warning" }
+    }
+
+    pub fn message(&self) -> &'t str
+        ensures { result.now ≡ self.now.diagnostic.now.message }
+    {
+        self.diagnostic.message()
+    }
+
+    pub fn hints(&self) -> &'t [Hint]
+        ensures { result.now ≡ self.now.diagnostic.now.hints }
+    {
+        self.diagnostic.hints()
+    }
+}
+
+/// All errors and warnings of a tree, each node's before those below it. Goes through the tree once.
+pub fn findings<'t>(alloc: Global, root: &'t SyntaxNode) -> Result<Vec<Finding<'t>>, AllocError>
+    ensures { IfOk result (λ found. map as_told found.items ≡ spec.told root.now) }
+{
+    let mut found = Vec::new(alloc);
+    add_findings(&mut found, root, 0)?;
+    Ok(found)
+}
+
+/// Adds those of a node that begins at a byte, and of all nodes below it.
+fn add_findings<'t>(
+    found: &mut Vec<Finding<'t>>,
+    node: &'t SyntaxNode,
+    start: usize,
+) -> Result<(), AllocError>
+    ensures { OnOk result (map as_told found.new.items ≡ map as_told found.old.items ++ spec.told_in start (more node.now.head node.now.kids none)) }
+{
+    add_own(found, node, start)?;
+    let mut kid_start = start.saturating_add(node.leaf_text().len());
+    for kid in node.children() {
+        add_findings(found, kid, kid_start)?;
+        kid_start = kid_start.saturating_add(kid.len());
+    }
+    Ok(())
+}
+
+/// Adds those of a node alone.
+fn add_own<'t>(
+    found: &mut Vec<Finding<'t>>,
+    node: &'t SyntaxNode,
+    start: usize,
+) -> Result<(), AllocError>
+    ensures { OnOk result (map as_told found.new.items ≡ map as_told found.old.items ++ spec.told_of start (saturated (start + length (text_of node.now))) node.now.head.diagnostics) }
+{
+    let end = start.saturating_add(node.len());
+    for diagnostic in node.diagnostics() {
+        let (from, to) = about(start, end, diagnostic.sub_range());
+        found.push(Finding {
+            start: from,
+            end: to,
+            diagnostic,
+        })?;
+    }
+    Ok(())
+}
+
+/// The bytes that a remark about a node of the bytes `start..end` is about.
+fn about(start: usize, end: usize, part: Option<SubRange>) -> (usize, usize)
+    ensures from { result.0 ≡ spec.from_byte start end part }
+    ensures to { result.1 ≡ spec.to_byte start end part }
+{
+    match part {
+        None => (start, end),
+        Some(part) => {
+            let from = start.saturating_add(part.start()).min(end);
+            let to = start.saturating_add(part.end()).min(end);
+            (from, to.max(from))
+        }
+    }
+}

@@ -1,0 +1,42 @@
+//! The errors and warnings of a text, with their lines and columns.
+
+ghost use Rattle.std.specs.Prelude.{IfOk, map};
+ghost use Rattle.typst_cli.specs.Found.{as_told};
+ghost use Rattle.typst_cli.specs.Placed.{ArePlaced, as_placed};
+
+use crate::finding::Finding;
+use crate::place::Place;
+use std::alloc::{AllocError, Global};
+use typst_parser::Lines;
+
+/// An error or a warning, and the places between which it is.
+#[derive(Clone, Copy)]
+pub struct Located<'t> {
+    pub finding: Finding<'t>,
+    pub start: Place,
+    pub end: Place,
+}
+
+/// Finds the places of findings. Where one is in the line of the last and behind it, only what is
+/// between them is looked at, so a line with many findings isn't read anew for each.
+pub fn locate<'t>(
+    alloc: Global,
+    lines: &Lines<&str>,
+    found: &[Finding<'t>],
+) -> Result<Vec<Located<'t>>, AllocError>
+    ensures { IfOk result (λ located. ArePlaced lines.now (map as_told found.now) (map as_placed located.items)) }
+{
+    let mut all = Vec::new(alloc);
+    let (mut last_start, mut last_end) = (None, None);
+    for finding in found {
+        let start = Place::of_byte(lines, finding.start, last_start);
+        let end = Place::of_byte(lines, finding.end, last_end);
+        all.push(Located {
+            finding: *finding,
+            start,
+            end,
+        })?;
+        (last_start, last_end) = (Some(start), Some(end));
+    }
+    Ok(all)
+}

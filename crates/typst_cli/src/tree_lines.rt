@@ -1,0 +1,99 @@
+//! A syntax tree as JSON, a line for each node.
+
+ghost use Rattle.std.specs.Prelude.{◌≡◌, ◌++◌, IfOk, OnOk};
+ghost use Rattle.typst_parser.specs.Tree.{more, none};
+ghost use Rattle.typst_cli.specs.Ndjson.{line};
+ghost use Rattle.typst_cli.specs.TreeLines as spec;
+
+use crate::ndjson::{end_line, write_count, write_text};
+use crate::tree::variant_name;
+use json::Writer;
+use std::alloc::{AllocError, Global};
+use typst_parser::SyntaxNode;
+
+/// The lines of a tree.
+pub fn lines_of(alloc: Global, root: &SyntaxNode) -> Result<Vec<u8>, AllocError>
+    ensures { IfOk result (λ printed. printed.items ≡ spec.tree_lines root.now) }
+{
+    push_node(Vec::new(alloc), root, 0, 0)
+}
+
+/// Adds the lines of a node that begins at a byte, and of all below it, each before its children: its
+/// depth, its kind, its bytes and, of a leaf, its text.
+fn push_node(
+    lines: Vec<u8>,
+    node: &SyntaxNode,
+    depth: usize,
+    start: usize,
+) -> Result<Vec<u8>, AllocError>
+    ensures { IfOk result (λ new. new.items ≡ lines.items ++ spec.node_lines depth start (more node.now.head node.now.kids none)) }
+{
+    let mut all = push_line(lines, node, depth, start)?;
+    let mut kid_start = start.saturating_add(node.leaf_text().len());
+    for kid in node.children() {
+        all = push_node(all, kid, depth.saturating_add(1), kid_start)?;
+        kid_start = kid_start.saturating_add(kid.len());
+    }
+    Ok(all)
+}
+
+fn push_line(
+    lines: Vec<u8>,
+    node: &SyntaxNode,
+    depth: usize,
+    start: usize,
+) -> Result<Vec<u8>, AllocError>
+    ensures { IfOk result (λ new. new.items ≡ lines.items ++ line (spec.node depth start (spec.end_of start node.now.head node.now.kids) node.now.head)) }
+{
+    let mut writer = Writer::new(lines);
+    write_node(&mut writer, node, depth, start)?;
+    end_line(writer)
+}
+
+fn write_node(
+    writer: &mut Writer,
+    node: &SyntaxNode,
+    depth: usize,
+    start: usize,
+) -> Result<(), AllocError>
+    ensures before { OnOk result (writer.new.before ≡ writer.old.before) }
+    ensures tokens { OnOk result (writer.new.tokens ≡ writer.old.tokens ++ (spec.node depth start (spec.end_of start node.now.head node.now.kids) node.now.head)) }
+{
+    writer.begin_object()?;
+    write_members(writer, node, depth, start)?;
+    writer.end_object()
+}
+
+fn write_members(
+    writer: &mut Writer,
+    node: &SyntaxNode,
+    depth: usize,
+    start: usize,
+) -> Result<(), AllocError>
+    ensures before { OnOk result (writer.new.before ≡ writer.old.before) }
+    ensures tokens { OnOk result (writer.new.tokens ≡ writer.old.tokens ++ (spec.members depth start (spec.end_of start node.now.head node.now.kids) node.now.head)) }
+{
+    write_count(writer, "depth", depth)?;
+    write_text(writer, "kind", variant_name(node.kind()))?;
+    write_range(writer, start, start.saturating_add(node.len()))?;
+    write_own_text(writer, node)
+}
+
+fn write_range(writer: &mut Writer, start: usize, end: usize) -> Result<(), AllocError>
+    ensures before { OnOk result (writer.new.before ≡ writer.old.before) }
+    ensures tokens { OnOk result (writer.new.tokens ≡ writer.old.tokens ++ spec.range start end) }
+{
+    write_count(writer, "start", start)?;
+    write_count(writer, "end", end)
+}
+
+/// Writes the text of a leaf.
+fn write_own_text(writer: &mut Writer, node: &SyntaxNode) -> Result<(), AllocError>
+    ensures before { OnOk result (writer.new.before ≡ writer.old.before) }
+    ensures tokens { OnOk result (writer.new.tokens ≡ writer.old.tokens ++ spec.own_text node.now.head) }
+{
+    if node.is_inner() {
+        return Ok(());
+    }
+    write_text(writer, "text", node.leaf_text())
+}
