@@ -18,4 +18,4 @@ pub use typst_grammar::{
     MAX_DEPTH, Noted, PieceReader, ReadPart, RunKind, parse, parse_block, parse_code, parse_math,
     parse_noted, resume_pieces,
 };
-pub use typst_language::{Block, Mark, Note};
+pub use typst_language::{Block, Carried, Mark, Note};

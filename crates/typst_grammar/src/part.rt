@@ -17,7 +17,7 @@ use crate::grammar::{call_code_expr, call_markup_expr, call_math_expr, call_patt
 use std::alloc::{AllocError, Global};
 use typst_code::{Grammar, Levels, Log, Parser, Stop, code_block, content_block, markup_turn};
 use typst_kinds::SyntaxMode;
-use typst_language::{AtNewline, Block, Note, Reading, State};
+use typst_language::{AtNewline, Block, Carried, Note, Reading, State};
 use typst_lines::{Classes, Scanner};
 use typst_tokens::Hull;
 use typst_tree::SyntaxNode;
@@ -81,8 +81,8 @@ pub enum RunKind {
 #[derive(Drop)]
 pub struct PieceReader<'s> {
     parser: Parser<'s>,
-    /// Whether a line begins behind the pieces, and in how many brackets what comes next stands.
-    carried: (bool, usize),
+    /// What is carried behind the pieces.
+    carried: Carried,
     /// How many levels are left for what is called in the run.
     levels: usize,
     /// Whose run it is.
@@ -92,24 +92,22 @@ pub struct PieceReader<'s> {
 }
 
 /// A reader of the pieces of a run from a byte between two characters on, where the token of a piece
-/// begins: whether a line begins there, and in how many brackets it stands, as the note behind the
-/// piece before it says. The run ends at such tokens: that of a text at [`Stop::End`], that of a content
-/// block at [`Stop::Block`]; so many levels are left for what is called in it, as its notes say. Of what
-/// stands before it nothing else is known. It looks at the token there and no further, and refuses only
-/// for want of memory.
+/// begins, with what is carried there, as the note behind the piece before it says. The run ends at such
+/// tokens: that of a text at [`Stop::End`], that of a content block at [`Stop::Block`]; so many levels are
+/// left for what is called in it, as its notes say. Of what stands before it nothing else is known. It
+/// looks at the token there and no further, and refuses only for want of memory.
 pub fn resume_pieces<'s, C: Classes>(
     alloc: Global,
     text: &'s str,
     at: usize,
-    at_start: bool,
-    nesting: usize,
+    carried: Carried,
     kind: RunKind,
     levels: usize,
     classes: &C,
 ) -> Result<PieceReader<'s>, AllocError>
     requires boundary { IsCharBoundary text.now at }
     requires some { 0 < levels }
-    ensures { IfOk result (λ p. HasRead (C.classes classes.now) levels kind (at_start, nesting) (place_at text.now at) 0 p) }
+    ensures { IfOk result (λ p. HasRead (C.classes classes.now) levels kind carried (place_at text.now at) 0 p) }
 {
     let reading = Reading {
         mode: SyntaxMode::Markup,
@@ -121,7 +119,7 @@ pub fn resume_pieces<'s, C: Classes>(
     let end = token_start(&mut parser)?;
     Ok(PieceReader {
         parser,
-        carried: (at_start, nesting),
+        carried,
         levels,
         kind,
         end,
@@ -153,9 +151,8 @@ impl<'s> PieceReader<'s> {
         self.end
     }
 
-    /// Whether a line begins behind the pieces read so far, and in how many brackets what comes next
-    /// stands.
-    pub fn carried(&self) -> (bool, usize)
+    /// What is carried behind the pieces read so far.
+    pub fn carried(&self) -> Carried
         ensures { result ≡ self.now.carried }
     {
         self.carried
@@ -178,14 +175,13 @@ impl<'s> PieceReader<'s> {
     }
 }
 
-/// Reads a piece of a run; answers whether there is one, and whether a line begins behind it and in how
-/// many brackets what comes next stands.
+/// Reads a piece of a run; answers whether there is one, and what is carried behind it.
 fn read_piece<L: Levels>(
     g: &L,
     p: &mut Parser<'_>,
     kind: RunKind,
-    carried: (bool, usize),
-) -> Result<(bool, (bool, usize)), AllocError>
+    carried: Carried,
+) -> Result<(bool, Carried), AllocError>
     requires { L.may_call g.now }
     ensures { Means (L.frame g.now) (spec.markup_turn true (stops_of kind) carried) p.old result p.new }
 {

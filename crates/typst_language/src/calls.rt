@@ -34,6 +34,10 @@ pub struct ChainSet {
     pub underscore: bool,
 }
 
+/// What is carried from an expression of markup to what comes next: whether a line begins there, and in
+/// how many brackets it stands.
+pub type Carried = (bool, usize);
+
 /// What is noted as one block.
 #[derive(Debug, Clone, Copy, PartialEq, Eq)]
 pub enum Block {

@@ -8,7 +8,7 @@ mod hints;
 mod laws;
 mod reading;
 
-pub use calls::{Behind, Block, ChainSet, Mark, Note, Role, Way};
+pub use calls::{Behind, Block, Carried, ChainSet, Mark, Note, Role, Way};
 pub use change::{Change, change_first, change_node, unparen};
 pub use hints::hint_last;
 pub use laws::words_of_the_language;

@@ -9,7 +9,7 @@ ghost use Rattle.typst_markup.specs.Stops.{stops_at};
 use crate::stops::Stop;
 use std::alloc::AllocError;
 use typst_kinds::SyntaxKind;
-use typst_language::Mark;
+use typst_language::{Carried, Mark};
 use typst_lookahead::{Levels, Parser, Stops, deeper_markup_expr, too_deep};
 
 /// Reads expressions up to a stop.
@@ -48,44 +48,42 @@ pub fn markup_run<L: Levels>(g: &L, p: &mut Parser<'_>, stop: Stop) -> Result<()
     Ok(())
 }
 
-/// Reads expressions up to a stop, which are noted in a run; answers whether a newline was passed
-/// behind the last, and how many brackets are open then.
+/// Reads expressions up to a stop, which are noted in a run; answers what is carried behind the last.
 fn markup_turns<L: Levels>(
     g: &L,
     p: &mut Parser<'_>,
     is_run: bool,
     stop: Stop,
     at_start: bool,
-) -> Result<(bool, usize), AllocError>
+) -> Result<Carried, AllocError>
     requires { L.may_call g.now }
     ensures { Means (L.frame g.now) (repeat (spec.markup_turn is_run (stops_at stop)) (at_start, 0)) p.old result p.new }
 {
-    let mut state = (at_start, 0usize);
+    let mut carried = (at_start, 0usize);
     'turns: loop {
         let before = p.left();
-        let (more, next) = markup_turn(g, p, is_run, stop, state)?;
-        state = next;
+        let (more, next) = markup_turn(g, p, is_run, stop, carried)?;
+        carried = next;
         if !p.goes_on(more, before) {
             return Ok(next);
         }
     }
 }
 
-/// Reads one expression, unless a stop comes; answers whether it did, whether a newline was passed
-/// behind it, and in how many brackets what comes next stands.
+/// Reads one expression, unless a stop comes; answers whether it did, and what is carried behind it.
 pub fn markup_turn<L: Levels>(
     g: &L,
     p: &mut Parser<'_>,
     is_run: bool,
     stop: Stop,
-    state: (bool, usize),
-) -> Result<(bool, (bool, usize)), AllocError>
+    carried: Carried,
+) -> Result<(bool, Carried), AllocError>
     requires { L.may_call g.now }
-    ensures { Means (L.frame g.now) (spec.markup_turn is_run (stops_at stop) state) p.old result p.new }
+    ensures { Means (L.frame g.now) (spec.markup_turn is_run (stops_at stop) carried) p.old result p.new }
 {
-    let (at_start, nesting) = state;
+    let (at_start, nesting) = carried;
     if ends(stop, nesting, p.current()) {
-        return Ok((false, state));
+        return Ok((false, carried));
     }
     let nesting = deeper_markup_expr(g, p, at_start, nesting)?;
     let has_newline = p.had_newline();

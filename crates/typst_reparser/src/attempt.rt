@@ -26,7 +26,7 @@ ghost use Rattle.typst_reparser.specs.Steps.{AreBounds, Begins, BeginsThere, Can
 use crate::replacement::Replacement;
 use std::alloc::{AllocError, Global};
 use typst_candidates::{Candidate, Cursor, Records, Tag};
-use typst_edits::{MAX_DEPTH, PieceReader, ReadPart, RunKind, parse_block, resume_pieces};
+use typst_edits::{Carried, MAX_DEPTH, PieceReader, ReadPart, RunKind, parse_block, resume_pieces};
 use typst_lines::Classes;
 use typst_tree::SyntaxNode;
 
@@ -366,15 +366,14 @@ impl<'a, 's, C: Classes> Attempt<'a, 's, C> {
         requires some { 0 < run.levels }
         ensures { (x : Bool × ℕ) → SaysPiece from.now.entries from.now.number x → IfOk result (λ o. Begins (C.classes self.now.asked.now.classes.now) (reading_on run.kind run.levels x (place_at self.now.asked.now.new.now candidate.start)) candidate from.now.number o) }
     {
-        let Some((at_start, nesting)) = carried_at(from) else {
+        let Some(carried) = carried_at(from) else {
             return Ok(None);
         };
         let reader = resume_pieces(
             alloc,
             self.asked.new,
             candidate.start,
-            at_start,
-            nesting,
+            carried,
             run.kind,
             run.levels,
             self.asked.classes,
@@ -560,7 +559,7 @@ fn is_last(place: &Cursor<'_>) -> bool
 }
 
 /// What is carried at a place, if a piece begins or ends there.
-fn carried_at(place: &Cursor<'_>) -> Option<(bool, usize)>
+fn carried_at(place: &Cursor<'_>) -> Option<Carried>
     ensures { (x : Bool × ℕ) → SaysPiece place.now.entries place.now.number x → result ≡ Some x }
 {
     let entry = place.copy().next()?;
@@ -582,7 +581,7 @@ fn has_both(any: bool, from: &Cursor<'_>) -> bool
 }
 
 /// Whether pieces that carry this at their end may stand before the entry behind a place.
-fn meets(kind: RunKind, to: &Cursor<'_>, any: bool, carried: (bool, usize)) -> bool
+fn meets(kind: RunKind, to: &Cursor<'_>, any: bool, carried: Carried) -> bool
     requires { to.now.number < length to.now.entries }
     ensures { (y : Bool × ℕ) (a b m : ℕ) → SaysPiece to.now.entries to.now.number y → (any ≡ true ↔ ((a < b) ⊎ (0 < m))) → (result ≡ true ↔ MeetsOn to.now.entries kind to.now.number (a < b) m y carried) }
 {
@@ -596,7 +595,7 @@ fn meets(kind: RunKind, to: &Cursor<'_>, any: bool, carried: (bool, usize)) -> b
 }
 
 /// Whether pieces at the end of a run carry what the old ones did there, as far as it matters.
-fn ends_alike(kind: RunKind, was: (bool, usize), carried: (bool, usize)) -> bool
+fn ends_alike(kind: RunKind, was: Carried, carried: Carried) -> bool
     ensures { result ≡ true ↔ (kind ≡ RunKind.Block → carried.1 ≡ was.1) }
 {
     match kind {
@@ -606,7 +605,7 @@ fn ends_alike(kind: RunKind, was: (bool, usize), carried: (bool, usize)) -> bool
 }
 
 /// Whether there are pieces, and they carry what the old ones did.
-fn goes_alike(any: bool, was: (bool, usize), carried: (bool, usize)) -> bool
+fn goes_alike(any: bool, was: Carried, carried: Carried) -> bool
     ensures { result ≡ true ↔ ((any ≡ true) × (carried ≡ was)) }
 {
     any && (carried.0 == was.0 && carried.1 == was.1)

@@ -13,4 +13,4 @@ returns g c =
     let n = c.args.levels in
     let l = told_in k n c.args.kind in
     let look = does-look (c.in_ok-look.ensures l (fills-in k n c.args.kind (fills-level k n refl refl (λ old new x y r q. calls-at (told_at k n) (MarkupExpr x y) r q.2 q.3 q.4) (λ old new x y r q. calls-at (told_at k n) (CodeExpr x y) r q.2 q.3 q.4) (λ old new x y r q. calls-at (told_at k n) (MathExpr x y) r q.2 q.3 q.4.1) (λ old new x y r q. calls-at (told_at k n) (Pattern x y) r q.2 q.3 q.4.2)))) in
-    starts k n c.args.kind (c.args.at_start, c.args.nesting) (place_at c.args.text.now c.args.at) _ _ _ c.requires.some c.resume-parser.ensures look (c.in_ok-end.ensures l) refl refl refl
+    starts k n c.args.kind c.args.carried (place_at c.args.text.now c.args.at) _ _ _ c.requires.some c.resume-parser.ensures look (c.in_ok-end.ensures l) refl refl refl

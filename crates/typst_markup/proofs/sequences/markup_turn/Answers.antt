@@ -16,12 +16,12 @@ noted-behind l is_run b n v w e d =
 
 pub returns-then-ends : goal.returns-then-ends
 unfolding markup_turn
-returns-then-ends g c l h = does-next (does-peek _) (does-pick (ap (ends (stops_at c.args.stop) c.args.state.1) (sym c.current.ensures) ∙ sym c.ends.ensures ∙ c.if-ends.true) does-gives)
+returns-then-ends g c l h = does-next (does-peek _) (does-pick (ap (ends (stops_at c.args.stop) c.args.carried.1) (sym c.current.ensures) ∙ sym c.ends.ensures ∙ c.if-ends.true) does-gives)
 
 pub returns : goal.returns
 unfolding markup_turn
 returns g c l h =
     let nesting = c.in_ok-nesting.nesting in
     let has_newline = c.had_newline-has_newline.result in
-    does-next (does-peek _) (does-other (ap (ends (stops_at c.args.stop) c.args.state.1) (sym c.current.ensures) ∙ sym c.ends.ensures ∙ c.if-ends.false)
+    does-next (does-peek _) (does-other (ap (ends (stops_at c.args.stop) c.args.carried.1) (sym c.current.ensures) ∙ sym c.ends.ensures ∙ c.if-ends.false)
     (does-next (c.in_ok-nesting.ensures l h) (noted-behind l c.args.is_run has_newline nesting c.deeper_markup_expr.new.p c.note_piece.new.p c.had_newline-has_newline.ensures (c.in_ok-note_piece.ensures l h))))
