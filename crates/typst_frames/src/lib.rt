@@ -4,8 +4,6 @@
 mod bytes;
 mod header;
 pub mod reader;
-#[cfg(test)]
-mod tests;
 pub mod writer;
 
 pub use reader::{End, Frame, FrameReader};

@@ -7,8 +7,6 @@ mod dialogue;
 mod refusals;
 #[cfg(test)]
 mod sessions;
-#[cfg(test)]
-mod streams;
 
 use std::process::ExitCode;
 use typst_server::serve;

@@ -2,12 +2,9 @@
 //! and fail.
 
 use crate::dialogue::{self, EDITING};
-use crate::streams::{Pace, Reader, Writer};
 use std::alloc::{AllocError, Global};
 use typst_server::serve;
-
-/// Room for all that is written here.
-const AMPLE: usize = 100_000;
+use typst_test_support::streams::{PACES, Pace, Reader, Room, Writer};
 
 /// What a client sends.
 const SENT: [&str; 9] = [
@@ -50,39 +47,37 @@ fn frames(alloc: Global, bodies: &[&str]) -> Result<String, AllocError> {
 #[derive(Drop)]
 struct Session {
     status: u8,
-    written: Vec<u8>,
+    output: Writer,
 }
 
 impl Session {
-    /// What is answered to a reader, by a writer with so much room.
-    fn of(alloc: Global, input: Reader<'_>, room: usize, pace: Pace) -> Session {
-        let mut output = Writer::new(alloc, room, pace);
+    /// What is answered to a reader, by a writer with this room.
+    fn of(alloc: Global, input: Reader<'_>, room: Room) -> Session {
+        let mut output = Writer::new(alloc, room);
         let status = serve(alloc, input, &mut output);
-        Session {
-            status,
-            written: output.bytes,
-        }
+        Session { status, output }
     }
 
     /// The same with room for all, and nothing interrupted.
     fn whole(alloc: Global, input: Reader<'_>) -> Session {
-        Session::of(alloc, input, AMPLE, Pace::Whole)
+        Session::of(alloc, input, Room::ample(Pace::Whole))
+    }
+
+    /// What it wrote.
+    fn written(&self) -> &[u8] {
+        self.output.taken()
     }
 
     /// Whether it failed, and wrote no more than a beginning of what another one wrote.
     fn is_cut_off(&self, other: &Session) -> bool {
-        self.status == 1
-            && other
-                .written
-                .as_slice()
-                .starts_with(self.written.as_slice())
+        self.status == 1 && other.written().starts_with(self.written())
     }
 }
 
 /// Whether a session that is sent at a pace ends well, and with these answers.
 fn is_answered(alloc: Global, sent: &[u8], answered: &[u8], pace: Pace) -> bool {
-    let session = Session::of(alloc, Reader::ending(sent, pace), AMPLE, pace);
-    session.status == 0 && session.written.as_slice().ends_with(answered)
+    let session = Session::of(alloc, Reader::ending(sent, pace), Room::ample(pace));
+    session.status == 0 && session.written().ends_with(answered)
 }
 
 /// However little is read or written at a time, and wherever that is interrupted.
@@ -91,7 +86,7 @@ fn answers_at_each_pace(rt: HostRuntime) -> Result<(), AllocError> {
     let alloc = rt.alloc();
     let sent = frames(alloc, &SENT)?;
     let answered = frames(alloc, &ANSWERED)?;
-    for pace in [Pace::Whole, Pace::Bytes, Pace::Interrupted] {
+    for pace in PACES {
         let is_answered = is_answered(alloc, sent.as_bytes(), answered.as_bytes(), pace);
         assert!(rt; is_answered, "at {pace:?}");
     }
@@ -128,7 +123,7 @@ fn ends_where_it_cannot_read(rt: HostRuntime) -> Result<(), AllocError> {
     let sent = editing(alloc)?;
     let whole = Session::whole(alloc, Reader::ending(sent.as_bytes(), Pace::Whole));
     for end in 0..sent.len() {
-        let input = Reader::failing(&sent.as_bytes()[..end]);
+        let input = Reader::failing(&sent.as_bytes()[..end], Pace::Whole);
         let is_cut_off = Session::whole(alloc, input).is_cut_off(&whole);
         assert!(rt; is_cut_off, "at {end}");
     }
@@ -142,10 +137,10 @@ fn ends_where_it_cannot_write(rt: HostRuntime) -> Result<(), AllocError> {
     let sent = editing(alloc)?;
     let input = Reader::ending(sent.as_bytes(), Pace::Whole);
     let whole = Session::whole(alloc, input);
-    assert!(rt; whole.written.as_slice().ends_with(EDITED.as_bytes()));
-    for room in 0..whole.written.len() {
-        let session = Session::of(alloc, input, room, Pace::Whole);
-        let is_full = session.is_cut_off(&whole) && session.written.len() == room;
+    assert!(rt; whole.written().ends_with(EDITED.as_bytes()));
+    for room in 0..whole.written().len() {
+        let session = Session::of(alloc, input, Room::of(room, Pace::Whole));
+        let is_full = session.is_cut_off(&whole) && session.written().len() == room;
         assert!(rt; is_full, "with room for {room}");
     }
     Ok(())

@@ -35,8 +35,6 @@ mod shown;
 #[cfg(test)]
 mod sources;
 #[cfg(test)]
-mod streams;
-#[cfg(test)]
 mod stretches;
 #[cfg(test)]
 mod trees;

@@ -1,12 +1,10 @@
 //! Runs over streams of memory.
 
-use crate::streams::{Flush, Pace, Reader, Room, Writer};
 use std::alloc::{AllocError, Global};
 use typst_cli::{Failure, run};
+use typst_test_support::streams::{Flush, Full, PACES, Pace, Reader, Room, Writer};
 
 const USAGE: &str = "usage: typst_syn lines | tree | html | edit START END TEXT\n";
-
-const PACES: [Pace; 3] = [Pace::Whole, Pace::Bytes, Pace::Interrupted];
 
 /// The status of a run, and what it passes on to both writers.
 type Answer<'a> = (u8, &'a str, &'a str);
@@ -22,9 +20,7 @@ fn answers(
     let mut output = Writer::new(alloc, output);
     let mut errors = Writer::new(alloc, Room::ample(Pace::Interrupted));
     let got = run(alloc, words, &mut input, &mut output, &mut errors);
-    got == status
-        && output.passed.as_slice() == printed.as_bytes()
-        && errors.passed.as_slice() == said.as_bytes()
+    got == status && output.passed() == printed.as_bytes() && errors.passed() == said.as_bytes()
 }
 
 /// Whether a run ends with one line that tells of a failure.
@@ -78,6 +74,7 @@ const FULL: Room = Room {
     bytes: 0,
     pace: Pace::Whole,
     flush: Flush::Passes,
+    full: Full::Fails,
 };
 
 /// A word, a text that is no UTF-8 or can't be written, and the line that tells of it.
@@ -90,7 +87,7 @@ const FAULTS: [(&str, &[u8], &str); 3] = [
 /// Words are looked at before reading, reading before UTF-8, and UTF-8 before writing.
 #[test]
 fn looks_for_faults_in_order(rt: HostRuntime) {
-    let broken = Reader::failing(b"\xff");
+    let broken = Reader::failing(b"\xff", Pace::Interrupted);
     assert!(rt; answers(rt.alloc(), &["line"], broken, FULL, (2, "", USAGE)));
     assert!(rt; fails(rt.alloc(), "lines", broken, FULL, "read failed\n"));
     for (word, text, line) in FAULTS {
@@ -102,7 +99,10 @@ fn looks_for_faults_in_order(rt: HostRuntime) {
 #[test]
 fn tells_of_a_read_that_fails(rt: HostRuntime) {
     for given in 0..TEXT.len() + 1 {
-        let (input, output) = (Reader::failing(&TEXT[..given]), Room::ample(Pace::Whole));
+        let (input, output) = (
+            Reader::failing(&TEXT[..given], Pace::Interrupted),
+            Room::ample(Pace::Whole),
+        );
         assert!(rt; fails(rt.alloc(), "lines", input, output, "read failed\n"));
     }
 }
@@ -110,7 +110,8 @@ fn tells_of_a_read_that_fails(rt: HostRuntime) {
 /// Whether a run tells of an answer that such a writer doesn't take.
 fn tells_unwritten(alloc: Global, bytes: usize, flush: Flush) -> bool {
     let (input, pace) = (Reader::ending(TEXT, Pace::Whole), Pace::Interrupted);
-    let output = Room { bytes, pace, flush };
+    let mut output = Room::of(bytes, pace);
+    output.flush = flush;
     fails(alloc, "lines", input, output, "write failed\n")
 }
 
@@ -149,7 +150,7 @@ fn reads_long_inputs(rt: HostRuntime) {
 /// Whether the whole line of a failure is passed on; where it can't be, the status stays.
 fn reports(alloc: Global, failure: Failure, room: Room, status: u8, line: &str) -> bool {
     let mut errors = Writer::new(alloc, room);
-    failure.report(&mut errors) == status && errors.passed.as_slice() == line.as_bytes()
+    failure.report(&mut errors) == status && errors.passed() == line.as_bytes()
 }
 
 /// Whether the line of a failure is passed on at each pace.
@@ -167,6 +168,7 @@ const SHORT: Room = Room {
     bytes: 3,
     pace: Pace::Bytes,
     flush: Flush::Passes,
+    full: Full::Fails,
 };
 
 /// A writer that passes nothing on.
@@ -174,6 +176,7 @@ const BROKEN: Room = Room {
     bytes: 1000,
     pace: Pace::Whole,
     flush: Flush::Fails,
+    full: Full::Fails,
 };
 
 /// The failures, with their statuses and their lines.

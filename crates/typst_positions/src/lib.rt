@@ -4,8 +4,6 @@
 pub mod columns;
 pub mod positions;
 mod starts;
-#[cfg(test)]
-mod tests;
 
 pub use columns::Encoding;
 pub use positions::{Position, Positions};

@@ -7,7 +7,7 @@ ghost use Rattle.typst_lines.specs.Classes.{in_line};
 use std::cell::Cell;
 use typst_lines::MathClass::{self, Alphabetic, Closing, Opening};
 use typst_lines::{Classes, UnicodeClasses, is_id_continue, is_id_start, is_ident, is_newline};
-use typst_test_classes::{Counting, Narrow, Wide};
+use typst_test_support::{Counting, Narrow, Wide};
 
 /// Starts an identifier, continues one, is alphabetic, alphanumeric, numeric, of a word.
 type Answers = [bool; 6];

@@ -1,11 +1,13 @@
-//! Tests of `typst_kinds`, `typst_tree` and `typst_highlight`, of tokens, labels, links and raw texts,
-//! through their public calls: of what no clause says and no row can.
+//! Tests of `typst_kinds`, `typst_tree` and `typst_highlight`, of tokens, labels, links and raw texts, of
+//! frames and positions, through their public calls: of what no clause says and no row can.
 #![tactic(auto)]
 
 #[cfg(test)]
 mod chains;
 #[cfg(test)]
 mod classes;
+#[cfg(test)]
+mod frames;
 #[cfg(test)]
 mod html;
 #[cfg(test)]
@@ -20,6 +22,8 @@ mod long_rows;
 mod nodes;
 #[cfg(test)]
 mod numbers;
+#[cfg(test)]
+mod positions;
 #[cfg(test)]
 mod raws;
 #[cfg(test)]

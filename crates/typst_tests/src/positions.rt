@@ -1,7 +1,7 @@
 //! Positions of some texts.
 
-use crate::{Encoding, Position, Positions};
 use std::alloc::AllocError;
+use typst_positions::{Encoding, Position, Positions};
 
 /// A text, what columns are counted in, a line and a column, and the byte there.
 type Row<'a> = (&'a str, Encoding, usize, usize, usize);

@@ -8,8 +8,8 @@ use typst_lines::classes::{Classes, MathClass, ascii_math_class};
 pub struct Narrow;
 
 impl Classes for Narrow {
-    ghost use Rattle.typst_test_classes.specs.Odd.{narrow_classes};
-    ghost use Rattle.typst_test_classes.specs.OddLaws.{IsLawful-narrow_classes};
+    ghost use Rattle.typst_test_support.specs.Odd.{narrow_classes};
+    ghost use Rattle.typst_test_support.specs.OddLaws.{IsLawful-narrow_classes};
 
     ghost classes = { λ _. narrow_classes };
 

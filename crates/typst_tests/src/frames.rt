@@ -1,68 +1,14 @@
-//! Streams at every pace, and what no clause says.
+//! Frames in streams at every pace, and what no clause says of them.
 
 ghost use Rattle.std.specs.Prelude.{◌≤◌, length};
 
-use crate::{End, Frame, FrameReader, write_frame};
 use std::alloc::{AllocError, Global};
-use std::io::{self, ErrorKind, Read, Write};
-
-/// How a stream goes on from call to call.
-#[derive(Debug, Clone, Copy, PartialEq, Eq, Drop)]
-enum Pace {
-    /// All that fits at once.
-    Whole,
-    /// A byte at a time.
-    Bytes,
-    /// A byte at a time, and before each an interruption.
-    Interrupted,
-}
-
-const PACES: [Pace; 3] = [Pace::Whole, Pace::Bytes, Pace::Interrupted];
-
-/// Whether the call is to be interrupted, which every other call is.
-fn interrupts(pace: Pace, is_resumed: &mut bool) -> bool {
-    let interrupts = pace == Pace::Interrupted && !*is_resumed;
-    *is_resumed = interrupts;
-    interrupts
-}
-
-/// How many of so many bytes are given or taken at once.
-fn at_once(pace: Pace, count: usize) -> usize
-    ensures { result ≤ count }
-{
-    match pace {
-        Pace::Whole => count,
-        Pace::Bytes | Pace::Interrupted => count.min(1),
-    }
-}
-
-/// Gives its bytes, and then fails or ends.
-#[derive(Clone, Copy)]
-struct Stream<'a> {
-    bytes: &'a [u8],
-    pace: Pace,
-    fails: bool,
-    is_resumed: bool,
-}
-
-impl Read for Stream<'_> {
-    fn read(&mut self, buf: &mut [u8]) -> io::Result<usize> {
-        if interrupts(self.pace, &mut self.is_resumed) {
-            return Err(io::Error::from(ErrorKind::Interrupted));
-        }
-        if self.bytes.is_empty() && self.fails {
-            return Err(io::Error::from(ErrorKind::BrokenPipe));
-        }
-        let count = at_once(self.pace, self.bytes.len().min(buf.len()));
-        let (given, rest) = self.bytes.split_at(count);
-        buf[..count].copy_from_slice(given);
-        self.bytes = rest;
-        Ok(count)
-    }
-}
+use std::io::{self, Read};
+use typst_frames::{End, Frame, FrameReader, write_frame};
+use typst_test_support::streams::{Full, PACES, Pace, Reader, Room, Writer};
 
 /// Whether the stream has these bodies, and ends so, twice.
-fn has(alloc: Global, stream: Stream<'_>, bodies: &[&[u8]], end: End) -> Result<bool, AllocError> {
+fn has(alloc: Global, stream: Reader<'_>, bodies: &[&[u8]], end: End) -> Result<bool, AllocError> {
     let mut frames = FrameReader::new(alloc, stream)?;
     let mut body = Vec::new(alloc);
     for wanted in bodies {
@@ -143,12 +89,7 @@ const ROWS: [Row<'static>; 30] = [
 fn rows_at_each_pace(rt: HostRuntime) -> Result<(), AllocError> {
     for pace in PACES {
         for (bytes, bodies, end) in ROWS {
-            let stream = Stream {
-                bytes,
-                pace,
-                fails: false,
-                is_resumed: false,
-            };
+            let stream = Reader::ending(bytes, pace);
             assert!(rt; has(rt.alloc(), stream, bodies, end)?, "{bytes:?}");
         }
     }
@@ -163,12 +104,7 @@ fn failed_reads(rt: HostRuntime) -> Result<(), AllocError> {
         b"Content-Length: 2\r\n",
         b"Content-Length: 2\r\n\r\n{",
     ] {
-        let stream = Stream {
-            bytes,
-            pace: Pace::Interrupted,
-            fails: true,
-            is_resumed: false,
-        };
+        let stream = Reader::failing(bytes, Pace::Interrupted);
         assert!(rt; has(rt.alloc(), stream, &[], End::NotRead)?, "{bytes:?}");
     }
     Ok(())
@@ -242,12 +178,7 @@ fn long_heads(rt: HostRuntime) -> Result<(), AllocError> {
             stream.extend_from_slice(b"\r\n")?;
         }
         stream.extend_from_slice(b"Content-Length: 0\r\n\r\n")?;
-        let stream = Stream {
-            bytes: stream.as_slice(),
-            pace: Pace::Whole,
-            fails: false,
-            is_resumed: false,
-        };
+        let stream = Reader::ending(stream.as_slice(), Pace::Whole);
         let agrees = match end {
             End::Clean => has(rt.alloc(), stream, &[b""], end)?,
             _ => has(rt.alloc(), stream, &[], end)?,
@@ -257,51 +188,20 @@ fn long_heads(rt: HostRuntime) -> Result<(), AllocError> {
     Ok(())
 }
 
-/// Takes bytes while it has room for them.
-#[derive(Drop)]
-struct Sink {
-    taken: Vec<u8>,
-    room: usize,
-    pace: Pace,
-    is_resumed: bool,
-}
-
-impl Write for Sink {
-    fn write(&mut self, buf: &[u8]) -> io::Result<usize> {
-        if interrupts(self.pace, &mut self.is_resumed) {
-            return Err(io::Error::from(ErrorKind::Interrupted));
-        }
-        let count = at_once(self.pace, buf.len().min(self.room));
-        self.taken.extend_from_slice(&buf[..count])?;
-        self.room -= count;
-        Ok(count)
-    }
-
-    fn flush(&mut self) -> io::Result<()> {
-        if interrupts(self.pace, &mut self.is_resumed) {
-            return Err(io::Error::from(ErrorKind::Interrupted));
-        }
-        Ok(())
-    }
-}
-
 /// However little is written at a time; where there's no room, a beginning is.
 #[test]
 fn written(rt: HostRuntime) -> Result<(), AllocError> {
     let whole: &[u8] = b"Content-Length: 11\r\n\r\n{\"id\": 100}";
     for pace in PACES {
-        for room in [0, 9, 17, 21, 30, 33, 50] {
-            let mut sink = Sink {
-                taken: Vec::new(rt.alloc()),
-                room,
-                pace,
-                is_resumed: false,
-            };
-            let result = write_frame(&mut sink, b"{\"id\": 100}");
-            assert!(rt; result.is_ok() == (room >= whole.len()), "{room}");
+        for bytes in [0, 9, 17, 21, 30, 33, 50] {
+            let mut room = Room::of(bytes, pace);
+            room.full = Full::TakesNothing;
+            let mut writer = Writer::new(rt.alloc(), room);
+            let result = write_frame(&mut writer, b"{\"id\": 100}");
+            assert!(rt; result.is_ok() == (bytes >= whole.len()), "{bytes}");
             assert!(rt;
-                sink.taken.as_slice() == &whole[..room.min(whole.len())],
-                "{room}"
+                writer.taken() == &whole[..bytes.min(whole.len())],
+                "{bytes}"
             );
         }
     }

@@ -16,13 +16,35 @@ pub enum Pace {
     Interrupted,
 }
 
+/// All paces.
+pub const PACES: [Pace; 3] = [Pace::Whole, Pace::Bytes, Pace::Interrupted];
+
+impl Pace {
+    /// Whether the call is to be interrupted, which every other call is.
+    pub fn interrupts(self, is_resumed: &mut bool) -> bool {
+        let interrupts = self == Pace::Interrupted && !*is_resumed;
+        *is_resumed = interrupts;
+        interrupts
+    }
+
+    /// How many of so many bytes are given or taken at once.
+    pub fn at_once(self, count: usize) -> usize
+        ensures { result ≤ count }
+    {
+        match self {
+            Pace::Whole => count,
+            Pace::Bytes | Pace::Interrupted => count.min(1),
+        }
+    }
+}
+
 /// Gives its bytes, and then fails or ends.
 #[derive(Clone, Copy)]
 pub struct Reader<'a> {
-    pub bytes: &'a [u8],
-    pub pace: Pace,
-    pub fails: bool,
-    pub is_resumed: bool,
+    bytes: &'a [u8],
+    pace: Pace,
+    fails: bool,
+    is_resumed: bool,
 }
 
 impl Reader<'_> {
@@ -37,42 +59,25 @@ impl Reader<'_> {
     }
 
     /// A reader that fails behind the bytes.
-    pub fn failing(bytes: &[u8]) -> Reader<'_> {
+    pub fn failing(bytes: &[u8], pace: Pace) -> Reader<'_> {
         Reader {
             bytes,
-            pace: Pace::Interrupted,
+            pace,
             fails: true,
             is_resumed: false,
         }
     }
 }
 
-/// Whether the call is to be interrupted, which every other call is.
-fn interrupts(pace: Pace, is_resumed: &mut bool) -> bool {
-    let interrupts = pace == Pace::Interrupted && !*is_resumed;
-    *is_resumed = interrupts;
-    interrupts
-}
-
-/// How many of so many bytes are given or taken at once.
-fn at_once(pace: Pace, count: usize) -> usize
-    ensures { result ≤ count }
-{
-    match pace {
-        Pace::Whole => count,
-        Pace::Bytes | Pace::Interrupted => count.min(1),
-    }
-}
-
 impl Read for Reader<'_> {
     fn read(&mut self, buf: &mut [u8]) -> io::Result<usize> {
-        if interrupts(self.pace, &mut self.is_resumed) {
+        if self.pace.interrupts(&mut self.is_resumed) {
             return Err(io::Error::from(ErrorKind::Interrupted));
         }
         if self.bytes.is_empty() && self.fails {
             return Err(io::Error::from(ErrorKind::BrokenPipe));
         }
-        let count = at_once(self.pace, self.bytes.len().min(buf.len()));
+        let count = self.pace.at_once(self.bytes.len().min(buf.len()));
         let (given, rest) = self.bytes.split_at(count);
         buf[..count].copy_from_slice(given);
         self.bytes = rest;
@@ -89,14 +94,13 @@ pub enum Flush {
     Fails,
 }
 
-/// Takes bytes, fails where it has no room, and passes on what it took only where it is flushed.
-#[derive(Drop)]
-pub struct Writer {
-    /// What was passed on.
-    pub passed: Vec<u8>,
-    held: Vec<u8>,
-    room: Room,
-    is_resumed: bool,
+/// What a writer answers where it has no room.
+#[derive(Debug, Clone, Copy, PartialEq, Eq, Drop)]
+pub enum Full {
+    /// It fails.
+    Fails,
+    /// It takes nothing.
+    TakesNothing,
 }
 
 /// What a writer takes.
@@ -106,54 +110,79 @@ pub struct Room {
     pub bytes: usize,
     pub pace: Pace,
     pub flush: Flush,
+    pub full: Full,
 }
 
 impl Room {
-    /// Room for all that is written here.
-    pub fn ample(pace: Pace) -> Room {
+    /// Room for so many bytes, behind which writes fail.
+    pub fn of(bytes: usize, pace: Pace) -> Room {
         Room {
-            bytes: 1000,
+            bytes,
             pace,
             flush: Flush::Passes,
+            full: Full::Fails,
         }
     }
+
+    /// Room for all that tests write.
+    pub fn ample(pace: Pace) -> Room {
+        Room::of(100_000, pace)
+    }
+}
+
+/// Takes bytes while it has room for them, and passes on what it took only where it is flushed.
+#[derive(Drop)]
+pub struct Writer {
+    taken: Vec<u8>,
+    passed: usize,
+    room: Room,
+    is_resumed: bool,
 }
 
 impl Writer {
     /// A writer with this room.
     pub fn new(alloc: Global, room: Room) -> Writer {
         Writer {
-            passed: Vec::new(alloc),
-            held: Vec::new(alloc),
+            taken: Vec::new(alloc),
+            passed: 0,
             room,
             is_resumed: false,
         }
+    }
+
+    /// What it took.
+    pub fn taken(&self) -> &[u8] {
+        self.taken.as_slice()
+    }
+
+    /// What it passed on.
+    pub fn passed(&self) -> &[u8] {
+        &self.taken[..self.passed.min(self.taken.len())]
     }
 }
 
 impl Write for Writer {
     fn write(&mut self, buf: &[u8]) -> io::Result<usize> {
-        if interrupts(self.room.pace, &mut self.is_resumed) {
+        if self.room.pace.interrupts(&mut self.is_resumed) {
             return Err(io::Error::from(ErrorKind::Interrupted));
         }
-        if self.room.bytes == 0 && !buf.is_empty() {
+        if self.room.bytes == 0 && !buf.is_empty() && self.room.full == Full::Fails {
             return Err(io::Error::from(ErrorKind::BrokenPipe));
         }
-        let count = at_once(self.room.pace, buf.len().min(self.room.bytes));
-        self.held.extend_from_slice(&buf[..count])?;
+        let count = self.room.pace.at_once(buf.len().min(self.room.bytes));
+        self.taken.extend_from_slice(&buf[..count])?;
         self.room.bytes -= count;
         Ok(count)
     }
 
     fn flush(&mut self) -> io::Result<()> {
-        if interrupts(self.room.pace, &mut self.is_resumed) {
+        if self.room.pace.interrupts(&mut self.is_resumed) {
             return Err(io::Error::from(ErrorKind::Interrupted));
         }
         if self.room.flush == Flush::Fails {
             return Err(io::Error::from(ErrorKind::BrokenPipe));
         }
-        self.passed.extend_from_slice(self.held.as_slice())?;
-        self.held.clear();
+        self.passed = self.taken.len();
         Ok(())
     }
 }
