@@ -1,7 +1,7 @@
 use Rattle.std.proofs.Common.{◌≡◌, ◌+◌, ◌<◌, ◌++◌, drop}
 use Rattle.typst_parser.specs.Tree.{more, none, forest, count, nodes, saturated}
 use Rattle.typst_cli.specs.TreeLines.{node_lines}
-use Rattle.typst_cli.proofs.tree.+push_node.Given as goal
+use Rattle.typst_cli.proofs.tree_lines.+push_node.Given as goal
 
 abbrev pub decreases-push_node : goal.decreases-push_node
 decreases-push_node l = nodes l.node.now
