@@ -2,7 +2,7 @@
 use Rattle.std.proofs.Common.{◌≡◌, Bool, Option, sym, subst}
 use Rattle.typst_language.specs.Meaning.{Level}
 use Rattle.typst_language.specs.Shape.{Shape}
-use Rattle.typst_lookahead.specs.View.{View, Does}
+use Rattle.typst_language.specs.View.{View, Does}
 use Rattle.typst_code.specs.declared.heads.CodeHead.{CodeHead}
 use Rattle.typst_code.specs.declared.heads.CodeTail.{CodeTail}
 use Rattle.typst_code.specs.Expressions.{code_by, tail_by}

@@ -12,20 +12,20 @@ use Rattle.typst_language.specs.Meaning.{Guess, Level, Outcome, asked, before, e
 use Rattle.typst_language.specs.Nodes.{is_leaf}
 use Rattle.typst_language.specs.Ask.{only_looks}
 use Rattle.typst_language.specs.Log.{logged}
-use Rattle.typst_lookahead.specs.Noted.{hull_in}
+use Rattle.typst_language.specs.Noted.{hull_in}
 use Rattle.typst_language.specs.Point.{Point}
-use Rattle.typst_lookahead.specs.Remembered.{Comes, LooksIn}
+use Rattle.typst_language.specs.Remembered.{Comes, LooksIn}
 use Rattle.typst_language.specs.Shape.{after_shape}
 use Rattle.typst_language.specs.Steps.{eat, eat_making, node, within}
 use Rattle.typst_language.specs.Syntax.{Parser, ◌>>◌}
 use Rattle.typst_language.specs.Syntax.Parser.{gives, next, wraps}
 use Rattle.typst_language.specs.Syntax.Begin.{at_token}
-use Rattle.typst_lookahead.specs.View.{View, Fits, Found, behind_paren, guess_at, looked_too}
-use Rattle.typst_lookahead.specs.View.{begun as guess_begun}
-use Rattle.typst_lookahead.proofs.Runs.{asked-same, shape-held, shape-known}
-use Rattle.typst_lookahead.proofs.Either.{Back, goes-nowhere, here-looks, paren-looks}
-use Rattle.typst_lookahead.proofs.Knowing.{looks-in, looks-more, looks-within, same-looks}
-use Rattle.typst_lookahead.proofs.Tails.{AllIn, Is, hulls, hulls-looks, in-both, in-first, in-second, is-gives, is-next, is-peek, is-scoped, is-self, is-takes, is-wraps, looks-hulls}
+use Rattle.typst_language.specs.View.{View, Fits, Found, behind_paren, guess_at, looked_too}
+use Rattle.typst_language.specs.View.{begun as guess_begun}
+use Rattle.typst_language.proofs.Runs.{asked-same, shape-held, shape-known}
+use Rattle.typst_language.proofs.Either.{Back, goes-nowhere, here-looks, paren-looks}
+use Rattle.typst_language.proofs.Knowing.{looks-in, looks-more, looks-within, same-looks}
+use Rattle.typst_language.proofs.Tails.{AllIn, Is, hulls, hulls-looks, in-both, in-first, in-second, is-gives, is-next, is-peek, is-scoped, is-self, is-takes, is-wraps, looks-hulls}
 use Rattle.typst_code.specs.Groups.{group, group_rest, group_shape}
 use Rattle.typst_code.specs.Parens.{after_paren, as_group, behind_group, guess_of}
 

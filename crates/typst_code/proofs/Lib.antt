@@ -6,9 +6,3 @@ pub mod PatternFirsts
 pub mod Begins
 pub mod Firsts
 pub mod Guesses
--- What the crates above name of those below.
-pub use Rattle.typst_lookahead.proofs.Blocks
-pub use Rattle.typst_lookahead.proofs.Checkpoints
-pub use Rattle.typst_lookahead.proofs.Knowing
-pub use Rattle.typst_lookahead.proofs.Logs
-pub use Rattle.typst_lookahead.proofs.Steps

@@ -15,9 +15,9 @@ use Rattle.typst_language.specs.Sound.{Sound}
 use Rattle.typst_language.specs.Steps.{eat, eat_making}
 use Rattle.typst_language.specs.Syntax.{Parser}
 use Rattle.typst_language.specs.Syntax.Parser.{next}
-use Rattle.typst_lookahead.specs.View.{View, Fits, at}
+use Rattle.typst_language.specs.View.{View, Fits, at}
 use Rattle.typst_language.specs.declared.reading.Reading.{Reading}
-use Rattle.typst_lookahead.proofs.Begins.{Begins, begins-eat, begins-next, begins-then}
+use Rattle.typst_language.proofs.Begins.{Begins, begins-eat, begins-next, begins-then}
 use Rattle.typst_language.proofs.Ends.{ahead-read, hand-takes}
 use Rattle.typst_language.proofs.Leaves.{text-made}
 use Rattle.typst_language.proofs.TokenTexts.{text-token}

@@ -10,7 +10,7 @@ use Rattle.typst_language.specs.Shape.Shape.{keeps}
 use Rattle.typst_language.specs.Syntax.{Parser, ◌>>=◌, ◌>>◌}
 use Rattle.typst_language.specs.Syntax.Parser.{gives, pick}
 use Rattle.typst_language.specs.Steps.{peek, eat, eat_if, node}
-use Rattle.typst_lookahead.specs.Expected.{expects}
+use Rattle.typst_language.specs.Expected.{expects}
 use Rattle.typst_code.specs.declared.bindings.Bound.{Bound}
 use Rattle.typst_code.specs.declared.bindings.Bound.TheVariants as bound
 use Rattle.typst_code.specs.Parts.{expression_if}

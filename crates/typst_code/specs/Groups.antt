@@ -10,7 +10,7 @@ use Rattle.typst_language.specs.Shape.Shape.{keeps, holds}
 use Rattle.typst_language.specs.Syntax.{Parser, ◌>>=◌, ◌>>◌}
 use Rattle.typst_language.specs.Syntax.Parser.{gives, pick, repeat}
 use Rattle.typst_language.specs.Steps.{peek, eat, eat_if, unexpected, within, node}
-use Rattle.typst_lookahead.specs.Expected.{seeing}
+use Rattle.typst_language.specs.Expected.{seeing}
 use Rattle.typst_markup.specs.Markup.{at_newline}
 use Rattle.typst_markup.specs.Starts.{begins_code}
 use Rattle.typst_code.specs.declared.listing.Items.{Items}

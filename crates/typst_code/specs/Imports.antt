@@ -9,7 +9,7 @@ use Rattle.typst_language.specs.Shape.Shape.{keeps}
 use Rattle.typst_language.specs.Syntax.{Parser, ◌>>=◌, ◌>>◌}
 use Rattle.typst_language.specs.Syntax.Parser.{gives, pick, repeat}
 use Rattle.typst_language.specs.Steps.{peek, eat, eat_if, unexpected, within, node}
-use Rattle.typst_lookahead.specs.Expected.{expect_identifier}
+use Rattle.typst_language.specs.Expected.{expect_identifier}
 use Rattle.typst_markup.specs.Markup.{at_newline}
 use Rattle.typst_code.specs.Parts.{code_expression, separator}
 

@@ -13,13 +13,6 @@ pub mod Expressions
 pub mod Outside
 pub mod Stops
 -- What the crates above name of those below.
-pub use Rattle.typst_lookahead.specs.Bytes
-pub use Rattle.typst_lookahead.specs.Checkpoint
-pub use Rattle.typst_lookahead.specs.Cursor
-pub use Rattle.typst_lookahead.specs.Expected
-pub use Rattle.typst_lookahead.specs.Noted
-pub use Rattle.typst_lookahead.specs.Remembered
-pub use Rattle.typst_lookahead.specs.View
 pub use Rattle.typst_markup.specs.Attachments
 pub use Rattle.typst_markup.specs.Delimited
 pub use Rattle.typst_markup.specs.Embedded

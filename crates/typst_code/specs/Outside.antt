@@ -4,7 +4,7 @@ use Rattle.std.specs.declared.alloc.AllocError.{AllocError}
 use Rattle.typst_language.specs.declared.calls.Block.TheVariants as block
 use Rattle.typst_language.specs.Meaning.{Level}
 use Rattle.typst_language.specs.Syntax.{Parser}
-use Rattle.typst_lookahead.specs.View.{View, Frame, Fills, ReadsBlock, Reads, ReadsBy}
+use Rattle.typst_language.specs.View.{View, Frame, Fills, ReadsBlock, Reads, ReadsBy}
 use Rattle.typst_markup.specs.Markup.{content_block}
 use Rattle.typst_lines.specs.Place.{Place}
 use Rattle.typst_language.specs.declared.reading.Reading.{Reading}

@@ -9,7 +9,7 @@ use Rattle.typst_language.specs.Shape.{encloses}
 use Rattle.typst_language.specs.Syntax.{Parser, ◌>>=◌, ◌>>◌}
 use Rattle.typst_language.specs.Syntax.Parser.{gives, pick, repeat}
 use Rattle.typst_language.specs.Steps.{peek, eat, eat_if, unexpected, within, node}
-use Rattle.typst_lookahead.specs.Expected.{seeing}
+use Rattle.typst_language.specs.Expected.{seeing}
 use Rattle.typst_code.specs.Parts.{code_expression, separator, in_parens}
 use Rattle.typst_code.specs.Patterns.{deeper_pattern, name_of, named_shape, sink, sink_shape}
 

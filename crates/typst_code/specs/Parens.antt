@@ -12,7 +12,7 @@ use Rattle.typst_language.specs.Meaning.{Guess, Level, run, start_point}
 use Rattle.typst_language.specs.declared.reading.AtNewline.TheVariants as newline
 use Rattle.typst_language.specs.declared.reading.Reading.{Reading}
 use Rattle.typst_lines.specs.Place.{Place}
-use Rattle.typst_lookahead.specs.Expected.{expects}
+use Rattle.typst_language.specs.Expected.{expects}
 use Rattle.typst_language.specs.declared.calls.Behind.{Behind}
 use Rattle.typst_language.specs.declared.calls.Behind.TheVariants as behind
 use Rattle.typst_code.specs.Closures.{closure_shape}

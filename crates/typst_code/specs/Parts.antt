@@ -9,7 +9,7 @@ use Rattle.typst_language.specs.Syntax.{Parser, ◌>>=◌}
 use Rattle.typst_language.specs.Syntax.Parser.{gives, pick}
 use Rattle.typst_language.specs.Steps.{peek}
 use Rattle.typst_language.specs.Depth.{deeper}
-use Rattle.typst_lookahead.specs.Expected.{expects}
+use Rattle.typst_language.specs.Expected.{expects}
 
 -- an expression with all operators, one level deeper
 abbrev pub code_expression : Parser (Unit {0})

@@ -17,7 +17,7 @@ use Rattle.typst_language.specs.Syntax.{Parser, ◌>>=◌, ◌>>◌}
 use Rattle.typst_language.specs.Syntax.Parser.{gives, pick, repeat, either}
 use Rattle.typst_language.specs.Steps.{peek, eat, eat_if, eat_making, unexpected, expected, within, node}
 use Rattle.typst_language.specs.Depth.{deeper}
-use Rattle.typst_lookahead.specs.Expected.{seeing}
+use Rattle.typst_language.specs.Expected.{seeing}
 use Rattle.typst_code.specs.declared.parts_listing.Parts.{Parts}
 use Rattle.typst_code.specs.Parts.{atomic_expression, separator, in_parens}
 

@@ -14,7 +14,7 @@ use Rattle.typst_language.specs.Syntax.{Parser, ◌>>=◌, ◌>>◌}
 use Rattle.typst_language.specs.Syntax.Parser.{gives, pick}
 use Rattle.typst_language.specs.Steps.{peek, eat, eat_if, eat_making, expect, expected, node, grow, nest, read_block}
 use Rattle.typst_language.specs.Depth.{deeper}
-use Rattle.typst_lookahead.specs.Expected.{expect_identifier}
+use Rattle.typst_language.specs.Expected.{expect_identifier}
 use Rattle.typst_markup.specs.Starts.{begins_code}
 use Rattle.typst_code.specs.Arguments.{arguments}
 use Rattle.typst_code.specs.Parts.{code_expression, expression_if}

@@ -1,15 +1,14 @@
 //! `let`.
 
 ghost use Rattle.std.specs.Prelude.{◌≡◌, OnOk};
-ghost use Rattle.typst_lookahead.specs.View.{Means, Rewrapped};
+ghost use Rattle.typst_language.specs.View.{Means, Rewrapped};
 ghost use Rattle.typst_code.specs.Bindings as spec;
 
 use crate::parameters::params;
 use crate::parts::expression_if;
 use std::alloc::AllocError;
 use typst_kinds::{Names, SyntaxKind};
-use typst_language::{Change, Role};
-use typst_lookahead::{Levels, Parser, deeper_pattern};
+use typst_language::{Change, Levels, Parser, Role, deeper_pattern};
 
 /// What is bound.
 #[derive(Debug, Clone, Copy, PartialEq, Eq)]

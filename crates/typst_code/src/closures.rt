@@ -1,14 +1,13 @@
 //! Closures, and underscores.
 
 ghost use Rattle.std.specs.Prelude.{◌≡◌, OnOk};
-ghost use Rattle.typst_lookahead.specs.View.{Means, Rewrapped};
+ghost use Rattle.typst_language.specs.View.{Means, Rewrapped};
 ghost use Rattle.typst_code.specs.Closures as spec;
 
 use crate::parts::code_expression;
 use std::alloc::AllocError;
 use typst_kinds::SyntaxKind;
-use typst_language::{Behind, Change};
-use typst_lookahead::{Levels, Parser};
+use typst_language::{Behind, Change, Levels, Parser};
 
 /// What comes behind a name.
 fn behind_name(kind: SyntaxKind) -> Behind

@@ -2,7 +2,7 @@
 
 ghost use Rattle.std.specs.Prelude.{◌≡◌, IfOk, IfSome, false};
 ghost use Rattle.typst_kinds.specs.Kinds.{is_error};
-ghost use Rattle.typst_lookahead.specs.View.{Means, MeansBy, bare_growth};
+ghost use Rattle.typst_language.specs.View.{Means, MeansBy, bare_growth};
 ghost use Rattle.typst_code.specs.Expressions as spec;
 ghost use Rattle.typst_code.specs.Outside.{MeansAround, MeansAroundBy};
 
@@ -19,7 +19,7 @@ use crate::statements::{
 use crate::{let_binding, named, placeholder};
 use std::alloc::AllocError;
 use typst_kinds::{Assoc, BinOp, SyntaxKind, UnOp};
-use typst_lookahead::{Levels, Parser, deeper_code_expr};
+use typst_language::{Levels, Parser, deeper_code_expr};
 use typst_markup::equation;
 
 /// An operator and its operand.

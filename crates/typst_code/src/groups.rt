@@ -5,15 +5,14 @@ ghost use Rattle.typst_kinds.specs.Kinds.{is_error};
 ghost use Rattle.typst_language.specs.Shape.Shape.{holds};
 ghost use Rattle.typst_language.specs.Syntax.Parser.{repeat};
 ghost use Rattle.typst_language.specs.Changes.{IsFine, meant};
-ghost use Rattle.typst_lookahead.specs.View.{Means, Rewrapped};
+ghost use Rattle.typst_language.specs.View.{Means, Rewrapped};
 ghost use Rattle.typst_code.specs.Groups as spec;
 
 use crate::listing::Items;
 use crate::{code_expression, separator};
 use std::alloc::AllocError;
 use typst_kinds::{Names, SyntaxKind};
-use typst_language::{AtNewline, Change};
-use typst_lookahead::{Levels, Parser};
+use typst_language::{AtNewline, Change, Levels, Parser};
 use typst_markup::{Key, begins_code, key_of};
 
 /// Whether an item begins at this token.

@@ -2,14 +2,13 @@
 
 ghost use Rattle.std.specs.Prelude.{◌≡◌, OnOk};
 ghost use Rattle.typst_language.specs.Syntax.Parser.{repeat};
-ghost use Rattle.typst_lookahead.specs.View.{Means, MeansBy, Rewrapped};
+ghost use Rattle.typst_language.specs.View.{Means, MeansBy, Rewrapped};
 ghost use Rattle.typst_code.specs.Imports as spec;
 
 use crate::{code_expression, separator};
 use std::alloc::AllocError;
 use typst_kinds::SyntaxKind;
-use typst_language::{AtNewline, Change};
-use typst_lookahead::{Levels, Parser};
+use typst_language::{AtNewline, Change, Levels, Parser};
 
 /// Reads a dot and a name; answers whether they came.
 fn path_turn<L: Levels>(g: &L, p: &mut Parser<'_>) -> Result<bool, AllocError>

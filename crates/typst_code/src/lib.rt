@@ -29,7 +29,6 @@ pub use parts_listing::Parts;
 pub use patterns::{destructuring, pattern};
 pub use sequences::{code_block, code_exprs};
 pub use stops::CodeStop;
-pub use typst_lookahead::{Grammar, Levels, Log, Parser};
 pub use typst_markup::{
     MathStop, Stop, content_block, markup_expr, markup_run, markup_turn, math_expr, math_exprs,
 };

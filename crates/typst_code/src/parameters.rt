@@ -3,7 +3,7 @@
 ghost use Rattle.std.specs.Prelude.{◌≡◌, is_some, map};
 ghost use Rattle.typst_language.specs.Shape.{seen};
 ghost use Rattle.typst_language.specs.Syntax.Parser.{repeat};
-ghost use Rattle.typst_lookahead.specs.View.{Means};
+ghost use Rattle.typst_language.specs.View.{Means};
 ghost use Rattle.typst_code.specs.Params as spec;
 ghost use Rattle.typst_code.specs.Patterns.{name_of, name_of_one};
 
@@ -11,8 +11,7 @@ use crate::parts::{code_expression, separator};
 use crate::patterns::{sink, wrap_named, wrap_sink};
 use std::alloc::AllocError;
 use typst_kinds::{Names, SyntaxKind, set};
-use typst_language::{AtNewline, Change, Role};
-use typst_lookahead::{Levels, Parser, deeper_pattern};
+use typst_language::{AtNewline, Change, Levels, Parser, Role, deeper_pattern};
 use typst_tree::SyntaxNode;
 
 /// Whether the first of some nodes is a name.

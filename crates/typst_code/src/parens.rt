@@ -1,7 +1,7 @@
 //! What begins with a paren: a group, a closure or an assignment.
 
 ghost use Rattle.std.specs.Prelude.{◌≡◌};
-ghost use Rattle.typst_lookahead.specs.View.{Means};
+ghost use Rattle.typst_language.specs.View.{Means};
 ghost use Rattle.typst_kinds.specs.declared.kind.SyntaxKind.TheVariants as kind;
 ghost use Rattle.typst_code.specs.Outside.{MeansAround};
 ghost use Rattle.typst_code.specs.Parens as spec;
@@ -10,8 +10,7 @@ use crate::groups::group;
 use crate::{destructuring, expression_if, params, wrap_closure};
 use std::alloc::AllocError;
 use typst_kinds::{Names, SyntaxKind};
-use typst_language::{Behind, Role};
-use typst_lookahead::{Levels, Parser};
+use typst_language::{Behind, Levels, Parser, Role};
 
 /// What comes behind a group of this kind.
 fn behind_group(group: SyntaxKind, kind: SyntaxKind) -> Behind

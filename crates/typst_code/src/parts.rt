@@ -1,11 +1,11 @@
 //! What patterns have in common with the rest of code.
 
-ghost use Rattle.typst_lookahead.specs.View.{Means};
+ghost use Rattle.typst_language.specs.View.{Means};
 ghost use Rattle.typst_code.specs.Parts as spec;
 
 use std::alloc::AllocError;
 use typst_kinds::SyntaxKind;
-use typst_lookahead::{Levels, Parser, deeper_code_expr};
+use typst_language::{Levels, Parser, deeper_code_expr};
 
 /// Reads an expression with all its operators.
 pub fn code_expression<L: Levels>(g: &L, p: &mut Parser<'_>) -> Result<(), AllocError>

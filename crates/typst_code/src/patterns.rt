@@ -4,15 +4,14 @@ ghost use Rattle.std.specs.Prelude.{◌≡◌, IfOk, OnOk, map};
 ghost use Rattle.typst_language.specs.Shape.{seen};
 ghost use Rattle.typst_language.specs.Shape.Shape.{keeps};
 ghost use Rattle.typst_language.specs.Syntax.Parser.{repeat};
-ghost use Rattle.typst_lookahead.specs.View.{Means, Rewrapped};
+ghost use Rattle.typst_language.specs.View.{Means, Rewrapped};
 ghost use Rattle.typst_code.specs.Patterns as spec;
 
 use crate::parts::{atomic_expression, separator};
 use crate::parts_listing::Parts;
 use std::alloc::{AllocError, Global};
 use typst_kinds::{Names, SyntaxKind, Text, set};
-use typst_language::{AtNewline, Change, Role};
-use typst_lookahead::{Levels, Parser, deeper_pattern};
+use typst_language::{AtNewline, Change, Levels, Parser, Role, deeper_pattern};
 use typst_tree::SyntaxNode;
 
 /// The name that the first of some nodes is.

@@ -3,7 +3,7 @@
 ghost use Rattle.std.specs.Prelude.{◌≡◌};
 ghost use Rattle.typst_language.specs.Steps.{read_block};
 ghost use Rattle.typst_language.specs.Syntax.Parser.{repeat};
-ghost use Rattle.typst_lookahead.specs.View.{Means, MeansBy, MeansLast};
+ghost use Rattle.typst_language.specs.View.{Means, MeansBy, MeansLast};
 ghost use Rattle.typst_code.specs.Sequences as spec;
 ghost use Rattle.typst_code.specs.Outside.{MeansAround};
 ghost use Rattle.typst_code.specs.Stops.{stops_at};
@@ -12,8 +12,7 @@ use crate::code_expression;
 use crate::stops::CodeStop;
 use std::alloc::AllocError;
 use typst_kinds::{SyntaxKind, SyntaxMode};
-use typst_language::{AtNewline, Block, Reading};
-use typst_lookahead::{Levels, Parser, Stops, too_deep};
+use typst_language::{AtNewline, Block, Levels, Parser, Reading, Stops, too_deep};
 use typst_markup::{begins_code, content_block};
 
 /// Reads statements up to a stop.

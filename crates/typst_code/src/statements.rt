@@ -3,7 +3,7 @@
 ghost use Rattle.std.specs.Prelude.{◌≡◌, OnOk, IfOk, IfSome, false};
 ghost use Rattle.typst_kinds.specs.Kinds.{is_error};
 ghost use Rattle.typst_language.specs.Hand.{told};
-ghost use Rattle.typst_lookahead.specs.View.{Means, MeansBy, Rewrapped, bare_growth};
+ghost use Rattle.typst_language.specs.View.{Means, MeansBy, Rewrapped, bare_growth};
 ghost use Rattle.typst_code.specs.Statements as spec;
 ghost use Rattle.typst_code.specs.Outside.{MeansAround, MeansAroundBy};
 
@@ -12,8 +12,7 @@ use crate::sequences::{read_code, read_content};
 use crate::{code_expression, expression_if};
 use std::alloc::AllocError;
 use typst_kinds::{Names, SyntaxKind, set};
-use typst_language::Role;
-use typst_lookahead::{Levels, Parser, deeper_code_expr, deeper_pattern};
+use typst_language::{Levels, Parser, Role, deeper_code_expr, deeper_pattern};
 use typst_markup::begins_code;
 
 /// `{ .. }` or `[ .. ]`

@@ -5,7 +5,7 @@ ghost use Rattle.typst_code.specs.Sequences as spec;
 ghost use Rattle.typst_code.specs.Stops.{stops_at};
 
 use typst_kinds::SyntaxKind;
-use typst_lookahead::{Stops, is_end};
+use typst_language::{Stops, is_end};
 
 /// At which tokens a sequence stops.
 #[derive(Debug, Clone, Copy, PartialEq, Eq)]

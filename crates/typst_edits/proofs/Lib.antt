@@ -20,25 +20,18 @@
 --   block_worth_law              BlockWorth
 --   part_law                     BlockPart
 --   splice_law                   Splice: of any asks; BlockSplice: of a block; RunSplice: of pieces of a text's run; InnerSplice: of pieces of a block's; PieceAsks: what is asked of them; Sides: what stands behind a note; Seen: what is noted was looked at; Forward: trivia look ahead alone
---   splice_law                   Splice: of any asks; BlockSplice: of a block; Seen: what is noted was looked at
 --   one_reading_law              OneReading; KeptNodes: in the old tree
 --   block_test_law               BlockTest: entries and the block by itself; EntryNumbers: a block's two notes among the entries; CandidateBlocks: the candidate's node in a hole; BlockPlaces: the block there, by bytes; SecondPlaces: one that a reading that was given up covers
---   one_reading_law              OneReading
 --   pieces_test_law              PiecesTest
 --   inner_pieces_test_law        InnerPiecesTest
 --   run_test_law                 RunTest; RunOver: the end of a run
 --   served_law                   Served: any run; RootServed: of a whole text; InnerServed: of a content block
 --   run_numbers_law              RunNumbers: of a whole text; InnerRunNumbers: of a content block; FoundPieces: of any run; NestedPieces: of nested notes
 --   path_law                     Walk: the steps; Placed: what stands before a block
---   root_pieces_law              RootPieces
 --   root_worth_law               RootWorth
 --   root_pieces_law              RootPieces; RootCandidates: its candidates begin well; CandidateEnds: of any run; QuietTrivia: what is known of trivia clings; MarkupCandidates: where candidates come from; InnerCuts: the cuts of a run
 --   inner_candidate_law          InnerCandidates; MarkupCandidates: from which run a candidate comes; InnerCuts: the cuts of a block's run; CandidateEnds: where a stretch of children ends
---   pieces_worth_law             RootPieces: at the root; InnerPieces: in a content block
---   resume_law                   Resumed: pieces read again
 --   pieces_worth_law             RootPieces: at the root; InnerPieces: in a content block; RootCandidates: candidates at the root begin well; CandidateEnds: of any run; QuietTrivia: what is known of trivia clings; MarkupCandidates: where candidates come from; InnerCuts: the cuts of a run
---   inner_candidate_law          InnerCandidates; MarkupCandidates: from which run a candidate comes; InnerCuts: the cuts of a block's run; CandidateEnds: where a stretch of children ends
---   root_worth_law               RootWorth
 --   inner_worth_law              InnerWorth
 --   candidate_runs_law           RootRuns: at the root; InnerRuns: in a content block; CandidateRuns: of any run; MarkupPlaces: the node of a block in whose markup a candidate stands; SecondBlocks: it is a unit's; Deepest: a level is left in it; TokenNodes: its brackets are no markup; StartBytes: where it begins
 --   candidate_law                CandidateWorth: each case of the test
@@ -174,6 +167,6 @@ pub mod RootServed
 pub mod InnerServed
 -- What the crates above name of those below.
 pub use Rattle.typst_grammar.proofs.AtLevels
-pub use Rattle.typst_grammar.proofs.Knowing
-pub use Rattle.typst_grammar.proofs.Steps
+pub use Rattle.typst_language.proofs.Knowing
+pub use Rattle.typst_language.proofs.Steps
 pub use Rattle.typst_grammar.proofs.Whole

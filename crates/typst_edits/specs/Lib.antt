@@ -73,11 +73,11 @@ pub mod CandidateRuns
 pub mod InnerPiecesTest
 pub mod PiecesTest
 -- What the crates above name of those below.
-pub use Rattle.typst_grammar.specs.Bytes as Bytes-of-lookahead
+pub use Rattle.typst_language.specs.Bytes as Bytes-of-language
 pub use Rattle.typst_grammar.specs.Grammar
 pub use Rattle.typst_grammar.specs.Part
 pub use Rattle.typst_grammar.specs.Pieces
-pub use Rattle.typst_grammar.specs.View
+pub use Rattle.typst_language.specs.View
 pub use Rattle.typst_grammar.specs.declared.part.PieceReader
 pub use Rattle.typst_grammar.specs.declared.part.ReadPart
 pub use Rattle.typst_grammar.specs.declared.part.RunKind

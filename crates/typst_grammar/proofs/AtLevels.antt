@@ -33,10 +33,10 @@ use Rattle.typst_language.specs.Sound.{Sound}
 use Rattle.typst_language.specs.Syntax.{Parser, ◌>>◌}
 use Rattle.typst_language.proofs.Blind.{run-blind}
 use Rattle.typst_language.proofs.Knot.{sound-level}
-use Rattle.typst_code.proofs.Knowing.{knows-none}
-use Rattle.typst_code.specs.Cursor.{IsStart}
-use Rattle.typst_code.specs.View.{View, Runs, Goes, Does, Makes, Calls, Frame, Fills, Fits, Bare, at}
-use Rattle.typst_code.specs.Noted.{listed}
+use Rattle.typst_language.proofs.Knowing.{knows-none}
+use Rattle.typst_language.specs.Cursor.{IsStart}
+use Rattle.typst_language.specs.View.{View, Runs, Goes, Does, Makes, Calls, Frame, Fills, Fits, Bare, at}
+use Rattle.typst_language.specs.Noted.{listed}
 use Rattle.typst_code.specs.Outside.{Blocks}
 use Rattle.typst_grammar.specs.Grammar.{rules, production, meaning, level_at, max_depth, start_of, parsed, parsed_in, whole, whole_code, whole_math, whole_in, log}
 use Rattle.typst_grammar.specs.Read.{IsParsed}

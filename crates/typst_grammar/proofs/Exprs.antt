@@ -13,7 +13,7 @@ use Rattle.typst_language.specs.Knot.{meaning_of}
 use Rattle.typst_language.specs.declared.reading.AtNewline.TheVariants.{Continue}
 use Rattle.typst_language.specs.Syntax.{◌>>◌}
 use Rattle.typst_language.specs.Syntax.Parser.{gives, repeat}
-use Rattle.typst_code.specs.Expected.{expect_identifier}
+use Rattle.typst_language.specs.Expected.{expect_identifier}
 use Rattle.typst_code.specs.Expressions.{binary_expr, call_tail, code_expr, code_primary, code_tail, code_tail_turn, direct_field, not_in, tail_by}
 use Rattle.typst_language.specs.Hand.{Hand, told}
 use Rattle.typst_language.specs.Point.{Point, pending}

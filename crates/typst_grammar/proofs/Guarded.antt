@@ -21,7 +21,7 @@ use Rattle.typst_code.specs.Closures.{right_side, headed, name_shape, underscore
 use Rattle.typst_language.specs.Depth.{anywhere, skip_one, too_deep, deeper, is_end}
 use Rattle.typst_code.specs.Embedded.{embedded_end, embedded_expr, embedded}
 use Rattle.typst_code.specs.Equations.{math_expression, math_item, math_turn, math_exprs, math, between_dollars, equation}
-use Rattle.typst_code.specs.Expected.{expects, expect_identifier, seeing}
+use Rattle.typst_language.specs.Expected.{expects, expect_identifier, seeing}
 use Rattle.typst_code.specs.Markup.{note_piece, markup_turn, markup_exprs, markup_run, markup, markup_is_empty, delimited, heading, item, term_item, direct_content, reference, markup_head, markup_by, markup_expr}
 use Rattle.typst_code.specs.Params.{defaulted, param, param_turn, params}
 use Rattle.typst_code.specs.Parts.{expression_if, separator}

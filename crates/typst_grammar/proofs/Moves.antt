@@ -9,7 +9,7 @@ use Rattle.typst_language.specs.Point.{Point}
 use Rattle.typst_language.specs.Hand.{Hand, AtHand, told}
 use Rattle.typst_language.specs.Shape.{Making, Shape}
 use Rattle.typst_language.specs.Shape.Making.{itself, of_kind, surprise}
-use Rattle.typst_code.specs.Expected.{seeing}
+use Rattle.typst_language.specs.Expected.{seeing}
 use Rattle.typst_language.specs.Syntax.{Begin, Parser}
 use Rattle.typst_language.specs.Syntax.Begin.{at_token}
 use Rattle.typst_language.specs.Syntax.Op.{hand, takes}

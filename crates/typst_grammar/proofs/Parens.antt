@@ -12,7 +12,7 @@ use Rattle.typst_language.specs.Calls.{Call}
 use Rattle.typst_language.specs.declared.calls.Role.{Role}
 use Rattle.typst_code.specs.declared.listing.Items.{Items}
 use Rattle.typst_code.specs.Closures.{closure_shape}
-use Rattle.typst_code.specs.Expected.{expects}
+use Rattle.typst_language.specs.Expected.{expects}
 use Rattle.typst_code.specs.Groups.{group, group_kind, group_rest, group_shape, list_kind}
 use Rattle.typst_language.specs.Hand.{Hand, AtHand, told}
 use Rattle.typst_code.specs.Params.{params}

@@ -12,8 +12,8 @@ use Rattle.typst_language.specs.Point.{Point}
 use Rattle.typst_language.specs.Shape.{hinted}
 use Rattle.typst_language.specs.Syntax.{Parser}
 use Rattle.typst_language.proofs.Blind.{run-blind}
-use Rattle.typst_code.proofs.Knowing.{knows-none}
-use Rattle.typst_code.specs.View.{View, Runs, Goes, Bare, Loose, at}
+use Rattle.typst_language.proofs.Knowing.{knows-none}
+use Rattle.typst_language.specs.View.{View, Runs, Goes, Bare, Loose, at}
 use Rattle.typst_grammar.specs.Grammar.{meaning}
 use Rattle.typst_grammar.specs.Part.{IsPart, IsResumed, IsGiven}
 use Rattle.typst_grammar.specs.declared.part.ReadPart.{ReadPart}

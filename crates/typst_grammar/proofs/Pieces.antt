@@ -27,14 +27,14 @@ use Rattle.typst_language.specs.Syntax.Parser.{gives, does, next, pick}
 use Rattle.typst_language.proofs.Blind.{run-blind}
 use Rattle.typst_language.proofs.Ends.{hand-takes, hand-again}
 use Rattle.typst_language.proofs.Places.{moved-ahead, moved-sum}
-use Rattle.typst_code.proofs.Blocks.{fills-apart, sound-apart}
-use Rattle.typst_code.specs.Bytes.{bytes_left}
+use Rattle.typst_language.proofs.Blocks.{fills-apart, sound-apart}
+use Rattle.typst_language.specs.Bytes.{bytes_left}
 use Rattle.typst_language.proofs.Within.{within-run}
 use Rattle.typst_language.specs.Sound.{Sound}
-use Rattle.typst_code.proofs.Logs.{logged-append, logged-shift}
-use Rattle.typst_code.proofs.Knowing.{knows-none}
-use Rattle.typst_code.proofs.Steps.{does-next, does-gives, does-peek, does-pick, does-flush, known-few}
-use Rattle.typst_code.specs.View.{View, Runs, Does, Goes, Frame, Fills, Fits, Bare, Flushed, at}
+use Rattle.typst_language.proofs.Logs.{logged-append, logged-shift}
+use Rattle.typst_language.proofs.Knowing.{knows-none}
+use Rattle.typst_language.proofs.Steps.{does-next, does-gives, does-peek, does-pick, does-flush, known-few}
+use Rattle.typst_language.specs.View.{View, Runs, Does, Goes, Frame, Fills, Fits, Bare, Flushed, at}
 use Rattle.typst_grammar.specs.declared.part.RunKind.{RunKind}
 use Rattle.typst_grammar.specs.declared.part.RunKind.TheVariants as of
 use Rattle.typst_code.specs.Markup.{ends, note_piece, markup_turn, markup_expr, markup_reading}
@@ -46,11 +46,11 @@ use Rattle.typst_language.specs.Hand.{known_by}
 use Rattle.typst_language.specs.Meaning.{flushed_state}
 use Rattle.typst_language.specs.Point.{Trivia}
 use Rattle.typst_language.proofs.Places.{take-all, drop-all}
-use Rattle.typst_code.specs.Checkpoint.{first_of, is_some, saved, trivia_back, went_back}
-use Rattle.typst_code.specs.Noted.{listed, unnoted}
-use Rattle.typst_code.specs.Remembered.{Knows, end_of as text_end}
-use Rattle.typst_code.proofs.Checkpoints.{back-is}
-use Rattle.typst_code.proofs.Knowing.{end-moved, knows-at}
+use Rattle.typst_language.specs.Checkpoint.{first_of, is_some, saved, trivia_back, went_back}
+use Rattle.typst_language.specs.Noted.{listed, unnoted}
+use Rattle.typst_language.specs.Remembered.{Knows, end_of as text_end}
+use Rattle.typst_language.proofs.Checkpoints.{back-is}
+use Rattle.typst_language.proofs.Knowing.{end-moved, knows-at}
 use Rattle.typst_grammar.specs.Grammar.{level_at}
 use Rattle.typst_grammar.specs.Part.{IsResumed, IsGiven, HasRead, HasReadOn, IsTokenStart, ArePieces}
 use Rattle.typst_grammar.specs.Pieces.{made, goes, AllGo, End, end_of, asks_of, given, run_level, first_look, pieces_on, end_on}

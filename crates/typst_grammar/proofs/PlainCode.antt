@@ -20,7 +20,7 @@ use Rattle.typst_code.specs.keys.Key.{Key}
 use Rattle.typst_code.specs.keys.Key.TheVariants as key
 use Rattle.typst_code.specs.Arguments.{argument_shape, argument, argument_turn, argument_list, listed_arguments, content_turn, missing_arguments, begin_arguments, arguments, calls_directly}
 use Rattle.typst_code.specs.Expressions.{code_head, code_by, unary_expr, code_primary, dots_directly, code_tail, direct_field, call_tail, tail_by, code_tail_turn, code_expr}
-use Rattle.typst_code.specs.Expected.{expect_identifier, seeing}
+use Rattle.typst_language.specs.Expected.{expect_identifier, seeing}
 use Rattle.typst_language.specs.Hand.{AtHand}
 use Rattle.typst_code.specs.Groups.{spread, pair, when_seen, item_shape, misfit, item, group_turn, list_kind, group_kind, group_shape, group_rest, group}
 use Rattle.typst_code.specs.Imports.{path_turn, import_name, import_path, renaming, import_shape, import_turn, import_items, parens_shape, import_parens, imported, module_import}

@@ -15,7 +15,7 @@ use Rattle.typst_language.specs.Depth.{is_end, too_deep, deeper}
 use Rattle.typst_language.specs.Meaning.{Level, start_point, run}
 use Rattle.typst_language.proofs.Places.{take-all}
 use Rattle.typst_language.proofs.Knot.{sane-at}
-use Rattle.typst_language.proofs.Eats.{Eats, eats-next, eats-peek, eats-column, eats-making, eats-within, eats-node}
+use Rattle.typst_language.proofs.Eaten.{Eats, eats-next, eats-peek, eats-column, eats-making, eats-within, eats-node}
 use Rattle.typst_code.specs.head.MarkupHead.{MarkupHead}
 use Rattle.typst_code.specs.head.MarkupHead.TheVariants as head
 use Rattle.typst_code.specs.Embedded.{embedded}

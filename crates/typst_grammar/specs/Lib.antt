@@ -10,12 +10,10 @@ pub mod Binding
 -- What the crates above name of those below.
 pub use Rattle.typst_code.specs.Arguments
 pub use Rattle.typst_code.specs.Attachments
-pub use Rattle.typst_code.specs.Bytes
 pub use Rattle.typst_code.specs.Closures
 pub use Rattle.typst_code.specs.Delimited
 pub use Rattle.typst_code.specs.Embedded
 pub use Rattle.typst_code.specs.Equations
-pub use Rattle.typst_code.specs.Expected
 pub use Rattle.typst_code.specs.Expressions
 pub use Rattle.typst_code.specs.Groups
 pub use Rattle.typst_code.specs.Keys
@@ -28,5 +26,4 @@ pub use Rattle.typst_code.specs.Parts
 pub use Rattle.typst_code.specs.Patterns
 pub use Rattle.typst_code.specs.Sequences
 pub use Rattle.typst_code.specs.Statements
-pub use Rattle.typst_code.specs.View
 pub use Rattle.typst_code.specs.head

@@ -13,7 +13,7 @@ use Rattle.typst_language.specs.Knot.{blocks_of}
 use Rattle.typst_language.specs.Log.{Log, no_log, logged}
 use Rattle.typst_language.specs.Meaning.{Outcome, Level, guessing, hand_of, start_point}
 use Rattle.typst_language.specs.Point.{pending, gap_of}
-use Rattle.typst_code.specs.View.{View, Fits}
+use Rattle.typst_language.specs.View.{View, Fits}
 use Rattle.typst_grammar.specs.declared.part.RunKind.{RunKind}
 use Rattle.typst_code.specs.Markup.{ends}
 use Rattle.typst_grammar.specs.Pieces.{stops_of}

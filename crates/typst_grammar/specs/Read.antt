@@ -2,7 +2,7 @@
 use Rattle.std.specs.Prelude.{◌≡◌, ℕ, Bool, List}
 use Rattle.typst_language.specs.Log.{blank_log, logged}
 use Rattle.typst_language.specs.Meaning.{Outcome}
-use Rattle.typst_code.specs.View.{View}
+use Rattle.typst_language.specs.View.{View}
 use Rattle.typst_grammar.specs.Grammar.{max_depth, start_of}
 
 -- it has the nodes, and the looks and notes, of what the definition gives

@@ -2,7 +2,7 @@
 
 ghost use Rattle.std.specs.Prelude.{◌≡◌, ◌<◌, IfOk, false};
 ghost use Rattle.std.specs.Str.{chars};
-ghost use Rattle.typst_code.specs.View.{Calls, MeansFirst};
+ghost use Rattle.typst_language.specs.View.{Calls, MeansFirst};
 ghost use Rattle.typst_language.specs.Calls.Call.{MarkupExpr, CodeExpr, MathExpr, Pattern};
 ghost use Rattle.typst_grammar.specs.Grammar as spec;
 ghost use Rattle.typst_grammar.specs.Read.{IsParsed};
@@ -10,11 +10,11 @@ ghost use Rattle.typst_grammar.specs.Told.{told_at};
 
 use std::alloc::{AllocError, Global};
 use typst_code::{
-    CodeStop, Grammar, Levels, MathStop, Parser, Stop, code_expr, code_exprs, markup_expr,
-    markup_run, math_expr, math_exprs, pattern,
+    CodeStop, MathStop, Stop, code_expr, code_exprs, markup_expr, markup_run, math_expr,
+    math_exprs, pattern,
 };
 use typst_kinds::{Names, SyntaxMode};
-use typst_language::{AtNewline, ChainSet, Reading, Role};
+use typst_language::{AtNewline, ChainSet, Grammar, Levels, Parser, Reading, Role};
 use typst_lines::Classes;
 
 /// How deep calls may nest.

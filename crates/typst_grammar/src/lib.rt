@@ -17,4 +17,3 @@ pub use laws::{
     trees_of_patterns, trees_of_texts,
 };
 pub use part::{PieceReader, ReadPart, RunKind, parse_block, resume_pieces};
-pub use typst_code::{Levels, Log, Parser, Stop, markup_turn};

@@ -6,18 +6,20 @@ ghost use Rattle.typst_lines.specs.Classes.{CharClasses};
 ghost use Rattle.typst_lines.specs.Place.{Place, place_at};
 ghost use Rattle.typst_language.specs.Meaning.{Level};
 ghost use Rattle.typst_language.specs.Point.{state_of};
-ghost use Rattle.typst_code.specs.Bytes.{bytes_left};
+ghost use Rattle.typst_language.specs.Bytes.{bytes_left};
 ghost use Rattle.typst_code.specs.Markup as spec;
-ghost use Rattle.typst_code.specs.View.{Fits, Means};
+ghost use Rattle.typst_language.specs.View.{Fits, Means};
 ghost use Rattle.typst_grammar.specs.declared.part.RunKind.{RunKind};
 ghost use Rattle.typst_grammar.specs.Part.{ArePieces, HasRead, HasReadOn, IsBlock, IsGiven, IsResumed, IsTokenStart};
 ghost use Rattle.typst_grammar.specs.Pieces.{stops_of};
 
 use crate::grammar::{call_code_expr, call_markup_expr, call_math_expr, call_pattern, grammar};
 use std::alloc::{AllocError, Global};
-use typst_code::{Grammar, Levels, Log, Parser, Stop, code_block, content_block, markup_turn};
+use typst_code::{Stop, code_block, content_block, markup_turn};
 use typst_kinds::SyntaxMode;
-use typst_language::{AtNewline, Block, Carried, Note, Reading, State};
+use typst_language::{
+    AtNewline, Block, Carried, Grammar, Levels, Log, Note, Parser, Reading, State,
+};
 use typst_lines::{Classes, Scanner};
 use typst_tokens::Hull;
 use typst_tree::SyntaxNode;

@@ -1,3 +1,4 @@
+-- The language.
 pub mod Calls
 pub mod Point
 pub mod Ask
@@ -12,6 +13,19 @@ pub mod Knot
 pub mod Words
 pub mod Sound
 pub mod Changes
+-- The parser that follows it.
+pub mod Bytes
+pub mod Noted
+pub mod AheadCodes
+pub mod AheadCursor
+pub mod Remembered
+pub mod View
+pub mod Codes
+pub mod Cursor
+pub mod Checkpoint
+pub mod Saved
+pub mod Ways
+pub mod Expected
 -- What the crates above name of those below.
 pub use Rattle.typst_lexer.specs.ArgumentTokens
 pub use Rattle.typst_lexer.specs.Atoms

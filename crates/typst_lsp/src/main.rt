@@ -1,13 +1,6 @@
 //! A server of the Language Server Protocol for Typst, on standard input and output.
 #![tactic(auto)]
 
-#[cfg(test)]
-mod dialogue;
-#[cfg(test)]
-mod refusals;
-#[cfg(test)]
-mod sessions;
-
 use std::process::ExitCode;
 use typst_server::serve;
 

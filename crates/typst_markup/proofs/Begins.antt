@@ -4,7 +4,7 @@ use Rattle.typst_lines.specs.Classes.{CharClasses}
 use Rattle.typst_language.specs.declared.calls.ChainSet.{ChainSet}
 use Rattle.typst_language.specs.Meaning.{Level}
 use Rattle.typst_language.specs.Shape.{Shape}
-use Rattle.typst_lookahead.specs.View.{View, Does}
+use Rattle.typst_language.specs.View.{View, Does}
 use Rattle.typst_markup.specs.declared.math_heads.Callee.{Callee}
 use Rattle.typst_markup.specs.declared.math_heads.MathHead.{MathHead}
 use Rattle.typst_markup.specs.declared.math_heads.MathTail.{MathTail}

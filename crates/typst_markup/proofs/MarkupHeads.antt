@@ -1,7 +1,7 @@
 -- What the code of markup reads by what an expression begins with.
 use Rattle.std.proofs.Common.{◌≡◌, ℕ, sym, subst}
 use Rattle.typst_language.specs.Meaning.{Level}
-use Rattle.typst_lookahead.specs.View.{View, Does}
+use Rattle.typst_language.specs.View.{View, Does}
 use Rattle.typst_markup.specs.declared.head.MarkupHead.{MarkupHead}
 use Rattle.typst_markup.specs.Markup.{markup_by}
 

@@ -10,7 +10,7 @@ use Rattle.typst_language.specs.Shape.Shape.{keeps}
 use Rattle.typst_language.specs.Syntax.{Parser, ◌>>=◌}
 use Rattle.typst_language.specs.Syntax.Parser.{gives, pick}
 use Rattle.typst_language.specs.Steps.{peek, eat, node}
-use Rattle.typst_lookahead.specs.Expected.{seeing}
+use Rattle.typst_language.specs.Expected.{seeing}
 use Rattle.typst_markup.specs.Equations.{is_closer, ends_delimited, math_exprs}
 
 -- `[|` and `|]` are shorthands, and other delimiters are text

@@ -12,7 +12,7 @@ use Rattle.typst_language.specs.Syntax.{Parser, ◌>>=◌, ◌>>◌}
 use Rattle.typst_language.specs.Syntax.Op.{so}
 use Rattle.typst_language.specs.Syntax.Parser.{gives, does, pick, repeat}
 use Rattle.typst_language.specs.Steps.{peek, eat, convert_and_eat, eat_if, eat_so, expected, node}
-use Rattle.typst_lookahead.specs.Expected.{seeing}
+use Rattle.typst_language.specs.Expected.{seeing}
 use Rattle.typst_markup.specs.Equations.{ends_argument, ends_list, separates, math_exprs}
 use Rattle.typst_markup.specs.declared.keys.Key.{Key}
 use Rattle.typst_markup.specs.declared.keys.Key.TheVariants as key

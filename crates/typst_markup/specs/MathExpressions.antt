@@ -15,7 +15,7 @@ use Rattle.typst_language.specs.Shape.Shape.{holds}
 use Rattle.typst_language.specs.Syntax.{Parser, ◌>>=◌, ◌>>◌}
 use Rattle.typst_language.specs.Syntax.Parser.{gives}
 use Rattle.typst_language.specs.Steps.{peek, eat, convert_and_eat, expected, node, grow}
-use Rattle.typst_lookahead.specs.Expected.{seeing}
+use Rattle.typst_language.specs.Expected.{seeing}
 use Rattle.typst_markup.specs.Embedded.{embedded}
 use Rattle.typst_markup.specs.Equations.{no_signs}
 use Rattle.typst_markup.specs.declared.math_heads.Callee.{Callee}

@@ -4,7 +4,7 @@ use Rattle.std.specs.declared.alloc.AllocError.{AllocError}
 use Rattle.typst_language.specs.declared.calls.Block.TheVariants as block
 use Rattle.typst_language.specs.Meaning.{Level}
 use Rattle.typst_language.specs.Syntax.{Parser}
-use Rattle.typst_lookahead.specs.View.{View, Frame, Fills, ReadsBlock, Reads}
+use Rattle.typst_language.specs.View.{View, Frame, Fills, ReadsBlock, Reads}
 use Rattle.typst_markup.specs.Markup.{content_block}
 
 -- each block may be read there

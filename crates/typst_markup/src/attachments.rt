@@ -2,13 +2,12 @@
 
 ghost use Rattle.std.specs.Prelude.{◌≡◌};
 ghost use Rattle.typst_language.specs.Syntax.Parser.{repeat};
-ghost use Rattle.typst_lookahead.specs.View.{Means};
+ghost use Rattle.typst_language.specs.View.{Means};
 ghost use Rattle.typst_markup.specs.Attachments as spec;
 
 use std::alloc::AllocError;
 use typst_kinds::SyntaxKind;
-use typst_language::{ChainSet, Change};
-use typst_lookahead::{Levels, Parser, deeper_math_expr};
+use typst_language::{ChainSet, Change, Levels, Parser, deeper_math_expr};
 
 /// Whether a token is one of the signs.
 pub(crate) fn is_in(signs: ChainSet, kind: SyntaxKind) -> bool

@@ -3,14 +3,13 @@
 ghost use Rattle.std.specs.Prelude.{◌≡◌, OnOk, IfOk, false, map};
 ghost use Rattle.typst_kinds.specs.Kinds.{is_error};
 ghost use Rattle.typst_language.specs.Shape.{seen};
-ghost use Rattle.typst_lookahead.specs.View.{Means, Rewrapped};
+ghost use Rattle.typst_language.specs.View.{Means, Rewrapped};
 ghost use Rattle.typst_markup.specs.Delimited as spec;
 
 use crate::{MathStop, is_closer, math_exprs};
 use std::alloc::AllocError;
 use typst_kinds::SyntaxKind;
-use typst_language::{Change, SyntaxNode};
-use typst_lookahead::{Levels, Parser};
+use typst_language::{Change, Levels, Parser, SyntaxNode};
 
 /// Which kind a delimiter of this text has.
 fn sign_kind(text: &str) -> SyntaxKind

@@ -1,14 +1,13 @@
 //! Code that is embedded in text by a hash.
 
 ghost use Rattle.std.specs.Prelude.{◌≡◌};
-ghost use Rattle.typst_lookahead.specs.View.{Means};
+ghost use Rattle.typst_language.specs.View.{Means};
 ghost use Rattle.typst_markup.specs.Embedded as spec;
 
 use crate::starts::begins_statement;
 use std::alloc::AllocError;
 use typst_kinds::{SyntaxKind, SyntaxMode};
-use typst_language::{AtNewline, Reading};
-use typst_lookahead::{Levels, Parser, deeper_code_expr, is_end};
+use typst_language::{AtNewline, Levels, Parser, Reading, deeper_code_expr, is_end};
 
 /// A hash and an expression of code.
 pub fn embedded<L: Levels>(g: &L, p: &mut Parser<'_>) -> Result<(), AllocError>

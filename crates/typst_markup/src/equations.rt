@@ -4,15 +4,16 @@ ghost use Rattle.std.specs.Prelude.{◌≡◌};
 ghost use Rattle.typst_kinds.specs.Kinds.{among};
 ghost use Rattle.typst_kinds.specs.Sets.{math_expr};
 ghost use Rattle.typst_language.specs.Syntax.Parser.{repeat};
-ghost use Rattle.typst_lookahead.specs.View.{Means};
+ghost use Rattle.typst_language.specs.View.{Means};
 ghost use Rattle.typst_markup.specs.Equations as spec;
 ghost use Rattle.typst_markup.specs.Stops.{math_stops_at};
 
 use crate::stops::MathStop;
 use std::alloc::AllocError;
 use typst_kinds::{SyntaxKind, SyntaxMode, set};
-use typst_language::{AtNewline, ChainSet, Reading};
-use typst_lookahead::{Levels, Parser, Stops, deeper_math_expr, too_deep};
+use typst_language::{
+    AtNewline, ChainSet, Levels, Parser, Reading, Stops, deeper_math_expr, too_deep,
+};
 
 /// No signs of attachments.
 pub fn no_signs() -> ChainSet

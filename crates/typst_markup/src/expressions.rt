@@ -2,7 +2,7 @@
 
 ghost use Rattle.std.specs.Prelude.{◌≡◌, ◌<◌, OnOk, false};
 ghost use Rattle.typst_kinds.specs.Kinds.{is_error};
-ghost use Rattle.typst_lookahead.specs.View.{Means, Rewrapped};
+ghost use Rattle.typst_language.specs.View.{Means, Rewrapped};
 ghost use Rattle.typst_markup.specs.Markup as spec;
 ghost use Rattle.typst_markup.specs.Outside.{MeansOutside};
 ghost use Rattle.typst_markup.specs.Stops.{stops_at};
@@ -15,8 +15,7 @@ use crate::sequences::{markup, markup_with_trivia};
 use crate::stops::Stop;
 use std::alloc::AllocError;
 use typst_kinds::SyntaxKind;
-use typst_language::AtNewline;
-use typst_lookahead::{Levels, Parser};
+use typst_language::{AtNewline, Levels, Parser};
 
 /// `*..*`
 pub fn strong<L: Levels>(g: &L, p: &mut Parser<'_>) -> Result<(), AllocError>

@@ -3,7 +3,7 @@
 ghost use Rattle.std.specs.Prelude.{◌≡◌, OnOk, map};
 ghost use Rattle.std.specs.Str.{chars};
 ghost use Rattle.typst_language.specs.Shape.{seen};
-ghost use Rattle.typst_lookahead.specs.View.{Means, MeansBy, Rewrapped};
+ghost use Rattle.typst_language.specs.View.{Means, MeansBy, Rewrapped};
 ghost use Rattle.typst_markup.specs.MathExpressions as spec;
 
 use crate::attachments::{attachments, operand, primes};
@@ -13,9 +13,8 @@ use crate::math_heads::{Callee, Grown, MathHead, MathTail, math_head, math_tail}
 use crate::{embedded, no_signs};
 use std::alloc::AllocError;
 use typst_kinds::SyntaxKind;
-use typst_language::{ChainSet, Change, SyntaxNode};
+use typst_language::{ChainSet, Change, Levels, Parser, SyntaxNode};
 use typst_lines::{Classes, MathClass, Scanner};
-use typst_lookahead::{Levels, Parser};
 
 /// Whether a class in math is that of letters.
 fn is_alphabetic(class: Option<MathClass>) -> bool

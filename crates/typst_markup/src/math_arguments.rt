@@ -4,14 +4,13 @@ ghost use Rattle.std.specs.Prelude.{◌≡◌, OnOk};
 ghost use Rattle.typst_kinds.specs.declared.kind.SyntaxKind.TheVariants as kind;
 ghost use Rattle.typst_language.specs.Shape.Shape.{holds};
 ghost use Rattle.typst_language.specs.Syntax.Parser.{repeat};
-ghost use Rattle.typst_lookahead.specs.View.{Means, Rewrapped};
+ghost use Rattle.typst_language.specs.View.{Means, Rewrapped};
 ghost use Rattle.typst_markup.specs.MathArguments as spec;
 
 use crate::{Key, MathStop, ends_list, key_of, math_exprs, separates, with_argument, wrap_named};
 use std::alloc::AllocError;
 use typst_kinds::{Names, SyntaxKind};
-use typst_language::{Change, Way};
-use typst_lookahead::{Levels, Parser};
+use typst_language::{Change, Levels, Parser, Way};
 
 /// Reads the expressions of an argument, of which a named one has some; answers how many there are.
 fn argument_exprs<L: Levels>(g: &L, p: &mut Parser<'_>, is_named: bool) -> Result<usize, AllocError>

@@ -3,14 +3,13 @@
 ghost use Rattle.std.specs.Prelude.{◌≡◌, IfOk, OnOk};
 ghost use Rattle.typst_kinds.specs.declared.kind.SyntaxKind.TheVariants as kind;
 ghost use Rattle.typst_language.specs.Shape.Shape.{holds};
-ghost use Rattle.typst_lookahead.specs.View.{Rewrapped};
+ghost use Rattle.typst_language.specs.View.{Rewrapped};
 ghost use Rattle.typst_markup.specs.Named as spec;
 
 use crate::Key;
 use std::alloc::AllocError;
 use typst_kinds::{Names, SyntaxKind};
-use typst_language::Change;
-use typst_lookahead::Parser;
+use typst_language::{Change, Parser};
 
 /// Makes a named argument of an argument that has a name, which may have been seen.
 pub fn wrap_named(

@@ -3,7 +3,7 @@
 ghost use Rattle.std.specs.Prelude.{◌≡◌, ◌<◌};
 ghost use Rattle.typst_language.specs.Steps.{read_block};
 ghost use Rattle.typst_language.specs.Hand.{told};
-ghost use Rattle.typst_lookahead.specs.View.{MeansLast};
+ghost use Rattle.typst_language.specs.View.{MeansLast};
 ghost use Rattle.typst_markup.specs.Markup as spec;
 ghost use Rattle.typst_markup.specs.Outside.{MeansOutside};
 
@@ -11,8 +11,7 @@ use crate::sequences::run_with_trivia;
 use crate::stops::Stop;
 use std::alloc::AllocError;
 use typst_kinds::{SyntaxKind, SyntaxMode};
-use typst_language::{AtNewline, Block, Reading};
-use typst_lookahead::{Levels, Parser};
+use typst_language::{AtNewline, Block, Levels, Parser, Reading};
 
 /// `[ .. ]`, read as markup whatever stands around it. What comes behind it isn't asked for.
 pub fn content_block<L: Levels>(g: &L, p: &mut Parser<'_>) -> Result<(), AllocError>

@@ -2,15 +2,14 @@
 
 ghost use Rattle.std.specs.Prelude.{◌≡◌};
 ghost use Rattle.typst_language.specs.Syntax.Parser.{repeat};
-ghost use Rattle.typst_lookahead.specs.View.{Means, MeansFirst};
+ghost use Rattle.typst_language.specs.View.{Means, MeansFirst};
 ghost use Rattle.typst_markup.specs.Markup as spec;
 ghost use Rattle.typst_markup.specs.Stops.{stops_at};
 
 use crate::stops::Stop;
 use std::alloc::AllocError;
 use typst_kinds::SyntaxKind;
-use typst_language::{Carried, Mark};
-use typst_lookahead::{Levels, Parser, Stops, deeper_markup_expr, too_deep};
+use typst_language::{Carried, Levels, Mark, Parser, Stops, deeper_markup_expr, too_deep};
 
 /// Reads expressions up to a stop.
 pub fn markup_exprs<L: Levels>(

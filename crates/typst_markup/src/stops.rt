@@ -6,7 +6,7 @@ ghost use Rattle.typst_markup.specs.Equations as math;
 ghost use Rattle.typst_markup.specs.Stops.{math_stops_at, stops_at};
 
 use typst_kinds::SyntaxKind;
-use typst_lookahead::{Stops, is_end};
+use typst_language::{Stops, is_end};
 
 /// At which tokens a sequence stops.
 #[derive(Debug, Clone, Copy, PartialEq, Eq)]

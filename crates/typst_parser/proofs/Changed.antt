@@ -6,10 +6,10 @@ use Rattle.std.proofs.lemmas.List.{drop-take}
 use Rattle.std.proofs.lemmas.Str.{chars-append, IsUtf8-append, IsUtf8-drop, IsUtf8-take}
 use Rattle.typst_lines.specs.Lines.{bytes}
 use Rattle.typst_lines.proofs.LineTable.{bytes-text, chars-split, chars-range}
-use Rattle.typst_reparser.specs.Sight.{width}
-use Rattle.typst_reparser.proofs.Widths.{width-append}
-use Rattle.typst_reparser.specs.Change.{Change, text_before, text_after, Makes}
-use Rattle.typst_reparser.specs.declared.replacement.Replacement.{Replacement}
+use Rattle.typst_tokens.specs.Sight.{width}
+use Rattle.typst_edits.proofs.Widths.{width-append}
+use Rattle.typst_parser.specs.Change.{Change, text_before, text_after, Makes}
+use Rattle.typst_parser.specs.declared.replacement.Replacement.{Replacement}
 use Rattle.typst_parser.specs.Records.{IsEdited}
 use Rattle.typst_parser.specs.Tried.{change_by}
 

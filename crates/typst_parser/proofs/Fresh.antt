@@ -10,8 +10,8 @@ use Rattle.typst_tree.specs.Numbers.{placed, stride, numbered}
 use Rattle.typst_tree.proofs.Numbering.{numbered_bare, text_numbered, nodes_numbered}
 use Rattle.std.specs.Str.{chars}
 use Rattle.typst_lines.specs.Classes.{CharClasses}
-use Rattle.typst_reparser.specs.Grammar.{tree}
-use Rattle.typst_reparser.specs.Entries.{Units}
+use Rattle.typst_edits.specs.Grammar.{tree}
+use Rattle.typst_candidates.specs.Entries.{Units}
 use Rattle.typst_parser.specs.Held.{Held}
 use Rattle.typst_parser.specs.Headline.{file_of, Headline, AreNumbered, AreOrdered, numbered_in}
 use Rattle.typst_parser.specs.Records.{AreUnits, IsPlaced, IsPlacedBy, Records}

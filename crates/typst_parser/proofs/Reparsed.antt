@@ -12,23 +12,23 @@ use Rattle.typst_tree.specs.Order.{AreInOrder, IsNumbered, numbers_of, upper_at}
 use Rattle.typst_tree.specs.Replace.{At, Reaches, kids_of, replaced_at}
 use Rattle.typst_tree.proofs.ReplacesChildren.{replaces_text, start_le, text_bare}
 use Rattle.typst_lines.specs.Classes.{CharClasses}
-use Rattle.typst_reparser.specs.Sight.{width}
-use Rattle.typst_reparser.specs.Candidates.{Candidate}
-use Rattle.typst_reparser.specs.Answer.{IsAnswer}
-use Rattle.typst_reparser.specs.Answer as answer
-use Rattle.typst_reparser.specs.Answer.IsAnswer.{part, whole}
-use Rattle.typst_reparser.specs.CandidatePlaces.{StandsIn}
-use Rattle.typst_reparser.specs.Every.{Every}
-use Rattle.typst_reparser.specs.Grammar.{tree, log}
-use Rattle.typst_reparser.specs.PieceNotes.{listed}
-use Rattle.typst_reparser.proofs.CandidatePlaces.{candidate-places-law}
-use Rattle.typst_reparser.proofs.CandidateWorth.{tree-inner}
-use Rattle.typst_reparser.proofs.Whole.{leaves}
-use Rattle.typst_reparser.proofs.Widths.{width-append}
-use Rattle.typst_reparser.specs.Change.{Change, text_before, text_after, Makes, Holds, candidates}
-use Rattle.typst_reparser.specs.Entries.{Units, units_of}
-use Rattle.typst_reparser.specs.Reparse.{NonePasses, Takes}
-use Rattle.typst_reparser.specs.declared.replacement.Replacement.{Replacement}
+use Rattle.typst_tokens.specs.Sight.{width}
+use Rattle.typst_candidates.specs.Candidates.{Candidate}
+use Rattle.typst_edits.specs.Answer.{IsAnswer}
+use Rattle.typst_edits.specs.Answer as answer
+use Rattle.typst_edits.specs.Answer.IsAnswer.{part, whole}
+use Rattle.typst_edits.specs.CandidatePlaces.{StandsIn}
+use Rattle.typst_edits.specs.Every.{Every}
+use Rattle.typst_edits.specs.Grammar.{tree, log}
+use Rattle.typst_edits.specs.PieceNotes.{listed}
+use Rattle.typst_edits.proofs.CandidatePlaces.{candidate-places-law}
+use Rattle.typst_edits.proofs.CandidateWorth.{tree-inner}
+use Rattle.typst_edits.proofs.Whole.{leaves}
+use Rattle.typst_edits.proofs.Widths.{width-append}
+use Rattle.typst_parser.specs.Change.{Change, text_before, text_after, Makes, Holds, candidates}
+use Rattle.typst_candidates.specs.Entries.{Units, units_of}
+use Rattle.typst_parser.specs.Reparse.{NonePasses, Takes}
+use Rattle.typst_parser.specs.declared.replacement.Replacement.{Replacement}
 use Rattle.typst_parser.specs.Held.{Held}
 use Rattle.typst_parser.specs.Headline.{AreNumbered, AreOrdered, file_of, numbered_in}
 use Rattle.typst_parser.specs.Answers.{Answers, change_of}

@@ -4,9 +4,9 @@ use Rattle.std.specs.Str.{chars}
 use Rattle.std.specs.declared.ops.Range.{Range}
 use Rattle.typst_lines.specs.Classes.{CharClasses}
 use Rattle.typst_lines.specs.Lines.{common_ends}
-use Rattle.typst_reparser.specs.Answer.{IsAnswer}
-use Rattle.typst_reparser.specs.Change.{Change, candidates}
-use Rattle.typst_reparser.specs.Grammar.{tree}
+use Rattle.typst_edits.specs.Answer.{IsAnswer}
+use Rattle.typst_parser.specs.Change.{Change, candidates}
+use Rattle.typst_edits.specs.Grammar.{tree}
 use Rattle.typst_parser.specs.Headline.{file_of, numbered_in}
 use Rattle.typst_parser.specs.Held.{Held}
 

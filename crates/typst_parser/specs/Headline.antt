@@ -7,7 +7,7 @@ use Rattle.typst_tree.specs.Tree.{Tree, places, nodes, bare, text_of, synthesize
 use Rattle.typst_tree.specs.Numbers.{numberized}
 use Rattle.typst_tree.specs.Order.{AreInOrder, numbers_of}
 use Rattle.typst_lines.specs.Classes.{CharClasses}
-use Rattle.typst_reparser.specs.Grammar.{tree}
+use Rattle.typst_edits.specs.Grammar.{tree}
 use Rattle.typst_parser.specs.Held.{Held}
 
 -- the text with another one in the place of a range of bytes

@@ -1,3 +1,4 @@
+-- Sources.
 pub mod Held
 pub mod Headline
 pub mod Records
@@ -5,8 +6,13 @@ pub mod Answers
 pub mod Tried
 pub mod Find
 pub mod Found
+-- What an edit reads anew.
+pub mod Change
+pub mod Attempt
+pub mod Steps
+pub mod Reparse
 -- What the crates above name of those below.
-pub use Rattle.typst_reparser.specs.Grammar
+pub use Rattle.typst_edits.specs.Grammar
 pub use Rattle.typst_kinds.specs.Head
 pub use Rattle.typst_kinds.specs.Span
 pub use Rattle.typst_kinds.specs.declared.diagnostic.Severity

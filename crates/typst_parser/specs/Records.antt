@@ -6,9 +6,9 @@ use Rattle.typst_kinds.specs.Span.{number_of}
 use Rattle.typst_tree.specs.Tree.{Tree}
 use Rattle.typst_tree.specs.Order.{IsNumbered, upper_at}
 use Rattle.typst_lines.specs.Classes.{CharClasses}
-use Rattle.typst_reparser.specs.Entries.{Units, units_of}
-use Rattle.typst_reparser.specs.Grammar.{log, tree}
-use Rattle.typst_reparser.specs.declared.replacement.Replacement.{Replacement}
+use Rattle.typst_candidates.specs.Entries.{Units, units_of}
+use Rattle.typst_edits.specs.Grammar.{log, tree}
+use Rattle.typst_parser.specs.declared.replacement.Replacement.{Replacement}
 use Rattle.typst_parser.specs.Held.{Held}
 use Rattle.typst_parser.specs.Headline.{Headline, file_of, numbered_in}
 

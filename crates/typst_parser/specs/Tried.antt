@@ -2,13 +2,13 @@
 use Rattle.std.specs.Prelude.{◌≡◌, ℕ, ◌-◌, ◌<◌, ◌^◌, true, List, length, Option, Some, None}
 use Rattle.std.specs.declared.ops.Range.{Range}
 use Rattle.typst_lines.specs.Classes.{CharClasses}
-use Rattle.typst_reparser.specs.Answer.{IsAnswer}
-use Rattle.typst_reparser.specs.Change.{Change, candidates}
-use Rattle.typst_reparser.specs.Reparse.{NonePasses}
+use Rattle.typst_edits.specs.Answer.{IsAnswer}
+use Rattle.typst_parser.specs.Change.{Change, candidates}
+use Rattle.typst_parser.specs.Reparse.{NonePasses}
 use Rattle.typst_parser.specs.Answers.{change_of}
 use Rattle.typst_parser.specs.Held.{Held}
 use Rattle.typst_parser.specs.Records.{Edits, IsEdited}
-use Rattle.typst_reparser.specs.declared.replacement.Replacement.{Replacement}
+use Rattle.typst_parser.specs.declared.replacement.Replacement.{Replacement}
 
 -- the edit that replaced a stretch of a text
 abbrev pub change_by : {old new : List ℕ} {e : Replacement} → IsEdited old new e → Change

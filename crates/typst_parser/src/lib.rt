@@ -23,9 +23,14 @@
 //! `AllocError` where memory is refused.
 #![tactic(auto)]
 
+mod attempt;
+mod edited;
+mod read;
+mod replacement;
 mod source;
 
 pub use source::Source;
+pub use typst_edits::{Block, Mark, Note, Noted, parse, parse_code, parse_math, parse_noted};
 pub use typst_highlight::{Tag, Tagged, highlight, highlight_html, tag_stretches};
 pub use typst_kinds::{
     Assoc, BinOp, Diagnostic, FileId, Hint, Severity, SourceError, Span, SpanNumber, SubRange,
@@ -35,5 +40,4 @@ pub use typst_lines::{
     Classes, Line, Lines, MathClass, Text, UnicodeClasses, is_id_continue, is_id_start, is_ident,
     is_newline, is_valid_label_literal_id, link_prefix, split_newlines,
 };
-pub use typst_reparser::{Block, Mark, Note, Noted, parse, parse_code, parse_math, parse_noted};
 pub use typst_tree::{LinkedChildren, LinkedNode, SyntaxNode, is_ordered};

@@ -3,19 +3,22 @@ ghost use Rattle.std.specs.Prelude.{◌≡◌, ◌+◌, ◌-◌, ◌^◌, ◌<�
 ghost use Rattle.std.specs.Str.{IsCharBoundary, chars};
 ghost use Rattle.std.specs.String.{string_bytes};
 ghost use Rattle.typst_tree.specs.Tree.{text_of, bare, nodes};
-ghost use Rattle.typst_reparser.specs.Grammar.{tree};
+ghost use Rattle.typst_edits.specs.Grammar.{tree};
 ghost use Rattle.typst_parser.specs.Headline.{Headline, edited, file_of, AreNumbered, AreOrdered, numbered_in};
 ghost use Rattle.typst_parser.specs.Tried.{Decides, Tries};
 ghost use Rattle.typst_parser.specs.Records.{AreUnits, Edits, IsPlaced, IsPlacedBy, ReadsWhole};
 ghost use Rattle.typst_parser.specs.Answers.{Answers, AnswersText, change_of};
 
+use crate::edited::reparse;
+use crate::read::parse_recorded;
+use crate::replacement::Replacement;
 use std::alloc::{AllocError, Global};
 use std::fmt;
 use std::marker::Model;
 use std::ops::Range;
+use typst_candidates::Records;
 use typst_kinds::{FileId, SourceError, Span, SpanNumber, SubRange};
 use typst_lines::{Classes, Lines};
-use typst_reparser::{Records, Replacement, parse_recorded, reparse};
 use typst_tree::{LinkedNode, SyntaxNode};
 
 /// The numbers that nodes can have.

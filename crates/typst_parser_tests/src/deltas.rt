@@ -1,7 +1,7 @@
 //! Edits of lists of numbers.
 
 use std::test::Fail;
-use typst_features::{DataEdit, edit_between};
+use typst_server::features::{DataEdit, edit_between};
 
 /// The edit that removes and puts in so many numbers at a place.
 fn edit(start: usize, removed: usize, added: usize) -> Option<DataEdit> {

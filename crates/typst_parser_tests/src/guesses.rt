@@ -4,7 +4,7 @@ use crate::trees::repeated;
 use std::alloc::{AllocError, Global};
 use std::cell::Cell;
 use typst_cli::parse_code;
-use typst_test_support::Counting;
+use typst_tests::Counting;
 
 /// How many nodes the tree has of forty nested parens that are read twice, and how often a class was
 /// asked for it.

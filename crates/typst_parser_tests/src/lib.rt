@@ -1,7 +1,7 @@
 //! Tests of what no clause says and no row can. Of trees: depth, long texts, refused memory. Of
 //! sources: numbers, bytes of numbers, trees that are handed in, and refused memory. Of the program: its
-//! words over streams that stop, hold and fail. Of what a language server shows: outline, foldings, selections,
-//! labels, tokens and reports. Of the checker: what each form prints.
+//! words over streams that stop, hold and fail. Of a language server: outline, foldings, selections,
+//! labels, tokens and reports, and sessions over such streams. Of the checker: what each form prints.
 #![tactic(auto)]
 
 #[cfg(test)]
@@ -10,6 +10,8 @@ mod checks;
 mod code;
 #[cfg(test)]
 mod deltas;
+#[cfg(test)]
+mod example;
 #[cfg(test)]
 mod folds;
 #[cfg(test)]
@@ -30,6 +32,8 @@ mod program;
 mod refusals;
 #[cfg(test)]
 mod reports;
+#[cfg(test)]
+mod server;
 #[cfg(test)]
 mod shown;
 #[cfg(test)]

@@ -2,7 +2,7 @@
 
 use std::alloc::{AllocError, Global};
 use typst_cli::{Failure, run};
-use typst_test_support::streams::{Flush, Full, PACES, Pace, Reader, Room, Writer};
+use typst_tests::streams::{Flush, Full, PACES, Pace, Reader, Room, Writer};
 
 const USAGE: &str = "usage: typst_syn lines | tree | html | edit START END TEXT\n";
 

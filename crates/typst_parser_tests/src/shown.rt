@@ -3,7 +3,7 @@
 use std::alloc::{AllocError, Global};
 use std::ops::Range;
 use typst_cli::{Severity, UnicodeClasses, parse, tag_stretches};
-use typst_features::{
+use typst_server::features::{
     Fold, FoldKind, Mention, MentionKind, Problem, Symbol, SymbolKind, definitions, foldings,
     highlights, problems, references, selections, symbols, token_stretches,
 };

@@ -4,7 +4,7 @@
 use std::alloc::{AllocError, Global};
 use std::cell::Cell;
 use typst_cli::{SyntaxNode, UnicodeClasses, parse, parse_noted};
-use typst_test_support::Counting;
+use typst_tests::Counting;
 
 /// Whether a class value that counts is asked, and answers what Unicode does.
 fn asks(alloc: Global, text: &str) -> Result<bool, AllocError> {

@@ -5,7 +5,7 @@ use crate::spans::refusal;
 use std::alloc::{AllocError, Global};
 use std::cell::Cell;
 use typst_cli::Source;
-use typst_test_support::Counting;
+use typst_tests::Counting;
 
 /// Which bytes an edit reads, and whether classes are asked at least so often when the source is made,
 /// and at most so often for the edit. The first line has the two numbers and the edit's words, and the

@@ -5,7 +5,7 @@ use crate::spans;
 use crate::whole::{Wanted, fault};
 use std::alloc::{AllocError, Global};
 use typst_cli::{Classes, Source, SourceError, UnicodeClasses};
-use typst_test_support::{Narrow, Wide};
+use typst_tests::{Narrow, Wide};
 
 /// What is put in at each place.
 const INSERTIONS: [&str; 21] = [

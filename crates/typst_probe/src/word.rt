@@ -9,7 +9,7 @@ use crate::{
 };
 use std::alloc::{AllocError, Global};
 use typst_cli::{Command, SyntaxMode, UnicodeClasses, tree};
-use typst_test_support::{Narrow, Wide};
+use typst_tests::{Narrow, Wide};
 
 /// What can be asked about a text.
 #[derive(Debug, Clone, Copy, PartialEq, Eq)]

@@ -1,5 +1,7 @@
-//! The messages of the Language Server Protocol, as far as a server of documents reads and writes them.
+//! The frames and the messages of the Language Server Protocol, as far as a server of documents reads
+//! and writes them.
 //!
+//! - [`frames`]: messages as bytes of a stream.
 //! - [`read_json`] reads a body, and [`Message::of`] says what it is: a [`Request`] with an [`Id`], a
 //!   [`Notification`], or a response. [`Method`] and [`Event`] are what they ask and tell, [`Params`] of
 //!   what.
@@ -8,6 +10,7 @@
 //!   [`Unread`] why a body isn't taken for a message.
 #![tactic(auto)]
 
+pub mod frames;
 pub mod message;
 pub mod method;
 pub mod params;

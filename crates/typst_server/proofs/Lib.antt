@@ -8,3 +8,7 @@ mod Responses
 mod Texts
 mod Transcripts
 mod Walking
+pub mod DataEditsMade
+pub mod HoldingNodes
+pub mod SelectedNodes
+pub mod TokenLines

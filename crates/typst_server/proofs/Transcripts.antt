@@ -4,11 +4,11 @@ use Rattle.std.proofs.KnownBytes.{Appends-nil, Appends-trans}
 use Rattle.std.proofs.lemmas.Grind.{flat_map-append}
 use Rattle.std.specs.Io.KnownBytes.{Appends}
 use Rattle.std.specs.List.{AllByRecursion}
-use Rattle.typst_frames.proofs.Writing.{begins-after}
-use Rattle.typst_frames.specs.Stream.{Answers, AnswersAfter, Passes, Reads, Stream}
-use Rattle.typst_frames.specs.declared.reader.End.{End}
-use Rattle.typst_frames.specs.declared.reader.Frame.{Frame}
-use Rattle.typst_frames.specs.declared.reader.Frame.TheVariants.{Body, TooLong, OutOfMemory}
+use Rattle.typst_protocol.proofs.Writing.{begins-after}
+use Rattle.typst_protocol.specs.Stream.{Answers, AnswersAfter, Passes, Reads, Stream}
+use Rattle.typst_protocol.specs.declared.frames.reader.End.{End}
+use Rattle.typst_protocol.specs.declared.frames.reader.Frame.{Frame}
+use Rattle.typst_protocol.specs.declared.frames.reader.Frame.TheVariants.{Body, TooLong, OutOfMemory}
 use Rattle.typst_server.specs.Answers.{IsAnswer}
 use Rattle.typst_server.specs.Transcript.{AnswersFrame, AreAnswered, Ends, EndsBy, GoesOn, IsAnswered, IsFirst, IsNoExit, IsReason, IsStatus, Sends, Serves, Turns, WentOut, sent, transcript}
 use Rattle.typst_server.specs.declared.reply.Reply.{Reply}

@@ -4,11 +4,11 @@ use Rattle.std.specs.List.{AllByRecursion, flat_map}
 use Rattle.std.specs.Option.{option_map_or}
 use Rattle.std.specs.String.{string_bytes}
 use Rattle.std.specs.Io.KnownBytes.{Appends}
-use Rattle.typst_frames.specs.Frames.{frame, written}
-use Rattle.typst_frames.specs.Stream.{Begins, EndsSo, longest}
-use Rattle.typst_frames.specs.declared.reader.End.TheVariants.{Clean}
-use Rattle.typst_frames.specs.declared.reader.Frame.{Frame}
-use Rattle.typst_frames.specs.declared.reader.Frame.TheVariants.{Body, TooLong, OutOfMemory}
+use Rattle.typst_protocol.specs.Frames.{frame, written}
+use Rattle.typst_protocol.specs.Stream.{Begins, EndsSo, longest}
+use Rattle.typst_protocol.specs.declared.frames.reader.End.TheVariants.{Clean}
+use Rattle.typst_protocol.specs.declared.frames.reader.Frame.{Frame}
+use Rattle.typst_protocol.specs.declared.frames.reader.Frame.TheVariants.{Body, TooLong, OutOfMemory}
 use Rattle.typst_protocol.specs.Bodies.{nameless}
 use Rattle.typst_protocol.specs.declared.refusal.Unread.TheVariants as unread
 use Rattle.typst_server.specs.Answers.{IsAnswer}

@@ -1,10 +1,10 @@
 //! The errors and warnings of a document.
 
 use crate::document::Document;
+use crate::features;
 use crate::walk::{Extents, is_line_end};
 use std::alloc::{AllocError, Global};
 use std::ops::Range;
-use typst_features as features;
 use typst_parser::{Diagnostic, Severity};
 use typst_protocol::values::{Problem, Problems};
 use typst_protocol::{Refusal, json_of};

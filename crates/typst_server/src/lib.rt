@@ -8,6 +8,7 @@ mod capabilities;
 mod diagnostics;
 mod document;
 mod documents;
+pub mod features;
 mod outline;
 mod reply;
 mod requests;

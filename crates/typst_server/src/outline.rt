@@ -1,10 +1,10 @@
 //! The outline of a document.
 
 use crate::document::Document;
+use crate::features;
+use crate::features::SymbolKind;
 use crate::walk::Extents;
 use std::alloc::{AllocError, Global};
-use typst_features as features;
-use typst_features::SymbolKind;
 use typst_protocol::values::{FlatSymbol, Location, Symbol};
 use typst_protocol::{Refusal, json_of};
 

@@ -1,10 +1,10 @@
 //! Requests about a document.
 
 use crate::document::Document;
+use crate::features;
+use crate::features::{FoldKind, Mention, MentionKind};
 use crate::walk::Extents;
 use std::alloc::{AllocError, Global};
-use typst_features as features;
-use typst_features::{FoldKind, Mention, MentionKind};
 use typst_protocol::params::position_of;
 use typst_protocol::values::{Folding, Highlight, Location, Selection};
 use typst_protocol::{Params, Refusal, json_of};

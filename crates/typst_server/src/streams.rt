@@ -6,8 +6,8 @@ use crate::reply::Reply;
 use crate::server::Server;
 use std::alloc::Global;
 use std::io::{Read, Write};
-use typst_frames::{End, Frame, FrameReader, write_frame};
 use typst_protocol::Unread;
+use typst_protocol::frames::{End, Frame, FrameReader, write_frame};
 
 /// Why no more messages are answered.
 #[derive(Debug, Clone, Copy, PartialEq, Eq)]

@@ -5,10 +5,10 @@ ghost use Rattle.typst_server.specs.Numbers.{IsAdded, all_shown, clipped, decode
 
 use crate::capabilities::type_of;
 use crate::document::Document;
+use crate::features::{Token, edit_between, token_stretches};
 use crate::walk::Walk;
 use std::alloc::{AllocError, Global};
 use std::ops::Range;
-use typst_features::{Token, edit_between, token_stretches};
 use typst_parser::tag_stretches;
 use typst_protocol::values::{Place, TokenChanges, TokenEdit, Tokens};
 use typst_protocol::{Params, Refusal, json_of};

@@ -4,10 +4,10 @@ ghost use Rattle.std.specs.List.{list_all};
 ghost use Rattle.std.specs.Str.{chars};
 ghost use Rattle.typst_lines.specs.Classes.{in_line};
 
+use crate::{Counting, Narrow, Wide};
 use std::cell::Cell;
 use typst_lines::MathClass::{self, Alphabetic, Closing, Opening};
 use typst_lines::{Classes, UnicodeClasses, is_id_continue, is_id_start, is_ident, is_newline};
-use typst_test_support::{Counting, Narrow, Wide};
 
 /// Starts an identifier, continues one, is alphabetic, alphanumeric, numeric, of a word.
 type Answers = [bool; 6];

@@ -2,10 +2,10 @@
 
 ghost use Rattle.std.specs.Prelude.{◌≤◌, length};
 
+use crate::streams::{Full, PACES, Pace, Reader, Room, Writer};
 use std::alloc::{AllocError, Global};
 use std::io::{self, Read};
-use typst_frames::{End, Frame, FrameReader, write_frame};
-use typst_test_support::streams::{Full, PACES, Pace, Reader, Room, Writer};
+use typst_protocol::frames::{End, Frame, FrameReader, write_frame};
 
 /// Whether the stream has these bodies, and ends so, twice.
 fn has(alloc: Global, stream: Reader<'_>, bodies: &[&[u8]], end: End) -> Result<bool, AllocError> {

@@ -1,8 +1,8 @@
 //! The brackets of links, and names of labels.
+use crate::{Narrow, Wide};
 use std::alloc::{AllocError, Global};
 use std::process::Abort;
 use typst_lines::{UnicodeClasses, is_valid_label_literal_id, link_prefix};
-use typst_test_support::{Narrow, Wide};
 
 /// The text without the pairs that stand in it.
 fn without_pairs(alloc: Global, text: &str) -> Result<String, AllocError> {

@@ -1,5 +1,5 @@
 use Rattle.std.proofs.Common.{arith}
-use Rattle.typst_lookahead.proofs.Steps.{turning-next, does-last}
+use Rattle.typst_language.proofs.Steps.{turning-next, does-last}
 use Rattle.typst_code.proofs.arguments.content_turns.Goals as goal
 
 pub returns-then-not-goes_on : goal.returns-then-not-goes_on

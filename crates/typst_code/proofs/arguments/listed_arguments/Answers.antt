@@ -1,9 +1,9 @@
 use Rattle.std.proofs.Common.{refl}
-use Rattle.typst_lookahead.proofs.Nots.{is-not, is-so}
+use Rattle.typst_language.proofs.Nots.{is-not, is-so}
 use Rattle.typst_kinds.specs.Kinds.{same}
 use Rattle.typst_kinds.specs.declared.kind.SyntaxKind.TheVariants as kind
-use Rattle.typst_lookahead.proofs.Steps.{does-gives}
-use Rattle.typst_lookahead.proofs.Asks.{asks-yes, asks-no}
+use Rattle.typst_language.proofs.Steps.{does-gives}
+use Rattle.typst_language.proofs.Asks.{asks-yes, asks-no}
 use Rattle.typst_code.specs.Arguments.{listed_arguments}
 use Rattle.typst_code.proofs.arguments.listed_arguments.Goals as goal
 

@@ -1,4 +1,4 @@
-use Rattle.typst_lookahead.proofs.Steps.{does-next, does-gives, does-node}
+use Rattle.typst_language.proofs.Steps.{does-next, does-gives, does-node}
 use Rattle.typst_code.specs.Bindings.{binding, bound_shape}
 use Rattle.typst_code.proofs.bindings.binding.Goals as goal
 

@@ -1,5 +1,5 @@
 use Rattle.std.proofs.Common.{sym, ◌∙◌}
-use Rattle.typst_lookahead.proofs.Steps.{does-next, does-gives, does-peek, does-pick, does-other}
+use Rattle.typst_language.proofs.Steps.{does-next, does-gives, does-peek, does-pick, does-other}
 use Rattle.typst_code.specs.Bindings.{bound_name}
 use Rattle.typst_code.proofs.bindings.bound_name.Goals as goal
 

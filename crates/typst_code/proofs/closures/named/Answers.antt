@@ -1,6 +1,6 @@
 use Rattle.std.proofs.Common.{◌∙◌, ap}
-use Rattle.typst_lookahead.proofs.Steps.{does-next, does-gives, does-node, does-peek}
-use Rattle.typst_lookahead.proofs.Values.{does-value}
+use Rattle.typst_language.proofs.Steps.{does-next, does-gives, does-node, does-peek}
+use Rattle.typst_language.proofs.Values.{does-value}
 use Rattle.typst_code.specs.Closures.{named, behind_name, name_shape, closure_shape}
 use Rattle.typst_code.proofs.closures.named.Goals as goal
 

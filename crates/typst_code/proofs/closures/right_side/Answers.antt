@@ -1,4 +1,4 @@
-use Rattle.typst_lookahead.proofs.Steps.{does-next, does-gives}
+use Rattle.typst_language.proofs.Steps.{does-next, does-gives}
 use Rattle.typst_code.proofs.closures.right_side.Goals as goal
 
 pub returns-in_ok-code_expression-in-Arrow : goal.returns-in_ok-code_expression-in-Arrow

@@ -1,5 +1,5 @@
 use Rattle.std.proofs.Common.{sym}
-use Rattle.typst_lookahead.proofs.Steps.{does-next, does-gives}
+use Rattle.typst_language.proofs.Steps.{does-next, does-gives}
 use Rattle.typst_code.specs.Expressions.{binary_expr}
 use Rattle.typst_code.proofs.expressions.binary_expr.Goals as goal
 

@@ -1,4 +1,4 @@
-use Rattle.typst_lookahead.proofs.Steps.{does-next, does-gives}
+use Rattle.typst_language.proofs.Steps.{does-next, does-gives}
 use Rattle.typst_code.specs.Expressions.{call_tail}
 use Rattle.typst_code.proofs.expressions.call_tail.Goals as goal
 

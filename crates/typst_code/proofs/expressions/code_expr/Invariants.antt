@@ -1,7 +1,7 @@
 use Rattle.typst_language.specs.Meaning.{Level}
-use Rattle.typst_lookahead.specs.Bytes.{bytes_left}
-use Rattle.typst_lookahead.specs.View.{Fills}
-use Rattle.typst_lookahead.proofs.Grows.{Grows}
+use Rattle.typst_language.specs.Bytes.{bytes_left}
+use Rattle.typst_language.specs.View.{Fills}
+use Rattle.typst_language.proofs.Grows.{Grows}
 use Rattle.typst_code.specs.Expressions.{code_primary, code_tail_turn}
 use Rattle.typst_code.specs.Outside.{Blocks}
 use Rattle.typst_code.proofs.expressions.code_expr.Given as goal

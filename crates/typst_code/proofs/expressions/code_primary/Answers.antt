@@ -1,5 +1,5 @@
 use Rattle.std.proofs.Common.{sym, ap, ◌∙◌}
-use Rattle.typst_lookahead.proofs.Steps.{does-next, does-peek, does-gives}
+use Rattle.typst_language.proofs.Steps.{does-next, does-peek, does-gives}
 use Rattle.typst_code.specs.Expressions.{code_primary, code_head}
 use Rattle.typst_code.specs.declared.heads.CodeHead.TheVariants as head
 use Rattle.typst_code.proofs.Begins.{at-head}

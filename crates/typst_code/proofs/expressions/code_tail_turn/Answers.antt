@@ -1,6 +1,6 @@
 use Rattle.std.proofs.Common.{sym, ap, ◌∙◌}
 use Rattle.typst_language.specs.Hand.{told}
-use Rattle.typst_lookahead.proofs.Steps.{does-next, does-peek, does-gives}
+use Rattle.typst_language.proofs.Steps.{does-next, does-peek, does-gives}
 use Rattle.typst_code.specs.Expressions.{code_tail_turn, code_tail}
 use Rattle.typst_code.specs.declared.heads.CodeTail.TheVariants as tail
 use Rattle.typst_code.proofs.Begins.{at-tail}

@@ -1,5 +1,5 @@
-use Rattle.typst_lookahead.proofs.Nots.{is-not, is-so}
-use Rattle.typst_lookahead.proofs.Steps.{does-next, does-gives, does-pick, does-other}
+use Rattle.typst_language.proofs.Nots.{is-not, is-so}
+use Rattle.typst_language.proofs.Steps.{does-next, does-gives, does-pick, does-other}
 use Rattle.typst_code.specs.Expressions.{direct_field}
 use Rattle.typst_code.proofs.expressions.direct_field.Goals as goal
 

@@ -3,7 +3,7 @@ use Rattle.typst_kinds.specs.Kinds.{same}
 use Rattle.typst_kinds.specs.declared.kind.SyntaxKind.TheVariants as kind
 use Rattle.typst_code.specs.Expressions.{binary_tail}
 use Rattle.typst_code.specs.declared.heads.CodeTail.{CodeTail}
-use Rattle.typst_lookahead.proofs.Nots.{is-not}
+use Rattle.typst_language.proofs.Nots.{is-not}
 use Rattle.typst_code.proofs.heads.operator_tail.Goals as goal
 
 neither : (d n : Bool) (x y z r : CodeTail) → d ≡ false → n ≡ false → r ≡ z → r ≡ (if d then x else (if n then y else z))

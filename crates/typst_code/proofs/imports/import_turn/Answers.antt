@@ -1,6 +1,6 @@
 use Rattle.typst_kinds.specs.Kinds.{is_terminator}
-use Rattle.typst_lookahead.proofs.Steps.{does-next, does-gives, does-node}
-use Rattle.typst_lookahead.proofs.Asks.{asks-yes, asks-no}
+use Rattle.typst_language.proofs.Steps.{does-next, does-gives, does-node}
+use Rattle.typst_language.proofs.Asks.{asks-yes, asks-no}
 use Rattle.typst_code.specs.Imports.{import_turn, import_shape}
 use Rattle.typst_code.proofs.imports.import_turn.Goals as goal
 

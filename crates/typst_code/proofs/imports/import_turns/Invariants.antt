@@ -1,7 +1,7 @@
 use Rattle.typst_language.specs.Meaning.{Level}
-use Rattle.typst_lookahead.specs.Bytes.{bytes_left}
-use Rattle.typst_lookahead.specs.View.{Fills}
-use Rattle.typst_lookahead.proofs.Steps.{Turning}
+use Rattle.typst_language.specs.Bytes.{bytes_left}
+use Rattle.typst_language.specs.View.{Fills}
+use Rattle.typst_language.proofs.Steps.{Turning}
 use Rattle.typst_code.specs.Imports.{import_turn}
 use Rattle.typst_code.proofs.imports.import_turns.Given as goal
 

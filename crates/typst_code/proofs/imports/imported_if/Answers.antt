@@ -1,4 +1,4 @@
-use Rattle.typst_lookahead.proofs.Steps.{does-gives, does-pick, does-other}
+use Rattle.typst_language.proofs.Steps.{does-gives, does-pick, does-other}
 use Rattle.typst_code.proofs.imports.imported_if.Goals as goal
 
 pub returns-in_ok-imported : goal.returns-in_ok-imported

@@ -3,11 +3,11 @@ use Rattle.std.specs.Prelude.{is_some}
 use Rattle.typst_kinds.specs.Kinds.{same}
 use Rattle.typst_kinds.specs.declared.kind.SyntaxKind.TheVariants as kind
 use Rattle.typst_language.specs.Shape.{seen}
-use Rattle.typst_lookahead.proofs.Steps.{does-next, does-gives}
-use Rattle.typst_lookahead.proofs.Changes.{does-seeing}
-use Rattle.typst_lookahead.proofs.Asks.{asks-yes, asks-no}
-use Rattle.typst_lookahead.proofs.Nots.{is-not, is-so}
-use Rattle.typst_lookahead.proofs.Values.{does-value}
+use Rattle.typst_language.proofs.Steps.{does-next, does-gives}
+use Rattle.typst_language.proofs.Changes.{does-seeing}
+use Rattle.typst_language.proofs.Asks.{asks-yes, asks-no}
+use Rattle.typst_language.proofs.Nots.{is-not, is-so}
+use Rattle.typst_language.proofs.Values.{does-value}
 use Rattle.typst_code.specs.Patterns.{name_of}
 use Rattle.typst_code.specs.Params.{defaulted}
 use Rattle.typst_code.proofs.parameters.defaulted.Goals as goal

@@ -1,8 +1,8 @@
 use Rattle.std.proofs.Common.{codes}
 use Rattle.typst_kinds.specs.Kinds.{same}
 use Rattle.typst_kinds.specs.declared.kind.SyntaxKind.TheVariants as kind
-use Rattle.typst_lookahead.proofs.Steps.{does-next, does-gives, does-node}
-use Rattle.typst_lookahead.proofs.Asks.{asks-yes, asks-no}
+use Rattle.typst_language.proofs.Steps.{does-next, does-gives, does-node}
+use Rattle.typst_language.proofs.Asks.{asks-yes, asks-no}
 use Rattle.typst_code.specs.Patterns.{named_shape, sink_shape}
 use Rattle.typst_code.specs.Params.{param}
 use Rattle.typst_code.proofs.parameters.param.Goals as goal

@@ -1,6 +1,6 @@
 use Rattle.typst_kinds.specs.Kinds.{is_terminator}
-use Rattle.typst_lookahead.proofs.Steps.{does-next, does-gives, does-pick, does-other}
-use Rattle.typst_lookahead.proofs.Asks.{found, asks-yes, asks-no}
+use Rattle.typst_language.proofs.Steps.{does-next, does-gives, does-pick, does-other}
+use Rattle.typst_language.proofs.Asks.{found, asks-yes, asks-no}
 use Rattle.typst_code.specs.Params.{param_turn, begins_param}
 use Rattle.typst_code.proofs.parameters.param_turn.Goals as goal
 

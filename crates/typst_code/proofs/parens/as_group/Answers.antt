@@ -1,6 +1,6 @@
 use Rattle.std.proofs.Common.{◌∙◌, ap}
-use Rattle.typst_lookahead.proofs.Steps.{does-next, does-gives, does-peek}
-use Rattle.typst_lookahead.proofs.Values.{does-value}
+use Rattle.typst_language.proofs.Steps.{does-next, does-gives, does-peek}
+use Rattle.typst_language.proofs.Values.{does-value}
 use Rattle.typst_code.specs.Parens.{as_group, behind_group}
 use Rattle.typst_code.proofs.parens.as_group.Goals as goal
 

@@ -1,12 +1,12 @@
 use Rattle.std.proofs.Common.{refl, ap, ◌∙◌}
 use Rattle.typst_language.specs.Depth.{is_end}
-use Rattle.typst_lookahead.specs.Checkpoint.{saved}
-use Rattle.typst_lookahead.specs.View.{View}
-use Rattle.typst_lookahead.proofs.Steps.{does-next, does-gives}
-use Rattle.typst_lookahead.proofs.Values.{does-value}
-use Rattle.typst_lookahead.proofs.Aside.{back-aside, begun-fits, does-aside}
-use Rattle.typst_lookahead.proofs.Begins.{begins-leaves}
-use Rattle.typst_lookahead.proofs.Either.{back-changed, back-chosen, back-fits, does-chosen, does-either, goes-back}
+use Rattle.typst_language.specs.Checkpoint.{saved}
+use Rattle.typst_language.specs.View.{View}
+use Rattle.typst_language.proofs.Steps.{does-next, does-gives}
+use Rattle.typst_language.proofs.Values.{does-value}
+use Rattle.typst_language.proofs.Aside.{back-aside, begun-fits, does-aside}
+use Rattle.typst_language.proofs.Begins.{begins-leaves}
+use Rattle.typst_language.proofs.Either.{back-changed, back-chosen, back-fits, does-chosen, does-either, goes-back}
 use Rattle.typst_code.specs.Parens.{is_arrow, is_eq}
 use Rattle.typst_code.proofs.Firsts.{begins-as_group}
 use Rattle.typst_code.proofs.Guesses.{back-comes}

@@ -1,8 +1,8 @@
 use Rattle.std.proofs.Common.{◌∙◌, ap}
 use Rattle.typst_kinds.specs.Kinds.{same, is_terminator}
 use Rattle.typst_kinds.specs.declared.kind.SyntaxKind.TheVariants as kind
-use Rattle.typst_lookahead.proofs.Steps.{does-gives}
-use Rattle.typst_lookahead.proofs.Asks.{asks-yes, asks-no}
+use Rattle.typst_language.proofs.Steps.{does-gives}
+use Rattle.typst_language.proofs.Asks.{asks-yes, asks-no}
 use Rattle.typst_code.specs.Parts.{separator}
 use Rattle.typst_code.proofs.parts.separator.Goals as goal
 

@@ -1,9 +1,9 @@
 use Rattle.std.proofs.Common.{◌∙◌, ap, map}
 use Rattle.typst_language.specs.Shape.{seen}
 use Rattle.typst_language.specs.Shape.Shape.{keeps}
-use Rattle.typst_lookahead.proofs.Steps.{does-next, does-gives, does-node}
-use Rattle.typst_lookahead.proofs.Changes.{does-seeing}
-use Rattle.typst_lookahead.proofs.Values.{does-value}
+use Rattle.typst_language.proofs.Steps.{does-next, does-gives, does-node}
+use Rattle.typst_language.proofs.Changes.{does-seeing}
+use Rattle.typst_language.proofs.Values.{does-value}
 use Rattle.typst_code.specs.Patterns.{bound_name, bound_change, name_of}
 use Rattle.typst_code.proofs.patterns.bound_name.Goals as goal
 

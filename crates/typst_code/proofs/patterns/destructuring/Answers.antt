@@ -1,8 +1,8 @@
 use Rattle.std.proofs.Common.{◌∙◌, ap, sym}
 use Rattle.typst_kinds.specs.Kinds.{same}
 use Rattle.typst_kinds.specs.declared.kind.SyntaxKind.TheVariants as kind
-use Rattle.typst_lookahead.proofs.Steps.{does-next, does-gives, does-node}
-use Rattle.typst_lookahead.proofs.Values.{does-entered}
+use Rattle.typst_language.proofs.Steps.{does-next, does-gives, does-node}
+use Rattle.typst_language.proofs.Values.{does-entered}
 use Rattle.typst_language.specs.Shape.{encloses}
 use Rattle.typst_code.specs.Parts.{in_parens}
 use Rattle.typst_code.specs.Patterns.{destructuring, parts_kind}

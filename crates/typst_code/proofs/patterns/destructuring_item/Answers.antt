@@ -1,9 +1,9 @@
 use Rattle.std.proofs.Common.{◌∙◌, ap, codes}
 use Rattle.typst_kinds.specs.Kinds.{same}
 use Rattle.typst_kinds.specs.declared.kind.SyntaxKind.TheVariants as kind
-use Rattle.typst_lookahead.proofs.Steps.{does-next, does-gives, does-node}
-use Rattle.typst_lookahead.proofs.Asks.{asks-yes, asks-no}
-use Rattle.typst_lookahead.proofs.Values.{does-value}
+use Rattle.typst_language.proofs.Steps.{does-next, does-gives, does-node}
+use Rattle.typst_language.proofs.Asks.{asks-yes, asks-no}
+use Rattle.typst_language.proofs.Values.{does-value}
 use Rattle.typst_code.specs.Patterns.{destructuring_item, named_shape, sink_shape, with_part}
 use Rattle.typst_code.proofs.patterns.destructuring_item.Goals as goal
 

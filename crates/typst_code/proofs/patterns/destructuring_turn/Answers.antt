@@ -1,8 +1,8 @@
 use Rattle.std.proofs.Common.{ap, true}
 use Rattle.typst_kinds.specs.Kinds.{is_terminator}
-use Rattle.typst_lookahead.proofs.Steps.{does-next, does-gives, does-pick, does-other}
-use Rattle.typst_lookahead.proofs.Asks.{found, asks-yes, asks-no}
-use Rattle.typst_lookahead.proofs.Values.{does-value}
+use Rattle.typst_language.proofs.Steps.{does-next, does-gives, does-pick, does-other}
+use Rattle.typst_language.proofs.Asks.{found, asks-yes, asks-no}
+use Rattle.typst_language.proofs.Values.{does-value}
 use Rattle.typst_code.specs.Patterns.{destructuring_turn, begins_part}
 use Rattle.typst_code.proofs.patterns.destructuring_turn.Goals as goal
 

@@ -1,11 +1,11 @@
 use Rattle.std.proofs.Common.{ap, not, refl}
 use Rattle.typst_kinds.specs.Kinds.{same}
 use Rattle.typst_kinds.specs.declared.kind.SyntaxKind.TheVariants as kind
-use Rattle.typst_lookahead.proofs.Steps.{does-gives}
-use Rattle.typst_lookahead.proofs.Begins.{begins-leaves}
-use Rattle.typst_lookahead.proofs.Either.{does-chosen, does-either, goes-back}
-use Rattle.typst_lookahead.proofs.Asks.{asks-yes, asks-no}
-use Rattle.typst_lookahead.proofs.Nots.{is-not, is-so}
+use Rattle.typst_language.proofs.Steps.{does-gives}
+use Rattle.typst_language.proofs.Begins.{begins-leaves}
+use Rattle.typst_language.proofs.Either.{does-chosen, does-either, goes-back}
+use Rattle.typst_language.proofs.Asks.{asks-yes, asks-no}
+use Rattle.typst_language.proofs.Nots.{is-not, is-so}
 use Rattle.typst_code.specs.Patterns.{key}
 use Rattle.typst_code.proofs.PatternFirsts.{begins-name}
 use Rattle.typst_code.proofs.patterns.key.Goals as goal

@@ -1,4 +1,4 @@
-use Rattle.typst_lookahead.proofs.Steps.{does-next, does-gives, does-pick, does-other}
+use Rattle.typst_language.proofs.Steps.{does-next, does-gives, does-pick, does-other}
 use Rattle.typst_code.specs.Patterns.{key_or_pattern}
 use Rattle.typst_code.proofs.patterns.key_or_pattern.Goals as goal
 

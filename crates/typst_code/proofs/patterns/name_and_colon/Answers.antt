@@ -1,8 +1,8 @@
 use Rattle.std.proofs.Common.{◌∙◌, ap}
 use Rattle.typst_kinds.specs.Kinds.{same}
 use Rattle.typst_kinds.specs.declared.kind.SyntaxKind.TheVariants as kind
-use Rattle.typst_lookahead.proofs.Steps.{does-next, does-gives, does-peek}
-use Rattle.typst_lookahead.proofs.Values.{does-value}
+use Rattle.typst_language.proofs.Steps.{does-next, does-gives, does-peek}
+use Rattle.typst_language.proofs.Values.{does-value}
 use Rattle.typst_code.specs.Patterns.{name_and_colon}
 use Rattle.typst_code.proofs.patterns.name_and_colon.Goals as goal
 

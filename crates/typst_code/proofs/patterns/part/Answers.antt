@@ -1,9 +1,9 @@
 use Rattle.std.proofs.Common.{refl}
 use Rattle.typst_kinds.specs.Kinds.{same}
 use Rattle.typst_kinds.specs.declared.kind.SyntaxKind.TheVariants as kind
-use Rattle.typst_lookahead.proofs.Steps.{does-next, does-gives}
-use Rattle.typst_lookahead.proofs.Asks.{asks-yes, asks-no}
-use Rattle.typst_lookahead.proofs.Nots.{is-not, is-so}
+use Rattle.typst_language.proofs.Steps.{does-next, does-gives}
+use Rattle.typst_language.proofs.Asks.{asks-yes, asks-no}
+use Rattle.typst_language.proofs.Nots.{is-not, is-so}
 use Rattle.typst_code.specs.Patterns.{part}
 use Rattle.typst_code.proofs.patterns.part.Goals as goal
 

@@ -1,7 +1,7 @@
 use Rattle.std.proofs.Common.{sym, ◌∙◌}
 use Rattle.typst_kinds.specs.Kinds.{is_keyword}
-use Rattle.typst_lookahead.proofs.Steps.{does-next, does-gives, does-pick, does-other}
-use Rattle.typst_lookahead.proofs.Asks.{found, asks-yes, asks-no}
+use Rattle.typst_language.proofs.Steps.{does-next, does-gives, does-pick, does-other}
+use Rattle.typst_language.proofs.Asks.{found, asks-yes, asks-no}
 use Rattle.typst_code.specs.Patterns.{pattern_leaf, begins_leaf}
 use Rattle.typst_code.proofs.patterns.pattern_leaf.Goals as goal
 

@@ -1,7 +1,7 @@
 use Rattle.typst_kinds.specs.Kinds.{same}
 use Rattle.typst_kinds.specs.declared.kind.SyntaxKind.TheVariants as kind
-use Rattle.typst_lookahead.proofs.Steps.{does-next, does-gives}
-use Rattle.typst_lookahead.proofs.Asks.{asks-yes, asks-no}
+use Rattle.typst_language.proofs.Steps.{does-next, does-gives}
+use Rattle.typst_language.proofs.Asks.{asks-yes, asks-no}
 use Rattle.typst_code.specs.Sequences.{missing_break}
 use Rattle.typst_code.proofs.sequences.missing_break.Goals as goal
 

@@ -1,4 +1,4 @@
-use Rattle.typst_lookahead.proofs.Blocks.{does-block, fills-apart}
+use Rattle.typst_language.proofs.Blocks.{does-block, fills-apart}
 use Rattle.typst_code.proofs.sequences.read_code.Goals as goal
 
 pub returns : goal.returns

@@ -1,6 +1,6 @@
-use Rattle.typst_lookahead.proofs.Steps.{does-next}
+use Rattle.typst_language.proofs.Steps.{does-next}
 use Rattle.typst_markup.specs.Starts.{begins_code}
-use Rattle.typst_lookahead.proofs.Asks.{asks-yes, asks-no}
+use Rattle.typst_language.proofs.Asks.{asks-yes, asks-no}
 use Rattle.typst_code.specs.Sequences.{statement}
 use Rattle.typst_code.proofs.sequences.statement.Goals as goal
 

@@ -1,5 +1,5 @@
 use Rattle.std.proofs.Common.{arith}
-use Rattle.typst_lookahead.proofs.Nests.{nests-next, nests-last}
+use Rattle.typst_language.proofs.Nests.{nests-next, nests-last}
 use Rattle.typst_code.specs.Statements.{conditional}
 use Rattle.typst_code.proofs.statements.conditional.Goals as goal
 

@@ -1,4 +1,4 @@
-use Rattle.typst_lookahead.proofs.Steps.{does-next, does-gives}
+use Rattle.typst_language.proofs.Steps.{does-next, does-gives}
 use Rattle.typst_code.specs.Statements.{field}
 use Rattle.typst_code.proofs.statements.field.Goals as goal
 

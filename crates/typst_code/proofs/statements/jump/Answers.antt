@@ -1,5 +1,5 @@
 use Rattle.typst_language.specs.Shape.{becomes}
-use Rattle.typst_lookahead.proofs.Steps.{does-node}
+use Rattle.typst_language.proofs.Steps.{does-node}
 use Rattle.typst_code.specs.Statements.{jump}
 use Rattle.typst_code.proofs.statements.jump.Goals as goal
 

@@ -1,5 +1,5 @@
-use Rattle.typst_lookahead.proofs.Steps.{does-next, does-gives}
-use Rattle.typst_lookahead.proofs.Asks.{asks-yes, asks-no}
+use Rattle.typst_language.proofs.Steps.{does-next, does-gives}
+use Rattle.typst_language.proofs.Asks.{asks-yes, asks-no}
 use Rattle.typst_code.specs.Statements.{second_pattern, begins_pattern}
 use Rattle.typst_code.proofs.statements.second_pattern.Goals as goal
 

@@ -1,6 +1,6 @@
 use Rattle.typst_kinds.specs.declared.kind.SyntaxKind.TheVariants as kind
 use Rattle.typst_language.specs.Shape.{becomes}
-use Rattle.typst_lookahead.proofs.Steps.{does-next, does-node}
+use Rattle.typst_language.proofs.Steps.{does-next, does-node}
 use Rattle.std.proofs.Common.{◌∙◌, ap}
 use Rattle.typst_kinds.specs.Kinds.{same}
 use Rattle.typst_code.specs.Statements.{set_rule}

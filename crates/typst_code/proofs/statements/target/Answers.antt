@@ -1,6 +1,6 @@
 use Rattle.std.proofs.Common.{refl, arith}
-use Rattle.typst_lookahead.proofs.Grows.{grows-init, grows-next, grows-stuck, grows-last}
-use Rattle.typst_lookahead.proofs.Steps.{does-next, does-gives}
+use Rattle.typst_language.proofs.Grows.{grows-init, grows-next, grows-stuck, grows-last}
+use Rattle.typst_language.proofs.Steps.{does-next, does-gives}
 use Rattle.typst_code.specs.Statements.{target}
 use Rattle.typst_code.proofs.statements.target.Goals as goal
 

@@ -41,7 +41,7 @@ use Rattle.typst_tokens.specs.Identifiers.{keyword_or_name, ident}
 use Rattle.typst_tokens.specs.Invalid.{foreign, invalid}
 use Rattle.typst_tokens.specs.Numbers.{suffixed, exponent_digits, signed_digits, exponent, fraction, decimal, dotted, in_base, zero_first, number_token}
 use Rattle.typst_tokens.specs.Strings.{string}
-use Rattle.typst_grammar.specs.Expected.{expects, expect_identifier, seeing}
+use Rattle.typst_language.specs.Expected.{expects, expect_identifier, seeing}
 use Rattle.typst_grammar.specs.Embedded.{embedded_end, embedded_expr, embedded}
 use Rattle.typst_grammar.specs.Sequences.{missing_break, statement_end, statement, code_turn, code_exprs, code, code_block}
 use Rattle.typst_grammar.specs.Arguments.{argument, argument_turn, argument_list, listed_arguments, content_turn, missing_arguments, begin_arguments, arguments}

@@ -1,6 +1,6 @@
 use Rattle.std.proofs.Common.{◌≡◌, ◌-◌, ℕ, suc, refl, subst, arith}
 use Rattle.typst_language.specs.Calls.Call.{MarkupExpr, CodeExpr, MathExpr, Pattern}
-use Rattle.typst_code.specs.View.{Makes}
+use Rattle.typst_language.specs.View.{Makes}
 use Rattle.typst_grammar.specs.Told.{told_at}
 use Rattle.typst_grammar.proofs.AtLevels.{blocks-at, calls-at, fills-level, makes-production}
 use Rattle.typst_grammar.proofs.grammar.+knot.Goals as goal

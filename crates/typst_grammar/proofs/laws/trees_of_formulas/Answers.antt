@@ -24,7 +24,7 @@ use Rattle.typst_code.specs.MathArguments.{argument_exprs as math_argument_exprs
 use Rattle.typst_code.specs.MathExpressions.{math_text as math_math_text, root as math_root, math_primary as math_math_primary, fraction as math_fraction, math_tail_turn as math_math_tail_turn, math_grown as math_math_grown, math_expr as math_math_expr}
 use Rattle.std.specs.Str.{chars}
 use Rattle.typst_language.specs.ArgumentTokens.{spread_argument, named_argument, before_colon}
-use Rattle.typst_code.specs.Expected.{seeing, expects}
+use Rattle.typst_language.specs.Expected.{seeing, expects}
 use Rattle.typst_grammar.proofs.laws.trees_of_formulas.Goals as goal
 
 pub returns : goal.returns

@@ -7,10 +7,10 @@ use Rattle.typst_language.specs.declared.reading.AtNewline.TheVariants as newlin
 use Rattle.typst_language.specs.declared.reading.Reading.{Reading}
 use Rattle.typst_code.specs.Markup.{content_block}
 use Rattle.typst_code.specs.Sequences.{code_block}
-use Rattle.typst_code.proofs.Steps.{does-next, does-look}
-use Rattle.typst_code.proofs.Blocks.{fills-apart}
+use Rattle.typst_language.proofs.Steps.{does-next, does-look}
+use Rattle.typst_language.proofs.Blocks.{fills-apart}
 use Rattle.typst_lines.specs.Place.{place_at}
-use Rattle.typst_code.specs.View.{View}
+use Rattle.typst_language.specs.View.{View}
 use Rattle.typst_grammar.specs.Part.{IsGiven}
 use Rattle.typst_grammar.specs.Told.{told_at}
 use Rattle.typst_grammar.proofs.AtLevels.{calls-at, fills-level}

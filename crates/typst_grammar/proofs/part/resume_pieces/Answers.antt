@@ -1,6 +1,6 @@
 use Rattle.std.proofs.Common.{refl}
 use Rattle.typst_language.specs.Calls.Call.{MarkupExpr, CodeExpr, MathExpr, Pattern}
-use Rattle.typst_code.proofs.Steps.{does-look}
+use Rattle.typst_language.proofs.Steps.{does-look}
 use Rattle.typst_lines.specs.Place.{place_at}
 use Rattle.typst_grammar.specs.Told.{told_at}
 use Rattle.typst_grammar.proofs.AtLevels.{calls-at, fills-level}

@@ -1,5 +1,5 @@
 use Rattle.std.proofs.Common.{ap, sym, subst, ◌∙◌}
-use Rattle.typst_code.specs.Checkpoint.{Saved, went_back}
+use Rattle.typst_language.specs.Checkpoint.{Saved, went_back}
 use Rattle.typst_grammar.specs.Part.{IsTokenStart}
 use Rattle.typst_grammar.proofs.Pieces.{back-again}
 use Rattle.typst_grammar.proofs.part.token_start.Goals as goal

@@ -1,6 +1,6 @@
 use Rattle.std.proofs.Common.{ap, sym, ◌∙◌}
-use Rattle.typst_lookahead.proofs.Steps.{does-next, does-gives}
-use Rattle.typst_lookahead.proofs.Asks.{asks-yes, asks-no}
+use Rattle.typst_language.proofs.Steps.{does-next, does-gives}
+use Rattle.typst_language.proofs.Asks.{asks-yes, asks-no}
 use Rattle.typst_markup.specs.Attachments.{attachment_turn, is_in, without}
 use Rattle.typst_markup.proofs.attachments.attachment_turn.Goals as goal
 

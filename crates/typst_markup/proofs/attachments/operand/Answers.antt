@@ -1,7 +1,7 @@
 use Rattle.std.proofs.Common.{refl}
 use Rattle.typst_language.specs.Shape.Change.{unparened}
 use Rattle.typst_language.specs.Shape.Shape.{keeps}
-use Rattle.typst_lookahead.proofs.Steps.{does-node}
+use Rattle.typst_language.proofs.Steps.{does-node}
 use Rattle.typst_markup.specs.Attachments.{operand}
 use Rattle.typst_markup.proofs.attachments.operand.Goals as goal
 

@@ -1,5 +1,5 @@
-use Rattle.typst_lookahead.proofs.Steps.{does-next, does-gives}
-use Rattle.typst_lookahead.proofs.Asks.{asks-yes, asks-no}
+use Rattle.typst_language.proofs.Steps.{does-next, does-gives}
+use Rattle.typst_language.proofs.Asks.{asks-yes, asks-no}
 use Rattle.typst_markup.specs.Attachments.{primes, is_in}
 use Rattle.typst_markup.proofs.attachments.primes.Goals as goal
 

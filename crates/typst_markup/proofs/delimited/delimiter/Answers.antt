@@ -1,6 +1,6 @@
 use Rattle.typst_language.specs.Shape.Change.{renamed}
 use Rattle.typst_language.specs.Shape.Shape.{keeps}
-use Rattle.typst_lookahead.proofs.Steps.{does-next, does-gives, does-node}
+use Rattle.typst_language.proofs.Steps.{does-next, does-gives, does-node}
 use Rattle.typst_markup.specs.Delimited.{delimiter}
 use Rattle.typst_markup.proofs.delimited.delimiter.Goals as goal
 

@@ -1,4 +1,4 @@
-use Rattle.typst_lookahead.proofs.Steps.{does-gives, does-pick, does-other}
+use Rattle.typst_language.proofs.Steps.{does-gives, does-pick, does-other}
 use Rattle.typst_markup.specs.Delimited.{delimiter_if}
 use Rattle.typst_markup.proofs.delimited.delimiter_if.Goals as goal
 

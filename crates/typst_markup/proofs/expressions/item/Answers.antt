@@ -1,8 +1,8 @@
 use Rattle.typst_language.specs.Shape.{becomes}
 use Rattle.typst_language.specs.declared.reading.AtNewline.TheVariants as newline
 use Rattle.typst_markup.specs.Markup.{item, at_newline}
-use Rattle.typst_lookahead.proofs.Steps.{does-next, does-node}
-use Rattle.typst_lookahead.proofs.Values.{does-entered}
+use Rattle.typst_language.proofs.Steps.{does-next, does-node}
+use Rattle.typst_language.proofs.Values.{does-entered}
 use Rattle.typst_markup.proofs.expressions.item.Goals as goal
 
 pub returns : goal.returns

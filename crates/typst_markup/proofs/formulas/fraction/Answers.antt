@@ -1,5 +1,5 @@
 use Rattle.std.proofs.Common.{sym}
-use Rattle.typst_lookahead.proofs.Steps.{does-next}
+use Rattle.typst_language.proofs.Steps.{does-next}
 use Rattle.typst_markup.specs.MathExpressions.{fraction}
 use Rattle.typst_markup.proofs.formulas.fraction.Goals as goal
 

@@ -1,7 +1,7 @@
 use Rattle.typst_language.specs.Meaning.{Level}
-use Rattle.typst_lookahead.specs.Bytes.{bytes_left}
-use Rattle.typst_lookahead.specs.View.{Fills}
-use Rattle.typst_lookahead.proofs.Grows.{Grows}
+use Rattle.typst_language.specs.Bytes.{bytes_left}
+use Rattle.typst_language.specs.View.{Fills}
+use Rattle.typst_language.proofs.Grows.{Grows}
 use Rattle.typst_markup.specs.MathExpressions.{math_primary, math_tail_turn}
 use Rattle.typst_markup.proofs.formulas.math_grown.Given as goal
 

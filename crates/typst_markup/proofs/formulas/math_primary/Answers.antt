@@ -1,5 +1,5 @@
 use Rattle.std.proofs.Common.{sym, ap, ◌∙◌}
-use Rattle.typst_lookahead.proofs.Steps.{does-next, does-gives, does-peek}
+use Rattle.typst_language.proofs.Steps.{does-next, does-gives, does-peek}
 use Rattle.typst_markup.specs.MathExpressions.{math_primary, math_head}
 use Rattle.typst_markup.specs.declared.math_heads.MathHead.TheVariants as head
 use Rattle.typst_markup.proofs.Begins.{at-head}

@@ -1,6 +1,6 @@
 use Rattle.std.proofs.Common.{sym, ap, ◌∙◌}
 use Rattle.typst_language.specs.Hand.{told}
-use Rattle.typst_lookahead.proofs.Steps.{does-next, does-peek, does-gives}
+use Rattle.typst_language.proofs.Steps.{does-next, does-peek, does-gives}
 use Rattle.typst_markup.specs.MathExpressions.{math_tail_turn, math_tail}
 use Rattle.typst_markup.specs.declared.math_heads.MathTail.TheVariants as tail
 use Rattle.typst_markup.proofs.Begins.{at-tail}

@@ -1,6 +1,6 @@
-use Rattle.typst_lookahead.proofs.Steps.{does-gives, does-pick, does-other}
+use Rattle.typst_language.proofs.Steps.{does-gives, does-pick, does-other}
 use Rattle.typst_markup.specs.Equations.{separates, ends_list}
-use Rattle.typst_lookahead.proofs.Asks.{found, asks-yes, asks-no}
+use Rattle.typst_language.proofs.Asks.{found, asks-yes, asks-no}
 use Rattle.typst_markup.specs.MathArguments.{argument_end}
 use Rattle.typst_markup.proofs.math_arguments.argument_end.Goals as goal
 

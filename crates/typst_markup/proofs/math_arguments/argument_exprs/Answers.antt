@@ -1,5 +1,5 @@
 use Rattle.std.proofs.Common.{sym, ◌∙◌}
-use Rattle.typst_lookahead.proofs.Steps.{does-next, does-gives, does-pick, does-other}
+use Rattle.typst_language.proofs.Steps.{does-next, does-gives, does-pick, does-other}
 use Rattle.typst_markup.specs.MathArguments.{argument_exprs}
 use Rattle.typst_markup.proofs.math_arguments.argument_exprs.Goals as goal
 

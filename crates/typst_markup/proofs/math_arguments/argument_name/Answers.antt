@@ -1,8 +1,8 @@
 use Rattle.std.proofs.Common.{ap, ◌∙◌, map}
 use Rattle.typst_language.specs.Shape.{seen}
-use Rattle.typst_lookahead.proofs.Changes.{does-seeing}
-use Rattle.typst_lookahead.proofs.Steps.{does-next, does-gives}
-use Rattle.typst_lookahead.proofs.Values.{does-value}
+use Rattle.typst_language.proofs.Changes.{does-seeing}
+use Rattle.typst_language.proofs.Steps.{does-next, does-gives}
+use Rattle.typst_language.proofs.Values.{does-value}
 use Rattle.typst_markup.specs.Keys.{key_of}
 use Rattle.typst_markup.specs.MathArguments.{argument_name}
 use Rattle.typst_markup.proofs.math_arguments.argument_name.Goals as goal

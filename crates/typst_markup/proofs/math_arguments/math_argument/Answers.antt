@@ -1,6 +1,6 @@
 use Rattle.std.proofs.Common.{sym, ◌∙◌}
-use Rattle.typst_lookahead.proofs.Steps.{does-next, does-gives, does-peek, does-pick, does-other}
-use Rattle.typst_lookahead.proofs.Values.{does-value}
+use Rattle.typst_language.proofs.Steps.{does-next, does-gives, does-peek, does-pick, does-other}
+use Rattle.typst_language.proofs.Values.{does-value}
 use Rattle.typst_markup.specs.MathArguments.{math_argument}
 use Rattle.typst_markup.proofs.math_arguments.math_argument.Goals as goal
 

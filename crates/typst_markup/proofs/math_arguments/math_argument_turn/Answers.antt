@@ -1,6 +1,6 @@
-use Rattle.typst_lookahead.proofs.Steps.{does-next, does-gives}
+use Rattle.typst_language.proofs.Steps.{does-next, does-gives}
 use Rattle.typst_markup.specs.Equations.{ends_list}
-use Rattle.typst_lookahead.proofs.Asks.{asks-yes, asks-no}
+use Rattle.typst_language.proofs.Asks.{asks-yes, asks-no}
 use Rattle.typst_markup.specs.MathArguments.{math_argument_turn}
 use Rattle.typst_markup.proofs.math_arguments.math_argument_turn.Goals as goal
 

@@ -3,7 +3,7 @@ use Rattle.typst_kinds.specs.Kinds.{same}
 use Rattle.typst_kinds.specs.declared.kind.SyntaxKind.TheVariants as kind
 use Rattle.typst_language.specs.Shape.{encloses}
 use Rattle.typst_markup.specs.Markup.{content_block, markup_reading}
-use Rattle.typst_lookahead.proofs.Steps.{does-next, does-gives, does-shape, does-scoped, loose-knows, rewrapped-loose}
+use Rattle.typst_language.proofs.Steps.{does-next, does-gives, does-shape, does-scoped, loose-knows, rewrapped-loose}
 use Rattle.typst_markup.proofs.references.content_block.Goals as goal
 
 pub returns : goal.returns

@@ -1,6 +1,6 @@
 use Rattle.std.proofs.Common.{◌==◌, ◌∙◌, ap, sym}
 use Rattle.std.proofs.lemmas.Bool.{ne_eqb}
-use Rattle.typst_lookahead.proofs.Steps.{does-next, does-gives, does-look, does-pick, does-other, does-deepest, first-noted}
+use Rattle.typst_language.proofs.Steps.{does-next, does-gives, does-look, does-pick, does-other, does-deepest, first-noted}
 use Rattle.typst_markup.specs.Markup.{markup_run}
 use Rattle.typst_markup.proofs.sequences.markup_run.Goals as goal
 

@@ -2,10 +2,10 @@ use Rattle.std.proofs.Common.{◌≡◌, ◌∙◌, ℕ, Bool, true, ap, refl, s
 use Rattle.typst_language.specs.Meaning.{Level}
 use Rattle.typst_language.specs.Steps.{peek}
 use Rattle.typst_language.specs.Syntax.Parser.{gives, next}
-use Rattle.typst_lookahead.specs.View.{View, Does}
+use Rattle.typst_language.specs.View.{View, Does}
 use Rattle.typst_markup.specs.Markup.{markup_turn, note_piece, ends}
 use Rattle.typst_markup.specs.Stops.{stops_at}
-use Rattle.typst_lookahead.proofs.Steps.{does-next, does-gives, does-peek, does-pick, does-other}
+use Rattle.typst_language.proofs.Steps.{does-next, does-gives, does-peek, does-pick, does-other}
 use Rattle.typst_markup.proofs.sequences.markup_turn.Goals as goal
 
 -- what comes behind an expression was noted with the newlines that were passed

@@ -1,7 +1,7 @@
 use Rattle.std.proofs.Common.{drop, sym, ◌∙◌}
 use Rattle.typst_markup.specs.Markup.{markup_is_empty}
-use Rattle.typst_lookahead.proofs.Steps.{does-next, does-gives, does-node_with_trivia, nil-seen}
-use Rattle.typst_lookahead.proofs.Values.{does-value}
+use Rattle.typst_language.proofs.Steps.{does-next, does-gives, does-node_with_trivia, nil-seen}
+use Rattle.typst_language.proofs.Values.{does-value}
 use Rattle.typst_markup.proofs.sequences.markup_with_trivia.Goals as goal
 
 pub returns : goal.returns

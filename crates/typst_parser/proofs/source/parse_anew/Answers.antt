@@ -2,8 +2,8 @@ use Rattle.std.proofs.Common.{◌≡◌, ◌∙◌, Some, None, ap, subst}
 use Rattle.std.proofs.lemmas.Str.{encodes-chars}
 use Rattle.std.specs.Str.{chars}
 use Rattle.typst_tree.specs.Tree.{Tree, text_of}
-use Rattle.typst_reparser.proofs.CandidateWorth.{tree-inner}
-use Rattle.typst_reparser.proofs.Whole.{leaves}
+use Rattle.typst_edits.proofs.CandidateWorth.{tree-inner}
+use Rattle.typst_edits.proofs.Whole.{leaves}
 use Rattle.typst_parser.specs.Headline.{numbered_in}
 use Rattle.typst_parser.proofs.Fresh.{fresh-text, fresh-numbers, placed-new}
 use Rattle.typst_parser.proofs.source.parse_anew.Goals as goal

@@ -3,7 +3,7 @@ use Rattle.typst_language.specs.Calls.Call.{MarkupExpr, CodeExpr, MathExpr, Patt
 use Rattle.typst_code.specs.Markup.{markup_turn}
 use Rattle.typst_grammar.specs.Pieces.{stops_of}
 use Rattle.typst_grammar.specs.declared.part.RunKind.{RunKind}
-use Rattle.typst_code.specs.View.{Does}
+use Rattle.typst_language.specs.View.{Does}
 use Rattle.typst_grammar.specs.Told.{told_at}
 use Rattle.typst_grammar.proofs.AtLevels.{calls-at, fills-level}
 use Rattle.typst_grammar.proofs.Pieces.{reads-on, reads-none, shorter, fills-at, told_in}

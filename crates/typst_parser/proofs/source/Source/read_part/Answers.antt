@@ -1,8 +1,8 @@
 use Rattle.std.proofs.Common.{◌≡◌, ◌∙◌, ◌-◌, ◌<◌, ◌^◌, ◌++◌, List, ℕ, true, take, drop, length, None, Some, Ok, ap, sym, subst, refl, arith}
 use Rattle.std.specs.Str.{IsCharBoundary}
-use Rattle.typst_reparser.specs.Change.{candidates}
-use Rattle.typst_reparser.specs.Answer.{IsAnswer}
-use Rattle.typst_reparser.specs.Reparse.{NonePasses}
+use Rattle.typst_parser.specs.Change.{candidates}
+use Rattle.typst_edits.specs.Answer.{IsAnswer}
+use Rattle.typst_parser.specs.Reparse.{NonePasses}
 use Rattle.typst_parser.specs.Answers.{change_of}
 use Rattle.typst_parser.specs.Headline.{edited}
 use Rattle.typst_parser.specs.Held.{Held}

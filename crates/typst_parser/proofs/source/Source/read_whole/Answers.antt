@@ -1,6 +1,6 @@
 use Rattle.std.proofs.Common.{◌≡◌, ◌∙◌, ℕ, true, List, length, ap, sym, subst, refl, arith}
 use Rattle.std.specs.Str.{chars}
-use Rattle.typst_reparser.specs.Grammar.{tree}
+use Rattle.typst_edits.specs.Grammar.{tree}
 use Rattle.typst_parser.specs.Held.{Held}
 use Rattle.typst_parser.specs.Headline.{Headline, edited}
 use Rattle.typst_parser.specs.Records.{Edits}

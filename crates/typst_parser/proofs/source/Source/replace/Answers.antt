@@ -1,6 +1,6 @@
 use Rattle.std.proofs.Common.{◌≡◌, ◌∙◌, List, ℕ, None, refl, ap, subst, arith}
 use Rattle.std.specs.Str.{chars}
-use Rattle.typst_reparser.specs.Grammar.{tree}
+use Rattle.typst_edits.specs.Grammar.{tree}
 use Rattle.typst_parser.specs.Held.{Held}
 use Rattle.typst_parser.specs.Headline.{file_of, numbered_in}
 use Rattle.typst_parser.proofs.Answered.{end-kept, on-ok, replaced}

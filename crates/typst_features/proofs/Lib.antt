@@ -1,4 +1,0 @@
-pub mod DataEditsMade
-pub mod HoldingNodes
-pub mod SelectedNodes
-pub mod TokenLines

@@ -1,6 +1,0 @@
-use Rattle.std.proofs.Common.{sym}
-use Rattle.typst_frames.proofs.Numbers.{number-none}
-use Rattle.typst_frames.proofs.header.number.Goals as goal
-
-pub returns-in-Err : goal.returns-in-Err
-returns-in-Err c = sym (number-none c.args.digits.now c.in-Err.ensures.cases.0)

@@ -1,0 +1,146 @@
+-- What was looked at before a first reading is set aside, and counts again behind it.
+use Rattle.std.proofs.Common.{Option, Some, None, option_map, ◌≡◌, ℕ, zero, suc, ◌-◌, ◌^◌, ◌<◌, ◌≤◌, max, min, true, false, if◌then◌else◌, nat_lt, List, [], ◌∷◌, ◌++◌, length, length-append, append_assoc, get_or, refl, ap, sym, ◌∙◌, subst, arith}
+use Rattle.std.proofs.Math.ListN.{set}
+use Rattle.typst_lines.specs.Place.{Place, moved}
+use Rattle.typst_tokens.specs.Sight.{hull_of, position}
+use Rattle.typst_tokens.specs.declared.hull.Hull.{Hull}
+use Rattle.typst_language.specs.declared.calls.Note.{Note}
+use Rattle.typst_language.specs.Ask.{Ask, only_looks}
+use Rattle.typst_language.specs.Ask.Ask.{looked, marked}
+use Rattle.typst_language.specs.Log.{Log, logged, with_hull}
+use Rattle.typst_language.specs.Syntax.{Parser}
+use Rattle.typst_language.specs.Meaning.{Level}
+use Rattle.typst_language.specs.Checkpoint.{Saved, looked_since, saved}
+use Rattle.typst_language.specs.Noted.{hull_in, listed, looked_alone, looked_before, note_behind, notes_behind}
+use Rattle.typst_language.specs.Remembered.{Knows, end_of}
+use Rattle.typst_language.specs.View.{View, Runs, Ran, Does, Fits, at, begun, looked_too}
+use Rattle.typst_language.proofs.Either.{Back}
+use Rattle.typst_language.proofs.Logs.{Among, among-is, is-among, same-log}
+
+-- ---- logs
+
+less-true : (m n : ℕ) → m < n → nat_lt m n ≡ true
+less-true m n h = grind arith
+
+-- the note of a number is exchanged for itself behind a look
+notes-set : (n : ℕ) (u : Hull) (ns : List Note) (note : Note) → n < length ns → note ≡ get_or ns n note → notes_behind n u ns ≡ set ns n (note_behind u note)
+notes-set n u [] note h e = absurd (omega arith)
+notes-set zero u (x ∷ ns) note h e = ap (λ y. note_behind u y ∷ ns) (sym e)
+notes-set (suc n) u (x ∷ ns) note h e = ap (λ xs. x ∷ xs) (notes-set n u ns note (omega arith) e)
+
+pub before-noted : (n : ℕ) (u : Hull) (r l m k : ℕ) (ns : List Note) (note : Note) → n < length ns → note ≡ get_or ns n note → m ≡ max note.reach u.reach → k ≡ min note.least u.least
+    → ◌≡◌ {A = Log} (record { reach = r; least = l; notes = Some (set ns n (record note { reach = m; least = k })) }) (looked_before n u (record { reach = r; least = l; notes = Some ns }))
+before-noted n u r l m k ns note h e f g = rw (less-true n (length ns) h, f, g, notes-set n u ns note h e) refl
+
+-- it counts again at once
+alone-again : (u : Hull) (h : Log) → with_hull u h ≡ h → with_hull (hull_in h) (looked_alone u h) ≡ h
+alone-again u h e = let a = among-is u h e in same-log _ _ _ _ h.notes (omega (arith, a.reach)) (omega (arith, a.least))
+
+-- or behind the looks of a reading
+hull-looks : (u : Hull) (n : ℕ) (z : Place) (h : Log) (asks : List Ask) → with_hull u (logged n z h (only_looks asks)) ≡ logged n z (with_hull u h) (only_looks asks)
+hull-looks u n z h [] = refl
+hull-looks u n z h (looked at look ∷ asks) =
+    let w = hull_of look (moved at z) in
+    hull-looks u n z (with_hull w h) asks ∙ ap (λ (x : Log). logged n z x (only_looks asks)) (same-log _ _ _ _ h.notes (omega arith) (omega arith))
+hull-looks u n z h (marked at gap fewer mark s ∷ asks) = hull-looks u n z h asks
+
+behind-first : (u : Hull) (ns : List Note) (note : Note) (ms : List Note) → notes_behind (length ns) u (ns ++ note ∷ ms) ≡ ns ++ note_behind u note ∷ ms
+behind-first u [] note ms = refl
+behind-first u (x ∷ ns) note ms = ap (λ xs. x ∷ xs) (behind-first u ns note ms)
+
+is-noted : (ns : List Note) (note : Note) (ms : List Note) → nat_lt (length ns) (length (ns ++ note ∷ ms)) ≡ true
+is-noted ns note ms = less-true _ _ (omega (arith, length-append ns (note ∷ ms)))
+
+not-less : (n : ℕ) → nat_lt n n ≡ false
+not-less n = grind arith
+
+abbrev log-of : ℕ → ℕ → Option (List Note) → Log
+log-of r l ns = record { reach = r; least = l; notes = ns }
+
+module _ (n : ℕ) (z : Place) (u : Hull) where
+  -- where a note was made since, it counts at that
+  logged-noted : (ns : List Note) (note : Note) (ms : List Note) (r l : ℕ) (asks : List Ask)
+      → looked_before (length ns) u (logged n z (log-of r l (Some (ns ++ note ∷ ms))) asks) ≡ logged n z (log-of r l (Some (ns ++ note_behind u note ∷ ms))) asks
+  logged-noted ns note ms r l [] = rw (is-noted ns note ms, behind-first u ns note ms) refl
+  logged-noted ns note ms r l (looked at look ∷ asks) = let w = hull_of look (moved at z) in logged-noted ns note ms (max r w.reach) (min l w.least) asks
+  logged-noted ns note ms r l (marked at gap fewer mark s ∷ asks) =
+      let x : Note = record { mark = mark; before = position (moved at z); start = position (moved gap (moved at z)); levels = n - fewer; state = s; reach = r; least = l } in
+      let most : ℕ = 2 ^ 64 - 1 in
+      ap (λ (ks : List Note). looked_before (length ns) u (logged n z (log-of 0 most (Some ks)) asks)) (append_assoc ns (note ∷ ms) (x ∷ []))
+      ∙ logged-noted ns note (ms ++ x ∷ []) 0 most asks
+      ∙ ap (λ (ks : List Note). logged n z (log-of 0 most (Some ks)) asks) (sym (append_assoc ns (note_behind u note ∷ ms) (x ∷ [])))
+
+  before-unkept : (r l : ℕ) (asks : List Ask) → looked_before 0 u (logged n z (log-of r l None) asks) ≡ logged n z (with_hull u (log-of r l None)) asks
+  before-unkept r l [] = refl
+  before-unkept r l (looked at look ∷ asks) =
+      let w = hull_of look (moved at z) in
+      before-unkept (max r w.reach) (min l w.least) asks ∙ ap (λ (x : Log). logged n z x asks) (same-log _ _ _ _ None (omega arith) (omega arith))
+  before-unkept r l (marked at gap fewer mark s ∷ asks) = before-unkept r l asks
+
+  before-kept : (ns : List Note) (r l : ℕ) (asks : List Ask) → looked_before (length ns) u (logged n z (log-of r l (Some ns)) asks) ≡ logged n z (with_hull u (log-of r l (Some ns))) asks
+  before-kept ns r l [] = rw (not-less (length ns)) refl
+  before-kept ns r l (looked at look ∷ asks) =
+      let w = hull_of look (moved at z) in
+      before-kept ns (max r w.reach) (min l w.least) asks ∙ ap (λ (x : Log). logged n z x asks) (same-log _ _ _ _ (Some ns) (omega arith) (omega arith))
+  before-kept ns r l (marked at gap fewer mark s ∷ asks) = logged-noted ns _ [] 0 (2 ^ 64 - 1) asks
+
+  before-by : (r l : ℕ) (ns : Option (List Note)) (asks : List Ask) → looked_before (length (listed ns)) u (logged n z (log-of r l ns) asks) ≡ logged n z (with_hull u (log-of r l ns)) asks
+  before-by r l None asks = before-unkept r l asks
+  before-by r l (Some ns) asks = before-kept ns r l asks
+
+-- what is looked at before a reading may be told behind it
+logged-before : (n : ℕ) (z : Place) (u : Hull) (h : Log) (asks : List Ask) → looked_before (length (listed h.notes)) u (logged n z h asks) ≡ logged n z (with_hull u h) asks
+logged-before n z u h asks = before-by n z u h.reach h.least h.notes asks
+
+-- what was looked at stays so
+before-among : (u w : Hull) (c : ℕ) (h : Log) → Among u h → Among u (looked_before c w h)
+before-among u w c h a = elim (nat_lt c (length (listed h.notes))) as (λ b. Among u (if b then record h { notes = option_map (notes_behind c w) h.notes } else with_hull w h)) [
+  | true ↦ record { reach = a.reach; least = a.least }
+  | false ↦ record { reach = let r = a.reach in omega arith; least = let l = a.least in omega arith }
+]
+
+-- ---- first readings
+
+-- the token at hand is the same where it begins
+pub begun-fits : {l : Level} {old now : View} → now ≡ begun old → Fits l old → Fits l now
+begun-fits {l = l} {old = old} {now = now} e f =
+    let fits : Fits l (begun old) = record { known = f.known; hand = f.hand; own = f.own; here = f.here; there = f.there; log = same-log _ _ _ _ old.log.notes (omega arith) (omega arith); knows = f.knows } in
+    subst (λ (v : View). Fits l v) (sym e) fits
+
+-- it turned out right
+pub does-aside : {A : Type 0} {l : Level} {p : Parser A} {a : A} {c : Saved} {aside : Hull} {old first mid new : View}
+    → first ≡ begun old → aside ≡ hull_in old.log → c ≡ saved first → Does l p a first mid → new ≡ looked_since c aside mid → Does l p a old new
+does-aside {l = l} {p = p} {a = a} {c = c} {aside = aside} {old = old} {first = first} {mid = mid} {new = new} e is at-c d end =
+    let n = length (listed old.log.notes) in
+    let u = hull_in old.log in
+    let same : new ≡ record mid { log = looked_before n u mid.log } = end ∙ ap (λ (x : Saved). looked_since x aside mid) (at-c ∙ ap saved e) ∙ ap (λ (x : Hull). record mid { log = looked_before n x mid.log }) is in
+    record {
+      ran = λ f. (let r = (subst (λ (v : View). Ran l p a v mid) e (d.ran (begun-fits e f))).runs in
+          let o = at l p old in
+          let log : looked_before n u mid.log ≡ logged l.levels old.place old.log o.asks = ap (looked_before n u) r.log ∙ logged-before l.levels old.place u (looked_alone old.here old.log) o.asks ∙ ap (λ (h : Log). logged l.levels old.place h o.asks) (alone-again old.here old.log f.log) in
+          let runs : Runs l.levels o a old (record mid { log = looked_before n u mid.log }) = record { value = r.value; place = r.place; state = r.state; nodes = r.nodes; log = log } in
+          subst (λ (v : View). Ran l p a old v) (sym same) (record { runs = runs }));
+      ready = λ f. (let g = d.ready (begun-fits e f) in
+          let log = is-among mid.here _ (before-among mid.here u n mid.log (among-is mid.here mid.log g.log)) in
+          let fits : Fits l (record mid { log = looked_before n u mid.log }) = record { known = g.known; hand = g.hand; own = g.own; here = g.here; there = g.there; log = log; knows = g.knows } in
+          subst (λ (v : View). Fits l v) (sym same) fits);
+    }
+
+-- it turned out wrong, and the code went back
+pub back-aside : {A : Type 0} {l : Level} {p : Parser A} {a : A} {aside : Hull} {old first back now : View}
+    → first ≡ begun old → aside ≡ hull_in old.log → old.log.least ≤ 2 ^ 64 - 1 → Fits l old → Back l p a first back → now ≡ looked_too aside back → Back l p a old now
+back-aside {l = l} {p = p} {a = a} {aside = aside} {old = old} {first = first} {back = back} {now = now} e is least f b end =
+    let u = hull_in old.log in
+    let o = at l p old in
+    let g : Back l p a (begun old) back = subst (λ (v : View). Back l p a v back) e b in
+    let log : with_hull u (logged l.levels old.place (looked_alone old.here old.log) (only_looks o.asks)) ≡ logged l.levels old.place old.log (only_looks o.asks)
+    = hull-looks u l.levels old.place (looked_alone old.here old.log) o.asks ∙ ap (λ (h : Log). logged l.levels old.place h (only_looks o.asks)) (alone-again old.here old.log f.log) in
+    let same : now ≡ record old { log = logged l.levels old.place old.log (only_looks o.asks); memo = back.memo }
+    = end ∙ ap (λ (x : Hull). looked_too x back) is ∙ ap (looked_too u) g.same ∙ ap (λ (h : Log). record old { log = h; memo = back.memo }) log in
+    let memo : now.memo ≡ back.memo = ap (λ (v : View). v.memo) same in
+    record {
+      value = g.value;
+      same = same ∙ ap (λ es. record old { log = logged l.levels old.place old.log (only_looks o.asks); memo = es }) (sym memo);
+      knows = subst (λ es. Knows l.guess (end_of old.place) es) (sym memo) g.knows;
+      least = least;
+    }

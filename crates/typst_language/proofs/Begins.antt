@@ -1,0 +1,190 @@
+-- Readings that begin by taking the token at hand, and so leave what stood before it.
+use Rattle.std.proofs.Common.{Option, ◌≡◌, ℕ, ◌+◌, ◌-◌, ◌<◌, ◌==◌, Bool, true, false, if◌then◌else◌, nat_lt, List, [], ◌∷◌, ◌++◌, length, take, drop, append_assoc, append-nil, length-append, refl, ap, sym, ◌∙◌, subst, arith}
+use borrow.Author.Tests.{lt-ltb}
+use Rattle.std.proofs.Math.Seq.{take-length}
+use Rattle.typst_lines.specs.Place.{moved}
+use Rattle.typst_tree.specs.Tree.{Tree}
+use Rattle.typst_language.specs.declared.reading.Reading.{Reading}
+use Rattle.typst_language.specs.Point.{Point, Trivia, pending}
+use Rattle.typst_language.specs.Hand.{AtHand, Hand, told}
+use Rattle.typst_language.specs.Shape.{Change, Making, Shape, first_changed, hinted, shaped}
+use Rattle.typst_language.specs.Shape.Change.{stays, turns_wrong, is_not, renamed, unparened}
+use Rattle.typst_language.specs.Shape.Shape.{keeps, holds, lacks, warns, fails}
+use Rattle.typst_language.specs.Shape.Making.{itself}
+use Rattle.typst_language.specs.Sound.{Sound}
+use Rattle.typst_language.specs.Steps.{eat, eat_making}
+use Rattle.typst_language.specs.Syntax.{Parser}
+use Rattle.typst_language.specs.Syntax.Begin.{at_token}
+use Rattle.typst_language.specs.Syntax.Op.{hand, takes}
+use Rattle.typst_language.specs.Syntax.Parser.{does, gives, next, scoped, wraps}
+use Rattle.typst_language.specs.Meaning.{Level, Outcome, asked, entered, hand_of, joined, less, run, taken_node}
+use Rattle.typst_language.specs.View.{View, Ran, Fits, at}
+use Rattle.typst_language.specs.Checkpoint.{Leaves, first_of}
+use Rattle.typst_language.proofs.Backs.{backs-run}
+use Rattle.typst_language.proofs.HintedNodes.{hinted-append, length-hinted}
+use Rattle.typst_language.proofs.Places.{take-both, drop-both, drop-all, less-none}
+use Rattle.typst_language.proofs.Runs.{asked-same}
+
+-- an outcome gives these trivia first, and more, and does nothing to what stood before
+pub record Gives {A : Type 0} (ts : List Tree) (o : Outcome A) : Type 0 where
+  pub back : o.back ≡ 0
+  pub hints : o.hints ≡ []
+  pub rest : List Tree
+  pub nodes : o.nodes ≡ ts ++ rest
+  pub more : 0 < length rest
+
+-- a parser passes the trivia at hand first
+pub record Begins {A : Type 0} (l : Level) (p : Parser A) (v : View) : Type 0 where
+  pub gives : Gives v.hand.trivia (at l p v)
+
+-- ---- what it leaves
+
+front-of : (xs ys : List Tree) → take (length xs) (xs ++ ys) ≡ xs
+front-of xs ys =
+    let none : length xs - length xs ≡ 0 = omega arith in
+    take-both (length xs) xs ys ∙ ap (λ n. take (length xs) xs ++ take n ys) none ∙ append-nil (take (length xs) xs) ∙ take-length xs
+
+back-of : (xs ys : List Tree) → drop (length xs) (xs ++ ys) ≡ ys
+back-of xs ys =
+    let none : length xs - length xs ≡ 0 = omega arith in
+    drop-both (length xs) xs ys ∙ ap (λ n. drop (length xs) xs ++ drop n ys) none ∙ ap (λ zs. zs ++ ys) (drop-all (length xs) xs (omega arith))
+
+same-length : (n : ℕ) → (n == n) ≡ true
+same-length n = grind arith
+
+first-is : (ts rest held : List Tree) → first_of (length ts) (ts ++ rest) held ≡ ts
+first-is ts rest held = rw (front-of ts rest, same-length (length ts)) refl
+
+pub begins-leaves : {A : Type 0} {l : Level} {p : Parser A} {a : A} {old mid : View} → Begins l p old → Ran l p a old mid → Leaves old mid
+begins-leaves {l = l} {p = p} {old = old} {mid = mid} e r =
+    let b = e.gives in
+    let o = at l p old in
+    let ts = old.hand.trivia in
+    let all : mid.nodes ≡ old.nodes ++ (ts ++ b.rest) =
+    r.runs.nodes ∙ ap (λ hs. hinted hs (less o.back old.nodes) ++ o.nodes) b.hints ∙ ap (λ n. less n old.nodes ++ o.nodes) b.back ∙ ap (λ ns. ns ++ o.nodes) (less-none old.nodes) ∙ ap (λ ns. old.nodes ++ ns) b.nodes in
+    record {
+      nodes = ap (take (length old.nodes)) all ∙ front-of old.nodes (ts ++ b.rest);
+      trivia = ap (λ ns. first_of (length ts) (drop (length old.nodes) ns) mid.hand.trivia) all ∙ ap (λ ns. first_of (length ts) ns mid.hand.trivia) (back-of old.nodes (ts ++ b.rest)) ∙ first-is ts b.rest mid.hand.trivia;
+    }
+
+-- ---- what begins so
+
+pub begins-takes : {l : Level} {making : Making} (v : View) → Fits l v → Begins l (does (takes false making)) v
+unfolding run
+begins-takes {l = l} {making = making} v c =
+    record {
+      gives = record {
+        back = refl;
+        hints = refl;
+        rest = taken_node l.classes making (hand_of l v.place v.state) v.place ∷ [];
+        nodes = ap (λ (h : Hand). h.trivia ++ taken_node l.classes making (hand_of l v.place v.state) v.place ∷ []) (sym c.hand);
+        more = omega arith;
+      };
+    }
+
+gives-next : {A B : Type 0} (ts : List Tree) (o : Outcome B) (r : Outcome A) → Gives ts o → r.back ≡ 0 → Gives ts (joined o r)
+gives-next ts o r b zero =
+    let long : 0 < length o.nodes = omega (arith, ap length b.nodes, length-append ts b.rest, b.more) in
+    let fewer : r.back < length o.nodes = omega arith in
+    record {
+      back = let e = b.back in omega arith;
+      hints = ap (λ t. if t then o.hints else (if nat_lt (length o.nodes) r.back then r.hints else o.hints ++ r.hints)) (lt-ltb r.back (length o.nodes) fewer) ∙ b.hints;
+      rest = hinted r.hints b.rest ++ r.nodes;
+      nodes = ap (λ n. hinted r.hints (less n o.nodes) ++ r.nodes) zero ∙ ap (λ ns. hinted r.hints ns ++ r.nodes) (less-none o.nodes ∙ b.nodes) ∙ ap (λ ns. ns ++ r.nodes) (hinted-append r.hints ts b.rest b.more) ∙ append_assoc ts (hinted r.hints b.rest) r.nodes;
+      more = omega (arith, length-append (hinted r.hints b.rest) r.nodes, length-hinted r.hints b.rest, b.more);
+    }
+
+-- more may come that takes nothing back
+pub begins-then : {A B : Type 0} {l : Level} {p : Parser B} {f : B → Parser A} {v : View} → Begins l p v → (let o = at l p v in (run l (f o.value) (moved o.taken v.place) o.state).back) ≡ 0 → Begins l (next p f) v
+unfolding run
+begins-then {l = l} {p = p} {f = f} {v = v} b zero = let o = at l p v in record { gives = gives-next v.hand.trivia o (run l (f o.value) (moved o.taken v.place) o.state) b.gives zero }
+
+-- more may come, where no empty error was taken first
+pub begins-next : {A B : Type 0} {l : Level} {p : Parser B} {f : B → Parser A} {v : View} → Sound l → Begins l p v → (at l p v).state.empties ≡ 0 → Begins l (next p f) v
+unfolding run
+begins-next {l = l} {p = p} {f = f} {v = v} sound b none =
+    let o = at l p v in
+    let w = moved o.taken v.place in
+    let t = (backs-run l sound.backs sound.backs_block (f o.value) w o.state).back in
+    record { gives = gives-next v.hand.trivia o (run l (f o.value) w o.state) b.gives (omega arith) }
+
+-- the token may be taken by itself
+pub begins-eat : {l : Level} {v : View} → Fits l v → Begins l eat v
+unfolding run eat eat_making
+begins-eat {l = l} {v = v} c =
+    let b = begins-takes {l = l} {making = itself} v c in
+    let o = at l (does (takes false itself)) v in
+    record { gives = gives-next v.hand.trivia o (run l (next (does hand) (λ _. gives tt)) (moved o.taken v.place) o.state) b.gives (omega arith) }
+
+-- and an answer
+pub begins-gives : {A B : Type 0} {l : Level} {p : Parser B} {f : B → A} {v : View} → Begins l p v → Begins l (next p (λ b. gives (f b))) v
+unfolding run
+begins-gives {l = l} {p = p} {f = f} {v = v} b = let o = at l p v in record { gives = gives-next v.hand.trivia o (run l (gives (f o.value)) (moved o.taken v.place) o.state) b.gives refl }
+
+no-hints : (a b : Bool) (hs : List (List ℕ)) → hs ≡ [] → ◌≡◌ {A = List (List ℕ)} (if a then [] else (if b then hs else [] ++ hs)) []
+no-hints true b hs e = refl
+no-hints false true hs e = e
+no-hints false false hs e = e
+
+-- before it gives anything a parser may ask
+gives-asked : {A B : Type 0} (ts : List Tree) (o : Outcome B) (r : Outcome A) → o.back ≡ 0 → o.hints ≡ [] → o.nodes ≡ [] → Gives ts r → Gives ts (joined o r)
+gives-asked ts o r e h n b =
+    record {
+      back = let k = b.back in omega arith;
+      hints = ap (λ ns. if nat_lt r.back (length ns) then o.hints else (if nat_lt (length ns) r.back then r.hints else o.hints ++ r.hints)) n
+          ∙ ap (λ hs. if nat_lt r.back 0 then hs else (if nat_lt 0 r.back then r.hints else hs ++ r.hints)) h
+          ∙ no-hints (nat_lt r.back 0) (nat_lt 0 r.back) r.hints b.hints;
+      rest = b.rest;
+      nodes = ap (λ ns. hinted r.hints (less r.back ns) ++ r.nodes) n ∙ ap (λ hs. hinted hs (less r.back []) ++ r.nodes) b.hints ∙ ap (λ k. less k [] ++ r.nodes) b.back ∙ ap (λ ns. ns ++ r.nodes) (less-none []) ∙ b.nodes;
+      more = b.more;
+    }
+
+-- the token at hand may be asked for before
+pub begins-peek : {A : Type 0} {l : Level} {f : AtHand → Parser A} {v : View} → Fits l v → Begins l (f (told v.hand)) v → Begins l (next (does hand) f) v
+unfolding run
+begins-peek {l = l} {f = f} {v = v} c b =
+    let g = hand_of l v.place v.state in
+    let q = run l (f (told g)) v.place (asked g v.state) in
+    let e : q ≡ at l (f (told v.hand)) v = ap (λ (x : Hand). run l (f (told x)) v.place (asked x v.state)) (sym c.hand) ∙ ap (λ (s : Point). run l (f (told v.hand)) v.place s) (sym (asked-same l v c)) in
+    record { gives = gives-asked v.hand.trivia (at l (does hand) v) q refl refl refl (subst (λ (x : Outcome _). Gives v.hand.trivia x) (sym e) b.gives) }
+
+pub begins-scoped : {A : Type 0} {l : Level} {f : Reading → Reading} {p : Parser A} {v : View} → Begins l p (record v { state = entered (f v.state.reading) v.state }) → Begins l (scoped f p) v
+unfolding run
+begins-scoped b = let g = b.gives in record { gives = record { back = g.back; hints = g.hints; rest = g.rest; nodes = g.nodes; more = g.more } }
+
+-- what several nodes become is something
+some-changed : (change : Change) (t : Tree) (ts : List Tree) → 0 < length (first_changed change (t ∷ ts))
+some-changed stays t ts = omega arith
+some-changed (turns_wrong message) t ts = omega arith
+some-changed (is_not thing) t ts = omega arith
+some-changed (renamed kind) t ts = omega arith
+some-changed unparened t ts = omega arith
+
+some-shaped : (shape : Shape) (ts : List Tree) → 0 < length ts → 0 < length (shaped shape ts)
+some-shaped (keeps change) [] h = absurd (omega arith)
+some-shaped (keeps change) (t ∷ ts) h = some-changed change t ts
+some-shaped (holds change kind) ts h = omega arith
+some-shaped (lacks count message kind) ts h = omega arith
+some-shaped (warns kind message hint) ts h = omega arith
+some-shaped (fails message) ts h = omega arith
+
+pub begins-wraps : {A : Type 0} {l : Level} {f : A → Shape} {p : Parser A} {v : View} → Fits l v → Begins l p v → Begins l (wraps f at_token p) v
+unfolding run
+begins-wraps {l = l} {f = f} {p = p} {v = v} c e =
+    let b = e.gives in
+    let o = at l p v in
+    let ts = v.hand.trivia in
+    let n = length (pending v.state.known) in
+    let long : n ≡ length ts = ap (λ (x : Option Trivia). length (pending x)) c.known in
+    let count : n + o.back ≡ length ts = let k = b.back in omega arith in
+    let first = ap (λ k. take k o.nodes) count ∙ ap (take (length ts)) b.nodes ∙ front-of ts b.rest in
+    let last = ap (λ k. drop k o.nodes) count ∙ ap (drop (length ts)) b.nodes ∙ back-of ts b.rest in
+    record {
+      gives = record {
+        back = b.back;
+        hints = b.hints;
+        rest = shaped (f o.value) b.rest;
+        nodes = ap (λ ns. ns ++ shaped (f o.value) (drop (n + o.back) o.nodes)) first ∙ ap (λ ns. ts ++ shaped (f o.value) ns) last;
+        more = some-shaped (f o.value) b.rest b.more;
+      };
+    }

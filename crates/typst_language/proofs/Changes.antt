@@ -1,0 +1,110 @@
+-- What the first of the nodes from a number on becomes, in its place.
+use Rattle.std.proofs.Common.{Option, ◌≡◌, ℕ, zero, suc, ◌+◌, ◌<◌, ◌≤◌, true, false, if◌then◌else◌, List, [], ◌∷◌, ◌++◌, length, map, take, drop, get_or, refl, ap, sym, ◌∙◌, subst, arith}
+use Rattle.std.proofs.lemmas.List.{take-append-drop}
+use Rattle.std.proofs.Math.ListN.{set}
+use Rattle.typst_kinds.specs.Kinds.{is_error}
+use Rattle.typst_tree.specs.Tree.{Tree, text_of}
+use Rattle.typst_language.specs.Point.{Point, Trivia, pending}
+use Rattle.typst_language.specs.Shape.{Change, changed, first_changed, count_empty, after_node, after_change, seen}
+use Rattle.typst_language.specs.Shape.Change.{stays, turns_wrong, is_not, renamed, unparened}
+use Rattle.typst_language.specs.Shape.Shape.{keeps}
+use Rattle.typst_language.proofs.Leaves.{text-changed}
+use Rattle.typst_language.specs.Meaning.{Level}
+use Rattle.typst_language.specs.Sound.{Sound}
+use Rattle.typst_language.specs.Syntax.{Parser}
+use Rattle.typst_language.specs.Syntax.Begin.{at_token}
+use Rattle.typst_language.specs.Syntax.Parser.{wraps}
+use Rattle.typst_language.specs.Expected.{seeing}
+use Rattle.typst_language.specs.View.{View, Does, Rewrapped}
+use Rattle.typst_language.proofs.Runs.{rewrapped-fits}
+use Rattle.typst_language.proofs.Steps.{does-next, does-peek, does-wraps}
+use Rattle.typst_language.proofs.Ready.{told-node}
+
+first-is : (change : Change) (t : Tree) (ts : List Tree) → first_changed change (t ∷ ts) ≡ changed change t ∷ ts
+first-is stays t ts = refl
+first-is (turns_wrong message) t ts = refl
+first-is (is_not thing) t ts = refl
+first-is (renamed kind) t ts = refl
+first-is unparened t ts = refl
+
+changed-at : (change : Change) (ts : List Tree) (from : ℕ) (t u : Tree) → from < length ts → t ≡ get_or ts from t → u ≡ changed change t → set ts from u ≡ take from ts ++ first_changed change (drop from ts)
+changed-at change [] from t u h at is = absurd (omega arith)
+changed-at change (x ∷ ts) zero t u h at is = ap (λ y. y ∷ ts) (is ∙ ap (changed change) at) ∙ sym (first-is change x ts)
+changed-at change (x ∷ ts) (suc from) t u h at is = ap (λ l. x ∷ l) (changed-at change ts from t u (omega arith) at is)
+
+alone-is : (ts : List Tree) (from : ℕ) (t : Tree) → length ts ≡ suc from → t ≡ get_or ts from t → drop from ts ≡ t ∷ []
+alone-is [] from t h at = absurd (omega arith)
+alone-is (x ∷ []) zero t h at = ap (λ y. y ∷ []) (sym at)
+alone-is (x ∷ y ∷ ts) zero t h at = absurd (omega arith)
+alone-is (x ∷ ts) (suc from) t h at = alone-is ts from t (omega arith) at
+
+-- among more nodes than one a change isn't told
+after-more : (change : Change) (ts : List Tree) (from : ℕ) (s : Point) → suc from < length ts → after_change change (drop from ts) s ≡ s
+after-more change [] from s h = absurd (omega arith)
+after-more change (x ∷ []) from s h = absurd (omega arith)
+after-more change (x ∷ y ∷ ts) zero s h = refl
+after-more change (x ∷ y ∷ ts) (suc from) s h = after-more change (y ∷ ts) from s (omega arith)
+
+after-error : (change : Change) (t : Tree) (s : Point) → is_error t.head.kind ≡ true → after_change change (t ∷ []) s ≡ s
+after-error change t s e = rw e refl
+
+after-fine : (change : Change) (t : Tree) (s : Point) → is_error t.head.kind ≡ false → after_change change (t ∷ []) s ≡ after_node (is_error (changed change t).head.kind) (text_of t) s
+after-fine change t s e = rw e refl
+
+-- a node that stands alone and was no error
+pub changed-alone : (change : Change) (from : ℕ) (t u : Tree) (v w : View) → length v.nodes ≡ suc from → t ≡ get_or v.nodes from t → is_error t.head.kind ≡ false → u ≡ changed change t
+    → w ≡ record v { nodes = set v.nodes from u; state = record v.state { empties = if is_error u.head.kind then count_empty (text_of u) else 0; is_after_error = is_error u.head.kind } } → Rewrapped from (keeps change) v w
+changed-alone change from t u v w long at fine is e = rw e (record {
+  place = refl;
+  state = told-node (is_error u.head.kind) (text_of u) v.state
+      ∙ ap (λ (x : Tree). after_node (is_error x.head.kind) (text_of x) v.state) is
+      ∙ ap (λ text. after_node (is_error (changed change t).head.kind) text v.state) (text-changed change t)
+      ∙ sym (ap (λ ts. after_change change ts v.state) (alone-is v.nodes from t long at) ∙ after-fine change t v.state fine);
+  nodes = changed-at change v.nodes from t u (omega arith) at is;
+  hand = refl;
+  own = refl;
+  here = refl;
+  log = refl;
+  memo = refl;
+})
+
+-- one that was an error
+pub changed-error : (change : Change) (from : ℕ) (t u : Tree) (v w : View) → length v.nodes ≡ suc from → t ≡ get_or v.nodes from t → is_error t.head.kind ≡ true → u ≡ changed change t
+    → w ≡ record v { nodes = set v.nodes from u } → Rewrapped from (keeps change) v w
+changed-error change from t u v w long at wrong is e = rw e (record {
+  place = refl;
+  state = sym (ap (λ ts. after_change change ts v.state) (alone-is v.nodes from t long at) ∙ after-error change t v.state wrong);
+  nodes = changed-at change v.nodes from t u (omega arith) at is;
+  hand = refl;
+  own = refl;
+  here = refl;
+  log = refl;
+  memo = refl;
+})
+
+-- one before others
+pub changed-first : (change : Change) (from : ℕ) (t u : Tree) (v w : View) → suc from < length v.nodes → t ≡ get_or v.nodes from t → u ≡ changed change t → w ≡ record v { nodes = set v.nodes from u } → Rewrapped from (keeps change) v w
+changed-first change from t u v w more at is e = rw e (record {
+  place = refl;
+  state = sym (after-more change v.nodes from v.state more);
+  nodes = changed-at change v.nodes from t u (omega arith) at is;
+  hand = refl;
+  own = refl;
+  here = refl;
+  log = refl;
+  memo = refl;
+})
+
+-- ---- what is seen of nodes
+
+kept-nodes : {from : ℕ} {v w : View} → Rewrapped from (keeps stays) v w → w.nodes ≡ v.nodes
+kept-nodes {from = from} {v = v} r = r.nodes ∙ take-append-drop from v.nodes
+
+-- what was given since the token at hand was looked at, and stays
+pub does-seeing : {A : Type 0} {l : Level} {from : ℕ} {p : Parser A} {a : A} {old mid new : View}
+    → Sound l → old.state.empties ≤ length old.nodes → from ≡ length old.nodes + length old.hand.trivia → Does l p a old mid → Rewrapped from (keeps stays) mid new → Does l (seeing p) (a, map seen (drop from new.nodes)) old new
+unfolding seeing
+does-seeing {A = A} {l = l} {from = from} {p = p} {a = a} {old = old} {mid = mid} {new = new} sound few e did r =
+    let whole : Does l (wraps (λ _. keeps stays) at_token p) (a, map seen (drop from mid.nodes)) old new =
+    does-wraps sound few (λ c. e ∙ ap (λ (x : Option Trivia). length old.nodes + length (pending x)) (sym c.known)) (rewrapped-fits l r) did r in
+    does-next (does-peek old) (subst (λ (ts : List Tree). Does l (wraps (λ _. keeps stays) at_token p) (a, map seen (drop from ts)) old new) (sym (kept-nodes r)) whole)

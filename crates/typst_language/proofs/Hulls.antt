@@ -1,0 +1,53 @@
+-- What was looked at for tokens, in bytes.
+use Rattle.std.proofs.Common.{◌≡◌, ℕ, zero, suc, ◌≤◌, Bool, true, false, if◌then◌else◌, refl, arith}
+use Rattle.typst_kinds.specs.declared.mode.SyntaxMode.{SyntaxMode}
+use Rattle.typst_lines.specs.Place.{Place, moved}
+use Rattle.typst_lines.specs.Classes.{CharClasses}
+use Rattle.typst_tokens.specs.declared.hull.Hull.{Hull}
+use Rattle.typst_language.specs.Hand.{Ahead, ahead_by, len_at, at_trivia}
+use Rattle.typst_language.specs.Bytes.{joined_hull, token_hull, tokens_by}
+use Rattle.typst_language.proofs.Places.{moved-sum}
+use Rattle.typst_language.proofs.Within.{on_both}
+
+pub same-hull : (r s l m : ℕ) → r ≡ s → l ≡ m → ◌≡◌ {A = Hull} (record { reach = r; least = l }) (record { reach = s; least = m })
+same-hull r s l m e f = rw (e, f) refl
+
+-- one hull lies in another
+pub record In (u v : Hull) : Type 0 where
+  pub reach : u.reach ≤ v.reach
+  pub least : v.least ≤ u.least
+
+pub in-both : (u v w : Hull) → In u v → In v w → In u w
+in-both u v w i j = record { reach = omega (arith, i.reach, j.reach); least = omega (arith, i.least, j.least) }
+
+pub itself-in : (u : Hull) → In u u
+itself-in u = record { reach = omega arith; least = omega arith }
+
+pub joined-in : (u v : Hull) → In u (joined_hull u v)
+joined-in u v = record { reach = omega arith; least = omega arith }
+
+pub second-in : (u v : Hull) → In v (joined_hull u v)
+second-in u v = record { reach = omega arith; least = omega arith }
+
+pub on_pair : {A B : Type 0} (P : A → B → Type 0) (b : Bool) (x y : A) (u v : B) → P x u → P y v → P (if b then x else y) (if b then u else v)
+on_pair P true x y u v p q = p
+on_pair P false x y u v p q = q
+
+module _ (k : CharClasses) (m : SyntaxMode) where
+  -- the last of them
+  pub own-in : (f : ℕ) (z : Place) → In (token_hull k m (moved (ahead_by k m f z).gap z)) (tokens_by k m f z)
+  own-in zero z = itself-in (token_hull k m z)
+  own-in (suc f) z =
+      let l = len_at k m z in
+      let w = moved l z in
+      let g = (ahead_by k m f w).gap in
+      let rest = own-in f w in
+      let t = token_hull k m z in
+      on_pair (λ (a : Ahead) (h : Hull). In (token_hull k m (moved a.gap z)) h) (at_trivia k m z) _ _ _ _
+      (rw (moved-sum l g z) (in-both _ _ (joined_hull t (tokens_by k m f w)) rest (second-in t (tokens_by k m f w))))
+      (itself-in t)
+
+  -- the first of them
+  pub first-in : (f : ℕ) (z : Place) → In (token_hull k m z) (tokens_by k m f z)
+  first-in zero z = itself-in (token_hull k m z)
+  first-in (suc f) z = on_both (λ (h : Hull). In (token_hull k m z) h) (at_trivia k m z) _ _ (joined-in (token_hull k m z) _) (itself-in (token_hull k m z))

@@ -1,0 +1,18 @@
+-- How the code of a production composes.
+use Rattle.std.proofs.Common.{◌≡◌, sym, subst}
+use Rattle.typst_language.specs.declared.reading.Reading.{Reading}
+use Rattle.typst_language.specs.Meaning.{Level, entered}
+use Rattle.typst_language.specs.Syntax.{Parser}
+use Rattle.typst_language.specs.Steps.{within}
+use Rattle.typst_language.specs.View.{View, Goes, Does, Left}
+use Rattle.typst_language.proofs.Steps.{does-within}
+
+-- the same answer in other words
+pub does-value : {A : Type 0} {l : Level} {P Q : View → Type 0} {p : Parser A} {a b : A} {old new : View} → b ≡ a → Goes l P Q p a old new → Goes l P Q p b old new
+does-value {A = A} {l = l} {P = P} {Q = Q} {p = p} {old = old} {new = new} e d = subst (λ (x : A). Goes l P Q p x old new) (sym e) d
+
+-- the code entered a reading, and left it
+pub does-entered : {A : Type 0} {l : Level} (f : Reading → Reading) {p : Parser A} {a : A} {outer : Reading} {old inner mid new : View}
+    → inner ≡ record old { state = entered (f old.state.reading) old.state } → Does l p a inner mid → outer ≡ old.state.reading → Left l outer mid new → Does l (within f p) a old new
+does-entered {l = l} f {p = p} {a = a} {old = old} {mid = mid} {new = new} e d o t =
+    does-within f (subst (λ (v : View). Does l p a v mid) e d) (subst (λ (r : Reading). Left l r mid new) o t)

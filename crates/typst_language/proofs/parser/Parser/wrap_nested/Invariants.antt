@@ -1,0 +1,10 @@
+use Rattle.std.proofs.Common.{◌≡◌, length}
+use Rattle.typst_language.specs.Shape.{becomes}
+use Rattle.typst_language.specs.View.{rewrapped_each}
+use Rattle.typst_language.proofs.parser.Parser.wrap_nested.Given as goal
+
+abbrev pub invariant-froms : goal.invariant-froms
+invariant-froms l = rewrapped_each l.froms.items (becomes l.kind) l.self ≡ rewrapped_each l.fn.froms.items (becomes l.kind) l.fn.self
+
+abbrev pub decreases-froms : goal.decreases-froms
+decreases-froms l = length l.froms.items

@@ -1,0 +1,39 @@
+-- What is remembered of first readings, and when it is true.
+use Rattle.std.specs.Prelude.{◌≡◌, List, [], ◌∷◌, length}
+use Rattle.typst_lines.specs.Place.{Place, moved}
+use Rattle.typst_tokens.specs.Sight.{hull_of}
+use Rattle.typst_tokens.specs.declared.hull.Hull.{Hull}
+use Rattle.typst_language.specs.declared.calls.Behind.{Behind}
+use Rattle.typst_language.specs.Ask.{Ask}
+use Rattle.typst_language.specs.Ask.Ask.{looked, marked}
+use Rattle.typst_language.specs.Bytes.{LiesIn, bytes_left}
+use Rattle.typst_language.specs.Meaning.{Guess, Guessing}
+use Rattle.typst_language.specs.declared.memo.Guessed.{Guessed}
+
+-- where the text of a place ends
+abbrev pub end_of : Place → Place
+end_of z = moved (length z.ahead) z
+
+-- all looks from a place lie in a stretch
+abbrev pub LooksIn : Hull → Place → List Ask → Type 0
+LooksIn u z [] = Unit {0}
+LooksIn u z (looked at look ∷ asks) = LiesIn (hull_of look (moved at z)) u × LooksIn u z asks
+LooksIn u z (marked at gap fewer mark s ∷ asks) = LooksIn u z asks
+
+-- this comes behind a first reading that goes on at a place; what was looked at for its paren and all looks for it make up a stretch
+pub record Comes (g : Guess) (paren hull : Hull) (z : Place) (b : Behind) : Type 0 where
+  pub behind : b ≡ g.behind
+  pub looks : LooksIn hull z g.asks
+  pub least : (u : Hull) → LiesIn paren u → LooksIn u z g.asks → LiesIn hull u
+
+-- what is remembered is so at each place of a text that has so many bytes left
+abbrev pub IsSo : Guessing → Place → Guessed → Type 0
+IsSo g end e = (z : Place) → end_of z ≡ end → bytes_left z ≡ e.left → Comes (g e.levels z e.outer) e.paren e.hull z e.behind
+
+abbrev pub AllSo : Guessing → Place → List Guessed → Type 0
+AllSo g end [] = Unit {0}
+AllSo g end (e ∷ es) = IsSo g end e × AllSo g end es
+
+-- all that is remembered is so in the text that ends there
+pub record Knows (g : Guessing) (end : Place) (es : List Guessed) : Type 0 where
+  pub all : AllSo g end es

@@ -1,9 +1,0 @@
-use Rattle.std.proofs.Common.{◌≡◌, drop}
-use Rattle.typst_lookahead.specs.Noted.{least_of, reach_of}
-use Rattle.typst_lookahead.proofs.log.hull_of.Given as goal
-
-abbrev pub invariant-loop-note : goal.invariant-loop-note
-invariant-loop-note l = record {
-  reach : reach_of l.hull.reach (drop l.note-index l.notes) ≡ reach_of l.fn.since.reach l.notes;
-  least : least_of l.hull.least (drop l.note-index l.notes) ≡ least_of l.fn.since.least l.notes;
-}

@@ -1,7 +1,0 @@
-use Rattle.std.proofs.Common.{rules}
-use Rattle.typst_language.specs.Meaning.{less}
-use Rattle.typst_lookahead.proofs.nodes.trim.Goals as goal
-
-pub returns : goal.returns
-unfolding less
-returns c = search rules

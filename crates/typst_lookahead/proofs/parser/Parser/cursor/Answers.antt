@@ -1,9 +1,0 @@
-use Rattle.std.proofs.Common.{◌∙◌, sym}
-use Rattle.std.proofs.lemmas.Str.{IsUtf8-had}
-use Rattle.typst_tokens.proofs.Sights.{offset-is}
-use Rattle.typst_lookahead.proofs.parser.Parser.cursor.Goals as goal
-
-pub returns : goal.returns
-returns c =
-    let b = c.self.inside.ahead.before in
-    rw (sym c.self.view_is) (c.cursor.ensures ∙ offset-is b.text.now b.cursor (IsUtf8-had _ b.utf8) b.boundary)

@@ -1,8 +1,0 @@
-use Rattle.std.proofs.Common.{length, ◌-◌}
-use Rattle.typst_lookahead.proofs.parser.Parser.guessed.Given as goal
-
-abbrev pub invariant-entries : goal.invariant-entries
-invariant-entries g l = Unit {0}
-
-abbrev pub decreases-entries : goal.decreases-entries
-decreases-entries g l = length l.self-inside.memo.items - l.at

@@ -1,9 +1,0 @@
-use Rattle.std.proofs.Common.{[], ap, ◌∙◌}
-use Rattle.typst_tree.specs.Messages.{made_unexpected}
-use Rattle.typst_language.specs.Shape.Making.{surprise}
-use Rattle.typst_language.specs.Steps.{unexpected}
-use Rattle.typst_lookahead.proofs.parser.Parser.unexpected.Goals as goal
-
-pub returns : goal.returns
-unfolding unexpected
-returns g c l h = let k = h.classes ∙ g.met.L.Levels.same _ in c.in_ok-take_apart.ensures l (surprise []) k (c.in_ok-unexpected.ensures.ok ∙ ap made_unexpected (c.in_ok-node.ensures l.classes k))

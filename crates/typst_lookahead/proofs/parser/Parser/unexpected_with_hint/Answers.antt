@@ -1,6 +1,0 @@
-use Rattle.typst_language.specs.Steps.{unexpected}
-use Rattle.typst_lookahead.proofs.parser.Parser.unexpected_with_hint.Goals as goal
-
-pub returns : goal.returns
-unfolding unexpected
-returns g c = c.in_ok-eat_surprise.ensures

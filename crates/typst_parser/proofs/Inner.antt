@@ -1,0 +1,81 @@
+-- Pieces of a content block's run.
+use Rattle.std.proofs.Common.{◌≡◌, ◌↔◌, ℕ, suc, ◌+◌, ◌-◌, ◌≤◌, ◌<◌, ◌^◌, Bool, true, List, [], ◌∷◌, ◌++◌, length, take, drop, Option, Some, None, refl, ap, sym, subst, ◌∙◌, arith}
+use Rattle.std.specs.Global.{Vec}
+use Rattle.typst_kinds.specs.declared.mode.SyntaxMode.{SyntaxMode}
+use Rattle.typst_lines.specs.Classes.{CharClasses}
+use Rattle.typst_lines.specs.Place.{Place, moved}
+use Rattle.typst_tokens.specs.Sight.{position, width}
+use Rattle.typst_tree.specs.Tree.{Tree}
+use Rattle.typst_tree.specs.Laws.{start_at}
+use Rattle.typst_tree.specs.Replace.{replaced_at}
+use Rattle.typst_edits.specs.Block.TheVariants as block
+use Rattle.typst_candidates.specs.declared.entry.Entry.{Entry}
+use Rattle.typst_candidates.specs.Candidates.{Candidate}
+use Rattle.typst_candidates.specs.Entries.{spliced, units_of}
+use Rattle.typst_edits.specs.ReadPart.{ReadPart}
+use Rattle.typst_edits.specs.RunKind.TheVariants as of
+use Rattle.typst_edits.specs.Grammar.{log}
+use Rattle.typst_edits.specs.Part.{IsBlock}
+use Rattle.typst_edits.specs.BlockTest.{SaysBlock, entries_in}
+use Rattle.typst_edits.specs.Edit.{text_with}
+use Rattle.typst_edits.specs.Frame.{Gives}
+use Rattle.typst_edits.specs.RunTest.{FoundInner, FoundRun}
+use Rattle.typst_parser.specs.Attempt.{IsPart}
+use Rattle.typst_parser.specs.Change.{Change, text_after, text_before}
+use Rattle.typst_parser.specs.Steps.{IsRunOf, IsWithBlock, entries_of}
+use Rattle.typst_parser.specs.declared.attempt.Part.{Part}
+use Rattle.typst_parser.specs.declared.attempt.Run.{Run}
+use Rattle.typst_parser.proofs.Blocks.{alone-entries, says-behind, says-within}
+
+module _ (k : CharClasses) (c : Change) (root : Tree) (d : Candidate) (f : FoundInner k c.front c.old c.new c.rest root d) (run : Run) (is : IsRunOf k c root d f run) where
+  -- what is found of its run
+  pub run-found : FoundRun k c.front c.old c.new c.rest d run.kind run.levels run.first
+  run-found =
+      subst (λ n. FoundRun k c.front c.old c.new c.rest d run.kind run.levels n) (sym is.first)
+      (subst (λ n. FoundRun k c.front c.old c.new c.rest d run.kind n (suc f.opens)) (sym is.levels)
+      (subst (λ w. FoundRun k c.front c.old c.new c.rest d w f.levels (suc f.opens)) (sym is.kind) f.run))
+
+  pub run-some : 0 < run.levels
+  run-some = let s = f.some in let e = is.levels in omega (arith, s, e)
+
+  -- where its block begins
+  abbrev pub inner_place : Place
+  inner_place = moved f.at (text_with c.front c.new c.rest)
+
+  pub inner-here : position inner_place ≡ run.at
+  inner-here = f.start_now ∙ sym is.at
+
+  opens-is : run.first - 1 ≡ f.opens
+  opens-is = let e = is.first in omega (arith, e)
+
+  pub inner-says : (es : List Entry) → es ≡ entries_in k (text_before c) → SaysBlock es (run.first - 1) f.to f.levels block.Content f.mode
+  inner-says es e = subst (λ xs. SaysBlock xs (run.first - 1) f.to f.levels block.Content f.mode) (sym e) (subst (λ n. SaysBlock (entries_in k (text_before c)) n f.to f.levels block.Content f.mode) (sym opens-is) f.says)
+
+  pub inner-first : (es : List Entry) → es ≡ entries_in k (text_before c) → (0 < run.first) × (run.first ≤ length es)
+  inner-first es e =
+      let w = says-within (entries_in k (text_before c)) f.opens f.to f.levels block.Content f.mode f.says in
+      let l = ap (λ (xs : List Entry). length xs) e in
+      let n = is.first in
+      (omega (arith, n), omega (arith, n, w, l))
+
+  -- its nodes with the whole block's entries take its place
+  pub with-block-part : (p : ReadPart) (part : Part) (first : ℕ) (ts : List Tree) → Gives k c.front c.old c.new c.rest d ts → replaced_at d.path d.from d.to ts root ≡ replaced_at d.path first d.to p.nodes.items root → first ≤ d.to
+      → p.end + width c.old ≡ d.end + width c.new → (z : Place) → z ≡ inner_place
+      → IsWithBlock k z run.at f.levels f.mode (run.first - 1) f.to first p part → IsPart k c root d part
+  with-block-part p part first ts gives puts order end z place w =
+      let read : IsBlock k f.levels block.Content f.mode inner_place w.read = subst (λ y. IsBlock k f.levels block.Content f.mode y w.read) place w.is_read in
+      let same = alone-entries k f.levels block.Content f.mode inner_place w.read run.at read inner-here in
+      let b = says-behind (entries_in k (text_before c)) f.opens f.to f.levels block.Content f.mode f.says in
+      let n = w.from_is ∙ opens-is in
+      record {
+        nodes = ts;
+        gives = gives;
+        puts = puts ∙ ap (λ (v : Vec Tree). replaced_at d.path first d.to v.items root) (sym w.nodes) ∙ ap (λ j. replaced_at d.path j d.to part.nodes.items root) (sym w.first_is);
+        first = let i = w.first_is in omega (arith, order, i);
+        end = let e = w.end in omega (arith, e, end);
+        order = let l = b.least in let t = w.to_is in omega (arith, l, n, t);
+        within = let m = b.most in let t = w.to_is in omega (arith, m, t);
+        units = f.units ts gives ∙ ap (λ xs. spliced f.opens f.to xs (units_of (log k (text_before c)))) (same ∙ sym w.entries)
+            ∙ ap (λ j. spliced j f.to part.entries.units.entries (units_of (log k (text_before c)))) (sym n)
+            ∙ ap (λ j. spliced part.from j part.entries.units.entries (units_of (log k (text_before c)))) (sym w.to_is);
+      }

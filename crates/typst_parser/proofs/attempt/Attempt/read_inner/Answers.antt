@@ -1,0 +1,110 @@
+use Rattle.std.proofs.Common.{◌-◌, subst}
+use Rattle.std.specs.Prelude.{Option}
+use Rattle.typst_lines.specs.Place.{place_at}
+use Rattle.typst_parser.specs.Attempt.{Decides, at_path}
+use Rattle.typst_parser.specs.Steps.{HasBlock, ServesOr, Settles}
+use Rattle.typst_parser.specs.declared.attempt.Part.{Part}
+use Rattle.typst_parser.proofs.Answering.{places-fit}
+use Rattle.typst_parser.proofs.ReadSteps.{inner-reads}
+use Rattle.typst_parser.proofs.RunSteps.{block-decides, if-ok, inner-boundary, inner-bounds, new-few, passing-few, passing-more, passing-part, passing-start, says-inner}
+use Rattle.typst_parser.proofs.Runs.{from-within}
+use Rattle.typst_parser.proofs.attempt.Attempt.read_inner.Goals as goal
+
+pub passing-requires : goal.passing-requires
+passing-requires g c = (c.requires.0, c.requires.1, inner-reads (g.C.Classes.classes c.args.self.now.asked.now.classes.now) c.args.self.now c.requires.0 c.requires.1 c.args.candidate c.args.run c.args.serving.now c.requires.2)
+
+pub returns-in_default : goal.returns-in_default
+returns-in_default g c = λ ch path inner.
+    let k = g.C.Classes.classes c.args.self.now.asked.now.classes.now in
+    let h = inner-reads k c.args.self.now ch path c.args.candidate c.args.run c.args.serving.now inner in
+    let found = c.in_ok-passing.ensures ch path h in
+    (subst (Settles k ch c.args.self.now.root.now path c.args.candidate c.args.run h.found) c.in_default.is found.0, found.1)
+
+pub has_both-requires : goal.has_both-requires
+has_both-requires g c =
+    let k = g.C.Classes.classes c.args.self.now.asked.now.classes.now in
+    let ch = c.requires.0 in
+    let path = c.requires.1 in
+    let root = c.args.self.now.root.now in
+    let run = c.args.run in
+    let h = inner-reads k c.args.self.now ch path c.args.candidate run c.args.serving.now c.requires.2 in
+    let found = subst (Settles k ch root path c.args.candidate run h.found) c.in-Some.is (c.in_ok-passing.ensures ch path h).0 in
+    from-within k ch (at_path path c.args.candidate) run.kind run.levels run.first h.found c.in-Some.passing.bounds.from found.from
+
+pub part_of_pieces-requires-clause-start : goal.part_of_pieces-requires-clause-start
+part_of_pieces-requires-clause-start g c =
+    let k = g.C.Classes.classes c.args.self.now.asked.now.classes.now in
+    let ch = c.requires.0 in
+    let path = c.requires.1 in
+    let root = c.args.self.now.root.now in
+    let units = c.args.self.now.records.now.units in
+    let run = c.args.run in
+    let r = c.requires.2 in
+    let h = inner-reads k c.args.self.now ch path c.args.candidate run c.args.serving.now r in
+    let found = subst (Settles k ch root path c.args.candidate run h.found) c.in-Some.is (c.in_ok-passing.ensures ch path h).0 in
+    passing-start k ch c.args.self.now.asked.now root units r.ready path c.args.candidate run h.found c.in-Some.passing found
+
+pub part_of_pieces-requires-clause-fits : goal.part_of_pieces-requires-clause-fits
+part_of_pieces-requires-clause-fits g c =
+    let k = g.C.Classes.classes c.args.self.now.asked.now.classes.now in
+    let ch = c.requires.0 in
+    let path = c.requires.1 in
+    let root = c.args.self.now.root.now in
+    let units = c.args.self.now.records.now.units in
+    let run = c.args.run in
+    let r = c.requires.2 in
+    let h = inner-reads k c.args.self.now ch path c.args.candidate run c.args.serving.now r in
+    let found = subst (Settles k ch root path c.args.candidate run h.found) c.in-Some.is (c.in_ok-passing.ensures ch path h).0 in
+    passing-few k ch c.args.self.now.asked.now root units r.ready path c.args.candidate run h.found c.in-Some.passing found
+
+pub returns-then-has_both : goal.returns-then-has_both
+returns-then-has_both g c = λ ch path inner.
+    let k = g.C.Classes.classes c.args.self.now.asked.now.classes.now in
+    let asked = c.args.self.now.asked.now in
+    let root = c.args.self.now.root.now in
+    let units = c.args.self.now.records.now.units in
+    let run = c.args.run in
+    let p = c.in-Some.passing in
+    let h = inner-reads k c.args.self.now ch path c.args.candidate run c.args.serving.now inner in
+    let all = c.in_ok-passing.ensures ch path h in
+    let found = subst (Settles k ch root path c.args.candidate run h.found) c.in-Some.is all.0 in
+    let both = c.has_both.ensures.0 c.if-has_both.true in (
+      passing-part k ch asked root units inner.ready path c.args.candidate run h.found p found
+          c.in_ok-part.part c.in_ok-part.ensures.nodes c.in_ok-part.ensures.first c.in_ok-part.ensures.end c.in_ok-part.ensures.bounds c.in_ok-part.ensures.entries
+          (λ kind. passing-more k ch asked root units inner.ready path c.args.candidate run h.found p found both.0 both.1),
+      all.1,
+    )
+
+pub with_block-requires : goal.with_block-requires
+with_block-requires g c =
+    let k = g.C.Classes.classes c.args.self.now.asked.now.classes.now in
+    let ch = c.requires.0 in
+    let path = c.requires.1 in
+    let r = c.requires.2 in
+    let i = r.found in
+    let asked = c.args.self.now.asked.now in
+    let root = c.args.self.now.root.now in
+    let units = c.args.self.now.records.now.units in
+    record {
+      text = r.ready.text;
+      fits = new-few k ch asked root units r.ready path c.args.candidate i c.args.run r.is;
+      places = places-fit k ch root units r.ready.holds asked.new.now asked.edit r.ready.makes;
+      boundary = inner-boundary k ch asked root units r.ready path c.args.candidate i c.args.run r.is;
+      first = inner-bounds k ch asked root units r.ready path c.args.candidate i c.args.run r.is;
+      block = (i.to, i.levels, i.mode, says-inner k ch asked root units r.ready path c.args.candidate i c.args.run r.is);
+    }
+
+pub returns : goal.returns
+returns g c = λ ch path inner.
+    let k = g.C.Classes.classes c.args.self.now.asked.now.classes.now in
+    let asked = c.args.self.now.asked.now in
+    let root = c.args.self.now.root.now in
+    let units = c.args.self.now.records.now.units in
+    let run = c.args.run in
+    let p = c.in-Some.passing in
+    let h = inner-reads k c.args.self.now ch path c.args.candidate run c.args.serving.now inner in
+    let all = c.in_ok-passing.ensures ch path h in
+    let found = subst (Settles k ch root path c.args.candidate run h.found) c.in-Some.is all.0 in
+    let i = inner.found in
+    if-ok c.with_block.result (HasBlock k (place_at asked.new.now run.at) run.at i.levels i.mode (run.first - 1) i.to p.first.from p.pieces) (λ o. Decides k ch root (at_path path c.args.candidate) o × ServesOr k ch root path c.args.candidate.depth c.passing.new.serving)
+    (λ (o : Option Part) w. (block-decides k ch asked root units inner.ready path c.args.candidate i run inner.is h.found p found o w, all.1)) (c.with_block.ensures i.to i.levels i.mode (says-inner k ch asked root units inner.ready path c.args.candidate i run inner.is))

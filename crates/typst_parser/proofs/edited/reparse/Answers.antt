@@ -1,0 +1,30 @@
+use Rattle.std.proofs.Common.{◌≡◌, ap, sym, subst, ◌∙◌}
+use Rattle.std.specs.Prelude.{OnErr}
+use Rattle.typst_candidates.specs.Records.{Kept}
+use Rattle.typst_parser.specs.Change.{Holds}
+use Rattle.typst_parser.proofs.Answering.{places-fit}
+use Rattle.typst_parser.proofs.edited.reparse.Goals as goal
+
+pub go_near-requires : goal.go_near-requires
+go_near-requires g c = places-fit (g.C.Classes.classes c.args.classes.now) c.requires.0 c.args.root.now c.args.records.now.units c.requires.1.1 c.args.new.now c.args.edit c.requires.1.0
+
+pub reparse_near-requires : goal.reparse_near-requires
+reparse_near-requires g c =
+    let k = g.C.Classes.classes c.args.classes.now in
+    (c.requires.0, (c.requires.1.0, subst (λ (r : Kept). Holds k c.requires.0 c.args.root.now r.units) (sym c.go_near.ensures) c.requires.1.1))
+
+pub returns-clause-part : goal.returns-clause-part
+returns-clause-part g c = λ ch makes holds.
+    let k = g.C.Classes.classes c.args.classes.now in
+    c.reparse_near.ensures.part ch makes (subst (λ (r : Kept). Holds k ch c.args.root.now r.units) (sym c.go_near.ensures) holds)
+
+pub returns-clause-none : goal.returns-clause-none
+returns-clause-none g c = λ ch makes holds e.
+    let k = g.C.Classes.classes c.args.classes.now in
+    c.reparse_near.ensures.none ch makes (subst (λ (r : Kept). Holds k ch c.args.root.now r.units) (sym c.go_near.ensures) holds) e
+
+pub returns-clause-undone : goal.returns-clause-undone
+returns-clause-undone g c = λ e. let u = c.reparse_near.ensures.undone e in (u.0, u.1 ∙ ap (λ (r : Kept). r.units) c.go_near.ensures)
+
+pub returns-clause-err : goal.returns-clause-err
+returns-clause-err g c = subst (λ (r : Kept). OnErr c.reparse_near.result ((c.reparse_near.new.root ≡ c.args.root.now) × (c.reparse_near.new.records.units ≡ r.units))) c.go_near.ensures c.reparse_near.ensures.err

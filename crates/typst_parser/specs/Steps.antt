@@ -1,0 +1,204 @@
+-- What an attempt finds step by step (of private clauses).
+use Rattle.std.specs.Prelude.{◌≡◌, ◌↔◌, ◌⊎◌, ℕ, suc, ◌+◌, ◌-◌, ◌<◌, ◌≤◌, ◌^◌, Bool, true, false, List, [], ◌∷◌, ◌++◌, length, take, Option, Some, None}
+use Rattle.typst_kinds.specs.declared.mode.SyntaxMode.{SyntaxMode}
+use Rattle.typst_lines.specs.Classes.{CharClasses}
+use Rattle.typst_lines.specs.Place.{Place, moved}
+use Rattle.typst_tokens.specs.Sight.{width}
+use Rattle.typst_tree.specs.Tree.{Tree}
+use Rattle.typst_tree.specs.Laws.{start_at}
+use Rattle.typst_edits.specs.Block.{Block}
+use Rattle.typst_edits.specs.Block.TheVariants as block
+use Rattle.typst_candidates.specs.declared.candidate.Candidate as code
+use Rattle.typst_candidates.specs.declared.entry.Entry.{Entry}
+use Rattle.typst_candidates.specs.Candidates.{Candidate}
+use Rattle.typst_candidates.specs.Cursors as cursors
+use Rattle.typst_candidates.specs.Entries.{block_end, entries_by, last_start}
+use Rattle.typst_edits.specs.ReadPart.{ReadPart}
+use Rattle.typst_edits.specs.PieceReader.{PieceReader}
+use Rattle.typst_edits.specs.RunKind.{RunKind}
+use Rattle.typst_edits.specs.RunKind.TheVariants as of
+use Rattle.typst_edits.specs.Part.{ArePieces, HasRead, IsBlock, IsOver}
+use Rattle.typst_edits.specs.Pieces.{AllGo}
+use Rattle.typst_edits.specs.BlockTest.{entries_in, front_in}
+use Rattle.typst_edits.specs.Edit.{Among, text_with}
+use Rattle.typst_edits.specs.RunTest.{FoundInner, FoundRun, Reading, byte_behind, carried_by, read_by}
+use Rattle.typst_edits.specs.Served.{MeetsOn, PassesOn, RunOf, Served, reading_of}
+use Rattle.typst_parser.specs.Attempt.{Fails, IsReady, at_path}
+use Rattle.typst_parser.specs.Change.{Change, candidates, text_before}
+use Rattle.typst_parser.specs.declared.attempt.Attempt.{Attempt}
+use Rattle.typst_parser.specs.declared.attempt.Bounds.{Bounds}
+use Rattle.typst_parser.specs.declared.attempt.Part.{Part}
+use Rattle.typst_parser.specs.declared.attempt.Passing.{Passing}
+use Rattle.typst_parser.specs.declared.attempt.Run.{Run}
+use Rattle.typst_parser.specs.declared.attempt.Serving.{Serving}
+
+-- ---- blocks
+
+-- A block was read by itself.
+abbrev pub IsReadBlock : CharClasses → ℕ → Block → SyntaxMode → Place → Option ReadPart → Type 0
+IsReadBlock k levels b read_as z None = ⊥
+IsReadBlock k levels b read_as z (Some p) = IsBlock k levels b read_as z p
+
+-- the entries of a block that was read by itself, which begins at a byte
+abbrev pub entries_of : ℕ → ReadPart → List Entry
+entries_of start p = entries_by start p.notes.items ++ block_end (last_start start p.notes.items) p.end p.hull.reach p.hull.least ∷ []
+
+-- ---- pieces
+
+-- the place before the entry of a number
+abbrev pub place_before : List Entry → ℕ → cursors.Place
+place_before es number = record { entries = es; number = number }
+
+-- Pieces begin and end at these entries, and looks have to begin behind the stretch from this one on, or from one that is none.
+abbrev pub AreBounds : List Entry → ℕ → ℕ → ℕ → Option Bounds → Type 0
+AreBounds es from to looks None = ⊥
+AreBounds es from to looks (Some b) = (b.from ≡ place_before es from) × (b.to ≡ place_before es to) × ((b.looks ≡ looks) ⊎ ((b.looks ≡ length es) × (length es ≤ looks)))
+
+-- So many pieces were read that fewer end before a byte.
+pub record HasReadSome (k : CharClasses) (r : Reading) (end : ℕ) (any : Bool) (p : PieceReader) : Type 0 where
+  pub count : ℕ
+  pub read : HasRead k r.levels r.which r.carried r.place count p
+  pub some : any ≡ true ↔ 0 < count
+  pub before : (j : ℕ) → j < count → byte_behind k r j < end
+
+-- They end at the byte or behind it, or their run ends.
+pub record HasReadTo (k : CharClasses) (r : Reading) (end : ℕ) (any : Bool) (p : PieceReader) : Type 0 where
+  pub has : HasReadSome k r end any p
+  pub stopped : (end ≤ byte_behind k r has.count) ⊎ IsOver k r.levels r.which r.carried r.place has.count
+
+-- More pieces end at a later byte, behind the run's end there are none, and each ends at a byte of the machine.
+pub record Grows (k : CharClasses) (r : Reading) : Type 0 where
+  pub rises : (m j : ℕ) → m < j → AllGo (read_by k r j) → byte_behind k r m < byte_behind k r j
+  pub over : (m j : ℕ) → IsOver k r.levels r.which r.carried r.place m → AllGo (read_by k r j) → j ≤ m
+  pub fits : (m : ℕ) → byte_behind k r m < 2 ^ 64
+
+-- So many pieces, behind old ones or not, end where those do that ended at a byte before the bytes `old` became the bytes `new`, and meet what is there.
+pub record Fit (k : CharClasses) (es : List Entry) (r : Reading) (old new end to : ℕ) (led : Type 0) (y : Bool × ℕ) (m : ℕ) : Type 0 where
+  pub go : AllGo (read_by k r m)
+  pub shifted : byte_behind k r m + old ≡ end + new
+  pub meets : MeetsOn es r.which to led m y (carried_by k r m)
+
+-- ---- a reading that serves a run
+
+-- A reading serves a run: it began with a candidate of the edit at the run's path, before which all looks end before the stretch, and so many pieces of it were read.
+pub record Serves (k : CharClasses) (c : Change) (root : Tree) (path : List ℕ) (depth : ℕ) (which : RunKind) (levels entry : ℕ) (s : Serving) : Type 0 where
+  pub depth_is : s.first.depth ≡ depth
+  pub pieces : s.first.is_block ≡ false
+  pub among : Among (at_path path s.first) (candidates k c root)
+  pub found : FoundRun k c.front c.old c.new c.rest (at_path path s.first) which levels entry
+  pub from : s.from ≡ found.from
+  pub before : found.from < front_in k c.front c.old c.rest
+  pub count : ℕ
+  pub read : HasRead k levels which found.carried (moved found.at (text_with c.front c.new c.rest)) count s.reader
+  pub some : s.any ≡ true ↔ 0 < count
+  -- fewer end before the last candidate does for which it went on
+  pub less : (j : ℕ) → j < count → byte_behind k (reading_of found) j + width c.old < s.last + width c.new
+
+-- It serves the run of the candidates at a path.
+pub record ServesRun (k : CharClasses) (c : Change) (root : Tree) (path : List ℕ) (depth : ℕ) (s : Serving) : Type 0 where
+  pub which : RunKind
+  pub levels : ℕ
+  pub entry : ℕ
+  pub run : RunOf (entries_in k (text_before c)) root path which levels entry
+  pub serves : Serves k c root path depth which levels entry s
+
+-- It is one that does, or there is none.
+abbrev pub ServesOr : CharClasses → Change → Tree → List ℕ → ℕ → Option Serving → Type 0
+ServesOr k c root path depth None = Unit {0}
+ServesOr k c root path depth (Some s) = ServesRun k c root path depth s
+
+-- It can go on for a candidate: one as deep, which begins where it began or earlier, and ends where the last one did or later.
+pub record GoesOn (d : code.Candidate) (s : Serving) : Type 0 where
+  pub depth : s.first.depth ≡ d.depth
+  pub start : d.start ≤ s.first.start
+  pub end : s.last ≤ d.end
+
+abbrev pub ServesFor : CharClasses → Change → Tree → List ℕ → code.Candidate → Option Serving → Type 0
+ServesFor k c root path d None = Unit {0}
+ServesFor k c root path d (Some s) = ServesRun k c root path d.depth s × GoesOn d s
+
+-- A candidate of an edit that is ready, and a reading that serves it.
+pub record CanServe {C : Type 0} (k : CharClasses) (a : Attempt C) (path : List ℕ) (d : code.Candidate) (s : Option Serving) : Type 0 where
+  pub change : Change
+  pub ready : IsReady k change a
+  pub among : Among (at_path path d) (candidates k change a.root.now)
+  pub serves : ServesFor k change a.root.now path d s
+
+-- ---- a run
+
+-- Of a candidate it is known what is found of it as pieces of a run, and a reading serves it.
+pub record Reads {C : Type 0} (k : CharClasses) (c : Change) (a : Attempt C) (path : List ℕ) (d : code.Candidate) (r : Run) (s : Option Serving) : Type 0 where
+  pub ready : IsReady k c a
+  pub among : Among (at_path path d) (candidates k c a.root.now)
+  pub pieces : d.is_block ≡ false
+  pub run : RunOf (entries_in k (text_before c)) a.root.now path r.kind r.levels r.first
+  pub some : 0 < r.levels
+  pub found : FoundRun k c.front c.old c.new c.rest (at_path path d) r.kind r.levels r.first
+  pub serves : ServesFor k c a.root.now path d s
+
+-- It begins at this place, before which all looks end before the stretch.
+pub record BeginsThere (k : CharClasses) (c : Change) (path : List ℕ) (d : code.Candidate) (r : Run) (f : FoundRun k c.front c.old c.new c.rest (at_path path d) r.kind r.levels r.first) (at : cursors.Place) : Type 0 where
+  pub is : at ≡ place_before (entries_in k (text_before c)) f.from
+  pub before : f.from < front_in k c.front c.old c.rest
+
+-- A reading begins with a candidate, at an entry.
+abbrev pub Begins : CharClasses → Reading → code.Candidate → ℕ → Option Serving → Type 0
+Begins k r d from None = ⊥
+Begins k r d from (Some s) = HasRead k r.levels r.which r.carried r.place 0 s.reader × (s.any ≡ false) × (s.first ≡ d) × (s.from ≡ from) × (s.last ≡ d.end)
+
+-- A reading serves a candidate's run, and can go on for it.
+abbrev pub ServesNow : CharClasses → Change → Tree → List ℕ → code.Candidate → Run → Option Serving → Type 0
+ServesNow k c root path d r None = ⊥
+ServesNow k c root path d r (Some s) = Serves k c root path d.depth r.kind r.levels r.first s × GoesOn d s
+
+-- Pieces were read that pass.
+pub record IsPassing (k : CharClasses) (c : Change) (root : Tree) (path : List ℕ) (d : code.Candidate) (run : Run) (f : FoundRun k c.front c.old c.new c.rest (at_path path d) run.kind run.levels run.first) (p : Passing) : Type 0 where
+  pub from : p.bounds.from ≡ place_before (entries_in k (text_before c)) f.from
+  pub to : p.bounds.to ≡ place_before (entries_in k (text_before c)) f.to
+  -- their reading began with this candidate
+  pub begun : FoundRun k c.front c.old c.new c.rest (at_path path p.first) run.kind run.levels run.first
+  pub entry : p.from ≡ begun.from
+  pub before : begun.from < front_in k c.front c.old c.rest
+  pub served : Served k c.front c.old c.new c.rest root run.kind run.levels run.first (at_path path p.first) (at_path path d) begun f
+  pub count : ℕ
+  pub passes : PassesOn k c.front c.old c.new c.rest (at_path path p.first) (at_path path d) (reading_of begun) f.to f.looks f.carried_end count
+  pub some : p.any ≡ true ↔ ((d.start < p.first.start) ⊎ (0 < count))
+  pub read : ArePieces k run.levels run.kind begun.carried (moved begun.at (text_with c.front c.new c.rest)) count p.pieces
+
+abbrev pub Settles : (k : CharClasses) (c : Change) (root : Tree) (path : List ℕ) (d : code.Candidate) (run : Run) → FoundRun k c.front c.old c.new c.rest (at_path path d) run.kind run.levels run.first → Option Passing → Type 0
+Settles k c root path d run f None = Fails k c (at_path path d)
+Settles k c root path d run f (Some p) = IsPassing k c root path d run f p
+
+-- ---- a block's run
+
+-- A run is that of a content block above a candidate.
+pub record IsRunOf (k : CharClasses) (c : Change) (root : Tree) (d : Candidate) (f : FoundInner k c.front c.old c.new c.rest root d) (run : Run) : Type 0 where
+  pub kind : run.kind ≡ of.Block
+  pub at : run.at ≡ start_at (take (length d.path - 1) d.path) 0 root
+  pub levels : run.levels ≡ f.levels
+  pub first : run.first ≡ suc f.opens
+
+-- Of a candidate it is known what is found of it as pieces of a content block's run, and a reading serves it.
+pub record ReadsInner {C : Type 0} (k : CharClasses) (c : Change) (a : Attempt C) (path : List ℕ) (d : code.Candidate) (run : Run) (s : Option Serving) : Type 0 where
+  pub ready : IsReady k c a
+  pub among : Among (at_path path d) (candidates k c a.root.now)
+  pub pieces : d.is_block ≡ false
+  pub below : path ≡ [] → ⊥
+  pub found : FoundInner k c.front c.old c.new c.rest a.root.now (at_path path d)
+  pub is : IsRunOf k c a.root.now (at_path path d) found run
+  pub serves : ServesFor k c a.root.now path d s
+
+-- A part has the nodes of pieces, which are put from a child on, and takes the place of the entries behind one up to another, for those of a block that was read by itself from a byte on.
+pub record IsWithBlock (k : CharClasses) (z : Place) (at levels : ℕ) (mode : SyntaxMode) (from to first : ℕ) (p : ReadPart) (part : Part) : Type 0 where
+  pub nodes : part.nodes ≡ p.nodes
+  pub first_is : part.first ≡ first
+  pub end : part.end ≡ p.end
+  pub from_is : part.from ≡ from
+  pub to_is : part.to ≡ to
+  pub read : ReadPart
+  pub is_read : IsBlock k levels block.Content mode z read
+  pub entries : part.entries.units.entries ≡ entries_of at read
+
+abbrev pub HasBlock : CharClasses → Place → ℕ → ℕ → SyntaxMode → ℕ → ℕ → ℕ → ReadPart → Option Part → Type 0
+HasBlock k z at levels read_as from to first p None = ⊥
+HasBlock k z at levels read_as from to first p (Some part) = IsWithBlock k z at levels read_as from to first p part

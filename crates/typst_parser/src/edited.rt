@@ -1,0 +1,205 @@
+//! Reading of an edited text what the edit may have changed.
+
+ghost use Rattle.std.specs.Prelude.{◌≡◌, ℕ, ◌<◌, ◌≤◌, ◌^◌, Some, None, IfOk, IfSome, OnOk, OnErr, List, length, take, true};
+ghost use Rattle.typst_tree.specs.Order.{AreInOrder, IsNumbered, numbers_of};
+ghost use Rattle.typst_tree.specs.Replace.{Reaches};
+ghost use Rattle.typst_edits.specs.Edit.{Among};
+ghost use Rattle.typst_parser.specs.Attempt.{Speaks, at_path};
+ghost use Rattle.typst_parser.specs.Change.{Change, Makes, Holds, candidates};
+ghost use Rattle.typst_parser.specs.Steps.{GoesOn, ServesFor, ServesOr};
+ghost use Rattle.typst_parser.specs.Reparse.{AreFirst, CanTake, CanTakeFirst, NonePasses, NonePassesOf, Puts, Takes, TakesFirst, TakesPlace};
+
+use crate::attempt::{Asked, Attempt, Part, Serving};
+use crate::replacement::Replacement;
+use std::alloc::{AllocError, Global};
+use std::ops::Range;
+use typst_candidates::{Candidate, Candidates, Records, find_candidates};
+use typst_kinds::SourceError;
+use typst_lines::Classes;
+use typst_tree::SyntaxNode;
+
+/// How many candidates are looked up at first. The first one nearly always passes, and these few are found
+/// around the edit; to find all goes from there to the ends of each run that the edit stands in.
+const FEW: usize = 4;
+
+/// How many bytes on each side of an edit pieces of runs are looked up at first. Those around an edit lie within a few
+/// hundred bytes; the further pieces of a long run cost more than all else that an edit does.
+const REACH: usize = 1000;
+
+/// Reads of an edited text the first candidate that passes and whose nodes find numbers, and puts its
+/// nodes and units in place. Answers its range in the new text, in bytes, or `None` where there is
+/// none: then the tree and the units stay as they were.
+pub fn reparse<C: Classes>(
+    alloc: Global,
+    root: &mut SyntaxNode,
+    records: &mut Records,
+    new: &str,
+    edit: Replacement,
+    classes: &C,
+) -> Result<Option<Range<usize>>, AllocError>
+    requires { (c : Change) × (Makes c new.now edit × Holds (C.classes classes.now) c root.old records.old.units) }
+    ensures part { (c : Change) → Makes c new.now edit → Holds (C.classes classes.now) c root.old records.old.units → IfOk result (λ r. IfSome r (λ range. Takes (C.classes classes.now) c root.old root.new records.new.units range)) }
+    ensures none { (c : Change) → Makes c new.now edit → Holds (C.classes classes.now) c root.old records.old.units → result ≡ Ok None → NonePasses (C.classes classes.now) c root.old }
+    ensures undone { result ≡ Ok None → (root.new ≡ root.old) × (records.new.units ≡ records.old.units) }
+    ensures err { OnErr result ((root.new ≡ root.old) × (records.new.units ≡ records.old.units)) }
+    ensures ordered { IfOk result (λ r. IfSome r (λ _. IsNumbered root.old → IsNumbered root.new × AreInOrder (numbers_of root.new))) }
+{
+    records.go_near(edit.start);
+    reparse_near(alloc, root, records, new, edit, classes)
+}
+
+/// The same, from where the records have their anchor.
+fn reparse_near<C: Classes>(
+    alloc: Global,
+    root: &mut SyntaxNode,
+    records: &mut Records,
+    new: &str,
+    edit: Replacement,
+    classes: &C,
+) -> Result<Option<Range<usize>>, AllocError>
+    requires { (c : Change) × (Makes c new.now edit × Holds (C.classes classes.now) c root.old records.old.units) }
+    ensures part { (c : Change) → Makes c new.now edit → Holds (C.classes classes.now) c root.old records.old.units → IfOk result (λ r. IfSome r (λ range. Takes (C.classes classes.now) c root.old root.new records.new.units range)) }
+    ensures none { (c : Change) → Makes c new.now edit → Holds (C.classes classes.now) c root.old records.old.units → result ≡ Ok None → NonePasses (C.classes classes.now) c root.old }
+    ensures undone { result ≡ Ok None → (root.new ≡ root.old) × (records.new.units ≡ records.old.units) }
+    ensures err { OnErr result ((root.new ≡ root.old) × (records.new.units ≡ records.old.units)) }
+    ensures ordered { IfOk result (λ r. IfSome r (λ _. IsNumbered root.old → IsNumbered root.new × AreInOrder (numbers_of root.new))) }
+{
+    let last = records.last_token();
+    let asked = Asked {
+        new,
+        edit,
+        front: records.front(edit.start),
+        rear: records.rear(edit.old_end, last),
+        classes,
+    };
+    let few = find_candidates(alloc, root, records, edit.start, edit.old_end, FEW, REACH)?;
+    if let Some(range) = take_first(alloc, root, records, &asked, &few, 0)? {
+        return Ok(Some(range));
+    }
+    let tried = few.items.len();
+    if tried < few.most {
+        return Ok(None);
+    }
+    let all = find_candidates(
+        alloc,
+        root,
+        records,
+        edit.start,
+        edit.old_end,
+        usize::MAX,
+        usize::MAX,
+    )?;
+    take_first(alloc, root, records, &asked, &all, tried)
+}
+
+/// Puts what takes the place of the first candidate there that passes and whose nodes find numbers, of these
+/// from the one numbered `from` on; answers its range in the new text, in bytes, or `None` where there is none.
+/// Then, and where there is no memory, nothing changes.
+fn take_first<C: Classes>(
+    alloc: Global,
+    root: &mut SyntaxNode,
+    records: &mut Records,
+    asked: &Asked<'_, C>,
+    found: &Candidates,
+    from: usize,
+) -> Result<Option<Range<usize>>, AllocError>
+    requires some { CanTakeFirst (C.classes asked.now.classes.now) asked.now root.old records.old.units found.now }
+    requires within { from ≤ length found.now.items.items }
+    ensures first { (c : Change) → Speaks (C.classes asked.now.classes.now) c asked.now root.old records.old.units → AreFirst (C.classes asked.now.classes.now) c root.old found.now → NonePassesOf (C.classes asked.now.classes.now) c root.old from → IfOk result (λ range. TakesFirst (C.classes asked.now.classes.now) c root.old root.new records.new.units (length found.now.items.items) range) }
+    ensures undone { result ≡ Ok None → (root.new ≡ root.old) × (records.new.units ≡ records.old.units) }
+    ensures err { OnErr result ((root.new ≡ root.old) × (records.new.units ≡ records.old.units)) }
+    ensures ordered { IfOk result (λ r. IfSome r (λ _. IsNumbered root.old → IsNumbered root.new × AreInOrder (numbers_of root.new))) }
+{
+    let steps = &found.path;
+    let mut serving = None;
+    for candidate in &found.items[from..] {
+        let path = front_of(steps, candidate.depth);
+        serving = serving_of(serving, *candidate);
+        let end = take_place(alloc, root, records, asked, *candidate, path, &mut serving)?;
+        if let Some(end) = end {
+            return Ok(Some(candidate.start..end));
+        }
+    }
+    Ok(None)
+}
+
+/// The reading, if it can go on for a candidate.
+fn serving_of<'s>(serving: Option<Serving<'s>>, candidate: Candidate) -> Option<Serving<'s>>
+    ensures { IfSome result (λ s. (serving.entry ≡ Some s) × GoesOn candidate s) }
+{
+    let current = serving?;
+    if current.goes_on(candidate) {
+        return Some(current);
+    }
+    None
+}
+
+/// The first steps of a path, so many or all.
+fn front_of(path: &[usize], depth: usize) -> &[usize]
+    ensures { result.now ≡ take depth path.now }
+{
+    if depth < path.len() {
+        &path[..depth]
+    } else {
+        path
+    }
+}
+
+/// Puts what takes the candidate's place there, if it passes and its nodes find numbers; answers where it
+/// ends in the new text. Else nothing changes.
+fn take_place<'s, C: Classes>(
+    alloc: Global,
+    root: &mut SyntaxNode,
+    records: &mut Records,
+    asked: &Asked<'s, C>,
+    candidate: Candidate,
+    path: &[usize],
+    serving: &mut Option<Serving<'s>>,
+) -> Result<Option<usize>, AllocError>
+    requires { CanTake (C.classes asked.now.classes.now) asked.now root.old records.old.units path.now candidate serving.old }
+    ensures taken { (c : Change) → Speaks (C.classes asked.now.classes.now) c asked.now root.old records.old.units → Among (at_path path.now candidate) (candidates (C.classes asked.now.classes.now) c root.old) → ServesFor (C.classes asked.now.classes.now) c root.old path.now candidate serving.old → IfOk result (λ end. TakesPlace (C.classes asked.now.classes.now) c (at_path path.now candidate) root.old root.new records.new.units end × ServesOr (C.classes asked.now.classes.now) c root.old path.now candidate.depth serving.new) }
+    ensures undone { result ≡ Ok None → (root.new ≡ root.old) × (records.new.units ≡ records.old.units) }
+    ensures err { OnErr result ((root.new ≡ root.old) × (records.new.units ≡ records.old.units)) }
+    ensures ordered { IfOk result (λ r. IfSome r (λ _. IsNumbered root.old → IsNumbered root.new × AreInOrder (numbers_of root.new))) }
+{
+    let attempt = Attempt {
+        root,
+        records,
+        asked,
+    };
+    let Some(part) = attempt.read(alloc, candidate, path, serving)? else {
+        return Ok(None);
+    };
+    let end = part.end;
+    if put(root, records, path, candidate.to, part)? {
+        return Ok(Some(end));
+    }
+    Ok(None)
+}
+
+/// Puts a part in a candidate's place; answers false where its nodes find no numbers. Then, and where
+/// there is no memory, nothing changes.
+fn put(
+    root: &mut SyntaxNode,
+    records: &mut Records,
+    path: &[usize],
+    to: usize,
+    part: Part,
+) -> Result<bool, AllocError>
+    requires reaches { Reaches path.now part.first to root.old }
+    requires order { part.from ≤ part.to }
+    requires within { part.to < length records.old.units.entries }
+    ensures puts { IfOk result (λ done. Puts path.now part.first to part root.old root.new records.old.units records.new.units done) }
+    ensures err { OnErr result ((root.new ≡ root.old) × (records.new.units ≡ records.old.units)) }
+    ensures ordered { IfOk result (λ done. done ≡ true → IsNumbered root.old → IsNumbered root.new × AreInOrder (numbers_of root.new)) }
+{
+    records.reserve(&part.entries)?;
+    match root.replace_at(path, part.first..to, part.nodes) {
+        Ok(()) => {
+            records.put(&part.entries, part.from, part.to);
+            Ok(true)
+        }
+        Err(SourceError::SpanNumbers) => Ok(false),
+        Err(SourceError::OutOfMemory) => Err(AllocError),
+    }
+}

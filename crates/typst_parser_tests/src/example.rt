@@ -1,0 +1,80 @@
+//! What an editor does with a text that it holds: edits it, finds a node by its span, walks the leaves,
+//! and tells where each error stands, by line and UTF-16 column.
+//!
+//! A program names `typst_parser` where this names `typst_cli`, which passes the same names on.
+
+use std::alloc::{AllocError, Global};
+use typst_cli::{Severity, Source, SyntaxNode, UnicodeClasses};
+
+/// What is told of the text below.
+const TOLD: &str = r#"parsed anew: 0..12
+heading 0..4
+heading marker "="
+space " "
+text "Hi"
+space "\n"
+text "💛"
+space " "
+syntax error "*"
+1:3: error: unclosed delimiter
+text "a"
+"#;
+
+#[test]
+fn an_editor_holds_a_text(rt: HostRuntime) {
+    assert!(rt; told(rt.alloc()).as_deref() == Some(TOLD));
+}
+
+/// Makes a source, replaces its text, and tells what became of it; nothing where memory was refused.
+fn told(alloc: Global) -> Option<String> {
+    let text = String::from_str(alloc, "= Hi\n").ok()?;
+    let mut source = Source::detached(alloc, text, UnicodeClasses).ok()?;
+    let parsed = source.replace("= Hi\n💛 *a").ok()?;
+    let mut told = String::new(alloc);
+    write!(told, "parsed anew: {}..{}\n", parsed.start, parsed.end).ok()?;
+    if let Some(heading) = source.root().children().first() {
+        if let Some(found) = source.find(heading.span()) {
+            let range = found.range();
+            write!(
+                told,
+                "{} {}..{}\n",
+                found.kind().name(),
+                range.start,
+                range.end
+            )
+            .ok()?;
+        }
+    }
+    tell(&mut told, &source, source.root()).ok()?;
+    Some(told)
+}
+
+/// Tells the leaves of a node and its errors.
+fn tell(
+    told: &mut String,
+    source: &Source<UnicodeClasses>,
+    node: &SyntaxNode,
+) -> Result<(), AllocError> {
+    if !node.leaf_text().is_empty() {
+        write!(told, "{} {:?}\n", node.kind().name(), node.leaf_text())?;
+    }
+    for diagnostic in node.diagnostics() {
+        if diagnostic.severity() == Severity::Error {
+            let (line, column) = place_of(source, node).unwrap_or((0, 0));
+            write!(told, "{line}:{column}: error: {}\n", diagnostic.message())?;
+        }
+    }
+    for kid in node.children() {
+        tell(told, source, kid)?;
+    }
+    Ok(())
+}
+
+/// The line and the UTF-16 column at which a node begins.
+fn place_of(source: &Source<UnicodeClasses>, node: &SyntaxNode) -> Option<(usize, usize)> {
+    let lines = source.lines();
+    let byte = source.range(node.span().number()?, None)?.start;
+    let line = lines.byte_to_line(byte)?;
+    let start = lines.byte_to_utf16(lines.line_to_byte(line)?)?;
+    Some((line, lines.byte_to_utf16(byte)?.saturating_sub(start)))
+}

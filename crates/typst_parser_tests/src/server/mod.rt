@@ -1,0 +1,5 @@
+//! Sessions of the language server.
+
+mod dialogue;
+mod refusals;
+mod sessions;

@@ -1,7 +1,0 @@
-use Rattle.std.proofs.Common.{◌≡◌, ◌+◌, length, take}
-use Rattle.typst_tree.specs.Replace.{kids_of}
-use Rattle.typst_tree.specs.Tree.{forest, joined}
-use Rattle.typst_reparser.proofs.attempt.byte_before.Given as goal
-
-abbrev pub invariant-loop-kid : goal.invariant-loop-kid
-invariant-loop-kid l = l.at ≡ length l.node.head.text + length (joined (forest (take l.kid-index (kids_of l.node))))
