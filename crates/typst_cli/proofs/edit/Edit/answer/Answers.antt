@@ -19,6 +19,16 @@ returns-clause-printed c =
     record {
       fits = subst (IsRange (range_in c.args.self)) c.as_str.ensures.value (c.if-not-fits.ensures.0 refl);
       parsed = c.in_ok-parsed.parsed;
+      anew = record {
+        before = c.in_ok-source.source;
+        after = c.edit.new.self;
+        made = record {
+          text_is = c.in_ok-source.ensures.made.1;
+          root_is = c.in_ok-source.ensures.root;
+          recorded = c.in_ok-source.ensures.made.3;
+        };
+        answer = c.in_ok-parsed.ensures.answer;
+      };
       ordered = c.in_ok-parsed.ensures.within.0;
       within = subst (λ t. c.in_ok-parsed.parsed.end ≤ length t) new c.in_ok-parsed.ensures.within.1;
       printed =
