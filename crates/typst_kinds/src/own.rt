@@ -332,8 +332,20 @@ impl Own {
         }
     }
 
-    /// The length of the node's text, as it is kept.
+    /// The length of the node's text, as it is kept. Most nodes are short leaves, and tell it in place.
+    #[inline(always)]
     pub fn len(&self) -> usize
+        ensures { result ≡ self.now.len }
+    {
+        if let Repr::ShortLeaf(_, text) = &self.repr {
+            return text.len();
+        }
+        self.len_apart()
+    }
+
+    /// The same, of a node of any kind.
+    #[inline(never)]
+    fn len_apart(&self) -> usize
         ensures { result ≡ self.now.len }
     {
         match &self.repr {
@@ -345,8 +357,21 @@ impl Own {
         }
     }
 
-    /// The count of the node and those below it, as it is kept.
+    /// The count of the node and those below it, as it is kept. Most nodes are short leaves, and tell it
+    /// in place.
+    #[inline(always)]
     pub fn descendants(&self) -> usize
+        ensures { result ≡ self.now.descendants }
+    {
+        if let Repr::ShortLeaf(_, _) = &self.repr {
+            return 1;
+        }
+        self.descendants_apart()
+    }
+
+    /// The same, of a node of any kind.
+    #[inline(never)]
+    fn descendants_apart(&self) -> usize
         ensures { result ≡ self.now.descendants }
     {
         match &self.repr {

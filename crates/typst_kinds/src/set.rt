@@ -1,18 +1,24 @@
 //! Sets of kinds.
 
-ghost use Rattle.std.specs.Prelude.{◌≡◌, ◌≢◌, ◌<◌, ◌||◌, true, false};
+ghost use Rattle.std.specs.Prelude.{◌≡◌, ◌≢◌, ◌↔◌, ◌<◌, ◌||◌, true, false, IsTrue};
+ghost use Rattle.std.specs.Cmp.{partial_equiv_from_equiv};
+ghost use Rattle.std.specs.Cmp.Lexicographic.{nat_list_eq_equiv};
+ghost use Rattle.std.proofs.lemmas.Cmp.{on_equiv};
 ghost use Rattle.typst_kinds.specs.Kinds.{among};
-ghost use Rattle.typst_kinds.specs.Members.{has, place_of};
+ghost use Rattle.typst_kinds.specs.Members.{has, kind_words, place_of, same_kinds};
 ghost use Rattle.typst_kinds.specs.Sets.{stmt, math_expr, unary_op, binary_op, pattern_leaf, code_expr, pattern, arg, array_or_dict_item, param, destructuring_item};
 ghost use Rattle.typst_kinds.specs.declared.kind.SyntaxKind.{SyntaxKind};
 
 use crate::SyntaxKind;
 
 /// A set of kinds of nodes.
-#[derive(Debug, Clone, Copy, PartialEq, Eq)]
+#[derive(Debug, Clone, Copy)]
 pub struct SyntaxSet {
     words: [u64; 3],
 }
+
+/// The bits of a set's last word that stand for kinds. The bits behind them stand for nothing.
+const LAST_WORD: u64 = (1 << (SyntaxKind::DestructAssignment as u64 % 64 + 1)) - 1;
 
 /// The set of the kinds that are listed.
 macro_rules! syntax_set {
@@ -183,6 +189,26 @@ impl SyntaxSet {
         let place = place(kind);
         (self.words[place / 64] >> (place % 64)) & 1 == 1
     }
+}
+
+impl PartialEq for SyntaxSet {
+    ghost eq = { same_kinds };
+
+    ghost laws = { partial_equiv_from_equiv (on_equiv kind_words nat_list_eq_equiv) };
+
+    /// Whether both sets have the same kinds.
+    fn eq(&self, other: &SyntaxSet) -> bool
+        ensures value { result ≡ same_kinds self.now other.now }
+        ensures kinds { IsTrue result ↔ ((kind : SyntaxKind) → has self.now kind ≡ has other.now kind) }
+    {
+        let [first, second, third] = self.words;
+        let [fourth, fifth, sixth] = other.words;
+        first == fourth && second == fifth && third & LAST_WORD == sixth & LAST_WORD
+    }
+}
+
+impl Eq for SyntaxSet {
+    ghost laws = { on_equiv kind_words nat_list_eq_equiv };
 }
 
 /// What each named set holds.
