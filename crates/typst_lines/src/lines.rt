@@ -1,5 +1,5 @@
 //! The lines of a text, and positions in bytes, lines, columns and UTF-16 units.
-ghost use Rattle.std.specs.Prelude.{◌≡◌, ◌≢◌, ℕ, ◌+◌, ◌-◌, ◌≤◌, ◌<◌, ◌^◌, ◌++◌, List, [], length, map, Some, false, IsTrue, ◌↔◌, IfOk, IfErr, IfSome, MatchOption, OnErr, OnOk, not, take, drop, reverse, slice_get, slice_index, nat_eq};
+ghost use Rattle.std.specs.Prelude.{◌≡◌, ◌≢◌, ℕ, ◌+◌, ◌-◌, ◌≤◌, ◌<◌, ◌^◌, ◌++◌, List, [], length, map, Some, Ok, false, IsTrue, ◌↔◌, IfOk, IfErr, IfSome, MatchOption, OnErr, OnOk, not, take, drop, reverse, slice_get, slice_index, nat_eq};
 ghost use Rattle.std.specs.Option.{SomeIff};
 ghost use Rattle.std.specs.Str.{IsCharBoundary, IsUtf8, chars};
 ghost use Rattle.std.specs.String.{string_bytes, string_capacity};
@@ -436,9 +436,11 @@ impl Lines<String> {
         Ok(Lines { text, lines })
     }
 
-    /// Makes another text the text, and says whether it differs. After an error nothing has changed.
+    /// Makes another text the text, and says whether it differs. It asks for no memory where the texts
+    /// are equal. After an error nothing has changed.
     pub fn replace(&mut self, new: &str) -> Result<bool, AllocError>
         ensures text { IfOk result (λ _. self.new ≡ new.now) }
+        ensures same { self.old ≡ new.now → (result ≡ Ok false) × (self.new ≡ self.old) }
         ensures changed { IfOk result (λ changed. changed ≡ not (pointwise nat_eq self.old new.now)) }
         ensures err { OnErr result (self.new ≡ self.old) }
     {
