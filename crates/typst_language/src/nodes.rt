@@ -59,7 +59,7 @@ pub(crate) fn trim(nodes: &mut Vec<SyntaxNode>, count: usize)
     nodes.truncate(nodes.len() - count);
 }
 
-/// Moves all nodes behind the others.
+/// Moves all nodes behind the others. Mostly it is one, a space, which is moved by itself.
 pub(crate) fn push_all(
     nodes: &mut Vec<SyntaxNode>,
     more: &mut Vec<SyntaxNode>,
@@ -68,6 +68,12 @@ pub(crate) fn push_all(
     ensures err { OnErr result (nodes.new.items ≡ nodes.old.items) }
     ensures none { OnOk result (more.new.items ≡ []) }
 {
+    if more.len() == 1 {
+        if let Some(node) = more.pop() {
+            nodes.push(node)?;
+            return Ok(());
+        }
+    }
     nodes.append(more)?;
     Ok(())
 }

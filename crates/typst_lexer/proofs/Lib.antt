@@ -11,10 +11,12 @@ pub mod FieldNames
 pub mod OwnNames
 -- Which lemma gives which clause:
 --   goes_on of scan                       TokenEats.token-eats
+--   eaten of eat_lone_space               Spaces.lone-space
 --   characters of scan                    typst_tokens Moves.exec-moved
 --   Scans of read_up_to                   typst_tokens Sights.read-is, hull-is, text-read
 --   token_laws.TokenFrame                       typst_tokens Frame.frame
 --   looks of tokens                       the checker computes them
+pub mod Spaces
 pub mod TokenEats
 -- Which lemma gives which clause:
 --   raw_node                                    Tags.split-is, node-pair, node-open, node-closed

@@ -1,5 +1,5 @@
 //! The lexer: what comes next in a text, token by token.
-ghost use Rattle.std.specs.Prelude.{◌≡◌, ◌≤◌, ◌<◌, ◌^◌, IfOk, OnOk, OnErr, IsSome, false, take};
+ghost use Rattle.std.specs.Prelude.{◌≡◌, ◌≤◌, ◌<◌, ◌^◌, IfOk, OnOk, OnErr, IsSome, true, false, take};
 ghost use Rattle.std.specs.Str.{chars, IsCharBoundary};
 ghost use Rattle.typst_tokens.specs.Column.{column_at};
 ghost use Rattle.typst_tokens.specs.Reader.{Reader, exec, eaten};
@@ -11,7 +11,11 @@ ghost use Rattle.typst_lines.specs.Scanner.{place as place_of};
 ghost use Rattle.typst_lines.specs.declared.scanner.Scanner.{Scanner as Start};
 ghost use Rattle.typst_tokens.specs.Sight.{fresh};
 ghost use Rattle.typst_tokens.specs.Memory.{Memory};
+ghost use Rattle.typst_tokens.specs.Token.{plain};
 ghost use Rattle.typst_tokens.specs.declared.token.Token.{Token};
+ghost use Rattle.typst_lines.specs.Classes.{CharClasses};
+ghost use Rattle.typst_kinds.specs.declared.kind.SyntaxKind.TheVariants as kind;
+ghost use Rattle.typst_kinds.specs.declared.mode.SyntaxMode.{SyntaxMode};
 
 use crate::math::math;
 use crate::math_arguments;
@@ -199,10 +203,46 @@ fn read_up_to(cursor: Cursor<'_>, token: Token) -> Read<'_>
     Read { token, after, hull }
 }
 
-/// The token of the mode that comes next.
+/// The token of the mode that comes next. A space that stands alone, as most do, is told at once.
+#[inline(always)]
+fn next_token<C: Classes>(
+    alloc: Global,
+    s: &mut Cursor<'_>,
+    mode: SyntaxMode,
+    classes: &C,
+) -> Result<Token, AllocError>
+    ensures { IfOk result (λ token. Reads (spec.token (C.classes classes.now) mode) s.old token s.new) }
+{
+    if eat_lone_space(s) {
+        return Ok(Token::plain(SyntaxKind::Space));
+    }
+    let token = any_token(alloc, s, mode, classes)?;
+    Ok(token)
+}
+
+/// Eats a space that stands before a printable character of ASCII: it is a token in each mode. Where
+/// there is none, nothing changes.
+#[inline(always)]
+fn eat_lone_space(s: &mut Cursor<'_>) -> bool
+    ensures eaten { result ≡ true → (k : CharClasses) (mode : SyntaxMode) → Reads (spec.token k mode) s.old (plain kind.Space) s.new }
+    ensures none { result ≡ false → s.new ≡ s.old }
+{
+    let mut ahead = s.ahead();
+    if !ahead.eat_if(' ') {
+        return false;
+    }
+    let Some('!'..='~') = ahead.peek() else {
+        return false;
+    };
+    s.eat();
+    s.peek();
+    true
+}
+
+/// The token of the mode that comes next, whatever it is.
 #[inline(always)]
 #[tactic(auto, unfolding(crate::specs::Tokens::token))]
-fn next_token<C: Classes>(
+fn any_token<C: Classes>(
     alloc: Global,
     s: &mut Cursor<'_>,
     mode: SyntaxMode,

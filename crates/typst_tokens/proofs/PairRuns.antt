@@ -6,7 +6,7 @@ use Rattle.std.specs.Str.{IsUtf8, IsCharBoundary}
 use Rattle.std.specs.List.{prefix_len}
 use Rattle.typst_lines.specs.Place.{Place, place_at, moved, moved_from, passes, past, scout}
 use Rattle.typst_lines.proofs.PlaceLemmas.{IsStep-from_ascii}
-use Rattle.typst_tokens.specs.Pairs.{either, bytes_pass, pair_passes, pairs_len, past_pairs, went_past_pairs}
+use Rattle.typst_tokens.specs.Pairs.{either, bytes_pass, four_pass, pair_passes, pairs_len, past_pairs, went_past_pairs}
 use Rattle.typst_tokens.specs.Reader.{place, ask, glimpse, Machine, Reader, eat_span}
 use Rattle.typst_tokens.specs.Reader.Turn.{go}
 use Rattle.typst_tokens.specs.Sight.{far, Sight, Covers, saw, saw_by, went, sight}
@@ -146,6 +146,33 @@ bytes-on test s u i c d start lt is next e =
   where
     below-128 : (n : ℕ) → is_ascii n ≡ true → n < 128
     below-128 n t = grind (arith, nat_tests, t)
+
+-- the run from a place goes on at a byte offset of the text
+pub record RunsOn (test : ℕ → Option ℕ → Bool) (s : List ℕ) (from : Place) (i : ℕ) : Type 0 where
+  pub boundary : IsCharBoundary s i
+  pub past : past_pairs test (place_at s i) ≡ past_pairs test from
+  pub shorter : length (place_at s i).ahead ≤ length from.ahead
+
+module _ (test : ℕ → Option ℕ → Bool) (s : List ℕ) (u : IsUtf8 s) (from : Place) where
+  -- so it does behind a byte that tells to pass
+  pub runs-on : (i j : ℕ) → j ≡ i + 1 → RunsOn test s from i → j < length s → bytes_pass test (get_or s i 0) (get_or s j 0) ≡ true → RunsOn test s from j
+  runs-on i j next r lt e =
+      let P : ℕ → Type 0 = λ k. k < length s → bytes_pass test (get_or s i 0) (get_or s k 0) ≡ true → RunsOn test s from k in
+      subst P (sym next) (λ lt e.
+      let on = bytes-on test s u i _ _ r.boundary lt refl refl e in
+      record { boundary = on.0; past = on.1.0 ∙ r.past; shorter = omega (arith, on.1.1, r.shorter) }) lt e
+
+  -- and behind four of them
+  pub runs-on-four : (i : ℕ) → RunsOn test s from i → i + 4 < length s → four_pass test s i ≡ true → RunsOn test s from (i + 4)
+  runs-on-four i r lt e =
+      let passes : ℕ → ℕ → Bool = λ i j. bytes_pass test (get_or s i 0) (get_or s j 0) in
+      let one = both-true (passes i (i + 1)) _ e in
+      let two = both-true (passes (i + 1) (i + 2)) _ one.1 in
+      let three = both-true (passes (i + 2) (i + 3)) _ two.1 in
+      let a = runs-on i (i + 1) refl r (omega (arith, lt)) one.0 in
+      let b = runs-on (i + 1) (i + 2) (omega arith) a (omega (arith, lt)) two.0 in
+      let c = runs-on (i + 2) (i + 3) (omega arith) b (omega (arith, lt)) three.0 in
+      runs-on (i + 3) (i + 4) (omega arith) c lt three.1
 
 -- ---- what a cursor does
 

@@ -1,5 +1,5 @@
 -- Runs of characters that pass by the one that follows them.
-use Rattle.std.specs.Prelude.{ℕ, suc, Bool, false, ◌||◌, ◌&&◌, if◌then◌else◌, List, [], ◌∷◌, slice_get, Option, Some, None}
+use Rattle.std.specs.Prelude.{ℕ, suc, Bool, false, ◌||◌, ◌&&◌, if◌then◌else◌, ◌+◌, List, [], ◌∷◌, slice_get, slice_index, Option, Some, None}
 use Rattle.std.specs.Char.{is_ascii}
 use Rattle.typst_lines.specs.Place.{Place, moved}
 use Rattle.typst_tokens.specs.Sight.{Sight, saw, went}
@@ -11,6 +11,12 @@ either alone pairs c next = alone c || pairs c next
 -- whether two bytes are of ASCII, and the first passes before the second
 abbrev pub bytes_pass : (ℕ → Option ℕ → Bool) → ℕ → ℕ → Bool
 bytes_pass test c next = is_ascii c && (is_ascii next && test c (Some next))
+
+-- whether each of four bytes passes before the byte behind it
+abbrev pub four_pass : (ℕ → Option ℕ → Bool) → List ℕ → ℕ → Bool
+four_pass test bytes at =
+    let passes : ℕ → ℕ → Bool = λ i j. bytes_pass test (slice_index bytes i) (slice_index bytes j) in
+    passes at (at + 1) && (passes (at + 1) (at + 2) && (passes (at + 2) (at + 3) && passes (at + 3) (at + 4)))
 
 -- whether there is a character, and it passes by the one that follows it
 abbrev pub pair_passes : (ℕ → Option ℕ → Bool) → Option ℕ → Option ℕ → Bool

@@ -1,15 +1,32 @@
-use Rattle.std.proofs.Common.{◌∙◌, ◌+◌, sym, subst, ap, length, arith, slice_index_or}
+use Rattle.std.proofs.Common.{◌≡◌, ◌+◌, ◌∙◌, List, ℕ, refl, sym, subst, ap, length, slice_index, arith, true}
 use Rattle.std.specs.Str.{IsUtf8}
-use Rattle.typst_tokens.specs.Pairs.{either}
-use Rattle.typst_tokens.proofs.PairRuns.{bytes-on}
+use Rattle.typst_tokens.specs.Pairs.{bytes_pass, either, four_pass}
+use Rattle.typst_tokens.proofs.PairRuns.{runs-on, runs-on-four}
 use Rattle.typst_tokens.proofs.pairs.past_ascii.Goals as goal
 
-pub loop-at-preserved : goal.loop-at-preserved
-loop-at-preserved g c =
-    let i = c.loop-at.invariant in
+pub fours-init : goal.fours-init
+fours-init g c =
+    record {
+      bytes = c.as_bytes-bytes.ensures.value ∙ c.string.ensures;
+      runs = rw c.cursor-at.ensures (record { boundary = c.args.s.now.boundary; past = refl; shorter = omega arith });
+      text = refl;
+    }
+
+pub fours-preserved : goal.fours-preserved
+fours-preserved g c =
+    let i = c.fours.invariant in
     let text = c.args.s.now.text.now in
-    let at = c.loop-at.at in
     let test = either (g.P.CharSet.members c.args.set.now) (g.P.PairSet.before c.args.set.now) in
-    let on = bytes-on test text (subst IsUtf8 c.string.ensures c.string.utf8) at _ _ i.boundary (omega (arith, ap length i.bytes, c.loop-at-test.true)) (ap (λ t. slice_index_or t at 0) i.bytes) (ap (λ t. slice_index_or t (at + 1) 0) i.bytes)
-    (sym c.if-has_bytes.ensures) in
-    record { bytes = i.bytes; boundary = on.0; past = on.1.0 ∙ i.past; shorter = omega (arith, on.1.1, i.shorter); text = i.text }
+    let utf8 = subst IsUtf8 c.string.ensures c.string.utf8 in
+    let pass = subst (λ (t : List ℕ). four_pass test t c.fours.at ≡ true) i.bytes (sym c.if-four_pass.ensures) in
+    record { bytes = i.bytes; runs = runs-on-four test text utf8 _ c.fours.at i.runs (omega (arith, ap length i.bytes, c.fours-test.true)) pass; text = i.text }
+
+pub ones-preserved : goal.ones-preserved
+ones-preserved g c =
+    let i = c.ones.invariant in
+    let text = c.args.s.now.text.now in
+    let at = c.ones.at in
+    let test = either (g.P.CharSet.members c.args.set.now) (g.P.PairSet.before c.args.set.now) in
+    let utf8 = subst IsUtf8 c.string.ensures c.string.utf8 in
+    let pass = subst (λ (t : List ℕ). bytes_pass test (slice_index t at) (slice_index t (at + 1)) ≡ true) i.bytes (sym c.if-has_bytes.ensures) in
+    record { bytes = i.bytes; runs = runs-on test text utf8 _ at (at + 1) refl i.runs (omega (arith, ap length i.bytes, c.ones-test.true)) pass; text = i.text }
