@@ -1,11 +1,8 @@
 -- The equations of forests.
-use Rattle.std.proofs.Common.{◌≡◌, ℕ, List, [], ◌∷◌, ◌++◌, length, map, take, drop, ◌≤◌, ◌<◌, zero, suc, get_or, true, false, if◌then◌else◌, refl, ap, arith, append-nil, ◌∙◌}
+use Rattle.std.proofs.Common.{◌≡◌, ℕ, List, [], ◌∷◌, ◌++◌, length, map, take, drop, ◌≤◌, ◌<◌, zero, suc, get_or, true, false, if◌then◌else◌, refl, ap, arith, append-nil}
 use Rattle.std.proofs.Math.ListN.{set}
 use Rattle.typst_kinds.specs.declared.kind.SyntaxKind.{SyntaxKind}
 use Rattle.typst_kinds.specs.Kinds.{is_error}
-use Rattle.std.specs.Global.{Vec}
-use Rattle.std.specs.Vec.{with_items}
-use Rattle.std.proofs.lemmas.List.{with_items_is, length-map}
 use Rattle.std.proofs.lemmas.List.{take_all, drop_all}
 use Rattle.typst_kinds.specs.Span.{SpanValue}
 use Rattle.typst_kinds.specs.Head.{Head, spanned}
@@ -26,12 +23,6 @@ forest_synthesized sp (t ∷ ts) = ap (more (spanned sp t.head) (with_each (span
 -- a loop that wrote f of each element has mapped the list
 pub map_over_all : {X : Type 0} (f : X → X) (xs ys : List X) (i : ℕ) → ys ≡ map f (take i xs) ++ drop i xs → length xs ≤ i → ys ≡ map f xs
 map_over_all f xs ys i e h = rw (take_all i xs h, drop_all i xs h, append-nil) at e
-
--- the same of a `Vec` whose elements a loop over `iter_mut` wrote
-pub mapped_vec : {X : Type 0} (f : X → X) (v : Vec X) (xs ys : List X) (i : ℕ) → xs ≡ v.items → ys ≡ map f (take i xs) ++ drop i xs → length xs ≤ i → (with_items v ys).items ≡ map f v.items
-mapped_vec f v xs ys i e w h =
-    let is : ys ≡ map f v.items = rw (← e) (map_over_all f xs ys i w h) in
-    with_items_is v ys (omega (arith, ap length is, length-map v.items f, v.ok.0)) ∙ is
 
 -- a tree is changed where its element of the list is
 pub forest_set : (f : Tree → Tree) (xs : List Tree) (i : ℕ) (x : Tree) → i < length xs → x ≡ get_or xs i x → forest (set xs i (f x)) ≡ at_tree f i (forest xs)

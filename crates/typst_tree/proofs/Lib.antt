@@ -1,11 +1,15 @@
 -- Where the clauses are proved. A function that isn't named here needs no lemma.
---   inner, and counts of all children           AddedChildren: one_more; ChildlessLeaves: whole_more
---   spanless_eq                                 SpansAside: parts_from_bare, bare_from_parts, same_at, same_all
---   synthesize                                  Forests: forest_synthesized, mapped_vec; ChildlessLeaves: whole_synthesized
+--   inner, and counts of all children           AddedChildren: one_more, adds_more; ChildlessLeaves: whole_more
+--   drop                                        Fewer: most-swap_remove
+--   try_clone                                   Copies: way_down, way_up, copied, copied_back
+--   the texts of an error                       Waiting: opened, closed
+--   spanless_eq                                 SpansAside: parts_from_bare, bare_from_parts, same_at, same_but
+--   synthesize                                  LastChild: mapped_more, mapped_all; Forests: forest_synthesized; ChildlessLeaves: whole_synthesized
 --   convert_child_to_kind                       Forests: forest_set, at_tree_past; ChildlessLeaves: whole_kind
---   numberize: its numbers                      Numbering: numbered_more, numbered_vec
+--   numberize: its numbers                      LastChild: counted_more, counted_all
 --   numberize: distinct and in order            NumbersInOrder: numbered_is, numbers_in_order
---   reaches, and the path of replace_at         StepDown: reached_by, reached_kid, not_reached, replaced_on
+--   reaches, and the path of replace_at         PutAt: reaches_there, reaches_from; StepDown: replaced_on
+--   replace_at along a long path                PutAt: put_moved, replaced_back, put_back, refused_there
 --   replace_at: equal ones set aside            SameTree: front_more, front_none; SetAside
 --   replace_at: the stretch that is numbered    Growth: growth_found, growth_ends; Stretches: growth_has_room, cut
 --   replace_at: its counts                      MovedCounts: swapped_moved, set_moved
@@ -17,13 +21,17 @@
 pub mod AddedChildren
 pub mod AlongPath
 pub mod ChildlessLeaves
+pub mod Copies
+pub mod Fewer
 pub mod Forests
 pub mod Growth
 pub mod KeepsOrder
 pub mod KeepsOthers
+pub mod LastChild
 pub mod MovedCounts
 pub mod Numbering
 pub mod NumbersInOrder
+pub mod PutAt
 pub mod RefusesFull
 pub mod ReplacesChildren
 pub mod SameTree
@@ -32,26 +40,31 @@ pub mod SpansAside
 pub mod StepDown
 pub mod Stretches
 pub mod Texts
+pub mod Waiting
 -- Where the clauses are proved. A function that isn't named here needs no lemma.
 --   get, range, children                 NodesOfStretch: node_here, stands_row; WalksInPreorder: length_places
 --   LinkedChildren::next                 NodesOfStretch: row, stands_same
 --   the place in a long row              Forks: holds_behind, open_child, placed_first, tops, ends_by
 --   parent                               Parents: parent_is; Branches: above_is, no_parent
 --   next_sibling                         Siblings: find_past, find_here; Branches: behind_above; Rows: beside
---   next_leaf, leftmost_leaf             WalksInPreorder: found_here, found_below, found_next, turn; PassesOver; Branches: leaf_found, leaf_not_found, over_above
+--   next_leaf, leftmost_leaf             FoundFrom: found_in, from_on, from_below; PassesOver; Branches: leaf_found, leaf_not_found, over_above
 --   leaf_at                              PassesOver: byte_first, byte_next, byte_below, byte_none
 --   prev_leaf                            LastLeaf: back; FoundBelow: itself, above; Forks: holds_joined; Rows: step_back; Branches: until_here, until_top
 --   find: a node finds itself            FindsOwnSpan: finds_own; SingleNodes: same_span
 --   find, find_number from `ordered`     RisingNumbers: none_past, found_only
---   is_ordered                           RisingNumbers: climb_on, climb_fails, decided
+--   is_ordered                           OrderBelow: nodes_within, order_own, order_child, order_node_but
+--   Preorder                             LeftRows
 -- For crates above: Inside; LastLeaf: last_append, last_none; PassesOver: no_child_before, no_child_after; RisingNumbers: rising_from; SingleNodes; WalksInPreorder.
 pub mod Branches
 pub mod FindsOwnSpan
 pub mod Forks
 pub mod FoundBelow
+pub mod FoundFrom
 pub mod Inside
 pub mod LastLeaf
+pub mod LeftRows
 pub mod NodesOfStretch
+pub mod OrderBelow
 pub mod Parents
 pub mod PassesOver
 pub mod RisingNumbers

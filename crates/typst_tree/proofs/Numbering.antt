@@ -1,10 +1,8 @@
 -- The equations of numbered forests.
-use Rattle.std.proofs.Common.{◌≡◌, ◌≢◌, get_or-set_other, ℕ, zero, suc, ◌+◌, ◌*◌, ◌<◌, ◌≤◌, true, false, List, [], ◌∷◌, ◌++◌, length, take, drop, get_or, refl, ap, ◌∙◌, arith, append-nil, add-one, ◌/◌, ◌^◌, if◌then◌else◌, Some}
+use Rattle.std.proofs.Common.{◌≡◌, ℕ, zero, suc, ◌+◌, ◌*◌, ◌<◌, ◌≤◌, true, false, List, [], ◌∷◌, ◌++◌, length, take, drop, get_or, refl, ap, ◌∙◌, arith, add-one, ◌/◌, ◌^◌, if◌then◌else◌, Some}
 use Rattle.std.proofs.Math.ListN.{set}
 use Rattle.std.proofs.Math.Nat.{mul-le-mul_left, mul-le-mul_right}
-use Rattle.std.proofs.lemmas.List.{take_all, drop_all, with_items_is, get_or_default}
-use Rattle.std.specs.Global.{Vec}
-use Rattle.std.specs.Vec.{with_items}
+use Rattle.std.proofs.lemmas.List.{get_or_default}
 use Rattle.typst_kinds.specs.Head.{Head, bare_head}
 use Rattle.typst_tree.specs.Tree.{Forest, none, more, Tree, forest, joined, count, nodes, text_of, bare, bare_forest, saturated}
 use Rattle.typst_tree.specs.Numbers.{placed, numbered, numbered_forest, numbered_list, stride}
@@ -78,20 +76,23 @@ pub record Next (s e at n i : ℕ) (xs : List Tree) (x : Tree) : Type 0 where
   pub enough : nodes x ≤ nodes x * s
   pub fits : at + nodes x * s ≤ e
 
-pub next_fits : (s a e at n i : ℕ) (xs ys : List Tree) (x : Tree) → 0 < s → i < length xs → ((k : ℕ) (d : Tree) → i ≤ k → get_or ys k d ≡ get_or xs k d) → at ≡ a + count (forest (take i xs)) * s → a + count (forest xs) * s ≤ e → e ≤ 2 ^ 47 → n ≡ saturated (nodes (get_or ys i x)) → Next s e at n i xs (get_or ys i x)
-next_fits s a e at n i xs ys x pos h same p room f d =
-    let y = get_or ys i x in
-    let is : y ≡ get_or xs i y = same i x (omega arith) ∙ get_or_default xs i x (get_or ys i x) h in
-    let m = stretch_fits s a e i xs y h is room in
-    let all : at + nodes y * s ≤ e = omega (arith, m, p) in
-    let one : nodes y * 1 ≤ nodes y * s = mul-le-mul_left (nodes y) pos in
+pub next_at : (s a e at n i : ℕ) (xs : List Tree) (x : Tree) → 0 < s → i < length xs → x ≡ get_or xs i x → at ≡ a + count (forest (take i xs)) * s → a + count (forest xs) * s ≤ e → e ≤ 2 ^ 47 → n ≡ saturated (nodes x) → Next s e at n i xs x
+next_at s a e at n i xs x pos h is p room f d =
+    let m = stretch_fits s a e i xs x h is room in
+    let all : at + nodes x * s ≤ e = omega (arith, m, p) in
+    let one : nodes x * 1 ≤ nodes x * s = mul-le-mul_left (nodes x) pos in
     record {
-      more_by = count_more xs i y h is;
-      counted = d ∙ saturated_fits s (nodes y) pos (omega arith);
-      below = rw is (nodes_at xs i y h);
+      more_by = count_more xs i x h is;
+      counted = d ∙ saturated_fits s (nodes x) pos (omega arith);
+      below = omega (arith, nodes_at xs i x h, ap nodes is);
       enough = omega (arith, one);
       fits = all;
     }
+
+pub next_fits : (s a e at n i : ℕ) (xs ys : List Tree) (x : Tree) → 0 < s → i < length xs → ((k : ℕ) (d : Tree) → i ≤ k → get_or ys k d ≡ get_or xs k d) → at ≡ a + count (forest (take i xs)) * s → a + count (forest xs) * s ≤ e → e ≤ 2 ^ 47 → n ≡ saturated (nodes (get_or ys i x)) → Next s e at n i xs (get_or ys i x)
+next_fits s a e at n i xs ys x pos h same p room f d =
+    let is : get_or ys i x ≡ get_or xs i (get_or ys i x) = same i x (omega arith) ∙ get_or_default xs i x (get_or ys i x) h in
+    next_at s a e at n i xs (get_or ys i x) pos h is p room f d
 
 pub numbered_more : (file s a b : ℕ) (xs ys : List Tree) (i : ℕ) (x : Tree) → i < length xs → ys ≡ numbered_list file s a (take i xs) ++ drop i xs → x ≡ get_or ys i x → b ≡ a + count (forest (take i xs)) * s → set ys i (numbered file b (nodes x * s) x) ≡ numbered_list file s a (take (i + 1) xs) ++ drop (i + 1) xs
 numbered_more file s a b [] ys i x h e p q = absurd (omega arith)
@@ -107,15 +108,6 @@ pub length_numbered : (file s a : ℕ) (ts : List Tree) → length (numbered_lis
 length_numbered file s a [] = refl
 length_numbered file s a (t ∷ ts) = omega (arith, length_numbered file s (a + nodes t * s) ts)
 
-pub numbered_vec : (file s a : ℕ) (v : Vec Tree) (xs ys : List Tree) (i : ℕ) → xs ≡ v.items → ys ≡ numbered_list file s a (take i xs) ++ drop i xs → length xs ≤ i → (with_items v ys).items ≡ numbered_list file s a v.items
-numbered_vec file s a v xs ys i e w h =
-    let is : ys ≡ numbered_list file s a v.items = rw (← e) (rw (take_all i xs h, drop_all i xs h, append-nil) at w) in
-    with_items_is v ys (omega (arith, ap length is, length_numbered file s a v.items, v.ok.0)) ∙ is
-
 pub some_nodes : (ts : List Tree) → 0 < length ts → 0 < count (forest ts)
 some_nodes [] h = absurd (omega arith)
 some_nodes (t ∷ ts) h = omega arith
-
--- what stands behind place i stays where another tree is set there
-pub later : (xs ys : List Tree) (i : ℕ) (x : Tree) → ((k : ℕ) (d : Tree) → i ≤ k → get_or ys k d ≡ get_or xs k d) → (k : ℕ) (d : Tree) → i + 1 ≤ k → get_or (set ys i x) k d ≡ get_or xs k d
-later xs ys i x same k d h = let ne : k ≢ i = omega arith in rw get_or-set_other (same k d (omega arith))

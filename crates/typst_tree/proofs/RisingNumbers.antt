@@ -1,6 +1,6 @@
 -- Numbers that rise, and searches for one of them.
-use Rattle.std.proofs.Common.{◌≡◌, ℕ, zero, suc, take, drop, ◌+◌, ◌<◌, ◌≤◌, Bool, true, false, IsTrue, List, [], ◌∷◌, ◌++◌, length, get_or, map, Option, Some, None, refl, ap, sym, subst, ◌∙◌, arith, ◌↔◌, cond}
-use Rattle.std.specs.Prelude.{nat_le, All, AllPairs, is_some, IsSome, IfSome, option_and_then}
+use Rattle.std.proofs.Common.{◌≡◌, ℕ, zero, suc, take, drop, ◌+◌, ◌<◌, ◌≤◌, Bool, true, false, IsTrue, List, [], ◌∷◌, ◌++◌, length, get_or, map, Option, Some, None, refl, ap, sym, subst, ◌∙◌, arith}
+use Rattle.std.specs.Prelude.{All, AllPairs, IfSome}
 use Rattle.std.proofs.lemmas.List.{map-append}
 use Rattle.std.proofs.lemmas.List.Elements.{All-cons}
 use Rattle.std.proofs.lemmas.List.Kept.{AllPairs-cons}
@@ -9,7 +9,7 @@ use Rattle.typst_kinds.specs.Span.{number_of}
 use Rattle.typst_tree.specs.Tree.{Forest, none, more, Tree, forest, places, preorder, nodes, text_of, saturated, count, joined}
 use Rattle.typst_tree.specs.Order.{numbers, numbers_of, AreInOrder}
 use Rattle.typst_tree.specs.Walks.{first_at, Stands}
-use Rattle.typst_tree.specs.Ordered.{climb, begins_past, IsKey}
+use Rattle.typst_tree.specs.Ordered.{begins_past, IsKey}
 use Rattle.typst_tree.proofs.LastLeaf.{if_none_nothing, preorder_split}
 use Rattle.typst_tree.proofs.NodesOfStretch.{standing}
 use Rattle.typst_tree.proofs.Rows.{passed_front}
@@ -119,38 +119,6 @@ in_order_first x ts h = in_order_from 0 x (rising_front 0 (places x) (preorder (
 pub rising_below : (t : Tree) (ts : List Tree) → forest ts ≡ t.kids → AreInOrder (numbers_of t) → Rising 0 (preorder (forest ts))
 rising_below t ts e h =
     subst (λ f. Rising 0 (preorder f)) (sym e) (rising_lower (number t + 1) 0 (preorder t.kids) (omega arith) (rising_from t h).1)
-
-pub climb_append : (a : ℕ) (xs ys : List Tree) → climb a (xs ++ ys) ≡ option_and_then (λ b. climb b ys) (climb a xs)
-climb_append a [] ys = refl
-climb_append a (x ∷ xs) ys =
-    elim (nat_le a (number x)) as (λ b. cond b (climb (number x + 1) (xs ++ ys)) None ≡ option_and_then (λ c. climb c ys) (cond b (climb (number x + 1) xs) None)) [ true ↦ climb_append (number x + 1) xs ys | false ↦ refl ]
-
--- a climb ends somewhere where the numbers rise, and only there
-climbs : (a : ℕ) (xs : List Tree) → Rising a xs → IsSome (climb a xs)
-climbs a [] h = refl
-climbs a (x ∷ xs) h =
-    let holds : nat_le a (number x) ≡ true = grind (arith, nat_tests, h.0) in
-    rw holds (climbs (number x + 1) xs h.1)
-
-climb_case : (b : Bool) (o : Option ℕ) → is_some (cond b o None) ≡ true → (b ≡ true) × (is_some o ≡ true)
-climb_case true o e = (refl, e)
-climb_case false o e = absurd (cc)
-
-rises : (a : ℕ) (xs : List Tree) → IsSome (climb a xs) → Rising a xs
-rises a [] e = tt
-rises a (x ∷ xs) e =
-    let w = climb_case (nat_le a (number x)) (climb (number x + 1) xs) e in
-    (grind (arith, nat_tests, w.0), rises (number x + 1) xs w.1)
-
-pub decided : (b : Bool) (t : Tree) → b ≡ is_some (climb 0 (places t)) → IsTrue b ↔ AreInOrder (numbers_of t)
-decided b t e =
-    (λ h. in_order_from 0 t (rises 0 (places t) (sym e ∙ h)), λ h. e ∙ climbs 0 (places t) (rising_from t h))
-
-pub climb_on : (a b : ℕ) (x : Tree) (ts : List Tree) → Some b ≡ climb a (places x) → climb a (preorder (forest (x ∷ ts))) ≡ climb b (preorder (forest ts))
-climb_on a b x ts e = climb_append a (places x) (preorder (forest ts)) ∙ rw (sym e) refl
-
-pub climb_fails : (a : ℕ) (x : Tree) (ts : List Tree) → None ≡ climb a (places x) → None ≡ climb a (preorder (forest (x ∷ ts)))
-climb_fails a x ts e = sym (climb_append a (places x) (preorder (forest ts)) ∙ rw (sym e) refl)
 
 pub if_some : {X : Type 0} (o : Option X) (P Q : X → Type 0) → ((x : X) → P x → Q x) → IfSome o P → IfSome o Q
 if_some None P Q f h = tt

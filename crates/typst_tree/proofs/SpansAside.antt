@@ -1,6 +1,6 @@
 -- What it is for two trees to be the same, spans aside.
-use Rattle.std.proofs.Common.{◌≡◌, ℕ, zero, suc, List, [], ◌∷◌, map, refl, ap, sym, ◌∙◌, ◌<◌, ◌≤◌, length, take, get_or, arith}
-use Rattle.std.proofs.lemmas.List.{take_all, length-map}
+use Rattle.std.proofs.Common.{◌≡◌, ◌≢◌, ℕ, zero, suc, List, [], ◌∷◌, map, refl, ap, sym, ◌∙◌, ◌<◌, length, get_or, arith}
+use Rattle.std.proofs.lemmas.List.{length-map}
 use Rattle.typst_kinds.specs.Head.{Head, bare_head}
 use Rattle.typst_tree.specs.Tree.{Forest, none, more, Tree, forest, trees, bare, bare_forest}
 
@@ -47,5 +47,19 @@ same_at (a ∷ xs) [] i x y e p q h = absurd (omega (arith, ap length e))
 same_at (a ∷ xs) (b ∷ ys) zero x y e p q h = cc
 same_at (a ∷ xs) (b ∷ ys) (suc i) x y e p q h = same_at xs ys i x y (cc) p q (omega arith)
 
-pub same_all : (xs ys : List Tree) (i : ℕ) → map bare (take i xs) ≡ map bare (take i ys) → length xs ≤ i → length ys ≤ i → map bare xs ≡ map bare ys
-same_all xs ys i e h k = rw (take_all i xs h, take_all i ys k) at e
+-- trees of lists that are the same at all places but one, and there too
+pub same_but : (xs ys : List Tree) (last : ℕ) → length xs ≡ length ys → ((k : ℕ) (d : Tree) → k < length xs → k ≢ last → bare (get_or xs k d) ≡ bare (get_or ys k d)) → ((d : Tree) → last < length xs → bare (get_or xs last d) ≡ bare (get_or ys last d)) → map bare xs ≡ map bare ys
+same_but [] [] last e f g = refl
+same_but [] (y ∷ ys) last e f g = absurd (omega (arith, e))
+same_but (x ∷ xs) [] last e f g = absurd (omega (arith, e))
+same_but (x ∷ xs) (y ∷ ys) zero e f g = λ i.
+    g x (omega arith) i ∷ same_but xs ys (length xs) (omega (arith, e)) (λ k d p q. f (suc k) d (omega (arith, p)) (λ z. omega (arith, z))) (λ d p. absurd (omega (arith, p))) i
+same_but (x ∷ xs) (y ∷ ys) (suc last) e f g = λ i.
+    f 0 x (omega arith) (λ z. omega (arith, z)) i ∷ same_but xs ys last (omega (arith, e)) (λ k d p q. f (suc k) d (omega (arith, p)) (λ z. q (omega (arith, z)))) (λ d p. g d (omega (arith, p))) i
+
+-- trees that are the same, by whatever default
+pub same_in : (xs ys : List Tree) (i : ℕ) (d x y : Tree) → x ≡ get_or xs i x → y ≡ get_or ys i y → bare x ≡ bare y → i < length xs → i < length ys → bare (get_or xs i d) ≡ bare (get_or ys i d)
+same_in [] ys i d x y p q e h k = absurd (omega (arith, h))
+same_in (a ∷ xs) [] i d x y p q e h k = absurd (omega (arith, k))
+same_in (a ∷ xs) (b ∷ ys) zero d x y p q e h k = cc
+same_in (a ∷ xs) (b ∷ ys) (suc i) d x y p q e h k = same_in xs ys i d x y p q e (omega (arith, h)) (omega (arith, k))

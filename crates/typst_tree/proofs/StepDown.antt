@@ -1,5 +1,5 @@
 -- One step down a path.
-use Rattle.std.proofs.Common.{◌≡◌, ℕ, zero, suc, ◌<◌, ◌≤◌, List, [], ◌∷◌, length, get_or, Some, None, refl, ap, sym, ◌∙◌, arith}
+use Rattle.std.proofs.Common.{◌≡◌, ℕ, zero, suc, ◌<◌, List, [], ◌∷◌, length, get_or, Some, None, refl, ap, sym, ◌∙◌, arith}
 use Rattle.std.specs.Prelude.{option_map, slice_get, slice_range}
 use Rattle.std.proofs.Math.ListN.{set}
 use Rattle.typst_kinds.specs.Span.{SpanValue}
@@ -33,9 +33,6 @@ replaced_on path rest i a b ns t k k' h xs e p n q r =
     let got : slice_get xs i ≡ Some k = slice_get_is xs i k n ∙ ap Some (sym q) in
     rw (p, ← e, trees_forest, got, r) refl
 
-pub reached_by : (path rest : List ℕ) (i a b : ℕ) (t : Tree) (h : Head) (xs : List Tree) (k : Tree) → over h xs ≡ t → path ≡ i ∷ rest → slice_get xs i ≡ Some k → Reaches rest a b k → Reaches path a b t
-reached_by path rest i a b t h xs k e p got r = rw (p, ← e, trees_forest, got) r
-
 -- a node in a file swaps its children
 pub in_file_some : (sp : SpanValue) (file : ℕ) (h : Head) (xs : List Tree) (from to : ℕ) (ms : List Tree) → option_map (λ p. p.0) sp ≡ Some file → in_file sp h xs from to ms ≡ swapped file h xs from to (slice_range xs from to) ms
 in_file_some None file h xs from to ms e = absurd (cc)
@@ -56,11 +53,3 @@ pub replaced_at_not : (path rest : List ℕ) (i a b : ℕ) (ns : List Tree) (t k
 replaced_at_not path rest i a b ns t k h xs e p n q r =
     let got : slice_get xs i ≡ Some k = slice_get_is xs i k n ∙ ap Some (sym q) in
     rw (p, ← e, trees_forest, got, r) refl
-
-pub reached_kid : (path rest : List ℕ) (i a b : ℕ) (t : Tree) (h : Head) (xs : List Tree) (k : Tree) → over h xs ≡ t → path ≡ i ∷ rest → slice_get xs i ≡ Some k → Reaches path a b t → Reaches rest a b k
-reached_kid path rest i a b t h xs k e p got r =
-    let s : At (Reaches rest a b) (slice_get (trees (forest xs)) i) = rw (p, ← e) at r in rw (trees_forest, got) at s
-
-pub not_reached : (path rest : List ℕ) (i a b : ℕ) (t : Tree) (h : Head) (xs : List Tree) → over h xs ≡ t → path ≡ i ∷ rest → length xs ≤ i → Reaches path a b t → ⊥
-not_reached path rest i a b t h xs e p n r =
-    let s = reached path rest i a b t h xs e p r in absurd (omega (arith, s.within))

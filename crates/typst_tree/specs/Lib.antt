@@ -9,9 +9,12 @@ pub mod Laws
 pub mod Branches
 pub mod Follows
 pub mod Found
+pub mod LeftRows
 pub mod Linked
+pub mod Looked
 pub mod Ordered
 pub mod Passed
+pub mod Preorder
 pub mod Rows
 pub mod Steps
 pub mod Walks

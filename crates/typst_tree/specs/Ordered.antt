@@ -1,12 +1,12 @@
 -- Numbers in order, and searches for a number.
-use Rattle.std.specs.Prelude.{◌≡◌, ℕ, ◌+◌, ◌<◌, length, drop, false, nat_le, nat_lt, Bool, true, IsTrue, List, [], ◌∷◌, Option, Some, None, if◌then◌else◌}
+use Rattle.std.specs.Prelude.{◌≡◌, ℕ, ◌+◌, ◌<◌, length, drop, false, nat_lt, Bool, true, IsTrue, List, Option, option_map, slice_get}
+use Rattle.std.specs.Option.{option_or}
 use Rattle.typst_kinds.specs.Span.{number_of}
 use Rattle.typst_tree.specs.Tree.{Forest, none, more, Tree, forest}
 
--- the number behind those of some nodes, where each is above the one before it and the first at least a
-abbrev pub climb : ℕ → List Tree → Option ℕ
-climb a [] = Some a
-climb a (t ∷ ts) = if nat_le a (number_of t.head.span) then climb (number_of t.head.span + 1) ts else None
+-- the number of the tree of the index i in a row, or else the end
+abbrev pub number_at : List Tree → ℕ → Option ℕ → Option ℕ
+number_at row i end = option_or (option_map (λ t. number_of t.head.span) (slice_get row i)) end
 
 -- there is no tree, or the first has a number above m
 abbrev pub begins_past : ℕ → Forest → Bool

@@ -1,9 +1,10 @@
 -- Children replaced along a path.
-use Rattle.std.specs.Prelude.{◌^◌, ℕ, zero, suc, ◌+◌, ◌-◌, ◌*◌, ◌≤◌, ◌<◌, Bool, nat_le, ◌==◌, ◌&&◌, min, max, IsTrue, List, [], ◌∷◌, ◌++◌, length, take, drop, reverse, Option, Some, None, option_map, option_and_then, slice_get, slice_set, slice_range, if◌then◌else◌}
+use Rattle.std.specs.Prelude.{◌≡◌, ◌^◌, ℕ, zero, suc, ◌+◌, ◌-◌, ◌*◌, ◌≤◌, ◌<◌, Bool, nat_le, ◌==◌, ◌&&◌, min, max, IsTrue, List, [], ◌∷◌, ◌++◌, length, take, drop, reverse, Option, Some, None, option_map, option_and_then, slice_get, slice_set, slice_range, if◌then◌else◌}
+use Rattle.typst_tree.specs.declared.replace.Counts.{Counts}
 use Rattle.typst_tree.specs.declared.replace.Stretch.{Stretch}
 use Rattle.typst_kinds.specs.Span.{SpanValue, number_of}
 use Rattle.typst_kinds.specs.Head.{Head}
-use Rattle.typst_tree.specs.Tree.{Tree, forest, trees, count}
+use Rattle.typst_tree.specs.Tree.{Tree, forest, trees, count, nodes, saturated, text_of}
 use Rattle.typst_tree.specs.Numbers.{numbered_list, stride}
 use Rattle.typst_tree.specs.Same.{front}
 
@@ -121,6 +122,21 @@ abbrev pub replaced_at : List ℕ → ℕ → ℕ → List Tree → Tree → Opt
 replaced_at [] from to new t = replaced from to new t
 replaced_at (i ∷ path) from to new t =
     option_map (λ k. with_kids t (slice_set (kids_of t) i k)) (option_and_then (replaced_at path from to new) (slice_get (kids_of t) i))
+
+-- the node that the path leads to
+abbrev pub node_at : List ℕ → Tree → Option Tree
+node_at [] t = Some t
+node_at (i ∷ path) t = option_and_then (node_at path) (slice_get (kids_of t) i)
+
+-- the tree with the node u where the path leads to
+abbrev pub put_at : List ℕ → Tree → Tree → Option Tree
+put_at [] u t = Some u
+put_at (i ∷ path) u t = option_map (λ k. with_kids t (slice_set (kids_of t) i k)) (option_and_then (put_at path u) (slice_get (kids_of t) i))
+
+-- what a tree comes to
+pub record ComesTo (t : Tree) (n : Counts) : Type 0 where
+  pub len : n.len ≡ saturated (length (text_of t))
+  pub nodes : n.nodes ≡ saturated (nodes t)
 
 -- P of the value that is there
 abbrev pub At : (Tree → Type 0) → Option Tree → Type 0

@@ -12,9 +12,11 @@ mod linked;
 mod node;
 mod numbers;
 mod order;
+mod preorder;
 mod replace;
 mod search;
 
 pub use linked::{LinkedChildren, LinkedNode};
 pub use node::SyntaxNode;
 pub use order::is_ordered;
+pub use preorder::{Preorder, Visit};

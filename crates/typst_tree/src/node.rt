@@ -1,7 +1,7 @@
-ghost use Rattle.std.specs.Prelude.{◌≡◌, ◌↔◌, IsTrue, [], ◌≤◌, ◌^◌, length, ◌++◌, IfOk, OnOk, OnErr, None, Some, string_bytes, take, true, false};
+ghost use Rattle.std.specs.Prelude.{◌≡◌, ◌↔◌, IsTrue, [], ◌<◌, ◌≤◌, ◌^◌, length, ◌++◌, IfOk, OnOk, OnErr, None, Some, string_bytes, take, remove, true, false};
 ghost use Rattle.typst_kinds.specs.Kinds.{is_error};
 ghost use Rattle.typst_kinds.specs.Diagnostic.{warning_with, hint_with};
-ghost use Rattle.typst_tree.specs.Tree.{forest, text_of, nodes, saturated, bare, leaf_of, inner_of, error_of, synthesized, with_kind, at_child, made_error, remarked, advised};
+ghost use Rattle.typst_tree.specs.Tree.{forest, trees, text_of, nodes, saturated, bare, leaf_of, inner_of, error_of, synthesized, with_kind, at_child, made_error, remarked, advised};
 ghost use Rattle.typst_tree.specs.Replace.{upper_of};
 ghost use Rattle.typst_tree.specs.Order.{IsWhole};
 ghost use Rattle.typst_tree.specs.Messages.{made_expected, made_unexpected};
@@ -17,14 +17,57 @@ pub struct SyntaxNode {
     pub(crate) kids: Vec<SyntaxNode>,
 }
 
+/// Up to how many nodes a tree may have for calls to nest as its levels do. In a larger one a function that goes
+/// through all nodes calls itself for the light children of a node alone, and goes on with the heaviest one in
+/// the same frame of the stack. A light child has at most half of the node's nodes, so that few calls nest
+/// however deep the tree is.
+pub(crate) const SMALL: usize = 1024;
+
 // In place where a list drops its nodes, so that a leaf costs no call.
 impl Drop for SyntaxNode {
     #[inline(always)]
-    fn drop(self) {
+    fn drop(mut self) {
+        while self.own.descendants() > SMALL {
+            let SyntaxNode { own, mut kids } = self;
+            drop(own);
+            if kids.is_empty() {
+                drop(kids);
+                return;
+            }
+            let heaviest = heaviest(&kids);
+            self = kids.swap_remove(heaviest);
+            drop(kids);
+        }
         let SyntaxNode { own, kids } = self;
         drop(own);
         drop(kids);
     }
+}
+
+/// Which of the trees has the most nodes, as far as that is kept.
+#[inline(never)]
+fn heaviest(row: &[SyntaxNode]) -> usize
+    requires { 0 < length row.now }
+    ensures { result < length row.now }
+{
+    let mut heaviest = 0;
+    let mut most = 0;
+    for i in 0..row.len() {
+        let node = &row[i];
+        let nodes = node.own.descendants();
+        if nodes > most {
+            most = nodes;
+            heaviest = i;
+        }
+    }
+    heaviest
+}
+
+/// A node whose copy waits for that of its child of index `last`, the heaviest.
+#[derive(Drop)]
+struct Ancestor<'a> {
+    node: &'a SyntaxNode,
+    last: usize,
 }
 
 impl Model for SyntaxNode {
@@ -135,16 +178,50 @@ impl SyntaxNode {
         let _ = &self.own;
     }
 
-    /// The same node again, with its spans.
+    /// The same node again, with its spans. Nodes on the way down by the heaviest children wait in a list.
+    #[cycle(clone)]
     pub fn try_clone(&self) -> Result<SyntaxNode, AllocError>
         ensures { IfOk result (λ t. t ≡ self.now) }
     {
-        let alloc = *self.kids.allocator();
-        let mut kids = Vec::with_capacity(alloc, self.kids.len())?;
-        for kid in &self.kids {
-            let kid = kid.try_clone()?;
-            kids.push(kid)?;
+        let mut above: Vec<Ancestor<'_>> = Vec::new(*self.kids.allocator());
+        let mut node = self;
+        let mut last = node.last_to_go();
+        while last < node.kids.len() {
+            above.push(Ancestor { node, last })?;
+            node = &node.kids[last];
+            last = node.last_to_go();
         }
+        let kids = node.clone_kids_but(last)?;
+        let mut copy = node.clone_over(kids)?;
+        while let Some(Ancestor { node, last }) = above.pop() {
+            let mut kids = node.clone_kids_but(last)?;
+            kids.insert(last, copy)?;
+            copy = node.clone_over(kids)?;
+        }
+        Ok(copy)
+    }
+
+    /// Copies of the children but that of index `last`, where there is one.
+    #[cycle(clone)]
+    fn clone_kids_but(&self, last: usize) -> Result<Vec<SyntaxNode>, AllocError>
+        ensures { IfOk result (λ kids. kids.items ≡ remove (trees self.now.kids) last) }
+    {
+        let mut kids = Vec::with_capacity(*self.kids.allocator(), self.kids.len())?;
+        for i in 0..self.kids.len() {
+            if i != last {
+                let kid = self.kids[i].try_clone()?;
+                kids.push(kid)?;
+            }
+        }
+        Ok(kids)
+    }
+
+    /// A copy of the node over copies of its children.
+    fn clone_over(&self, kids: Vec<SyntaxNode>) -> Result<SyntaxNode, AllocError>
+        requires { forest kids.items ≡ self.now.kids }
+        ensures { IfOk result (λ t. t ≡ self.now) }
+    {
+        let alloc = *self.kids.allocator();
         Ok(SyntaxNode {
             own: self.own.try_clone(alloc)?,
             kids,
@@ -165,17 +242,27 @@ impl SyntaxNode {
         }
     }
 
-    /// The same, added up from the children.
+    /// The same, added up from the leaves.
     #[cycle(len)]
     #[cold]
     fn added_len(&self) -> usize
         ensures { result ≡ saturated (length (text_of self.now)) }
     {
-        let mut len = self.leaf_text().len();
-        for kid in &self.kids {
-            len = len.saturating_add(kid.len());
+        let mut len: usize = 0;
+        let mut node = self;
+        loop {
+            len = len.saturating_add(node.leaf_text().len());
+            if node.kids.is_empty() {
+                return len;
+            }
+            let last = heaviest(&node.kids);
+            for i in 0..node.kids.len() {
+                if i != last {
+                    len = len.saturating_add(node.kids[i].len());
+                }
+            }
+            node = &node.kids[last];
         }
-        len
     }
 
     /// How many nodes the tree has, this one counted, or the largest `usize` where they are more.
@@ -192,17 +279,27 @@ impl SyntaxNode {
         }
     }
 
-    /// The same, added up from the children.
+    /// The same, added up from the nodes.
     #[cycle(descendants)]
     #[cold]
     fn added_descendants(&self) -> usize
         ensures { result ≡ saturated (nodes self.now) }
     {
-        let mut descendants: usize = 1;
-        for kid in &self.kids {
-            descendants = descendants.saturating_add(kid.descendants());
+        let mut descendants: usize = 0;
+        let mut node = self;
+        loop {
+            descendants = descendants.saturating_add(1);
+            if node.kids.is_empty() {
+                return descendants;
+            }
+            let last = heaviest(&node.kids);
+            for i in 0..node.kids.len() {
+                if i != last {
+                    descendants = descendants.saturating_add(node.kids[i].descendants());
+                }
+            }
+            node = &node.kids[last];
         }
-        descendants
     }
 
     /// The node's kind.
@@ -279,21 +376,41 @@ impl SyntaxNode {
     pub fn spanless_eq(&self, other: &SyntaxNode) -> bool
         ensures { IsTrue result ↔ (bare self.now ≡ bare other.now) }
     {
-        if !self.is_as_large(other) {
-            return false;
-        }
-        if !self.own.same_bare(&other.own) {
-            return false;
-        }
-        if self.kids.len() != other.kids.len() {
-            return false;
-        }
-        for i in 0..self.kids.len() {
-            if !self.kids[i].spanless_eq(&other.kids[i]) {
+        let (mut left, mut right) = (self, other);
+        loop {
+            if !left.is_as_large(right) {
                 return false;
             }
+            if !left.own.same_bare(&right.own) {
+                return false;
+            }
+            if left.kids.len() != right.kids.len() {
+                return false;
+            }
+            let last = left.last_to_go();
+            for i in 0..left.kids.len() {
+                if i != last && !left.kids[i].spanless_eq(&right.kids[i]) {
+                    return false;
+                }
+            }
+            if last >= left.kids.len() {
+                return true;
+            }
+            left = &left.kids[last];
+            right = &right.kids[last];
         }
-        true
+    }
+
+    /// The index of the child that is left to the end: the heaviest one. No call nests for it, as a loop goes on
+    /// with it, or a call in the last place, which compilers make a jump. In a small tree none is left, and the
+    /// index is the number of the children.
+    #[inline]
+    pub(crate) fn last_to_go(&self) -> usize {
+        if self.own.descendants() <= SMALL || self.kids.is_empty() {
+            self.kids.len()
+        } else {
+            heaviest(&self.kids)
+        }
     }
 }
 
@@ -309,8 +426,16 @@ impl SyntaxNode {
     fn synthesize_as(&mut self, span: &Span)
         ensures { self.new ≡ synthesized span.now self.old }
     {
+        let last = self.last_to_go();
         self.own.set_span(*span);
-        for kid in self.kids.iter_mut() {
+        for i in 0..self.kids.len() {
+            if i != last {
+                let kid = &mut self.kids[i];
+                kid.synthesize_as(span);
+            }
+        }
+        if last < self.kids.len() {
+            let kid = &mut self.kids[last];
             kid.synthesize_as(span);
         }
     }
@@ -337,13 +462,23 @@ impl SyntaxNode {
         kid.convert_to_kind(kind);
     }
 
-    /// Adds the texts of the leaves to `out`.
+    /// Adds the texts of the leaves to `out`. Texts come in order, so that no child can be left to the end: the
+    /// rows of nodes that are still to come wait in a list, the next one last.
     fn write_text(&self, out: &mut Text) -> Result<(), AllocError>
         ensures { OnOk result (out.new ≡ out.old ++ text_of self.now) }
     {
         out.push(self.leaf_text())?;
-        for kid in &self.kids {
-            kid.write_text(out)?;
+        if self.kids.is_empty() {
+            return Ok(());
+        }
+        let mut waiting: Vec<&[SyntaxNode]> = Vec::new(*self.kids.allocator());
+        waiting.push(self.children())?;
+        while let Some(row) = waiting.pop() {
+            if let Some((node, behind)) = row.split_first() {
+                out.push(node.leaf_text())?;
+                waiting.push(behind)?;
+                waiting.push(node.children())?;
+            }
         }
         Ok(())
     }

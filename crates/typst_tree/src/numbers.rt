@@ -107,12 +107,24 @@ impl SyntaxNode {
         ensures { self.new ≡ numbered id.now start room self.old }
     {
         let step = stride(room, self.descendants() as u64);
+        let last = self.last_to_go();
         place(&mut self.own, *id, step, start, start + room);
         let mut at = start + step;
-        for kid in self.kids.iter_mut() {
+        let mut start_of_last = at;
+        for i in 0..self.kids.len() {
+            let kid = &mut self.kids[i];
             let share = kid.descendants() as u64 * step;
-            kid.number(id, at, share);
+            if i == last {
+                start_of_last = at;
+            } else {
+                kid.number(id, at, share);
+            }
             at += share;
+        }
+        if last < self.kids.len() {
+            let kid = &mut self.kids[last];
+            let share = kid.descendants() as u64 * step;
+            kid.number(id, start_of_last, share);
         }
     }
 

@@ -1,32 +1,67 @@
 //! Trees whose numbers are in order.
 
-ghost use Rattle.std.specs.Prelude.{◌≡◌, ◌+◌, ◌^◌, ◌<◌, ◌≤◌, ◌-◌, true, length, IfSome, IsTrue, ◌↔◌};
+ghost use Rattle.std.specs.Prelude.{◌≡◌, ◌+◌, ◌^◌, ◌<◌, ◌≤◌, ◌-◌, ◌++◌, true, length, option_to_list, IfSome, IsTrue, ◌↔◌};
 ghost use Rattle.std.specs.Option.{option_map};
+ghost use Rattle.typst_kinds.specs.Span.{number_of};
 ghost use Rattle.typst_tree.specs.Tree.{nodes, places, forest, count, joined, saturated};
 ghost use Rattle.typst_tree.specs.Passed.{IsPassed};
 ghost use Rattle.typst_tree.specs.Order.{AreInOrder, numbers_of};
 ghost use Rattle.typst_tree.specs.Walks.{first_at, Within};
 ghost use Rattle.typst_tree.specs.Wanted.{wanted};
-ghost use Rattle.typst_tree.specs.Ordered.{climb, IsKey, IsLastUpTo};
+ghost use Rattle.typst_tree.specs.Ordered.{number_at, IsKey, IsLastUpTo};
 
 use crate::SyntaxNode;
 use crate::search::{Passed, Search, Spot, first_in};
 
-/// The number behind those of the node and of all below it, if each is above the one before it
-/// and the first is at least `least`.
-fn climb(node: &SyntaxNode, least: u64) -> Option<u64>
-    ensures value { result ≡ climb least (places node.now) }
-    ensures small { IfSome result (λ m. m ≤ 2 ^ 47) }
+/// The number of the tree of an index in a row, or the end where there is none.
+fn number_at(row: &[SyntaxNode], index: usize, end: Option<u64>) -> Option<u64>
+    ensures { result ≡ number_at row.now index end }
 {
-    let own = node.span().number_or_zero();
-    if own < least {
-        return None;
+    match row.get(index) {
+        None => end,
+        Some(tree) => Some(tree.span().number_or_zero()),
     }
-    let mut next = own + 1;
-    for kid in node.children() {
-        next = climb(kid, next)?;
+}
+
+/// Whether the node's own number is below the next one, where there is one.
+fn is_before(node: &SyntaxNode, next: Option<u64>) -> bool
+    ensures { IsTrue result ↔ IfSome next (λ n. number_of node.now.head.span < n) }
+{
+    match next {
+        None => true,
+        Some(next) => node.span().number_or_zero() < next,
     }
-    Some(next)
+}
+
+/// Whether the numbers of a tree are in order and below the end, where there is one.
+///
+/// A node's number is the least of its tree, so the end of each child is the number of the next one, which is
+/// known before the children are gone through. The loop goes on with the child of the most nodes: each of the
+/// others has at most half as many, so frames are few however deep the tree is.
+fn rises_to(root: &SyntaxNode, end: Option<u64>) -> bool
+    ensures { IsTrue result ↔ AreInOrder (numbers_of root.now ++ option_to_list end) }
+{
+    let (mut node, mut limit) = (root, end);
+    loop {
+        let row = node.children();
+        if !is_before(node, number_at(row, 0, limit)) {
+            return false;
+        }
+        let last = node.last_to_go();
+        for i in 0..row.len() {
+            if i == last {
+                continue;
+            }
+            if !rises_to(&row[i], number_at(row, i + 1, limit)) {
+                return false;
+            }
+        }
+        if last >= row.len() {
+            return true;
+        }
+        limit = number_at(row, last + 1, limit);
+        node = &row[last];
+    }
 }
 
 /// Whether the tree's numbers are in order: each is below all that come later in preorder, where
@@ -34,7 +69,7 @@ fn climb(node: &SyntaxNode, least: u64) -> Option<u64>
 pub fn is_ordered(root: &SyntaxNode) -> bool
     ensures { IsTrue result ↔ AreInOrder (numbers_of root.now) }
 {
-    climb(root, 0).is_some()
+    rises_to(root, None)
 }
 
 /// Of trees whose numbers are in order, the last whose number isn't above `key`, or else the first.

@@ -1,15 +1,15 @@
-ghost use Rattle.std.specs.Prelude.{◌≡◌, ◌↔◌, ℕ, ◌+◌, ◌-◌, ◌*◌, ◌^◌, ◌<◌, ◌≤◌, ◌++◌, length, slice_range, Some, None, IfSome, OnErr, OnOk, IfErr, IsTrue, false, [], reverse, vec_len};
+ghost use Rattle.std.specs.Prelude.{◌≡◌, ◌↔◌, ℕ, ◌+◌, ◌-◌, ◌*◌, ◌^◌, ◌<◌, ◌≤◌, ◌++◌, length, slice_range, Some, None, IfSome, OnErr, OnOk, IfErr, IsTrue, option_map, true, false, [], reverse, vec_len};
 ghost use Rattle.typst_kinds.specs.Head.{kept};
 ghost use Rattle.typst_tree.specs.Tree.{forest, joined, count, saturated, text_of, nodes};
 ghost use Rattle.typst_tree.specs.Order.{IsWhole, IsWholeForest, IsNumbered, AreInOrder, numbers_of};
 ghost use Rattle.typst_tree.specs.Same.{front};
-ghost use Rattle.typst_tree.specs.Replace.{Reaches, replaced, replaced_at, kids_of, start_of, end_of, upper_of, left_of, right_of, wanted, room, has_room, growth, is_all, fit, IsFit, exchanged, swapped};
+ghost use Rattle.typst_tree.specs.Replace.{At, ComesTo, node_at, put_at, Reaches, replaced, replaced_at, kids_of, start_of, end_of, upper_of, left_of, right_of, wanted, room, has_room, growth, is_all, fit, IsFit, exchanged, swapped};
 
 use crate::SyntaxNode;
 use crate::items::{keep_middle, remove, splice};
 use crate::numbers::{number_part, stride};
 use std::ops::Range;
-use typst_kinds::{FileId, Own, SourceError};
+use typst_kinds::{FileId, Own, SourceError, SyntaxKind};
 
 /// The children that are numbered anew, by their places before the replacement, and where their
 /// numbers begin and how many each of their nodes gets.
@@ -27,6 +27,16 @@ struct Counts {
     len: usize,
     nodes: usize,
 }
+
+/// What a node on a path comes to less and what more, where the node at the path's end is exchanged.
+#[derive(Clone, Copy)]
+struct Swap {
+    gone: Counts,
+    come: Counts,
+}
+
+/// Up to how many steps a path is gone with a frame of the stack for each.
+const SHORT: usize = 64;
 
 /// The lengths and the counts of nodes of `kids`, added up.
 fn totals(kids: &[SyntaxNode]) -> Counts
@@ -364,6 +374,9 @@ impl SyntaxNode {
         let Some((first, rest)) = path.split_first() else {
             return self.replace(from, to, nodes);
         };
+        if path.len() > SHORT && self.keeps_exact_counts() {
+            return self.replace_far(path, from, to, nodes);
+        }
         let at = *first;
         let kid = &mut self.kids[at];
         let gone = kid.counts();
@@ -375,16 +388,98 @@ impl SyntaxNode {
         Ok(())
     }
 
+    /// Whether the length and the count of nodes that are kept are the tree's: of all below it they are, too.
+    fn keeps_exact_counts(&self) -> bool
+        ensures len { result ≡ true → length (text_of self.now) < 2 ^ 32 - 1 }
+        ensures nodes { result ≡ true → nodes self.now < 2 ^ 32 - 1 }
+    {
+        self.own.len() < Own::MOST && self.own.descendants() < Own::MOST
+    }
+
+    /// `replace_below` for a long path: the node at its end is taken out, changed, and put back. So no call waits
+    /// for another one, and no memory is taken for the path.
+    fn replace_far(
+        &mut self,
+        path: &[usize],
+        from: usize,
+        to: usize,
+        nodes: Vec<SyntaxNode>,
+    ) -> Result<(), SourceError>
+        requires reaches { Reaches path.now from to self.old }
+        requires short { length (text_of self.old) < 2 ^ 32 - 1 }
+        requires few { 1 + count self.old.kids < 2 ^ 32 - 1 }
+        ensures ok { OnOk result (replaced_at path.now from to nodes.items self.old ≡ Some self.new) }
+        ensures err { OnErr result (self.new ≡ self.old) }
+        ensures refused { IfErr result (λ e. e ≡ SourceError.SpanNumbers → replaced_at path.now from to nodes.items self.old ≡ None) }
+    {
+        let alloc = *self.kids.allocator();
+        let gone = self.node_at(path).unwrap().counts();
+        let mut node = SyntaxNode::inner(SyntaxKind::Markup, Vec::new(alloc));
+        let nothing = node.counts();
+        self.swap_at(
+            path,
+            &mut node,
+            &Swap {
+                gone,
+                come: nothing,
+            },
+        );
+        let replaced = node.replace(from, to, nodes);
+        let come = node.counts();
+        self.swap_at(
+            path,
+            &mut node,
+            &Swap {
+                gone: nothing,
+                come,
+            },
+        );
+        replaced
+    }
+
+    /// The node that `path` leads to.
+    fn node_at(&self, path: &[usize]) -> Option<&SyntaxNode>
+        ensures { option_map (λ node. node.now) result ≡ node_at path.now self.now }
+    {
+        let mut node = self;
+        for at in path {
+            node = node.kids.get(*at)?;
+        }
+        Some(node)
+    }
+
+    /// Exchanges the node that `path` leads to for another one. Counts are set on the way down, so that nothing is
+    /// left to do behind the call in the last place, and it takes no frame of the stack for a level.
+    fn swap_at(&mut self, path: &[usize], node: &mut SyntaxNode, swap: &Swap)
+        requires short { length (text_of self.old) < 2 ^ 32 - 1 }
+        requires few { nodes self.old < 2 ^ 32 - 1 }
+        requires gone { At (λ t. ComesTo t swap.now.gone) (node_at path.now self.old) }
+        requires come { ComesTo node.old swap.now.come }
+        ensures tree { put_at path.now node.old self.old ≡ Some self.new }
+        ensures node { node_at path.now self.old ≡ Some node.new }
+    {
+        node.leaves_are_bare();
+        let Some((first, rest)) = path.split_first() else {
+            std::mem::swap(self, node);
+            return;
+        };
+        let len = self.own.len() - swap.gone.len;
+        let nodes = self.own.descendants() - swap.gone.nodes;
+        self.own.set_counts(
+            len.saturating_add(swap.come.len),
+            nodes.saturating_add(swap.come.nodes),
+        );
+        let kid = &mut self.kids[*first];
+        kid.swap_at(rest, node, swap);
+    }
+
     /// Whether `path` leads to an inner node that has children `from..to`.
     pub fn reaches(&self, path: &[usize], from: usize, to: usize) -> bool
         ensures { IsTrue result ↔ Reaches path.now from to self.now }
     {
-        let Some((first, rest)) = path.split_first() else {
-            return self.has_children(from, to);
-        };
-        match self.kids.get(*first) {
+        match self.node_at(path) {
             None => false,
-            Some(kid) => kid.reaches(rest, from, to),
+            Some(node) => node.has_children(from, to),
         }
     }
 

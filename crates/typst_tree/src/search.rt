@@ -8,9 +8,11 @@ ghost use Rattle.typst_tree.specs.Walks.{first_at, is_childless, is_leaf, holds_
 ghost use Rattle.typst_tree.specs.Rows.{IsChild};
 ghost use Rattle.typst_tree.specs.Wanted.{wanted};
 ghost use Rattle.typst_tree.specs.Ordered.{IsKey};
+ghost use Rattle.typst_tree.specs.Looked.{IsIn, FoundFrom, Finds, Looks};
 
 use crate::SyntaxNode;
 use crate::known::LONG;
+use crate::node::SMALL;
 use typst_kinds::{Span, SpanNumber};
 
 /// What a walk in preorder looks for.
@@ -289,48 +291,153 @@ pub fn first_in<'a>(
     if search.passes_over(number, node) {
         return None;
     }
-    let mut spot = Spot {
+    let top = Spot {
         node,
         number,
         offset,
     };
-    if spot.goes_to(search) {
-        Some(spot)
-    } else {
-        None
-    }
+    top.first_from(search, number)
 }
 
+/// What a look at the children of a node gave.
+#[derive(Clone, Copy)]
+enum Look<'a> {
+    /// The node that is looked for.
+    Found(Spot<'a>),
+    /// A heavy child, and nothing before it.
+    Heavy(Spot<'a>),
+    /// Nothing.
+    Nothing,
+}
+
+// A search has few frames of the stack, however deep the tree is, and takes no memory. A child is heavy if it has
+// more than half of its parent's nodes: at most one is. A call goes into each other child, and so into half as many
+// nodes at the most. A loop goes on with the heavy one. What stands behind heavy children has to wait until nothing
+// was found in them, and is then gone through from below, level by level.
+//
+// All that is known meanwhile is the number from which on the search goes on: what is found has that or a larger one.
 impl<'a> Spot<'a> {
-    /// Goes to the first node in preorder that is looked for, among this one and those below it, and says
-    /// whether there is one; if not, it ends somewhere. It calls itself for no child that is passed over, and
-    /// holds little meanwhile.
-    fn goes_to(&mut self, search: &Search) -> bool
-        requires { self.old.number + nodes self.old.node.now < 2 ^ 64 - 1 }
-        ensures first { result ≡ true → first_at (wanted search.now) self.old.number self.old.offset (places self.old.node.now) ≡ Some self.new.number }
-        ensures spot { result ≡ true → Within self.old.number self.old.offset (places self.old.node.now) self.new.number self.new.offset (places self.new.node.now) }
-        ensures none { result ≡ false → first_at (wanted search.now) self.old.number self.old.offset (places self.old.node.now) ≡ None }
+    /// Where its nodes end: the number behind them.
+    fn end(&self) -> usize
+        requires { self.now.number + nodes self.now.node.now < 2 ^ 64 - 1 }
+        ensures { result ≡ self.now.number + nodes self.now.node.now }
     {
-        let Spot {
-            node,
-            number,
-            offset,
-        } = *self;
-        if search.wants(number, node) {
-            return true;
-        }
-        let row = node.children();
-        let mut at = Passed::front(node, number, offset);
-        while at.index < row.len() {
-            let kid = &row[at.index];
-            if !search.passes_over(at.number, kid) {
-                *self = at.tree(kid).spot;
-                if self.goes_to(search) {
-                    return true;
+        self.number + self.node.descendants()
+    }
+
+    /// The first node in preorder that is looked for, among this one and those below it, where none has a number
+    /// below `least`.
+    #[cycle(first_from)]
+    fn first_from(&self, search: &Search, least: usize) -> Option<Spot<'a>>
+        requires counted { self.now.number + nodes self.now.node.now < 2 ^ 64 - 1 }
+        requires from { self.now.number ≤ least }
+        requires least { FoundFrom (wanted search.now) least self.now }
+        ensures { Finds (wanted search.now) self.now result }
+    {
+        let mut spot = *self;
+        let mut from = least;
+        let mut levels: usize = 0;
+        loop {
+            if search.wants(spot.number, spot.node) {
+                return Some(spot);
+            }
+            from = from.max(spot.number + 1);
+            let heavy = SMALL.max(spot.node.descendants() / 2);
+            match spot.look(search, from, heavy) {
+                Look::Found(found) => return Some(found),
+                Look::Nothing => return self.first_behind(search, spot.end(), levels),
+                Look::Heavy(kid) => {
+                    spot = kid;
+                    from = from.max(kid.number);
+                    levels += 1;
                 }
             }
-            at = at.behind(kid);
         }
-        false
+    }
+
+    /// The same among the nodes below, where there are about so many levels on the way to the number `least`.
+    ///
+    /// What stands half of the levels down is searched by a call, and then what stands behind it: so each level is
+    /// walked down to as often as the levels can be halved, and as many calls wait for each other.
+    #[cycle(first_from)]
+    fn first_behind(&self, search: &Search, least: usize, levels: usize) -> Option<Spot<'a>>
+        requires counted { self.now.number + nodes self.now.node.now < 2 ^ 64 - 1 }
+        requires from { self.now.number < least }
+        requires least { FoundFrom (wanted search.now) least self.now }
+        ensures { Finds (wanted search.now) self.now result }
+    {
+        let end = self.end();
+        let mut from = least;
+        let mut left = levels;
+        while left > 1 && from < end {
+            let half = left / 2;
+            let below = self.towards(from, half);
+            if below.number == self.number {
+                break;
+            }
+            if let Some(found) = below.first_behind(search, from, left - half) {
+                return Some(found);
+            }
+            from = below.end();
+            left = half;
+        }
+        if end <= from {
+            return None;
+        }
+        if let Look::Found(found) = self.look(search, from, usize::MAX) {
+            return Some(found);
+        }
+        None
+    }
+
+    /// Looks for it below this node, where none has a number below `least`, up to a child that has more than
+    /// `heavy` nodes.
+    #[cycle(first_from)]
+    fn look(&self, search: &Search, least: usize, heavy: usize) -> Look<'a>
+        requires counted { self.now.number + nodes self.now.node.now < 2 ^ 64 - 1 }
+        requires from { self.now.number < least }
+        requires least { FoundFrom (wanted search.now) least self.now }
+        ensures { Looks (wanted search.now) heavy self.now result }
+    {
+        let row = self.node.children();
+        let mut at = Passed::front(self.node, self.number, self.offset);
+        while at.index < row.len() {
+            let node = &row[at.index];
+            let kid = at.tree(node).spot;
+            at = at.behind(node);
+            if at.number <= least {
+                continue;
+            }
+            if search.passes_over(kid.number, node) {
+                continue;
+            }
+            if node.descendants() > heavy {
+                return Look::Heavy(kid);
+            }
+            if let Some(found) = kid.first_from(search, least.max(kid.number)) {
+                return Look::Found(found);
+            }
+        }
+        Look::Nothing
+    }
+
+    /// The node so many steps down the way to the node with this number, or the last before that one.
+    fn towards(&self, number: usize, steps: usize) -> Spot<'a>
+        requires counted { self.now.number + nodes self.now.node.now < 2 ^ 64 - 1 }
+        requires from { self.now.number < number }
+        requires to { number < self.now.number + nodes self.now.node.now }
+        ensures spot { IsIn self.now result }
+        ensures from { result.number < number }
+        ensures to { number < result.number + nodes result.node.now }
+    {
+        let mut spot = *self;
+        for _ in 0..steps {
+            let kid = child_over(spot, number).spot;
+            if kid.number == number {
+                return spot;
+            }
+            spot = kid;
+        }
+        spot
     }
 }

@@ -1,11 +1,13 @@
-use Rattle.std.proofs.Common.{◌≡◌, ◌+◌, ◌*◌, ◌++◌, take, drop}
+use Rattle.std.proofs.Common.{◌≡◌, ◌+◌, ◌*◌, ◌<◌, take, vec_len}
 use Rattle.typst_tree.specs.Tree.{forest, count}
-use Rattle.typst_tree.specs.Numbers.{numbered_list}
+use Rattle.typst_tree.proofs.LastChild.{ButLast, counted}
 use Rattle.typst_tree.proofs.node.SyntaxNode.+number.Given as goal
 
-abbrev pub invariant-loop-kid : goal.invariant-loop-kid
-invariant-loop-kid l = record {
-  unvisited : goal.unvisited-loop-kid l;
-  place : l.at ≡ l.start + l.step + count (forest (take l.kid-index l.initial.kid-items)) * l.step;
-  done : l.kid-items ≡ numbered_list l.id l.step (l.start + l.step) (take l.kid-index l.initial.kid-items) ++ drop l.kid-index l.initial.kid-items;
+abbrev pub invariant-loop-i : goal.invariant-loop-i
+invariant-loop-i l = record {
+  own : l.self-inside.own ≡ l.initial.self-inside.own;
+  many : vec_len l.self-inside.kids ≡ vec_len l.initial.self-inside.kids;
+  place : l.at ≡ l.start + l.step + count (forest (take l.i l.initial.self-inside.kids.items)) * l.step;
+  last_place : l.last < l.i → l.start_of_last ≡ l.start + l.step + count (forest (take l.last l.initial.self-inside.kids.items)) * l.step;
+  done : ButLast l.self-inside.kids.items (counted l.id l.step (l.start + l.step) l.i l.initial.self-inside.kids.items) l.initial.self-inside.kids.items l.last;
 }

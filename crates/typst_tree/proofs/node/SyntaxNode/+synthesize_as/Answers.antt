@@ -1,22 +1,90 @@
-use Rattle.std.proofs.Common.{arith, rules, refl}
-use Rattle.std.proofs.lemmas.List.Edits.{map_over_more}
-use Rattle.typst_tree.specs.Tree.{synthesized, forest}
+use Rattle.std.proofs.Common.{◌≡◌, ◌<◌, ◌≤◌, length, map, arith, ap, refl, ◌∙◌}
+use Rattle.std.proofs.Math.ListN.{set}
+use Rattle.typst_tree.specs.Tree.{Tree, nodes, forest, synthesized}
 use Rattle.typst_tree.proofs.ChildlessLeaves.{whole_synthesized}
-use Rattle.typst_tree.proofs.Forests.{mapped_vec, joined_spanned, count_with_each, forest_synthesized}
+use Rattle.typst_tree.proofs.Forests.{joined_spanned, count_with_each, forest_synthesized}
+use Rattle.typst_tree.proofs.LastChild.{mapped_still, mapped_more, mapped_here, mapped_same, mapped_all, mapped_none}
+use Rattle.typst_tree.proofs.Numbering.{nodes_at}
 use Rattle.typst_tree.proofs.node.SyntaxNode.+synthesize_as.Goals as goal
+use Rattle.typst_tree.proofs.node.SyntaxNode.+synthesize_as.Goals.{then-i-last, else-i-last, After-synthesize_as-then-last-len, Else-last-len}
 
-pub loop-kid-preserved : goal.loop-kid-preserved
-loop-kid-preserved t c = record {
-  unvisited = search rules;
-  done = rw (c.synthesize_as.ensures, ← c.kid-item.is) (map_over_more (synthesized c.args.span.now) c.deref_mut-kid-items.result.now c.loop-kid.kid-items c.loop-kid.kid-index c.kid-item.result (omega arith) c.loop-kid.invariant.done c.kid-item.is);
-}
+pub synthesize_as-requires : goal.synthesize_as-requires
+synthesize_as-requires t c =
+    let xs = c.self.inside.kids.items in
+    let x = c.index_mut-kid.result.now in
+    let within : c.loop-i.i < length xs = omega (arith, c.self.inside.kids.ok.0) in
+    let is = mapped_still (synthesized c.args.span.now) c.loop-i.self-inside.kids.items xs c.last_to_go-last.result c.loop-i.i x c.loop-i.invariant.done within c.index_mut-kid.ensures.value in
+    (omega (arith, c.decreases, nodes_at xs c.loop-i.i x within, ap nodes is, ap nodes c.self.view_is), tt)
+
+pub synthesize_as-requires-then-last-len : goal.synthesize_as-requires-then-last-len
+synthesize_as-requires-then-last-len t c =
+    let xs = c.self.inside.kids.items in
+    let last = c.last_to_go-last.result in
+    let x = c.index_mut-kid-then-last-len.result.now in
+    let passed : length xs ≤ c.loop-i.i = omega (arith, c.self.inside.kids.ok.0) in
+    let within : last < length xs = omega (arith, c.self.inside.kids.ok.0, c.loop-i.invariant.many) in
+    let is = mapped_same (synthesized c.args.span.now) c.loop-i.self-inside.kids.items xs last c.loop-i.i x c.loop-i.invariant.done passed within c.index_mut-kid-then-last-len.ensures.value in
+    (omega (arith, c.decreases, nodes_at xs last x within, ap nodes is, ap nodes c.self.view_is), tt)
+
+pub loop-i-preserved : goal.loop-i-preserved
+loop-i-preserved t c =
+    let f = synthesized c.args.span.now in
+    let xs = c.self.inside.kids.items in
+    let ys = c.loop-i.self-inside.kids.items in
+    let last = c.last_to_go-last.result in
+    let within : c.loop-i.i < length xs = omega (arith, c.self.inside.kids.ok.0) in
+    elim c.if-i-last.branch [
+      | then-i-last w ↦
+          rw (w.self-inside-is, w.synthesize_as.ensures)
+          (record {
+            own = c.loop-i.invariant.own;
+            many = c.loop-i.invariant.many;
+            done = mapped_more f ys xs last c.loop-i.i w.index_mut-kid.result.now c.loop-i.invariant.done within w.if-i-last.true w.index_mut-kid.ensures.value;
+          })
+      | else-i-last w ↦
+          rw w.self-inside-is
+          (record {
+            own = c.loop-i.invariant.own;
+            many = c.loop-i.invariant.many;
+            done = mapped_here f ys xs last c.loop-i.i c.args.self.now c.loop-i.invariant.done within w.if-i-last.false;
+          })
+    ]
+
+-- the children where one was left to the end
+all : (t : _) (c : After-synthesize_as-then-last-len t) → set c.loop-i.self-inside.kids.items c.last_to_go-last.result c.synthesize_as-then-last-len.new.self ≡ map (synthesized c.args.span.now) c.self.inside.kids.items
+all t c =
+    let f = synthesized c.args.span.now in
+    let xs = c.self.inside.kids.items in
+    let ys = c.loop-i.self-inside.kids.items in
+    let last = c.last_to_go-last.result in
+    let passed : length xs ≤ c.loop-i.i = omega (arith, c.self.inside.kids.ok.0) in
+    let within : last < length xs = omega (arith, c.self.inside.kids.ok.0, c.loop-i.invariant.many) in
+    ap (λ (u : Tree). set ys last u) c.synthesize_as-then-last-len.ensures
+    ∙ mapped_all f ys xs last c.loop-i.i c.index_mut-kid-then-last-len.result.now c.loop-i.invariant.done passed within c.index_mut-kid-then-last-len.ensures.value
+
+-- and where none was
+none_left : (t : _) (c : Else-last-len t) → c.loop-i.self-inside.kids.items ≡ map (synthesized c.args.span.now) c.self.inside.kids.items
+none_left t c =
+    let xs = c.self.inside.kids.items in
+    let passed : length xs ≤ c.loop-i.i = omega (arith, c.self.inside.kids.ok.0) in
+    let past : length xs ≤ c.last_to_go-last.result = omega (arith, c.self.inside.kids.ok.0, c.loop-i.invariant.many) in
+    mapped_none (synthesized c.args.span.now) c.loop-i.self-inside.kids.items xs c.last_to_go-last.result c.loop-i.i c.args.self.now c.loop-i.invariant.done passed past
 
 pub invariant_of-self : goal.invariant_of-self
 invariant_of-self t c =
-    rw (mapped_vec (synthesized c.args.span.now) c.self.inside.kids _ c.loop-kid.kid-items _ c.deref_mut-kid-items.ensures.value c.loop-kid.invariant.done (omega arith), forest_synthesized, joined_spanned, count_with_each, c.set_span.ensures)
+    rw (all t (goal.at.invariant_of-self t c).After-synthesize_as-then-last-len, forest_synthesized, joined_spanned, count_with_each, c.loop-i.invariant.own, c.set_span.ensures)
     (c.self.invariant.0, c.self.invariant.1, whole_synthesized c.args.span.now (record { head = c.self.inside.own.head; kids = forest c.self.inside.kids.items }) c.self.invariant.2)
 
-pub returns : goal.returns
-returns t c =
-    rw (← c.self.view_is, c.set_span.ensures, mapped_vec (synthesized c.args.span.now) c.self.inside.kids _ c.loop-kid.kid-items _ c.deref_mut-kid-items.ensures.value c.loop-kid.invariant.done (omega arith), forest_synthesized)
+pub invariant_of-self-else-last-len : goal.invariant_of-self-else-last-len
+invariant_of-self-else-last-len t c =
+    rw (none_left t c, forest_synthesized, joined_spanned, count_with_each, c.loop-i.invariant.own, c.set_span.ensures)
+    (c.self.invariant.0, c.self.invariant.1, whole_synthesized c.args.span.now (record { head = c.self.inside.own.head; kids = forest c.self.inside.kids.items }) c.self.invariant.2)
+
+pub returns-then-last-len : goal.returns-then-last-len
+returns-then-last-len t c =
+    rw (← c.self.view_is, all t (goal.at.returns-then-last-len t c).After-synthesize_as-then-last-len, forest_synthesized, c.loop-i.invariant.own, c.set_span.ensures)
     refl
+
+pub returns-else-last-len : goal.returns-else-last-len
+returns-else-last-len t c =
+    rw (← c.self.view_is, none_left t c, forest_synthesized, c.loop-i.invariant.own, c.set_span.ensures) refl

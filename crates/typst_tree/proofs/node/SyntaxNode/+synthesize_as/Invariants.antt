@@ -1,9 +1,11 @@
-use Rattle.std.proofs.Common.{◌≡◌, ◌++◌, take, drop, map}
+use Rattle.std.proofs.Common.{◌≡◌, vec_len}
 use Rattle.typst_tree.specs.Tree.{synthesized}
+use Rattle.typst_tree.proofs.LastChild.{ButLast, mapped}
 use Rattle.typst_tree.proofs.node.SyntaxNode.+synthesize_as.Given as goal
 
-abbrev pub invariant-loop-kid : goal.invariant-loop-kid
-invariant-loop-kid l = record {
-  unvisited : goal.unvisited-loop-kid l;
-  done : l.kid-items ≡ map (synthesized l.span) (take l.kid-index l.initial.kid-items) ++ drop l.kid-index l.initial.kid-items;
+abbrev pub invariant-loop-i : goal.invariant-loop-i
+invariant-loop-i l = record {
+  own : l.self-inside.own ≡ l.initial.self-inside.own;
+  many : vec_len l.self-inside.kids ≡ vec_len l.initial.self-inside.kids;
+  done : ButLast l.self-inside.kids.items (mapped (synthesized l.span) l.i l.initial.self-inside.kids.items) l.initial.self-inside.kids.items l.last;
 }

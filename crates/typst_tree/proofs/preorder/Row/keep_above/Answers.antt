@@ -1,0 +1,7 @@
+use Rattle.std.proofs.Common.{ap, ◌∙◌}
+use Rattle.typst_tree.specs.LeftRows.{left_above}
+use Rattle.typst_tree.proofs.LeftRows.{left_pushed}
+use Rattle.typst_tree.proofs.preorder.Row.keep_above.Goals as goal
+
+pub returns-clause-left : goal.returns-clause-left
+returns-clause-left c = ap left_above c.in_ok-push.ensures.items ∙ left_pushed c.args.above.now.items c.args.self

@@ -1,0 +1,36 @@
+-- What a walk through a tree in preorder comes to.
+use Rattle.std.specs.Prelude.{ℕ, ◌+◌, List, [], ◌∷◌, ◌++◌, length, refl}
+use Rattle.std.specs.Coded.{Coded, code_by, coded×, coded_ℕ, coded_list}
+use Rattle.typst_tree.specs.Tree.{Forest, none, more, Tree, tree_code, text_of, saturated}
+use Rattle.typst_tree.specs.declared.preorder.Visit.{Visit}
+
+-- a node that a walk comes to, the byte where it begins, and how many levels it is below the node that the walk began with
+pub record Visited : Type 0 where
+  pub node : Tree
+  pub offset : ℕ
+  pub depth : ℕ
+
+-- visits are stored as lists of their fields
+abbrev pub visits_code : Coded (List Visited)
+visits_code =
+    coded_list (code_by (Tree × (ℕ × ℕ)) (coded× tree_code (coded× coded_ℕ coded_ℕ)) (λ v. (v.node, (v.offset, v.depth))) (λ p. record { node = p.0; offset = p.1.0; depth = p.1.1 })
+    (λ _. refl))
+
+-- a visit, by what it borrows
+abbrev pub visited : Visit → Visited
+visited v = record { node = v.node.now; offset = v.offset; depth = v.depth }
+
+-- trees that stand side by side from a byte on: of each its root, then those below its root, then those of the next tree
+abbrev pub row : ℕ → ℕ → Forest → List Visited
+row offset depth none = []
+row offset depth (more h ks r) =
+    let t : Tree = record { head = h; kids = ks } in
+    record { node = t; offset = offset; depth = depth } ∷ (row (saturated (offset + length h.text)) (saturated (depth + 1)) ks ++ row (saturated (offset + length (text_of t))) depth r)
+
+-- a tree that begins at a byte
+abbrev pub walk : ℕ → Tree → List Visited
+walk offset t = row offset 0 (more t.head t.kids none)
+
+-- the nodes below one that was come to
+abbrev pub below : Visited → List Visited
+below v = row (saturated (v.offset + length v.node.head.text)) (saturated (v.depth + 1)) v.node.kids
