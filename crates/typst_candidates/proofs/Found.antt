@@ -1,9 +1,8 @@
 -- Candidates one after the other.
-use Rattle.std.proofs.Common.{◌≡◌, ℕ, zero, suc, ◌+◌, ◌-◌, ◌*◌, ◌^◌, ◌<◌, ◌≤◌, max, min, Bool, true, false, List, [], ◌∷◌, ◌++◌, length, take, get_or, refl, ap, sym, subst, ◌∙◌, arith, append_assoc, if◌then◌else◌, Some, None, length-append}
+use Rattle.std.proofs.Common.{◌≡◌, ℕ, zero, suc, ◌+◌, ◌-◌, ◌*◌, ◌^◌, ◌<◌, ◌≤◌, max, min, Bool, true, false, List, [], ◌∷◌, ◌++◌, length, take, get_or, refl, ap, sym, ◌∙◌, arith, append_assoc, if◌then◌else◌, Some, None, length-append}
 use Rattle.std.specs.Prelude.{◌==◌, nat_lt, map, Option}
 use Rattle.std.proofs.lemmas.Bool.Decides.{nat_tests}
-use Rattle.std.proofs.lemmas.List.{append-nil, length-map, length-take, map-append, take-take, take_all, take_at}
-use Rattle.typst_kinds.specs.Kinds.{is_block}
+use Rattle.std.proofs.lemmas.List.{append-nil, map-append, take-take, take_at}
 use Rattle.typst_kinds.specs.declared.kind.SyntaxKind.{SyntaxKind}
 use Rattle.typst_language.specs.declared.calls.Note.{Note}
 use Rattle.typst_tree.specs.Tree.{Tree, Forest, none, more, forest, trees, joined, text_of, count, nodes}
@@ -14,40 +13,9 @@ use Rattle.typst_candidates.specs.Candidates.{Candidate, Child, Stretch, laid, c
 use Rattle.typst_candidates.specs.Rows.{IsEdge, IsNear, indices, spelled, is_covered, below}
 use Rattle.typst_candidates.proofs.Rows.{laid_length, begins_next, begins_most}
 
--- ---- the first of some and of others
-
-pub take_nothing : {X : Type 0} (n : ℕ) → take {A = X} n [] ≡ []
+take_nothing : {X : Type 0} (n : ℕ) → take {A = X} n [] ≡ []
 take_nothing zero = refl
 take_nothing (suc n) = refl
-
--- as many of the others as there is room for
-pub take_on : {X : Type 0} (n room : ℕ) (xs ys zs : List X) → zs ≡ take n xs → room ≡ n - length zs → zs ++ take room ys ≡ take n (xs ++ ys)
-take_on {X = X} n room xs ys zs e r = (λ k. e k ++ take (r k) ys) ∙ ((λ k. take n xs ++ take (n - length (e k)) ys) ∙ all n xs)
-  where
-    all : (m : ℕ) (us : List X) → take m us ++ take (m - length (take m us)) ys ≡ take m (us ++ ys)
-    all zero us = refl
-    all (suc m) [] = let rest : suc m - 0 ≡ suc m = omega arith in ap (λ (i : ℕ). take i ys) rest
-    all (suc m) (u ∷ us) =
-        let less : suc m - suc (length (take m us)) ≡ m - length (take m us) = omega arith in
-        ap (λ (vs : List X). u ∷ vs) (ap (λ (i : ℕ). take m us ++ take i ys) less ∙ all m us)
-
--- with no room for more
-pub take_full : {X : Type 0} (n : ℕ) (xs ys zs : List X) → zs ≡ take n xs → n ≤ length zs → zs ≡ take n (xs ++ ys)
-take_full n xs ys zs e full = sym (append-nil zs) ∙ take_on n 0 xs ys zs e (omega arith)
-
--- those that are fewer than asked for are as many as any greater number asks for
-pub take_others : {X : Type 0} (n m : ℕ) (xs zs : List X) → zs ≡ take n xs → length zs < n → length zs ≤ m → zs ≡ take m xs
-take_others n m xs zs e less within =
-    let long : length zs ≡ min n (length xs) = ap (λ (us : List _). length us) e ∙ length-take n xs in
-    let all : length xs ≤ n = omega (arith, long, less) in
-    let too : length xs ≤ m = omega (arith, long, less, within) in
-    e ∙ (take_all n xs all ∙ sym (take_all m xs too))
-
--- with room for one more
-pub take_one : {X : Type 0} (n : ℕ) (xs zs : List X) (y : X) → zs ≡ take n xs → length zs < n → zs ++ y ∷ [] ≡ take n (xs ++ y ∷ [])
-take_one {X = X} n xs zs y e less =
-    let room : suc (n - suc (length zs)) ≡ n - length zs = omega arith in
-    ap (λ (us : List X). zs ++ y ∷ us) (sym (take_nothing (n - suc (length zs)))) ∙ take_on n (suc (n - suc (length zs))) xs (y ∷ []) zs e room
 
 -- ---- stretches one after the other
 
@@ -175,7 +143,7 @@ pub begins_end : (at : ℕ) (ts : List Tree) → begins at ts (length ts) ≡ at
 begins_end at [] = omega arith
 begins_end at (t ∷ ts) = omega (arith, begins_end (at + length (text_of t)) ts, length-append t.head.text (joined t.kids ++ joined (forest ts)), length-append (joined t.kids) (joined (forest ts)), length-append t.head.text (joined t.kids))
 
-forest_trees : (f : Forest) → forest (trees f) ≡ f
+pub forest_trees : (f : Forest) → forest (trees f) ≡ f
 forest_trees none = refl
 forest_trees (more h ks r) = ap (more h ks) (forest_trees r)
 
@@ -201,9 +169,6 @@ fewer (t ∷ ts) (suc n) d h = omega (arith, fewer ts n d (omega arith))
 -- a child in hand
 child_in_hand : (a : ℕ) (ts : List Tree) (n : ℕ) (u : Tree) → n < length ts → u ≡ get_or ts n u → child_at (laid a ts) n ≡ Some (record { start = begins a ts n; end = begins a ts n + length (text_of u); node = u })
 child_in_hand a ts n u h e = child_here a ts n u h ∙ ap (λ (v : Tree). Some (record { start = begins a ts n; end = begins a ts n + length (text_of v); node = v })) (sym e)
-
-pub near_over : (a : ℕ) (ts us : List Tree) (rs re : ℕ) (near : Near) → ts ≡ us → IsNear a ts rs re near → IsNear a us rs re near
-near_over a ts us rs re near e is = subst (λ (vs : List Tree). IsNear a vs rs re near) e is
 
 -- whether it covers the replaced bytes, by its places
 covers_is : (a : ℕ) (ts : List Tree) (rs re : ℕ) (near : Near) (u : Tree) → IsNear a ts rs re near → near.first.index < length ts → u ≡ get_or ts near.first.index u
@@ -244,59 +209,12 @@ module _ (ns : List Note) (rs re : ℕ) (path : List ℕ) (at a : ℕ) (t : Tree
         → below ns rs re path at t ≡ candidates_at ns rs re (path ++ near.first.index ∷ []) (run_in ns at t.head.kind u.head.kind) 0 (begins a ts near.first.index) (forest (u ∷ [])) ++ of_block path a ts near.first.index u.head.kind
     below_then f = in_hand ∙ (ap (Rest ns rs re path at t.head.kind a ts near.first.index) (child_in_hand a ts near.first.index u h e) ∙ rw (covers_is a ts rs re near u is h e ∙ f) refl)
 
-    -- with those at the child
-    deeper : (longer : List ℕ) (run : Option (List ℕ)) → is_covered rs re near u.head.is_inner ≡ true → longer ≡ path ++ near.first.index ∷ [] → run ≡ run_in ns at t.head.kind u.head.kind
+    -- with those at the child, by its path and its run
+    pub deeper : (longer : List ℕ) (run : Option (List ℕ)) → is_covered rs re near u.head.is_inner ≡ true → longer ≡ path ++ near.first.index ∷ [] → run ≡ run_in ns at t.head.kind u.head.kind
         → below ns rs re path at t ≡ candidates_at ns rs re longer run 0 near.first.byte (forest (u ∷ [])) ++ of_block path a ts near.first.index u.head.kind
     deeper longer run f way same =
         below_then f ∙ ap (λ (ys : List Candidate). ys ++ of_block path a ts near.first.index u.head.kind)
         (sym (λ k. candidates_at ns rs re (way k) (same k) 0 (is.first_edge.byte k) (forest (u ∷ []))))
-
-    module _ (most : ℕ) (longer : List ℕ) (run : Option (List ℕ)) (f : is_covered rs re near u.head.is_inner ≡ true) (way : longer ≡ path ++ near.first.index ∷ []) (same : run ≡ run_in ns at t.head.kind u.head.kind) where
-      pub found_enough : (xs : List Candidate) → xs ≡ take most (candidates_at ns rs re longer run 0 near.first.byte (forest (u ∷ []))) → most ≤ length xs → xs ≡ take most (below ns rs re path at t)
-      found_enough xs found full =
-          take_full most (candidates_at ns rs re longer run 0 near.first.byte (forest (u ∷ []))) (of_block path a ts near.first.index u.head.kind) xs found full ∙ ap (take most) (sym (deeper longer run f way same))
-
-      pub found_alone : (xs : List Candidate) → xs ≡ take most (candidates_at ns rs re longer run 0 near.first.byte (forest (u ∷ []))) → is_block u.head.kind ≡ false → xs ≡ take most (below ns rs re path at t)
-      found_alone xs found no_block = found ∙ ap (take most) (sym (deeper longer run f way same ∙ (rw no_block refl ∙ append-nil (candidates_at ns rs re longer run 0 near.first.byte (forest (u ∷ []))))))
-
-      pub found_block : (final : List ℕ) (items later : List found.Candidate) (c : found.Candidate)
-          → map (spelled final) items ≡ take most (candidates_at ns rs re longer run 0 near.first.byte (forest (u ∷ []))) → length items < most → is_block u.head.kind ≡ true
-          → later ≡ items ++ c ∷ [] → spelled final c ≡ of_children true path a ts near.first.index (suc near.first.index) → map (spelled final) later ≡ take most (below ns rs re path at t)
-      found_block final items later c found less block pushed one =
-          let d : Candidate = of_children true path a ts near.first.index (suc near.first.index) in
-          ap (map (spelled final)) pushed ∙ (map-append (spelled final) items (c ∷ []) ∙ (ap (λ (e : Candidate). map (spelled final) items ++ e ∷ []) one
-          ∙ (take_one most (candidates_at ns rs re longer run 0 near.first.byte (forest (u ∷ []))) (map (spelled final) items) d found (omega (arith, less, length-map items (spelled final)))
-          ∙ ap (take most) (sym (deeper longer run f way same ∙ rw block refl)))))
-
-  -- a node's own run behind what was found below it
-  pub found_run : (most room : ℕ) (final : List ℕ) (depth : ℕ) (cuts : List ℕ) (items : List found.Candidate) (ys : List Candidate) → take depth final ≡ path → map (spelled final) items ≡ take most (below ns rs re path at t) → room ≡ most - length items
-      → ys ≡ map (spelled final) items ++ take room (of_stretches (take depth final) a ts (stretches cuts (laid a ts) near.first.index near.end.index (suc (length ts)) 1))
-      → ys ≡ take most (candidates_at ns rs re path (Some cuts) 0 at (forest (t ∷ [])))
-  found_run most room final depth cuts items ys way found left grown =
-      let xs : List Candidate = map (spelled final) items in
-      grown ∙ ((λ k. xs ++ take room (of_stretches (way k) a ts (stretches cuts (laid a ts) (is.first k) (is.end k) (suc (length ts)) 1)))
-      ∙ (take_on most room (below ns rs re path at t) (of_run rs re path a ts (Some cuts)) xs found (left ∙ ap (λ (n : ℕ). most - n) (sym (length-map items (spelled final))))
-      ∙ ((λ k. take most (below ns rs re path at t ++ of_run rs re path (sym inside k) (sym kids k) (Some cuts))) ∙ ap (take most) (sym (node_is ns rs re path (Some cuts) at t)))))
-
-  -- without it, where there is no room
-  pub found_full : (most : ℕ) (run : Option (List ℕ)) (xs : List Candidate) → xs ≡ take most (below ns rs re path at t) → most ≤ length xs → xs ≡ take most (candidates_at ns rs re path run 0 at (forest (t ∷ [])))
-  found_full most run xs found full =
-      take_full most (below ns rs re path at t) (of_run rs re path (at + length t.head.text) (trees t.kids) run) xs found full ∙ ap (take most) (sym (node_is ns rs re path run at t))
-
-  pub found_none : (most : ℕ) (xs : List Candidate) → xs ≡ take most (below ns rs re path at t) → xs ≡ take most (candidates_at ns rs re path None 0 at (forest (t ∷ [])))
-  found_none most xs found = found ∙ ap (take most) (sym (append-nil (below ns rs re path at t)) ∙ sym (node_is ns rs re path None at t))
-
--- the block in hand
-pub one_block : (final path : List ℕ) (depth a : ℕ) (ts : List Tree) (rs re : ℕ) (near : Near) (inner : Bool) (c : found.Candidate) → IsNear a ts rs re near → is_covered rs re near inner ≡ true → take depth final ≡ path
-    → c ≡ record { is_block = true; depth = depth; from = near.first.index; to = near.end.index; start = near.first.byte; end = near.end.byte }
-    → spelled final c ≡ of_children true path a ts near.first.index (suc near.first.index)
-one_block final path depth a ts rs re near inner c is covered way e =
-    let next : near.end.index ≡ suc near.first.index = next_of (near.end.index == suc near.first.index) refl in
-    ap (spelled final) e ∙ ((λ k. record { is_block = true; path = way k; from = near.first.index; to = near.end.index; start = is.first_edge.byte k; end = is.end_edge.byte k }) ∙ ap (λ (n : ℕ). of_children true path a ts near.first.index n) next)
-  where
-    next_of : (b : Bool) → (near.end.index == suc near.first.index) ≡ b → near.end.index ≡ suc near.first.index
-    next_of true f = grind (arith, nat_tests)
-    next_of false f = let other : is_covered rs re near inner ≡ false = rw f refl in absurd (cc)
 
 -- a longer path begins with a shorter one
 pub path_front : (p q r : List ℕ) (i : ℕ) → q ≡ p ++ i ∷ [] → take (length q) r ≡ q → take (length p) r ≡ p

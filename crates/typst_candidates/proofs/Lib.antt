@@ -1,5 +1,5 @@
 -- From what a contract promises to the lemma behind it:
---   a row's edges and stretches      Rows; Windows: those in a window; Found: what is found in a row; Nested: the run by its entries
+--   a row's edges and stretches      Rows; Windows: those in a window; Found: what is found in a row; Stops: on the way down; Nested: the run by its entries
 --   has, run: the bytes rise         Bytes
 --   records: of_notes, rear, front, opening, last   Walks: entry by entry; Passes: over all of them
 --   next, back, cursor_at, piece_behind, piece_before, top_run, run_in, closing   Cursors; Openings: run_in by opening
@@ -9,6 +9,7 @@
 --   looks_law                        Looks: note by note
 --   nested_law                       Nested
 pub mod Found
+pub mod Stops
 pub mod Bytes
 pub mod Rows
 pub mod Windows

@@ -1,6 +1,7 @@
 pub mod Units
 pub mod Candidates
 pub mod Rows
+pub mod Stops
 pub mod Examples
 pub mod Entries
 pub mod Packed

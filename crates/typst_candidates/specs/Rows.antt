@@ -5,8 +5,8 @@ use Rattle.typst_tree.specs.Tree.{Tree, forest, trees}
 use Rattle.typst_candidates.specs.declared.cuts.Cuts.{Cuts}
 use Rattle.typst_candidates.specs.declared.cuts.Window.{Window}
 use Rattle.typst_candidates.specs.declared.candidate.Candidate as found
-use Rattle.typst_candidates.specs.declared.candidate.RunAt.{RunAt}
-use Rattle.typst_candidates.specs.declared.candidate.RunAt.TheVariants as run
+use Rattle.typst_candidates.specs.declared.enclosing.RunAt.{RunAt}
+use Rattle.typst_candidates.specs.declared.enclosing.RunAt.TheVariants as run
 use Rattle.typst_candidates.specs.declared.entry.Entry.{Entry}
 use Rattle.typst_candidates.specs.declared.row.Edge.{Edge}
 use Rattle.typst_candidates.specs.declared.row.Near.{Near}
@@ -52,9 +52,8 @@ abbrev pub IsRun : Window → Option (List ℕ) → Option Cuts → Type 0
 IsRun w all None = all ≡ None
 IsRun w all (Some cuts) = (bs : List ℕ) × (all ≡ Some bs) × (cuts.window ≡ w) × (bytes_of cuts ≡ within w bs)
 
--- where the pieces begin, but for the first, of the run that a node is
+-- where the pieces of a run begin, but for the first
 abbrev pub pieces_at : List Entry → RunAt → Option (List ℕ)
-pieces_at es run.Nothing = None
 pieces_at es run.Text = behind_first (pieces_of 0 0 es)
 pieces_at es (run.Block at) = pieces_in at 0 es
 

@@ -1,15 +1,17 @@
 //! The first candidates of an edit, in order.
 
-ghost use Rattle.std.specs.Prelude.{◌≡◌, ℕ, List, ◌+◌, ◌-◌, ◌<◌, ◌≤◌, ◌^◌, ◌++◌, ◌∷◌, [], IfOk, OnOk, length, map, suc, take};
+ghost use Rattle.std.specs.Prelude.{◌≡◌, ℕ, List, ◌+◌, ◌-◌, ◌<◌, ◌≤◌, ◌^◌, ◌++◌, ◌∷◌, [], IfOk, IfSome, OnOk, length, map, option_and_then, suc, take};
 ghost use Rattle.typst_language.specs.declared.calls.Note.{Note};
-ghost use Rattle.typst_tree.specs.Tree.{forest, trees, text_of};
+ghost use Rattle.typst_tree.specs.Tree.{forest, text_of};
 ghost use Rattle.typst_candidates.specs.declared.entry.Entry.{Entry};
-ghost use Rattle.typst_candidates.specs.Candidates.{laid, stretches, of_stretches, candidates, candidates_at};
-ghost use Rattle.typst_candidates.specs.Cursors.{piece_run};
+ghost use Rattle.typst_candidates.specs.Candidates.{laid, stretches, of_block, of_stretches, candidates, candidates_at};
 ghost use Rattle.typst_candidates.specs.Entries.{end_of};
 ghost use Rattle.typst_candidates.specs.Nested.{Written};
 ghost use Rattle.typst_candidates.specs.Rows.{IsEdge, IsNear, IsRun, IsWhole, Fits, below, bytes_of, pieces_at, spelled, within};
+ghost use Rattle.typst_candidates.specs.Stops.{block_of, covering, found_in, found_in_all, inside, kids, run_of};
+ghost use Rattle.typst_candidates.specs.Units.{top_cuts};
 
+use crate::enclosing::{Enclosing, RunAt, Stop, run_of_child};
 use crate::{Cuts, Near, Records, Row, Stretch, Window};
 use std::alloc::{AllocError, Global};
 use typst_kinds::SyntaxKind;
@@ -44,17 +46,6 @@ pub struct Candidates {
     pub most: usize,
 }
 
-/// Which run a node is.
-#[derive(Debug, Clone, Copy, PartialEq, Eq)]
-enum RunAt {
-    /// None,
-    Nothing,
-    /// the text's own,
-    Text,
-    /// or that of the content block which begins at this byte.
-    Block(usize),
-}
-
 /// The units of the text, the replaced bytes, how many candidates are asked for, and where pieces of runs are
 /// looked up.
 #[derive(Clone, Copy)]
@@ -87,16 +78,46 @@ fn of_stretch(is_block: bool, depth: usize, stretch: Stretch) -> Candidate
     }
 }
 
-/// The run that a child is, of a node which begins at byte `at`: the block's, where it is the markup of a
-/// content block.
-fn run_of_child(parent: SyntaxKind, child: SyntaxKind, at: usize) -> RunAt
-    ensures { (es : List Entry) → pieces_at es result ≡ piece_run es at parent child }
+/// The children of a stop near the replaced bytes as a block.
+fn block_of(stop: Stop<'_>) -> Candidate
+    ensures { (path : List ℕ) → spelled path result ≡ block_of path stop.entry }
 {
-    if parent == SyntaxKind::ContentBlock && child == SyntaxKind::Markup {
-        RunAt::Block(at)
-    } else {
-        RunAt::Nothing
+    let alone = Stretch {
+        from: stop.near.first,
+        to: stop.near.end,
+    };
+    of_stretch(true, stop.depth, alone)
+}
+
+/// Adds the one child near the replaced bytes, of this kind, if it is a block.
+fn push_block<'t>(
+    around: &mut Vec<Enclosing<'t>>,
+    stop: Stop<'t>,
+    child: SyntaxKind,
+) -> Result<(), AllocError>
+    requires { stop.near.end.index ≡ suc stop.near.first.index }
+    ensures { OnOk result ((es : List Entry) (path : List ℕ) → found_in_all es path around.new.items ≡ of_block (take stop.entry.depth path) (inside stop.entry) (kids stop.entry) stop.entry.near.first.index child ++ found_in_all es path around.old.items) }
+{
+    if !child.is_block() {
+        return Ok(());
     }
+    around.push(Enclosing::Block(stop))?;
+    Ok(())
+}
+
+/// Adds the children of a stop, if they are a run.
+fn push_run<'t>(
+    around: &mut Vec<Enclosing<'t>>,
+    stop: Stop<'t>,
+    run: Option<RunAt>,
+) -> Result<(), AllocError>
+    ensures { OnOk result ((es : List Entry) (path : List ℕ) → found_in_all es path around.new.items ≡ run_of path stop.entry (option_and_then (pieces_at es) run) ++ found_in_all es path around.old.items) }
+{
+    let Some(run) = run else {
+        return Ok(());
+    };
+    around.push(Enclosing::Run(stop, run))?;
+    Ok(())
 }
 
 /// Adds the first `room` of a run: the pieces with 1, 2, 4, .. more children on each side, until all are
@@ -134,6 +155,63 @@ fn add_pieces(
 }
 
 impl Search<'_> {
+    /// The stop at a node that begins at byte `at`, so many steps below the root.
+    fn stop<'t>(&self, node: &'t SyntaxNode, at: usize, depth: usize) -> Stop<'t>
+        requires order { self.now.start ≤ self.now.end }
+        requires fits { at + length (text_of node.now) < 2 ^ 64 }
+        ensures node { result.node.now ≡ node.now }
+        ensures at { result.at ≡ at }
+        ensures depth { result.depth ≡ depth }
+        ensures near { IsNear (inside result) (kids result) self.now.start self.now.end result.near }
+    {
+        let row = Row::of(node, at);
+        let near = row.near(self.start, self.end);
+        Stop {
+            node,
+            at,
+            near,
+            depth,
+        }
+    }
+
+    /// The child that covers the replaced bytes.
+    fn covering<'t>(&self, stop: Stop<'t>) -> Option<&'t SyntaxNode>
+        ensures none { result ≡ None → covering self.now.start self.now.end stop.entry ≡ None }
+        ensures some { IfSome result (λ child. covering self.now.start self.now.end stop.entry ≡ Some child.now) }
+    {
+        let child = stop.node.children().get(stop.near.first.index)?;
+        if !stop.near.covers(self.start, self.end, child) {
+            return None;
+        }
+        Some(child)
+    }
+
+    /// The runs and blocks around the replaced bytes below a stop, each before those in it. The steps down to the
+    /// deepest node are added to the stop's path. Any other node on the way, as a link of a chain, takes only its step.
+    fn below<'t>(
+        &self,
+        alloc: Global,
+        top: Stop<'t>,
+        path: &mut Vec<usize>,
+    ) -> Result<Vec<Enclosing<'t>>, AllocError>
+        requires order { self.now.start ≤ self.now.end }
+        requires near { IsNear (inside top) (kids top) self.now.start self.now.end top.near }
+        requires depth { top.depth ≡ length path.old.items }
+        ensures path { OnOk result (take (length path.old.items) path.new.items ≡ path.old.items) }
+        ensures found { IfOk result (λ around. (ns : List Note) → Written self.now.records.now.units.entries ns → found_in_all self.now.records.now.units.entries path.new.items around.items ≡ below ns self.now.start self.now.end path.old.items top.entry.at top.entry.node.now) }
+    {
+        let mut around = Vec::new(alloc);
+        let mut stop = top;
+        while let Some(child) = self.covering(stop) {
+            path.push(stop.near.first.index)?;
+            push_block(&mut around, stop, child.kind())?;
+            let run = run_of_child(stop.node.kind(), child.kind(), stop.at);
+            stop = self.stop(child, stop.near.first.byte, path.len());
+            push_run(&mut around, stop, run)?;
+        }
+        Ok(around)
+    }
+
     /// Where the pieces of a run begin within the window, if it has any. Goes through the entries up to the window's
     /// end.
     fn cuts(&self, alloc: Global, run: RunAt) -> Result<Option<Cuts>, AllocError>
@@ -141,7 +219,6 @@ impl Search<'_> {
         ensures { IfOk result (λ cuts. IsRun self.now.window (pieces_at self.now.records.now.units.entries run) cuts) }
     {
         match run {
-            RunAt::Nothing => Ok(None),
             RunAt::Text => self.records.top_run(alloc, self.window),
             RunAt::Block(at) => self.records.run_in(alloc, at, self.window),
         }
@@ -158,85 +235,88 @@ impl Search<'_> {
         }
     }
 
-    /// The first at a node, which begins at byte `at` and may be a run, whose pieces are looked up only where
-    /// there is room for them. The steps down to the deepest node are added to its path.
-    #[cycle(candidates)]
-    fn candidates_at(
+    /// Adds those of a run, as many as there is room for, which is some.
+    fn add_run(
         &self,
         alloc: Global,
-        node: &SyntaxNode,
-        at: usize,
+        stop: Stop<'_>,
         run: RunAt,
-        path: &mut Vec<usize>,
-    ) -> Result<Found, AllocError>
-        requires order { self.now.start ≤ self.now.end }
-        requires fits { at + length (text_of node.now) < 2 ^ 64 }
+        found: &mut Found,
+    ) -> Result<(), AllocError>
         requires places { end_of 0 self.now.records.now.units.entries < 2 ^ 64 }
-        ensures path { OnOk result (take (length path.old.items) path.new.items ≡ path.old.items) }
-        ensures found { IfOk result (λ found. (ns : List Note) → Written self.now.records.now.units.entries ns → map (spelled path.new.items) found.items.items ≡ take found.most (candidates_at ns self.now.start self.now.end path.old.items (pieces_at self.now.records.now.units.entries run) 0 at (forest (node.now ∷ [])))) }
+        requires room { length found.old.items.items < found.old.most }
+        ensures found { OnOk result ((path : List ℕ) → map (spelled path) found.new.items.items ≡ take found.new.most (map (spelled path) found.old.items.items ++ run_of path stop.entry (pieces_at self.now.records.now.units.entries run))) }
+        ensures most { OnOk result (found.new.most ≤ found.old.most) }
+        ensures whole { IsWhole self.now.window → OnOk result (found.new.most ≡ found.old.most) }
+    {
+        let Some(cuts) = self.cuts(alloc, run)? else {
+            return Ok(());
+        };
+        let row = Row::of(stop.node, stop.at);
+        let before = found.items.len();
+        let room = found.most - before;
+        let added = add_pieces(&mut found.items, &row, &cuts, stop.near, stop.depth, room)?;
+        found.most = before + added;
+        Ok(())
+    }
+
+    /// Adds those of a block or a run, as many as there is room for. A run's pieces are looked up only where there is
+    /// some.
+    fn add(&self, alloc: Global, around: Enclosing<'_>, found: &mut Found) -> Result<(), AllocError>
+        requires places { end_of 0 self.now.records.now.units.entries < 2 ^ 64 }
+        requires room { length found.old.items.items ≤ found.old.most }
+        ensures found { OnOk result ((path : List ℕ) → map (spelled path) found.new.items.items ≡ take found.new.most (map (spelled path) found.old.items.items ++ found_in self.now.records.now.units.entries path around.entry)) }
+        ensures most { OnOk result (found.new.most ≤ found.old.most) }
+        ensures whole { IsWhole self.now.window → OnOk result (found.new.most ≡ found.old.most) }
+    {
+        if found.items.len() >= found.most {
+            return Ok(());
+        }
+        match around {
+            Enclosing::Block(stop) => {
+                found.items.push(block_of(stop))?;
+                Ok(())
+            }
+            Enclosing::Run(stop, run) => self.add_run(alloc, stop, run, found),
+        }
+    }
+
+    /// The first of several runs and blocks, of which each stands before those in it.
+    fn found_in_all(
+        &self,
+        alloc: Global,
+        mut around: Vec<Enclosing<'_>>,
+    ) -> Result<Found, AllocError>
+        requires { end_of 0 self.now.records.now.units.entries < 2 ^ 64 }
+        ensures found { IfOk result (λ found. (path : List ℕ) → map (spelled path) found.items.items ≡ take found.most (found_in_all self.now.records.now.units.entries path around.entry.items)) }
         ensures most { IfOk result (λ found. found.most ≤ self.now.most) }
         ensures whole { IsWhole self.now.window → IfOk result (λ found. found.most ≡ self.now.most) }
     {
-        let row = Row::of(node, at);
-        let near = row.near(self.start, self.end);
-        let depth = path.len();
-        let mut found = self.below(alloc, node, at, near, path)?;
-        let before = found.items.len();
-        if before >= found.most {
-            return Ok(found);
+        let mut found = self.nothing(alloc);
+        while let Some(innermost) = around.pop() {
+            self.add(alloc, innermost, &mut found)?;
         }
-        let Some(cuts) = self.cuts(alloc, run)? else {
-            return Ok(found);
-        };
-        let room = found.most - before;
-        let added = add_pieces(&mut found.items, &row, &cuts, near, depth, room)?;
-        found.most = before + added;
         Ok(found)
     }
 
-    /// The first at the child of a node that covers the replaced bytes, then that child if it is a
-    /// block.
-    #[cycle(candidates)]
-    fn below(
+    /// The first of a text. The steps down to the deepest node that covers the replaced bytes are added to the path.
+    fn candidates(
         &self,
         alloc: Global,
-        node: &SyntaxNode,
-        at: usize,
-        near: Near,
+        root: &SyntaxNode,
         path: &mut Vec<usize>,
     ) -> Result<Found, AllocError>
         requires order { self.now.start ≤ self.now.end }
-        requires fits { at + length (text_of node.now) < 2 ^ 64 }
+        requires fits { length (text_of root.now) < 2 ^ 64 }
         requires places { end_of 0 self.now.records.now.units.entries < 2 ^ 64 }
-        requires near { IsNear (at + length node.now.head.text) (trees node.now.kids) self.now.start self.now.end near }
-        ensures path { OnOk result (take (length path.old.items) path.new.items ≡ path.old.items) }
-        ensures found { IfOk result (λ found. (ns : List Note) → Written self.now.records.now.units.entries ns → map (spelled path.new.items) found.items.items ≡ take found.most (below ns self.now.start self.now.end path.old.items at node.now)) }
+        ensures found { IfOk result (λ found. (ns : List Note) → Written self.now.records.now.units.entries ns → map (spelled path.new.items) found.items.items ≡ take found.most (candidates_at ns self.now.start self.now.end path.old.items (top_cuts ns) 0 0 (forest (root.now ∷ [])))) }
         ensures most { IfOk result (λ found. found.most ≤ self.now.most) }
         ensures whole { IsWhole self.now.window → IfOk result (λ found. found.most ≡ self.now.most) }
     {
-        let kids = node.children();
-        let depth = path.len();
-        if near.first.index >= kids.len() {
-            return Ok(self.nothing(alloc));
-        }
-        let child = &kids[near.first.index];
-        if !near.covers(self.start, self.end, child) {
-            return Ok(self.nothing(alloc));
-        }
-        path.push(near.first.index)?;
-        let run = run_of_child(node.kind(), child.kind(), at);
-        let mut found = self.candidates_at(alloc, child, near.first.byte, run, path)?;
-        if found.items.len() >= found.most {
-            return Ok(found);
-        }
-        if !child.kind().is_block() {
-            return Ok(found);
-        }
-        let alone = Stretch {
-            from: near.first,
-            to: near.end,
-        };
-        found.items.push(of_stretch(true, depth, alone))?;
+        let top = self.stop(root, 0, path.len());
+        let around = self.below(alloc, top, path)?;
+        let mut found = self.found_in_all(alloc, around)?;
+        self.add(alloc, Enclosing::Run(top, RunAt::Text), &mut found)?;
         Ok(found)
     }
 }
@@ -274,7 +354,7 @@ pub fn find_candidates(
         window,
     };
     let mut path = Vec::new(alloc);
-    let found = search.candidates_at(alloc, root, 0, RunAt::Text, &mut path)?;
+    let found = search.candidates(alloc, root, &mut path)?;
     let Found { items, most } = found;
     Ok(Candidates { path, items, most })
 }

@@ -10,6 +10,7 @@ mod anchor;
 mod candidate;
 mod cursor;
 mod cuts;
+mod enclosing;
 mod entries;
 mod entry;
 mod laws;

@@ -1,5 +1,6 @@
 -- Nodes at the ends of paths, and the bytes at which they begin.
-use Rattle.std.proofs.Common.{◌≡◌, ℕ, zero, suc, ◌+◌, ◌-◌, ◌≤◌, ◌<◌, ◌^◌, List, [], ◌∷◌, ◌++◌, append_assoc, append-nil, length, length-append, length-take-le, get_or, take, drop, Option, Some, None, refl, ap, sym, subst, ◌∙◌, arith}
+use Rattle.std.proofs.Common.{◌≡◌, ℕ, zero, suc, ◌+◌, ◌≤◌, ◌<◌, ◌^◌, List, [], ◌∷◌, ◌++◌, append-nil, length, length-append, length-take-le, get_or, take, drop, Some, refl, ap, sym, subst, ◌∙◌, arith}
+use Rattle.std.proofs.lemmas.List.{at_drop_more}
 use Rattle.std.proofs.lemmas.Option.{slice_get_read}
 use Rattle.std.specs.List.{slice_get}
 use Rattle.typst_tree.specs.Tree.{Tree, Forest, none, more, forest, trees, joined, saturated, text_of}
@@ -81,52 +82,53 @@ further t i at len d few l is here long =
 
 -- ---- one step down
 
-take-whole : (xs : List ℕ) → take (length xs) xs ≡ xs
-take-whole [] = refl
-take-whole (x ∷ xs) = ap (λ ys. x ∷ ys) (take-whole xs)
-
-split-first : (xs : List ℕ) → 1 ≤ length xs → xs ≡ get_or xs 0 0 ∷ take (length xs - 1) (drop 1 xs)
-split-first [] l = absurd (omega (arith, l))
-split-first (x ∷ xs) l =
-    let n : length (x ∷ xs) - 1 ≡ length xs = omega arith in
-    ap (λ ys. x ∷ ys) (sym (ap (λ m. take m xs) n ∙ take-whole xs))
-
 at-within : (P : Tree → Type 0) (xs : List Tree) (i : ℕ) → At P (slice_get xs i) → i < length xs
 at-within P [] i h = absurd h
 at-within P (x ∷ xs) zero h = omega arith
 at-within P (x ∷ xs) (suc i) h = let l = at-within P xs i h in omega (arith, l)
 
-module _ (root : Tree) (path : List ℕ) (some : 1 ≤ length path) (leads : AtPath (λ _. Unit {0}) path root) (xs : List Tree) (same : forest xs ≡ root.kids) where
-  abbrev first : ℕ
-  first = get_or path 0 0
+module _ (node : Tree) (path : List ℕ) (i : ℕ) (further : i < length path) (leads : AtPath (λ _. Unit {0}) (drop i path) node) where
+  abbrev step : ℕ
+  step = get_or path i 0
 
   abbrev rest : List ℕ
-  rest = take (length path - 1) (drop 1 path)
+  rest = drop (i + 1) path
 
-  leads-on : At (AtPath (λ _. Unit {0}) rest) (slice_get (kids_of root) first)
-  leads-on = subst (λ p. AtPath (λ _. Unit {0}) p root) (split-first path some) leads
+  leads-on : At (AtPath (λ _. Unit {0}) rest) (slice_get (kids_of node) step)
+  leads-on = subst (λ (p : List ℕ). AtPath (λ _. Unit {0}) p node) (at_drop_more (λ (p : List ℕ). p) path i 0 further) leads
 
-  pub first-within : first < length xs
-  first-within =
-      let w = at-within (AtPath (λ _. Unit {0}) rest) (kids_of root) first leads-on in
-      let s = ap (λ (ys : List Tree). length ys) (children-are root xs same) in
-      omega (arith, w, s)
+  pub step-within : step < length (kids_of node)
+  step-within = at-within (AtPath (λ _. Unit {0}) rest) (kids_of node) step leads-on
 
-  module _ (child : Tree) (is : child ≡ get_or xs first child) where
-    got : slice_get (kids_of root) first ≡ Some child
-    got = ap (λ ys. slice_get ys first) (sym (children-are root xs same)) ∙ slice_get_read xs (length xs) first child refl first-within is
+  -- the child begins in the node's text
+  pub step-begins : start_in step node ≤ length (text_of node)
+  step-begins = let e = child-ends node step node step-within in omega (arith, e)
 
-    pub rest-leads : AtPath (λ _. Unit {0}) rest child
-    rest-leads = subst (At (AtPath (λ _. Unit {0}) rest)) got leads-on
+  module _ (xs : List Tree) (same : forest xs ≡ node.kids) where
+    pub child-there : step < length xs
+    child-there =
+        let w = step-within in
+        let s = ap (λ (ys : List Tree). length ys) (children-are node xs same) in
+        omega (arith, w, s)
 
-    pub child-within : start_in first root + length (text_of child) ≤ length (text_of root)
-    child-within =
-        let same_kids = children-are root xs same in
-        let s = ap (λ (ys : List Tree). length ys) same_kids in
-        let w = first-within in
-        let e = child-ends root first child (omega (arith, w, s)) in
-        let c = ap (λ (t : Tree). length (text_of t)) (is ∙ ap (λ ys. get_or ys first child) same_kids) in
-        omega (arith, e, c)
+    module _ (child : Tree) (is : child ≡ get_or xs step child) where
+      got : slice_get (kids_of node) step ≡ Some child
+      got = ap (λ ys. slice_get ys step) (sym (children-are node xs same)) ∙ slice_get_read xs (length xs) step child refl child-there is
 
-    pub start-on : start_in first root + start_at rest 0 child ≡ start_at path 0 root
-    start-on = ap (λ o. start_in first root + or_none (start_at rest 0) o) (sym got) ∙ ap (λ p. start_at p 0 root) (sym (split-first path some))
+      pub leads-further : AtPath (λ _. Unit {0}) rest child
+      leads-further = subst (At (AtPath (λ _. Unit {0}) rest)) got leads-on
+
+      pub child-within : start_in step node + length (text_of child) ≤ length (text_of node)
+      child-within =
+          let same_kids = children-are node xs same in
+          let w = step-within in
+          let e = child-ends node step child w in
+          let c = ap (λ (t : Tree). length (text_of t)) (is ∙ ap (λ ys. get_or ys step child) same_kids) in
+          omega (arith, e, c)
+
+      pub start-on : start_in step node + start_at rest 0 child ≡ start_at (drop i path) 0 node
+      start-on = ap (λ o. start_in step node + or_none (start_at rest 0) o) (sym got) ∙ sym (at_drop_more (λ (p : List ℕ). start_at p 0 node) path i 0 further)
+
+-- a node's children begin in its own text
+pub start-within : (t : Tree) → start_in 0 t ≤ length (text_of t)
+start-within t = let a = length-append t.head.text (joined t.kids) in omega (arith, a)

@@ -661,10 +661,13 @@ fn byte_at(root: &SyntaxNode, path: &[usize]) -> usize
     ensures start { result ≡ start_at path.now 0 root.now }
     ensures within { result ≤ length (text_of root.now) }
 {
-    match path {
-        [] => byte_before(root, 0),
-        [first, rest @ ..] => byte_before(root, *first) + byte_at(&root.children()[*first], rest),
+    let mut node = root;
+    let mut at = 0;
+    for step in path {
+        at += byte_before(node, *step);
+        node = &node.children()[*step];
     }
+    at + byte_before(node, 0)
 }
 
 /// The byte at which the child of an index begins, counted from where the node does.
