@@ -71,7 +71,7 @@ ahead_here root k t front rest e n is_so =
 abbrev pub kind_up : Tree → Option ℕ → Option SyntaxKind
 kind_up root up = kind_if (option_map (at root) up)
 
-ahead_assoc : (x y z : Option Ahead) → first_ahead (first_ahead x y) z ≡ first_ahead x (first_ahead y z)
+pub ahead_assoc : (x y z : Option Ahead) → first_ahead (first_ahead x y) z ≡ first_ahead x (first_ahead y z)
 ahead_assoc None y z = refl
 ahead_assoc (Some x) y z = refl
 

@@ -1,6 +1,9 @@
 -- What a level of the walk has is what is round its nodes, also where what is ahead was looked for or wasn't.
-use Rattle.std.proofs.Common.{◌≡◌, ℕ, ◌+◌, ap, sym, ◌∙◌, refl, Bool, true, false, ◌||◌, Option, None, Some, length, cond}
+use Rattle.std.proofs.Common.{◌≡◌, ℕ, ◌+◌, ap, sym, ◌∙◌, refl, Bool, true, false, ◌||◌, Option, None, Some, Result, length, cond}
 use Rattle.std.specs.Option.{is_some}
+use Rattle.std.specs.Result.{IfOk}
+use Rattle.std.proofs.lemmas.Option.{same_Some}
+use Rattle.std.proofs.lemmas.Result.{IfOk-weaker}
 use Rattle.typst_kinds.specs.declared.kind.SyntaxKind.{SyntaxKind}
 use Rattle.typst_kinds.specs.declared.kind.SyntaxKind.TheVariants as kind
 use Rattle.typst_kinds.specs.Kinds.{is_trivia, is_hash_expr}
@@ -12,22 +15,15 @@ use Rattle.typst_highlight.specs.declared.rules.Rule.TheVariants as rule
 use Rattle.typst_highlight.specs.declared.context.Ahead.{Ahead}
 use Rattle.typst_highlight.specs.declared.context.Context.{Context}
 use Rattle.typst_highlight.specs.declared.context.Trail.{Trail}
-use Rattle.typst_highlight.specs.declared.progress.Level.{Level}
-use Rattle.typst_highlight.specs.declared.progress.Progress.{Progress}
 use Rattle.typst_highlight.specs.Rules.{rule_of, is_name}
 use Rattle.typst_highlight.specs.Names.{first_tag, name_alone}
-use Rattle.typst_highlight.specs.Walk.{Found, around, behind_dot, end, first_ahead, first_leaf, flat, found, holds_leaf, is_followed, joined, lead, leaf_ahead, name, next_leaf, passed, passed_row, past, step, tag, tag_here, tree_of, within}
+use Rattle.typst_highlight.specs.Walk.{Found, around, behind_dot, end, first_ahead, first_leaf, flat, found, holds_leaf, is_followed, lead, name, next_kind, next_leaf, passed, passed_row, past, step, tag, tag_here, tag_under, tree_of, within}
 use Rattle.typst_highlight.proofs.Cases.{bool_cases}
 
 -- a name whose next leaf is known needs nothing of what follows it
 pub name_facing : (c : Context) (t : Tree) (r : Forest) (x : Option Ahead) → x ≡ next_leaf c t r → name (record c { ahead = x }) t none ≡ name c t r
 name_facing c t r x e =
     ap (λ n. first_tag (name_alone (record { kind = t.head.kind; end = end c t; next = n; around = around c; lead = lead c; before = c.trail.before })) (behind_dot c.trail)) e
-
--- the level of a node's children
-pub joined_within : (c : Context) (t : Tree) (r : Forest) (l : Level) (p : Progress) → l.parent ≡ (within c t r).parent → l.outer ≡ (within c t r).outer → p.offset ≡ (within c t r).offset → p.trail ≡ c.trail → leaf_ahead l.behind ≡ next_leaf c t r → joined l p ≡ within c t r
-joined_within c t r l p parent outer offset trail ahead =
-    λ i. record { parent = parent i; outer = outer i; offset = offset i; trail = trail i; ahead = ahead i }
 
 -- with another leaf ahead
 abbrev pub facing : Option Ahead → Context → Context
@@ -150,3 +146,19 @@ tag_followed c t r x y e =
     let held : holds_leaf r ≡ true = followed_holds r e in
     tag_held (rule_of t.head.kind) c t r x y _ _ (name_held c t r x y held)
     (ap (λ p. (found (past (facing x c) t p) r).expression) (passed_held c t r x y held) ∙ expression_held (past c t (passed (facing y c) t r)) r x y e)
+
+-- a tag that was found in a context with the same one
+pub tag_from : {E : Type 0} (u : Result (Option Tag) E) (c d : Context) (t : Tree) (r : Forest) → tag d t r ≡ tag c t r → IfOk u (λ x. x ≡ tag d t r) → IfOk u (λ x. x ≡ tag c t r)
+tag_from u c d t r e h = IfOk-weaker u (λ x. x ≡ tag d t r) (λ x. x ≡ tag c t r) (λ x p. p ∙ e) h
+
+-- a tag that the kinds of the node, its parent and the next one tell
+pub under_tag : (u : Rule) (c : Context) (t : Tree) (r : Forest) (e x : Option Tag) → Some x ≡ tag_under u c.parent (next_kind r) → x ≡ tag_here u c t r e
+under_tag (rule.Fixed z) c t r e x h = same_Some x z h
+under_tag rule.Paren c t r e x h = same_Some x _ h
+under_tag rule.Star c t r e x h = same_Some x _ h
+under_tag rule.Underscore c t r e x h = same_Some x _ h
+under_tag rule.Slash c t r e x h = same_Some x _ h
+under_tag rule.Equals c t r e x h = same_Some x _ h
+under_tag rule.Term c t r e x h = same_Some x _ h
+under_tag rule.Name c t r e x h = absurd (cc)
+under_tag rule.Expression c t r e x h = absurd (cc)

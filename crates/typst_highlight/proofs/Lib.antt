@@ -2,7 +2,8 @@
 --   highlight                    Bounds: steps stay in the tree; Chains, Cases: up and along chains
 --   highlight_html: html         Trees: the walk makes the tags; Contexts, Leaves, Rows: what it carries along
 --   rule_of                      RuleTable
---   give_node                    Levels: what a level has is what is round its nodes; Outlets: what it gives them to
+--   tag_here                     Places: the leaf whose tag a hash has
+--   give_tree                    Returning: what is left of the walk; Levels: a name's next leaf, and where nothing is looked for; Outlets: what it gives the nodes to
 --   tag_stretches                Outlets: the walk adds the stretches of the tree, which follow one on another
 --   highlight_html: shown        Reading: a reader of the HTML; Escapes: escaped texts; Pages: what is put on a page
 pub mod Bounds
@@ -14,7 +15,9 @@ pub mod Leaves
 pub mod Levels
 pub mod Outlets
 pub mod Pages
+pub mod Places
 pub mod Reading
+pub mod Returning
 pub mod Rows
 pub mod RuleTable
 pub mod Trees

@@ -1,9 +1,9 @@
 -- What a walk through a tree carries along. Public clauses name none of it.
-use Rattle.std.specs.Prelude.{ℕ, ◌+◌, List, [], ◌++◌, Option, None, Some, length, if◌then◌else◌, Bool, false, ◌||◌}
+use Rattle.std.specs.Prelude.{ℕ, ◌+◌, ◌*◌, List, [], ◌∷◌, ◌++◌, reverse, Option, None, Some, length, if◌then◌else◌, Bool, false, ◌||◌}
 use Rattle.typst_kinds.specs.declared.kind.SyntaxKind.{SyntaxKind}
 use Rattle.typst_kinds.specs.Kinds.{is_trivia, is_hash_expr}
 use Rattle.typst_kinds.specs.Head.{Head}
-use Rattle.typst_tree.specs.Tree.{Forest, none, more, Tree, forest, text_of, saturated}
+use Rattle.typst_tree.specs.Tree.{Forest, none, more, Tree, forest, count, nodes, text_of, saturated}
 use Rattle.typst_tree.specs.Walks.{is_leaf}
 use Rattle.typst_highlight.specs.declared.tags.Tag.{Tag}
 use Rattle.typst_highlight.specs.declared.rules.Rule.{Rule}
@@ -13,10 +13,10 @@ use Rattle.typst_highlight.specs.declared.context.Surroundings.{Surroundings}
 use Rattle.typst_highlight.specs.declared.context.Trail.{Trail}
 use Rattle.typst_highlight.specs.declared.context.Outer.{Outer}
 use Rattle.typst_highlight.specs.declared.context.Context.{Context}
-use Rattle.typst_highlight.specs.declared.progress.Behind.{Behind, Nothing, Nodes'}
-use Rattle.typst_highlight.specs.declared.progress.Later.{Later}
-use Rattle.typst_highlight.specs.declared.progress.Level.{Level}
+use Rattle.typst_highlight.specs.declared.progress.Waiting.{Waiting}
 use Rattle.typst_highlight.specs.declared.progress.Progress.{Progress}
+use Rattle.typst_highlight.specs.declared.walk.Place.{Place}
+use Rattle.typst_highlight.specs.declared.walk.Row.{Row}
 use Rattle.typst_highlight.specs.declared.stretches.Tagged.{Tagged}
 use Rattle.typst_highlight.specs.Rules.{rule_of, paren_tag, star_tag, underscore_tag, slash_tag, equals_tag, term_tag, is_name, is_field_access, is_dot}
 use Rattle.typst_highlight.specs.Names.{first_tag, name_alone}
@@ -201,15 +201,6 @@ forest_html c (more h ks r) =
 abbrev pub node_html : Context → Tree → Forest → List ℕ
 node_html c t r = span_start (spanned (tag c t r)) ++ (escaped t.head.text ++ (forest_html (within c t r) t.kids ++ span_end (spanned (tag c t r))))
 
--- the first leaf of what is behind nodes
-abbrev pub leaf_ahead : Behind → Option Ahead
-leaf_ahead Nothing = None
-leaf_ahead (Nodes' p parent start nodes behind) = first_ahead (first_leaf parent start (forest nodes.now)) (leaf_ahead behind)
-
--- the first leaf of nodes and what is behind them
-abbrev pub later_ahead : Later → Option Ahead
-later_ahead l = first_ahead (first_leaf l.parent l.start (forest l.nodes.now)) (leaf_ahead l.behind)
-
 -- among the trees is a leaf
 abbrev pub holds_leaf : Forest → Bool
 holds_leaf none = false
@@ -220,9 +211,22 @@ abbrev pub is_followed : Forest → Bool
 is_followed none = false
 is_followed (more h ks r) = if is_trivia h.kind then is_followed r else holds_leaf r
 
--- what is round the node that a walk has come to on a level
-abbrev pub joined : Level → Progress → Context
-joined l p = record { parent = l.parent; outer = l.outer; offset = p.offset; trail = p.trail; ahead = leaf_ahead l.behind }
+-- the nodes that a walk comes back to, the innermost first
+abbrev pub waiting : Progress → List Waiting
+waiting p = reverse p.waiting.items
+
+-- the first leaf of nodes that a walk comes back to
+abbrev pub ahead_of : List Waiting → Option Ahead
+ahead_of [] = None
+ahead_of (w ∷ ws) = first_ahead (first_leaf w.level.parent w.start (forest w.nodes.now)) (ahead_of ws)
+
+-- what is round the node that a walk comes to next
+abbrev pub joined : Progress → Context
+joined p = record { parent = p.level.parent; outer = p.level.outer; offset = p.offset; trail = p.trail; ahead = ahead_of (waiting p) }
+
+-- what is round the first of the nodes that a walk comes back to, before others and behind these last leaves
+abbrev pub resumed : Waiting → List Waiting → Trail → Context
+resumed w ws trail = record { parent = w.level.parent; outer = w.level.outer; offset = w.start; trail = trail; ahead = ahead_of ws }
 
 -- what is round the root of a tree
 abbrev pub root_context : Context
@@ -250,6 +254,45 @@ walked_row o c (more h ks r) s =
 abbrev pub walked : {S : Type 0} → Outlet S → Context → Tree → Forest → S → S
 walked o c t r s =
     o.ended (walked_row o (within c t r) t.kids (o.given (o.begun s (spanned (tag c t r))) t.head.text)) (o.kept s (spanned (tag c t r)))
+
+-- what the rest of a walk makes of it, from the end of the row on that it is in
+abbrev pub returned : {S : Type 0} → Outlet S → List Waiting → Trail → S → S
+returned o [] trail s = s
+returned o (w ∷ ws) trail s =
+    let c : Context = resumed w ws trail in
+    returned o ws (passed_row c (forest w.nodes.now)) (walked_row o c (forest w.nodes.now) (o.ended s w.kept))
+
+-- what the rest of a walk makes of it, where these trees are left of the row that it is in
+abbrev pub left : {S : Type 0} → Outlet S → Progress → Forest → S → S
+left o p f s = returned o (waiting p) (passed_row (joined p) f) (walked_row o (joined p) f s)
+
+-- how many nodes a walk comes back to, and how many times
+abbrev pub returns : List Waiting → ℕ
+returns [] = 0
+returns (w ∷ ws) = 1 + (2 * count (forest w.nodes.now) + returns ws)
+
+-- how many steps are left of a walk, where these trees are left of the row that it is in
+abbrev pub steps : Progress → Forest → ℕ
+steps p f = 2 * count f + returns (waiting p)
+
+-- the tag of a node at its place
+abbrev pub tag_at : Place → Option Tag
+tag_at p = tag p.context p.node.now (forest p.later.now)
+
+-- the tag of the expression behind a node
+abbrev pub expression_at : Place → Option Tag
+expression_at p =
+    let r : Forest = forest p.later.now in
+    (found (past p.context p.node.now (passed p.context p.node.now r)) r).expression
+
+-- how many nodes there are from a place on, under the same parent
+abbrev pub size : Place → ℕ
+size p = nodes p.node.now + count (forest p.later.now)
+
+-- the last leaves behind rows of nodes, each behind what is below the one before it
+abbrev pub passed_rows : List Row → Trail → Trail
+passed_rows [] trail = trail
+passed_rows (w ∷ ws) trail = passed_rows ws (passed_row (record w.context { trail = trail }) (forest w.nodes.now))
 
 -- HTML that is written
 abbrev pub html : Outlet (List ℕ)

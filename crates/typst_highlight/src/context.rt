@@ -1,7 +1,7 @@
 //! What a walk knows of a node that it has come to.
 
-ghost use Rattle.std.specs.Prelude.{◌≡◌};
-ghost use Rattle.typst_tree.specs.Tree.{forest};
+ghost use Rattle.std.specs.Prelude.{◌≡◌, ◌+◌, Some, length};
+ghost use Rattle.typst_tree.specs.Tree.{forest, saturated};
 ghost use Rattle.typst_tree.specs.Walks.{is_childless, is_leaf};
 ghost use Rattle.typst_highlight.specs.Names.{is_called, is_shown, kind_ahead, name_alone};
 ghost use Rattle.typst_highlight.specs.Walk as walk;
@@ -90,35 +90,66 @@ pub fn is_leaf(node: &SyntaxNode) -> bool
 }
 
 /// The first leaf of nodes that stand side by side from a byte on, under a parent of this kind.
+///
+/// Calls `leaf_below` for a child of at most `share` nodes, and goes on with the children of a larger
+/// one, when it has looked behind that. As a node has at most one child of more than half of its nodes,
+/// calls nest no deeper than twice the logarithm of the number of nodes, however deep a tree is.
 #[cycle(leaves)]
-fn first_leaf(nodes: &[SyntaxNode], parent: Option<SyntaxKind>, offset: usize) -> Option<Ahead>
+fn first_leaf(
+    nodes: &[SyntaxNode],
+    mut parent: Option<SyntaxKind>,
+    mut offset: usize,
+    mut share: usize,
+) -> Option<Ahead>
     ensures { result ≡ walk.first_leaf parent offset (forest nodes.now) }
 {
     let mut rest = nodes;
-    let mut begin = offset;
+    let mut behind = None;
     while let Some((node, later)) = rest.split_first() {
         let kind = node.kind();
         if is_leaf(node) {
             return Some(Ahead {
                 kind,
                 parent,
-                offset: begin,
+                offset,
             });
         }
-        if !is_childless(node) {
-            let inner = begin.saturating_add(node.leaf_text().len());
-            if let Some(leaf) = leaf_among(node.children(), Some(kind), inner) {
-                return Some(leaf);
-            }
+        let end = offset.saturating_add(node.len());
+        if node.descendants() > share {
+            behind = first_leaf(later, parent, end, share).or(behind);
+            rest = node.children();
+            parent = Some(kind);
+            offset = offset.saturating_add(node.leaf_text().len());
+            share = node.descendants() / 2;
+        } else if let Some(leaf) = leaf_below(node, offset) {
+            return Some(leaf);
+        } else {
+            rest = later;
+            offset = end;
         }
-        begin = begin.saturating_add(node.len());
-        rest = later;
     }
-    None
+    behind
+}
+
+/// The first leaf below a node that begins there.
+#[cycle(leaves)]
+#[inline(always)]
+fn leaf_below(node: &SyntaxNode, offset: usize) -> Option<Ahead>
+    ensures { result ≡ walk.first_leaf (Some node.now.head.kind) (saturated (offset + length node.now.head.text)) node.now.kids }
+{
+    if is_childless(node) {
+        return None;
+    }
+    let inner = offset.saturating_add(node.leaf_text().len());
+    first_leaf(
+        node.children(),
+        Some(node.kind()),
+        inner,
+        node.descendants() / 2,
+    )
 }
 
 /// What `first_leaf` answers, at once where the first node is a leaf.
-#[cycle(leaves)]
 #[inline(always)]
 pub fn leaf_among(nodes: &[SyntaxNode], parent: Option<SyntaxKind>, offset: usize) -> Option<Ahead>
     ensures { result ≡ walk.first_leaf parent offset (forest nodes.now) }
@@ -130,12 +161,12 @@ pub fn leaf_among(nodes: &[SyntaxNode], parent: Option<SyntaxKind>, offset: usiz
             parent,
             offset,
         }),
-        _ => first_leaf(nodes, parent, offset),
+        _ => first_leaf(nodes, parent, offset, usize::MAX),
     }
 }
 
 /// Whether there is a leaf among nodes that stand side by side.
-fn holds_leaf(nodes: &[SyntaxNode]) -> bool
+pub fn holds_leaf(nodes: &[SyntaxNode]) -> bool
     ensures { result ≡ walk.holds_leaf (forest nodes.now) }
 {
     leaf_among(nodes, None, 0).is_some()

@@ -75,11 +75,14 @@ fn tag_by_rule(node: LinkedNode) -> Option<Tag>
 fn name_tag(name: LinkedNode) -> Option<Tag>
     ensures { result ≡ spec.name_tag ((linked name.entry).number + 1) (linked name.entry) }
 {
-    match own_tag(name) {
-        Some(tag) => Some(tag),
-        None => {
-            let earlier = earlier_name(name)?;
-            name_tag(earlier)
+    let mut bearer = name;
+    'names: loop {
+        match own_tag(bearer) {
+            Some(tag) => return Some(tag),
+            None => {
+                let earlier = earlier_name(bearer)?;
+                bearer = earlier;
+            }
         }
     }
 }
@@ -179,14 +182,12 @@ fn leaf_before(node: LinkedNode) -> Option<SyntaxKind>
 fn outermost<'a>(node: LinkedNode<'a>) -> LinkedNode<'a>
     ensures { linked result ≡ spec.outermost (linked node.entry).number (linked node.entry) }
 {
-    match node.parent() {
-        None => node,
-        Some(parent) => {
-            if is_field_access(parent.kind()) {
-                outermost(parent)
-            } else {
-                node
-            }
+    let mut outer = node;
+    while let Some(parent) = outer.parent() {
+        if !is_field_access(parent.kind()) {
+            return outer;
         }
+        outer = parent;
     }
+    outer
 }

@@ -21,7 +21,7 @@ pub fn highlight_html(alloc: Global, root: &SyntaxNode) -> Result<String, AllocE
 {
     let mut writer = Writer::with_capacity(alloc, likely_len(root))?;
     writer.push("<code>")?;
-    give_tree(&mut writer, root)?;
+    give_tree(alloc, &mut writer, root)?;
     writer.push("</code>")?;
     let html = writer.finish()?;
     Ok(html)

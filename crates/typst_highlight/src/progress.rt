@@ -1,6 +1,6 @@
 //! How far a walk through a tree has come.
 
-ghost use Rattle.std.specs.Prelude.{◌≡◌, None, true, length, if◌then◌else◌};
+ghost use Rattle.std.specs.Prelude.{◌≡◌, [], ◌∷◌, IfOk, MatchOption, None, OnOk, true, if◌then◌else◌, length, reverse};
 ghost use Rattle.typst_tree.specs.Tree.{forest};
 ghost use Rattle.typst_tree.specs.Walks.{is_childless};
 ghost use Rattle.typst_highlight.specs.Rules.{is_name};
@@ -10,214 +10,196 @@ use crate::context::{Ahead, Context, Outer, Trail, is_followed, leaf_among};
 use crate::rules::{is_field_access, is_skipped};
 use crate::tags::Tag;
 use crate::walk::tag_here;
+use std::alloc::{AllocError, Global};
 use typst_kinds::SyntaxKind;
 use typst_tree::SyntaxNode;
 
-/// What is round nodes that stand side by side. What is behind their parent is looked for where one
-/// of them asks for it.
+/// What is round nodes that stand side by side.
 #[derive(Clone, Copy)]
-pub struct Level<'l, 't> {
+pub struct Level {
     /// Their parent's kind.
-    pub parent: Option<SyntaxKind>,
+    parent: Option<SyntaxKind>,
     /// Where the parent is a field access, what is round the outermost one.
-    pub outer: Option<Outer>,
-    /// What is behind the parent.
-    pub behind: Behind<'l, 't>,
+    outer: Option<Outer>,
 }
 
-/// What is behind nodes that stand side by side.
-#[cycle(behind)]
+/// The nodes that follow a node under its parent, to which a walk comes back from the node's children.
 #[derive(Clone, Copy)]
-pub enum Behind<'l, 't> {
-    /// Nothing, as behind a root.
-    Nothing,
-    /// The nodes that follow their parent, and what is behind those.
-    Nodes(&'l Later<'l, 't>),
-}
-
-/// The nodes that follow a node under its parent.
-#[cycle(behind)]
-#[derive(Clone, Copy)]
-pub struct Later<'l, 't> {
-    /// The parent's kind.
-    pub parent: Option<SyntaxKind>,
-    /// Where the first of them begins, in bytes.
-    pub start: usize,
+pub struct Waiting<'t> {
     pub nodes: &'t [SyntaxNode],
-    pub behind: Behind<'l, 't>,
+    /// Where the first of them begins, in bytes.
+    start: usize,
+    level: Level,
+    /// What the end of the span of the node before them is told.
+    pub kept: Option<Tag>,
 }
 
-/// How far a walk has come.
-#[derive(Clone, Copy)]
-pub struct Progress {
+/// How far a walk has come, and what is round the node that it comes to next. What is behind that
+/// node's parent is looked for where the node asks for it.
+#[derive(Drop)]
+pub struct Progress<'t> {
+    level: Level,
     /// Where the next node begins, in bytes.
-    pub offset: usize,
+    offset: usize,
     /// The leaves before it.
-    pub trail: Trail,
+    trail: Trail,
+    /// The nodes that the walk comes back to, the innermost last.
+    waiting: Vec<Waiting<'t>>,
 }
 
-impl<'l, 't> Behind<'l, 't> {
-    ghost use Rattle.std.specs.Prelude.{◌≡◌};
-    ghost use Rattle.typst_highlight.specs.Walk as walk;
-
-    /// The first leaf.
-    fn first_leaf(&self) -> Option<Ahead>
-        ensures { result ≡ walk.leaf_ahead self.now }
-    {
-        let mut behind = self;
-        'levels: while let Behind::Nodes(later) = behind {
-            let found = leaf_among(later.nodes, later.parent, later.start);
-            if found.is_some() {
-                return found;
-            }
-            behind = &later.behind;
+/// The first leaf of nodes that a walk comes back to, the innermost last.
+fn first_ahead(waiting: &[Waiting]) -> Option<Ahead>
+    ensures { result ≡ walk.ahead_of (reverse waiting.now) }
+{
+    for index in (0..waiting.len()).rev() {
+        let row = waiting[index];
+        if let Some(leaf) = leaf_among(row.nodes, row.level.parent, row.start) {
+            return Some(leaf);
         }
-        None
     }
+    None
 }
 
-impl<'l, 't> Level<'l, 't> {
-    ghost use Rattle.std.specs.Prelude.{◌≡◌, Some};
-    ghost use Rattle.typst_tree.specs.Tree.{forest};
-    ghost use Rattle.typst_highlight.specs.Walk as walk;
-
-    /// What is round the root of a tree.
-    pub const ROOT: Level<'static, 'static> = Level {
-        parent: None,
-        outer: None,
-        behind: Behind::Nothing,
-    };
-
-    /// The tag of a node that others follow.
-    pub fn tag(&self, node: &SyntaxNode, later: &[SyntaxNode], progress: &Progress) -> Option<Tag>
-        ensures { result ≡ walk.tag (walk.joined self.now progress.now) node.now (forest later.now) }
+impl<'t> Progress<'t> {
+    /// Before the root of a tree.
+    pub fn start(alloc: Global) -> Progress<'t>
+        ensures joined { walk.joined result ≡ walk.root_context }
+        ensures waiting { walk.waiting result ≡ [] }
     {
-        if is_followed(later) {
-            return tag_here(node, later, &self.facing(progress, None));
+        Progress {
+            level: Level {
+                parent: None,
+                outer: None,
+            },
+            offset: 0,
+            trail: Trail {
+                before: None,
+                name: None,
+                earlier: None,
+            },
+            waiting: Vec::new(alloc),
         }
-        tag_here(
-            node,
-            later,
-            &self.facing(progress, self.behind.first_leaf()),
-        )
     }
 
-    /// What is round a node of the level, with another first leaf behind the parent.
+    /// The first leaf behind the next node's parent.
+    fn ahead(&self) -> Option<Ahead>
+        ensures { result ≡ (walk.joined self.now).ahead }
+    {
+        first_ahead(&self.waiting)
+    }
+
+    /// What is round the next node, with another first leaf behind the parent.
     #[inline(always)]
-    fn facing(&self, progress: &Progress, ahead: Option<Ahead>) -> Context
-        ensures { result ≡ record (walk.joined self.now progress.now) { ahead = ahead } }
+    fn facing(&self, ahead: Option<Ahead>) -> Context
+        ensures { result ≡ record (walk.joined self.now) { ahead = ahead } }
     {
         Context {
-            parent: self.parent,
-            outer: self.outer,
-            offset: progress.offset,
-            trail: progress.trail,
+            parent: self.level.parent,
+            outer: self.level.outer,
+            offset: self.offset,
+            trail: self.trail,
             ahead,
         }
     }
 
-    /// The first leaf behind a node of the level.
+    /// The kind of the next node's parent.
     #[inline(always)]
-    fn next_leaf(
-        &self,
-        node: &SyntaxNode,
-        later: &[SyntaxNode],
-        progress: &Progress,
-    ) -> Option<Ahead>
-        ensures { result ≡ walk.next_leaf (walk.joined self.now progress.now) node.now (forest later.now) }
+    pub fn parent(&self) -> Option<SyntaxKind>
+        ensures { result ≡ (walk.joined self.now).parent }
     {
-        let end = progress.offset.saturating_add(node.len());
-        match leaf_among(later, self.parent, end) {
-            None => self.behind.first_leaf(),
+        self.level.parent
+    }
+
+    /// The tag of the next node, which others follow.
+    pub fn tag(&self, node: &SyntaxNode, later: &[SyntaxNode]) -> Result<Option<Tag>, AllocError>
+        ensures { IfOk result (λ tag. tag ≡ walk.tag (walk.joined self.now) node.now (forest later.now)) }
+    {
+        let alloc = *self.waiting.allocator();
+        if is_followed(later) {
+            return tag_here(alloc, node, later, &self.facing(None));
+        }
+        tag_here(alloc, node, later, &self.facing(self.ahead()))
+    }
+
+    /// The first leaf behind the next node.
+    #[inline(always)]
+    fn next_leaf(&self, node: &SyntaxNode, later: &[SyntaxNode]) -> Option<Ahead>
+        ensures { result ≡ walk.next_leaf (walk.joined self.now) node.now (forest later.now) }
+    {
+        let end = self.offset.saturating_add(node.len());
+        match leaf_among(later, self.level.parent, end) {
+            None => self.ahead(),
             found => found,
         }
     }
 
-    /// The tag of a node of the level if it is a name.
-    pub fn name(&self, node: &SyntaxNode, later: &[SyntaxNode], progress: &Progress) -> Option<Tag>
-        ensures { result ≡ walk.name (walk.joined self.now progress.now) node.now (forest later.now) }
+    /// The tag of the next node if it is a name.
+    pub fn name(&self, node: &SyntaxNode, later: &[SyntaxNode]) -> Option<Tag>
+        ensures { result ≡ walk.name (walk.joined self.now) node.now (forest later.now) }
     {
-        let next = self.next_leaf(node, later, progress);
-        self.facing(progress, next).name(node, &[])
+        let next = self.next_leaf(node, later);
+        self.facing(next).name(node, &[])
     }
 
-    /// The nodes that follow a node of the level, which ends there.
+    /// Goes into the next node, whose own text is so long.
     #[inline(always)]
-    pub fn later(&self, end: usize, nodes: &'t [SyntaxNode]) -> Later<'l, 't>
-        ensures { walk.later_ahead result ≡ walk.first_ahead (walk.first_leaf self.now.parent end (forest nodes.entry.now)) (walk.leaf_ahead self.now.behind) }
-    {
-        Later {
-            parent: self.parent,
-            start: end,
-            nodes,
-            behind: self.behind,
-        }
-    }
-
-    /// What is round the children of a node, which those nodes follow.
-    #[inline(always)]
-    pub fn within<'b>(
-        &self,
-        node: &SyntaxNode,
-        later: &'b Later<'b, 't>,
-        progress: &Progress,
-    ) -> Level<'b, 't>
-        ensures parent { result.parent ≡ Some node.now.head.kind }
-        ensures outer { result.outer ≡ walk.outer_within (walk.joined self.now progress.now) node.now.head.kind }
-        ensures ahead { walk.leaf_ahead result.behind ≡ walk.later_ahead later.now }
+    pub fn enter(
+        &mut self,
+        node: &'t SyntaxNode,
+        later: &'t [SyntaxNode],
+        len: usize,
+        kept: Option<Tag>,
+    ) -> Result<(), AllocError>
+        requires { len ≡ length node.now.head.text }
+        ensures inside { OnOk result (walk.joined self.new ≡ walk.within (walk.joined self.old) node.now (forest later.now)) }
+        ensures waiting { OnOk result (walk.waiting self.new ≡ record { nodes = later.entry; start = walk.end (walk.joined self.old) node.now; level = self.old.level; kept = kept } ∷ walk.waiting self.old) }
     {
         let kind = node.kind();
-        Level {
+        self.waiting.push(Waiting {
+            nodes: later,
+            start: self.offset.saturating_add(node.len()),
+            level: self.level,
+            kept,
+        })?;
+        self.level = Level {
             parent: Some(kind),
             outer: if is_field_access(kind) {
-                self.outer_below(kind, progress)
+                self.outer_below(kind)
             } else {
                 None
             },
-            behind: Behind::Nodes(later),
-        }
+        };
+        self.offset = self.offset.saturating_add(len);
+        Ok(())
     }
 
     /// What is round the outermost of the field accesses above the children of a node of the kind.
     #[inline(never)]
-    fn outer_below(&self, kind: SyntaxKind, progress: &Progress) -> Option<Outer>
-        ensures { result ≡ walk.outer_within (walk.joined self.now progress.now) kind }
+    fn outer_below(&self, kind: SyntaxKind) -> Option<Outer>
+        ensures { result ≡ walk.outer_within (walk.joined self.now) kind }
     {
-        self.facing(progress, None).outer_within(kind)
+        self.facing(None).outer_within(kind)
     }
-}
 
-impl Progress {
-    ghost use Rattle.std.specs.Prelude.{◌≡◌, None, true, length, if◌then◌else◌};
-    ghost use Rattle.typst_tree.specs.Tree.{forest};
-    ghost use Rattle.typst_tree.specs.Walks.{is_childless};
-    ghost use Rattle.typst_highlight.specs.Rules.{is_name};
-    ghost use Rattle.typst_highlight.specs.Walk as walk;
-
-    /// Before the first leaf.
-    pub const START: Progress = Progress {
-        offset: 0,
-        trail: Trail {
-            before: None,
-            name: None,
-            earlier: None,
-        },
-    };
+    /// Goes back to the nodes that follow the parent, unless the parent is the root.
+    #[inline(always)]
+    pub fn leave(&mut self) -> Option<Waiting<'t>>
+        ensures { MatchOption result (walk.waiting self.old ≡ []) (λ row. (walk.waiting self.old ≡ row ∷ walk.waiting self.new) × (walk.joined self.new ≡ walk.resumed row (walk.waiting self.new) self.old.trail)) }
+    {
+        let row = self.waiting.pop()?;
+        self.level = row.level;
+        self.offset = row.start;
+        Some(row)
+    }
 
     /// Goes past a node without children, whose text is so long, and whose tag is known if it is a name.
     #[inline(always)]
-    pub fn pass(
-        &mut self,
-        node: &SyntaxNode,
-        later: &[SyntaxNode],
-        level: &Level,
-        len: usize,
-        name: Option<Tag>,
-    )
+    pub fn pass(&mut self, node: &SyntaxNode, later: &[SyntaxNode], len: usize, name: Option<Tag>)
         requires childless { is_childless node.now.kids ≡ true }
-        requires named { name ≡ (if is_name node.now.head.kind then walk.name (walk.joined level.now self.old) node.now (forest later.now) else None) }
+        requires named { name ≡ (if is_name node.now.head.kind then walk.name (walk.joined self.old) node.now (forest later.now) else None) }
         requires long { len ≡ length node.now.head.text }
-        ensures { walk.joined level.now self.new ≡ walk.past (walk.joined level.now self.old) node.now (walk.passed (walk.joined level.now self.old) node.now (forest later.now)) }
+        ensures joined { walk.joined self.new ≡ walk.past (walk.joined self.old) node.now (walk.passed (walk.joined self.old) node.now (forest later.now)) }
+        ensures waiting { walk.waiting self.new ≡ walk.waiting self.old }
     {
         let kind = node.kind();
         if !is_skipped(kind) {

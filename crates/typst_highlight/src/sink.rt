@@ -1,16 +1,17 @@
 //! One walk through a tree, and what it gives the nodes to.
 
-ghost use Rattle.std.specs.Prelude.{◌≡◌, IfOk, List, ℕ, OnOk, Option, true};
-ghost use Rattle.typst_tree.specs.Tree.{forest, none};
+ghost use Rattle.std.specs.Prelude.{◌≡◌, ◌<◌, IfOk, List, ℕ, OnOk, Option, false, true};
+ghost use Rattle.typst_tree.specs.Tree.{forest, more, none};
 ghost use Rattle.typst_tree.specs.Walks.{is_childless};
 ghost use Rattle.typst_highlight.specs.Walk as walk;
 
 use crate::context::is_childless;
-use crate::progress::{Level, Progress};
+use crate::progress::Progress;
 use crate::rules::{Rule, is_name, rule_of};
 use crate::spans::{span_asked, span_of, spanned};
 use crate::tags::Tag;
-use std::alloc::AllocError;
+use std::alloc::{AllocError, Global};
+use std::slice;
 use typst_tree::SyntaxNode;
 
 /// What a walk gives the nodes of a tree to, in order.
@@ -39,47 +40,53 @@ pub trait Sink {
         ensures { OnOk result (self.new ≡ outlet.ended self.old kept) };
 }
 
-/// Gives all nodes of a tree, each once.
-#[inline(always)]
-pub fn give_tree<S: Sink>(sink: &mut S, root: &SyntaxNode) -> Result<(), AllocError>
+/// Gives all nodes of a tree, each once. The nodes to come back to stand in a list, so a deep tree
+/// takes no more of the stack than a flat one.
+pub fn give_tree<'t, S: Sink>(
+    alloc: Global,
+    sink: &mut S,
+    root: &'t SyntaxNode,
+) -> Result<(), AllocError>
     ensures { OnOk result (sink.new ≡ walk.walked S.outlet walk.root_context root.now none sink.old) }
 {
-    give_node(sink, root, &[], &Level::ROOT, &mut Progress::START)
+    let mut progress = Progress::start(alloc);
+    let mut rest = slice::from_ref(root);
+    'nodes: loop {
+        let Some((node, later)) = rest.split_first() else {
+            let Some(row) = progress.leave() else {
+                return Ok(());
+            };
+            sink.close(row.kept)?;
+            rest = row.nodes;
+            continue 'nodes;
+        };
+        if is_childless(node) {
+            give_leaf(sink, node, later, &mut progress)?;
+            rest = later;
+        } else {
+            give_inner(sink, node, later, &mut progress)?;
+            rest = node.children();
+        }
+    }
 }
 
-/// Gives a node that other nodes follow under the same parent, and goes past it.
-fn give_node<'l, 't, S: Sink>(
+/// Gives the beginning of a node with children, and goes into it.
+#[inline(always)]
+fn give_inner<'t, S: Sink>(
     sink: &mut S,
     node: &'t SyntaxNode,
     later: &'t [SyntaxNode],
-    level: &Level<'l, 't>,
-    progress: &mut Progress,
+    progress: &mut Progress<'t>,
 ) -> Result<(), AllocError>
-    ensures given { OnOk result (sink.new ≡ walk.walked S.outlet (walk.joined level.now progress.old) node.now (forest later.now) sink.old) }
-    ensures passed { OnOk result (walk.joined level.now progress.new ≡ walk.past (walk.joined level.now progress.old) node.now (walk.passed (walk.joined level.now progress.old) node.now (forest later.now))) }
+    requires { is_childless node.now.kids ≡ false }
+    ensures given { OnOk result (walk.left S.outlet progress.new node.now.kids sink.new ≡ walk.left S.outlet progress.old (more node.now.head node.now.kids (forest later.now)) sink.old) }
+    ensures fewer { OnOk result (walk.steps progress.new node.now.kids < walk.steps progress.old (more node.now.head node.now.kids (forest later.now))) }
 {
-    if is_childless(node) {
-        return give_leaf(sink, node, later, level, progress);
-    }
-    let span = span_of(node, later, level, progress);
+    let span = span_of(node, later, progress)?;
     let kept = sink.begin(span)?;
     let text = node.leaf_text();
     sink.own(text)?;
-    let end = progress.offset.saturating_add(node.len());
-    let later = level.later(end, later);
-    let inner = level.within(node, &later, progress);
-    progress.offset = progress.offset.saturating_add(text.len());
-    let mut rest = node.children();
-    while let Some((kid, behind)) = rest.split_first() {
-        if is_childless(kid) {
-            give_leaf(sink, kid, behind, &inner, progress)?;
-        } else {
-            give_node(sink, kid, behind, &inner, progress)?;
-        }
-        rest = behind;
-    }
-    sink.close(kept)?;
-    progress.offset = end;
+    progress.enter(node, later, text.len(), kept)?;
     Ok(())
 }
 
@@ -89,21 +96,21 @@ fn give_leaf<S: Sink>(
     sink: &mut S,
     node: &SyntaxNode,
     later: &[SyntaxNode],
-    level: &Level,
     progress: &mut Progress,
 ) -> Result<(), AllocError>
     requires { is_childless node.now.kids ≡ true }
-    ensures given { OnOk result (sink.new ≡ walk.walked S.outlet (walk.joined level.now progress.old) node.now (forest later.now) sink.old) }
-    ensures passed { OnOk result (walk.joined level.now progress.new ≡ walk.past (walk.joined level.now progress.old) node.now (walk.passed (walk.joined level.now progress.old) node.now (forest later.now))) }
+    ensures given { OnOk result (sink.new ≡ walk.walked S.outlet (walk.joined progress.old) node.now (forest later.now) sink.old) }
+    ensures passed { OnOk result (walk.joined progress.new ≡ walk.past (walk.joined progress.old) node.now (walk.passed (walk.joined progress.old) node.now (forest later.now))) }
+    ensures waiting { OnOk result (walk.waiting progress.new ≡ walk.waiting progress.old) }
 {
     let kind = node.kind();
     let Rule::Fixed(tag) = rule_of(kind) else {
-        return give_asking(sink, node, later, level, progress);
+        return give_asking(sink, node, later, progress);
     };
     let span = spanned(tag);
     let text = node.leaf_text();
     sink.leaf(span, text)?;
-    progress.pass(node, later, level, text.len(), None);
+    progress.pass(node, later, text.len(), None);
     Ok(())
 }
 
@@ -113,21 +120,22 @@ fn give_asking<S: Sink>(
     sink: &mut S,
     node: &SyntaxNode,
     later: &[SyntaxNode],
-    level: &Level,
     progress: &mut Progress,
 ) -> Result<(), AllocError>
     requires { is_childless node.now.kids ≡ true }
-    ensures given { OnOk result (sink.new ≡ walk.walked S.outlet (walk.joined level.now progress.old) node.now (forest later.now) sink.old) }
-    ensures passed { OnOk result (walk.joined level.now progress.new ≡ walk.past (walk.joined level.now progress.old) node.now (walk.passed (walk.joined level.now progress.old) node.now (forest later.now))) }
+    ensures given { OnOk result (sink.new ≡ walk.walked S.outlet (walk.joined progress.old) node.now (forest later.now) sink.old) }
+    ensures passed { OnOk result (walk.joined progress.new ≡ walk.past (walk.joined progress.old) node.now (walk.passed (walk.joined progress.old) node.now (forest later.now))) }
+    ensures waiting { OnOk result (walk.waiting progress.new ≡ walk.waiting progress.old) }
 {
     let text = node.leaf_text();
     if is_name(node.kind()) {
-        let name = level.name(node, later, progress);
+        let name = progress.name(node, later);
         sink.leaf(spanned(name), text)?;
-        progress.pass(node, later, level, text.len(), name);
+        progress.pass(node, later, text.len(), name);
         return Ok(());
     }
-    sink.leaf(span_asked(node, later, level, progress), text)?;
-    progress.pass(node, later, level, text.len(), None);
+    let span = span_asked(node, later, progress)?;
+    sink.leaf(span, text)?;
+    progress.pass(node, later, text.len(), None);
     Ok(())
 }

@@ -1,14 +1,15 @@
 //! The spans that nodes stand in.
 
-ghost use Rattle.std.specs.Prelude.{◌≡◌};
+ghost use Rattle.std.specs.Prelude.{◌≡◌, IfOk};
 ghost use Rattle.typst_tree.specs.Tree.{forest};
 ghost use Rattle.typst_highlight.specs.Html as spec;
 ghost use Rattle.typst_highlight.specs.Walk as walk;
 
-use crate::progress::{Level, Progress};
+use crate::progress::Progress;
 use crate::rules::{Rule, rule_of};
 use crate::tags::Tag;
 use crate::walk::tag_under;
+use std::alloc::AllocError;
 use typst_tree::SyntaxNode;
 
 /// The tag of the span that a node of the tag stands in: an error has none.
@@ -22,19 +23,18 @@ pub fn spanned(tag: Option<Tag>) -> Option<Tag>
     }
 }
 
-/// The tag of the span that a node stands in.
+/// The tag of the span that the next node of a walk stands in.
 #[inline(always)]
 pub fn span_of(
     node: &SyntaxNode,
     later: &[SyntaxNode],
-    level: &Level,
     progress: &Progress,
-) -> Option<Tag>
-    ensures { result ≡ spec.spanned (walk.tag (walk.joined level.now progress.now) node.now (forest later.now)) }
+) -> Result<Option<Tag>, AllocError>
+    ensures { IfOk result (λ span. span ≡ spec.spanned (walk.tag (walk.joined progress.now) node.now (forest later.now))) }
 {
     match rule_of(node.kind()) {
-        Rule::Fixed(tag) => spanned(tag),
-        _ => span_asked(node, later, level, progress),
+        Rule::Fixed(tag) => Ok(spanned(tag)),
+        _ => span_asked(node, later, progress),
     }
 }
 
@@ -43,13 +43,15 @@ pub fn span_of(
 pub fn span_asked(
     node: &SyntaxNode,
     later: &[SyntaxNode],
-    level: &Level,
     progress: &Progress,
-) -> Option<Tag>
-    ensures { result ≡ spec.spanned (walk.tag (walk.joined level.now progress.now) node.now (forest later.now)) }
+) -> Result<Option<Tag>, AllocError>
+    ensures { IfOk result (λ span. span ≡ spec.spanned (walk.tag (walk.joined progress.now) node.now (forest later.now))) }
 {
-    match tag_under(node.kind(), level.parent, later) {
-        Some(tag) => spanned(tag),
-        None => spanned(level.tag(node, later, progress)),
+    match tag_under(node.kind(), progress.parent(), later) {
+        Some(tag) => Ok(spanned(tag)),
+        None => {
+            let tag = progress.tag(node, later)?;
+            Ok(spanned(tag))
+        }
     }
 }

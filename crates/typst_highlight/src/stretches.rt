@@ -36,8 +36,8 @@ struct Tagger {
 ///
 /// A stretch has the tag of the innermost span that it stands in as `highlight_html` writes it: the
 /// node's own, or that of the nearest node above that has one, where an error has none. It goes
-/// through the tree once, and takes memory for the stretches alone. Bytes are counted up to the
-/// largest `usize`.
+/// through the tree once, and takes memory for the stretches and for a list as long as the tree is
+/// deep. Bytes are counted up to the largest `usize`.
 pub fn tag_stretches(alloc: Global, root: &SyntaxNode) -> Result<Vec<Tagged>, AllocError>
     ensures stretches { IfOk result (λ stretches. stretches.items ≡ spec.stretches root.now) }
     ensures joined { IfOk result (λ stretches. spec.AreJoined 0 stretches.items (saturated (length (text_of root.now)))) }
@@ -47,7 +47,7 @@ pub fn tag_stretches(alloc: Global, root: &SyntaxNode) -> Result<Vec<Tagged>, Al
         end: 0,
         around: None,
     };
-    give_tree(&mut tagger, root)?;
+    give_tree(alloc, &mut tagger, root)?;
     Ok(tagger.stretches)
 }
 
