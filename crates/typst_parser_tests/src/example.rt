@@ -4,6 +4,7 @@
 //! A program names `typst_parser` where this names `typst_cli`, which passes the same names on.
 
 use std::alloc::{AllocError, Global};
+use std::ops::Range;
 use typst_cli::{Severity, Source, SyntaxNode, UnicodeClasses};
 
 /// What is told of the text below.
@@ -30,23 +31,32 @@ fn told(alloc: Global) -> Option<String> {
     let text = String::from_str(alloc, "= Hi\n").ok()?;
     let mut source = Source::detached(alloc, text, UnicodeClasses).ok()?;
     let parsed = source.replace("= Hi\n💛 *a").ok()?;
+    tell_source(alloc, &source, parsed).ok()
+}
+
+/// Tells which bytes were parsed anew, where the heading is, and the leaves and errors.
+fn tell_source(
+    alloc: Global,
+    source: &Source<UnicodeClasses>,
+    parsed: Range<usize>,
+) -> Result<String, AllocError> {
     let mut told = String::new(alloc);
-    write!(told, "parsed anew: {}..{}\n", parsed.start, parsed.end).ok()?;
-    if let Some(heading) = source.root().children().first() {
-        if let Some(found) = source.find(heading.span()) {
-            let range = found.range();
-            write!(
-                told,
-                "{} {}..{}\n",
-                found.kind().name(),
-                range.start,
-                range.end
-            )
-            .ok()?;
-        }
-    }
-    tell(&mut told, &source, source.root()).ok()?;
-    Some(told)
+    write!(told, "parsed anew: {}..{}\n", parsed.start, parsed.end)?;
+    tell_heading(&mut told, source)?;
+    tell(&mut told, source, source.root())?;
+    Ok(told)
+}
+
+/// Finds the first node by its span, and tells where it is.
+fn tell_heading(told: &mut String, source: &Source<UnicodeClasses>) -> Result<(), AllocError> {
+    let Some(heading) = source.root().children().first() else {
+        return Ok(());
+    };
+    let Some(found) = source.find(heading.span()) else {
+        return Ok(());
+    };
+    let (name, range) = (found.kind().name(), found.range());
+    write!(told, "{name} {}..{}\n", range.start, range.end)
 }
 
 /// Tells the leaves of a node and its errors.

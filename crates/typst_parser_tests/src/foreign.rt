@@ -44,63 +44,106 @@ fn holds(
     steps: &[Step],
 ) -> Option<bool> {
     let mut source = with_root(alloc, 1, text, tree)?;
-    let is_kept = are_same_trees(alloc, source.root(), tree)?;
-    let mut is_well = is_kept && source.text() == text && has_lines(alloc, source.lines(), text)?;
-    for (range, with, (start, end)) in steps {
-        let new = edited(alloc, source.text(), *range, with)?;
-        let read = edit(&mut source, *range, with).ok()??;
-        let is_read = read.start == *start && read.end == *end;
-        is_well = is_well && is_read && is_foreign(alloc, &source, new.as_str(), file)?;
+    if !is_kept(alloc, &source, text, tree)? {
+        return Some(false);
     }
-    Some(is_well)
+    for step in steps {
+        if !is_read(alloc, &mut source, *step, file)? {
+            return Some(false);
+        }
+    }
+    Some(true)
 }
+
+/// Whether a source has the text and the tree that it was handed.
+fn is_kept(alloc: Global, source: &Unicode, text: &str, tree: &SyntaxNode) -> Option<bool> {
+    let is_tree = are_same_trees(alloc, source.root(), tree)?;
+    Some(is_tree && source.text() == text && has_lines(alloc, source.lines(), text)?)
+}
+
+/// Whether an edit reads its bytes, and leaves a tree that is numbered in the file, or in none.
+fn is_read(
+    alloc: Global,
+    source: &mut Unicode,
+    (range, with, (start, end)): Step,
+    file: Option<FileId>,
+) -> Option<bool> {
+    let new = edited(alloc, source.text(), range, with)?;
+    let read = edit(source, range, with).ok()??;
+    let is_read = read.start == start && read.end == end;
+    Some(is_read && is_foreign(alloc, source, new.as_str(), file)?)
+}
+
+/// A tree that is handed in.
+#[derive(Clone, Copy)]
+enum Tree {
+    /// That of a text, without numbers.
+    Bare,
+    /// That of a text, numbered in a file.
+    OfFile(u16),
+    /// A text's leaf.
+    Leaf(&'static str),
+    /// That of a raw text, in which the tag is an identifier and the rest of it text.
+    CutTag,
+}
+
+/// A text, the tree that is handed in, and the edits.
+type Case = (&'static str, Tree, &'static [Step]);
 
 const TEXT: &str = "abc~def~gh~";
 
-const BARE: [Step; 3] = [
-    ((0, 0), "", (0, 11)),
-    ((5, 6), "+", (0, 11)),
-    ((0, 0), "", (0, 11)),
+/// Without numbers no candidate can be numbered, so all is read; numbers of another file stay. A tree of another
+/// text is parsed anew, and so is one with a tag that is cut.
+const CASES: [Case; 4] = [
+    (
+        TEXT,
+        Tree::Bare,
+        &[
+            ((0, 0), "", (0, 11)),
+            ((5, 6), "+", (0, 11)),
+            ((0, 0), "", (0, 11)),
+        ],
+    ),
+    (
+        TEXT,
+        Tree::OfFile(7),
+        &[((0, 0), "", (0, 11)), ((5, 6), "+", (0, 8))],
+    ),
+    ("abc", Tree::Leaf("zz"), &[((3, 3), "d", (0, 4))]),
+    ("```c++ x```", Tree::CutTag, &[((0, 0), "", (0, 11))]),
 ];
 
-/// No candidate can be numbered.
-fn is_read_as_a_whole(alloc: Global) -> Option<bool> {
-    let tree = parse(alloc, TEXT, &UnicodeClasses).ok()?;
-    holds(alloc, TEXT, &tree, None, &BARE)
+/// A tree that is handed in beside a text.
+fn made(alloc: Global, text: &str, tree: Tree) -> Option<SyntaxNode> {
+    match tree {
+        Tree::Bare => parse(alloc, text, &UnicodeClasses).ok(),
+        Tree::OfFile(file) => {
+            let (file, text) = (FileId::new(file)?, String::from_str(alloc, text).ok()?);
+            let source = Source::new(alloc, file, text, UnicodeClasses).ok()?;
+            source.root().try_clone().ok()
+        }
+        Tree::Leaf(text) => SyntaxNode::leaf(alloc, SyntaxKind::Text, text).ok(),
+        Tree::CutTag => cut_tag(alloc),
+    }
+}
+
+/// Whether a source of file 1 holds a tree that is handed in.
+fn is_held(alloc: Global, (text, tree, steps): Case) -> Option<bool> {
+    let file = match tree {
+        Tree::OfFile(file) => Some(FileId::new(file)?),
+        _ => None,
+    };
+    holds(alloc, text, &made(alloc, text, tree)?, file, steps)
 }
 
 #[test]
-fn a_tree_without_numbers_is_read_as_a_whole(rt: HostRuntime) {
-    assert!(rt; is_read_as_a_whole(rt.alloc()) == Some(true));
+fn trees_that_are_handed_in_are_held(rt: HostRuntime) {
+    for case in CASES {
+        assert!(rt; is_held(rt.alloc(), case) == Some(true), "of {:?}", case.0);
+    }
 }
 
-const NUMBERED: [Step; 2] = [((0, 0), "", (0, 11)), ((5, 6), "+", (0, 8))];
-
-fn keeps_file(alloc: Global) -> Option<bool> {
-    let file = FileId::new(7)?;
-    let text = String::from_str(alloc, TEXT).ok()?;
-    let other = Source::new(alloc, file, text, UnicodeClasses).ok()?;
-    holds(alloc, TEXT, other.root(), Some(file), &NUMBERED)
-}
-
-#[test]
-fn a_tree_of_another_file_keeps_it(rt: HostRuntime) {
-    assert!(rt; keeps_file(rt.alloc()) == Some(true));
-}
-
-fn is_mended(alloc: Global) -> Option<bool> {
-    let tree = SyntaxNode::leaf(alloc, SyntaxKind::Text, "zz").ok()?;
-    holds(alloc, "abc", &tree, None, &[((3, 3), "d", (0, 4))])
-}
-
-#[test]
-fn a_tree_of_another_text_is_parsed_anew(rt: HostRuntime) {
-    assert!(rt; is_mended(rt.alloc()) == Some(true));
-}
-
-const TAGGED: &str = "```c++ x```";
-
-/// The tree of that text in which the tag is an identifier and the rest is text.
+/// The tree of "```c++ x```" in which the tag is an identifier and the rest is text.
 fn cut_tag(alloc: Global) -> Option<SyntaxNode> {
     let mut leaves = Vec::new(alloc);
     for (kind, text) in [
@@ -119,14 +162,4 @@ fn cut_tag(alloc: Global) -> Option<SyntaxNode> {
     let mut nodes = Vec::new(alloc);
     nodes.push(raw).ok()?;
     Some(SyntaxNode::inner(SyntaxKind::Markup, nodes))
-}
-
-fn is_tag_mended(alloc: Global) -> Option<bool> {
-    let tree = cut_tag(alloc)?;
-    holds(alloc, TAGGED, &tree, None, &[((0, 0), "", (0, 11))])
-}
-
-#[test]
-fn a_tree_with_a_cut_tag_is_parsed_anew(rt: HostRuntime) {
-    assert!(rt; is_tag_mended(rt.alloc()) == Some(true));
 }

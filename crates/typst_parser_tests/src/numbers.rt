@@ -1,42 +1,53 @@
-//! Numbers of nodes, bytes of numbers, and clones.
+//! Bytes of numbers, and clones.
 
 use crate::sources::{Unicode, detached, with_tree};
 use std::alloc::Global;
-use std::ops::Range;
 use typst_cli::{LinkedNode, Span, SpanNumber, SubRange, SyntaxNode};
 
-/// The number of a node.
-fn number(node: &SyntaxNode) -> Option<u64> {
-    Some(node.span().number()?.get())
-}
+const TEXT: &str = "= head <label>";
 
-/// The numbers of a node with one child, and of that child.
-fn two_numbers(root: &SyntaxNode) -> Option<(u64, u64)> {
-    match root.children() {
-        [kid] => Some((number(root)?, number(kid)?)),
-        _ => None,
-    }
-}
-
-/// The numbers of the root of a text with one child, and of that child.
-fn two_numbers_of(alloc: Global, text: &str) -> Option<(u64, u64)> {
-    two_numbers(detached(alloc, text).ok()?.root())
-}
-
-#[test]
-fn numbers_lie_apart(rt: HostRuntime) {
-    assert!(rt; two_numbers_of(rt.alloc(), "a") == Some((17_592_186_044_417, 52_776_558_133_248)));
-}
-
-/// Whether a source of the text is file 1, and finds nothing for a span without a number.
-fn is_first_file(alloc: Global, text: &str) -> Option<bool> {
-    let source = detached(alloc, text).ok()?;
-    Some(source.id().get() == 1 && source.find(Span::detached()).is_none())
+/// Whether a source is file 1, and finds nothing for a span without a number, and no bytes for a number
+/// that no node has.
+fn is_first_file(alloc: Global) -> Option<bool> {
+    let source = detached(alloc, TEXT).ok()?;
+    let is_unknown = source.range(SpanNumber::new(2)?, None).is_none();
+    Some(source.id().get() == 1 && source.find(Span::detached()).is_none() && is_unknown)
 }
 
 #[test]
 fn a_detached_source_is_the_first_file(rt: HostRuntime) {
-    assert!(rt; is_first_file(rt.alloc(), "a") == Some(true));
+    assert!(rt; is_first_file(rt.alloc()) == Some(true));
+}
+
+/// Bytes of a node, and which bytes of the text they are.
+type Part = ((usize, usize), Option<(usize, usize)>);
+
+/// Of the heading's text.
+const OF_LEAF: [Part; 5] = [
+    ((1, 3), Some((3, 5))),
+    ((0, 1), Some((2, 3))),
+    ((0, 4), Some((2, 6))),
+    ((3, 4), Some((5, 6))),
+    ((0, 5), None),
+];
+
+/// Of the root.
+const OF_ROOT: [Part; 4] = [
+    ((3, 10), Some((3, 10))),
+    ((0, 10), Some((0, 10))),
+    ((3, 14), Some((3, 14))),
+    ((3, 15), None),
+];
+
+/// Whether these bytes of the node with a number are those of the text.
+fn are_within(source: &Unicode, number: SpanNumber, parts: &[Part]) -> Option<bool> {
+    for ((start, end), wanted) in parts {
+        let found = source.range(number, Some(SubRange::new(*start, *end)?));
+        if found.map(|range| (range.start, range.end)) != *wanted {
+            return Some(false);
+        }
+    }
+    Some(true)
 }
 
 /// The number of the leaf that holds a byte.
@@ -47,77 +58,43 @@ fn leaf_number(root: &SyntaxNode, byte: usize) -> Option<SpanNumber> {
     LinkedNode::new(root).leaf_at(byte)?.get().span().number()
 }
 
-/// Some of the bytes of the node with a number.
-fn within(
-    source: &Unicode,
-    number: SpanNumber,
-    (start, end): (usize, usize),
-) -> Option<Range<usize>> {
-    source.range(number, Some(SubRange::new(start, end)?))
+/// Whether bytes within the leaf that holds byte 2, and within the root, are found.
+fn finds_parts(source: &Unicode) -> Option<bool> {
+    let leaf = leaf_number(source.root(), 2)?;
+    let root = source.root().span().number()?;
+    Some(are_within(source, leaf, &OF_LEAF)? && are_within(source, root, &OF_ROOT)?)
 }
 
-/// Some of the bytes of the leaf that holds byte 2.
-fn within_head(alloc: Global, text: &str, sub: (usize, usize)) -> Option<Range<usize>> {
-    let source = detached(alloc, text).ok()?;
-    within(&source, leaf_number(source.root(), 2)?, sub)
+/// The same of a source of the text.
+fn finds_parts_of(alloc: Global) -> Option<bool> {
+    finds_parts(&detached(alloc, TEXT).ok()?)
 }
 
 #[test]
-fn ranges_within_a_leaf(rt: HostRuntime) {
-    let (alloc, text) = (rt.alloc(), "= head <label>");
-    assert!(rt; within_head(alloc, text, (1, 3)) == Some(3..5));
-    assert!(rt; within_head(alloc, text, (0, 1)) == Some(2..3));
-    assert!(rt; within_head(alloc, text, (0, 4)) == Some(2..6));
-    assert!(rt; within_head(alloc, text, (3, 4)) == Some(5..6));
-    assert!(rt; within_head(alloc, text, (0, 5)).is_none());
+fn bytes_within_nodes_are_found(rt: HostRuntime) {
+    assert!(rt; finds_parts_of(rt.alloc()) == Some(true));
 }
 
-/// Some of the bytes of the root.
-fn within_root(alloc: Global, text: &str, sub: (usize, usize)) -> Option<Range<usize>> {
-    let source = detached(alloc, text).ok()?;
-    within(&source, source.root().span().number()?, sub)
-}
-
-#[test]
-fn ranges_within_the_root(rt: HostRuntime) {
-    let (alloc, text) = (rt.alloc(), "= head <label>");
-    assert!(rt; within_root(alloc, text, (3, 10)) == Some(3..10));
-    assert!(rt; within_root(alloc, text, (0, 10)) == Some(0..10));
-    assert!(rt; within_root(alloc, text, (3, 14)) == Some(3..14));
-    assert!(rt; within_root(alloc, text, (3, 15)).is_none());
-}
-
-/// The bytes of a number that no node has.
-fn unknown(alloc: Global, text: &str) -> Option<bool> {
-    let source = detached(alloc, text).ok()?;
-    Some(source.range(SpanNumber::new(2)?, None).is_none())
-}
-
-#[test]
-fn unknown_numbers_have_no_bytes(rt: HostRuntime) {
-    assert!(rt; unknown(rt.alloc(), "= head <label>") == Some(true));
-}
-
-/// A source of file 2 and the text `b`, whose tree is that of `*a*`, numbered in file 1.
-fn numbered(alloc: Global) -> Option<Unicode> {
-    with_tree(alloc, "b", detached(alloc, "*a*").ok()?.root())
-}
-
-/// Whether `Debug` prints this of a source.
-fn is_printed(alloc: Global, source: &Unicode, wanted: &str) -> Option<bool> {
-    let printed = format!(in alloc; "{source:?}").ok()?;
-    Some(printed.as_str() == wanted)
-}
-
-/// Whether a clone has text, tree, file and what `Debug` prints.
-fn clones(alloc: Global) -> Option<bool> {
-    let source = numbered(alloc)?;
+/// Whether a clone of a source has its file, its tree's numbers, and the text `b`.
+fn is_cloned(alloc: Global, source: &Unicode) -> Option<bool> {
     let clone = source.try_clone().ok()?;
-    let same_root = clone.root().span() == source.root().span();
-    Some(same_root && clone.text() == "b" && is_printed(alloc, &clone, "Source(2)")?)
+    let is_same = clone.root().span() == source.root().span() && clone.text() == "b";
+    Some(is_same && is_printed(alloc, &clone)?)
+}
+
+/// Whether `Debug` prints file 2 of a source.
+fn is_printed(alloc: Global, source: &Unicode) -> Option<bool> {
+    let printed = format!(in alloc; "{source:?}").ok()?;
+    Some(printed.as_str() == "Source(2)")
+}
+
+/// Whether a source of file 2 and the text `b` is cloned, whose tree is that of `*a*`, numbered in file 1.
+fn is_foreign_cloned(alloc: Global) -> Option<bool> {
+    let other = detached(alloc, "*a*").ok()?;
+    is_cloned(alloc, &with_tree(alloc, "b", other.root())?)
 }
 
 #[test]
 fn sources_are_cloned(rt: HostRuntime) {
-    assert!(rt; clones(rt.alloc()) == Some(true));
+    assert!(rt; is_foreign_cloned(rt.alloc()) == Some(true));
 }

@@ -1,6 +1,6 @@
 //! Refused requests for memory: nothing changes, and the next call answers as it would have.
 //!
-//! These tests pass whichever request is refused: `rt try --test --fail-alloc N`.
+//! The test passes whichever request is refused: `rt try --test --fail-alloc N`.
 
 use crate::sources::{Unicode, detached, edit, with_tree};
 use crate::whole::{are_same, has_lines, is_whole};
@@ -21,11 +21,6 @@ fn is_made_again(alloc: Global) -> Option<bool> {
         Err(SourceError::SpanNumbers) => return Some(false),
     };
     is_whole(alloc, &source, TEXT)
-}
-
-#[test]
-fn a_refused_source_is_made_again(rt: HostRuntime) {
-    assert!(rt; is_made_again(rt.alloc()) != Some(false));
 }
 
 /// How a text is changed.
@@ -62,50 +57,51 @@ fn is_as_before(alloc: Global, source: &mut Unicode, copy: &mut Unicode, way: Wa
 fn changes_or_stays(alloc: Global, way: Way) -> Option<bool> {
     let mut source = detached(alloc, TEXT).ok()?;
     let mut copy = source.try_clone().ok()?;
-    let is_well = match change(&mut source, way) {
+    is_changed(alloc, &mut source, &mut copy, way)
+}
+
+/// The same of a source with a copy of it.
+fn is_changed(alloc: Global, source: &mut Unicode, copy: &mut Unicode, way: Way) -> Option<bool> {
+    let is_well = match change(source, way) {
         Ok(read) => read.is_some(),
-        Err(SourceError::OutOfMemory) => is_as_before(alloc, &mut source, &mut copy, way)?,
+        Err(SourceError::OutOfMemory) => is_as_before(alloc, source, copy, way)?,
         Err(SourceError::SpanNumbers) => false,
     };
-    Some(is_well && is_whole(alloc, &source, NEW)?)
-}
-
-#[test]
-fn a_refused_edit_changes_nothing(rt: HostRuntime) {
-    assert!(rt; changes_or_stays(rt.alloc(), Way::Edit) != Some(false));
-}
-
-#[test]
-fn a_refused_replacement_changes_nothing(rt: HostRuntime) {
-    assert!(rt; changes_or_stays(rt.alloc(), Way::Replace) != Some(false));
+    Some(is_well && is_whole(alloc, source, NEW)?)
 }
 
 /// Whether the equal text, which takes no memory, is never refused and changes nothing.
 fn keeps_equal_text(alloc: Global) -> Option<bool> {
     let mut source = detached(alloc, TEXT).ok()?;
     let copy = source.try_clone().ok()?;
-    let is_kept = matches!(source.replace(TEXT), Ok(read) if read.start == 0 && read.end == 0);
-    Some(is_kept && are_same(alloc, &source, &copy)?)
+    Some(reads_nothing(&mut source) && are_same(alloc, &source, &copy)?)
 }
 
-#[test]
-fn an_equal_text_takes_no_memory(rt: HostRuntime) {
-    assert!(rt; keeps_equal_text(rt.alloc()) != Some(false));
+/// Whether a source reads nothing of the equal text.
+fn reads_nothing(source: &mut Unicode) -> bool {
+    match source.replace(TEXT) {
+        Ok(read) => read.start == 0 && read.end == 0,
+        Err(_) => false,
+    }
 }
 
 /// Whether a source is cloned, if not at once then the next time, and stays as it is.
 fn is_cloned_again(alloc: Global) -> Option<bool> {
     let source = detached(alloc, TEXT).ok()?;
-    let clone = match source.try_clone() {
-        Ok(clone) => clone,
-        Err(AllocError) => source.try_clone().ok()?,
-    };
-    Some(is_whole(alloc, &source, TEXT)? && are_same(alloc, &source, &clone)?)
+    is_cloned(alloc, &source, &cloned_again(&source)?)
 }
 
-#[test]
-fn a_refused_clone_is_made_again(rt: HostRuntime) {
-    assert!(rt; is_cloned_again(rt.alloc()) != Some(false));
+/// A clone of a source, if not at once then the next time.
+fn cloned_again(source: &Unicode) -> Option<Unicode> {
+    match source.try_clone() {
+        Ok(clone) => Some(clone),
+        Err(AllocError) => source.try_clone().ok(),
+    }
+}
+
+/// Whether a source is whole, and this is its clone.
+fn is_cloned(alloc: Global, source: &Unicode, clone: &Unicode) -> Option<bool> {
+    Some(is_whole(alloc, source, TEXT)? && are_same(alloc, source, clone)?)
 }
 
 /// Whether a source holds the tree that it was handed, if not at once then the next time.
@@ -118,23 +114,22 @@ fn holds_again(alloc: Global) -> Option<bool> {
     Some(source.root().spanless_eq(&root) && has_lines(alloc, source.lines(), TEXT)?)
 }
 
-#[test]
-fn a_refused_tree_is_held_again(rt: HostRuntime) {
-    assert!(rt; holds_again(rt.alloc()) != Some(false));
-}
-
 /// Whether the root over strong text leads to its leaves and back, and its tags are told.
 fn leads_to_leaves(root: LinkedNode<'_>) -> Option<bool> {
     let star = root.leftmost_leaf()?;
-    let (strong, text) = (star.parent()?, star.next_leaf()?);
-    Some(
-        highlight(&strong) == Some(Tag::Strong)
-            && text.range() == (1..2)
-            && text.leaf_text() == "b"
-            && text.prev_leaf()?.offset() == 0
-            && star.next_sibling()?.kind() == SyntaxKind::Markup
-            && !star.hash_expr(),
-    )
+    Some(is_star(star)? && is_text(star.next_leaf()?)?)
+}
+
+/// Whether a leaf is the first star of strong text.
+fn is_star(star: LinkedNode<'_>) -> Option<bool> {
+    let is_strong = highlight(&star.parent()?) == Some(Tag::Strong);
+    Some(is_strong && star.next_sibling()?.kind() == SyntaxKind::Markup && !star.hash_expr())
+}
+
+/// Whether a leaf is the text behind that star.
+fn is_text(text: LinkedNode<'_>) -> Option<bool> {
+    let is_behind = text.prev_leaf()?.offset() == 0;
+    Some(is_behind && text.range() == (1..2) && text.leaf_text() == "b")
 }
 
 /// Whether what a source tells of itself, and of its nodes, is told whatever was refused.
@@ -148,7 +143,49 @@ fn tells_without_memory(alloc: Global) -> Option<bool> {
     Some(is_told && leads_to_leaves(source.find(span)?) == Some(true))
 }
 
+/// What is done with a source.
+#[derive(Clone, Copy)]
+enum Deed {
+    Make,
+    Edit,
+    Replace,
+    KeepEqualText,
+    Clone,
+    HoldTree,
+    Tell,
+}
+
+const DEEDS: [(&str, Deed); 7] = [
+    ("made", Deed::Make),
+    ("edited", Deed::Edit),
+    ("replaced", Deed::Replace),
+    ("kept", Deed::KeepEqualText),
+    ("cloned", Deed::Clone),
+    ("held", Deed::HoldTree),
+    ("told", Deed::Tell),
+];
+
+/// Whether a deed goes well; nothing where memory was refused for what it takes.
+fn goes_well(alloc: Global, deed: Deed) -> Option<bool> {
+    match deed {
+        Deed::Make => is_made_again(alloc),
+        Deed::Edit => changes_or_stays(alloc, Way::Edit),
+        Deed::Replace => changes_or_stays(alloc, Way::Replace),
+        Deed::KeepEqualText => keeps_equal_text(alloc),
+        Deed::Clone => is_cloned_again(alloc),
+        Deed::HoldTree => holds_again(alloc),
+        Deed::Tell => tells_without_memory(alloc),
+    }
+}
+
+/// Where memory was refused for what a deed takes, that is done once more.
 #[test]
-fn a_source_tells_of_itself_without_memory(rt: HostRuntime) {
-    assert!(rt; tells_without_memory(rt.alloc()) != Some(false));
+fn a_refusal_changes_nothing(rt: HostRuntime) {
+    for (name, deed) in DEEDS {
+        let is_well = match goes_well(rt.alloc(), deed) {
+            Some(is_well) => is_well,
+            None => goes_well(rt.alloc(), deed) == Some(true),
+        };
+        assert!(rt; is_well, "{name}");
+    }
 }

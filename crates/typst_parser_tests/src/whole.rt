@@ -24,17 +24,22 @@ pub fn has_tree(alloc: Global, root: &SyntaxNode, text: &str) -> Option<bool> {
 
 /// The nodes of a tree, each before its children.
 pub fn nodes(alloc: Global, root: &SyntaxNode) -> Option<Vec<&SyntaxNode>> {
-    let mut all = Vec::new(alloc);
-    let mut left = Vec::new(alloc);
+    let (mut all, mut left) = (Vec::new(alloc), Vec::new(alloc));
     left.push(root).ok()?;
     for _ in 0..root.descendants() {
-        let node = left.pop()?;
-        all.push(node).ok()?;
-        for child in node.children().iter().rev() {
-            left.push(child).ok()?;
-        }
+        take_next(&mut all, &mut left)?;
     }
     Some(all)
+}
+
+/// Takes the next of the nodes that are left, and leaves its children.
+fn take_next<'a>(all: &mut Vec<&'a SyntaxNode>, left: &mut Vec<&'a SyntaxNode>) -> Option<()> {
+    let node = left.pop()?;
+    all.push(node).ok()?;
+    for child in node.children().iter().rev() {
+        left.push(child).ok()?;
+    }
+    Some(())
 }
 
 /// Whether the number of each node is above those of the nodes before it.

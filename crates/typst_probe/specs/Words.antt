@@ -1,81 +1,121 @@
 -- The words of the program, and what they answer.
-use Rattle.std.specs.Prelude.{ℕ, List, codes, Option, None, Some, if◌then◌else◌}
+use Rattle.std.specs.Prelude.{ℕ, List, codes, Option, None, Some, option_map, if◌then◌else◌}
 use Rattle.std.specs.Str.{bytes_eq}
 use Rattle.typst_lines.specs.UnicodeTables.{unicode_classes}
 use Rattle.typst_cli.specs.Printed.{printed}
 use Rattle.typst_cli.specs.PrintedTree.{code_tree_printed, math_tree_printed}
 use Rattle.typst_cli.specs.declared.command.Command.TheVariants as command
 use Rattle.typst_probe.specs.declared.word.Word.{Word}
-use Rattle.typst_probe.specs.declared.word.Word.TheVariants.{Tree, TreeWide, TreeNarrow, TreeCode, TreeMath, TreeMathWide, TreeMathNarrow, Tokens, TokensWide, TokensNarrow, TokensCode, TokensMath, Lines, Link, Stretches, Notes, Tags, Tagged, Html, Spans, Edit, EditWide, EditNarrow, EditSpans, Edits, InARow, Calls, Runs, Candidates, Everywhere, EverywhereInTurn, EverywhereAt}
+use Rattle.typst_probe.specs.declared.word.Word.TheVariants as word
+use Rattle.typst_probe.specs.declared.word.printed_word.PrintedWord.{PrintedWord}
+use Rattle.typst_probe.specs.declared.word.printed_word.PrintedWord.TheVariants as printed_word
+use Rattle.typst_probe.specs.declared.word.read_word.ReadWord.{ReadWord}
+use Rattle.typst_probe.specs.declared.word.read_word.ReadWord.TheVariants as read_word
+use Rattle.typst_probe.specs.declared.word.tree_word.TreeWord.{TreeWord}
+use Rattle.typst_probe.specs.declared.word.tree_word.TreeWord.TheVariants as tree_word
+use Rattle.typst_probe.specs.declared.word.edit_word.EditWord.{EditWord}
+use Rattle.typst_probe.specs.declared.word.edit_word.EditWord.TheVariants as edit_word
+use Rattle.typst_probe.specs.declared.word.program_word.ProgramWord.{ProgramWord}
+use Rattle.typst_probe.specs.declared.word.program_word.ProgramWord.TheVariants as program_word
+
+-- the word that a name stands for, of those for what is printed
+abbrev pub printed_word_named : List ℕ → Option PrintedWord
+printed_word_named name =
+    if bytes_eq name (codes "tree") then Some printed_word.Tree
+    else (if bytes_eq name (codes "tree-code") then Some printed_word.TreeCode
+    else (if bytes_eq name (codes "tree-math") then Some printed_word.TreeMath
+    else (if bytes_eq name (codes "lines") then Some printed_word.Lines
+    else (if bytes_eq name (codes "html") then Some printed_word.Html
+    else None))))
+
+-- the word that a name stands for, of those for how a text is read
+abbrev pub read_word_named : List ℕ → Option ReadWord
+read_word_named name =
+    if bytes_eq name (codes "tree-wide") then Some read_word.TreeWide
+    else (if bytes_eq name (codes "tree-narrow") then Some read_word.TreeNarrow
+    else (if bytes_eq name (codes "tree-math-wide") then Some read_word.TreeMathWide
+    else (if bytes_eq name (codes "tree-math-narrow") then Some read_word.TreeMathNarrow
+    else (if bytes_eq name (codes "tokens") then Some read_word.Tokens
+    else (if bytes_eq name (codes "tokens-wide") then Some read_word.TokensWide
+    else (if bytes_eq name (codes "tokens-narrow") then Some read_word.TokensNarrow
+    else (if bytes_eq name (codes "tokens-code") then Some read_word.TokensCode
+    else (if bytes_eq name (codes "tokens-math") then Some read_word.TokensMath
+    else None))))))))
+
+-- the word that a name stands for, of those for what a tree tells
+abbrev pub tree_word_named : List ℕ → Option TreeWord
+tree_word_named name =
+    if bytes_eq name (codes "link") then Some tree_word.Link
+    else (if bytes_eq name (codes "stretches") then Some tree_word.Stretches
+    else (if bytes_eq name (codes "notes") then Some tree_word.Notes
+    else (if bytes_eq name (codes "tags") then Some tree_word.Tags
+    else (if bytes_eq name (codes "tagged") then Some tree_word.Tagged
+    else (if bytes_eq name (codes "candidates") then Some tree_word.Candidates
+    else (if bytes_eq name (codes "spans") then Some tree_word.Spans
+    else (if bytes_eq name (codes "depths") then Some tree_word.Depths
+    else (if bytes_eq name (codes "size") then Some tree_word.Size
+    else (if bytes_eq name (codes "asked") then Some tree_word.Asked
+    else (if bytes_eq name (codes "again") then Some tree_word.Again
+    else None))))))))))
+
+-- the word that a name stands for, of those for what edits answer
+abbrev pub edit_word_named : List ℕ → Option EditWord
+edit_word_named name =
+    if bytes_eq name (codes "edit") then Some edit_word.Edit
+    else (if bytes_eq name (codes "edit-wide") then Some edit_word.EditWide
+    else (if bytes_eq name (codes "edit-narrow") then Some edit_word.EditNarrow
+    else (if bytes_eq name (codes "edit-spans") then Some edit_word.EditSpans
+    else (if bytes_eq name (codes "edits") then Some edit_word.Edits
+    else (if bytes_eq name (codes "in-a-row") then Some edit_word.InARow
+    else (if bytes_eq name (codes "calls") then Some edit_word.Calls
+    else (if bytes_eq name (codes "everywhere") then Some edit_word.Everywhere
+    else (if bytes_eq name (codes "everywhere-in-turn") then Some edit_word.EverywhereInTurn
+    else (if bytes_eq name (codes "everywhere-at") then Some edit_word.EverywhereAt
+    else None)))))))))
+
+-- the word that a name stands for, of those for what programs answer
+abbrev pub program_word_named : List ℕ → Option ProgramWord
+program_word_named name =
+    if bytes_eq name (codes "runs") then Some program_word.Runs
+    else (if bytes_eq name (codes "check") then Some program_word.Check
+    else (if bytes_eq name (codes "outline") then Some program_word.Outline
+    else (if bytes_eq name (codes "foldings") then Some program_word.Foldings
+    else (if bytes_eq name (codes "selections") then Some program_word.Selections
+    else (if bytes_eq name (codes "mentions") then Some program_word.Mentions
+    else (if bytes_eq name (codes "problems") then Some program_word.Problems
+    else (if bytes_eq name (codes "semantic-tokens") then Some program_word.SemanticTokens
+    else (if bytes_eq name (codes "deltas") then Some program_word.Deltas
+    else (if bytes_eq name (codes "session") then Some program_word.Session
+    else (if bytes_eq name (codes "session-cut") then Some program_word.SessionCut
+    else (if bytes_eq name (codes "session-refused") then Some program_word.SessionRefused
+    else None)))))))))))
+
+-- the first word that there is
+abbrev pub first_word : Option Word → Option Word → Option Word
+first_word None other = other
+first_word (Some found) other = Some found
 
 -- the word that a name stands for
 abbrev pub word_named : List ℕ → Option Word
 word_named name =
-    if bytes_eq name (codes "tree") then Some Tree
-    else (if bytes_eq name (codes "tree-wide") then Some TreeWide
-    else (if bytes_eq name (codes "tree-narrow") then Some TreeNarrow
-    else (if bytes_eq name (codes "tree-code") then Some TreeCode
-    else (if bytes_eq name (codes "tree-math") then Some TreeMath
-    else (if bytes_eq name (codes "tree-math-wide") then Some TreeMathWide
-    else (if bytes_eq name (codes "tree-math-narrow") then Some TreeMathNarrow
-    else (if bytes_eq name (codes "tokens") then Some Tokens
-    else (if bytes_eq name (codes "tokens-wide") then Some TokensWide
-    else (if bytes_eq name (codes "tokens-narrow") then Some TokensNarrow
-    else (if bytes_eq name (codes "tokens-code") then Some TokensCode
-    else (if bytes_eq name (codes "tokens-math") then Some TokensMath
-    else (if bytes_eq name (codes "lines") then Some Lines
-    else (if bytes_eq name (codes "link") then Some Link
-    else (if bytes_eq name (codes "stretches") then Some Stretches
-    else (if bytes_eq name (codes "notes") then Some Notes
-    else (if bytes_eq name (codes "tags") then Some Tags
-    else (if bytes_eq name (codes "tagged") then Some Tagged
-    else (if bytes_eq name (codes "html") then Some Html
-    else (if bytes_eq name (codes "spans") then Some Spans
-    else (if bytes_eq name (codes "edit") then Some Edit
-    else (if bytes_eq name (codes "edit-wide") then Some EditWide
-    else (if bytes_eq name (codes "edit-narrow") then Some EditNarrow
-    else (if bytes_eq name (codes "edit-spans") then Some EditSpans
-    else (if bytes_eq name (codes "edits") then Some Edits
-    else (if bytes_eq name (codes "in-a-row") then Some InARow
-    else (if bytes_eq name (codes "calls") then Some Calls
-    else (if bytes_eq name (codes "runs") then Some Runs
-    else (if bytes_eq name (codes "candidates") then Some Candidates
-    else (if bytes_eq name (codes "everywhere") then Some Everywhere
-    else (if bytes_eq name (codes "everywhere-in-turn") then Some EverywhereInTurn
-    else (if bytes_eq name (codes "everywhere-at") then Some EverywhereAt
-    else None)))))))))))))))))))))))))))))))
+    first_word (option_map word.Printed (printed_word_named name))
+    (first_word (option_map word.Read (read_word_named name))
+    (first_word (option_map word.Tree (tree_word_named name))
+    (first_word (option_map word.Edit (edit_word_named name))
+    (option_map word.Program (program_word_named name)))))
 
--- all that a word of the program typst_syn prints about a text, which this program's word answers too
+-- all that a word for what is printed answers about a text
+abbrev pub printed_as : PrintedWord → List ℕ → List ℕ
+printed_as printed_word.Tree text = printed command.Tree text
+printed_as printed_word.TreeCode text = code_tree_printed unicode_classes text
+printed_as printed_word.TreeMath text = math_tree_printed unicode_classes text
+printed_as printed_word.Lines text = printed command.Lines text
+printed_as printed_word.Html text = printed command.Html text
+
+-- what a word answers about a text, where the program typst_syn or its library prints that
 abbrev pub printed_by : Word → List ℕ → Option (List ℕ)
-printed_by Tree text = Some (printed command.Tree text)
-printed_by TreeWide text = None
-printed_by TreeNarrow text = None
-printed_by TreeCode text = Some (code_tree_printed unicode_classes text)
-printed_by TreeMath text = Some (math_tree_printed unicode_classes text)
-printed_by TreeMathWide text = None
-printed_by TreeMathNarrow text = None
-printed_by Tokens text = None
-printed_by TokensWide text = None
-printed_by TokensNarrow text = None
-printed_by TokensCode text = None
-printed_by TokensMath text = None
-printed_by Lines text = Some (printed command.Lines text)
-printed_by Link text = None
-printed_by Stretches text = None
-printed_by Notes text = None
-printed_by Tags text = None
-printed_by Tagged text = None
-printed_by Html text = Some (printed command.Html text)
-printed_by Spans text = None
-printed_by Edit text = None
-printed_by EditWide text = None
-printed_by EditNarrow text = None
-printed_by EditSpans text = None
-printed_by Edits text = None
-printed_by InARow text = None
-printed_by Calls text = None
-printed_by Runs text = None
-printed_by Candidates text = None
-printed_by Everywhere text = None
-printed_by EverywhereInTurn text = None
-printed_by EverywhereAt text = None
+printed_by (word.Printed printing) text = Some (printed_as printing text)
+printed_by (word.Read _) text = None
+printed_by (word.Tree _) text = None
+printed_by (word.Edit _) text = None
+printed_by (word.Program _) text = None

@@ -27,13 +27,23 @@ fn answer_all(
 ) -> Result<String, AllocError> {
     let mut printed = String::new(alloc);
     for line in edits.split('\n') {
-        let line = with_line_feeds(alloc, line)?;
-        match edit_of(line.as_str()) {
-            Some(edit) => print_answer(alloc, &mut printed, source, edit)?,
-            None => printed.push_str("no edit\n")?,
-        }
+        print_line(alloc, &mut printed, source, line)?;
     }
     Ok(printed)
+}
+
+/// Prints what the edit of a line answers.
+fn print_line(
+    alloc: Global,
+    printed: &mut String,
+    source: &mut Source<UnicodeClasses>,
+    line: &str,
+) -> Result<(), AllocError> {
+    let line = with_line_feeds(alloc, line)?;
+    match edit_of(line.as_str()) {
+        Some(edit) => print_answer(alloc, printed, source, edit),
+        None => printed.push_str("no edit\n"),
+    }
 }
 
 /// Makes an edit of a source and of a copy, and has another copy replace its text by the new one.
@@ -46,11 +56,10 @@ fn print_answer(
     let Some(text) = edit.applied(alloc, source.text())? else {
         return printed.push_str("bad range\n");
     };
-    let wanted = Wanted::of(alloc, text.as_str(), &UnicodeClasses)?;
-    let other = source.try_clone()?;
+    let mut other = source.try_clone()?;
     let made = print_made(alloc, printed, source, edit)?;
-    print_fault(alloc, printed, "source", source, &wanted)?;
-    print_replaced(alloc, printed, other, text.as_str(), &made, &wanted)
+    print_replaced(printed, &mut other, text.as_str(), &made)?;
+    print_faults(alloc, printed, source, &other, text.as_str())
 }
 
 /// Makes an edit of a source and of a copy.
@@ -60,42 +69,36 @@ fn print_made(
     source: &mut Source<UnicodeClasses>,
     edit: Edit<'_>,
 ) -> Result<Made, AllocError> {
-    let copy = source.try_clone()?;
+    let mut copy = source.try_clone()?;
     let made = make_again(alloc, source, &copy, edit)?;
     made.print(printed)?;
-    print_copy(alloc, printed, source, copy, edit, &made)?;
+    print_other(printed, "copy", &made, &edit.make(&mut copy)?)?;
+    print_unlike(alloc, printed, source, &copy)?;
     Ok(made)
 }
 
-/// Makes an edit of a copy, and prints what is other there than in the source.
-fn print_copy(
+/// Prints whether a copy has other spans than the source.
+fn print_unlike(
     alloc: Global,
     printed: &mut String,
     source: &Source<UnicodeClasses>,
-    mut copy: Source<UnicodeClasses>,
-    edit: Edit<'_>,
-    made: &Made,
+    copy: &Source<UnicodeClasses>,
 ) -> Result<(), AllocError> {
-    let of_copy = edit.make(&mut copy)?;
-    print_other(printed, "copy", made, &of_copy)?;
-    if !are_same(alloc, source, &copy)? {
-        printed.push_str("copy: other spans\n")?;
+    if are_same(alloc, source, copy)? {
+        return Ok(());
     }
-    Ok(())
+    printed.push_str("copy: other spans\n")
 }
 
 /// Replaces the text of a copy, and prints what is other there than behind the edit.
 fn print_replaced(
-    alloc: Global,
     printed: &mut String,
-    mut other: Source<UnicodeClasses>,
+    other: &mut Source<UnicodeClasses>,
     text: &str,
     made: &Made,
-    wanted: &Wanted,
 ) -> Result<(), AllocError> {
-    let by_text = replace(&mut other, text)?;
-    print_other(printed, "replace", made, &by_text)?;
-    print_fault(alloc, printed, "replace", &other, wanted)
+    let by_text = replace(other, text)?;
+    print_other(printed, "replace", made, &by_text)
 }
 
 /// Makes an edit. Where memory is refused, the source has to be as its copy, and the edit is made again.
@@ -136,6 +139,19 @@ fn print_other(
     }
     write!(printed, "{name}: ")?;
     other.print(printed)
+}
+
+/// Prints what of a source, and of the copy that has replaced its text, isn't as the new text asks for.
+fn print_faults(
+    alloc: Global,
+    printed: &mut String,
+    source: &Source<UnicodeClasses>,
+    other: &Source<UnicodeClasses>,
+    text: &str,
+) -> Result<(), AllocError> {
+    let wanted = Wanted::of(alloc, text, &UnicodeClasses)?;
+    print_fault(alloc, printed, "source", source, &wanted)?;
+    print_fault(alloc, printed, "replace", other, &wanted)
 }
 
 /// Prints what of a source isn't as it has to be.

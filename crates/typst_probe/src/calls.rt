@@ -1,10 +1,11 @@
 //! The word `calls`.
 
-use crate::edits::{Edit, edit_of};
+use crate::edits::{Edit, Made, edit_of};
+use crate::in_a_row::number_before;
 use crate::spans::refusal;
 use std::alloc::{AllocError, Global};
 use std::cell::Cell;
-use typst_cli::Source;
+use typst_cli::SourceError;
 use typst_tests::Counting;
 
 /// Which bytes an edit reads, and whether classes are asked at least so often when the source is made,
@@ -22,9 +23,9 @@ pub fn answer(alloc: Global, text: &str) -> Result<String, AllocError> {
 
 /// The two numbers and the edit that a line names.
 fn limits_of(line: &str) -> Option<(usize, usize, Edit<'_>)> {
-    let (least, rest) = line.split_once(' ')?;
-    let (most, rest) = rest.split_once(' ')?;
-    Some((least.parse().ok()?, most.parse().ok()?, edit_of(rest)?))
+    let (least, rest) = number_before(line)?;
+    let (most, rest) = number_before(rest)?;
+    Some((least, most, edit_of(rest)?))
 }
 
 fn counted(
@@ -34,15 +35,10 @@ fn counted(
     least: usize,
     most: usize,
 ) -> Result<String, AllocError> {
-    let calls = Cell::new(0usize);
-    let classes = Counting { calls: &calls };
-    let mut source = match Source::detached(alloc, String::from_str(alloc, text)?, classes) {
-        Ok(source) => source,
+    let (whole, part, made) = match calls(alloc, text, edit) {
+        Ok(calls) => calls,
         Err(error) => return refusal(alloc, error),
     };
-    let whole = calls.replace(0);
-    let made = edit.make(&mut source)?;
-    let part = calls.get();
     let mut printed = String::new(alloc);
     made.print(&mut printed)?;
     if whole < least || most < part {
@@ -52,4 +48,18 @@ fn counted(
         )?;
     }
     Ok(printed)
+}
+
+/// How often classes are asked for a source, and for an edit of it, with what came of that.
+fn calls(alloc: Global, text: &str, edit: Edit<'_>) -> Result<(usize, usize, Made), SourceError> {
+    let (whole, _) = all_calls(alloc, text, Edit::REFUSED)?;
+    let (all, made) = all_calls(alloc, text, edit)?;
+    Ok((whole, all.saturating_sub(whole), made))
+}
+
+/// How often classes are asked for a source and an edit of it, with what came of that.
+fn all_calls(alloc: Global, text: &str, edit: Edit<'_>) -> Result<(usize, Made), SourceError> {
+    let calls = Cell::new(0usize);
+    let (_source, made) = edit.source(alloc, text, Counting { calls: &calls })?;
+    Ok((calls.get(), made))
 }

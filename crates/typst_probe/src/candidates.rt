@@ -1,7 +1,7 @@
 //! The words `candidates` and `candidates START END`.
 
 use std::alloc::{AllocError, Global};
-use typst_candidates::{Candidate, Records, find_candidates, fit};
+use typst_candidates::{Candidate, Candidates, Records, find_candidates, fit};
 use typst_cli::{UnicodeClasses, parse_noted};
 
 /// What may be read anew where a range of bytes of the text is replaced, in order. Each candidate has
@@ -28,6 +28,11 @@ pub fn answer(alloc: Global, text: &str, start: usize, end: usize) -> Result<Str
         usize::MAX,
         usize::MAX,
     )?;
+    printed(alloc, &found)
+}
+
+/// A line for each candidate.
+fn printed(alloc: Global, found: &Candidates) -> Result<String, AllocError> {
     let mut printed = String::new(alloc);
     for candidate in &found.items {
         print_candidate(&mut printed, candidate, found.path.as_slice())?;

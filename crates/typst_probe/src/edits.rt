@@ -9,7 +9,7 @@ use typst_cli::tree::print_node;
 use typst_cli::{Classes, Source, SourceError, UnicodeClasses};
 
 /// A text to be put in the place of a range of bytes.
-#[derive(Debug, Clone, Copy)]
+#[derive(Clone, Copy)]
 pub struct Edit<'a> {
     start: usize,
     end: usize,
@@ -17,12 +17,21 @@ pub struct Edit<'a> {
 }
 
 /// What came of an edit.
-#[derive(Debug, PartialEq, Eq, Drop)]
+#[derive(PartialEq, Eq, Drop)]
 pub enum Made {
     /// It was made, and these bytes of the new text were read.
     Read(Range<usize>),
     /// Why it wasn't made.
     Fault(&'static str),
+}
+
+impl Edit<'_> {
+    /// An edit that no source makes, as its range is none.
+    pub const REFUSED: Edit<'static> = Edit {
+        start: 1,
+        end: 0,
+        with: "",
+    };
 }
 
 impl<'a> Edit<'a> {
@@ -148,18 +157,35 @@ pub fn row_answer<C: Classes + Drop>(
         return String::from_str(alloc, "no text\n");
     };
     let words = with_line_feeds(alloc, words)?;
-    let Some(edit) = edit_of(words.as_str()) else {
-        return String::from_str(alloc, "no edit\n");
-    };
+    match edit_of(words.as_str()) {
+        Some(edit) => tree_after(alloc, text, edit, classes),
+        None => String::from_str(alloc, "no edit\n"),
+    }
+}
+
+/// The tree of a text after an edit.
+fn tree_after<C: Classes + Drop>(
+    alloc: Global,
+    text: &str,
+    edit: Edit<'_>,
+    classes: C,
+) -> Result<String, AllocError> {
     match edit.source(alloc, text, classes) {
-        Ok((source, Made::Read(_))) if source.root().len() == source.text().len() => {
-            let mut printed = String::new(alloc);
-            print_node(alloc, &mut printed, source.root(), "", 0)?;
-            Ok(printed)
-        }
-        Ok(_) => String::from_str(alloc, "bad range\n"),
+        Ok((source, Made::Read(_))) => printed_tree(alloc, &source),
+        Ok((_, Made::Fault(_))) => String::from_str(alloc, "bad range\n"),
         Err(error) => spans::refusal(alloc, error),
     }
+}
+
+/// The tree of a source, if it is as long as its text.
+fn printed_tree<C: Classes>(alloc: Global, source: &Source<C>) -> Result<String, AllocError> {
+    let root = source.root();
+    if root.len() != source.text().len() {
+        return String::from_str(alloc, "another length\n");
+    }
+    let mut printed = String::new(alloc);
+    print_node(alloc, &mut printed, root, "", 0)?;
+    Ok(printed)
 }
 
 /// What a row of the word `edit-spans` is answered: the range that was parsed anew, and the tree with

@@ -1,12 +1,13 @@
-//! Escapes in rows: characters that don't show, by their names between `‹` and `›`.
+//! Escapes in rows, between `‹` and `›`: characters that don't show, by their names, and texts that stand many
+//! times.
 
 ghost use Rattle.std.specs.Prelude.{◌≡◌, IfSome, Some};
 ghost use Rattle.typst_probe.specs.Escapes.{character_named};
 
 use std::alloc::{AllocError, Global};
 
-/// Writes a line of a row with each escape put back into the character that it names. Gives false
-/// where an escape names none or isn't closed.
+/// Writes a line of a row with what each escape names in its place. Gives false where an escape names nothing
+/// or isn't closed.
 pub fn push_decoded(out: &mut String, line: &str) -> Result<bool, AllocError> {
     let mut pieces = line.split('‹');
     if let Some(front) = pieces.next() {
@@ -16,13 +17,44 @@ pub fn push_decoded(out: &mut String, line: &str) -> Result<bool, AllocError> {
         let Some((name, rest)) = piece.split_once('›') else {
             return Ok(false);
         };
-        let Some(character) = named(name) else {
+        if !push_named(out, name)? {
             return Ok(false);
-        };
-        out.push(character)?;
+        }
         out.push_str(rest)?;
     }
     Ok(true)
+}
+
+/// Writes what an escape names: a character, or a text so many times, as `3×ab` for `ababab`. Gives false
+/// where it names none.
+fn push_named(out: &mut String, name: &str) -> Result<bool, AllocError> {
+    if let Some((count, text)) = name.split_once('×') {
+        let Ok(count) = count.parse::<u32>() else {
+            return Ok(false);
+        };
+        push_times(out, count, text)?;
+        return Ok(true);
+    }
+    let Some(character) = named(name) else {
+        return Ok(false);
+    };
+    out.push(character)?;
+    Ok(true)
+}
+
+/// Writes a text so many times, with a line feed in the place of each sign `␊`.
+fn push_times(out: &mut String, count: u32, text: &str) -> Result<(), AllocError> {
+    for _ in 0..count {
+        for character in text.chars() {
+            out.push(unsigned(character))?;
+        }
+    }
+    Ok(())
+}
+
+/// The character that one stands for: a line feed for the sign `␊`.
+fn unsigned(character: char) -> char {
+    if character == '␊' { '\n' } else { character }
 }
 
 /// The character that an escape names.
@@ -49,7 +81,7 @@ fn numbered(name: &str) -> Option<char> {
 pub fn with_line_feeds(alloc: Global, text: &str) -> Result<String, AllocError> {
     let mut all = String::new(alloc);
     for character in text.chars() {
-        all.push(if character == '␊' { '\n' } else { character })?;
+        all.push(unsigned(character))?;
     }
     Ok(all)
 }

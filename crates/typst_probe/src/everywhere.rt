@@ -95,8 +95,8 @@ fn edits_at(alloc: Global, text: &str, places: &str) -> Result<Vec<Edit<'static>
 
 /// Adds the edits that put something in at a byte.
 fn insert(edits: &mut Vec<Edit<'static>>, at: usize) -> Result<(), AllocError> {
-    for with in INSERTIONS {
-        edits.push(Edit::new(at, at, with))?;
+    for with in &INSERTIONS {
+        edits.push(Edit::new(at, at, *with))?;
     }
     Ok(())
 }
@@ -235,21 +235,37 @@ impl<'a, C: Classes + Copy + Drop> Trial<'a, C> {
         alloc: Global,
         edit: Edit<'static>,
     ) -> Result<Option<&'static str>, AllocError> {
-        let Some(text) = edit.applied(alloc, self.text)? else {
+        let Some(wanted) = Wanted::after(alloc, self.text, edit, &self.classes)? else {
             return Ok(Some("bad range"));
         };
-        let wanted = Wanted::of(alloc, text.as_str(), &self.classes)?;
+        match self.fault_of_fresh(alloc, edit, &wanted)? {
+            None if self.is_in_a_row => self.fault_of_used(alloc, edit, &wanted),
+            fault => Ok(fault),
+        }
+    }
+
+    /// What isn't as it has to be after an edit of a copy.
+    fn fault_of_fresh(
+        &self,
+        alloc: Global,
+        edit: Edit<'static>,
+        wanted: &Wanted,
+    ) -> Result<Option<&'static str>, AllocError> {
         let mut fresh = self.fresh.try_clone()?;
-        if let Some(fault) = fault_of_edit(alloc, &mut fresh, edit, &wanted)? {
-            return Ok(Some(fault));
+        fault_of_edit(alloc, &mut fresh, edit, wanted)
+    }
+
+    /// What isn't as it has to be after an edit of the source that is edited in a row, or once it is taken back.
+    fn fault_of_used(
+        &mut self,
+        alloc: Global,
+        edit: Edit<'static>,
+        wanted: &Wanted,
+    ) -> Result<Option<&'static str>, AllocError> {
+        match fault_of_edit(alloc, &mut self.used, edit, wanted)? {
+            None => fault_of_edit(alloc, &mut self.used, edit.undone(self.text), &self.wanted),
+            fault => Ok(fault),
         }
-        if !self.is_in_a_row {
-            return Ok(None);
-        }
-        if let Some(fault) = fault_of_edit(alloc, &mut self.used, edit, &wanted)? {
-            return Ok(Some(fault));
-        }
-        fault_of_edit(alloc, &mut self.used, edit.undone(self.text), &self.wanted)
     }
 }
 

@@ -26,10 +26,10 @@ pub fn answer(alloc: Global, text: &str) -> Result<String, AllocError> {
 }
 
 /// What edits are drawn.
-#[derive(Debug, Clone, Copy)]
+#[derive(Clone, Copy)]
 struct Numbers {
     /// How many.
-    count: u64,
+    count: usize,
     /// The number from which the draws come; 0: always the middle.
     first: u32,
     /// How many bytes an edit replaces at most.
@@ -43,13 +43,17 @@ struct Numbers {
 impl Numbers {
     /// The numbers that a line has.
     fn of(line: &str) -> Option<Numbers> {
-        let mut words = line.split(' ');
+        let mut numbers = [0usize; 5];
+        for (place, word) in line.split(' ').enumerate() {
+            *numbers.get_mut(place)? = word.parse().ok()?;
+        }
+        let [count, first, width, front, rear] = numbers;
         Some(Numbers {
-            count: words.next()?.parse().ok()?,
-            first: words.next()?.parse().ok()?,
-            width: words.next()?.parse().ok()?,
-            front: words.next()?.parse().ok()?,
-            rear: words.next()?.parse().ok()?,
+            count,
+            first: u32::try_from(first).ok()?,
+            width,
+            front,
+            rear,
         })
     }
 
@@ -63,17 +67,33 @@ impl Numbers {
         let mut draws = Draws::new(self.first);
         let mut printed = String::new(alloc);
         for done in 0..self.count {
-            let text = String::from_str(alloc, source.text())?;
-            let edit = self.edit(&mut draws, text.as_str(), pieces);
-            if let Some(fault) = fault_of_edit(alloc, source, text.as_str(), edit)? {
-                edit.print(&mut printed)?;
-                writeln!(&mut printed, ": {fault}\n{done} edits agree")?;
+            if !self.agrees(alloc, &mut printed, source, &mut draws, pieces)? {
+                writeln!(&mut printed, "{done} edits agree")?;
                 return Ok(printed);
             }
         }
         let count = self.count;
         writeln!(&mut printed, "{count} edits agree")?;
         Ok(printed)
+    }
+
+    /// Makes the next edit of a source, and prints it where it doesn't agree.
+    fn agrees(
+        self,
+        alloc: Global,
+        printed: &mut String,
+        source: &mut Source<UnicodeClasses>,
+        draws: &mut Draws,
+        pieces: &str,
+    ) -> Result<bool, AllocError> {
+        let text = String::from_str(alloc, source.text())?;
+        let edit = self.edit(draws, text.as_str(), pieces);
+        let Some(fault) = fault_of_edit(alloc, source, text.as_str(), edit)? else {
+            return Ok(true);
+        };
+        edit.print(printed)?;
+        writeln!(printed, ": {fault}")?;
+        Ok(false)
     }
 
     /// The next edit of a text.
@@ -85,6 +105,12 @@ impl Numbers {
     }
 }
 
+/// The number that a line begins with, and what stands behind the space behind it.
+pub fn number_before(line: &str) -> Option<(usize, &str)> {
+    let (number, rest) = line.split_once(' ')?;
+    Some((number.parse().ok()?, rest))
+}
+
 /// What isn't as it has to be after an edit of a source with this text: what it answers is what a source
 /// that is made anew answers, and it holds what the new text asks for.
 fn fault_of_edit(
@@ -93,23 +119,33 @@ fn fault_of_edit(
     text: &str,
     edit: Edit<'_>,
 ) -> Result<Option<&'static str>, AllocError> {
-    let Some(new) = edit.applied(alloc, text)? else {
-        return Ok(Some("bad range"));
-    };
-    let (anew, answer) = match edit.source(alloc, text, UnicodeClasses) {
-        Ok(made) => made,
-        Err(SourceError::OutOfMemory) => return Err(AllocError),
-        Err(SourceError::SpanNumbers) => return Ok(Some("out of span numbers")),
-    };
+    match edit.source(alloc, text, UnicodeClasses) {
+        Ok((anew, answer)) => unlike_anew(alloc, source, text, edit, &anew, &answer),
+        Err(SourceError::OutOfMemory) => Err(AllocError),
+        Err(SourceError::SpanNumbers) => Ok(Some("out of span numbers")),
+    }
+}
+
+/// The same, with the edited source that was made anew, and what it answered.
+fn unlike_anew(
+    alloc: Global,
+    source: &mut Source<UnicodeClasses>,
+    text: &str,
+    edit: Edit<'_>,
+    anew: &Source<UnicodeClasses>,
+    answer: &Made,
+) -> Result<Option<&'static str>, AllocError> {
     let made = edit.make(source)?;
-    if made != answer {
+    if made != *answer {
         return Ok(Some("range"));
     }
     if let Made::Fault(fault) = made {
         return Ok(Some(fault));
     }
-    let wanted = Wanted::of(alloc, new.as_str(), &UnicodeClasses)?;
-    match fault(alloc, &anew, &wanted, false)? {
+    let Some(wanted) = Wanted::after(alloc, text, edit, &UnicodeClasses)? else {
+        return Ok(Some("bad range"));
+    };
+    match fault(alloc, anew, &wanted, false)? {
         Some(_) => Ok(Some("anew")),
         None => fault(alloc, source, &wanted, true),
     }

@@ -4,16 +4,22 @@
 mod answers;
 mod calls;
 mod candidates;
+mod checks;
 mod draws;
 mod edits;
 mod escapes;
 mod everywhere;
+mod exchange;
 mod in_a_row;
 mod links;
+mod modes;
 mod notes;
 mod reading;
+mod refused;
 mod row;
 mod runs;
+mod sessions;
+mod shown;
 mod spans;
 mod stretches;
 mod tagged;
@@ -33,9 +39,10 @@ use word::Word;
 const USAGE: &str =
     "usage: typst_probe rows FILE.. | tree | tree-wide | tree-narrow | tree-code | tree-math | tree-math-wide |
     tree-math-narrow | tokens | tokens-wide | tokens-narrow | tokens-code | tokens-math | lines | link |
-    stretches | notes | tags | tagged | html | spans | edit | edit-wide | edit-narrow | edit-spans | edits |
-    in-a-row | calls | runs | candidates | candidates START END | edit-spans START END TEXT | everywhere |
-    everywhere-in-turn | everywhere-at";
+    stretches | notes | tags | tagged | html | spans | depths | size | asked | again | edit | edit-wide |
+    edit-narrow | edit-spans | edits | in-a-row | calls | runs | check | candidates | candidates START END |
+    edit-spans START END TEXT | everywhere | everywhere-in-turn | everywhere-at | outline | foldings |
+    selections | mentions | problems | semantic-tokens | deltas | session | session-cut | session-refused";
 
 /// `rows FILE..` compares all rows of the files, and any other word answers about the text on
 /// standard input. Ends with status 1 where a row disagrees or something fails, and with status 2

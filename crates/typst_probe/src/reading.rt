@@ -27,7 +27,7 @@ pub fn rows(alloc: Global, file: &str) -> anyhow::Result<Vec<Row>> {
 }
 
 /// What the next line of a file belongs to.
-#[derive(Debug, Clone, Copy, Drop)]
+#[derive(Clone, Copy, Drop)]
 enum Part {
     /// What stands before the first row.
     Front,

@@ -6,7 +6,7 @@ use crate::word::Word;
 use std::alloc::{AllocError, Global};
 
 /// A text, and what a word is to answer about it.
-#[derive(Debug, Drop)]
+#[derive(Drop)]
 pub struct Row {
     /// The number of the line in its file at which its title stands, from 1 on.
     pub line: u64,

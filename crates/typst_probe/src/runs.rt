@@ -15,36 +15,52 @@ const WORDS: [(&str, Command); 3] = [
 /// an `a` in at its start, in its middle and at its end.
 pub fn answer(alloc: Global, text: &str) -> Result<String, AllocError> {
     let mut agree = 0u64;
-    for (word, command) in WORDS {
-        let wanted = command.answer(alloc, text)?;
-        if agrees(alloc, text, &[word], wanted.as_str())? {
+    for (word, command) in &WORDS {
+        if agrees_on_word(alloc, text, word, *command)? {
             agree = agree.saturating_add(1);
         }
     }
     for at in [0, boundary(text, text.len() / 2), text.len()] {
-        let (place, wanted) = (format!(in alloc; "{at}")?, edited(alloc, text, at)?);
-        let words = ["edit", place.as_str(), place.as_str(), "a"];
-        if agrees(alloc, text, &words, wanted.as_str())? {
+        if agrees_on_edit(alloc, text, at)? {
             agree = agree.saturating_add(1);
         }
     }
     format!(in alloc; "{agree} runs agree\n")
 }
 
+/// Whether the run of a word agrees.
+fn agrees_on_word(
+    alloc: Global,
+    text: &str,
+    word: &str,
+    command: Command,
+) -> Result<bool, AllocError> {
+    let wanted = command.answer(alloc, text)?;
+    agrees(alloc, text, &[word], wanted.as_str())
+}
+
+/// Whether the run agrees that puts an `a` in at a byte.
+fn agrees_on_edit(alloc: Global, text: &str, at: usize) -> Result<bool, AllocError> {
+    let (place, wanted) = (format!(in alloc; "{at}")?, edited(alloc, text, at)?);
+    let words = ["edit", place.as_str(), place.as_str(), "a"];
+    agrees(alloc, text, &words, wanted.as_str())
+}
+
 const OUT_OF_MEMORY: &[u8] = b"out of memory\n";
 
-/// Whether a run ends well and prints what is wanted, or tells that memory is refused and prints nothing
-/// else. What it writes to takes no memory meanwhile.
+/// Whether a run ends with status 0 and prints what is wanted, and nothing else. Where it tells that memory is
+/// refused, and prints nothing else, this is refused too. What it writes to takes no memory meanwhile.
 fn agrees(alloc: Global, text: &str, words: &[&str], wanted: &str) -> Result<bool, AllocError> {
     let mut input = text.as_bytes();
     let (mut output, mut errors) = (Vec::new(alloc), Vec::new(alloc));
     output.reserve(wanted.len())?;
     errors.reserve(OUT_OF_MEMORY.len())?;
-    let (printed, told) = match run(alloc, words, &mut input, &mut output, &mut errors) {
-        0 => (wanted.as_bytes(), b"".as_slice()),
-        _ => (b"".as_slice(), OUT_OF_MEMORY),
-    };
-    Ok(output.as_slice() == printed && errors.as_slice() == told)
+    let status = run(alloc, words, &mut input, &mut output, &mut errors);
+    let (printed, told) = (output.as_slice(), errors.as_slice());
+    if status == 1 && printed.is_empty() && told == OUT_OF_MEMORY {
+        return Err(AllocError);
+    }
+    Ok(status == 0 && printed == wanted.as_bytes() && told.is_empty())
 }
 
 /// What the word `edit` prints of putting an `a` in at a byte: the bytes that a source reads, and the tree
@@ -52,15 +68,35 @@ fn agrees(alloc: Global, text: &str, words: &[&str], wanted: &str) -> Result<boo
 fn edited(alloc: Global, text: &str, at: usize) -> Result<String, AllocError> {
     let edit = Edit::new(at, at, "a");
     let mut printed = String::new(alloc);
+    print_read(alloc, &mut printed, text, edit)?;
+    print_tree(alloc, &mut printed, text, edit)?;
+    Ok(printed)
+}
+
+/// Prints which bytes a source of a text reads in an edit.
+fn print_read(
+    alloc: Global,
+    printed: &mut String,
+    text: &str,
+    edit: Edit<'_>,
+) -> Result<(), AllocError> {
+    match edit.source(alloc, text, UnicodeClasses) {
+        Ok((_, made)) => made.print(printed),
+        Err(SourceError::OutOfMemory) => Err(AllocError),
+        Err(SourceError::SpanNumbers) => Ok(()),
+    }
+}
+
+/// Prints the tree of a text after an edit.
+fn print_tree(
+    alloc: Global,
+    printed: &mut String,
+    text: &str,
+    edit: Edit<'_>,
+) -> Result<(), AllocError> {
     let Some(new) = edit.applied(alloc, text)? else {
-        return Ok(printed);
+        return Ok(());
     };
     let tree = tree::answer(alloc, new.as_str(), &UnicodeClasses)?;
-    match edit.source(alloc, text, UnicodeClasses) {
-        Ok((_, made)) => made.print(&mut printed)?,
-        Err(SourceError::OutOfMemory) => return Err(AllocError),
-        Err(SourceError::SpanNumbers) => return Ok(printed),
-    }
-    printed.push_str(tree.as_str())?;
-    Ok(printed)
+    printed.push_str(tree.as_str())
 }

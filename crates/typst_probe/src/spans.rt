@@ -38,6 +38,21 @@ fn print_node(
     node: LinkedNode<'_>,
     indent: &str,
 ) -> Result<(), AllocError> {
+    let deeper = format!(in alloc; "{indent}  ")?;
+    print_own(printed, node, indent, deeper.as_str())?;
+    for child in node.children() {
+        print_node(alloc, printed, child, deeper.as_str())?;
+    }
+    Ok(())
+}
+
+/// Prints the line of a node, and below it, deeper, its warnings and hints.
+fn print_own(
+    printed: &mut String,
+    node: LinkedNode<'_>,
+    indent: &str,
+    deeper: &str,
+) -> Result<(), AllocError> {
     let (name, range) = (variant_name(node.kind()), node.range());
     let (start, end) = (range.start, range.end);
     write!(printed, "{indent}{name} {start}..{end}")?;
@@ -45,12 +60,7 @@ fn print_node(
         let number = number.get();
         write!(printed, " @{number}")?;
     }
-    let deeper = format!(in alloc; "{indent}  ")?;
     print_errors(printed, node.get().diagnostics())?;
     printed.push_str("\n")?;
-    print_remarks(printed, node.get().diagnostics(), deeper.as_str())?;
-    for child in node.children() {
-        print_node(alloc, printed, child, deeper.as_str())?;
-    }
-    Ok(())
+    print_remarks(printed, node.get().diagnostics(), deeper)
 }

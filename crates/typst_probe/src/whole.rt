@@ -1,5 +1,6 @@
 //! Whether a source holds what its text asks for.
 
+use crate::edits::Edit;
 use std::alloc::{AllocError, Global};
 use typst_cli::{Classes, FileId, Lines, Source, SyntaxNode, parse};
 
@@ -15,6 +16,19 @@ impl Wanted {
         let tree = parse(alloc, text, classes)?;
         let lines = Lines::new(alloc, String::from_str(alloc, text)?)?;
         Ok(Wanted { tree, lines })
+    }
+
+    /// Those of a text after an edit; nothing where its range isn't one of the text.
+    pub fn after<C: Classes>(
+        alloc: Global,
+        text: &str,
+        edit: Edit<'_>,
+        classes: &C,
+    ) -> Result<Option<Wanted>, AllocError> {
+        match edit.applied(alloc, text)? {
+            Some(new) => Ok(Some(Wanted::of(alloc, new.as_str(), classes)?)),
+            None => Ok(None),
+        }
     }
 }
 
@@ -54,13 +68,16 @@ pub fn are_same<C: Classes>(
     one: &Source<C>,
     other: &Source<C>,
 ) -> Result<bool, AllocError> {
-    let (ones, others) = (nodes(alloc, one.root())?, nodes(alloc, other.root())?);
-    Ok(
-        one.text() == other.text()
-            && one.root().spanless_eq(other.root())
-            && are_same_lines(one.lines(), other.lines())
-            && have_same_spans(ones.as_slice(), others.as_slice()),
-    )
+    let (tree, others) = (one.root(), other.root());
+    let is_text = one.text() == other.text() && are_same_lines(one.lines(), other.lines());
+    Ok(is_text && tree.spanless_eq(others) && are_alike(alloc, tree, others)?)
+}
+
+/// Whether the nodes of two trees have the same spans.
+fn are_alike(alloc: Global, one: &SyntaxNode, other: &SyntaxNode) -> Result<bool, AllocError> {
+    let ones = nodes(alloc, one)?;
+    let others = nodes(alloc, other)?;
+    Ok(have_same_spans(ones.as_slice(), others.as_slice()))
 }
 
 /// Whether these nodes have the same spans, one by one.
@@ -88,19 +105,27 @@ fn are_same_lines(one: &Lines<String>, other: &Lines<String>) -> bool {
 
 /// The nodes of a tree, each before its children.
 fn nodes(alloc: Global, root: &SyntaxNode) -> Result<Vec<&SyntaxNode>, AllocError> {
-    let mut all = Vec::new(alloc);
-    let mut left = Vec::new(alloc);
+    let (mut all, mut left) = (Vec::new(alloc), Vec::new(alloc));
     left.push(root)?;
     for _ in 0..root.descendants() {
-        let Some(node) = left.pop() else {
-            return Ok(all);
-        };
-        all.push(node)?;
-        for child in node.children().iter().rev() {
-            left.push(child)?;
-        }
+        take_next(&mut all, &mut left)?;
     }
     Ok(all)
+}
+
+/// Takes the next of the nodes that are left, and leaves its children.
+fn take_next<'a>(
+    all: &mut Vec<&'a SyntaxNode>,
+    left: &mut Vec<&'a SyntaxNode>,
+) -> Result<(), AllocError> {
+    let Some(node) = left.pop() else {
+        return Ok(());
+    };
+    all.push(node)?;
+    for child in node.children().iter().rev() {
+        left.push(child)?;
+    }
+    Ok(())
 }
 
 /// Whether the leaves among these nodes, joined, are the text.

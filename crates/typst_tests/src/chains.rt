@@ -1,85 +1,79 @@
-use std::alloc::{AllocError, Global};
+use crate::rows::{Part, long_tree};
+use std::alloc::Global;
 use typst_highlight::highlight_html;
 use typst_kinds::SyntaxKind;
-use typst_tree::SyntaxNode;
 
 /// How long the chain and the row are.
 const COUNT: usize = 1000;
 
-/// The names `a.a.a`, as many.
-fn chain(alloc: Global, count: usize) -> Result<SyntaxNode, AllocError> {
-    let mut node = SyntaxNode::leaf(alloc, SyntaxKind::Ident, "a")?;
-    for _ in 1..count {
-        let mut kids = Vec::with_capacity(alloc, 3)?;
-        kids.push(node)?;
-        kids.push(SyntaxNode::leaf(alloc, SyntaxKind::Dot, ".")?)?;
-        kids.push(SyntaxNode::leaf(alloc, SyntaxKind::Ident, "a")?)?;
-        node = SyntaxNode::inner(SyntaxKind::FieldAccess, kids);
-    }
-    Ok(node)
-}
-
-/// A hash before the chain.
-fn embedded(alloc: Global, count: usize) -> Result<SyntaxNode, AllocError> {
-    let mut kids = Vec::new(alloc);
-    kids.push(SyntaxNode::leaf(alloc, SyntaxKind::Hash, "#")?)?;
-    kids.push(chain(alloc, count)?)?;
-    Ok(SyntaxNode::inner(SyntaxKind::Markup, kids))
-}
+/// A hash before the names `a.a.a`, as many.
+static CHAIN: [Part; 3] = [
+    (
+        &[
+            (SyntaxKind::Hash, "#", None),
+            (SyntaxKind::Ident, "a", None),
+        ],
+        1,
+    ),
+    (
+        &[
+            (SyntaxKind::Dot, ".", None),
+            (SyntaxKind::Ident, "a", None),
+            (SyntaxKind::FieldAccess, "", Some(3)),
+        ],
+        COUNT - 1,
+    ),
+    (&[(SyntaxKind::Markup, "", Some(2))], 1),
+];
 
 /// As many hashes, and a name behind the last.
-fn hashes(alloc: Global, count: usize) -> Result<SyntaxNode, AllocError> {
-    let mut kids = Vec::new(alloc);
-    for _ in 0..count {
-        kids.push(SyntaxNode::leaf(alloc, SyntaxKind::Hash, "#")?)?;
+static HASHES: [Part; 2] = [
+    (&[(SyntaxKind::Hash, "#", None)], COUNT),
+    (
+        &[
+            (SyntaxKind::Ident, "a", None),
+            (SyntaxKind::Markup, "", Some(COUNT + 1)),
+        ],
+        1,
+    ),
+];
+
+/// A beginning, a text `COUNT - 1` times, and an end.
+type Html = (&'static str, &'static str, &'static str);
+
+const CHAIN_HTML: Html = (
+    "<code><span class=\"typ-pol\">#</span><span class=\"typ-pol\">a</span>",
+    "<span class=\"typ-punct\">.</span><span class=\"typ-pol\">a</span>",
+    "</code>",
+);
+
+const HASHES_HTML: Html = (
+    "<code>",
+    "#",
+    "<span class=\"typ-pol\">#</span><span class=\"typ-pol\">a</span></code>",
+);
+
+fn repeated(alloc: Global, (begin, text, end): Html) -> Option<String> {
+    let mut whole = String::from_str(alloc, begin).ok()?;
+    for _ in 1..COUNT {
+        whole.push_str(text).ok()?;
     }
-    kids.push(SyntaxNode::leaf(alloc, SyntaxKind::Ident, "a")?)?;
-    Ok(SyntaxNode::inner(SyntaxKind::Markup, kids))
+    whole.push_str(end).ok()?;
+    Some(whole)
 }
 
-/// A beginning, a text again and again, and an end.
-fn repeated(
-    alloc: Global,
-    begin: &str,
-    text: &str,
-    count: usize,
-    end: &str,
-) -> Result<String, AllocError> {
-    let mut whole = String::from_str(alloc, begin)?;
-    for _ in 0..count {
-        whole.push_str(text)?;
-    }
-    whole.push_str(end)?;
-    Ok(whole)
-}
-
-const HASH_AND_NAME: &str =
-    "<code><span class=\"typ-pol\">#</span><span class=\"typ-pol\">a</span>";
-
-const DOT_AND_NAME: &str = "<span class=\"typ-punct\">.</span><span class=\"typ-pol\">a</span>";
-
-/// Whether all names of a chain behind a hash have the hash's tag.
-fn chain_is_interpolated(alloc: Global) -> Result<bool, AllocError> {
-    let html = highlight_html(alloc, &embedded(alloc, COUNT)?)?;
-    let want = repeated(alloc, HASH_AND_NAME, DOT_AND_NAME, COUNT - 1, "</code>")?;
-    Ok(html.as_str() == want.as_str())
+/// Whether this is the HTML of the tree of these parts.
+fn shows(alloc: Global, parts: &[Part], html: Html) -> Option<bool> {
+    let shown = highlight_html(alloc, &long_tree(alloc, parts)?).ok()?;
+    Some(shown.as_str() == repeated(alloc, html)?.as_str())
 }
 
 #[test]
 fn names_of_a_chain_are_interpolated(rt: HostRuntime) {
-    assert!(rt; chain_is_interpolated(rt.alloc()) == Ok(true));
-}
-
-const LAST_HASH: &str = "<span class=\"typ-pol\">#</span><span class=\"typ-pol\">a</span></code>";
-
-/// Whether of a row of hashes the last has the tag of the name, and the others have none.
-fn last_hash_is_interpolated(alloc: Global) -> Result<bool, AllocError> {
-    let html = highlight_html(alloc, &hashes(alloc, COUNT)?)?;
-    let want = repeated(alloc, "<code>", "#", COUNT - 1, LAST_HASH)?;
-    Ok(html.as_str() == want.as_str())
+    assert!(rt; shows(rt.alloc(), &CHAIN, CHAIN_HTML) == Some(true));
 }
 
 #[test]
 fn of_a_row_of_hashes_the_last_is_interpolated(rt: HostRuntime) {
-    assert!(rt; last_hash_is_interpolated(rt.alloc()) == Ok(true));
+    assert!(rt; shows(rt.alloc(), &HASHES, HASHES_HTML) == Some(true));
 }

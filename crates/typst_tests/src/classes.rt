@@ -46,20 +46,25 @@ fn answers<C: Classes>(classes: &C, c: char) -> Answers {
 /// Characters, their classes, and their class in formulas.
 type Row = (&'static str, Answers, Option<MathClass>);
 
-/// Whether all characters of the rows are in their classes.
-fn has_rows<C: Classes>(classes: &C, rows: &[Row]) -> bool {
-    for (chars, want, math) in rows {
-        if !all_are(classes, chars, *want, *math) {
+/// Whether a character is in these classes.
+fn is_in<C: Classes>(classes: &C, c: char, want: Answers, math: Option<MathClass>) -> bool {
+    answers(classes, c) == want && classes.math_class(c) == math
+}
+
+/// Whether each of the characters is in these classes.
+fn all_are<C: Classes>(classes: &C, (chars, want, math): Row) -> bool {
+    for c in chars.chars() {
+        if !is_in(classes, c, want, math) {
             return false;
         }
     }
     true
 }
 
-/// Whether each of the characters is in these classes.
-fn all_are<C: Classes>(classes: &C, chars: &str, want: Answers, math: Option<MathClass>) -> bool {
-    for c in chars.chars() {
-        if answers(classes, c) != want || classes.math_class(c) != math {
+/// Whether all characters of the rows are in their classes.
+fn has_rows<C: Classes>(classes: &C, rows: &[Row]) -> bool {
+    for row in rows {
+        if !all_are(classes, *row) {
             return false;
         }
     }
@@ -102,11 +107,17 @@ const UNICODE: [Row; 10] = [
     ("⌉⌋⟧⟩⟫⟭⟯", NONE, Some(Closing)),
 ];
 
+/// Characters past ASCII, of which each class value that isn't by Unicode says the same.
+const OTHERS: &str = "é中٣½€⌈";
+
+const IN_WIDE: Row = (OTHERS, LETTER, None);
+
+const IN_NARROW: Row = (OTHERS, NONE, None);
+
 #[test]
 fn characters_past_ascii(rt: HostRuntime) {
     assert!(rt; has_rows(&UnicodeClasses, &UNICODE));
-    assert!(rt; all_are(&Wide, "é中٣½€⌈", LETTER, None));
-    assert!(rt; all_are(&Narrow, "é中٣½€⌈", NONE, None));
+    assert!(rt; all_are(&Wide, IN_WIDE) && all_are(&Narrow, IN_NARROW));
 }
 
 fn is_line(line: &str) -> bool
@@ -123,7 +134,10 @@ fn first_cluster<C: Classes>(classes: &C, line: &str) -> Option<usize> {
     Some(classes.cluster(line))
 }
 
-const CLUSTERS: [(&str, usize); 7] = [
+/// A line, and how many bytes its first cluster has.
+type Cluster = (&'static str, usize);
+
+static CLUSTERS: [Cluster; 7] = [
     ("ab", 1),
     ("aé", 1),
     // A letter with its accent.
@@ -137,21 +151,29 @@ const CLUSTERS: [(&str, usize); 7] = [
     ("中文", 3),
 ];
 
-#[test]
-fn clusters_by_unicode(rt: HostRuntime) {
-    for (line, want) in CLUSTERS {
-        assert!(rt; first_cluster(&UnicodeClasses, line) == Some(want));
+/// Whether the lines have these first clusters.
+fn has_clusters<C: Classes>(classes: &C, rows: &[Cluster]) -> bool {
+    for (line, want) in rows {
+        if first_cluster(classes, line) != Some(*want) {
+            return false;
+        }
     }
+    true
 }
 
 #[test]
+fn clusters_by_unicode(rt: HostRuntime) {
+    assert!(rt; has_clusters(&UnicodeClasses, &CLUSTERS));
+}
+
+static WIDE_CLUSTERS: [Cluster; 2] = [("ab", 1), ("x é", 4)];
+
+static NARROW_CLUSTERS: [Cluster; 2] = [("e\u{301}", 1), ("中文", 3)];
+
+#[test]
 fn other_clusters(rt: HostRuntime) {
-    for (line, want) in [("ab", 1), ("x é", 4)] {
-        assert!(rt; first_cluster(&Wide, line) == Some(want));
-    }
-    for (line, want) in [("e\u{301}", 1), ("中文", 3)] {
-        assert!(rt; first_cluster(&Narrow, line) == Some(want));
-    }
+    assert!(rt; has_clusters(&Wide, &WIDE_CLUSTERS));
+    assert!(rt; has_clusters(&Narrow, &NARROW_CLUSTERS));
 }
 
 /// Whether the text is an identifier by Unicode, where nearly all are letters, and where only
@@ -164,7 +186,10 @@ fn by_all(text: &str) -> [bool; 3] {
     ]
 }
 
-const IDENTIFIERS: [(&str, [bool; 3]); 6] = [
+/// A text, and whether it is an identifier by each of them.
+type Identifier = (&'static str, [bool; 3]);
+
+const IDENTIFIERS: [Identifier; 6] = [
     ("_a-1", [true, true, true]),
     ("", [false, false, false]),
     ("-a", [false, false, false]),
@@ -173,13 +198,30 @@ const IDENTIFIERS: [(&str, [bool; 3]); 6] = [
     ("\u{301}", [false, true, false]),
 ];
 
+/// Whether the texts are identifiers as is said of them.
+fn are_identifiers(rows: &[Identifier]) -> bool {
+    for (text, want) in rows {
+        if by_all(text) != *want {
+            return false;
+        }
+    }
+    true
+}
+
+/// Whether an underscore and a hyphen start an identifier, and a hyphen and a dot go on with one.
+fn are_of_identifiers() -> [bool; 4] {
+    [
+        is_id_start('_', &Narrow),
+        is_id_start('-', &Narrow),
+        is_id_continue('-', &Narrow),
+        is_id_continue('.', &Narrow),
+    ]
+}
+
 #[test]
 fn identifiers(rt: HostRuntime) {
-    for (text, want) in IDENTIFIERS {
-        assert!(rt; by_all(text) == want);
-    }
-    assert!(rt; is_id_start('_', &Narrow) && !is_id_start('-', &Narrow));
-    assert!(rt; is_id_continue('-', &Narrow) && !is_id_continue('.', &Narrow));
+    assert!(rt; are_identifiers(&IDENTIFIERS));
+    assert!(rt; are_of_identifiers() == [true, false, true, false]);
 }
 
 /// Whether eight calls are counted, and answered as by Unicode.

@@ -3,27 +3,36 @@
 ghost use Rattle.std.specs.Prelude.{◌≤◌, length};
 
 use crate::streams::{Full, PACES, Pace, Reader, Room, Writer};
-use std::alloc::{AllocError, Global};
+use std::alloc::Global;
 use std::io::{self, Read};
 use typst_protocol::frames::{End, Frame, FrameReader, write_frame};
 
-/// Whether the stream has these bodies, and ends so, twice.
-fn has(alloc: Global, stream: Reader<'_>, bodies: &[&[u8]], end: End) -> Result<bool, AllocError> {
-    let mut frames = FrameReader::new(alloc, stream)?;
+/// Whether the next frame of a stream is this body.
+fn gives(frames: &mut FrameReader<Reader<'_>>, body: &mut Vec<u8>, wanted: &[u8]) -> bool {
+    frames.read_frame(body) == Ok(Frame::Body) && body.as_slice() == wanted
+}
+
+/// Whether a stream ends so, twice.
+fn ends(frames: &mut FrameReader<Reader<'_>>, body: &mut Vec<u8>, end: End) -> bool {
+    frames.read_frame(body) == Err(end) && frames.read_frame(body) == Err(end)
+}
+
+/// Whether the stream has these bodies, and ends so.
+fn has(alloc: Global, stream: Reader<'_>, bodies: &[&[u8]], end: End) -> Option<bool> {
+    let mut frames = FrameReader::new(alloc, stream).ok()?;
     let mut body = Vec::new(alloc);
     for wanted in bodies {
-        if frames.read_frame(&mut body) != Ok(Frame::Body) || body.as_slice() != *wanted {
-            return Ok(false);
+        if !gives(&mut frames, &mut body, wanted) {
+            return Some(false);
         }
     }
-    let first = frames.read_frame(&mut body);
-    Ok(first == Err(end) && frames.read_frame(&mut body) == first)
+    Some(ends(&mut frames, &mut body, end))
 }
 
 /// A stream with the bodies that it has, and how it ends behind them.
 type Row<'a> = (&'a [u8], &'a [&'a [u8]], End);
 
-const ROWS: [Row<'static>; 30] = [
+static ROWS: [Row<'static>; 30] = [
     (b"", &[], End::Clean),
     (b"Content-Length: 0\r\n\r\n", &[b""], End::Clean),
     (b"Content-Length: 2\r\n\r\n{}", &[b"{}"], End::Clean),
@@ -84,30 +93,40 @@ const ROWS: [Row<'static>; 30] = [
     ),
 ];
 
-/// However little is read at a time, and wherever that is interrupted.
-#[test]
-fn rows_at_each_pace(rt: HostRuntime) -> Result<(), AllocError> {
-    for pace in PACES {
-        for (bytes, bodies, end) in ROWS {
-            let stream = Reader::ending(bytes, pace);
-            assert!(rt; has(rt.alloc(), stream, bodies, end)?, "{bytes:?}");
+/// Whether the streams of all rows, given at a pace, have their bodies and end so.
+fn have(alloc: Global, rows: &[Row], pace: Pace) -> Option<bool> {
+    for (bytes, bodies, end) in rows {
+        if !has(alloc, Reader::ending(bytes, pace), bodies, *end)? {
+            return Some(false);
         }
     }
-    Ok(())
+    Some(true)
 }
 
-/// A stream that fails where it would end.
+/// However little is read at a time, and wherever that is interrupted.
 #[test]
-fn failed_reads(rt: HostRuntime) -> Result<(), AllocError> {
-    for bytes in [
-        b"".as_slice(),
-        b"Content-Length: 2\r\n",
-        b"Content-Length: 2\r\n\r\n{",
-    ] {
-        let stream = Reader::failing(bytes, Pace::Interrupted);
-        assert!(rt; has(rt.alloc(), stream, &[], End::NotRead)?, "{bytes:?}");
+fn rows_at_each_pace(rt: HostRuntime) {
+    for pace in PACES {
+        assert!(rt; have(rt.alloc(), &ROWS, pace) == Some(true), "{pace:?}");
     }
-    Ok(())
+}
+
+static CUT_OFF: [&[u8]; 3] = [b"", b"Content-Length: 2\r\n", b"Content-Length: 2\r\n\r\n{"];
+
+/// Whether streams that fail where they would end tell that they weren't read.
+fn are_not_read(alloc: Global, streams: &[&[u8]]) -> Option<bool> {
+    for bytes in streams {
+        let stream = Reader::failing(bytes, Pace::Interrupted);
+        if !has(alloc, stream, &[], End::NotRead)? {
+            return Some(false);
+        }
+    }
+    Some(true)
+}
+
+#[test]
+fn failed_reads(rt: HostRuntime) {
+    assert!(rt; are_not_read(rt.alloc(), &CUT_OFF) == Some(true));
 }
 
 /// Gives a head, as many zeros, and a tail.
@@ -144,66 +163,109 @@ impl Read for Zeros {
     }
 }
 
-/// A body of one byte over the limit is skipped, and the next one is read.
+/// Whether a body that is too long is skipped, the next one is read, and the stream ends.
+fn skips_one(frames: &mut FrameReader<Zeros>, body: &mut Vec<u8>) -> bool {
+    frames.read_frame(body) == Ok(Frame::TooLong)
+        && frames.read_frame(body) == Ok(Frame::Body)
+        && body.as_slice() == b"[]".as_slice()
+        && frames.read_frame(body) == Err(End::Clean)
+}
+
+fn skips(alloc: Global, stream: Zeros) -> Option<bool> {
+    let mut frames = FrameReader::new(alloc, stream).ok()?;
+    Some(skips_one(&mut frames, &mut Vec::new(alloc)))
+}
+
+/// A body of one byte over the limit.
 #[test]
-fn too_long(rt: HostRuntime) -> Result<(), AllocError> {
+fn too_long(rt: HostRuntime) {
     let stream = Zeros {
         head: b"Content-Length: 67108865\r\n\r\n",
         zeros: 67108865,
         tail: b"Content-Length: 2\r\n\r\n[]",
     };
-    let mut frames = FrameReader::new(rt.alloc(), stream)?;
-    let mut body = Vec::new(rt.alloc());
-    assert!(rt; frames.read_frame(&mut body) == Ok(Frame::TooLong));
-    assert!(rt; frames.read_frame(&mut body) == Ok(Frame::Body));
-    assert!(rt; body.as_slice() == b"[]".as_slice());
-    assert!(rt; frames.read_frame(&mut body) == Err(End::Clean));
-    Ok(())
+    assert!(rt; skips(rt.alloc(), stream) == Some(true));
 }
 
-/// A line of as many bytes as it may have, and of one more; as many lines as a head may have, and one more.
-#[test]
-fn long_heads(rt: HostRuntime) -> Result<(), AllocError> {
-    for (bytes, lines, end) in [
-        (1022, 1, End::Clean),
-        (1023, 1, End::Malformed),
-        (3, 62, End::Clean),
-        (3, 63, End::Malformed),
-    ] {
-        let mut stream = Vec::new(rt.alloc());
-        for _ in 0..lines {
-            stream.extend_from_slice(b"x:")?;
-            let behind = stream.len().saturating_add(bytes).saturating_sub(2);
-            stream.resize(behind, b'y')?;
-            stream.extend_from_slice(b"\r\n")?;
-        }
-        stream.extend_from_slice(b"Content-Length: 0\r\n\r\n")?;
-        let stream = Reader::ending(stream.as_slice(), Pace::Whole);
-        let agrees = match end {
-            End::Clean => has(rt.alloc(), stream, &[b""], end)?,
-            _ => has(rt.alloc(), stream, &[], end)?,
-        };
-        assert!(rt; agrees, "{bytes} {lines}");
+/// Adds a line of so many bytes, which holds no length.
+fn add_line(head: &mut Vec<u8>, bytes: usize) -> Option<()> {
+    head.extend_from_slice(b"x:").ok()?;
+    let behind = head.len().saturating_add(bytes).saturating_sub(2);
+    head.resize(behind, b'y').ok()?;
+    head.extend_from_slice(b"\r\n").ok()
+}
+
+/// So many lines of so many bytes, and an empty body.
+fn long_frame(alloc: Global, bytes: usize, lines: usize) -> Option<Vec<u8>> {
+    let mut frame = Vec::new(alloc);
+    for _ in 0..lines {
+        add_line(&mut frame, bytes)?;
     }
-    Ok(())
+    frame.extend_from_slice(b"Content-Length: 0\r\n\r\n").ok()?;
+    Some(frame)
 }
 
-/// However little is written at a time; where there's no room, a beginning is.
+/// How many bytes a line of a head has, how many such lines there are, and the stream's bodies and end.
+type Head = (usize, usize, &'static [&'static [u8]], End);
+
+/// As many bytes as a line may have, and one more; as many lines as a head may have, and one more.
+static HEADS: [Head; 4] = [
+    (1022, 1, &[b""], End::Clean),
+    (1023, 1, &[], End::Malformed),
+    (3, 62, &[b""], End::Clean),
+    (3, 63, &[], End::Malformed),
+];
+
+/// Whether a stream with such a head has its bodies and ends so.
+fn ends_behind(alloc: Global, (bytes, lines, bodies, end): Head) -> Option<bool> {
+    let frame = long_frame(alloc, bytes, lines)?;
+    has(
+        alloc,
+        Reader::ending(frame.as_slice(), Pace::Whole),
+        bodies,
+        end,
+    )
+}
+
+fn all_end_behind(alloc: Global, heads: &[Head]) -> Option<bool> {
+    for head in heads {
+        if !ends_behind(alloc, *head)? {
+            return Some(false);
+        }
+    }
+    Some(true)
+}
+
 #[test]
-fn written(rt: HostRuntime) -> Result<(), AllocError> {
-    let whole: &[u8] = b"Content-Length: 11\r\n\r\n{\"id\": 100}";
+fn long_heads(rt: HostRuntime) {
+    assert!(rt; all_end_behind(rt.alloc(), &HEADS) == Some(true));
+}
+
+const WRITTEN: &[u8] = b"Content-Length: 11\r\n\r\n{\"id\": 100}";
+
+/// Whether a frame is written where there's room for so many bytes, and else a beginning is.
+fn writes(alloc: Global, bytes: usize, pace: Pace) -> bool {
+    let mut room = Room::of(bytes, pace);
+    room.full = Full::TakesNothing;
+    let mut writer = Writer::new(alloc, room);
+    let is_written = write_frame(&mut writer, b"{\"id\": 100}").is_ok();
+    let wanted = &WRITTEN[..bytes.min(WRITTEN.len())];
+    is_written == (bytes >= WRITTEN.len()) && writer.taken() == wanted
+}
+
+/// However little is written at a time.
+fn writes_at_each_pace(alloc: Global, bytes: usize) -> bool {
     for pace in PACES {
-        for bytes in [0, 9, 17, 21, 30, 33, 50] {
-            let mut room = Room::of(bytes, pace);
-            room.full = Full::TakesNothing;
-            let mut writer = Writer::new(rt.alloc(), room);
-            let result = write_frame(&mut writer, b"{\"id\": 100}");
-            assert!(rt; result.is_ok() == (bytes >= whole.len()), "{bytes}");
-            assert!(rt;
-                writer.taken() == &whole[..bytes.min(whole.len())],
-                "{bytes}"
-            );
+        if !writes(alloc, bytes, pace) {
+            return false;
         }
     }
-    Ok(())
+    true
+}
+
+#[test]
+fn written(rt: HostRuntime) {
+    for bytes in [0, 9, 17, 21, 30, 33, 50] {
+        assert!(rt; writes_at_each_pace(rt.alloc(), bytes), "{bytes}");
+    }
 }

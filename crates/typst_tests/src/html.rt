@@ -1,7 +1,8 @@
-//! The HTML of three documents that are made by hand.
+//! The HTML of four documents that are made by hand.
 
+use crate::refusals::{DEEP, is_told};
 use crate::rows::{Row, tree};
-use std::alloc::{AllocError, Global};
+use std::alloc::Global;
 use typst_highlight::highlight_html;
 use typst_kinds::SyntaxKind;
 
@@ -84,32 +85,37 @@ pub(crate) const ERRORS: [Row; 10] = [
 const ERRORS_HTML: &str =
     "<code>*/<span class=\"typ-key\">#</span><span class=\"typ-key\">let</span> x<span class=\"typ-op\">=</span><span class=\"typ-str\">&quot;a&quot;</span>&gt;</code>";
 
+const DEEP_HTML: &str =
+    "<code><span class=\"typ-emph\"><span class=\"typ-strong\">ab</span></span></code>";
+
+/// A document and its HTML.
+type Shown = (&'static [Row], &'static str);
+
+static SHOWN: [Shown; 4] = [
+    (&RIGHT_TO_LEFT, RIGHT_TO_LEFT_HTML),
+    (&TERM, TERM_HTML),
+    (&ERRORS, ERRORS_HTML),
+    (&DEEP, DEEP_HTML),
+];
+
 /// Whether this is the HTML of the tree of these rows.
-fn shows(alloc: Global, rows: &[Row], html: &str) -> Result<bool, AllocError> {
+pub(crate) fn shows(alloc: Global, rows: &[Row], html: &str) -> Option<bool> {
     let root = tree(alloc, rows)?;
-    Ok(highlight_html(alloc, &root)?.as_str() == html)
+    Some(highlight_html(alloc, &root).ok()?.as_str() == html)
 }
 
-#[test]
-fn right_to_left_texts_and_tabs_stay(rt: HostRuntime) {
-    assert!(rt; shows(rt.alloc(), &RIGHT_TO_LEFT, RIGHT_TO_LEFT_HTML) == Ok(true));
-}
-
-#[test]
-fn a_term_and_a_call_have_spans(rt: HostRuntime) {
-    assert!(rt; shows(rt.alloc(), &TERM, TERM_HTML) == Ok(true));
-}
-
-#[test]
-fn errors_have_no_span(rt: HostRuntime) {
-    assert!(rt; shows(rt.alloc(), &ERRORS, ERRORS_HTML) == Ok(true));
+/// Whether the documents have their HTML, also the next time where memory was refused.
+fn are_shown(alloc: Global, documents: &[Shown]) -> bool {
+    for (rows, html) in documents {
+        if !is_told(shows(alloc, rows, html), shows(alloc, rows, html)) {
+            return false;
+        }
+    }
+    true
 }
 
 // This test passes whichever request for memory is refused: `rt try --test --fail-alloc N`.
 #[test]
-fn a_refusal_is_told_or_the_html_is_whole(rt: HostRuntime) {
-    let alloc = rt.alloc();
-    assert!(rt; shows(alloc, &RIGHT_TO_LEFT, RIGHT_TO_LEFT_HTML) != Ok(false));
-    assert!(rt; shows(alloc, &TERM, TERM_HTML) != Ok(false));
-    assert!(rt; shows(alloc, &ERRORS, ERRORS_HTML) != Ok(false));
+fn documents_have_their_html(rt: HostRuntime) {
+    assert!(rt; are_shown(rt.alloc(), &SHOWN));
 }

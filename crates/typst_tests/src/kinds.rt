@@ -3,8 +3,10 @@ use typst_kinds::{
     Assoc, BinOp, FileId, Span, SpanNumber, SubRange, SyntaxKind, SyntaxSet, UnOp, set,
 };
 
-/// Some kinds with their names in messages.
-const NAMES: [(SyntaxKind, &str); 12] = [
+/// A kind, and its name in messages.
+type Name = (SyntaxKind, &'static str);
+
+static NAMES: [Name; 12] = [
     (SyntaxKind::End, "end of tokens"),
     (SyntaxKind::Error, "syntax error"),
     (SyntaxKind::Parbreak, "paragraph break"),
@@ -22,11 +24,18 @@ const NAMES: [(SyntaxKind, &str); 12] = [
     ),
 ];
 
+fn have_names(names: &[Name]) -> bool {
+    for (kind, name) in names {
+        if kind.name() != *name {
+            return false;
+        }
+    }
+    true
+}
+
 #[test]
 fn names(rt: HostRuntime) {
-    for (kind, name) in NAMES {
-        assert!(rt; kind.name() == name);
-    }
+    assert!(rt; have_names(&NAMES));
 }
 
 /// The kinds of some tests, and one that is none of them.
@@ -77,24 +86,38 @@ fn classes(kind: SyntaxKind) -> [bool; 7] {
     ]
 }
 
+fn have_classes(rows: &[(SyntaxKind, [bool; 7])]) -> bool {
+    for (kind, want) in rows {
+        if classes(*kind) != *want {
+            return false;
+        }
+    }
+    true
+}
+
 #[test]
 fn kinds_have_classes(rt: HostRuntime) {
-    for (kind, want) in CLASSES {
-        assert!(rt; classes(kind) == want);
-    }
+    assert!(rt; have_classes(&CLASSES));
+}
+
+/// Whether the first and the last kind are put into a set and taken out of it.
+fn changes(end: SyntaxSet) -> bool {
+    let both = end.add(SyntaxKind::DestructAssignment);
+    let last = both.remove(SyntaxKind::End).remove(SyntaxKind::Error);
+    both.contains(SyntaxKind::End) && !last.contains(SyntaxKind::End) && last.union(end) == both
 }
 
 #[test]
 fn sets_change(rt: HostRuntime) {
-    let end = SyntaxSet::new().add(SyntaxKind::End);
-    let both = end.add(SyntaxKind::DestructAssignment);
-    let last = both.remove(SyntaxKind::End).remove(SyntaxKind::Error);
-    assert!(rt; both.contains(SyntaxKind::End) && !last.contains(SyntaxKind::End));
-    assert!(rt; last.union(end) == both && set::CODE_EXPR.contains(SyntaxKind::Minus));
+    assert!(rt; changes(SyntaxSet::new().add(SyntaxKind::End)));
+    assert!(rt; set::CODE_EXPR.contains(SyntaxKind::Minus));
 }
 
-/// A binary operator of each precedence: its kind, how tightly it binds, and on which side first.
-const BINARY: [(SyntaxKind, BinOp, u8, Assoc); 6] = [
+/// A kind, its binary operator, how tightly this binds, and on which side first.
+type Binary = (SyntaxKind, BinOp, u8, Assoc);
+
+/// One of each precedence.
+static BINARY: [Binary; 6] = [
     (SyntaxKind::HyphEq, BinOp::SubAssign, 1, Assoc::Right),
     (SyntaxKind::Or, BinOp::Or, 2, Assoc::Left),
     (SyntaxKind::And, BinOp::And, 3, Assoc::Left),
@@ -110,16 +133,29 @@ fn is_binary(kind: SyntaxKind, operator: BinOp, precedence: u8, assoc: Assoc) ->
         && operator.assoc() == assoc
 }
 
-#[test]
-fn binary_operators(rt: HostRuntime) {
-    for (kind, operator, precedence, assoc) in BINARY {
-        assert!(rt; is_binary(kind, operator, precedence, assoc));
+fn are_binary(operators: &[Binary]) -> bool {
+    for (kind, operator, precedence, assoc) in operators {
+        if !is_binary(*kind, *operator, *precedence, *assoc) {
+            return false;
+        }
     }
-    assert!(rt; BinOp::NotIn.precedence() == 4 && BinOp::NotIn.assoc() == Assoc::Left);
+    true
 }
 
-/// The unary operators: their kinds, and how tightly they bind.
-const UNARY: [(SyntaxKind, UnOp, u8); 3] = [
+/// Whether the operator of two words, which has no kind, binds as the one of one word does.
+fn binds_as_in(operator: BinOp) -> bool {
+    operator.precedence() == 4 && operator.assoc() == Assoc::Left
+}
+
+#[test]
+fn binary_operators(rt: HostRuntime) {
+    assert!(rt; are_binary(&BINARY) && binds_as_in(BinOp::NotIn));
+}
+
+/// A kind, its unary operator, and how tightly this binds.
+type Unary = (SyntaxKind, UnOp, u8);
+
+static UNARY: [Unary; 3] = [
     (SyntaxKind::Plus, UnOp::Pos, 7),
     (SyntaxKind::Minus, UnOp::Neg, 7),
     (SyntaxKind::Not, UnOp::Not, 4),
@@ -130,11 +166,18 @@ fn is_unary(kind: SyntaxKind, operator: UnOp, precedence: u8) -> bool {
     UnOp::from_kind(kind) == Some(operator) && operator.precedence() == precedence
 }
 
+fn are_unary(operators: &[Unary]) -> bool {
+    for (kind, operator, precedence) in operators {
+        if !is_unary(*kind, *operator, *precedence) {
+            return false;
+        }
+    }
+    true
+}
+
 #[test]
 fn unary_operators(rt: HostRuntime) {
-    for (kind, operator, precedence) in UNARY {
-        assert!(rt; is_unary(kind, operator, precedence));
-    }
+    assert!(rt; are_unary(&UNARY));
 }
 
 /// Whether a span of this file and this number has them.
@@ -152,10 +195,19 @@ fn spans_keep_the_greatest(rt: HostRuntime) {
     assert!(rt; Span::detached().get().is_none() && size_of::<Span>() == 8);
 }
 
+/// Whether there is a number of a file, of a span, or of a range.
+fn exist() -> [bool; 6] {
+    [
+        FileId::new(0).is_some(),
+        SpanNumber::new(1).is_some(),
+        SpanNumber::new(2).is_some(),
+        SpanNumber::new(1 << 47).is_some(),
+        SubRange::new(3, 1).is_some(),
+        SubRange::new(3, 3).is_some(),
+    ]
+}
+
 #[test]
 fn limits(rt: HostRuntime) {
-    assert!(rt; FileId::new(0).is_none());
-    assert!(rt; SpanNumber::new(1).is_none() && SpanNumber::new(2).is_some());
-    assert!(rt; SpanNumber::new(1 << 47).is_none());
-    assert!(rt; SubRange::new(3, 1).is_none() && SubRange::new(3, 3).is_some());
+    assert!(rt; exist() == [false, false, true, false, false, true]);
 }

@@ -49,4 +49,6 @@ mod tokens;
 #[cfg(test)]
 mod trees;
 #[cfg(test)]
+mod visits;
+#[cfg(test)]
 mod walks;

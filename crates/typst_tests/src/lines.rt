@@ -1,5 +1,6 @@
 //! Positions in a text, its edits, its line ends, and the cursor.
-use std::alloc::{AllocError, Global};
+use crate::refusals::is_told;
+use std::alloc::Global;
 use typst_lines::{Lines, Scanner, ScannerExt, is_newline, split_newlines};
 
 const TEXT: &str = "ä\tcde\nf💛g\r\nhi\rjkl";
@@ -19,10 +20,10 @@ const PLACES: [(usize, usize, usize); 7] = [
 const UNITS: [(usize, usize); 6] = [(0, 0), (2, 1), (3, 2), (8, 7), (12, 9), (21, 18)];
 
 /// Whether the bytes stand at their lines and columns, and these lead back to them.
-fn has_places(lines: &Lines<&str>) -> bool {
-    for (byte, line, column) in PLACES {
-        if lines.byte_to_line_column(byte) != Some((line, column))
-            || lines.line_column_to_byte(line, column) != Some(byte)
+fn has_places(lines: &Lines<&str>, places: &[(usize, usize, usize)]) -> bool {
+    for (byte, line, column) in places {
+        if lines.byte_to_line_column(*byte) != Some((*line, *column))
+            || lines.line_column_to_byte(*line, *column) != Some(*byte)
         {
             return false;
         }
@@ -31,9 +32,11 @@ fn has_places(lines: &Lines<&str>) -> bool {
 }
 
 /// Whether so many UTF-16 units stand before the bytes, and these lead back to them.
-fn has_units(lines: &Lines<&str>) -> bool {
-    for (byte, utf16) in UNITS {
-        if lines.byte_to_utf16(byte) != Some(utf16) || lines.utf16_to_byte(utf16) != Some(byte) {
+fn has_units(lines: &Lines<&str>, units: &[(usize, usize)]) -> bool {
+    for (byte, utf16) in units {
+        if lines.byte_to_utf16(*byte) != Some(*utf16)
+            || lines.utf16_to_byte(*utf16) != Some(*byte)
+        {
             return false;
         }
     }
@@ -42,52 +45,54 @@ fn has_units(lines: &Lines<&str>) -> bool {
 
 /// Whether a line ends where it does, and nothing lies behind the text or within a character.
 fn has_ends(lines: &Lines<&str>) -> bool {
-    lines.line_to_range(1) == Some(7..15)
+    let nowhere = [
+        lines.line_column_to_byte(1, 6),
+        lines.byte_to_line(22),
+        lines.byte_to_column(1),
+        lines.byte_to_utf16(22),
+        lines.utf16_to_byte(19),
+    ];
+    nowhere == [None; 5]
+        && lines.line_to_range(1) == Some(7..15)
         && lines.line_column_to_byte(1, 5) == Some(15)
-        && lines.line_column_to_byte(1, 6).is_none()
-        && lines.byte_to_line(22).is_none()
-        && lines.byte_to_column(1).is_none()
-        && lines.byte_to_utf16(22).is_none()
-        && lines.utf16_to_byte(19).is_none()
 }
 
-fn finds_places(alloc: Global) -> Result<bool, AllocError> {
-    let lines = Lines::new(alloc, TEXT)?;
-    Ok(has_places(&lines) && has_units(&lines) && has_ends(&lines))
+fn finds_places(alloc: Global) -> Option<bool> {
+    let lines = Lines::new(alloc, TEXT).ok()?;
+    Some(has_places(&lines, &PLACES) && has_units(&lines, &UNITS) && has_ends(&lines))
 }
 
-/// The byte behind one UTF-16 unit.
-fn behind_one(alloc: Global, text: &str) -> Result<Option<usize>, AllocError> {
-    Ok(Lines::new(alloc, text)?.utf16_to_byte(1))
+/// Whether one UTF-16 unit stands before this byte of a text.
+fn has_behind_one(alloc: Global, text: &str, byte: Option<usize>) -> Option<bool> {
+    Some(Lines::new(alloc, text).ok()?.utf16_to_byte(1) == byte)
 }
 
 #[test]
 fn places(rt: HostRuntime) {
-    assert!(rt; finds_places(rt.alloc()) == Ok(true));
-    assert!(rt; behind_one(rt.alloc(), "💛a") == Ok(Some(4)));
-    assert!(rt; behind_one(rt.alloc(), "💛") == Ok(None));
+    assert!(rt; finds_places(rt.alloc()) == Some(true));
+    assert!(rt; has_behind_one(rt.alloc(), "💛a", Some(4)) == Some(true));
+    assert!(rt; has_behind_one(rt.alloc(), "💛", None) == Some(true));
 }
 
-fn lines_of(alloc: Global, text: &str) -> Result<Lines<String>, AllocError> {
-    let text = String::from_str(alloc, text)?;
-    Lines::new(alloc, text)
+pub(crate) fn lines_of(alloc: Global, text: &str) -> Option<Lines<String>> {
+    Lines::new(alloc, String::from_str(alloc, text).ok()?).ok()
 }
 
 /// Whether the text is this one, with its table made anew.
-fn is_anew(alloc: Global, lines: &Lines<String>, text: &str) -> Result<bool, AllocError> {
-    let anew = Lines::new(alloc, text)?;
+pub(crate) fn is_anew(alloc: Global, lines: &Lines<String>, text: &str) -> Option<bool> {
+    let anew = Lines::new(alloc, text).ok()?;
     for i in 0..anew.len_lines() {
         if lines.line(i) != anew.line(i) {
-            return Ok(false);
+            return Some(false);
         }
     }
-    Ok(lines.text() == text && lines.len_lines() == anew.len_lines())
+    Some(lines.text() == text && lines.len_lines() == anew.len_lines())
 }
 
 /// A text, the range of it that an edit replaces, what is put there, and the text then.
 type Edit = (&'static str, (usize, usize), &'static str, &'static str);
 
-const EDITS: [Edit; 9] = [
+static EDITS: [Edit; 9] = [
     ("abc\n", (0, 0), "hi\n", "hi\nabc\n"),
     ("\nabc", (0, 0), "hi\r", "hi\r\nabc"),
     (TEXT, (4, 16), "❌", "ä\tc❌i\rjkl"),
@@ -99,38 +104,41 @@ const EDITS: [Edit; 9] = [
     ("a\r\nb", (2, 2), "x", "a\rx\nb"),
 ];
 
-/// The lines of a text after an edit, or before it where its range is none of the text.
-fn edited(
-    alloc: Global,
-    old: &str,
-    (start, end): (usize, usize),
-    with: &str,
-) -> Result<Lines<String>, AllocError> {
-    let mut lines = lines_of(alloc, old)?;
+/// Edits lines, where the range is one of their text.
+fn edit_within(lines: &mut Lines<String>, (start, end): (usize, usize), with: &str) -> Option<()> {
     if start <= end && lines.text().is_char_boundary(start) && lines.text().is_char_boundary(end) {
-        lines.edit(start..end, with)?;
+        lines.edit(start..end, with).ok()?;
     }
-    Ok(lines)
+    Some(())
 }
 
 /// Whether the edit gives the table of the new text.
-fn gives_by_edit(alloc: Global, (old, range, with, new): Edit) -> Result<bool, AllocError> {
-    let edited = edited(alloc, old, range, with)?;
-    is_anew(alloc, &edited, new)
+fn gives_by_edit(alloc: Global, (old, range, with, new): Edit) -> Option<bool> {
+    let mut lines = lines_of(alloc, old)?;
+    edit_within(&mut lines, range, with)?;
+    is_anew(alloc, &lines, new)
 }
 
 /// Whether the replacement by what the edit makes gives the table of the new text.
-fn gives_by_text(alloc: Global, (old, _, _, new): Edit) -> Result<bool, AllocError> {
-    let mut replaced = lines_of(alloc, old)?;
-    Ok(replaced.replace(new)? && is_anew(alloc, &replaced, new)?)
+fn gives_by_text(alloc: Global, (old, _, _, new): Edit) -> Option<bool> {
+    let mut lines = lines_of(alloc, old)?;
+    let is_replaced = lines.replace(new).ok()?;
+    Some(is_replaced && is_anew(alloc, &lines, new)?)
+}
+
+/// Whether all edits give the tables of the new texts.
+fn give(alloc: Global, edits: &[Edit]) -> Option<bool> {
+    for edit in edits {
+        if !gives_by_edit(alloc, *edit)? || !gives_by_text(alloc, *edit)? {
+            return Some(false);
+        }
+    }
+    Some(true)
 }
 
 #[test]
 fn edits(rt: HostRuntime) {
-    for edit in EDITS {
-        assert!(rt; gives_by_edit(rt.alloc(), edit) == Ok(true));
-        assert!(rt; gives_by_text(rt.alloc(), edit) == Ok(true));
-    }
+    assert!(rt; give(rt.alloc(), &EDITS) == Some(true));
 }
 
 fn has_ranges(lines: &Lines<String>) -> bool {
@@ -138,39 +146,56 @@ fn has_ranges(lines: &Lines<String>) -> bool {
 }
 
 /// Whether the text is replaced by another one, and by itself not.
-fn changes_once(lines: &mut Lines<String>) -> Result<bool, AllocError> {
-    Ok(lines.replace("ĩ")? && !lines.replace("ĩ")?)
+fn changes_once(lines: &mut Lines<String>) -> bool {
+    let answers = (lines.replace("ĩ"), lines.replace("ĩ"));
+    matches!(answers, (Ok(true), Ok(false)))
 }
 
-fn is_copied(lines: &Lines<String>) -> Result<bool, AllocError> {
-    Ok(lines.try_clone()? == *lines)
+fn is_copied(lines: &Lines<String>) -> Option<bool> {
+    Some(lines.try_clone().ok()? == *lines)
 }
 
-fn replaces(alloc: Global) -> Result<bool, AllocError> {
+fn replaces(alloc: Global) -> Option<bool> {
     let mut lines = lines_of(alloc, "é")?;
-    Ok(has_ranges(&lines) && changes_once(&mut lines)? && is_copied(&lines)?)
+    let is_replaced = has_ranges(&lines) && changes_once(&mut lines);
+    Some(is_replaced && is_copied(&lines)?)
 }
 
 #[test]
 fn replacements(rt: HostRuntime) {
-    assert!(rt; replaces(rt.alloc()) == Ok(true));
+    assert!(rt; replaces(rt.alloc()) == Some(true));
 }
 
+const STRETCHES: [&str; 3] = ["a", "b", ""];
+
 /// Whether the text is split into these stretches at its line ends.
-fn splits(alloc: Global, text: &str, stretches: &[&str]) -> Result<bool, AllocError> {
-    Ok(split_newlines(alloc, text)?.as_slice() == stretches)
+fn splits(alloc: Global, text: &str, stretches: &[&str]) -> Option<bool> {
+    Some(split_newlines(alloc, text).ok()?.as_slice() == stretches)
+}
+
+/// Whether a line with two ends of different kinds is split at them.
+fn splits_at_both(alloc: Global) -> Option<bool> {
+    splits(alloc, "a\r\nb\r", &STRETCHES)
 }
 
 #[test]
 fn line_ends(rt: HostRuntime) {
     assert!(rt; is_newline('\u{2029}') && !is_newline('\t'));
-    assert!(rt; splits(rt.alloc(), "a\r\nb\r", &["a", "b", ""]) == Ok(true));
+    assert!(rt; is_told(splits_at_both(rt.alloc()), splits_at_both(rt.alloc())));
+}
+
+/// Whether a cursor at the front of `"ab\r\nc\u{85}"` tells what it passes.
+fn passes(cursor: &mut Scanner) -> bool {
+    let first = (cursor.eat(), cursor.scout(1));
+    let second = (cursor.eat_until(&'\r'), cursor.scout(-2));
+    let is_past = cursor.eat_newline();
+    first == (Some('a'), Some('\r'))
+        && second == ("b", Some('a'))
+        && is_past
+        && cursor.after() == "c\u{85}"
 }
 
 #[test]
 fn a_cursor(rt: HostRuntime) {
-    let mut s = Scanner::new("ab\r\nc\u{85}");
-    assert!(rt; s.eat() == Some('a') && s.scout(1) == Some('\r'));
-    assert!(rt; s.eat_until(&'\r') == "b" && s.scout(-2) == Some('a'));
-    assert!(rt; s.eat_newline() && s.after() == "c\u{85}");
+    assert!(rt; passes(&mut Scanner::new("ab\r\nc\u{85}")));
 }

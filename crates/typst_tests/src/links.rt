@@ -1,7 +1,7 @@
 //! The brackets of links, and names of labels.
+use crate::refusals::is_told;
 use crate::{Narrow, Wide};
 use std::alloc::{AllocError, Global};
-use std::process::Abort;
 use typst_lines::{UnicodeClasses, is_valid_label_literal_id, link_prefix};
 
 /// The text without the pairs that stand in it.
@@ -83,23 +83,36 @@ fn closes_brackets(rt: HostRuntime) {
     }
 }
 
-/// Asserts that a text begins with this link, whose brackets are balanced, also where memory was
-/// refused once.
-fn expect_again(rt: &impl Abort, alloc: Global, text: &str, link: &str) {
-    let first = link_prefix(alloc, text);
-    let again = link_prefix(alloc, text);
-    assert!(rt; first.is_ok() || again.is_ok());
-    if let Ok((got, is_balanced)) = again {
-        assert!(rt; got == link && is_balanced);
+/// Whether a text begins with this link, whose brackets are balanced.
+fn begins(alloc: Global, text: &str, link: &str) -> Option<bool> {
+    let (got, is_balanced) = link_prefix(alloc, text).ok()?;
+    Some(got == link && is_balanced)
+}
+
+/// Texts, and the links that they begin with.
+type Link = (&'static str, &'static str);
+
+static LINKS: [Link; 4] = [
+    ("a(b)c d", "a(b)c"),
+    ("a(b)]", "a(b)"),
+    ("a.b", "a.b"),
+    ("é", ""),
+];
+
+/// Whether texts begin with these links, also the next time where memory was refused.
+fn all_begin(alloc: Global, links: &[Link]) -> bool {
+    for (text, link) in links {
+        if !is_told(begins(alloc, text, link), begins(alloc, text, link)) {
+            return false;
+        }
     }
+    true
 }
 
 /// `rt try --test --fail-alloc N` refuses the Nth request.
 #[test]
 fn reads_again_where_memory_is_refused(rt: HostRuntime) {
-    expect_again(&rt, rt.alloc(), "a(b)c d", "a(b)c");
-    expect_again(&rt, rt.alloc(), "a.b", "a.b");
-    expect_again(&rt, rt.alloc(), "é", "");
+    assert!(rt; all_begin(rt.alloc(), &LINKS));
 }
 
 /// Whether a label can have this name by Unicode, where nearly all are letters, and where only ASCII is.
@@ -111,7 +124,10 @@ fn by_all(id: &str) -> [bool; 3] {
     ]
 }
 
-const NAMES: [(&str, [bool; 3]); 7] = [
+/// A text, and whether it is a name by each of them.
+type Name = (&'static str, [bool; 3]);
+
+const NAMES: [Name; 7] = [
     (":a", [true, true, true]),
     ("a-b_1.c:d", [true, true, true]),
     ("é", [true, true, false]),
@@ -121,9 +137,17 @@ const NAMES: [(&str, [bool; 3]); 7] = [
     ("->", [false, false, false]),
 ];
 
+/// Whether the texts are names as is said of them.
+fn are_names(names: &[Name]) -> bool {
+    for (id, want) in names {
+        if by_all(id) != *want {
+            return false;
+        }
+    }
+    true
+}
+
 #[test]
 fn knows_names_of_labels(rt: HostRuntime) {
-    for (id, want) in NAMES {
-        assert!(rt; by_all(id) == want);
-    }
+    assert!(rt; are_names(&NAMES));
 }

@@ -1,9 +1,10 @@
 //! Steps in trees with rows of more than 128 children, held against a list of their nodes.
 
-use crate::trees::{END, many, numbered};
-use std::alloc::{AllocError, Global};
-use typst_kinds::{SpanNumber, SyntaxKind};
-use typst_tree::{LinkedNode, SyntaxNode};
+use crate::rows::{Part, Row, long_tree};
+use crate::trees::{END, numbered};
+use std::alloc::Global;
+use typst_kinds::SyntaxKind;
+use typst_tree::{LinkedNode, SyntaxNode, is_ordered};
 
 /// A node of a tree, by places in preorder.
 #[derive(Clone, Copy)]
@@ -36,11 +37,22 @@ fn placed(node: &SyntaxNode, parent: Option<usize>, place: usize, begin: usize) 
     }
 }
 
+/// A node, and the place of the one above it.
+type Left<'a> = (&'a SyntaxNode, Option<usize>);
+
+/// Puts the children of the node at a place on a list of nodes that are left, the first one last.
+fn leave_nodes<'a>(left: &mut Vec<Left<'a>>, node: &'a SyntaxNode, place: usize) -> Option<()> {
+    for kid in node.children().iter().rev() {
+        left.push((kid, Some(place))).ok()?;
+    }
+    Some(())
+}
+
 /// The nodes in preorder, as if none had another below it.
-fn alone(alloc: Global, root: &SyntaxNode) -> Result<Vec<Place>, AllocError> {
-    let mut all: Vec<Place> = Vec::new(alloc);
+fn alone(alloc: Global, root: &SyntaxNode) -> Option<Vec<Place>> {
+    let mut all = Vec::new(alloc);
     let mut left = Vec::new(alloc);
-    left.push((root, None))?;
+    left.push((root, None)).ok()?;
     let mut begin = 0usize;
     for place in 0..100_000 {
         let Some((node, parent)) = left.pop() else {
@@ -48,34 +60,33 @@ fn alone(alloc: Global, root: &SyntaxNode) -> Result<Vec<Place>, AllocError> {
         };
         let own = placed(node, parent, place, begin);
         begin = own.end;
-        all.push(own)?;
-        for kid in node.children().iter().rev() {
-            left.push((kid, Some(place)))?;
-        }
+        all.push(own).ok()?;
+        leave_nodes(&mut left, node, place)?;
     }
-    Ok(all)
+    Some(all)
 }
 
-/// The node goes as far as one that is below it.
-fn reach(places: &mut [Place], parent: usize, behind: usize, end: usize) {
+/// The node above the one at a place goes as far as this one.
+fn reach(places: &mut [Place], place: usize) {
+    let Some(own) = places.get(place).copied() else {
+        return;
+    };
+    let Some(parent) = own.parent else {
+        return;
+    };
     if let Some(above) = places.get_mut(parent) {
-        above.behind = above.behind.max(behind);
-        above.end = above.end.max(end);
+        above.behind = above.behind.max(own.behind);
+        above.end = above.end.max(own.end);
     }
 }
 
 /// The nodes in preorder.
-fn places(alloc: Global, root: &SyntaxNode) -> Result<Vec<Place>, AllocError> {
+fn places(alloc: Global, root: &SyntaxNode) -> Option<Vec<Place>> {
     let mut all = alone(alloc, root)?;
     for place in (0..all.len()).rev() {
-        let Some(own) = all.as_slice().get(place).copied() else {
-            break;
-        };
-        if let Some(parent) = own.parent {
-            reach(all.as_mut_slice(), parent, own.behind, own.end);
-        }
+        reach(all.as_mut_slice(), place);
     }
-    Ok(all)
+    Some(all)
 }
 
 /// What a step looks for.
@@ -165,17 +176,31 @@ fn leads(places: &[Place], node: Option<LinkedNode>, place: Option<usize>) -> bo
     }
 }
 
-/// Whether the steps from the node at a place lead where they ought to.
-fn has_steps(places: &[Place], node: LinkedNode, place: usize) -> bool {
-    let Some(wanted) = wanted(places, place) else {
-        return false;
-    };
-    for (step, want) in steps(node).iter().zip(wanted.iter()) {
-        if !leads(places, *step, *want) {
+/// Whether the steps from a node lead where they ought to.
+fn lead(places: &[Place], steps: [Option<LinkedNode>; 6], wanted: [Option<usize>; 6]) -> bool {
+    for i in 0..6 {
+        if !leads(places, steps[i], wanted[i]) {
             return false;
         }
     }
-    stands(places, node, place)
+    true
+}
+
+/// Whether the steps from the node at a place lead where they ought to.
+fn has_steps(places: &[Place], node: LinkedNode, place: usize) -> bool {
+    match wanted(places, place) {
+        Some(wanted) => stands(places, node, place) && lead(places, steps(node), wanted),
+        None => false,
+    }
+}
+
+/// Whether both are nothing, or that holds of the node at the place.
+fn leads_on(places: &[Place], node: Option<LinkedNode>, place: Option<usize>) -> bool {
+    match (node, place) {
+        (Some(node), Some(place)) => has_steps(places, node, place),
+        (None, None) => true,
+        _ => false,
+    }
 }
 
 /// Whether that holds of the node at a place and of each that a step from it leads to.
@@ -183,127 +208,186 @@ fn has_steps_twice(places: &[Place], node: LinkedNode, place: usize) -> bool {
     let Some(wanted) = wanted(places, place) else {
         return false;
     };
-    for (step, want) in steps(node).iter().zip(wanted.iter()) {
-        if let (Some(step), Some(want)) = (*step, *want)
-            && !has_steps(places, step, want)
-        {
+    let steps = steps(node);
+    for i in 0..6 {
+        if !leads_on(places, steps[i], wanted[i]) {
             return false;
         }
     }
-    has_steps(places, node, place)
+    stands(places, node, place)
 }
 
-/// The node that is found by its number from the root.
-fn found<'a>(top: LinkedNode<'a>, number: u64) -> Option<LinkedNode<'a>> {
-    top.find_number(SpanNumber::new(number)?)
+/// The place of a node, by its number.
+fn place_of(places: &[Place], node: LinkedNode) -> Option<usize> {
+    let number = node.get().span().number_or_zero();
+    for place in 0..places.len() {
+        if places[place].number == number {
+            return Some(place);
+        }
+    }
+    None
 }
 
-/// Whether that holds of each node of the tree, as `children` gives it and as it is found.
-fn walks(alloc: Global, root: &SyntaxNode, top: LinkedNode) -> Result<bool, AllocError> {
-    let places = places(alloc, root)?;
+/// The node that is found by a node's number from the root.
+fn found<'a>(top: LinkedNode<'a>, node: LinkedNode) -> Option<LinkedNode<'a>> {
+    top.find_number(node.get().span().number()?)
+}
+
+/// Whether that holds of a node, as `children` gives it and as it is found.
+fn walks_at(places: &[Place], top: LinkedNode, node: LinkedNode) -> bool {
+    match (place_of(places, node), found(top, node)) {
+        (Some(place), Some(other)) => {
+            has_steps_twice(places, node, place) && has_steps(places, other, place)
+        }
+        _ => false,
+    }
+}
+
+/// Puts the children of a node on a list of nodes that are left.
+fn leave_children<'a>(left: &mut Vec<LinkedNode<'a>>, node: LinkedNode<'a>) -> Option<()> {
+    for kid in node.children() {
+        left.push(kid).ok()?;
+    }
+    Some(())
+}
+
+/// Whether that holds of each node of the tree.
+fn walks(alloc: Global, places: &[Place], top: LinkedNode) -> Option<bool> {
     let mut left = Vec::new(alloc);
-    left.push(top)?;
-    for (place, own) in places.iter().enumerate() {
-        let Some(node) = left.pop() else {
-            return Ok(false);
-        };
-        let other = found(top, own.number);
-        if !has_steps_twice(&places, node, place)
-            || !other.is_some_and(|other| has_steps(&places, other, place))
-        {
-            return Ok(false);
+    left.push(top).ok()?;
+    for _ in 0..places.len() {
+        let node = left.pop()?;
+        if !walks_at(places, top, node) {
+            return Some(false);
         }
-        let mut kids = Vec::new(alloc);
-        for kid in node.children() {
-            kids.push(kid)?;
-        }
-        for kid in kids.iter().rev() {
-            left.push(*kid)?;
-        }
+        leave_children(&mut left, node)?;
     }
-    Ok(left.is_empty())
+    Some(left.is_empty())
 }
 
-/// A row of so many leaves, some of which are trivia or errors, round a node in its middle.
-fn row(alloc: Global, count: usize, middle: SyntaxNode) -> Result<SyntaxNode, AllocError> {
-    let mut kids = many(alloc, SyntaxKind::Ident, count / 2)?;
-    kids.push(SyntaxNode::leaf(alloc, SyntaxKind::Space, " ")?)?;
-    kids.push(middle)?;
-    kids.push(SyntaxNode::error(alloc, "odd", "?")?)?;
-    kids.push(SyntaxNode::leaf(alloc, SyntaxKind::Space, " ")?)?;
-    for _ in 0..count / 2 {
-        kids.push(SyntaxNode::leaf(alloc, SyntaxKind::Ident, "ab")?)?;
-    }
-    Ok(SyntaxNode::inner(SyntaxKind::Markup, kids))
-}
-
-/// A leaf below so many nodes with one child each.
-fn chain(alloc: Global, depth: usize) -> Result<SyntaxNode, AllocError> {
-    let mut node = SyntaxNode::leaf(alloc, SyntaxKind::Ident, "a")?;
-    for _ in 0..depth {
-        let mut kids = Vec::new(alloc);
-        kids.push(node)?;
-        node = SyntaxNode::inner(SyntaxKind::Strong, kids);
-    }
-    Ok(node)
-}
-
-/// So many chains side by side, between two spaces.
-fn chains(alloc: Global, count: usize, depth: usize) -> Result<SyntaxNode, AllocError> {
-    let mut kids = many(alloc, SyntaxKind::Space, 1)?;
-    for _ in 0..count {
-        kids.push(chain(alloc, depth)?)?;
-    }
-    kids.push(SyntaxNode::leaf(alloc, SyntaxKind::Space, " ")?)?;
-    Ok(SyntaxNode::inner(SyntaxKind::Markup, kids))
-}
-
-/// Whether all steps in the tree, once it has numbers, lead where they ought to.
-fn walks_both(alloc: Global, tree: SyntaxNode) -> Option<bool> {
-    let root = numbered(tree, END)?;
-    if root.descendants() > 100_000 || !typst_tree::is_ordered(&root) {
+/// Whether all steps in the tree, whose order is known or not, lead where they ought to.
+fn walks_both(alloc: Global, root: &SyntaxNode) -> Option<bool> {
+    if root.descendants() > 100_000 || !is_ordered(root) {
         return None;
     }
-    let any = walks(alloc, &root, LinkedNode::new(&root)).ok()?;
-    Some(any && walks(alloc, &root, LinkedNode::ordered(&root)).ok()?)
+    let places = places(alloc, root)?;
+    let any = walks(alloc, places.as_slice(), LinkedNode::new(root))?;
+    Some(any && walks(alloc, places.as_slice(), LinkedNode::ordered(root))?)
 }
 
-fn walks_long_row(alloc: Global) -> Option<bool> {
-    walks_both(alloc, row(alloc, 150, chain(alloc, 2).ok()?).ok()?)
+/// Whether that holds of the trees of these parts, once they have numbers.
+fn walks_all(alloc: Global, trees: &[&[Part]]) -> Option<bool> {
+    for parts in trees {
+        if !walks_both(alloc, &numbered(long_tree(alloc, parts)?, END)?)? {
+            return Some(false);
+        }
+    }
+    Some(true)
 }
+
+const X: &[Row] = &[(SyntaxKind::Ident, "x", None)];
+
+const AB: &[Row] = &[(SyntaxKind::Ident, "ab", None)];
+
+const SPACE: &[Row] = &[(SyntaxKind::Space, " ", None)];
+
+/// An error and a space.
+const ODD: &[Row] = &[
+    (SyntaxKind::Error, "?", None),
+    (SyntaxKind::Space, " ", None),
+];
+
+const A: &[Row] = &[(SyntaxKind::Ident, "a", None)];
+
+/// Goes round the node before it.
+const LINK: &[Row] = &[(SyntaxKind::Strong, "", Some(1))];
+
+/// A leaf below five nodes with one child each.
+const CHAIN: &[Row] = &[
+    (SyntaxKind::Ident, "a", None),
+    (SyntaxKind::Strong, "", Some(1)),
+    (SyntaxKind::Strong, "", Some(1)),
+    (SyntaxKind::Strong, "", Some(1)),
+    (SyntaxKind::Strong, "", Some(1)),
+    (SyntaxKind::Strong, "", Some(1)),
+];
+
+/// The same below six.
+const LONG_CHAIN: &[Row] = &[
+    (SyntaxKind::Ident, "a", None),
+    (SyntaxKind::Strong, "", Some(1)),
+    (SyntaxKind::Strong, "", Some(1)),
+    (SyntaxKind::Strong, "", Some(1)),
+    (SyntaxKind::Strong, "", Some(1)),
+    (SyntaxKind::Strong, "", Some(1)),
+    (SyntaxKind::Strong, "", Some(1)),
+];
+
+/// A long row, some of whose leaves are trivia or errors, with a chain in its middle.
+const LONG_ROW: [Part; 7] = [
+    (X, 75),
+    (SPACE, 1),
+    (A, 1),
+    (LINK, 2),
+    (ODD, 1),
+    (AB, 75),
+    (&[(SyntaxKind::Markup, "", Some(154))], 1),
+];
+
+/// A long row in a short one in a long one.
+const ROW_IN_ROW: [Part; 17] = [
+    (X, 65),
+    (SPACE, 1),
+    (X, 2),
+    (SPACE, 1),
+    (X, 70),
+    (SPACE, 1),
+    (A, 1),
+    (LINK, 1),
+    (ODD, 1),
+    (AB, 70),
+    (&[(SyntaxKind::Markup, "", Some(144))], 1),
+    (ODD, 1),
+    (AB, 2),
+    (&[(SyntaxKind::Markup, "", Some(8))], 1),
+    (ODD, 1),
+    (AB, 65),
+    (&[(SyntaxKind::Markup, "", Some(134))], 1),
+];
+
+/// A long row of chains between two spaces.
+const CHAINS: [Part; 4] = [
+    (SPACE, 1),
+    (CHAIN, 130),
+    (SPACE, 1),
+    (&[(SyntaxKind::Markup, "", Some(132))], 1),
+];
+
+/// A row with a child that is larger than it.
+const LARGE_CHILD: [Part; 18] = [
+    (X, 1),
+    (SPACE, 1),
+    (X, 65),
+    (SPACE, 1),
+    (X, 2),
+    (SPACE, 2),
+    (LONG_CHAIN, 60),
+    (SPACE, 1),
+    (&[(SyntaxKind::Markup, "", Some(62))], 1),
+    (ODD, 1),
+    (AB, 2),
+    (&[(SyntaxKind::Markup, "", Some(8))], 1),
+    (ODD, 1),
+    (AB, 65),
+    (&[(SyntaxKind::Markup, "", Some(134))], 1),
+    (ODD, 1),
+    (AB, 1),
+    (&[(SyntaxKind::Markup, "", Some(6))], 1),
+];
+
+static TREES: [&[Part]; 4] = [&LONG_ROW, &ROW_IN_ROW, &CHAINS, &LARGE_CHILD];
 
 #[test]
-fn a_long_row(rt: HostRuntime) {
-    assert!(rt; walks_long_row(rt.alloc()) == Some(true));
-}
-
-fn walks_row_in_row(alloc: Global) -> Option<bool> {
-    let inner = row(alloc, 140, chain(alloc, 1).ok()?).ok()?;
-    let short = row(alloc, 4, inner).ok()?;
-    walks_both(alloc, row(alloc, 130, short).ok()?)
-}
-
-#[test]
-fn a_long_row_in_a_long_one(rt: HostRuntime) {
-    assert!(rt; walks_row_in_row(rt.alloc()) == Some(true));
-}
-
-fn walks_chains(alloc: Global) -> Option<bool> {
-    walks_both(alloc, chains(alloc, 130, 5).ok()?)
-}
-
-#[test]
-fn a_long_row_of_chains(rt: HostRuntime) {
-    assert!(rt; walks_chains(rt.alloc()) == Some(true));
-}
-
-fn walks_large_child(alloc: Global) -> Option<bool> {
-    let large = row(alloc, 4, chains(alloc, 60, 6).ok()?).ok()?;
-    let long = row(alloc, 130, large).ok()?;
-    walks_both(alloc, row(alloc, 2, long).ok()?)
-}
-
-#[test]
-fn a_child_larger_than_its_row(rt: HostRuntime) {
-    assert!(rt; walks_large_child(rt.alloc()) == Some(true));
+fn steps_in_long_rows(rt: HostRuntime) {
+    assert!(rt; walks_all(rt.alloc(), &TREES) == Some(true));
 }

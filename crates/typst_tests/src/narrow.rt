@@ -4,7 +4,7 @@ ghost use Rattle.std.specs.Prelude.{◌≡◌};
 use typst_lines::classes::{Classes, MathClass, ascii_math_class};
 
 /// Past ASCII no character is in a class, and a cluster is always one character.
-#[derive(Debug, Clone, Copy, PartialEq, Eq)]
+#[derive(Clone, Copy)]
 pub struct Narrow;
 
 impl Classes for Narrow {

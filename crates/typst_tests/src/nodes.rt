@@ -1,29 +1,31 @@
-use crate::rows::leaf;
-use crate::trees::{many, sample};
-use std::alloc::{AllocError, Global};
+use crate::rows::{Part, leaf, long_tree};
+use crate::trees::{END, numbered, same, sample};
+use std::alloc::Global;
 use std::mem::size_of;
 use typst_kinds::{Hint, Severity, Span, SyntaxKind};
 use typst_tree::SyntaxNode;
 
 #[test]
-fn a_node_takes_64_bytes(rt: HostRuntime) {
-    assert!(rt; size_of::<SyntaxNode>() <= 64);
+fn a_node_takes_48_bytes(rt: HostRuntime) {
+    assert!(rt; size_of::<SyntaxNode>() == 48);
 }
 
 /// Whether what is read of the node is what `sample` has.
 fn is_sample(node: &SyntaxNode) -> bool {
-    node.len() == 7
-        && node.descendants() == 8
-        && node.is_inner()
-        && !node.is_empty()
+    [node.len(), node.descendants()] == [7, 8]
+        && [node.is_inner(), node.is_empty()] == [true, false]
         && node.leaf_text() == ""
         && node.kind() == SyntaxKind::ContentBlock
         && node.span() == Span::detached()
 }
 
 fn have_kinds(nodes: &[SyntaxNode], kinds: &[SyntaxKind]) -> bool {
-    let same = |(node, kind): (&SyntaxNode, &SyntaxKind)| node.kind() == *kind;
-    nodes.len() == kinds.len() && nodes.iter().zip(kinds).all(same)
+    for (node, kind) in nodes.iter().zip(kinds) {
+        if node.kind() != *kind {
+            return false;
+        }
+    }
+    nodes.len() == kinds.len()
 }
 
 const SAMPLE_KINDS: [SyntaxKind; 4] = [
@@ -33,27 +35,27 @@ const SAMPLE_KINDS: [SyntaxKind; 4] = [
     SyntaxKind::RightBracket,
 ];
 
-fn makes_the_sample(alloc: Global) -> Result<bool, AllocError> {
+fn makes_the_sample(alloc: Global) -> Option<bool> {
     let node = sample(alloc)?;
-    Ok(is_sample(&node) && have_kinds(node.children(), &SAMPLE_KINDS))
+    Some(is_sample(&node) && have_kinds(node.children(), &SAMPLE_KINDS))
 }
 
 #[test]
 fn reads_what_was_made(rt: HostRuntime) {
-    assert!(rt; makes_the_sample(rt.alloc()) == Ok(true));
+    assert!(rt; makes_the_sample(rt.alloc()) == Some(true));
 }
 
-/// Whether the hints are that one, or none.
-fn are_hint(hints: &[Hint], wanted: Option<&str>) -> bool {
+/// Whether the hints are that one, or none where it is empty.
+fn are_hint(hints: &[Hint], wanted: &str) -> bool {
     match hints {
-        [] => wanted.is_none(),
-        [hint] => wanted == Some(hint.message()),
+        [] => wanted.is_empty(),
+        [hint] => wanted == hint.message(),
         _ => false,
     }
 }
 
-/// Whether the node has one error, with that message and that hint.
-fn says(node: &SyntaxNode, message: &str, hint: Option<&str>) -> bool {
+/// Whether the node has one error, with that message and that hint, if any.
+fn says(node: &SyntaxNode, message: &str, hint: &str) -> bool {
     match node.diagnostics() {
         [error] => {
             error.severity() == Severity::Error
@@ -70,117 +72,101 @@ type Expected = (
     &'static str,
     &'static str,
     &'static str,
-    Option<&'static str>,
+    &'static str,
 );
 
 const HINT: &str = "keyword `let` is not allowed as an identifier; try `let_` instead";
 
-const EXPECTED: [Expected; 5] = [
+static EXPECTED: [Expected; 5] = [
     (
         SyntaxKind::Let,
         "let",
         "identifier",
         "expected identifier, found keyword `let`",
-        Some(HINT),
+        HINT,
     ),
     (
         SyntaxKind::Let,
         "let",
         "pattern",
         "expected pattern, found keyword `let`",
-        Some(HINT),
+        HINT,
     ),
     (
         SyntaxKind::Let,
         "let",
         "expression",
         "expected expression, found keyword `let`",
-        None,
+        "",
     ),
     (
         SyntaxKind::Underscore,
         "_",
         "identifier",
         "expected identifier, found underscore",
-        None,
+        "",
     ),
     (
         SyntaxKind::None,
         "none",
         "colon",
         "expected colon, found `none`",
-        None,
+        "",
     ),
 ];
 
-/// A token in whose place a thing was expected.
-fn unexpected(
-    alloc: Global,
-    kind: SyntaxKind,
-    text: &str,
-    thing: &str,
-) -> Result<SyntaxNode, AllocError> {
+/// Whether a token in whose place a thing was expected says so.
+fn says_expected(alloc: Global, (kind, text, thing, message, hint): Expected) -> Option<bool> {
     let mut node = leaf(alloc, kind, text)?;
-    node.expected(thing)?;
-    Ok(node)
+    node.expected(thing).ok()?;
+    Some(says(&node, message, hint))
+}
+
+/// Whether all tokens say what was expected in their places.
+fn say_expected(alloc: Global, rows: &[Expected]) -> Option<bool> {
+    for row in rows {
+        if !says_expected(alloc, *row)? {
+            return Some(false);
+        }
+    }
+    Some(true)
 }
 
 #[test]
 fn says_what_was_expected(rt: HostRuntime) {
-    for (kind, text, thing, message, hint) in EXPECTED {
-        let node = unexpected(rt.alloc(), kind, text, thing);
-        assert!(rt; node.is_ok_and(|node| says(&node, message, hint)));
-    }
+    assert!(rt; say_expected(rt.alloc(), &EXPECTED) == Some(true));
 }
 
-/// A bracket that became an error, and then was to become others and a text.
-fn changed_again(alloc: Global) -> Result<SyntaxNode, AllocError> {
-    let mut node = leaf(alloc, SyntaxKind::RightBracket, "]")?;
-    node.unexpected()?;
-    node.expected("expression")?;
-    node.convert_to_error("again")?;
-    node.convert_to_kind(SyntaxKind::Text);
-    Ok(node)
+/// Makes a bracket an error, and then others and a text.
+fn change_again(bracket: &mut SyntaxNode) -> Option<()> {
+    bracket.unexpected().ok()?;
+    bracket.expected("expression").ok()?;
+    bracket.convert_to_error("again").ok()?;
+    bracket.convert_to_kind(SyntaxKind::Text);
+    Some(())
 }
 
 /// Whether the node is an error with this text and this message, and no hint.
 fn is_error(node: &SyntaxNode, text: &str, message: &str) -> bool {
-    node.kind() == SyntaxKind::Error && node.leaf_text() == text && says(node, message, None)
+    node.kind() == SyntaxKind::Error && node.leaf_text() == text && says(node, message, "")
 }
 
-fn stays_an_error(alloc: Global) -> Result<bool, AllocError> {
-    let node = changed_again(alloc)?;
-    Ok(is_error(&node, "]", "unexpected closing bracket"))
+fn stays_an_error(alloc: Global) -> Option<bool> {
+    let mut node = leaf(alloc, SyntaxKind::RightBracket, "]")?;
+    change_again(&mut node)?;
+    Some(is_error(&node, "]", "unexpected closing bracket"))
 }
 
 #[test]
 fn an_error_stays(rt: HostRuntime) {
-    assert!(rt; stays_an_error(rt.alloc()) == Ok(true));
+    assert!(rt; stays_an_error(rt.alloc()) == Some(true));
 }
 
-/// `sample` with another kind, and another kind of its second child.
-fn converted(alloc: Global) -> Result<SyntaxNode, AllocError> {
-    let mut node = sample(alloc)?;
-    node.convert_child_to_kind(1, SyntaxKind::Space);
-    node.convert_child_to_kind(9, SyntaxKind::Space);
-    node.convert_to_kind(SyntaxKind::Markup);
-    Ok(node)
-}
-
-/// The node as an error.
-fn as_error(mut node: SyntaxNode) -> Result<SyntaxNode, AllocError> {
-    node.convert_to_error("wrong")?;
-    Ok(node)
-}
-
-/// Whether a copy is the same, and the copy as an error is another one.
-fn differs_as_error(node: &SyntaxNode) -> Result<bool, AllocError> {
-    let same = node.try_clone()?;
-    if !node.spanless_eq(&same) {
-        return Ok(false);
-    }
-    let error = as_error(same)?;
-    Ok(is_error(&error, "[a *b*]", "wrong") && !node.spanless_eq(&error))
+/// Gives `sample` another kind, and its second child.
+fn convert(sample: &mut SyntaxNode) {
+    sample.convert_child_to_kind(1, SyntaxKind::Space);
+    sample.convert_child_to_kind(9, SyntaxKind::Space);
+    sample.convert_to_kind(SyntaxKind::Markup);
 }
 
 const CONVERTED_KINDS: [SyntaxKind; 4] = [
@@ -190,32 +176,51 @@ const CONVERTED_KINDS: [SyntaxKind; 4] = [
     SyntaxKind::RightBracket,
 ];
 
-fn converts_twice(alloc: Global) -> Result<bool, AllocError> {
-    let node = converted(alloc)?;
-    let has_kinds = have_kinds(node.children(), &CONVERTED_KINDS);
-    Ok(has_kinds && node.kind() == SyntaxKind::Markup && differs_as_error(&node)?)
+/// Whether the node is `sample` with its other kinds.
+fn is_converted(node: &SyntaxNode) -> bool {
+    node.kind() == SyntaxKind::Markup && have_kinds(node.children(), &CONVERTED_KINDS)
+}
+
+/// Whether a copy is the same, and the copy as an error is another one.
+fn differs_as_error(node: &SyntaxNode) -> Option<bool> {
+    let mut copy = node.try_clone().ok()?;
+    let was_same = node.spanless_eq(&copy);
+    copy.convert_to_error("wrong").ok()?;
+    Some(was_same && is_error(&copy, "[a *b*]", "wrong") && !node.spanless_eq(&copy))
+}
+
+fn converts_twice(alloc: Global) -> Option<bool> {
+    let mut node = sample(alloc)?;
+    convert(&mut node);
+    Some(is_converted(&node) && differs_as_error(&node)?)
 }
 
 #[test]
 fn converts(rt: HostRuntime) {
-    assert!(rt; converts_twice(rt.alloc()) == Ok(true));
+    assert!(rt; converts_twice(rt.alloc()) == Some(true));
 }
 
-/// Whether a node is the same as its copy with a span.
-fn copies(node: &SyntaxNode) -> Result<bool, AllocError> {
-    let mut same = node.try_clone()?;
-    same.synthesize(Span::detached());
-    Ok(node.spanless_eq(&same))
+/// Whether a copy of a node with a number has all its numbers, and is the same once it has none.
+fn copies(alloc: Global, node: &SyntaxNode) -> Option<bool> {
+    let mut copy = node.try_clone().ok()?;
+    let was_same = same(alloc, node, &copy)? && copy.span() != Span::detached();
+    copy.synthesize(Span::detached());
+    Some(was_same && copy.span() == Span::detached() && node.spanless_eq(&copy))
 }
 
-/// How many nodes a node over so many leaves has, or 0 where its copy isn't the same.
-fn copied(alloc: Global, leaves: usize) -> Result<usize, AllocError> {
-    let node = SyntaxNode::inner(SyntaxKind::Markup, many(alloc, SyntaxKind::Text, leaves)?);
-    let is_copied = copies(&node)?;
-    Ok(if is_copied { node.descendants() } else { 0 })
+/// 200,000 leaves under a node.
+static WIDE: [Part; 2] = [
+    (&[(SyntaxKind::Text, "x", None)], 200_000),
+    (&[(SyntaxKind::Markup, "", Some(200_000))], 1),
+];
+
+/// Whether a tree of so many nodes, with numbers, is copied.
+fn is_copied(alloc: Global, parts: &[Part], nodes: usize) -> Option<bool> {
+    let root = numbered(long_tree(alloc, parts)?, END)?;
+    Some(root.descendants() == nodes && copies(alloc, &root)?)
 }
 
 #[test]
 fn two_hundred_thousand_children(rt: HostRuntime) {
-    assert!(rt; copied(rt.alloc(), 200_000) == Ok(200_001));
+    assert!(rt; is_copied(rt.alloc(), &WIDE, 200_001) == Some(true));
 }

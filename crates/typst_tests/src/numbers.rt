@@ -1,6 +1,6 @@
-use crate::rows::{Row, leaf, tree};
-use crate::trees::{END, has_numbers, leaves, many, number, numbered, numbers, replace, same};
-use std::alloc::{AllocError, Global};
+use crate::rows::{Part, Row, list, long_tree, tree};
+use crate::trees::{END, has_numbers, number, numbered, numbers, replace};
+use std::alloc::Global;
 use typst_kinds::{SourceError, SyntaxKind};
 use typst_tree::SyntaxNode;
 
@@ -9,33 +9,10 @@ const A_UNDER_MARKUP: [Row; 2] = [
     (SyntaxKind::Markup, "", Some(1)),
 ];
 
-// A range of numbers, what `numberize` answers, and the numbers then.
-const RANGES: [(u64, u64, Result<(), SourceError>, [u64; 2]); 3] = [
-    (2, 3, Err(SourceError::SpanNumbers), [0, 0]),
-    (2, 4, Ok(()), [2, 3]),
-    (2, END, Ok(()), [17592186044417, 52776558133248]),
+const B_UNDER_MARKUP: [Row; 2] = [
+    (SyntaxKind::Text, "b", None),
+    (SyntaxKind::Markup, "", Some(1)),
 ];
-
-/// Whether numbering a tree within this range is answered so and gives these numbers.
-fn gets_numbers(
-    alloc: Global,
-    rows: &[Row],
-    (start, end): (u64, u64),
-    answer: Result<(), SourceError>,
-    want: &[u64],
-) -> Result<bool, AllocError> {
-    let mut node = tree(alloc, rows)?;
-    let answered = number(&mut node, start, end) == answer;
-    Ok(answered && has_numbers(alloc, &node, want)?)
-}
-
-#[test]
-fn a_leaf_under_markup(rt: HostRuntime) {
-    for (start, end, answer, want) in RANGES {
-        let got = gets_numbers(rt.alloc(), &A_UNDER_MARKUP, (start, end), answer, &want);
-        assert!(rt; got == Ok(true));
-    }
-}
 
 const B: [Row; 1] = [(SyntaxKind::Text, "b", None)];
 
@@ -43,73 +20,6 @@ const B_AND_TILDE: [Row; 2] = [
     (SyntaxKind::Text, "b", None),
     (SyntaxKind::Shorthand, "~", None),
 ];
-
-/// The nodes of these leaves, in order.
-fn leaves_of(alloc: Global, rows: &[Row]) -> Result<Vec<SyntaxNode>, AllocError> {
-    let mut all = Vec::new(alloc);
-    for (kind, text, _) in rows {
-        all.push(leaf(alloc, *kind, text)?)?;
-    }
-    Ok(all)
-}
-
-/// `a` under a node, which have the numbers 2 and 3 and no other.
-fn two_numbered(alloc: Global) -> Option<SyntaxNode> {
-    numbered(tree(alloc, &A_UNDER_MARKUP).ok()?, 4)
-}
-
-/// Whether `b` takes the place of `a`, with its number.
-fn takes_one(alloc: Global) -> Option<bool> {
-    let mut node = two_numbered(alloc)?;
-    let is_done = replace(&mut node, &[], 0, 1, leaves_of(alloc, &B).ok()?).is_ok();
-    let is_b = matches!(node.children(), [kid] if kid.leaf_text() == "b");
-    Some(is_done && is_b && has_numbers(alloc, &node, &[2, 3]).ok()?)
-}
-
-/// Whether numbers are too few for two leaves in the place of `a`, and nothing changes then.
-fn refuses_two(alloc: Global) -> Option<bool> {
-    let mut node = two_numbered(alloc)?;
-    let before = node.try_clone().ok()?;
-    let two = leaves_of(alloc, &B_AND_TILDE).ok()?;
-    let is_refused = replace(&mut node, &[], 0, 1, two) == Err(SourceError::SpanNumbers);
-    Some(is_refused && same(alloc, &node, &before))
-}
-
-#[test]
-fn two_numbers_are_enough_for_two_nodes(rt: HostRuntime) {
-    assert!(rt; takes_one(rt.alloc()) == Some(true));
-    assert!(rt; refuses_two(rt.alloc()) == Some(true));
-}
-
-/// Whether a tree with numbers keeps them where those of another range are too few.
-fn keeps_numbers(alloc: Global) -> Option<bool> {
-    let mut node = two_numbered(alloc)?;
-    let before = node.try_clone().ok()?;
-    let is_refused = number(&mut node, 7, 8) == Err(SourceError::SpanNumbers);
-    Some(is_refused && same(alloc, &node, &before))
-}
-
-#[test]
-fn a_tree_that_finds_no_numbers_keeps_its_own(rt: HostRuntime) {
-    assert!(rt; keeps_numbers(rt.alloc()) == Some(true));
-}
-
-/// Whether a tree of no file refuses these leaves in the place of its first `to` children, and stays.
-fn refuses_without_file(alloc: Global, to: usize, rows: &[Row]) -> Option<bool> {
-    let mut node = tree(alloc, &A_UNDER_MARKUP).ok()?;
-    let before = node.try_clone().ok()?;
-    let new = leaves_of(alloc, rows).ok()?;
-    let is_refused = replace(&mut node, &[], 0, to, new) == Err(SourceError::SpanNumbers);
-    Some(is_refused && same(alloc, &node, &before))
-}
-
-/// Also where no new node asks for a number.
-#[test]
-fn a_tree_of_no_file_finds_no_numbers(rt: HostRuntime) {
-    assert!(rt; refuses_without_file(rt.alloc(), 1, &B) == Some(true));
-    assert!(rt; refuses_without_file(rt.alloc(), 1, &[]) == Some(true));
-    assert!(rt; refuses_without_file(rt.alloc(), 0, &[]) == Some(true));
-}
 
 // `a *b* c`, as the Rust original numbers it.
 const ORIGINAL: [Row; 10] = [
@@ -125,7 +35,7 @@ const ORIGINAL: [Row; 10] = [
     (SyntaxKind::Markup, "", Some(5)),
 ];
 
-const ORIGINAL_NUMBERS: [u64; 10] = [
+const ORIGINAL_NUMBERS: &[u64] = &[
     3518437208885,
     10555311626651,
     17592186044417,
@@ -138,37 +48,214 @@ const ORIGINAL_NUMBERS: [u64; 10] = [
     66850306968779,
 ];
 
-#[test]
-fn numbers_of_the_original(rt: HostRuntime) {
-    let got = gets_numbers(rt.alloc(), &ORIGINAL, (2, END), Ok(()), &ORIGINAL_NUMBERS);
-    assert!(rt; got == Ok(true));
+/// What is done to a tree.
+enum Act {
+    /// It gets numbers from a first one up to an end.
+    Number(u64, u64),
+    /// Its first so many children are replaced by these leaves.
+    Replace(usize, &'static [Row]),
 }
 
-const OLD: [SyntaxKind; 5] = [
-    SyntaxKind::Text,
-    SyntaxKind::Space,
-    SyntaxKind::Star,
-    SyntaxKind::Comma,
-    SyntaxKind::Text,
+/// What is done to a tree, and what comes of it.
+struct Case {
+    rows: &'static [Row],
+    /// The end of the numbers that the tree has, 0 where it has none.
+    end: u64,
+    act: Act,
+    answer: Result<(), SourceError>,
+    /// The tree then.
+    then: &'static [Row],
+    numbers: &'static [u64],
+}
+
+/// The tree to which it is done.
+fn given(alloc: Global, case: &Case) -> Option<SyntaxNode> {
+    let node = tree(alloc, case.rows)?;
+    if case.end == 0 {
+        return Some(node);
+    }
+    numbered(node, case.end)
+}
+
+/// Does it.
+fn done(alloc: Global, node: &mut SyntaxNode, act: &Act) -> Option<Result<(), SourceError>> {
+    match act {
+        Act::Number(start, end) => Some(number(node, *start, *end)),
+        Act::Replace(to, rows) => Some(replace(node, &[], 0, *to, list(alloc, rows)?)),
+    }
+}
+
+/// Whether the tree is then what it ought to be.
+fn is_then(alloc: Global, node: &SyntaxNode, case: &Case) -> Option<bool> {
+    let is_tree = node.spanless_eq(&tree(alloc, case.then)?);
+    Some(is_tree && has_numbers(alloc, node, case.numbers)?)
+}
+
+/// Whether that comes which ought to.
+fn comes(alloc: Global, case: &Case) -> Option<bool> {
+    let mut node = given(alloc, case)?;
+    let answer = done(alloc, &mut node, &case.act)?;
+    Some(answer == case.answer && is_then(alloc, &node, case)?)
+}
+
+fn all_come(alloc: Global, cases: &[Case]) -> Option<bool> {
+    for case in cases {
+        if !comes(alloc, case)? {
+            return Some(false);
+        }
+    }
+    Some(true)
+}
+
+static NUMBERED: [Case; 3] = [
+    Case {
+        rows: &A_UNDER_MARKUP,
+        end: 0,
+        act: Act::Number(2, 4),
+        answer: Ok(()),
+        then: &A_UNDER_MARKUP,
+        numbers: &[2, 3],
+    },
+    Case {
+        rows: &A_UNDER_MARKUP,
+        end: 0,
+        act: Act::Number(2, END),
+        answer: Ok(()),
+        then: &A_UNDER_MARKUP,
+        numbers: &[17592186044417, 52776558133248],
+    },
+    Case {
+        rows: &ORIGINAL,
+        end: 0,
+        act: Act::Number(2, END),
+        answer: Ok(()),
+        then: &ORIGINAL,
+        numbers: ORIGINAL_NUMBERS,
+    },
 ];
 
-const NEW: [SyntaxKind; 3] = [SyntaxKind::Space, SyntaxKind::Hash, SyntaxKind::Comma];
+#[test]
+fn trees_get_numbers(rt: HostRuntime) {
+    assert!(rt; all_come(rt.alloc(), &NUMBERED) == Some(true));
+}
+
+static TOO_FEW: [Case; 2] = [
+    Case {
+        rows: &A_UNDER_MARKUP,
+        end: 0,
+        act: Act::Number(2, 3),
+        answer: Err(SourceError::SpanNumbers),
+        then: &A_UNDER_MARKUP,
+        numbers: &[0, 0],
+    },
+    Case {
+        rows: &A_UNDER_MARKUP,
+        end: 4,
+        act: Act::Number(7, 8),
+        answer: Err(SourceError::SpanNumbers),
+        then: &A_UNDER_MARKUP,
+        numbers: &[2, 3],
+    },
+];
+
+#[test]
+fn a_tree_that_finds_no_numbers_keeps_its_own(rt: HostRuntime) {
+    assert!(rt; all_come(rt.alloc(), &TOO_FEW) == Some(true));
+}
+
+/// One leaf in the place of another, whose number it takes, and two.
+static REPLACED: [Case; 2] = [
+    Case {
+        rows: &A_UNDER_MARKUP,
+        end: 4,
+        act: Act::Replace(1, &B),
+        answer: Ok(()),
+        then: &B_UNDER_MARKUP,
+        numbers: &[2, 3],
+    },
+    Case {
+        rows: &A_UNDER_MARKUP,
+        end: 4,
+        act: Act::Replace(1, &B_AND_TILDE),
+        answer: Err(SourceError::SpanNumbers),
+        then: &A_UNDER_MARKUP,
+        numbers: &[2, 3],
+    },
+];
+
+#[test]
+fn two_numbers_are_enough_for_two_nodes(rt: HostRuntime) {
+    assert!(rt; all_come(rt.alloc(), &REPLACED) == Some(true));
+}
+
+/// Also where no new node asks for a number.
+static WITHOUT_FILE: [Case; 3] = [
+    Case {
+        rows: &A_UNDER_MARKUP,
+        end: 0,
+        act: Act::Replace(1, &B),
+        answer: Err(SourceError::SpanNumbers),
+        then: &A_UNDER_MARKUP,
+        numbers: &[0, 0],
+    },
+    Case {
+        rows: &A_UNDER_MARKUP,
+        end: 0,
+        act: Act::Replace(1, &[]),
+        answer: Err(SourceError::SpanNumbers),
+        then: &A_UNDER_MARKUP,
+        numbers: &[0, 0],
+    },
+    Case {
+        rows: &A_UNDER_MARKUP,
+        end: 0,
+        act: Act::Replace(0, &[]),
+        answer: Err(SourceError::SpanNumbers),
+        then: &A_UNDER_MARKUP,
+        numbers: &[0, 0],
+    },
+];
+
+#[test]
+fn a_tree_of_no_file_finds_no_numbers(rt: HostRuntime) {
+    assert!(rt; all_come(rt.alloc(), &WITHOUT_FILE) == Some(true));
+}
+
+const OLD: [Row; 6] = [
+    (SyntaxKind::Text, "x", None),
+    (SyntaxKind::Space, "x", None),
+    (SyntaxKind::Star, "x", None),
+    (SyntaxKind::Comma, "x", None),
+    (SyntaxKind::Text, "x", None),
+    (SyntaxKind::Markup, "", Some(5)),
+];
+
+const NEW: [Row; 3] = [
+    (SyntaxKind::Space, "x", None),
+    (SyntaxKind::Hash, "x", None),
+    (SyntaxKind::Comma, "x", None),
+];
 
 /// Whether only the number at that place differs.
 fn differ_at(place: usize, old: &[u64], new: &[u64]) -> bool {
-    let agrees = |(i, (a, b)): (usize, (&u64, &u64))| (a == b) == (i != place);
-    old.len() == new.len() && old.iter().zip(new).enumerate().all(agrees)
+    let behind = place.saturating_add(1);
+    old.get(place) != new.get(place)
+        && old.get(..place) == new.get(..place)
+        && old.get(behind..) == new.get(behind..)
+}
+
+/// Whether only the number of the fourth leaf differs from the old ones once the three in the middle are
+/// replaced.
+fn differ_then(alloc: Global, node: &mut SyntaxNode, old: &[u64]) -> Option<bool> {
+    replace(node, &[], 1, 4, list(alloc, &NEW)?).ok()?;
+    Some(differ_at(3, old, numbers(alloc, node)?.as_slice()))
 }
 
 /// Whether only the number of the leaf that is new differs.
 fn keeps_the_others(alloc: Global) -> Option<bool> {
-    let new = leaves(alloc, &NEW).ok()?;
-    let kids = leaves(alloc, &OLD).ok()?;
-    let mut node = numbered(SyntaxNode::inner(SyntaxKind::Markup, kids), END)?;
-    let old = numbers(alloc, &node).ok()?;
-    let replaced = replace(&mut node, &[], 1, 4, new).is_ok();
-    let now = numbers(alloc, &node).ok()?;
-    Some(replaced && differ_at(3, old.as_slice(), now.as_slice()))
+    let mut node = numbered(tree(alloc, &OLD)?, END)?;
+    let old = numbers(alloc, &node)?;
+    differ_then(alloc, &mut node, old.as_slice())
 }
 
 #[test]
@@ -176,38 +263,49 @@ fn what_stays_keeps_its_number(rt: HostRuntime) {
     assert!(rt; keeps_the_others(rt.alloc()) == Some(true));
 }
 
+/// Whether each number is below the next one, and the last one below the end.
 fn are_in_order(all: &[u64], end: u64) -> bool {
-    all.windows(2).all(|pair| pair.first() < pair.last()) && all.last() < Some(&end)
+    let mut above = 0;
+    for number in all {
+        if *number <= above {
+            return false;
+        }
+        above = *number;
+    }
+    above < end
 }
+
+const TWO: [Row; 2] = [
+    (SyntaxKind::Shorthand, "x", None),
+    (SyntaxKind::Text, "x", None),
+];
 
 /// Puts two leaves in place of one in the middle, and says whether all numbers are in order and
 /// below the end.
-fn grows(alloc: Global, node: &mut SyntaxNode, end: u64) -> Result<bool, AllocError> {
+fn grows(alloc: Global, node: &mut SyntaxNode, end: u64) -> Option<bool> {
     let middle = node.children().len() / 2;
-    let two = leaves(alloc, &[SyntaxKind::Shorthand, SyntaxKind::Text])?;
-    let replaced = replace(node, &[], middle, middle + 1, two).is_ok();
-    Ok(replaced && are_in_order(numbers(alloc, node)?.as_slice(), end))
+    replace(node, &[], middle, middle + 1, list(alloc, &TWO)?).ok()?;
+    Some(are_in_order(numbers(alloc, node)?.as_slice(), end))
 }
 
-/// The length of a node after so many replacements, or nothing where one went wrong.
-fn grown(alloc: Global, mut node: SyntaxNode, turns: usize) -> Option<usize> {
+const SPACES: [Part; 2] = [
+    (&[(SyntaxKind::Space, "x", None)], 400),
+    (&[(SyntaxKind::Markup, "", Some(400))], 1),
+];
+
+/// The length of 400 leaves after so many replacements, or nothing where one went wrong.
+fn grown(alloc: Global, turns: usize) -> Option<usize> {
+    let mut node = numbered(long_tree(alloc, &SPACES)?, 1000)?;
     for _ in 0..turns {
-        if grows(alloc, &mut node, 1000) != Ok(true) {
+        if !grows(alloc, &mut node, 1000)? {
             return None;
         }
     }
     Some(node.len())
 }
 
-/// The length of 400 leaves after so many replacements, or nothing where one went wrong.
-fn grown_leaves(alloc: Global, turns: usize) -> Option<usize> {
-    let kids = many(alloc, SyntaxKind::Space, 400).ok()?;
-    let node = numbered(SyntaxNode::inner(SyntaxKind::Markup, kids), 1000)?;
-    grown(alloc, node, turns)
-}
-
 // Few numbers are free, so that neighbours have to be numbered anew again and again.
 #[test]
 fn two_hundred_replacements(rt: HostRuntime) {
-    assert!(rt; grown_leaves(rt.alloc(), 200) == Some(600));
+    assert!(rt; grown(rt.alloc(), 200) == Some(600));
 }

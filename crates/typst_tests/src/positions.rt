@@ -1,12 +1,12 @@
 //! Positions of some texts.
 
-use std::alloc::AllocError;
+use std::alloc::Global;
 use typst_positions::{Encoding, Position, Positions};
 
 /// A text, what columns are counted in, a line and a column, and the byte there.
 type Row<'a> = (&'a str, Encoding, usize, usize, usize);
 
-const ROWS: [Row<'static>; 22] = [
+static ROWS: [Row<'static>; 22] = [
     ("", Encoding::Utf16, 0, 0, 0),
     ("", Encoding::Utf16, 0, 7, 0),
     ("", Encoding::Utf16, 1, 0, 0),
@@ -43,25 +43,32 @@ const ROWS: [Row<'static>; 22] = [
     ("\u{e4}\u{1f49b}b", Encoding::Utf8, 0, 6, 6),
 ];
 
+/// Whether the line and the column of a row are at its byte.
+fn leads(alloc: Global, (text, encoding, line, column, byte): Row) -> Option<bool> {
+    let positions = Positions::new(alloc, text).ok()?;
+    Some(positions.to_byte(text, encoding, Position { line, column }) == byte)
+}
+
+/// Whether those of all rows are.
+fn all_lead(alloc: Global, rows: &[Row]) -> Option<bool> {
+    for row in rows {
+        if !leads(alloc, *row)? {
+            return Some(false);
+        }
+    }
+    Some(true)
+}
+
 /// To the byte that each position is at.
 #[test]
-fn rows_to_bytes(rt: HostRuntime) -> Result<(), AllocError> {
-    for (text, encoding, line, column, byte) in ROWS {
-        let positions = Positions::new(rt.alloc(), text)?;
-        let position = Position { line, column };
-        assert_eq!(rt;
-            positions.to_byte(text, encoding, position),
-            byte,
-            "{text:?} {line} {column}"
-        );
-    }
-    Ok(())
+fn rows_to_bytes(rt: HostRuntime) {
+    assert!(rt; all_lead(rt.alloc(), &ROWS) == Some(true));
 }
 
 /// A text, what columns are counted in, a byte, and the line and the column there.
 type Back<'a> = (&'a str, Encoding, usize, usize, usize);
 
-const BACKS: [Back<'static>; 15] = [
+static BACKS: [Back<'static>; 15] = [
     ("", Encoding::Utf16, 0, 0, 0),
     ("", Encoding::Utf16, 5, 0, 0),
     ("abc", Encoding::Utf16, 2, 0, 2),
@@ -79,16 +86,24 @@ const BACKS: [Back<'static>; 15] = [
     ("\u{e4}\u{1f49b}b", Encoding::Utf8, 5, 0, 2),
 ];
 
+/// Whether the byte of a row is at its line and its column.
+fn leads_back(alloc: Global, (text, encoding, byte, line, column): Back) -> Option<bool> {
+    let positions = Positions::new(alloc, text).ok()?;
+    Some(positions.to_position(text, encoding, byte) == Position { line, column })
+}
+
+/// Whether those of all rows are.
+fn all_lead_back(alloc: Global, rows: &[Back]) -> Option<bool> {
+    for row in rows {
+        if !leads_back(alloc, *row)? {
+            return Some(false);
+        }
+    }
+    Some(true)
+}
+
 /// To the position of each byte.
 #[test]
-fn rows_to_positions(rt: HostRuntime) -> Result<(), AllocError> {
-    for (text, encoding, byte, line, column) in BACKS {
-        let positions = Positions::new(rt.alloc(), text)?;
-        let position = Position { line, column };
-        assert!(rt;
-            positions.to_position(text, encoding, byte) == position,
-            "{text:?} {byte}"
-        );
-    }
-    Ok(())
+fn rows_to_positions(rt: HostRuntime) {
+    assert!(rt; all_lead_back(rt.alloc(), &BACKS) == Some(true));
 }

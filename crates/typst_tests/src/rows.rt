@@ -1,51 +1,87 @@
-//! Trees made by hand from their nodes.
+//! Trees made by hand from their nodes. Where memory was refused there is nothing.
 
-use std::alloc::{AllocError, Global};
+use std::alloc::Global;
 use typst_kinds::SyntaxKind;
 use typst_tree::SyntaxNode;
 
-/// A node of a tree: kind, text, and how many children it is over, where it is an inner node.
+/// A node of a tree: kind, text, and how many of the nodes before it are its children, where it is an
+/// inner node.
 pub(crate) type Row = (SyntaxKind, &'static str, Option<usize>);
 
+/// Nodes, and how many times they come one after another.
+pub(crate) type Part = (&'static [Row], usize);
+
 /// A leaf, or the error with this text.
-pub(crate) fn leaf(alloc: Global, kind: SyntaxKind, text: &str) -> Result<SyntaxNode, AllocError> {
+pub(crate) fn leaf(alloc: Global, kind: SyntaxKind, text: &str) -> Option<SyntaxNode> {
     if kind.is_error() {
-        return SyntaxNode::error(alloc, "error", text);
+        return SyntaxNode::error(alloc, "error", text).ok();
     }
-    SyntaxNode::leaf(alloc, kind, text)
+    SyntaxNode::leaf(alloc, kind, text).ok()
 }
 
-/// A node over the last `count` of the stack, or over all.
+/// A node over the last `count` of a list, which are taken out of it, or over all.
 fn gather(
     alloc: Global,
     kind: SyntaxKind,
-    stack: &mut Vec<SyntaxNode>,
+    nodes: &mut Vec<SyntaxNode>,
     count: usize,
-) -> Result<SyntaxNode, AllocError> {
-    let mut kids = Vec::new(alloc);
-    for _ in 0..count {
-        let Some(kid) = stack.pop() else { break };
-        kids.push(kid)?;
-    }
-    kids.reverse();
+) -> Option<SyntaxNode> {
     if kind.is_error() {
-        return SyntaxNode::error(alloc, "error", "");
+        return leaf(alloc, kind, "");
     }
-    Ok(SyntaxNode::inner(kind, kids))
+    let kids = nodes.split_off(nodes.len().saturating_sub(count)).ok()?;
+    Some(SyntaxNode::inner(kind, kids))
+}
+
+/// Adds the node of a row to a list, and takes its children out of it.
+fn add(alloc: Global, nodes: &mut Vec<SyntaxNode>, row: Row) -> Option<()> {
+    let (kind, text, kids) = row;
+    let node = match kids {
+        None => leaf(alloc, kind, text)?,
+        Some(count) => gather(alloc, kind, nodes, count)?,
+    };
+    nodes.push(node).ok()
+}
+
+/// Adds the nodes of rows to a list.
+pub(crate) fn add_rows(alloc: Global, nodes: &mut Vec<SyntaxNode>, rows: &[Row]) -> Option<()> {
+    for row in rows {
+        add(alloc, nodes, *row)?;
+    }
+    Some(())
+}
+
+/// The nodes of rows, without those that are children of others.
+pub(crate) fn list(alloc: Global, rows: &[Row]) -> Option<Vec<SyntaxNode>> {
+    let mut nodes = Vec::new(alloc);
+    add_rows(alloc, &mut nodes, rows)?;
+    Some(nodes)
+}
+
+/// The last node of a list.
+pub(crate) fn last(mut nodes: Vec<SyntaxNode>) -> Option<SyntaxNode> {
+    nodes.pop()
 }
 
 /// A tree from its nodes, each after its children.
-pub(crate) fn tree(alloc: Global, rows: &[Row]) -> Result<SyntaxNode, AllocError> {
-    let mut stack = Vec::new(alloc);
-    for (kind, text, kids) in rows {
-        let node = match kids {
-            None => leaf(alloc, *kind, text)?,
-            Some(count) => gather(alloc, *kind, &mut stack, *count)?,
-        };
-        stack.push(node)?;
+pub(crate) fn tree(alloc: Global, rows: &[Row]) -> Option<SyntaxNode> {
+    last(list(alloc, rows)?)
+}
+
+/// Adds the nodes of a part to a list.
+fn add_part(alloc: Global, nodes: &mut Vec<SyntaxNode>, part: Part) -> Option<()> {
+    let (rows, times) = part;
+    for _ in 0..times {
+        add_rows(alloc, nodes, rows)?;
     }
-    match stack.pop() {
-        Some(node) => Ok(node),
-        None => leaf(alloc, SyntaxKind::End, ""),
+    Some(())
+}
+
+/// A tree whose nodes come in parts, each after its children.
+pub(crate) fn long_tree(alloc: Global, parts: &[Part]) -> Option<SyntaxNode> {
+    let mut nodes = Vec::new(alloc);
+    for part in parts {
+        add_part(alloc, &mut nodes, *part)?;
     }
+    last(nodes)
 }

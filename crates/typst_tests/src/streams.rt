@@ -86,7 +86,7 @@ impl Read for Reader<'_> {
 }
 
 /// What a flush answers.
-#[derive(Debug, Clone, Copy, PartialEq, Eq, Drop)]
+#[derive(Clone, Copy, PartialEq, Eq, Drop)]
 pub enum Flush {
     /// It passes on what was written.
     Passes,
@@ -95,7 +95,7 @@ pub enum Flush {
 }
 
 /// What a writer answers where it has no room.
-#[derive(Debug, Clone, Copy, PartialEq, Eq, Drop)]
+#[derive(Clone, Copy, PartialEq, Eq, Drop)]
 pub enum Full {
     /// It fails.
     Fails,
@@ -104,7 +104,7 @@ pub enum Full {
 }
 
 /// What a writer takes.
-#[derive(Debug, Clone, Copy)]
+#[derive(Clone, Copy)]
 pub struct Room {
     /// How many bytes it has room for.
     pub bytes: usize,

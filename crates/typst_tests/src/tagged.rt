@@ -1,9 +1,10 @@
 //! Stretches with tags, compared with the tags that each node says.
 
 use crate::html::{ERRORS, RIGHT_TO_LEFT, TERM};
+use crate::refusals::is_told;
 use crate::rows::{Row, tree};
-use std::alloc::{AllocError, Global};
-use typst_highlight::{Tag, highlight, tag_stretches};
+use std::alloc::Global;
+use typst_highlight::{Tag, Tagged, highlight, tag_stretches};
 use typst_kinds::SyntaxKind;
 use typst_tree::LinkedNode;
 
@@ -43,33 +44,46 @@ fn innermost(leaf: LinkedNode) -> Option<Tag> {
     None
 }
 
-/// Whether the stretches of a tree are its leaves, each with the tag that the nodes above it say.
-fn agree(alloc: Global, rows: &[Row]) -> Result<bool, AllocError> {
-    let root = tree(alloc, rows)?;
-    if root.descendants() == usize::MAX {
-        return Ok(false);
-    }
-    let linked = LinkedNode::new(&root);
+/// Whether stretches are the leaves of a tree, each with the tag that the nodes above it say.
+fn agree(root: LinkedNode, stretches: &[Tagged]) -> bool {
     let mut end = 0;
-    for stretch in &tag_stretches(alloc, &root)? {
-        let Some(leaf) = linked.leaf_at(end) else {
-            return Ok(false);
-        };
-        if stretch.range != leaf.range() || stretch.tag != innermost(leaf) {
-            return Ok(false);
+    for stretch in stretches {
+        match root.leaf_at(end) {
+            Some(leaf) if stretch.range == leaf.range() && stretch.tag == innermost(leaf) => {
+                end = stretch.range.end;
+            }
+            _ => return false,
         }
-        end = stretch.range.end;
     }
-    Ok(end == root.len())
+    end == root.range().end
 }
 
+/// Whether the stretches of a tree are such.
+fn has_stretches(alloc: Global, rows: &[Row]) -> Option<bool> {
+    let root = tree(alloc, rows)?;
+    if root.descendants() == usize::MAX {
+        return None;
+    }
+    let stretches = tag_stretches(alloc, &root).ok()?;
+    Some(agree(LinkedNode::new(&root), stretches.as_slice()))
+}
+
+/// Whether those of all trees are, also the next time where memory was refused.
+fn have_stretches(alloc: Global, trees: &[&[Row]]) -> bool {
+    for rows in trees {
+        if !is_told(has_stretches(alloc, rows), has_stretches(alloc, rows)) {
+            return false;
+        }
+    }
+    true
+}
+
+static TREES: [&[Row]; 4] = [&RIGHT_TO_LEFT, &TERM, &ERRORS, &NESTED];
+
+// This test and the next pass whichever request for memory is refused: `rt try --test --fail-alloc N`.
 #[test]
 fn stretches_have_the_tags_of_their_leaves(rt: HostRuntime) {
-    let alloc = rt.alloc();
-    assert!(rt; agree(alloc, &RIGHT_TO_LEFT) == Ok(true));
-    assert!(rt; agree(alloc, &TERM) == Ok(true));
-    assert!(rt; agree(alloc, &ERRORS) == Ok(true));
-    assert!(rt; agree(alloc, &NESTED) == Ok(true));
+    assert!(rt; have_stretches(rt.alloc(), &TREES));
 }
 
 /// The stretches of `NESTED`: where each ends, and its tag.
@@ -84,27 +98,23 @@ const WANTED: [(usize, Option<Tag>); 8] = [
     (10, None),
 ];
 
-/// Whether the stretches of `NESTED` are these.
-fn are_wanted(alloc: Global) -> Result<bool, AllocError> {
-    let stretches = tag_stretches(alloc, &tree(alloc, &NESTED)?)?;
-    let mut wanted = WANTED.iter();
-    for stretch in &stretches {
-        if wanted.next() != Some(&(stretch.range.end, stretch.tag)) {
-            return Ok(false);
+/// Whether stretches end there and have these tags.
+fn are(stretches: &[Tagged], wanted: &[(usize, Option<Tag>)]) -> bool {
+    for (stretch, (end, tag)) in stretches.iter().zip(wanted) {
+        if stretch.range.end != *end || stretch.tag != *tag {
+            return false;
         }
     }
-    Ok(wanted.next().is_none())
+    stretches.len() == wanted.len()
+}
+
+/// Whether the stretches of `NESTED` are these.
+fn are_wanted(alloc: Global) -> Option<bool> {
+    let stretches = tag_stretches(alloc, &tree(alloc, &NESTED)?).ok()?;
+    Some(are(stretches.as_slice(), &WANTED))
 }
 
 #[test]
 fn an_error_has_the_tag_round_it(rt: HostRuntime) {
-    assert!(rt; are_wanted(rt.alloc()) == Ok(true));
-}
-
-// This test passes whichever request for memory is refused: `rt try --test --fail-alloc N`.
-#[test]
-fn a_refusal_is_told_or_the_stretches_are_whole(rt: HostRuntime) {
-    let alloc = rt.alloc();
-    assert!(rt; agree(alloc, &TERM) != Ok(false));
-    assert!(rt; are_wanted(alloc) != Ok(false));
+    assert!(rt; is_told(are_wanted(rt.alloc()), are_wanted(rt.alloc())));
 }

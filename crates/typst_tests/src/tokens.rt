@@ -1,6 +1,5 @@
 //! What of tokens needs code: modes, columns, refused memory, long texts.
-use std::alloc::{AllocError, Global};
-use std::process::Abort;
+use std::alloc::Global;
 use typst_kinds::{SyntaxKind, SyntaxMode};
 use typst_lexer::Lexer;
 use typst_lines::UnicodeClasses;
@@ -13,7 +12,7 @@ fn lexer(text: &str) -> Lexer<'_, UnicodeClasses> {
 /// A mode, a text that is one token in it, that token's kind, and whether it has a newline.
 type One = (SyntaxMode, &'static str, SyntaxKind, bool);
 
-const ONES: [One; 7] = [
+static ONES: [One; 7] = [
     (SyntaxMode::Markup, " \t", SyntaxKind::Space, false),
     (SyntaxMode::Markup, " \r\n", SyntaxKind::Space, true),
     (SyntaxMode::Markup, "\r\n\u{b}", SyntaxKind::Parbreak, true),
@@ -29,98 +28,125 @@ const ONES: [One; 7] = [
 ];
 
 /// Whether the text is one token so.
-fn is_one(alloc: Global, (mode, text, kind, newline): One) -> Result<bool, AllocError> {
+fn is_one(alloc: Global, (mode, text, kind, newline): One) -> Option<bool> {
     let mut lexer = Lexer::new(text, mode, &UnicodeClasses);
-    let (token, taken) = lexer.scan(alloc)?;
+    let (token, taken) = lexer.scan(alloc).ok()?;
     let is_whole = token.kind.same(kind) && taken.len() == text.len();
-    Ok(is_whole && lexer.newline() == newline)
+    Some(is_whole && lexer.newline() == newline)
+}
+
+fn are_one(alloc: Global, ones: &[One]) -> Option<bool> {
+    for one in ones {
+        if !is_one(alloc, *one)? {
+            return Some(false);
+        }
+    }
+    Some(true)
 }
 
 #[test]
 fn knows_newlines_of_modes(rt: HostRuntime) {
-    for one in ONES {
-        assert!(rt; is_one(rt.alloc(), one) == Ok(true));
-    }
+    assert!(rt; are_one(rt.alloc(), &ONES) == Some(true));
 }
 
-/// Whether the next token begins there, in bytes and in characters of its line; reads it.
-fn starts_at(
-    alloc: Global,
-    lexer: &mut Lexer<'_, UnicodeClasses>,
-    (index, column): (usize, usize),
-) -> Result<bool, AllocError> {
+/// Where a token begins, in bytes and in characters of its line.
+type Start = (usize, usize);
+
+const STARTS: [Start; 6] = [(0, 0), (2, 1), (3, 2), (4, 3), (7, 0), (12, 2)];
+
+/// Whether the next token begins there; reads it.
+fn starts_at(alloc: Global, lexer: &mut Lexer<'_, UnicodeClasses>, (index, column): Start) -> bool {
     let starts = lexer.cursor() == index && lexer.column(index) == column;
-    lexer.scan(alloc)?;
-    Ok(starts)
+    lexer.scan(alloc).is_ok() && starts
 }
 
-const COLUMNS: [(usize, usize); 6] = [(0, 0), (2, 1), (3, 2), (4, 3), (7, 0), (12, 2)];
+/// Whether tokens of a text begin there.
+fn start_at(alloc: Global, text: &str, starts: &[Start]) -> bool {
+    let mut lexer = lexer(text);
+    for start in starts {
+        if !starts_at(alloc, &mut lexer, *start) {
+            return false;
+        }
+    }
+    true
+}
 
 #[test]
 fn counts_columns(rt: HostRuntime) {
-    let mut lexer = lexer("ä\tb\u{2028}\u{1f49b}c");
-    for place in COLUMNS {
-        assert!(rt; starts_at(rt.alloc(), &mut lexer, place) == Ok(true));
-    }
+    let text = "ä\tb\u{2028}\u{1f49b}c";
+    assert!(rt; start_at(rt.alloc(), text, &STARTS));
 }
 
-/// Whether the end is reached. Where memory is refused, the lexer stays where it is.
-fn ends_here(rt: &impl Abort, alloc: Global, lexer: &mut Lexer<'_, UnicodeClasses>) -> bool {
+/// Whether the end is reached; nothing where the lexer doesn't stand behind the token that it read, or
+/// where memory was refused not where it stood.
+fn ends_here(alloc: Global, lexer: &mut Lexer<'_, UnicodeClasses>) -> Option<bool> {
     let (cursor, newline) = (lexer.cursor(), lexer.newline());
     match lexer.scan(alloc) {
         Ok((token, taken)) => {
-            assert!(rt; lexer.cursor() == cursor.saturating_add(taken.len()));
-            token.kind.same(SyntaxKind::End)
+            let is_behind = lexer.cursor() == cursor.saturating_add(taken.len());
+            is_behind.then_some(token.kind.same(SyntaxKind::End))
         }
         Err(_) => {
-            assert!(rt; lexer.cursor() == cursor && lexer.newline() == newline);
-            false
+            let stays = lexer.cursor() == cursor && lexer.newline() == newline;
+            stays.then_some(false)
         }
     }
+}
+
+/// Where a lexer of the text ends, of which each token is read again where memory was refused.
+fn end_of(alloc: Global, text: &str) -> Option<usize> {
+    let mut lexer = lexer(text);
+    for _ in 0..40 {
+        if ends_here(alloc, &mut lexer)? {
+            return Some(lexer.cursor());
+        }
+    }
+    None
 }
 
 /// Reads on where memory was refused, and finds what it would have found.
 /// `rt try --test --fail-alloc N` refuses the Nth request.
 #[test]
 fn stays_where_memory_is_refused(rt: HostRuntime) {
-    let mut lexer = lexer("a text that is long */\\u{xyz}\n\nhttp://[a]");
-    for _ in 0..40 {
-        if ends_here(&rt, rt.alloc(), &mut lexer) {
-            break;
-        }
-    }
-    assert!(rt; lexer.cursor() == 41);
+    let text = "a text that is long */\\u{xyz}\n\nhttp://[a]";
+    assert!(rt; end_of(rt.alloc(), text) == Some(41));
 }
 
 /// How many tokens a text has; one more than so many where there are more.
-fn count(alloc: Global, text: &str, most: usize) -> Result<usize, AllocError> {
+fn count(alloc: Global, text: &str, most: usize) -> Option<usize> {
     let mut lexer = lexer(text);
     for n in 0..most {
-        let (token, _) = lexer.scan(alloc)?;
+        let (token, _) = lexer.scan(alloc).ok()?;
         if token.kind.same(SyntaxKind::End) {
-            return Ok(n);
+            return Some(n);
         }
     }
-    Ok(most)
+    Some(most)
 }
 
 /// How many tokens a text of 100,000 times one character has.
-fn count_run(alloc: Global, one: char) -> Result<usize, AllocError> {
+fn count_run(alloc: Global, one: char) -> Option<usize> {
     let mut text = String::new(alloc);
     for _ in 0..100_000 {
-        text.push(one)?;
+        text.push(one).ok()?;
     }
     count(alloc, text.as_str(), 100_002)
 }
 
-#[test]
-fn reads_runs_that_are_one_token(rt: HostRuntime) {
-    for one in "a /\né=0h`@".chars() {
-        assert!(rt; count_run(rt.alloc(), one) == Ok(1));
-    }
-}
+/// A character, and how many tokens a run of it is.
+type Run = (char, usize);
 
-const RUNS: [(char, usize); 5] = [
+static RUNS: [Run; 15] = [
+    ('a', 1),
+    (' ', 1),
+    ('/', 1),
+    ('\n', 1),
+    ('é', 1),
+    ('=', 1),
+    ('0', 1),
+    ('h', 1),
+    ('`', 1),
+    ('@', 1),
     ('-', 33_334),
     ('*', 100_000),
     ('[', 100_000),
@@ -128,9 +154,16 @@ const RUNS: [(char, usize); 5] = [
     ('.', 33_334),
 ];
 
-#[test]
-fn reads_runs_of_tokens(rt: HostRuntime) {
-    for (one, tokens) in RUNS {
-        assert!(rt; count_run(rt.alloc(), one) == Ok(tokens));
+fn are_runs(alloc: Global, runs: &[Run]) -> bool {
+    for (one, tokens) in runs {
+        if count_run(alloc, *one) != Some(*tokens) {
+            return false;
+        }
     }
+    true
+}
+
+#[test]
+fn reads_runs(rt: HostRuntime) {
+    assert!(rt; are_runs(rt.alloc(), &RUNS));
 }

@@ -1,5 +1,5 @@
-use crate::rows::leaf;
-use std::alloc::{AllocError, Global};
+use crate::rows::{Row, add_rows, last, leaf, list};
+use std::alloc::Global;
 use typst_kinds::{FileId, SourceError, SyntaxKind};
 use typst_tree::SyntaxNode;
 
@@ -7,76 +7,60 @@ use typst_tree::SyntaxNode;
 pub(crate) const END: u64 = 1 << 47;
 
 /// The leaf `b`, with a warning and a hint.
-fn remarked(alloc: Global) -> Result<SyntaxNode, AllocError> {
-    let mut leaf = SyntaxNode::leaf(alloc, SyntaxKind::Text, "b")?;
-    leaf.warn("odd")?;
-    leaf.hint("look")?;
-    Ok(leaf)
+fn remarked(alloc: Global) -> Option<SyntaxNode> {
+    let mut leaf = leaf(alloc, SyntaxKind::Text, "b")?;
+    leaf.warn("odd").ok()?;
+    leaf.hint("look").ok()?;
+    Some(leaf)
 }
 
-/// `*b*`
-fn strong(alloc: Global) -> Result<SyntaxNode, AllocError> {
-    let mut kids = Vec::new(alloc);
-    kids.push(SyntaxNode::leaf(alloc, SyntaxKind::Star, "*")?)?;
-    kids.push(remarked(alloc)?)?;
-    kids.push(SyntaxNode::leaf(alloc, SyntaxKind::Star, "*")?)?;
-    Ok(SyntaxNode::inner(SyntaxKind::Strong, kids))
-}
+/// What stands before the leaf `b` of `sample`.
+const FRONT: [Row; 3] = [
+    (SyntaxKind::LeftBracket, "[", None),
+    (SyntaxKind::Text, "a ", None),
+    (SyntaxKind::Star, "*", None),
+];
+
+/// What stands behind it.
+const BEHIND: [Row; 4] = [
+    (SyntaxKind::Star, "*", None),
+    (SyntaxKind::Strong, "", Some(3)),
+    (SyntaxKind::RightBracket, "]", None),
+    (SyntaxKind::ContentBlock, "", Some(4)),
+];
 
 /// `[a *b*]`, with a warning and a hint at the leaf `b`.
-pub(crate) fn sample(alloc: Global) -> Result<SyntaxNode, AllocError> {
-    let mut kids = Vec::new(alloc);
-    kids.push(SyntaxNode::leaf(alloc, SyntaxKind::LeftBracket, "[")?)?;
-    kids.push(SyntaxNode::leaf(alloc, SyntaxKind::Text, "a ")?)?;
-    kids.push(strong(alloc)?)?;
-    kids.push(SyntaxNode::leaf(alloc, SyntaxKind::RightBracket, "]")?)?;
-    Ok(SyntaxNode::inner(SyntaxKind::ContentBlock, kids))
+pub(crate) fn sample(alloc: Global) -> Option<SyntaxNode> {
+    let mut nodes = list(alloc, &FRONT)?;
+    nodes.push(remarked(alloc)?).ok()?;
+    add_rows(alloc, &mut nodes, &BEHIND)?;
+    last(nodes)
 }
 
-/// Leaves of these kinds, each with the text `x`.
-pub(crate) fn leaves(alloc: Global, kinds: &[SyntaxKind]) -> Result<Vec<SyntaxNode>, AllocError> {
-    let mut all = Vec::new(alloc);
-    for kind in kinds {
-        all.push(leaf(alloc, *kind, "x")?)?;
+/// Puts the children of a node on a list of nodes that are left, the first one last.
+fn leave_children<'a>(left: &mut Vec<&'a SyntaxNode>, node: &'a SyntaxNode) -> Option<()> {
+    for kid in node.children().iter().rev() {
+        left.push(kid).ok()?;
     }
-    Ok(all)
-}
-
-/// So many leaves of one kind, each with the text `x`.
-pub(crate) fn many(
-    alloc: Global,
-    kind: SyntaxKind,
-    count: usize,
-) -> Result<Vec<SyntaxNode>, AllocError> {
-    let mut all = Vec::new(alloc);
-    for _ in 0..count {
-        all.push(leaf(alloc, kind, "x")?)?;
-    }
-    Ok(all)
+    Some(())
 }
 
 /// The numbers of the first thousand nodes, each before its children's, 0 for a detached one.
-pub(crate) fn numbers(alloc: Global, root: &SyntaxNode) -> Result<Vec<u64>, AllocError> {
+pub(crate) fn numbers(alloc: Global, root: &SyntaxNode) -> Option<Vec<u64>> {
     let mut all = Vec::new(alloc);
     let mut left = Vec::new(alloc);
-    left.push(root)?;
+    left.push(root).ok()?;
     for _ in 0..1000 {
         let Some(node) = left.pop() else { break };
-        all.push(node.span().number_or_zero())?;
-        for kid in node.children().iter().rev() {
-            left.push(kid)?;
-        }
+        all.push(node.span().number_or_zero()).ok()?;
+        leave_children(&mut left, node)?;
     }
-    Ok(all)
+    Some(all)
 }
 
 /// Whether these are the numbers of the tree's nodes.
-pub(crate) fn has_numbers(
-    alloc: Global,
-    node: &SyntaxNode,
-    want: &[u64],
-) -> Result<bool, AllocError> {
-    Ok(numbers(alloc, node)?.as_slice() == want)
+pub(crate) fn has_numbers(alloc: Global, node: &SyntaxNode, want: &[u64]) -> Option<bool> {
+    Some(numbers(alloc, node)?.as_slice() == want)
 }
 
 /// Numbers a tree within `start..end`, both within all numbers.
@@ -108,10 +92,8 @@ pub(crate) fn replace(
     }
 }
 
-/// Whether both are the same, spans too, or memory was refused.
-pub(crate) fn same(alloc: Global, a: &SyntaxNode, b: &SyntaxNode) -> bool {
-    let (Ok(one), Ok(other)) = (numbers(alloc, a), numbers(alloc, b)) else {
-        return true;
-    };
-    one.as_slice() == other.as_slice() && a.spanless_eq(b)
+/// Whether both are the same, spans too.
+pub(crate) fn same(alloc: Global, a: &SyntaxNode, b: &SyntaxNode) -> Option<bool> {
+    let one = numbers(alloc, a)?;
+    Some(has_numbers(alloc, b, one.as_slice())? && a.spanless_eq(b))
 }

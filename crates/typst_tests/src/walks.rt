@@ -1,6 +1,6 @@
 use crate::rows::{Row, leaf, tree};
 use crate::trees::{END, numbered, numbers};
-use std::alloc::{AllocError, Global};
+use std::alloc::Global;
 use std::mem::size_of;
 use typst_kinds::{FileId, Span, SpanNumber, SyntaxKind};
 use typst_tree::{LinkedNode, SyntaxNode, is_ordered};
@@ -19,32 +19,22 @@ const TREE: [Row; 10] = [
     (SyntaxKind::Markup, "", Some(7)),
 ];
 
-/// Where the nodes of `TREE` begin and end, in preorder.
-const RANGES: [(usize, usize); 10] = [
-    (0, 10),
-    (0, 2),
-    (2, 3),
-    (3, 6),
-    (3, 4),
-    (4, 6),
-    (6, 6),
-    (6, 7),
-    (7, 9),
-    (9, 10),
-];
+/// Where a node begins and ends, and the places in preorder of its parent, next sibling, leaf before, leaf
+/// behind and first leaf within.
+type Standing = (usize, usize, [Option<usize>; 5]);
 
-/// The places of their parents, next siblings, leaves before, leaves behind and first leaves within.
-const STEPS: [[Option<usize>; 5]; 10] = [
-    [None, None, None, None, Some(1)],
-    [Some(0), Some(3), None, Some(5), Some(1)],
-    [Some(0), Some(3), Some(1), Some(5), None],
-    [Some(0), Some(6), Some(1), Some(6), Some(5)],
-    [Some(3), Some(5), Some(1), Some(5), None],
-    [Some(3), None, Some(1), Some(6), Some(5)],
-    [Some(0), Some(7), Some(5), Some(8), Some(6)],
-    [Some(0), Some(8), Some(6), Some(8), None],
-    [Some(0), None, Some(6), None, Some(8)],
-    [Some(0), None, Some(8), None, None],
+/// The nodes of `TREE` in preorder.
+const PLACES: [Standing; 10] = [
+    (0, 10, [None, None, None, None, Some(1)]),
+    (0, 2, [Some(0), Some(3), None, Some(5), Some(1)]),
+    (2, 3, [Some(0), Some(3), Some(1), Some(5), None]),
+    (3, 6, [Some(0), Some(6), Some(1), Some(6), Some(5)]),
+    (3, 4, [Some(3), Some(5), Some(1), Some(5), None]),
+    (4, 6, [Some(3), None, Some(1), Some(6), Some(5)]),
+    (6, 6, [Some(0), Some(7), Some(5), Some(8), Some(6)]),
+    (6, 7, [Some(0), Some(8), Some(6), Some(8), None]),
+    (7, 9, [Some(0), None, Some(6), None, Some(8)]),
+    (9, 10, [Some(0), None, Some(8), None, None]),
 ];
 
 /// The leaves of `TREE` by the bytes that they hold.
@@ -65,7 +55,12 @@ const LEAVES: [Option<usize>; 11] = [
 /// The place in preorder of a node, by its number.
 fn place(numbers: &[u64], node: Option<LinkedNode>) -> Option<usize> {
     let own = node?.get().span().number_or_zero();
-    numbers.iter().position(|number| *number == own)
+    for (place, number) in numbers.iter().enumerate() {
+        if *number == own {
+            return Some(place);
+        }
+    }
+    None
 }
 
 fn steps(numbers: &[u64], node: LinkedNode) -> [Option<usize>; 5] {
@@ -83,14 +78,9 @@ fn node_at<'a>(top: LinkedNode<'a>, number: u64) -> Option<LinkedNode<'a>> {
     top.find_number(SpanNumber::new(number)?)
 }
 
-fn has_range(node: LinkedNode, range: (usize, usize)) -> bool {
-    let own = node.range();
-    (own.start, own.end) == range
-}
-
-/// Whether the leaves are those of the list.
-fn has_leaves(top: LinkedNode, numbers: &[u64]) -> bool {
-    for (byte, wanted) in LEAVES.iter().enumerate() {
+/// Whether the leaves hold these bytes.
+fn has_leaves(top: LinkedNode, numbers: &[u64], leaves: &[Option<usize>]) -> bool {
+    for (byte, wanted) in leaves.iter().enumerate() {
         if place(numbers, top.leaf_at(byte)) != *wanted {
             return false;
         }
@@ -98,25 +88,34 @@ fn has_leaves(top: LinkedNode, numbers: &[u64]) -> bool {
     true
 }
 
-/// Whether each node is found, and its range and steps are those of the lists.
-fn has_steps(top: LinkedNode, numbers: &[u64]) -> bool {
-    for ((number, range), wanted) in numbers.iter().zip(RANGES.iter()).zip(STEPS.iter()) {
-        match node_at(top, *number) {
-            Some(node) if has_range(node, *range) && steps(numbers, node) == *wanted => {}
-            _ => return false,
+/// Whether the node with a number is found, and has its range and its steps.
+fn is_at(top: LinkedNode, numbers: &[u64], number: u64, (begin, end, wanted): Standing) -> bool {
+    match node_at(top, number) {
+        Some(node) => {
+            node.offset() == begin && node.range().end == end && steps(numbers, node) == wanted
+        }
+        None => false,
+    }
+}
+
+/// Whether that holds of each node.
+fn are_at(top: LinkedNode, numbers: &[u64], places: &[Standing]) -> bool {
+    for (number, place) in numbers.iter().zip(places) {
+        if !is_at(top, numbers, *number, *place) {
+            return false;
         }
     }
-    numbers.len() == STEPS.len()
+    numbers.len() == places.len()
 }
 
 /// `TREE` with numbers, or nothing where memory was refused.
 fn linked(alloc: Global) -> Option<SyntaxNode> {
-    numbered(tree(alloc, &TREE).ok()?, END)
+    numbered(tree(alloc, &TREE)?, END)
 }
 
-/// Whether the leaves and the steps are those of the lists.
+/// Whether the leaves and the nodes of `TREE` are those of the lists.
 fn walks_from(top: LinkedNode, numbers: &[u64]) -> bool {
-    has_leaves(top, numbers) && has_steps(top, numbers)
+    has_leaves(top, numbers, &LEAVES) && are_at(top, numbers, &PLACES)
 }
 
 /// Whether the steps are the same where the tree is known to be in order.
@@ -129,8 +128,7 @@ fn walks_both(root: &SyntaxNode, numbers: &[u64]) -> bool {
 
 fn walks_tree(alloc: Global) -> Option<bool> {
     let root = linked(alloc)?;
-    let all = numbers(alloc, &root).ok()?;
-    Some(walks_both(&root, all.as_slice()))
+    Some(walks_both(&root, numbers(alloc, &root)?.as_slice()))
 }
 
 #[test]
@@ -140,12 +138,20 @@ fn walks(rt: HostRuntime) {
 
 /// Whether what is read of the node is what the error of `TREE` has.
 fn is_the_error(node: LinkedNode) -> bool {
-    node.kind() == SyntaxKind::Error
+    let kinds = [
+        Some(node.kind()),
+        node.parent_kind(),
+        node.next_sibling_kind(),
+    ];
+    kinds
+        == [
+            Some(SyntaxKind::Error),
+            Some(SyntaxKind::Markup),
+            Some(SyntaxKind::Ident),
+        ]
         && node.leaf_text() == "x"
         && node.offset() == 6
         && !node.hash_expr()
-        && node.parent_kind() == Some(SyntaxKind::Markup)
-        && node.next_sibling_kind() == Some(SyntaxKind::Ident)
 }
 
 fn count_errors(top: LinkedNode) -> u32 {
@@ -159,30 +165,30 @@ fn count_errors(top: LinkedNode) -> u32 {
 }
 
 /// Whether `TREE` has its error once.
-fn has_one_error(root: &SyntaxNode) -> bool {
-    root.descendants() == 10 && count_errors(LinkedNode::new(root)) == 1
+fn has_one_error(alloc: Global) -> Option<bool> {
+    let root = linked(alloc)?;
+    Some(root.descendants() == 10 && count_errors(LinkedNode::new(&root)) == 1)
 }
 
 #[test]
 fn reads_through_the_children(rt: HostRuntime) {
-    let root = linked(rt.alloc());
-    assert!(rt; root.is_some_and(|root| has_one_error(&root)));
+    assert!(rt; has_one_error(rt.alloc()) == Some(true));
 }
 
 /// A leaf with this span.
-fn spanned(alloc: Global, span: Span) -> Result<SyntaxNode, AllocError> {
+fn spanned(alloc: Global, span: Span) -> Option<SyntaxNode> {
     let mut leaf = leaf(alloc, SyntaxKind::Ident, "ab")?;
     leaf.synthesize(span);
-    Ok(leaf)
+    Some(leaf)
 }
 
 /// A detached node over leaves with these spans.
-fn unordered(alloc: Global, spans: &[Span]) -> Result<SyntaxNode, AllocError> {
+fn unordered(alloc: Global, spans: &[Span]) -> Option<SyntaxNode> {
     let mut kids = Vec::new(alloc);
     for span in spans {
-        kids.push(spanned(alloc, *span)?)?;
+        kids.push(spanned(alloc, *span)?).ok()?;
     }
-    Ok(SyntaxNode::inner(SyntaxKind::Markup, kids))
+    Some(SyntaxNode::inner(SyntaxKind::Markup, kids))
 }
 
 /// Where the first node with a span begins.
@@ -197,14 +203,17 @@ fn span(number: u64) -> Option<Span> {
 
 /// Whether the first node of each span begins there, of three leaves under a detached node.
 fn begins(top: LinkedNode, three: Span, ten: Span) -> bool {
-    found(top, ten) == Some(0)
-        && found(top, three) == Some(2)
-        && found(top, Span::detached()) == Some(0)
+    let places = [
+        found(top, ten),
+        found(top, three),
+        found(top, Span::detached()),
+    ];
+    places == [Some(0), Some(2), Some(0)]
 }
 
 fn finds_first(alloc: Global) -> Option<bool> {
     let (three, ten) = (span(3)?, span(10)?);
-    let root = unordered(alloc, &[ten, three, ten]).ok()?;
+    let root = unordered(alloc, &[ten, three, ten])?;
     if root.descendants() != 4 || is_ordered(&root) {
         return None;
     }

@@ -6,7 +6,7 @@ use typst_lines::classes::{Classes, MathClass, ascii_math_class};
 /// Past ASCII each character that isn't white space starts and continues identifiers, is
 /// alphabetic, alphanumeric and of a word; none is numeric or has a class in formulas. A line that
 /// isn't all ASCII is one cluster.
-#[derive(Debug, Clone, Copy, PartialEq, Eq)]
+#[derive(Clone, Copy)]
 pub struct Wide;
 
 impl Classes for Wide {

@@ -1,14 +1,13 @@
 //! Typing behind something that is open: till it is closed, what follows is read as a part of it.
 
 use crate::digest::Outcome;
-use crate::document::{Shape, document};
+use crate::document::Shape;
 use crate::random::Random;
-use crate::typing::{Desk, told};
+use crate::typing::{Desk, source};
 use std::alloc::Global;
-use typst_parser::{Source, UnicodeClasses};
 
 /// What opens something, and what closes it.
-#[derive(Debug, Clone, Copy)]
+#[derive(Clone, Copy)]
 struct Marks {
     opening: &'static str,
     closing: &'static str,
@@ -92,16 +91,31 @@ fn type_behind(
     marks: Marks,
     outcome: &mut Outcome,
 ) -> anyhow::Result<()> {
-    let text = document(alloc, random, shape, bytes)?;
-    let source = Source::detached(alloc, text, UnicodeClasses).map_err(told)?;
-    let mut desk = Desk::new(source, 0, 0);
+    let mut desk = Desk::new(source(alloc, random, shape, bytes)?, 0, 0);
     let start = front_place(desk.text(), random, shape);
-    let opened = desk.type_letters(start, marks.opening, outcome)?;
-    let typed = desk.type_letters(opened, TYPED, outcome)?;
-    let at = desk.take_out(typed, TAKEN, outcome)?;
+    open_and_close(alloc, &mut desk, start, marks, outcome)
+}
+
+/// Types a mark that opens something, a word, and the mark that closes it, and holds the tree before and
+/// behind the last.
+fn open_and_close(
+    alloc: Global,
+    desk: &mut Desk,
+    start: usize,
+    marks: Marks,
+    outcome: &mut Outcome,
+) -> anyhow::Result<()> {
+    let at = open(desk, start, marks.opening, outcome)?;
     desk.hold(alloc, outcome)?;
     desk.type_letters(at, marks.closing, outcome)?;
     desk.hold(alloc, outcome)
+}
+
+/// Types a mark that opens something and a word behind it, and gives where this ends.
+fn open(desk: &mut Desk, start: usize, mark: &str, outcome: &mut Outcome) -> anyhow::Result<usize> {
+    let opened = desk.type_letters(start, mark, outcome)?;
+    let typed = desk.type_letters(opened, TYPED, outcome)?;
+    desk.take_out(typed, TAKEN, outcome)
 }
 
 /// A place near a text's front: in a package where a function's body begins, and else where a part of the

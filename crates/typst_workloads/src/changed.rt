@@ -13,15 +13,26 @@ pub fn formatted(
 ) -> Result<String, AllocError> {
     let mut out = String::new(alloc);
     for line in text.split_inclusive('\n') {
-        out.push_str(line.trim_end())?;
-        if random.one_in(lines) {
-            out.push_str(random.pick(&[" so", " // new", " 12", " *it*"]))?;
-        }
-        if line.ends_with('\n') {
-            out.push_str("\n")?;
-        }
+        push_formatted(&mut out, random, line, lines)?;
     }
     Ok(out)
+}
+
+/// Adds a line without the spaces at its end, with something put behind it in one of so many cases.
+fn push_formatted(
+    out: &mut String,
+    random: &mut Random,
+    line: &str,
+    cases: usize,
+) -> Result<(), AllocError> {
+    out.push_str(line.trim_end())?;
+    if random.one_in(cases) {
+        out.push_str(random.pick(&[" so", " // new", " 12", " *it*"]))?;
+    }
+    if line.ends_with('\n') {
+        out.push_str("\n")?;
+    }
+    Ok(())
 }
 
 /// The text with a word put in at a place, which is on a boundary of a character.
@@ -33,9 +44,9 @@ pub fn with_word(
 ) -> Result<String, AllocError> {
     let mut out = String::new(alloc);
     if let (Some(front), Some(behind)) = (text.get(..place), text.get(place..)) {
-        out.push_str(front)?;
-        out.push_str(word)?;
-        out.push_str(behind)?;
+        for part in [front, word, behind] {
+            out.push_str(part)?;
+        }
     }
     Ok(out)
 }

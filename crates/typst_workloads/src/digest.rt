@@ -4,7 +4,7 @@ use typst_parser::{Lines, SyntaxKind, SyntaxNode, Tag};
 
 /// A digest of numbers and texts in the order in which they came. What an edit reads and which numbers it
 /// gives isn't taken in, since states of this library that agree in every text and tree may differ in it.
-#[derive(Debug, Clone, Copy)]
+#[derive(Clone, Copy)]
 pub struct Digest {
     value: u64,
 }
@@ -112,7 +112,7 @@ impl Digest {
 }
 
 /// What came of a job.
-#[derive(Debug, Clone, Copy)]
+#[derive(Clone, Copy)]
 pub struct Outcome {
     /// The digest of all results.
     pub digest: Digest,

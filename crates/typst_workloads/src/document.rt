@@ -81,7 +81,7 @@ const OPERATORS: &[&str] = &[
 const PROSE_BYTES: usize = 12_000;
 
 /// What a text is like.
-#[derive(Debug, Clone, Copy, PartialEq, Eq)]
+#[derive(Clone, Copy, PartialEq, Eq)]
 pub enum Shape {
     /// Prose with headings, lists, formulas, figures and some code.
     Document,
@@ -318,25 +318,40 @@ fn push_comment(text: &mut String, random: &mut Random) -> Result<(), AllocError
 fn push_nested(text: &mut String, random: &mut Random) -> Result<(), AllocError> {
     let depth = random.between(3, 30);
     if random.one_in(2) {
-        for level in 0..depth {
-            for _ in 0..level {
-                text.push_str("  ")?;
-            }
-            text.push_str("- ")?;
-            text.push_str(random.pick(PLAIN))?;
-            text.push_str("\n")?;
-        }
-        return text.push_str("\n");
+        push_lists(text, random, depth)
+    } else {
+        push_brackets(text, random, depth)
     }
+}
+
+/// Writes a list in a list, and so on, so many lines deep.
+fn push_lists(text: &mut String, random: &mut Random, depth: usize) -> Result<(), AllocError> {
+    for level in 0..depth {
+        push_times(text, "  ", level)?;
+        text.push_str("- ")?;
+        text.push_str(random.pick(PLAIN))?;
+        text.push_str("\n")?;
+    }
+    text.push_str("\n")
+}
+
+/// Writes a text in brackets in brackets, and so on, so many deep.
+fn push_brackets(text: &mut String, random: &mut Random, depth: usize) -> Result<(), AllocError> {
     for _ in 0..depth {
         text.push_str(random.pick(&["#box[", "#strong[", "#[", "#f(x)["]))?;
         text.push_str(random.pick(PLAIN))?;
         text.push_str(" ")?;
     }
-    for _ in 0..depth {
-        text.push_str("]")?;
-    }
+    push_times(text, "]", depth)?;
     text.push_str("\n\n")
+}
+
+/// Writes the same so many times.
+fn push_times(text: &mut String, part: &str, times: usize) -> Result<(), AllocError> {
+    for _ in 0..times {
+        text.push_str(part)?;
+    }
+    Ok(())
 }
 
 /// Writes a paragraph of words past ASCII and some others.

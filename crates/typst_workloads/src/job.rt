@@ -12,7 +12,7 @@ use crate::walking::walking;
 use std::alloc::Global;
 
 /// A job that users wait for.
-#[derive(Debug, Clone, Copy, PartialEq, Eq)]
+#[derive(Clone, Copy)]
 pub enum Job {
     /// Typing into documents.
     Typing,
@@ -80,17 +80,28 @@ impl Job {
         let mut outcome = Outcome::new();
         for round in 0..rounds {
             let mut random = Random::new(seed, round as u64);
-            match self {
-                Job::Typing => typing(alloc, &mut random, round, &mut outcome)?,
-                Job::Blocks => blocks(alloc, &mut random, round, &mut outcome)?,
-                Job::Broken => broken(alloc, &mut random, &mut outcome)?,
-                Job::Walking => walking(alloc, &mut random, &mut outcome)?,
-                Job::Opening => opening(alloc, &mut random, round, &mut outcome)?,
-                Job::Outside => outside(alloc, &mut random, &mut outcome)?,
-                Job::Positions => positions(alloc, &mut random, &mut outcome)?,
-                Job::Sums => sums(alloc, &mut outcome)?,
-            }
+            self.round(alloc, &mut random, round, &mut outcome)?;
         }
         Ok(outcome)
+    }
+
+    /// Does the job on one round of inputs.
+    fn round(
+        self,
+        alloc: Global,
+        random: &mut Random,
+        round: usize,
+        outcome: &mut Outcome,
+    ) -> anyhow::Result<()> {
+        match self {
+            Job::Typing => typing(alloc, random, round, outcome),
+            Job::Blocks => blocks(alloc, random, round, outcome),
+            Job::Broken => broken(alloc, random, outcome),
+            Job::Walking => walking(alloc, random, outcome),
+            Job::Opening => opening(alloc, random, round, outcome),
+            Job::Outside => outside(alloc, random, outcome),
+            Job::Positions => positions(alloc, random, outcome),
+            Job::Sums => sums(alloc, outcome),
+        }
     }
 }

@@ -22,7 +22,7 @@ use job::Job;
 use std::alloc::Global;
 use std::time::Instant;
 use std::{env, io};
-use work::Work;
+use work::{Subject, Work};
 
 const USAGE: &str =
     "usage: typst_workloads typing|blocks|broken|walking|opening|outside|positions|sums|all SEED ROUNDS [check]\n       typst_workloads lines|parse|parse-code|parse-math|html|edit N";
@@ -30,16 +30,25 @@ const USAGE: &str =
 /// Without words it prints which ones it takes.
 fn main(rt: HostRuntime) -> anyhow::Result<()> {
     let words = words(&rt, rt.alloc())?;
-    match words.as_slice() {
-        [] => println!(rt; "{USAGE}")?,
-        [work, rounds] => repeat(&rt, work.as_str(), rounds.as_str())?,
-        [jobs, seed, rounds] => do_jobs(&rt, jobs.as_str(), seed.as_str(), rounds.as_str(), false)?,
+    obey(&rt, words.as_slice())
+}
+
+/// Does what words ask for.
+fn obey(rt: &HostRuntime, words: &[String]) -> anyhow::Result<()> {
+    match words {
+        [] => Ok(println!(rt; "{USAGE}")?),
+        [work, rounds] => repeat(rt, work.as_str(), rounds.as_str()),
+        [jobs, seed, rounds] => do_jobs(rt, jobs.as_str(), seed.as_str(), rounds.as_str(), false),
         [jobs, seed, rounds, check] if check.as_str() == "check" => {
-            do_jobs(&rt, jobs.as_str(), seed.as_str(), rounds.as_str(), true)?;
+            do_jobs(rt, jobs.as_str(), seed.as_str(), rounds.as_str(), true)
         }
-        _ => anyhow::bail!("{USAGE}"),
+        _ => Err(unknown()),
     }
-    Ok(())
+}
+
+/// The error of words that it doesn't take.
+fn unknown() -> anyhow::Error {
+    anyhow::anyhow!("{USAGE}")
 }
 
 /// Does the jobs of a name on so many rounds of inputs, and prints how many results were held against
@@ -56,13 +65,11 @@ fn do_jobs(
     let rounds = rounds.parse::<usize>()?;
     let jobs = Job::named(name);
     if jobs.is_empty() {
-        anyhow::bail!("{USAGE}");
+        return Err(unknown());
     }
     let mut all_agree = true;
     for job in jobs {
-        let outcome = job.run(rt.alloc(), seed, rounds)?;
-        report(rt, *job, &outcome, is_check)?;
-        all_agree = all_agree && outcome.differing.is_none();
+        all_agree = do_job(rt, *job, seed, rounds, is_check)? && all_agree;
     }
     if !all_agree {
         anyhow::bail!("some results differ from those made in another way");
@@ -70,27 +77,66 @@ fn do_jobs(
     Ok(())
 }
 
+/// Does a job, prints what came of it, and tells whether all results agree.
+fn do_job(
+    rt: &HostRuntime,
+    job: Job,
+    seed: u64,
+    rounds: usize,
+    is_check: bool,
+) -> anyhow::Result<bool> {
+    let outcome = job.run(rt.alloc(), seed, rounds)?;
+    report(rt, job, &outcome, is_check)?;
+    Ok(outcome.differing.is_none())
+}
+
 /// Does the work of a name so many times on the text on standard input, and prints
 /// `WORD bytes B checksum C` on standard output and the nanoseconds of a round on standard error.
 fn repeat(rt: &HostRuntime, word: &str, rounds: &str) -> anyhow::Result<()> {
-    let alloc = rt.alloc();
     let Some(work) = Work::from_word(word) else {
-        anyhow::bail!("{USAGE}");
+        return Err(unknown());
     };
     let rounds = rounds.parse::<u64>()?;
-    let text = io::read_to_string(alloc, rt.reader())?;
+    let text = io::read_to_string(rt.alloc(), rt.reader())?;
+    repeat_on(rt, work, rounds, text)
+}
+
+/// The same on a text.
+fn repeat_on(rt: &HostRuntime, work: Work, rounds: u64, text: String) -> anyhow::Result<()> {
     let bytes = text.len();
-    let mut subject = work.subject(alloc, text)?;
+    let mut subject = work.subject(rt.alloc(), text)?;
+    let (checksum, nanoseconds) = timed(rt, &mut subject, rounds)?;
+    tell(rt, work.word(), bytes, checksum, nanoseconds)
+}
+
+/// Prints the checksum of rounds on so many bytes, and the nanoseconds of one.
+fn tell(
+    rt: &HostRuntime,
+    word: &str,
+    bytes: usize,
+    checksum: u64,
+    nanoseconds: u128,
+) -> anyhow::Result<()> {
+    println!(rt; "{word} bytes {bytes} checksum {checksum}")?;
+    eprintln!(rt; "{nanoseconds}")?;
+    Ok(())
+}
+
+/// The checksum of so many rounds, and the nanoseconds of one.
+fn timed(rt: &HostRuntime, subject: &mut Subject, rounds: u64) -> anyhow::Result<(u64, u128)> {
     let start = Instant::now(rt)?;
+    let checksum = checksum(rt.alloc(), subject, rounds)?;
+    let nanoseconds = start.elapsed(rt)?.as_nanos() / u128::from(rounds.max(1));
+    Ok((checksum, nanoseconds))
+}
+
+/// Does so many rounds, and sums up what came out.
+fn checksum(alloc: Global, subject: &mut Subject, rounds: u64) -> anyhow::Result<u64> {
     let mut checksum = 0u64;
     for _ in 0..rounds {
         checksum = checksum.rotate_left(1) ^ subject.round(alloc)?;
     }
-    let nanoseconds = start.elapsed(rt)?.as_nanos() / u128::from(rounds.max(1));
-    let word = work.word();
-    println!(rt; "{word} bytes {bytes} checksum {checksum}")?;
-    eprintln!(rt; "{nanoseconds}")?;
-    Ok(())
+    Ok(checksum)
 }
 
 /// Prints what came of a job, and on standard error what differed.
@@ -102,9 +148,16 @@ fn report(rt: &HostRuntime, job: Job, outcome: &Outcome, is_check: bool) -> anyh
         print!(rt; " digest {digest}")?;
     }
     println!(rt; "")?;
-    if let Some(what) = outcome.differing {
-        eprintln!(rt; "{word}: {agreed} of {held} agree, and the first that doesn't is {what}")?;
+    match outcome.differing {
+        None => Ok(()),
+        Some(what) => complain(rt, job, outcome, what),
     }
+}
+
+/// Prints what the first result was that differed.
+fn complain(rt: &HostRuntime, job: Job, outcome: &Outcome, what: &str) -> anyhow::Result<()> {
+    let (word, held, agreed) = (job.word(), outcome.held, outcome.agreed);
+    eprintln!(rt; "{word}: {agreed} of {held} agree, and the first that doesn't is {what}")?;
     Ok(())
 }
 

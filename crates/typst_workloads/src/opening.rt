@@ -1,11 +1,11 @@
 //! Opening: the files of a project become sources, and are shown as pages.
 
 use crate::digest::Outcome;
-use crate::document::{Shape, document};
+use crate::document::Shape;
 use crate::random::Random;
-use crate::typing::told;
+use crate::typing::{hold_tree, source};
 use std::alloc::Global;
-use typst_parser::{Source, UnicodeClasses, highlight_html, parse};
+use typst_parser::{Source, UnicodeClasses, highlight_html};
 
 /// So many files has a project.
 const FILES: usize = 22;
@@ -21,13 +21,22 @@ pub fn opening(
 ) -> anyhow::Result<()> {
     for file in 0..FILES {
         let (shape, bytes) = file_of_project(random, file);
-        let text = document(alloc, random, shape, bytes)?;
-        let source = Source::detached(alloc, text, UnicodeClasses).map_err(told)?;
-        show(alloc, &source, outcome)?;
-        if file % 10 == round % 10 {
-            let anew = parse(alloc, source.text(), &UnicodeClasses)?;
-            outcome.hold("a source's tree", anew.spanless_eq(source.root()));
-        }
+        let source = source(alloc, random, shape, bytes)?;
+        open(alloc, &source, file % 10 == round % 10, outcome)?;
+    }
+    Ok(())
+}
+
+/// Makes the page of a source; where its tree is to be held, holds it against the one that is parsed anew.
+fn open(
+    alloc: Global,
+    source: &Source<UnicodeClasses>,
+    is_held: bool,
+    outcome: &mut Outcome,
+) -> anyhow::Result<()> {
+    show(alloc, source, outcome)?;
+    if is_held {
+        hold_tree(alloc, source, "a source's tree", outcome)?;
     }
     Ok(())
 }

@@ -8,24 +8,38 @@ use crate::typing::boundary;
 use std::alloc::Global;
 use typst_parser::Lines;
 
+/// What texts are like, their bytes, and how many positions are found in each.
+static TEXTS: [(Shape, usize, usize); 5] = [
+    (Shape::Document, 100_000, 3000),
+    (Shape::Document, 1_000_000, 3000),
+    (Shape::WideProse, 200_000, 3000),
+    (Shape::ShortLines, 500_000, 3000),
+    (Shape::LongLine, 100_000, 100),
+];
+
 /// Finds lines and positions in documents, prose in other scripts, short lines, and one long line.
 pub fn positions(alloc: Global, random: &mut Random, outcome: &mut Outcome) -> anyhow::Result<()> {
-    for (shape, bytes, queries) in [
-        (Shape::Document, 100_000, 3000),
-        (Shape::Document, 1_000_000, 3000),
-        (Shape::WideProse, 200_000, 3000),
-        (Shape::ShortLines, 500_000, 3000),
-        (Shape::LongLine, 100_000, 100),
-    ] {
-        let text = document(alloc, random, shape, bytes)?;
+    for (shape, bytes, queries) in &TEXTS {
+        let text = document(alloc, random, *shape, *bytes)?;
         let mut lines = Lines::new(alloc, text)?;
-        show(random, &lines, queries, outcome);
-        let new = formatted(alloc, random, lines.text(), 20)?;
-        let changed = lines.replace(new.as_str())?;
-        outcome.digest.add(u64::from(changed));
-        show(random, &lines, queries, outcome);
-        outcome.hold("a text after its replacement", lines.text() == new.as_str());
+        show(random, &lines, *queries, outcome);
+        format(alloc, random, &mut lines, outcome)?;
+        show(random, &lines, *queries, outcome);
     }
+    Ok(())
+}
+
+/// Gives lines a text with many changes from front to back.
+fn format(
+    alloc: Global,
+    random: &mut Random,
+    lines: &mut Lines<String>,
+    outcome: &mut Outcome,
+) -> anyhow::Result<()> {
+    let new = formatted(alloc, random, lines.text(), 20)?;
+    let changed = lines.replace(new.as_str())?;
+    outcome.digest.add(u64::from(changed));
+    outcome.hold("a text after its replacement", lines.text() == new.as_str());
     Ok(())
 }
 

@@ -1,7 +1,7 @@
 //! Numbers that look random, the same on every machine.
 
 /// A generator of numbers: Steele, Lea and Flood's SplitMix.
-#[derive(Debug, Clone, Copy)]
+#[derive(Clone, Copy)]
 pub struct Random {
     state: u64,
 }

@@ -15,11 +15,14 @@ const ROWS: [(Work, &str, u64); 4] = [
 
 /// Does a round of each kind of work on a short text, and holds its sum against the one by hand.
 pub fn sums(alloc: Global, outcome: &mut Outcome) -> anyhow::Result<()> {
-    for (work, text, sum) in ROWS {
-        let mut held = String::new(alloc);
-        held.push_str(text)?;
-        let mut subject = work.subject(alloc, held)?;
-        outcome.hold("a sum", subject.round(alloc)? == sum);
+    for (work, text, sum) in &ROWS {
+        outcome.hold("a sum", sum_of(alloc, *work, text)? == *sum);
     }
     Ok(())
+}
+
+/// The sum of a round on a text.
+fn sum_of(alloc: Global, work: Work, text: &str) -> anyhow::Result<u64> {
+    let mut subject = work.subject(alloc, String::from_str(alloc, text)?)?;
+    subject.round(alloc)
 }

@@ -1,10 +1,10 @@
 //! Typing: each keystroke is one edit, and then positions are asked for what is shown.
 
-use crate::digest::Outcome;
+use crate::digest::{Digest, Outcome};
 use crate::document::{Shape, document};
 use crate::random::Random;
 use std::alloc::Global;
-use typst_parser::{LinkedNode, Source, SourceError, SyntaxKind, UnicodeClasses, parse};
+use typst_parser::{Lines, LinkedNode, Source, SourceError, SyntaxKind, UnicodeClasses, parse};
 
 /// What is typed letter by letter, of which the last letters are taken out again.
 const WORDS: &[&str] = &[
@@ -70,7 +70,7 @@ pub fn blocks(
 }
 
 /// A text into which one types, and how much.
-#[derive(Debug, Clone, Copy)]
+#[derive(Clone, Copy)]
 struct Task {
     shape: Shape,
     bytes: usize,
@@ -87,16 +87,33 @@ fn type_into(
     task: Task,
     outcome: &mut Outcome,
 ) -> anyhow::Result<()> {
-    let text = document(alloc, random, task.shape, task.bytes)?;
-    let source = Source::detached(alloc, text, UnicodeClasses).map_err(told)?;
+    let source = source(alloc, random, task.shape, task.bytes)?;
     let mut desk = Desk::new(source, task.keystrokes, task.turn);
-    for _ in 0..task.keystrokes {
-        if desk.left == 0 {
-            break;
-        }
-        desk.session(random, outcome)?;
-    }
+    desk.sessions(task.keystrokes, random, outcome)?;
     desk.hold(alloc, outcome)
+}
+
+/// A source of a text of a shape, of about so many bytes.
+pub fn source(
+    alloc: Global,
+    random: &mut Random,
+    shape: Shape,
+    bytes: usize,
+) -> anyhow::Result<Source<UnicodeClasses>> {
+    let text = document(alloc, random, shape, bytes)?;
+    Source::detached(alloc, text, UnicodeClasses).map_err(told)
+}
+
+/// Holds a source's tree, of which it is told what it is, against the one that is parsed anew.
+pub fn hold_tree(
+    alloc: Global,
+    source: &Source<UnicodeClasses>,
+    what: &'static str,
+    outcome: &mut Outcome,
+) -> anyhow::Result<()> {
+    let anew = parse(alloc, source.text(), &UnicodeClasses)?;
+    outcome.hold(what, anew.spanless_eq(source.root()));
+    Ok(())
 }
 
 /// A source into which one types.
@@ -128,37 +145,58 @@ impl Desk {
         self.source.text()
     }
 
-    /// Types a word somewhere. In plain text its last letters are taken out again, and elsewhere all of
-    /// it, so that the text stays well-formed.
+    /// Does sessions till no keystroke is left, and at most so many.
+    fn sessions(
+        &mut self,
+        most: usize,
+        random: &mut Random,
+        outcome: &mut Outcome,
+    ) -> anyhow::Result<()> {
+        for _ in 0..most {
+            if self.left == 0 {
+                break;
+            }
+            self.session(random, outcome)?;
+        }
+        Ok(())
+    }
+
+    /// Types somewhere.
     fn session(&mut self, random: &mut Random, outcome: &mut Outcome) -> anyhow::Result<()> {
         let start = self.place(random);
         if self.until_marked == 0 {
             return self.marked_session(start, outcome);
         }
-        let is_plain = match self.leaf_before(start) {
-            None => false,
-            Some(leaf) => leaf.kind() == SyntaxKind::Text,
-        };
-        if is_plain {
-            self.type_word(start, random, outcome)?;
-            return Ok(());
-        }
-        let word = random.pick(WORDS);
-        let end = self.type_letters(start, word, outcome)?;
-        self.take_out(end, word.len(), outcome)?;
-        Ok(())
+        let is_plain = self.is_in_text(start);
+        self.word_session(start, is_plain, random, outcome)
     }
 
-    /// Types a word, takes some of its last letters out again, and gives where the rest ends.
-    fn type_word(
+    /// Whether a place is in plain text.
+    fn is_in_text(&self, place: usize) -> bool {
+        match self.leaf_before(place) {
+            None => false,
+            Some(leaf) => leaf.kind() == SyntaxKind::Text,
+        }
+    }
+
+    /// Types a word. In plain text its last letters are taken out again, and elsewhere all of it, so that
+    /// the text stays well-formed.
+    fn word_session(
         &mut self,
         start: usize,
+        is_plain: bool,
         random: &mut Random,
         outcome: &mut Outcome,
-    ) -> anyhow::Result<usize> {
+    ) -> anyhow::Result<()> {
         let word = random.pick(WORDS);
         let end = self.type_letters(start, word, outcome)?;
-        self.take_out(end, random.below(word.len()), outcome)
+        let letters = if is_plain {
+            random.below(word.len())
+        } else {
+            word.len()
+        };
+        self.take_out(end, letters, outcome)?;
+        Ok(())
     }
 
     /// Types what opens and closes something, and takes it out again as a whole.
@@ -203,9 +241,7 @@ impl Desk {
     pub fn hold(&self, alloc: Global, outcome: &mut Outcome) -> anyhow::Result<()> {
         outcome.digest.add_text(self.source.text());
         outcome.digest.add_tree(self.source.root());
-        let anew = parse(alloc, self.source.text(), &UnicodeClasses)?;
-        outcome.hold("a tree after edits", anew.spanless_eq(self.source.root()));
-        Ok(())
+        hold_tree(alloc, &self.source, "a tree after edits", outcome)
     }
 
     /// Where one types: at the front, at the end, before a formula's closing dollar sign, or anywhere.
@@ -256,20 +292,15 @@ impl Desk {
     /// Asks what an editor asks behind a keystroke: the cursor's line, column and UTF-16 offset and the
     /// ways back, the leaf at the cursor, and the bytes of its span.
     fn ask(&self, at: usize, outcome: &mut Outcome) {
-        let lines = self.source.lines();
         let digest = &mut outcome.digest;
-        let position = lines.byte_to_line_column(at);
-        digest.add_line_column(position);
-        if let Some((line, column)) = position {
-            digest.add_place(lines.line_column_to_byte(line, column));
+        ask_position(self.source.lines(), at, digest);
+        if let Some(leaf) = self.leaf_before(at) {
+            self.ask_leaf(leaf, digest);
         }
-        if let Some(units) = lines.byte_to_utf16(at) {
-            digest.add_size(units);
-            digest.add_place(lines.utf16_to_byte(units));
-        }
-        let Some(leaf) = self.leaf_before(at) else {
-            return;
-        };
+    }
+
+    /// Asks for the bytes of a leaf's span, and for its node.
+    fn ask_leaf(&self, leaf: LinkedNode<'_>, digest: &mut Digest) {
         let Some(number) = leaf.get().span().number() else {
             return;
         };
@@ -289,6 +320,19 @@ impl Desk {
             return None;
         }
         LinkedNode::new(self.source.root()).leaf_at(at.saturating_sub(1))
+    }
+}
+
+/// Asks for a place's line, column and UTF-16 offset and the ways back.
+fn ask_position(lines: &Lines<String>, at: usize, digest: &mut Digest) {
+    let position = lines.byte_to_line_column(at);
+    digest.add_line_column(position);
+    if let Some((line, column)) = position {
+        digest.add_place(lines.line_column_to_byte(line, column));
+    }
+    if let Some(units) = lines.byte_to_utf16(at) {
+        digest.add_size(units);
+        digest.add_place(lines.utf16_to_byte(units));
     }
 }
 

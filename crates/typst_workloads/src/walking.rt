@@ -9,27 +9,41 @@ use typst_parser::{LinkedNode, SyntaxNode, UnicodeClasses, highlight, parse};
 /// So many bytes are shown on the screen.
 const SCREEN: usize = 4000;
 
+/// The texts that are walked through from end to end: what they are like, and their bytes.
+static WHOLE: [(Shape, usize); 5] = [
+    (Shape::Document, 10_000),
+    (Shape::Document, 40_000),
+    (Shape::OneBlock, 20_000),
+    (Shape::Package, 20_000),
+    (Shape::LongTable, 15_000),
+];
+
+/// The texts of which a screen is shown.
+static SHOWN: [(Shape, usize); 2] = [(Shape::Document, 100_000), (Shape::OneBlock, 100_000)];
+
 /// Walks through documents of 10 and 40 kilobytes, one that is a block, a package, and a page of prose
 /// above a table of more than a hundred cells, and shows what is on the screen of documents of 100 kilobytes.
 pub fn walking(alloc: Global, random: &mut Random, outcome: &mut Outcome) -> anyhow::Result<()> {
-    for (shape, bytes) in [
-        (Shape::Document, 10_000),
-        (Shape::Document, 40_000),
-        (Shape::OneBlock, 20_000),
-        (Shape::Package, 20_000),
-        (Shape::LongTable, 15_000),
-    ] {
-        let text = document(alloc, random, shape, bytes)?;
-        let root = parse(alloc, text.as_str(), &UnicodeClasses)?;
-        walk(&root, 0, bytes, outcome);
+    for (shape, bytes) in &WHOLE {
+        walk(&parsed(alloc, random, *shape, *bytes)?, 0, *bytes, outcome);
     }
-    for (shape, bytes) in [(Shape::Document, 100_000), (Shape::OneBlock, 100_000)] {
-        let text = document(alloc, random, shape, bytes)?;
-        let root = parse(alloc, text.as_str(), &UnicodeClasses)?;
+    for (shape, bytes) in &SHOWN {
+        let root = parsed(alloc, random, *shape, *bytes)?;
         let top = random.below(bytes.saturating_sub(SCREEN));
         walk(&root, top, top.saturating_add(SCREEN), outcome);
     }
     Ok(())
+}
+
+/// The tree of a text of a shape, of about so many bytes.
+fn parsed(
+    alloc: Global,
+    random: &mut Random,
+    shape: Shape,
+    bytes: usize,
+) -> anyhow::Result<SyntaxNode> {
+    let text = document(alloc, random, shape, bytes)?;
+    Ok(parse(alloc, text.as_str(), &UnicodeClasses)?)
 }
 
 /// Walks through the leaves of a tree that begin from one byte on up to another one, there and back.

@@ -9,7 +9,7 @@ use typst_parser::{
 };
 
 /// A kind of work on a text.
-#[derive(Debug, Clone, Copy, PartialEq, Eq)]
+#[derive(Clone, Copy)]
 pub enum Work {
     /// Finds where the lines start.
     Lines,
@@ -74,28 +74,28 @@ impl Work {
 
     /// What it is done on, made from a text.
     pub fn subject(self, alloc: Global, text: String) -> anyhow::Result<Subject> {
-        Ok(match self {
-            Work::Lines => Subject::Lines(text),
-            Work::Parse => Subject::Text(text),
-            Work::ParseCode => Subject::Code(text),
-            Work::ParseMath => Subject::Math(text),
-            Work::Html => Subject::Tree(parse(alloc, text.as_str(), &UnicodeClasses)?),
-            Work::Edit => Subject::Source(Edited::new(alloc, text)?),
-        })
+        match self {
+            Work::Lines => Ok(Subject::Lines(text)),
+            Work::Parse => Ok(Subject::Text(text)),
+            Work::ParseCode => Ok(Subject::Code(text)),
+            Work::ParseMath => Ok(Subject::Math(text)),
+            Work::Html => Ok(Subject::Tree(parse(alloc, text.as_str(), &UnicodeClasses)?)),
+            Work::Edit => Ok(Subject::Source(Edited::new(alloc, text)?)),
+        }
     }
 }
 
 impl Subject {
     /// Does the work once, and sums up what came out.
     pub fn round(&mut self, alloc: Global) -> anyhow::Result<u64> {
-        Ok(match self {
-            Subject::Lines(text) => lines(alloc, text.as_str())?,
-            Subject::Text(text) => size(&parse(alloc, text.as_str(), &UnicodeClasses)?),
-            Subject::Code(text) => size(&parse_code(alloc, text.as_str(), &UnicodeClasses)?),
-            Subject::Math(text) => size(&parse_math(alloc, text.as_str(), &UnicodeClasses)?),
-            Subject::Tree(root) => html(alloc, root)?,
-            Subject::Source(edited) => edited.round()?,
-        })
+        match self {
+            Subject::Lines(text) => Ok(lines(alloc, text.as_str())?),
+            Subject::Text(text) => sized(parse(alloc, text.as_str(), &UnicodeClasses)),
+            Subject::Code(text) => sized(parse_code(alloc, text.as_str(), &UnicodeClasses)),
+            Subject::Math(text) => sized(parse_math(alloc, text.as_str(), &UnicodeClasses)),
+            Subject::Tree(root) => Ok(html(alloc, root)?),
+            Subject::Source(edited) => edited.round(),
+        }
     }
 }
 
@@ -114,8 +114,9 @@ fn lines(alloc: Global, text: &str) -> Result<u64, AllocError> {
 }
 
 /// The length of a tree's text and the number of its nodes, added up.
-fn size(root: &SyntaxNode) -> u64 {
-    (root.len() as u64).wrapping_add(root.descendants() as u64)
+fn sized(parsed: Result<SyntaxNode, AllocError>) -> anyhow::Result<u64> {
+    let root = parsed?;
+    Ok((root.len() as u64).wrapping_add(root.descendants() as u64))
 }
 
 /// The length of the tree's text as HTML.

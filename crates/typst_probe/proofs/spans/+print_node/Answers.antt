@@ -14,12 +14,12 @@ loop-child-init t c =
 
 pub loop-child-preserved : goal.loop-child-preserved
 loop-child-preserved t c =
-    (split (linked c.args.node) (linked c.in-Some-child.child) _ _ c.in-Some-child.ensures.steps c.loop-child.invariant).1
+    (split (linked c.args.node) (linked c.in-Some.child) _ _ c.in-Some.ensures.steps c.loop-child.invariant).1
 
 pub print_node-requires : goal.print_node-requires
 print_node-requires t c =
     let a = linked c.args.node in
-    let b = linked c.in-Some-child.child in
-    let w = split a b _ _ c.in-Some-child.ensures.steps c.loop-child.invariant in
-    let less : nodes b.root - b.number < nodes a.root - a.number = omega (arith, w.0.1, inside c.in-Some-child.child, ap nodes w.0.0) in
+    let b = linked c.in-Some.child in
+    let w = split a b _ _ c.in-Some.ensures.steps c.loop-child.invariant in
+    let less : nodes b.root - b.number < nodes a.root - a.number = omega (arith, w.0.1, inside c.in-Some.child, ap nodes w.0.0) in
     omega (arith, c.requires, less)

@@ -1,5 +1,0 @@
-//! Sessions of the language server.
-
-mod dialogue;
-mod refusals;
-mod sessions;

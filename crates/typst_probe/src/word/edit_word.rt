@@ -1,0 +1,71 @@
+//! What edits of a text answer.
+
+ghost use Rattle.std.specs.Prelude.{◌≡◌};
+ghost use Rattle.typst_probe.specs.Words.{edit_word_named};
+
+use crate::{answers, calls, edits, everywhere, in_a_row};
+use std::alloc::{AllocError, Global};
+use typst_cli::UnicodeClasses;
+use typst_tests::{Narrow, Wide};
+
+/// What edits of a text answer.
+#[derive(Clone, Copy)]
+pub enum EditWord {
+    /// The syntax tree of a text after an edit.
+    Edit,
+    /// The syntax tree of a text after an edit, where nearly all characters past ASCII are letters.
+    EditWide,
+    /// The syntax tree of a text after an edit, where no character past ASCII has a class.
+    EditNarrow,
+    /// The syntax tree of a text after an edit, with the number of each node.
+    EditSpans,
+    /// What edits of a text answer that are made one after the other.
+    Edits,
+    /// Edits of a text that are drawn, one after the other.
+    InARow,
+    /// How often classes are asked for an edit.
+    Calls,
+    /// Edits of a text at each of its places.
+    Everywhere,
+    /// Edits of a text, at each of its places another one.
+    EverywhereInTurn,
+    /// Edits of a text at some of its places.
+    EverywhereAt,
+}
+
+impl EditWord {
+    /// The word of that name.
+    pub fn from_name(name: &str) -> Option<EditWord>
+        ensures { result ≡ edit_word_named name.now }
+    {
+        match name {
+            "edit" => Some(EditWord::Edit),
+            "edit-wide" => Some(EditWord::EditWide),
+            "edit-narrow" => Some(EditWord::EditNarrow),
+            "edit-spans" => Some(EditWord::EditSpans),
+            "edits" => Some(EditWord::Edits),
+            "in-a-row" => Some(EditWord::InARow),
+            "calls" => Some(EditWord::Calls),
+            "everywhere" => Some(EditWord::Everywhere),
+            "everywhere-in-turn" => Some(EditWord::EverywhereInTurn),
+            "everywhere-at" => Some(EditWord::EverywhereAt),
+            _ => None,
+        }
+    }
+
+    /// The whole answer about a text.
+    pub fn answer(self, alloc: Global, text: &str) -> Result<String, AllocError> {
+        match self {
+            EditWord::Edit => edits::row_answer(alloc, text, UnicodeClasses),
+            EditWord::EditWide => edits::row_answer(alloc, text, Wide),
+            EditWord::EditNarrow => edits::row_answer(alloc, text, Narrow),
+            EditWord::EditSpans => edits::spans_row_answer(alloc, text),
+            EditWord::Edits => answers::answer(alloc, text),
+            EditWord::InARow => in_a_row::answer(alloc, text),
+            EditWord::Calls => calls::answer(alloc, text),
+            EditWord::Everywhere => everywhere::answer(alloc, text),
+            EditWord::EverywhereInTurn => everywhere::answer_in_turn(alloc, text),
+            EditWord::EverywhereAt => everywhere::answer_at(alloc, text),
+        }
+    }
+}

@@ -1,0 +1,73 @@
+//! What the tree of a text tells, or a part of the text.
+
+ghost use Rattle.std.specs.Prelude.{◌≡◌};
+ghost use Rattle.typst_probe.specs.Words.{tree_word_named};
+
+use crate::{candidates, links, modes, notes, spans, stretches, tagged, tags};
+use std::alloc::{AllocError, Global};
+
+/// What a tree tells.
+#[derive(Clone, Copy)]
+pub enum TreeWord {
+    /// The link that the text begins with.
+    Link,
+    /// Which part of the raw text its warnings are about.
+    Stretches,
+    /// What is noted in reading the text as markup.
+    Notes,
+    /// The tags of the nodes of the text's tree.
+    Tags,
+    /// The stretches of the text with their tags.
+    Tagged,
+    /// What of a text may be read anew in an edit.
+    Candidates,
+    /// The syntax tree of the text as markup, with the number of each node.
+    Spans,
+    /// How deep the tree of a text in a mode goes.
+    Depths,
+    /// How many nodes the tree of a text in a mode has.
+    Size,
+    /// How often classes are asked in reading a text in a mode.
+    Asked,
+    /// Whether a text in a mode is read alike each time.
+    Again,
+}
+
+impl TreeWord {
+    /// The word of that name.
+    pub fn from_name(name: &str) -> Option<TreeWord>
+        ensures { result ≡ tree_word_named name.now }
+    {
+        match name {
+            "link" => Some(TreeWord::Link),
+            "stretches" => Some(TreeWord::Stretches),
+            "notes" => Some(TreeWord::Notes),
+            "tags" => Some(TreeWord::Tags),
+            "tagged" => Some(TreeWord::Tagged),
+            "candidates" => Some(TreeWord::Candidates),
+            "spans" => Some(TreeWord::Spans),
+            "depths" => Some(TreeWord::Depths),
+            "size" => Some(TreeWord::Size),
+            "asked" => Some(TreeWord::Asked),
+            "again" => Some(TreeWord::Again),
+            _ => None,
+        }
+    }
+
+    /// The whole answer about a text.
+    pub fn answer(self, alloc: Global, text: &str) -> Result<String, AllocError> {
+        match self {
+            TreeWord::Link => links::answer(alloc, text),
+            TreeWord::Stretches => stretches::answer(alloc, text),
+            TreeWord::Notes => notes::answer(alloc, text),
+            TreeWord::Tags => tags::answer(alloc, text),
+            TreeWord::Tagged => tagged::answer(alloc, text),
+            TreeWord::Candidates => candidates::row_answer(alloc, text),
+            TreeWord::Spans => spans::answer(alloc, text),
+            TreeWord::Depths => modes::depths(alloc, text),
+            TreeWord::Size => modes::size(alloc, text),
+            TreeWord::Asked => modes::asked(alloc, text),
+            TreeWord::Again => modes::again(alloc, text),
+        }
+    }
+}
