@@ -27,10 +27,11 @@ pub(crate) const SMALL: usize = 1024;
 impl Drop for SyntaxNode {
     #[inline(always)]
     fn drop(mut self) {
-        while self.own.descendants() > SMALL {
+        loop {
+            let is_small = self.own.descendants() <= SMALL;
             let SyntaxNode { own, mut kids } = self;
             drop(own);
-            if kids.is_empty() {
+            if is_small || kids.is_empty() {
                 drop(kids);
                 return;
             }
@@ -38,9 +39,6 @@ impl Drop for SyntaxNode {
             self = kids.swap_remove(heaviest);
             drop(kids);
         }
-        let SyntaxNode { own, kids } = self;
-        drop(own);
-        drop(kids);
     }
 }
 
@@ -183,6 +181,9 @@ impl SyntaxNode {
     pub fn try_clone(&self) -> Result<SyntaxNode, AllocError>
         ensures { IfOk result (λ t. t ≡ self.now) }
     {
+        if self.own.descendants() <= SMALL {
+            return self.clone_small();
+        }
         let mut above: Vec<Ancestor<'_>> = Vec::new(*self.kids.allocator());
         let mut node = self;
         let mut last = node.last_to_go();
@@ -199,6 +200,22 @@ impl SyntaxNode {
             copy = node.clone_over(kids)?;
         }
         Ok(copy)
+    }
+
+    /// The same of a small tree, with a call for each child.
+    fn clone_small(&self) -> Result<SyntaxNode, AllocError>
+        ensures { IfOk result (λ t. t ≡ self.now) }
+    {
+        let alloc = *self.kids.allocator();
+        let mut kids = Vec::with_capacity(alloc, self.kids.len())?;
+        for kid in &self.kids {
+            let kid = kid.clone_small()?;
+            kids.push(kid)?;
+        }
+        Ok(SyntaxNode {
+            own: self.own.try_clone(alloc)?,
+            kids,
+        })
     }
 
     /// Copies of the children but that of index `last`, where there is one.
