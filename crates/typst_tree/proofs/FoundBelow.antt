@@ -64,6 +64,19 @@ above o n t m c i a way is_long f g child w below l free follows joins order nod
           rw (node, number, begin) (holds_joined root m (saturated (b + c)) (nodes t) f.number (saturated (saturated (b + c) + f.begins)) (nodes f.node.now) f.begins way f.known g.known kid (λ on. below.holds root (saturated (b + c)) here on) own.from own.to (omega arith) refl joins));
     }
 
+-- what was found among a node that was found
+pub joined : (o : Tree) (n : ℕ) (in_order : Bool) (a f g : Found) → IsBelow o n in_order a → IsBelow a.node.now a.number (in_order_of a.known) f → Joins a.known f.known (f.number - a.number) f.begins g.known → in_order_of g.known ≡ in_order_of a.known → g.node.now ≡ f.node.now → g.number ≡ f.number → g.begins ≡ saturated (a.begins + f.begins) → IsBelow o n in_order g
+joined o n in_order a f g u v joins order node number begins =
+    let own = inside a.number 0 a.node.now f.number f.begins f.node.now v.within in
+    record {
+      within = rw (node, number, begins) (within_in n 0 (places o) a.number a.begins (places a.node.now) f.number (saturated (a.begins + f.begins)) (places f.node.now) u.within (within_from a.number a.begins (places a.node.now) f.number f.begins (places f.node.now) v.within));
+      order = order ∙ u.order;
+      holds = λ root b s up. (
+          let here : Stands (places root) a.number (saturated (b + a.begins)) (places a.node.now) = stands_row (places root) n b a.number (saturated (b + a.begins)) (places o) (places a.node.now) s (within_from n b (places o) a.number a.begins (places a.node.now) u.within) in
+          let begin : saturated (b + g.begins) ≡ saturated (saturated (b + a.begins) + f.begins) = omega (arith, begins) in
+          rw (node, number, begin) (holds_joined root a.number (saturated (b + a.begins)) (nodes a.node.now) f.number (saturated (saturated (b + a.begins) + f.begins)) (nodes f.node.now) f.begins a.known f.known g.known (u.holds root b s up) (λ on. v.holds root (saturated (b + a.begins)) here on) own.from own.to (omega arith) refl joins));
+    }
+
 -- the child that was passed to, which the found node is or is below
 pub record Seen (o : Tree) (n i m c : ℕ) (in_order : Bool) (f : Found) : Type 0 where
   pub kid : Tree

@@ -1,11 +1,13 @@
 -- What a walk back found (of private clauses).
-use Rattle.std.specs.Prelude.{◌≡◌, ℕ, ◌+◌, Bool, take, slice_get}
+use Rattle.std.specs.Prelude.{◌≡◌, ℕ, ◌+◌, ◌<◌, Bool, Option, None, Some, min, take, slice_get}
 use Rattle.typst_tree.specs.Tree.{Tree, nodes, places, trees, forest, count, saturated}
 use Rattle.typst_tree.specs.Replace.{At}
 use Rattle.typst_tree.specs.Follows.{in_order_of}
 use Rattle.typst_tree.specs.Rows.{Holds, IsOpen}
-use Rattle.typst_tree.specs.Walks.{Stands, Within}
+use Rattle.typst_tree.specs.Walks.{Stands, Within, last_leaf}
 use Rattle.typst_tree.specs.declared.back.Found.{Found}
+use Rattle.typst_tree.specs.declared.back.Seen.{Seen}
+use Rattle.typst_tree.specs.declared.back.Seen.TheVariants as seen
 
 -- a node is the tree t, numbered n, or below it, begins so many bytes behind it, and what is known of the way to it is so in each tree that has t where the way to t is open
 pub record IsBelow (t : Tree) (n : ℕ) (in_order : Bool) (f : Found) : Type 0 where
@@ -17,3 +19,22 @@ pub record IsBelow (t : Tree) (n : ℕ) (in_order : Bool) (f : Found) : Type 0 w
 abbrev pub IsBelowChild : Tree → ℕ → ℕ → Bool → Found → Type 0
 IsBelowChild o n i in_order f =
     At (λ t. IsBelow t (n + 1 + count (forest (take i (trees o.kids)))) in_order f) (slice_get (trees o.kids) i)
+
+-- the last leaf that counts and has a number below m, of a node and those below it
+abbrev pub last_of : ℕ → Found → Option ℕ
+last_of m o = last_leaf m o.number (places o.node.now)
+
+-- f is the node o, or one below it, as it is found there
+abbrev pub IsUnder : Found → Found → Type 0
+IsUnder o f = IsBelow o.node.now o.number (in_order_of o.known) f
+
+-- that leaf, found there
+abbrev pub FindsLast : Found → ℕ → Option Found → Type 0
+FindsLast o m None = last_of m o ≡ None
+FindsLast o m (Some f) = (last_of m o ≡ Some f.number) × IsUnder o f
+
+-- the same, where a child of more nodes than `heavy` may be left to be searched, and what is found is not behind it
+abbrev pub LooksBack : ℕ → ℕ → Found → Seen → Type 0
+LooksBack m heavy o (seen.Leaf f) = (last_of m o ≡ Some f.number) × IsUnder o f
+LooksBack m heavy o (seen.Heavy f) = (last_of m o ≡ last_of (min m (f.number + nodes f.node.now)) o) × IsUnder o f × (f.number < m) × (nodes f.node.now < nodes o.node.now) × (heavy < nodes f.node.now)
+LooksBack m heavy o seen.Nothing = last_of m o ≡ None

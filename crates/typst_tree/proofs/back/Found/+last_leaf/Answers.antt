@@ -1,0 +1,216 @@
+use Rattle.std.proofs.Common.{◌≡◌, ◌+◌, ◌-◌, min, None, Some, ap, sym, subst, ◌∙◌, arith, refl}
+use Rattle.typst_tree.specs.Tree.{nodes, places}
+use Rattle.typst_tree.specs.Walks.{last_leaf}
+use Rattle.typst_tree.specs.Follows.{in_order_of}
+use Rattle.typst_tree.specs.Found.{IsBelow, last_of}
+use Rattle.typst_tree.proofs.FoundBelow.{inside, under}
+use Rattle.typst_tree.proofs.LastLeaf.{back, last_none, last_alone}
+use Rattle.typst_tree.proofs.LastFrom.{finds_same, last_end, last_first, last_heavy, last_in, last_lift, last_past, looks_all}
+use Rattle.typst_tree.proofs.back.Found.+last_leaf.Goals as goal
+
+pub last_leaf-loop-found-init : goal.last_leaf-loop-found-init
+last_leaf-loop-found-init t c =
+    let o = c.args.self in
+    let a = c.itself-way.ensures in
+    let end : c.descendants.result ≡ nodes o.node.now = omega (arith, c.descendants.ensures, c.requires.counted) in
+    record {
+      below = subst (λ q. IsBelow o.node.now o.number q c.itself-way.result) c.in_order.ensures a.below;
+      begun = omega (arith, a.number, c.min-until.ensures, c.requires.from, end);
+      ends = omega (arith, a.number, ap nodes a.node, c.min-until.ensures, end);
+      same = last_end c.args.before (o.number + c.descendants.result) o (omega (arith, end)) ∙ ap (λ k. last_of k o) (sym c.min-until.ensures);
+      size = omega (arith, ap nodes a.node);
+    }
+
+pub last_leaf-look_back-requires : goal.last_leaf-look_back-requires
+last_leaf-look_back-requires t c =
+    let o = c.args.self in
+    let f = c.loop-found.way in
+    let i = c.loop-found.invariant in
+    let n = inside o.number 0 o.node.now f.number f.begins f.node.now i.below.within in
+    (omega (arith, c.decreases, i.size), (omega (arith, n.to, c.requires.counted), i.begun))
+
+pub last_leaf-returns-in-Leaf : goal.last_leaf-returns-in-Leaf
+last_leaf-returns-in-Leaf t c =
+    let o = c.args.self in
+    let f = c.loop-found.way in
+    let i = c.loop-found.invariant in
+    (i.same ∙ (last_in c.loop-found.until c.in-Leaf.found.number o f i.below i.ends c.in-Leaf.ensures.0 ∙ ap (λ k. Some k) (sym c.with.ensures.number)), c.with.ensures.below o.node.now o.number _ i.below)
+
+pub last_leaf-last_before-requires : goal.last_leaf-last_before-requires
+last_leaf-last_before-requires t c =
+    let o = c.args.self in
+    let f = c.loop-found.way in
+    let i = c.loop-found.invariant in
+    let n = inside o.number 0 o.node.now f.number f.begins f.node.now i.below.within in
+    (omega (arith, c.decreases), (c.requires.counted, (n.from, omega (arith, n.to))))
+
+pub last_leaf-returns-in-Nothing : goal.last_leaf-returns-in-Nothing
+last_leaf-returns-in-Nothing t c =
+    let o = c.args.self in
+    let f = c.loop-found.way in
+    let i = c.loop-found.invariant in
+    finds_same c.args.before f.number o c.last_before.result (i.same ∙ last_past c.loop-found.until o f i.below (omega (arith, i.begun)) i.ends c.in-Nothing.ensures) c.last_before.ensures
+
+pub last_leaf-loop-found-preserved : goal.last_leaf-loop-found-preserved
+last_leaf-loop-found-preserved t c =
+    let o = c.args.self in
+    let f = c.loop-found.way in
+    let k = c.in-Heavy.kid in
+    let h = c.in-Heavy.ensures in
+    let i = c.loop-found.invariant in
+    let a = c.with-way.ensures in
+    let in_all = inside o.number 0 o.node.now f.number f.begins f.node.now i.below.within in
+    let n = inside f.number 0 f.node.now k.number k.begins k.node.now h.1.within in
+    let many : c.descendants-in-Heavy.result ≡ nodes k.node.now = omega (arith, c.descendants-in-Heavy.ensures, n.to, in_all.to, c.requires.counted) in
+    let until : min c.loop-found.until (k.number + nodes k.node.now) ≡ c.min-until-in-Heavy.result = omega (arith, c.min-until-in-Heavy.ensures, many) in
+    record {
+      below = a.below o.node.now o.number _ i.below;
+      begun = omega (arith, a.number, h.2, until);
+      ends = omega (arith, a.number, ap nodes a.node, until);
+      same = i.same ∙ last_lift c.loop-found.until c.min-until-in-Heavy.result o f i.below i.ends (omega (arith, until, i.ends)) (omega (arith, i.begun)) (omega (arith, until, n.from, i.begun)) (h.0 ∙ ap (λ m. last_of m f) until);
+      size = omega (arith, i.size, h.3, ap nodes a.node);
+    }
+
+pub last_leaf-overflow_add-kid : goal.last_leaf-overflow_add-kid
+last_leaf-overflow_add-kid t c =
+    let o = c.args.self in
+    let f = c.loop-found.way in
+    let k = c.in-Heavy.kid in
+    let in_all = inside o.number 0 o.node.now f.number f.begins f.node.now c.loop-found.invariant.below.within in
+    let n = inside f.number 0 f.node.now k.number k.begins k.node.now c.in-Heavy.ensures.1.within in
+    omega (arith, c.descendants-in-Heavy.ensures, n.to, in_all.to, c.requires.counted)
+
+pub last_before-last_before-requires : goal.last_before-last_before-requires
+last_before-last_before-requires t c =
+    let o = c.args.self in
+    let b = c.towards-below.result in
+    let e = c.towards-below.ensures in
+    let n = inside o.number 0 o.node.now b.number b.begins b.node.now e.below.within in
+    (omega (arith, c.decreases, n.from, n.to, c.if-below-self.false), (omega (arith, n.to, c.requires.counted), (omega (arith, e.from), omega (arith, e.to))))
+
+pub last_before-returns-in-Some : goal.last_before-returns-in-Some
+last_before-returns-in-Some t c =
+    let o = c.args.self in
+    let b = c.towards-below.result in
+    let e = c.towards-below.ensures in
+    (c.loop-left.invariant.same ∙ (last_in c.loop-left.until c.in-Some.found.number o b e.below (omega (arith, e.to)) c.in-Some.ensures.0 ∙ ap (λ k. Some k) (sym c.with.ensures.number)), c.with.ensures.below o.node.now o.number _ e.below)
+
+pub last_before-loop-left-preserved : goal.last_before-loop-left-preserved
+last_before-loop-left-preserved t c =
+    let o = c.args.self in
+    let b = c.towards-below.result in
+    let e = c.towards-below.ensures in
+    let n = inside o.number 0 o.node.now b.number b.begins b.node.now e.below.within in
+    record {
+      begun = n.from;
+      ends = omega (arith, n.to);
+      same = c.loop-left.invariant.same ∙ last_past c.loop-left.until o b e.below (omega (arith, e.from)) (omega (arith, e.to)) (rw c.in_default.is at c.last_before.ensures);
+    }
+
+pub last_before-returns-then-until-self-2 : goal.last_before-returns-then-until-self-2
+last_before-returns-then-until-self-2 t c =
+    c.loop-left.invariant.same ∙ last_first c.loop-left.until c.args.self (omega arith)
+
+pub last_before-returns-in-Leaf : goal.last_before-returns-in-Leaf
+last_before-returns-in-Leaf t c =
+    finds_same c.args.before c.loop-left.until c.args.self (Some c.in-Leaf.found) c.loop-left.invariant.same c.in-Leaf.ensures
+
+pub last_before-returns : goal.last_before-returns
+last_before-returns t c =
+    c.loop-left.invariant.same ∙ looks_all c.loop-left.until _ c.args.self c.look_back.result (omega (arith, c.requires.counted)) c.in_default-look_back.not-Leaf c.look_back.ensures
+
+pub look_back-overflow_sub-end : goal.look_back-overflow_sub-end
+look_back-overflow_sub-end t c =
+    let o = c.args.self in
+    let i = c.loop-index.invariant in
+    let w = back c.args.before o.number o.node.now c.children-row.result.now c.loop-index.index c.loop-index.end _ _ c.loop-index-test.true i.bounded c.index-row-index.is i.end_is c.descendants-end.ensures i.counted in
+    omega (arith, w.fits)
+
+pub look_back-loop-index-preserved-then-before-end : goal.look_back-loop-index-preserved-then-before-end
+look_back-loop-index-preserved-then-before-end t c =
+    let o = c.args.self in
+    let i = c.loop-index.invariant in
+    let w = back c.args.before o.number o.node.now c.children-row.result.now c.loop-index.index c.loop-index.end _ _ c.loop-index-test.true i.bounded c.index-row-index.is i.end_is c.descendants-end.ensures i.counted in
+    record {
+      bounded = omega (arith, i.bounded);
+      last = i.last ∙ (w.last ∙ rw (last_none c.args.before (c.loop-index.end - c.descendants-end.result) (places c.index-row-index.result) (omega (arith, c.if-before-end.true))) refl);
+      end_is = w.number;
+      counted = omega (arith, w.counted, i.counted);
+      smaller = omega (arith, w.counted, i.smaller);
+    }
+
+pub look_back-below-requires-clause-child : goal.look_back-below-requires-clause-child
+look_back-below-requires-clause-child t c =
+    let o = c.args.self in
+    let i = c.loop-index.invariant in
+    let w = back c.args.before o.number o.node.now c.children-row.result.now c.loop-index.index c.loop-index.end _ _ c.loop-index-test.true i.bounded c.index-row-index.is i.end_is c.descendants-end.ensures i.counted in
+    under o.node.now o.number (c.loop-index.index - 1) _ c.in_order-in_order.result c.itself-kid.result c.children-row.result.now _ c.children-row.ensures c.index-row-index.is (omega (arith, i.bounded)) w.number c.itself-kid.ensures.below
+
+pub look_back-returns-then-descendants-heavy : goal.look_back-returns-then-descendants-heavy
+look_back-returns-then-descendants-heavy t c =
+    let o = c.args.self in
+    let i = c.loop-index.invariant in
+    let w = back c.args.before o.number o.node.now c.children-row.result.now c.loop-index.index c.loop-index.end _ _ c.loop-index-test.true i.bounded c.index-row-index.is i.end_is c.descendants-end.ensures i.counted in
+    let k = c.itself-kid.ensures in
+    let b = c.below.ensures in
+    let end : c.loop-index.end ≡ c.below.result.number + nodes c.below.result.node.now = omega (arith, i.end_is, w.number, w.counted, b.number, k.number, ap nodes b.node, ap nodes k.node) in (
+      subst (λ e. last_of c.args.before o ≡ last_of (min c.args.before e) o) end (last_heavy c.args.before o.number c.loop-index.end c.loop-index.index o.node.now c.children-row.result.now c.children-row.ensures i.end_is i.last),
+      subst (λ q. IsBelow o.node.now o.number q c.below.result) (k.below.order ∙ c.in_order-in_order.ensures) b.below,
+      omega (arith, b.number, k.number, c.if-before-end.false),
+      omega (arith, ap nodes b.node, ap nodes k.node, w.counted, i.smaller),
+      omega (arith, ap nodes b.node, ap nodes k.node, c.descendants-in-loop-index.ensures, c.if-descendants-heavy.true),
+    )
+
+pub look_back-last_leaf-requires : goal.look_back-last_leaf-requires
+look_back-last_leaf-requires t c =
+    let o = c.args.self in
+    let i = c.loop-index.invariant in
+    let w = back c.args.before o.number o.node.now c.children-row.result.now c.loop-index.index c.loop-index.end _ _ c.loop-index-test.true i.bounded c.index-row-index.is i.end_is c.descendants-end.ensures i.counted in
+    let k = c.itself-kid.ensures in
+    (omega (arith, c.decreases, w.counted, i.smaller, ap nodes k.node), (omega (arith, w.number, w.counted, i.counted, k.number, ap nodes k.node), omega (arith, k.number, c.if-before-end.false)))
+
+pub look_back-below-requires-in-Some-clause-child : goal.look_back-below-requires-in-Some-clause-child
+look_back-below-requires-in-Some-clause-child t c =
+    let o = c.args.self in
+    let i = c.loop-index.invariant in
+    let w = back c.args.before o.number o.node.now c.children-row.result.now c.loop-index.index c.loop-index.end _ _ c.loop-index-test.true i.bounded c.index-row-index.is i.end_is c.descendants-end.ensures i.counted in
+    let k = c.itself-kid.ensures in
+    let f = c.in-Some.found in
+    let found : IsBelow c.index-row-index.result (c.loop-index.end - c.descendants-end.result) (in_order_of c.itself-kid.result.known) f = rw (sym k.node, sym k.number) c.in-Some.ensures.1 in
+    under o.node.now o.number (c.loop-index.index - 1) _ _ f c.children-row.result.now _ c.children-row.ensures c.index-row-index.is (omega (arith, i.bounded)) w.number found
+
+pub look_back-returns-in-Some : goal.look_back-returns-in-Some
+look_back-returns-in-Some t c =
+    let o = c.args.self in
+    let i = c.loop-index.invariant in
+    let w = back c.args.before o.number o.node.now c.children-row.result.now c.loop-index.index c.loop-index.end _ _ c.loop-index-test.true i.bounded c.index-row-index.is i.end_is c.descendants-end.ensures i.counted in
+    let k = c.itself-kid.ensures in
+    let b = c.below-in-Some.ensures in
+    let found : last_leaf c.args.before (c.loop-index.end - c.descendants-end.result) (places c.index-row-index.result) ≡ Some c.in-Some.found.number = rw (sym k.node, sym k.number) c.in-Some.ensures.0 in
+    (i.last ∙ (w.last ∙ rw found (ap (λ n. Some n) (sym b.number))), subst (λ q. IsBelow o.node.now o.number q c.below-in-Some.result) (c.in-Some.ensures.1.order ∙ (k.below.order ∙ c.in_order-in_order.ensures)) b.below)
+
+pub look_back-loop-index-preserved : goal.look_back-loop-index-preserved
+look_back-loop-index-preserved t c =
+    let o = c.args.self in
+    let i = c.loop-index.invariant in
+    let w = back c.args.before o.number o.node.now c.children-row.result.now c.loop-index.index c.loop-index.end _ _ c.loop-index-test.true i.bounded c.index-row-index.is i.end_is c.descendants-end.ensures i.counted in
+    let k = c.itself-kid.ensures in
+    let none = rw c.in_default.is at c.last_leaf.ensures in
+    let nothing : last_leaf c.args.before (c.loop-index.end - c.descendants-end.result) (places c.index-row-index.result) ≡ None = rw (sym k.node, sym k.number) none in
+    record {
+      bounded = omega (arith, i.bounded);
+      last = i.last ∙ (w.last ∙ rw nothing refl);
+      end_is = w.number;
+      counted = omega (arith, w.counted, i.counted);
+      smaller = omega (arith, w.counted, i.smaller);
+    }
+
+pub look_back-returns-then-is_leaf : goal.look_back-returns-then-is_leaf
+look_back-returns-then-is_leaf t c =
+    let o = c.args.self in
+    (c.loop-index.invariant.last ∙ (last_alone c.args.before o.number o.node.now c.children-row.result.now c.loop-index.index c.requires.from (omega (arith, c.loop-index-test.false)) ∙ rw (sym c.if-is_leaf.ensures) (ap (λ k. Some k) (sym c.itself.ensures.number))), subst (λ q. IsBelow o.node.now o.number q c.itself.result) c.in_order-in_order.ensures c.itself.ensures.below)
+
+pub look_back-returns : goal.look_back-returns
+look_back-returns t c =
+    let o = c.args.self in
+    c.loop-index.invariant.last ∙ (last_alone c.args.before o.number o.node.now c.children-row.result.now c.loop-index.index c.requires.from (omega (arith, c.loop-index-test.false)) ∙ rw (sym c.if-is_leaf.ensures) refl)

@@ -1,0 +1,52 @@
+use Rattle.std.proofs.Common.{◌-◌, arith, ap, subst, ◌∙◌}
+use Rattle.typst_tree.specs.Tree.{nodes}
+use Rattle.typst_tree.specs.Found.{IsBelow}
+use Rattle.typst_tree.proofs.FoundBelow.{under}
+use Rattle.typst_tree.proofs.LastLeaf.{back}
+use Rattle.typst_tree.proofs.LastFrom.{some_left}
+use Rattle.typst_tree.proofs.back.Found.child_over.Goals as goal
+
+pub overflow_sub-index : goal.overflow_sub-index
+overflow_sub-index c =
+    let o = c.args.self in
+    let i = c.loop-end.invariant in
+    omega (arith, some_left c.loop-end.index o.number c.loop-end.end c.args.wanted c.children-row.result.now i.end_is c.requires.from i.after)
+
+pub overflow_sub-end : goal.overflow_sub-end
+overflow_sub-end c =
+    let o = c.args.self in
+    let i = c.loop-end.invariant in
+    let w = back 0 o.number o.node.now c.children-row.result.now c.loop-end.index c.loop-end.end _ _ (some_left c.loop-end.index o.number c.loop-end.end c.args.wanted c.children-row.result.now i.end_is c.requires.from i.after) i.bounded c.index-row-index.is i.end_is c.descendants-end.ensures i.counted in
+    omega (arith, w.fits)
+
+pub below-requires-clause-child : goal.below-requires-clause-child
+below-requires-clause-child c =
+    let o = c.args.self in
+    let i = c.loop-end.invariant in
+    let w = back 0 o.number o.node.now c.children-row.result.now c.loop-end.index c.loop-end.end _ _ (some_left c.loop-end.index o.number c.loop-end.end c.args.wanted c.children-row.result.now i.end_is c.requires.from i.after) i.bounded c.index-row-index.is i.end_is c.descendants-end.ensures i.counted in
+    under o.node.now o.number (c.loop-end.index - 1) _ _ c.itself-itself.result c.children-row.result.now _ c.children-row.ensures c.index-row-index.is (omega (arith, i.bounded, some_left c.loop-end.index o.number c.loop-end.end c.args.wanted c.children-row.result.now i.end_is c.requires.from i.after)) w.number c.itself-itself.ensures.below
+
+pub loop-end-preserved : goal.loop-end-preserved
+loop-end-preserved c =
+    let o = c.args.self in
+    let i = c.loop-end.invariant in
+    let w = back 0 o.number o.node.now c.children-row.result.now c.loop-end.index c.loop-end.end _ _ (some_left c.loop-end.index o.number c.loop-end.end c.args.wanted c.children-row.result.now i.end_is c.requires.from i.after) i.bounded c.index-row-index.is i.end_is c.descendants-end.ensures i.counted in
+    record {
+      bounded = omega (arith, i.bounded);
+      end_is = w.number;
+      counted = omega (arith, w.counted, i.counted);
+      after = omega (arith, c.if-end-wanted.false);
+    }
+
+pub returns-then-end-wanted-clause-below : goal.returns-then-end-wanted-clause-below
+returns-then-end-wanted-clause-below c =
+    subst (λ q. IsBelow c.args.self.node.now c.args.self.number q c.below.result) (c.itself-itself.ensures.below.order ∙ c.in_order.ensures) c.below.ensures.below
+
+pub returns-then-end-wanted-clause-to : goal.returns-then-end-wanted-clause-to
+returns-then-end-wanted-clause-to c =
+    let o = c.args.self in
+    let i = c.loop-end.invariant in
+    let w = back 0 o.number o.node.now c.children-row.result.now c.loop-end.index c.loop-end.end _ _ (some_left c.loop-end.index o.number c.loop-end.end c.args.wanted c.children-row.result.now i.end_is c.requires.from i.after) i.bounded c.index-row-index.is i.end_is c.descendants-end.ensures i.counted in
+    let k = c.itself-itself.ensures in
+    let b = c.below.ensures in
+    omega (arith, b.number, k.number, ap nodes b.node, ap nodes k.node, w.number, w.counted, i.end_is, i.after)

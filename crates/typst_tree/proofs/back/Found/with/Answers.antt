@@ -1,0 +1,11 @@
+use Rattle.std.proofs.Common.{refl}
+use Rattle.typst_tree.proofs.FoundBelow.{inside, joined}
+use Rattle.typst_tree.proofs.back.Found.with.Goals as goal
+
+pub overflow_sub-inner : goal.overflow_sub-inner
+overflow_sub-inner c =
+    (inside c.args.self.number 0 c.args.self.node.now c.args.inner.number c.args.inner.begins c.args.inner.node.now c.requires.within).from
+
+pub returns-clause-below : goal.returns-clause-below
+returns-clause-below c = λ o n in_order w.
+    joined o n in_order c.args.self c.args.inner _ w c.requires c.then.ensures.joins (c.then.ensures.in_order c.requires.order) refl refl c.saturating_add.ensures
