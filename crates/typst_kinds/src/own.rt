@@ -202,7 +202,8 @@ impl Own {
         })
     }
 
-    /// The same again.
+    /// The same again. In place where a tree is copied, as most nodes take no memory.
+    #[inline(always)]
     pub fn try_clone(&self, alloc: Global) -> Result<Own, AllocError>
         ensures { IfOk result (λ o. o ≡ self.now) }
     {
@@ -332,13 +333,17 @@ impl Own {
         }
     }
 
-    /// The length of the node's text, as it is kept. Most nodes are short leaves, and tell it in place.
+    /// The length of the node's text, as it is kept. Short leaves and inner nodes, as most nodes are, tell it in
+    /// place: two comparisons take no table of jumps, as a `match` does.
     #[inline(always)]
     pub fn len(&self) -> usize
         ensures { result ≡ self.now.len }
     {
         if let Repr::ShortLeaf(_, text) = &self.repr {
             return text.len();
+        }
+        if let Repr::Inner { len, .. } = &self.repr {
+            return *len as usize;
         }
         self.len_apart()
     }
@@ -357,14 +362,17 @@ impl Own {
         }
     }
 
-    /// The count of the node and those below it, as it is kept. Most nodes are short leaves, and tell it
-    /// in place.
+    /// The count of the node and those below it, as it is kept. Short leaves and inner nodes tell it in place, by
+    /// comparisons too.
     #[inline(always)]
     pub fn descendants(&self) -> usize
         ensures { result ≡ self.now.descendants }
     {
         if let Repr::ShortLeaf(_, _) = &self.repr {
             return 1;
+        }
+        if let Repr::Inner { descendants, .. } = &self.repr {
+            return *descendants as usize;
         }
         self.descendants_apart()
     }

@@ -1,8 +1,10 @@
 -- The equations of numbered forests.
-use Rattle.std.proofs.Common.{◌≡◌, ℕ, zero, suc, ◌+◌, ◌*◌, ◌<◌, ◌≤◌, true, false, List, [], ◌∷◌, ◌++◌, length, take, drop, get_or, refl, ap, ◌∙◌, arith, add-one, ◌/◌, ◌^◌, if◌then◌else◌, Some}
+use Rattle.std.proofs.Common.{◌≡◌, ◌≢◌, get_or-set_other, ℕ, zero, suc, ◌+◌, ◌*◌, ◌<◌, ◌≤◌, true, false, List, [], ◌∷◌, ◌++◌, length, take, drop, get_or, refl, ap, ◌∙◌, arith, append-nil, add-one, ◌/◌, ◌^◌, if◌then◌else◌, Some}
 use Rattle.std.proofs.Math.ListN.{set}
 use Rattle.std.proofs.Math.Nat.{mul-le-mul_left, mul-le-mul_right}
-use Rattle.std.proofs.lemmas.List.{get_or_default}
+use Rattle.std.proofs.lemmas.List.{take_all, drop_all, with_items_is, get_or_default}
+use Rattle.std.specs.Global.{Vec}
+use Rattle.std.specs.Vec.{with_items}
 use Rattle.typst_kinds.specs.Head.{Head, bare_head}
 use Rattle.typst_tree.specs.Tree.{Forest, none, more, Tree, forest, joined, count, nodes, text_of, bare, bare_forest, saturated}
 use Rattle.typst_tree.specs.Numbers.{placed, numbered, numbered_forest, numbered_list, stride}
@@ -108,6 +110,15 @@ pub length_numbered : (file s a : ℕ) (ts : List Tree) → length (numbered_lis
 length_numbered file s a [] = refl
 length_numbered file s a (t ∷ ts) = omega (arith, length_numbered file s (a + nodes t * s) ts)
 
+pub numbered_vec : (file s a : ℕ) (v : Vec Tree) (xs ys : List Tree) (i : ℕ) → xs ≡ v.items → ys ≡ numbered_list file s a (take i xs) ++ drop i xs → length xs ≤ i → (with_items v ys).items ≡ numbered_list file s a v.items
+numbered_vec file s a v xs ys i e w h =
+    let is : ys ≡ numbered_list file s a v.items = rw (← e) (rw (take_all i xs h, drop_all i xs h, append-nil) at w) in
+    with_items_is v ys (omega (arith, ap length is, length_numbered file s a v.items, v.ok.0)) ∙ is
+
 pub some_nodes : (ts : List Tree) → 0 < length ts → 0 < count (forest ts)
 some_nodes [] h = absurd (omega arith)
 some_nodes (t ∷ ts) h = omega arith
+
+-- what stands behind place i stays where another tree is set there
+pub later : (xs ys : List Tree) (i : ℕ) (x : Tree) → ((k : ℕ) (d : Tree) → i ≤ k → get_or ys k d ≡ get_or xs k d) → (k : ℕ) (d : Tree) → i + 1 ≤ k → get_or (set ys i x) k d ≡ get_or xs k d
+later xs ys i x same k d h = let ne : k ≢ i = omega arith in rw get_or-set_other (same k d (omega arith))

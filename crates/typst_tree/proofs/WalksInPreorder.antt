@@ -81,6 +81,9 @@ pub found_next : (p : ℕ → ℕ → Tree → Bool) (k b m c : ℕ) (x : Tree) 
 found_next p k b m c x rest e f nothing =
     first_of_more p k b x rest ∙ rw (nothing, e) (first_same p (k + nodes x) (b + length (text_of x)) c (preorder (forest rest)) (omega (arith, f)))
 
+pub found_here : (p : ℕ → ℕ → Tree → Bool) (k b i : ℕ) (x : Tree) (rest : List Tree) → Some i ≡ first_at p k b (places x) → Some i ≡ first_at p k b (preorder (forest (x ∷ rest)))
+found_here p k b i x rest e = sym (first_of_more p k b x rest ∙ rw (sym e) refl)
+
 -- a loop over the children xs stands at child i, which is x
 pub record Turn (xs : List Tree) (i : ℕ) (x : Tree) : Type 0 where
   pub first : drop i xs ≡ x ∷ drop (i + 1) xs

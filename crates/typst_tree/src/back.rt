@@ -1,6 +1,6 @@
 //! The walk back through a tree in preorder.
 
-ghost use Rattle.std.specs.Prelude.{◌≡◌, ℕ, Bool, ◌+◌, ◌^◌, ◌<◌, ◌≤◌, ◌-◌, IfSome};
+ghost use Rattle.std.specs.Prelude.{◌≡◌, ℕ, Bool, ◌+◌, ◌^◌, ◌<◌, ◌≤◌, ◌-◌, true, false, None, Some, IfSome};
 ghost use Rattle.std.specs.Option.{option_map};
 ghost use Rattle.typst_tree.specs.Tree.{Tree, nodes, places};
 ghost use Rattle.typst_tree.specs.Walks.{last_leaf};
@@ -126,6 +126,9 @@ impl<'a> Found<'a> {
         ensures { FindsLast self.entry before result }
     {
         let end = self.number + self.node.descendants();
+        if end - self.number <= SMALL {
+            return self.last_small(before);
+        }
         let mut way = Found::itself(self.node, self.number, self.known.in_order());
         let mut until = before.min(end);
         let mut levels: usize = 0;
@@ -206,6 +209,52 @@ impl<'a> Found<'a> {
             return Seen::Leaf(Found::itself(self.node, self.number, in_order));
         }
         Seen::Nothing
+    }
+
+    /// The same in a small tree.
+    fn last_small(self, before: usize) -> Option<Found<'a>>
+        requires { self.number + nodes self.node.now < 2 ^ 64 - 1 }
+        ensures { FindsLast self.entry before result }
+    {
+        let in_order = self.known.in_order();
+        let mut leaf = self;
+        if !leaf.goes_back(before, in_order) {
+            return None;
+        }
+        Some(leaf)
+    }
+
+    /// Goes back to the last leaf with a number below `before` that is neither trivia nor an error, among this
+    /// node and those below it, and says whether there is one; if not, it ends somewhere. For small trees: calls
+    /// nest as the levels do. Lengths are asked for only where one was found.
+    fn goes_back(&mut self, before: usize, in_order: bool) -> bool
+        requires { self.old.number + nodes self.old.node.now < 2 ^ 64 - 1 }
+        ensures found { result ≡ true → last_leaf before self.old.number (places self.old.node.now) ≡ Some self.new.number }
+        ensures below { result ≡ true → IsBelow self.old.node.now self.old.number in_order self.new }
+        ensures none { result ≡ false → last_leaf before self.old.number (places self.old.node.now) ≡ None }
+    {
+        let Found { node, number, .. } = *self;
+        if before <= number {
+            return false;
+        }
+        let row = node.children();
+        let mut end = number + node.descendants();
+        let mut index = row.len();
+        while index > 0 {
+            index -= 1;
+            let kid = &row[index];
+            end -= kid.descendants();
+            if before <= end {
+                continue;
+            }
+            *self = Found::itself(kid, end, in_order);
+            if self.goes_back(before, in_order) {
+                *self = self.below(node, number, index);
+                return true;
+            }
+        }
+        *self = Found::itself(node, number, in_order);
+        is_leaf(node)
     }
 }
 

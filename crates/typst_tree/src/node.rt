@@ -23,22 +23,18 @@ pub struct SyntaxNode {
 /// however deep the tree is.
 pub(crate) const SMALL: usize = 1024;
 
-// In place where a list drops its nodes, so that a leaf costs no call.
+// In place where a list drops its nodes, so that a node without children costs no call.
 impl Drop for SyntaxNode {
+    #[cycle(drop)]
     #[inline(always)]
-    fn drop(mut self) {
-        loop {
-            let is_small = self.own.descendants() <= SMALL;
-            let SyntaxNode { own, mut kids } = self;
-            drop(own);
-            if is_small || kids.is_empty() {
-                drop(kids);
-                return;
-            }
-            let heaviest = heaviest(&kids);
-            self = kids.swap_remove(heaviest);
-            drop(kids);
+    fn drop(self) {
+        if !self.kids.is_empty() {
+            self.drop_parent();
+            return;
         }
+        let SyntaxNode { own, kids } = self;
+        drop(own);
+        drop(kids);
     }
 }
 
@@ -89,6 +85,24 @@ impl Model for SyntaxNode {
 }
 
 impl SyntaxNode {
+    /// Drops a node that has children.
+    #[cycle(drop)]
+    #[inline(never)]
+    fn drop_parent(mut self) {
+        loop {
+            let is_small = self.own.descendants() <= SMALL;
+            let SyntaxNode { own, mut kids } = self;
+            drop(own);
+            if is_small || kids.is_empty() {
+                drop(kids);
+                return;
+            }
+            let heaviest = heaviest(&kids);
+            self = kids.swap_remove(heaviest);
+            drop(kids);
+        }
+    }
+
     /// A leaf of that kind, with a copy of the text.
     #[inline(always)]
     pub fn leaf(alloc: Global, kind: SyntaxKind, text: &str) -> Result<SyntaxNode, AllocError>

@@ -6,6 +6,7 @@ ghost use Rattle.typst_tree.specs.Order.{IsNumbered, AreInOrder, numbers_of};
 ghost use Rattle.typst_tree.specs.Numbers.{IsStretch, placed, numbered, numbered_list, numberized, stride};
 
 use crate::SyntaxNode;
+use crate::node::SMALL;
 use std::ops::Range;
 use typst_kinds::{FileId, Own, SourceError, Span, SpanNumber};
 
@@ -106,6 +107,10 @@ impl SyntaxNode {
         requires fits { start + room ≤ 2 ^ 47 }
         ensures { self.new ≡ numbered id.now start room self.old }
     {
+        if self.own.descendants() <= SMALL {
+            self.number_small(id, start, room);
+            return;
+        }
         let step = stride(room, self.descendants() as u64);
         let last = self.last_to_go();
         place(&mut self.own, *id, step, start, start + room);
@@ -125,6 +130,41 @@ impl SyntaxNode {
             let kid = &mut self.kids[last];
             let share = kid.descendants() as u64 * step;
             kid.number(id, start_of_last, share);
+        }
+    }
+
+    /// The same of a small tree. In place, so that a node without children costs no call.
+    #[cycle(number_small)]
+    #[inline(always)]
+    fn number_small(&mut self, id: &FileId, start: u64, room: u64)
+        requires low { 2 ≤ start }
+        requires room { nodes self.old ≤ room }
+        requires fits { start + room ≤ 2 ^ 47 }
+        ensures { self.new ≡ numbered id.now start room self.old }
+    {
+        if self.kids.is_empty() {
+            place(&mut self.own, *id, stride_of_one(room), start, start + room);
+            return;
+        }
+        self.number_kids(id, start, room);
+    }
+
+    /// The same of a small tree, child by child.
+    #[cycle(number_small)]
+    #[inline(never)]
+    fn number_kids(&mut self, id: &FileId, start: u64, room: u64)
+        requires low { 2 ≤ start }
+        requires room { nodes self.old ≤ room }
+        requires fits { start + room ≤ 2 ^ 47 }
+        ensures { self.new ≡ numbered id.now start room self.old }
+    {
+        let step = stride(room, self.descendants() as u64);
+        place(&mut self.own, *id, step, start, start + room);
+        let mut at = start + step;
+        for kid in self.kids.iter_mut() {
+            let share = kid.descendants() as u64 * step;
+            kid.number_small(id, at, share);
+            at += share;
         }
     }
 

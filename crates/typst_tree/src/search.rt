@@ -334,6 +334,9 @@ impl<'a> Spot<'a> {
         requires least { FoundFrom (wanted search.now) least self.now }
         ensures { Finds (wanted search.now) self.now result }
     {
+        if self.node.descendants() <= SMALL {
+            return self.first_small(search);
+        }
         let mut spot = *self;
         let mut from = least;
         let mut levels: usize = 0;
@@ -439,5 +442,49 @@ impl<'a> Spot<'a> {
             spot = kid;
         }
         spot
+    }
+
+    /// The first node in preorder that is looked for, among this one and those below it, in a small tree.
+    fn first_small(&self, search: &Search) -> Option<Spot<'a>>
+        requires { self.now.number + nodes self.now.node.now < 2 ^ 64 - 1 }
+        ensures { Finds (wanted search.now) self.now result }
+    {
+        let mut spot = *self;
+        if !spot.goes_to(search) {
+            return None;
+        }
+        Some(spot)
+    }
+
+    /// Goes to the first node in preorder that is looked for, among this one and those below it, and says
+    /// whether there is one; if not, it ends somewhere. For small trees: calls nest as the levels do, but none is
+    /// made for a child that is passed over.
+    fn goes_to(&mut self, search: &Search) -> bool
+        requires { self.old.number + nodes self.old.node.now < 2 ^ 64 - 1 }
+        ensures first { result ≡ true → first_at (wanted search.now) self.old.number self.old.offset (places self.old.node.now) ≡ Some self.new.number }
+        ensures spot { result ≡ true → Within self.old.number self.old.offset (places self.old.node.now) self.new.number self.new.offset (places self.new.node.now) }
+        ensures none { result ≡ false → first_at (wanted search.now) self.old.number self.old.offset (places self.old.node.now) ≡ None }
+    {
+        let Spot {
+            node,
+            number,
+            offset,
+        } = *self;
+        if search.wants(number, node) {
+            return true;
+        }
+        let row = node.children();
+        let mut at = Passed::front(node, number, offset);
+        while at.index < row.len() {
+            let kid = &row[at.index];
+            if !search.passes_over(at.number, kid) {
+                *self = at.tree(kid).spot;
+                if self.goes_to(search) {
+                    return true;
+                }
+            }
+            at = at.behind(kid);
+        }
+        false
     }
 }

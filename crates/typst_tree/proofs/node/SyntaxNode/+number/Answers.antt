@@ -9,8 +9,8 @@ use Rattle.typst_tree.proofs.node.SyntaxNode.+number.Goals as goal
 use Rattle.typst_tree.proofs.node.SyntaxNode.+number.Goals.{then-i-last, else-i-last, After-len-i-end, After-descendants-in-loop-i, After-descendants-then-last-len, After-number-then-last-len, Else-last-len}
 
 -- how many nodes there are, the root and those below it
-all : (t : _) (c : After-len-i-end t) → c.descendants.result ≡ 1 + count (forest c.self.inside.kids.items)
-all t c = omega (arith, c.descendants.ensures, ap nodes c.self.view_is, c.requires.room, c.requires.fits)
+all : (t : _) (c : After-len-i-end t) → c.descendants-2.result ≡ 1 + count (forest c.self.inside.kids.items)
+all t c = omega (arith, c.descendants-2.ensures, ap nodes c.self.view_is, c.requires.room, c.requires.fits)
 
 -- the children's share of the stretch
 below : (t : _) (c : After-len-i-end t) → c.args.start + c.stride-step.result + count (forest c.self.inside.kids.items) * c.stride-step.result ≤ c.args.start + c.args.room
