@@ -1,16 +1,19 @@
 -- Reading trivia one after the other.
-use Rattle.std.proofs.Common.{Option, Some, None, ◌≡◌, ℕ, zero, suc, ◌+◌, ◌-◌, ◌<◌, ◌≤◌, Bool, true, false, ◌&&◌, ◌||◌, nat_lt, List, [], ◌∷◌, ◌++◌, length, reverse, append_assoc, append-nil, refl, ap, sym, ◌∙◌, subst, arith}
+use lib.Utf8.{encode}
+use Rattle.std.proofs.Common.{Option, Some, None, ◌≡◌, ℕ, zero, suc, ◌+◌, ◌-◌, ◌<◌, ◌≤◌, Bool, true, false, ◌&&◌, ◌||◌, nat_lt, List, [], ◌∷◌, ◌++◌, length, take, slice_get, reverse, append_assoc, append-nil, refl, ap, sym, ◌∙◌, subst, arith}
 use Rattle.std.proofs.Math.Bool.{or_assoc}
 use borrow.Author.Tests.{ltb-true, lt-ltb}
 use Rattle.std.proofs.lemmas.Str.{chars-nil}
 use Rattle.std.specs.Str.{chars}
 use Rattle.typst_kinds.specs.declared.mode.SyntaxMode.{SyntaxMode}
 use Rattle.typst_kinds.specs.declared.kind.SyntaxKind.{SyntaxKind}
-use Rattle.typst_lines.specs.Place.{Place, moved, place_at}
-use Rattle.typst_tree.specs.Tree.{Tree}
+use Rattle.typst_kinds.specs.declared.kind.SyntaxKind.TheVariants as kind
+use Rattle.typst_lines.specs.Place.{Place, moved, place_at, scout}
+use Rattle.typst_tree.specs.Tree.{Tree, leaf_of}
 use Rattle.typst_lines.specs.Classes.{CharClasses}
 use Rattle.typst_lexer.specs.Nodes.{token_node}
 use Rattle.typst_tokens.specs.declared.hull.Hull.{Hull}
+use Rattle.typst_tokens.specs.Token.{plain}
 use Rattle.typst_tokens.specs.declared.token.Token.{Token}
 use Rattle.typst_language.specs.declared.reading.Newlines.{Newlines}
 use Rattle.typst_language.specs.declared.reading.Reading.{Reading}
@@ -227,6 +230,39 @@ some-trivia k m z w t e h b =
     let some = some-bytes (len_at k m z) z (omega arith) in
     let f : is_trivia (token_at k m z).kind ≡ true = ap (λ (q : Token × Place). is_trivia q.0.kind) e ∙ h in
     rw (f, lt-ltb 0 (len_at k m z) some) refl
+
+-- a space that stands alone is a token of trivia, which takes that character
+pub record Lone (k : CharClasses) (m : SyntaxMode) (z w : Place) : Type 0 where
+  pub token : token_at k m z ≡ plain kind.Space
+  pub trivia : at_trivia k m z ≡ true
+  pub next : w ≡ moved (len_at k m z) z
+  pub text : text_ahead (len_at k m z) z ≡ 32 ∷ []
+  pub fewer : length w.ahead < length z.ahead
+
+one-ahead : (a : List ℕ) → slice_get a 0 ≡ Some 32 → (take 1 a ≡ 32 ∷ []) × (1 ≤ length a)
+one-ahead [] e = absurd (cc)
+one-ahead (d ∷ a) e = let f : d ≡ 32 = cc in (rw f refl, omega arith)
+
+pub lone-is : (k : CharClasses) (m : SyntaxMode) (z w : Place) (t : Token) → exec (token k m) z ≡ (t, w) → (scout 0 z ≡ Some 32) × (t ≡ plain kind.Space) × (w ≡ moved 1 z) → Lone k m z w
+lone-is k m z w t e s =
+    let n = len_at k m z in
+    let a = one-ahead z.ahead s.0 in
+    let there = read-place k m z w t e in
+    let one : n ≡ 1 = omega (arith, ap (λ (p : Place). length p.ahead) (sym there ∙ s.2), ahead-left n z, ahead-left 1 z, len-most k m z, a.1) in
+    let space : token_at k m z ≡ plain kind.Space = ap (λ (p : Token × Place). p.0) e ∙ s.1 in
+    let f : is_trivia (token_at k m z).kind ≡ true = ap (λ (u : Token). is_trivia u.kind) space in
+    record {
+      token = space;
+      trivia = rw (f, lt-ltb 0 n (omega (arith, one))) refl;
+      next = there;
+      text = ap (λ i. take i z.ahead) one ∙ a.0;
+      fewer = omega (arith, ap (λ (p : Place). length p.ahead) s.2, ahead-left 1 z, a.1);
+    }
+
+-- its node is a leaf
+pub space-node : (k : CharClasses) → token_node k (plain kind.Space) (32 ∷ []) ≡ leaf_of kind.Space (32 ∷ [])
+unfolding encode
+space-node k = refl
 
 pub distance-is : (from to : Place) (n : ℕ) → n ≤ length from.ahead → to ≡ moved n from → length to.before - length from.before ≡ n
 distance-is from to n h e = let b = ap (λ (p : Place). length p.before) e ∙ moved-before n from h in omega arith

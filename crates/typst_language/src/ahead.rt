@@ -12,10 +12,11 @@ ghost use Rattle.typst_language.specs.Bytes.{bytes_left};
 ghost use Rattle.typst_language.specs.AheadCursor.{IsAhead, Stands};
 
 use crate::log::joined;
+use crate::nodes::clear;
 use crate::{AtNewline, Newlines, Reading};
 use std::alloc::{AllocError, Global};
 use typst_kinds::{SyntaxKind, SyntaxMode};
-use typst_lexer::lexer::token;
+use typst_lexer::lexer::{lone_space, token};
 use typst_lexer::{is_leaf, leaf_node, make_node};
 use typst_lines::{Classes, Scanner};
 use typst_tokens::column::column;
@@ -86,7 +87,7 @@ impl<'s> ReadAhead<'s> {
     }
 
     /// Reads trivia, of which these become the nodes, and a token, and answers all that was looked
-    /// at for them.
+    /// at for them. A space that stands alone, as most trivia do, becomes its node at once.
     pub fn read<C: Classes>(
         &mut self,
         trivia: &mut Vec<SyntaxNode>,
@@ -99,7 +100,7 @@ impl<'s> ReadAhead<'s> {
         ensures hull { IfOk result (λ u. u ≡ bytes.whole_at (C.classes classes.now) held (place self.old.before)) }
         ensures refused { OnErr result (Stands self.old → Stands self.new) }
     {
-        trivia.clear();
+        clear(trivia);
         let mut newlines = no_newlines();
         let mut start = self.before;
         let mut tokens = Hull {
@@ -107,6 +108,13 @@ impl<'s> ReadAhead<'s> {
             least: usize::MAX,
         };
         'tokens: loop {
+            if let Some(space) = lone_space(start, self.line) {
+                tokens = joined(tokens, space.hull);
+                let node = SyntaxNode::leaf(alloc, SyntaxKind::Space, " ")?;
+                trivia.push(node)?;
+                start = space.after;
+                continue;
+            }
             let next = token(alloc, start, &mut self.line, held.mode, classes)?;
             tokens = joined(tokens, next.hull);
             if !next.token.kind.is_trivia() || left(&start) <= left(&next.after) {

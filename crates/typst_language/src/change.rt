@@ -25,7 +25,8 @@ pub enum Change<'a> {
     Unparened,
 }
 
-/// Changes a node.
+/// Changes a node. In place, so that nothing is called where it stays, as most nodes do.
+#[inline(always)]
 pub fn change_node(node: &mut SyntaxNode, change: Change<'_>) -> Result<(), AllocError>
     requires { IsFine change }
     ensures { OnOk result (node.new ≡ changed (meant change.entry) node.old) }
@@ -40,7 +41,8 @@ pub fn change_node(node: &mut SyntaxNode, change: Change<'_>) -> Result<(), Allo
     Ok(())
 }
 
-/// Changes the first of several nodes, if there is one.
+/// Changes the first of several nodes, if there is one. In place too.
+#[inline(always)]
 pub fn change_first(nodes: &mut Vec<SyntaxNode>, change: Change<'_>) -> Result<(), AllocError>
     requires { IsFine change }
     ensures changed { OnOk result (nodes.new.items ≡ first_changed (meant change.entry) nodes.old.items) }

@@ -59,7 +59,18 @@ pub(crate) fn trim(nodes: &mut Vec<SyntaxNode>, count: usize)
     nodes.truncate(nodes.len() - count);
 }
 
+/// Drops all nodes. Mostly there are none, and nothing is called.
+#[inline(always)]
+pub(crate) fn clear(nodes: &mut Vec<SyntaxNode>)
+    ensures { nodes.new.items ≡ [] }
+{
+    if !nodes.is_empty() {
+        nodes.clear();
+    }
+}
+
 /// Moves all nodes behind the others. Mostly it is one, a space, which is moved by itself.
+#[inline(always)]
 pub(crate) fn push_all(
     nodes: &mut Vec<SyntaxNode>,
     more: &mut Vec<SyntaxNode>,

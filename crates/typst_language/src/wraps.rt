@@ -141,7 +141,8 @@ impl<'s> Parser<'s> {
         Ok(())
     }
 
-    /// Changes the first of the nodes from a number on, if there is one.
+    /// Changes the first of the nodes from a number on, if there is one. In place, since mostly it stays.
+    #[inline(always)]
     pub fn change(&mut self, from: usize, change: Change<'_>) -> Result<(), AllocError>
         requires { IsFine change }
         ensures { OnOk result (Rewrapped from (keeps (meant change.entry)) self.old self.new) }

@@ -1,5 +1,5 @@
 -- A space before a printable character of ASCII is a token in each mode.
-use Rattle.std.proofs.Common.{◌≡◌, ◌≤◌, ◌==◌, ℕ, suc, false, true, List, [], ◌∷◌, Some, take, slice_get, refl, ap, ◌∙◌, arith}
+use Rattle.std.proofs.Common.{◌≡◌, ◌≤◌, ◌==◌, ℕ, suc, false, true, List, [], ◌∷◌, Option, None, Some, take, slice_get, refl, ap, ◌∙◌, arith}
 use Rattle.std.proofs.lemmas.Bool.Decides.{nat_tests}
 use Rattle.std.specs.List.{prefix_len}
 use Rattle.typst_kinds.specs.declared.kind.SyntaxKind.TheVariants as kind
@@ -49,6 +49,11 @@ module _ (k : CharClasses) (b a : List ℕ) (c r l : ℕ) (low : 33 ≤ c) (high
   -- to look at the character behind the space from there is the same
   looked : went 1 (saw 2 (saw 1 at_space)) ≡ saw 1 (went 1 at_space)
   looked = same-sight _ _ _ _ _ _ refl (omega (arith, far-on 1 32 b (c ∷ a))) refl
+
+-- the next character is a space
+pub is-space : (o : Option ℕ) → passes (λ d. d == 32) o ≡ true → o ≡ Some 32
+is-space None e = absurd (cc)
+is-space (Some d) e = let f : d ≡ 32 = grind (arith, nat_tests, e) in rw f refl
 
 -- what is read where a space stands before such a character
 pub lone-space : (k : CharClasses) (mode : SyntaxMode) (v : Sight) (c : ℕ) → passes (λ d. d == 32) (scout 0 v.place) ≡ true → Some c ≡ scout 0 (moved 1 v.place) → 33 ≤ c → c ≤ 126

@@ -1,5 +1,5 @@
 //! The lexer: what comes next in a text, token by token.
-ghost use Rattle.std.specs.Prelude.{◌≡◌, ◌≤◌, ◌<◌, ◌^◌, IfOk, OnOk, OnErr, IsSome, true, false, take};
+ghost use Rattle.std.specs.Prelude.{◌≡◌, ◌≤◌, ◌<◌, ◌^◌, IfOk, IfSome, OnOk, OnErr, IsSome, Some, true, false, take};
 ghost use Rattle.std.specs.Str.{chars, IsCharBoundary};
 ghost use Rattle.typst_tokens.specs.Column.{column_at};
 ghost use Rattle.typst_tokens.specs.Reader.{Reader, exec, eaten};
@@ -14,6 +14,7 @@ ghost use Rattle.typst_tokens.specs.Memory.{Memory};
 ghost use Rattle.typst_tokens.specs.Token.{plain};
 ghost use Rattle.typst_tokens.specs.declared.token.Token.{Token};
 ghost use Rattle.typst_lines.specs.Classes.{CharClasses};
+ghost use Rattle.typst_lines.specs.Place.{moved, scout};
 ghost use Rattle.typst_kinds.specs.declared.kind.SyntaxKind.TheVariants as kind;
 ghost use Rattle.typst_kinds.specs.declared.mode.SyntaxMode.{SyntaxMode};
 
@@ -198,26 +199,27 @@ pub fn token<'a, C: Classes>(
 fn read_up_to(cursor: Cursor<'_>, token: Token) -> Read<'_>
     ensures scans { (r : Reader Memory Token) (start : Start) → Reads r (fresh (place_of start)) token cursor.entry → Scans r start result.token result.hull result.after }
     ensures fits { result.hull.least < 2 ^ 64 }
+    ensures token { result.token ≡ token }
+    ensures place { place_of result.after ≡ cursor.entry.place }
 {
     let (after, hull) = cursor.finish();
     Read { token, after, hull }
 }
 
-/// The token of the mode that comes next. A space that stands alone, as most do, is told at once.
+/// The space at a place, where one stands before a printable character of ASCII, as most do: it is a token in each
+/// mode, so that it can be told before the mode is asked for.
 #[inline(always)]
-fn next_token<C: Classes>(
-    alloc: Global,
-    s: &mut Cursor<'_>,
-    mode: SyntaxMode,
-    classes: &C,
-) -> Result<Token, AllocError>
-    ensures { IfOk result (λ token. Reads (spec.token (C.classes classes.now) mode) s.old token s.new) }
+pub fn lone_space<'a>(start: Scanner<'a>, line: LineEnd<'a>) -> Option<Read<'a>>
+    requires { line.text.now ≡ start.text.now }
+    ensures scans { IfSome result (λ r. (k : CharClasses) (mode : SyntaxMode) → Scans (spec.token k mode) start.entry r.token r.hull r.after) }
+    ensures space { IfSome result (λ r. (scout 0 (place_of start.entry) ≡ Some 32) × (r.token ≡ plain kind.Space) × (place_of r.after ≡ moved 1 (place_of start.entry))) }
+    ensures fits { IfSome result (λ r. r.hull.least < 2 ^ 64) }
 {
-    if eat_lone_space(s) {
-        return Ok(Token::plain(SyntaxKind::Space));
+    let mut cursor = Cursor::on_line(start, line);
+    if !eat_lone_space(&mut cursor) {
+        return None;
     }
-    let token = any_token(alloc, s, mode, classes)?;
-    Ok(token)
+    Some(read_up_to(cursor, Token::plain(SyntaxKind::Space)))
 }
 
 /// Eats a space that stands before a printable character of ASCII: it is a token in each mode. Where
@@ -225,6 +227,7 @@ fn next_token<C: Classes>(
 #[inline(always)]
 fn eat_lone_space(s: &mut Cursor<'_>) -> bool
     ensures eaten { result ≡ true → (k : CharClasses) (mode : SyntaxMode) → Reads (spec.token k mode) s.old (plain kind.Space) s.new }
+    ensures space { result ≡ true → (scout 0 s.old.place ≡ Some 32) × (s.new.place ≡ moved 1 s.old.place) }
     ensures none { result ≡ false → s.new ≡ s.old }
 {
     let mut ahead = s.ahead();
@@ -239,10 +242,10 @@ fn eat_lone_space(s: &mut Cursor<'_>) -> bool
     true
 }
 
-/// The token of the mode that comes next, whatever it is.
+/// The token of the mode that comes next.
 #[inline(always)]
 #[tactic(auto, unfolding(crate::specs::Tokens::token))]
-fn any_token<C: Classes>(
+fn next_token<C: Classes>(
     alloc: Global,
     s: &mut Cursor<'_>,
     mode: SyntaxMode,

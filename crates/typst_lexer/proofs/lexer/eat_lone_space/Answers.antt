@@ -3,7 +3,7 @@ use Rattle.typst_kinds.specs.declared.kind.SyntaxKind.TheVariants as kind
 use Rattle.typst_lines.specs.Place.{Place, moved, passes, scout}
 use Rattle.typst_tokens.specs.Sight.{Sight, saw}
 use Rattle.typst_tokens.specs.Token.{plain}
-use Rattle.typst_lexer.proofs.Spaces.{lone-space}
+use Rattle.typst_lexer.proofs.Spaces.{is-space, lone-space}
 use Rattle.typst_lexer.proofs.lexer.eat_lone_space.Goals as goal
 
 pub returns-clause-eaten : goal.returns-clause-eaten
@@ -13,3 +13,9 @@ returns-clause-eaten c = λ t k mode.
     let next = sym c.in-Some-33-to-126.is ∙ c.peek.ensures ∙ ap (scout 0) (c.if-not-eat_if.ensures.moved ∙ ap (moved 1) here) in
     lone-space k mode c.args.s.now c.in-Some-33-to-126.field-0 space next (omega arith) (omega arith)
     ∙ ap (λ (w : Sight). (plain kind.Space, w)) (sym (c.peek-2.ensures.sight ∙ ap (saw 1) c.eat.ensures.sight))
+
+pub returns-clause-space : goal.returns-clause-space
+returns-clause-space c = λ t.
+    let here = c.ahead-ahead.ensures.place in
+    let space = ap (λ (z : Place). passes (λ d. d == 32) (scout 0 z)) (sym here) ∙ sym c.if-not-eat_if.ensures.taken in
+    (is-space (scout 0 c.args.s.now.place) space, ap (λ (v : Sight). v.place) (c.peek-2.ensures.sight ∙ ap (saw 1) c.eat.ensures.sight))
