@@ -2,19 +2,32 @@
 
 ghost use Rattle.typst_lines.specs.Classes.{CharClasses};
 ghost use Rattle.typst_grammar.specs.Examples.{CodeTrees, MathTrees, NamedTrees, PatternTrees, Trees};
-ghost use Rattle.typst_grammar.specs.Laws.{CallLaws, CodeLeavesLaw, LeavesLaw, MathLeavesLaw, PieceLaws, RunLaws, SequenceLaws};
+ghost use Rattle.typst_grammar.specs.Laws.{BlockLaws, CallLaws, CodeLeavesLaw, CountedLaws, DestructuringLaws, GroupLaws, LeavesLaw, MathLeavesLaw, ParamsLaws, PieceLaws, RestLaws, RunLaws, SequenceLaws};
 ghost use Rattle.typst_grammar.specs.Notes.{Notes};
 
-/// What holds of every part of the grammar. Where all that was asked shows the same at two places,
-/// the same is read there: the value, the characters taken, the state, the nodes, what was asked
-/// and noted, and whether the limit of depth was met. Two readings at different depths that meet no
-/// limit are the same. The nodes that are given hold the characters that are taken, and no more is
-/// taken than there is.
+/// What holds of every part of the grammar: of a piece, of a text's own run or a content block's, of
+/// a run, of another sequence, of a block, and of what is read one level deeper. Where all that was
+/// asked shows the same at two places, the same is read there from the same state: the value, the
+/// characters taken, the state, the nodes, what was asked and noted, and whether the limit of depth
+/// was met. Two readings at different depths that meet no limit are the same. The nodes that are given
+/// hold the characters that are taken, and no more is taken than there is.
 pub fn grammar_laws()
     ensures piece { PieceLaws }
     ensures sequence { SequenceLaws }
     ensures run { RunLaws }
+    ensures block { BlockLaws }
     ensures call { CallLaws }
+{}
+
+/// The same of each reading of what begins with a paren: as a group, also from behind its paren on,
+/// as parameters, as a destructuring, and the one of them that counts. So at two depths that meet no
+/// limit a first reading finds the same behind its parens.
+pub fn reading_laws()
+    ensures group { GroupLaws }
+    ensures rest { RestLaws }
+    ensures params { ParamsLaws }
+    ensures destructuring { DestructuringLaws }
+    ensures counted { CountedLaws }
 {}
 
 /// The leaves of the tree of a text, joined, are the text.

@@ -13,7 +13,7 @@ pub use binding_laws::{binding_law, bindings_of_texts};
 pub use entry::{Noted, parse, parse_code, parse_math, parse_noted, root_over};
 pub use grammar::{MAX_DEPTH, read_whole};
 pub use laws::{
-    grammar_laws, leaves_law, notes_of_texts, trees_of_code, trees_of_formulas, trees_of_names,
-    trees_of_patterns, trees_of_texts,
+    grammar_laws, leaves_law, notes_of_texts, reading_laws, trees_of_code, trees_of_formulas,
+    trees_of_names, trees_of_patterns, trees_of_texts,
 };
 pub use part::{PieceReader, ReadPart, RunKind, parse_block, resume_pieces};
