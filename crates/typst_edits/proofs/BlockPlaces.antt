@@ -9,13 +9,13 @@ use Rattle.typst_tokens.specs.Sight.{width}
 use Rattle.typst_language.specs.Hand.{utf8_ahead}
 use Rattle.typst_language.specs.Meaning.{Outcome, start_point}
 use Rattle.typst_language.specs.Point.{point_of}
-use Rattle.typst_language.proofs.Knot.{sane-block}
 use Rattle.typst_language.proofs.Leaves.{texts, texts-append, texts-one, text-add}
 use Rattle.typst_candidates.specs.Candidates as candidate
 use Rattle.typst_candidates.specs.Candidates.{Candidate}
 use Rattle.typst_candidates.specs.Units.{top_cuts}
 use Rattle.typst_grammar.specs.Markup.{markup_reading}
 use Rattle.typst_grammar.specs.Grammar.{rules, max_depth, start_of, whole, parsed, log, tree}
+use Rattle.typst_grammar.proofs.InRuns.{lawful-block}
 use Rattle.typst_edits.specs.Answer.{candidates}
 use Rattle.typst_edits.specs.Edit.{Among}
 use Rattle.typst_edits.specs.Hole.{Deep, fill, Hole, plug, path_in, path_of}
@@ -136,14 +136,14 @@ spot-place k text c there =
     let clear = among (Clear k z) c _ there (clear-level (rules k) k max_depth whole z s tt) in
     let placed = among (Placed z s) c _ there (placed-level (rules k) k max_depth whole z s tt) in
     let levels = max_depth - c.fewer in
-    let sane = sane-block (rules k) k levels c.name in
+    let laws = lawful-block k c.name in
     let read : u ≡ ended (block_at k levels c.name y p) = ap (λ r. r y p) n.reads in
     let all : texts (c.front ++ c.node ∷ []) ≡ utf8_ahead u.taken y =
-    ap texts (sym l.fits.nodes) ∙ ap (λ (q : Outcome (Unit {0})). texts q.nodes) read ∙ (sane.kept y p tt).text ∙ ap (λ (q : Outcome (Unit {0})). utf8_ahead q.taken y) (sym read) in
+    ap texts (sym l.fits.nodes) ∙ ap (λ (q : Outcome (Unit {0})). texts q.nodes) read ∙ (laws.leaves levels y p tt).text ∙ ap (λ (q : Outcome (Unit {0})). utf8_ahead q.taken y) (sym read) in
     let none = λ (h : 0 < length (text_of c.node)). no-front k max_depth c z n clear l.fits (some-taken u.taken y c.front c.node all h) in
     let held = λ (h : 0 < length (text_of c.node)). sym (texts-one c.node) ∙ ap (λ ts. texts (ts ++ c.node ∷ [])) (sym (none h)) ∙ all in
     let before = λ (none_before : c.front ≡ []). placed.left ∙ ap (λ ts. utf8_ahead c.at z ++ texts ts) none_before ∙ append-none (utf8_ahead c.at z) in
-    let inside : u.taken ≤ max 0 (length y.ahead) = subst (λ (q : Outcome (Unit {0})). q.taken ≤ max 0 (length y.ahead)) (sym read) (within-is _ _ _ (sane.within y p)) in
+    let inside : u.taken ≤ max 0 (length y.ahead) = subst (λ (q : Outcome (Unit {0})). q.taken ≤ max 0 (length y.ahead)) (sym read) (within-is _ _ _ (laws.within levels y p)) in
     let long = moved-long c.at z in
     record {
       nodes = ap (λ (q : Outcome (Unit {0})). q.nodes) l.old;

@@ -18,7 +18,6 @@ use Rattle.typst_language.specs.Ask.Ask.{looked, marked}
 use Rattle.typst_language.specs.Log.{Log, no_log, with_hull, with_note, logged}
 use Rattle.typst_language.specs.Meaning.{Outcome, start_point}
 use Rattle.typst_language.specs.Point.{point_of}
-use Rattle.typst_language.proofs.Knot.{sane-block}
 use Rattle.typst_language.proofs.Places.{moved-sum}
 use Rattle.typst_candidates.specs.declared.entry.Entry.{Entry}
 use Rattle.typst_candidates.specs.declared.entry.Tag.{Tag}
@@ -33,6 +32,7 @@ use Rattle.typst_candidates.proofs.Nested.{closing-found}
 use Rattle.typst_grammar.specs.Markup.{markup_reading}
 use Rattle.typst_grammar.specs.Grammar.{rules, max_depth, start_of, whole, parsed, log}
 use Rattle.typst_grammar.specs.Part.{block_alone}
+use Rattle.typst_grammar.proofs.InRuns.{lawful-block}
 use Rattle.typst_edits.specs.BlockSplice.{block_log}
 use Rattle.typst_edits.specs.BlockTest.{BlockTestLaw, entries_alone, entries_in, front_in, rear_in, SaysBlock, PassesAlone, FoundBlock}
 use Rattle.typst_edits.specs.Edit.{Among, text_with, AllEndBy, AllBeginIn, Passes}
@@ -228,9 +228,8 @@ module _ (k : CharClasses) (front old new rest : List ℕ) where
   alone-room s =
       let w = text_with front new rest in
       let y = moved s.at w in
-      let sane = sane-block (rules k) k (max_depth - s.fewer) s.name in
       let long = moved-long s.at w in
-      let inside = within-is _ _ _ (sane.within y (start_point (record { mode = s.start.held.mode; at_newline = newline.Continue }))) in
+      let inside = within-is _ _ _ ((lawful-block k s.name).within (max_depth - s.fewer) y (start_point (record { mode = s.start.held.mode; at_newline = newline.Continue }))) in
       (let r : (alone s).taken ≤ max 0 (length y.ahead) = inside in omega (arith, r, long))
     where
       within-is : (a b c : ℕ) → a + b ≤ c → a ≤ c

@@ -13,12 +13,13 @@ use Rattle.typst_language.specs.declared.reading.Reading.{Reading}
 use Rattle.typst_language.specs.Hand.{len_at, utf8_ahead}
 use Rattle.typst_language.specs.Meaning.{Outcome, start_point, run}
 use Rattle.typst_language.specs.Point.{Trivia, point_of, gap_of, pending}
-use Rattle.typst_language.proofs.Knot.{sane-meaning, sane-block, sane-plain}
+use Rattle.typst_language.proofs.Knot.{sane-meaning, sane-plain}
 use Rattle.typst_language.proofs.Leaves.{texts, texts-append, texts-one, text-add}
 use Rattle.typst_candidates.specs.Units.{cuts_in, top_cuts}
 use Rattle.typst_candidates.specs.Candidates.{Child, laid, child_at, is_among, begins, Candidate, of_run, run_in}
 use Rattle.typst_grammar.specs.Markup.{ends_block, markup_turn, markup_reading}
 use Rattle.typst_grammar.specs.Grammar.{rules, max_depth, start_of, whole, parsed, log, tree}
+use Rattle.typst_grammar.proofs.InRuns.{lawful-block}
 use Rattle.typst_edits.specs.Answer.{candidates}
 use Rattle.typst_edits.specs.BlockRuns.{inner, run_at, opened_at}
 use Rattle.typst_edits.specs.Children.{Settles}
@@ -139,11 +140,11 @@ seat-of k text c chosen full =
     let clear = among (Clear k z) c _ chosen (clear-level (rules k) k max_depth whole z s tt) in
     let placed = among (Placed z s) c _ chosen (placed-level (rules k) k max_depth whole z s tt) in
     let levels = max_depth - c.fewer in
-    let sane = sane-block (rules k) k levels c.name in
+    let laws = lawful-block k c.name in
     let read : u ≡ ended (block_at k levels c.name y p) = ap (λ r. r y p) n.reads in
     -- its nodes hold its characters
     let all : texts (c.front ++ c.node ∷ []) ≡ utf8_ahead u.taken y =
-    sym (ap texts l.fits.nodes) ∙ ap (λ (q : Outcome (Unit {0})). texts q.nodes) read ∙ (sane.kept y p tt).text ∙ ap (λ (q : Outcome (Unit {0})). utf8_ahead q.taken y) (sym read) in
+    sym (ap texts l.fits.nodes) ∙ ap (λ (q : Outcome (Unit {0})). texts q.nodes) read ∙ (laws.leaves levels y p tt).text ∙ ap (λ (q : Outcome (Unit {0})). utf8_ahead q.taken y) (sym read) in
     let long = ap length all in
     let split = ap length (texts-append c.front (c.node ∷ [])) in
     let sum = length-append (texts c.front) (texts (c.node ∷ [])) in
