@@ -24,7 +24,9 @@ pub use Rattle.typst_lines.specs.Newline
 pub use Rattle.typst_lines.specs.UnicodeTables
 pub use Rattle.typst_lines.specs.declared.lines.Line
 pub use Rattle.typst_tree.specs.Diagnostic
+pub use Rattle.typst_tree.specs.Preorder
 pub use Rattle.typst_tree.specs.Tree
+pub use Rattle.typst_tree.specs.declared.preorder.Visit
 pub use Rattle.typst_highlight.specs.Html
 pub use Rattle.typst_highlight.specs.Stretches
 pub use Rattle.typst_highlight.specs.declared.stretches.Tagged

@@ -40,4 +40,4 @@ pub use typst_lines::{
     Classes, Line, Lines, MathClass, Text, UnicodeClasses, is_id_continue, is_id_start, is_ident,
     is_newline, is_valid_label_literal_id, link_prefix, split_newlines,
 };
-pub use typst_tree::{LinkedChildren, LinkedNode, SyntaxNode, is_ordered};
+pub use typst_tree::{LinkedChildren, LinkedNode, Preorder, SyntaxNode, Visit, is_ordered};
