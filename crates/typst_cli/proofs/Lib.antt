@@ -4,6 +4,8 @@
 --   trees printed                Printing: messages, character by character
 --   words                        WordLemmas: how many ask for something, the numbers among them
 --   what a run tells and gives    FaultLemmas: from an answer's faults to a run's
+--   print_node                   RowLemmas: what is left of rows of trees, and its indentation
+--   findings, lines_of of trees  VisitLemmas: what a walk comes to, one node after the other
 --   edits printed                SpansAside: spans aside, trees are printed the same
 --   push_escaped                 EscapeLemmas: one character more
 --   base, line_start             PlaceLemmas: columns counted from another place of the line
@@ -21,3 +23,5 @@ pub mod LineLemmas
 pub mod PlacedLemmas
 pub mod PlaceLemmas
 pub mod TokenLemmas
+pub mod RowLemmas
+pub mod VisitLemmas

@@ -1,7 +1,7 @@
 //! The errors and warnings of a text.
 
 ghost use Rattle.std.specs.Prelude.{◌≡◌, ◌+◌, ◌++◌, IfOk, OnOk, length, map};
-ghost use Rattle.typst_parser.specs.Tree.{more, none, saturated, text_of};
+ghost use Rattle.typst_parser.specs.Tree.{saturated, text_of};
 ghost use Rattle.typst_cli.specs.Found.{as_told};
 ghost use Rattle.typst_cli.specs.Told as spec;
 
@@ -51,28 +51,14 @@ pub fn findings<'t>(alloc: Global, root: &'t SyntaxNode) -> Result<Vec<Finding<'
     ensures { IfOk result (λ found. map as_told found.items ≡ spec.told root.now) }
 {
     let mut found = Vec::new(alloc);
-    add_findings(&mut found, root, 0)?;
+    let mut walk = root.preorder(alloc);
+    while let Some(visit) = walk.next()? {
+        add_own(&mut found, visit.node, visit.offset)?;
+    }
     Ok(found)
 }
 
-/// Adds those of a node that begins at a byte, and of all nodes below it.
-fn add_findings<'t>(
-    found: &mut Vec<Finding<'t>>,
-    node: &'t SyntaxNode,
-    start: usize,
-) -> Result<(), AllocError>
-    ensures { OnOk result (map as_told found.new.items ≡ map as_told found.old.items ++ spec.told_in start (more node.now.head node.now.kids none)) }
-{
-    add_own(found, node, start)?;
-    let mut kid_start = start.saturating_add(node.leaf_text().len());
-    for kid in node.children() {
-        add_findings(found, kid, kid_start)?;
-        kid_start = kid_start.saturating_add(kid.len());
-    }
-    Ok(())
-}
-
-/// Adds those of a node alone.
+/// Adds those of a node that begins at a byte, and none of those below it.
 fn add_own<'t>(
     found: &mut Vec<Finding<'t>>,
     node: &'t SyntaxNode,

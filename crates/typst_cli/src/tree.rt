@@ -7,6 +7,7 @@ ghost use Rattle.typst_cli.specs.PrintedTree as spec;
 pub use crate::variants::variant_name;
 use std::alloc::{AllocError, Global};
 use std::ops::Range;
+use std::slice;
 use typst_parser::{
     Classes, Diagnostic, Hint, Severity, SyntaxNode, is_newline, parse, parse_code, parse_math,
 };
@@ -43,7 +44,15 @@ pub fn answer_math<C: Classes>(alloc: Global, text: &str, classes: &C) -> Result
     Ok(printed)
 }
 
-/// Prints a node that begins at a byte, and all below it.
+/// Trees that stand side by side and are still to be printed: where the first one begins, in bytes.
+#[derive(Clone, Copy)]
+struct Row<'a> {
+    trees: &'a [SyntaxNode],
+    start: usize,
+}
+
+/// Prints a node that begins at a byte, and all below it. What is left of each row on the way to the next node
+/// waits in a list, so that nothing calls itself, and a row's place there is its depth.
 pub fn print_node(
     alloc: Global,
     printed: &mut String,
@@ -54,13 +63,29 @@ pub fn print_node(
     requires { start + length (text_of node.now) < 2 ^ 64 }
     ensures { OnOk result (string_bytes printed.new ≡ string_bytes printed.old ++ spec.node_lines indent.now start node.now) }
 {
-    let deeper = format!(in alloc; "{indent}  ")?;
-    let end = start + node.len();
-    print_head(printed, node, indent, deeper.as_str(), start..end)?;
-    let mut kid_start = start;
-    for kid in node.children() {
-        print_node(alloc, printed, kid, deeper.as_str(), kid_start)?;
-        kid_start += kid.len();
+    let mut deeper = format!(in alloc; "{indent}  ")?;
+    let mut rows = Vec::new(alloc);
+    rows.push(Row {
+        trees: slice::from_ref(node),
+        start,
+    })?;
+    while let Some(row) = rows.pop() {
+        let width = deeper.len() - 2;
+        let Some((node, behind)) = row.trees.split_first() else {
+            deeper.truncate(width);
+            continue;
+        };
+        let end = row.start + node.len();
+        print_head(printed, node, &deeper[..width], deeper.as_str(), row.start..end)?;
+        rows.push(Row {
+            trees: behind,
+            start: end,
+        })?;
+        rows.push(Row {
+            trees: node.children(),
+            start: row.start,
+        })?;
+        deeper.push_str("  ")?;
     }
     Ok(())
 }

@@ -1,7 +1,6 @@
 //! A syntax tree as JSON, a line for each node.
 
 ghost use Rattle.std.specs.Prelude.{◌≡◌, ◌++◌, IfOk, OnOk};
-ghost use Rattle.typst_parser.specs.Tree.{more, none};
 ghost use Rattle.typst_cli.specs.Ndjson.{line};
 ghost use Rattle.typst_cli.specs.TreeLines as spec;
 
@@ -11,30 +10,17 @@ use json::Writer;
 use std::alloc::{AllocError, Global};
 use typst_parser::SyntaxNode;
 
-/// The lines of a tree.
+/// The lines of a tree, each node's before those of the nodes below it: its depth, its kind, its bytes and, of
+/// a leaf, its text.
 pub fn lines_of(alloc: Global, root: &SyntaxNode) -> Result<Vec<u8>, AllocError>
     ensures { IfOk result (λ printed. printed.items ≡ spec.tree_lines root.now) }
 {
-    push_node(Vec::new(alloc), root, 0, 0)
-}
-
-/// Adds the lines of a node that begins at a byte, and of all below it, each before its children: its
-/// depth, its kind, its bytes and, of a leaf, its text.
-fn push_node(
-    lines: Vec<u8>,
-    node: &SyntaxNode,
-    depth: usize,
-    start: usize,
-) -> Result<Vec<u8>, AllocError>
-    ensures { IfOk result (λ new. new.items ≡ lines.items ++ spec.node_lines depth start (more node.now.head node.now.kids none)) }
-{
-    let mut all = push_line(lines, node, depth, start)?;
-    let mut kid_start = start.saturating_add(node.leaf_text().len());
-    for kid in node.children() {
-        all = push_node(all, kid, depth.saturating_add(1), kid_start)?;
-        kid_start = kid_start.saturating_add(kid.len());
+    let mut lines = Vec::new(alloc);
+    let mut walk = root.preorder(alloc);
+    while let Some(visit) = walk.next()? {
+        lines = push_line(lines, visit.node, visit.depth, visit.offset)?;
     }
-    Ok(all)
+    Ok(lines)
 }
 
 fn push_line(
