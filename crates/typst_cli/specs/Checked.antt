@@ -1,11 +1,14 @@
 -- What is printed about a text.
-use Rattle.std.specs.Prelude.{◌≡◌, ⊤, ℕ, List, Bool, Option}
+use Rattle.std.specs.Prelude.{◌≡◌, ⊤, ℕ, List, [], Bool, Option, length}
 use Rattle.std.specs.Io.KnownBytes.{Appends}
 use Rattle.std.specs.Str.{chars}
 use Rattle.typst_parser.specs.UnicodeTables.{unicode_classes}
 use Rattle.typst_parser.specs.Grammar.{tree}
 use Rattle.typst_parser.specs.Tree.{Tree}
 use Rattle.typst_cli.specs.declared.form.Form.{Form}
+use Rattle.typst_cli.specs.declared.form.Options.{Options}
+use Rattle.typst_cli.specs.declared.tally.Counts.{Counts}
+use Rattle.typst_cli.specs.declared.tally.Tally.{Tally}
 use Rattle.typst_cli.specs.declared.form.Form.TheVariants as form
 use Rattle.typst_cli.specs.declared.form.Format.{Format}
 use Rattle.typst_cli.specs.declared.form.Format.TheVariants as format
@@ -13,7 +16,8 @@ use Rattle.typst_cli.specs.Github as github
 use Rattle.typst_cli.specs.Ndjson as ndjson
 use Rattle.typst_cli.specs.Placed.{ArePlaced, Placed}
 use Rattle.typst_cli.specs.Short.{short_lines}
-use Rattle.typst_cli.specs.Told.{Told, has_error, told}
+use Rattle.typst_cli.specs.Tally.{with_file}
+use Rattle.typst_cli.specs.Told.{Told, error_count, fails, first, told}
 use Rattle.typst_cli.specs.TreeLines.{tree_lines}
 
 -- errors and warnings of a file of that name in each format
@@ -28,15 +32,33 @@ pub record PrintsTold (f : Format) (name text : List ℕ) (all : List Told) (pri
   pub places : ArePlaced text all placed
   pub shown : printed ≡ formatted f name placed
 
--- what a form prints about a text of that tree; of a page nothing is said
-abbrev pub Prints : Form → List ℕ → List ℕ → Tree → List ℕ → Type 0
-Prints (form.Findings f) name text root printed = PrintsTold f name text (told root) printed
-Prints form.Tree name text root printed = printed ≡ tree_lines root
-Prints form.Page name text root printed = ⊤
+-- what a form prints about a text of that tree, of which this is shown; of a page nothing is said
+abbrev pub PrintsShown : Form → List ℕ → List ℕ → List Told → Tree → List ℕ → Type 0
+PrintsShown (form.Findings f) name text shown root printed = PrintsTold f name text shown printed
+PrintsShown form.Tree name text shown root printed = printed ≡ tree_lines root
+PrintsShown form.Page name text shown root printed = ⊤
+PrintsShown form.Nothing name text shown root printed = printed ≡ []
 
--- whether the text has errors is known, and the output grew by all that the form prints about it
-pub record IsChecked (f : Form) (name text : List ℕ) (erroneous : Bool) (old new : Option (List ℕ)) : Type 0 where
-  pub errors : erroneous ≡ has_error text
+-- what a form prints about a text of that tree, of which all that is told is shown
+abbrev pub Prints : Form → List ℕ → List ℕ → Tree → List ℕ → Type 0
+Prints f name text root printed = PrintsShown f name text (told root) root printed
+
+-- what a form prints about a text of that tree, of which so much is shown at most
+abbrev pub PrintsUpTo : Form → Option ℕ → List ℕ → List ℕ → Tree → List ℕ → Type 0
+PrintsUpTo f most name text root printed = PrintsShown f name text (first most (told root)) root printed
+
+-- whether the text fails is known, and the output grew by all that the form prints about it
+pub record IsChecked (o : Options) (name text : List ℕ) (failing : Bool) (old new : Option (List ℕ)) : Type 0 where
+  pub fails : failing ≡ fails o.denies_warnings text
   pub printed : List ℕ
-  pub prints : Prints f name text (tree unicode_classes (chars text)) printed
+  pub prints : PrintsUpTo o.form o.most name text (tree unicode_classes (chars text)) printed
   pub appended : Appends old new printed
+
+-- how many errors a text has, and how much is told of it together
+pub record IsCounted (text : List ℕ) (counts : Counts) : Type 0 where
+  pub errors : counts.errors ≡ error_count (told (tree unicode_classes (chars text)))
+  pub findings : counts.findings ≡ length (told (tree unicode_classes (chars text)))
+
+-- one more file, of that text
+abbrev pub tallied : Tally → List ℕ → Tally
+tallied t text = with_file t (error_count (told (tree unicode_classes (chars text)))) (length (told (tree unicode_classes (chars text))))

@@ -4,6 +4,7 @@ pub mod Escapes
 pub mod Faults
 pub mod Found
 pub mod Github
+pub mod Names
 pub mod Ndjson
 pub mod Placed
 pub mod Places
@@ -12,6 +13,7 @@ pub mod PrintedEdit
 pub mod PrintedHtml
 pub mod PrintedTree
 pub mod Short
+pub mod Tally
 pub mod Told
 pub mod TreeLines
 pub mod Variants

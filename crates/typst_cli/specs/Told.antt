@@ -1,5 +1,5 @@
 -- What is told of a text: its errors and warnings.
-use Rattle.std.specs.Prelude.{ℕ, ◌+◌, List, [], ◌∷◌, ◌++◌, Bool, true, false, ◌||◌, Option, None, Some, length, codes, min, max}
+use Rattle.std.specs.Prelude.{ℕ, ◌+◌, List, [], ◌∷◌, ◌++◌, Bool, true, false, ◌||◌, ◌&&◌, nat_lt, Option, None, Some, length, take, codes, min, max, if◌then◌else◌}
 use Rattle.std.specs.Str.{chars}
 use Rattle.typst_parser.specs.Severity.{Severity}
 use Rattle.typst_parser.specs.Severity.TheVariants as severity
@@ -55,6 +55,20 @@ abbrev pub any_error : List Told → Bool
 any_error [] = false
 any_error (t ∷ ts) = is_grave t.diagnostic.severity || any_error ts
 
+-- how many errors are among them
+abbrev pub error_count : List Told → ℕ
+error_count [] = 0
+error_count (t ∷ ts) = (if is_grave t.diagnostic.severity then 1 else 0) + error_count ts
+
+-- the first of them, so many at most
+abbrev pub first : Option ℕ → List Told → List Told
+first None all = all
+first (Some most) all = take most all
+
 -- a text has an error
 abbrev pub has_error : List ℕ → Bool
 has_error text = any_error (told (tree unicode_classes (chars text)))
+
+-- a text fails: it has an error, or, where warnings are denied, a warning
+abbrev pub fails : Bool → List ℕ → Bool
+fails denied text = has_error text || (denied && nat_lt 0 (length (told (tree unicode_classes (chars text)))))

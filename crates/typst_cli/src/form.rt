@@ -20,4 +20,17 @@ pub enum Form {
     Tree,
     /// Its text as an HTML page.
     Page,
+    /// Nothing.
+    Nothing,
+}
+
+/// How files are checked.
+#[derive(Debug, Clone, Copy, PartialEq, Eq)]
+pub struct Options {
+    /// What is printed about each.
+    pub form: Form,
+    /// How many of the errors and warnings of each are printed at most, where there is a limit.
+    pub most: Option<usize>,
+    /// Whether warnings fail as errors do.
+    pub denies_warnings: bool,
 }

@@ -2,27 +2,29 @@
 
 ghost use Rattle.std.specs.Prelude.{◌≡◌, IfOk, map};
 ghost use Rattle.typst_cli.specs.Found.{as_told};
-ghost use Rattle.typst_cli.specs.Checked.{Prints, PrintsTold};
-ghost use Rattle.typst_cli.specs.Told.{any_error, told};
+ghost use Rattle.typst_cli.specs.Checked.{PrintsShown, PrintsTold};
+ghost use Rattle.typst_cli.specs.Told.{any_error, error_count, first};
 
 use crate::finding::{Finding, findings};
 use crate::form::{Form, Format};
 use crate::located::locate;
+use crate::tally::Counts;
 use crate::{github, ndjson, page, short, tree_lines};
 use std::alloc::{AllocError, Global};
 use typst_parser::{Lines, SyntaxNode, UnicodeClasses, parse};
 
-/// What is printed about a text, and whether the text has errors.
+/// What is printed about a text, and what was found in it.
 #[derive(Drop)]
 pub struct Report {
     pub printed: Vec<u8>,
     pub has_errors: bool,
+    pub counts: Counts,
 }
 
 impl Report {
-    ghost use Rattle.std.specs.Prelude.{◌≡◌, IfOk};
+    ghost use Rattle.std.specs.Prelude.{◌≡◌, ◌&&◌, ◌||◌, nat_lt, IfOk};
     ghost use Rattle.std.specs.Str.{chars};
-    ghost use Rattle.typst_cli.specs.Checked.{Prints};
+    ghost use Rattle.typst_cli.specs.Checked.{IsCounted, Prints, PrintsUpTo};
     ghost use Rattle.typst_cli.specs.Told.{has_error};
     ghost use Rattle.typst_parser.specs.UnicodeTables.{unicode_classes};
     ghost use Rattle.typst_parser.specs.Grammar.{tree};
@@ -32,15 +34,62 @@ impl Report {
         ensures errors { IfOk result (λ report. report.has_errors ≡ has_error text.now) }
         ensures printed { IfOk result (λ report. Prints form name.now text.now (tree unicode_classes (chars text.now)) report.printed.items) }
     {
+        Report::limited(alloc, form, None, name, text)
+    }
+
+    /// The same, where at most so many errors and warnings are printed.
+    pub fn limited(
+        alloc: Global,
+        form: Form,
+        most: Option<usize>,
+        name: &str,
+        text: &str,
+    ) -> Result<Report, AllocError>
+        ensures errors { IfOk result (λ report. report.has_errors ≡ has_error text.now) }
+        ensures counts { IfOk result (λ report. IsCounted text.now report.counts) }
+        ensures printed { IfOk result (λ report. PrintsUpTo form most name.now text.now (tree unicode_classes (chars text.now)) report.printed.items) }
+    {
         let root = parse(alloc, text, &UnicodeClasses)?;
         let lines = Lines::new(alloc, text)?;
         let found = findings(alloc, &root)?;
-        let printed = print(alloc, form, name, &root, &lines, &found)?;
+        let printed = print(alloc, form, name, &root, &lines, first(&found, most))?;
         Ok(Report {
             printed,
             has_errors: any_error(&found),
+            counts: Counts {
+                errors: count_errors(&found),
+                findings: found.len(),
+            },
         })
     }
+
+    /// Whether the text fails: it has an error, or, where warnings are denied, a warning.
+    pub fn fails(&self, denies_warnings: bool) -> bool
+        ensures { result ≡ (self.now.has_errors || (denies_warnings && nat_lt 0 self.now.counts.findings)) }
+    {
+        self.has_errors || denies_warnings && self.counts.findings > 0
+    }
+}
+
+/// The first of the findings, so many at most.
+fn first<'f, 't>(found: &'f [Finding<'t>], most: Option<usize>) -> &'f [Finding<'t>]
+    ensures { map as_told result.now ≡ first most (map as_told found.now) }
+{
+    match most {
+        None => found,
+        Some(most) => &found[..most.min(found.len())],
+    }
+}
+
+/// How many errors are among the findings.
+fn count_errors(found: &[Finding]) -> usize
+    ensures { result ≡ error_count (map as_told found.now) }
+{
+    let mut errors = 0;
+    for finding in found {
+        errors += usize::from(finding.is_error());
+    }
+    errors
 }
 
 /// Whether an error is among the findings.
@@ -55,7 +104,7 @@ fn any_error(found: &[Finding]) -> bool
     false
 }
 
-/// What a form prints about a text of that name, whose tree and findings these are.
+/// What a form prints about a text of that name and tree, where these findings are to be shown.
 fn print(
     alloc: Global,
     form: Form,
@@ -64,13 +113,13 @@ fn print(
     lines: &Lines<&str>,
     found: &[Finding],
 ) -> Result<Vec<u8>, AllocError>
-    requires { map as_told found.now ≡ told root.now }
-    ensures { IfOk result (λ printed. Prints form name.now lines.now root.now printed.items) }
+    ensures { IfOk result (λ printed. PrintsShown form name.now lines.now (map as_told found.now) root.now printed.items) }
 {
     match form {
         Form::Findings(format) => print_findings(alloc, format, name, lines, found),
         Form::Tree => tree_lines::lines_of(alloc, root),
         Form::Page => page::page_of(alloc, name, root, lines, found),
+        Form::Nothing => Ok(Vec::new(alloc)),
     }
 }
 

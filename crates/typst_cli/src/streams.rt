@@ -37,7 +37,7 @@ pub fn read_text<R: Read>(alloc: Global, input: &mut R) -> Result<String, Failur
 }
 
 /// All that the reader gives. A read that was interrupted is made again.
-fn read_all<R: Read>(alloc: Global, input: &mut R) -> Result<Vec<u8>, Unread>
+pub(crate) fn read_all<R: Read>(alloc: Global, input: &mut R) -> Result<Vec<u8>, Unread>
     ensures bytes { IfOk result (λ bytes. IfSome (R.remaining input.old) (λ all. bytes.items ≡ all)) }
     ensures retried { IfErr result IsFinalRead }
 {

@@ -1,0 +1,219 @@
+//! A run over files, folders and standard input.
+
+use crate::request::Request;
+use crate::words::Word;
+use std::alloc::{AllocError, Global};
+use std::fs::{self, DirEntry, File};
+use std::io::{self, Read};
+use typst_cli::check::{Fault, check, tell};
+use typst_cli::form::{Form, Format, Options};
+use typst_cli::names::names_in;
+use typst_cli::tally::Tally;
+
+/// The name that stands for standard input.
+const STANDARD_INPUT: &str = "-";
+
+/// What the name of a document ends with.
+const EXTENSION: &str = ".typ";
+
+/// A run over files, with the greatest status so far.
+#[derive(Drop)]
+pub struct Checker<'r> {
+    rt: &'r HostRuntime,
+    alloc: Global,
+    options: Options,
+    input_name: &'r str,
+    tally: Tally,
+    status: u8,
+}
+
+/// A path below a folder, and whether it is that of a folder.
+type Below = (String, bool);
+
+impl<'r> Checker<'r> {
+    pub fn new(rt: &'r HostRuntime, alloc: Global, request: &Request<'r>) -> Checker<'r> {
+        Checker {
+            rt,
+            alloc,
+            options: request.options,
+            input_name: request.input_name,
+            tally: Tally::new(),
+            status: 0,
+        }
+    }
+
+    /// Checks what a name stands for: standard input, all documents below a folder, or a file.
+    pub fn check_named(&mut self, name: &str) -> Result<(), AllocError> {
+        if self.tally.is_unheard {
+            return Ok(());
+        }
+        if name == STANDARD_INPUT {
+            self.check_input();
+            return Ok(());
+        }
+        if self.is_folder(name) {
+            return self.check_folder(name);
+        }
+        self.check_file(name);
+        Ok(())
+    }
+
+    /// Checks what the names in a list stand for, which is a file or standard input.
+    pub fn check_listed(&mut self, list: &str) -> anyhow::Result<()> {
+        let bytes = match self.read_list(list) {
+            Ok(bytes) => bytes,
+            Err(reason) => {
+                self.tell(list, Fault::NotRead(reason));
+                return Ok(());
+            }
+        };
+        for name in &names_in(self.alloc, bytes.as_slice())? {
+            let word = Word::of_bytes(self.alloc, name.as_slice())?;
+            if word.is_odd {
+                self.tell_odd(word.text.as_str());
+            } else {
+                self.check_named(word.text.as_str())?;
+            }
+        }
+        Ok(())
+    }
+
+    /// Tells of a name that isn't UTF-8.
+    pub fn tell_odd(&mut self, name: &str) {
+        self.tell(name, Fault::OddName);
+    }
+
+    /// Sums up what was found, and gives the status.
+    pub fn finish(self) -> u8 {
+        let is_short = matches!(self.options.form, Form::Findings(Format::Short { .. }));
+        let has_any = self.tally.errors > 0 || self.tally.warnings > 0;
+        if is_short && has_any && !self.tally.is_unheard {
+            if let Ok(line) = self.tally.summary(self.alloc) {
+                let _ = eprint!(self.rt; "{line}");
+            }
+        }
+        self.status
+    }
+
+    fn read_list(&self, list: &str) -> io::Result<Vec<u8>> {
+        if list == STANDARD_INPUT {
+            return read_whole(self.alloc, &mut self.rt.reader());
+        }
+        read_whole(self.alloc, &mut File::open(self.rt, list)?)
+    }
+
+    fn check_input(&mut self) {
+        let (mut output, mut errors) = (self.rt.stdout(), self.rt.stderr());
+        let status = check(
+            self.alloc,
+            self.options,
+            self.input_name,
+            &mut self.rt.reader(),
+            &mut output,
+            &mut errors,
+            &mut self.tally,
+        );
+        self.status = self.status.max(status);
+    }
+
+    fn check_file(&mut self, name: &str) {
+        let mut input = match File::open(self.rt, name) {
+            Ok(input) => input,
+            Err(reason) => {
+                self.tell(name, Fault::NotOpened(reason));
+                return;
+            }
+        };
+        let (mut output, mut errors) = (self.rt.stdout(), self.rt.stderr());
+        let status = check(
+            self.alloc,
+            self.options,
+            name,
+            &mut input,
+            &mut output,
+            &mut errors,
+            &mut self.tally,
+        );
+        self.status = self.status.max(status);
+    }
+
+    /// Checks all documents below a folder, by their names.
+    fn check_folder(&mut self, folder: &str) -> Result<(), AllocError> {
+        let mut pending = Vec::new(self.alloc);
+        self.list(folder, &mut pending)?;
+        for _ in 0..u64::MAX {
+            let Some((path, is_folder)) = pending.pop() else {
+                break;
+            };
+            if self.tally.is_unheard {
+                break;
+            }
+            if is_folder {
+                self.list(path.as_str(), &mut pending)?;
+            } else {
+                self.check_file(path.as_str());
+            }
+        }
+        Ok(())
+    }
+
+    /// Adds the documents and folders in a folder to those that are still to be looked at, of which the last comes
+    /// first.
+    fn list(&mut self, folder: &str, pending: &mut Vec<Below>) -> Result<(), AllocError> {
+        let entries = match fs::read_dir(self.rt, folder) {
+            Ok(entries) => entries,
+            Err(reason) => {
+                self.tell(folder, Fault::NotOpened(reason));
+                return Ok(());
+            }
+        };
+        let mut below = Vec::new(self.alloc);
+        for entry in entries {
+            match below_of(self.alloc, entry) {
+                Ok((path, is_folder)) => {
+                    if is_folder || path.as_str().ends_with(EXTENSION) {
+                        below.push((path, is_folder))?;
+                    }
+                }
+                Err(reason) => self.tell(folder, Fault::NotRead(reason)),
+            }
+        }
+        below.sort()?;
+        below.reverse();
+        for one in below {
+            pending.push(one)?;
+        }
+        Ok(())
+    }
+
+    /// Whether the name is that of a folder whose documents are checked. A page is made of one file.
+    fn is_folder(&self, name: &str) -> bool {
+        if self.options.form == Form::Page {
+            return false;
+        }
+        match fs::metadata(self.rt, name) {
+            Ok(metadata) => metadata.is_dir(),
+            Err(_) => false,
+        }
+    }
+
+    fn tell(&mut self, name: &str, fault: Fault) {
+        let status = tell(self.alloc, &mut self.rt.stderr(), name, fault);
+        self.status = self.status.max(status);
+    }
+}
+
+/// All that a reader gives.
+fn read_whole<R: Read>(alloc: Global, input: &mut R) -> io::Result<Vec<u8>> {
+    let mut bytes = Vec::new(alloc);
+    input.read_to_end(&mut bytes)?;
+    Ok(bytes)
+}
+
+/// The path of an entry, and whether it is that of a folder. A link to a folder is none.
+fn below_of(alloc: Global, entry: io::Result<DirEntry>) -> io::Result<Below> {
+    let entry = entry?;
+    let is_folder = entry.file_type()?.is_dir();
+    let path = String::from_str(alloc, entry.path().as_str())?;
+    Ok((path, is_folder))
+}
