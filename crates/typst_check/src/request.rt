@@ -138,9 +138,7 @@ fn page_flag<'a>(alloc: Global) -> Result<Arg<'a>, Error> {
         .long("page")
         .action(ArgAction::SetTrue)
         .overrides_with("page")?
-        .conflicts_with_all(
-            ["tree", "format", "color", "max-errors", "files-from"].as_slice(),
-        )?
+        .conflicts_with_all(["tree", "format", "color", "max-errors", "files-from"].as_slice())?
         .help("Prints the text of one file as an HTML page, highlighted, with its errors");
     Ok(flag)
 }

@@ -76,7 +76,13 @@ pub fn print_node(
             continue;
         };
         let end = row.start + node.len();
-        print_head(printed, node, &deeper[..width], deeper.as_str(), row.start..end)?;
+        print_head(
+            printed,
+            node,
+            &deeper[..width],
+            deeper.as_str(),
+            row.start..end,
+        )?;
         rows.push(Row {
             trees: behind,
             start: end,

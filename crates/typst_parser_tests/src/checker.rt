@@ -71,15 +71,47 @@ fn is_summed_up(alloc: Global, options: Options, text: &[u8], status: u8, line: 
 
 #[test]
 fn sums_up_what_was_found(rt: HostRuntime) {
-    assert!(rt; is_summed_up(rt.alloc(), PLAIN, b"a", 0, "0 errors, 0 warnings in 1 file\n"));
-    assert!(rt; is_summed_up(rt.alloc(), PLAIN, WARNED, 0, "0 errors, 1 warning in 1 file\n"));
+    assert!(rt;
+        is_summed_up(
+            rt.alloc(),
+            PLAIN,
+            b"a",
+            0,
+            "0 errors, 0 warnings in 1 file\n"
+        )
+    );
+    assert!(rt;
+        is_summed_up(
+            rt.alloc(),
+            PLAIN,
+            WARNED,
+            0,
+            "0 errors, 1 warning in 1 file\n"
+        )
+    );
     assert!(rt; is_summed_up(rt.alloc(), FIRST, TEXT, 1, "1 error, 1 warning in 1 file\n"));
 }
 
 #[test]
 fn fails_for_warnings_where_they_are_denied(rt: HostRuntime) {
-    assert!(rt; is_summed_up(rt.alloc(), STRICT, b"a", 0, "0 errors, 0 warnings in 1 file\n"));
-    assert!(rt; is_summed_up(rt.alloc(), STRICT, WARNED, 1, "0 errors, 1 warning in 1 file\n"));
+    assert!(rt;
+        is_summed_up(
+            rt.alloc(),
+            STRICT,
+            b"a",
+            0,
+            "0 errors, 0 warnings in 1 file\n"
+        )
+    );
+    assert!(rt;
+        is_summed_up(
+            rt.alloc(),
+            STRICT,
+            WARNED,
+            1,
+            "0 errors, 1 warning in 1 file\n"
+        )
+    );
 }
 
 /// Whether that is printed of `TEXT`.
@@ -90,7 +122,8 @@ fn prints(alloc: Global, options: Options, printed: &str) -> bool {
     }
 }
 
-const WARNING: &str = "a b:1:1: warning: no text within stars\n  hint: using multiple consecutive stars (e.g. **) has no additional effect\n";
+const WARNING: &str =
+    "a b:1:1: warning: no text within stars\n  hint: using multiple consecutive stars (e.g. **) has no additional effect\n";
 
 #[test]
 fn prints_so_many_at_most(rt: HostRuntime) {
