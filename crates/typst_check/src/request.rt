@@ -1,6 +1,7 @@
 //! What the words ask for.
 
-use clap::{Arg, ArgAction, Command, Error, ErrorKind, value_parser};
+use clap::error::ErrorKind;
+use clap::{Arg, ArgAction, Command, Error, value_parser};
 use std::alloc::Global;
 use typst_cli::form::{Form, Format, Options};
 

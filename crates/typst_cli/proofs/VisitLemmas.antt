@@ -1,5 +1,5 @@
 -- What is told and printed of the nodes that a walk in preorder comes to.
-use Rattle.std.proofs.Common.{◌≡◌, ℕ, ◌+◌, List, [], ◌∷◌, ◌++◌, length, refl, sym, ap, ◌∙◌, append_assoc, append-nil}
+use Rattle.std.proofs.Common.{◌≡◌, ℕ, ◌+◌, List, [], ◌∷◌, ◌++◌, length, refl, sym, ap, ◌∙◌, append_assoc}
 use Rattle.typst_parser.specs.Tree.{Forest, none, more, Tree, joined, saturated, text_of}
 use Rattle.typst_parser.specs.Preorder.{Visited, row, walk}
 use Rattle.typst_cli.specs.Ndjson.{line}

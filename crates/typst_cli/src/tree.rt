@@ -44,7 +44,7 @@ pub fn answer_math<C: Classes>(alloc: Global, text: &str, classes: &C) -> Result
     Ok(printed)
 }
 
-/// Trees that stand side by side and are still to be printed: where the first one begins, in bytes.
+/// Trees that stand side by side and are still to be printed, and where the first one begins, in bytes.
 #[derive(Clone, Copy)]
 struct Row<'a> {
     trees: &'a [SyntaxNode],

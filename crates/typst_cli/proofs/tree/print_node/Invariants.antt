@@ -1,4 +1,4 @@
-use Rattle.std.proofs.Common.{◌≡◌, ◌+◌, ◌*◌, ◌<◌, ◌++◌, length, string_bytes}
+use Rattle.std.proofs.Common.{◌≡◌, ◌++◌, length, string_bytes}
 use Rattle.std.specs.Prelude.{All}
 use Rattle.typst_cli.specs.PrintedTree.{node_lines}
 use Rattle.typst_cli.proofs.RowLemmas.{Fits, indented, left_lines, steps}
