@@ -129,7 +129,9 @@ fn tree_flag<'a>(alloc: Global) -> Result<Arg<'a>, Error> {
         .long("tree")
         .action(ArgAction::SetTrue)
         .overrides_with("tree")?
-        .conflicts_with_all(["format", "color", "max-errors"].as_slice())?
+        .conflicts_with("format")?
+        .conflicts_with("color")?
+        .conflicts_with("max-errors")?
         .help("Prints the syntax tree, a JSON object a line for each node");
     Ok(flag)
 }
@@ -139,7 +141,11 @@ fn page_flag<'a>(alloc: Global) -> Result<Arg<'a>, Error> {
         .long("page")
         .action(ArgAction::SetTrue)
         .overrides_with("page")?
-        .conflicts_with_all(["tree", "format", "color", "max-errors", "files-from"].as_slice())?
+        .conflicts_with("tree")?
+        .conflicts_with("format")?
+        .conflicts_with("color")?
+        .conflicts_with("max-errors")?
+        .conflicts_with("files-from")?
         .help("Prints the text of one file as an HTML page, highlighted, with its errors");
     Ok(flag)
 }
@@ -150,7 +156,8 @@ fn quiet_flag<'a>(alloc: Global) -> Result<Arg<'a>, Error> {
         .short('q')
         .action(ArgAction::SetTrue)
         .overrides_with("quiet")?
-        .conflicts_with_all(["tree", "page"].as_slice())?
+        .conflicts_with("tree")?
+        .conflicts_with("page")?
         .help("Prints no errors and warnings: the status tells of them");
     Ok(flag)
 }
