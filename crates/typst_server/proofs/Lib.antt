@@ -12,3 +12,4 @@ pub mod DataEditsMade
 pub mod HoldingNodes
 pub mod SelectedNodes
 pub mod TokenLines
+pub mod VisitedProblems

@@ -36,10 +36,19 @@ pub struct Fold {
 pub fn foldings(alloc: Global, root: &SyntaxNode) -> Result<Vec<Fold>, AllocError> {
     let mut folder = Folder {
         folds: Vec::new(alloc),
+        levels: Vec::new(alloc),
         sections: Sections::new(alloc),
+        items: Runs::new(alloc),
+        comments: Runs::new(alloc),
         here: Place { byte: 0, line: 0 },
     };
-    folder.add_below(root)?;
+    let mut walk = root.preorder(alloc);
+    while let Some(visit) = walk.next()? {
+        folder.leave_to(visit.depth)?;
+        folder.enter(visit.node)?;
+    }
+    folder.leave_to(1)?;
+    folder.end_row()?;
     Ok(folder.folds)
 }
 
@@ -66,35 +75,95 @@ impl Place {
     }
 }
 
-/// Siblings of one kind, from where the first begins to where the last ends.
+/// Siblings of one kind, from where the first begins to where the last ends, and how many nodes they are below.
 #[derive(Clone, Copy)]
 struct Run {
+    depth: usize,
     kind: SyntaxKind,
     start: Place,
     end: Place,
 }
 
-/// What of a row of siblings goes on: how many sections go on in the rows around it, where the last sibling
-/// ends that isn't space, and the items and line comments of which more may come.
+/// Runs of siblings to which more may come, at most one among the children of a node.
+#[derive(Drop)]
+struct Runs {
+    open: Vec<Run>,
+}
+
+impl Runs {
+    /// There are none yet.
+    fn new(alloc: Global) -> Runs {
+        Runs {
+            open: Vec::new(alloc),
+        }
+    }
+
+    /// Whether the run at a depth, if there is one, is of this kind.
+    fn go_on(&self, depth: usize, kind: SyntaxKind) -> bool {
+        match self.open.last() {
+            Some(run) => run.depth != depth || run.kind == kind,
+            None => true,
+        }
+    }
+
+    /// Adds a sibling to the run at a depth, or begins one with it.
+    fn add(
+        &mut self,
+        depth: usize,
+        kind: SyntaxKind,
+        start: Place,
+        end: Place,
+    ) -> Result<(), AllocError> {
+        if let Some(run) = self.open.last_mut()
+            && run.depth == depth
+        {
+            run.end = end;
+            return Ok(());
+        }
+        self.open.push(Run {
+            depth,
+            kind,
+            start,
+            end,
+        })?;
+        Ok(())
+    }
+
+    /// Takes the run at a depth, to which no more come.
+    fn take(&mut self, depth: usize) -> Option<Run> {
+        match self.open.last() {
+            Some(run) if run.depth == depth => self.open.pop(),
+            _ => None,
+        }
+    }
+}
+
+/// A node that was come to and not yet gone behind: where it began, how many sections went on there, and where
+/// the last of its children ends that isn't space.
 #[derive(Clone, Copy)]
-struct Row {
+struct Level<'a> {
+    node: &'a SyntaxNode,
+    start: Place,
     base: usize,
     end: Place,
-    items: Option<Run>,
-    comments: Option<Run>,
 }
 
 /// The foldings that are being found.
 #[derive(Drop)]
-struct Folder {
+struct Folder<'a> {
     folds: Vec<Fold>,
+    /// The nodes around what comes next, the outermost first.
+    levels: Vec<Level<'a>>,
     /// Where each section that goes on began.
     sections: Sections<Place>,
+    /// The items of lists, and the line comments, to which more may come.
+    items: Runs,
+    comments: Runs,
     /// How far the text was gone through.
     here: Place,
 }
 
-impl Folder {
+impl<'a> Folder<'a> {
     /// Adds a fold up to a place, where it holds a line end.
     fn add(&mut self, kind: FoldKind, start: Place, end: Place) -> Result<(), AllocError>
         ensures { vec_len self.new.sections.open ≡ vec_len self.old.sections.open }
@@ -106,106 +175,106 @@ impl Folder {
         Ok(())
     }
 
-    /// Adds what is within a node that begins here, and goes behind it.
-    fn add_below(&mut self, node: &SyntaxNode) -> Result<(), AllocError> {
-        self.here = self.here.behind(node.leaf_text());
-        let mut row = Row {
+    /// Goes into a node that begins here.
+    fn enter(&mut self, node: &'a SyntaxNode) -> Result<(), AllocError> {
+        self.end_parts(node)?;
+        let start = self.here;
+        self.here = start.behind(node.leaf_text());
+        self.levels.push(Level {
+            node,
+            start,
             base: self.sections.len(),
             end: self.here,
-            items: None,
-            comments: None,
-        };
-        for kid in node.children() {
-            row = self.end_parts(row, kid)?;
-            let start = self.here;
-            self.add_below(kid)?;
-            row = self.add_kid(row, kid, start)?;
-        }
-        self.end_row(row)
+        })?;
+        Ok(())
     }
 
-    /// Ends what of a row doesn't go on with the next sibling.
-    fn end_parts(&mut self, row: Row, kid: &SyntaxNode) -> Result<Row, AllocError> {
-        let mut row = row;
-        let kind = kid.kind();
+    /// Goes behind the nodes that are below so many others.
+    fn leave_to(&mut self, depth: usize) -> Result<(), AllocError> {
+        for _ in depth..self.levels.len() {
+            self.end_row()?;
+            if let Some(level) = self.levels.pop() {
+                self.add_node(level)?;
+            }
+        }
+        Ok(())
+    }
+
+    /// Ends what of the children so far doesn't go on with the next one.
+    fn end_parts(&mut self, kid: &SyntaxNode) -> Result<(), AllocError> {
+        let (depth, kind) = (self.levels.len(), kid.kind());
         if let Some(level) = heading_level(kid) {
-            self.end_sections(row, level)?;
+            self.end_sections(level)?;
         }
-        if !goes_on(row.items, kind) && !kind.is_trivia() {
-            self.end_run(FoldKind::Region, row.items)?;
-            row.items = None;
+        if !kind.is_trivia() && !self.items.go_on(depth, kind) {
+            self.end_items()?;
         }
-        if !goes_on(row.comments, kind) && !is_one_line_end(kid) {
-            self.end_run(FoldKind::Comment, row.comments)?;
-            row.comments = None;
+        if !self.comments.go_on(depth, kind) && !is_one_line_end(kid) {
+            self.end_comments()?;
         }
-        Ok(row)
+        Ok(())
     }
 
-    /// Adds what a sibling itself is that began at a place and ends here.
-    fn add_kid(&mut self, row: Row, kid: &SyntaxNode, start: Place) -> Result<Row, AllocError> {
-        let (mut row, end, kind) = (row, self.here, kid.kind());
+    /// Adds what a node itself is that ends here.
+    fn add_node(&mut self, level: Level<'a>) -> Result<(), AllocError> {
+        let (depth, start, end) = (self.levels.len(), level.start, self.here);
+        let kind = level.node.kind();
         match kind {
             SyntaxKind::Heading => {
-                let level = heading_level(kid).unwrap_or(1);
+                let level = heading_level(level.node).unwrap_or(1);
                 self.sections.push(level, start)?;
             }
             SyntaxKind::ListItem | SyntaxKind::EnumItem | SyntaxKind::TermItem => {
-                row.items = Some(extended(row.items, kind, start, end));
+                self.items.add(depth, kind, start, end)?;
                 self.add(FoldKind::Region, start, end)?;
             }
-            SyntaxKind::LineComment => {
-                row.comments = Some(extended(row.comments, kind, start, end));
-            }
+            SyntaxKind::LineComment => self.comments.add(depth, kind, start, end)?,
             SyntaxKind::BlockComment => self.add(FoldKind::Comment, start, end)?,
             SyntaxKind::CodeBlock | SyntaxKind::ContentBlock | SyntaxKind::Raw => {
                 self.add(FoldKind::Region, start, end)?;
             }
             _ => {}
         }
-        if !is_space(kind) {
-            row.end = end;
-        }
-        Ok(row)
-    }
-
-    /// Ends what of a row goes on.
-    fn end_row(&mut self, row: Row) -> Result<(), AllocError> {
-        self.end_run(FoldKind::Region, row.items)?;
-        self.end_run(FoldKind::Comment, row.comments)?;
-        self.end_sections(row, 0)
-    }
-
-    /// Ends the sections of a row that a heading of this level ends.
-    fn end_sections(&mut self, row: Row, level: usize) -> Result<(), AllocError> {
-        while let Some(start) = self.sections.pop_at(row.base, level) {
-            self.add(FoldKind::Region, start, row.end)?;
+        if !is_space(kind)
+            && let Some(parent) = self.levels.last_mut()
+        {
+            parent.end = end;
         }
         Ok(())
     }
 
-    /// Adds siblings to which no more come.
-    fn end_run(&mut self, kind: FoldKind, run: Option<Run>) -> Result<(), AllocError> {
-        match run {
-            Some(run) => self.add(kind, run.start, run.end),
+    /// Ends what of the children of the innermost node goes on.
+    fn end_row(&mut self) -> Result<(), AllocError> {
+        self.end_items()?;
+        self.end_comments()?;
+        self.end_sections(0)
+    }
+
+    /// Ends the sections among the children that a heading of this level ends.
+    fn end_sections(&mut self, level: usize) -> Result<(), AllocError> {
+        let Some(Level { base, end, .. }) = self.levels.last().copied() else {
+            return Ok(());
+        };
+        while let Some(start) = self.sections.pop_at(base, level) {
+            self.add(FoldKind::Region, start, end)?;
+        }
+        Ok(())
+    }
+
+    /// Adds the items of a list to which no more come.
+    fn end_items(&mut self) -> Result<(), AllocError> {
+        match self.items.take(self.levels.len()) {
+            Some(run) => self.add(FoldKind::Region, run.start, run.end),
             None => Ok(()),
         }
     }
-}
 
-/// Whether siblings go on with one of this kind.
-fn goes_on(run: Option<Run>, kind: SyntaxKind) -> bool {
-    match run {
-        Some(run) => run.kind == kind,
-        None => true,
-    }
-}
-
-/// Siblings with one more of them.
-fn extended(run: Option<Run>, kind: SyntaxKind, start: Place, end: Place) -> Run {
-    match run {
-        Some(run) => Run { end, ..run },
-        None => Run { kind, start, end },
+    /// Adds the line comments to which no more come.
+    fn end_comments(&mut self) -> Result<(), AllocError> {
+        match self.comments.take(self.levels.len()) {
+            Some(run) => self.add(FoldKind::Comment, run.start, run.end),
+            None => Ok(()),
+        }
     }
 }
 

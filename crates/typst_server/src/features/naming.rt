@@ -73,26 +73,14 @@ pub fn mentions<'a>(
     name: &str,
 ) -> Result<Vec<Mention<'a>>, AllocError> {
     let mut found = Vec::new(alloc);
-    add_mentions(&mut found, Placed::top(root), name)?;
+    let mut walk = root.preorder(alloc);
+    while let Some(visit) = walk.next()? {
+        match Mention::of(Placed::of(visit)) {
+            Some(mention) if mention.name == name => found.push(mention)?,
+            _ => {}
+        }
+    }
     Ok(found)
-}
-
-/// Adds the mentions of a name by a node and those below it.
-fn add_mentions<'a>(
-    found: &mut Vec<Mention<'a>>,
-    placed: Placed<'a>,
-    name: &str,
-) -> Result<(), AllocError> {
-    match Mention::of(placed) {
-        Some(mention) if mention.name == name => found.push(mention)?,
-        _ => {}
-    }
-    let mut start = placed.inner_start();
-    for node in placed.node.children() {
-        add_mentions(found, Placed { node, start }, name)?;
-        start = start.saturating_add(node.len());
-    }
-    Ok(())
 }
 
 /// The labels and references of the name that is mentioned at a byte, in order, and none where no name is.

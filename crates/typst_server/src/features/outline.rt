@@ -5,7 +5,7 @@ use crate::features::sections::{Sections, heading_level, is_space};
 use std::alloc::{AllocError, Global};
 use std::ops::Range;
 use typst_kinds::SyntaxKind;
-use typst_tree::SyntaxNode;
+use typst_tree::{Preorder, SyntaxNode, Visit};
 
 /// What an outline shows.
 #[derive(Debug, Clone, Copy, PartialEq, Eq)]
@@ -37,17 +37,36 @@ pub struct Symbol {
 /// smaller level, but for the space at its end; a `let` what its value holds. It goes through each node once.
 pub fn symbols(alloc: Global, root: &SyntaxNode) -> Result<Vec<Symbol>, AllocError> {
     let mut outline = Outline {
+        alloc,
         symbols: Vec::new(alloc),
+        rows: Vec::new(alloc),
         sections: Sections::new(alloc),
     };
-    outline.add_below(Placed::top(root), 0)?;
+    let mut walk = root.preorder(alloc);
+    while let Some(visit) = walk.next()? {
+        outline.leave_to(visit.depth);
+        outline.enter(visit)?;
+    }
+    outline.leave_to(0);
     Ok(outline.symbols)
+}
+
+/// What is known of the children of a node that was come to: how many sections go on in the rows around
+/// them, below how many entries they are, and where the last one ends that isn't space.
+#[derive(Clone, Copy)]
+struct Row {
+    base: usize,
+    depth: usize,
+    end: usize,
 }
 
 /// An outline that is being made.
 #[derive(Drop)]
 struct Outline {
+    alloc: Global,
     symbols: Vec<Symbol>,
+    /// The rows of children on the way to the node at hand, the outermost first.
+    rows: Vec<Row>,
     /// Of each heading whose section goes on, the number of its entry.
     sections: Sections<usize>,
 }
@@ -61,33 +80,49 @@ struct Binding<'a> {
 }
 
 impl Outline {
-    /// Adds what is below a node that is below so many entries.
-    fn add_below(&mut self, placed: Placed<'_>, depth: usize) -> Result<(), AllocError> {
-        let base = self.sections.len();
-        let mut start = placed.inner_start();
-        let mut end = start;
-        for node in placed.node.children() {
-            if let Some(level) = heading_level(node) {
-                self.close(base, level, end);
-            }
-            let kid = Placed { node, start };
-            let open = self.sections.len().saturating_sub(base);
-            let below = self.add_own(kid, depth.saturating_add(open))?;
-            self.add_below(kid, below)?;
-            start = kid.end();
-            if !is_space(node.kind()) {
-                end = start;
-            }
-        }
-        self.close(base, 0, end);
+    /// Adds a node, behind which its children come.
+    fn enter(&mut self, visit: Visit<'_>) -> Result<(), AllocError> {
+        let node = Placed::of(visit);
+        let depth = match self.rows.last().copied() {
+            Some(row) => self.add_to_row(row, node)?,
+            None => 0,
+        };
+        self.rows.push(Row {
+            base: self.sections.len(),
+            depth,
+            end: node.inner_start(),
+        })?;
         Ok(())
     }
 
-    /// Ends the sections behind the first `base` that a heading of this level ends.
-    fn close(&mut self, base: usize, level: usize, end: usize) {
-        while let Some(index) = self.sections.pop_at(base, level) {
+    /// Ends the rows behind the first ones.
+    fn leave_to(&mut self, depth: usize) {
+        for _ in depth..self.rows.len() {
+            if let Some(row) = self.rows.pop() {
+                self.close(row, 0);
+            }
+        }
+    }
+
+    /// Adds a node to the innermost row, and answers below how many entries its children are.
+    fn add_to_row(&mut self, row: Row, node: Placed<'_>) -> Result<usize, AllocError> {
+        if let Some(level) = heading_level(node.node) {
+            self.close(row, level);
+        }
+        if !is_space(node.node.kind())
+            && let Some(row) = self.rows.last_mut()
+        {
+            row.end = node.end();
+        }
+        let open = self.sections.len().saturating_sub(row.base);
+        self.add_own(node, row.depth.saturating_add(open))
+    }
+
+    /// Ends the sections of a row that a heading of this level ends.
+    fn close(&mut self, row: Row, level: usize) {
+        while let Some(index) = self.sections.pop_at(row.base, level) {
             if let Some(symbol) = self.symbols.get_mut(index) {
-                symbol.range.end = end;
+                symbol.range.end = row.end;
             }
         }
     }
@@ -142,30 +177,49 @@ impl Outline {
 
     /// Adds the names of a pattern of a `let`.
     fn add_names(&mut self, pattern: Placed<'_>, binding: Binding<'_>) -> Result<(), AllocError> {
-        if pattern.node.kind() == SyntaxKind::Ident {
-            self.symbols.push(Symbol {
-                kind: binding.kind,
-                name: pattern.range(),
-                range: binding.whole.range(),
-                depth: binding.depth,
-            })?;
-            return Ok(());
-        }
-        if !holds_names(pattern.node.kind()) {
-            return Ok(());
-        }
-        let mut is_key = pattern.node.kind() == SyntaxKind::Named;
-        let mut start = pattern.inner_start();
-        for node in pattern.node.children() {
-            let kid = Placed { node, start };
-            if node.kind() == SyntaxKind::Colon {
-                is_key = false;
-            } else if !is_key {
-                self.add_names(kid, binding)?;
+        let mut names = Names {
+            passed: usize::MAX,
+            is_key: false,
+        };
+        let mut walk = Preorder::new(self.alloc, pattern.node, pattern.start);
+        while let Some(visit) = walk.next()? {
+            if names.binds(visit) {
+                self.symbols.push(Symbol {
+                    kind: binding.kind,
+                    name: Placed::of(visit).range(),
+                    range: binding.whole.range(),
+                    depth: binding.depth,
+                })?;
             }
-            start = kid.end();
         }
         Ok(())
+    }
+}
+
+/// What of a pattern binds no names: from a depth on all, where that is a key up to its colon.
+#[derive(Drop)]
+struct Names {
+    passed: usize,
+    is_key: bool,
+}
+
+impl Names {
+    /// Whether a node is a name that the pattern binds. All nodes of the pattern are asked about, in preorder.
+    fn binds(&mut self, visit: Visit<'_>) -> bool {
+        let (kind, depth) = (visit.node.kind(), visit.depth);
+        if depth >= self.passed {
+            if self.is_key && depth == self.passed && kind == SyntaxKind::Colon {
+                self.passed = usize::MAX;
+            }
+            return false;
+        }
+        self.is_key = kind == SyntaxKind::Named;
+        self.passed = if holds_patterns(kind) {
+            usize::MAX
+        } else {
+            depth.saturating_add(1)
+        };
+        kind == SyntaxKind::Ident
     }
 }
 
@@ -209,13 +263,10 @@ fn kind_of(binding: &SyntaxNode) -> SymbolKind {
     }
 }
 
-/// Whether a pattern of this kind holds further patterns.
-fn holds_names(kind: SyntaxKind) -> bool {
+/// Whether the children of a pattern of this kind are patterns themselves.
+fn holds_patterns(kind: SyntaxKind) -> bool {
     matches!(
         kind,
-        SyntaxKind::Destructuring
-            | SyntaxKind::Parenthesized
-            | SyntaxKind::Named
-            | SyntaxKind::Spread
+        SyntaxKind::Destructuring | SyntaxKind::Parenthesized | SyntaxKind::Spread
     )
 }

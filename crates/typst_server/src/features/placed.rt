@@ -5,7 +5,7 @@ ghost use Rattle.typst_tree.specs.Tree.{nodes};
 ghost use Rattle.typst_server.specs.Bytes as spec;
 
 use std::ops::Range;
-use typst_tree::SyntaxNode;
+use typst_tree::{SyntaxNode, Visit};
 
 /// A node, and the byte at which it begins.
 #[derive(Clone, Copy)]
@@ -26,6 +26,17 @@ impl<'a> Placed<'a> {
         Placed {
             node: root,
             start: 0,
+        }
+    }
+
+    /// A node that a walk has come to.
+    pub fn of(visit: Visit<'a>) -> Placed<'a>
+        ensures node { result.node.now ≡ visit.entry.node.now }
+        ensures start { result.start ≡ visit.entry.offset }
+    {
+        Placed {
+            node: visit.node,
+            start: visit.offset,
         }
     }
 

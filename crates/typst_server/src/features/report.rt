@@ -24,25 +24,11 @@ pub fn problems<'a>(alloc: Global, root: &'a SyntaxNode) -> Result<Vec<Problem<'
     ensures { IfOk result (λ found. map spec.reported found.items ≡ spec.node 0 root.now) }
 {
     let mut found = Vec::new(alloc);
-    add_problems(&mut found, root, 0)?;
-    Ok(found)
-}
-
-/// Adds the problems of a node that begins at a byte, and of those below it.
-fn add_problems<'a>(
-    found: &mut Vec<Problem<'a>>,
-    node: &'a SyntaxNode,
-    start: usize,
-) -> Result<(), AllocError>
-    ensures { OnOk result (map spec.reported found.new.items ≡ map spec.reported found.old.items ++ spec.node start node.now) }
-{
-    add_own(found, node, start)?;
-    let mut at = start.saturating_add(node.leaf_text().len());
-    for kid in node.children() {
-        add_problems(found, kid, at)?;
-        at = at.saturating_add(kid.len());
+    let mut walk = root.preorder(alloc);
+    while let Some(visit) = walk.next()? {
+        add_own(&mut found, visit.node, visit.offset)?;
     }
-    Ok(())
+    Ok(found)
 }
 
 /// Adds the problems of a node itself.
