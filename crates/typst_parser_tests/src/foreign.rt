@@ -21,6 +21,27 @@ fn are_of_file(alloc: Global, root: &SyntaxNode, file: Option<FileId>) -> Option
     Some(true)
 }
 
+/// Numbers that no node of a tree without numbers has.
+const UNKNOWN: [u64; 5] = [2, 3, 1000, 1 << 46, (1 << 47) - 1];
+
+/// Whether a source finds no bytes by any of these numbers.
+fn finds_none(source: &Unicode) -> Option<bool> {
+    for number in UNKNOWN {
+        if source.range(SpanNumber::new(number)?, None).is_some() {
+            return Some(false);
+        }
+    }
+    Some(true)
+}
+
+/// Whether a source knows its root by its number, or where that has none finds no bytes by a number.
+fn knows_root(source: &Unicode) -> Option<bool> {
+    match source.root().span().number() {
+        Some(number) => Some(source.range(number, None) == Some(0..source.text().len())),
+        None => finds_none(source),
+    }
+}
+
 /// Whether a source of file 1 has the lines and the tree of a text, numbered in another file or in none:
 /// its root is known by its number, if it has one, and not by its span.
 fn is_foreign(alloc: Global, source: &Unicode, text: &str, file: Option<FileId>) -> Option<bool> {
@@ -28,10 +49,8 @@ fn is_foreign(alloc: Global, source: &Unicode, text: &str, file: Option<FileId>)
     let is_text = source.text() == text && has_lines(alloc, source.lines(), text)?;
     let is_tree = has_tree(alloc, root, text)? && are_of_file(alloc, root, file)?;
     let is_numbered = file.is_none() || is_ordered(root);
-    let number = root.span().number();
-    let known = source.range(number.unwrap_or(SpanNumber::new(2)?), None);
-    let is_known = known == file.map(|_| 0..text.len());
-    Some(is_text && is_tree && is_numbered && is_known && source.find(root.span()).is_none())
+    let is_known = knows_root(source)? && source.find(root.span()).is_none();
+    Some(is_text && is_tree && is_numbered && is_known)
 }
 
 /// Whether a source of file 1 holds the tree that it was handed, and each of the edits reads its bytes and
