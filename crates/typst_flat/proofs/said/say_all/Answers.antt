@@ -1,0 +1,33 @@
+use Rattle.std.proofs.Common.{◌≡◌, ◌+◌, ◌<◌, ◌≤◌, ◌∷◌, ◌++◌, [], List, length, take, ap, sym, subst, ◌∙◌, arith, append_assoc, append-nil}
+use Rattle.std.specs.List.{flat_map}
+use Rattle.std.proofs.lemmas.List.{take_more}
+use Rattle.std.proofs.lemmas.List.Concat.{flat_map-append}
+use Rattle.typst_kinds.specs.Diagnostic.{Diagnostic}
+use Rattle.typst_tree.specs.Tree.{Tree}
+use Rattle.typst_tree.specs.Linked.{linked}
+use Rattle.typst_tree.specs.Steps.{At}
+use Rattle.typst_flat.specs.Said.{IsWritten, Saying, said_by}
+use Rattle.typst_flat.proofs.Filling.{take_whole}
+use Rattle.typst_flat.proofs.said.say_all.Goals as goal
+
+pub loop-diagnostic-preserved : goal.loop-diagnostic-preserved
+loop-diagnostic-preserved c = λ says rs ms w.
+    let a : At = linked c.args.place.now.node in
+    let all : List Diagnostic = c.diagnostics-diagnostic-items.result.now in
+    let n = c.loop-diagnostic.diagnostic-index in
+    let d : Diagnostic = c.diagnostic-item.result in
+    let front : List Saying = flat_map (said_by a) (take n all) in
+    let more : n < length all = omega arith in
+    let longer : flat_map (said_by a) (take (n + 1) all) ≡ front ++ said_by a d = ap (flat_map (said_by a)) (take_more all n d more ∙ ap (λ x. take n all ++ x ∷ []) (sym c.diagnostic-item.is)) ∙ (flat_map-append (said_by a) (take n all) (d ∷ []) ∙ ap (λ xs. front ++ xs) (append-nil (said_by a d))) in
+    subst (λ xs. IsWritten xs c.say_one-all.result c.say_one-all.new.remarks rs c.say_one-all.new.messages ms)
+    (append_assoc says front (said_by a d) ∙ ap (λ xs. says ++ xs) (sym longer))
+    (c.say_one-all.ensures (says ++ front) rs ms (c.loop-diagnostic.invariant says rs ms w))
+
+pub returns : goal.returns
+returns c = λ says rs ms w.
+    let a : At = linked c.args.place.now.node in
+    let items : List Diagnostic = c.diagnostics-diagnostic-items.result.now in
+    let all : length items ≤ c.loop-diagnostic.diagnostic-index = omega arith in
+    subst (λ xs. IsWritten (says ++ flat_map (said_by a) xs) c.loop-diagnostic.all c.loop-diagnostic.remarks rs c.loop-diagnostic.messages ms)
+    (take_whole c.loop-diagnostic.diagnostic-index items all ∙ (c.diagnostics-diagnostic-items.ensures ∙ ap (λ (t : Tree). t.head.diagnostics) c.get.ensures))
+    (c.loop-diagnostic.invariant says rs ms w)

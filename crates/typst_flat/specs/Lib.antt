@@ -1,0 +1,4 @@
+pub mod Codes
+pub mod Records
+pub mod Walk
+pub mod Said

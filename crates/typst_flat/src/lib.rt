@@ -1,0 +1,19 @@
+//! A syntax tree as arrays of records of one size each, for programs of other languages.
+//!
+//! [`fill_nodes`] puts the records of all nodes of a tree into an array, in preorder, and
+//! [`fill_nodes_in`] those of the nodes that meet a stretch of bytes. [`fill_remarks`] does the same of what
+//! is said of the nodes. Each puts as many as fit, and tells how many there are.
+#![tactic(auto)]
+
+mod bytes;
+mod codes;
+mod fill;
+mod records;
+mod said;
+mod walk;
+
+pub use bytes::fill_text;
+pub use codes::{kind_code, tag_code};
+pub use fill::{fill_nodes, fill_nodes_in};
+pub use records::{Node, Remark, Stretch};
+pub use said::{Said, fill_remarks};
