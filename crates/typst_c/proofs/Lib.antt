@@ -1,0 +1,2 @@
+mod BoxAlike
+pub mod Refused

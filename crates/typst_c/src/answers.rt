@@ -1,0 +1,90 @@
+//! What is told of trees and texts.
+
+ghost use Rattle.std.specs.Prelude.{◌≡◌, ◌-◌, ◌^◌, ◌<◌, IfOk, OnOk, length};
+ghost use Rattle.typst_parser.specs.Tree.{nodes, saturated, text_of};
+ghost use Rattle.typst_flat.specs.Records.{filled, records, records_in};
+ghost use Rattle.typst_flat.specs.Said.{all_said, messages, remarks};
+
+use crate::refusal::{Refusal, no_memory};
+use std::alloc::Global;
+use typst_flat::{Node, Remark, Said, Stretch, fill_nodes, fill_nodes_in, fill_remarks};
+use typst_parser::SyntaxNode;
+
+/// How much room a tree takes, in bytes of its text, records, and bytes of messages.
+#[repr(C)]
+#[derive(Debug, Clone, Copy, PartialEq, Eq)]
+pub struct Sizes {
+    pub text: usize,
+    pub nodes: usize,
+    pub remarks: usize,
+    pub messages: usize,
+}
+
+/// Whether the nodes of a tree can be counted.
+fn counted(root: &SyntaxNode) -> Result<(), Refusal>
+    ensures { OnOk result (nodes root.now < 2 ^ 64 - 1) }
+{
+    if root.descendants() == usize::MAX {
+        return Err(Refusal::TooLarge);
+    }
+    Ok(())
+}
+
+/// Puts the records of all nodes into an array, and tells how many there are.
+pub fn put_nodes(alloc: Global, root: &SyntaxNode, room: &mut [Node]) -> Result<usize, Refusal>
+    ensures count { IfOk result (λ count. count ≡ nodes root.now) }
+    ensures room { OnOk result (room.new ≡ filled (records root.now) room.old) }
+{
+    counted(root)?;
+    let count = fill_nodes(alloc, root, room).map_err(no_memory)?;
+    Ok(count)
+}
+
+/// The same of the nodes that meet a stretch.
+pub fn put_nodes_in(
+    alloc: Global,
+    root: &SyntaxNode,
+    stretch: Stretch,
+    room: &mut [Node],
+) -> Result<usize, Refusal>
+    ensures count { IfOk result (λ count. count ≡ length (records_in stretch root.now)) }
+    ensures room { OnOk result (room.new ≡ filled (records_in stretch root.now) room.old) }
+{
+    counted(root)?;
+    let count = fill_nodes_in(alloc, root, stretch, room).map_err(no_memory)?;
+    Ok(count)
+}
+
+/// Puts the remarks and their messages into arrays, and tells how many there are.
+pub fn put_remarks(
+    alloc: Global,
+    root: &SyntaxNode,
+    room: &mut [Remark],
+    text: &mut [u8],
+) -> Result<Said, Refusal>
+    ensures counted { OnOk result (nodes root.now < 2 ^ 64 - 1) }
+    ensures count { IfOk result (λ said. said.remarks ≡ saturated (length (all_said root.now))) }
+    ensures bytes { IfOk result (λ said. said.messages ≡ saturated (length (messages root.now))) }
+    ensures remarks { OnOk result (room.new ≡ filled (remarks root.now) room.old) }
+    ensures messages { OnOk result (text.new ≡ filled (messages root.now) text.old) }
+{
+    counted(root)?;
+    let said = fill_remarks(alloc, root, room, text).map_err(no_memory)?;
+    Ok(said)
+}
+
+/// How much room a tree takes.
+pub fn sizes_of(alloc: Global, root: &SyntaxNode) -> Result<Sizes, Refusal>
+    ensures text { IfOk result (λ sizes. sizes.text ≡ saturated (length (text_of root.now))) }
+    ensures nodes { IfOk result (λ sizes. sizes.nodes ≡ nodes root.now) }
+    ensures remarks { IfOk result (λ sizes. sizes.remarks ≡ saturated (length (all_said root.now))) }
+    ensures messages { IfOk result (λ sizes. sizes.messages ≡ saturated (length (messages root.now))) }
+{
+    let said = put_remarks(alloc, root, &mut [], &mut [])?;
+    Ok(Sizes {
+        text: root.len(),
+        nodes: root.descendants(),
+        remarks: said.remarks,
+        messages: said.messages,
+    })
+}

@@ -1,0 +1,55 @@
+//! What C holds of a source: a pointer, which owns it.
+
+ghost use Rattle.std.specs.Prelude.{◌≡◌};
+ghost use Rattle.typst_c.specs.declared.kept.Kept.{Kept};
+ghost use Rattle.typst_c.specs.Held.{handle_owns, kept_code};
+
+use crate::kept::Kept;
+use crate::opened::Opened;
+use std::alloc::Global;
+use std::marker::Model;
+
+/// A source as C passes it. It comes by value, as the pointer alone, since an allocator takes no bytes.
+#[repr(C)]
+pub struct Handle {
+    at: *mut u8,
+    alloc: Global,
+    pub ghost home: { Kept } by { kept_code },
+}
+
+impl Model for Handle {
+    ghost also_owns = { λ h. handle_owns h.alloc h.at h.home };
+}
+
+impl Handle {
+    /// Gives a source to C: what the box owns is C's from here on.
+    pub fn give(kept: Box<Kept, Global>) -> *mut u8 {
+        Handle::pointer(Opened::open(kept))
+    }
+
+    /// Takes it back.
+    pub fn take(self) -> Box<Kept, Global>
+        ensures { result.value ≡ self.home }
+    {
+        self.open().shut()
+    }
+
+    /// The pointer alone.
+    fn pointer(opened: Opened<Kept, Global>) -> *mut u8
+        ensures { result ≡ opened.at }
+    {
+        let Opened { at, alloc: _ } = opened;
+        at as *mut u8
+    }
+
+    /// The pointer as one to a source.
+    fn open(self) -> Opened<Kept, Global>
+        ensures { result.value ≡ self.home }
+    {
+        let Handle { at, alloc } = self;
+        Opened {
+            at: at as *mut Kept,
+            alloc,
+        }
+    }
+}
