@@ -1,48 +1,34 @@
 -- Where a block of a text stands, by the bytes of a candidate.
-use Rattle.std.proofs.Common.{◌≡◌, ℕ, zero, suc, ◌+◌, ◌-◌, ◌<◌, ◌≤◌, max, true, List, [], ◌∷◌, ◌++◌, length, take, length-append, refl, ap, sym, ◌∙◌, subst, arith}
-use Rattle.typst_lines.specs.Place.{Place, moved}
+use Rattle.std.proofs.Common.{◌≡◌, ℕ, zero, suc, ◌+◌, ◌<◌, ◌≤◌, true, List, [], ◌∷◌, ◌++◌, length, take, refl, ap, sym, ◌∙◌, subst, arith}
 use Rattle.typst_lines.specs.Classes.{CharClasses}
 use Rattle.typst_lines.proofs.LineTable.{width-positive}
 use Rattle.typst_tree.specs.Tree.{Tree, forest, trees, text_of, bare}
 use Rattle.typst_tree.proofs.SpansAside.{trees_forest}
 use Rattle.typst_tokens.specs.Sight.{width}
-use Rattle.typst_language.specs.Hand.{utf8_ahead}
-use Rattle.typst_language.specs.Meaning.{Outcome, start_point}
-use Rattle.typst_language.specs.Point.{point_of}
-use Rattle.typst_language.proofs.Leaves.{texts, texts-append, texts-one, text-add}
+use Rattle.typst_language.proofs.Leaves.{texts}
 use Rattle.typst_candidates.specs.Candidates as candidate
 use Rattle.typst_candidates.specs.Candidates.{Candidate}
 use Rattle.typst_candidates.specs.Units.{top_cuts}
-use Rattle.typst_grammar.specs.Markup.{markup_reading}
-use Rattle.typst_grammar.specs.Grammar.{rules, max_depth, start_of, whole, parsed, log, tree}
-use Rattle.typst_grammar.proofs.InRuns.{lawful-block}
+use Rattle.typst_grammar.specs.Grammar.{max_depth, start_of, parsed, log, tree}
 use Rattle.typst_edits.specs.Answer.{candidates}
 use Rattle.typst_edits.specs.Edit.{Among}
 use Rattle.typst_edits.specs.Hole.{Deep, fill, Hole, plug, path_in, path_of}
 use Rattle.typst_edits.specs.Hole.Deep.{bare as alone, under}
-use Rattle.typst_edits.specs.Laws.{blocks_of_text, block_at}
-use Rattle.typst_edits.specs.Named.{Named}
 use Rattle.typst_edits.specs.PieceNotes.{listed}
-use Rattle.typst_edits.specs.Spot.{Spot, ended, unit_at}
+use Rattle.typst_edits.specs.Spot.{Spot, unit_at}
 use Rattle.typst_edits.proofs.BareCandidates.{bare-candidates-law}
-use Rattle.typst_edits.proofs.Blocks.{ends}
 use Rattle.typst_edits.proofs.CandidateBlocks.{BlockAt, all-find}
-use Rattle.typst_edits.proofs.Clear.{Clear, clear-level}
 use Rattle.typst_edits.proofs.Edit.{among}
-use Rattle.typst_edits.proofs.Fitting.{no-front}
-use Rattle.typst_edits.proofs.Inside.{Lawful}
-use Rattle.typst_edits.proofs.Law.{inside-level}
-use Rattle.typst_edits.proofs.Names.{named-level}
-use Rattle.typst_edits.proofs.Placed.{deep_text, left_text, Placed, placed-level}
-use Rattle.typst_edits.proofs.Walk.{moved-long, width-encodes}
+use Rattle.typst_edits.proofs.Placed.{deep_text, left_text}
+use Rattle.typst_edits.proofs.SpotPlaces.{SpotPlace}
 
 -- ---- two holes by the same path
 
-abbrev first_or : {X : Type 0} → X → List X → X
+abbrev pub first_or : {X : Type 0} → X → List X → X
 first_or x [] = x
 first_or x (y ∷ ys) = y
 
-abbrev but_first : {X : Type 0} → List X → List X
+abbrev pub but_first : {X : Type 0} → List X → List X
 but_first [] = []
 but_first (y ∷ ys) = ys
 
@@ -94,73 +80,6 @@ take-same (suc m) zero [] h k e = absurd (omega (arith, h))
 take-same (suc m) zero (x ∷ xs) h k e = absurd (omega (arith, e, width-positive x))
 take-same (suc m) (suc n) [] h k e = absurd (omega (arith, h))
 take-same (suc m) (suc n) (x ∷ xs) h k e = let i = take-same m n xs (omega (arith, h)) (omega (arith, k)) (omega (arith, e)) in omega (arith, i)
-
--- ---- a block of a text
-
--- where it stands: its node is in its hole, and one that isn't empty begins and ends where the block does
-pub record SpotPlace (k : CharClasses) (text : List ℕ) (s : Spot (Unit {0})) : Type 0 where
-  pub nodes : (parsed k max_depth text).nodes ≡ plug s.hole s.node
-  pub room : s.at + (unit_at s (start_of text)).taken ≤ max s.at (length text)
-  pub left : 0 < length (text_of s.node) → length (left_text s.hole) ≡ width (take s.at text)
-  pub left_taken : 0 < (unit_at s (start_of text)).taken → length (left_text s.hole) ≡ width (take s.at text)
-  pub both : 0 < length (text_of s.node) → width (take s.at text) + length (text_of s.node) ≡ width (take (s.at + (unit_at s (start_of text)).taken) text)
-  pub front : 0 < length (text_of s.node) → s.front ≡ []
-
-append-none : (xs : List ℕ) → xs ++ [] ≡ xs
-append-none [] = refl
-append-none (x ∷ xs) = ap (λ ys. x ∷ ys) (append-none xs)
-
--- what takes nothing has an empty last node
-some-taken : (n : ℕ) (z : Place) (ts : List Tree) (t : Tree) → texts (ts ++ t ∷ []) ≡ utf8_ahead n z → 0 < length (text_of t) → 0 < n
-some-taken zero z ts t e h =
-    let a = ap length (texts-append ts (t ∷ [])) in
-    let b = length-append (texts ts) (texts (t ∷ [])) in
-    let d = ap length (texts-one t) in
-    let f = ap length e in
-    let nothing : List ℕ = [] in
-    let g : length nothing ≡ 0 = omega arith in
-    absurd (omega (arith, a, b, d, f, g, h))
-some-taken (suc n) z ts t e h = omega arith
-
-pub spot-place : (k : CharClasses) (text : List ℕ) (s : Spot (Unit {0})) → Among s (blocks_of_text k text) → SpotPlace k text s
-unfolding blocks_of_text
-spot-place k text c there =
-    let z = start_of text in
-    let s = start_point markup_reading in
-    let o = parsed k max_depth text in
-    let u = unit_at c z in
-    let y = moved c.at z in
-    let p = point_of c.start in
-    let l = among (Lawful z z o o) c _ there (inside-level (rules k) k (ends k) max_depth whole z z s) in
-    let n = among (Named (block_at k) max_depth) c _ there (named-level (rules k) k max_depth whole z s) in
-    let clear = among (Clear k z) c _ there (clear-level (rules k) k max_depth whole z s tt) in
-    let placed = among (Placed z s) c _ there (placed-level (rules k) k max_depth whole z s tt) in
-    let levels = max_depth - c.fewer in
-    let laws = lawful-block k c.name in
-    let read : u ≡ ended (block_at k levels c.name y p) = ap (λ r. r y p) n.reads in
-    let all : texts (c.front ++ c.node ∷ []) ≡ utf8_ahead u.taken y =
-    ap texts (sym l.fits.nodes) ∙ ap (λ (q : Outcome (Unit {0})). texts q.nodes) read ∙ (laws.leaves levels y p tt).text ∙ ap (λ (q : Outcome (Unit {0})). utf8_ahead q.taken y) (sym read) in
-    let none = λ (h : 0 < length (text_of c.node)). no-front k max_depth c z n clear l.fits (some-taken u.taken y c.front c.node all h) in
-    let held = λ (h : 0 < length (text_of c.node)). sym (texts-one c.node) ∙ ap (λ ts. texts (ts ++ c.node ∷ [])) (sym (none h)) ∙ all in
-    let before = λ (none_before : c.front ≡ []). placed.left ∙ ap (λ ts. utf8_ahead c.at z ++ texts ts) none_before ∙ append-none (utf8_ahead c.at z) in
-    let inside : u.taken ≤ max 0 (length y.ahead) = subst (λ (q : Outcome (Unit {0})). q.taken ≤ max 0 (length y.ahead)) (sym read) (within-is _ _ _ (laws.within levels y p)) in
-    let long = moved-long c.at z in
-    record {
-      nodes = ap (λ (q : Outcome (Unit {0})). q.nodes) l.old;
-      room = omega (arith, inside, long);
-      left = λ h. ap length (before (none h)) ∙ width-encodes (take c.at text);
-      left_taken = λ h. ap length (before (no-front k max_depth c z n clear l.fits h)) ∙ width-encodes (take c.at text);
-      both = λ h. (let a = ap length (held h) in
-          let b = width-encodes (take c.at text) in
-          let d = width-encodes (take (c.at + u.taken) text) in
-          let e = ap length (text-add c.at u.taken z) in
-          let f = length-append (utf8_ahead c.at z) (utf8_ahead u.taken y) in
-          omega (arith, a, b, d, e, f));
-      front = none;
-    }
-  where
-    within-is : (a b c : ℕ) → a + b ≤ c → a ≤ c
-    within-is a b c h = omega (arith, h)
 
 -- ---- a block candidate
 

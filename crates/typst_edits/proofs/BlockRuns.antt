@@ -32,7 +32,7 @@ use Rattle.typst_edits.specs.Spot.{ended, unit_at}
 use Rattle.typst_edits.specs.BlockRuns.{inner, look_first, look_again, bracket, inner_lead, inner_run, inner_tail, inner_close, run_of, body_of, content_of, content_with, run_at, tail_at, close_at, left_at, InnerLaw}
 use Rattle.typst_edits.proofs.Edit.{before-same, after-same, same_in-to}
 use Rattle.typst_edits.proofs.Runs.{repeated-chain, made-same, chain-state, chain-taken, moved-three, moved-four}
-use Rattle.typst_edits.proofs.Text.{block-law, names-law}
+use Rattle.typst_edits.proofs.Text.{block-law, content-reads}
 
 -- ---- any run
 
@@ -222,9 +222,7 @@ inner-law k levels front old new rest c i n m past among h =
     let close_is : close_at k levels i m c w0 ≡ close =
     ap (λ a. shut_at k levels a (tail_at k levels i m c w0).state) v2_is ∙ ap (λ (o : Outcome (Unit {0})). shut_at k levels v2 o.state) tail_is
     ∙ (sane k levels (close_if (same kind.RightBracket))).framed y2 v2 (after_node false [] tail.state) (subst (λ (o : Outcome Bool). SameIn o.asks y2 v2) close_old last) ∙ sym close_old in
-    let named = names-law k (front ++ (old ++ rest)) c among in
-    let reads : (a : Place) → unit_at c a ≡ ended (block_at k (suc levels) block.Content (moved c.at a) s) = λ a.
-    ap (λ o. o (moved c.at a) s) named.reads ∙ ap (λ l. ended (block_at k l c.name (moved c.at a) s)) h.pieces.level ∙ ap (λ x. ended (block_at k (suc levels) x (moved c.at a) s)) h.pieces.name in
+    let reads = content-reads k (front ++ (old ++ rest)) c among levels h.pieces.name h.pieces.level in
     let ended_of = λ (o : Outcome (Unit {0})). ended o in
     let was = reads z0 ∙ ap ended_of (content-split k levels z s i n h.pieces.first_go h.pieces.old_go) in
     let now = reads w0 ∙ ap ended_of (content-split k levels w s i m new_first h.pieces.new_go)

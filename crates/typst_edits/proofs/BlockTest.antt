@@ -18,7 +18,7 @@ use Rattle.typst_language.specs.Ask.Ask.{looked, marked}
 use Rattle.typst_language.specs.Log.{Log, no_log, with_hull, with_note, logged}
 use Rattle.typst_language.specs.Meaning.{Outcome, start_point}
 use Rattle.typst_language.specs.Point.{point_of}
-use Rattle.typst_language.proofs.Places.{moved-sum}
+use Rattle.typst_language.proofs.Places.{moved-sum, ahead-left}
 use Rattle.typst_candidates.specs.declared.entry.Entry.{Entry}
 use Rattle.typst_candidates.specs.declared.entry.Tag.{Tag}
 use Rattle.typst_candidates.specs.declared.entry.Tag.TheVariants as tag
@@ -50,7 +50,7 @@ use Rattle.typst_edits.specs.Spot.{Spot, ended, last_node, unit_at}
 use Rattle.typst_edits.specs.Standing.{seconds_of_text, IsOf, Stems, from_unit, from_second, place_of}
 use Rattle.typst_edits.proofs.BlockModes.{mode-law}
 use Rattle.typst_edits.proofs.BlockPart.{block-part-law}
-use Rattle.typst_edits.proofs.BlockPlaces.{SpotPlace, Meets, candidate-at, early-by, hole-same, late-by, meets, some-node, spot-place, take-same}
+use Rattle.typst_edits.proofs.BlockPlaces.{Meets, candidate-at, early-by, hole-same, late-by, meets, some-node, take-same}
 use Rattle.typst_edits.proofs.BlockSplice.{block-splice-law}
 use Rattle.typst_edits.proofs.Bytes.{decision-law, noted-by, noted-more}
 use Rattle.typst_edits.proofs.CandidateBlocks.{BlockAt}
@@ -62,10 +62,11 @@ use Rattle.typst_edits.proofs.Names.{named-level}
 use Rattle.typst_edits.proofs.NestedBlocks.{nested-block-law}
 use Rattle.typst_edits.proofs.OpensApart.{opens-apart-law, opens-directly}
 use Rattle.typst_edits.proofs.SecondPlaces.{second-place}
+use Rattle.typst_edits.proofs.SpotPlaces.{SpotPlace, spot-place}
 use Rattle.typst_edits.proofs.StandingLevels.{standing-law}
 use Rattle.typst_edits.proofs.Text.{block-law}
 use Rattle.typst_edits.proofs.UnnotedLevels.{unnoted-law}
-use Rattle.typst_edits.proofs.Walk.{moved-long, width-over}
+use Rattle.typst_edits.proofs.Walk.{width-over}
 use Rattle.typst_edits.proofs.Widths.{width-append, width-moved}
 
 -- ---- a block's numbers
@@ -228,7 +229,7 @@ module _ (k : CharClasses) (front old new rest : List ℕ) where
   alone-room s =
       let w = text_with front new rest in
       let y = moved s.at w in
-      let long = moved-long s.at w in
+      let long = ahead-left s.at w in
       let inside = within-is _ _ _ ((lawful-block k s.name).within (max_depth - s.fewer) y (start_point (record { mode = s.start.held.mode; at_newline = newline.Continue }))) in
       (let r : (alone s).taken ≤ max 0 (length y.ahead) = inside in omega (arith, r, long))
     where

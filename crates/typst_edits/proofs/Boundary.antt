@@ -22,6 +22,7 @@ use Rattle.typst_language.proofs.Ends.{hand-again}
 use Rattle.typst_language.proofs.Places.{moved-sum}
 use Rattle.typst_grammar.specs.Markup.{ends, note_piece, markup_turn, markup_reading}
 use Rattle.typst_grammar.specs.Grammar.{rules, max_depth, start_of, whole, parsed, log}
+pub use Rattle.typst_grammar.proofs.Fine.{and-left as first-of}
 use Rattle.typst_edits.specs.Bytes.{highest, lowest}
 use Rattle.typst_edits.specs.Edit.{AllEndBy}
 use Rattle.typst_edits.specs.Runs.{made, AllGo, End, end_of, asks_of, chain}
@@ -194,10 +195,6 @@ module _ (l : Level) (stops : SyntaxKind → Bool) (x : Bool × ℕ) (z : Place)
   turn-known h = known-by (ends stops x.1 ahead.kind) refl h
 
 -- ---- several pieces
-
-pub first-of : (b c : Bool) → (b && c) ≡ true → b ≡ true
-first-of true c h = refl
-first-of false c h = cc
 
 later-ends : (asks ls looks : List Ask) (a b : ℕ) (x : Bool × ℕ) (s : Point) → Ends asks b x s looks → Ends (ls ++ shift a asks) (a + b) x s looks
 later-ends asks ls looks a b x s e =

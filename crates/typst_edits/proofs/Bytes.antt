@@ -9,11 +9,12 @@ use Rattle.typst_language.specs.declared.calls.Note.{Note}
 use Rattle.typst_language.specs.declared.reading.State.{State}
 use Rattle.typst_language.specs.Ask.{Ask, shift}
 use Rattle.typst_language.specs.Ask.Ask.{looked, marked}
-use Rattle.typst_language.specs.Log.{Log, no_log, least_behind, reach_behind, with_more, with_hull, with_note, logged_one, logged}
+use Rattle.typst_language.specs.Log.{Log, no_log, least_behind, reach_behind, with_more, with_hull, with_note, logged}
 use Rattle.typst_language.specs.Meaning.{start_point}
 use Rattle.typst_language.specs.Point.{state_of}
 use Rattle.typst_grammar.specs.Markup.{markup_reading}
 use Rattle.typst_grammar.specs.Grammar.{rules, max_depth, start_of, whole, parsed, log}
+pub use Rattle.typst_language.proofs.Logs.{logged-append}
 use Rattle.typst_edits.specs.Bytes.{highest, lowest, Decided, DecisionLaw}
 use Rattle.typst_edits.specs.Splice.{notes_in}
 use Rattle.typst_edits.specs.Edit.{text_with, AllEndBy, AllBeginIn}
@@ -31,10 +32,6 @@ use Rattle.typst_edits.proofs.Widths.{width-none, width-append, width-onto, widt
 use Rattle.typst_edits.proofs.Within.{AllAt, at-first, at-second, in-level}
 
 -- ---- the log of asks one behind the other
-
-pub logged-append : (lv : ℕ) (z : Place) (h : Log) (ls ks : List Ask) → logged lv z h (ls ++ ks) ≡ logged lv z (logged lv z h ls) ks
-logged-append lv z h [] ks = refl
-logged-append lv z h (ask ∷ ls) ks = logged-append lv z (logged_one lv z h ask) ls ks
 
 -- so many notes more
 pub record Noted (ns : List Note) (h : Log) : Type 0 where

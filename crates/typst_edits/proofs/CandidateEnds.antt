@@ -4,7 +4,6 @@ use Rattle.std.specs.Prelude.{nat_lt, nat_le}
 use Rattle.std.proofs.lemmas.Bool.Decides.{nat_tests}
 use borrow.Author.Tests.{ltb-true, lt-ltb}
 use Rattle.typst_kinds.specs.Kinds.{same, is_trivia, is_error}
-use Rattle.typst_kinds.specs.declared.kind.SyntaxKind.{SyntaxKind}
 use Rattle.typst_kinds.specs.declared.kind.SyntaxKind.TheVariants as kind
 use Rattle.typst_tree.specs.Tree.{Tree, text_of}
 use Rattle.typst_language.specs.Meaning.{Outcome, plain, less}
@@ -12,6 +11,8 @@ use Rattle.typst_language.specs.Point.{Trivia, Point, pending}
 use Rattle.typst_language.proofs.Places.{less-none}
 use Rattle.typst_candidates.specs.Candidates as candidate
 use Rattle.typst_candidates.specs.Candidates.{Child, laid, ended, first_near, end_near, clings, is_sign, is_hash, is_among, leads, holds_at, back_past, on_past, with_hash, Stretch, around, begins}
+use Rattle.typst_candidates.proofs.Rows.{begins_least as begins-from}
+use Rattle.typst_grammar.proofs.Missing.{error-kind as error-is}
 use Rattle.typst_edits.specs.Children.{together}
 use Rattle.typst_edits.specs.Every.{Every}
 use Rattle.typst_edits.specs.Frame.{is_over}
@@ -45,11 +46,6 @@ pub record ChildAt (from : ℕ) (ts : List Tree) (index : ℕ) : Type 0 where
   pub begin : begins from ts index ≡ at
   pub past : (n : ℕ) → index < n → at + length (text_of node) ≤ begins from ts n
   pub holds : (f : Child → Bool) → holds_at f (laid from ts) index ≡ f (child at node)
-
-begins-from : (from : ℕ) (ts : List Tree) (n : ℕ) → from ≤ begins from ts n
-begins-from from [] n = omega arith
-begins-from from (t ∷ ts) zero = omega arith
-begins-from from (t ∷ ts) (suc n) = omega (arith, begins-from (from + length (text_of t)) ts n)
 
 past-first : (from : ℕ) (t : Tree) (ts : List Tree) (n : ℕ) → 0 < n → from + length (text_of t) ≤ begins from (t ∷ ts) n
 past-first from t ts zero h = absurd (omega (arith, h))
@@ -167,10 +163,6 @@ on-stop f (suc limit) n h = by-test (f n) refl h (on-stop f limit (suc n))
 -- trivia and errors cling to what stands before them, and are no hash
 abbrev pub Quiet : Tree → Type 0
 Quiet t = (clings t ≡ true) × (is_hash t ≡ false)
-
-error-is : (i : SyntaxKind) → is_error i ≡ true → i ≡ kind.Error
-error-is kind.Error h = refl
-error-is _ h = absurd (cc)
 
 pub error-quiet : (t : Tree) → is_error t.head.kind ≡ true → Quiet t
 error-quiet t h =
@@ -451,7 +443,7 @@ pub record Begun (r : Sequence) (from : ℕ) (ts : List Tree) (i n start end : �
   pub next : is_over i n r ≡ false → StandsAt from ts s.to end
   pub last : is_over i n r ≡ true → s.to ≡ length ts
 
-some-by : (n : ℕ) → (n ≡ 0 → ⊥) → 0 < n
+pub some-by : (n : ℕ) → (n ≡ 0 → ⊥) → 0 < n
 some-by zero f = absurd (f refl)
 some-by (suc n) f = omega arith
 

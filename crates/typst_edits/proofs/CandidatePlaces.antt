@@ -13,6 +13,7 @@ use Rattle.typst_tree.specs.Replace.{At, Reaches}
 use Rattle.typst_tree.specs.Laws.{start_at, or_none}
 use Rattle.typst_candidates.specs.Units.{top_cuts}
 use Rattle.typst_candidates.specs.Candidates.{Child, laid, begun, ended, first_near, end_near, clings, is_hash, leads, child_at, holds_at, back_past, on_past, with_hash, Stretch, from_of, to_of, around, is_all, stretches, Candidate, begins, of_children, of_stretches, of_run, covers, run_in, of_block, candidates_at, candidates}
+pub use Rattle.typst_candidates.proofs.Rows.{laid_length as length-laid}
 use Rattle.typst_edits.proofs.Edit.{among}
 use Rattle.typst_edits.proofs.Replaced.{replaced-law}
 use Rattle.typst_edits.proofs.Every.{every-append, every-by, every-if}
@@ -27,10 +28,6 @@ begins-at at [] (suc n) = omega arith
 begins-at at (t ∷ ts) zero = omega arith
 begins-at at (t ∷ ts) (suc n) =
     omega (arith, begins-at (at + length (text_of t)) ts n, length-append t.head.text (joined t.kids ++ joined (forest (take n ts))), length-append (joined t.kids) (joined (forest (take n ts))), length-append t.head.text (joined t.kids))
-
-pub length-laid : (at : ℕ) (ts : List Tree) → length (laid at ts) ≡ length ts
-length-laid at [] = refl
-length-laid at (t ∷ ts) = ap suc (length-laid (at + length (text_of t)) ts)
 
 got-laid : (at : ℕ) (ts : List Tree) (n : ℕ) → slice_get ts n ≡ option_map (λ (c : Child). c.node) (child_at (laid at ts) n)
 got-laid at [] n = refl

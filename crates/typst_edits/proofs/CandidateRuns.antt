@@ -16,9 +16,10 @@ use Rattle.typst_edits.specs.Leading.{bytes_of, token_byte}
 use Rattle.typst_edits.specs.NumberedNotes.{cut_behind}
 use Rattle.typst_edits.specs.Runs.{AllGo, End}
 use Rattle.typst_edits.specs.Sequence.{Sequence, first_of, first_end, then_of, then_end}
+use Rattle.typst_edits.proofs.BlockPlaces.{early-by as sooner}
 use Rattle.typst_edits.proofs.Boundary.{KnownAt}
 use Rattle.typst_edits.proofs.CandidateEnds.{stretch, begins-last, from-less, from-cut, from-early, to-cut, to-late}
-use Rattle.typst_edits.proofs.InnerCandidates.{sooner, as-far}
+use Rattle.typst_edits.proofs.InnerCandidates.{as-far}
 use Rattle.typst_edits.proofs.InnerCuts.{CutOf}
 use Rattle.typst_edits.proofs.MarkupCandidates.{OfStretch}
 use Rattle.typst_edits.proofs.OneReading.{go-first, go-second, first-split, end-split-at}

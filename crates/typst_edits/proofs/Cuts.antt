@@ -1,47 +1,39 @@
 -- Behind more pieces of a run the next token begins further on.
-use Rattle.std.proofs.Common.{◌≡◌, ℕ, zero, suc, ◌+◌, ◌<◌, ◌≤◌, ◌==◌, ne_eqb, Bool, true, false, List, length, take, Some, refl, ap, sym, arith}
-use Rattle.typst_kinds.specs.declared.kind.SyntaxKind.TheVariants as kind
+use Rattle.std.proofs.Common.{◌≡◌, ℕ, zero, suc, ◌+◌, ◌<◌, ◌≤◌, Bool, true, List, length, take, refl, ap, sym, arith}
 use Rattle.typst_lines.specs.Classes.{CharClasses}
 use Rattle.typst_lines.specs.Place.{Place, moved}
 use Rattle.typst_tokens.specs.Sight.{width}
-use Rattle.typst_language.specs.declared.calls.Block.{Block}
-use Rattle.typst_language.specs.Calls.{Call}
-use Rattle.typst_language.specs.Calls.Call.{MarkupExpr}
-use Rattle.typst_language.specs.declared.reading.Reading.{Reading}
-use Rattle.typst_language.specs.Hand.{told, len_at, hand_at}
-use Rattle.typst_language.specs.Point.{Trivia, Point, gap_of, point_of}
+use Rattle.typst_language.specs.Hand.{told}
+use Rattle.typst_language.specs.Point.{Point, gap_of, point_of}
 use Rattle.typst_language.specs.Steps.{peek}
 use Rattle.typst_language.specs.Meaning.{Meaning, bound, hand_of, start_point, run}
-use Rattle.typst_language.specs.Sound.{Stands, Within}
-use Rattle.typst_language.proofs.Knot.{Sane, sane-at, sane-run, sane-meaning, sane-block, sane-plain}
+use Rattle.typst_language.specs.Sound.{Within}
+use Rattle.typst_language.proofs.Knot.{sane-at, sane-run}
 use Rattle.typst_language.proofs.Places.{ahead-left, moved-sum}
 use Rattle.typst_grammar.specs.declared.part.RunKind.TheVariants as of
-use Rattle.typst_grammar.specs.Markup.{ends, markup_turn, markup_head, markup_reading}
+use Rattle.typst_grammar.specs.Markup.{ends, markup_turn, markup_reading}
 use Rattle.typst_grammar.specs.Pieces.{stops_of, first_look}
-use Rattle.typst_grammar.specs.Grammar.{rules, max_depth, level_at, start_of}
-use Rattle.typst_edits.specs.BlockRuns.{inner, bracket, run_at, opened_at}
+use Rattle.typst_grammar.specs.Grammar.{rules, max_depth, start_of}
+use Rattle.typst_edits.specs.BlockRuns.{bracket, run_at, opened_at}
 use Rattle.typst_edits.specs.InnerBytes.{inner_end}
 use Rattle.typst_edits.specs.InnerPiecesTest.{level_in, end_alone}
-use Rattle.typst_edits.specs.Joint.{minds, text_run}
+use Rattle.typst_edits.specs.Joint.{text_run}
 use Rattle.typst_edits.specs.NumberedNotes.{cut_behind, CutsLaw, InnerCutsLaw}
 use Rattle.typst_edits.specs.Runs.{made, AllGo, End, end_of, end_at, pieces, start}
 use Rattle.typst_edits.specs.Sequence.{Sequence, turn_of, first_of, first_end}
 use Rattle.typst_edits.specs.Spot.{Spot}
 use Rattle.typst_edits.proofs.BlockRuns.{sane as in-sane}
-use Rattle.typst_edits.proofs.Boundary.{KnownAt, made-add, looks_in, each-ends}
-use Rattle.typst_edits.proofs.Fronts.{Begins, begins-call}
-use Rattle.typst_edits.proofs.Leading.{turn-fronts, not-over, known-from}
+use Rattle.typst_edits.proofs.Boundary.{made-add, looks_in, each-ends}
+use Rattle.typst_edits.proofs.Leading.{Leads, text-leads, block-leads, turn-fronts, not-over, known-from}
 use Rattle.typst_edits.proofs.NumberedNotes.{cut-from}
 use Rattle.typst_edits.proofs.NoteNumbers.{go-fewer, go-next, turns-within, take-longer}
 
-module _ (r : Sequence) (sd : (c : Call) → Sane (r.level.deeper c)) (sb : (b : Block) → Sane (r.level.blocks b)) (deep : (r.level.levels == 0) ≡ false) (end_stops : r.stops kind.End ≡ true)
-    (call : (h : Reading) (z : Place) (t : Trivia) (x : Bool × ℕ) → 0 < len_at r.level.classes h.mode (moved t.gap z) → Begins h z t (minds (markup_head x.0 x.1 (hand_at r.level.classes h (Some t) z).kind)) (r.level.deeper (MarkupExpr x.0 x.1)))
-    (stands : Stands r.place r.point.known) (known : KnownAt r.point) where
+module _ (r : Sequence) (leads : Leads r) where
   abbrev turn : Bool × ℕ → Meaning (Bool × (Bool × ℕ))
   turn x = turn_of r x
 
   within : (x : Bool × ℕ) → Within (turn x)
-  within x = (sane-run r.level sd sb (markup_turn true r.stops x)).within
+  within x = (sane-run r.level leads.deeper leads.blocks (markup_turn true r.stops x)).within
 
   -- a piece takes more than the trivia before it
   next-cut : (i : ℕ) → AllGo (first_of (suc i) r) → (first_end i r).taken + gap_of (first_end i r).state.known < (first_end (suc i) r).taken
@@ -49,10 +41,10 @@ module _ (r : Sequence) (sd : (c : Call) → Sane (r.level.deeper c)) (sb : (b :
       let e = first_end i r in
       let w = moved e.taken r.place in
       let o = turn e.value w e.state in
-      let there = known-from r sd sb deep end_stops call stands known i (true, 0) r.place r.point known (go-fewer turn within i (suc i) (true, 0) r.place r.point (omega arith) g) in
+      let there = known-from r leads i (true, 0) r.place r.point leads.known (go-fewer turn within i (suc i) (true, 0) r.place r.point (omega arith) g) in
       let go = go-next turn within i (true, 0) r.place r.point g in
-      let not_stopped = not-over r sd sb deep end_stops call stands known e.value w e.state (ends r.stops e.value.1 (told (hand_of r.level w e.state)).kind) refl go in
-      let past = (turn-fronts r sd sb deep end_stops call stands known e.value w e.state there.trivia there.is not_stopped).some in
+      let not_stopped = not-over r leads e.value w e.state (ends r.stops e.value.1 (told (hand_of r.level w e.state)).kind) refl go in
+      let past = (turn-fronts r leads e.value w e.state there.trivia there.is not_stopped).some in
       let gap = ap gap_of there.is in
       let one : suc i ≡ i + 1 = omega arith in
       let next = ap (λ n. (first_end n r).taken) one in
@@ -93,16 +85,10 @@ unfolding run
 cuts-law k text i j l g =
     let z = start_of text in
     let r = text_run k z in
-    let sd = sane-meaning (rules k) k max_depth in
-    let sb = sane-block (rules k) k max_depth in
-    let peeked = sane-at (rules k) k max_depth peek in
-    let begins : (h : Reading) (z : Place) (t : Trivia) (x : Bool × ℕ) → 0 < len_at k h.mode (moved t.gap z) → Begins h z t (minds (markup_head x.0 x.1 (hand_at k h (Some t) z).kind)) ((level_at k max_depth).deeper (MarkupExpr x.0 x.1)) =
-    λ h z t x more. begins-call k 255 h z t x.0 x.1 more in
-    let stands = (peeked.kept z start tt).known in
-    let known : KnownAt r.point = record { trivia = _; is = refl } in
-    let room = peeked.within z start in
-    let most = cuts-within r sd sb refl refl begins stands known j in
-    take-longer (cut_behind i (first_end i r)) (cut_behind j (first_end j r)) text (cuts-rise r sd sb refl refl begins stands known i j l g) (omega (arith, room, most))
+    let leads = text-leads k z in
+    let room = (sane-at (rules k) k max_depth peek).within z start in
+    let most = cuts-within r leads j in
+    take-longer (cut_behind i (first_end i r)) (cut_behind j (first_end j r)) text (cuts-rise r leads i j l g) (omega (arith, room, most))
 
 -- and so does the token behind fewer pieces, be it none
 pub token-cuts : (k : CharClasses) (text : List ℕ) (i j : ℕ) → i < j → AllGo (pieces k j (start_of text))
@@ -111,16 +97,10 @@ unfolding run
 token-cuts k text i j l g =
     let z = start_of text in
     let r = text_run k z in
-    let sd = sane-meaning (rules k) k max_depth in
-    let sb = sane-block (rules k) k max_depth in
-    let peeked = sane-at (rules k) k max_depth peek in
-    let begins : (h : Reading) (z : Place) (t : Trivia) (x : Bool × ℕ) → 0 < len_at k h.mode (moved t.gap z) → Begins h z t (minds (markup_head x.0 x.1 (hand_at k h (Some t) z).kind)) ((level_at k max_depth).deeper (MarkupExpr x.0 x.1)) =
-    λ h z t x more. begins-call k 255 h z t x.0 x.1 more in
-    let stands = (peeked.kept z start tt).known in
-    let known : KnownAt r.point = record { trivia = _; is = refl } in
-    let room = peeked.within z start in
-    let most = cuts-within r sd sb refl refl begins stands known j in
-    take-longer ((end_at k i z).taken + gap_of (end_at k i z).state.known) (cut_behind j (first_end j r)) text (tokens-rise r sd sb refl refl begins stands known i j l g) (omega (arith, room, most))
+    let leads = text-leads k z in
+    let room = (sane-at (rules k) k max_depth peek).within z start in
+    let most = cuts-within r leads j in
+    take-longer ((end_at k i z).taken + gap_of (end_at k i z).state.known) (cut_behind j (first_end j r)) text (tokens-rise r leads i j l g) (omega (arith, room, most))
 
 pub inner-cuts-law : InnerCutsLaw
 unfolding run
@@ -128,18 +108,10 @@ inner-cuts-law k levels text c i j l g =
     let z = start_of text in
     let r = run_at k levels c z in
     let a = opened_at k levels c z in
-    let sd = sane-meaning (rules k) k (suc levels) in
-    let sb : (b : Block) → Sane ((inner k levels).blocks b) = λ b. sane-plain tt in
-    let deep : (suc levels == 0) ≡ false = ne_eqb (suc levels) 0 (omega arith) in
-    let b = (bracket k levels (moved c.at z) (point_of c.start)).state in
-    let peeked = in-sane k levels peek in
-    let begins : (h : Reading) (z : Place) (t : Trivia) (x : Bool × ℕ) → 0 < len_at k h.mode (moved t.gap z) → Begins h z t (minds (markup_head x.0 x.1 (hand_at k h (Some t) z).kind)) ((inner k levels).deeper (MarkupExpr x.0 x.1)) =
-    λ h z t x more. begins-call k levels h z t x.0 x.1 more in
-    let stands = (peeked.kept r.place b tt).known in
-    let known : KnownAt r.point = record { trivia = _; is = refl } in
-    let room = peeked.within r.place b in
-    let most = cuts-within r sd sb deep refl begins stands known j in
-    let more = cuts-rise r sd sb deep refl begins stands known i j l g in
+    let leads = block-leads k levels (moved c.at z) (point_of c.start) in
+    let room = (in-sane k levels peek).within r.place (bracket k levels (moved c.at z) (point_of c.start)).state in
+    let most = cuts-within r leads j in
+    let more = cuts-rise r leads i j l g in
     let there : r.place ≡ moved a z = sym (moved-sum c.at (bracket k levels (moved c.at z) (point_of c.start)).taken z) in
     let left = ahead-left a z in
     let long = ap (λ (y : Place). length y.ahead) there in

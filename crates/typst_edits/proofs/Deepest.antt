@@ -1,9 +1,7 @@
 -- A content block in which no level is left notes nothing, so where notes say that pieces stand in a block a level is left.
-use Rattle.std.proofs.Common.{◌≡◌, ℕ, zero, suc, ◌+◌, ◌-◌, ◌==◌, eq-eqb, Bool, true, false, ◌&&◌, if◌then◌else◌, List, [], ◌∷◌, ◌++◌, length, take, Some, None, refl, ap, sym, ◌∙◌, subst, arith}
+use Rattle.std.proofs.Common.{◌≡◌, ℕ, zero, suc, ◌-◌, ◌==◌, eq-eqb, Bool, true, false, ◌&&◌, List, [], ◌∷◌, ◌++◌, length, take, Some, None, refl, ap, sym, ◌∙◌, arith}
 use Rattle.std.specs.Prelude.{Option, nat_lt}
-use Rattle.typst_kinds.specs.Kinds.{same}
 use Rattle.typst_kinds.specs.declared.kind.SyntaxKind.{SyntaxKind}
-use Rattle.typst_kinds.specs.declared.kind.SyntaxKind.TheVariants as kind
 use Rattle.typst_lines.specs.Place.{Place, moved}
 use Rattle.typst_lines.specs.Classes.{CharClasses}
 use Rattle.typst_tokens.specs.Sight.{width}
@@ -17,9 +15,9 @@ use Rattle.typst_language.specs.Knot.{meaning_of}
 use Rattle.typst_language.specs.Meaning.{Outcome, Meaning, Level, blockless, bound, joined, as_last, turns, repeated, start_point, run}
 use Rattle.typst_language.specs.Point.{Point, point_of}
 use Rattle.typst_language.specs.Shape.{Shape, Making}
-use Rattle.typst_language.specs.Steps.{peek, eat_making, eat, close_if, flush_trivia, within, node, node_with_trivia}
+use Rattle.typst_language.specs.Steps.{peek, eat_making, eat, flush_trivia, within, node, node_with_trivia}
 use Rattle.typst_language.specs.Syntax.{Parser, Begin, ◌>>◌}
-use Rattle.typst_language.specs.Syntax.Op.{hand, takes, flushes}
+use Rattle.typst_language.specs.Syntax.Op.{takes}
 use Rattle.typst_language.specs.Syntax.Parser.{gives, does, next, repeat, wraps, scoped}
 use Rattle.typst_language.proofs.Within.{on_both}
 use Rattle.typst_candidates.specs.Units.{opens_content, is_closing, starts, up_to_end, behind_first, cuts_in}
@@ -28,7 +26,6 @@ use Rattle.typst_grammar.specs.Grammar.{rules, max_depth, start_of, whole, log}
 use Rattle.typst_edits.specs.Edit.{Among}
 use Rattle.typst_edits.specs.Laws.{blocks_of_text, block_at}
 use Rattle.typst_edits.specs.Named.{Named}
-use Rattle.typst_edits.specs.Nested.{NestedBlock}
 use Rattle.typst_edits.specs.OpensApart.{OpensApartLaw}
 use Rattle.typst_edits.specs.PieceNotes.{listed}
 use Rattle.typst_edits.specs.Splice.{notes_in}

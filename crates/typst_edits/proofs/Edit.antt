@@ -1,12 +1,13 @@
 -- A stretch of a text replaced: what ends before it and what begins after it shows the same.
 use Rattle.std.proofs.Common.{◌≡◌, ℕ, zero, suc, ◌+◌, ◌≤◌, List, [], ◌∷◌, ◌++◌, length, take, Some, refl, ap, sym, ◌∙◌, arith}
-use Rattle.typst_tree.specs.Tree.{Tree, forest, trees}
+use Rattle.typst_tree.specs.Tree.{Tree, forest}
 use Rattle.typst_lines.specs.Place.{Place, moved}
 use Rattle.typst_tokens.specs.Reader.{Look, Agree, marked as ended_by_mark}
 use Rattle.typst_language.specs.Ask.{Ask, SameIn}
 use Rattle.typst_language.specs.Ask.Ask.{looked, marked}
 use Rattle.typst_language.specs.Meaning.{Outcome}
 use Rattle.typst_language.proofs.Places.{moved-sum}
+pub use Rattle.typst_candidates.proofs.Rows.{trees_forest as trees-of}
 use Rattle.typst_edits.specs.Hole.{Deep, fill, Hole, plug, path_in, path_of}
 use Rattle.typst_edits.specs.Hole.Deep.{bare, under}
 use Rattle.typst_edits.specs.Spot.{Spot, Fits, unit_at}
@@ -75,10 +76,6 @@ after-same asks d m k front old new rest e f h =
     (after-looks asks d (onto old (onto front [])) (onto new (onto front [])) rest h)
 
 -- ---- the path
-
-pub trees-of : (ts : List Tree) → trees (forest ts) ≡ ts
-trees-of [] = refl
-trees-of (t ∷ ts) = ap (λ l. t ∷ l) (trees-of ts)
 
 pub alter-at : (f : Tree → Tree) (left : List Tree) (y : Tree) (right : List Tree) → alter (length left) f (left ++ y ∷ right) ≡ left ++ f y ∷ right
 alter-at f [] y right = refl

@@ -1,5 +1,5 @@
 -- Content blocks without an expression: one note between their two, and looks at nothing but the token behind their trivia.
-use Rattle.std.proofs.Common.{◌≡◌, ℕ, suc, ◌+◌, ◌-◌, Bool, true, false, ◌&&◌, ◌==◌, if◌then◌else◌, List, [], ◌∷◌, ◌++◌, length, append_assoc, length-append, Some, refl, ap, sym, ◌∙◌, subst, arith}
+use Rattle.std.proofs.Common.{◌≡◌, ℕ, suc, ◌+◌, ◌-◌, Bool, true, false, ◌&&◌, ◌==◌, if◌then◌else◌, List, [], ◌∷◌, ◌++◌, length, length-append, Some, refl, ap, sym, ◌∙◌, subst, arith}
 use Rattle.typst_kinds.specs.declared.kind.SyntaxKind.{SyntaxKind}
 use Rattle.typst_kinds.specs.declared.kind.SyntaxKind.TheVariants as kind
 use Rattle.typst_kinds.specs.declared.mode.SyntaxMode.{SyntaxMode}
@@ -18,36 +18,31 @@ use Rattle.typst_language.specs.Ask.{Ask, shift}
 use Rattle.typst_language.specs.Ask.Ask.{looked, marked}
 use Rattle.typst_language.specs.declared.reading.AtNewline.TheVariants as newline
 use Rattle.typst_language.specs.Hand.{Hand, told, hand_at, token_at}
-use Rattle.typst_language.specs.Log.{Log, no_log, with_hull, with_note, logged}
+use Rattle.typst_language.specs.Log.{Log, with_hull, with_note, logged}
 use Rattle.typst_language.specs.Point.{Trivia, Point, point_of, state_of}
 use Rattle.typst_language.specs.Shape.{after_node}
 use Rattle.typst_language.specs.Shape.Making.{itself}
 use Rattle.typst_language.specs.Steps.{flush_trivia, close_if}
 use Rattle.typst_language.specs.Syntax.Op.{takes}
-use Rattle.typst_language.specs.Meaning.{Outcome, Level, plain, joined, repeated, start_point, hand_of, hand_asks_of, asked, entered, renewed, taken_node, flushed_state, done, run}
+use Rattle.typst_language.specs.Meaning.{Outcome, Level, plain, joined, repeated, hand_of, hand_asks_of, asked, entered, renewed, taken_node, flushed_state, done, run}
 use Rattle.typst_grammar.specs.Markup.{ends, ends_block, markup_reading}
-use Rattle.typst_grammar.specs.Grammar.{rules, max_depth, start_of, whole, parsed, log}
+use Rattle.typst_grammar.specs.Grammar.{max_depth, start_of, log}
 use Rattle.typst_edits.specs.BlockRuns.{inner, look_first, look_again, bracket, inner_lead, inner_run, inner_tail, inner_close, run_at}
 use Rattle.typst_edits.specs.EmptyRuns.{IsEmpty, EmptyBlockLaw}
 use Rattle.typst_edits.specs.Every.{Every}
 use Rattle.typst_edits.specs.Joint.{onwards, passed}
 use Rattle.typst_edits.specs.Laws.{block_at, blocks_of_text}
-use Rattle.typst_edits.specs.Named.{Named}
 use Rattle.typst_edits.specs.Sequence.{Sequence, turn_of}
-use Rattle.typst_edits.specs.Spot.{lowered, unit_at, ended}
-use Rattle.typst_edits.proofs.Blocks.{ends as block-ends}
+use Rattle.typst_edits.specs.Spot.{lowered, unit_at}
 use Rattle.typst_edits.proofs.BlockRuns.{content-is}
-use Rattle.typst_edits.proofs.Bytes.{logged-append, noted-by, noted-more, asks-are}
-use Rattle.typst_edits.proofs.Edit.{among}
+use Rattle.typst_edits.proofs.BlockLog.{block-log}
+use Rattle.typst_edits.proofs.Bytes.{noted-more}
 use Rattle.typst_edits.proofs.EmptyRuns.{Knows, hand-gap, asked-knows, flushed-knows, passed-kind, Looks, begin-each, begin-one, token_look, looks-hand, looks-append, unmoved, run-stopped, onwards-looks, Never, none-flush}
 use Rattle.typst_edits.proofs.Every.{every-append}
 use Rattle.typst_edits.proofs.Forward.{token-still}
-use Rattle.typst_edits.proofs.Inside.{Lawful}
 use Rattle.typst_edits.proofs.InnerBytes.{asks_before, content-asks}
-use Rattle.typst_edits.proofs.Law.{inside-level}
 use Rattle.typst_edits.proofs.Marks.{AllMarks, marks-append, marks-by, marks-shift, marks-lowered, none-hand, NoteOf, noted-each}
-use Rattle.typst_edits.proofs.Names.{named-level}
-use Rattle.typst_edits.proofs.Widths.{width-moved}
+use Rattle.typst_edits.proofs.Text.{content-reads}
 
 -- ---- looks
 
@@ -282,57 +277,37 @@ unfolding blocks_of_text log position
 empty-block-law k levels front old rest c past t chosen name left empty known =
     let text = front ++ (old ++ rest) in
     let z = start_of text in
-    let o = parsed k max_depth text in
-    let l = among (Lawful z z o o) c _ chosen (inside-level (rules k) k (block-ends k) max_depth whole z z (start_point markup_reading)) in
-    let named = among (Named (block_at k) max_depth) c _ chosen (named-level (rules k) k max_depth whole z (start_point markup_reading)) in
+    let d = block-log k text c chosen in
     let s = point_of c.start in
     let y = moved c.at z in
     let u = unit_at c z in
-    let reads : u ≡ ended (block_at k (suc levels) block.Content y s) =
-    ap (λ m. m y s) named.reads ∙ ap (λ v. ended (block_at k v c.name y s)) left ∙ ap (λ x. ended (block_at k (suc levels) x y s)) name in
+    let reads = content-reads k text c chosen levels name left z in
     let f = c.fewer in
     let in_unit = subst (λ (v : Outcome (Unit {0})). Single 0 v.asks) (sym reads) (block-single k levels y s empty) in
     let own = shift c.at (lowered f u.asks) in
     let single = single-lowered f c.at u.asks in_unit in
     -- its notes
-    let end = c.at + u.taken in
-    let late = shift end named.later in
-    let opens_mark = marked c.at 0 f (mark.Opens c.name) c.start in
-    let closes_state = state_of c.reached in
-    let closes_mark = marked (end + 0) 0 f mark.Closes closes_state in
-    let asks = asks-are o.asks c.before named.earlier own (shift end c.after) late opens_mark closes_mark (ap (λ (v : Outcome (Unit {0})). v.asks) l.old) named.opened (ap (shift end) named.closed) in
-    let log_one = logged max_depth z no_log named.earlier in
-    let h1 = with_note 0 (max_depth - f) (mark.Opens c.name) c.start (moved c.at z) log_one in
-    let log_two = logged max_depth z h1 own in
-    let h2 = with_note 0 (max_depth - f) mark.Closes closes_state (moved (end + 0) z) log_two in
-    let is : logged max_depth z no_log o.asks ≡ logged max_depth z h2 late =
-    ap (logged max_depth z no_log) asks ∙ logged-append max_depth z no_log named.earlier _ ∙ logged-append max_depth z h1 own _ in
-    let note_one : Note = record { mark = mark.Opens c.name; before = position (moved c.at z); start = position (moved 0 (moved c.at z)); levels = max_depth - f; state = c.start; reach = log_one.reach; least = log_one.least } in
-    let note_two : Note = record { mark = mark.Closes; before = position (moved (end + 0) z); start = position (moved 0 (moved (end + 0) z)); levels = max_depth - f; state = closes_state; reach = log_two.reach; least = log_two.least } in
-    let one = noted-by max_depth z named.earlier no_log [] refl in
-    let begun = one.more ++ note_one ∷ [] in
-    let begun_is = noted-more note_one log_one.notes one.more one.is in
-    let two = noted-each (Begins f) max_depth z own h1 begun begun_is single.each in
-    let size : length two.more ≡ 1 = omega (arith, noted-count max_depth z own h1 begun (begun ++ two.more) begun_is two.is, length-append begun two.more, single.size) in
+    let begun = d.earlier ++ d.opens ∷ [] in
+    let two = noted-each (Begins f) max_depth z own d.begun begun d.begun_is single.each in
+    let size : length two.more ≡ 1 = omega (arith, noted-count max_depth z own d.begun begun (begun ++ two.more) d.begun_is two.is, length-append begun two.more, single.size) in
     let only = one-of two.more size in
     let of_it = (subst (λ ns. Every (NoteOf (Begins f) max_depth z) ns) only.is two.each).0 in
     let fewer : of_it.fewer ≡ f = of_it.holds.0 in
-    let three = noted-by max_depth z late h2 ((begun ++ two.more) ++ note_two ∷ []) (noted-more note_two log_two.notes (begun ++ two.more) two.is) in
+    let more = d.rest two.more two.is in
     let looks = past-looks k levels y s t known empty in
     let place = (run_at k levels c z).place in
     record {
-      earlier = one.more;
-      opens = note_one;
+      earlier = d.earlier;
+      opens = d.opens;
       note = only.only;
-      closes = note_two;
-      later = three.more;
-      notes = ap (λ (v : Log). v.notes) is ∙ three.is ∙ ap Some (append_assoc (begun ++ two.more) (note_two ∷ []) three.more ∙ append_assoc begun two.more (note_two ∷ three.more) ∙ append_assoc one.more (note_one ∷ []) (two.more ++ note_two ∷ three.more))
-          ∙ ap (λ ns. Some (one.more ++ note_one ∷ (ns ++ note_two ∷ three.more))) only.is;
-      name = refl;
-      start = width-moved c.at text;
+      closes = d.closes;
+      later = more.0;
+      notes = more.1 ∙ ap (λ ns. Some (d.earlier ++ d.opens ∷ (ns ++ d.closes ∷ more.0))) only.is;
+      name = d.name;
+      start = d.start;
       says = of_it.mark ∙ of_it.holds.1;
       levels_there = of_it.levels ∙ ap (λ n. max_depth - n) fewer ∙ left;
-      name_end = refl;
+      name_end = d.name_end;
       after = λ h behind. record { inside = begin-each past rest (token_look (inner k levels) (moved t.gap place)) _ looks.each h; behind = behind };
       after_too = λ h. begin-one past rest (token_look (inner k levels) (moved t.gap place)) _ looks h.inside;
     }

@@ -49,7 +49,7 @@ pub record Knows (n : ℕ) (s : Point) : Type 0 where
   pub known : s.known ≡ Some trivia
   pub gap : trivia.gap ≡ n
 
-and-false : (b : Bool) → (b && false) ≡ false
+pub and-false : (b : Bool) → (b && false) ≡ false
 and-false true = refl
 and-false false = refl
 

@@ -1,9 +1,7 @@
 -- What is read between two brackets gives one node alone, and the state behind it follows from the reading before it.
 use Rattle.std.proofs.Common.{◌≡◌, ◌⊎◌, inl, inr, ℕ, ◌+◌, ◌-◌, ◌<◌, ◌≤◌, Bool, true, false, if◌then◌else◌, nat_lt, List, [], ◌∷◌, ◌++◌, length, take, length-append, length-take, append-nil, encode_utf8_all, None, refl, ap, sym, ◌∙◌, subst, arith}
-use Rattle.std.proofs.lemmas.Bool.Decides.{nat_tests}
 use Rattle.std.proofs.lemmas.Str.{length-le-encodes}
 use Rattle.typst_kinds.specs.declared.mode.SyntaxMode.{SyntaxMode}
-use Rattle.typst_kinds.specs.declared.mode.SyntaxMode.TheVariants as mode
 use Rattle.typst_kinds.specs.Kinds.{is_error}
 use Rattle.typst_lines.specs.Place.{Place, moved}
 use Rattle.typst_tree.specs.Tree.{Tree, text_of}
@@ -12,7 +10,6 @@ use Rattle.typst_language.proofs.TokenTexts.{text-token}
 use Rattle.typst_language.specs.declared.calls.Block.{Block}
 use Rattle.typst_language.specs.Calls.{Call}
 use Rattle.typst_language.specs.declared.reading.AtNewline.{AtNewline}
-use Rattle.typst_language.specs.declared.reading.AtNewline.TheVariants.{Continue, Stop, ContextualContinue, StopParBreak, RequireColumn}
 use Rattle.typst_language.specs.declared.reading.Reading.{Reading}
 use Rattle.typst_language.specs.Hand.{Hand, Ahead, len_at, at_trivia, hand_at, text_ahead}
 use Rattle.typst_language.specs.Point.{Point, forgot}
@@ -25,30 +22,17 @@ use Rattle.typst_language.specs.Syntax.Parser.{does, next, scoped}
 use Rattle.typst_language.specs.Meaning.{Outcome, Level, plain, less, joined, same_mode, same_rule, left, entered, hand_of, taken_node, done, run}
 use Rattle.typst_language.proofs.Knot.{Sane, sane-run}
 use Rattle.typst_language.proofs.Places.{less-none}
-use Rattle.typst_language.proofs.Rests.{Rests}
+use Rattle.typst_language.proofs.Rests.{Rests, mode-is, rule-is}
 use Rattle.typst_language.proofs.Within.{on_if}
 use Rattle.typst_edits.proofs.Outcomes.{hints-first}
 use Rattle.typst_edits.proofs.Reached.{ahead-direct}
+use Rattle.typst_edits.proofs.Led.{some-text}
 
 -- ---- the state behind it
 
 -- where the token to come is at hand, behind a node that is no error
 abbrev pub state_from : Reading → Point
 state_from r = record { reading = r; held = r; empties = 0; is_after_error = false; known = None }
-
-mode-is : (a b : SyntaxMode) → same_mode a b ≡ true → a ≡ b
-mode-is mode.Markup mode.Markup h = refl
-mode-is mode.Math mode.Math h = refl
-mode-is mode.Code mode.Code h = refl
-mode-is _ _ h = cc
-
-rule-is : (a b : AtNewline) → same_rule a b ≡ true → a ≡ b
-rule-is Continue Continue h = refl
-rule-is Stop Stop h = refl
-rule-is ContextualContinue ContextualContinue h = refl
-rule-is StopParBreak StopParBreak h = refl
-rule-is (RequireColumn a) (RequireColumn b) h = let e : a ≡ b = grind (arith, nat_tests) in ap RequireColumn e
-rule-is _ _ h = cc
 
 reading-is : (a b : Reading) → a.mode ≡ b.mode → a.at_newline ≡ b.at_newline → a ≡ b
 reading-is a b e f = ap (λ m. record a { mode = m }) e ∙ ap (λ (n : AtNewline). record { mode = b.mode; at_newline = n }) f
@@ -93,10 +77,6 @@ unfolding hand_at
 hand-direct k held z h =
     let e = ahead-direct k held.mode z h in
     record { trivia = ap (λ (a : Ahead). a.trivia) e; gap = ap (λ (a : Ahead). a.gap) e; len = ap (λ (a : Ahead). a.len) e }
-
-some-text : (xs : List ℕ) → 0 < length xs → count_empty xs ≡ 0
-some-text [] h = absurd (omega arith)
-some-text (x ∷ xs) h = refl
 
 -- a token of some characters leaves no empty error
 took-some : (k : CharClasses) (h : Hand) (z : Place) (s : Point) → h.gap ≡ 0 → 0 < h.len → h.len ≤ length z.ahead

@@ -10,6 +10,7 @@ use Rattle.typst_language.specs.declared.reading.State.{State}
 use Rattle.typst_candidates.specs.Entries.{tag_of, entry_of, entries_by, last_start}
 use Rattle.typst_candidates.specs.Records.{is_opening, opening_of, IsRising, AllEnd, AllBegin}
 use Rattle.typst_edits.specs.Bytes.{highest, lowest}
+use Rattle.typst_edits.proofs.Walk.{first-if as if-on}
 
 -- ---- the first block that begins at a byte
 
@@ -42,11 +43,6 @@ which-opens : (m : Mark) → opens m ≡ true → Which m
 which-opens (mark.Piece line brackets) e = absurd (cc)
 which-opens (mark.Opens b) e = record { block = b; is = refl }
 which-opens mark.Closes e = absurd (cc)
-
-if-on : {A : Type 0} (a b : Bool) (x y : A) → a ≡ true → b ≡ true → (if a && b then x else y) ≡ x
-if-on true true x y h k = refl
-if-on true false x y h k = cc
-if-on false b x y h k = cc
 
 if-off : {A : Type 0} (a b : Bool) (x y : A) → (a ≡ true → b ≡ true → ⊥) → (if a && b then x else y) ≡ y
 if-off true true x y h = absurd (h refl refl)

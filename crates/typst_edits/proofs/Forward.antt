@@ -37,6 +37,7 @@ use Rattle.typst_language.specs.Meaning.{run as read}
 use Rattle.typst_language.specs.Point.{Trivia, gap_of}
 use Rattle.typst_language.proofs.Places.{moved-sum}
 use Rattle.typst_grammar.specs.Markup.{ends_block}
+use Rattle.typst_grammar.proofs.Fine.{and-left, or-left as or-first, or-right as or-second}
 use Rattle.typst_edits.specs.Looks.{AllFrom}
 use Rattle.typst_edits.specs.Runs.{lead}
 
@@ -201,14 +202,6 @@ markup-each P k c p bare bracket =
     (either P (is_ascii_digit c) _ _ (bare _ (numbering-bare k p))
     (bare _ (text-bare k (moved 1 p)))))))))))))))))))))
 
-or-first : (b c : Bool) → (b || c) ≡ false → b ≡ false
-or-first true c h = h
-or-first false c h = refl
-
-or-second : (b c : Bool) → (b || c) ≡ false → c ≡ false
-or-second true c h = absurd (cc)
-or-second false c h = h
-
 -- ---- what is trivia looks ahead alone
 
 abbrev Fore : Reader Memory Token → Place → Type 0
@@ -365,10 +358,6 @@ ahead-from z (looked at seen ∷ asks) h =
     let is : near seen.back (moved at z) ≡ near 0 (moved at z) = ap (λ n. near n (moved at z)) h.0 in
     (omega (arith, is), ahead-from z asks h.1)
 ahead-from z (marked at gap fewer m s ∷ asks) h = ahead-from z asks h
-
-and-left : (b c : Bool) → (b && c) ≡ true → b ≡ true
-and-left true c h = refl
-and-left false c h = cc
 
 -- the trivia, and the token behind them where that looks ahead alone
 trivia-by : (k : CharClasses) (z : Place) (b : Bool) (a c : Ahead) (gap : ℕ) (later : List Ask) → at_trivia k Markup z ≡ b → a.gap ≡ len_at k Markup z + gap → c.gap ≡ 0

@@ -21,7 +21,7 @@ use Rattle.typst_language.specs.Depth.{anywhere, too_deep, deeper}
 use Rattle.typst_language.specs.Hand.{AtHand, told, len_at, text_ahead, hand_at, hand_asks, column_at, column_look}
 use Rattle.typst_language.specs.Knot.{meaning_of, level_of}
 use Rattle.typst_language.specs.Point.{Trivia, Point}
-use Rattle.typst_language.specs.Shape.{Making, hinted, Change, Shape, shaped, first_changed, after_change, after_shape, after_node, count_empty, without_parens, encloses}
+use Rattle.typst_language.specs.Shape.{Making, hinted, Change, Shape, shaped, first_changed, after_change, after_shape, after_node, without_parens, encloses}
 use Rattle.typst_language.specs.Shape.Change.{stays, turns_wrong, is_not, renamed, unparened}
 use Rattle.typst_language.specs.Shape.Making.{itself, of_kind, surprise}
 use Rattle.typst_language.specs.Shape.Shape.{keeps, holds, lacks, warns, fails}
@@ -36,7 +36,7 @@ use Rattle.typst_language.proofs.Backs.{left-empties}
 use Rattle.typst_language.proofs.HintedNodes.{length-hinted, hinted-append}
 use Rattle.typst_language.proofs.Knot.{Sane, sane-run, sane-meaning, sane-block}
 use Rattle.typst_language.proofs.Leaves.{texts, texts-one, texts-first, text-made, text-shaped, same-hinted}
-use Rattle.typst_language.proofs.Places.{less-append, less-none, length-less}
+use Rattle.typst_language.proofs.Places.{length-less}
 use Rattle.typst_grammar.specs.head.MarkupHead.{MarkupHead}
 use Rattle.typst_grammar.specs.head.MarkupHead.TheVariants as head
 use Rattle.typst_grammar.specs.Markup.{ends, markup_turn, markup_head, markup_by, markup_expr, delimited, emphasized, heading, item, term_item, reference, strong, emph}
@@ -44,7 +44,7 @@ use Rattle.typst_grammar.specs.Embedded.{embedded}
 use Rattle.typst_grammar.specs.Equations.{between_dollars, equation}
 use Rattle.typst_grammar.specs.Grammar.{rules}
 use Rattle.typst_edits.specs.Joint.{minds}
-use Rattle.typst_edits.proofs.Led.{before_trivia, none-less, drop-front}
+use Rattle.typst_edits.proofs.Led.{before_trivia, none-less, drop-front, some-text, take-front, less-behind}
 use Rattle.typst_edits.proofs.RunTrees.{hinted-none}
 
 -- ---- nodes
@@ -96,11 +96,6 @@ full-shaped (lacks count message kind) (t ∷ ts) h = full-one (inner_of kind (f
 full-shaped (warns kind message hint) (t ∷ ts) h = full-one (advised (hint_with None hint) (remarked (warning_with None message) (inner_of kind (forest (t ∷ ts))))) (t ∷ ts) (text-shaped (warns kind message hint) (t ∷ ts)) h
 full-shaped (fails message) (t ∷ ts) h = full-one (error_of message (text_joined (forest (t ∷ ts)))) (t ∷ ts) (text-shaped (fails message) (t ∷ ts)) h
 
--- behind it stand fewer empty errors than nodes
-some-text : (xs : List ℕ) → 0 < length xs → count_empty xs ≡ 0
-some-text [] h = absurd (omega arith)
-some-text (x ∷ xs) h = refl
-
 few-node : (b : Bool) (text : List ℕ) (s : Point) (n : ℕ) → 0 < length text → 0 < n → (after_node b text s).empties < n
 few-node true text s n h l = let e = some-text text h in omega (arith, e, l)
 few-node false text s n h l = omega (arith, l)
@@ -138,16 +133,6 @@ pub record Fronts {A : Type 0} (t : Trivia) (trims : Bool) (o : Outcome A) : Typ
   pub full : Full rest
   pub few : o.state.empties < length rest
   pub none : trims ≡ false → o.back ≡ 0
-
-pub less-behind : (n : ℕ) (xs ys : List Tree) → n < length ys → less n (xs ++ ys) ≡ xs ++ less n ys
-less-behind n xs ys h =
-    let e : n - length ys ≡ 0 = omega (arith, h) in
-    less-append n xs ys ∙ ap (λ j. less j xs ++ less n ys) e ∙ ap (λ u. u ++ less n ys) (less-none xs)
-
-take-front : {A : Type 0} (xs ys : List A) (n : ℕ) → n ≡ length xs → take n (xs ++ ys) ≡ xs
-take-front [] ys n e = ap (λ j. take j ys) e
-take-front (x ∷ xs) ys zero e = absurd (omega (arith, e))
-take-front (x ∷ xs) ys (suc n) e = ap (λ u. x ∷ u) (take-front xs ys n (omega (arith, e)))
 
 -- whatever comes behind it
 pub fronts-joined : {A B : Type 0} (t : Trivia) (trims : Bool) (o : Outcome B) (q : Outcome A) → Fronts t trims o → Tidy o.state q → Fronts t trims (joined o q)

@@ -51,7 +51,7 @@ use Rattle.typst_edits.proofs.Turns.{turn_tail, turn_at, one-turn, stopped-back,
 
 -- ---- nodes that begin with an error
 
-advised-error : (hints : List (List ℕ)) (t : Tree) → is_error t.head.kind ≡ true → is_error (all_advised hints t).head.kind ≡ true
+pub advised-error : (hints : List (List ℕ)) (t : Tree) → is_error t.head.kind ≡ true → is_error (all_advised hints t).head.kind ≡ true
 advised-error [] t e = e
 advised-error (hint ∷ hints) t e = advised-error hints (advised (hint_with None hint) t) e
 

@@ -15,7 +15,7 @@ use Rattle.typst_language.specs.declared.calls.Mark.{Mark}
 use Rattle.typst_language.specs.declared.calls.Mark.TheVariants as mark
 use Rattle.typst_language.specs.declared.calls.Note.{Note}
 use Rattle.typst_language.specs.declared.reading.Reading.{Reading}
-use Rattle.typst_language.specs.Ask.{Ask, shift, sunk, only_looks}
+use Rattle.typst_language.specs.Ask.{Ask, shift}
 use Rattle.typst_language.specs.Ask.Ask.{looked, marked}
 use Rattle.typst_language.specs.Depth.{deeper, is_end, too_deep}
 use Rattle.typst_language.specs.Hand.{len_at, hand_at}
@@ -25,15 +25,15 @@ use Rattle.typst_language.specs.Point.{Trivia, Point, forgot, gap_of}
 use Rattle.typst_language.specs.Shape.{Shape, becomes}
 use Rattle.typst_language.specs.Shape.Making.{itself}
 use Rattle.typst_language.specs.Steps.{peek, node, node_with_trivia, note, flush_trivia, close_if}
-use Rattle.typst_language.specs.Syntax.{Op, Begin, Parser, ◌>>◌}
+use Rattle.typst_language.specs.Syntax.{Op, Parser, ◌>>◌}
 use Rattle.typst_language.specs.Syntax.Begin.{at_token, at_trivia}
 use Rattle.typst_language.specs.Syntax.Op.{hand, so, further, column, erred, takes, takes_so, flushes, complains, advises, marks, is_deepest}
 use Rattle.typst_language.specs.Syntax.Parser.{gives, does, next, pick, repeat, wraps, grows, nests, scoped, either, calls, block}
-use Rattle.typst_language.specs.Meaning.{Outcome, Meaning, Level, plain, joined, answered, turns, as_last, bound, repeated, before, grown, is_more, growths, growing, nestings, nesting, given_up, bounded, blockless, entered, hand_of, hand_asks_of, start_point, done, run}
+use Rattle.typst_language.specs.Meaning.{Outcome, Meaning, Level, plain, joined, turns, as_last, bound, repeated, before, growing, nesting, given_up, bounded, blockless, entered, hand_of, hand_asks_of, start_point, done, run}
 use Rattle.typst_language.proofs.Ends.{hand-takes}
 use Rattle.typst_language.proofs.Knot.{Sane, sane-meaning, sane-block, sane-plain}
 use Rattle.typst_language.proofs.Places.{moved-sum}
-use Rattle.typst_language.proofs.Within.{on_both, on_if, grew}
+use Rattle.typst_language.proofs.Within.{on_both, on_if}
 use Rattle.typst_grammar.specs.Grammar.{rules, production, max_depth, start_of, whole, parsed, log, block_production}
 use Rattle.typst_grammar.specs.Markup.{ends, ends_block, note_piece, markup_turn, markup_run, markup_is_empty, markup_head, markup_reading, content_block}
 use Rattle.typst_grammar.specs.Sequences.{code_block}
@@ -46,57 +46,24 @@ use Rattle.typst_edits.proofs.Boundary.{KnownAt}
 use Rattle.typst_edits.proofs.Bytes.{noted-more}
 use Rattle.typst_edits.proofs.Joint.{known-is, takes-call}
 use Rattle.typst_edits.proofs.Led.{behind_trivia, same-judged, before_trivia, Takes}
-use Rattle.typst_edits.proofs.Marks.{AllMarks, none-hand}
+use Rattle.typst_edits.proofs.Marks.{none-hand}
 use Rattle.typst_edits.proofs.Rising.{take-more}
 use Rattle.typst_edits.proofs.Spots.{if-true}
 use Rattle.typst_edits.proofs.Turns.{turn_tail, takes-turn, end-by}
+use Rattle.typst_edits.proofs.Upward.{Upward, up-low, up-append, up-shift, up-sunk, up-looks, up-none, ups-turns, up-growths, ups-nestings, up-joined, Unmarked}
 use Rattle.typst_edits.proofs.Widths.{width-moved, width-none}
 
 -- ---- marks in a list of asks
 
--- from one place up to another
+-- from one place up to another, each where the token of the one before begins, or behind that
+abbrev gaps : ℕ → Mark → ℕ
+gaps gap m = gap
+
+abbrev any : ℕ → Mark → Type 0
+any gap m = Unit {0}
+
 abbrev Orders : ℕ → ℕ → List Ask → Type 0
-Orders lo hi [] = lo ≤ hi
-Orders lo hi (looked at look ∷ asks) = Orders lo hi asks
-Orders lo hi (marked at gap fewer m s ∷ asks) = (lo ≤ at) × Orders (at + gap) hi asks
-
-orders-low : (a b hi : ℕ) (ls : List Ask) → a ≤ b → Orders b hi ls → Orders a hi ls
-orders-low a b hi [] e h = omega (arith, e, h)
-orders-low a b hi (looked at look ∷ ls) e h = orders-low a b hi ls e h
-orders-low a b hi (marked at gap fewer m s ∷ ls) e h = (let low = h.0 in omega (arith, e, low), h.1)
-
-orders-append : (lo mid hi : ℕ) (ls ks : List Ask) → Orders lo mid ls → Orders mid hi ks → Orders lo hi (ls ++ ks)
-orders-append lo mid hi [] ks h i = orders-low lo mid hi ks h i
-orders-append lo mid hi (looked at look ∷ ls) ks h i = orders-append lo mid hi ls ks h i
-orders-append lo mid hi (marked at gap fewer m s ∷ ls) ks h i = (h.0, orders-append (at + gap) mid hi ls ks h.1 i)
-
--- counted from so many characters before
-orders-shift : (d lo hi : ℕ) (ls : List Ask) → Orders lo hi ls → Orders (d + lo) (d + hi) (shift d ls)
-orders-shift d lo hi [] h = omega (arith, h)
-orders-shift d lo hi (looked at look ∷ ls) h = orders-shift d lo hi ls h
-orders-shift d lo hi (marked at gap fewer m s ∷ ls) h = (
-  let low = h.0 in omega (arith, low),
-  orders-low ((d + at) + gap) (d + (at + gap)) (d + hi) (shift d ls) (omega arith) (orders-shift d (at + gap) hi ls h.1),
-)
-
-orders-sunk : (lo hi : ℕ) (ls : List Ask) → Orders lo hi ls → Orders lo hi (sunk ls)
-orders-sunk lo hi [] h = h
-orders-sunk lo hi (looked at look ∷ ls) h = orders-sunk lo hi ls h
-orders-sunk lo hi (marked at gap fewer m s ∷ ls) h = (h.0, orders-sunk (at + gap) hi ls h.1)
-
--- no marks at all
-orders-looks : (lo hi : ℕ) (ls : List Ask) → lo ≤ hi → Orders lo hi (only_looks ls)
-orders-looks lo hi [] h = h
-orders-looks lo hi (looked at look ∷ ls) h = orders-looks lo hi ls h
-orders-looks lo hi (marked at gap fewer m s ∷ ls) h = orders-looks lo hi ls h
-
-abbrev Unmarked : List Ask → Type 0
-Unmarked asks = AllMarks (λ at fewer m s. ⊥) asks
-
-orders-none : (lo hi : ℕ) (ls : List Ask) → lo ≤ hi → Unmarked ls → Orders lo hi ls
-orders-none lo hi [] h none = h
-orders-none lo hi (looked at look ∷ ls) h none = orders-none lo hi ls h none
-orders-none lo hi (marked at gap fewer m s ∷ ls) h none = absurd none.0
+Orders lo hi ls = Upward gaps any lo hi ls
 
 -- ---- whatever the language can say, and notes nothing by itself
 
@@ -110,51 +77,23 @@ InOrder o = Orders 0 o.taken o.asks
 abbrev AllInOrder : {A : Type 0} → Meaning A → Type 0
 AllInOrder m = (z : Place) (s : Point) → InOrder (m z s)
 
-order-joined : {A B : Type 0} (o : Outcome B) (p : Outcome A) → InOrder o → InOrder p → InOrder (joined o p)
-order-joined o p h k = orders-append 0 o.taken (o.taken + p.taken) o.asks _ h (orders-low o.taken (o.taken + 0) (o.taken + p.taken) (shift o.taken p.asks) (omega arith) (orders-shift o.taken 0 p.taken p.asks k))
-
-order-turns : {A : Type 0} (m : A → Meaning (Bool × A)) → ((x : A) → AllInOrder (m x)) → (n : ℕ) (x : A) → AllInOrder (turns m n x)
-order-turns m h zero x z s = omega arith
-order-turns m h (suc n) x z s =
-    let o = m x z s in
-    let p = turns m n o.value.1 (moved o.taken z) o.state in
-    on_both InOrder (o.value.0 && nat_lt 0 o.taken) (joined o p) (as_last o) (order-joined o p (h x z s) (order-turns m h n o.value.1 (moved o.taken z) o.state)) (h x z s)
-
-order-grown : {A : Type 0} (i : ℕ) (shape : Option Shape) (o : Outcome A) → InOrder o → InOrder (grown i shape o)
-order-grown i None o h = h
-order-grown i (Some shape) o h = h
-
-order-growths : {A : Type 0} (m : A → Meaning (Option Shape × A)) → ((x : A) → AllInOrder (m x)) → (n i : ℕ) (o : Outcome A) (z : Place) → InOrder o → InOrder (growths m n i o z)
-order-growths m h n zero o z k = k
-order-growths m h n (suc i) o z k =
-    let p = m o.value (moved o.taken z) o.state in
-    let all = order-grown n p.value.0 (answered p.value.1 (joined o p)) (order-joined o p k (h o.value (moved o.taken z) o.state)) in
-    on_both InOrder (is_more p.value.0 && nat_lt 0 p.taken) (growths m n i (grew n o p) z) (grew n o p) (order-growths m h n i (grew n o p) z all) all
-
-order-nestings : {A : Type 0} (f : A → Shape) (begin : Begin) (m : A → Meaning (Bool × A)) → ((x : A) → AllInOrder (m x)) → (n : ℕ) (x : A) → AllInOrder (nestings f begin m n x)
-order-nestings f begin m h zero x z s = omega arith
-order-nestings f begin m h (suc n) x z s =
-    let o = m x z s in
-    let p = nestings f begin m n o.value.1 (moved o.taken z) o.state in
-    on_both InOrder (o.value.0 && nat_lt 0 o.taken) (joined o p) (as_last o) (order-joined o p (h x z s) (order-nestings f begin m h n o.value.1 (moved o.taken z) o.state)) (h x z s)
-
 abbrev Silent : {A : Type 0} → Bool → Parser A → Type 0
 Silent seen p = Guarded (λ (m : Mark). false) seen p
 
 order-bounded : (b : Block) (m : Meaning (Unit {0})) → AllInOrder m → AllInOrder (bounded b m)
 order-bounded b m h z s =
     let o = m z (forgot s) in
-    (omega arith, orders-append 0 o.taken o.taken o.asks _ (h z (forgot s)) (omega arith, omega arith))
+    (omega arith, tt, up-append gaps any 0 o.taken o.taken o.asks _ (h z (forgot s)) (omega arith, tt, omega arith))
 
 module _ (l : Level) (deep : (call : Call) → AllInOrder (l.deeper call)) (held : (b : Block) → AllInOrder (l.blocks b)) where
   unmarked-hand : (z : Place) (s : Point) → Unmarked (hand_asks_of l z s)
   unmarked-hand z s = none-hand (λ at fewer m t. ⊥) l.classes s.held s.known z
 
   order-hand : (z : Place) (s : Point) (hi : ℕ) → Orders 0 hi (hand_asks_of l z s)
-  order-hand z s hi = orders-none 0 hi (hand_asks_of l z s) (omega arith) (unmarked-hand z s)
+  order-hand z s hi = up-none gaps any 0 hi (hand_asks_of l z s) (omega arith) (unmarked-hand z s)
 
   order-more : (z : Place) (s : Point) (hi at : ℕ) (look : _) → Orders 0 hi (hand_asks_of l z s ++ looked at look ∷ [])
-  order-more z s hi at look = orders-append 0 hi hi (hand_asks_of l z s) (looked at look ∷ []) (order-hand z s hi) (omega arith)
+  order-more z s hi at look = up-append gaps any 0 hi hi (hand_asks_of l z s) (looked at look ∷ []) (order-hand z s hi) (omega arith)
 
   order-done : {A : Type 0} (seen : Bool) (o : Op A) → Silent seen (does o) → AllInOrder (done l o)
   order-done seen hand q z s = order-hand z s 0
@@ -176,36 +115,36 @@ module _ (l : Level) (deep : (call : Call) → AllInOrder (l.deeper call)) (held
   order-run seen (does o) q z s = order-done seen o q z s
   order-run seen (next p f) q z s =
       let o = run l p z s in
-      order-joined o (run l (f o.value) (moved o.taken z) o.state) (order-run seen p q.0 z s) (order-run _ (f o.value) (q.1 o.value) (moved o.taken z) o.state)
+      up-joined gaps any 0 o (run l (f o.value) (moved o.taken z) o.state) (order-run seen p q.0 z s) (order-run _ (f o.value) (q.1 o.value) (moved o.taken z) o.state)
   order-run seen (pick true p r) q z s = order-run seen p (q.0 refl) z s
   order-run seen (pick false p r) q z s = order-run seen r (q.1 refl) z s
-  order-run seen (repeat p x) q z s = order-turns (λ y. run l (p y)) (λ y. order-run false (p y) (q y)) (suc (bound z s)) x z s
+  order-run seen (repeat p x) q z s = ups-turns gaps any (λ y. run l (p y)) (λ y. order-run false (p y) (q y)) (suc (bound z s)) x z s
   order-run seen (wraps f begin p) q z s = order-run false p q z s
-  order-run seen (grows begin p f) q z s = order-growths (λ y. run l (f y)) (λ y. order-run false (f y) (q.1 y)) (before begin s) (suc (bound z s)) (run l p z s) z (order-run false p q.0 z s)
-  order-run seen (nests f begin p x) q z s = order-nestings f begin (λ y. run l (p y)) (λ y. order-run false (p y) (q y)) (suc (bound z s)) x z s
+  order-run seen (grows begin p f) q z s = up-growths gaps any (λ y. run l (f y)) (λ y. order-run false (f y) (q.1 y)) (before begin s) (suc (bound z s)) (run l p z s) z (order-run false p q.0 z s)
+  order-run seen (nests f begin p x) q z s = ups-nestings gaps any f begin (λ y. run l (p y)) (λ y. order-run false (p y) (q y)) (suc (bound z s)) x z s
   order-run seen (scoped f p) q z s = order-run false p q z (entered (f s.reading) s)
   order-run seen (either p is_wrong r) q z s =
       let o = run l p z s in
       let u = run l r z s in
-      on_both InOrder (is_wrong o.value) (given_up o u) o (orders-looks 0 u.taken (o.asks ++ u.asks) (omega arith)) (order-run false p q.0 z s)
-  order-run seen (calls call) q z s = orders-sunk 0 (l.deeper call z s).taken (l.deeper call z s).asks (deep call z s)
+      on_both InOrder (is_wrong o.value) (given_up o u) o (up-looks gaps any 0 u.taken (o.asks ++ u.asks) (omega arith)) (order-run false p q.0 z s)
+  order-run seen (calls call) q z s = up-sunk gaps any 0 (l.deeper call z s).taken (l.deeper call z s).asks (deep call z s)
   order-run seen (block b) q z s =
       let o = done l flushes z s in
       let p = bounded b (l.blocks b) (moved o.taken z) o.state in
-      on_if InOrder (l.has b) (joined o p) (plain tt s) (λ has. order-joined o p (order-hand z s o.taken) (order-bounded b (l.blocks b) (held b) (moved o.taken z) o.state)) (λ _. omega arith)
+      on_if InOrder (l.has b) (joined o p) (plain tt s) (λ has. up-joined gaps any 0 o p (order-hand z s o.taken) (order-bounded b (l.blocks b) (held b) (moved o.taken z) o.state)) (λ _. omega arith)
 
 -- ---- a run of pieces
 
 orders-high : (lo a b : ℕ) (ls : List Ask) → a ≤ b → Orders lo a ls → Orders lo b ls
 orders-high lo a b [] e h = omega (arith, e, h)
 orders-high lo a b (looked at look ∷ ls) e h = orders-high lo a b ls e h
-orders-high lo a b (marked at gap fewer m s ∷ ls) e h = (h.0, orders-high (at + gap) a b ls e h.1)
+orders-high lo a b (marked at gap fewer m s ∷ ls) e h = (h.0, tt, orders-high (at + gap) a b ls e h.2)
 
 -- what is behind it begins so far behind it
 order-next : {A B : Type 0} (lo mid gap : ℕ) (o : Outcome B) (p : Outcome A) → Reaching lo mid o → Reaching mid gap p → Reaching lo gap (joined o p)
 order-next lo mid gap o p h k =
-    orders-append lo (o.taken + mid) ((o.taken + p.taken) + gap) o.asks _ h
-    (orders-high (o.taken + mid) (o.taken + (p.taken + gap)) ((o.taken + p.taken) + gap) (shift o.taken p.asks) (omega arith) (orders-shift o.taken mid (p.taken + gap) p.asks k))
+    up-append gaps any lo (o.taken + mid) ((o.taken + p.taken) + gap) o.asks _ h
+    (orders-high (o.taken + mid) (o.taken + (p.taken + gap)) ((o.taken + p.taken) + gap) (shift o.taken p.asks) (omega arith) (up-shift gaps any o.taken mid (p.taken + gap) p.asks k))
 
 reaching : {A : Type 0} (gap : ℕ) (o : Outcome A) → InOrder o → Reaching 0 gap o
 reaching gap o h = orders-high 0 o.taken (o.taken + gap) o.asks (omega arith) h
@@ -232,7 +171,7 @@ module _ (l : Level) (deep : (call : Call) → AllInOrder (l.deeper call)) (held
 
   peek-order : (lo : ℕ) (z : Place) (s : Point) → lo ≤ (hand_of l z s).gap → ToToken lo (run l peek z s)
   unfolding run
-  peek-order lo z s e = orders-none lo (0 + (hand_of l z s).gap) (hand_asks_of l z s) (omega (arith, e)) (unmarked-hand l deep held z s)
+  peek-order lo z s e = up-none gaps any lo (0 + (hand_of l z s).gap) (hand_asks_of l z s) (omega (arith, e)) (unmarked-hand l deep held z s)
 
   note-order : (m : Mark) (z : Place) (s : Point) → ToToken 0 (run l (note m) z s)
   unfolding run note
@@ -243,7 +182,7 @@ module _ (l : Level) (deep : (call : Call) → AllInOrder (l.deeper call)) (held
       let gap = gap_of c.state.known in
       let more = hand-gap l.classes a.state.held a.state.known z in
       order-next 0 0 gap a (joined b (joined c (plain (tt {0}) c.state))) (reaching 0 a (order-hand l deep held z s 0))
-      (order-next 0 (gap_of a.state.known) gap b (joined c (plain (tt {0}) c.state)) (omega arith, omega arith)
+      (order-next 0 (gap_of a.state.known) gap b (joined c (plain (tt {0}) c.state)) (omega arith, tt, omega arith)
       (order-next (gap_of a.state.known) gap gap c (plain (tt {0}) c.state) (peek-order (gap_of a.state.known) z b.state more) (omega arith)))
 
   tail-order : (brackets : ℕ) (z : Place) (s : Point) → ToToken 0 (run l (turn_tail brackets) z s)
@@ -302,9 +241,9 @@ module _ (l : Level) (deep : (call : Call) → AllInOrder (l.deeper call)) (held
           let gap = ap (λ (q : Point). gap_of q.known) led.state in
           let far = c.taken + gap_of c.state.known in
           let hi = o.taken + gap_of o.state.known in
-          let from = orders-shift t.gap 0 far c.asks (turn-order x w p) in
+          let from = up-shift gaps any t.gap 0 far c.asks (turn-order x w p) in
           subst (λ ls. Orders t.gap hi ls) (sym led.asks)
-          (orders-low t.gap (t.gap + 0) hi (shift t.gap c.asks) (omega arith) (orders-high (t.gap + 0) (t.gap + far) hi (shift t.gap c.asks) (omega (arith, taken, gap)) from))
+          (up-low gaps any t.gap (t.gap + 0) hi (shift t.gap c.asks) (omega arith) (orders-high (t.gap + 0) (t.gap + far) hi (shift t.gap c.asks) (omega (arith, taken, gap)) from))
 
       piece-order : (x : Bool × ℕ) (z : Place) (s : Point) → KnownAt s → ToToken (gap_of s.known) (run l (markup_turn true stops x) z s)
       piece-order x z s known = by-end (ends stops x.1 (hand_of l z s).kind) refl
@@ -339,7 +278,7 @@ module _ (l : Level) (deep : (call : Call) → AllInOrder (l.deeper call)) (held
           (λ _. order-next 0 0 (gap_of skipped.state.known) d skipped (omega arith)
           (reaching (gap_of skipped.state.known) skipped (silent (peek >> too_deep stops) (refl, λ _. guarded-deep (λ (m : Mark). false) _ stops) z s)))
           (λ e. order-next 0 0 gap d (joined m (joined a (joined r (plain (tt {0}) r.state)))) (omega arith)
-          (order-next 0 (gap_of s.known) gap m (joined a (joined r (plain (tt {0}) r.state))) (omega arith, omega arith)
+          (order-next 0 (gap_of s.known) gap m (joined a (joined r (plain (tt {0}) r.state))) (omega arith, tt, omega arith)
           (order-next (gap_of s.known) (gap_of a.state.known) gap a (joined r (plain (tt {0}) r.state)) (peek-order (gap_of s.known) z s (hand-gap l.classes s.held s.known z))
           (order-next (gap_of a.state.known) gap gap r (plain (tt {0}) r.state)
           (pieces-order sd sb end_stops e (leads e) (suc (bound z a.state)) (true, 0) z a.state (record { trivia = _; is = refl })) (omega arith)))))
@@ -355,18 +294,18 @@ module _ (l : Level) (deep : (call : Call) → AllInOrder (l.deeper call)) (held
           let gap = gap_of o.state.known in
           let all = hand-gap l.classes o.state.held o.state.known w in
           all-taken (joined o (joined f n)) (order-next 0 gap 0 o (joined f n) (run-order z s)
-          (order-next gap 0 0 f n (orders-none gap (f.taken + 0) (hand_asks_of l w o.state) (omega (arith, all)) (unmarked-hand l deep held w o.state)) (reaching 0 n (silent (peek >> gives (tt {0})) (refl, λ _. tt) (moved f.taken w) f.state))))
+          (order-next gap 0 0 f n (up-none gaps any gap (f.taken + 0) (hand_asks_of l w o.state) (omega (arith, all)) (unmarked-hand l deep held w o.state)) (reaching 0 n (silent (peek >> gives (tt {0})) (refl, λ _. tt) (moved f.taken w) f.state))))
 
   all-next : {A B : Type 0} (p : Parser B) (f : B → Parser A) → AllInOrder (run l p) → ((b : B) → AllInOrder (run l (f b))) → AllInOrder (run l (next p f))
   unfolding run
-  all-next p f h k z s = let o = run l p z s in order-joined o (run l (f o.value) (moved o.taken z) o.state) (h z s) (k o.value (moved o.taken z) o.state)
+  all-next p f h k z s = let o = run l p z s in up-joined gaps any 0 o (run l (f o.value) (moved o.taken z) o.state) (h z s) (k o.value (moved o.taken z) o.state)
 
   all-node : {A : Type 0} (shape : A → Shape) (p : Parser A) → AllInOrder (run l p) → AllInOrder (run l (node shape p))
   unfolding node run
   all-node shape p h z s =
       let a = run l peek z s in
       let o = run l (wraps shape at_token p) z a.state in
-      order-joined a (joined o (plain o.value.0 o.state)) (order-hand l deep held z s 0) (order-joined o (plain o.value.0 o.state) (h z a.state) (omega arith))
+      up-joined gaps any 0 a (joined o (plain o.value.0 o.state)) (order-hand l deep held z s 0) (up-joined gaps any 0 o (plain o.value.0 o.state) (h z a.state) (omega arith))
 
   all-scoped : {A : Type 0} (f : Reading → Reading) (p : Parser A) → AllInOrder (run l p) → AllInOrder (run l (scoped f p))
   unfolding run
@@ -374,7 +313,7 @@ module _ (l : Level) (deep : (call : Call) → AllInOrder (l.deeper call)) (held
 
   all-trivia : (k : SyntaxKind) (p : Parser (Unit {0})) → AllInOrder (run l (p >> flush_trivia)) → AllInOrder (run l (node_with_trivia k p))
   unfolding node_with_trivia run
-  all-trivia k p h z s = let o = run l (wraps (λ _. becomes k) at_trivia (p >> flush_trivia)) z s in order-joined o (plain o.value.1 o.state) (h z s) (omega arith)
+  all-trivia k p h z s = let o = run l (wraps (λ _. becomes k) at_trivia (p >> flush_trivia)) z s in up-joined gaps any 0 o (plain o.value.1 o.state) (h z s) (omega arith)
 
 -- ---- at every level
 
@@ -424,7 +363,7 @@ noted-order lv text (looked at look ∷ asks) h ns lo hi e r = noted-order lv te
 noted-order lv text (marked at gap fewer m s ∷ asks) h ns lo hi e r =
     let z = start_of text in
     let note : Note = record { mark = m; before = position (moved at z); start = position (moved gap (moved at z)); levels = lv - fewer; state = s; reach = h.reach; least = h.least } in
-    let i = noted-order lv text asks (with_note gap (lv - fewer) m s (moved at z) h) (ns ++ note ∷ []) (at + gap) hi (noted-more note h.notes ns e) r.1 in
+    let i = noted-order lv text asks (with_note gap (lv - fewer) m s (moved at z) h) (ns ++ note ∷ []) (at + gap) hi (noted-more note h.notes ns e) r.2 in
     let before : note.before ≡ width (take at text) = width-moved at text in
     let start : note.start ≡ width (take (at + gap) text) = ap (λ (y : Place). width y.before) (sym (moved-sum at gap z)) ∙ width-moved (at + gap) text in
     let one = take-more lo at text r.0 in

@@ -19,7 +19,6 @@ use Rattle.typst_edits.specs.Edit.{text_with, AllEndBy}
 use Rattle.typst_edits.specs.InnerBytes.{inner_both, InnerDecisionLaw}
 use Rattle.typst_edits.specs.InnerJoint.{onwards_past, left_past}
 use Rattle.typst_edits.specs.Laws.{blocks_of_text, block_at}
-use Rattle.typst_edits.specs.Named.{Named}
 use Rattle.typst_edits.specs.RunBytes.{PieceNote}
 use Rattle.typst_edits.specs.Runs.{made, AllGo, End, end_of, asks_of, chain}
 use Rattle.typst_edits.specs.Sequence.{Sequence, turn_of, first_of, first_end, then_of, then_end, rest_of}
@@ -37,9 +36,9 @@ use Rattle.typst_edits.proofs.Edit.{among}
 use Rattle.typst_edits.proofs.Inside.{Lawful}
 use Rattle.typst_edits.proofs.InnerJoint.{inner-fronted}
 use Rattle.typst_edits.proofs.Law.{inside-level}
-use Rattle.typst_edits.proofs.Names.{named-level}
 use Rattle.typst_edits.proofs.Outcomes.{shift-zero, shift-twice}
 use Rattle.typst_edits.proofs.Runs.{repeated-chain, chain-state, chain-taken}
+use Rattle.typst_edits.proofs.Text.{content-reads}
 use Rattle.typst_edits.proofs.Within.{AllAt, at-second}
 
 -- ---- what is asked in a content block
@@ -131,11 +130,11 @@ module _ (k : CharClasses) (levels : ℕ) (z : Place) (s : Point) where
       ap (λ (u : Outcome (Unit {0})). u.asks) is ∙ content-asks c (tail_by e) (close_by e) ∙ ap (λ u. asks_before ++ shift opened (run_mark ∷ u)) asks
 
 module _ (k : CharClasses) (levels : ℕ) where
-  lead-bare : (z : Place) (s : Point) → AllMarks Never (inner_lead k levels z s).asks
+  pub lead-bare : (z : Place) (s : Point) → AllMarks Never (inner_lead k levels z s).asks
   unfolding run
   lead-bare z s = let b = bracket k levels z s in none-hand Never k b.state.held b.state.known (moved b.taken z)
 
-  before-bare : (z : Place) (s : Point) → AllMarks Never (asks_before k levels z s)
+  pub before-bare : (z : Place) (s : Point) → AllMarks Never (asks_before k levels z s)
   unfolding run
   before-bare z s =
       let s1 = (look_first k levels z s).state in
@@ -456,11 +455,9 @@ inner-decision-law k levels front old rest c i n chosen name level g h =
     let z = text_with front old rest in
     let o = parsed k max_depth text in
     let l = among (Lawful z z o o) c _ chosen (inside-level (rules k) k (ends k) max_depth whole z z (start_point markup_reading)) in
-    let named = among (Named (block_at k) max_depth) c _ chosen (named-level (rules k) k max_depth whole z (start_point markup_reading)) in
     let s = point_of c.start in
     let y = moved c.at z in
-    let reads : unit_at c z ≡ ended (block_at k (suc levels) block.Content y s) =
-    ap (λ m. m y s) named.reads ∙ ap (λ v. ended (block_at k v c.name y s)) level ∙ ap (λ x. ended (block_at k (suc levels) x y s)) name in
+    let reads = content-reads k text c chosen levels name level z in
     let one = note-in k levels text c l.old reads level i g in
     let two = note-both k levels text c l.old reads level i n g h in
     let b = width (front ++ old) in

@@ -1,5 +1,5 @@
 -- A candidate in a content block: where its children stand among the bytes, and that it begins well.
-use Rattle.std.proofs.Common.{◌≡◌, inl, inr, ℕ, zero, suc, ◌+◌, ◌-◌, ◌<◌, ◌≤◌, ◌==◌, ne_eqb, if◌then◌else◌, Bool, true, false, List, [], ◌∷◌, ◌++◌, length, take, length-append, append_assoc, append-nil, Option, None, Some, refl, ap, sym, ◌∙◌, subst, arith}
+use Rattle.std.proofs.Common.{◌≡◌, inl, inr, ℕ, zero, suc, ◌+◌, ◌-◌, ◌<◌, ◌≤◌, ◌==◌, ne_eqb, if◌then◌else◌, Bool, true, false, List, [], ◌∷◌, ◌++◌, length, take, length-append, append_assoc, Option, None, Some, refl, ap, sym, ◌∙◌, subst, arith}
 use Rattle.typst_kinds.specs.declared.kind.SyntaxKind.TheVariants as kind
 use Rattle.typst_kinds.specs.Head.{inner_head}
 use Rattle.typst_lines.specs.Place.{Place, moved}
@@ -10,36 +10,34 @@ use Rattle.typst_tokens.specs.Sight.{width}
 use Rattle.typst_language.specs.declared.calls.Block.TheVariants as block
 use Rattle.typst_language.specs.declared.calls.Note.{Note}
 use Rattle.typst_language.specs.declared.reading.Reading.{Reading}
-use Rattle.typst_language.specs.Hand.{len_at, utf8_ahead}
+use Rattle.typst_language.specs.Hand.{len_at}
 use Rattle.typst_language.specs.Meaning.{Outcome, start_point, run}
 use Rattle.typst_language.specs.Point.{Trivia, point_of, gap_of, pending}
 use Rattle.typst_language.proofs.Knot.{sane-meaning, sane-plain}
-use Rattle.typst_language.proofs.Leaves.{texts, texts-append, texts-one, text-add}
+use Rattle.typst_language.proofs.Leaves.{texts}
 use Rattle.typst_candidates.specs.Units.{cuts_in, top_cuts}
 use Rattle.typst_candidates.specs.Candidates.{Child, laid, child_at, is_among, begins, Candidate, of_run, run_in}
 use Rattle.typst_grammar.specs.Markup.{ends_block, markup_turn, markup_reading}
-use Rattle.typst_grammar.specs.Grammar.{rules, max_depth, start_of, whole, parsed, log, tree}
-use Rattle.typst_grammar.proofs.InRuns.{lawful-block}
+use Rattle.typst_grammar.specs.Grammar.{rules, max_depth, start_of, whole, log, tree}
 use Rattle.typst_edits.specs.Answer.{candidates}
 use Rattle.typst_edits.specs.BlockRuns.{inner, run_at, opened_at}
 use Rattle.typst_edits.specs.Children.{Settles}
 use Rattle.typst_edits.specs.Edit.{Among, text_with}
 use Rattle.typst_edits.specs.Every.{Every}
-use Rattle.typst_edits.specs.Frame.{cut_at, PassesPieces}
+use Rattle.typst_edits.specs.Frame.{cut_at}
 use Rattle.typst_edits.specs.Hole.{fill, path_of}
 use Rattle.typst_edits.specs.Hole.Deep.{under}
 use Rattle.typst_edits.specs.InnerChildren.{standing_in, nodes_in, block_with}
 use Rattle.typst_edits.specs.InnerBytes.{inner_end, inner_both}
 use Rattle.typst_edits.specs.InnerJoint.{onwards_in}
 use Rattle.typst_edits.specs.InnerPieces.{block_run, Around, kids_in, markup_from}
-use Rattle.typst_edits.specs.Laws.{blocks_of_text, block_at}
+use Rattle.typst_edits.specs.Laws.{blocks_of_text}
 use Rattle.typst_edits.specs.Leading.{LeadsAt, bytes_of, token_byte, opening_child, LeadingInner}
-use Rattle.typst_edits.specs.Named.{Named}
 use Rattle.typst_edits.specs.OpensApart.{OpensApartLaw}
 use Rattle.typst_edits.specs.PieceNotes.{listed}
 use Rattle.typst_edits.specs.Sequence.{Sequence, turn_of, first_of, first_end, then_of, then_end}
 use Rattle.typst_edits.specs.Runs.{AllGo, End}
-use Rattle.typst_edits.specs.Spot.{Spot, ended, unit_at}
+use Rattle.typst_edits.specs.Spot.{Spot, unit_at}
 use Rattle.typst_edits.specs.RootPieces.{StandsAt}
 use Rattle.typst_edits.specs.InnerCandidates.{InnerCandidateLaw}
 use Rattle.typst_edits.proofs.BareCandidates.{bare-candidates-law}
@@ -51,12 +49,10 @@ use Rattle.typst_edits.proofs.Children.{known-behind}
 use Rattle.typst_edits.proofs.Clear.{Clear, clear-level}
 use Rattle.typst_edits.proofs.Content.{content-begun}
 use Rattle.typst_edits.proofs.Edit.{among, trees-of}
-use Rattle.typst_edits.proofs.Fitting.{no-front, same-here}
+use Rattle.typst_edits.proofs.Fitting.{same-here}
 use Rattle.typst_edits.proofs.Heads.{inner-lone}
 use Rattle.typst_edits.proofs.InnerChildren.{opens-by, inner-back-law, tree-by-block}
 use Rattle.typst_edits.proofs.InnerCuts.{BlockCuts, cuts-of-block}
-use Rattle.typst_edits.proofs.Inside.{Lawful}
-use Rattle.typst_edits.proofs.Law.{inside-level}
 use Rattle.typst_edits.proofs.Leading.{Plain, leading-inner-law, plain-block}
 use Rattle.typst_edits.proofs.Joint.{takes-call}
 use Rattle.typst_edits.proofs.Led.{same-judged}
@@ -64,29 +60,17 @@ use Rattle.typst_edits.proofs.NoneBack.{inner-onwards-is}
 use Rattle.typst_edits.proofs.NoteNumbers.{go-fewer}
 use Rattle.typst_edits.proofs.QuietTrivia.{inner-quiet}
 use Rattle.typst_edits.proofs.MarkupCandidates.{InMarkup, descend, of-run}
-use Rattle.typst_edits.proofs.Names.{named-level}
-use Rattle.typst_edits.proofs.Placed.{left_text, Placed, placed-level}
+use Rattle.typst_edits.proofs.Placed.{left_text}
 use Rattle.typst_edits.proofs.RootPieces.{take-past}
-use Rattle.typst_edits.proofs.Walk.{length-texts, width-encodes}
+use Rattle.typst_edits.proofs.SpotPlaces.{spot-place}
+use Rattle.typst_edits.proofs.Text.{content-reads}
+use Rattle.typst_edits.proofs.Walk.{length-texts}
 use Rattle.typst_edits.proofs.Widths.{width-append}
+use Rattle.typst_edits.proofs.BlockPlaces.{early-by as sooner, late-by as further}
 
 -- ---- from bytes to characters
 
--- what ends before a stretch in bytes does so in characters
-pub sooner : (n : ℕ) (xs ys : List ℕ) → width (take n (xs ++ ys)) < width xs → n < length xs
-unfolding width
-sooner n [] ys h = absurd (omega (arith, h))
-sooner zero (x ∷ xs) ys h = omega arith
-sooner (suc n) (x ∷ xs) ys h = let i = sooner n xs ys (omega (arith, h)) in omega (arith, i)
-
--- and what ends behind it
-further : (n : ℕ) (xs ys : List ℕ) → width xs < width (take n (xs ++ ys)) → length xs < n
-unfolding width
-further zero xs ys h = absurd (omega (arith, h))
-further (suc n) [] ys h = omega arith
-further (suc n) (x ∷ xs) ys h = let i = further n xs ys (omega (arith, h)) in omega (arith, i)
-
--- and what ends there or behind it
+-- what ends behind a stretch in bytes, or with it, does so in characters
 pub as-far : (n : ℕ) (xs ys : List ℕ) → width xs ≤ width (take n (xs ++ ys)) → length xs ≤ n
 unfolding width
 as-far n [] ys h = omega arith
@@ -127,47 +111,7 @@ pub record Seat (text : List ℕ) (s : Spot (Unit {0})) : Type 0 where
   pub both : width (take s.at text) + length (text_of s.node) ≡ width (take (s.at + (unit_at s (start_of text)).taken) text)
 
 pub seat-of : (k : CharClasses) (text : List ℕ) (s : Spot (Unit {0})) → Among s (blocks_of_text k text) → 0 < length (text_of s.node) → Seat text s
-unfolding blocks_of_text
-seat-of k text c chosen full =
-    let z = start_of text in
-    let s = start_point markup_reading in
-    let o = parsed k max_depth text in
-    let u = unit_at c z in
-    let y = moved c.at z in
-    let p = point_of c.start in
-    let l = among (Lawful z z o o) c _ chosen (inside-level (rules k) k (ends k) max_depth whole z z s) in
-    let n = among (Named (block_at k) max_depth) c _ chosen (named-level (rules k) k max_depth whole z s) in
-    let clear = among (Clear k z) c _ chosen (clear-level (rules k) k max_depth whole z s tt) in
-    let placed = among (Placed z s) c _ chosen (placed-level (rules k) k max_depth whole z s tt) in
-    let levels = max_depth - c.fewer in
-    let laws = lawful-block k c.name in
-    let read : u ≡ ended (block_at k levels c.name y p) = ap (λ r. r y p) n.reads in
-    -- its nodes hold its characters
-    let all : texts (c.front ++ c.node ∷ []) ≡ utf8_ahead u.taken y =
-    sym (ap texts l.fits.nodes) ∙ ap (λ (q : Outcome (Unit {0})). texts q.nodes) read ∙ (laws.leaves levels y p tt).text ∙ ap (λ (q : Outcome (Unit {0})). utf8_ahead q.taken y) (sym read) in
-    let long = ap length all in
-    let split = ap length (texts-append c.front (c.node ∷ [])) in
-    let sum = length-append (texts c.front) (texts (c.node ∷ [])) in
-    let one = ap length (texts-one c.node) in
-    let some : 0 < u.taken = some-taken u.taken y (omega (arith, full, long, split, sum, one)) in
-    let none_before : c.front ≡ [] = no-front k max_depth c z n clear l.fits some in
-    let held : text_of c.node ≡ utf8_ahead u.taken y = sym (texts-one c.node) ∙ ap (λ ts. texts (ts ++ c.node ∷ [])) (sym none_before) ∙ all in
-    let before : left_text c.hole ≡ utf8_ahead c.at z = placed.left ∙ ap (λ ts. utf8_ahead c.at z ++ texts ts) none_before ∙ append-nil (utf8_ahead c.at z) in
-    record {
-      some = some;
-      left_is = ap length before ∙ width-encodes (take c.at text);
-      both =
-          (let a = ap length held in
-          let b = width-encodes (take c.at text) in
-          let d = width-encodes (take (c.at + u.taken) text) in
-          let e = ap length (text-add c.at u.taken z) in
-          let f = length-append (utf8_ahead c.at z) (utf8_ahead u.taken y) in
-          omega (arith, a, b, d, e, f));
-    }
-  where
-    some-taken : (n : ℕ) (y : Place) → 0 < length (utf8_ahead n y) → 0 < n
-    some-taken zero y h = absurd (omega (arith, h))
-    some-taken (suc n) y h = omega arith
+seat-of k text c chosen full = let p = spot-place k text c chosen in record { some = p.some full; left_is = p.left full; both = p.both full }
 
 -- ---- what stands in its node
 
@@ -188,10 +132,8 @@ module _ (k : CharClasses) (levels : ℕ) (text : List ℕ) (c : Spot (Unit {0})
       let z = start_of text in
       let s = point_of c.start in
       let y = moved c.at z in
-      let named = among (Named (block_at k) max_depth) c _ chosen (named-level (rules k) k max_depth whole z (start_point markup_reading)) in
       let clear = among (Clear k z) c _ chosen (clear-level (rules k) k max_depth whole z (start_point markup_reading) tt) in
-      let reads : unit_at c z ≡ ended (block_at k (suc levels) block.Content y s) =
-      ap (λ m. m y s) named.reads ∙ ap (λ v. ended (block_at k v c.name y s)) left ∙ ap (λ x. ended (block_at k (suc levels) x y s)) name in
+      let reads = content-reads k text c chosen levels name left z in
       let begun = content-begun (inner k levels) (sane-meaning (rules k) k (suc levels)) (λ b. sane-plain tt) y s refl (clear.clear z (same-here c.before z)) (subst (λ (a : Outcome (Unit {0})). 0 < a.taken) reads some) in
       (opens-by k levels y s begun).empties
 

@@ -6,7 +6,6 @@ use borrow.Author.Tests.{le-ltb}
 use Rattle.typst_lines.specs.Place.{Place, moved}
 use Rattle.typst_tree.specs.Tree.{Tree, forest, inner_of, made_error}
 use Rattle.typst_lines.specs.Classes.{CharClasses}
-use Rattle.typst_language.specs.declared.calls.Block.TheVariants as block
 use Rattle.typst_language.specs.declared.calls.Mark.TheVariants as mark
 use Rattle.typst_language.specs.Ask.Ask.{marked}
 use Rattle.typst_language.specs.Hand.{Hand, told}
@@ -31,12 +30,11 @@ use Rattle.typst_edits.specs.Hole.{Deep, fill, path_in, Hole, plug, path_of}
 use Rattle.typst_edits.specs.Hole.Deep.{bare, under}
 use Rattle.typst_edits.specs.InnerChildren.{read_in, standing_in, nodes_in, block_with, InnerChildrenLaw, InnerBackLaw}
 use Rattle.typst_edits.specs.InnerJoint.{PassesInnerJoint, onwards_in}
-use Rattle.typst_edits.specs.Laws.{blocks_of_text, block_at}
-use Rattle.typst_edits.specs.Named.{Named}
+use Rattle.typst_edits.specs.Laws.{blocks_of_text}
 use Rattle.typst_edits.specs.RunTrees.{given}
 use Rattle.typst_edits.specs.Runs.{AllGo, chain}
 use Rattle.typst_edits.specs.Sequence.{Sequence, turn_of, first_of, first_end, then_of, then_end, then_place, rest_of}
-use Rattle.typst_edits.specs.Spot.{Spot, last_node, unit_at, ended}
+use Rattle.typst_edits.specs.Spot.{Spot, last_node, unit_at}
 use Rattle.typst_edits.proofs.BlockRuns.{sane, content_by, split, split-taken, split-state}
 use Rattle.typst_edits.proofs.Blocks.{ends, last-is}
 use Rattle.typst_edits.proofs.Children.{exchanged-is, tidy-together, given-together, Gives, known-behind, gives-pieces, settled, made-none, stretch-is}
@@ -50,9 +48,9 @@ use Rattle.typst_edits.proofs.InnerJoint.{onward-fronted, first-same, inner-join
 use Rattle.typst_edits.proofs.Joint.{takes-call}
 use Rattle.typst_edits.proofs.Law.{inside-level}
 use Rattle.typst_edits.proofs.Led.{none-of, same-judged}
-use Rattle.typst_edits.proofs.Names.{named-level}
 use Rattle.typst_edits.proofs.RunTrees.{standing-none, standing-still, standing-chain}
 use Rattle.typst_edits.proofs.Runs.{chain-state}
+use Rattle.typst_edits.proofs.Text.{content-reads}
 
 -- ---- what leaves the nodes before it as they are
 
@@ -370,10 +368,8 @@ both-open k levels front old new rest c i n m past t u chosen h =
     let y = moved c.at z in
     let v = moved c.at w in
     let kept = inner-joint-law k levels front old new rest c i n m past t u chosen h in
-    let named = among (Named (block_at k) max_depth) c _ chosen (named-level (rules k) k max_depth whole z (start_point markup_reading)) in
     let clear = among (Clear k z) c _ chosen (clear-level (rules k) k max_depth whole z (start_point markup_reading) tt) in
-    let reads : (a : Place) → unit_at c a ≡ ended (block_at k (suc levels) block.Content (moved c.at a) s) = λ a.
-    ap (λ o. o (moved c.at a) s) named.reads ∙ ap (λ l. ended (block_at k l c.name (moved c.at a) s)) h.pieces.level ∙ ap (λ x. ended (block_at k (suc levels) x (moved c.at a) s)) h.pieces.name in
+    let reads = content-reads k (front ++ (old ++ rest)) c chosen levels h.pieces.name h.pieces.level in
     let starts = h.pieces.starts in
     let ends_old = kept.passes.ends in
     let ends_new = kept.passes.shifted in

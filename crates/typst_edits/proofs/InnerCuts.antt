@@ -16,6 +16,7 @@ use Rattle.typst_candidates.specs.Units.{is_piece, opens_content, is_closing, st
 use Rattle.typst_candidates.specs.Candidates.{is_among}
 use Rattle.typst_grammar.specs.Grammar.{max_depth, start_of, log}
 use Rattle.typst_grammar.specs.Markup.{ends_block, markup_turn}
+pub use Rattle.typst_grammar.proofs.Fine.{and-both as both-on}
 use Rattle.typst_edits.specs.BlockRuns.{run_at}
 use Rattle.typst_edits.specs.Edit.{Among}
 use Rattle.typst_edits.specs.Every.{Every}
@@ -68,10 +69,6 @@ open-is m line brackets e = ap is_closing e
 pub both-off : (b c : Bool) → c ≡ false → (b && c) ≡ false
 both-off true c e = e
 both-off false c e = refl
-
-pub both-on : (b c : Bool) → b ≡ true → c ≡ true → (b && c) ≡ true
-both-on true c e f = f
-both-on false c e f = cc
 
 first-off : (b c : Bool) → b ≡ false → (b && c) ≡ false
 first-off true c e = cc

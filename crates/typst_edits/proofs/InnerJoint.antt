@@ -5,7 +5,6 @@ use Rattle.typst_kinds.specs.Kinds.{same, is_error}
 use Rattle.typst_lines.specs.Place.{Place, moved}
 use Rattle.typst_tree.specs.Tree.{Tree, text_of}
 use Rattle.typst_lines.specs.Classes.{CharClasses}
-use Rattle.typst_language.specs.declared.calls.Block.TheVariants as block
 use Rattle.typst_language.specs.declared.reading.Newlines.{Newlines}
 use Rattle.typst_language.specs.declared.reading.Reading.{Reading}
 use Rattle.typst_language.specs.Ask.{Ask, SameIn}
@@ -27,7 +26,6 @@ use Rattle.typst_edits.specs.BlockRuns.{EndsBefore, inner, look_again, bracket, 
 use Rattle.typst_edits.specs.Edit.{text_with, Passes}
 use Rattle.typst_edits.specs.InnerJoint.{onwards_in, onwards_past, left_past, InnerJointLaw}
 use Rattle.typst_edits.specs.Joint.{minds, passed, Exchanged, Meets}
-use Rattle.typst_edits.specs.Laws.{block_at}
 use Rattle.typst_edits.specs.Runs.{AllGo, End, asks_of, chain}
 use Rattle.typst_edits.specs.Sequence.{turn_of, first_of, first_end, then_of, then_end, then_place, rest_of}
 use Rattle.typst_edits.specs.Spot.{Spot, ended, unit_at}
@@ -38,7 +36,7 @@ use Rattle.typst_edits.proofs.Led.{behind_trivia, same-judged, before_trivia, sa
 use Rattle.typst_edits.proofs.Meeting.{ReadAs, read-as, read-made, judged-alike, Met, met}
 use Rattle.typst_edits.proofs.Outcomes.{shift-zero}
 use Rattle.typst_edits.proofs.Runs.{moved-three, moved-four}
-use Rattle.typst_edits.proofs.Text.{block-law, names-law}
+use Rattle.typst_edits.proofs.Text.{block-law, content-reads}
 use Rattle.typst_edits.proofs.Turns.{Fronted, fronted-behind, KnownFlush, flush-known}
 
 -- with nothing known of the trivia behind it
@@ -253,9 +251,7 @@ inner-joint-law k levels front old new rest c i n m past t u among h =
     ∙ shut-same k levels y2 v2 tail_old.state tail_new.state read_tail read_tail_new flush_old flush_new (subst (λ (o : Outcome Bool). SameIn o.asks y2 v2) close_old last)
     ∙ sym (ap (λ (o : Outcome Bool). forgets o) close_old) in
     -- the block
-    let named = names-law k (front ++ (old ++ rest)) c among in
-    let reads : (a : Place) → unit_at c a ≡ ended (block_at k (suc levels) block.Content (moved c.at a) s) = λ a.
-    ap (λ o. o (moved c.at a) s) named.reads ∙ ap (λ l. ended (block_at k l c.name (moved c.at a) s)) h.pieces.level ∙ ap (λ x. ended (block_at k (suc levels) x (moved c.at a) s)) h.pieces.name in
+    let reads = content-reads k (front ++ (old ++ rest)) c among levels h.pieces.name h.pieces.level in
     let ended_of = λ (o : Outcome (Unit {0})). ended o in
     let was = reads z0 ∙ ap ended_of (content-split k levels z s i n h.pieces.first_go h.pieces.old_go) in
     let mine = reads w0 ∙ ap ended_of (content-split k levels w s i m new_first h.pieces.new_go) in

@@ -1,5 +1,5 @@
 -- The number of a note where pieces of a content block's run end.
-use Rattle.std.proofs.Common.{◌≡◌, ℕ, zero, suc, ◌+◌, ◌-◌, ◌<◌, ◌≤◌, ◌==◌, eq-eqb, Bool, true, false, List, [], ◌∷◌, ◌++◌, length, take, length-append, append_assoc, refl, ap, sym, ◌∙◌, subst, arith}
+use Rattle.std.proofs.Common.{◌≡◌, ℕ, suc, ◌+◌, ◌-◌, ◌<◌, ◌≤◌, ◌==◌, eq-eqb, Bool, true, false, List, [], ◌∷◌, ◌++◌, length, take, length-append, append_assoc, refl, ap, sym, ◌∙◌, subst, arith}
 use Rattle.typst_lines.specs.Place.{Place, moved}
 use Rattle.typst_lines.specs.Classes.{CharClasses}
 use Rattle.typst_tokens.specs.Sight.{width}
@@ -19,23 +19,23 @@ use Rattle.typst_grammar.specs.Grammar.{rules, max_depth, start_of, whole, parse
 use Rattle.typst_edits.specs.BlockRuns.{inner, look_first, look_again, bracket, run_at, opened_at}
 use Rattle.typst_edits.specs.Edit.{Among}
 use Rattle.typst_edits.specs.InnerBytes.{inner_end}
-use Rattle.typst_edits.specs.Laws.{blocks_of_text, block_at}
-use Rattle.typst_edits.specs.Named.{Named}
+use Rattle.typst_edits.specs.Laws.{blocks_of_text}
 use Rattle.typst_edits.specs.NumberedNotes.{of_level, Numbered, SaysOf, InnerNumberLaw}
 use Rattle.typst_edits.specs.PieceNotes.{listed}
 use Rattle.typst_edits.specs.Rising.{Rising}
 use Rattle.typst_edits.specs.Runs.{AllGo}
 use Rattle.typst_edits.specs.Sequence.{Sequence, turn_of, first_of, first_end}
-use Rattle.typst_edits.specs.Spot.{Spot, unit_at, ended}
+use Rattle.typst_edits.specs.Spot.{Spot, unit_at}
 use Rattle.typst_edits.proofs.BlockRuns.{sane as in-sane}
 use Rattle.typst_edits.proofs.Clear.{Clear, clear-level}
 use Rattle.typst_edits.proofs.Content.{again, content-begun}
 use Rattle.typst_edits.proofs.Edit.{among}
 use Rattle.typst_edits.proofs.Fitting.{same-here}
-use Rattle.typst_edits.proofs.Names.{named-level}
 use Rattle.typst_edits.proofs.NoteNumbers.{level-append, numbered-at, neither, go-fewer, more-taken, turns-within, take-longer}
 use Rattle.typst_edits.proofs.Rising.{take-more, rising-law}
 use Rattle.typst_edits.proofs.Spots.{if-true}
+use Rattle.typst_edits.proofs.Text.{content-reads}
+use Rattle.typst_edits.proofs.CandidateEnds.{some-by as positive}
 
 -- ---- notes in order
 
@@ -89,10 +89,6 @@ before-last (x ∷ inner) o later (m ∷ mid) p behind e none other =
 
 -- ---- the law
 
-positive : (n : ℕ) → (n ≡ 0 → ⊥) → 0 < n
-positive zero f = absurd (f refl)
-positive (suc n) f = omega arith
-
 -- where it begins it stands no later than its token
 begins-by : (from end : ℕ) (xs : List Note) (n : Note) (ys : List Note) → Rising from end (xs ++ n ∷ ys) → n.before ≤ n.start
 begins-by from end [] n ys r = r.1
@@ -118,10 +114,8 @@ module _ (k : CharClasses) (levels : ℕ) (text : List ℕ) (c : Spot (Unit {0})
       let l = inner k levels in
       let o = parsed k max_depth text in
       let sd = sane-meaning (rules k) k (suc levels) in
-      let named = among (Named (block_at k) max_depth) c _ chosen (named-level (rules k) k max_depth whole z0 (start_point markup_reading)) in
       let clear = among (Clear k z0) c _ chosen (clear-level (rules k) k max_depth whole z0 (start_point markup_reading) tt) in
-      let reads : unit_at c z0 ≡ ended (block_at k (suc levels) block.Content y0 s0) =
-      ap (λ m. m y0 s0) named.reads ∙ ap (λ v. ended (block_at k v c.name y0 s0)) left ∙ ap (λ x. ended (block_at k (suc levels) x y0 s0)) name in
+      let reads = content-reads k text c chosen levels name left z0 in
       let begun = content-begun l sd (λ b. sane-plain tt) y0 s0 refl (clear.clear z0 (same-here c.before z0)) (subst (λ (a : Outcome (Unit {0})). 0 < a.taken) reads some) in
       let s1 = asked (hand_of l y0 s0) s0 in
       let one : hand_of l y0 s1 ≡ hand_of l y0 s0 = again l sd (λ b. sane-plain tt) y0 s0 in

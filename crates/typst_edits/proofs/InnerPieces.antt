@@ -11,7 +11,6 @@ use Rattle.typst_language.proofs.Places.{less-none}
 use Rattle.typst_candidates.specs.Candidates.{Candidate}
 use Rattle.typst_grammar.specs.Grammar.{max_depth, tree}
 use Rattle.typst_edits.specs.BlockRuns.{run_at, opened_at, tail_at, close_at}
-use Rattle.typst_edits.specs.Children.{with_children}
 use Rattle.typst_edits.specs.Edit.{Among, text_with}
 use Rattle.typst_edits.specs.Frame.{Run, end_by, nodes_now, is_over, Agrees, PassesPieces}
 use Rattle.typst_edits.specs.Heads.{GoesOnWell}
@@ -20,13 +19,13 @@ use Rattle.typst_edits.specs.InnerBytes.{inner_end, inner_both}
 use Rattle.typst_edits.specs.InnerChildren.{read_in, standing_in, nodes_in, block_with}
 use Rattle.typst_edits.specs.InnerJoint.{onwards_in, left_past, PassesInnerJoint}
 use Rattle.typst_edits.specs.InnerPieces.{block_run, kids_in, markup_from, Around, BeginsWellIn, InnerPiecesLaw}
-use Rattle.typst_edits.specs.Laws.{block_at, blocks_of_text}
+use Rattle.typst_edits.specs.Laws.{blocks_of_text}
 use Rattle.typst_edits.specs.Leading.{LeadingInner, token_byte}
 use Rattle.typst_edits.specs.LeadingTrivia.{trivia_in}
 use Rattle.typst_edits.specs.RootPieces.{StandsAt}
 use Rattle.typst_edits.specs.Runs.{AllGo, chain}
 use Rattle.typst_edits.specs.Sequence.{first_of, first_end, then_of, then_end, rest_of}
-use Rattle.typst_edits.specs.Spot.{Spot, ended, unit_at}
+use Rattle.typst_edits.specs.Spot.{Spot, unit_at}
 use Rattle.typst_edits.proofs.BlockRuns.{content-split, content-taken}
 use Rattle.typst_edits.proofs.Edit.{trees-of}
 use Rattle.typst_edits.proofs.Heads.{inner-meets-law}
@@ -35,10 +34,9 @@ use Rattle.typst_edits.proofs.InnerJoint.{inner-fronted}
 use Rattle.typst_edits.proofs.Leading.{leading-inner-law}
 use Rattle.typst_edits.proofs.LeadingTrivia.{inner-leading-trivia-law}
 use Rattle.typst_edits.proofs.NoneBack.{inner-none-back-law, inner-none-behind-law}
-use Rattle.typst_edits.proofs.Replaced.{put-law}
-use Rattle.typst_edits.proofs.RootPieces.{take-past, drop-some, drop-none, same-place, nothing-left, first-is}
+use Rattle.typst_edits.proofs.RootPieces.{take-past, drop-some, drop-none, same-place, nothing-left, first-is, put-there}
 use Rattle.typst_edits.proofs.BlockRuns.{split-taken}
-use Rattle.typst_edits.proofs.Text.{names-law}
+use Rattle.typst_edits.proofs.Text.{content-reads}
 
 -- ---- a block's children
 
@@ -79,9 +77,7 @@ module _ (k : CharClasses) (levels : ℕ) (front old new rest : List ℕ) (s : S
       let q = rest_of i n r in
       let last = tail_at k levels i n s z0 in
       let close = close_at k levels i n s z0 in
-      let named = names-law k text s among in
-      let reads : unit_at s z0 ≡ ended (block_at k (suc levels) block.Content z p) =
-      ap (λ o. o z p) named.reads ∙ ap (λ l. ended (block_at k l s.name z p)) level ∙ ap (λ x. ended (block_at k (suc levels) x z p)) name in
+      let reads = content-reads k text s among levels name level z0 in
       let split = ap (λ (o : Outcome (Unit {0})). o.taken) (content-split k levels z p i n g h) in
       let all = content-taken k levels z p (chain (first_of i r) (chain (then_of i n r) q)) last close in
       let run = split-taken r i n in
@@ -165,11 +161,7 @@ inner-pieces-law k levels front old new rest s among name level c zero n m past 
     nodes-of k levels front old new rest s among name level 0 m u behind.back_now ∙ sym (drop-none (0 == 0) (trivia_in k levels 0 s w) ((read_in k levels 0 m s w).nodes ++ u.nodes) refl) in
     let was = tree k (front ++ (old ++ rest)) in
     let to_markup = path_of s.hole ++ 1 ∷ [] in
-    kept.tree_now ∙ ap (λ ns. with_children to_markup (length (standing_in k levels 0 n s z)) (length (standing_in k levels 0 n s z) + length (nodes_in k levels 0 n t s z)) ns was) news
-    ∙ ap (λ j. with_children to_markup j (length (standing_in k levels 0 n s z) + length (nodes_in k levels 0 n t s z)) (nodes_now r 0 m u w) was) (sym from)
-    ∙ ap (λ j. with_children to_markup c.from j (nodes_now r 0 m u w) was) (sym to)
-    ∙ ap (λ p. with_children p c.from c.to (nodes_now r 0 m u w) was) (sym path)
-    ∙ sym (put-law c.path c.from c.to (nodes_now r 0 m u w) was)
+    put-there c to_markup (length (standing_in k levels 0 n s z)) (length (standing_in k levels 0 n s z) + length (nodes_in k levels 0 n t s z)) _ _ was kept.tree_now news from to path
 inner-pieces-law k levels front old new rest s among name level c (suc j) n m past t u around path start up end h well =
     let z = text_with front old rest in
     let w = text_with front new rest in
@@ -200,8 +192,4 @@ inner-pieces-law k levels front old new rest s among name level c (suc j) n m pa
     ∙ sym (drop-some (i == 0) (trivia_in k levels i s w) ((read_in k levels i m s w).nodes ++ u.nodes) more) in
     let was = tree k text in
     let to_markup = path_of s.hole ++ 1 ∷ [] in
-    kept.tree_now ∙ ap (λ ns. with_children to_markup (first + trivia_in k levels i s z) last ns was) news
-    ∙ ap (λ l. with_children to_markup l last (nodes_now r i m u w) was) (sym from)
-    ∙ ap (λ l. with_children to_markup c.from l (nodes_now r i m u w) was) (sym to)
-    ∙ ap (λ p. with_children p c.from c.to (nodes_now r i m u w) was) (sym path)
-    ∙ sym (put-law c.path c.from c.to (nodes_now r i m u w) was)
+    put-there c to_markup (first + trivia_in k levels i s z) last _ _ was kept.tree_now news from to path

@@ -1,5 +1,5 @@
 -- What code finds of a candidate that is pieces in a content block, by the numbers of its entries and a reading from its first token on.
-use Rattle.std.proofs.Common.{◌≡◌, ◌↔◌, ℕ, zero, suc, ◌+◌, ◌-◌, ◌<◌, ◌≤◌, ◌==◌, ne_eqb, nat_le, Bool, true, false, if◌then◌else◌, List, [], ◌∷◌, ◌++◌, length, take, drop, None, Some, refl, ap, sym, ◌∙◌, subst, arith}
+use Rattle.std.proofs.Common.{◌≡◌, ◌↔◌, ℕ, zero, suc, ◌+◌, ◌-◌, ◌<◌, ◌≤◌, nat_le, Bool, true, false, if◌then◌else◌, List, [], ◌∷◌, ◌++◌, length, take, None, Some, refl, ap, sym, ◌∙◌, subst, arith}
 use Rattle.std.proofs.lemmas.Bool.Decides.{nat_tests}
 use Rattle.typst_lines.specs.Place.{Place, moved}
 use Rattle.typst_lines.specs.Classes.{CharClasses}
@@ -8,15 +8,14 @@ use Rattle.typst_tokens.specs.Sight.{width, position}
 use Rattle.typst_language.specs.declared.calls.Block.TheVariants as block
 use Rattle.typst_language.specs.declared.calls.Note.{Note}
 use Rattle.typst_language.specs.Ask.{shift}
-use Rattle.typst_language.specs.Meaning.{Outcome, less, start_point, entered, run}
+use Rattle.typst_language.specs.Meaning.{Outcome, start_point, entered, run}
 use Rattle.typst_language.specs.Shape.Making.{itself}
 use Rattle.typst_language.specs.Syntax.Op.{takes}
 use Rattle.typst_language.specs.Syntax.Parser.{does}
 use Rattle.typst_language.specs.Steps.{peek}
 use Rattle.typst_language.specs.Log.{Log, no_log, logged}
 use Rattle.typst_grammar.specs.Markup.{markup_reading}
-use Rattle.typst_language.specs.Point.{Trivia, Point, gap_of, pending, point_of}
-use Rattle.typst_language.specs.Shape.{hinted}
+use Rattle.typst_language.specs.Point.{Trivia, gap_of, pending, point_of}
 use Rattle.typst_language.proofs.Places.{moved-sum}
 use Rattle.typst_candidates.specs.declared.entry.Entry.{Entry}
 use Rattle.typst_candidates.specs.Candidates.{Candidate}
@@ -25,11 +24,10 @@ use Rattle.typst_candidates.specs.Records.{IsRising, AllEnd, AllBegin}
 use Rattle.typst_candidates.proofs.Looks.{front-law, rear-law}
 use Rattle.typst_grammar.specs.Grammar.{max_depth, log, tree}
 use Rattle.typst_grammar.specs.Pieces.{given, first_look}
-use Rattle.typst_edits.specs.BlockRuns.{inner, look_first, look_again, bracket, inner_lead, run_at, opened_at, EndsBefore}
+use Rattle.typst_edits.specs.BlockRuns.{look_first, look_again, bracket, inner_lead, run_at, opened_at, EndsBefore}
 use Rattle.typst_edits.specs.Bytes.{highest, lowest}
 use Rattle.typst_edits.specs.Edit.{Among, text_with}
-use Rattle.typst_edits.specs.Children.{together}
-use Rattle.typst_edits.specs.Frame.{Run, top, inner as block_inner, cut_at, end_by, is_over, nodes_now, Agrees, PassesPieces}
+use Rattle.typst_edits.specs.Frame.{Run, top, inner as block_inner, cut_at, is_over, Agrees, PassesPieces}
 use Rattle.typst_edits.specs.Frame.Gives.{of_pieces}
 use Rattle.typst_edits.specs.Answer.{candidates}
 use Rattle.typst_edits.specs.Hole.{path_of}
@@ -39,15 +37,14 @@ use Rattle.typst_edits.specs.Heads.{first_place, minds_at}
 use Rattle.typst_edits.specs.InnerPieces.{block_run, Around}
 use Rattle.typst_edits.specs.InnerBytes.{inner_end, inner_both}
 use Rattle.typst_edits.specs.InOrder.{InOrderLaw}
-use Rattle.typst_edits.specs.InnerPiecesTest.{front_count, InnerEntriesLaw, read_alone, end_alone, level_in, InnerReadLaw, InnerOnceLaw, InnerTestLaw, InnerPart, InnerPartLaw, InnerUnitsLaw}
-use Rattle.typst_edits.specs.OneReading.{TakesNone, again_end}
-use Rattle.typst_edits.specs.Resumed.{fresh, read_again}
+use Rattle.typst_edits.specs.InnerPiecesTest.{front_count, rear_count, InnerEntriesLaw, read_alone, end_alone, level_in, InnerReadLaw, InnerOnceLaw, InnerTestLaw, InnerPart, InnerPartLaw, InnerUnitsLaw}
+use Rattle.typst_edits.specs.OneReading.{TakesNone}
+use Rattle.typst_edits.specs.Resumed.{fresh}
 use Rattle.typst_edits.specs.Laws.{blocks_of_text}
 use Rattle.typst_edits.specs.PieceNotes.{listed}
-use Rattle.typst_edits.specs.Runs.{made, AllGo, End, end_of, asks_of}
+use Rattle.typst_edits.specs.Runs.{made, AllGo, End, asks_of}
 use Rattle.typst_edits.specs.Sequence.{Sequence, turn_of, first_of, first_end, then_of, then_end}
 use Rattle.typst_edits.specs.Spot.{Spot}
-use Rattle.typst_edits.proofs.Children.{given-together}
 use Rattle.typst_edits.proofs.InnerCandidates.{no-errors, inner-candidate-law}
 use Rattle.typst_edits.proofs.InnerPiecesLog.{inner-pieces-log-law}
 use Rattle.typst_edits.specs.Splice.{entries_from}
@@ -56,7 +53,8 @@ use Rattle.typst_edits.proofs.InnerJoint.{first-same}
 use Rattle.typst_edits.proofs.Outcomes.{shift-zero}
 use Rattle.typst_edits.proofs.Resumed.{block-known, block-then-known, block-fresh, bracket-gap, inner-count-law, inner-goes-too, start-asks, start-known, start-same, start-goes}
 use Rattle.typst_edits.proofs.InnerBytes.{inner-decision-law}
-use Rattle.typst_edits.proofs.OneReading.{block-seen, block-sees, block-clear, takes-some, gives-again-law}
+use Rattle.typst_edits.proofs.OneReading.{block-seen, block-sees, block-clear, takes-some}
+use Rattle.typst_edits.proofs.ReadAlone.{Rereads, first-goes, begun, alike, goes-there, gives-to, reads-to}
 use Rattle.typst_edits.proofs.RootPieces.{take-past}
 use Rattle.typst_edits.proofs.Seen.{end-first, end-second, end-shift}
 use Rattle.typst_edits.proofs.Widths.{width-append}
@@ -96,6 +94,36 @@ front-start (m ∷ ns) more n at start r l =
 
 pub units-are : (h : Log) (ns : List Note) → h.notes ≡ Some ns → units_of h ≡ units_by ns h.least
 units-are h ns e = ap (λ o. units_by (elim o as (λ _. List Note) [ None ↦ [] | Some ms ↦ ms ]) h.least) e
+
+-- What the number of a note among all says of looks: they end at a byte that isn't before its token, or begin behind one that isn't behind it.
+pub record NumbersOf (k : CharClasses) (text : List ℕ) (earlier : List Note) (note : Note) (later : List Note) : Type 0 where
+  pub before : (at : ℕ) → length earlier < front_count k text at → highest earlier note.reach ≤ at
+  pub before_too : (at : ℕ) → note.start ≤ at → highest earlier note.reach ≤ at → length earlier < front_count k text at
+  pub after : (end : ℕ) → end ≤ note.start → rear_count k text end ≤ length earlier → end < lowest later (log k text).least
+  pub after_too : (end : ℕ) → end ≤ note.start → end < lowest later (log k text).least → rear_count k text end ≤ length earlier
+
+pub numbers-of : InOrderLaw → (k : CharClasses) (text : List ℕ) (earlier : List Note) (note : Note) (later : List Note) → (log k text).notes ≡ Some (earlier ++ note ∷ later) → NumbersOf k text earlier note later
+numbers-of ordered k text earlier note later is =
+    let l = log k text in
+    let order = subst (λ ns. IsRising 0 ns) (ap listed is) (ordered k text) in
+    let units = units-are l _ is in
+    let fronts : (at : ℕ) → front_count k text at ≡ front_of at 0 (entries_by 0 (earlier ++ note ∷ later)) = λ at. ap (λ (u : Units). front_of at 0 u.entries) units in
+    let rears = λ (end : ℕ). ap (λ (u : Units). rear_of end 0 0 u.entries u.back) units in
+    record {
+      before = λ at p.
+          (let q = subst (λ j. length earlier < j) (fronts at) p in
+          (all-end at earlier note).0 ((front-law earlier later note at order (front-start earlier later note at 0 order q)).0 q));
+      before_too = λ at here h. subst (λ j. length earlier < j) (sym (fronts at)) ((front-law earlier later note at order here).1 ((all-end at earlier note).1 h));
+      after = λ end behind q. (all-begin end later l.least).0 ((rear-law earlier later note end l.least order behind).0 (subst (λ j. j ≤ length earlier) (rears end) q));
+      after_too = λ end behind h. subst (λ j. j ≤ length earlier) (sym (rears end)) ((rear-law earlier later note end l.least order behind).1 ((all-begin end later l.least).1 h));
+    }
+
+pub behind-end : (front old rest : List ℕ) (past : ℕ) {start : ℕ} → start ≡ width (front ++ (old ++ take past rest)) → width (front ++ old) ≤ start
+behind-end front old rest past here =
+    let one = width-append front old in
+    let two = width-append front (old ++ take past rest) in
+    let three = width-append old (take past rest) in
+    omega (arith, here, one, two, three)
 
 -- ---- from characters to bytes
 
@@ -154,28 +182,15 @@ first-before k levels front old rest s (suc j) note starts looks g more none =
 
 pub inner-entries-law : InOrderLaw → InnerEntriesLaw
 inner-entries-law ordered k levels front old rest s i n past t chosen name level g h known sum big =
-    let text = front ++ (old ++ rest) in
     let z = text_with front old rest in
-    let l = log k text in
     let d = inner-decision-law k levels front old rest s i n chosen name level g h in
     let b = d.begins in
     let e = d.ends in
-    let at = width front in
-    let end = width (front ++ old) in
-    let order_b = subst (λ ns. IsRising 0 ns) (ap listed b.notes) (ordered k text) in
-    let order_e = subst (λ ns. IsRising 0 ns) (ap listed e.notes) (ordered k text) in
-    let fronts : front_count k text at ≡ front_of at 0 (entries_by 0 (b.earlier ++ b.note ∷ b.later)) = ap (λ (u : Units). front_of at 0 u.entries) (units-are l _ b.notes) in
-    let units_e = units-are l _ e.notes in
-    let rears = ap (λ (u : Units). rear_of end 0 0 u.entries u.back) units_e in
     let f = inner_both k levels i n s z in
+    let first = numbers-of ordered k (front ++ (old ++ rest)) b.earlier b.note b.later b.notes in
+    let last = numbers-of ordered k (front ++ (old ++ rest)) e.earlier e.note e.later e.notes in
     let ends_at : 0 < i + n → e.note.start ≡ width (front ++ (old ++ take past rest)) = λ more.
     d.trivia_end more ∙ ap width (take-past front old rest past (f.taken + gap_of f.state.known) (ap (λ v. f.taken + gap_of v) known ∙ sum)) in
-    let behind : 0 < i + n → end ≤ e.note.start = λ more.
-    (let here = ends_at more in
-    let one = width-append front old in
-    let two = width-append front (old ++ take past rest) in
-    let three = width-append old (take past rest) in
-    omega (arith, here, one, two, three)) in
     record {
       begins = b;
       ends = e;
@@ -184,39 +199,13 @@ inner-entries-law ordered k levels front old rest s i n past t chosen name level
       number = d.number;
       number_end = d.number_end;
       end = ends_at;
-      before = λ p.
-          (let q = subst (λ j. length b.earlier < j) fronts p in
-          let here = front-start b.earlier b.later b.note at 0 order_b q in
-          d.before ((all-end at b.earlier b.note).0 ((front-law b.earlier b.later b.note at order_b here).0 q)));
-      before_too = λ starts looks.
-          (let here : b.note.start ≤ at = first-before k levels front old rest s i b.note starts looks g d.token d.token_first in
-          subst (λ j. length b.earlier < j) (sym fronts) ((front-law b.earlier b.later b.note at order_b here).1 ((all-end at b.earlier b.note).1 (d.before_too looks))));
-      after = λ more q.
-          d.after_trivia past t known sum ((all-begin end e.later l.least).0 ((rear-law e.earlier e.later e.note end l.least order_e (behind more)).0 (subst (λ j. j ≤ length e.earlier) rears q)));
-      after_too = λ more looks.
-          subst (λ j. j ≤ length e.earlier) (sym rears) ((rear-law e.earlier e.later e.note end l.least order_e (behind more)).1 ((all-begin end e.later l.least).1 (d.after_trivia_too past t known sum more big looks)));
+      before = λ p. d.before (first.before (width front) p);
+      before_too = λ starts looks. first.before_too (width front) (first-before k levels front old rest s i b.note starts looks g d.token d.token_first) (d.before_too looks);
+      after = λ more q. d.after_trivia past t known sum (last.after (width (front ++ old)) (behind-end front old rest past (ends_at more)) q);
+      after_too = λ more looks. last.after_too (width (front ++ old)) (behind-end front old rest past (ends_at more)) (d.after_trivia_too past t known sum more big looks);
     }
 
 -- ---- the pieces that are read
-
-take-nothing : {A : Type 0} (n : ℕ) → take {A = A} n [] ≡ []
-take-nothing zero = refl
-take-nothing (suc n) = refl
-
-hinted-empty : (hs : List (List ℕ)) → hinted hs [] ≡ []
-hinted-empty [] = refl
-hinted-empty (h ∷ hs) = refl
-
-hinted-nothing : (hs : List (List ℕ)) (n : ℕ) → hinted hs (less n []) ≡ []
-unfolding less
-hinted-nothing hs n = ap (hinted hs) (take-nothing (0 - n)) ∙ hinted-empty hs
-
-pub given-nodes : (s : Point) (os : List (Outcome (Bool × (Bool × ℕ)))) → (together s os).nodes ≡ given os []
-given-nodes s os = let o = together s os in sym (given-together s os [] ∙ ap (λ ts. ts ++ o.nodes) (hinted-nothing o.hints o.back))
-
-pub drop-all : (ts : List Tree) → drop (length ts) ts ≡ []
-drop-all [] = refl
-drop-all (t ∷ ts) = drop-all ts
 
 -- a block's run begins as if nothing were known but that it is markup
 module _ (k : CharClasses) (levels : ℕ) (front old new rest : List ℕ) (s : Spot (Unit {0})) (chosen : Among s (blocks_of_text k (front ++ (old ++ rest)))) (name : s.name ≡ block.Content) (level : max_depth - s.fewer ≡ suc levels) where
@@ -235,205 +224,38 @@ module _ (k : CharClasses) (levels : ℕ) (front old new rest : List ℕ) (s : S
   abbrev q : Sequence
   q = run_at k levels s w
 
-  -- a reading from a place on
-  abbrev made_at : ℕ → Bool × ℕ → Place → List (Outcome (Bool × (Bool × ℕ)))
-  made_at m x y = made (turn_of q) m x y (fresh q.level y)
-
-  abbrev ended_at : ℕ → Bool × ℕ → Place → End (Bool × ℕ)
-  ended_at m x y = end_of x (fresh q.level y) (made_at m x y)
-
-  -- what begins behind i pieces, in the new text
-  record Begun (i : ℕ) : Type 0 where
-    trivia : Trivia
-    opened : opened_at k levels s w ≡ opened_at k levels s z
-    same : first_end i q ≡ first_end i p
-    known : (first_end i q).state.known ≡ Some trivia
-    go : AllGo (first_of i q)
-    none : TakesNone i q
-    cut : cut_at own i z ≡ opened_at k levels s z + ((first_end i p).taken + gap_of (first_end i p).state.known)
-    place : moved trivia.gap (first_place i q) ≡ moved (cut_at own i z) w
-
-  not-first : (j : ℕ) → (suc j == 0) ≡ false
-  not-first j = ne_eqb (suc j) 0 (omega arith)
-
-  begun : (j : ℕ) → AllGo (first_of (suc j) p) → TakesNone (suc j) p → EndsBefore k levels front old rest s (suc j) → Begun (suc j)
-  begun j g none looks =
-      let i = suc j in
-      let f = first-same k levels front old new rest s i looks in
-      let at = block-known k levels (moved s.at z) (point_of s.start) i g in
-      let t = at.trivia in
-      let same : first_end i q ≡ first_end i p = ap (end_of (true, 0) p.point) f.first in
-      let opened : opened_at k levels s w ≡ opened_at k levels s z = ap (λ (o : Outcome (Unit {0})). s.at + o.taken) f.opened in
-      let b = (bracket k levels (moved s.at w) (point_of s.start)).taken in
-      let e = first_end i q in
-      let taken = ap (λ (v : End (Bool × ℕ)). v.taken) same in
-      let gap = ap gap_of at.is in
-      let count : ((s.at + b) + e.taken) + t.gap ≡ opened_at k levels s z + ((first_end i p).taken + gap_of (first_end i p).state.known) = omega (arith, opened, taken, gap) in
-      let cut : cut_at own i z ≡ opened_at k levels s z + ((first_end i p).taken + gap_of (first_end i p).state.known) = ap (λ v. opened_at k levels s z + (if v then 0 else (first_end i p).taken + gap_of (first_end i p).state.known)) (not-first j) in
-      let steps : moved (((s.at + b) + e.taken) + t.gap) w ≡ moved t.gap (first_place i q) = moved-sum ((s.at + b) + e.taken) t.gap w ∙ ap (moved t.gap) (moved-sum (s.at + b) e.taken w ∙ ap (moved e.taken) (moved-sum s.at b w)) in
-      record {
-        trivia = t;
-        opened = opened;
-        same = same;
-        known = ap (λ (v : End (Bool × ℕ)). v.state.known) same ∙ at.is;
-        go = subst (λ os. AllGo os) (sym f.first) g;
-        none = block-clear k levels front old new rest s i (omega arith) g looks none;
-        cut = cut;
-        place = sym steps ∙ ap (λ n. moved n w) (count ∙ sym cut);
-      }
-
   -- where a block begins
   pub begins-none : EndsBefore k levels front old rest s 0 → p.point.empties ≡ 0 → q.point.empties ≡ 0
   unfolding run
   begins-none looks clear = ap (λ (o : Outcome (Unit {0})). o.state.empties) (first-same k levels front old new rest s 0 looks).opened ∙ clear
 
-  -- pieces of the new text's run and those that are read from the place on, with what is carried there
-  pub record Alike (i m a : ℕ) (x : Bool × ℕ) (u : Trivia) : Type 0 where
-    pub go : AllGo (read_alone k levels x m (moved a w))
-    pub sum : (let e = end_alone k levels x m (moved a w) in end_by own i m u w ≡ a + (e.taken + gap_of e.state.known))
-    pub value : (then_end i m q).value ≡ (end_alone k levels x m (moved a w)).value
-    pub nodes : nodes_now own i m u w ≡ given (read_alone k levels x m (moved a w)) [] ++ pending (end_alone k levels x m (moved a w)).state.known
-
-  pub alike : (i m : ℕ) (u : Trivia) → AllGo (first_of i p) → p.point.empties ≡ 0 → (0 < i → TakesNone i p) → EndsBefore k levels front old rest s i → AllGo (then_of i m q) → (then_end i m q).state.known ≡ Some u
-      → Alike i m (cut_at own i z) (first_end i p).value u
-  alike zero zero u g clear none looks go known =
-      let f = first-same k levels front old new rest s 0 looks in
-      let opened : opened_at k levels s w ≡ opened_at k levels s z = ap (λ (o : Outcome (Unit {0})). s.at + o.taken) f.opened in
-      let a = cut_at own 0 z in
-      let b = (bracket k levels (moved s.at w) (point_of s.start)).taken in
-      let count : s.at + b ≡ a = omega (arith, opened) in
-      let place : q.place ≡ moved a w = sym (moved-sum s.at b w) ∙ ap (λ n. moved n w) count in
-      let behind : (fresh q.level (moved a w)).known ≡ Some u = ap (λ y. (fresh q.level y).known) (sym place) ∙ sym (start-known k levels (moved s.at w) (point_of s.start)) ∙ known in
-      let gap = ap gap_of behind in
-      record { go = tt; sum = omega (arith, opened, gap); value = refl; nodes = sym (ap pending behind) }
-  alike zero (suc n) u g clear none looks go known =
-      let m = suc n in
-      let f = first-same k levels front old new rest s 0 looks in
-      let opened : opened_at k levels s w ≡ opened_at k levels s z = ap (λ (o : Outcome (Unit {0})). s.at + o.taken) f.opened in
-      let b = (bracket k levels (moved s.at w) (point_of s.start)).taken in
-      let a = cut_at own 0 z in
-      let x : Bool × ℕ = (true, 0) in
-      let count : s.at + b ≡ a = omega (arith, opened) in
-      let place : q.place ≡ moved a w = sym (moved-sum s.at b w) ∙ ap (λ n. moved n w) count in
-      let same : then_of 0 m q ≡ made_at m x q.place = start-same k levels (moved s.at w) (point_of s.start) m (λ minds. begins-none looks clear) go in
-      let os : then_of 0 m q ≡ read_alone k levels x m (moved a w) = same ∙ ap (made_at m x) place in
-      let ends : then_end 0 m q ≡ end_alone k levels x m (moved a w) = ap (end_of x q.point) same ∙ ap (ended_at m x) place in
-      let taken = ap (λ (v : End (Bool × ℕ)). v.taken) ends in
-      let behind : (end_alone k levels x m (moved a w)).state.known ≡ Some u = ap (λ (v : End (Bool × ℕ)). v.state.known) (sym ends) ∙ known in
-      let gap = ap gap_of behind in
+  pub rereads : Rereads k front old new rest own
+  rereads =
+      let y = moved s.at w in
+      let t = point_of s.start in
       record {
-        go = subst (λ us. AllGo us) os go;
-        sum = omega (arith, opened, taken, gap);
-        value = ap (λ (v : End (Bool × ℕ)). v.value) ends;
-        nodes = ap (λ ts. ts ++ u.nodes) (given-nodes (then_end 0 m q).state (then_of 0 m q)) ∙ ap (λ us. given us [] ++ u.nodes) os
-            ∙ ap (λ ts. given (read_alone k levels x m (moved a w)) [] ++ ts) (sym (ap pending behind));
+        place = sym (moved-sum s.at (bracket k levels y t).taken w);
+        opened = λ i looks. ap (λ (o : Outcome (Unit {0})). s.at + o.taken) (first-same k levels front old new rest s i looks).opened;
+        first = λ i looks. (first-same k levels front old new rest s i looks).first;
+        none = λ i some g looks none. block-clear k levels front old new rest s i some g looks none;
+        known = block-known k levels y t;
+        then_known = block-then-known k levels y t;
+        bare = block-fresh k levels y t;
+        goes_too = inner-goes-too k levels y t;
+        start_known = start-known k levels y t;
+        start_same = λ clear looks m go. start-same k levels y t m (λ minds. begins-none looks clear) go;
+        start_goes = λ clear looks m go. start-goes k levels y t m (λ minds. begins-none looks clear) go;
       }
-  alike (suc j) zero u g clear none looks go known =
-      let i = suc j in
-      let b = begun j g (none (omega arith)) looks in
-      let opened = b.opened in
-      let cut = b.cut in
-      let a = cut_at own i z in
-      let taken = ap (λ (v : End (Bool × ℕ)). v.taken) b.same in
-      let gap_was = ap (λ (v : End (Bool × ℕ)). gap_of v.state.known) b.same in
-      let gap = ap gap_of known in
-      let new = ap (λ y. (fresh (inner k levels) y).known) (sym b.place) ∙ block-fresh k levels (moved s.at w) (point_of s.start) i b.trivia b.known in
-      let gap_now = ap gap_of new in
-      record {
-        go = tt;
-        sum = omega (arith, opened, cut, taken, gap_was, gap, gap_now);
-        value = ap (λ (v : End (Bool × ℕ)). v.value) b.same;
-        nodes = ap (λ v. drop (if v then 0 else length (pending (first_end i q).state.known)) u.nodes) (not-first j) ∙ ap (λ v. drop (length (pending v)) u.nodes) known ∙ drop-all u.nodes ∙ sym (ap pending new);
-      }
-  alike (suc j) (suc n) u g clear none looks go known =
-      let i = suc j in
-      let m = suc n in
-      let b = begun j g (none (omega arith)) looks in
-      let opened = b.opened in
-      let cut = b.cut in
-      let a = cut_at own i z in
-      let e = first_end i q in
-      let x = (first_end i p).value in
-      let y = moved b.trivia.gap (first_place i q) in
-      let carried : e.value ≡ x = ap (λ (v : End (Bool × ℕ)). v.value) b.same in
-      let ga = gives-again-law k (front ++ (old ++ rest)) own w i m b.trivia u (omega arith) (omega arith) b.go go b.known b.none in
-      let os : read_again i m b.trivia q ≡ read_alone k levels x m (moved a w) = ap (λ v. made_at m v y) carried ∙ ap (made_at m x) b.place in
-      let ends : again_end i m b.trivia q ≡ end_alone k levels x m (moved a w) = ap (λ v. ended_at m v y) carried ∙ ap (ended_at m x) b.place in
-      let taken = ap (λ (v : End (Bool × ℕ)). v.taken) b.same in
-      let gap_was = ap (λ (v : End (Bool × ℕ)). gap_of v.state.known) b.same in
-      let gap_is = ap gap_of b.known in
-      let took = ga.taken in
-      let taken_now = ap (λ (v : End (Bool × ℕ)). v.taken) ends in
-      let behind : (end_alone k levels x m (moved a w)).state.known ≡ Some u = ap (λ (v : End (Bool × ℕ)). v.state.known) (sym ends) ∙ ap (λ (v : Point). v.known) (sym ga.state) ∙ known in
-      let gap = ap gap_of behind in
-      record {
-        go = subst (λ us. AllGo us) os ga.go;
-        sum = omega (arith, opened, cut, taken, gap_was, gap_is, took, taken_now, gap);
-        value = ga.value ∙ ap (λ (v : End (Bool × ℕ)). v.value) ends;
-        nodes = ga.nodes ∙ ap (λ ts. ts ++ u.nodes) (given-nodes (again_end i m b.trivia q).state (read_again i m b.trivia q)) ∙ ap (λ us. given us [] ++ u.nodes) os
-            ∙ ap (λ ts. given (read_alone k levels x m (moved a w)) [] ++ ts) (sym (ap pending behind));
-      }
-
-  pub goes-there : (i m : ℕ) → AllGo (first_of i p) → p.point.empties ≡ 0 → (0 < i → TakesNone i p) → EndsBefore k levels front old rest s i → AllGo (read_alone k levels (first_end i p).value m (moved (cut_at own i z) w)) → AllGo (then_of i m q)
-  goes-there zero m g clear none looks go =
-      let f = first-same k levels front old new rest s 0 looks in
-      let opened : opened_at k levels s w ≡ opened_at k levels s z = ap (λ (o : Outcome (Unit {0})). s.at + o.taken) f.opened in
-      let b = (bracket k levels (moved s.at w) (point_of s.start)).taken in
-      let a = cut_at own 0 z in
-      let x : Bool × ℕ = (true, 0) in
-      let count : s.at + b ≡ a = omega (arith, opened) in
-      let place : q.place ≡ moved a w = sym (moved-sum s.at b w) ∙ ap (λ n. moved n w) count in
-      start-goes k levels (moved s.at w) (point_of s.start) m (λ minds. begins-none looks clear) (subst (λ y. AllGo (made_at m x y)) (sym place) go)
-  goes-there (suc j) m g clear none looks go =
-      let i = suc j in
-      let b = begun j g (none (omega arith)) looks in
-      let x = (first_end i p).value in
-      let y = moved b.trivia.gap (first_place i q) in
-      let os : read_again i m b.trivia q ≡ read_alone k levels x m (moved (cut_at own i z) w) = ap (λ v. made_at m v y) (ap (λ (v : End (Bool × ℕ)). v.value) b.same) ∙ ap (made_at m x) b.place in
-      inner-goes-too k levels (moved s.at w) (point_of s.start) i m b.trivia b.go (subst (λ us. AllGo us) (sym os) go) b.known b.none
-
-  pub first-goes : (i : ℕ) → EndsBefore k levels front old rest s i → AllGo (first_of i p) → AllGo (first_of i q)
-  first-goes i looks g = subst (λ os. AllGo os) (sym (first-same k levels front old new rest s i looks).first) g
 
 pub inner-read-law : InnerReadLaw
 inner-read-law k levels front old new rest s chosen name level i n m past t ts g h known sum around none looks behind =
     let own = block_run s levels chosen name level in
-    let z = text_with front old rest in
-    let w = text_with front new rest in
-    let p = run_at k levels s z in
-    let over = is_over i n p in
     let starts = around.starts in
     let ends = around.ends in
     let clear = no-errors k levels (front ++ (old ++ rest)) s chosen name level (omega (arith, starts, ends)) in
-    let x = (then_end i n p).value in (
-      (λ reads.
-          (let go = goes-there k levels front old new rest s chosen name level i m g clear none looks reads.go in
-          let u = block-then-known k levels (moved s.at w) (point_of s.start) i m (first-goes k levels front old new rest s chosen name level i looks g) go in
-          let a = alike k levels front old new rest s chosen name level i m u.trivia g clear none looks go u.is in
-          record {
-            behind = u.trivia;
-            passes = record {
-              first_go = g;
-              old_go = h;
-              new_go = go;
-              before = looks;
-              after = behind;
-              known = known;
-              known_now = u.is;
-              ends = sum;
-              shifted = a.sum ∙ reads.ends;
-              agrees = subst (λ y. Agrees own over m x y) (sym a.value) reads.agrees;
-            };
-            are = reads.nodes ∙ sym a.nodes;
-          })),
-      (λ gives.
-          (let a = alike k levels front old new rest s chosen name level i m gives.behind g clear none looks gives.passes.new_go gives.passes.known_now in
-          record {
-            go = a.go;
-            ends = sym a.sum ∙ gives.passes.shifted;
-            agrees = subst (λ y. Agrees own over m x y) a.value gives.passes.agrees;
-            nodes = gives.are ∙ a.nodes;
-          })),
+    let again = rereads k levels front old new rest s chosen name level in (
+      (λ reads. (let x = gives-to k front old new rest own again i n past t ts g clear none looks m h known sum behind (record { go = reads.go; ends = reads.ends; agrees = reads.agrees; nodes = reads.nodes }) in record { behind = x.behind; passes = x.passes; are = x.are })),
+      (λ gives. (let x = reads-to k front old new rest own again i n past t ts g clear none looks m (record { behind = gives.behind; passes = gives.passes; are = gives.are }) in record { go = x.go; ends = x.ends; agrees = x.agrees; nodes = x.nodes })),
     )
 
 pub inner-once-law : InnerOnceLaw
@@ -446,13 +268,15 @@ inner-once-law k levels front old new rest s chosen name level i n m j past ts u
     let starts = around.starts in
     let ends = around.ends in
     let clear = no-errors k levels (front ++ (old ++ rest)) s chosen name level (omega (arith, starts, ends)) in
-    let g_now = first-goes k levels front old new rest s chosen name level i looks g in
-    let go = goes-there k levels front old new rest s chosen name level i m g clear none looks one.go in
-    let go_too = goes-there k levels front old new rest s chosen name level i j g clear none looks two.go in
+    let own = block_run s levels chosen name level in
+    let again = rereads k levels front old new rest s chosen name level in
+    let g_now = first-goes k front old new rest own again i looks g in
+    let go = goes-there k front old new rest own again i m g clear none looks one.go in
+    let go_too = goes-there k front old new rest own again i j g clear none looks two.go in
     let u = block-then-known k levels (moved s.at w) (point_of s.start) i m g_now go in
     let v = block-then-known k levels (moved s.at w) (point_of s.start) i j g_now go_too in
-    let b = alike k levels front old new rest s chosen name level i m u.trivia g clear none looks go u.is in
-    let d = alike k levels front old new rest s chosen name level i j v.trivia g clear none looks go_too v.is in
+    let b = alike k front old new rest own again i m u.trivia g clear none looks go u.is in
+    let d = alike k front old new rest own again i j v.trivia g clear none looks go_too v.is in
     let sum = b.sum in
     let sum_too = d.sum in
     let end = one.ends in
@@ -531,7 +355,7 @@ inner-part-law k levels front old new rest s chosen name level (suc j) m some g 
     let p = run_at k levels s z in
     let q = run_at k levels s w in
     let a = cut_at (block_run s levels chosen name level) i z in
-    let b = begun k levels front old new rest s chosen name level j g none looks in
+    let b = begun k front old new rest (block_run s levels chosen name level) (rereads k levels front old new rest s chosen name level) j g none looks in
     let opened = b.opened in
     let cut = b.cut in
     let e = first_end i q in

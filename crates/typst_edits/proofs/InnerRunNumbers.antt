@@ -1,5 +1,5 @@
 -- The entries of a content block's run, by their numbers.
-use Rattle.std.proofs.Common.{◌≡◌, ℕ, zero, suc, ◌+◌, ◌-◌, ◌<◌, ◌≤◌, ◌==◌, ne_eqb, Bool, true, nat_lt, List, [], ◌∷◌, ◌++◌, length, take, drop, length-append, append_assoc, Some, refl, ap, sym, ◌∙◌, subst, arith}
+use Rattle.std.proofs.Common.{◌≡◌, ℕ, zero, suc, ◌+◌, ◌-◌, ◌<◌, ◌≤◌, ◌==◌, Bool, true, nat_lt, List, [], ◌∷◌, ◌++◌, length, take, drop, length-append, append_assoc, Some, refl, ap, sym, ◌∙◌, subst, arith}
 use Rattle.typst_lines.specs.Place.{Place, moved}
 use Rattle.typst_lines.specs.Classes.{CharClasses}
 use Rattle.typst_tokens.specs.Sight.{width}
@@ -10,15 +10,14 @@ use Rattle.typst_language.specs.Ask.{shift}
 use Rattle.typst_language.specs.Point.{gap_of, point_of}
 use Rattle.typst_language.specs.Meaning.{run}
 use Rattle.typst_language.specs.Sound.{Within}
-use Rattle.typst_language.proofs.Knot.{sane-meaning, sane-plain}
 use Rattle.typst_candidates.specs.declared.entry.Tag.TheVariants as tag
 use Rattle.typst_candidates.specs.Cursors.{closing_of}
 use Rattle.typst_candidates.specs.Entries.{tag_of, count_of, entry_of, entries_by, last_start}
 use Rattle.typst_candidates.specs.Records.{opening_of, IsRising}
 use Rattle.typst_candidates.proofs.Nested.{closing-found}
 use Rattle.typst_grammar.specs.Markup.{ends_block, markup_turn}
-use Rattle.typst_grammar.specs.Grammar.{rules, max_depth, start_of, log}
-use Rattle.typst_edits.specs.BlockRuns.{inner, run_at}
+use Rattle.typst_grammar.specs.Grammar.{max_depth, start_of, log}
+use Rattle.typst_edits.specs.BlockRuns.{run_at}
 use Rattle.typst_edits.specs.BlockTest.{SaysBlock, entries_in}
 use Rattle.typst_edits.specs.Edit.{Among}
 use Rattle.typst_edits.specs.Frame.{is_over}
@@ -40,8 +39,7 @@ use Rattle.typst_edits.proofs.EntryNumbers.{NoneAt, opening-some, got-entry, pas
 use Rattle.typst_edits.proofs.FoundPieces.{NoteAt, RunAmong, FoundPieces, says-by, level-long, found-pieces, closing}
 use Rattle.typst_edits.proofs.InnerBytes.{asks_before, asks_first, run_mark, opened, asks_by, block-asks, inner-decision-law}
 use Rattle.typst_edits.proofs.InnerCuts.{few-go}
-use Rattle.typst_edits.proofs.Joint.{takes-call}
-use Rattle.typst_edits.proofs.Led.{same-judged}
+use Rattle.typst_edits.proofs.Leading.{block-leads}
 use Rattle.typst_edits.proofs.NestedPieces.{own-none, head-same, tail-same}
 use Rattle.typst_edits.proofs.NoteNumbers.{neither, go-fewer}
 use Rattle.typst_edits.proofs.NumberedNotes.{NestedNumbers, nested-numbers}
@@ -221,8 +219,7 @@ module _ (ordered : InOrderLaw) (k : CharClasses) (levels : ℕ) (text : List �
   block-over : (i m : ℕ) → i + m ≤ n.count → is_over i m (run_at k levels s z0) ≡ (i + m == n.count)
   unfolding run
   block-over i m l =
-      over-at (run_at k levels s z0) (sane-meaning (rules k) k (suc levels)) (λ b. sane-plain tt) (ne_eqb (suc levels) 0 (omega arith)) refl (λ a y u x more. takes-call k levels a y u u (same-judged a u) x more)
-      (record { trivia = _; is = refl }) n.count i m n.go n.over l
+      over-at (run_at k levels s z0) (block-leads k levels (moved s.at z0) (point_of s.start)) n.count i m n.go n.over l
 
 pub inner-numbers-law : InOrderLaw → InnerNumbersLaw
 inner-numbers-law ordered k levels text s chosen name left =

@@ -1,5 +1,5 @@
 -- A candidate that isn't at the root is pieces of a content block's run.
-use Rattle.std.proofs.Common.{◌≡◌, ℕ, zero, suc, ◌+◌, ◌-◌, ◌<◌, ◌≤◌, ◌==◌, ne_eqb, Bool, true, false, ◌&&◌, List, [], ◌∷◌, ◌++◌, length, length-append, take, Option, Some, None, refl, ap, sym, ◌∙◌, subst, arith}
+use Rattle.std.proofs.Common.{◌≡◌, ℕ, zero, suc, ◌+◌, ◌-◌, ◌<◌, ◌≤◌, Bool, true, false, List, [], ◌∷◌, ◌++◌, length, length-append, take, Some, refl, ap, sym, ◌∙◌, subst, arith}
 use Rattle.std.proofs.Math.Seq.{take-append_seam}
 use Rattle.typst_kinds.specs.Kinds.{is_block}
 use Rattle.typst_kinds.specs.Head.{Head}
@@ -7,25 +7,20 @@ use Rattle.typst_kinds.specs.declared.kind.SyntaxKind.{SyntaxKind}
 use Rattle.typst_kinds.specs.declared.kind.SyntaxKind.TheVariants as kind
 use Rattle.typst_lines.specs.Place.{Place, moved}
 use Rattle.typst_lines.specs.Classes.{CharClasses}
-use Rattle.typst_tree.specs.Tree.{Tree, forest, trees, text_of, made_error, bare, inner_of}
+use Rattle.typst_tree.specs.Tree.{Tree, forest, trees, text_of, bare, inner_of}
 use Rattle.typst_tree.specs.Laws.{start_at}
 use Rattle.typst_tokens.specs.Sight.{width}
 use Rattle.typst_language.specs.declared.calls.Block.{Block}
 use Rattle.typst_language.specs.declared.calls.Block.TheVariants as block
-use Rattle.typst_language.specs.Calls.Call.{MarkupExpr}
-use Rattle.typst_language.specs.declared.reading.Reading.{Reading}
-use Rattle.typst_language.specs.Hand.{hand_at, len_at}
 use Rattle.typst_language.specs.Meaning.{run}
 use Rattle.typst_language.specs.Point.{Trivia, gap_of, point_of}
 use Rattle.typst_language.specs.Steps.{peek}
-use Rattle.typst_language.proofs.Knot.{sane-meaning, sane-plain}
 use Rattle.typst_language.proofs.Leaves.{texts}
 use Rattle.typst_language.proofs.Places.{ahead-left, moved-sum}
 use Rattle.typst_candidates.specs.Units.{top_cuts, cuts_in}
 use Rattle.typst_candidates.specs.Candidates as candidate
 use Rattle.typst_candidates.specs.Candidates.{Child, laid, child_at, is_among, Candidate}
-use Rattle.typst_grammar.specs.Markup.{markup_head}
-use Rattle.typst_grammar.specs.Grammar.{rules, max_depth, start_of, parsed, log, tree}
+use Rattle.typst_grammar.specs.Grammar.{max_depth, start_of, parsed, log, tree}
 use Rattle.typst_edits.specs.Answer.{candidates}
 use Rattle.typst_edits.specs.BlockRuns.{inner, bracket, run_at, opened_at}
 use Rattle.typst_edits.specs.CandidateRuns.{IsPieces, InnerPiecesOf, InnerPiecesOfLaw}
@@ -35,20 +30,18 @@ use Rattle.typst_edits.specs.Frame.{is_over}
 use Rattle.typst_edits.specs.Hole.{Deep, fill, path_in, Hole, plug, path_of}
 use Rattle.typst_edits.specs.Hole.Deep.{bare as alone, under}
 use Rattle.typst_edits.specs.InnerBytes.{inner_end, inner_both}
-use Rattle.typst_edits.specs.InnerChildren.{block_with}
 use Rattle.typst_edits.specs.InnerPieces.{block_run, kids_in, markup_from}
-use Rattle.typst_edits.specs.Joint.{minds}
 use Rattle.typst_edits.specs.Laws.{blocks_of_text}
 use Rattle.typst_edits.specs.Leading.{bytes_of, opening_child, token_byte}
 use Rattle.typst_edits.specs.Occurrences.{goes}
 use Rattle.typst_edits.specs.OpensApart.{OpensApartLaw}
 use Rattle.typst_edits.specs.PieceNotes.{listed}
 use Rattle.typst_edits.specs.Runs.{AllGo, End}
-use Rattle.typst_edits.specs.Sequence.{Sequence, turn_of, first_of, first_end, then_of, then_end}
+use Rattle.typst_edits.specs.Sequence.{Sequence, turn_of, first_of, first_end}
 use Rattle.typst_edits.specs.Spot.{Spot, kind_of, block_head, unit_at}
-use Rattle.typst_edits.specs.Standing.{is_block_head, seconds_of_text, IsOf, Stems, from_unit, from_second}
+use Rattle.typst_edits.specs.Standing.{IsOf, Stems, from_unit, from_second}
 use Rattle.typst_edits.proofs.BareCandidates.{bare-candidates-law}
-use Rattle.typst_edits.proofs.BlockPlaces.{hole-same}
+use Rattle.typst_edits.proofs.BlockPlaces.{hole-same, early-by as sooner}
 use Rattle.typst_edits.proofs.BlockRuns.{sane as in-sane}
 use Rattle.typst_edits.proofs.Boundary.{KnownAt}
 use Rattle.typst_edits.proofs.CandidateBlocks.{Covers, block-head, or_first}
@@ -57,12 +50,11 @@ use Rattle.typst_edits.proofs.CandidateRuns.{cut-token, is-cut, picked, standing
 use Rattle.typst_edits.proofs.Cuts.{tokens-rise, cuts-within}
 use Rattle.typst_edits.proofs.Deepest.{some-level}
 use Rattle.typst_edits.proofs.Edit.{among, trees-of}
-use Rattle.typst_edits.proofs.Fronts.{Begins, begins-call}
-use Rattle.typst_edits.proofs.InnerCandidates.{OfBlock, of-block, joined-trees, lies, parted-in, plain-shape, seat-of, sooner}
+use Rattle.typst_edits.proofs.InnerCandidates.{OfBlock, of-block, joined-trees, lies, parted-in, plain-shape, seat-of}
 use Rattle.typst_edits.proofs.InnerCuts.{BlockCuts}
-use Rattle.typst_edits.proofs.Leading.{Plain, turn-over}
+use Rattle.typst_edits.proofs.Leading.{Plain, block-leads, turn-over}
 use Rattle.typst_edits.proofs.MarkupCandidates.{of-run}
-use Rattle.typst_edits.proofs.MarkupPlaces.{InContent, Placed, in-tree, of-content}
+use Rattle.typst_edits.proofs.MarkupPlaces.{InContent, in-tree, of-content}
 use Rattle.typst_edits.proofs.NoteNumbers.{go-fewer, take-longer}
 use Rattle.typst_edits.proofs.OneReading.{end-split-at}
 use Rattle.typst_edits.proofs.Placed.{deep_text, left_text}
@@ -164,14 +156,8 @@ unfolding run
 inner-over k levels text s n g stopped =
     let z = start_of text in
     let r = run_at k levels s z in
-    let sd = sane-meaning (rules k) k (suc levels) in
-    let deep : (suc levels == 0) ≡ false = ne_eqb (suc levels) 0 (omega arith) in
-    let begins_with : (h : Reading) (z : Place) (t : Trivia) (x : Bool × ℕ) → 0 < len_at k h.mode (moved t.gap z) → Begins h z t (minds (markup_head x.0 x.1 (hand_at k h (Some t) z).kind)) ((inner k levels).deeper (MarkupExpr x.0 x.1)) =
-    λ h z t x more. begins-call k levels h z t x.0 x.1 more in
-    let stands = ((in-sane k levels peek).kept r.place (bracket k levels (moved s.at z) (point_of s.start)).state tt).known in
-    let known : KnownAt r.point = record { trivia = _; is = refl } in
     let e = first_end n r in
-    turn-over r sd (λ b. sane-plain tt) deep refl begins_with stands known e.value (moved e.taken r.place) e.state (block-known k levels (moved s.at z) (point_of s.start) n g) stopped
+    turn-over r (block-leads k levels (moved s.at z) (point_of s.start)) e.value (moved e.taken r.place) e.state (block-known k levels (moved s.at z) (point_of s.start) n g) stopped
 
 -- behind more pieces the next token begins further on
 inner-tokens : (k : CharClasses) (levels : ℕ) (text : List ℕ) (s : Spot (Unit {0})) (i j : ℕ) → i < j → AllGo (first_of j (run_at k levels s (start_of text)))
@@ -181,17 +167,10 @@ inner-tokens k levels text s i j l g =
     let z = start_of text in
     let r = run_at k levels s z in
     let a = opened_at k levels s z in
-    let sd = sane-meaning (rules k) k (suc levels) in
-    let deep : (suc levels == 0) ≡ false = ne_eqb (suc levels) 0 (omega arith) in
-    let b = (bracket k levels (moved s.at z) (point_of s.start)).state in
-    let peeked = in-sane k levels peek in
-    let begins_with : (h : Reading) (z : Place) (t : Trivia) (x : Bool × ℕ) → 0 < len_at k h.mode (moved t.gap z) → Begins h z t (minds (markup_head x.0 x.1 (hand_at k h (Some t) z).kind)) ((inner k levels).deeper (MarkupExpr x.0 x.1)) =
-    λ h z t x more. begins-call k levels h z t x.0 x.1 more in
-    let stands = (peeked.kept r.place b tt).known in
-    let known : KnownAt r.point = record { trivia = _; is = refl } in
-    let room = peeked.within r.place b in
-    let more = tokens-rise r sd (λ b. sane-plain tt) deep refl begins_with stands known i j l g in
-    let most = cuts-within r sd (λ b. sane-plain tt) deep refl begins_with stands known j in
+    let leads = block-leads k levels (moved s.at z) (point_of s.start) in
+    let room = (in-sane k levels peek).within r.place (bracket k levels (moved s.at z) (point_of s.start)).state in
+    let more = tokens-rise r leads i j l g in
+    let most = cuts-within r leads j in
     let last = cut-token j (first_end j r) (omega (arith, l)) in
     let there : r.place ≡ moved a z = sym (moved-sum s.at (bracket k levels (moved s.at z) (point_of s.start)).taken z) in
     let left = ahead-left a z in

@@ -1,7 +1,7 @@
 -- A reading that begins with one candidate serves another one, in a content block; and the law for both.
-use Rattle.std.proofs.Common.{◌≡◌, ◌↔◌, ℕ, zero, suc, ◌+◌, ◌-◌, ◌<◌, ◌≤◌, ◌^◌, ne_eqb, if◌then◌else◌, false, List, [], ◌∷◌, ◌++◌, length, length-append, take, Option, None, Some, refl, ap, sym, ◌∙◌, subst, arith}
+use Rattle.std.proofs.Common.{◌≡◌, ℕ, suc, ◌+◌, ◌-◌, ◌<◌, ◌≤◌, ◌^◌, false, List, [], ◌∷◌, ◌++◌, length, length-append, take, Option, None, Some, ap, sym, ◌∙◌, subst, arith}
 use Rattle.std.specs.List.{slice_get}
-use Rattle.typst_lines.specs.Place.{Place, moved}
+use Rattle.typst_lines.specs.Place.{moved}
 use Rattle.typst_lines.specs.Classes.{CharClasses}
 use Rattle.typst_tree.specs.Tree.{Tree, bare}
 use Rattle.typst_tree.specs.Laws.{start_at}
@@ -10,7 +10,7 @@ use Rattle.typst_kinds.specs.declared.mode.SyntaxMode.{SyntaxMode}
 use Rattle.typst_language.specs.declared.calls.Block.{Block}
 use Rattle.typst_language.specs.declared.calls.Block.TheVariants as block
 use Rattle.typst_language.specs.Log.{no_log, logged}
-use Rattle.typst_language.specs.Point.{Trivia, gap_of, point_of}
+use Rattle.typst_language.specs.Point.{Trivia}
 use Rattle.typst_candidates.specs.declared.entry.Entry.{Entry}
 use Rattle.typst_candidates.specs.Candidates.{Candidate}
 use Rattle.typst_candidates.specs.Entries.{entries_by, units_of, spliced}
@@ -20,110 +20,33 @@ use Rattle.typst_grammar.specs.declared.part.RunKind.TheVariants as of
 use Rattle.typst_grammar.specs.Grammar.{max_depth, log, tree}
 use Rattle.typst_grammar.specs.Pieces.{AllGo, asks_of, first_look}
 use Rattle.typst_edits.specs.Answer.{candidates}
-use Rattle.typst_edits.specs.BlockRuns.{run_at, opened_at}
-use Rattle.typst_edits.specs.BlockTest.{SaysBlock, entries_in, front_in, rear_in}
+use Rattle.typst_edits.specs.BlockRuns.{run_at}
+use Rattle.typst_edits.specs.BlockTest.{SaysBlock, entries_in, front_in}
 use Rattle.typst_edits.specs.CandidateRuns.{IsPieces, RootPiecesOfLaw, InnerPiecesOfLaw}
 use Rattle.typst_edits.specs.Edit.{Among, text_with}
 use Rattle.typst_edits.specs.Frame.{Run, cut_at, Before, Behind, PassesPieces}
 use Rattle.typst_edits.specs.Hole.{path_of}
 use Rattle.typst_edits.specs.InOrder.{InOrderLaw}
-use Rattle.typst_edits.specs.InnerBytes.{inner_end}
 use Rattle.typst_edits.specs.InnerJoint.{PassesInnerJoint}
 use Rattle.typst_edits.specs.InnerPieces.{block_run, kids_in, markup_from, Around}
 use Rattle.typst_edits.specs.InnerPiecesTest.{level_in, read_alone}
 use Rattle.typst_edits.specs.Laws.{blocks_of_text}
-use Rattle.typst_edits.specs.NumberedNotes.{cut_behind}
 use Rattle.typst_edits.specs.OpensApart.{OpensApartLaw}
-use Rattle.typst_edits.specs.RunNumbers.{cut_in, number_in, InnerNumbers, RunNumbersLaw, InnerNumbersLaw}
-use Rattle.typst_edits.specs.RunTest.{BeginsAt, notes_by, FoundRun}
+use Rattle.typst_edits.specs.RunNumbers.{number_in, InnerNumbers, RunNumbersLaw, InnerNumbersLaw}
+use Rattle.typst_edits.specs.RunTest.{notes_by, FoundRun}
 use Rattle.typst_edits.specs.Sequence.{Sequence, first_end, then_of, then_end}
 use Rattle.typst_edits.specs.Served.{Served, RunOf, own as of_text, inner as of_block, ServedLaw}
 use Rattle.typst_edits.specs.Spot.{Spot}
 use Rattle.typst_edits.specs.Splice.{entries_from}
-use Rattle.typst_edits.proofs.Cuts.{inner-cuts-law}
+use Rattle.typst_edits.proofs.AnyRun.{entries-listed, seated, Entered, Chosen, read_from, begins-now, same-end, meets-too, served}
 use Rattle.typst_edits.proofs.EntryNumbers.{some-number}
-use Rattle.typst_edits.proofs.InnerCandidates.{no-errors, of-block, inner-candidate-law}
+use Rattle.typst_edits.proofs.InnerCandidates.{of-block, inner-candidate-law}
 use Rattle.typst_edits.proofs.InnerPieces.{block-taken, joint-of}
-use Rattle.typst_edits.proofs.InnerPiecesTest.{alike, goes-there, first-goes, inner-units-law}
-use Rattle.typst_edits.proofs.InnerRunTest.{Facts, facts-of, facts-too, entries-listed, early-looks, late-looks, entries, entry-end, far-within, start-now, gives-passing, given-by}
+use Rattle.typst_edits.proofs.InnerPiecesTest.{inner-units-law}
+use Rattle.typst_edits.proofs.InnerRunTest.{pieces-too, entries, entry-end, entered, own-pieces}
 use Rattle.typst_edits.proofs.MarkupCandidates.{of-run}
-use Rattle.typst_edits.proofs.Resumed.{block-known, block-then-known}
 use Rattle.typst_edits.proofs.RootServed.{root-served}
-use Rattle.typst_edits.proofs.RunHomes.{past-room}
 use Rattle.typst_edits.proofs.SameBlocks.{home_of, same-byte, same-home}
-use Rattle.typst_edits.proofs.Served.{seated, Entered, Chosen, ReadsFrom, read_from, same-end, meets-too, served}
-
-module _ (ordered : InOrderLaw) (k : CharClasses) (levels : ℕ) (front old new rest : List ℕ) (s : Spot (Unit {0})) (there : Among s (blocks_of_text k (front ++ (old ++ rest)))) (name : s.name ≡ block.Content) (level : max_depth - s.fewer ≡ suc levels)
-    (around : Around front old rest s) (v : InnerNumbers k levels (front ++ (old ++ rest)) s) (big : width (front ++ (old ++ rest)) < 2 ^ 64 - 1) where
-  abbrev text : List ℕ
-  text = front ++ (old ++ rest)
-
-  abbrev here : Run k (front ++ (old ++ rest))
-  here = block_run s levels there name level
-
-  abbrev z : Place
-  z = text_with front old rest
-
-  abbrev w : Place
-  w = text_with front new rest
-
-  abbrev q : Sequence
-  q = run_at k levels s z
-
-  abbrev p : Sequence
-  p = run_at k levels s w
-
-  cut-behind : (i : ℕ) → cut_at here i z ≡ cut_behind i (inner_end k levels i s z)
-  cut-behind zero = omega arith
-  cut-behind (suc i) =
-      let e = first_end (suc i) q in
-      let opened = opened_at k levels s z in
-      let cut : cut_at here (suc i) z ≡ opened + (e.taken + gap_of e.state.known) = ap (λ b. opened + (if b then 0 else e.taken + gap_of e.state.known)) (ne_eqb (suc i) 0 (omega arith)) in
-      omega (arith, cut)
-
-  byte-is : (i : ℕ) → width (take (cut_at here i z) text) ≡ cut_in k levels text s i
-  byte-is i = ap (λ j. width (take j text)) (cut-behind i)
-
-  facts : (c : Candidate) (i n past : ℕ) (t : Trivia) → IsPieces k front old rest here c i n past t → Facts k levels front old rest s c i n past t
-  facts c i n past t is = facts-of k levels front old rest s there name level c i n past t around is
-
-  looks-behind : (c : Candidate) (i n past : ℕ) (t : Trivia) → IsPieces k front old rest here c i n past t → 0 < n → rear_in k front old rest ≤ number_in k levels text s (i + n) ↔ Behind k front old rest here i n past t
-  looks-behind c i zero past t is some = absurd (omega (arith, some))
-  looks-behind c i (suc n) past t is some = late-looks k levels front old rest s there name level v ordered big c i (suc n) past t (facts c i (suc n) past t is)
-
-  reads-from : (c : Candidate) (i n past : ℕ) (t : Trivia) → IsPieces k front old rest here c i n past t → Before k front old rest here i → ReadsFrom k front old new rest here of.Block (suc levels) i
-  reads-from c i n past t is looks =
-      let starts = around.starts in
-      let ends = around.ends in
-      let clear = no-errors k levels text s there name level (omega (arith, starts, ends)) in
-      record {
-        go = λ m h. goes-there k levels front old new rest s there name level i m is.go clear is.none looks h;
-        known = λ m go. block-then-known k levels (moved s.at w) (point_of s.start) i m (first-goes k levels front old new rest s there name level i looks is.go) go;
-        alike = λ m u go known. (let a = alike k levels front old new rest s there name level i m u is.go clear is.none looks go known in record { go = a.go; sum = a.sum; value = a.value; nodes = a.nodes });
-        within = λ m go. far-within k levels front old rest s there name level v ordered big c new i m is.early;
-      }
-
-  entered : Entered k front old new rest here of.Block (suc levels) (suc v.opens)
-  entered = record {
-    number = number_in k levels text s;
-    count = v.count;
-    most = v.most;
-    over = v.over;
-    begins = λ i l. subst (λ b. BeginsAt (entries_in k text) (suc v.opens) b (number_in k levels text s i)) (sym (byte-is i)) (v.begins i l);
-    goes_on = λ i j some l few. subst (λ b. BeginsAt (entries_in k text) (number_in k levels text s i) b (number_in k levels text s j)) (sym (byte-is j)) (v.goes_on i j l few);
-    rises = v.rises;
-    last = v.last;
-    not_last = v.not_last;
-    says = v.says;
-    cuts = λ i j l go. (let less = inner-cuts-law k levels text s i j l go in let one = byte-is i in let two = byte-is j in omega (arith, less, one, two));
-    known = λ i go. block-known k levels (moved s.at z) (point_of s.start) i go;
-    meets = λ m x y h. h refl;
-    met = λ m x y h is. h;
-    room = λ c i n past t is. (let early = is.early in past-room k levels front old rest s c (omega (arith, early)) i n past t (facts c i n past t is).found);
-    before = λ c i n past t is l. (early-looks k levels front old rest s there name level v ordered big c i n past t (facts c i n past t is)).0 l;
-    behind = looks-behind;
-    reads = λ c i n past t is some looks. reads-from c i n past t is looks;
-  }
 
 module _ (apart : OpensApartLaw) (ordered : InOrderLaw) (numbered : InnerNumbersLaw) (k : CharClasses) (levels : ℕ) (front old new rest : List ℕ) (root : Tree) (s : Spot (Unit {0})) (there : Among s (blocks_of_text k (front ++ (old ++ rest)))) (name : s.name ≡ block.Content) (level : max_depth - s.fewer ≡ suc levels)
     (around : Around front old rest s) (big : width (front ++ (old ++ rest)) < 2 ^ 64 - 1) (big_new : width (front ++ (new ++ rest)) < 2 ^ 64 - 1) (same : bare root ≡ bare (tree k (front ++ (old ++ rest)))) where
@@ -175,13 +98,12 @@ module _ (apart : OpensApartLaw) (ordered : InOrderLaw) (numbered : InnerNumbers
         let mid = i + d in
         let units = units_of (log k whole_text) in
         let joint = joined d left m u first sum f looks behind go h in
-        let told = facts ordered k levels front old new rest s there name level around numbers big first mid left past t f in
-        let e = entries k levels front old rest s there name level numbers ordered big first mid left past t told in
+        let e = entries ordered k levels front old new rest s there name level around numbers big first mid left past t f in
         let at : mid + left ≡ i + n = omega (arith, sum) in
-        let to = entry-end k levels front old rest s there name level numbers ordered big first mid left past t told ∙ ap (number_in k levels whole_text s) at in
+        let to = entry-end ordered k levels front old new rest s there name level around numbers big first mid left past t f ∙ ap (number_in k levels whole_text s) at in
         let y = moved (cut_at own mid (text_with front old rest)) (text_with front new rest) in
         let notes = (logged (suc levels) y no_log ((first_look (level_in k levels) y).asks ++ asks_of (read_alone k levels (first_end mid was).value m y))).notes in
-        let part = ap (λ b. entries_from b notes) (start-now k levels front old rest s there name level numbers ordered big first new mid left past t told) ∙ entries-listed first.start notes in
+        let part = ap (λ b. entries_from b notes) (begins-now k front old new rest own of.Block (suc levels) (suc numbers.opens) entries_of first mid left past t f) ∙ entries-listed first.start notes in
         inner-units-law k levels front old new rest s there name level mid left m past t u (omega (arith, some)) joint (f.none (omega (arith, some))) big big_new e
         ∙ (λ a. spliced (e.number a) (to a) (part a) units)
 
@@ -190,16 +112,12 @@ module _ (apart : OpensApartLaw) (ordered : InOrderLaw) (numbered : InnerNumbers
     candidate-of =
         let o = of-block apart k levels front old rest root s there name level c same chosen whole path in
         let ends = o.ends in
-        let told = facts ordered k levels front old new rest s there name level around numbers big c i n past t is in
         record {
           is = is;
           whole = whole;
           path = sym path;
           seat = seated front old c.path (markup_from k levels whole_text s) (kids_in s.node) o.own.cuts c (of-run (width front) (width (front ++ old)) c.path (markup_from k levels whole_text s) (kids_in s.node) o.own.cuts c o.chosen) (omega (arith, ends));
-          passes = λ ts h.
-              (let x = gives-passing apart ordered numbered k front old new rest root c same chosen whole big big_new levels s there name level path i n past t is.led told ts h in
-              let g = given-by apart ordered numbered k front old new rest root c same chosen whole big big_new levels s there name level path i n past t is.led told x.0 ts x.1 x.2 in
-              (x.0, g.behind, g.passes, g.are));
+          passes = own-pieces apart ordered numbered k front old new rest root c same chosen whole big levels s there name level path around i n past t is;
           units = units-of-part;
         }
 
@@ -213,25 +131,6 @@ levels-once : (es : List Entry) (from other to last levels more : ℕ) (b d : Bl
 levels-once es from other to last levels more b d m n h g e =
     let same : h.entry ≡ g.entry = ap (entry_or h.entry) (sym h.is ∙ ap (slice_get es) e ∙ g.is) in
     sym h.count ∙ ap (λ (x : Entry). x.count) same ∙ g.count
-
--- pieces of one of two blocks that are read the same are pieces of the other
-pieces-too : (k : CharClasses) (levels more : ℕ) (front old rest : List ℕ) (s r : Spot (Unit {0})) (there : Among s (blocks_of_text k (front ++ (old ++ rest)))) (name : s.name ≡ block.Content) (level : max_depth - s.fewer ≡ suc levels)
-    (too : Among r (blocks_of_text k (front ++ (old ++ rest)))) (name_too : r.name ≡ block.Content) (level_too : max_depth - r.fewer ≡ suc more) (c : Candidate) (i n past : ℕ) (t : Trivia) → home_of levels s ≡ home_of more r → Around front old rest s → Around front old rest r
-    → IsPieces k front old rest (block_run s levels there name level) c i n past t → IsPieces k front old rest (block_run r more too name_too level_too) c i n past t
-pieces-too k levels more front old rest s r there name level too name_too level_too c i n past t same around around_too is =
-    let f = facts-too k levels more front old rest s r c i n past t same around_too (facts-of k levels front old rest s there name level c i n past t around is) in
-    record {
-      go = f.found.go;
-      go_on = f.found.go_on;
-      known = f.found.known;
-      ends = f.found.ends;
-      start = f.found.start;
-      led = is.led;
-      end = f.found.end;
-      none = f.none;
-      empty = f.empty;
-      early = f.early;
-    }
 
 inner-served : OpensApartLaw → InOrderLaw → InnerNumbersLaw → InnerPiecesOfLaw → (k : CharClasses) (front old new rest : List ℕ) (root : Tree) (first c : Candidate) → bare root ≡ bare (tree k (front ++ (old ++ rest)))
     → Among first (candidates k (front ++ (old ++ rest)) (width front) (width (front ++ old)) root) → Among c (candidates k (front ++ (old ++ rest)) (width front) (width (front ++ old)) root)
@@ -253,7 +152,7 @@ inner-served apart ordered numbered pieces k front old new rest root first c sam
     let long = length-append front (old ++ rest) in
     let byte = same-byte k text two.s one.s two.among one.among (omega (arith, starts_too, ends_too)) (omega (arith, starts, ends)) (sym two.path ∙ at ∙ one.path) in
     let home : home_of two.levels two.s ≡ home_of one.levels one.s = same-home k text two.s one.s two.levels one.levels two.among one.among two.level one.level (omega (arith, starts_too, long)) (omega (arith, starts, long)) u v byte in
-    let is = pieces-too k two.levels one.levels front old rest two.s one.s two.among two.name two.level one.among one.name one.level first two.i two.n two.past two.t home two.around one.around two.is in
+    let is = pieces-too k two.levels one.levels front old rest two.s one.s two.among two.name two.level one.among one.name one.level first two.i two.n two.past two.t home two.is in
     let own_opens : opens ≡ v.opens = some-number opens v.opens (sym opening ∙ ap (λ b. opening_of b 0 0 (entries_in k text)) one.byte ∙ v.opening) in
     let own_levels : levels ≡ suc one.levels = levels-once (entries_in k text) opens v.opens to v.closes levels (suc one.levels) _ _ _ _ says v.says_block own_opens in
     let chosen = candidate-of apart ordered numbered k one.levels front old new rest root one.s one.among one.name one.level one.around big big_new same in

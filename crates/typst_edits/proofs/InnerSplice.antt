@@ -32,13 +32,12 @@ use Rattle.typst_edits.proofs.Boundary.{piece_mark, pieces-begin}
 use Rattle.typst_edits.proofs.BlockRuns.{sane, seq_by}
 use Rattle.typst_edits.proofs.BlockSplice.{block-splice-law}
 use Rattle.typst_edits.proofs.Edit.{before-same, same_in-to}
-use Rattle.typst_edits.proofs.EmptyRuns.{Never, hand-asks, token_look}
-use Rattle.typst_edits.proofs.InnerBytes.{asks_before, content-asks, both-end}
+use Rattle.typst_edits.proofs.EmptyRuns.{hand-asks, token_look}
+use Rattle.typst_edits.proofs.InnerBytes.{asks_before, content-asks, both-end, lead-bare, before-bare}
 use Rattle.typst_edits.proofs.InnerJoint.{block-read, first-same, inner-fronted, inner-joint-law}
 use Rattle.typst_edits.proofs.InTurn.{logged-lowered}
 use Rattle.typst_edits.proofs.Joint.{known-is}
 use Rattle.typst_edits.proofs.Led.{before_trivia}
-use Rattle.typst_edits.proofs.Marks.{AllMarks, marks-append, none-hand}
 use Rattle.typst_edits.proofs.Outcomes.{shift-twice}
 use Rattle.typst_edits.proofs.PieceAsks.{lifted, lifted-append, lifted_note, lifted-count, lifted-ends, lifted-shift, begins-lowered, begins-both, begins-further, next-none, Cut, cut, Plain, side-in}
 use Rattle.typst_edits.proofs.Reached.{Reached}
@@ -50,13 +49,13 @@ use Rattle.typst_edits.proofs.Sides.{Side, entries_at, back_at, count-append, co
 
 -- ---- the look at a first token without trivia before it
 
-asks-direct : (k : CharClasses) (n : ℕ) (z : Place) → at_trivia k mode.Markup z ≡ false → asks_by k mode.Markup n z ≡ looked 0 (look (token k mode.Markup) z) ∷ []
+pub asks-direct : (k : CharClasses) (n : ℕ) (z : Place) → at_trivia k mode.Markup z ≡ false → asks_by k mode.Markup n z ≡ looked 0 (look (token k mode.Markup) z) ∷ []
 asks-direct k zero z h = refl
 asks-direct k (suc n) z h =
     let l = len_at k mode.Markup z in
     ap (λ (b : Bool). looked 0 (look (token k mode.Markup) z) ∷ (if b then shift l (asks_by k mode.Markup n (moved l z)) else [])) h
 
-column-none : (b : Bool) (ask : Ask) → ◌≡◌ {A = List Ask} (if b && false then ask ∷ [] else []) []
+pub column-none : (b : Bool) (ask : Ask) → ◌≡◌ {A = List Ask} (if b && false then ask ∷ [] else []) []
 column-none true ask = refl
 column-none false ask = refl
 
@@ -83,18 +82,6 @@ module _ (k : CharClasses) (levels : ℕ) where
         looks = ap (λ h. hand_asks k h None r.place) read.held ∙ hand-direct k r.place clear ∙ sym (hand-asks (inner k levels) r.place 0 p (record { held = read.held; trivia = t; known = known; gap = none }));
         gap = sym (ap gap_of known ∙ none);
       }
-
-  lead-bare : (z : Place) (s : Point) → AllMarks Never (inner_lead k levels z s).asks
-  unfolding run
-  lead-bare z s = let b = bracket k levels z s in none-hand Never k b.state.held b.state.known (moved b.taken z)
-
-  before-bare : (z : Place) (s : Point) → AllMarks Never (asks_before k levels z s)
-  unfolding run
-  before-bare z s =
-      let s1 = (look_first k levels z s).state in
-      let s2 = (look_again k levels z s).state in
-      marks-append Never (look_first k levels z s).asks _ (none-hand Never k s.held s.known z)
-      (marks-append Never (look_again k levels z s).asks (bracket k levels z s).asks (none-hand Never k s1.held s1.known z) (none-hand Never k s2.held s2.known z))
 
   -- ---- before the pieces, in two texts
 

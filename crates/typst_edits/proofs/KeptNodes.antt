@@ -27,7 +27,7 @@ use Rattle.typst_edits.specs.InnerJoint.{onwards_in}
 use Rattle.typst_edits.specs.InnerPieces.{kids_in, markup_from}
 use Rattle.typst_edits.specs.Joint.{text_run, onwards_from}
 use Rattle.typst_edits.specs.KeptNodes.{kids_of_run, run_from, StandsBetween, KeptNodes, KeptNodesLaw, PutBehindLaw}
-use Rattle.typst_edits.specs.Laws.{block_at, blocks_of_text}
+use Rattle.typst_edits.specs.Laws.{blocks_of_text}
 use Rattle.typst_edits.specs.Leading.{LeadsAt, LeadingInner, both}
 use Rattle.typst_edits.specs.OneReading.{TakesNone}
 use Rattle.typst_edits.specs.Replaced.{Begins}
@@ -35,7 +35,7 @@ use Rattle.typst_edits.specs.RootPieces.{root_run}
 use Rattle.typst_edits.specs.RunTrees.{given}
 use Rattle.typst_edits.specs.Runs.{AllGo, End, chain, pieces}
 use Rattle.typst_edits.specs.Sequence.{Sequence, turn_of, first_of, first_end, then_of, then_end, then_place, rest_of}
-use Rattle.typst_edits.specs.Spot.{Spot, ended, unit_at}
+use Rattle.typst_edits.specs.Spot.{Spot, unit_at}
 use Rattle.typst_edits.proofs.BlockRuns.{content-split, content-taken, split-taken}
 use Rattle.typst_edits.proofs.Children.{back-law}
 use Rattle.typst_edits.proofs.Edit.{trees-of}
@@ -48,7 +48,7 @@ use Rattle.typst_edits.proofs.NoneBack.{inner-onwards-is}
 use Rattle.typst_edits.proofs.OneReading.{one-reading-law, Facts, go-less, go-first, go-second, first-split, end-split-at, later-place, leading, leading-most, leading-some, text-facts, block-facts}
 use Rattle.typst_edits.proofs.Replaced.{front-law, trees-bare}
 use Rattle.typst_edits.proofs.RootPieces.{same-place}
-use Rattle.typst_edits.proofs.Text.{names-law}
+use Rattle.typst_edits.proofs.Text.{content-reads}
 
 -- ---- along a path of a tree that is the same, spans aside
 
@@ -268,9 +268,7 @@ module _ (k : CharClasses) (levels : ℕ) (text : List ℕ) (c : Spot (Unit {0})
       let i = suc (a + d) in
       let last = tail_at k levels i 0 c z1 in
       let close = close_at k levels i 0 c z1 in
-      let named = names-law k text c chosen in
-      let reads : unit_at c z1 ≡ ended (block_at k (suc levels) block.Content z p) =
-      ap (λ o. o z p) named.reads ∙ ap (λ l. ended (block_at k l c.name z p)) left ∙ ap (λ x. ended (block_at k (suc levels) x z p)) name in
+      let reads = content-reads k text c chosen levels name left z1 in
       let split = ap (λ (o : Outcome (Unit {0})). o.taken) (content-split k levels z p i 0 go tt) in
       let all = content-taken k levels z p (chain (first_of i block_run) (chain (then_of i 0 block_run) (rest_of i 0 block_run))) last close in
       let run = split-taken block_run i 0 in

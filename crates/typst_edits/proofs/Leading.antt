@@ -27,7 +27,7 @@ use Rattle.typst_language.proofs.Leaves.{texts, texts-append, texts-one, texts-f
 use Rattle.typst_language.proofs.Places.{less-none, moved-sum}
 use Rattle.typst_grammar.specs.Markup.{ends, markup_turn, markup_head, markup_reading}
 use Rattle.typst_grammar.specs.Grammar.{rules, max_depth, level_at, start_of, whole, tree, parsed}
-use Rattle.typst_edits.specs.BlockRuns.{inner, look_first, look_again, bracket, run_at, opened_at, tail_at, close_at}
+use Rattle.typst_edits.specs.BlockRuns.{inner, look_first, look_again, bracket, inner_run, run_at, opened_at, tail_at, close_at}
 use Rattle.typst_edits.specs.Children.{Settles, together, read_from, standing_before, nodes_with}
 use Rattle.typst_edits.specs.Edit.{Among}
 use Rattle.typst_edits.specs.Every.{Every}
@@ -36,11 +36,10 @@ use Rattle.typst_edits.specs.InnerChildren.{standing_in, nodes_in, block_with}
 use Rattle.typst_edits.specs.InnerJoint.{onwards_in}
 use Rattle.typst_edits.specs.Joint.{minds, text_run, onwards_from}
 use Rattle.typst_edits.specs.Leading.{bytes_of, LeadsAt, opening_child, token_byte, both, is_over, Leading, LeadingInner, LeadingLaw, LeadingInnerLaw}
-use Rattle.typst_edits.specs.Laws.{blocks_of_text, block_at}
-use Rattle.typst_edits.specs.Named.{Named}
+use Rattle.typst_edits.specs.Laws.{blocks_of_text}
 use Rattle.typst_edits.specs.Occurrences.{goes}
 use Rattle.typst_edits.specs.RunTrees.{given}
-use Rattle.typst_edits.specs.Runs.{made, start, piece_at, AllGo, End, end_of, chain, lead, pieces, end_at, pieces_from, end_from, rest_from, tail}
+use Rattle.typst_edits.specs.Runs.{made, start, piece_at, AllGo, End, end_of, chain, pieces, end_at, pieces_from, end_from, rest_from, tail}
 use Rattle.typst_edits.specs.Sequence.{Sequence, turn_of, first_of, first_end, then_of, then_end, then_place, rest_of}
 use Rattle.typst_edits.specs.Spot.{Spot, last_node, unit_at, ended}
 use Rattle.typst_edits.proofs.BlockRuns.{sane as in-sane, content-split}
@@ -51,20 +50,20 @@ use Rattle.typst_edits.proofs.Clear.{Clear, clear-level}
 use Rattle.typst_edits.proofs.Content.{content-begun}
 use Rattle.typst_edits.proofs.Edit.{among, trees-of}
 use Rattle.typst_edits.proofs.Fitting.{same-here}
-use Rattle.typst_edits.proofs.Fronts.{Full, full-append, full-less, less-behind, Fronts, fronts-joined, Begins, begins-turn, begins-call}
+use Rattle.typst_edits.proofs.Fronts.{Full, full-append, full-less, Fronts, fronts-joined, Begins, begins-turn, begins-call}
 use Rattle.typst_edits.proofs.InnerChildren.{opens-by, node-is, pieces-quiet, close-quiet, kids-are, inner-back-law}
 use Rattle.typst_edits.proofs.InnerJoint.{inner-fronted}
 use Rattle.typst_edits.proofs.Inside.{Lawful}
 use Rattle.typst_edits.proofs.Joint.{onwards-fronted}
 use Rattle.typst_edits.proofs.Law.{inside-level}
-use Rattle.typst_edits.proofs.Led.{before_trivia, drop-front}
-use Rattle.typst_edits.proofs.Names.{named-level}
+use Rattle.typst_edits.proofs.Led.{before_trivia, drop-front, less-behind}
 use Rattle.typst_edits.proofs.Runs.{repeated-chain, chain-state, chain-taken, moved-three}
 use Rattle.typst_edits.proofs.RunTrees.{standing-none, tree-is}
+use Rattle.typst_edits.proofs.SpotPlaces.{width-encodes}
 use Rattle.typst_edits.proofs.Spots.{if-true}
+use Rattle.typst_edits.proofs.Text.{content-reads}
 use Rattle.typst_edits.proofs.TokenNodes.{NoMarkup, bracket-plain, close-plain}
 use Rattle.typst_edits.proofs.Turns.{end-by, last-turn}
-use Rattle.typst_edits.proofs.Walk.{width-encodes}
 use Rattle.typst_edits.proofs.Widths.{width-none}
 
 -- ---- nodes
@@ -134,14 +133,46 @@ module _ {A : Type 0} (m : A → Meaning (Bool × A)) (keeps : (x : A) → Keeps
       let first = keeps x z s h in
       kept-joined z o q first (kept-together n o.value.1 y o.state first.known) (tidy-together m backs n o.value.1 y o.state)
 
-module _ (r : Sequence) (sd : (c : Call) → Sane (r.level.deeper c)) (sb : (b : Block) → Sane (r.level.blocks b)) (deep : (r.level.levels == 0) ≡ false) (end_stops : r.stops kind.End ≡ true)
-    (call : (h : Reading) (z : Place) (t : Trivia) (x : Bool × ℕ) → 0 < len_at r.level.classes h.mode (moved t.gap z) → Begins h z t (minds (markup_head x.0 x.1 (hand_at r.level.classes h (Some t) z).kind)) (r.level.deeper (MarkupExpr x.0 x.1)))
-    (stands : Stands r.place r.point.known) (known : KnownAt r.point) where
+-- WHAT A RUN IS READ BY: what is called in it reads as it should, and takes its token first; the run stops at a text's end; and what stands where it begins is known.
+pub record Leads (r : Sequence) : Type 0 where
+  pub deeper : (c : Call) → Sane (r.level.deeper c)
+  pub blocks : (b : Block) → Sane (r.level.blocks b)
+  pub deep : (r.level.levels == 0) ≡ false
+  pub end_stops : r.stops kind.End ≡ true
+  pub call : (h : Reading) (z : Place) (t : Trivia) (x : Bool × ℕ) → 0 < len_at r.level.classes h.mode (moved t.gap z) → Begins h z t (minds (markup_head x.0 x.1 (hand_at r.level.classes h (Some t) z).kind)) (r.level.deeper (MarkupExpr x.0 x.1))
+  pub stands : Stands r.place r.point.known
+  pub known : KnownAt r.point
+
+pub text-leads : (k : CharClasses) (z : Place) → Leads (text_run k z)
+unfolding run
+text-leads k z = record {
+  deeper = sane-meaning (rules k) k max_depth;
+  blocks = sane-block (rules k) k max_depth;
+  deep = refl;
+  end_stops = refl;
+  call = λ h y t x more. begins-call k 255 h y t x.0 x.1 more;
+  stands = ((sane-run (level_at k max_depth) (sane-meaning (rules k) k max_depth) (sane-block (rules k) k max_depth) peek).kept z start tt).known;
+  known = record { trivia = _; is = refl };
+}
+
+pub block-leads : (k : CharClasses) (levels : ℕ) (z : Place) (s : Point) → Leads (inner_run k levels z s)
+unfolding run
+block-leads k levels z s = record {
+  deeper = sane-meaning (rules k) k (suc levels);
+  blocks = λ b. sane-plain tt;
+  deep = ne_eqb (suc levels) 0 (omega arith);
+  end_stops = refl;
+  call = λ h y t x more. begins-call k levels h y t x.0 x.1 more;
+  stands = ((in-sane k levels peek).kept (moved (bracket k levels z s).taken z) (bracket k levels z s).state tt).known;
+  known = record { trivia = _; is = refl };
+}
+
+module _ (r : Sequence) (leads : Leads r) where
   abbrev pub turn : Bool × ℕ → Meaning (Bool × (Bool × ℕ))
   turn x = turn_of r x
 
   pub sane : (x : Bool × ℕ) → Sane (turn x)
-  sane x = sane-run r.level sd sb (markup_turn true r.stops x)
+  sane x = sane-run r.level leads.deeper leads.blocks (markup_turn true r.stops x)
 
   -- a turn that isn't stopped
   pub turn-fronts : (x : Bool × ℕ) (z : Place) (s : Point) (t : Trivia) → s.known ≡ Some t → ends r.stops x.1 (told (hand_of r.level z s)).kind ≡ false
@@ -153,9 +184,9 @@ module _ (r : Sequence) (sd : (c : Call) → Sane (r.level.deeper c)) (sb : (b :
       let b = before_trivia s.reading h s.empties s.is_after_error t in
       let same : s ≡ b = ap (λ u. record s { known = u }) is in
       let go_there : ends r.stops x.1 (told (hand_of l z b)).kind ≡ false = subst (λ p. ends r.stops x.1 (told (hand_of l z p)).kind ≡ false) same go in
-      let some = hand-takes l.classes h (Some t) z (end-by r.stops end_stops x.1 (told (hand_of l z b)).kind go_there) in
+      let some = hand-takes l.classes h (Some t) z (end-by r.stops leads.end_stops x.1 (told (hand_of l z b)).kind go_there) in
       let trims = minds (markup_head x.0 x.1 (hand_at l.classes h (Some t) z).kind) in
-      subst (λ p. Fronts t trims (turn x z p)) (sym same) (begins-turn l sd sb h z t deep r.stops x trims (call h z t x some) go_there s.reading s.empties s.is_after_error)
+      subst (λ p. Fronts t trims (turn x z p)) (sym same) (begins-turn l leads.deeper leads.blocks h z t leads.deep r.stops x trims (leads.call h z t x some) go_there s.reading s.empties s.is_after_error)
 
   turn-goes-on : (x : Bool × ℕ) (z : Place) (s : Point) (t : Trivia) → s.known ≡ Some t → ends r.stops x.1 (told (hand_of r.level z s)).kind ≡ false → goes (turn x z s) ≡ true
   turn-goes-on x z s t is go =
@@ -205,7 +236,7 @@ module _ (r : Sequence) (sd : (c : Call) → Sane (r.level.deeper c)) (sb : (b :
       let w = moved (o.taken + 0) z in
       let q = repeated turn o.value.1 w o.state in
       let parts : p ≡ joined o q = repeated-chain turn (λ v. (sane v).within) 1 x z s (turn-goes-on x z s t is go, tt) in
-      let one = fronts-joined t trims o q (turn-fronts x z s t is go) ((sane-run r.level sd sb (repeat (markup_turn true r.stops) o.value.1)).backs w o.state) in
+      let one = fronts-joined t trims o q (turn-fronts x z s t is go) ((sane-run r.level leads.deeper leads.blocks (repeat (markup_turn true r.stops) o.value.1)).backs w o.state) in
       fronts-joined t trims p last (subst (λ u. Fronts t trims u) (sym parts) one) tidy
 
   -- where none follows
@@ -273,7 +304,7 @@ module _ (r : Sequence) (sd : (c : Call) → Sane (r.level.deeper c)) (sb : (b :
     p-state = chain-state (then_of i n r) (plain (tt {0}) f.state)
 
     holds-q : Holds r.place q
-    holds-q = kept-together turn (λ x. (sane x).kept) (λ x. (sane x).backs) i (true, 0) r.place r.point stands
+    holds-q = kept-together turn (λ x. (sane x).kept) (λ x. (sane x).backs) i (true, 0) r.place r.point leads.stands
 
     stands-e : Stands w e.state.known
     stands-e = subst (λ (s : Point). Stands w s.known) q-state (subst (λ d. Stands (moved d r.place) q.state.known) q-taken holds-q.known)
@@ -310,7 +341,7 @@ module _ (r : Sequence) (sd : (c : Call) → Sane (r.level.deeper c)) (sb : (b :
     pub first-leads : (from at : ℕ) (kids rest : List Tree) (back : ℕ) (ts : List Tree) → from ≡ width (take a text) → at ≡ width (take (a + (e.taken + gap_of e.state.known)) text) → 0 < n → back ≤ f.state.empties
         → kids ≡ before ++ ((less back p.nodes ++ ts) ++ rest) → LeadsAt from kids at (length before + length (pending e.state.known))
     first-leads from at kids rest back ts from_is at_is some few is =
-        let there_known = known-from i (true, 0) r.place r.point known g in
+        let there_known = known-from i (true, 0) r.place r.point leads.known g in
         let u = there_known.trivia in
         let us = pending e.state.known in
         let us_is : us ≡ u.nodes = ap pending there_known.is in
@@ -374,26 +405,10 @@ module _ (k : CharClasses) (text : List ℕ) (i n : ℕ) (t : Trivia) (g : AllGo
   abbrev z0 : Place
   z0 = start_of text
 
-  sd : (c : Call) → Sane ((level_at k max_depth).deeper c)
-  sd = sane-meaning (rules k) k max_depth
-
-  sb : (b : Block) → Sane ((level_at k max_depth).blocks b)
-  sb = sane-block (rules k) k max_depth
-
-  begins : (h : Reading) (z : Place) (t : Trivia) (x : Bool × ℕ) → 0 < len_at k h.mode (moved t.gap z) → Begins h z t (minds (markup_head x.0 x.1 (hand_at k h (Some t) z).kind)) ((level_at k max_depth).deeper (MarkupExpr x.0 x.1))
-  begins h z t x more = begins-call k 255 h z t x.0 x.1 more
-
-  first-stands : Stands z0 (lead k z0).state.known
-  unfolding run
-  first-stands = ((sane-run (level_at k max_depth) sd sb peek).kept z0 start tt).known
-
-  first-known : KnownAt (lead k z0).state
-  unfolding run
-  first-known = record { trivia = _; is = refl }
-
   text-is : Leading k text i n t
   text-is =
       let r = text_run k z0 in
+      let leads = text-leads k z0 in
       let o = onwards_from k i n z0 in
       let p = read_from k i n z0 in
       let e = end_at k i z0 in
@@ -413,20 +428,20 @@ module _ (k : CharClasses) (text : List ℕ) (i n : ℕ) (t : Trivia) (g : AllGo
       let children : kids ≡ before ++ (olds ++ front.rest) = ap (λ (y : Tree). trees y.kids) was ∙ trees-of (before ++ (olds ++ front.rest)) in
       let rest = rest_from k i n z0 in
       let last = tail k ((e.taken + f.taken) + rest.taken) rest.state z0 in
-      let tidy = (sane-run (level_at k max_depth) sd sb flush_trivia).backs (moved ((e.taken + f.taken) + rest.taken) z0) rest.state in
+      let tidy = (sane-run (level_at k max_depth) leads.deeper leads.blocks flush_trivia).backs (moved ((e.taken + f.taken) + rest.taken) z0) rest.state in
       let none : 0 ≡ width (take 0 text) = sym width-none in
       let behind-zero : 0 + bytes_of (before ++ olds) ≡ bytes_of (before ++ olds) = omega arith in
       let at_first : token_byte text e ≡ width (take (0 + (e.taken + gap_of e.state.known)) text) = ap (λ d. width (take d text)) (omega arith) in
       let at_next : token_byte text (both k i n z0) ≡ width (take (0 + ((e.taken + f.taken) + gap_of f.state.known)) text) = ap (λ d. width (take d text)) (omega arith) in
       let there = λ (over : is_over i n r ≡ true). ap (λ w. (joined rest (run (level_at k max_depth) flush_trivia w rest.state)).nodes) (moved-three e.taken f.taken rest.taken z0)
-      ∙ rest-over r sd sb refl refl begins first-stands first-known f.value (then_place i n r) f.state t known over in
+      ∙ rest-over r leads f.value (then_place i n r) f.state t known over in
       record {
         behind = front.rest;
         children = children;
         onwards = front.nodes;
-        ends = sym behind-zero ∙ ends-at r sd sb refl refl begins first-stands first-known text 0 refl i n g h 0 (token_byte text (both k i n z0)) o.back t known none at_next back;
-        first = λ l. first-leads r sd sb refl refl begins first-stands first-known text 0 refl i n g h 0 (token_byte text e) kids front.rest o.back t.nodes none at_first l back children;
-        next = λ go. next-leads r sd sb refl refl begins first-stands first-known text 0 refl i n g h 0 (token_byte text (both k i n z0)) kids front.rest t last known none at_next tidy go back front.nodes children;
+        ends = sym behind-zero ∙ ends-at r leads text 0 refl i n g h 0 (token_byte text (both k i n z0)) o.back t known none at_next back;
+        first = λ l. first-leads r leads text 0 refl i n g h 0 (token_byte text e) kids front.rest o.back t.nodes none at_first l back children;
+        next = λ go. next-leads r leads text 0 refl i n g h 0 (token_byte text (both k i n z0)) kids front.rest t last known none at_next tidy go back front.nodes children;
         last = λ over. none-behind t.nodes front.rest o.nodes front.nodes (there over);
       }
 
@@ -472,26 +487,6 @@ module _ (k : CharClasses) (levels : ℕ) (text : List ℕ) (c : Spot (Unit {0})
   abbrev block_run : Sequence
   block_run = run_at k levels c z1
 
-  in-sd : (call : Call) → Sane ((inner k levels).deeper call)
-  in-sd = sane-meaning (rules k) k (suc levels)
-
-  in-sb : (b : Block) → Sane ((inner k levels).blocks b)
-  in-sb b = sane-plain tt
-
-  in-deep : (suc levels == 0) ≡ false
-  in-deep = ne_eqb (suc levels) 0 (omega arith)
-
-  in-begins : (a : Reading) (y : Place) (u : Trivia) (x : Bool × ℕ) → 0 < len_at k a.mode (moved u.gap y) → Begins a y u (minds (markup_head x.0 x.1 (hand_at k a (Some u) y).kind)) ((inner k levels).deeper (MarkupExpr x.0 x.1))
-  in-begins a y u x more = begins-call k levels a y u x.0 x.1 more
-
-  in-stands : Stands block_run.place block_run.point.known
-  unfolding run
-  in-stands = ((in-sane k levels peek).kept block_run.place (bracket k levels (moved c.at z1) (point_of c.start)).state tt).known
-
-  in-known : KnownAt block_run.point
-  unfolding run
-  in-known = record { trivia = _; is = refl }
-
   -- the bracket holds what it takes
   bracket-text : (let y = moved c.at z1 in let o = bracket k levels y (point_of c.start) in texts o.nodes ≡ utf8_ahead o.taken y)
   unfolding run
@@ -514,11 +509,9 @@ module _ (k : CharClasses) (levels : ℕ) (text : List ℕ) (c : Spot (Unit {0})
       let r = block_run in
       let o = parsed k max_depth text in
       let l = among (Lawful z1 z1 o o) c _ chosen (inside-level (rules k) k (block-ends k) max_depth whole z1 z1 (start_point markup_reading)) in
-      let named = among (Named (block_at k) max_depth) c _ chosen (named-level (rules k) k max_depth whole z1 (start_point markup_reading)) in
       let clear = among (Clear k z1) c _ chosen (clear-level (rules k) k max_depth whole z1 (start_point markup_reading) tt) in
-      let reads : unit_at c z1 ≡ ended (block_at k (suc levels) block.Content y s) =
-      ap (λ m. m y s) named.reads ∙ ap (λ v. ended (block_at k v c.name y s)) left ∙ ap (λ x. ended (block_at k (suc levels) x y s)) name in
-      let begun = content-begun (inner k levels) in-sd in-sb y s refl (clear.clear z1 (same-here c.before z1)) (subst (λ (a : Outcome (Unit {0})). 0 < a.taken) reads takes) in
+      let reads = content-reads k text c chosen levels name left z1 in
+      let begun = content-begun (inner k levels) (sane-meaning (rules k) k (suc levels)) (λ b. sane-plain tt) y s refl (clear.clear z1 (same-here c.before z1)) (subst (λ (a : Outcome (Unit {0})). 0 < a.taken) reads takes) in
       let opens = opens-by k levels y s begun in
       let close = close_at k levels i n c z1 in
       let last = tail_at k levels i n c z1 in
@@ -569,7 +562,7 @@ module _ (k : CharClasses) (levels : ℕ) (text : List ℕ) (c : Spot (Unit {0})
       let at = ((e.taken + f.taken) + rest.taken) in
       let tidy = (in-sane k levels flush_trivia).backs (moved at r.place) rest.state in
       let over_nodes = λ (over : is_over i n r ≡ true). ap (λ w. (joined rest (run (inner k levels) flush_trivia w rest.state)).nodes) (moved-three e.taken f.taken rest.taken r.place)
-      ∙ rest-over r in-sd in-sb in-deep refl in-begins in-stands in-known f.value (then_place i n r) f.state t known over in
+      ∙ rest-over r (block-leads k levels (moved c.at z1) (point_of c.start)) f.value (then_place i n r) f.state t known over in
       record {
         closed = held.closed;
         bracket = held.bracket;
@@ -582,9 +575,9 @@ module _ (k : CharClasses) (levels : ℕ) (text : List ℕ) (c : Spot (Unit {0})
         behind = front.rest;
         children = refl;
         onwards = front.nodes;
-        ends = ends-at r in-sd in-sb in-deep refl in-begins in-stands in-known text a there i n g h from (token_byte text v) o.back t known refl at_next back;
-        first = λ l. first-leads r in-sd in-sb in-deep refl in-begins in-stands in-known text a there i n g h from (token_byte text u) kids front.rest o.back t.nodes refl at_first l back refl;
-        next = λ go. next-leads r in-sd in-sb in-deep refl in-begins in-stands in-known text a there i n g h from (token_byte text v) kids front.rest t last known refl at_next tidy go back front.nodes refl;
+        ends = ends-at r (block-leads k levels (moved c.at z1) (point_of c.start)) text a there i n g h from (token_byte text v) o.back t known refl at_next back;
+        first = λ l. first-leads r (block-leads k levels (moved c.at z1) (point_of c.start)) text a there i n g h from (token_byte text u) kids front.rest o.back t.nodes refl at_first l back refl;
+        next = λ go. next-leads r (block-leads k levels (moved c.at z1) (point_of c.start)) text a there i n g h from (token_byte text v) kids front.rest t last known refl at_next tidy go back front.nodes refl;
         last = λ over. none-behind t.nodes front.rest o.nodes front.nodes (over_nodes over);
       }
 

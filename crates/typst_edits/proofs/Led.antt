@@ -65,7 +65,7 @@ drop-front [] ys n e = ap (λ j. drop j ys) e
 drop-front (x ∷ xs) ys zero e = absurd (omega (arith, e))
 drop-front (x ∷ xs) ys (suc n) e = drop-front xs ys n (omega (arith, e))
 
-take-front : {A : Type 0} (xs ys : List A) (n : ℕ) → n ≡ length xs → take n (xs ++ ys) ≡ xs
+pub take-front : {A : Type 0} (xs ys : List A) (n : ℕ) → n ≡ length xs → take n (xs ++ ys) ≡ xs
 take-front [] ys n e = ap (λ j. take j ys) e
 take-front (x ∷ xs) ys zero e = absurd (omega (arith, e))
 take-front (x ∷ xs) ys (suc n) e = ap (λ u. x ∷ u) (take-front xs ys n (omega (arith, e)))
@@ -214,7 +214,7 @@ no-empties : (b : Bool) (text : List ℕ) (s : Point) → count_empty text ≡ 0
 no-empties true text s e = e
 no-empties false text s e = refl
 
-some-text : (xs : List ℕ) → 0 < length xs → count_empty xs ≡ 0
+pub some-text : (xs : List ℕ) → 0 < length xs → count_empty xs ≡ 0
 some-text [] h = absurd (omega arith)
 some-text (x ∷ xs) h = refl
 

@@ -13,21 +13,21 @@
 --   replaced_law                 Replaced
 --   empty_run_law                EmptyRuns: of a whole text; EmptyBlocks: of a content block
 --   candidates_law               BareCandidates, CandidatePlaces
---   notes_law                    PieceNotes: of a whole text and of a content block; Marks: in any list of asks
+--   notes_law                    PieceNotes: of a whole text and of a content block; BlockLog: a block's two notes in the log; Marks: in any list of asks
 --   numbered_notes_law           NumberedNotes: of a whole text and of a content block; InTurn: the marks of a run in turn; NoteNumbers, InnerNumbers: the number of a note; Cuts: where the tokens behind pieces begin
---   rising_law                   Rising: the marks of whatever the language can say; InOrder: the same by their tokens; OpensApart: those where blocks begin; Nested: how they stand in each other; NestedInner, NestedBlocks: between the two notes of a block
+--   rising_law                   Upward: marks in order, in whatever the language can say; Rising: by where they stand; InOrder: by their tokens; OpensApart: those where blocks begin; Nested: how they stand in each other; NestedInner, NestedBlocks: between the two notes of a block
 --   leading_law                  Leading: of a whole text and of a content block; Fronts: what a piece gives first
 --   block_worth_law              BlockWorth
 --   part_law                     BlockPart
 --   splice_law                   Splice: of any asks; BlockSplice: of a block; RunSplice: of pieces of a text's run; InnerSplice: of pieces of a block's; PieceAsks: what is asked of them; Sides: what stands behind a note; Seen: what is noted was looked at; Forward: trivia look ahead alone
 --   one_reading_law              OneReading; KeptNodes: in the old tree
 --   block_test_law               BlockTest: entries and the block by itself; EntryNumbers: a block's two notes among the entries; CandidateBlocks: the candidate's node in a hole; BlockPlaces: the block there, by bytes; SecondPlaces: one that a reading that was given up covers
---   pieces_test_law              PiecesTest
+--   pieces_test_law              ReadAlone: pieces read by themselves, of any run; PiecesTest: of a whole text
 --   inner_pieces_test_law        InnerPiecesTest
---   run_test_law                 RunTest; RunOver: the end of a run
---   served_law                   Served: any run; RootServed: of a whole text; InnerServed: of a content block
+--   run_test_law, inner_run_test_law      AnyRun: any run; RunTest: of a whole text; InnerRunTest: of a content block; RunOver: the end of a run
+--   served_law                   AnyRun: any run; RootServed: of a whole text; InnerServed: of a content block
 --   run_numbers_law              RunNumbers: of a whole text; InnerRunNumbers: of a content block; FoundPieces: of any run; NestedPieces: of nested notes
---   path_law                     Walk: the steps; Placed: what stands before a block
+--   path_law                     Walk: the steps; SpotPlaces: where a block stands; Placed: what stands before it
 --   root_worth_law               RootWorth
 --   root_pieces_law              RootPieces; RootCandidates: its candidates begin well; CandidateEnds: of any run; QuietTrivia: what is known of trivia clings; MarkupCandidates: where candidates come from; InnerCuts: the cuts of a run
 --   inner_candidate_law          InnerCandidates; MarkupCandidates: from which run a candidate comes; InnerCuts: the cuts of a block's run; CandidateEnds: where a stretch of children ends
@@ -102,10 +102,12 @@ pub mod Forward
 pub mod PieceAsks
 pub mod RunSplice
 pub mod EmptyBlocks
+pub mod BlockLog
 pub mod PieceNotes
 pub mod InTurn
 pub mod NumberedNotes
 pub mod NoteNumbers
+pub mod Upward
 pub mod Rising
 pub mod InOrder
 pub mod OpensApart
@@ -121,6 +123,7 @@ pub mod Leading
 pub mod Cuts
 pub mod InnerNumbers
 pub mod Placed
+pub mod SpotPlaces
 pub mod Walk
 pub mod BlockModes
 pub mod Resumed
@@ -155,14 +158,14 @@ pub mod BlockTest
 pub mod SecondBlocks
 pub mod StartBytes
 pub mod InnerRuns
+pub mod ReadAlone
 pub mod InnerPiecesTest
 pub mod PiecesTest
 pub mod RunOver
+pub mod AnyRun
 pub mod RunTest
 pub mod SameBlocks
-pub mod RunHomes
 pub mod InnerRunTest
-pub mod Served
 pub mod RootServed
 pub mod InnerServed
 -- What the crates above name of those below.

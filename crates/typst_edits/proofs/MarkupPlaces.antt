@@ -1,5 +1,5 @@
 -- Where a candidate that is pieces and doesn't stand at the root comes from: from a child that covers the replaced bytes and is the markup of a content block.
-use Rattle.std.proofs.Common.{◌≡◌, ℕ, zero, suc, ◌+◌, ◌<◌, Bool, true, false, ◌&&◌, if◌then◌else◌, List, [], ◌∷◌, ◌++◌, length, Option, Some, None, refl, ap, sym, ◌∙◌, subst, arith, append_assoc, append-nil, length-append}
+use Rattle.std.proofs.Common.{◌≡◌, ℕ, zero, suc, ◌+◌, Bool, true, false, ◌&&◌, if◌then◌else◌, List, [], ◌∷◌, ◌++◌, length, Option, Some, None, refl, ap, sym, ◌∙◌, subst, arith, append_assoc, append-nil, length-append}
 use Rattle.typst_kinds.specs.Kinds.{same}
 use Rattle.typst_kinds.specs.Head.{Head}
 use Rattle.typst_kinds.specs.declared.kind.SyntaxKind.{SyntaxKind}
@@ -8,7 +8,7 @@ use Rattle.typst_kinds.proofs.Sameness.{same-is}
 use Rattle.typst_language.specs.declared.calls.Note.{Note}
 use Rattle.typst_language.proofs.Leaves.{texts}
 use Rattle.typst_tree.specs.Tree.{Forest, none, more, Tree, forest, trees, text_of, joined}
-use Rattle.typst_candidates.specs.Candidates.{Child, laid, first_near, child_at, Candidate, of_run, covers, run_in, candidates_at}
+use Rattle.typst_candidates.specs.Candidates.{Child, laid, first_near, child_at, Candidate, of_run, run_in, candidates_at}
 use Rattle.typst_candidates.specs.Units.{cuts_in}
 use Rattle.typst_edits.specs.Edit.{Among}
 use Rattle.typst_edits.specs.Every.{Every}
@@ -17,7 +17,7 @@ use Rattle.typst_edits.specs.Hole.Deep.{bare, under}
 use Rattle.typst_edits.proofs.CandidateBlocks.{Covers, covers-is, or_first, split-child}
 use Rattle.typst_edits.proofs.Edit.{among}
 use Rattle.typst_edits.proofs.Every.{every-by}
-use Rattle.typst_edits.proofs.MarkupCandidates.{Alone, Below, Own, at-index, every-both, longer-other, node-every, own-run, paths-below, run-own}
+use Rattle.typst_edits.proofs.MarkupCandidates.{Below, at-index, every-both, longer-other, node-every, own-run, paths-below, run-own}
 use Rattle.typst_edits.proofs.Placed.{deep_text}
 
 module _ (ns : List Note) (rs re : ℕ) where

@@ -26,6 +26,7 @@ use Rattle.typst_edits.specs.Runs.{End, made, end_of}
 use Rattle.typst_edits.specs.Sequence.{Sequence}
 use Rattle.typst_edits.proofs.Led.{behind_trivia, SameJudged, same-judged, before_trivia, Takes, kind-behind}
 use Rattle.typst_edits.proofs.Turns.{Fronted, fronted-behind, stopped-alike, hand-seen}
+use Rattle.typst_edits.proofs.EmptyRuns.{and-false as none-and}
 
 -- ---- how a run is read
 
@@ -54,10 +55,6 @@ read-made g m rests zero x z s a = a
 read-made g m rests (suc n) x z s a =
     let o = m x z s in
     read-made g m rests n o.value.1 (moved o.taken z) o.state (read-as g s o.state a (rests x z s))
-
-none-and : (b : Bool) → (b && false) ≡ false
-none-and true = refl
-none-and false = refl
 
 -- markup goes on behind newlines
 goes-on : (t u : Trivia) → SameJudged markup_reading t u

@@ -1,8 +1,9 @@
 -- The notes of a run by their numbers.
-use Rattle.std.proofs.Common.{◌≡◌, ℕ, zero, suc, ◌+◌, ◌-◌, ◌<◌, ◌==◌, ne_eqb, Bool, true, false, ◌&&◌, nat_lt, List, [], ◌∷◌, ◌++◌, length, take, length-append, append_assoc, Some, refl, ap, sym, ◌∙◌, subst, arith}
-use borrow.Author.Tests.{ltb-true}
+use Rattle.std.proofs.Common.{◌≡◌, ℕ, zero, suc, ◌+◌, ◌-◌, ◌<◌, ◌==◌, ne_eqb, if◌then◌else◌, Bool, true, false, ◌&&◌, nat_lt, List, [], ◌∷◌, ◌++◌, length, take, length-append, Some, refl, ap, sym, ◌∙◌, subst, arith}
+use borrow.Author.Tests.{ltb-true, lt-ltb}
 use Rattle.typst_kinds.specs.declared.kind.SyntaxKind.{SyntaxKind}
 use Rattle.typst_kinds.specs.declared.kind.SyntaxKind.TheVariants as kind
+use Rattle.typst_kinds.specs.Kinds.{same}
 use Rattle.typst_lines.specs.Place.{Place, moved}
 use Rattle.typst_candidates.specs.Nested.{Nested}
 use Rattle.typst_lines.specs.Classes.{CharClasses}
@@ -17,50 +18,49 @@ use Rattle.typst_language.specs.declared.calls.Note.{Note}
 use Rattle.typst_language.specs.declared.reading.Reading.{Reading}
 use Rattle.typst_language.specs.declared.reading.State.{State}
 use Rattle.typst_language.specs.Ask.{Ask, shift}
-use Rattle.typst_language.specs.Ask.Ask.{marked}
 use Rattle.typst_language.specs.Depth.{deeper, is_end}
 use Rattle.typst_language.specs.Hand.{told, len_at, hand_at}
-use Rattle.typst_language.specs.Log.{Log, no_log, with_note, logged}
+use Rattle.typst_language.specs.Log.{Log, no_log, logged}
 use Rattle.typst_language.specs.Point.{Trivia, Point, gap_of, point_of, state_of}
 use Rattle.typst_language.specs.Shape.{after_node}
-use Rattle.typst_language.specs.Meaning.{Outcome, Meaning, Level, joined, turns, as_last, bound, repeated, start_point, hand_of, hand_asks_of, asked, run}
+use Rattle.typst_language.specs.Shape.Making.{itself}
+use Rattle.typst_language.specs.Steps.{close_if}
+use Rattle.typst_language.specs.Syntax.Op.{takes}
+use Rattle.typst_language.specs.Meaning.{Outcome, Meaning, Level, joined, turns, as_last, bound, repeated, hand_of, hand_asks_of, asked, run, plain, done}
 use Rattle.typst_language.proofs.Knot.{Sane, sane-run, sane-meaning, sane-block, sane-plain}
 use Rattle.typst_language.proofs.Places.{moved-sum}
 use Rattle.typst_language.proofs.Within.{and-second}
-use Rattle.typst_grammar.specs.Markup.{ends, markup_turn, markup_head, markup_reading, ends_block}
-use Rattle.typst_grammar.specs.Grammar.{rules, max_depth, level_at, start_of, whole, parsed, log}
+use Rattle.typst_grammar.specs.Markup.{ends, markup_turn, markup_head, ends_block}
+use Rattle.typst_grammar.specs.Grammar.{rules, max_depth, level_at, start_of, parsed, log}
 use Rattle.typst_edits.specs.BlockRuns.{inner, look_first, look_again, bracket, inner_lead, inner_run, inner_tail, inner_close, run_at, opened_at}
 use Rattle.typst_edits.specs.Edit.{Among}
 use Rattle.typst_edits.specs.InnerBytes.{inner_end}
 use Rattle.typst_edits.specs.Joint.{minds}
 use Rattle.typst_edits.specs.Laws.{blocks_of_text, block_at}
-use Rattle.typst_edits.specs.Named.{Named}
 use Rattle.typst_edits.specs.NumberedNotes.{of_level, Numbered, cut_behind, SaysOf, NumberedRunLaw, NumberedInner, NumberedInnerLaw}
 use Rattle.typst_edits.specs.Occurrences.{goes}
 use Rattle.typst_edits.specs.PieceNotes.{listed, Says}
 use Rattle.typst_edits.specs.Runs.{made, AllGo, End, end_of, piece_at, end_at, start, lead, tail}
 use Rattle.typst_edits.specs.Sequence.{Sequence, turn_of}
 use Rattle.typst_edits.specs.Splice.{notes_in}
-use Rattle.typst_edits.specs.Spot.{Spot, lowered, unit_at, ended}
-use Rattle.typst_edits.proofs.Blocks.{ends as block-ends}
+use Rattle.typst_edits.specs.Spot.{Spot, unit_at}
 use Rattle.typst_edits.proofs.BlockRuns.{content-is}
 use Rattle.typst_edits.proofs.Boundary.{KnownAt, stopped-is, stopped-asks, turn-asks, early-marks, turn-goes, turn-known, piece_mark}
-use Rattle.typst_edits.proofs.Bytes.{logged-append, noted-by, noted-more, asks-are, counted, notes-one}
-use Rattle.typst_edits.proofs.Edit.{among}
-use Rattle.typst_edits.proofs.Inside.{Lawful}
+use Rattle.typst_edits.proofs.BlockLog.{own_asks, block-log}
+use Rattle.typst_edits.proofs.Bytes.{counted}
+use Rattle.typst_edits.proofs.Children.{turn-led}
 use Rattle.typst_edits.proofs.InnerBytes.{asks_before, run_mark, content-asks}
 use Rattle.typst_edits.proofs.InTurn.{InTurn, turn-append, turn-next, turn-by, turn-shift, Deeper, turn-none, NoteNth, noted-nth, numbered-by, logged-lowered}
-use Rattle.typst_edits.proofs.Joint.{takes-call}
-use Rattle.typst_edits.proofs.Law.{inside-level}
+use Rattle.typst_edits.proofs.Joint.{takes-call, known-is}
 use Rattle.typst_edits.proofs.Led.{same-judged, Takes}
-use Rattle.typst_edits.proofs.Marks.{marks-append, marks-shift, none-hand}
-use Rattle.typst_edits.proofs.Names.{named-level}
+use Rattle.typst_edits.proofs.Marks.{AllMarks, marks-append, marks-shift, none-hand}
 use Rattle.typst_edits.proofs.Nested.{Nests, unit-nests, noted-nested, same-behind, same-some}
-use Rattle.typst_edits.proofs.PieceNotes.{goes-on, flush-marks, close-marks}
 use Rattle.typst_edits.proofs.Root.{whole-is}
 use Rattle.typst_edits.proofs.RunTrees.{whole-asks}
 use Rattle.typst_edits.proofs.Spots.{if-true, if-false}
+use Rattle.typst_edits.proofs.Text.{content-reads}
 use Rattle.typst_edits.proofs.Widths.{width-moved}
+use Rattle.typst_edits.proofs.EmptyRuns.{none-flush as flush-marks}
 
 -- the mark of a number stands where so many turns end
 pub record EndsNth (m : Bool × ℕ → Meaning (Bool × (Bool × ℕ))) (x : Bool × ℕ) (z : Place) (s : Point) (i at gap : ℕ) (what : Mark) (state : State) : Type 0 where
@@ -80,6 +80,18 @@ module _ (l : Level) (sd : (c : Call) → Sane (l.deeper c)) (sb : (b : Block) �
     (call : (h : Reading) (z : Place) (t : Trivia) (x : Bool × ℕ) → 0 < len_at l.classes h.mode (moved t.gap z) → Takes h z t t (minds (markup_head x.0 x.1 (hand_at l.classes h (Some t) z).kind)) (l.deeper (MarkupExpr x.0 x.1))) where
   abbrev turn : Bool × ℕ → Meaning (Bool × (Bool × ℕ))
   turn x = run l (markup_turn true stops x)
+
+  -- a turn that isn't stopped takes something
+  goes-on : (x : Bool × ℕ) (z : Place) (s : Point) → KnownAt s → ends stops x.1 (told (hand_of l z s)).kind ≡ false → goes (turn x z s) ≡ true
+  goes-on x z s known go =
+      let t = known.trivia in
+      let is = known-is l.classes s t known.is in
+      let led = turn-led l sd sb deep stops end_stops call x z s.reading s.held s.empties s.is_after_error t (subst (λ p. ends stops x.1 (told (hand_of l z p)).kind ≡ false) is go) in
+      let same : turn x z s ≡ turn x z _ = ap (turn x z) is in
+      let some = led.some in
+      let taken = led.taken in
+      let took = ap (λ (o : Outcome (Bool × (Bool × ℕ))). o.taken) same in
+      ap (λ b. b && nat_lt 0 (turn x z s).taken) (turn-goes l stops x z s go) ∙ lt-ltb 0 (turn x z s).taken (omega (arith, some, taken, took))
 
   -- a turn that isn't stopped notes its end alone
   one-mark : (x : Bool × ℕ) (z : Place) (s : Point) → ends stops x.1 (told (hand_of l z s)).kind ≡ false → InTurn (EndsNth turn x z s) 1 2 (turn x z s).asks
@@ -111,7 +123,7 @@ module _ (l : Level) (sd : (c : Call) → Sane (l.deeper c)) (sb : (b : Block) �
       let o = turn x z s in
       let y = moved o.taken z in
       let P = EndsNth turn x z s in
-      let g = goes-on l sd sb deep stops end_stops call x z s known e in
+      let g = goes-on x z s known e in
       let some : 0 < o.taken = ltb-true 0 o.taken (and-second o.value.0 (nat_lt 0 o.taken) g) in
       let most = (sane-run l sd sb (markup_turn true stops x)).within z s in
       let more = turns turn n o.value.1 y o.state in
@@ -206,12 +218,30 @@ numbered-run-law k text =
 
 -- ---- a content block's run
 
+marks-either : {A : Type 0} (P : ℕ → ℕ → Mark → State → Type 0) (b : Bool) (o p : Outcome A) → AllMarks P o.asks → AllMarks P p.asks → AllMarks P (if b then o else p).asks
+marks-either P true o p h i = h
+marks-either P false o p h i = i
+
 module _ (k : CharClasses) (levels : ℕ) (z : Place) (s : Point) where
   abbrev the_run : Sequence
   the_run = inner_run k levels z s
 
   abbrev opened : ℕ
   opened = (bracket k levels z s).taken
+
+  close-marks : (P : ℕ → ℕ → Mark → State → Type 0) (w : Place) (p : Point) → AllMarks P (run (inner k levels) (close_if (same kind.RightBracket)) w p).asks
+  unfolding run close_if
+  close-marks P w p =
+      let l = inner k levels in
+      let h = hand_of l w p in
+      let a = asked h p in
+      let y = moved 0 w in
+      let Q = λ (at fewer : ℕ) (m : Mark) (u : State). P (0 + at) fewer m u in
+      let took = done l (takes false itself) y a in
+      let taken = joined took (plain true took.state) in
+      let b = same kind.RightBracket (told h).kind in
+      let in_took = marks-append Q (hand_asks_of l y a) [] (none-hand Q k a.held a.known y) tt in
+      marks-append P (hand_asks_of l w p) _ (none-hand P k p.held p.known w) (marks-shift P 0 (if b then taken else plain false a).asks (marks-either Q b taken (plain false a) in_took tt))
 
   -- the marks of a number, counted from where the block begins
   abbrev Cut : ℕ → ℕ → ℕ → ℕ → Mark → State → Type 0
@@ -245,7 +275,7 @@ module _ (k : CharClasses) (levels : ℕ) (z : Place) (s : Point) where
       let own = cuts-in (turn_of r) (true, 0) r.place r.point opened block-turns.count o.asks block-turns.marks in
       let behind = t.asks ++ shift t.taken close.asks in
       let last = marks-shift Deeper o.taken behind (marks-append Deeper t.asks (shift t.taken close.asks) (flush-marks Deeper (inner k levels) (moved o.taken r.place) o.state)
-      (marks-shift Deeper t.taken close.asks (close-marks k levels z s Deeper (moved (o.taken + t.taken) r.place) (after_node false [] t.state)))) in
+      (marks-shift Deeper t.taken close.asks (close-marks Deeper (moved (o.taken + t.taken) r.place) (after_node false [] t.state)))) in
       let all = run_mark k levels z s ∷ ((ls ++ o.asks) ++ shift o.taken behind) in
       let mark_is : Q 0 0 0 (mark.Piece true 0) (state_of b.state) = record { at_is = refl; cut = omega arith; says = refl; told = refl } in
       let in_run : InTurn Q 0 c all = (mark_is, turn-append Q 1 c c (ls ++ o.asks) (shift o.taken behind) (turn-append Q 1 1 c ls o.asks first own) (turn-none Q c (shift o.taken behind) last)) in
@@ -282,61 +312,40 @@ pub nested-numbers : (k : CharClasses) (levels : ℕ) (text : List ℕ) (c : Spo
 unfolding blocks_of_text log position
 nested-numbers k levels text c chosen name left =
     let z = start_of text in
-    let o = parsed k max_depth text in
-    let l = among (Lawful z z o o) c _ chosen (inside-level (rules k) k (block-ends k) max_depth whole z z (start_point markup_reading)) in
-    let named = among (Named (block_at k) max_depth) c _ chosen (named-level (rules k) k max_depth whole z (start_point markup_reading)) in
+    let d = block-log k text c chosen in
     let s = point_of c.start in
     let y = moved c.at z in
     let u = unit_at c z in
-    let reads : u ≡ ended (block_at k (suc levels) block.Content y s) =
-    ap (λ m. m y s) named.reads ∙ ap (λ v. ended (block_at k v c.name y s)) left ∙ ap (λ x. ended (block_at k (suc levels) x y s)) name in
+    let reads = content-reads k text c chosen levels name left z in
     let b = opened k levels y s in
-    let f = c.fewer in
     let turns_are = block-turns k levels y s in
     let n = suc turns_are.count in
     let P = λ (i at gap : ℕ) (m : Mark) (p : State). Cut k levels y s b i at gap m p in
     let marks = subst (λ (v : Outcome (Unit {0})). InTurn P 0 n v.asks) (sym reads) (block-cuts k levels y s) in
-    let own = shift c.at (lowered f u.asks) in
-    -- its notes
-    let end = c.at + u.taken in
-    let late = shift end named.later in
-    let opens_mark = marked c.at 0 f (mark.Opens c.name) c.start in
-    let closes_state = state_of c.reached in
-    let closes_mark = marked (end + 0) 0 f mark.Closes closes_state in
-    let asks = asks-are o.asks c.before named.earlier own (shift end c.after) late opens_mark closes_mark (ap (λ (v : Outcome (Unit {0})). v.asks) l.old) named.opened (ap (shift end) named.closed) in
-    let log_one = logged max_depth z no_log named.earlier in
-    let h1 = with_note 0 (max_depth - f) (mark.Opens c.name) c.start (moved c.at z) log_one in
-    let log_two = logged max_depth z h1 own in
-    let h2 = with_note 0 (max_depth - f) mark.Closes closes_state (moved (end + 0) z) log_two in
-    let is : logged max_depth z no_log o.asks ≡ logged max_depth z h2 late =
-    ap (logged max_depth z no_log) asks ∙ logged-append max_depth z no_log named.earlier _ ∙ logged-append max_depth z h1 own _ in
-    let note_one : Note = record { mark = mark.Opens c.name; before = position (moved c.at z); start = position (moved 0 (moved c.at z)); levels = max_depth - f; state = c.start; reach = log_one.reach; least = log_one.least } in
-    let note_two : Note = record { mark = mark.Closes; before = position (moved (end + 0) z); start = position (moved 0 (moved (end + 0) z)); levels = max_depth - f; state = closes_state; reach = log_two.reach; least = log_two.least } in
-    let one = noted-by max_depth z named.earlier no_log [] refl in
-    let front = one.more ++ note_one ∷ [] in
-    let inner_is : log_two ≡ logged (suc levels) y h1 u.asks = logged-lowered max_depth f c.at z h1 u.asks ∙ ap (λ v. logged v y h1 u.asks) left in
-    let two = noted-nth P levels y u.asks h1 front 0 n (noted-more note_one log_one.notes one.more one.is) marks in
+    let front = d.earlier ++ d.opens ∷ [] in
+    let inner_is : logged max_depth z d.begun (own_asks k text c) ≡ logged (suc levels) y d.begun u.asks = logged-lowered max_depth c.fewer c.at z d.begun u.asks ∙ ap (λ v. logged v y d.begun u.asks) left in
+    let two = noted-nth P levels y u.asks d.begun front 0 n d.begun_is marks in
     let all = two.all in
-    let three = noted-by max_depth z late h2 ((front ++ two.more) ++ note_two ∷ []) (noted-more note_two log_two.notes (front ++ two.more) (ap (λ (v : Log). v.notes) inner_is ∙ two.is)) in
+    let rest = d.rest two.more (ap (λ (v : Log). v.notes) inner_is ∙ two.is) in
     let own_nested = subst (λ (v : Outcome (Unit {0})). Nests (suc (suc levels)) 1 v.asks) (sym reads) (unit-nests k (suc levels) block.Content y s) in
-    let nest = noted-nested (suc levels) 0 y h1 front u.asks (omega arith) (noted-more note_one log_one.notes one.more one.is) own_nested in
+    let nest = noted-nested (suc levels) 0 y d.begun front u.asks (omega arith) d.begun_is own_nested in
     let all_left : suc levels - 0 ≡ suc levels = omega arith in
     let same = same-behind front two.more nest.more (same-some (sym two.is ∙ nest.is)) in
     record {
       numbers = record {
-        earlier = one.more;
-        opens = note_one;
+        earlier = d.earlier;
+        opens = d.opens;
         inner = two.more;
-        closes = note_two;
-        later = three.more;
-        notes = ap (λ (v : Log). v.notes) is ∙ three.is ∙ ap Some (append_assoc (front ++ two.more) (note_two ∷ []) three.more ∙ append_assoc front two.more (note_two ∷ three.more) ∙ append_assoc one.more (note_one ∷ []) (two.more ++ note_two ∷ three.more));
-        name = refl;
-        start = width-moved c.at text;
-        levels_there = left;
-        state = refl;
-        name_end = refl;
-        end = width-moved (end + 0) text ∙ ap (λ a. width (take a text)) (omega arith);
-        levels_end = left;
+        closes = d.closes;
+        later = rest.0;
+        notes = rest.1;
+        name = d.name;
+        start = d.start;
+        levels_there = d.levels ∙ left;
+        state = d.state;
+        name_end = d.name_end;
+        end = d.end;
+        levels_end = d.levels_end ∙ left;
         count = turns_are.count;
         go = turns_are.go;
         over = turns_are.over;
@@ -346,12 +355,8 @@ nested-numbers k levels text c chosen name left =
             (nth-moved (turn_of (run_at k levels c z)) (true, 0) (run_at k levels c z).place (run_at k levels c z).point c.at b i z note h)) 0 (of_level (suc levels) two.more) two.each;
       };
       nested = subst (λ ns. Nested (suc levels) ns) (sym same) (subst (λ v. Nested v nest.more) all_left nest.nested);
-      number = (let n = counted max_depth z named.earlier no_log [] one.more refl one.is in
-          let nothing : List Note = [] in
-          let none : length nothing ≡ 0 = omega arith in
-          let few : notes_in named.earlier ≡ length one.more = omega (arith, n, none) in
-          ap notes_in named.opened ∙ notes-one named.earlier c.at 0 f (mark.Opens c.name) c.start ∙ ap suc few);
-      long = (let n = counted (suc levels) y u.asks h1 front (front ++ two.more) (noted-more note_one log_one.notes one.more one.is) two.is in
+      number = d.number;
+      long = (let n = counted (suc levels) y u.asks d.begun front (front ++ two.more) d.begun_is two.is in
           let both = length-append front two.more in
           omega (arith, n, both));
       asks = ap (λ (v : Outcome (Unit {0})). v.asks) reads;

@@ -10,6 +10,7 @@ use Rattle.typst_language.specs.Ask.Ask.{looked, marked}
 use Rattle.typst_language.specs.Point.{Point}
 use Rattle.typst_language.specs.Shape.{hinted_error, hinted_last, hinted, seen}
 use Rattle.typst_language.specs.Meaning.{Outcome, less, hints_before, joined}
+pub use Rattle.typst_grammar.proofs.Pieces.{shift-zero, shift-twice}
 use Rattle.typst_edits.specs.Hole.{Deep, fill, top, Hole, plug}
 use Rattle.typst_edits.specs.Hole.Deep.{bare, under}
 use Rattle.typst_edits.specs.Spot.{Spot, around, then_spot, after_spot, lower, lowered}
@@ -21,22 +22,6 @@ pub same-outcome : {A : Type 0} (v : A) (t u : ℕ) (s r : Point) (b d : ℕ) (h
 same-outcome v t u s r b d hs js ns ms ls ks m k e f g h i j l = rw (e, f, g, h, i, j, l) refl
 
 -- ---- lists of asks
-
-one-zero : (ask : Ask) → shift_one 0 ask ≡ ask
-one-zero (looked at look) = let e : 0 + at ≡ at = omega arith in ap (λ n. looked n look) e
-one-zero (marked at gap fewer mark s) = let e : 0 + at ≡ at = omega arith in ap (λ n. marked n gap fewer mark s) e
-
-pub shift-zero : (ls : List Ask) → shift 0 ls ≡ ls
-shift-zero [] = refl
-shift-zero (l ∷ ls) = rw (one-zero l, shift-zero ls) refl
-
-one-twice : (m n : ℕ) (ask : Ask) → shift_one m (shift_one n ask) ≡ shift_one (m + n) ask
-one-twice m n (looked at look) = let e : m + (n + at) ≡ (m + n) + at = omega arith in ap (λ k. looked k look) e
-one-twice m n (marked at gap fewer mark s) = let e : m + (n + at) ≡ (m + n) + at = omega arith in ap (λ k. marked k gap fewer mark s) e
-
-pub shift-twice : (m n : ℕ) (ls : List Ask) → shift m (shift n ls) ≡ shift (m + n) ls
-shift-twice m n [] = refl
-shift-twice m n (l ∷ ls) = rw (one-twice m n l, shift-twice m n ls) refl
 
 lower-zero : (ask : Ask) → lower 0 ask ≡ ask
 lower-zero (looked at look) = refl

@@ -1,5 +1,5 @@
 -- What is logged of pieces that are read again.
-use Rattle.std.proofs.Common.{◌≡◌, ℕ, zero, suc, ◌+◌, ◌-◌, ◌&&◌, if◌then◌else◌, Bool, true, false, List, [], ◌∷◌, ◌++◌, length, refl, ap, sym, ◌∙◌, subst, arith}
+use Rattle.std.proofs.Common.{◌≡◌, ℕ, zero, suc, ◌+◌, ◌-◌, Bool, false, List, [], ◌∷◌, ◌++◌, length, refl, ap, sym, ◌∙◌, subst, arith}
 use Rattle.std.proofs.lemmas.List.{map-append}
 use Rattle.typst_kinds.specs.declared.mode.SyntaxMode.TheVariants as mode
 use Rattle.typst_lines.specs.Classes.{CharClasses}
@@ -9,7 +9,7 @@ use Rattle.typst_tokens.specs.Sight.{hull_of}
 use Rattle.typst_language.specs.Tokens.{token}
 use Rattle.typst_language.specs.Ask.{Ask, shift, shift_one}
 use Rattle.typst_language.specs.Ask.Ask.{looked, marked}
-use Rattle.typst_language.specs.Hand.{len_at, at_trivia, column_look, column_asks, ahead, asks_by, ahead_asks, hand_asks}
+use Rattle.typst_language.specs.Hand.{at_trivia, column_look, column_asks, ahead, ahead_asks, hand_asks}
 use Rattle.typst_language.specs.Log.{Log, no_log, with_hull, with_note, logged}
 use Rattle.typst_language.specs.Meaning.{Outcome, hand_asks_of, run}
 use Rattle.typst_language.specs.Point.{Trivia}
@@ -27,6 +27,7 @@ use Rattle.typst_edits.proofs.Led.{before_trivia}
 use Rattle.typst_edits.proofs.Outcomes.{shift-twice}
 use Rattle.typst_edits.proofs.Reached.{Reached}
 use Rattle.typst_edits.proofs.Resumed.{text-reached, resume-law}
+use Rattle.typst_edits.proofs.InnerSplice.{asks-direct, column-none}
 
 -- asks that are counted from so many characters on
 pub logged-shifted : (lv d : ℕ) (z : Place) (asks : List Ask) (h : Log) → logged lv z h (shift d asks) ≡ logged lv (moved d z) h asks
@@ -44,17 +45,6 @@ same-asks t (o ∷ os) [] h = absurd h
 same-asks t (o ∷ os) (c ∷ cs) h =
     ap (λ ls. ls ++ shift o.taken (asks_of os)) h.0.asks ∙ ap (λ n. shift t.gap c.asks ++ shift n (asks_of os)) h.0.taken ∙ ap (λ us. shift t.gap c.asks ++ shift (t.gap + c.taken) (asks_of us)) h.1
     ∙ ap (λ ls. shift t.gap c.asks ++ ls) (sym (shift-twice t.gap c.taken (asks_of cs))) ∙ sym (map-append (shift_one t.gap) c.asks (shift c.taken (asks_of cs)))
-
--- the look at a token where there are no trivia
-asks-direct : (k : CharClasses) (n : ℕ) (z : Place) → at_trivia k mode.Markup z ≡ false → asks_by k mode.Markup n z ≡ looked 0 (look (token k mode.Markup) z) ∷ []
-asks-direct k zero z h = refl
-asks-direct k (suc n) z h =
-    let l = len_at k mode.Markup z in
-    ap (λ (b : Bool). looked 0 (look (token k mode.Markup) z) ∷ (if b then shift l (asks_by k mode.Markup n (moved l z)) else [])) h
-
-column-none : (b : Bool) (ask : Ask) → ◌≡◌ {A = List Ask} (if b && false then ask ∷ [] else []) []
-column-none true ask = refl
-column-none false ask = refl
 
 lead-direct : (k : CharClasses) (z : Place) → at_trivia k mode.Markup z ≡ false → (lead k z).asks ≡ looked 0 (look (token k mode.Markup) z) ∷ []
 unfolding run hand_asks ahead_asks

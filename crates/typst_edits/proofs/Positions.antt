@@ -17,6 +17,7 @@ use Rattle.typst_language.specs.Shape.Shape.{keeps, holds, lacks, warns, fails}
 use Rattle.typst_language.proofs.Places.{drop-all}
 use Rattle.typst_language.proofs.Within.{on_both, on_if}
 use Rattle.typst_grammar.proofs.Fine.{is_ordinary, change_by, shape_by}
+use Rattle.typst_candidates.proofs.Found.{forest_trees as trees-forest}
 use Rattle.typst_edits.specs.Hole.{Deep, fill, path_in, Hole, plug, warned_head}
 use Rattle.typst_edits.specs.Hole.Deep.{bare, under}
 use Rattle.typst_edits.specs.Standing.{is_block, is_block_head}
@@ -208,10 +209,6 @@ each-renamed-last P n k (t ∷ u ∷ ts) a h = (h.0, (h.1.0, each-renamed-last P
 each-parens : (P : ℕ → List ℕ → Type 0) (n : ℕ) (ts : List Tree) → Each P n (forest ts) → Each P n (forest (parens_renamed ts))
 each-parens P n [] h = tt
 each-parens P n (t ∷ ts) h = each-kind P P n kind.LeftParen t (forest (renamed_last kind.RightParen ts)) refl (λ i q p. p) (h.0, (h.1.0, each-renamed-last P (suc n) kind.RightParen ts refl h.1.1)) (each-renamed-last P (suc n) kind.RightParen ts refl h.1.1)
-
-trees-forest : (f : Forest) → forest (trees f) ≡ f
-trees-forest none = refl
-trees-forest (more h ks r) = ap (more h ks) (trees-forest r)
 
 delimited-sound : (k : SyntaxKind) (b : Bool) → (is_delimited k && b) ≡ true → is_error k ≡ false
 delimited-sound kind.MathDelimited b h = refl

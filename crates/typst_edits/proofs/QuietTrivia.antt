@@ -1,13 +1,12 @@
 -- What is known of the trivia at hand clings: trivia, or errors in their place.
-use Rattle.std.proofs.Common.{◌≡◌, ℕ, zero, suc, Bool, true, false, ◌&&◌, if◌then◌else◌, nat_lt, List, [], ◌∷◌, length, encode_utf8_all, Option, Some, None, refl}
+use Rattle.std.proofs.Common.{◌≡◌, ℕ, zero, suc, Bool, true, false, if◌then◌else◌, nat_lt, List, [], length, encode_utf8_all, Option, Some, None, refl}
 use Rattle.typst_kinds.specs.Kinds.{is_trivia, is_error}
 use Rattle.typst_kinds.specs.declared.kind.SyntaxKind.{SyntaxKind}
 use Rattle.typst_kinds.specs.declared.kind.SyntaxKind.TheVariants as kind
 use Rattle.typst_kinds.specs.declared.mode.SyntaxMode.{SyntaxMode}
 use Rattle.typst_lines.specs.Place.{Place, moved}
 use Rattle.typst_lines.specs.Classes.{CharClasses}
-use Rattle.typst_tree.specs.Diagnostic.{hint_with}
-use Rattle.typst_tree.specs.Tree.{Tree, leaf_of, error_of, advised, all_advised}
+use Rattle.typst_tree.specs.Tree.{Tree, leaf_of, error_of}
 use Rattle.typst_tokens.specs.declared.token.Token.{Token}
 use Rattle.typst_language.specs.declared.reading.Reading.{Reading}
 use Rattle.typst_language.specs.Hand.{token_at, len_at, at_trivia, Ahead, direct, after_trivia, ahead_by, ahead, text_ahead, hand_at}
@@ -20,6 +19,7 @@ use Rattle.typst_language.specs.Steps.{peek}
 use Rattle.typst_language.specs.Meaning.{Meaning}
 use Rattle.typst_grammar.specs.Markup.{markup_turn}
 use Rattle.typst_grammar.specs.Grammar.{rules, max_depth, level_at}
+use Rattle.typst_grammar.proofs.Fine.{and-left as first-of}
 use Rattle.typst_edits.specs.Every.{Every}
 use Rattle.typst_edits.specs.BlockRuns.{inner, bracket, inner_run}
 use Rattle.typst_edits.specs.Joint.{text_run}
@@ -27,12 +27,9 @@ use Rattle.typst_edits.specs.Runs.{made, end_of, start}
 use Rattle.typst_edits.specs.Sequence.{Sequence, turn_of, first_end, then_end}
 use Rattle.typst_edits.proofs.CandidateEnds.{Quiet, error-quiet}
 use Rattle.typst_edits.proofs.Known.{Saying, Stays, holds-run, holds-meaning}
+use Rattle.typst_edits.proofs.Heads.{advised-error as advised-wrong}
 
 -- ---- the nodes of tokens
-
-advised-wrong : (hints : List (List ℕ)) (t : Tree) → is_error t.head.kind ≡ true → is_error (all_advised hints t).head.kind ≡ true
-advised-wrong [] t e = e
-advised-wrong (hint ∷ hints) t e = advised-wrong hints (advised (hint_with None hint) t) e
 
 plain-quiet : (k : CharClasses) (i : SyntaxKind) (taken : List ℕ) → is_trivia i ≡ true
     → Quiet (if is_error i then error_of [] (encode_utf8_all taken) else (if is_raw i then raw_node taken else (if has_fields i then access_node taken else leaf_of i (encode_utf8_all taken))))
@@ -47,10 +44,6 @@ token-quiet k t taken h = elim t.fault as (λ o. Quiet (elim o as (λ _. Tree) [
   | None ↦ plain-quiet k t.kind taken h
   | Some f ↦ error-quiet (fault_node f taken) (advised-wrong (hints f taken) (error_of (message f taken) (encode_utf8_all taken)) refl)
 ]
-
-first-of : (b c : Bool) → (b && c) ≡ true → b ≡ true
-first-of true c h = refl
-first-of false c h = cc
 
 quiet-step : (k : CharClasses) (m : SyntaxMode) (z : Place) (taken : List ℕ) (b : Bool) (rest : Ahead) → at_trivia k m z ≡ b → Every Quiet rest.trivia
     → Every Quiet (if b then after_trivia (token_at k m z) (len_at k m z) (token_node k (token_at k m z) taken) rest else direct (token_at k m z) (len_at k m z)).trivia

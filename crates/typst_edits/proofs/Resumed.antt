@@ -19,6 +19,7 @@ use Rattle.typst_language.proofs.Knot.{Sane, sane-meaning, sane-block, sane-plai
 use Rattle.typst_language.proofs.Places.{moved-sum}
 use Rattle.typst_grammar.specs.Markup.{ends, ends_block, markup_turn, markup_head, markup_reading}
 use Rattle.typst_grammar.specs.Grammar.{rules, level_at, max_depth}
+use Rattle.typst_grammar.proofs.Fine.{and-right as second}
 use Rattle.typst_edits.specs.BlockRuns.{inner, bracket, inner_lead, inner_run}
 use Rattle.typst_edits.specs.Heads.{first_place, minds_at}
 use Rattle.typst_edits.specs.InnerPiecesTest.{read_alone, end_alone}
@@ -118,10 +119,6 @@ module _ (l : Level) (sd : (c : Call) → Sane (l.deeper c)) (sb : (b : Block) �
   same-kind : (z : Place) (t : Trivia) (e : ℕ) (a : Bool) → (told (hand_of l z (before_trivia markup_reading markup_reading e a t))).kind ≡ (told (hand_of l (moved t.gap z) (before_trivia markup_reading markup_reading 0 false no_trivia))).kind
   unfolding hand_at
   same-kind z t e a = sym (kind-behind l markup_reading z t no_trivia (judged-alike markup_reading t no_trivia refl))
-
-  second : (b c : Bool) → (b && c) ≡ true → c ≡ true
-  second true c h = h
-  second false c h = cc
 
   goes-known : (m : ℕ) (x : Bool × ℕ) (z : Place) (t : Trivia) (e : ℕ) (a : Bool) → GoesToo m x z t (before_trivia markup_reading markup_reading e a t)
   goes-known zero x z t e a clear g none = tt

@@ -1,5 +1,5 @@
 -- Marks don't go back, lie within what is taken, and behind one where a block begins the next lies further.
-use Rattle.std.proofs.Common.{◌≡◌, ℕ, zero, suc, ◌+◌, ◌-◌, ◌≤◌, Bool, true, false, ◌&&◌, nat_lt, List, [], ◌∷◌, ◌++◌, length, take, append_assoc, append-nil, Option, Some, None, refl, ap, sym, ◌∙◌, subst, arith}
+use Rattle.std.proofs.Common.{◌≡◌, ℕ, zero, suc, ◌+◌, ◌-◌, ◌≤◌, Bool, true, false, nat_lt, List, [], ◌∷◌, ◌++◌, length, take, append_assoc, append-nil, Option, Some, None, refl, ap, sym, ◌∙◌, subst, arith}
 use Rattle.typst_lines.specs.Place.{Place, moved}
 use Rattle.typst_lines.specs.Classes.{CharClasses}
 use Rattle.typst_tokens.specs.Sight.{width, position, hull_of}
@@ -10,19 +10,19 @@ use Rattle.typst_language.specs.declared.calls.Mark.TheVariants as mark
 use Rattle.typst_language.specs.declared.calls.Note.{Note}
 use Rattle.typst_language.specs.declared.reading.Reading.{Reading}
 use Rattle.typst_language.specs.declared.reading.State.{State}
-use Rattle.typst_language.specs.Ask.{Ask, shift, sunk, only_looks}
+use Rattle.typst_language.specs.Ask.{Ask}
 use Rattle.typst_language.specs.Ask.Ask.{looked, marked}
 use Rattle.typst_language.specs.Knot.{meaning_of, level_of, blocks_of}
 use Rattle.typst_language.specs.Log.{Log, no_log, with_hull, with_note, logged}
 use Rattle.typst_language.specs.Point.{Point, forgot, state_of, Trivia, gap_of}
 use Rattle.typst_language.specs.Shape.{Shape}
 use Rattle.typst_language.specs.Steps.{peek, node, eat, eat_making}
-use Rattle.typst_language.specs.Syntax.{Op, Begin, Parser, ◌>>◌, ◌>>=◌}
+use Rattle.typst_language.specs.Syntax.{Op, Parser, ◌>>◌, ◌>>=◌}
 use Rattle.typst_language.specs.Syntax.Op.{hand, so, further, column, erred, takes, takes_so, flushes, complains, advises, marks, is_deepest}
 use Rattle.typst_language.specs.Syntax.Parser.{gives, does, next, pick, repeat, wraps, grows, nests, scoped, either, calls, block}
-use Rattle.typst_language.specs.Meaning.{wrapped, Outcome, Meaning, Level, plain, joined, answered, turns, as_last, bound, repeated, before, grown, is_more, growths, growing, nestings, nesting, given_up, bounded, blockless, entered, hand_asks_of, start_point, done, run, hand_of, asked}
+use Rattle.typst_language.specs.Meaning.{wrapped, Outcome, Meaning, Level, plain, joined, bound, repeated, before, growing, nesting, given_up, bounded, blockless, entered, hand_asks_of, start_point, done, run, hand_of, asked}
 use Rattle.typst_language.proofs.Places.{ahead-left, moved-sum}
-use Rattle.typst_language.proofs.Within.{on_both, on_if, grew}
+use Rattle.typst_language.proofs.Within.{on_both, on_if}
 use Rattle.typst_grammar.specs.Grammar.{rules, production, max_depth, start_of, whole, parsed, log, block_production}
 use Rattle.typst_grammar.specs.Markup.{markup_reading, content_block}
 use Rattle.typst_edits.specs.PieceNotes.{listed}
@@ -45,8 +45,10 @@ use Rattle.typst_grammar.proofs.Fine.{and-right}
 use Rattle.typst_language.specs.Syntax.Begin.{at_token}
 use Rattle.typst_edits.specs.Lost.{is_opening}
 use Rattle.typst_edits.proofs.Bytes.{noted-more}
-use Rattle.typst_edits.proofs.Marks.{AllMarks, none-hand, marks-append, marks-shift}
+use Rattle.typst_edits.proofs.Marks.{none-hand}
+use Rattle.typst_edits.proofs.Upward.{Upward, AllUp, UpFrom, up-low, up-ends, up-append, up-sunk, up-looks, up-none, up-joined, up-after, ups-turns, up-growths, ups-nestings, Unmarked, unmarked-joined}
 use Rattle.typst_edits.proofs.Widths.{width-moved, width-none}
+use Rattle.typst_edits.proofs.Splice.{take-width as take-all}
 
 -- ---- marks in a list of asks
 
@@ -56,107 +58,24 @@ taken_behind (mark.Opens b) = 1
 taken_behind _ = 0
 
 -- the marks stand in order, from one place up to another, and a block begins directly at its token
-abbrev pub Rise : ℕ → ℕ → List Ask → Type 0
-Rise lo hi [] = lo ≤ hi
-Rise lo hi (looked at look ∷ asks) = Rise lo hi asks
-Rise lo hi (marked at gap fewer m s ∷ asks) = (lo ≤ at) × (is_opening m ≡ true → gap ≡ 0) × Rise (at + taken_behind m) hi asks
+abbrev step : ℕ → Mark → ℕ
+step gap m = taken_behind m
 
-rise-low : (a b hi : ℕ) (ls : List Ask) → a ≤ b → Rise b hi ls → Rise a hi ls
-rise-low a b hi [] e h = omega (arith, e, h)
-rise-low a b hi (looked at look ∷ ls) e h = rise-low a b hi ls e h
-rise-low a b hi (marked at gap fewer m s ∷ ls) e h = (let low = h.0 in omega (arith, e, low), h.1, h.2)
+abbrev direct : ℕ → Mark → Type 0
+direct gap m = is_opening m ≡ true → gap ≡ 0
 
-rise-ends : (lo hi : ℕ) (ls : List Ask) → Rise lo hi ls → lo ≤ hi
-rise-ends lo hi [] h = h
-rise-ends lo hi (looked at look ∷ ls) h = rise-ends lo hi ls h
-rise-ends lo hi (marked at gap fewer m s ∷ ls) h = let low = h.0 in let i = rise-ends (at + taken_behind m) hi ls h.2 in omega (arith, low, i)
-
-rise-append : (lo mid hi : ℕ) (ls ks : List Ask) → Rise lo mid ls → Rise mid hi ks → Rise lo hi (ls ++ ks)
-rise-append lo mid hi [] ks h i = rise-low lo mid hi ks h i
-rise-append lo mid hi (looked at look ∷ ls) ks h i = rise-append lo mid hi ls ks h i
-rise-append lo mid hi (marked at gap fewer m s ∷ ls) ks h i = (h.0, h.1, rise-append (at + taken_behind m) mid hi ls ks h.2 i)
-
--- counted from so many characters before
-rise-shift : (d lo hi : ℕ) (ls : List Ask) → Rise lo hi ls → Rise (d + lo) (d + hi) (shift d ls)
-rise-shift d lo hi [] h = omega (arith, h)
-rise-shift d lo hi (looked at look ∷ ls) h = rise-shift d lo hi ls h
-rise-shift d lo hi (marked at gap fewer m s ∷ ls) h = (
-  let low = h.0 in omega (arith, low),
-  h.1,
-  rise-low (d + at + taken_behind m) (d + (at + taken_behind m)) (d + hi) (shift d ls) (omega arith) (rise-shift d (at + taken_behind m) hi ls h.2),
-)
-
-rise-sunk : (lo hi : ℕ) (ls : List Ask) → Rise lo hi ls → Rise lo hi (sunk ls)
-rise-sunk lo hi [] h = h
-rise-sunk lo hi (looked at look ∷ ls) h = rise-sunk lo hi ls h
-rise-sunk lo hi (marked at gap fewer m s ∷ ls) h = (h.0, h.1, rise-sunk (at + taken_behind m) hi ls h.2)
-
--- no marks at all
-rise-looks : (lo hi : ℕ) (ls : List Ask) → lo ≤ hi → Rise lo hi (only_looks ls)
-rise-looks lo hi [] h = h
-rise-looks lo hi (looked at look ∷ ls) h = rise-looks lo hi ls h
-rise-looks lo hi (marked at gap fewer m s ∷ ls) h = rise-looks lo hi ls h
-
-abbrev Unmarked : List Ask → Type 0
-Unmarked asks = AllMarks (λ at fewer m s. ⊥) asks
-
-rise-behind : (lo hi : ℕ) (ls ks : List Ask) → Unmarked ls → Rise lo hi ks → Rise lo hi (ls ++ ks)
-rise-behind lo hi [] ks none h = h
-rise-behind lo hi (looked at look ∷ ls) ks none h = rise-behind lo hi ls ks none h
-rise-behind lo hi (marked at gap fewer m s ∷ ls) ks none h = absurd none.0
-
-unmarked-shift : (d : ℕ) (ls : List Ask) → Unmarked ls → Unmarked (shift d ls)
-unmarked-shift d ls h = marks-shift (λ at fewer m s. ⊥) d ls h
-
-rise-none : (lo hi : ℕ) (ls : List Ask) → lo ≤ hi → Unmarked ls → Rise lo hi ls
-rise-none lo hi [] h none = h
-rise-none lo hi (looked at look ∷ ls) h none = rise-none lo hi ls h none
-rise-none lo hi (marked at gap fewer m s ∷ ls) h none = absurd none.0
+abbrev Rise : ℕ → ℕ → List Ask → Type 0
+Rise lo hi ls = Upward step direct lo hi ls
 
 -- ---- whatever the language can say
 
 -- what is noted stands in order, within what is taken
 abbrev Rises : {A : Type 0} → Meaning A → Type 0
-Rises m = (z : Place) (s : Point) → Rise 0 (m z s).taken (m z s).asks
+Rises m = AllUp step direct m
 
 -- the first of it stands so far on
 abbrev RiseFrom : {A : Type 0} → ℕ → Outcome A → Type 0
-RiseFrom lo o = Rise lo o.taken o.asks
-
-rise-joined : {A B : Type 0} (lo : ℕ) (o : Outcome B) (p : Outcome A) → RiseFrom lo o → RiseFrom 0 p → RiseFrom lo (joined o p)
-rise-joined lo o p h k = rise-append lo o.taken (o.taken + p.taken) o.asks _ h (rise-low o.taken (o.taken + 0) (o.taken + p.taken) (shift o.taken p.asks) (omega arith) (rise-shift o.taken 0 p.taken p.asks k))
-
--- behind what notes nothing
-rise-after : {A B : Type 0} (lo : ℕ) (o : Outcome B) (p : Outcome A) → Unmarked o.asks → RiseFrom lo p → RiseFrom (o.taken + lo) (joined o p)
-rise-after lo o p none k = rise-behind (o.taken + lo) (o.taken + p.taken) o.asks (shift o.taken p.asks) none (rise-shift o.taken lo p.taken p.asks k)
-
-unmarked-joined : {A B : Type 0} (o : Outcome B) (p : Outcome A) → Unmarked o.asks → Unmarked p.asks → Unmarked (joined o p).asks
-unmarked-joined o p h k = marks-append (λ at fewer m s. ⊥) o.asks (shift o.taken p.asks) h (unmarked-shift o.taken p.asks k)
-
-rises-turns : {A : Type 0} (m : A → Meaning (Bool × A)) → ((x : A) → Rises (m x)) → (n : ℕ) (x : A) → Rises (turns m n x)
-rises-turns m h zero x z s = omega arith
-rises-turns m h (suc n) x z s =
-    let o = m x z s in
-    let p = turns m n o.value.1 (moved o.taken z) o.state in
-    on_both (RiseFrom 0) (o.value.0 && nat_lt 0 o.taken) (joined o p) (as_last o) (rise-joined 0 o p (h x z s) (rises-turns m h n o.value.1 (moved o.taken z) o.state)) (h x z s)
-
-rise-grown : {A : Type 0} (i : ℕ) (shape : Option Shape) (o : Outcome A) → RiseFrom 0 o → RiseFrom 0 (grown i shape o)
-rise-grown i None o h = h
-rise-grown i (Some shape) o h = h
-
-rise-growths : {A : Type 0} (m : A → Meaning (Option Shape × A)) → ((x : A) → Rises (m x)) → (n i : ℕ) (o : Outcome A) (z : Place) → RiseFrom 0 o → RiseFrom 0 (growths m n i o z)
-rise-growths m h n zero o z k = k
-rise-growths m h n (suc i) o z k =
-    let p = m o.value (moved o.taken z) o.state in
-    let all = rise-grown n p.value.0 (answered p.value.1 (joined o p)) (rise-joined 0 o p k (h o.value (moved o.taken z) o.state)) in
-    on_both (RiseFrom 0) (is_more p.value.0 && nat_lt 0 p.taken) (growths m n i (grew n o p) z) (grew n o p) (rise-growths m h n i (grew n o p) z all) all
-
-rises-nestings : {A : Type 0} (f : A → Shape) (begin : Begin) (m : A → Meaning (Bool × A)) → ((x : A) → Rises (m x)) → (n : ℕ) (x : A) → Rises (nestings f begin m n x)
-rises-nestings f begin m h zero x z s = omega arith
-rises-nestings f begin m h (suc n) x z s =
-    let o = m x z s in
-    let p = nestings f begin m n o.value.1 (moved o.taken z) o.state in
-    on_both (RiseFrom 0) (o.value.0 && nat_lt 0 o.taken) (joined o p) (as_last o) (rise-joined 0 o p (h x z s) (rises-nestings f begin m h n o.value.1 (moved o.taken z) o.state)) (h x z s)
+RiseFrom lo o = UpFrom step direct lo o
 
 -- ---- where a token is at hand
 
@@ -207,10 +126,10 @@ module _ (l : Level) (d : (call : Call) → Sane (l.deeper call)) (e : (b : Bloc
   unmarked-hand z s = none-hand (λ at fewer m t. ⊥) l.classes s.held s.known z
 
   rise-hand : (z : Place) (s : Point) (hi : ℕ) → Rise 0 hi (hand_asks_of l z s)
-  rise-hand z s hi = rise-none 0 hi (hand_asks_of l z s) (omega arith) (unmarked-hand z s)
+  rise-hand z s hi = up-none step direct 0 hi (hand_asks_of l z s) (omega arith) (unmarked-hand z s)
 
   rise-more : (z : Place) (s : Point) (hi at : ℕ) (look : _) → Rise 0 hi (hand_asks_of l z s ++ looked at look ∷ [])
-  rise-more z s hi at look = rise-append 0 hi hi (hand_asks_of l z s) (looked at look ∷ []) (rise-hand z s hi) (omega arith)
+  rise-more z s hi at look = up-append step direct 0 hi hi (hand_asks_of l z s) (looked at look ∷ []) (rise-hand z s hi) (omega arith)
 
   module _ (i : (call : Call) → Rises (l.deeper call)) (j : (b : Block) → l.has b ≡ true → (z : Place) (s : Point) → 0 < length z.ahead → RiseFrom 1 (l.blocks b z (forgot s))) where
     rise-done : {A : Type 0} (seen : Bool) (o : Op A) → Guarded pieces seen (does o) → Rises (done l o)
@@ -230,7 +149,7 @@ module _ (l : Level) (d : (call : Call) → Sane (l.deeper call)) (e : (b : Bloc
     rise-bounded : (b : Block) → l.has b ≡ true → (z : Place) (s : Point) → 0 < length z.ahead → RiseFrom 0 (bounded b (l.blocks b) z s)
     rise-bounded b has z s some =
         let o = l.blocks b z (forgot s) in
-        (omega arith, λ _. refl, rise-append 1 o.taken o.taken o.asks _ (j b has z s some) (omega arith, λ _. refl, omega arith))
+        (omega arith, λ _. refl, up-append step direct 1 o.taken o.taken o.asks _ (j b has z s some) (omega arith, λ _. refl, omega arith))
 
     rise-run : {A : Type 0} (seen : Bool) (p : Parser A) → Guarded pieces seen p → (z : Place) (s : Point) → (seen ≡ true → There l z s) → RiseFrom 0 (run l p z s)
     unfolding run repeated growing nesting
@@ -238,23 +157,23 @@ module _ (l : Level) (d : (call : Call) → Sane (l.deeper call)) (e : (b : Bloc
     rise-run seen (does o) q z s t = rise-done seen o q z s
     rise-run seen (next p f) q z s t =
         let o = run l p z s in
-        rise-joined 0 o (run l (f o.value) (moved o.taken z) o.state) (rise-run seen p q.0 z s t) (rise-run (sees p o.value) (f o.value) (q.1 o.value) (moved o.taken z) o.state (sees-there p z s))
+        up-joined step direct 0 o (run l (f o.value) (moved o.taken z) o.state) (rise-run seen p q.0 z s t) (rise-run (sees p o.value) (f o.value) (q.1 o.value) (moved o.taken z) o.state (sees-there p z s))
     rise-run seen (pick true p r) q z s t = rise-run seen p (q.0 refl) z s t
     rise-run seen (pick false p r) q z s t = rise-run seen r (q.1 refl) z s t
-    rise-run seen (repeat p x) q z s t = rises-turns (λ y. run l (p y)) (λ y z s. rise-run false (p y) (q y) z s (λ e. absurd (cc))) (suc (bound z s)) x z s
+    rise-run seen (repeat p x) q z s t = ups-turns step direct (λ y. run l (p y)) (λ y z s. rise-run false (p y) (q y) z s (λ e. absurd (cc))) (suc (bound z s)) x z s
     rise-run seen (wraps f begin p) q z s t = rise-run false p q z s (λ e. absurd (cc))
-    rise-run seen (grows begin p f) q z s t = rise-growths (λ y. run l (f y)) (λ y z s. rise-run false (f y) (q.1 y) z s (λ e. absurd (cc))) (before begin s) (suc (bound z s)) (run l p z s) z (rise-run false p q.0 z s (λ e. absurd (cc)))
-    rise-run seen (nests f begin p x) q z s t = rises-nestings f begin (λ y. run l (p y)) (λ y z s. rise-run false (p y) (q y) z s (λ e. absurd (cc))) (suc (bound z s)) x z s
+    rise-run seen (grows begin p f) q z s t = up-growths step direct (λ y. run l (f y)) (λ y z s. rise-run false (f y) (q.1 y) z s (λ e. absurd (cc))) (before begin s) (suc (bound z s)) (run l p z s) z (rise-run false p q.0 z s (λ e. absurd (cc)))
+    rise-run seen (nests f begin p x) q z s t = ups-nestings step direct f begin (λ y. run l (p y)) (λ y z s. rise-run false (p y) (q y) z s (λ e. absurd (cc))) (suc (bound z s)) x z s
     rise-run seen (scoped f p) q z s t = rise-run false p q z (entered (f s.reading) s) (λ e. absurd (cc))
     rise-run seen (either p is_wrong r) q z s t =
         let o = run l p z s in
         let u = run l r z s in
-        on_both (RiseFrom 0) (is_wrong o.value) (given_up o u) o (rise-looks 0 u.taken (o.asks ++ u.asks) (omega arith)) (rise-run false p q.0 z s (λ e. absurd (cc)))
-    rise-run seen (calls call) q z s t = rise-sunk 0 (l.deeper call z s).taken (l.deeper call z s).asks (i call z s)
+        on_both (RiseFrom 0) (is_wrong o.value) (given_up o u) o (up-looks step direct 0 u.taken (o.asks ++ u.asks) (omega arith)) (rise-run false p q.0 z s (λ e. absurd (cc)))
+    rise-run seen (calls call) q z s t = up-sunk step direct 0 (l.deeper call z s).taken (l.deeper call z s).asks (i call z s)
     rise-run seen (block b) q z s t =
         let o = done l flushes z s in
         let p = bounded b (l.blocks b) (moved o.taken z) o.state in
-        on_if (RiseFrom 0) (l.has b) (joined o p) (plain tt s) (λ has. rise-joined 0 o p (rise-hand z s o.taken) (rise-bounded b has (moved o.taken z) o.state (t q))) (λ _. omega arith)
+        on_if (RiseFrom 0) (l.has b) (joined o p) (plain tt s) (λ has. up-joined step direct 0 o p (rise-hand z s o.taken) (rise-bounded b has (moved o.taken z) o.state (t q))) (λ _. omega arith)
 
     rises : {A : Type 0} (p : Parser A) → Guarded pieces false p → Rises (run l p)
     rises p q z s = rise-run false p q z s (λ e. absurd (cc))
@@ -268,7 +187,7 @@ module _ (l : Level) (d : (call : Call) → Sane (l.deeper call)) (e : (b : Bloc
           let t = takes_hand z s in
           let u = joined o (run l q (moved o.taken z) o.state) in
           let long = t.1 in
-          rise-low 1 (o.taken + 0) u.taken u.asks (omega (arith, some, long)) (rise-after 0 o (run l q (moved o.taken z) o.state) t.0 (rises q rest (moved o.taken z) o.state))
+          up-low step direct 1 (o.taken + 0) u.taken u.asks (omega (arith, some, long)) (up-after step direct 0 o (run l q (moved o.taken z) o.state) t.0 (rises q rest (moved o.taken z) o.state))
 
       node-stands : (z : Place) (s : Point) → 0 < (hand_of l z s).gap + (hand_of l z s).len → RiseFrom 1 (run l (node f (scoped (λ _. r) (next p (λ _. q)))) z s)
       unfolding run node
@@ -277,7 +196,7 @@ module _ (l : Level) (d : (call : Call) → Sane (l.deeper call)) (e : (b : Bloc
           let again = hand-again l.classes s.held s.known z in
           let o = run l (scoped (λ _. r) (next p (λ _. q))) z s1 in
           let v = wrapped f (before at_token s1) o in
-          rise-after 1 (run l peek z s) (joined v (plain o.value v.state)) (unmarked-hand z s) (rise-joined 1 v (plain o.value v.state) (first-stands z (entered r s1) (subst (λ (h : Hand). 0 < h.gap + h.len) (sym again) some)) (omega arith))
+          up-after step direct 1 (run l peek z s) (joined v (plain o.value v.state)) (unmarked-hand z s) (up-joined step direct 1 v (plain o.value v.state) (first-stands z (entered r s1) (subst (λ (h : Hand). 0 < h.gap + h.len) (sym again) some)) (omega arith))
 
       pub block-stands : (z : Place) (s : Point) → 0 < (hand_of l z s).gap + (hand_of l z s).len → RiseFrom 1 (run l (peek >> (node f (scoped (λ _. r) (next p (λ _. q))) >>= λ _. gives (tt {0}))) z s)
       unfolding run
@@ -285,7 +204,7 @@ module _ (l : Level) (d : (call : Call) → Sane (l.deeper call)) (e : (b : Bloc
           let s1 = asked (hand_of l z s) s in
           let again = hand-again l.classes s.held s.known z in
           let o = run l (node f (scoped (λ _. r) (next p (λ _. q)))) z s1 in
-          rise-after 1 (run l peek z s) (joined o (plain (tt {0}) o.state)) (unmarked-hand z s) (rise-joined 1 o (plain (tt {0}) o.state) (node-stands z s1 (subst (λ (h : Hand). 0 < h.gap + h.len) (sym again) some)) (omega arith))
+          up-after step direct 1 (run l peek z s) (joined o (plain (tt {0}) o.state)) (unmarked-hand z s) (up-joined step direct 1 o (plain (tt {0}) o.state) (node-stands z s1 (subst (λ (h : Hand). 0 < h.gap + h.len) (sym again) some)) (omega arith))
 
     takes-hand : (z : Place) (s : Point) → (let o = run l (does (takes false itself)) z s in Unmarked o.asks × ((hand_of l z s).gap + (hand_of l z s).len ≤ o.taken))
     unfolding run
@@ -304,7 +223,7 @@ module _ (l : Level) (d : (call : Call) → Sane (l.deeper call)) (e : (b : Bloc
     begins-by-token block.Content z s some = block-stands _ markup_reading _ _ takes-hand ((guarded-inside-content pieces false (λ _ _. refl)).1 tt) z s some
     begins-by-token block.Code z s some = block-stands _ code_reading _ _ eat-hand ((guarded-inside-code pieces false).1 tt) z s some
 
-token-some : (k : CharClasses) (m : SyntaxMode) (z : Place) → 0 < length z.ahead → 0 < len_at k m z
+pub token-some : (k : CharClasses) (m : SyntaxMode) (z : Place) → 0 < length z.ahead → 0 < len_at k m z
 token-some k m z h = by_end (is_end (token_at k m z).kind) refl
   where
     by_end : (b : Bool) → is_end (token_at k m z).kind ≡ b → 0 < len_at k m z
@@ -319,7 +238,7 @@ ahead-some k m (suc n) z h =
     (λ e. let some : 0 < len_at k m z = grind (arith, nat_tests, and-right (is_trivia (token_at k m z).kind) (nat_lt 0 (len_at k m z)) e) in omega (arith, some))
     (λ e. let some = token-some k m z h in omega (arith, some))
 
-hand-some : (k : CharClasses) (held : Reading) (z : Place) → 0 < length z.ahead → 0 < (hand_at k held None z).gap + (hand_at k held None z).len
+pub hand-some : (k : CharClasses) (held : Reading) (z : Place) → 0 < length z.ahead → 0 < (hand_at k held None z).gap + (hand_at k held None z).len
 unfolding hand_at ahead
 hand-some k held z h = ahead-some k held.mode (length z.ahead) z h
 
@@ -347,12 +266,6 @@ take-more zero b xs e = omega arith
 take-more (suc a) zero xs e = absurd (omega (arith, e))
 take-more (suc a) (suc b) [] e = omega arith
 take-more (suc a) (suc b) (x ∷ xs) e = let i = take-more a b xs (omega (arith, e)) in omega (arith, i)
-
-take-all : (a : ℕ) (xs : List ℕ) → width (take a xs) ≤ width xs
-unfolding width
-take-all zero xs = omega arith
-take-all (suc a) [] = omega arith
-take-all (suc a) (x ∷ xs) = let i = take-all a xs in omega (arith, i)
 
 -- each character takes a byte at least
 take-behind : (a b : ℕ) (xs : List ℕ) → a ≤ b → b ≤ length xs → width (take a xs) + (b - a) ≤ width (take b xs)
@@ -398,7 +311,7 @@ noted-rising lv text (marked at gap fewer m s ∷ asks) h ns lo hi fits e r =
     let one = take-more lo at text r.0 in
     let two = take-more at (at + gap) text (omega arith) in
     let three = take-all (at + gap) text in
-    let ends = rise-ends (at + taken_behind m) hi asks r.2 in
+    let ends = up-ends step direct (at + taken_behind m) hi asks r.2 in
     let behind = take-behind at (at + taken_behind m) text (omega arith) (omega (arith, ends, fits)) in
     record {
       more = note ∷ i.more;

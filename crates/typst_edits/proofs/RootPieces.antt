@@ -2,6 +2,7 @@
 use Rattle.std.proofs.Common.{◌≡◌, inr, ℕ, zero, suc, ◌+◌, ◌<◌, ◌==◌, ne_eqb, if◌then◌else◌, Bool, true, false, List, [], ◌∷◌, ◌++◌, length, take, drop, length-append, refl, ap, sym, ◌∙◌, subst, arith}
 use Rattle.typst_lines.specs.Classes.{CharClasses}
 use Rattle.typst_tree.specs.Tree.{Tree, trees}
+use Rattle.typst_tree.specs.Laws.{put_at}
 use Rattle.typst_tokens.specs.Sight.{width}
 use Rattle.typst_language.specs.Meaning.{less}
 use Rattle.typst_language.specs.Point.{Trivia, gap_of}
@@ -119,6 +120,12 @@ module _ (k : CharClasses) (front old new rest : List ℕ) (c : Candidate) (n m 
       let byte : c.end ≡ token_byte text f = end ∙ sym (ap width (take-past front old rest past (f.taken + gap_of f.state.known) sum)) in
       end-place k text c i n t well led byte (is_over i n (text_run k z)) refl
 
+-- a candidate's children are exchanged where they stand
+pub put-there : (c : Candidate) (path : List ℕ) (from to : ℕ) (ts us : List Tree) (was : Tree) {now : Tree} → now ≡ with_children path from to ts was → ts ≡ us → c.from ≡ from → c.to ≡ to → c.path ≡ path → now ≡ put_at c.path c.from c.to us was
+put-there c path from to ts us was kept news first last there =
+    kept ∙ ap (λ ns. with_children path from to ns was) news ∙ ap (λ j. with_children path j to us was) (sym first) ∙ ap (λ j. with_children path c.from j us was) (sym last)
+    ∙ ap (λ p. with_children p c.from c.to us was) (sym there) ∙ sym (put-law c.path c.from c.to us was)
+
 pub root-pieces-law : RootPiecesLaw
 root-pieces-law k front old new rest c zero n m past t u path start led end h well =
     let z = text_with front old rest in
@@ -136,11 +143,7 @@ root-pieces-law k front old new rest c zero n m past t u path start led end h we
     let news : nodes_with k 0 m u w ≡ nodes_now (root_run k text) 0 m u w =
     nodes-of k front old new rest 0 m u behind.back_now ∙ sym (drop-none (0 == 0) (trivia_at k 0 w) ((read_from k 0 m w).nodes ++ u.nodes) refl) in
     let was = tree k text in
-    kept.tree_now ∙ ap (λ ns. with_children [] (length (standing_before k 0 n z)) (length (standing_before k 0 n z) + length (nodes_with k 0 n t z)) ns was) news
-    ∙ ap (λ j. with_children [] j (length (standing_before k 0 n z) + length (nodes_with k 0 n t z)) (nodes_now (root_run k text) 0 m u w) was) (sym from)
-    ∙ ap (λ j. with_children [] c.from j (nodes_now (root_run k text) 0 m u w) was) (sym to)
-    ∙ ap (λ p. with_children p c.from c.to (nodes_now (root_run k text) 0 m u w) was) (sym path)
-    ∙ sym (put-law c.path c.from c.to (nodes_now (root_run k text) 0 m u w) was)
+    put-there c [] (length (standing_before k 0 n z)) (length (standing_before k 0 n z) + length (nodes_with k 0 n t z)) _ _ was kept.tree_now news from to path
 root-pieces-law k front old new rest c (suc j) n m past t u path start led end h well =
     let z = text_with front old rest in
     let w = text_with front new rest in
@@ -163,8 +166,4 @@ root-pieces-law k front old new rest c (suc j) n m past t u path start led end h
     let news : drop (trivia_at k i z) (nodes_with k i m u w) ≡ nodes_now (root_run k text) i m u w = ap (λ l. drop l (nodes_with k i m u w)) (sym kept.trivia_same) ∙ ap (drop (trivia_at k i w)) (nodes-of k front old new rest i m u behind.back_now)
     ∙ sym (drop-some (i == 0) (trivia_at k i w) ((read_from k i m w).nodes ++ u.nodes) more) in
     let was = tree k text in
-    kept.tree_now ∙ ap (λ ns. with_children [] (first + trivia_at k i z) (first + length (nodes_with k i n t z)) ns was) news
-    ∙ ap (λ l. with_children [] l (first + length (nodes_with k i n t z)) (nodes_now (root_run k text) i m u w) was) (sym from)
-    ∙ ap (λ l. with_children [] c.from l (nodes_now (root_run k text) i m u w) was) (sym to)
-    ∙ ap (λ p. with_children p c.from c.to (nodes_now (root_run k text) i m u w) was) (sym path)
-    ∙ sym (put-law c.path c.from c.to (nodes_now (root_run k text) i m u w) was)
+    put-there c [] (first + trivia_at k i z) (first + length (nodes_with k i n t z)) _ _ was kept.tree_now news from to path

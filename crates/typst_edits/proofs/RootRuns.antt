@@ -1,40 +1,32 @@
 -- A candidate among the children at the top of a text's tree is pieces of the text's run.
-use Rattle.std.proofs.Common.{◌≡◌, ℕ, ◌+◌, ◌-◌, ◌<◌, ◌≤◌, Bool, true, false, List, [], ◌++◌, length, length-append, append_assoc, take, Some, refl, ap, sym, ◌∙◌, arith}
+use Rattle.std.proofs.Common.{◌≡◌, ℕ, ◌+◌, ◌-◌, ◌<◌, ◌≤◌, Bool, true, false, List, [], ◌++◌, length, length-append, append_assoc, take, ap, sym, ◌∙◌, arith}
 use Rattle.typst_lines.specs.Place.{Place, moved}
 use Rattle.typst_lines.specs.Classes.{CharClasses}
 use Rattle.typst_tree.specs.Tree.{Tree, trees, joined}
 use Rattle.typst_tokens.specs.Sight.{width}
-use Rattle.typst_language.specs.Calls.Call.{MarkupExpr}
-use Rattle.typst_language.specs.declared.reading.Reading.{Reading}
-use Rattle.typst_language.specs.Hand.{len_at, hand_at}
-use Rattle.typst_language.specs.Point.{Trivia, gap_of}
-use Rattle.typst_language.specs.Steps.{peek}
+use Rattle.typst_language.specs.Point.{gap_of}
 use Rattle.typst_language.specs.Meaning.{run}
-use Rattle.typst_language.proofs.Knot.{sane-at, sane-meaning, sane-block}
-use Rattle.typst_grammar.specs.Markup.{markup_head}
-use Rattle.typst_grammar.specs.Grammar.{rules, max_depth, level_at, start_of, tree}
+use Rattle.typst_grammar.specs.Grammar.{start_of, tree}
 use Rattle.typst_grammar.proofs.Whole.{leaves}
 use Rattle.typst_edits.specs.CandidateRuns.{RootPiecesOfLaw}
 use Rattle.typst_edits.specs.Edit.{text_with}
 use Rattle.typst_edits.specs.Frame.{is_over}
-use Rattle.typst_edits.specs.Joint.{minds, text_run}
+use Rattle.typst_edits.specs.Joint.{text_run}
 use Rattle.typst_edits.specs.Leading.{bytes_of, both, token_byte}
 use Rattle.typst_edits.specs.Occurrences.{goes}
 use Rattle.typst_edits.specs.RootPieces.{root_run}
-use Rattle.typst_edits.specs.Runs.{AllGo, End, piece_at, pieces, end_at, lead, start}
-use Rattle.typst_edits.proofs.Boundary.{KnownAt}
+use Rattle.typst_edits.specs.Runs.{AllGo, End, piece_at, pieces, end_at, lead}
 use Rattle.typst_edits.proofs.CandidateEnds.{begun}
 use Rattle.typst_edits.proofs.CandidateRuns.{is-cut, cut-token, picked, standing, matches, is-pieces}
 use Rattle.typst_edits.proofs.Children.{top-known}
 use Rattle.typst_edits.proofs.Cuts.{token-cuts}
-use Rattle.typst_edits.proofs.Fronts.{Begins, begins-call}
 use Rattle.typst_edits.proofs.InnerCandidates.{joined-trees}
-use Rattle.typst_edits.proofs.Leading.{turn-over}
+use Rattle.typst_edits.proofs.Leading.{text-leads, turn-over}
 use Rattle.typst_edits.proofs.NoteNumbers.{go-fewer}
 use Rattle.typst_edits.proofs.OneReading.{end-split-at}
 use Rattle.typst_edits.proofs.Root.{within}
 use Rattle.typst_edits.proofs.RootCandidates.{TopCuts, cuts-of-text, pieces-parted, head-none, of-the-root}
-use Rattle.typst_edits.proofs.Walk.{width-encodes}
+use Rattle.typst_edits.proofs.SpotPlaces.{width-encodes}
 use Rattle.typst_edits.proofs.Widths.{width-append, width-none}
 
 -- where no further piece goes on the run ends
@@ -44,14 +36,8 @@ unfolding run
 run-over k text n g stopped =
     let z = start_of text in
     let r = text_run k z in
-    let sd = sane-meaning (rules k) k max_depth in
-    let sb = sane-block (rules k) k max_depth in
-    let begins_with : (h : Reading) (z : Place) (t : Trivia) (x : Bool × ℕ) → 0 < len_at k h.mode (moved t.gap z) → Begins h z t (minds (markup_head x.0 x.1 (hand_at k h (Some t) z).kind)) ((level_at k max_depth).deeper (MarkupExpr x.0 x.1)) =
-    λ h z t x more. begins-call k 255 h z t x.0 x.1 more in
-    let stands = ((sane-at (rules k) k max_depth peek).kept z start tt).known in
-    let known : KnownAt r.point = record { trivia = _; is = refl } in
     let e = end_at k n z in
-    turn-over r sd sb refl refl begins_with stands known e.value (moved e.taken z) e.state (top-known k n z g) stopped
+    turn-over r (text-leads k z) e.value (moved e.taken z) e.state (top-known k n z g) stopped
 
 -- ---- the bytes of its tokens
 

@@ -1,41 +1,34 @@
 -- A reading that begins with one candidate serves another one, at the top of a text's tree.
-use Rattle.std.proofs.Common.{◌≡◌, ◌↔◌, ℕ, zero, suc, ◌+◌, ◌<◌, ◌≤◌, ◌^◌, ◌-◌, ne_eqb, ◌==◌, false, List, [], ◌++◌, append_assoc, take, Some, refl, ap, sym, ◌∙◌, subst, arith}
+use Rattle.std.proofs.Common.{◌≡◌, ℕ, ◌+◌, ◌<◌, ◌≤◌, ◌^◌, ◌-◌, false, List, [], ◌++◌, append_assoc, Some, ap, sym, ◌∙◌, arith}
 use Rattle.typst_lines.specs.Place.{Place}
 use Rattle.typst_lines.specs.Classes.{CharClasses}
 use Rattle.typst_tree.specs.Tree.{Tree, bare, trees}
 use Rattle.typst_tokens.specs.Sight.{width}
-use Rattle.typst_language.specs.Point.{Trivia, gap_of}
+use Rattle.typst_language.specs.Point.{Trivia}
 use Rattle.typst_candidates.specs.Candidates.{Candidate}
 use Rattle.typst_candidates.specs.Entries.{entries_by, units_of, spliced}
 use Rattle.typst_grammar.specs.declared.part.RunKind.TheVariants as of
-use Rattle.typst_grammar.specs.Grammar.{max_depth, start_of, log, tree}
+use Rattle.typst_grammar.specs.Grammar.{max_depth, log, tree}
 use Rattle.typst_edits.specs.Answer.{candidates}
-use Rattle.typst_edits.specs.BlockTest.{entries_in, front_in, rear_in}
+use Rattle.typst_edits.specs.BlockTest.{front_in}
 use Rattle.typst_edits.specs.CandidateRuns.{IsPieces, RootPiecesOfLaw}
 use Rattle.typst_edits.specs.Edit.{Among, text_with}
-use Rattle.typst_edits.specs.Frame.{Run, cut_at, Before, Behind, PassesPieces}
+use Rattle.typst_edits.specs.Frame.{Run, Before, Behind, PassesPieces}
 use Rattle.typst_edits.specs.InOrder.{InOrderLaw}
 use Rattle.typst_edits.specs.Joint.{text_run, PassesJoint}
-use Rattle.typst_edits.specs.NumberedNotes.{cut_behind}
 use Rattle.typst_edits.specs.RootPieces.{root_run}
 use Rattle.typst_edits.specs.Runs.{AllGo, end_at, end_from}
 use Rattle.typst_edits.specs.RunNumbers.{number_of, RunNumbers, RunNumbersLaw}
-use Rattle.typst_edits.specs.RunTest.{BeginsAt, notes_by, FoundRun}
+use Rattle.typst_edits.specs.RunTest.{notes_by, FoundRun}
 use Rattle.typst_edits.specs.Sequence.{Sequence, then_of, then_end}
 use Rattle.typst_edits.specs.Served.{Served}
-use Rattle.typst_edits.proofs.Children.{top-known}
-use Rattle.typst_edits.proofs.Cuts.{cuts-law}
-use Rattle.typst_edits.proofs.PiecesTest.{alike, first-goes, goes-there, then-known, run-gives-law, run-part-law}
+use Rattle.typst_edits.proofs.AnyRun.{seated, Chosen, read_from, begins-now, same-end, meets-too, served}
+use Rattle.typst_edits.proofs.PiecesTest.{run-part-law}
 use Rattle.typst_edits.proofs.RootCandidates.{cuts-of-text, of-the-root, root-candidate-law}
-use Rattle.typst_edits.proofs.RootPieces.{behind-zero, cut-is, joint-of}
+use Rattle.typst_edits.proofs.RootPieces.{behind-zero, joint-of}
 use Rattle.typst_edits.proofs.RootRuns.{kids-bytes}
-use Rattle.typst_edits.proofs.RunTest.{room, before-from, behind-from, behind-to, read-now, ends-within, same-pieces, notes, to-is, part-is, begins-now}
-use Rattle.typst_edits.proofs.Served.{seated, Entered, Chosen, ReadsFrom, read_from, same-end, meets-too, served}
+use Rattle.typst_edits.proofs.RunTest.{notes, to-is, part-is, entered, own-pieces}
 use Rattle.typst_edits.proofs.Widths.{width-append}
-
-cut-behind : (k : CharClasses) (text : List ℕ) (i : ℕ) → (let z = start_of text in cut_at (root_run k text) i z ≡ cut_behind i (end_at k i z))
-cut-behind k text zero = refl
-cut-behind k text (suc i) = let e = end_at k (suc i) (start_of text) in cut-is (suc i == 0) (e.taken + gap_of e.state.known) (ne_eqb (suc i) 0 (omega arith))
 
 module _ (in_order : InOrderLaw) (k : CharClasses) (front old new rest : List ℕ) (r : RunNumbers k (front ++ (old ++ rest))) (big : width (front ++ (old ++ rest)) < 2 ^ 64 - 1) where
   abbrev text : List ℕ
@@ -55,51 +48,6 @@ module _ (in_order : InOrderLaw) (k : CharClasses) (front old new rest : List �
 
   abbrev v : Sequence
   v = text_run k w
-
-  byte-is : (i : ℕ) → width (take (cut_at own i z) text) ≡ width (take (cut_behind i (end_at k i z)) text)
-  byte-is i = ap (λ j. width (take j text)) (cut-behind k text i)
-
-  looks-behind : (c : Candidate) (i n past : ℕ) (t : Trivia) → IsPieces k front old rest own c i n past t → 0 < n → rear_in k front old rest ≤ number_of k text (i + n) ↔ Behind k front old rest own i n past t
-  looks-behind c i zero past t p some = absurd (omega (arith, some))
-  looks-behind c i (suc n) past t p some =
-      ((λ h. behind-from in_order k front old rest c i (suc n) past t p r big (suc n) refl h), (λ h. behind-to in_order k front old rest c i (suc n) past t p r big (suc n) refl h))
-
-  reads-from : (c : Candidate) (i n past : ℕ) (t : Trivia) → IsPieces k front old rest own c i n past t → Before k front old rest own i → ReadsFrom k front old new rest own of.Text max_depth i
-  reads-from c i n past t p looks =
-      let known = λ (m : ℕ) (go : AllGo (then_of i m v)). then-known k front old new rest i m (first-goes k front old new rest i looks p.go) go in
-      record {
-        go = λ m h. goes-there k front old new rest i m p.go p.none looks h;
-        known = known;
-        alike = λ m u go is. (let a = alike k front old new rest i m u p.go p.none looks go is in record { go = a.go; sum = a.sum; value = a.value; nodes = a.nodes });
-        within = λ m go.
-            (let u = known m go in
-            let a = alike k front old new rest i m u.trivia p.go p.none looks go u.is in
-            let sum = (read-now k front old new rest i m p.go p.none looks a.go).sum in
-            let most = ends-within k (front ++ (new ++ rest)) (i + m) in
-            omega (arith, sum, most));
-      }
-
-  entered : Entered k front old new rest own of.Text max_depth 0
-  entered = record {
-    number = number_of k text;
-    count = r.count;
-    most = r.most;
-    over = r.over;
-    begins = λ i l. subst (λ b. BeginsAt (entries_in k text) 0 b (number_of k text i)) (sym (byte-is i)) (r.begins i l);
-    goes_on = λ i j some l few. subst (λ b. BeginsAt (entries_in k text) (number_of k text i) b (number_of k text j)) (sym (byte-is j)) (r.goes_on i j l few);
-    rises = r.rises;
-    last = r.last;
-    not_last = r.not_last;
-    says = r.says;
-    cuts = λ i j l go. (let less = cuts-law k text i j l go in let one = byte-is i in let two = byte-is j in omega (arith, less, one, two));
-    known = λ i go. top-known k i z go;
-    meets = λ m x y h. tt;
-    met = λ m x y h block. absurd (let no : of.Text ≡ of.Block = block in cc);
-    room = λ c i n past t p. room in_order k front old rest c i n past t p r big;
-    before = λ c i n past t p l. before-from in_order k front old rest c i n past t p r big l;
-    behind = looks-behind;
-    reads = λ c i n past t p some looks. reads-from c i n past t p looks;
-  }
 
   -- ---- a candidate
 
@@ -133,15 +81,15 @@ module _ (in_order : InOrderLaw) (k : CharClasses) (front old new rest : List �
         let mid = i + d in
         let units = units_of (log k text) in
         let joint = joined d left m u first sum f looks behind go h in
-        let e = notes in_order k front old rest first mid left past t f r big in
+        let e = notes in_order k front old new rest r big first mid left past t f in
         let at : mid + left ≡ i + n = omega (arith, sum) in
-        let to = to-is in_order k front old rest first mid left past t f r big ∙ ap (number_of k text) at in
+        let to = to-is in_order k front old new rest r big first mid left past t f ∙ ap (number_of k text) at in
         let there = read_from k front old new rest own of.Text max_depth mid in
-        let part = part-is k front old new rest mid m f.go f.none looks go ∙ ap (λ a. entries_by a (notes_by k there m)) (begins-now in_order k front old new rest root first mid left past t f r big) in
+        let part = part-is k front old new rest mid m f.go f.none looks go ∙ ap (λ a. entries_by a (notes_by k there m)) (begins-now k front old new rest own of.Text max_depth 0 (entered in_order k front old new rest r big) first mid left past t f) in
         run-part-law k front old new rest mid left m past t u joint (λ none. absurd (omega (arith, none, some))) (λ none. absurd (omega (arith, none, some))) big big_new e
         ∙ (λ a. spliced (e.from a) (to a) (part a) units)
 
-    candidate-of : Chosen k front old new rest own of.Text max_depth 0 entered c i n past t
+    candidate-of : Chosen k front old new rest own of.Text max_depth 0 (entered in_order k front old new rest r big) c i n past t
     unfolding entered
     candidate-of =
         let cuts = cuts-of-text k text in
@@ -154,10 +102,7 @@ module _ (in_order : InOrderLaw) (k : CharClasses) (front old new rest : List �
           whole = whole;
           path = sym at_root;
           seat = seated front old [] 0 kids cuts.cuts c (of-the-root k text (width front) (width (front ++ old)) root c cuts same chosen whole at_root) (omega (arith, held, apart, longer));
-          passes = λ ts h.
-              (let g = (run-gives-law k front old new rest root c ts same chosen whole at_root).0 h in
-              let x = same-pieces in_order k front old new rest root c i n past t p r big ts g in
-              (g.m, x.behind, x.passes, x.are));
+          passes = own-pieces in_order k front old new rest r big root c same chosen whole at_root i n past t p;
           units = units-of-part;
         }
 

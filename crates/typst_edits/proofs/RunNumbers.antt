@@ -1,69 +1,54 @@
 -- The entries of a text's run, by their numbers.
-use Rattle.std.proofs.Common.{◌≡◌, ℕ, zero, suc, ◌+◌, ◌<◌, ◌≤◌, ◌==◌, Bool, true, false, ◌&&◌, nat_lt, List, [], ◌∷◌, ◌++◌, length, length-append, append-nil, Option, Some, None, refl, ap, sym, ◌∙◌, subst, arith}
+use Rattle.std.proofs.Common.{◌≡◌, ℕ, zero, suc, ◌+◌, ◌<◌, ◌≤◌, ◌==◌, Bool, true, false, nat_lt, List, [], ◌∷◌, ◌++◌, length, length-append, append-nil, Option, Some, None, refl, ap, sym, ◌∙◌, subst, arith}
 use Rattle.std.proofs.lemmas.Bool.{eqb-true, eqb-false}
-use Rattle.typst_kinds.specs.declared.kind.SyntaxKind.TheVariants as kind
-use Rattle.typst_lines.specs.Place.{Place, moved}
+use Rattle.typst_lines.specs.Place.{moved}
 use Rattle.typst_lines.specs.Classes.{CharClasses}
-use Rattle.typst_language.specs.declared.calls.Block.{Block}
-use Rattle.typst_language.specs.Calls.{Call}
-use Rattle.typst_language.specs.Calls.Call.{MarkupExpr}
 use Rattle.typst_language.specs.declared.calls.Note.{Note}
-use Rattle.typst_language.specs.declared.reading.Reading.{Reading}
-use Rattle.typst_language.specs.Hand.{len_at, hand_at}
-use Rattle.typst_language.specs.Point.{Trivia, Point}
 use Rattle.typst_language.specs.Meaning.{Meaning, hand_of, run}
 use Rattle.typst_language.specs.Sound.{Within}
-use Rattle.typst_language.proofs.Knot.{Sane, sane-run, sane-meaning, sane-block}
+use Rattle.typst_language.proofs.Knot.{sane-run}
 use Rattle.typst_language.proofs.Places.{moved-sum}
 use Rattle.typst_candidates.specs.Entries.{entries_by}
 use Rattle.typst_candidates.specs.Records.{IsRising}
-use Rattle.typst_grammar.specs.Markup.{ends, markup_turn, markup_head}
-use Rattle.typst_grammar.specs.Grammar.{rules, max_depth, start_of, log}
+use Rattle.typst_grammar.specs.Markup.{ends, markup_turn}
+use Rattle.typst_grammar.specs.Grammar.{max_depth, start_of, log}
 use Rattle.typst_edits.specs.BlockTest.{entries_in}
 use Rattle.typst_edits.specs.Frame.{is_over}
 use Rattle.typst_edits.specs.InOrder.{InOrderLaw}
-use Rattle.typst_edits.specs.Joint.{minds, text_run}
+use Rattle.typst_edits.specs.Joint.{text_run}
 use Rattle.typst_edits.specs.NumberedNotes.{NumberedRun}
 use Rattle.typst_edits.specs.Occurrences.{goes}
 use Rattle.typst_edits.specs.PieceNotes.{listed}
 use Rattle.typst_edits.specs.RunBytes.{PieceNote}
 use Rattle.typst_edits.specs.RunNumbers.{cut_of, number_of, RunNumbersLaw}
-use Rattle.typst_edits.specs.Runs.{made, AllGo, End, end_of, pieces, piece_at, end_at, lead}
+use Rattle.typst_edits.specs.Runs.{AllGo, End, pieces, piece_at, end_at, lead}
 use Rattle.typst_edits.specs.Sequence.{Sequence, turn_of, first_of, first_end, then_end}
 use Rattle.typst_edits.proofs.BlockTest.{units-listed}
-use Rattle.typst_edits.proofs.Boundary.{KnownAt, looks_in, each-ends, made-add, stopped-is, turn-known}
+use Rattle.typst_edits.proofs.Boundary.{looks_in, each-ends, made-add}
 use Rattle.typst_edits.proofs.Cuts.{cuts-law}
 use Rattle.typst_edits.proofs.FoundPieces.{NoteAt, RunAmong, FoundPieces, says-by, nth-note, found-pieces}
 use Rattle.typst_edits.proofs.InnerCuts.{few-go}
-use Rattle.typst_edits.proofs.Joint.{takes-call}
-use Rattle.typst_edits.proofs.Led.{same-judged, Takes}
+use Rattle.typst_edits.proofs.Leading.{Leads, text-leads, turn-over, not-over, known-from}
 use Rattle.typst_edits.proofs.Nested.{nested-law}
 use Rattle.typst_edits.proofs.NoteNumbers.{go-fewer, go-next}
 use Rattle.typst_edits.proofs.NumberedNotes.{numbered-run-law}
-use Rattle.typst_edits.proofs.PieceNotes.{goes-on}
 use Rattle.typst_edits.proofs.PiecesTest.{counted}
 use Rattle.typst_edits.proofs.Root.{within}
 
 -- ---- where a run is over
 
-value-first : (b c : Bool) → (b && c) ≡ true → b ≡ true
-value-first true c e = refl
-value-first false c e = cc
-
-less-than : (m n : ℕ) → m ≤ n → (m ≡ n → ⊥) → m < n
+pub less-than : (m n : ℕ) → m ≤ n → (m ≡ n → ⊥) → m < n
 less-than zero zero l f = absurd (f refl)
 less-than zero (suc n) l f = omega arith
 less-than (suc m) zero l f = absurd (omega (arith, l))
 less-than (suc m) (suc n) l f = let i = less-than m n (omega (arith, l)) (λ e. f (ap suc e)) in omega (arith, i)
 
-module _ (r : Sequence) (sd : (c : Call) → Sane (r.level.deeper c)) (sb : (b : Block) → Sane (r.level.blocks b)) (deep : (r.level.levels == 0) ≡ false) (end_stops : r.stops kind.End ≡ true)
-    (call : (h : Reading) (z : Place) (t : Trivia) (x : Bool × ℕ) → 0 < len_at r.level.classes h.mode (moved t.gap z) → Takes h z t t (minds (markup_head x.0 x.1 (hand_at r.level.classes h (Some t) z).kind)) (r.level.deeper (MarkupExpr x.0 x.1)))
-    (known : KnownAt r.point) where
+module _ (r : Sequence) (leads : Leads r) where
   abbrev turn : Bool × ℕ → Meaning (Bool × (Bool × ℕ))
   turn x = turn_of r x
 
   turn-within : (x : Bool × ℕ) → Within (turn x)
-  turn-within x = (sane-run r.level sd sb (markup_turn true r.stops x)).within
+  turn-within x = (sane-run r.level leads.deeper leads.blocks (markup_turn true r.stops x)).within
 
   -- the token behind so many pieces ends it
   abbrev ended : ℕ → Bool
@@ -76,35 +61,19 @@ module _ (r : Sequence) (sd : (c : Call) → Sane (r.level.deeper c)) (sb : (b :
       let sum = made-add turn (looks_in r) (each-ends r) i n (true, 0) r.place r.point in
       sym (ap (λ (u : End (Bool × ℕ)). ends r.stops u.value.1 (hand_of r.level (moved u.taken r.place) u.state).kind) sum ∙ ap (λ w. ends r.stops f.value.1 (hand_of r.level w f.state).kind) (moved-sum e.taken f.taken r.place))
 
-  known-behind : (n : ℕ) (x : Bool × ℕ) (z : Place) (s : Point) → KnownAt s → AllGo (made turn n x z s) → KnownAt (end_of x s (made turn n x z s)).state
-  known-behind zero x z s there g = there
-  known-behind (suc n) x z s there g =
-      let o = turn x z s in
-      known-behind n o.value.1 (moved o.taken z) o.state (turn-known r.level r.stops x z s (value-first o.value.0 (nat_lt 0 o.taken) g.0)) g.1
-
-  -- where it doesn't go on it is over
-  over-last : (x : Bool × ℕ) (z : Place) (s : Point) → KnownAt s → (b : Bool) → ends r.stops x.1 (hand_of r.level z s).kind ≡ b → goes (turn x z s) ≡ false → b ≡ true
-  over-last x z s there true e g = refl
-  over-last x z s there false e g = let no = sym (goes-on r.level sd sb deep r.stops end_stops call x z s there e) ∙ g in cc
-
-  -- where it goes on it isn't
-  not-over : (x : Bool × ℕ) (z : Place) (s : Point) (b : Bool) → ends r.stops x.1 (hand_of r.level z s).kind ≡ b → goes (turn x z s) ≡ true → b ≡ false
-  not-over x z s true e g = let o = turn x z s in let no = sym (ap (λ b. b && nat_lt 0 o.taken) (stopped-is r.level r.stops x z s e)) ∙ g in cc
-  not-over x z s false e g = refl
-
   ended-at : (count m : ℕ) → AllGo (first_of count r) → (let e = first_end count r in goes (turn e.value (moved e.taken r.place) e.state) ≡ false) → m ≤ count → ended m ≡ (m == count)
   ended-at count m g over l = by-test (m == count) refl
     where
       by-test : (b : Bool) → (m == count) ≡ b → ended m ≡ b
       by-test true t =
           let e = first_end count r in
-          let there = known-behind count (true, 0) r.place r.point known g in
-          ap ended (eqb-true m count t) ∙ over-last e.value (moved e.taken r.place) e.state there (ended count) refl over
+          let there = known-from r leads count (true, 0) r.place r.point leads.known g in
+          ap ended (eqb-true m count t) ∙ turn-over r leads e.value (moved e.taken r.place) e.state there over
       by-test false t =
           let e = first_end m r in
           let less = less-than m count l (eqb-false m count t) in
           let go = go-next turn turn-within m (true, 0) r.place r.point (go-fewer turn turn-within (suc m) count (true, 0) r.place r.point (omega (arith, less)) g) in
-          not-over e.value (moved e.taken r.place) e.state (ended m) refl go
+          not-over r leads e.value (moved e.taken r.place) e.state (ended m) refl go
 
   pub over-at : (count i n : ℕ) → AllGo (first_of count r) → (let e = first_end count r in goes (turn e.value (moved e.taken r.place) e.state) ≡ false) → i + n ≤ count → is_over i n r ≡ (i + n == count)
   over-at count i n g over l = ended-is i n ∙ ended-at count (i + n) g over l
@@ -163,8 +132,7 @@ module _ (ordered : InOrderLaw) (k : CharClasses) (text : List ℕ) where
   text-over : (i m : ℕ) → i + m ≤ n.count → is_over i m (text_run k (start_of text)) ≡ (i + m == n.count)
   unfolding run
   text-over i m l =
-      over-at (text_run k (start_of text)) (sane-meaning (rules k) k max_depth) (sane-block (rules k) k max_depth) refl refl (λ h y u x more. takes-call k 255 h y u u (same-judged h u) x more)
-      (record { trivia = _; is = refl }) n.count i m n.go n.over l
+      over-at (text_run k (start_of text)) (text-leads k (start_of text)) n.count i m n.go n.over l
 
 pub run-numbers-law : InOrderLaw → RunNumbersLaw
 run-numbers-law ordered k text =

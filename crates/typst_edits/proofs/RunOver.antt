@@ -1,20 +1,22 @@
 -- Where a run that is read by itself ends, no more pieces go on.
-use Rattle.std.proofs.Common.{◌≡◌, ℕ, zero, suc, ◌<◌, ◌≤◌, Bool, true, false, nat_lt, sym, ◌∙◌, arith}
+use Rattle.std.proofs.Common.{◌≡◌, ℕ, zero, suc, ◌+◌, ◌<◌, ◌≤◌, Bool, true, false, nat_lt, length, sym, ◌∙◌, arith}
 use Rattle.typst_lines.specs.Place.{moved}
 use Rattle.typst_lines.specs.Classes.{CharClasses}
 use Rattle.typst_language.specs.declared.calls.Block.{Block}
-use Rattle.typst_language.specs.Meaning.{Meaning, Level, run}
+use Rattle.typst_language.specs.Meaning.{Meaning, Level, start_point, run}
+use Rattle.typst_language.specs.Point.{gap_of}
 use Rattle.typst_language.specs.Sound.{Within}
+use Rattle.typst_language.specs.Steps.{peek}
 use Rattle.typst_language.proofs.Knot.{Sane, sane-run, sane-meaning, sane-block, sane-plain}
 use Rattle.typst_grammar.specs.declared.part.RunKind.{RunKind}
 use Rattle.typst_grammar.specs.declared.part.RunKind.TheVariants as of
 use Rattle.typst_grammar.specs.Grammar.{rules}
-use Rattle.typst_grammar.specs.Markup.{markup_turn}
+use Rattle.typst_grammar.specs.Markup.{markup_turn, markup_reading}
 use Rattle.typst_grammar.specs.Pieces.{AllGo, run_level, stops_of, blocks_in, first_look, end_on}
 use Rattle.typst_grammar.specs.Part.{IsOver}
 use Rattle.typst_edits.specs.RunTest.{Reading, read_by, OverLaw}
 use Rattle.typst_edits.proofs.Boundary.{first-of, stopped-is}
-use Rattle.typst_edits.proofs.NoteNumbers.{go-fewer, go-next}
+use Rattle.typst_edits.proofs.NoteNumbers.{go-fewer, go-next, turns-within}
 
 no-more : (m j : ℕ) → (m < j → ⊥) → j ≤ m
 no-more m zero f = omega arith
@@ -38,6 +40,13 @@ module _ (k : CharClasses) (r : Reading) where
   -- fewer pieces go on, too
   pub fewer-go : (m j : ℕ) → m ≤ j → AllGo (read_by k r j) → AllGo (read_by k r m)
   fewer-go m j l g = go-fewer turn within m j r.carried r.place (first_look level r.place).state l g
+
+  -- how far they go, with the trivia behind them
+  pub ends-in : (m : ℕ) → (let e = end_on level (stops_of r.which) r.carried m r.place in e.taken + gap_of e.state.known ≤ length r.place.ahead)
+  ends-in m =
+      let room = (sane-run level (sane-meaning (rules k) k r.levels) (sane-in k r.levels r.which) peek).within r.place (start_point markup_reading) in
+      let most = turns-within turn within m r.carried r.place (first_look level r.place).state in
+      omega (arith, room, most)
 
   none-behind : (m j : ℕ) → IsOver k r.levels r.which r.carried r.place m → AllGo (read_by k r j) → m < j → ⊥
   none-behind m j over go l =

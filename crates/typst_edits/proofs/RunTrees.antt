@@ -13,11 +13,11 @@ use Rattle.typst_language.specs.Shape.{hinted}
 use Rattle.typst_language.proofs.HintedNodes.{standing-joined}
 use Rattle.typst_language.proofs.Places.{less-none}
 use Rattle.typst_grammar.specs.Grammar.{max_depth, start_of, parsed, tree, log}
+pub use Rattle.typst_grammar.proofs.Heads.{standing-none}
 use Rattle.typst_edits.specs.Edit.{text_with}
 use Rattle.typst_edits.specs.Joint.{onwards_from}
 use Rattle.typst_edits.specs.RunTrees.{given, tree_by, run_mark, RunTreeLaw}
 use Rattle.typst_edits.specs.Runs.{start, AllGo, End, end_of, asks_of, chain, lead, pieces, end_at, pieces_from, end_from, rest_from, tail, whole_of}
-use Rattle.typst_edits.proofs.Led.{none-less}
 use Rattle.typst_edits.proofs.Outcomes.{shift-zero, shift-twice}
 use Rattle.typst_edits.proofs.Root.{run-law, whole-is, split-at, split-taken}
 use Rattle.typst_edits.proofs.Boundary.{chain-asks}
@@ -28,10 +28,6 @@ use Rattle.typst_edits.proofs.Runs.{chain-state, chain-taken}
 pub hinted-none : (hs : List (List ℕ)) → ◌≡◌ {A = List Tree} (hinted hs []) []
 hinted-none [] = refl
 hinted-none (h ∷ hs) = refl
-
--- an outcome's nodes alone
-pub standing-none : {A : Type 0} (o : Outcome A) → standing o [] ≡ o.nodes
-standing-none o = ap (λ ts. hinted o.hints ts ++ o.nodes) (none-less o.back) ∙ ap (λ ts. ts ++ o.nodes) (hinted-none o.hints)
 
 -- what gives nothing and takes nothing back
 pub standing-still : {A : Type 0} (o : Outcome A) (ts : List Tree) → o.hints ≡ [] → o.back ≡ 0 → o.nodes ≡ [] → standing o ts ≡ ts

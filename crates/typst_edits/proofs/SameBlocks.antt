@@ -15,17 +15,10 @@ use Rattle.typst_edits.specs.PieceNotes.{listed}
 use Rattle.typst_edits.specs.RunNumbers.{InnerNumbers}
 use Rattle.typst_edits.specs.Splice.{notes_in}
 use Rattle.typst_edits.specs.Spot.{Spot, unit_at}
-use Rattle.typst_edits.proofs.BlockPlaces.{hole-same, spot-place, take-same}
+use Rattle.typst_edits.proofs.BlockPlaces.{hole-same, take-same, first_or, but_first}
 use Rattle.typst_edits.proofs.Bytes.{decision-law}
 use Rattle.typst_edits.proofs.EntryNumbers.{some-number}
-
-abbrev first_or : {X : Type 0} → X → List X → X
-first_or x [] = x
-first_or x (y ∷ ys) = y
-
-abbrev but_first : {X : Type 0} → List X → List X
-but_first [] = []
-but_first (y ∷ ys) = ys
+use Rattle.typst_edits.proofs.SpotPlaces.{spot-place}
 
 -- what stands behind as many
 same-there : {X : Type 0} (xs ys us vs : List X) (a b : X) → length xs ≡ length us → xs ++ a ∷ ys ≡ us ++ b ∷ vs → a ≡ b

@@ -1,5 +1,5 @@
 -- A block's spot at a position among the nodes of an outcome.
-use Rattle.std.proofs.Common.{◌≡◌, ◌⊎◌, inl, inr, ℕ, suc, ◌+◌, ◌-◌, ◌<◌, ◌≤◌, Bool, true, false, ◌&&◌, ◌||◌, if◌then◌else◌, nat_le, nat_lt, List, [], ◌∷◌, ◌++◌, length, map, take, drop, length-append, length-take, length-drop, append_assoc, refl, ap, sym, ◌∙◌, subst, arith}
+use Rattle.std.proofs.Common.{◌≡◌, ◌⊎◌, inl, inr, ℕ, suc, ◌+◌, ◌-◌, ◌<◌, ◌≤◌, Bool, true, false, ◌&&◌, if◌then◌else◌, nat_le, nat_lt, List, [], ◌∷◌, ◌++◌, length, map, take, drop, length-append, length-take, length-drop, append_assoc, refl, ap, sym, ◌∙◌, subst, arith}
 use Rattle.std.proofs.lemmas.Bool.Decides.{nat_tests}
 use Rattle.std.specs.List.{flat_map}
 use Rattle.typst_kinds.specs.Kinds.{is_error}
@@ -9,11 +9,12 @@ use Rattle.typst_tree.specs.Tree.{Tree, forest, error_of}
 use Rattle.typst_language.specs.declared.calls.Block.{Block}
 use Rattle.typst_language.specs.declared.calls.Block.TheVariants as block
 use Rattle.typst_language.specs.Meaning.{Outcome, answered, joined, less, plain, reshaped}
-use Rattle.typst_language.specs.Shape.{hinted, Change, is_delimited, is_sign, ends_with, in_parens, on_first, first_changed, Shape, shaped, after_shape}
+use Rattle.typst_language.specs.Shape.{hinted, Change, is_delimited, is_sign, ends_with, in_parens, on_first, Shape, shaped, after_shape}
 use Rattle.typst_language.specs.Shape.Change.{stays, turns_wrong, is_not, renamed, unparened}
 use Rattle.typst_language.specs.Shape.Shape.{keeps, holds, lacks, warns, fails}
 use Rattle.typst_language.proofs.Within.{on_if}
-use Rattle.typst_grammar.proofs.Fine.{is_ordinary, change_by, shape_by}
+use Rattle.typst_grammar.proofs.Fine.{is_ordinary, change_by, shape_by, and-left as and-first, and-right as and-second, or-left as or-first, or-right as or-second, or-both}
+use Rattle.typst_language.proofs.Backs.{changed-long as length-changed}
 use Rattle.typst_edits.specs.Hole.Deep.{bare, under}
 use Rattle.typst_edits.specs.Hole.{Deep, fill, top, path_in, Hole, plug, stub, between_parens, changed_deep, first_hole, change_hole, in_node, in_nodes, behind_nodes, lack_hole, warned_head, wrap_in, wrap_past, wrap_hole}
 use Rattle.typst_edits.specs.Occurrences.{last_spot, reshaped_spot}
@@ -30,18 +31,6 @@ use Rattle.typst_edits.proofs.Wrap.{Wraps, wraps-hole}
 abbrev pub Open : Deep → Type 0
 Open bare = Unit {0}
 Open (under head left d right) = (is_hollow head ≡ false) × Open d
-
-or-first : (a b : Bool) → (a || b) ≡ false → a ≡ false
-or-first true b h = absurd (cc)
-or-first false b h = refl
-
-or-second : (a b : Bool) → (a || b) ≡ false → b ≡ false
-or-second true b h = absurd (cc)
-or-second false b h = h
-
-or-both : (a b : Bool) → a ≡ false → b ≡ false → (a || b) ≡ false
-or-both true b h i = absurd (cc)
-or-both false b h i = i
 
 pub top-solid : (d : Deep) (b : Block) → Open d → is_error (top d (block_head b)).kind ≡ false
 top-solid bare block.Code h = refl
@@ -96,14 +85,6 @@ only-between head b (u ∷ left) d [] o t e = let f = ends-none 41 left (stub d 
     by-test false c f e = cc
 only-between head b (u ∷ left) d (v ∷ right) o t e = record { one = _; is = refl; path = refl; passes = (t, o) }
 
-and-first : (a b : Bool) → (a && b) ≡ true → a ≡ true
-and-first true b h = refl
-and-first false b h = absurd (cc)
-
-and-second : (a b : Bool) → (a && b) ≡ true → b ≡ true
-and-second true b h = h
-and-second false b h = absurd (cc)
-
 only-deep : (change : Change) (b : Block) (d : Deep) (n : ℕ) → change_by is_ordinary change ≡ true → Stays change n n (path_in d) → Open d → OnlyDeep (changed_deep change (block_head b) d) (path_in d)
 only-deep stays b d n a s o = record { one = d; is = refl; path = refl; passes = o }
 only-deep (turns_wrong message) b d n a s o = absurd (less-not n s)
@@ -127,13 +108,6 @@ only-deep unparened b (under head left d right) n a s o =
 length-first : (f : Tree → Tree) (ts : List Tree) → length (on_first f ts) ≡ length ts
 length-first f [] = refl
 length-first f (t ∷ ts) = refl
-
-length-changed : (change : Change) (ts : List Tree) → length (first_changed change ts) ≡ length ts
-length-changed stays ts = refl
-length-changed (turns_wrong message) ts = length-first _ ts
-length-changed (is_not thing) ts = length-first _ ts
-length-changed (renamed k) ts = length-first _ ts
-length-changed unparened ts = length-first _ ts
 
 only-change : (change : Change) (b : Block) (left : List Tree) (d : Deep) (right : List Tree) (n i : ℕ) → change_by is_ordinary change ≡ true → i ≡ length left + n → Stays change n i (path_in d) → Open d → Only (change_hole change (block_head b) left d right) (length left) (path_in d)
 only-change change b (t ∷ left) d right n i a e s o = record { one = _; is = refl; first = length-changed change (t ∷ left); path = refl; passes = o }

@@ -1,5 +1,5 @@
 -- Where a block stands that a reading that was given up covers: what the nodes before its own hold are the characters before it.
-use Rattle.std.proofs.Common.{◌≡◌, ℕ, zero, suc, ◌+◌, ◌<◌, Bool, true, false, ◌&&◌, nat_lt, List, [], ◌∷◌, ◌++◌, length, map, take, length-append, Option, Some, None, refl, ap, sym, ◌∙◌, subst, arith}
+use Rattle.std.proofs.Common.{◌≡◌, ℕ, zero, suc, ◌+◌, ◌<◌, Bool, true, false, ◌&&◌, nat_lt, List, [], ◌∷◌, ◌++◌, length, append-nil, map, take, length-append, Option, Some, None, refl, ap, sym, ◌∙◌, subst, arith}
 use Rattle.std.specs.List.{flat_map}
 use Rattle.typst_lines.specs.Place.{Place, moved}
 use Rattle.typst_tree.specs.Tree.{Tree, text_of}
@@ -33,7 +33,7 @@ use Rattle.typst_edits.proofs.Every.{Every, every-any, every-append, every-map, 
 use Rattle.typst_edits.proofs.Fitting.{left-by}
 use Rattle.typst_edits.proofs.Placed.{left_text, Placed, Places, placed-after, placed-joined, placed-wrapped, placed-turns, placed-nestings, placed-growths, placed-run, placed-call, placed-block, sane, flush-kept, flush-tidy}
 use Rattle.typst_edits.proofs.Reached.{Reached, Reaches, reached-run, reached-meaning, hand-stops, flushed-held, reached-joined, reached-grown}
-use Rattle.typst_edits.proofs.Walk.{width-encodes}
+use Rattle.typst_edits.proofs.SpotPlaces.{width-encodes}
 
 -- ---- what stands before it
 
@@ -266,10 +266,6 @@ module _ (k : CharClasses) where
 
 -- ---- of a text
 
-append-none : (xs : List ℕ) → xs ++ [] ≡ xs
-append-none [] = refl
-append-none (x ∷ xs) = ap (λ ys. x ∷ ys) (append-none xs)
-
 pub second-place : (k : CharClasses) (text : List ℕ) (c : Spot (Unit {0})) → Among c (seconds_of_text k text) → 0 < length (text_of c.node) → length (left_text c.hole) ≡ width (take c.at text)
 unfolding seconds_of_text
 second-place k text c there some =
@@ -277,4 +273,4 @@ second-place k text c there some =
     let s = start_point markup_reading in
     let placed = among (Placed z s) c _ there (places-level (rules k) k max_depth (places-call (rules k) k max_depth) whole z s tt) in
     let lone = among Lone c _ there (lone-level k max_depth (lone-call-seconds k max_depth) whole z s tt) in
-    ap length (placed.left ∙ ap (λ ts. utf8_ahead c.at z ++ texts ts) (lone some) ∙ append-none (utf8_ahead c.at z)) ∙ width-encodes (take c.at text)
+    ap length (placed.left ∙ ap (λ ts. utf8_ahead c.at z ++ texts ts) (lone some) ∙ append-nil (utf8_ahead c.at z)) ∙ width-encodes (take c.at text)

@@ -7,6 +7,7 @@ use Rattle.typst_kinds.specs.declared.kind.SyntaxKind.TheVariants as kind
 use Rattle.typst_tree.specs.Tree.{Tree, Forest, none, more, forest, trees, joined, bare, bare_forest, inner_of}
 use Rattle.typst_tree.specs.Laws.{start_at, or_none}
 use Rattle.typst_language.proofs.Leaves.{texts}
+use Rattle.typst_tree.proofs.Numbering.{joined_bare as joined-bare}
 use Rattle.typst_edits.specs.Hole.{Deep, fill, path_in, Hole, plug, path_of}
 use Rattle.typst_edits.specs.Hole.Deep.{bare as alone, under}
 use Rattle.typst_edits.proofs.Edit.{trees-of}
@@ -14,10 +15,6 @@ use Rattle.typst_edits.proofs.InnerCandidates.{joined-trees}
 use Rattle.typst_edits.proofs.Placed.{deep_text, left_text}
 
 -- ---- spans aside
-
-joined-bare : (f : Forest) → joined (bare_forest f) ≡ joined f
-joined-bare none = refl
-joined-bare (more h ks r) = let a = joined-bare ks in let b = joined-bare r in (λ j. h.text ++ (a j ++ b j))
 
 taken-bare : (i : ℕ) (f : Forest) → joined (forest (take i (trees (bare_forest f)))) ≡ joined (forest (take i (trees f)))
 taken-bare zero f = refl

@@ -1,16 +1,20 @@
 -- The block law of a whole text.
-use Rattle.std.proofs.Common.{◌<◌, ◌++◌, ap, arith}
+use Rattle.std.proofs.Common.{◌≡◌, ℕ, suc, ◌-◌, ◌<◌, List, ◌++◌, ap, ◌∙◌, arith}
+use Rattle.typst_lines.specs.Place.{Place, moved}
+use Rattle.typst_lines.specs.Classes.{CharClasses}
 use Rattle.typst_kinds.specs.declared.kind.SyntaxKind.TheVariants as kind
 use Rattle.typst_tree.specs.Tree.{forest, inner_of}
+use Rattle.typst_language.specs.declared.calls.Block.TheVariants as block
 use Rattle.typst_language.specs.Meaning.{start_point}
+use Rattle.typst_language.specs.Point.{point_of}
 use Rattle.typst_grammar.specs.Markup.{markup_reading}
 use Rattle.typst_grammar.specs.Grammar.{rules, max_depth, start_of, whole, parsed, tree}
-use Rattle.typst_edits.specs.Edit.{text_with}
+use Rattle.typst_edits.specs.Edit.{Among, text_with}
 use Rattle.typst_edits.specs.Laws.{blocks_of_text, BlockLaw, NamesLaw, block_at}
 use Rattle.typst_edits.specs.Named.{Named}
 use Rattle.typst_edits.proofs.Blocks.{ends}
 use Rattle.typst_edits.proofs.Law.{inside-level}
-use Rattle.typst_edits.specs.Spot.{unit_at}
+use Rattle.typst_edits.specs.Spot.{Spot, ended, unit_at}
 use Rattle.typst_edits.proofs.Clear.{Clear, clear-level}
 use Rattle.typst_edits.proofs.Edit.{among, before-same, edited}
 use Rattle.typst_edits.proofs.Fitting.{fitting}
@@ -38,3 +42,11 @@ block-law k front old new rest c past i h =
 pub names-law : NamesLaw
 unfolding blocks_of_text
 names-law k text c i = among (Named (block_at k) max_depth) c _ i (named-level (rules k) k max_depth whole (start_of text) (start_point markup_reading))
+
+-- a content block is read as one, with so many levels left
+pub content-reads : (k : CharClasses) (text : List ℕ) (c : Spot (Unit {0})) → Among c (blocks_of_text k text) → (levels : ℕ) → c.name ≡ block.Content → max_depth - c.fewer ≡ suc levels → (z : Place)
+    → unit_at c z ≡ ended (block_at k (suc levels) block.Content (moved c.at z) (point_of c.start))
+content-reads k text c chosen levels name left z =
+    let p = point_of c.start in
+    let y = moved c.at z in
+    ap (λ r. r y p) (names-law k text c chosen).reads ∙ ap (λ v. ended (block_at k v c.name y p)) left ∙ ap (λ x. ended (block_at k (suc levels) x y p)) name

@@ -1,15 +1,12 @@
 -- Where the blocks of a text's second readings begin, no block is noted.
-use Rattle.std.proofs.Common.{◌≡◌, ◌⊎◌, inl, inr, ℕ, zero, suc, ◌+◌, ◌<◌, ◌≤◌, Bool, true, false, ◌&&◌, List, [], length, map, None, refl, ap, arith}
-use Rattle.typst_kinds.specs.declared.mode.SyntaxMode.{SyntaxMode}
+use Rattle.std.proofs.Common.{◌≡◌, ◌⊎◌, inl, inr, ℕ, zero, suc, ◌+◌, ◌<◌, ◌≤◌, Bool, true, false, ◌&&◌, [], length, map, refl, ap, arith}
 use Rattle.typst_lines.specs.Classes.{CharClasses}
 use Rattle.typst_lines.specs.Place.{Place, moved}
 use Rattle.typst_language.specs.declared.calls.Block.{Block}
 use Rattle.typst_language.specs.declared.calls.Block.TheVariants as block
 use Rattle.typst_language.specs.declared.reading.Reading.{Reading}
 use Rattle.typst_language.specs.Calls.{Call, Answer}
-use Rattle.typst_language.specs.Depth.{is_end}
-use Rattle.typst_language.proofs.Ends.{token-ends, token-takes}
-use Rattle.typst_language.specs.Hand.{token_at, AtHand, told, len_at, ahead, hand_at}
+use Rattle.typst_language.specs.Hand.{AtHand, told}
 use Rattle.typst_language.specs.Knot.{meaning_of, level_of}
 use Rattle.typst_language.specs.Meaning.{Level, before, blockless, asked, entered, hand_of, start_point, run}
 use Rattle.typst_language.specs.Point.{Point, forgot}
@@ -26,7 +23,7 @@ use Rattle.typst_language.specs.Syntax.Parser.{does, next, scoped, wraps}
 use Rattle.typst_grammar.specs.Grammar.{rules, max_depth, start_of, whole, parsed, production, block_production}
 use Rattle.typst_grammar.specs.Markup.{markup_reading, content_block}
 use Rattle.typst_grammar.specs.Sequences.{code_block}
-use Rattle.typst_grammar.proofs.CodeMoves.{some-ahead, moves-inside}
+use Rattle.typst_grammar.proofs.CodeMoves.{moves-inside}
 use Rattle.typst_grammar.proofs.Fine.{change_by, shape_by, is_ordinary}
 use Rattle.typst_grammar.proofs.FineRuns.{gives-all, PlainBy, plain-weaker}
 use Rattle.typst_grammar.proofs.Knot.{ordinary-whole, ordinary-production, ordinary-content, ordinary-code}
@@ -41,19 +38,9 @@ use Rattle.typst_edits.proofs.Blocks.{enclosing}
 use Rattle.typst_edits.proofs.Complete.{every-among}
 use Rattle.typst_edits.proofs.Every.{Every, every-append, every-by, every-map, every-flat, every-any}
 use Rattle.typst_edits.proofs.Unnoted.{Early, Differs, EveryAt, AllSplit, Begins, anything, wrapped-at, split-none, split-run}
+use Rattle.typst_edits.proofs.Rising.{hand-some as some-hand}
 
 -- ---- a token takes something, where something is left
-
-some-at : (k : CharClasses) (m : SyntaxMode) (z : Place) → 0 < length z.ahead → 0 < len_at k m z
-some-at k m z h = by-end (is_end (token_at k m z).kind) refl
-  where
-    by-end : (b : Bool) → is_end (token_at k m z).kind ≡ b → 0 < len_at k m z
-    by-end true e = let f = ap (λ (cs : List ℕ). length cs) (token-ends k m z e) in absurd (omega (arith, f, h))
-    by-end false e = token-takes k m z e
-
-some-hand : (k : CharClasses) (held : Reading) (z : Place) → 0 < length z.ahead → 0 < (hand_at k held None z).gap + (hand_at k held None z).len
-unfolding hand_at ahead
-some-hand k held z h = some-ahead k held.mode (length z.ahead) z (some-at k held.mode z h)
 
 -- ---- what begins behind the first token
 

@@ -1,34 +1,19 @@
 -- The steps by places lead to each block that covers the stretch strictly.
-use Rattle.std.proofs.Common.{◌≡◌, ℕ, zero, suc, ◌+◌, ◌-◌, ◌<◌, ◌≤◌, Bool, true, false, max, ◌&&◌, if◌then◌else◌, nat_lt, List, [], ◌∷◌, ◌++◌, length, map, take, drop, length-append, length-take, append_assoc, encode_utf8, encode_utf8_all, option_map, Some, None, refl, ap, sym, ◌∙◌, subst, arith}
+use Rattle.std.proofs.Common.{◌≡◌, ℕ, zero, suc, ◌+◌, ◌<◌, ◌≤◌, Bool, true, false, ◌&&◌, if◌then◌else◌, nat_lt, List, [], ◌∷◌, ◌++◌, length, map, take, length-append, length-take, append_assoc, option_map, Some, None, refl, ap, sym, ◌∙◌, arith}
 use Rattle.std.proofs.lemmas.Bool.Decides.{nat_tests}
-use Rattle.std.proofs.lemmas.Str.{length-encode}
-use Rattle.typst_lines.specs.Place.{Place, char_width, moved}
+use Rattle.typst_lines.specs.Place.{char_width}
 use Rattle.typst_lines.proofs.LineTable.{width-positive}
 use Rattle.typst_tree.specs.Tree.{Tree, trees, text_of}
 use Rattle.typst_tokens.specs.Sight.{width}
-use Rattle.typst_language.specs.Hand.{utf8_ahead}
-use Rattle.typst_language.specs.Meaning.{Outcome, start_point}
-use Rattle.typst_language.specs.Point.{point_of}
-use Rattle.typst_language.proofs.Knot.{sane-block}
-use Rattle.typst_language.proofs.Leaves.{texts, texts-append, texts-one, texts-first, text-add}
-use Rattle.typst_language.proofs.Places.{moved-ahead}
-use Rattle.typst_grammar.specs.Markup.{markup_reading}
-use Rattle.typst_grammar.specs.Grammar.{rules, max_depth, whole, parsed}
+use Rattle.typst_language.proofs.Leaves.{texts, texts-append, texts-first}
 use Rattle.typst_edits.specs.Edit.{text_with}
 use Rattle.typst_edits.specs.Hole.{Deep, fill, Hole, plug, path_in, path_of}
 use Rattle.typst_edits.specs.Hole.Deep.{bare, under}
-use Rattle.typst_edits.specs.Laws.{blocks_of_text, block_at}
-use Rattle.typst_edits.specs.Named.{Named}
-use Rattle.typst_edits.specs.Spot.{ended, unit_at}
+use Rattle.typst_edits.specs.Spot.{unit_at}
 use Rattle.typst_edits.specs.Walk.{Step, over, walk, walk_to, WalkLaw}
-use Rattle.typst_edits.proofs.Blocks.{ends}
-use Rattle.typst_edits.proofs.Clear.{Clear, clear-level}
-use Rattle.typst_edits.proofs.Edit.{among, trees-of}
-use Rattle.typst_edits.proofs.Fitting.{no-front}
-use Rattle.typst_edits.proofs.Inside.{Lawful}
-use Rattle.typst_edits.proofs.Law.{inside-level}
-use Rattle.typst_edits.proofs.Names.{named-level}
-use Rattle.typst_edits.proofs.Placed.{deep_text, left_text, Placed, placed-level}
+use Rattle.typst_edits.proofs.Edit.{trees-of}
+use Rattle.typst_edits.proofs.Placed.{deep_text, left_text}
+use Rattle.typst_edits.proofs.SpotPlaces.{spot-place}
 use Rattle.typst_edits.proofs.Widths.{width-append}
 
 -- ---- among several nodes
@@ -39,7 +24,7 @@ less-is a b h = grind (arith, nat_tests)
 less-not : (a b : ℕ) → b ≤ a → nat_lt a b ≡ false
 less-not a b h = grind (arith, nat_tests)
 
-first-if : {A : Type 0} (a b : Bool) (x y : A) → a ≡ true → b ≡ true → (if a && b then x else y) ≡ x
+pub first-if : {A : Type 0} (a b : Bool) (x y : A) → a ≡ true → b ≡ true → (if a && b then x else y) ≡ x
 first-if true true x y h k = refl
 first-if true false x y h k = cc
 first-if false b x y h k = cc
@@ -147,11 +132,6 @@ module _ (from to : ℕ) (order : from ≤ to) where
 
 -- ---- places in bytes
 
-pub width-encodes : (xs : List ℕ) → length (encode_utf8_all xs) ≡ width xs
-unfolding width char_width
-width-encodes [] = refl
-width-encodes (c ∷ xs) = omega (arith, length-append (encode_utf8 c) (encode_utf8_all xs), length-encode c, width-encodes xs)
-
 pub width-some : (xs : List ℕ) → 0 < length xs → 0 < width xs
 unfolding width
 width-some [] h = absurd (omega arith)
@@ -176,63 +156,30 @@ width-over (c ∷ front) past more =
     let e : length (c ∷ front) + past ≡ suc (length front + past) = omega arith in
     ap (λ n. width (take n (c ∷ (front ++ more)))) e ∙ (let f : char_width c + width (take (length front + past) (front ++ more)) ≡ (char_width c + width front) + width (take past more) = omega (arith, i) in f)
 
-pub moved-long : (n : ℕ) (z : Place) → length (moved n z).ahead ≡ length z.ahead - n
-moved-long n z = ap length (moved-ahead n z) ∙ long n z.ahead
-  where
-    long : (n : ℕ) (xs : List ℕ) → length (drop n xs) ≡ length xs - n
-    long zero xs = omega arith
-    long (suc n) [] = omega arith
-    long (suc n) (x ∷ xs) = let i = long n xs in omega (arith, i)
-
 pub walk-law : WalkLaw
-unfolding blocks_of_text
 walk-law k front old rest c past among_them starts ends_at goes_on =
     let z = text_with front old rest in
     let text = front ++ (old ++ rest) in
-    let s = start_point markup_reading in
-    let o = parsed k max_depth text in
     let u = unit_at c z in
-    let y = moved c.at z in
-    let p = point_of c.start in
-    let l = among (Lawful z z o o) c _ among_them (inside-level (rules k) k (ends k) max_depth whole z z s) in
-    let n = among (Named (block_at k) max_depth) c _ among_them (named-level (rules k) k max_depth whole z s) in
-    let clear = among (Clear k z) c _ among_them (clear-level (rules k) k max_depth whole z s tt) in
-    let placed = among (Placed z s) c _ among_them (placed-level (rules k) k max_depth whole z s tt) in
+    let place = spot-place k text c among_them in
     let some : 0 < u.taken = omega (arith, starts, ends_at) in
-    let none : c.front ≡ [] = no-front k max_depth c z n clear l.fits some in
-    let levels = max_depth - c.fewer in
-    let sane = sane-block (rules k) k levels c.name in
-    let read : u ≡ ended (block_at k levels c.name y p) = ap (λ r. r y p) n.reads in
-    -- its node holds its characters
-    let held : text_of c.node ≡ utf8_ahead u.taken y =
-    sym (texts-one c.node) ∙ ap (λ ts. texts (ts ++ c.node ∷ [])) (sym none) ∙ ap texts (sym l.fits.nodes) ∙ ap (λ (q : Outcome (Unit {0})). texts q.nodes) read
-    ∙ (sane.kept y p tt).text ∙ ap (λ (q : Outcome (Unit {0})). utf8_ahead q.taken y) (sym read) in
-    let before : left_text c.hole ≡ utf8_ahead c.at z = placed.left ∙ ap (λ ts. utf8_ahead c.at z ++ texts ts) none ∙ append-none (utf8_ahead c.at z) in
-    let room : u.taken ≤ max 0 (length y.ahead) = subst (λ (q : Outcome (Unit {0})). q.taken ≤ max 0 (length y.ahead)) (sym read) (within-is _ _ _ (sane.within y p)) in
-    let long = moved-long c.at z in
+    let room = place.room in
     let one = length-append front (old ++ rest) in
     let two = length-append old rest in
     let three = length-append front old in
-    let all : past ≤ length rest = omega (arith, room, long, one, two, starts, ends_at) in
+    let all : past ≤ length rest = omega (arith, room, one, two, starts, ends_at) in
     let end_at : c.at + u.taken ≡ length (front ++ old) + past = omega (arith, ends_at, three) in
     let same_text : (front ++ old) ++ rest ≡ text = append_assoc front old rest in
-    let left_is : length (left_text c.hole) ≡ width (take c.at text) = ap length before ∙ width-encodes (take c.at text) in
-    let both : width (take c.at text) + length (text_of c.node) ≡ width (take (c.at + u.taken) text) =
-    (let a = ap length held in
-    let b = width-encodes (take c.at text) in
-    let d = width-encodes (take (c.at + u.taken) text) in
-    let e = ap length (text-add c.at u.taken z) in
-    let f = length-append (utf8_ahead c.at z) (utf8_ahead u.taken y) in
-    omega (arith, a, b, d, e, f)) in
+    let left_is = place.left_taken some in
+    let both = place.both_taken some in
     let far : width (take (c.at + u.taken) text) ≡ width (front ++ old) + width (take past rest) =
     ap (λ j. width (take j text)) end_at ∙ ap (λ xs. width (take (length (front ++ old) + past) xs)) (sym same_text) ∙ width-over (front ++ old) past rest in
     let more : 0 < width (take past rest) = width-some (take past rest) (let t = length-take past rest in omega (arith, t, all, goes_on)) in
     let early : length (left_text c.hole) < width front = (let b = width-before c.at front (old ++ rest) starts in omega (arith, left_is, b)) in
     let late : width (front ++ old) < length (left_text c.hole) + length (text_of c.node) = omega (arith, left_is, both, far, more) in
     let order : width front ≤ width (front ++ old) = (let w = width-append front old in omega (arith, w)) in
-    let nodes : o.nodes ≡ plug c.hole c.node = ap (λ (q : Outcome (Unit {0})). q.nodes) l.old in
     let steps : walk_to (length (path_of c.hole)) k front old rest ≡ steps_of (width front) (width (front ++ old)) order c.hole c.node =
-    ap (walk (length (path_of c.hole)) (width front) (width (front ++ old)) 0) nodes ∙ walk-hole (width front) (width (front ++ old)) order c.hole c.node early late in
+    ap (walk (length (path_of c.hole)) (width front) (width (front ++ old)) 0) place.nodes ∙ walk-hole (width front) (width (front ++ old)) order c.hole c.node early late in
     let last = last-in (width front) (width (front ++ old)) order (length c.hole.left) c.hole.deep c.node (length (texts c.hole.left)) in
     let at_is : length (texts c.hole.left) + length (deep_text c.hole.deep) ≡ width (take c.at text) = (let g = length-append (texts c.hole.left) (deep_text c.hole.deep) in omega (arith, g, left_is)) in
     record {
@@ -241,14 +188,7 @@ walk-law k front old rest c past among_them starts ends_at goes_on =
       last = record { index = last.index; start = length (texts c.hole.left) + length (deep_text c.hole.deep); node = c.node };
       steps = steps ∙ last.is;
       node = refl;
-      kind = l.fits.head;
+      kind = place.head;
       start = at_is;
       end = omega (arith, at_is, both);
     }
-  where
-    append-none : (xs : List ℕ) → xs ++ [] ≡ xs
-    append-none [] = refl
-    append-none (x ∷ xs) = ap (λ ys. x ∷ ys) (append-none xs)
-
-    within-is : (a b c : ℕ) → a + b ≤ c → a ≤ c
-    within-is a b c h = omega (arith, h)

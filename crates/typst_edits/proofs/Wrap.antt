@@ -14,6 +14,7 @@ use Rattle.typst_language.specs.Shape.{Change, changed, first_changed, without_p
 use Rattle.typst_language.specs.Shape.Change.{stays, turns_wrong, is_not, renamed, unparened}
 use Rattle.typst_language.specs.Shape.Shape.{keeps, holds, lacks, warns, fails}
 use Rattle.typst_language.proofs.Backs.{shape-counts}
+use Rattle.typst_tree.proofs.Stretches.{le_from as le-is}
 use Rattle.typst_edits.specs.Hole.Deep.{bare, under}
 use Rattle.typst_edits.specs.Hole.{Deep, fill, top, Hole, plug, stub, between_parens, changed_deep, first_hole, change_hole, in_node, in_nodes, behind_nodes, lack_hole, warned_head, wrap_in, wrap_past, wrap_hole}
 use Rattle.typst_edits.proofs.Every.{Every, every-map, every-if}
@@ -224,9 +225,6 @@ wraps-behind change kept left d right h (p ∷ ps) e = (
 
 le-not : (m n : ℕ) → nat_le m n ≡ false → n < m
 le-not m n h = grind (arith, nat_tests)
-
-le-is : (m n : ℕ) → nat_le m n ≡ true → m ≤ n
-le-is m n h = grind (arith, nat_tests)
 
 -- behind the node with the hole
 take-past : (left : List Tree) (j : ℕ) (y : Tree) (right : List Tree) → take (length left + suc j) (left ++ y ∷ right) ≡ left ++ y ∷ take j right

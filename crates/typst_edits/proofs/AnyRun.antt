@@ -1,5 +1,5 @@
--- A reading that begins with one candidate serves another one of its run: for any run.
-use Rattle.std.proofs.Common.{◌≡◌, ◌⊎◌, inl, inr, ◌↔◌, ℕ, zero, suc, ◌+◌, ◌-◌, ◌<◌, ◌≤◌, ◌==◌, ne_eqb, if◌then◌else◌, min, Bool, true, false, List, [], ◌∷◌, ◌++◌, length, take, length-append, Option, None, Some, refl, ap, sym, ◌∙◌, subst, arith}
+-- What the entries say of a candidate that is pieces of a run, and a reading that begins with one candidate and serves another one: for any run.
+use Rattle.std.proofs.Common.{◌≡◌, ◌⊎◌, inl, inr, ◌↔◌, ℕ, zero, suc, ◌+◌, ◌-◌, ◌<◌, ◌≤◌, ◌==◌, ne_eqb, if◌then◌else◌, min, Bool, true, false, List, ◌++◌, length, take, length-append, Option, None, Some, refl, ap, sym, ◌∙◌, subst, arith}
 use Rattle.std.proofs.lemmas.Bool.{eqb-true, eqb-false}
 use Rattle.std.proofs.lemmas.List.{take-append-le}
 use Rattle.std.specs.List.{slice_get}
@@ -9,11 +9,13 @@ use Rattle.typst_tree.specs.Tree.{Tree, bare, text_of}
 use Rattle.typst_tree.specs.Replace.{replaced_at}
 use Rattle.typst_tokens.specs.Sight.{width, position}
 use Rattle.typst_language.specs.Point.{Trivia, gap_of}
-use Rattle.typst_language.proofs.Places.{moved-min}
+use Rattle.typst_language.specs.declared.calls.Note.{Note}
+use Rattle.typst_language.proofs.Places.{moved-min, ahead-left}
 use Rattle.typst_candidates.specs.declared.entry.Entry.{Entry}
 use Rattle.typst_candidates.specs.declared.entry.Tag.{Tag}
 use Rattle.typst_candidates.specs.declared.entry.Tag.TheVariants as tag
 use Rattle.typst_candidates.specs.Candidates.{Candidate, begins}
+use Rattle.typst_candidates.proofs.Rows.{begins_order}
 use Rattle.typst_candidates.specs.Entries.{entries_by, units_of, spliced}
 use Rattle.typst_grammar.specs.declared.part.RunKind.{RunKind}
 use Rattle.typst_grammar.specs.declared.part.RunKind.TheVariants as of
@@ -27,13 +29,15 @@ use Rattle.typst_edits.specs.Joint.{Meets as MeetsBehind}
 use Rattle.typst_edits.specs.KeptNodes.{kids_of_run, run_from, StandsBetween}
 use Rattle.typst_edits.specs.Leading.{bytes_of}
 use Rattle.typst_edits.specs.OneReading.{TakesNone, ServesMore}
+use Rattle.typst_edits.specs.PieceNotes.{listed}
 use Rattle.typst_edits.specs.RootPieces.{StandsAt}
 use Rattle.typst_edits.specs.Runs.{AllGo, End}
-use Rattle.typst_edits.specs.RunTest.{Reading, reading_on, read_by, carried_by, byte_behind, nodes_by, notes_by, SaysPiece, IsLast, BeginsAt, Ends, LooksFrom, PassesRead, FoundRun}
+use Rattle.typst_edits.specs.RunTest.{Reading, reading_on, read_by, carried_by, byte_behind, nodes_by, notes_by, SaysPiece, IsLast, BeginsAt, Ends, LooksFrom, Meets, PassesRead, FoundRun}
 use Rattle.typst_edits.specs.RunTest.Ends.{some as apart, none as at_once}
 use Rattle.typst_edits.specs.RunTest.LooksFrom.{pieces as from_pieces, closing as from_closing, nothing as from_nothing}
 use Rattle.typst_edits.specs.Sequence.{Sequence, first_of, first_end, then_of, then_end, then_place}
 use Rattle.typst_edits.specs.Served.{MeetsOn, PassesOn, reading_of, Served}
+use Rattle.typst_edits.specs.Splice.{entries_from}
 use Rattle.typst_edits.proofs.BlockPlaces.{take-same}
 use Rattle.typst_edits.proofs.BlockTest.{byte-of, byte-at}
 use Rattle.typst_edits.proofs.Boundary.{KnownAt}
@@ -41,23 +45,14 @@ use Rattle.typst_edits.proofs.CandidateEnds.{child-at, stands, from-there, from-
 use Rattle.typst_edits.proofs.EntryNumbers.{some-number}
 use Rattle.typst_edits.proofs.KeptNodes.{put-behind-law}
 use Rattle.typst_edits.proofs.MarkupCandidates.{OfStretch}
-use Rattle.typst_edits.proofs.NoteNumbers.{neither}
+use Rattle.typst_edits.proofs.NoteNumbers.{neither, take-longer}
 use Rattle.typst_edits.proofs.OneReading.{first-split, end-split-at, later-place, go-first, go-second, go-both, one-reading-law}
 use Rattle.typst_edits.proofs.RootPieces.{take-past}
+use Rattle.typst_edits.proofs.RunNumbers.{less-than}
+use Rattle.typst_edits.proofs.RunOver.{ends-in}
 use Rattle.typst_edits.proofs.Widths.{width-append}
 
 -- ---- among the children
-
-begins-less : (at : ℕ) (ts : List Tree) (n : ℕ) → at ≤ begins at ts n
-begins-less at [] n = omega arith
-begins-less at (t ∷ ts) zero = omega arith
-begins-less at (t ∷ ts) (suc n) = let more = begins-less (at + length (text_of t)) ts n in omega (arith, more)
-
-begins-on : (at : ℕ) (ts : List Tree) (m n : ℕ) → m ≤ n → begins at ts m ≤ begins at ts n
-begins-on at [] m n l = omega arith
-begins-on at (t ∷ ts) zero n l = begins-less at (t ∷ ts) n
-begins-on at (t ∷ ts) (suc m) zero l = absurd (omega (arith, l))
-begins-on at (t ∷ ts) (suc m) (suc n) l = begins-on (at + length (text_of t)) ts m n (omega (arith, l))
 
 -- A candidate is children of a run around a stretch, and the first of them isn't empty, but the first of all.
 pub record Seated (front old : List ℕ) (at : ℕ) (ts : List Tree) (c : Candidate) : Type 0 where
@@ -87,7 +82,7 @@ module _ (front old : List ℕ) (at : ℕ) (ts : List Tree) (c d : Candidate) (s
   -- a candidate ends behind the child where another one begins
   pub seats-in-order : d.from ≤ c.to
   seats-in-order = at-most d.from c.to (λ l.
-      (let back = begins-on at ts c.to d.from (omega (arith, l)) in
+      (let back = begins_order at ts c.to d.from (omega (arith, l)) in
       let early = o.early (omega (arith, l)) in
       let late = s.late in
       let begin = o.begin in
@@ -147,11 +142,37 @@ one-place a b text l e =
     min-most : (m n : ℕ) → min m n ≤ n
     min-most m n = omega arith
 
-less-than : (a b : ℕ) → a ≤ b → (a ≡ b → ⊥) → a < b
-less-than zero zero l f = absurd (f refl)
-less-than zero (suc b) l f = omega arith
-less-than (suc a) zero l f = absurd (omega (arith, l))
-less-than (suc a) (suc b) l f = let i = less-than a b (omega (arith, l)) (λ e. f (ap suc e)) in omega (arith, i)
+pub entries-listed : (at : ℕ) (ns : Option (List Note)) → entries_from at ns ≡ entries_by at (listed ns)
+entries-listed at None = refl
+entries-listed at (Some ns) = refl
+
+-- from which entry on all looks have to begin behind the stretch: the one behind the pieces, or where there is none another one
+abbrev pub looks_by : ℕ → ℕ → ℕ → ℕ
+looks_by zero alone to = alone
+looks_by (suc n) alone to = to
+
+-- which pieces of a run, and how far past a stretch they end
+pub record Span : Type 0 where
+  pub i : ℕ
+  pub n : ℕ
+  pub past : ℕ
+  pub trivia : Trivia
+
+abbrev span : ℕ → ℕ → ℕ → Trivia → Span
+span i n past t = record { i = i; n = n; past = past; trivia = t }
+
+abbrev trivia_or : Trivia → Option Trivia → Trivia
+trivia_or t None = t
+trivia_or t (Some u) = u
+
+-- Pieces that are read so, behind so many characters, begin and end where a candidate does.
+pub record Found (front old rest : List ℕ) (c : Candidate) (q : Sequence) (opened i n past : ℕ) (t : Trivia) : Type 0 where
+  pub go : AllGo (first_of i q)
+  pub go_on : AllGo (then_of i n q)
+  pub known : (then_end i n q).state.known ≡ Some t
+  pub ends : (opened + ((first_end i q).taken + (then_end i n q).taken)) + t.gap ≡ (length front + length old) + past
+  pub start : c.start ≡ width (take (opened + (if i == 0 then 0 else (first_end i q).taken + gap_of (first_end i q).state.known)) (front ++ (old ++ rest)))
+  pub end : c.end ≡ width (front ++ (old ++ take past rest))
 
 right-of : {A B : Type 0} → (A → ⊥) → A ⊎ B → B
 right-of f (inl a) = absurd (f a)
@@ -238,7 +259,27 @@ module _ (k : CharClasses) (front old new rest : List ℕ) (r : Run k (front ++ 
     pub go : (m : ℕ) → AllGo (read_by k (read_from i) m) → AllGo (then_of i m v)
     pub known : (m : ℕ) → AllGo (then_of i m v) → KnownAt (then_end i m v).state
     pub alike : (m : ℕ) (u : Trivia) → AllGo (then_of i m v) → (then_end i m v).state.known ≡ Some u → AlikeBy i m u
-    pub within : (m : ℕ) → AllGo (then_of i m v) → far_by i m ≤ length now
+
+  abbrev pub FoundHere : Candidate → ℕ → ℕ → ℕ → Trivia → Type 0
+  FoundHere c i n past t = Found front old rest c q (opened_by r z) i n past t
+
+  pub found-by : (c : Candidate) (i n past : ℕ) (t : Trivia) → IsPieces k front old rest r c i n past t → FoundHere c i n past t
+  found-by c i n past t p = record { go = p.go; go_on = p.go_on; known = p.known; ends = p.ends; start = p.start; end = p.end }
+
+  -- no pieces end behind the text, with their trivia
+  abbrev pub AreWithin : Type 0
+  AreWithin = (m : ℕ) → opened_by r z ≤ length text → opened_by r z + ((first_end m q).taken + gap_of (first_end m q).state.known) ≤ length text
+
+  pub room-by : AreWithin → (c : Candidate) (i n past : ℕ) (t : Trivia) → FoundHere c i n past t → opened_by r z ≤ length front → past ≤ length rest
+  room-by within c i n past t f early =
+      let split = end-split-at q i n in
+      let taken = ap (λ (u : End (Bool × ℕ)). u.taken) split in
+      let gap = ap (λ (u : End (Bool × ℕ)). gap_of u.state.known) split ∙ ap gap_of f.known in
+      let ends = f.ends in
+      let one = length-append front (old ++ rest) in
+      let two = length-append old rest in
+      let most = within (i + n) (omega (arith, early, one)) in
+      omega (arith, most, taken, gap, ends, one, two)
 
   -- What is known of a run's pieces by the numbers of their entries.
   pub record Entered (entry : ℕ) : Type 0 where
@@ -257,11 +298,20 @@ module _ (k : CharClasses) (front old new rest : List ℕ) (r : Run k (front ++ 
     -- where its end is met
     pub meets : (m : ℕ) (x y : Bool × ℕ) → (which ≡ of.Block → y.1 ≡ x.1) → Agrees r true m x y
     pub met : (m : ℕ) (x y : Bool × ℕ) → Agrees r true m x y → which ≡ of.Block → y.1 ≡ x.1
+    -- from which entry on looks have to begin behind the stretch, where it has no expression
+    pub alone : ℕ
+    pub alone_from : (to : ℕ) → LooksFrom es which (number count) to alone
+    pub within : AreWithin
+    -- as many as end at one place are as many
+    pub counts : (i n m : ℕ) → AllGo (first_of i q) → AllGo (then_of i n q) → AllGo (then_of i m q)
+        → (then_end i n q).taken + gap_of (then_end i n q).state.known ≡ (then_end i m q).taken + gap_of (then_end i m q).state.known → n ≡ m
+    -- more pieces that are read by themselves end further on
+    pub further : (i m j : ℕ) → m < j → AllGo (read_by k (read_from i) j) → far_by i m < far_by i j
     -- of a candidate that is pieces of it
-    pub room : (c : Candidate) (i n past : ℕ) (t : Trivia) → IsPieces k front old rest r c i n past t → past ≤ length rest
-    pub before : (c : Candidate) (i n past : ℕ) (t : Trivia) → IsPieces k front old rest r c i n past t → number i < front_in k front old rest → Before k front old rest r i
+    pub before : (c : Candidate) (i n past : ℕ) (t : Trivia) → IsPieces k front old rest r c i n past t → number i < front_in k front old rest ↔ Before k front old rest r i
     pub behind : (c : Candidate) (i n past : ℕ) (t : Trivia) → IsPieces k front old rest r c i n past t → 0 < n → rear_in k front old rest ≤ number (i + n) ↔ Behind k front old rest r i n past t
-    pub reads : (c : Candidate) (i n past : ℕ) (t : Trivia) → IsPieces k front old rest r c i n past t → 0 < i → Before k front old rest r i → ReadsFrom i
+    pub alone_behind : (c : Candidate) (i n past : ℕ) (t : Trivia) → IsPieces k front old rest r c i n past t → n ≡ 0 → rear_in k front old rest ≤ alone ↔ Behind k front old rest r i n past t
+    pub reads : (c : Candidate) (i n past : ℕ) (t : Trivia) → IsPieces k front old rest r c i n past t → Before k front old rest r i → ReadsFrom i
 
   -- What is known of one candidate that is pieces of the run.
   pub record Chosen (entry : ℕ) (e : Entered entry) (c : Candidate) (i n past : ℕ) (t : Trivia) : Type 0 where
@@ -276,9 +326,89 @@ module _ (k : CharClasses) (front old new rest : List ℕ) (r : Run k (front ++ 
         → AllGo (then_of (i + d) m v) → (then_end (i + d) m v).state.known ≡ Some u → PassesPieces k front old new rest r i n (d + m) past t u
         → units_of (log k now) ≡ spliced (e.number (i + d)) (e.number (i + n)) (entries_by first.start (notes_by k (read_from (i + d)) m)) (units_of (log k text))
 
+  -- ---- bytes
+
+  byte-is : (i m : ℕ) → byte_behind k (read_from i) m ≡ width (take (far_by i m) now)
+  byte-is i m =
+      let x = read_from i in
+      let e = end_on (run_level k levels which) (stops_of which) x.carried m x.place in
+      byte-of (cut_at r i z) (e.taken + gap_of e.state.known) now
+
+  far-within : (i m : ℕ) → cut_at r i z ≤ length front → far_by i m ≤ length now
+  far-within i m early =
+      let most = ends-in k (read_from i) m in
+      let left = ahead-left (cut_at r i z) w in
+      let one = length-append front (new ++ rest) in
+      omega (arith, most, left, one, early)
+
+  -- how far pieces of both texts go, by bytes
+  module _ (c : Candidate) (past : ℕ) (end : c.end ≡ width (front ++ (old ++ take past rest))) where
+    stop-width : width (take ((length front + length new) + past) now) + width old ≡ c.end + width new
+    stop-width =
+        let at = ap width (take-past front new rest past ((length front + length new) + past) refl) in
+        let a = width-append front (new ++ take past rest) in
+        let b = width-append new (take past rest) in
+        let d = width-append front (old ++ take past rest) in
+        let e = width-append old (take past rest) in
+        omega (arith, at, a, b, d, e, end)
+
+    to-shifted : (i m : ℕ) → far_by i m ≡ (length front + length new) + past → byte_behind k (read_from i) m + width old ≡ c.end + width new
+    to-shifted i m e =
+        let here = byte-is i m ∙ ap (λ j. width (take j now)) e in
+        let stop = stop-width in
+        omega (arith, here, stop)
+
+    from-shifted : (i m : ℕ) → cut_at r i z ≤ length front → past ≤ length rest → byte_behind k (read_from i) m + width old ≡ c.end + width new → far_by i m ≡ (length front + length new) + past
+    from-shifted i m early room e =
+        let here = byte-is i m in
+        let stop = stop-width in
+        let one = length-append front (new ++ rest) in
+        let two = length-append new rest in
+        take-same (far_by i m) ((length front + length new) + past) now (far-within i m early) (omega (arith, room, one, two)) (omega (arith, here, stop, e))
+
+  -- ---- which pieces a candidate is
+
+  module _ (entry : ℕ) (e : Entered entry) (c : Candidate) (i n past : ℕ) (t : Trivia) (f : FoundHere c i n past t) (j m far : ℕ) (u : Trivia) (g : FoundHere c j m far u) (early : opened_by r z ≤ length front) where
+    same-first : i ≡ j
+    same-first =
+        let cut : width (take (cut_at r i z) text) ≡ width (take (cut_at r j z) text) = sym f.start ∙ g.start in
+        neither i j (λ l. (let rise = e.cuts i j l g.go in omega (arith, rise, cut))) (λ l. (let rise = e.cuts j i l f.go in omega (arith, rise, cut)))
+
+    same-past : past ≡ far
+    same-past =
+        let a = width-append front (old ++ take past rest) in
+        let b = width-append old (take past rest) in
+        let d = width-append front (old ++ take far rest) in
+        let h = width-append old (take far rest) in
+        let one = f.end in
+        let two = g.end in
+        take-same past far rest (room-by e.within c i n past t f early) (room-by e.within c j m far u g early) (omega (arith, a, b, d, h, one, two))
+
+    pub one-span : span i n past t ≡ span j m far u
+    one-span =
+        let first = same-first in
+        let room = same-past in
+        let there : FoundHere c i m past u = subst (λ a. FoundHere c i m a u) (sym room) (subst (λ a. FoundHere c a m far u) (sym first) g) in
+        let one = f.ends in
+        let two = there.ends in
+        let gap = ap gap_of f.known in
+        let gap_too = ap gap_of there.known in
+        let count : n ≡ m = e.counts i n m f.go f.go_on there.go_on (omega (arith, one, two, gap, gap_too)) in
+        let trivia : t ≡ u = ap (trivia_or t) (sym f.known ∙ ap (λ a. (then_end i a q).state.known) count ∙ there.known) in
+        (λ x. span (first x) (count x) (room x) (trivia x))
+
+    -- so however it passes, these pieces do
+    pub passes-too : (d : ℕ) (b : Trivia) (ts : List Tree) → PassesPieces k front old new rest r j m d far u b → ts ≡ nodes_now r j d b w → ((d : ℕ) × (b : Trivia) × PassesPieces k front old new rest r i n d past t b × (ts ≡ nodes_now r i d b w))
+    passes-too d b ts h made =
+        let x : PassesPieces k front old new rest r i n d past t b × (ts ≡ nodes_now r i d b w) = subst (λ (x : Span). PassesPieces k front old new rest r x.i x.n d x.past x.trivia b × (ts ≡ nodes_now r x.i d b w)) (sym one-span) (h, made) in
+        (d, b, x.0, x.1)
+
   -- ---- the numbers that are found
 
   module _ (entry : ℕ) (e : Entered entry) (c : Candidate) (i n past : ℕ) (t : Trivia) (p : IsPieces k front old rest r c i n past t) where
+    room-here : past ≤ length rest
+    room-here = let early = p.early in room-by e.within c i n past t (found-by c i n past t p) (omega (arith, early))
+
     first-go : AllGo (first_of (i + n) q)
     first-go = subst (λ os. AllGo os) (sym (first-split q i n)) (go-both (first_of i q) (then_of i n q) p.go p.go_on)
 
@@ -290,7 +420,7 @@ module _ (k : CharClasses) (front old new rest : List ℕ) (r : Run k (front ++ 
     some-in (suc n) f = omega arith
 
     -- without a piece it is the run's end
-    none-last : n ≡ 0 → IsLast es (e.number i)
+    pub none-last : n ≡ 0 → IsLast es (e.number i)
     none-last none =
         let alone = p.empty none in
         let over = sym (e.over 0 0 (omega arith)) ∙ alone.1 in
@@ -320,16 +450,26 @@ module _ (k : CharClasses) (front old new rest : List ℕ) (r : Run k (front ++ 
     end-byte : 0 < i + n → c.end ≡ width (take (cut_at r (i + n) z) text)
     end-byte some = p.end ∙ sym (ap width (take-past front old rest past (cut_at r (i + n) z) (end-chars some)))
 
+    begins-there : BeginsAt es entry c.start (e.number i)
+    begins-there = let all = fits in subst (λ d. BeginsAt es entry d (e.number i)) (sym p.start) (e.begins i (omega (arith, all)))
+
+    ends-there : 0 < n → BeginsAt es (e.number i) c.end (e.number (i + n))
+    ends-there some = let all = fits in subst (λ d. BeginsAt es (e.number i) d (e.number (i + n))) (sym (end-byte (omega (arith, some)))) (e.goes_on i (i + n) (omega (arith, some)) (omega arith) all)
+
+    ends-of : (d : ℕ) → n ≡ d → Ends es entry c (e.number i) (e.number (i + n))
+    ends-of zero is = let same : i ≡ i + n = omega (arith, is) in subst (λ j. Ends es entry c (e.number i) (e.number j)) same (at_once (e.number i) begins-there (none-last is))
+    ends-of (suc d) is =
+        let some : 0 < n = omega (arith, is) in
+        let all = fits in
+        apart (e.number i) (e.number (i + n)) begins-there (e.not_last i (omega (arith, all, some))) (ends-there some) (e.rises i (i + n) (omega (arith, some)) all)
+
     ends-are : (a b : ℕ) → Ends es entry c a b → (a ≡ e.number i) × (b ≡ e.number (i + n))
     ends-are a b (apart from to at more behind less) =
-        let all = fits in
-        let first : a ≡ e.number i = some-number from (e.number i) (sym at ∙ subst (λ d. BeginsAt es entry d (e.number i)) (sym p.start) (e.begins i (omega (arith, all)))) in
-        let some = some-more (λ l. more (subst (λ j. IsLast es j) (sym first) l)) in
-        let there = subst (λ d. BeginsAt es (e.number i) d (e.number (i + n))) (sym (end-byte (omega (arith, some)))) (e.goes_on i (i + n) (omega (arith, some)) (omega arith) all) in
+        let first : a ≡ e.number i = some-number from (e.number i) (sym at ∙ begins-there) in
+        let there = ends-there (some-more (λ l. more (subst (λ j. IsLast es j) (sym first) l))) in
         (first, some-number to (e.number (i + n)) (sym behind ∙ subst (λ j. BeginsAt es j c.end (e.number (i + n))) (sym first) there))
     ends-are a b (at_once from at last) =
-        let all = fits in
-        let first : a ≡ e.number i = some-number from (e.number i) (sym at ∙ subst (λ d. BeginsAt es entry d (e.number i)) (sym p.start) (e.begins i (omega (arith, all)))) in
+        let first : a ≡ e.number i = some-number from (e.number i) (sym at ∙ begins-there) in
         let none = none-more (subst (λ j. IsLast es j) first last) in
         let sum : i ≡ i + n = omega (arith, none) in
         (first, first ∙ ap e.number sum)
@@ -338,6 +478,140 @@ module _ (k : CharClasses) (front old new rest : List ℕ) (r : Run k (front ++ 
     looks-are from to a (from_pieces more) is some = refl
     looks-are from to a (from_closing number last block closes) is some = let none = none-more (subst (λ j. IsLast es j) is last) in absurd (omega (arith, none, some))
     looks-are from to a (from_nothing number last own far) is some = let none = none-more (subst (λ j. IsLast es j) is last) in absurd (omega (arith, none, some))
+
+    looks-of : (d : ℕ) → n ≡ d → LooksFrom es which (e.number i) (e.number (i + n)) (looks_by d e.alone (e.number (i + n)))
+    looks-of zero is =
+        let none = p.empty is in
+        let count : 0 ≡ e.count = eqb-true 0 e.count (sym (e.over 0 0 (omega arith)) ∙ none.1) in
+        subst (λ j. LooksFrom es which (e.number j) (e.number (i + n)) e.alone) (sym count ∙ sym none.0) (e.alone_from (e.number (i + n)))
+    looks-of (suc d) is = let all = fits in from_pieces (e.not_last i (omega (arith, all, is)))
+
+    behind-is : (d : ℕ) → n ≡ d → rear_in k front old rest ≤ looks_by d e.alone (e.number (i + n)) ↔ Behind k front old rest r i n past t
+    behind-is zero is = e.alone_behind c i n past t p is
+    behind-is (suc d) is = e.behind c i n past t p (omega (arith, is))
+
+    -- ---- what agrees at their end
+
+    value-is : (then_end i n q).value ≡ (first_end (i + n) q).value
+    value-is = sym (ap (λ (u : End (Bool × ℕ)). u.value) (end-split-at q i n))
+
+    over-is : is_over i n q ≡ (i + n == e.count)
+    over-is = e.over i n fits
+
+    last-to : (i + n == e.count) ≡ true → IsLast es (e.number (i + n))
+    last-to is = subst (λ x. IsLast es (e.number x)) (sym (eqb-true (i + n) e.count is)) e.last
+
+    on-to : (i + n == e.count) ≡ false → IsLast es (e.number (i + n)) → ⊥
+    on-to is = e.not_last (i + n) (less-than (i + n) e.count fits (eqb-false (i + n) e.count is))
+
+    agrees-by : (m : ℕ) (y : Bool × ℕ) → ((IsLast es (e.number (i + n)) → ⊥) → (0 < m) × (y ≡ (first_end (i + n) q).value)) → (IsLast es (e.number (i + n)) → which ≡ of.Block → y.1 ≡ (first_end (i + n) q).value.1)
+        → Agrees r (is_over i n q) m (then_end i n q).value y
+    agrees-by m y on last = by (i + n == e.count) refl
+      where
+        by : (s : Bool) → (i + n == e.count) ≡ s → Agrees r (is_over i n q) m (then_end i n q).value y
+        by true is = subst (λ s. Agrees r s m (then_end i n q).value y) (sym (over-is ∙ is)) (e.meets m (then_end i n q).value y (λ block. last (last-to is) block ∙ sym (ap (λ (x : Bool × ℕ). x.1) value-is)))
+        by false is = let h = on (on-to is) in subst (λ s. Agrees r s m (then_end i n q).value y) (sym (over-is ∙ is)) (h.0, h.1 ∙ sym value-is)
+
+    meets-by : (m : ℕ) (y : Bool × ℕ) → Agrees r (is_over i n q) m (then_end i n q).value y → Meets es which (e.number (i + n)) m (first_end (i + n) q).value y
+    meets-by m y h = by (i + n == e.count) refl
+      where
+        by : (s : Bool) → (i + n == e.count) ≡ s → Meets es which (e.number (i + n)) m (first_end (i + n) q).value y
+        by true is = record {
+          goes_on = λ no. absurd (no (last-to is));
+          block_end = λ last block. e.met m (then_end i n q).value y (subst (λ s. Agrees r s m (then_end i n q).value y) (over-is ∙ is) h) block ∙ ap (λ (x : Bool × ℕ). x.1) value-is;
+        }
+        by false is = record {
+          goes_on = λ no. ((subst (λ s. Agrees r s m (then_end i n q).value y) (over-is ∙ is) h).0, (subst (λ s. Agrees r s m (then_end i n q).value y) (over-is ∙ is) h).1 ∙ value-is);
+          block_end = λ last block. absurd (on-to is last);
+        }
+
+    -- ---- what passes
+
+    abbrev pub Read : ℕ → Type 0
+    Read m = PassesRead k front old new rest c (read_from i) (e.number i) (e.number (i + n)) (looks_by n e.alone (e.number (i + n))) (first_end (i + n) q).value m
+
+    -- m pieces pass the test, and their nodes are those that are read
+    pub record Given (m : ℕ) : Type 0 where
+      pub behind : Trivia
+      pub passes : PassesPieces k front old new rest r i n m past t behind
+      pub nodes : nodes_now r i m behind w ≡ nodes_by k (read_from i) m
+
+    pub given-by : (m : ℕ) → Read m → Given m
+    given-by m h =
+        let looks = (e.before c i n past t p).0 h.before in
+        let reads = e.reads c i n past t p looks in
+        let go = reads.go m h.go in
+        let u = reads.known m go in
+        let x = reads.alike m u.trivia go u.is in
+        record {
+          behind = u.trivia;
+          passes = record {
+            first_go = p.go;
+            old_go = p.go_on;
+            new_go = go;
+            before = looks;
+            after = (behind-is n refl).0 h.behind;
+            known = p.known;
+            known_now = u.is;
+            ends = p.ends;
+            shifted = x.sum ∙ from-shifted c past p.end i m p.early room-here h.shifted;
+            agrees = agrees-by m (then_end i m v).value (λ no. ((h.meets.goes_on no).0, x.value ∙ (h.meets.goes_on no).1)) (λ last block. ap (λ (y : Bool × ℕ). y.1) x.value ∙ h.meets.block_end last block);
+          };
+          nodes = x.nodes;
+        }
+
+    pub read-by : (m : ℕ) (u : Trivia) → PassesPieces k front old new rest r i n m past t u → Read m × (nodes_now r i m u w ≡ nodes_by k (read_from i) m)
+    read-by m u h =
+        let reads = e.reads c i n past t p h.before in
+        let x = reads.alike m u h.new_go h.known_now in (
+          record {
+            before = (e.before c i n past t p).1 h.before;
+            behind = (behind-is n refl).1 h.after;
+            go = x.go;
+            shifted = to-shifted c past p.end i m (sym x.sum ∙ h.shifted);
+            meets = subst (λ y. Meets es which (e.number (i + n)) m (first_end (i + n) q).value y) x.value (meets-by m (then_end i m v).value h.agrees);
+          },
+          x.nodes,
+        )
+
+    rises-by : e.number i < front_in k front old rest → (m j : ℕ) → m < j → AllGo (read_by k (read_from i) j) → byte_behind k (read_from i) m < byte_behind k (read_from i) j
+    rises-by early m j l go =
+        let bytes = take-longer (far_by i m) (far_by i j) now (e.further i m j l go) (far-within i j p.early) in
+        let one = byte-is i m in
+        let two = byte-is i j in
+        omega (arith, one, two, bytes)
+
+    pub begins-now : position (moved (cut_at r i z) w) ≡ c.start
+    begins-now =
+        let cut = cut_at r i z in
+        byte-at cut now ∙ ap width (take-append-le cut front (new ++ rest) p.early ∙ sym (take-append-le cut front (old ++ rest) p.early)) ∙ sym p.start
+
+    -- how its entries are exchanged for those of m pieces that are read
+    abbrev pub UnitsBy : ℕ → Type 0
+    UnitsBy m = units_of (log k now) ≡ spliced (e.number i) (e.number (i + n)) (entries_by c.start (notes_by k (read_from i) m)) (units_of (log k text))
+
+    pub found : ((ts : List Tree) → Gives k front old new rest c ts → ((m : ℕ) × (u : Trivia) × PassesPieces k front old new rest r i n m past t u × (ts ≡ nodes_now r i m u w))) → c.is_block ≡ false → path_to r ≡ c.path
+        → ((m : ℕ) → Read m → (which ≡ of.Block → (IsLast es (e.number i) → ⊥) × (0 < m)) → UnitsBy m) → FoundRun k front old new rest c which levels entry
+    found passes whole path units = record {
+      from = e.number i;
+      to = e.number (i + n);
+      looks = looks_by n e.alone (e.number (i + n));
+      carried = (first_end i q).value;
+      carried_end = (first_end (i + n) q).value;
+      ends = ends-of n refl;
+      looks_from = looks-of n refl;
+      says = (let all = fits in e.says i (omega (arith, all)));
+      says_end = e.says (i + n) fits;
+      at = cut_at r i z;
+      start = p.start;
+      start_now = λ early. begins-now;
+      gives = λ ts. (
+        (λ h. (let g = passes ts h in let x = read-by g.0 g.1 g.2 in (g.0, x.0, g.3 ∙ x.1))),
+        (λ h. (let g = given-by h.0 h.1 in of_pieces r i n h.0 past t g.behind whole path p.start p.led p.end g.passes (h.2 ∙ sym g.nodes))),
+      );
+      rises = rises-by;
+      units = units;
+    }
 
   -- ---- where the reading begins behind d more pieces
 
@@ -361,37 +635,6 @@ module _ (k : CharClasses) (front old new rest : List ℕ) (r : Run k (front ++ 
         → (which ≡ of.Block → (IsLast es x.from → ⊥) × ((c.start < first.start) ⊎ (0 < m)))
         → units_of (log k now) ≡ spliced x.mid x.to (entries_by first.start (notes_by k x.reading m)) (units_of (log k text))
 
-  -- how far pieces of both texts go, by bytes
-  module _ (c : Candidate) (past : ℕ) (end : c.end ≡ width (front ++ (old ++ take past rest))) where
-    stop-width : width (take ((length front + length new) + past) now) + width old ≡ c.end + width new
-    stop-width =
-        let at = ap width (take-past front new rest past ((length front + length new) + past) refl) in
-        let a = width-append front (new ++ take past rest) in
-        let b = width-append new (take past rest) in
-        let d = width-append front (old ++ take past rest) in
-        let e = width-append old (take past rest) in
-        omega (arith, at, a, b, d, e, end)
-
-    byte-is : (i m : ℕ) → byte_behind k (read_from i) m ≡ width (take (far_by i m) now)
-    byte-is i m =
-        let x = read_from i in
-        let e = end_on (run_level k levels which) (stops_of which) x.carried m x.place in
-        byte-of (cut_at r i z) (e.taken + gap_of e.state.known) now
-
-    to-shifted : (i m : ℕ) → far_by i m ≡ (length front + length new) + past → byte_behind k (read_from i) m + width old ≡ c.end + width new
-    to-shifted i m e =
-        let here = byte-is i m ∙ ap (λ j. width (take j now)) e in
-        let stop = stop-width in
-        omega (arith, here, stop)
-
-    from-shifted : (i m : ℕ) → far_by i m ≤ length now → past ≤ length rest → byte_behind k (read_from i) m + width old ≡ c.end + width new → far_by i m ≡ (length front + length new) + past
-    from-shifted i m within room e =
-        let here = byte-is i m in
-        let stop = stop-width in
-        let one = length-append front (new ++ rest) in
-        let two = length-append new rest in
-        take-same (far_by i m) ((length front + length new) + past) now within (omega (arith, room, one, two)) (omega (arith, here, stop, e))
-
   module _ (entry : ℕ) (e : Entered entry) (root : Tree) (same : bare root ≡ bare (tree k (front ++ (old ++ rest)))) (first c : Candidate) (i j n past n0 past0 : ℕ) (t t0 : Trivia)
       (a : Chosen entry e c i n past t) (b : Chosen entry e first (i + suc j) n0 past0 t0) (begun : e.number (i + suc j) < front_in k front old rest) where
     -- so many pieces stand before the reading begins
@@ -402,7 +645,7 @@ module _ (k : CharClasses) (front old new rest : List ℕ) (r : Run k (front ++ 
     mid = i + suc j
 
     looks : Before k front old rest r mid
-    looks = e.before first mid n0 past0 t0 b.is begun
+    looks = (e.before first mid n0 past0 t0 b.is).0 begun
 
     clear : TakesNone mid q
     clear = b.is.none (omega arith)
@@ -493,7 +736,7 @@ module _ (k : CharClasses) (front old new rest : List ℕ) (r : Run k (front ++ 
     serves = one-reading-law k front old new rest r i d b.is.go looks
 
     reads : ReadsFrom mid
-    reads = e.reads first mid n0 past0 t0 b.is (omega arith) looks
+    reads = e.reads first mid n0 past0 t0 b.is looks
 
     abbrev On : ℕ → Type 0
     On m = PassesOn k front old new rest first c (read_from mid) (e.number (i + n)) (e.number (i + n)) (first_end (i + n) q).value m
@@ -501,37 +744,11 @@ module _ (k : CharClasses) (front old new rest : List ℕ) (r : Run k (front ++ 
     abbrev Test : ℕ → Trivia → Type 0
     Test m u = PassesPieces k front old new rest r i n (d + m) past t u
 
-    value-is : (then_end i n q).value ≡ (first_end (i + n) q).value
-    value-is = sym (ap (λ (u : End (Bool × ℕ)). u.value) (end-split-at q i n))
-
-    over-is : is_over i n q ≡ (i + n == e.count)
-    over-is = e.over i n (fits entry e c i n past t a.is)
-
-    last-to : (i + n == e.count) ≡ true → IsLast es (e.number (i + n))
-    last-to is = subst (λ x. IsLast es (e.number x)) (sym (eqb-true (i + n) e.count is)) e.last
-
-    on-to : (i + n == e.count) ≡ false → IsLast es (e.number (i + n)) → ⊥
-    on-to is = e.not_last (i + n) (less-than (i + n) e.count (fits entry e c i n past t a.is) (eqb-false (i + n) e.count is))
-
     agrees-from : (m : ℕ) (y : Bool × ℕ) → MeetsOn es which (e.number (i + n)) (c.start < first.start) m (first_end (i + n) q).value y → Agrees r (is_over i n q) (d + m) (then_end i n q).value y
-    agrees-from m y h = by (i + n == e.count) refl
-      where
-        by : (s : Bool) → (i + n == e.count) ≡ s → Agrees r (is_over i n q) (d + m) (then_end i n q).value y
-        by true is = subst (λ s. Agrees r s (d + m) (then_end i n q).value y) (sym (over-is ∙ is)) (e.meets (d + m) (then_end i n q).value y (λ block. h.block_end (last-to is) block ∙ sym (ap (λ (x : Bool × ℕ). x.1) value-is)))
-        by false is = subst (λ s. Agrees r s (d + m) (then_end i n q).value y) (sym (over-is ∙ is)) (omega arith, (h.goes_on (on-to is)).1 ∙ sym value-is)
+    agrees-from m y h = agrees-by entry e c i n past t a.is (d + m) y (λ no. (omega arith, (h.goes_on no).1)) h.block_end
 
     agrees-to : (m : ℕ) (y : Bool × ℕ) → Agrees r (is_over i n q) (d + m) (then_end i n q).value y → MeetsOn es which (e.number (i + n)) (c.start < first.start) m (first_end (i + n) q).value y
-    agrees-to m y h = by (i + n == e.count) refl
-      where
-        by : (s : Bool) → (i + n == e.count) ≡ s → MeetsOn es which (e.number (i + n)) (c.start < first.start) m (first_end (i + n) q).value y
-        by true is = record {
-          goes_on = λ no. absurd (no (last-to is));
-          block_end = λ last block. e.met (d + m) (then_end i n q).value y (subst (λ s. Agrees r s (d + m) (then_end i n q).value y) (over-is ∙ is) h) block ∙ ap (λ (x : Bool × ℕ). x.1) value-is;
-        }
-        by false is = record {
-          goes_on = λ no. (inl starts-later, (subst (λ s. Agrees r s (d + m) (then_end i n q).value y) (over-is ∙ is) h).1 ∙ value-is);
-          block_end = λ last block. absurd (on-to is last);
-        }
+    agrees-to m y h = let x = meets-by entry e c i n past t a.is (d + m) y h in record { goes_on = λ no. (inl starts-later, (x.goes_on no).1); block_end = x.block_end }
 
     some-n : 0 < n
     some-n = let l = left-is in omega (arith, l)
@@ -558,7 +775,7 @@ module _ (k : CharClasses) (front old new rest : List ℕ) (r : Run k (front ++ 
             record {
               new_go = go;
               known_now = u.is;
-              shifted = x.sum ∙ from-shifted c past a.is.end mid m (reads.within m go) (e.room c i n past t a.is) h.shifted;
+              shifted = x.sum ∙ from-shifted c past a.is.end mid m b.is.early (room-here entry e c i n past t a.is) h.shifted;
               agrees = agrees-from m (then_end mid m v).value (subst (λ y. MeetsOn es which (e.number (i + n)) (c.start < first.start) m (first_end (i + n) q).value y) (sym x.value) h.meets);
             },
           );
