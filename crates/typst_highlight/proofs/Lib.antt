@@ -4,6 +4,7 @@
 --   rule_of                      RuleTable
 --   tag_here                     Places: the leaf whose tag a hash has
 --   give_tree                    Returning: what is left of the walk; Levels: a name's next leaf, and where nothing is looked for; Outlets: what it gives the nodes to
+--   node_spans                   SpanLists: the walk lists the tags of the tree's nodes
 --   tag_stretches                Outlets: the walk adds the stretches of the tree, which follow one on another
 --   highlight_html: shown        Reading: a reader of the HTML; Escapes: escaped texts; Pages: what is put on a page
 pub mod Bounds
@@ -20,4 +21,5 @@ pub mod Reading
 pub mod Returning
 pub mod Rows
 pub mod RuleTable
+pub mod SpanLists
 pub mod Trees

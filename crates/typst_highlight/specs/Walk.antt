@@ -319,3 +319,12 @@ tagger = record {
   given = λ s text. record s { stretches = s.stretches ++ stretch s.end text s.around; end = saturated (s.end + length text) };
   ended = λ s t. record s { around = t };
 }
+
+-- tags of spans that are listed
+abbrev pub lister : Outlet (List (Option Tag))
+lister = record {
+  begun = λ s t. s ++ t ∷ [];
+  kept = λ s t. None;
+  given = λ s text. s;
+  ended = λ s t. s;
+}

@@ -5,6 +5,7 @@ mod context;
 mod entities;
 mod highlighter;
 mod html;
+mod listed;
 mod page;
 mod progress;
 mod rules;
@@ -16,5 +17,6 @@ mod walk;
 
 pub use highlighter::highlight;
 pub use html::highlight_html;
+pub use listed::node_spans;
 pub use stretches::{Tagged, tag_stretches};
 pub use tags::{Tag, list_law};
