@@ -1,2 +1,3 @@
 mod BoxAlike
+pub mod Columns
 pub mod Refused

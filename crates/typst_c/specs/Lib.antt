@@ -1,2 +1,5 @@
 pub mod Refusals
 pub mod Held
+pub mod Names
+pub mod Positions
+pub mod Trees

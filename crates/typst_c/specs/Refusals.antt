@@ -3,9 +3,12 @@ use Rattle.std.specs.Prelude.{◌≡◌, ℕ, ◌-◌, ◌^◌, ◌≤◌, List,
 use Rattle.std.specs.Str.{IsUtf8, IsCharBoundary, chars}
 use Rattle.std.specs.declared.ops.Range.{Range}
 use Rattle.typst_parser.specs.Grammar.{tree}
+use Rattle.typst_parser.specs.Tree.{Tree, nodes}
 use Rattle.typst_parser.specs.UnicodeTables.{unicode_classes}
 use Rattle.typst_parser.specs.Headline.{edited, file_of, numbered_in}
 use Rattle.typst_parser.specs.Held.{Held}
+use Rattle.typst_c.specs.Positions.{IsByteAt, measure_code}
+use Rattle.typst_c.specs.declared.positions.Measure.{Measure}
 use Rattle.typst_c.specs.declared.refusal.Refusal.{Refusal}
 use Rattle.typst_c.specs.declared.refusal.Refusal.TheVariants as refusal
 
@@ -66,3 +69,39 @@ RefusesReplace s text refusal.BadRange = ⊥
 RefusesReplace s text refusal.BadArgument = ⊥
 RefusesReplace s text refusal.SpanNumbers = numbered_in (file_of s.root) (tree unicode_classes (chars text)) ≡ None
 RefusesReplace s text refusal.TooLarge = IsLarge text
+
+-- why no page of a text is made
+abbrev pub RefusesPage : List ℕ → Refusal → Type 0
+RefusesPage text refusal.NoMemory = Unit {0}
+RefusesPage text refusal.NotUtf8 = IsUtf8 text → ⊥
+RefusesPage text refusal.BadRange = ⊥
+RefusesPage text refusal.BadArgument = ⊥
+RefusesPage text refusal.SpanNumbers = ⊥
+RefusesPage text refusal.TooLarge = IsLarge text
+
+-- why a byte has no position
+abbrev pub RefusesPosition : List ℕ → ℕ → Refusal → Type 0
+RefusesPosition text byte refusal.NoMemory = ⊥
+RefusesPosition text byte refusal.NotUtf8 = ⊥
+RefusesPosition text byte refusal.BadRange = IsCharBoundary text byte → ⊥
+RefusesPosition text byte refusal.BadArgument = ⊥
+RefusesPosition text byte refusal.SpanNumbers = ⊥
+RefusesPosition text byte refusal.TooLarge = ⊥
+
+-- why no byte stands at a column of a line
+abbrev pub RefusesByte : ℕ → List ℕ → ℕ → ℕ → Refusal → Type 0
+RefusesByte code text line column refusal.NoMemory = ⊥
+RefusesByte code text line column refusal.NotUtf8 = ⊥
+RefusesByte code text line column refusal.BadRange = (byte : ℕ) → IsByteAt code text line column byte → ⊥
+RefusesByte code text line column refusal.BadArgument = (m : Measure) → measure_code m ≡ code → ⊥
+RefusesByte code text line column refusal.SpanNumbers = ⊥
+RefusesByte code text line column refusal.TooLarge = ⊥
+
+-- why no records of a tree are told
+abbrev pub RefusesRecords : Tree → Refusal → Type 0
+RefusesRecords root refusal.NoMemory = Unit {0}
+RefusesRecords root refusal.NotUtf8 = ⊥
+RefusesRecords root refusal.BadRange = ⊥
+RefusesRecords root refusal.BadArgument = ⊥
+RefusesRecords root refusal.SpanNumbers = ⊥
+RefusesRecords root refusal.TooLarge = 2 ^ 64 - 1 ≤ nodes root

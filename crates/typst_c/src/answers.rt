@@ -1,9 +1,10 @@
 //! What is told of trees and texts.
 
-ghost use Rattle.std.specs.Prelude.{◌≡◌, ◌-◌, ◌^◌, ◌<◌, IfOk, OnOk, length};
+ghost use Rattle.std.specs.Prelude.{◌≡◌, ◌-◌, ◌^◌, ◌<◌, IfErr, IfOk, OnOk, length};
 ghost use Rattle.typst_parser.specs.Tree.{nodes, saturated, text_of};
 ghost use Rattle.typst_flat.specs.Records.{filled, records, records_in};
 ghost use Rattle.typst_flat.specs.Said.{all_said, messages, remarks};
+ghost use Rattle.typst_c.specs.Refusals.{RefusesRecords};
 
 use crate::refusal::{Refusal, no_memory};
 use std::alloc::Global;
@@ -22,7 +23,8 @@ pub struct Sizes {
 
 /// Whether the nodes of a tree can be counted.
 fn counted(root: &SyntaxNode) -> Result<(), Refusal>
-    ensures { OnOk result (nodes root.now < 2 ^ 64 - 1) }
+    ensures few { OnOk result (nodes root.now < 2 ^ 64 - 1) }
+    ensures refused { IfErr result (λ refusal. RefusesRecords root.now refusal) }
 {
     if root.descendants() == usize::MAX {
         return Err(Refusal::TooLarge);
@@ -34,6 +36,7 @@ fn counted(root: &SyntaxNode) -> Result<(), Refusal>
 pub fn put_nodes(alloc: Global, root: &SyntaxNode, room: &mut [Node]) -> Result<usize, Refusal>
     ensures count { IfOk result (λ count. count ≡ nodes root.now) }
     ensures room { OnOk result (room.new ≡ filled (records root.now) room.old) }
+    ensures refused { IfErr result (λ refusal. RefusesRecords root.now refusal) }
 {
     counted(root)?;
     let count = fill_nodes(alloc, root, room).map_err(no_memory)?;
@@ -49,6 +52,7 @@ pub fn put_nodes_in(
 ) -> Result<usize, Refusal>
     ensures count { IfOk result (λ count. count ≡ length (records_in stretch root.now)) }
     ensures room { OnOk result (room.new ≡ filled (records_in stretch root.now) room.old) }
+    ensures refused { IfErr result (λ refusal. RefusesRecords root.now refusal) }
 {
     counted(root)?;
     let count = fill_nodes_in(alloc, root, stretch, room).map_err(no_memory)?;
@@ -67,6 +71,7 @@ pub fn put_remarks(
     ensures bytes { IfOk result (λ said. said.messages ≡ saturated (length (messages root.now))) }
     ensures remarks { OnOk result (room.new ≡ filled (remarks root.now) room.old) }
     ensures messages { OnOk result (text.new ≡ filled (messages root.now) text.old) }
+    ensures refused { IfErr result (λ refusal. RefusesRecords root.now refusal) }
 {
     counted(root)?;
     let said = fill_remarks(alloc, root, room, text).map_err(no_memory)?;
@@ -79,6 +84,7 @@ pub fn sizes_of(alloc: Global, root: &SyntaxNode) -> Result<Sizes, Refusal>
     ensures nodes { IfOk result (λ sizes. sizes.nodes ≡ nodes root.now) }
     ensures remarks { IfOk result (λ sizes. sizes.remarks ≡ saturated (length (all_said root.now))) }
     ensures messages { IfOk result (λ sizes. sizes.messages ≡ saturated (length (messages root.now))) }
+    ensures refused { IfErr result (λ refusal. RefusesRecords root.now refusal) }
 {
     let said = put_remarks(alloc, root, &mut [], &mut [])?;
     Ok(Sizes {

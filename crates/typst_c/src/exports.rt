@@ -3,21 +3,38 @@
 //! C passes a source as the pointer that it was given, and keeps it: each call but `typst_source_free` takes the
 //! source out of its handle and gives it back. No two calls have the same source at a time.
 
-ghost use Rattle.std.specs.Prelude.{◌≡◌, MatchResult, length};
-ghost use Rattle.typst_parser.specs.Tree.{nodes};
+ghost use Rattle.std.specs.Prelude.{◌≡◌, ◌^◌, ◌-◌, ◌<◌, ◌≤◌, ◌↔◌, [], MatchResult, Some, length, ℕ};
+ghost use Rattle.std.specs.Str.{IsCharBoundary, chars};
+ghost use Rattle.typst_kinds.specs.Members.{place_of};
+ghost use Rattle.typst_kinds.specs.Names.{name_of};
+ghost use Rattle.typst_kinds.specs.declared.kind.SyntaxKind.{SyntaxKind};
+ghost use Rattle.typst_highlight.specs.Tags.{class_of};
+ghost use Rattle.typst_highlight.specs.declared.tags.Tag.{Tag};
+ghost use Rattle.typst_parser.specs.Grammar.{tree};
+ghost use Rattle.typst_parser.specs.Html.{html_of};
+ghost use Rattle.typst_parser.specs.Tree.{Tree, nodes, saturated, text_of};
+ghost use Rattle.typst_parser.specs.UnicodeTables.{unicode_classes};
+ghost use Rattle.typst_flat.specs.Codes.{tag_code};
 ghost use Rattle.typst_flat.specs.Records.{filled, records, records_in};
-ghost use Rattle.typst_c.specs.Refusals.{RefusesText, RefusesEdit, RefusesReplace};
+ghost use Rattle.typst_flat.specs.Said as flat;
+ghost use Rattle.typst_c.specs.Names.{IsPut};
+ghost use Rattle.typst_c.specs.Positions.{IsByteAt, position_of};
+ghost use Rattle.typst_c.specs.Refusals.{RefusesByte, RefusesEdit, RefusesPage, RefusesPosition, RefusesRecords, RefusesReplace, RefusesText};
 ghost use Rattle.typst_c.specs.Refusals as spec;
+ghost use Rattle.typst_c.specs.Trees.{IsTold, range_with, tree_as};
 ghost use Rattle.typst_c.specs.declared.refusal.Refusal.{Refusal};
 
 use crate::answers::{Sizes, put_nodes, put_nodes_in, put_remarks, sizes_of};
 use crate::handle::Handle;
 use crate::kept::Kept;
+use crate::names::{number_of_kind, put_kind, put_tag};
+use crate::opened::Opened;
+use crate::positions::{Position, byte_at, position_of};
 use crate::refusal::{OK, Refusal, code_of};
-use crate::work::{copy, edit, make, parse_as, replace};
+use crate::work::{copy, edit, make, page, parse_as, range_with, replace};
 use std::alloc::Global;
 use std::ops::Range;
-use typst_flat::{Node, Remark, Said, Stretch, fill_text};
+use typst_flat::{Node, Remark, Said, Stretch, fill_text, kind_count};
 
 /// The version of what this file exports, and of the records.
 #[unsafe(no_mangle)]
@@ -25,6 +42,43 @@ pub extern "C" fn typst_abi_version() -> u32
     ensures { result ≡ 1 }
 {
     1
+}
+
+/// How many kinds of nodes there are. The numbers below are theirs.
+#[unsafe(no_mangle)]
+pub extern "C" fn typst_kind_count() -> usize
+    ensures { (code : ℕ) → (code < result) ↔ ((kind : SyntaxKind) × (place_of kind ≡ code)) }
+{
+    kind_count()
+}
+
+/// Puts the name of a kind into an array, as many bytes as fit, and answers how many there are: none where
+/// there is no such kind.
+#[unsafe(no_mangle)]
+pub extern "C" fn typst_kind_name(code: u32, room: &mut [u8]) -> usize
+    ensures named { (kind : SyntaxKind) → place_of kind ≡ code → IsPut (name_of kind) result room.old room.new }
+    ensures none { ((kind : SyntaxKind) → place_of kind ≡ code → ⊥) → IsPut [] result room.old room.new }
+{
+    put_kind(code, room)
+}
+
+/// The number of the kind of a name, and the largest `u32` where there is none.
+#[unsafe(no_mangle)]
+pub extern "C" fn typst_kind_of(name: &[u8]) -> u32
+    ensures named { result < 2 ^ 32 - 1 → ((kind : SyntaxKind) × ((place_of kind ≡ result) × (name_of kind ≡ name.now))) }
+    ensures none { 2 ^ 32 - 1 ≤ result → (kind : SyntaxKind) → name_of kind ≡ name.now → ⊥ }
+{
+    number_of_kind(name)
+}
+
+/// Puts the class in HTML of a tag into an array, as many bytes as fit, and answers how many there are: none
+/// where there is no such tag.
+#[unsafe(no_mangle)]
+pub extern "C" fn typst_tag_name(code: u32, room: &mut [u8]) -> usize
+    ensures named { (tag : Tag) → tag_code (Some tag) ≡ code → IsPut (class_of tag) result room.old room.new }
+    ensures none { ((tag : Tag) → tag_code (Some tag) ≡ code → ⊥) → IsPut [] result room.old room.new }
+{
+    put_tag(code, room)
 }
 
 /// Parses a text as markup (0), code (1) or a formula (2), puts the records of its nodes into an array, as many
@@ -36,9 +90,32 @@ pub extern "C" fn typst_parse(
     text: &[u8],
     room: &mut [Node],
     count: &mut usize,
-) -> u32 {
+) -> u32
+    ensures count { result ≡ 0 → (root : Tree) → tree_as mode text.now ≡ Some root → count.new ≡ nodes root }
+    ensures room { result ≡ 0 → (root : Tree) → tree_as mode text.now ≡ Some root → room.new ≡ filled (records root) room.old }
+{
     match parse_as(alloc, mode, text) {
         Ok(root) => counted(put_nodes(alloc, &root, room), count),
+        Err(refusal) => code_of(refusal),
+    }
+}
+
+/// Puts a text of markup as HTML into an array, as many bytes as fit, and tells how many there are.
+#[unsafe(no_mangle)]
+pub extern "C" fn typst_highlight_html(
+    alloc: Global,
+    text: &[u8],
+    room: &mut [u8],
+    count: &mut usize,
+) -> u32
+    ensures page { result ≡ 0 → IsPut (html_of (tree unicode_classes (chars text.now))) count.new room.old room.new }
+    ensures refused { (refusal : Refusal) → result ≡ spec.code_of refusal → RefusesPage text.now refusal }
+{
+    match page(alloc, text) {
+        Ok(page) => {
+            *count = fill_text(page.as_str(), room);
+            OK
+        }
         Err(refusal) => code_of(refusal),
     }
 }
@@ -67,10 +144,12 @@ pub extern "C" fn typst_source_free(source: Handle) {
 
 /// Gives out a copy of a source.
 #[unsafe(no_mangle)]
-pub extern "C" fn typst_source_clone(alloc: Global, source: Handle, copied: &mut *mut u8) -> u32 {
+pub extern "C" fn typst_source_clone(alloc: Global, source: Handle, copied: &mut *mut u8) -> u32
+    ensures { (refusal : Refusal) → result ≡ spec.code_of refusal → refusal ≡ spec.no_memory }
+{
     let kept = source.take();
     let answer = copy(&kept);
-    let _ = Handle::give(kept);
+    let _ = Handle::give(Opened::open(kept));
     match answer {
         Ok(kept) => give(alloc, kept, copied),
         Err(refusal) => code_of(refusal),
@@ -90,7 +169,7 @@ pub extern "C" fn typst_source_edit(
 {
     let mut kept = source.take();
     let answer = edit(&mut kept.source, start..end, with);
-    let _ = Handle::give(kept);
+    let _ = Handle::give(Opened::open(kept));
     read_anew(answer, changed)
 }
 
@@ -101,16 +180,22 @@ pub extern "C" fn typst_source_replace(source: Handle, text: &[u8], changed: &mu
 {
     let mut kept = source.take();
     let answer = replace(&mut kept.source, text);
-    let _ = Handle::give(kept);
+    let _ = Handle::give(Opened::open(kept));
     read_anew(answer, changed)
 }
 
 /// Tells how much room the records of a source take.
 #[unsafe(no_mangle)]
-pub extern "C" fn typst_source_sizes(alloc: Global, source: Handle, room: &mut Sizes) -> u32 {
+pub extern "C" fn typst_source_sizes(alloc: Global, source: Handle, room: &mut Sizes) -> u32
+    ensures text { result ≡ 0 → room.new.text ≡ saturated (length (text_of source.home.source.root)) }
+    ensures nodes { result ≡ 0 → room.new.nodes ≡ nodes source.home.source.root }
+    ensures remarks { result ≡ 0 → room.new.remarks ≡ saturated (length (flat.all_said source.home.source.root)) }
+    ensures messages { result ≡ 0 → room.new.messages ≡ saturated (length (flat.messages source.home.source.root)) }
+    ensures refused { (refusal : Refusal) → result ≡ spec.code_of refusal → RefusesRecords source.home.source.root refusal }
+{
     let kept = source.take();
     let answer = sizes_of(alloc, kept.source.root());
-    let _ = Handle::give(kept);
+    let _ = Handle::give(Opened::open(kept));
     sized(answer, room)
 }
 
@@ -122,7 +207,7 @@ pub extern "C" fn typst_source_text(source: Handle, room: &mut [u8]) -> usize
 {
     let kept = source.take();
     let count = fill_text(kept.source.text(), room);
-    let _ = Handle::give(kept);
+    let _ = Handle::give(Opened::open(kept));
     count
 }
 
@@ -136,10 +221,11 @@ pub extern "C" fn typst_source_nodes(
 ) -> u32
     ensures count { result ≡ 0 → count.new ≡ nodes source.home.source.root }
     ensures room { result ≡ 0 → room.new ≡ filled (records source.home.source.root) room.old }
+    ensures refused { (refusal : Refusal) → result ≡ spec.code_of refusal → RefusesRecords source.home.source.root refusal }
 {
     let kept = source.take();
     let answer = put_nodes(alloc, kept.source.root(), room);
-    let _ = Handle::give(kept);
+    let _ = Handle::give(Opened::open(kept));
     counted(answer, count)
 }
 
@@ -155,10 +241,11 @@ pub extern "C" fn typst_source_nodes_in(
 ) -> u32
     ensures count { result ≡ 0 → count.new ≡ length (records_in (record { start = start; end = end }) source.home.source.root) }
     ensures room { result ≡ 0 → room.new ≡ filled (records_in (record { start = start; end = end }) source.home.source.root) room.old }
+    ensures refused { (refusal : Refusal) → result ≡ spec.code_of refusal → RefusesRecords source.home.source.root refusal }
 {
     let kept = source.take();
     let answer = put_nodes_in(alloc, kept.source.root(), Stretch { start, end }, room);
-    let _ = Handle::give(kept);
+    let _ = Handle::give(Opened::open(kept));
     counted(answer, count)
 }
 
@@ -171,11 +258,66 @@ pub extern "C" fn typst_source_remarks(
     room: &mut [Remark],
     messages: &mut [u8],
     count: &mut Said,
-) -> u32 {
+) -> u32
+    ensures count { result ≡ 0 → count.new.remarks ≡ saturated (length (flat.all_said source.home.source.root)) }
+    ensures bytes { result ≡ 0 → count.new.messages ≡ saturated (length (flat.messages source.home.source.root)) }
+    ensures room { result ≡ 0 → room.new ≡ filled (flat.remarks source.home.source.root) room.old }
+    ensures messages { result ≡ 0 → messages.new ≡ filled (flat.messages source.home.source.root) messages.old }
+    ensures refused { (refusal : Refusal) → result ≡ spec.code_of refusal → RefusesRecords source.home.source.root refusal }
+{
     let kept = source.take();
     let answer = put_remarks(alloc, kept.source.root(), room, messages);
-    let _ = Handle::give(kept);
+    let _ = Handle::give(Opened::open(kept));
     told(answer, count)
+}
+
+/// Tells the bytes of the first node with a span, which is given as a record gives it, and whether there is one.
+#[unsafe(no_mangle)]
+pub extern "C" fn typst_source_range(
+    source: Handle,
+    span: u64,
+    found: &mut u8,
+    range: &mut Stretch,
+) -> u32
+    ensures code { result ≡ 0 }
+    ensures range { IsTold (range_with source.home.source span) found.new range.old range.new }
+{
+    let kept = source.take();
+    let answer = range_with(&kept.source, span);
+    let _ = Handle::give(Opened::open(kept));
+    *found = tell(answer, range);
+    OK
+}
+
+/// Tells the line and the columns of a byte.
+#[unsafe(no_mangle)]
+pub extern "C" fn typst_source_position(source: Handle, byte: usize, position: &mut Position) -> u32
+    ensures position { result ≡ 0 → position.new ≡ position_of source.home.source.text byte }
+    ensures boundary { result ≡ 0 → IsCharBoundary source.home.source.text byte }
+    ensures refused { (refusal : Refusal) → result ≡ spec.code_of refusal → RefusesPosition source.home.source.text byte refusal }
+{
+    let kept = source.take();
+    let answer = position_of(kept.source.lines(), byte);
+    let _ = Handle::give(Opened::open(kept));
+    placed(answer, position)
+}
+
+/// Tells the byte at a column of a line, which is counted in characters (0), UTF-16 units (1) or bytes (2).
+#[unsafe(no_mangle)]
+pub extern "C" fn typst_source_byte(
+    source: Handle,
+    line: usize,
+    column: usize,
+    unit: u32,
+    byte: &mut usize,
+) -> u32
+    ensures byte { result ≡ 0 → IsByteAt unit source.home.source.text line column byte.new }
+    ensures refused { (refusal : Refusal) → result ≡ spec.code_of refusal → RefusesByte unit source.home.source.text line column refusal }
+{
+    let kept = source.take();
+    let answer = byte_at(kept.source.lines(), line, column, unit);
+    let _ = Handle::give(Opened::open(kept));
+    counted(answer, byte)
 }
 
 /// Gives a source to C, which only want of memory refuses.
@@ -184,7 +326,7 @@ fn give(alloc: Global, kept: Kept, source: &mut *mut u8) -> u32
 {
     match Box::new(alloc, kept) {
         Ok(boxed) => {
-            *source = Handle::give(boxed);
+            *source = Handle::give(Opened::open(boxed));
             OK
         }
         Err(_) => code_of(Refusal::NoMemory),
@@ -243,5 +385,34 @@ fn read_anew(answer: Result<Range<usize>, Refusal>, room: &mut Stretch) -> u32
             OK
         }
         Err(refusal) => code_of(refusal),
+    }
+}
+
+/// The same of a position.
+fn placed(answer: Result<Position, Refusal>, room: &mut Position) -> u32
+    ensures { MatchResult answer (λ position. (result ≡ 0) × (room.new ≡ position)) (λ refusal. (result ≡ spec.code_of refusal) × (room.new ≡ room.old)) }
+{
+    match answer {
+        Ok(position) => {
+            *room = position;
+            OK
+        }
+        Err(refusal) => code_of(refusal),
+    }
+}
+
+/// Writes a range where C wants it, if there is one, and tells whether there is.
+fn tell(answer: Option<Range<usize>>, room: &mut Stretch) -> u8
+    ensures { IsTold answer result room.old room.new }
+{
+    match answer {
+        Some(range) => {
+            *room = Stretch {
+                start: range.start,
+                end: range.end,
+            };
+            1
+        }
+        None => 0,
     }
 }

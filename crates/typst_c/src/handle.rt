@@ -1,6 +1,7 @@
 //! What C holds of a source: a pointer, which owns it.
 
 ghost use Rattle.std.specs.Prelude.{◌≡◌};
+ghost use types.Logic.{sem};
 ghost use Rattle.typst_c.specs.declared.kept.Kept.{Kept};
 ghost use Rattle.typst_c.specs.Held.{handle_owns, kept_code};
 
@@ -22,9 +23,12 @@ impl Model for Handle {
 }
 
 impl Handle {
-    /// Gives a source to C: what the box owns is C's from here on.
-    pub fn give(kept: Box<Kept, Global>) -> *mut u8 {
-        Handle::pointer(Opened::open(kept))
+    /// Gives a source to C: what the parts own is owned through the pointer from here on.
+    pub fn give(opened: Opened<Kept, Global>) -> *mut u8
+        ensures* { sem 𝓛 (handle_owns opened.alloc result opened.value) }
+    {
+        let Opened { at, alloc: _ } = opened;
+        at as *mut u8
     }
 
     /// Takes it back.
@@ -32,14 +36,6 @@ impl Handle {
         ensures { result.value ≡ self.home }
     {
         self.open().shut()
-    }
-
-    /// The pointer alone.
-    fn pointer(opened: Opened<Kept, Global>) -> *mut u8
-        ensures { result ≡ opened.at }
-    {
-        let Opened { at, alloc: _ } = opened;
-        at as *mut u8
     }
 
     /// The pointer as one to a source.

@@ -1,20 +1,24 @@
 //! What is done with sources.
 
-ghost use Rattle.std.specs.Prelude.{◌≡◌, ◌^◌, ◌-◌, ◌<◌, ◌≤◌, IfErr, IfOk, IsTrue, ◌↔◌, OnErr, OnOk, length, true};
+ghost use Rattle.std.specs.Prelude.{◌≡◌, ◌^◌, ◌-◌, ◌<◌, ◌≤◌, IfErr, IfOk, IsTrue, ◌↔◌, OnErr, OnOk, length, string_bytes, true, Some};
 ghost use Rattle.typst_parser.specs.UnicodeTables.{unicode_classes};
 ghost use Rattle.typst_parser.specs.Headline.{Headline, edited};
 ghost use Rattle.std.specs.Str.{chars};
 ghost use Rattle.typst_parser.specs.Grammar.{tree};
 ghost use Rattle.typst_parser.specs.Answers.{Answers, AnswersText};
 ghost use Rattle.typst_c.specs.Refusals as spec;
-ghost use Rattle.typst_c.specs.Refusals.{IsRange, RefusesBytes, RefusesEdit, RefusesReplace, RefusesText};
+ghost use Rattle.typst_c.specs.Refusals.{IsRange, RefusesBytes, RefusesEdit, RefusesPage, RefusesReplace, RefusesText};
+ghost use Rattle.typst_c.specs.Trees.{range_with, tree_as};
+ghost use Rattle.typst_parser.specs.Html.{html_of};
 
 use crate::kept::Kept;
 use crate::refusal::{Refusal, no_memory};
 use std::alloc::Global;
 use std::ops::Range;
+use typst_flat::span_of;
 use typst_parser::{
-    FileId, Source, SourceError, SyntaxNode, UnicodeClasses, parse, parse_code, parse_math,
+    FileId, Source, SourceError, SyntaxNode, UnicodeClasses, highlight_html, parse, parse_code,
+    parse_math,
 };
 
 /// How many bytes a text may not have: as many as a record can count.
@@ -131,7 +135,7 @@ pub fn copy(kept: &Kept) -> Result<Kept, Refusal>
 
 /// The tree of a text that is read as markup (0), code (1) or a formula (2).
 pub fn parse_as(alloc: Global, mode: u32, text: &[u8]) -> Result<SyntaxNode, Refusal>
-    ensures markup { IfOk result (λ root. mode ≡ 0 → root ≡ tree unicode_classes (chars text.now)) }
+    ensures { IfOk result (λ root. tree_as mode text.now ≡ Some root) }
 {
     let text = read(text)?;
     let made = match mode {
@@ -141,4 +145,27 @@ pub fn parse_as(alloc: Global, mode: u32, text: &[u8]) -> Result<SyntaxNode, Ref
         _ => return Err(Refusal::BadArgument),
     };
     made.map_err(no_memory)
+}
+
+/// A text of markup as HTML.
+pub fn page(alloc: Global, text: &[u8]) -> Result<String, Refusal>
+    ensures page { IfOk result (λ page. string_bytes page ≡ html_of (tree unicode_classes (chars text.now))) }
+    ensures refused { IfErr result (λ refusal. RefusesPage text.now refusal) }
+{
+    let text = read(text)?;
+    let Ok(root) = parse(alloc, text, &UnicodeClasses) else {
+        return Err(Refusal::NoMemory);
+    };
+    match highlight_html(alloc, &root) {
+        Ok(page) => Ok(page),
+        Err(_) => Err(Refusal::NoMemory),
+    }
+}
+
+/// The bytes of the first node with a span, which is packed in one number.
+pub fn range_with(source: &Source<UnicodeClasses>, span: u64) -> Option<Range<usize>>
+    ensures { result ≡ range_with source.now span }
+{
+    let node = source.find(span_of(span))?;
+    Some(node.range())
 }

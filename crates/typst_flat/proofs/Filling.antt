@@ -18,6 +18,12 @@ filled_full [] (y ∷ old) x h = absurd (omega (arith, h))
 filled_full (z ∷ xs) [] x h = refl
 filled_full (z ∷ xs) (y ∷ old) x h = ap (λ ys. z ∷ ys) (filled_full xs old x (omega (arith, h)))
 
+-- an array without room
+pub filled_none : {A : Type 0} (xs old : List A) → length old ≡ 0 → old ≡ filled xs old
+filled_none [] old e = refl
+filled_none (z ∷ xs) [] e = refl
+filled_none (z ∷ xs) (y ∷ old) e = absurd (omega (arith, e))
+
 pub length_filled : {A : Type 0} (xs old : List A) → length (filled xs old) ≡ length old
 length_filled [] old = refl
 length_filled (z ∷ xs) [] = refl

@@ -4,8 +4,12 @@
 --   the array                        Filling: filled_more, filled_full
 --   all nodes                        Whole
 --   remarks                          Sayings
+--   Tags::tag                        Tagged: listed, own_tag
+--   kinds and tags by numbers        Numbered
 pub mod Filling
+pub mod Numbered
 pub mod Passed
 pub mod Sayings
 pub mod Steps
+pub mod Tagged
 pub mod Whole

@@ -11,7 +11,8 @@ use Rattle.typst_tree.specs.Steps.{at, node_of, start_of, offset_of, end_of}
 use Rattle.typst_tree.proofs.WalksInPreorder.{texts_append, texts_places}
 use Rattle.typst_highlight.specs.Walk.{tree_of}
 use Rattle.typst_highlight.proofs.Rows.{Stand, here, starts, below, behind}
-use Rattle.typst_flat.specs.Records.{numbers_from, meets}
+use Rattle.typst_highlight.specs.Spans.{numbers_from}
+use Rattle.typst_flat.specs.Records.{meets}
 use Rattle.typst_flat.specs.declared.records.Stretch.{Stretch}
 
 -- the node at j lies within the bytes a up to b

@@ -1,18 +1,20 @@
 -- The steps of a walk.
-use Rattle.std.proofs.Common.{◌≡◌, ℕ, ◌+◌, ◌-◌, ◌^◌, ◌<◌, ◌≤◌, true, false, List, [], ◌∷◌, ◌++◌, length, map, Option, None, Some, refl, ap, sym, subst, ◌∙◌, arith, length-append}
-use Rattle.std.specs.Prelude.{reverse}
+use Rattle.std.proofs.Common.{◌≡◌, ℕ, zero, suc, ◌+◌, ◌-◌, ◌^◌, ◌<◌, ◌≤◌, true, false, List, [], ◌∷◌, ◌++◌, length, take, map, Option, None, Some, refl, ap, sym, subst, ◌∙◌, arith, get_or, set, length-append}
+use Rattle.std.specs.Prelude.{nat_le, reverse}
+use Rattle.std.proofs.lemmas.Bool.Decides.{nat_tests}
 use Rattle.std.proofs.lemmas.List.{reverse-append}
 use Rattle.std.specs.List.{filter}
 use Rattle.std.specs.Option.{option_map}
 use Rattle.typst_kinds.specs.Head.{Head}
 use Rattle.typst_tree.specs.Tree.{Forest, none, more, Tree, count, nodes, places, preorder, saturated}
-use Rattle.typst_tree.specs.Walks.{numbers}
-use Rattle.typst_tree.specs.Steps.{At, at, node_of, parent, children}
+use Rattle.typst_tree.specs.Walks.{numbers, texts}
+use Rattle.typst_tree.specs.Steps.{At, at, node_of, offset_of, parent, children}
 use Rattle.typst_tree.specs.Linked.{left}
 use Rattle.typst_tree.proofs.WalksInPreorder.{length_places, length_preorder}
 use Rattle.typst_highlight.specs.Walk.{tree_of}
 use Rattle.typst_highlight.proofs.Rows.{Stand, here, below, behind, alone, parent_here}
-use Rattle.typst_flat.specs.Records.{numbers_from, number_if, meets}
+use Rattle.typst_highlight.specs.Spans.{numbers_from}
+use Rattle.typst_flat.specs.Records.{number_if, meets}
 use Rattle.typst_flat.specs.Walk.{RowStands, IsReady, IsAt, up_number}
 use Rattle.typst_flat.specs.declared.records.Stretch.{Stretch}
 use Rattle.typst_flat.specs.declared.walk.Row.{Row}
@@ -125,6 +127,32 @@ came s root n above ws c e =
     let whole : nodes root - n ≡ 1 + (nodes root - (n + 1)) = omega (arith, most, size) in
     ap (λ k. filter (meets s) (map (at root) (numbers_from n k))) whole ∙ come_to s root n (nodes root - (n + 1)) e
 
+-- what is before a number is no longer than what is before a later one
+before_more : (n m : ℕ) (xs : List Tree) → n ≤ m → length (texts (take n xs)) ≤ length (texts (take m xs))
+before_more zero m xs h = omega arith
+before_more (suc n) zero xs h = absurd (omega (arith, h))
+before_more (suc n) (suc m) [] h = omega arith
+before_more (suc n) (suc m) (x ∷ xs) h =
+    omega (arith, before_more n m xs (omega (arith, h)), length-append x.head.text (texts (take n xs)), length-append x.head.text (texts (take m xs)))
+
+behind_end : (s : Stretch) (a : At) → s.end < offset_of a → meets s a ≡ false
+behind_end s a h = let fails : nat_le (offset_of a) s.end ≡ false = grind (arith, nat_tests, h) in rw fails refl
+
+-- from a node on that begins behind the stretch, none meets it
+pub beyond : (s : Stretch) (root : Tree) (n : ℕ) → s.end < offset_of (at root n) → ahead_from s root n ≡ []
+beyond s root n h =
+    let many : ℕ = nodes root - n in
+    let all : many ≡ many + 0 = omega arith in
+    ap (λ k. filter (meets s) (map (at root) (numbers_from n k))) all
+    ∙ passed_over s root n many 0 (λ j l m. behind_end s (at root j) (omega (arith, h, before_more n j (places root) l)))
+
+-- a node without children is passed
+pub entered_leaf : (root : Tree) (n above d : ℕ) (ws : List Row) (t : Tree) (a : At) → IsAt root n above ws → t ≡ node_of a → a ≡ at root n → d ≡ saturated (nodes t) → d ≤ 1 → IsReady root (n + 1) ws
+entered_leaf root n above d ws t a c e f g l =
+    let same : nodes t ≡ nodes (node_of (at root n)) = ap nodes (e ∙ ap node_of f) in
+    let one : n + nodes (node_of (at root n)) ≡ n + 1 = omega (arith, same, g, l, size_here root n above ws c) in
+    subst (λ m. IsReady root m ws) one c.ready
+
 -- behind the last number is nothing
 pub ended : (s : Stretch) (root : Tree) (n : ℕ) → n ≡ nodes root → ahead_from s root n ≡ []
 ended s root n e =
@@ -146,6 +174,20 @@ taken_row root n old new pushed w v child ready e f g h =
 pub entered_row : (root : Tree) (n above : ℕ) (old pushed : List Row) (w : Row) (a : At) → IsAt root n above (reverse old) → a ≡ at root n → left w.nodes ≡ children a → w.parent ≡ n → pushed ≡ old ++ w ∷ [] → IsReady root (n + 1) (reverse pushed)
 entered_row root n above old pushed w a c e f g h =
     subst (IsReady root (n + 1)) (sym (ap reverse h ∙ reverse-append old (w ∷ []))) (entered root n above w (reverse old) a c e f g)
+
+-- the last of some rows
+pub last_row : (rs : List Row) (n : ℕ) (w : Row) → length rs ≡ n + 1 → w ≡ get_or rs n w → rs ≡ take n rs ++ w ∷ []
+last_row [] n w e f = absurd (omega (arith, e))
+last_row (r ∷ []) zero w e f = ap (λ x. x ∷ []) (sym f)
+last_row (r ∷ s ∷ rs) zero w e f = absurd (omega (arith, e))
+last_row (r ∷ rs) (suc n) w e f = ap (λ xs. r ∷ xs) (last_row rs n w (omega (arith, e)) f)
+
+-- another one in its place
+pub set_last : (rs : List Row) (n : ℕ) (v : Row) → length rs ≡ n + 1 → set rs n v ≡ take n rs ++ v ∷ []
+set_last [] n v e = absurd (omega (arith, e))
+set_last (r ∷ []) zero v e = refl
+set_last (r ∷ s ∷ rs) zero v e = absurd (omega (arith, e))
+set_last (r ∷ rs) (suc n) v e = ap (λ xs. r ∷ xs) (set_last rs n v (omega (arith, e)))
 
 -- how many nodes the node at hand says that it has
 pub size_told : (root : Tree) (n above d : ℕ) (ws : List Row) (t : Tree) (a : At) → IsAt root n above ws → t ≡ node_of a → a ≡ at root n → d ≡ saturated (nodes t) → nodes root < 2 ^ 64 - 1 → d ≡ nodes (node_of (at root n))

@@ -5,7 +5,8 @@ use Rattle.std.specs.List.{filter}
 use Rattle.std.proofs.lemmas.Bool.Decides.{nat_tests}
 use Rattle.typst_tree.specs.Tree.{Tree, nodes}
 use Rattle.typst_tree.specs.Steps.{At, at, offset_of, end_of}
-use Rattle.typst_flat.specs.Records.{numbers_from, all_of, meets, met_in, node_record, records, records_in}
+use Rattle.typst_highlight.specs.Spans.{numbers_from}
+use Rattle.typst_flat.specs.Records.{all_of, meets, met_in, node_record, records, records_in}
 use Rattle.typst_flat.specs.declared.records.Stretch.{Stretch}
 use Rattle.typst_flat.proofs.Filling.{length_mapped}
 
@@ -52,3 +53,15 @@ fewer p (x ∷ xs) =
 -- no more nodes meet a stretch than there are
 pub met_most : (s : Stretch) (root : Tree) → length (met_in s root) ≤ nodes root
 met_most s root = omega (arith, fewer (meets s) (all_of root), length_all root)
+
+kept_case : {P : Type 0} (b : Bool) (a x : At) (rest ys : List At) → cond b (a ∷ rest) rest ≡ x ∷ ys → (a ≡ x → P) → (rest ≡ x ∷ ys → P) → P
+kept_case true a x rest ys e f g = f (cc)
+kept_case false a x rest ys e f g = g e
+
+-- what a walk comes to first is a node of the tree
+pub first_root : (p : At → Bool) (root : Tree) (ns : List ℕ) (x : At) (ys : List At) → filter p (map (at root) ns) ≡ x ∷ ys → x.root ≡ root
+first_root p root [] x ys e = absurd (cc)
+first_root p root (n ∷ ns) x ys e =
+    kept_case (p (at root n)) (at root n) x (filter p (map (at root) ns)) ys e
+    (λ same. ap (λ (a : At). a.root) (sym same))
+    (λ f. first_root p root ns x ys f)

@@ -1,7 +1,8 @@
 -- Kinds, tags and flags as numbers.
-use Rattle.std.specs.Prelude.{ℕ, ◌+◌, ◌-◌, ◌^◌, ◌==◌, Option, None, Some, min, length, if◌then◌else◌}
+use Rattle.std.specs.Prelude.{ℕ, ◌+◌, ◌-◌, ◌/◌, ◌%◌, ◌^◌, ◌==◌, nat_le, nat_lt, ◌&&◌, Option, None, Some, min, length, if◌then◌else◌}
 use Rattle.typst_kinds.specs.Kinds.{is_error}
 use Rattle.typst_kinds.specs.Head.{Head}
+use Rattle.typst_kinds.specs.Span.{SpanValue}
 use Rattle.typst_highlight.specs.declared.tags.Tag.{Tag}
 use Rattle.typst_highlight.specs.declared.tags.Tag.TheVariants as tag
 
@@ -38,3 +39,8 @@ tag_code (Some tag.Error) = 22
 -- 1 for an inner node, 2 for an error, and 4 for a node with diagnostics
 abbrev pub flags_of : Head → ℕ
 flags_of h = (if h.is_inner then 1 else 0) + (if is_error h.kind then 2 else 0) + (if length h.diagnostics == 0 then 0 else 4)
+
+-- the span whose file and number are packed in one number; none where no node can have them
+abbrev pub span_of : ℕ → SpanValue
+span_of bits =
+    if nat_le 1 (bits / 2 ^ 48) && (nat_le 2 (bits % 2 ^ 48) && nat_lt (bits % 2 ^ 48) (2 ^ 47)) then Some (bits / 2 ^ 48, bits % 2 ^ 48) else None

@@ -1,4 +1,5 @@
 pub mod Codes
 pub mod Records
+pub mod Tags
 pub mod Walk
 pub mod Said

@@ -1,19 +1,15 @@
 -- The records of a tree's nodes.
-use Rattle.std.specs.Prelude.{ℕ, zero, suc, ◌+◌, Bool, ◌&&◌, nat_le, List, [], ◌∷◌, map, Option, None, Some}
+use Rattle.std.specs.Prelude.{ℕ, Bool, ◌&&◌, nat_le, List, [], ◌∷◌, map, Option, None, Some}
 use Rattle.std.specs.List.{filter}
 use Rattle.typst_kinds.specs.Members.{place_of}
 use Rattle.typst_kinds.specs.Span.{packed}
 use Rattle.typst_tree.specs.Tree.{Tree, nodes}
 use Rattle.typst_tree.specs.Steps.{At, at, node_of, offset_of, end_of, parent}
 use Rattle.typst_highlight.specs.Nodes.{tag_of}
+use Rattle.typst_highlight.specs.Spans.{numbers_from}
 use Rattle.typst_flat.specs.Codes.{cut, tag_code, flags_of}
 use Rattle.typst_flat.specs.declared.records.Node.{Node}
 use Rattle.typst_flat.specs.declared.records.Stretch.{Stretch}
-
--- so many numbers from n on
-abbrev pub numbers_from : ℕ → ℕ → List ℕ
-numbers_from n zero = []
-numbers_from n (suc many) = n ∷ numbers_from (n + 1) many
 
 -- all nodes of a tree in preorder
 abbrev pub all_of : Tree → List At

@@ -8,7 +8,8 @@ use Rattle.typst_tree.specs.Steps.{At, at, node_of, parent}
 use Rattle.typst_tree.specs.Linked.{linked, left}
 use Rattle.typst_tree.specs.declared.linked.LinkedNode.{LinkedNode}
 use Rattle.typst_highlight.proofs.Rows.{Stand}
-use Rattle.typst_flat.specs.Records.{numbers_from, number_if, meets}
+use Rattle.typst_highlight.specs.Spans.{numbers_from}
+use Rattle.typst_flat.specs.Records.{number_if, meets}
 use Rattle.typst_flat.specs.declared.walk.Row.{Row}
 use Rattle.typst_flat.specs.declared.walk.Place.{Place}
 use Rattle.typst_flat.specs.declared.walk.Walk.{Walk}

@@ -6,7 +6,7 @@ ghost use Rattle.typst_kinds.specs.Span.{packed};
 ghost use Rattle.typst_flat.specs.Codes as spec;
 
 use typst_highlight::Tag;
-use typst_kinds::{Span, SyntaxKind};
+use typst_kinds::{FileId, Span, SpanNumber, SyntaxKind};
 use typst_tree::SyntaxNode;
 
 /// A kind as its place among all kinds, from 0 on.
@@ -56,6 +56,19 @@ pub(crate) fn span_code(span: Span) -> u64
         None => 0,
         Some((file, number)) => u64::from(file.get()) * (1 << 48) + number.get(),
     }
+}
+
+/// The span of a file and a number in one number; the detached one where no node can have them.
+pub fn span_of(bits: u64) -> Span
+    ensures { result ≡ spec.span_of bits }
+{
+    let Some(file) = FileId::new((bits >> 48) as u16) else {
+        return Span::detached();
+    };
+    let Some(number) = SpanNumber::new(bits % (1 << 48)) else {
+        return Span::detached();
+    };
+    Span::new(file, number)
 }
 
 /// What is told of a node by single bits.

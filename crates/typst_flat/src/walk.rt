@@ -60,6 +60,7 @@ impl<'t> Walk<'t> {
     }
 
     /// The next node, or none at the end.
+    #[inline(always)]
     pub fn next(&mut self) -> Result<Option<Place<'t>>, AllocError>
         requires counted { nodes self.old.root.now < 2 ^ 64 - 1 }
         requires ready { Stays self.old }
@@ -67,7 +68,10 @@ impl<'t> Walk<'t> {
         ensures stretch { OnOk result (self.new.stretch ≡ self.old.stretch) }
         ensures comes { IfOk result (λ place. Comes self.old place self.new) }
     {
-        'nodes: while let Some((node, parent)) = self.come()? {
+        'nodes: while let Some((node, parent)) = self.come() {
+            if node.offset() > self.stretch.end {
+                return Ok(None);
+            }
             if self.stretch.meets(node) {
                 let place = self.enter(node, parent)?;
                 return Ok(Some(place));
@@ -78,40 +82,42 @@ impl<'t> Walk<'t> {
     }
 
     /// The node of the next number, taken out of its row, with its parent's number; none at the end.
-    fn come(&mut self) -> Result<Option<(LinkedNode<'t>, usize)>, AllocError>
+    #[inline(always)]
+    fn come(&mut self) -> Option<(LinkedNode<'t>, usize)>
         requires counted { nodes self.old.root.now < 2 ^ 64 - 1 }
         requires ready { Stays self.old }
-        ensures root { OnOk result (self.new.root.now ≡ self.old.root.now) }
-        ensures stretch { OnOk result (self.new.stretch ≡ self.old.stretch) }
-        ensures number { OnOk result (self.new.number ≡ self.old.number) }
-        ensures takes { IfOk result (λ taken. Takes self.old taken self.new) }
+        ensures root { self.new.root.now ≡ self.old.root.now }
+        ensures stretch { self.new.stretch ≡ self.old.stretch }
+        ensures number { self.new.number ≡ self.old.number }
+        ensures takes { Takes self.old result self.new }
     {
         if self.number == 0 {
-            return Ok(Some((LinkedNode::new(self.root), 0)));
+            return Some((LinkedNode::new(self.root), 0));
         }
         self.come_below()
     }
 
     /// The same behind the root.
-    fn come_below(&mut self) -> Result<Option<(LinkedNode<'t>, usize)>, AllocError>
+    #[inline(always)]
+    fn come_below(&mut self) -> Option<(LinkedNode<'t>, usize)>
         requires begun { 0 < self.old.number }
         requires ready { Stays self.old }
-        ensures root { OnOk result (self.new.root.now ≡ self.old.root.now) }
-        ensures stretch { OnOk result (self.new.stretch ≡ self.old.stretch) }
-        ensures number { OnOk result (self.new.number ≡ self.old.number) }
-        ensures takes { IfOk result (λ taken. Takes self.old taken self.new) }
+        ensures root { self.new.root.now ≡ self.old.root.now }
+        ensures stretch { self.new.stretch ≡ self.old.stretch }
+        ensures number { self.new.number ≡ self.old.number }
+        ensures takes { Takes self.old result self.new }
     {
-        'rows: while let Some(mut row) = self.rows.pop() {
+        'rows: while let Some(row) = self.rows.last_mut() {
             if let Some(node) = row.nodes.next() {
-                let parent = row.parent;
-                self.rows.push(row)?;
-                return Ok(Some((node, parent)));
+                return Some((node, row.parent));
             }
+            self.rows.pop();
         }
-        Ok(None)
+        None
     }
 
-    /// Goes on with the children of the node at hand.
+    /// Goes on with the children of the node at hand, if it has any.
+    #[inline(always)]
     fn enter(&mut self, node: LinkedNode<'t>, parent: usize) -> Result<Place<'t>, AllocError>
         requires counted { nodes self.old.root.now < 2 ^ 64 - 1 }
         requires node { linked node ≡ at self.old.root.now self.old.number }
@@ -123,10 +129,12 @@ impl<'t> Walk<'t> {
         ensures place { IfOk result (λ place. (place.number ≡ self.old.number) × ((place.parent ≡ parent) × (linked place.node ≡ linked node.entry))) }
     {
         let number = self.number;
-        self.rows.push(Row {
-            nodes: node.children(),
-            parent: number,
-        })?;
+        if node.get().descendants() > 1 {
+            self.rows.push(Row {
+                nodes: node.children(),
+                parent: number,
+            })?;
+        }
         self.number = number + 1;
         Ok(Place {
             node,
@@ -138,6 +146,7 @@ impl<'t> Walk<'t> {
 
 impl Stretch {
     /// Whether a node and the stretch have a byte or an end in common.
+    #[inline(always)]
     fn meets(self, node: LinkedNode) -> bool
         ensures { result ≡ meets self (linked node.entry) }
     {

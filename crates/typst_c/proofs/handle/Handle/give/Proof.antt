@@ -1,10 +1,10 @@
--- `bare` keeps the pointer, and what is owned is nobody's here.
+-- `give` keeps the pointer, and what the parts own goes with it.
 use mathlib.Core.Path.{refl, sym, subst}
 use mathlib.Core.List.{List, [], ◌∷◌, ◌++◌}
 use seplogic.Ra.Ura.{Ura}
 use mir.Val.{Val, vptr}
 use denote.RawPtr.{block_ptr}
-use base.Logic.{SProp, ent, emp}
+use base.Logic.{SProp, ent, emp, id⊢}
 use base.Fml.{ftrue, fsep}
 use prog.Memory.{Memory}
 use prog.Routine.{Routine}
@@ -22,14 +22,16 @@ use denote.Signature.{type_at}
 use denote.Steps.{nothing}
 use denote.Triple.Spec.{triple_of}
 use denote.Triple.Table.{entered}
-use denote.Triple.Walked.{says, Stays, stay_dropped, walk_of, ends_at, Goes-dropped, walk_Meets}
-use Rattle.std_alloc.proofs.BoxSteps.Form.{D, B, word, box_typed}
+use denote.Triple.Walked.{Stays, stay_dropped, walk_of, ends_at, Goes-dropped, walk_Meets}
+use Rattle.std.proofs.alloc.Calls.{token}
+use Rattle.std_alloc.specs.Box.Ownership.{box_owns}
+use Rattle.std_alloc.proofs.BoxSteps.Form.{D, R, B, word, box_typed}
 use Rattle.std_alloc.proofs.BoxSteps.Steps.{box_out}
 use Rattle.typst_c.proofs.BoxAlike.{E, FromOpened as From}
-use Rattle.typst_c.specs.contracts.handle.Handle.pointer as F
-use Rattle.typst_c.specs.contracts.handle.Handle.pointer.Key.{name as #self}
-use Rattle.typst_c.proofs.handle.Handle.pointer.Statement as stated
-use Rattle.typst_c.proofs.handle.Handle.pointer.Code as code
+use Rattle.typst_c.specs.contracts.handle.Handle.give as F
+use Rattle.typst_c.specs.contracts.handle.Handle.give.Key.{name as #self}
+use Rattle.typst_c.proofs.handle.Handle.give.Statement as stated
+use Rattle.typst_c.proofs.handle.Handle.give.Code as code
 
 abbrev stayed : Stays (F.ended).signature.params (F.ended).kept
 stayed = (stay_dropped From yes, tt)
@@ -44,20 +46,22 @@ module _ {M : Type 1} {𝓤 : Ura M} (𝓛 : Logic 𝓤) (at_mem : Memory → SP
       let v : D E = record { ptr = z.0.3.0.at; alloc = z.0.3.0.alloc; value = z.0.3.0.value } in
       let To = type_at (F.signature).result tt in
       qed 𝓛 ((‵ ftrue ⊛ ‵ (fsep ((B E).own_val v z.0.4.0) ftrue)) ∷ raw (emp 𝓤) ∷ []) ∵ split ! $ drop ! $ fsplit ! $
-      box_out E ! v z.0.4.0 (λ b o hv e ws fa. drop ! $ drop ! $ drop ! $ drop ! $ drop ! $
+      box_out E ! v z.0.4.0 (λ b o hv e ws fa.
+      -- [the source; the right to free it; the allocator; true; nothing]
+      fjoin ! $ use1 𝓛 (‵ (box_owns (token E.al v.alloc) (R E) (block_ptr b o) v.value)) (id⊢ 𝓤 _) $ move ! (1 ∷ 2 ∷ 3 ∷ []) $ drop ! $ drop ! $ drop ! $
       feq_i ! (List Val) (vptr b o ∷ []) (vptr b o ∷ []) refl $
       let w = word E hv b o in
-      let Γ : List (Item 𝓤) = ‵ (To.own_val (block_ptr b o) (vptr b o ∷ [])) ∷ [] in
+      let Γ : List (Item 𝓤) = ‵ (To.own_val (block_ptr b o) (vptr b o ∷ [])) ∷ ‵ (box_owns (token E.al v.alloc) (R E) (block_ptr b o) v.value) ∷ [] in
       by ! (subst (λ (us : List Val). ent 𝓤 (types.Kit.⋆ 𝓛 Γ) (WpFn 𝓤 H 𝓣.C 𝓣.Λ code.function (us ++ []) Post)) (sym ws)
       (qed 𝓛 Γ ∵ enter ! 𝓣.C 𝓣.Λ code.function (w ∷ []) _ $ alloc_all ! (λ ls. pass_all ! refl (box_typed E hv b o fa, tt) $
       sets ! (of_opd ! (get_in ! (fld ! refl (stop !)) (sub ! 0 refl (whole !)))) refl (tt, tt) $
       sets ! (of_opd ! (get ! refl)) refl (tt, tt) $ returns ! (look_at ! 0 refl) $ free_all ! refl $
-      suffices ! _ (ends_at 𝓛 F.ended stayed (F.clauses 𝓛 at_mem run) z (vptr b o) (block_ptr b o) (tt, tt) (tt, tt)) $ says ! (sym e) $
+      suffices ! _ (ends_at 𝓛 F.ended stayed (F.clauses 𝓛 at_mem run) z (vptr b o) (block_ptr b o) (tt, tt) (tt, tt)) $
       nothing ! $ nothing ! $ fjoin ! $ join ! $ nothing ! $ join ! $ done !))))
 
-pub pointer_spec : {M : Type 1} → stated.statement M
+pub give_spec : {M : Type 1} → stated.statement M
 unfolding tables_of
-pointer_spec 𝓤 𝓛 𝓜 𝓡 wired =
+give_spec 𝓤 𝓛 𝓜 𝓡 wired =
     let 𝓣 : Tables 𝓤 𝓛.H = tables_of 𝓤 𝓛.H 𝓜 (tables 𝓤 𝓛.H 𝓜 𝓡 𝓡.env) in
     entered 𝓤 𝓛.H (triple_of 𝓛 F.signature (F.spec 𝓛 𝓜.mem 𝓡.returns)) 𝓣.C 𝓣.Λ #self code.function (code.unfolded 𝓤 𝓛.H 𝓜 𝓡 wired)
     (walk_Meets 𝓛 F.ended stayed (Goes-dropped 𝓛 0 From yes (λ κs x f. refl), tt) (F.clauses 𝓛 𝓜.mem 𝓡.returns) (WpFn 𝓤 𝓛.H 𝓣.C 𝓣.Λ code.function) (WpFn-mono 𝓤 𝓛.H 𝓛.laws 𝓣 code.function)

@@ -1,0 +1,20 @@
+use Rattle.std.proofs.Common.{◌≡◌, ap, sym, ◌∙◌, refl, length}
+use Rattle.std.proofs.lemmas.Option.{same_Some, none-some}
+use Rattle.typst_kinds.specs.Names.{name_of}
+use Rattle.typst_flat.specs.Records.{filled}
+use Rattle.typst_c.proofs.names.put_kind.Goals as goal
+
+pub returns-in-Some-clause-named : goal.returns-in-Some-clause-named
+returns-in-Some-clause-named c = λ k e.
+    let same : c.in-Some.kind ≡ k = same_Some c.in-Some.kind k (sym c.in-Some.is ∙ (c.kind_of_code.ensures k).1 e) in
+    let name = c.name.ensures ∙ ap name_of same in
+    record { bytes = c.fill_text.ensures.count ∙ ap length name; room = c.fill_text.ensures.room ∙ ap (λ xs. filled xs c.args.room.now) name }
+
+pub returns-in-Some-clause-none : goal.returns-in-Some-clause-none
+returns-in-Some-clause-none c = λ h. absurd (h c.in-Some.kind ((c.kind_of_code.ensures c.in-Some.kind).0 c.in-Some.is))
+
+pub returns-in-None-clause-named : goal.returns-in-None-clause-named
+returns-in-None-clause-named c = λ k e. absurd (none-some k (sym c.in-None.is ∙ (c.kind_of_code.ensures k).1 e))
+
+pub returns-in-None-clause-none : goal.returns-in-None-clause-none
+returns-in-None-clause-none c = λ _. record { bytes = refl; room = refl }
