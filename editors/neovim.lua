@@ -1,4 +1,28 @@
--- Starts the server for Typst: `nvim -u editors/neovim.lua FILE`, or as a part of an init.lua.
+-- Starts the server for Typst: `nvim -u editors/neovim.lua FILE`, or by `dofile` in an init.lua.
+
+-- The keys that newer versions of Neovim have for the same, and `gd`. Behind each stands what the server has to answer for it.
+local keys = {
+  { "gd", vim.lsp.buf.definition, "textDocument/definition" },
+  { "grr", vim.lsp.buf.references, "textDocument/references" },
+  { "grn", vim.lsp.buf.rename, "textDocument/rename" },
+  { "gra", vim.lsp.buf.code_action, "textDocument/codeAction" },
+  { "gO", vim.lsp.buf.document_symbol, "textDocument/documentSymbol" },
+  { "K", vim.lsp.buf.hover, "textDocument/hover" },
+  { "[d", vim.diagnostic.goto_prev },
+  { "]d", vim.diagnostic.goto_next },
+  { "<C-W>d", vim.diagnostic.open_float },
+}
+
+-- Shows errors while text is typed, and sets the keys.
+local function on_attach(client, buffer)
+  vim.diagnostic.config({ update_in_insert = true }, vim.lsp.diagnostic.get_namespace(client.id))
+  for _, key in ipairs(keys) do
+    if not key[3] or client.supports_method(key[3]) then
+      vim.keymap.set("n", key[1], key[2], { buffer = buffer })
+    end
+  end
+end
+
 local client
 
 vim.api.nvim_create_autocmd({ "BufRead", "BufNewFile" }, {
@@ -9,6 +33,7 @@ vim.api.nvim_create_autocmd({ "BufRead", "BufNewFile" }, {
       name = "typst_lsp",
       cmd = { "typst_lsp" },
       root_dir = vim.fn.fnamemodify(event.file, ":p:h"),
+      on_attach = on_attach,
     })
     vim.lsp.buf_attach_client(event.buf, client)
   end,

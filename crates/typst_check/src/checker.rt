@@ -1,6 +1,7 @@
 //! A run over files, folders and standard input.
 
-use crate::request::Request;
+use crate::request::{Request, VERSION};
+use crate::sarif::Log;
 use crate::words::Word;
 use std::alloc::{AllocError, Global};
 use std::fs::{self, DirEntry, File};
@@ -23,6 +24,8 @@ pub struct Checker<'r> {
     alloc: Global,
     options: Options,
     input_name: &'r str,
+    /// The log that is printed, where what is found is printed as one.
+    log: Option<Log>,
     tally: Tally,
     status: u8,
 }
@@ -37,8 +40,18 @@ impl<'r> Checker<'r> {
             alloc,
             options: request.options,
             input_name: request.input_name,
+            log: log_of(alloc, request),
             tally: Tally::new(),
             status: 0,
+        }
+    }
+
+    /// Prints what stands before all that is found, and gives the status: 0, or 2 where it can't be printed.
+    pub fn begin(&mut self) -> u8 {
+        let (mut output, mut errors) = (self.rt.stdout(), self.rt.stderr());
+        match &self.log {
+            Some(log) => log.begin(&mut output, &mut errors, &mut self.tally),
+            None => 0,
         }
     }
 
@@ -83,16 +96,32 @@ impl<'r> Checker<'r> {
         self.tell(name, Fault::OddName);
     }
 
-    /// Sums up what was found, and gives the status.
-    pub fn finish(self) -> u8 {
+    /// Prints what stands behind all that was found, sums it up, and gives the status.
+    pub fn finish(mut self) -> u8 {
+        if !self.tally.is_unheard {
+            self.end_log();
+            self.sum_up();
+        }
+        self.status
+    }
+
+    fn end_log(&mut self) {
+        let (mut output, mut errors) = (self.rt.stdout(), self.rt.stderr());
+        let is_whole = self.status < 2;
+        if let Some(log) = &self.log {
+            let status = log.end(is_whole, &mut output, &mut errors, &mut self.tally);
+            self.status = self.status.max(status);
+        }
+    }
+
+    fn sum_up(&self) {
         let is_short = matches!(self.options.form, Form::Findings(Format::Short { .. }));
         let has_any = self.tally.errors > 0 || self.tally.warnings > 0;
-        if is_short && has_any && !self.tally.is_unheard {
+        if is_short && has_any {
             if let Ok(line) = self.tally.summary(self.alloc) {
                 let _ = eprint!(self.rt; "{line}");
             }
         }
-        self.status
     }
 
     fn read_list(&self, list: &str) -> io::Result<Vec<u8>> {
@@ -103,37 +132,39 @@ impl<'r> Checker<'r> {
     }
 
     fn check_input(&mut self) {
-        let (mut output, mut errors) = (self.rt.stdout(), self.rt.stderr());
-        let status = check(
-            self.alloc,
-            self.options,
-            self.input_name,
-            &mut self.rt.reader(),
-            &mut output,
-            &mut errors,
-            &mut self.tally,
-        );
-        self.status = self.status.max(status);
+        let (name, mut input) = (self.input_name, self.rt.reader());
+        self.check_text(name, &mut input);
     }
 
     fn check_file(&mut self, name: &str) {
-        let mut input = match File::open(self.rt, name) {
-            Ok(input) => input,
-            Err(reason) => {
-                self.tell(name, Fault::NotOpened(reason));
-                return;
-            }
-        };
+        match File::open(self.rt, name) {
+            Ok(mut input) => self.check_text(name, &mut input),
+            Err(reason) => self.tell(name, Fault::NotOpened(reason)),
+        }
+    }
+
+    /// Checks the text that a reader gives, under a name.
+    fn check_text<R: Read>(&mut self, name: &str, input: &mut R) {
         let (mut output, mut errors) = (self.rt.stdout(), self.rt.stderr());
-        let status = check(
-            self.alloc,
-            self.options,
-            name,
-            &mut input,
-            &mut output,
-            &mut errors,
-            &mut self.tally,
-        );
+        let status = match &mut self.log {
+            Some(log) => log.check(
+                self.options,
+                name,
+                input,
+                &mut output,
+                &mut errors,
+                &mut self.tally,
+            ),
+            None => check(
+                self.alloc,
+                self.options,
+                name,
+                input,
+                &mut output,
+                &mut errors,
+                &mut self.tally,
+            ),
+        };
         self.status = self.status.max(status);
     }
 
@@ -200,6 +231,15 @@ impl<'r> Checker<'r> {
     fn tell(&mut self, name: &str, fault: Fault) {
         let status = tell(self.alloc, &mut self.rt.stderr(), name, fault);
         self.status = self.status.max(status);
+    }
+}
+
+/// The log that is asked for.
+fn log_of(alloc: Global, request: &Request) -> Option<Log> {
+    if request.is_log {
+        Some(Log::new(alloc, VERSION))
+    } else {
+        None
     }
 }
 

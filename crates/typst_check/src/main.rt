@@ -3,6 +3,7 @@
 
 mod checker;
 mod request;
+mod sarif;
 mod words;
 
 use crate::checker::Checker;
@@ -34,6 +35,10 @@ fn run(rt: &HostRuntime, alloc: Global) -> anyhow::Result<u8> {
         }
     };
     let mut checker = Checker::new(rt, alloc, &request);
+    let status = checker.begin();
+    if status > 0 {
+        return Ok(status);
+    }
     for name in &request.names {
         if is_odd(&words, name) {
             checker.tell_odd(name);

@@ -9,6 +9,8 @@ use typst_cli::form::{Form, Format, Options};
 #[derive(Drop)]
 pub struct Request<'a> {
     pub options: Options,
+    /// Whether what is found is printed as a log of SARIF.
+    pub is_log: bool,
     /// The name that the text on standard input has.
     pub input_name: &'a str,
     /// The names of files and folders.
@@ -17,12 +19,12 @@ pub struct Request<'a> {
     pub list: Option<&'a str>,
 }
 
-const FORMATS: [&str; 3] = ["short", "ndjson", "github"];
+const FORMATS: [&str; 4] = ["short", "ndjson", "github", "sarif"];
 
 const COLORS: [&str; 3] = ["auto", "always", "never"];
 
 /// The version of Typst whose grammar this is.
-const VERSION: &str = "0.15.1";
+pub const VERSION: &str = "0.15.1";
 
 const ABOUT: &str = "Checks files of Typst and prints their errors and warnings.";
 
@@ -33,6 +35,7 @@ impl<'a> Request<'a> {
     /// What the words ask for. The first is the program's name.
     pub fn from_words(alloc: Global, words: &'a [&'a str]) -> Result<Request<'a>, Error> {
         let matches = command(alloc)?.try_get_matches_from(words)?;
+        let format = matches.get_str("format");
         let color = matches.get_str("color") == Some("always");
         let form = if matches.get_flag("tree") {
             Form::Tree
@@ -41,8 +44,9 @@ impl<'a> Request<'a> {
         } else if matches.get_flag("quiet") {
             Form::Nothing
         } else {
-            Form::Findings(format_named(matches.get_str("format"), color))
+            Form::Findings(format_named(format, color))
         };
+        let is_log = format == Some("sarif") && form != Form::Nothing;
         let mut names = Vec::new(alloc);
         if let Some(files) = matches.get_strs("files") {
             for file in files {
@@ -61,6 +65,7 @@ impl<'a> Request<'a> {
                 most: matches.get_one::<usize>("max-errors"),
                 denies_warnings: matches.get_flag("deny-warnings"),
             },
+            is_log,
             input_name: matches.get_str("stdin-filename").unwrap_or("<stdin>"),
             names,
             list: matches.get_str("files-from"),
@@ -68,11 +73,11 @@ impl<'a> Request<'a> {
     }
 }
 
-/// The format of a name. Whether the output is a terminal isn't known, so there are colours only where
-/// they are asked for.
+/// The format of a name; a log is made of the lines of another. Whether the output is a terminal isn't known, so
+/// there are colours only where they are asked for.
 fn format_named(name: Option<&str>, color: bool) -> Format {
     match name {
-        Some("ndjson") => Format::Ndjson,
+        Some("ndjson" | "sarif") => Format::Ndjson,
         Some("github") => Format::Github,
         _ => Format::Short { color },
     }

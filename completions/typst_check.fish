@@ -1,0 +1,13 @@
+# Completion of typst_check for fish.
+complete -c typst_check -l format -x -a 'short ndjson github sarif' -d 'How errors and warnings are printed'
+complete -c typst_check -l color -x -a 'auto always never' -d 'Whether the short format has colours. A terminal isn\'t known as one, so auto is never'
+complete -c typst_check -l tree -d 'Prints the syntax tree, a JSON object a line for each node'
+complete -c typst_check -l page -d 'Prints the text of one file as an HTML page, highlighted, with its errors'
+complete -c typst_check -s q -l quiet -d 'Prints no errors and warnings: the status tells of them'
+complete -c typst_check -l max-errors -x -d 'Prints at most so many errors and warnings of each file'
+complete -c typst_check -l deny-warnings -d 'Ends with status 1 for warnings, too'
+complete -c typst_check -l stdin-filename -x -d 'The name that is printed for standard input'
+complete -c typst_check -l files-from -r -F -d 'A file with names of files, ended by NUL or newlines, or - for standard input'
+complete -c typst_check -s h -l help -d 'Print help'
+complete -c typst_check -s V -l version -d 'Print version'
+complete -c typst_check -k -a '(__fish_complete_suffix .typ)'

@@ -1,0 +1,9 @@
+use Rattle.std.proofs.Common.{codes}
+use Rattle.typst_check.specs.Sarif.{region_members}
+use Rattle.typst_check.proofs.ObjectLemmas.{object_written}
+use Rattle.typst_check.proofs.sarif.objects.write_region.Goals as goal
+
+pub returns-clause-tokens : goal.returns-clause-tokens
+returns-clause-tokens c =
+    object_written c.end_object.result c.args.writer.now.tokens _ _ _ _ (codes "region") (region_members c.args.region)
+    c.in_ok-key.ensures.ok c.in_ok-begin_object.ensures.ok c.in_ok-write_numbers.ensures.tokens c.end_object.ensures.ok

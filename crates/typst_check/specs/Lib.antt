@@ -1,0 +1,2 @@
+pub mod Sarif
+pub mod Told

@@ -1,0 +1,24 @@
+//! Names of files as addresses.
+
+use percent_encoding::{AsciiSet, NON_ALPHANUMERIC, utf8_percent_encode};
+use std::alloc::{AllocError, Global};
+
+/// The address of a file: of an absolute path one of the scheme `file`, of any other a relative one.
+pub fn uri_of(alloc: Global, name: &str) -> Result<String, AllocError> {
+    let mut uri = String::new(alloc);
+    if name.starts_with('/') {
+        uri.push_str("file://")?;
+    }
+    utf8_percent_encode(name, escaped()).append_to(&mut uri)?;
+    Ok(uri)
+}
+
+/// What is escaped in a path: all but letters, digits, slashes and `-`, `.`, `_` and `~`.
+fn escaped() -> AsciiSet {
+    NON_ALPHANUMERIC
+        .remove(b'/')
+        .remove(b'-')
+        .remove(b'.')
+        .remove(b'_')
+        .remove(b'~')
+}
