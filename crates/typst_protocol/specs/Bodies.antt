@@ -6,6 +6,8 @@ use Rattle.typst_protocol.specs.declared.refusal.Refusal.{Refusal}
 use Rattle.typst_protocol.specs.declared.refusal.Refusal.TheVariants.{OutOfPlace, UnknownMethod, BadParameters, OutOfMemory, NotInitialized, LostDocument}
 use Rattle.typst_protocol.specs.declared.refusal.Unread.{Unread}
 use Rattle.typst_protocol.specs.declared.refusal.Unread.TheVariants as unread
+use Rattle.typst_protocol.specs.declared.refusal.Loss.{Loss}
+use Rattle.typst_protocol.specs.declared.refusal.Loss.TheVariants as loss
 
 -- a response holds the identifier of its request, and one more member
 abbrev pub response : List ℕ → List ℕ → List ℕ → List ℕ
@@ -54,6 +56,15 @@ nameless why = response (codes "null") (codes "error") (error_of why)
 -- a notification has a method and parameters
 abbrev pub notification : List ℕ → List ℕ → List ℕ
 notification method params = codes "{\"jsonrpc\":\"2.0\",\"method\":\"" ++ method ++ codes "\",\"params\":" ++ params ++ codes "}"
+
+-- a warning is a message of the type 2, which the client shows
+abbrev pub warning : List ℕ → List ℕ
+warning text = notification (codes "window/showMessage") (codes "{\"type\":2,\"message\":\"" ++ text ++ codes "\"}")
+
+-- the text that warns of a loss
+abbrev pub text_of : Loss → List ℕ
+text_of loss.Document = codes "The text of a document is lost: close it and open it again."
+text_of loss.All = codes "The server ends: a message could not be read."
 
 -- a text is the JSON of what a value writes, from nothing on
 abbrev pub IsJsonOf : (Log → Log → Type 0) → List ℕ → Type 0

@@ -1,5 +1,7 @@
 -- Messages.
+pub mod Addresses
 pub mod Bodies
+pub mod Escapes
 pub mod Methods
 pub mod Messages
 pub mod Parameters

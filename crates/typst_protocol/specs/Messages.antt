@@ -12,7 +12,10 @@ use Rattle.typst_protocol.specs.declared.message.Message.{Message}
 use Rattle.typst_protocol.specs.declared.message.Message.TheVariants as message
 use Rattle.typst_protocol.specs.declared.refusal.Unread.{Unread}
 use Rattle.typst_protocol.specs.declared.refusal.Unread.TheVariants.{NotJson, NotAMessage, OutOfMemory}
-use Rattle.typst_protocol.specs.Parameters.{params, seen}
+use Rattle.typst_protocol.specs.declared.method.Event.{Event}
+use Rattle.typst_protocol.specs.declared.method.Event.TheVariants.{Opened, Changed, Closed, Exit}
+use Rattle.typst_protocol.specs.Methods.{events, named}
+use Rattle.typst_protocol.specs.Parameters.{params, seen, uri}
 
 -- a member that is a text
 abbrev pub text_at : List ℕ → Data → Option (List ℕ)
@@ -65,6 +68,22 @@ is_versioned d = option_map_or (λ version. bytes_eq version (codes "2.0")) (tex
 -- what a value says
 abbrev pub said : Data → Said
 said d = if is_versioned d then said_by (get (codes "method") d) d else babbles
+
+-- what tells of a document gives or changes its text where it opens or changes it
+abbrev pub gives_text : Event → Bool
+gives_text Opened = true
+gives_text Changed = true
+gives_text Closed = false
+gives_text Exit = false
+
+-- a method may have been meant to give or change a text: it does, or isn't given
+abbrev pub may_give_text : Option (List ℕ) → Bool
+may_give_text None = true
+may_give_text (Some method) = option_map_or gives_text (named events method) false
+
+-- the document whose text a value may have been meant to give or change
+abbrev pub meant : Data → Option (List ℕ)
+meant d = if may_give_text (text_at (codes "method") d) then uri (params d) else None
 
 -- a value asks this request
 pub record IsRequest (d : Data) (r : Request) : Type 0 where

@@ -1,8 +1,11 @@
 -- What the parameters of a message say.
-use Rattle.std.specs.Prelude.{◌≡◌, ℕ, ℤ, List, [], ◌∷◌, codes, MatchResult, Result, Bool, false, Option, None, Some, option_map, option_and_then, unwrap_or}
+use Rattle.std.specs.Prelude.{◌≡◌, ℕ, ℤ, pos, List, [], ◌∷◌, codes, MatchResult, Result, Bool, false, if◌then◌else◌, Float, Option, None, Some, option_map, option_and_then, unwrap_or}
+use Rattle.std.specs.Float.{binary64, float_to_signed, float_to_unsigned}
+use Rattle.std.specs.Float.Ieee.{eq, of_int}
+use Rattle.std.specs.Int.{w32}
 use Rattle.std.specs.Option.{option_or}
-use Rattle.serde_json.specs.Data.{Data, Items, no_items, item}
-use Rattle.serde_json.specs.Find.{get, as_str, as_bool, as_number, as_i64, as_u64, as_array}
+use Rattle.serde_json.specs.Data.{Data, null, boolean, number, string, array, object, Num, unsigned, negative, float, Items, no_items, item}
+use Rattle.serde_json.specs.Find.{get, as_str, as_bool, as_number, as_i64, as_array}
 use Rattle.serde_json.specs.View.{view}
 use Rattle.typst_positions.specs.declared.columns.Encoding.{Encoding}
 use Rattle.typst_positions.specs.declared.columns.Encoding.TheVariants.{Utf8, Utf16}
@@ -31,9 +34,37 @@ member name value = option_and_then (get name) value
 abbrev pub text_in : List ℕ → Option Data → Option (List ℕ)
 text_in name value = option_and_then as_str (member name value)
 
--- a member that is a whole number from 0 on
+-- a float without a fraction is the whole number that it equals
+abbrev pub equals : Float → ℤ → Bool
+equals x n = eq x (of_int binary64 n)
+
+-- that number, if it stands from 0 on and takes 32 bits at most, as those of the protocol do
+abbrev pub whole_count : Float → Option ℕ
+whole_count x = let n = float_to_unsigned w32 x in if equals x (pos n) then Some n else None
+
+-- the same with a sign
+abbrev pub whole_number : Float → Option ℤ
+whole_number x = let n = float_to_signed w32 x in if equals x n then Some n else None
+
+-- the count that a number is
+abbrev pub count_of : Num → Option ℕ
+count_of (unsigned n) = Some n
+count_of (negative z) = None
+count_of (float x) = whole_count x
+
+-- the integer that a number is
+abbrev pub integer_of : Num → Option ℤ
+integer_of (unsigned n) = as_i64 (unsigned n)
+integer_of (negative z) = Some z
+integer_of (float x) = whole_number x
+
+-- a whole number from 0 on
+abbrev pub count : Data → Option ℕ
+count value = option_and_then count_of (as_number value)
+
+-- a member that is one
 abbrev pub count_in : List ℕ → Data → Option ℕ
-count_in name value = option_and_then as_u64 (option_and_then as_number (get name value))
+count_in name value = option_and_then count (get name value)
 
 -- the document that parameters speak of
 abbrev pub document : Option Data → Option Data
@@ -69,7 +100,7 @@ stretch_in value = option_and_then stretch (member (codes "range") value)
 
 -- the version of the document
 abbrev pub version : Option Data → Option ℤ
-version value = option_and_then as_i64 (option_and_then as_number (member (codes "version") (document value)))
+version value = option_and_then integer_of (option_and_then as_number (member (codes "version") (document value)))
 
 -- the changes of the document's text
 abbrev pub changes : Option Data → Option Items
@@ -95,6 +126,18 @@ capabilities subject value = member subject (member (codes "capabilities") value
 abbrev pub takes_trees : Option Data → Bool
 takes_trees value = is_true (member (codes "hierarchicalDocumentSymbolSupport") (member (codes "documentSymbol") (capabilities (codes "textDocument") value)))
 
+-- what the client says of folding
+abbrev pub folding : Option Data → Option Data
+folding value = member (codes "foldingRange") (capabilities (codes "textDocument") value)
+
+-- whether the client folds whole lines alone
+abbrev pub folds_lines : Option Data → Bool
+folds_lines value = is_true (member (codes "lineFoldingOnly") (folding value))
+
+-- how many stretches to fold the client wants of a document at most
+abbrev pub range_limit : Option Data → Option ℕ
+range_limit value = option_and_then count (member (codes "rangeLimit") (folding value))
+
 -- an encoding has a name
 abbrev pub encoding_named : List ℕ → Option Encoding
 encoding_named name = named ((codes "utf-8", Utf8) ∷ (codes "utf-16", Utf16) ∷ []) name
@@ -115,6 +158,15 @@ pub data Edit : Type 0 where
   -- a text takes the place of a stretch
   ranged : Stretch → List ℕ → Edit
 
+-- `null` stands for no value
+abbrev pub unless_null : Data → Option Data
+unless_null null = None
+unless_null (boolean b) = Some (boolean b)
+unless_null (number n) = Some (number n)
+unless_null (string s) = Some (string s)
+unless_null (array ds) = Some (array ds)
+unless_null (object ms) = Some (object ms)
+
 -- a text takes the place of the range that a change names, and of all where it names none
 abbrev pub edit_of : Option Data → List ℕ → Option Edit
 edit_of None text = Some (whole text)
@@ -122,7 +174,7 @@ edit_of (Some range) text = option_map (λ place. ranged place text) (stretch ra
 
 -- a change has a text
 abbrev pub edit : Data → Option Edit
-edit value = option_and_then (edit_of (get (codes "range") value)) (option_and_then as_str (get (codes "text") value))
+edit value = option_and_then (edit_of (option_and_then unless_null (get (codes "range") value))) (option_and_then as_str (get (codes "text") value))
 
 -- the change that one of the code is
 abbrev pub edit_in : Change → Edit

@@ -1,12 +1,13 @@
 //! What clients send.
 
-ghost use Rattle.std.specs.Prelude.{◌≡◌, MatchResult, Some};
+ghost use Rattle.std.specs.Prelude.{◌≡◌, MatchResult, Some, option_map};
 ghost use Rattle.std.specs.Str.{IsUtf8};
 ghost use Rattle.serde_json.specs.Read.{read as read_text};
 ghost use Rattle.serde_json.specs.View.{view};
 ghost use Rattle.typst_protocol.specs.Messages as spec;
 ghost use Rattle.typst_protocol.specs.Messages.{IsMessage, IsUnread, IsUnreadBody};
 
+use crate::method::Event;
 use crate::params::Params;
 use crate::refusal::Unread;
 use serde_json::Value;
@@ -140,4 +141,27 @@ fn is_response(value: &Value) -> bool
     ensures { result ≡ spec.is_response (view value.now) }
 {
     value.get("id").is_some() && (value.get("result").is_some() || value.get("error").is_some())
+}
+
+/// The address of the document whose text a value may have been meant to give or change, as it names that
+/// document and has the method of an opening or a change, or none. It is to be asked of what is no message.
+pub fn meant(value: &Value) -> Option<&str>
+    ensures { option_map (λ uri. uri.now) result ≡ spec.meant (view value.now) }
+{
+    let method = value.get("method").and_then(Value::as_str);
+    if may_give_text(method) {
+        Params::of(value).uri().ok()
+    } else {
+        None
+    }
+}
+
+/// Whether a method, if there is one, is that of an opening or a change.
+fn may_give_text(method: Option<&str>) -> bool
+    ensures { result ≡ spec.may_give_text (option_map (λ name. name.now) method.entry) }
+{
+    match method {
+        Some(method) => matches!(Event::of(method), Some(Event::Opened | Event::Changed)),
+        None => true,
+    }
 }

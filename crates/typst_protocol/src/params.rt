@@ -1,12 +1,16 @@
 //! What the parameters of requests and notifications say.
 
-ghost use Rattle.std.specs.Prelude.{◌≡◌, option_map};
+ghost use Rattle.std.specs.Prelude.{◌≡◌, option_and_then, option_map};
+ghost use Rattle.serde_json.specs.Find.{as_number};
 ghost use Rattle.serde_json.specs.View.{items_view, view};
 ghost use Rattle.typst_protocol.specs.Parameters as spec;
 ghost use Rattle.typst_protocol.specs.Parameters.{Finds, seen};
 
 use crate::refusal::Refusal;
 use serde_json::Value;
+use std::num::{
+    nearest_i64_to_f64, nearest_u64_to_f64, saturating_f64_to_i32, saturating_f64_to_u32,
+};
 use typst_positions::{Encoding, Position};
 
 /// The parameters of a message, which may have none.
@@ -70,7 +74,7 @@ impl<'a> Params<'a> {
     pub fn version(self) -> Option<i64>
         ensures { result ≡ spec.version (seen self.entry) }
     {
-        self.document()?.get("version")?.as_i64()
+        integer(self.document()?.get("version")?)
     }
 
     /// The whole text of the document.
@@ -148,6 +152,29 @@ impl<'a> Params<'a> {
         taken.and_then(Value::as_bool).unwrap_or(false)
     }
 
+    /// What the client says of folding.
+    fn folding(self) -> Option<&'a Value>
+        ensures { option_map (λ v. view v.now) result ≡ spec.folding (seen self.entry) }
+    {
+        self.capabilities("textDocument")?.get("foldingRange")
+    }
+
+    /// Whether the client folds whole lines alone.
+    pub fn folds_lines(self) -> bool
+        ensures { result ≡ spec.folds_lines (seen self.entry) }
+    {
+        let folding = self.folding();
+        let only = folding.and_then(|folding| folding.get("lineFoldingOnly"));
+        only.and_then(Value::as_bool).unwrap_or(false)
+    }
+
+    /// How many stretches to fold the client wants of a document at most, if it says so.
+    pub fn range_limit(self) -> Option<usize>
+        ensures { result ≡ spec.range_limit (seen self.entry) }
+    {
+        count(self.folding()?.get("rangeLimit")?)
+    }
+
     /// The first of the encodings that the client offers which the server has: UTF-16 where there is none.
     pub fn encoding(self) -> Encoding
         ensures { result ≡ spec.encoding (seen self.entry) }
@@ -198,7 +225,53 @@ pub fn position_of(value: &Value) -> Option<Position>
 fn count_of(value: &Value, name: &str) -> Option<usize>
     ensures { result ≡ spec.count_in name.now (view value.now) }
 {
-    Some(value.get(name)?.as_u64()? as usize)
+    count(value.get(name)?)
+}
+
+/// A whole number from 0 on, which may be written with a fraction of zero.
+fn count(value: &Value) -> Option<usize>
+    ensures { result ≡ spec.count (view value.now) }
+{
+    let number = value.as_number()?;
+    if number.is_f64() {
+        return Some(whole_count(number.as_f64()?)? as usize);
+    }
+    Some(number.as_u64()? as usize)
+}
+
+/// The whole number from 0 on that a float equals, up to 32 bits.
+fn whole_count(number: f64) -> Option<u32>
+    ensures { result ≡ spec.whole_count number }
+{
+    let whole = saturating_f64_to_u32(number);
+    if number == nearest_u64_to_f64(u64::from(whole)) {
+        Some(whole)
+    } else {
+        None
+    }
+}
+
+/// A whole number, which may be written with a fraction of zero.
+fn integer(value: &Value) -> Option<i64>
+    ensures { result ≡ option_and_then spec.integer_of (as_number (view value.now)) }
+{
+    let number = value.as_number()?;
+    if number.is_f64() {
+        return Some(i64::from(whole_number(number.as_f64()?)?));
+    }
+    number.as_i64()
+}
+
+/// The whole number that a float equals, up to 32 bits.
+fn whole_number(number: f64) -> Option<i32>
+    ensures { result ≡ spec.whole_number number }
+{
+    let whole = saturating_f64_to_i32(number);
+    if number == nearest_i64_to_f64(i64::from(whole)) {
+        Some(whole)
+    } else {
+        None
+    }
 }
 
 impl Stretch {
@@ -220,8 +293,8 @@ impl<'a> Change<'a> {
     {
         let text = value.get("text")?.as_str()?;
         match value.get("range") {
-            None => Some(Change::Whole(text)),
-            Some(range) => Some(Change::Ranged(Stretch::of(range)?, text)),
+            Some(range) if !range.is_null() => Some(Change::Ranged(Stretch::of(range)?, text)),
+            _ => Some(Change::Whole(text)),
         }
     }
 }

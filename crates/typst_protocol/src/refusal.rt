@@ -1,7 +1,7 @@
-//! Why a server refuses.
+//! Why a server refuses, and what it loses.
 
 ghost use Rattle.std.specs.Prelude.{◌≡◌};
-ghost use Rattle.typst_protocol.specs.Bodies.{code_of, error, message_of, nameless};
+ghost use Rattle.typst_protocol.specs.Bodies.{code_of, error, message_of, nameless, text_of, warning};
 ghost use Rattle.typst_protocol.specs.declared.refusal.Refusal.TheVariants as refusal;
 ghost use Rattle.typst_protocol.specs.declared.refusal.Unread.TheVariants as unread;
 
@@ -95,5 +95,30 @@ impl From<AllocError> for Unread {
 
     fn from(_error: AllocError) -> Unread {
         Unread::OutOfMemory
+    }
+}
+
+/// What isn't known any more.
+#[derive(Clone, Copy)]
+pub enum Loss {
+    /// The text of one document.
+    Document,
+    /// The texts of all documents.
+    All,
+}
+
+impl Loss {
+    /// The notification that warns the person of it. It takes no memory.
+    pub fn warning(self) -> &'static str
+        ensures { result.now ≡ warning (text_of self) }
+    {
+        match self {
+            Loss::Document => {
+                "{\"jsonrpc\":\"2.0\",\"method\":\"window/showMessage\",\"params\":{\"type\":2,\"message\":\"The text of a document is lost: close it and open it again.\"}}"
+            }
+            Loss::All => {
+                "{\"jsonrpc\":\"2.0\",\"method\":\"window/showMessage\",\"params\":{\"type\":2,\"message\":\"The server ends: a message could not be read.\"}}"
+            }
+        }
     }
 }
